@@ -1,0 +1,21 @@
+//! The words of every other crate: names, values, element numbers, and lists and ordered rows of them.
+//!
+//! Every type here with private fields is seen by contracts as one value: a name and a text as
+//! their bytes, a `List` as a list, `Labels` and `Props` as lists with strictly ascending names.
+//! The plain graph that all definitions speak of stands in `specs/Graph.antt`.
+//! Nothing here knows schemas, files or text formats.
+#![tactic(auto)]
+
+mod copying;
+mod element;
+mod limits;
+mod list;
+mod memory;
+mod name;
+
+pub use copying::Copyable;
+pub use element::{EdgeId, Elem, NodeId};
+pub use limits::Limits;
+pub use list::{Bytes, List};
+pub use memory::Memory;
+pub use name::Name;
