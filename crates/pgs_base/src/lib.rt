@@ -7,15 +7,23 @@
 #![tactic(auto)]
 
 mod copying;
+mod day;
 mod element;
 mod limits;
 mod list;
 mod memory;
 mod name;
+mod text;
+mod value;
+mod words;
 
 pub use copying::Copyable;
+pub use day::Day;
 pub use element::{EdgeId, Elem, NodeId};
 pub use limits::Limits;
 pub use list::{Bytes, List};
 pub use memory::Memory;
 pub use name::Name;
+pub use text::Text;
+pub use value::{Kind, Value};
+pub use words::Words;
