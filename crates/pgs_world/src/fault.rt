@@ -1,0 +1,11 @@
+use thiserror::Error;
+
+/// A read of a source failed. It comes only where the source's count of faults rose.
+#[derive(Clone, Copy, Debug, PartialEq, Eq, Error)]
+#[error("the source failed")]
+pub struct SourceFault;
+
+/// A put of output failed. It comes only where the world's count of put faults rose.
+#[derive(Clone, Copy, Debug, PartialEq, Eq, Error)]
+#[error("the output failed")]
+pub struct PutFault;

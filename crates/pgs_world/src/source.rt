@@ -1,0 +1,25 @@
+ghost use Rattle.std.specs.Prelude.{◌≡◌, ◌<◌, ◌≤◌, ◌^◌, List, ℕ, length, take, Option, Ok, IfOk, OnErr};
+ghost use Rattle.pgs_world.specs.Count.{Rose};
+ghost use Rattle.pgs_world.specs.Source.{Takes, IsAtEnd};
+
+use crate::SourceFault;
+
+/// Bytes that come in reads.
+pub trait Source {
+    /// The bytes that are left, where the source tells them.
+    ghost left: { Self → Option (List ℕ) };
+
+    /// How often a read failed.
+    ghost faults: { Self → ℕ };
+
+    /// Takes the next bytes into the front of the buffer, and says how many. 0 for a buffer that isn't
+    /// empty is the end of the input. After `SourceFault` the bytes left are as they were, and the
+    /// count of faults rose.
+    fn read(&mut self, buf: &mut [u8]) -> Result<usize, SourceFault>
+        ensures within { IfOk result (λ count. count ≤ length buf.new) }
+        ensures taken { IfOk result (λ count. Takes (left self.old) (left self.new) (take count buf.new)) }
+        ensures end { 0 < length buf.old → result ≡ Ok 0 → IsAtEnd (left self.old) }
+        ensures kept { OnErr result (left self.new ≡ left self.old) }
+        ensures cause { OnErr result (Rose (faults self.old) (faults self.new)) }
+        ensures faults_stay { faults self.old ≤ faults self.new };
+}
