@@ -1,3 +1,4 @@
 pub mod Day
+pub mod Graph
 pub mod Name
 pub mod Value
