@@ -1,4 +1,5 @@
 pub mod Day
 pub mod Graph
 pub mod Name
+pub mod Places
 pub mod Value
