@@ -117,7 +117,11 @@ impl PartialEq for Labels {
 
     ghost laws = { partial_equiv_from_equiv (lists_equiv nat_list_eq_equiv) };
 
-    fn eq(&self, other: &Labels) -> bool {
+    #[tactic(auto, using(crate::specs::OrderLaws::labels_eq_decides))]
+    fn eq(&self, other: &Labels) -> bool
+        ensures value { result ≡ pointwise (pointwise nat_eq) self.now other.now }
+        ensures same { IsTrue result ↔ (self.now ≡ other.now) }
+    {
         self.as_slice() == other.as_slice()
     }
 }

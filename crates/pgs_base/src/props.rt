@@ -5,6 +5,10 @@ ghost use Rattle.std.specs.Cmp.Lexicographic.{slice_cmp};
 ghost use Rattle.std.specs.List.Sorted.{IsStrictlySortedBy};
 ghost use Rattle.std.specs.Map.{keys_of, lookup, remove_entry};
 ghost use Rattle.std.specs.BTreeMap.{is_at, insert_entry};
+ghost use Rattle.std.specs.Ordering.{eq_by_cmp};
+ghost use Rattle.std.specs.Cmp.{partial_equiv_from_equiv, eq_by_cmp_equiv};
+ghost use Rattle.pgs_base.specs.Order.{props_cmp};
+ghost use Rattle.pgs_base.specs.OrderLaws.{props_cmp_total};
 
 use crate::{Copyable, Memory, Name, Rows, Value};
 use std::alloc::Global;
@@ -109,4 +113,22 @@ impl Copyable for Props {
         let rows = self.rows.copy(alloc)?;
         Ok(Props { rows })
     }
+}
+
+impl PartialEq for Props {
+    ghost eq = { eq_by_cmp props_cmp };
+
+    ghost laws = { partial_equiv_from_equiv (eq_by_cmp_equiv props_cmp_total) };
+
+    #[tactic(auto, using(crate::specs::OrderLaws::props_eq_decides))]
+    fn eq(&self, other: &Props) -> bool
+        ensures value { result ≡ eq_by_cmp props_cmp self.now other.now }
+        ensures same { IsTrue result ↔ (self.now ≡ other.now) }
+    {
+        self.as_slice().cmp(other.as_slice()).is_eq()
+    }
+}
+
+impl Eq for Props {
+    ghost laws = { eq_by_cmp_equiv props_cmp_total };
 }
