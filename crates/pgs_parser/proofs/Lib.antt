@@ -1,0 +1,4 @@
+pub mod Cutting
+pub mod Differing
+pub mod Listing
+pub mod Sound

@@ -1,0 +1,101 @@
+-- The first form of a schema: its grammar over tokens, how tokens are spelled as a text, and the rules beside.
+use Rattle.std.specs.Prelude.{◌≡◌, ℕ, ◌≤◌, Bool, true, false, List, [], ◌∷◌, ◌++◌, length, Option, Some, None, codes}
+use Rattle.std.specs.List.{flat_map, list_all}
+use Rattle.pgs_base.specs.declared.value.Kind.{Kind}
+use Rattle.pgs_base.specs.declared.value.Kind.TheVariants as kinds
+use Rattle.pgs_base.specs.Name.{is_name}
+use Rattle.pgs_parser.specs.declared.token.Token.{Token}
+use Rattle.pgs_parser.specs.declared.token.Token.TheVariants.{Name, Keyword, Sign}
+use Rattle.pgs_parser.specs.declared.tree.WrittenType.{WrittenType}
+use Rattle.pgs_parser.specs.declared.tree.Script.{Script}
+use Rattle.pgs_parser.specs.Cut.{is_space, is_sign, is_keyword, begins_word}
+use Rattle.pgs_parser.specs.Reading.{properties_of, keeps_rules}
+
+-- ---- the grammar
+
+-- items with a sign between each two
+abbrev pub separated : {A : Type 0} → ℕ → (A → List Token) → List A → List Token
+separated sign spelling [] = []
+separated sign spelling (x ∷ xs) = spelling x ++ flat_map (λ y. Sign sign ∷ spelling y) xs
+
+-- "{" [item {"," item}] "}"
+abbrev pub braced : {A : Type 0} → (A → List Token) → List A → List Token
+braced spelling xs = Sign 123 ∷ separated 44 spelling xs ++ Sign 125 ∷ []
+
+-- name
+abbrev pub name_tokens : List ℕ → List Token
+name_tokens name = Name name ∷ []
+
+-- [":" name {"&" name}]
+abbrev pub labels_tokens : List (List ℕ) → List Token
+labels_tokens [] = []
+labels_tokens (label ∷ labels) = Sign 58 ∷ separated 38 name_tokens (label ∷ labels)
+
+abbrev pub kind_word : Kind → List ℕ
+kind_word kinds.Text = codes "STRING"
+kind_word kinds.Int = codes "INT"
+kind_word kinds.Bool = codes "BOOL"
+kind_word kinds.Date = codes "DATE"
+
+-- name kind
+abbrev pub property_tokens : List ℕ × Kind → List Token
+property_tokens property = Name property.0 ∷ Keyword (kind_word property.1) ∷ []
+
+-- ["{" [name kind {"," name kind}] "}"]
+abbrev pub braces_tokens : Option (List (List ℕ × Kind)) → List Token
+braces_tokens None = []
+braces_tokens (Some properties) = braced property_tokens properties
+
+-- "(" name [":" name {"&" name}] [braces] ")"
+abbrev pub type_tokens : WrittenType → List Token
+type_tokens type = Sign 40 ∷ Name type.name ∷ labels_tokens type.labels ++ braces_tokens type.braces ++ Sign 41 ∷ []
+
+-- CREATE GRAPH TYPE name STRICT "{" [type {"," type}] "}" ";"
+abbrev pub script_tokens : Script → List Token
+script_tokens script =
+    Keyword (codes "CREATE") ∷ Keyword (codes "GRAPH") ∷ Keyword (codes "TYPE") ∷ Name script.name ∷ Keyword (codes "STRICT")
+    ∷ braced type_tokens script.types ++ Sign 59 ∷ []
+
+-- ---- the text
+
+-- the bytes of a token: a word that is a keyword, another word, or a sign
+abbrev pub IsItem : Token → List ℕ → Type 0
+IsItem (Keyword word) item = (is_name word ≡ true) × (is_keyword word ≡ true) × (item ≡ word)
+IsItem (Name word) item = (is_name word ≡ true) × (is_keyword word ≡ false) × (item ≡ word)
+IsItem (Sign b) item = (is_sign b ≡ true) × (item ≡ b ∷ [])
+
+-- a word goes as far as it can: no name byte follows it
+abbrev pub IsEnd : Token → List ℕ → Type 0
+IsEnd (Keyword word) rest = begins_word rest ≡ false
+IsEnd (Name word) rest = begins_word rest ≡ false
+IsEnd (Sign b) rest = Unit {0}
+
+-- the text is the tokens in order, with any spaces before, between and after them
+abbrev pub Spells : List Token → List ℕ → Type 0
+Spells [] text = list_all is_space text ≡ true
+Spells (token ∷ tokens) text =
+    (spaces : List ℕ) × (item : List ℕ) × (rest : List ℕ)
+    × (text ≡ spaces ++ item ++ rest) × (list_all is_space spaces ≡ true) × IsItem token item × IsEnd token rest × Spells tokens rest
+
+-- ---- the rules beside
+
+abbrev pub is_first_kind : Kind → Bool
+is_first_kind kinds.Text = true
+is_first_kind kinds.Int = true
+is_first_kind kinds.Bool = false
+is_first_kind kinds.Date = false
+
+abbrev pub has_first_kind : List ℕ × Kind → Bool
+has_first_kind property = is_first_kind property.1
+
+abbrev pub has_first_kinds : WrittenType → Bool
+has_first_kinds type = list_all has_first_kind (properties_of type)
+
+-- the text is of the form, and the script is what it spells
+pub record IsFirstForm (text : List ℕ) (script : Script) : Type 0 where
+  pub length : length text ≤ 1048576
+  pub spelled : Spells (script_tokens script) text
+  -- kinds are STRING and INT
+  pub kinds : list_all has_first_kinds script.types ≡ true
+  -- type names differ, no label is a type's name, keys differ inside one pair of braces
+  pub rules : keeps_rules script.types ≡ true
