@@ -16,5 +16,5 @@ mod unread;
 
 pub use first_schema::{FirstSchema, FirstType, parse_first};
 
-
-
+#[cfg(test)]
+mod tests;
