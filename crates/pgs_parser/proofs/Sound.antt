@@ -12,10 +12,11 @@ use Rattle.pgs_base.specs.declared.value.Kind.TheVariants as kinds
 use Rattle.pgs_parser.specs.declared.token.Token.{Token}
 use Rattle.pgs_parser.specs.declared.token.Token.TheVariants.{Name, Keyword, Sign}
 use Rattle.pgs_parser.specs.declared.tree.WrittenType.{WrittenType}
+use Rattle.pgs_parser.specs.declared.tree.Script.{Script}
 use Rattle.pgs_parser.specs.Gives.{◌>>=◌}
 use Rattle.pgs_parser.specs.Cut.{same_bytes}
-use Rattle.pgs_parser.specs.Reading.{Reader, sign_at, keyword_at, name_at, kind_at, kind_of_word, more, listed, up_to_brace, labels_at, property_at, braces_at, type_at}
-use Rattle.pgs_parser.specs.Form.{separated, braced, name_tokens, labels_tokens, kind_word, property_tokens, braces_tokens, type_tokens, is_first_kind, has_first_kind, has_first_kinds}
+use Rattle.pgs_parser.specs.Reading.{Reader, sign_at, keyword_at, name_at, kind_at, kind_of_word, more, listed, up_to_brace, labels_at, property_at, braces_at, type_at, head_at, script_of}
+use Rattle.pgs_parser.specs.Form.{separated, braced, name_tokens, labels_tokens, kind_word, property_tokens, braces_tokens, type_tokens, script_tokens, is_first_kind, has_first_kind, has_first_kinds}
 use Rattle.pgs_parser.proofs.Listing.{Shortens, sign_is, and_more, ahead, more-none, more-some}
 
 pub bind_some : {A B : Type 0} (o : Option A) (f : A → Option B) (y : B) → (o >>= f) ≡ Some y → (x : A) × (o ≡ Some x) × (f x ≡ Some y)
@@ -199,3 +200,51 @@ type_sound ts x e =
 
 pub reads_types : Reads type_at type_tokens has_first_kinds
 reads_types = record { sound = type_sound; some_token = λ x. omega arith }
+
+-- ---- the whole
+
+keyword_is : (word : List ℕ) (ts after : List Token) → keyword_at word ts ≡ Some after → ts ≡ Keyword word ∷ after
+keyword_is word [] after e = cc
+keyword_is word (Name n ∷ ts) after e = cc
+keyword_is word (Sign n ∷ ts) after e = cc
+keyword_is word (Keyword w ∷ ts) after e =
+    let p = cond_some (same_bytes w word) ts after e in
+    let q : w ≡ word = same_word w word p.0 in
+    cc (p.1, q)
+
+head_sound : (ts : List Token) (x : List ℕ × List Token) → head_at ts ≡ Some x → ts ≡ Keyword (codes "CREATE") ∷ Keyword (codes "GRAPH") ∷ Keyword (codes "TYPE") ∷ Name x.0 ∷ x.1
+unfolding head_at
+head_sound ts x e =
+    let create = bind_some (keyword_at (codes "CREATE") ts) _ x e in
+    let graph = bind_some (keyword_at (codes "GRAPH") create.0) _ x create.2 in
+    let type = bind_some (keyword_at (codes "TYPE") graph.0) _ x graph.2 in
+    keyword_is (codes "CREATE") ts create.0 create.1
+    ∙ ap (λ t. Keyword (codes "CREATE") ∷ t) (keyword_is (codes "GRAPH") create.0 graph.0 graph.1
+      ∙ ap (λ t. Keyword (codes "GRAPH") ∷ t) (keyword_is (codes "TYPE") graph.0 type.0 type.1
+        ∙ ap (λ t. Keyword (codes "TYPE") ∷ t) (name_is type.0 x type.2)))
+
+ended : (after : List Token) (s x : Script) → (elim after [ [] ↦ Some s | _ ↦ None ]) ≡ Some x → (after ≡ []) × (s ≡ x)
+ended [] s x e = (refl, same_Some s x e)
+ended (t ∷ ts) s x e = cc
+
+pub script_sound : (ts : List Token) (x : Script) → script_of ts ≡ Some x → (ts ≡ script_tokens x) × (list_all has_first_kinds x.types ≡ true)
+unfolding script_of
+script_sound ts x e =
+    let P : Script → Type 0 = λ y. (ts ≡ script_tokens y) × (list_all has_first_kinds y.types ≡ true) in
+    let name = bind_some (head_at ts) _ x e in
+    let strict = bind_some (keyword_at (codes "STRICT") name.0.1) _ x name.2 in
+    let brace = bind_some (sign_at 123 strict.0) _ x strict.2 in
+    let types = bind_some (up_to_brace type_at brace.0) _ x brace.2 in
+    let semicolon = bind_some (sign_at 59 types.0.1) _ x types.2 in
+    let end = ended semicolon.0 (record { name = name.0.0; types = types.0.0 }) x semicolon.2 in
+    let l = up_to_brace_sound type_at type_tokens has_first_kinds reads_types brace.0 types.0 types.1 in
+    let written = separated 44 type_tokens types.0.0 in
+    subst P end.1
+      ( head_sound ts name.0 name.1
+        ∙ ap (λ t. Keyword (codes "CREATE") ∷ Keyword (codes "GRAPH") ∷ Keyword (codes "TYPE") ∷ Name name.0.0 ∷ t)
+          ( keyword_is (codes "STRICT") name.0.1 strict.0 strict.1
+            ∙ ap (λ t. Keyword (codes "STRICT") ∷ t) (sign_is 123 strict.0 brace.0 brace.1
+              ∙ ap (λ t. Sign 123 ∷ t) (l.0
+                ∙ ap (λ t. written ++ Sign 125 ∷ t) (sign_is 59 types.0.1 semicolon.0 semicolon.1 ∙ ap (λ t. Sign 59 ∷ t) end.0)
+                ∙ sym (append_assoc written (Sign 125 ∷ []) (Sign 59 ∷ [])))) )
+      , l.1 )

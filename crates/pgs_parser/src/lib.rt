@@ -8,6 +8,7 @@
 
 mod cut;
 mod first_schema;
+mod form;
 mod reading;
 mod rules;
 mod token;
@@ -15,6 +16,7 @@ mod tree;
 mod unread;
 
 pub use first_schema::{FirstSchema, FirstType, parse_first};
+pub use form::first_form;
 
 #[cfg(test)]
 mod tests;

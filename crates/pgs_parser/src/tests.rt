@@ -83,28 +83,33 @@ fn texts(rt: HostRuntime) -> Result<(), Fail> {
     Ok(())
 }
 
-/// A schema whose name has this many bytes, with as many spaces behind as fill the length.
-fn padded(alloc: Global, name: usize, length: usize) -> Result<Vec<u8>, AllocError> {
+/// Appends a byte this many times.
+fn repeat(text: &mut Vec<u8>, byte: u8, count: usize) -> Result<(), AllocError> {
+    for _ in 0..count {
+        text.push(byte)?;
+    }
+    Ok(())
+}
+
+/// A schema whose name has this many bytes, with this many spaces behind.
+fn padded(alloc: Global, name: usize, spaces: usize) -> Result<Vec<u8>, AllocError> {
     let mut text = Vec::from_slice(alloc, b"CREATE GRAPH TYPE ")?;
-    for _ in 0..name {
-        text.push(b'g')?;
-    }
+    repeat(&mut text, b'g', name)?;
     text.extend_from_slice(b" STRICT {};")?;
-    while text.len() < length {
-        text.push(b' ')?;
-    }
+    repeat(&mut text, b' ', spaces)?;
     Ok(text)
 }
 
 #[test]
 fn lengths(rt: HostRuntime) -> Result<(), Fail> {
-    for (name, length, expected) in [
-        (64, 0, "ok"),
-        (65, 0, "-"),
-        (1, 1_048_576, "ok"),
-        (1, 1_048_577, "-"),
+    for (name, spaces, length, expected) in [
+        (64, 0, 93, "ok"),
+        (65, 0, 94, "-"),
+        (1, 1_048_546, 1_048_576, "ok"),
+        (1, 1_048_547, 1_048_577, "-"),
     ] {
-        let text = padded(rt.alloc(), name, length).ok().ok_or("memory")?;
+        let text = padded(rt.alloc(), name, spaces).ok().ok_or("memory")?;
+        assert_eq!(rt; text.len(), length);
         let found = told(rt.alloc(), text.as_slice()).ok().ok_or("memory")?;
         assert_eq!(rt; found.as_str(), expected, "{name} {length}");
     }
