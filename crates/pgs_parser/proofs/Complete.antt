@@ -1,10 +1,7 @@
 -- What is spelled by tokens is read from them.
-use Rattle.std.proofs.Common.{◌≡◌, ℕ, ◌+◌, ◌<◌, ◌≤◌, ◌==◌, Bool, true, false, cond, ◌&&◌, List, [], ◌∷◌, ◌++◌, length, Option, Some, None, refl, sym, ap, ◌∙◌, arith, zero, suc, subst, append_assoc, length-append, unwrap_or}
-use Rattle.std.specs.Prelude.{codes}
+use Rattle.std.proofs.Common.{◌≡◌, ℕ, ◌≤◌, Bool, true, cond, List, [], ◌∷◌, ◌++◌, length, Option, Some, None, refl, ap, ◌∙◌, arith, zero, suc, append_assoc, length-append, unwrap_or}
 use Rattle.std.specs.List.{list_all, flat_map}
-use Rattle.std.proofs.lemmas.Option.{same_Some, cond_some}
-use Rattle.std.proofs.lemmas.Bool.{eqb-true, eq-eqb, and_parts}
-use Rattle.std.proofs.lemmas.Slice.Eq.{bytes_eq-Decides}
+use Rattle.std.proofs.lemmas.Bool.{eq-eqb, and_parts}
 use Rattle.pgs_base.specs.declared.value.Kind.{Kind}
 use Rattle.pgs_base.specs.declared.value.Kind.TheVariants as kinds
 use Rattle.pgs_parser.specs.declared.token.Token.{Token}
@@ -12,11 +9,10 @@ use Rattle.pgs_parser.specs.declared.token.Token.TheVariants.{Name, Keyword, Sig
 use Rattle.pgs_parser.specs.declared.tree.WrittenType.{WrittenType}
 use Rattle.pgs_parser.specs.declared.tree.Script.{Script}
 use Rattle.pgs_parser.specs.Gives.{◌>>=◌}
-use Rattle.pgs_parser.specs.Cut.{same_bytes}
-use Rattle.pgs_parser.specs.Reading.{Reader, sign_at, keyword_at, name_at, kind_at, kind_of_word, more, listed, up_to_brace, labels_at, property_at, braces_at, type_at, head_at, script_of}
-use Rattle.pgs_parser.specs.Form.{separated, braced, name_tokens, labels_tokens, kind_word, property_tokens, braces_tokens, type_tokens, script_tokens, is_first_kind, has_first_kind, has_first_kinds}
-use Rattle.pgs_parser.proofs.Listing.{and_more, ahead, more-none, more-some, sign_is}
-use Rattle.pgs_parser.proofs.Sound.{Reads, bind_some, any_name, name_is, up_to_brace_sound, reads_types}
+use Rattle.pgs_parser.specs.Reading.{Reader, sign_at, name_at, kind_at, more, listed, up_to_brace, labels_at, property_at, braces_at, type_at, head_at, script_of}
+use Rattle.pgs_parser.specs.Form.{separated, name_tokens, labels_tokens, kind_word, property_tokens, braces_tokens, type_tokens, script_tokens, is_first_kind, has_first_kind, has_first_kinds}
+use Rattle.pgs_parser.proofs.Listing.{and_more, ahead, more-none, more-some}
+use Rattle.pgs_parser.proofs.Sound.{any_name}
 
 -- an item that passes the test is read, whatever follows, and doesn't begin with a closing brace
 pub record Takes {A : Type 0} (item : Reader A) (spelling : A → List Token) (test : A → Bool) : Type 0 where
@@ -76,9 +72,9 @@ module _ {A : Type 0} (item : Reader A) (spelling : A → List Token) (test : A 
   -- items, where no closing brace stands first
   abbrev closed : Option (List Token) → List Token → Option (List A × List Token)
   closed brace tokens = elim brace [
-      Some after ↦ Some ([], after)
+    | Some after ↦ Some ([], after)
     | None ↦ listed 44 item tokens >>= λ items. sign_at 125 items.1 >>= λ after. Some (items.0, after)
-    ]
+  ]
 
   up_to_brace_complete : (xs : List A) (rest : List Token) → list_all test xs ≡ true → up_to_brace item (separated 44 spelling xs ++ Sign 125 ∷ rest) ≡ Some (xs, rest)
   unfolding up_to_brace
@@ -86,7 +82,7 @@ module _ {A : Type 0} (item : Reader A) (spelling : A → List Token) (test : A 
   up_to_brace_complete (x ∷ xs) rest e =
       let tokens = separated 44 spelling (x ∷ xs) ++ Sign 125 ∷ rest in
       let apart : sign_at 125 tokens ≡ None =
-        ap (sign_at 125) (append_assoc (spelling x) (flat_map (λ y. Sign 44 ∷ spelling y) xs) (Sign 125 ∷ rest)) ∙ t.no_brace x (flat_map (λ y. Sign 44 ∷ spelling y) xs ++ Sign 125 ∷ rest) in
+      ap (sign_at 125) (append_assoc (spelling x) (flat_map (λ y. Sign 44 ∷ spelling y) xs) (Sign 125 ∷ rest)) ∙ t.no_brace x (flat_map (λ y. Sign 44 ∷ spelling y) xs ++ Sign 125 ∷ rest) in
       ap (λ o. closed o tokens) apart
       ∙ ap (λ o. o >>= λ items. sign_at 125 items.1 >>= λ after. Some (items.0, after)) (listed_complete 44 item spelling test t x xs (Sign 125 ∷ rest) e refl)
 

@@ -1,13 +1,13 @@
 -- How the tokens of a text go on from one item to the next.
-use Rattle.std.proofs.Common.{◌≡◌, ℕ, ◌+◌, ◌-◌, ◌<◌, get_or, Bool, true, false, cond, nat_eq, ◌||◌, ◌&&◌, List, [], ◌∷◌, ◌++◌, length, take, drop, Option, Some, None, refl, sym, ap, ◌∙◌, arith, suc, subst, length-append, append_assoc, inl, inr, ◌⊎◌}
+use Rattle.std.proofs.Common.{◌≡◌, ℕ, ◌+◌, ◌-◌, ◌<◌, get_or, Bool, true, false, cond, List, [], ◌∷◌, ◌++◌, length, take, drop, Option, Some, None, refl, sym, ap, ◌∙◌, arith, suc, subst, length-append, append_assoc}
 use Rattle.std.specs.List.{list_all, prefix_len}
-use Rattle.std.specs.Option.{option_map, option_and_then}
-use Rattle.std.proofs.lemmas.Bool.{or_cases, and_parts, eqb-true}
+use Rattle.std.specs.Option.{option_map}
+use Rattle.std.proofs.lemmas.Bool.{and_parts}
 use Rattle.std.proofs.lemmas.List.{append-nil, take_all}
 use Rattle.std.proofs.lemmas.Option.{cond_some}
 use Rattle.pgs_base.specs.Name.{is_name, is_name_byte}
 use Rattle.pgs_parser.specs.declared.token.Token.{Token}
-use Rattle.pgs_parser.specs.declared.token.Token.TheVariants.{Name, Keyword, Sign}
+use Rattle.pgs_parser.specs.declared.token.Token.TheVariants.{Sign}
 use Rattle.pgs_parser.specs.Gives.{◌>>=◌, with_front, IsCause}
 use Rattle.pgs_parser.specs.declared.unread.Unread.{Unread}
 use Rattle.pgs_parser.specs.declared.unread.Unread.TheVariants as unread
@@ -25,8 +25,8 @@ takes_passing : (p : ℕ → Bool) (text : List ℕ) → list_all p (take (prefi
 takes_passing p [] = refl
 takes_passing p (b ∷ bs) =
     elim (p b) as (λ t. p b ≡ t → list_all p (take (cond t (1 + prefix_len p bs) 0) (b ∷ bs)) ≡ true) [
-      true ↦ λ e. rw (take-one_more (prefix_len p bs) b bs, e) (takes_passing p bs)
-    | false ↦ λ e. refl
+      | true ↦ λ e. rw (take-one_more (prefix_len p bs) b bs, e) (takes_passing p bs)
+      | false ↦ λ e. refl
     ] refl
 
 pub takes_name_bytes : (text : List ℕ) → list_all is_name_byte (take (prefix_len is_name_byte text) text) ≡ true
@@ -36,8 +36,8 @@ pub stops_behind_word : (text : List ℕ) → begins_word (drop (prefix_len is_n
 stops_behind_word [] = refl
 stops_behind_word (b ∷ bs) =
     elim (is_name_byte b) as (λ t. is_name_byte b ≡ t → begins_word (drop (cond t (1 + prefix_len is_name_byte bs) 0) (b ∷ bs)) ≡ false) [
-      true ↦ λ e. rw (drop-one_more (prefix_len is_name_byte bs) b bs) (stops_behind_word bs)
-    | false ↦ λ e. e
+      | true ↦ λ e. rw (drop-one_more (prefix_len is_name_byte bs) b bs) (stops_behind_word bs)
+      | false ↦ λ e. e
     ] refl
 
 -- ---- one byte more
@@ -45,29 +45,32 @@ stops_behind_word (b ∷ bs) =
 pub tokens-space : (b : ℕ) (bs : List ℕ) → is_name_byte b ≡ false → is_space b ≡ true → tokens_of (b ∷ bs) ≡ tokens_of bs
 unfolding tokens_of run_and_tokens
 tokens-space b bs e f = elim (run_and_tokens bs) as (λ r. ((r >>= with_byte b) >>= close) ≡ (r >>= close)) [
-    None ↦ refl
+  | None ↦ refl
   | Some after ↦ rw e (elim (close after) as (λ o. ((o >>= λ tokens. cond (is_space b) (Some ([], tokens)) (cond (is_sign b) (Some ([], Sign b ∷ tokens)) None)) >>= close) ≡ o) [
-      None ↦ refl
-    | Some tokens ↦ rw f refl ])
-  ]
+    | None ↦ refl
+    | Some tokens ↦ rw f refl
+  ])
+]
 
 pub tokens-sign : (b : ℕ) (bs : List ℕ) → is_name_byte b ≡ false → is_space b ≡ false → is_sign b ≡ true → tokens_of (b ∷ bs) ≡ option_map (λ ts. Sign b ∷ ts) (tokens_of bs)
 unfolding tokens_of run_and_tokens
 tokens-sign b bs e f g = elim (run_and_tokens bs) as (λ r. ((r >>= with_byte b) >>= close) ≡ option_map (λ ts. Sign b ∷ ts) (r >>= close)) [
-    None ↦ refl
+  | None ↦ refl
   | Some after ↦ rw e (elim (close after) as (λ o. ((o >>= λ tokens. cond (is_space b) (Some ([], tokens)) (cond (is_sign b) (Some ([], Sign b ∷ tokens)) None)) >>= close) ≡ option_map (λ ts. Sign b ∷ ts) o) [
-      None ↦ refl
-    | Some tokens ↦ rw (f, g) refl ])
-  ]
+    | None ↦ refl
+    | Some tokens ↦ rw (f, g) refl
+  ])
+]
 
 pub tokens-other : (b : ℕ) (bs : List ℕ) → is_name_byte b ≡ false → is_space b ≡ false → is_sign b ≡ false → tokens_of (b ∷ bs) ≡ None
 unfolding tokens_of run_and_tokens
 tokens-other b bs e f g = elim (run_and_tokens bs) as (λ r. ((r >>= with_byte b) >>= close) ≡ None) [
-    None ↦ refl
+  | None ↦ refl
   | Some after ↦ rw e (elim (close after) as (λ o. ((o >>= λ tokens. cond (is_space b) (Some ([], tokens)) (cond (is_sign b) (Some ([], Sign b ∷ tokens)) None)) >>= close) ≡ None) [
-      None ↦ refl
-    | Some tokens ↦ rw (f, g) refl ])
-  ]
+    | None ↦ refl
+    | Some tokens ↦ rw (f, g) refl
+  ])
+]
 
 -- ---- a word
 
@@ -91,8 +94,9 @@ run-word [] rest h = elim (run_and_tokens rest) as (λ r. r ≡ (r >>= longer []
 run-word (c ∷ cs) rest h =
     let parts = and_parts (is_name_byte c) (list_all is_name_byte cs) h in
     rw (run-word cs rest parts.1) (elim (run_and_tokens rest) as (λ r. ((r >>= longer cs) >>= with_byte c) ≡ (r >>= longer (c ∷ cs))) [
-      None ↦ refl
-    | Some a ↦ rw parts.0 refl ])
+      | None ↦ refl
+      | Some a ↦ rw parts.0 refl
+    ])
 
 mark-apart : (w : List ℕ) (space sign : Bool) (b : ℕ) (tokens : List Token) → (mark space sign b tokens >>= longer w) ≡ ((mark space sign b tokens >>= close) >>= before w)
 mark-apart w true sign b tokens = ap (λ x. before x tokens) (append-nil w)
@@ -104,10 +108,11 @@ unfolding tokens_of run_and_tokens
 run-apart w [] h = ap (λ x. before x []) (append-nil w)
 run-apart w (b ∷ bs) h =
     elim (run_and_tokens bs) as (λ r. ((r >>= with_byte b) >>= longer w) ≡ (((r >>= with_byte b) >>= close) >>= before w)) [
-      None ↦ refl
-    | Some after ↦ rw h (elim (close after) as (λ o. ((o >>= mark (is_space b) (is_sign b) b) >>= longer w) ≡ (((o >>= mark (is_space b) (is_sign b) b) >>= close) >>= before w)) [
-        None ↦ refl
-      | Some tokens ↦ mark-apart w (is_space b) (is_sign b) b tokens ])
+      | None ↦ refl
+      | Some after ↦ rw h (elim (close after) as (λ o. ((o >>= mark (is_space b) (is_sign b) b) >>= longer w) ≡ (((o >>= mark (is_space b) (is_sign b) b) >>= close) >>= before w)) [
+        | None ↦ refl
+        | Some tokens ↦ mark-apart w (is_space b) (is_sign b) b tokens
+      ])
     ]
 
 pub tokens-word : (c : ℕ) (cs rest : List ℕ) → list_all is_name_byte (c ∷ cs) ≡ true → begins_word rest ≡ false → tokens_of (c ∷ cs ++ rest) ≡ (tokens_of rest >>= named (c ∷ cs))

@@ -1,14 +1,14 @@
 -- A set of the names so far tells whether names differ.
-use Rattle.std.proofs.Common.{◌≡◌, ℕ, ◌+◌, ◌<◌, ◌≤◌, Bool, true, false, cond, not, ◌&&◌, ◌||◌, List, [], ◌∷◌, ◌++◌, length, map, get_or, take, drop, refl, sym, ap, ◌∙◌, arith}
+use Rattle.std.proofs.Common.{◌≡◌, ℕ, ◌+◌, ◌<◌, ◌≤◌, Bool, true, false, cond, not, ◌&&◌, ◌||◌, List, [], ◌∷◌, ◌++◌, length, map, get_or, take, drop, refl, sym, ap, ◌∙◌}
 use Rattle.std.specs.Ordering.{nat_cmp}
 use Rattle.std.specs.Cmp.{eq_by_cmp_equiv}
 use Rattle.std.specs.Cmp.Lexicographic.{slice_cmp, nat_list_cmp_total}
 use Rattle.std.specs.BTreeMap.{is_at}
-use Rattle.std.specs.List.{list_any, list_all}
+use Rattle.std.specs.List.{list_all}
 use Rattle.std.proofs.lemmas.List.{drop_more, take_more, drop_all, take_all, get_or-map, length-map}
 use Rattle.std.proofs.lemmas.List.Folds.{list_any-append}
 use Rattle.pgs_parser.specs.declared.tree.WrittenType.{WrittenType}
-use Rattle.pgs_parser.specs.Reading.{has, differ, differ_after, is_labelled_apart, type_names, keys_differ, keeps_rules}
+use Rattle.pgs_parser.specs.Rules.{has, differ, differ_after, is_labelled_apart, type_names, keys_differ, keeps_rules}
 
 -- seen has the first i names, and whether the names differ is left to the others
 pub record Seen (seen : List (List ℕ)) (names : List (List ℕ)) (i : ℕ) : Type 0 where
@@ -34,11 +34,11 @@ seen_more seen new names i name s h e f added =
     let back : drop i names ≡ name ∷ drop (i + 1) names = drop_more names i name h ∙ ap (λ n. n ∷ drop (i + 1) names) (sym e) in
     record {
       so_far = ap (λ t. differ_after t (drop (i + 1) names)) front
-        ∙ sym (ap (differ_after (take i names)) back ∙ ap (λ b. not b && differ_after (take i names ++ name ∷ []) (drop (i + 1) names)) (sym (s.same name) ∙ f))
-        ∙ s.so_far;
+          ∙ sym (ap (differ_after (take i names)) back ∙ ap (λ b. not b && differ_after (take i names ++ name ∷ []) (drop (i + 1) names)) (sym (s.same name) ∙ f))
+          ∙ s.so_far;
       same = λ q. added q ∙ ap (λ b. cond b true (has seen q)) ((eq_by_cmp_equiv nat_list_cmp_total).symm name q)
-        ∙ cond_or (is_at (slice_cmp nat_cmp q) name) (has seen q) ∙ ap (λ b. b || (is_at (slice_cmp nat_cmp q) name || false)) (s.same q)
-        ∙ sym (list_any-append (is_at (slice_cmp nat_cmp q)) (take i names) (name ∷ [])) ∙ ap (λ t. has t q) (sym front);
+          ∙ cond_or (is_at (slice_cmp nat_cmp q) name) (has seen q) ∙ ap (λ b. b || (is_at (slice_cmp nat_cmp q) name || false)) (s.same q)
+          ∙ sym (list_any-append (is_at (slice_cmp nat_cmp q)) (take i names) (name ∷ [])) ∙ ap (λ t. has t q) (sym front);
     }
 
 pub seen_twice : (seen names : List (List ℕ)) (i : ℕ) (name : List ℕ) → Seen seen names i → i < length names → name ≡ get_or names i name → has seen name ≡ true → differ names ≡ false

@@ -1,6 +1,5 @@
 -- Lists of items with a sign between, as the loops read them.
-use Rattle.std.proofs.Common.{◌≡◌, ℕ, ◌+◌, ◌<◌, ◌≤◌, ◌==◌, Bool, true, false, cond, List, [], ◌∷◌, ◌++◌, length, Option, Some, None, refl, sym, ap, ◌∙◌, arith, zero, suc, subst, append_assoc}
-use Rattle.std.specs.Option.{option_map, option_and_then}
+use Rattle.std.proofs.Common.{◌≡◌, ℕ, ◌<◌, ◌≤◌, ◌==◌, List, [], ◌∷◌, ◌++◌, length, Option, Some, None, refl, sym, ap, ◌∙◌, arith, zero, suc, append_assoc}
 use Rattle.std.proofs.lemmas.Option.{cond_some}
 use Rattle.std.proofs.lemmas.Bool.{eqb-true}
 use Rattle.std.proofs.lemmas.List.{append-nil}
@@ -58,15 +57,15 @@ module _ {A : Type 0} where
     more-enough short (suc n) zero (t ∷ ts) h k = absurd (omega arith)
     more-enough short (suc n) (suc m) tokens h k =
         elim (sign_at sign tokens) as (λ o. sign_at sign tokens ≡ o → more sign item (suc n) tokens ≡ more sign item (suc m) tokens) [
-          None ↦ λ e. more-none (suc n) tokens e ∙ sym (more-none (suc m) tokens e)
-        | Some after ↦ λ e.
-            let l = ap length (sign_is sign tokens after e) in
-            more-some n tokens after e
-            ∙ (elim (item after) as (λ o. item after ≡ o → (o >>= and_more n) ≡ (o >>= and_more m)) [
-                 None ↦ λ q. refl
-               | Some x ↦ λ q. let s = short after x q in ap (ahead (x.0 ∷ [])) (more-enough short n m x.1 (omega arith) (omega arith))
-               ] refl)
-            ∙ sym (more-some m tokens after e)
+          | None ↦ λ e. more-none (suc n) tokens e ∙ sym (more-none (suc m) tokens e)
+          | Some after ↦ λ e.
+              let l = ap length (sign_is sign tokens after e) in
+              more-some n tokens after e
+              ∙ (elim (item after) as (λ o. item after ≡ o → (o >>= and_more n) ≡ (o >>= and_more m)) [
+                | None ↦ λ q. refl
+                | Some x ↦ λ q. let s = short after x q in ap (ahead (x.0 ∷ [])) (more-enough short n m x.1 (omega arith) (omega arith))
+              ] refl)
+              ∙ sym (more-some m tokens after e)
         ] refl
 
     -- ---- the loop: the items so far in front of those to come
@@ -85,8 +84,8 @@ module _ {A : Type 0} where
         let l : length rest ≡ suc (length after) = ap length (sign_is sign rest after e) in
         let s = short after x q in
         let read : more sign item (length rest) rest ≡ ahead (x.0 ∷ []) (more sign item (length x.1) x.1) =
-          ap (λ n. more sign item n rest) l ∙ more-some (length after) rest after e ∙ ap (λ o. o >>= and_more (length after)) q
-          ∙ ap (ahead (x.0 ∷ [])) (more-enough short (length after) (length x.1) x.1 (omega arith) (omega arith)) in
+        ap (λ n. more sign item n rest) l ∙ more-some (length after) rest after e ∙ ap (λ o. o >>= and_more (length after)) q
+        ∙ ap (ahead (x.0 ∷ [])) (more-enough short (length after) (length x.1) x.1 (omega arith) (omega arith)) in
         ahead-more front x.0 (more sign item (length x.1) x.1) ∙ ap (ahead front) (sym read) ∙ h
 
     pub ends : (front : List A) (rest : List Token) (whole : Option (List A × List Token)) → sign_at sign rest ≡ None → ahead front (more sign item (length rest) rest) ≡ whole → whole ≡ Some (front, rest)

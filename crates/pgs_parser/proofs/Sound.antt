@@ -1,12 +1,10 @@
 -- What is read from tokens is spelled by them.
-use Rattle.std.proofs.Common.{◌≡◌, ℕ, ◌+◌, ◌<◌, ◌≤◌, ◌==◌, nat_eq, Bool, true, false, cond, ◌&&◌, List, [], ◌∷◌, ◌++◌, length, Option, Some, None, refl, sym, ap, ◌∙◌, arith, zero, suc, subst, append_assoc, length-append, unwrap_or}
+use Rattle.std.proofs.Common.{◌≡◌, ℕ, ◌<◌, Bool, true, false, cond, List, [], ◌∷◌, ◌++◌, length, Option, Some, None, refl, sym, ap, ◌∙◌, arith, zero, suc, subst, append_assoc, length-append, unwrap_or}
 use Rattle.std.specs.Prelude.{codes}
 use Rattle.std.specs.List.{list_all, flat_map}
-use Rattle.std.specs.Option.{option_map, option_and_then}
 use Rattle.std.proofs.lemmas.Option.{cond_some, same_Some}
-use Rattle.std.proofs.lemmas.Bool.{eqb-true, and_from}
+use Rattle.std.proofs.lemmas.Bool.{and_from}
 use Rattle.std.proofs.lemmas.Slice.Eq.{bytes_eq-Decides}
-use Rattle.std.proofs.lemmas.List.{append-nil}
 use Rattle.pgs_base.specs.declared.value.Kind.{Kind}
 use Rattle.pgs_base.specs.declared.value.Kind.TheVariants as kinds
 use Rattle.pgs_parser.specs.declared.token.Token.{Token}
@@ -16,8 +14,8 @@ use Rattle.pgs_parser.specs.declared.tree.Script.{Script}
 use Rattle.pgs_parser.specs.Gives.{◌>>=◌}
 use Rattle.pgs_parser.specs.Cut.{same_bytes}
 use Rattle.pgs_parser.specs.Reading.{Reader, sign_at, keyword_at, name_at, kind_at, kind_of_word, more, listed, up_to_brace, labels_at, property_at, braces_at, type_at, head_at, script_of}
-use Rattle.pgs_parser.specs.Form.{separated, braced, name_tokens, labels_tokens, kind_word, property_tokens, braces_tokens, type_tokens, script_tokens, is_first_kind, has_first_kind, has_first_kinds}
-use Rattle.pgs_parser.proofs.Listing.{Shortens, sign_is, and_more, ahead, more-none, more-some}
+use Rattle.pgs_parser.specs.Form.{separated, name_tokens, labels_tokens, kind_word, property_tokens, braces_tokens, type_tokens, script_tokens, is_first_kind, has_first_kind, has_first_kinds}
+use Rattle.pgs_parser.proofs.Listing.{Shortens, sign_is, and_more, more-none, more-some}
 
 pub bind_some : {A B : Type 0} (o : Option A) (f : A → Option B) (y : B) → (o >>= f) ≡ Some y → (x : A) × (o ≡ Some x) × (f x ≡ Some y)
 bind_some None f y e = cc
@@ -99,16 +97,17 @@ module _ {A : Type 0} (sign : ℕ) (item : Reader A) (spelling : A → List Toke
   more_sound (suc n) ts x e =
       let P : List A × List Token → Type 0 = λ y. (ts ≡ behind_signs y.0 ++ y.1) × (list_all test y.0 ≡ true) in
       elim (sign_at sign ts) as (λ o. sign_at sign ts ≡ o → P x) [
-        None ↦ λ s. subst P (same_Some _ _ (sym (more-none sign item (suc n) ts s) ∙ e)) (refl, refl)
-      | Some after ↦ λ s.
-          let first = bind_some (item after) (and_more sign item n) x (sym (more-some sign item n ts after s) ∙ e) in
-          let others = bind_some (more sign item n first.0.1) (λ others. Some (first.0.0 ∷ others.0, others.1)) x first.2 in
-          let one = r.sound after first.0 first.1 in
-          let rest = more_sound n first.0.1 others.0 others.1 in
-          subst P (same_Some _ _ others.2)
-            ( sign_is sign ts after s
-              ∙ ap (λ a. Sign sign ∷ a) (one.0 ∙ ap (λ b. spelling first.0.0 ++ b) rest.0 ∙ sym (append_assoc (spelling first.0.0) (behind_signs others.0.0) others.0.1))
-            , and_from (test first.0.0) (list_all test others.0.0) one.1 rest.1 )
+        | None ↦ λ s. subst P (same_Some _ _ (sym (more-none sign item (suc n) ts s) ∙ e)) (refl, refl)
+        | Some after ↦ λ s.
+            let first = bind_some (item after) (and_more sign item n) x (sym (more-some sign item n ts after s) ∙ e) in
+            let others = bind_some (more sign item n first.0.1) (λ others. Some (first.0.0 ∷ others.0, others.1)) x first.2 in
+            let one = r.sound after first.0 first.1 in
+            let rest = more_sound n first.0.1 others.0 others.1 in
+            subst P (same_Some _ _ others.2) (
+              sign_is sign ts after s
+                  ∙ ap (λ a. Sign sign ∷ a) (one.0 ∙ ap (λ b. spelling first.0.0 ++ b) rest.0 ∙ sym (append_assoc (spelling first.0.0) (behind_signs others.0.0) others.0.1)),
+              and_from (test first.0.0) (list_all test others.0.0) one.1 rest.1,
+            )
       ] refl
 
   pub listed_sound : (ts : List Token) (x : List A × List Token) → listed sign item ts ≡ Some x → (ts ≡ separated sign spelling x.0 ++ x.1) × (list_all test x.0 ≡ true) × ((first : A) × (others : List A) × (x.0 ≡ first ∷ others))
@@ -119,10 +118,11 @@ module _ {A : Type 0} (sign : ℕ) (item : Reader A) (spelling : A → List Toke
       let others = bind_some (more sign item (length first.0.1) first.0.1) (λ others. Some (first.0.0 ∷ others.0, others.1)) x first.2 in
       let one = r.sound ts first.0 first.1 in
       let rest = more_sound (length first.0.1) first.0.1 others.0 others.1 in
-      subst P (same_Some _ _ others.2)
-        ( one.0 ∙ ap (λ b. spelling first.0.0 ++ b) rest.0 ∙ sym (append_assoc (spelling first.0.0) (behind_signs others.0.0) others.0.1)
-        , and_from (test first.0.0) (list_all test others.0.0) one.1 rest.1
-        , (first.0.0, others.0.0, refl) )
+      subst P (same_Some _ _ others.2) (
+        one.0 ∙ ap (λ b. spelling first.0.0 ++ b) rest.0 ∙ sym (append_assoc (spelling first.0.0) (behind_signs others.0.0) others.0.1),
+        and_from (test first.0.0) (list_all test others.0.0) one.1 rest.1,
+        (first.0.0, others.0.0, refl),
+      )
 
 -- items up to a closing brace
 module _ {A : Type 0} (item : Reader A) (spelling : A → List Token) (test : A → Bool) (r : Reads item spelling test) where
@@ -131,15 +131,16 @@ module _ {A : Type 0} (item : Reader A) (spelling : A → List Token) (test : A 
   up_to_brace_sound ts x e =
       let P : List A × List Token → Type 0 = λ y. (ts ≡ separated 44 spelling y.0 ++ Sign 125 ∷ y.1) × (list_all test y.0 ≡ true) in
       let Q : Option (List Token) → Type 0 = λ o. sign_at 125 ts ≡ o → (elim o [
-            Some after ↦ Some ([], after)
-          | None ↦ listed 44 item ts >>= λ items. sign_at 125 items.1 >>= λ after. Some (items.0, after) ]) ≡ Some x → P x in
+        | Some after ↦ Some ([], after)
+        | None ↦ listed 44 item ts >>= λ items. sign_at 125 items.1 >>= λ after. Some (items.0, after)
+      ]) ≡ Some x → P x in
       elim (sign_at 125 ts) as Q [
-        Some after ↦ λ s h. subst P (same_Some _ _ h) (sign_is 125 ts after s, refl)
-      | None ↦ λ s h.
-          let items = bind_some (listed 44 item ts) (λ items. sign_at 125 items.1 >>= λ after. Some (items.0, after)) x h in
-          let after = bind_some (sign_at 125 items.0.1) (λ after. Some (items.0.0, after)) x items.2 in
-          let l = listed_sound 44 item spelling test r ts items.0 items.1 in
-          subst P (same_Some _ _ after.2) (l.0 ∙ ap (λ t. separated 44 spelling items.0.0 ++ t) (sign_is 125 items.0.1 after.0 after.1), l.1)
+        | Some after ↦ λ s h. subst P (same_Some _ _ h) (sign_is 125 ts after s, refl)
+        | None ↦ λ s h.
+            let items = bind_some (listed 44 item ts) (λ items. sign_at 125 items.1 >>= λ after. Some (items.0, after)) x h in
+            let after = bind_some (sign_at 125 items.0.1) (λ after. Some (items.0.0, after)) x items.2 in
+            let l = listed_sound 44 item spelling test r ts items.0 items.1 in
+            subst P (same_Some _ _ after.2) (l.0 ∙ ap (λ t. separated 44 spelling items.0.0 ++ t) (sign_is 125 items.0.1 after.0 after.1), l.1)
       ] refl e
 
 -- ---- a type
@@ -150,11 +151,11 @@ labels_sound ts x e =
     let P : List (List ℕ) × List Token → Type 0 = λ y. ts ≡ labels_tokens y.0 ++ y.1 in
     let Q : Option (List Token) → Type 0 = λ o. sign_at 58 ts ≡ o → (elim o [ None ↦ Some ([], ts) | Some after ↦ listed 38 name_at after ]) ≡ Some x → P x in
     elim (sign_at 58 ts) as Q [
-      None ↦ λ s h. subst P (same_Some _ _ h) refl
-    | Some after ↦ λ s h.
-        let l = listed_sound 38 name_at name_tokens any_name reads_names after x h in
-        let shape : labels_tokens x.0 ≡ Sign 58 ∷ separated 38 name_tokens x.0 = ap labels_tokens l.2.2 ∙ ap (λ xs. Sign 58 ∷ separated 38 name_tokens xs) (sym l.2.2) in
-        sign_is 58 ts after s ∙ ap (λ t. Sign 58 ∷ t) l.0 ∙ ap (λ t. t ++ x.1) (sym shape)
+      | None ↦ λ s h. subst P (same_Some _ _ h) refl
+      | Some after ↦ λ s h.
+          let l = listed_sound 38 name_at name_tokens any_name reads_names after x h in
+          let shape : labels_tokens x.0 ≡ Sign 58 ∷ separated 38 name_tokens x.0 = ap labels_tokens l.2.2 ∙ ap (λ xs. Sign 58 ∷ separated 38 name_tokens xs) (sym l.2.2) in
+          sign_is 58 ts after s ∙ ap (λ t. Sign 58 ∷ t) l.0 ∙ ap (λ t. t ++ x.1) (sym shape)
     ] refl e
 
 -- the test of the properties in braces
@@ -166,16 +167,18 @@ unfolding braces_at
 braces_sound ts x e =
     let P : Option (List (List ℕ × Kind)) × List Token → Type 0 = λ y. (ts ≡ braces_tokens y.0 ++ y.1) × (have_first_kinds y.0 ≡ true) in
     let Q : Option (List Token) → Type 0 = λ o. sign_at 123 ts ≡ o → (elim o [
-          None ↦ Some (None, ts)
-        | Some after ↦ up_to_brace property_at after >>= λ properties. Some (Some properties.0, properties.1) ]) ≡ Some x → P x in
+      | None ↦ Some (None, ts)
+      | Some after ↦ up_to_brace property_at after >>= λ properties. Some (Some properties.0, properties.1)
+    ]) ≡ Some x → P x in
     elim (sign_at 123 ts) as Q [
-      None ↦ λ s h. subst P (same_Some _ _ h) (refl, refl)
-    | Some after ↦ λ s h.
-        let properties = bind_some (up_to_brace property_at after) (λ properties. Some (Some properties.0, properties.1)) x h in
-        let l = up_to_brace_sound property_at property_tokens has_first_kind reads_properties after properties.0 properties.1 in
-        subst P (same_Some _ _ properties.2)
-          ( sign_is 123 ts after s ∙ ap (λ t. Sign 123 ∷ t) (l.0 ∙ sym (append_assoc (separated 44 property_tokens properties.0.0) (Sign 125 ∷ []) properties.0.1))
-          , l.1 )
+      | None ↦ λ s h. subst P (same_Some _ _ h) (refl, refl)
+      | Some after ↦ λ s h.
+          let properties = bind_some (up_to_brace property_at after) (λ properties. Some (Some properties.0, properties.1)) x h in
+          let l = up_to_brace_sound property_at property_tokens has_first_kind reads_properties after properties.0 properties.1 in
+          subst P (same_Some _ _ properties.2) (
+            sign_is 123 ts after s ∙ ap (λ t. Sign 123 ∷ t) (l.0 ∙ sym (append_assoc (separated 44 property_tokens properties.0.0) (Sign 125 ∷ []) properties.0.1)),
+            l.1,
+          )
     ] refl e
 
 type_sound : (ts : List Token) (x : WrittenType × List Token) → type_at ts ≡ Some x → (ts ≡ type_tokens x.0 ++ x.1) × (has_first_kinds x.0 ≡ true)
@@ -190,13 +193,14 @@ type_sound ts x e =
     let b = braces_sound labels.0.1 braces.0 braces.1 in
     let l = labels_tokens labels.0.0 in
     let p = braces_tokens braces.0.0 in
-    subst P (same_Some _ _ close_.2)
-      ( sign_is 40 ts open_.0 open_.1
-        ∙ ap (λ t. Sign 40 ∷ t) (name_is open_.0 name.0 name.1
+    subst P (same_Some _ _ close_.2) (
+      sign_is 40 ts open_.0 open_.1
+          ∙ ap (λ t. Sign 40 ∷ t) (name_is open_.0 name.0 name.1
           ∙ ap (λ t. Name name.0.0 ∷ t) (labels_sound name.0.1 labels.0 labels.1
-            ∙ ap (λ t. l ++ t) (b.0 ∙ ap (λ t. p ++ t) (sign_is 41 braces.0.1 close_.0 close_.1))
-            ∙ sym (append_assoc l p (Sign 41 ∷ close_.0)) ∙ sym (append_assoc (l ++ p) (Sign 41 ∷ []) close_.0)))
-      , b.1 )
+          ∙ ap (λ t. l ++ t) (b.0 ∙ ap (λ t. p ++ t) (sign_is 41 braces.0.1 close_.0 close_.1))
+          ∙ sym (append_assoc l p (Sign 41 ∷ close_.0)) ∙ sym (append_assoc (l ++ p) (Sign 41 ∷ []) close_.0))),
+      b.1,
+    )
 
 pub reads_types : Reads type_at type_tokens has_first_kinds
 reads_types = record { sound = type_sound; some_token = λ x. omega arith }
@@ -220,8 +224,8 @@ head_sound ts x e =
     let type = bind_some (keyword_at (codes "TYPE") graph.0) _ x graph.2 in
     keyword_is (codes "CREATE") ts create.0 create.1
     ∙ ap (λ t. Keyword (codes "CREATE") ∷ t) (keyword_is (codes "GRAPH") create.0 graph.0 graph.1
-      ∙ ap (λ t. Keyword (codes "GRAPH") ∷ t) (keyword_is (codes "TYPE") graph.0 type.0 type.1
-        ∙ ap (λ t. Keyword (codes "TYPE") ∷ t) (name_is type.0 x type.2)))
+    ∙ ap (λ t. Keyword (codes "GRAPH") ∷ t) (keyword_is (codes "TYPE") graph.0 type.0 type.1
+    ∙ ap (λ t. Keyword (codes "TYPE") ∷ t) (name_is type.0 x type.2)))
 
 ended : (after : List Token) (s x : Script) → (elim after [ [] ↦ Some s | _ ↦ None ]) ≡ Some x → (after ≡ []) × (s ≡ x)
 ended [] s x e = (refl, same_Some s x e)
@@ -239,12 +243,13 @@ script_sound ts x e =
     let end = ended semicolon.0 (record { name = name.0.0; types = types.0.0 }) x semicolon.2 in
     let l = up_to_brace_sound type_at type_tokens has_first_kinds reads_types brace.0 types.0 types.1 in
     let written = separated 44 type_tokens types.0.0 in
-    subst P end.1
-      ( head_sound ts name.0 name.1
-        ∙ ap (λ t. Keyword (codes "CREATE") ∷ Keyword (codes "GRAPH") ∷ Keyword (codes "TYPE") ∷ Name name.0.0 ∷ t)
-          ( keyword_is (codes "STRICT") name.0.1 strict.0 strict.1
-            ∙ ap (λ t. Keyword (codes "STRICT") ∷ t) (sign_is 123 strict.0 brace.0 brace.1
-              ∙ ap (λ t. Sign 123 ∷ t) (l.0
-                ∙ ap (λ t. written ++ Sign 125 ∷ t) (sign_is 59 types.0.1 semicolon.0 semicolon.1 ∙ ap (λ t. Sign 59 ∷ t) end.0)
-                ∙ sym (append_assoc written (Sign 125 ∷ []) (Sign 59 ∷ [])))) )
-      , l.1 )
+    subst P end.1 (
+      head_sound ts name.0 name.1
+          ∙ ap (λ t. Keyword (codes "CREATE") ∷ Keyword (codes "GRAPH") ∷ Keyword (codes "TYPE") ∷ Name name.0.0 ∷ t)
+          (keyword_is (codes "STRICT") name.0.1 strict.0 strict.1
+          ∙ ap (λ t. Keyword (codes "STRICT") ∷ t) (sign_is 123 strict.0 brace.0 brace.1
+          ∙ ap (λ t. Sign 123 ∷ t) (l.0
+          ∙ ap (λ t. written ++ Sign 125 ∷ t) (sign_is 59 types.0.1 semicolon.0 semicolon.1 ∙ ap (λ t. Sign 59 ∷ t) end.0)
+          ∙ sym (append_assoc written (Sign 125 ∷ []) (Sign 59 ∷ []))))),
+      l.1,
+    )

@@ -1,5 +1,5 @@
 -- The tokens that are cut from a text are those that it spells.
-use Rattle.std.proofs.Common.{◌≡◌, ℕ, ◌+◌, ◌<◌, ◌≤◌, ◌==◌, Bool, true, false, cond, ◌&&◌, ◌||◌, List, [], ◌∷◌, ◌++◌, length, Option, Some, None, refl, sym, ap, ◌∙◌, arith, subst, append_assoc, ◌⊎◌, inl, inr, ⊎_elim}
+use Rattle.std.proofs.Common.{◌≡◌, ℕ, ◌==◌, Bool, true, false, cond, ◌&&◌, ◌||◌, List, [], ◌∷◌, ◌++◌, length, Some, None, refl, sym, ap, ◌∙◌, subst, append_assoc, ⊎_elim}
 use Rattle.std.specs.Prelude.{nat_le}
 use Rattle.std.specs.List.{list_all}
 use Rattle.std.specs.Option.{option_map}
@@ -29,12 +29,12 @@ sign_is_no_name_byte : (b : ℕ) → is_sign b ≡ true → (is_name_byte b ≡ 
 sign_is_no_name_byte b =
     let P : ℕ → Type 0 = λ n. (is_name_byte n ≡ false) × (is_space n ≡ false) in
     either P (b == 40 || b == 41 || b == 123 || b == 125 || b == 58 || b == 44 || b == 59) b 38
-      (either P (b == 40 || b == 41 || b == 123 || b == 125 || b == 58 || b == 44) b 59
-        (either P (b == 40 || b == 41 || b == 123 || b == 125 || b == 58) b 44
-          (either P (b == 40 || b == 41 || b == 123 || b == 125) b 58
-            (either P (b == 40 || b == 41 || b == 123) b 125
-              (either P (b == 40 || b == 41) b 123
-                (either P (b == 40) b 41 (λ q. subst P (sym (eqb-true b 40 q)) (refl, refl)) (refl, refl)) (refl, refl)) (refl, refl)) (refl, refl)) (refl, refl)) (refl, refl)) (refl, refl)
+    (either P (b == 40 || b == 41 || b == 123 || b == 125 || b == 58 || b == 44) b 59
+    (either P (b == 40 || b == 41 || b == 123 || b == 125 || b == 58) b 44
+    (either P (b == 40 || b == 41 || b == 123 || b == 125) b 58
+    (either P (b == 40 || b == 41 || b == 123) b 125
+    (either P (b == 40 || b == 41) b 123
+    (either P (b == 40) b 41 (λ q. subst P (sym (eqb-true b 40 q)) (refl, refl)) (refl, refl)) (refl, refl)) (refl, refl)) (refl, refl)) (refl, refl)) (refl, refl)) (refl, refl)
 
 name_has_name_bytes : (w : List ℕ) → is_name w ≡ true → list_all is_name_byte w ≡ true
 name_has_name_bytes [] e = cc
@@ -55,8 +55,8 @@ spells-sign b ts text e s = ([], b ∷ [], text, refl, refl, (e, refl), tt, s)
 spells-word : (w rest : List ℕ) (ts : List Token) → is_name w ≡ true → begins_word rest ≡ false → Spells ts rest → Spells (word_token w ∷ ts) (w ++ rest)
 spells-word w rest ts n e s =
     elim (is_keyword w) as (λ k. is_keyword w ≡ k → Spells ((cond k (Keyword w) (Name w)) ∷ ts) (w ++ rest)) [
-      true ↦ λ k. ([], w, rest, refl, refl, (n, k, refl), e, s)
-    | false ↦ λ k. ([], w, rest, refl, refl, (n, k, refl), e, s)
+      | true ↦ λ k. ([], w, rest, refl, refl, (n, k, refl), e, s)
+      | false ↦ λ k. ([], w, rest, refl, refl, (n, k, refl), e, s)
     ] refl
 
 -- what stands behind the run at the front
@@ -79,10 +79,10 @@ close_sound text (c ∷ cs, tokens) ts h e =
 mark_sound : (b : ℕ) (bs : List ℕ) (ts : List Token) (x : List ℕ × List Token) → is_name_byte b ≡ false → Spells ts bs → cond (is_space b) (Some ([], ts)) (cond (is_sign b) (Some ([], Sign b ∷ ts)) None) ≡ Some x → Behind (b ∷ bs) x
 mark_sound b bs ts x n s e =
     elim (is_space b) as (λ p. is_space b ≡ p → cond p (Some ([], ts)) (cond (is_sign b) (Some ([], Sign b ∷ ts)) None) ≡ Some x → Behind (b ∷ bs) x) [
-      true ↦ λ p h. subst (Behind (b ∷ bs)) (same_Some _ _ h) (record { rest = b ∷ bs; whole = refl; run = refl; apart = n; spelled = spells-space b ts bs p s })
-    | false ↦ λ p h.
-        let q = cond_some (is_sign b) ([], Sign b ∷ ts) x h in
-        subst (Behind (b ∷ bs)) q.1 (record { rest = b ∷ bs; whole = refl; run = refl; apart = n; spelled = spells-sign b ts bs q.0 s })
+      | true ↦ λ p h. subst (Behind (b ∷ bs)) (same_Some _ _ h) (record { rest = b ∷ bs; whole = refl; run = refl; apart = n; spelled = spells-space b ts bs p s })
+      | false ↦ λ p h.
+          let q = cond_some (is_sign b) ([], Sign b ∷ ts) x h in
+          subst (Behind (b ∷ bs)) q.1 (record { rest = b ∷ bs; whole = refl; run = refl; apart = n; spelled = spells-sign b ts bs q.0 s })
     ] refl e
 
 run_sound : (text : List ℕ) (x : List ℕ × List Token) → run_and_tokens text ≡ Some x → Behind text x
@@ -92,11 +92,16 @@ run_sound (b ∷ bs) x e =
     let after = bind_some (run_and_tokens bs) (with_byte b) x e in
     let h = run_sound bs after.0 after.1 in
     elim (is_name_byte b) as (λ n. is_name_byte b ≡ n → (cond n (Some (b ∷ after.0.0, after.0.1)) (close after.0 >>= λ tokens. cond (is_space b) (Some ([], tokens)) (cond (is_sign b) (Some ([], Sign b ∷ tokens)) None))) ≡ Some x → Behind (b ∷ bs) x) [
-      true ↦ λ n q. subst (Behind (b ∷ bs)) (same_Some _ _ q) (record {
-        rest = h.rest; whole = ap (λ r. b ∷ r) h.whole; run = and_from (is_name_byte b) (list_all is_name_byte after.0.0) n h.run; apart = h.apart; spelled = h.spelled })
-    | false ↦ λ n q.
-        let tokens = bind_some (close after.0) (λ tokens. cond (is_space b) (Some ([], tokens)) (cond (is_sign b) (Some ([], Sign b ∷ tokens)) None)) x q in
-        mark_sound b bs tokens.0 x n (close_sound bs after.0 tokens.0 h tokens.1) tokens.2
+      | true ↦ λ n q. subst (Behind (b ∷ bs)) (same_Some _ _ q) (record {
+        rest = h.rest;
+        whole = ap (λ r. b ∷ r) h.whole;
+        run = and_from (is_name_byte b) (list_all is_name_byte after.0.0) n h.run;
+        apart = h.apart;
+        spelled = h.spelled;
+      })
+      | false ↦ λ n q.
+          let tokens = bind_some (close after.0) (λ tokens. cond (is_space b) (Some ([], tokens)) (cond (is_sign b) (Some ([], Sign b ∷ tokens)) None)) x q in
+          mark_sound b bs tokens.0 x n (close_sound bs after.0 tokens.0 h tokens.1) tokens.2
     ] refl after.2
 
 pub cut_sound : (text : List ℕ) (ts : List Token) → tokens_of text ≡ Some ts → Spells ts text

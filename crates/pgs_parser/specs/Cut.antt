@@ -5,14 +5,17 @@ use Rattle.std.specs.Cmp.Lexicographic.{pointwise}
 use Rattle.pgs_base.specs.Name.{is_name, is_name_byte}
 use Rattle.pgs_parser.specs.declared.token.Token.{Token}
 use Rattle.pgs_parser.specs.declared.token.Token.TheVariants.{Name, Keyword, Sign}
+use Rattle.pgs_parser.specs.Signs.{left_parenthesis, right_parenthesis, left_brace, right_brace, colon, comma, semicolon, ampersand}
 use Rattle.pgs_parser.specs.Gives.{◌>>=◌}
 
+-- a space, a tab, a carriage return or a line feed
 abbrev pub is_space : ℕ → Bool
 is_space b = b == 32 || b == 9 || b == 13 || b == 10
 
--- one of ( ) { } : , ; &
 abbrev pub is_sign : ℕ → Bool
-is_sign b = b == 40 || b == 41 || b == 123 || b == 125 || b == 58 || b == 44 || b == 59 || b == 38
+is_sign b =
+    b == left_parenthesis || b == right_parenthesis || b == left_brace || b == right_brace || b == colon || b == comma
+    || b == semicolon || b == ampersand
 
 abbrev pub keywords : List (List ℕ)
 keywords =

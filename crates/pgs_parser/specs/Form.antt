@@ -8,8 +8,9 @@ use Rattle.pgs_parser.specs.declared.token.Token.{Token}
 use Rattle.pgs_parser.specs.declared.token.Token.TheVariants.{Name, Keyword, Sign}
 use Rattle.pgs_parser.specs.declared.tree.WrittenType.{WrittenType}
 use Rattle.pgs_parser.specs.declared.tree.Script.{Script}
+use Rattle.pgs_parser.specs.Signs.{left_parenthesis, right_parenthesis, left_brace, right_brace, colon, comma, semicolon, ampersand}
 use Rattle.pgs_parser.specs.Cut.{is_space, is_sign, is_keyword, begins_word}
-use Rattle.pgs_parser.specs.Reading.{properties_of, keeps_rules}
+use Rattle.pgs_parser.specs.Rules.{properties_of, keeps_rules}
 
 -- ---- the grammar
 
@@ -20,7 +21,7 @@ separated sign spelling (x ∷ xs) = spelling x ++ flat_map (λ y. Sign sign ∷
 
 -- "{" [item {"," item}] "}"
 abbrev pub braced : {A : Type 0} → (A → List Token) → List A → List Token
-braced spelling xs = Sign 123 ∷ separated 44 spelling xs ++ Sign 125 ∷ []
+braced spelling xs = Sign left_brace ∷ separated comma spelling xs ++ Sign right_brace ∷ []
 
 -- name
 abbrev pub name_tokens : List ℕ → List Token
@@ -29,7 +30,7 @@ name_tokens name = Name name ∷ []
 -- [":" name {"&" name}]
 abbrev pub labels_tokens : List (List ℕ) → List Token
 labels_tokens [] = []
-labels_tokens (label ∷ labels) = Sign 58 ∷ separated 38 name_tokens (label ∷ labels)
+labels_tokens (label ∷ labels) = Sign colon ∷ separated ampersand name_tokens (label ∷ labels)
 
 abbrev pub kind_word : Kind → List ℕ
 kind_word kinds.Text = codes "STRING"
@@ -48,13 +49,13 @@ braces_tokens (Some properties) = braced property_tokens properties
 
 -- "(" name [":" name {"&" name}] [braces] ")"
 abbrev pub type_tokens : WrittenType → List Token
-type_tokens type = Sign 40 ∷ Name type.name ∷ labels_tokens type.labels ++ braces_tokens type.braces ++ Sign 41 ∷ []
+type_tokens type = Sign left_parenthesis ∷ Name type.name ∷ labels_tokens type.labels ++ braces_tokens type.braces ++ Sign right_parenthesis ∷ []
 
 -- CREATE GRAPH TYPE name STRICT "{" [type {"," type}] "}" ";"
 abbrev pub script_tokens : Script → List Token
 script_tokens script =
     Keyword (codes "CREATE") ∷ Keyword (codes "GRAPH") ∷ Keyword (codes "TYPE") ∷ Name script.name ∷ Keyword (codes "STRICT")
-    ∷ braced type_tokens script.types ++ Sign 59 ∷ []
+    ∷ braced type_tokens script.types ++ Sign semicolon ∷ []
 
 -- ---- the text
 

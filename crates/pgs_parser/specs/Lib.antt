@@ -1,5 +1,7 @@
 pub mod Cut
+pub mod Form
 pub mod Gives
 pub mod Reading
-pub mod Form
-pub mod NameSet
+pub mod Rules
+pub mod Schema
+pub mod Signs

@@ -1,20 +1,14 @@
--- Which schema is read from tokens. Each step answers what it read and the tokens after it.
-use Rattle.std.specs.Prelude.{ℕ, zero, suc, Bool, true, false, ◌&&◌, not, List, [], ◌∷◌, ◌++◌, map, length, Option, Some, None, if◌then◌else◌, ◌==◌, codes, unwrap_or, nat_le}
-use Rattle.std.specs.Ordering.{nat_cmp}
-use Rattle.std.specs.List.{list_any, list_all}
-use Rattle.std.specs.BTreeMap.{is_at}
-use Rattle.std.specs.BTreeSet.{insert_key}
-use Rattle.std.specs.Cmp.Lexicographic.{slice_cmp}
+-- Which script is read from tokens. Each step answers what it read and the tokens after it.
+use Rattle.std.specs.Prelude.{ℕ, zero, suc, List, [], ◌∷◌, length, Option, Some, None, if◌then◌else◌, ◌==◌, codes}
 use Rattle.pgs_base.specs.declared.value.Kind.{Kind}
 use Rattle.pgs_base.specs.declared.value.Kind.TheVariants as kinds
 use Rattle.pgs_parser.specs.declared.token.Token.{Token}
 use Rattle.pgs_parser.specs.declared.token.Token.TheVariants.{Name, Keyword, Sign}
 use Rattle.pgs_parser.specs.declared.tree.WrittenType.{WrittenType}
 use Rattle.pgs_parser.specs.declared.tree.Script.{Script}
-use Rattle.pgs_parser.specs.declared.first_schema.FirstType.{FirstType}
-use Rattle.pgs_parser.specs.declared.first_schema.FirstSchema.{FirstSchema}
 use Rattle.pgs_parser.specs.Gives.{◌>>=◌}
-use Rattle.pgs_parser.specs.Cut.{same_bytes, tokens_of}
+use Rattle.pgs_parser.specs.Cut.{same_bytes}
+use Rattle.pgs_parser.specs.Signs.{left_parenthesis, right_parenthesis, left_brace, right_brace, colon, comma, semicolon, ampersand}
 
 -- reads a part from the front of tokens
 abbrev pub Reader : Type 0 → Type 0
@@ -46,12 +40,12 @@ kind_at _ = None
 unfoldable pub more : {A : Type 0} → ℕ → Reader A → ℕ → Reader (List A)
 more sign item zero tokens = Some ([], tokens)
 more sign item (suc n) tokens = elim (sign_at sign tokens) [
-    None ↦ Some ([], tokens)
+  | None ↦ Some ([], tokens)
   | Some after ↦ do
-      first ← item after
-      others ← more sign item n first.1
-      Some (first.0 ∷ others.0, others.1)
-  ]
+    first ← item after
+    others ← more sign item n first.1
+    Some (first.0 ∷ others.0, others.1)
+]
 
 -- an item and further ones, as many as there are
 unfoldable pub listed : {A : Type 0} → ℕ → Reader A → Reader (List A)
@@ -62,16 +56,16 @@ listed sign item tokens = do
 
 -- items with commas between, up to a closing brace
 unfoldable pub up_to_brace : {A : Type 0} → Reader A → Reader (List A)
-up_to_brace item tokens = elim (sign_at 125 tokens) [
-    Some after ↦ Some ([], after)
+up_to_brace item tokens = elim (sign_at right_brace tokens) [
+  | Some after ↦ Some ([], after)
   | None ↦ do
-      items ← listed 44 item tokens
-      after ← sign_at 125 items.1
-      Some (items.0, after)
-  ]
+    items ← listed comma item tokens
+    after ← sign_at right_brace items.1
+    Some (items.0, after)
+]
 
 unfoldable pub labels_at : Reader (List (List ℕ))
-labels_at tokens = elim (sign_at 58 tokens) [ None ↦ Some ([], tokens) | Some after ↦ listed 38 name_at after ]
+labels_at tokens = elim (sign_at colon tokens) [ None ↦ Some ([], tokens) | Some after ↦ listed ampersand name_at after ]
 
 unfoldable pub property_at : Reader (List ℕ × Kind)
 property_at tokens = do
@@ -80,20 +74,20 @@ property_at tokens = do
   Some ((name.0, kind.0), kind.1)
 
 unfoldable pub braces_at : Reader (Option (List (List ℕ × Kind)))
-braces_at tokens = elim (sign_at 123 tokens) [
-    None ↦ Some (None, tokens)
+braces_at tokens = elim (sign_at left_brace tokens) [
+  | None ↦ Some (None, tokens)
   | Some after ↦ do
-      properties ← up_to_brace property_at after
-      Some (Some properties.0, properties.1)
-  ]
+    properties ← up_to_brace property_at after
+    Some (Some properties.0, properties.1)
+]
 
 unfoldable pub type_at : Reader WrittenType
 type_at tokens = do
-  after ← sign_at 40 tokens
+  after ← sign_at left_parenthesis tokens
   name ← name_at after
   labels ← labels_at name.1
   braces ← braces_at labels.1
-  after ← sign_at 41 braces.1
+  after ← sign_at right_parenthesis braces.1
   Some (record { name = name.0; labels = labels.0; braces = braces.0 }, after)
 
 -- the name behind the words CREATE GRAPH TYPE
@@ -109,64 +103,7 @@ unfoldable pub script_of : List Token → Option Script
 script_of tokens = do
   name ← head_at tokens
   after ← keyword_at (codes "STRICT") name.1
-  after ← sign_at 123 after
+  after ← sign_at left_brace after
   types ← up_to_brace type_at after
-  after ← sign_at 59 types.1
+  after ← sign_at semicolon types.1
   elim after [ [] ↦ Some (record { name = name.0; types = types.0 }) | _ ↦ None ]
-
--- whether a name is one of these
-abbrev pub has : List (List ℕ) → List ℕ → Bool
-has names name = list_any (is_at (slice_cmp nat_cmp name)) names
-
--- whether no name is one of the earlier ones or of those before it
-abbrev pub differ_after : List (List ℕ) → List (List ℕ) → Bool
-differ_after earlier [] = true
-differ_after earlier (name ∷ names) = not (has earlier name) && differ_after (earlier ++ name ∷ []) names
-
--- whether names differ from each other
-abbrev pub differ : List (List ℕ) → Bool
-differ names = differ_after [] names
-
-abbrev pub properties_of : WrittenType → List (List ℕ × Kind)
-properties_of type = unwrap_or type.braces []
-
-abbrev pub key_of : List ℕ × Kind → List ℕ
-key_of property = property.0
-
-abbrev pub keys_differ : WrittenType → Bool
-keys_differ type = differ (map key_of (properties_of type))
-
--- whether no label is one of the names
-abbrev pub is_labelled_apart : List (List ℕ) → WrittenType → Bool
-is_labelled_apart names type = list_all (λ label. not (has names label)) type.labels
-
-abbrev pub name_of : WrittenType → List ℕ
-name_of type = type.name
-
-abbrev pub type_names : List WrittenType → List (List ℕ)
-type_names types = map name_of types
-
--- whether type names differ from each other, no label is a type's name, and keys differ inside one pair of braces
-abbrev pub keeps_rules : List WrittenType → Bool
-keeps_rules types =
-    differ (type_names types) && list_all (is_labelled_apart (type_names types)) types && list_all keys_differ types
-
--- labels as a set
-abbrev pub label_set : List (List ℕ) → List (List ℕ) → List (List ℕ)
-label_set labels [] = labels
-label_set labels (label ∷ more) = label_set (insert_key (slice_cmp nat_cmp) labels label) more
-
-abbrev pub first_type : WrittenType → FirstType
-first_type type = record { name = type.name; labels = label_set [] type.labels; keys = properties_of type }
-
-abbrev pub schema_of : List WrittenType → FirstSchema
-schema_of types = record { types = map first_type types }
-
--- the schema that is read from a text
-unfoldable pub first_schema : List ℕ → Option FirstSchema
-first_schema text =
-    if nat_le (length text) 1048576 then (do
-      tokens ← tokens_of text
-      script ← script_of tokens
-      if keeps_rules script.types then Some (schema_of script.types) else None)
-    else None

@@ -89,9 +89,7 @@ fn word_token(word: Name) -> Token
 fn word_length(text: &[u8]) -> usize
     ensures { result ≡ prefix_len is_name_byte text.now }
 {
-    text.iter()
-        .take_while(|byte| is_name_byte(**byte))
-        .count()
+    text.iter().take_while(|byte| is_name_byte(**byte)).count()
 }
 
 /// The name bytes at the front of a text, and the rest.
@@ -105,11 +103,7 @@ fn split_word(text: &[u8]) -> (&[u8], &[u8])
 }
 
 /// Puts the token of the word at the front last, and gives the text after it.
-fn push_word<'a>(
-    alloc: Global,
-    tokens: &mut Vec<Token>,
-    text: &'a [u8],
-) -> Result<&'a [u8], Unread>
+fn push_word<'a>(alloc: Global, tokens: &mut Vec<Token>, text: &'a [u8]) -> Result<&'a [u8], Unread>
     requires { begins_word text.now ≡ true }
     ensures rest { IfOk result (λ rest. with_front tokens.new.items (tokens_of rest.now) ≡ with_front tokens.old.items (tokens_of text.now)) }
     ensures shorter { IfOk result (λ rest. length rest.now < length text.now) }
@@ -126,11 +120,7 @@ fn push_word<'a>(
 }
 
 /// Goes over a space, or puts the token at the front last, and gives the text after it.
-fn push_item<'a>(
-    alloc: Global,
-    tokens: &mut Vec<Token>,
-    text: &'a [u8],
-) -> Result<&'a [u8], Unread>
+fn push_item<'a>(alloc: Global, tokens: &mut Vec<Token>, text: &'a [u8]) -> Result<&'a [u8], Unread>
     requires { 0 < length text.now }
     ensures rest { IfOk result (λ rest. with_front tokens.new.items (tokens_of rest.now) ≡ with_front tokens.old.items (tokens_of text.now)) }
     ensures shorter { IfOk result (λ rest. length rest.now < length text.now) }

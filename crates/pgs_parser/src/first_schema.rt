@@ -1,6 +1,6 @@
 ghost use Rattle.std.specs.Prelude.{◌≡◌, map, IfOk, unwrap_or, []};
 ghost use Rattle.pgs_parser.specs.Gives.{Gives};
-ghost use Rattle.pgs_parser.specs.Reading.{label_set, first_type, schema_of, first_schema};
+ghost use Rattle.pgs_parser.specs.Schema.{label_set, first_type, schema_of, first_schema};
 
 use crate::cut::tokens_of;
 use crate::reading::script_of;
@@ -54,10 +54,7 @@ fn copied(alloc: Global, properties: &[(Name, Kind)]) -> Result<List<(Name, Kind
     Ok(List::from_vec(copies))
 }
 
-fn keys_of(
-    alloc: Global,
-    braces: &Option<List<(Name, Kind)>>,
-) -> Result<List<(Name, Kind)>, Memory>
+fn keys_of(alloc: Global, braces: &Option<List<(Name, Kind)>>) -> Result<List<(Name, Kind)>, Memory>
     ensures { IfOk result (λ keys. keys ≡ unwrap_or braces.now []) }
 {
     match braces {
@@ -87,7 +84,7 @@ fn schema_of(alloc: Global, written: &[WrittenType]) -> Result<FirstSchema, Memo
     })
 }
 
-#[tactic(auto, unfolding(crate::specs::Reading::first_schema))]
+#[tactic(auto, unfolding(crate::specs::Schema::first_schema))]
 fn read(alloc: Global, text: &[u8]) -> Result<FirstSchema, Unread>
     ensures { Gives (λ schema. schema) result (first_schema text.now) }
 {

@@ -1,7 +1,7 @@
 ghost use Rattle.std.specs.Prelude.{◌≡◌, ℕ, List, Some};
 ghost use Rattle.pgs_parser.specs.declared.tree.Script.{Script};
 ghost use Rattle.pgs_parser.specs.declared.first_schema.FirstSchema.{FirstSchema};
-ghost use Rattle.pgs_parser.specs.Reading.{first_schema, schema_of};
+ghost use Rattle.pgs_parser.specs.Schema.{first_schema, schema_of};
 ghost use Rattle.pgs_parser.specs.Form.{IsFirstForm};
 
 /// The law that what `parse_first` reads is the form, both ways.
@@ -12,5 +12,4 @@ pub fn first_form()
     // What is of the form is read.
     ensures form_is_read { (text : List ℕ) (script : Script) → IsFirstForm text script
         → first_schema text ≡ Some (schema_of script.types) }
-{
-}
+{}

@@ -95,10 +95,7 @@ fn names_at(alloc: Global, tokens: &[Token]) -> Result<(List<Name>, &[Token]), U
 }
 
 /// One property or more, with commas between.
-fn properties_at(
-    alloc: Global,
-    tokens: &[Token],
-) -> Result<(List<(Name, Kind)>, &[Token]), Unread>
+fn properties_at(alloc: Global, tokens: &[Token]) -> Result<(List<(Name, Kind)>, &[Token]), Unread>
     ensures { Gives (λ x. (x.0, x.1.now)) result (listed 44 property_at tokens.now) }
 {
     let (first, mut rest) = property_at(alloc, tokens)?;

@@ -3,8 +3,8 @@ ghost use Rattle.std.specs.Ordering.{nat_cmp};
 ghost use Rattle.std.specs.List.{list_all};
 ghost use Rattle.std.specs.BTreeMap.{is_at};
 ghost use Rattle.std.specs.Cmp.Lexicographic.{slice_cmp};
-ghost use Rattle.pgs_parser.specs.Reading.{has, differ, key_of, keys_differ, is_labelled_apart, keeps_rules, type_names};
-ghost use Rattle.pgs_parser.specs.NameSet.{IsNameSet};
+ghost use Rattle.pgs_parser.specs.Rules.{has, differ, key_of, keys_differ, is_labelled_apart, keeps_rules, type_names};
+ghost use Rattle.pgs_parser.specs.Rules.{IsNameSet};
 
 use crate::tree::WrittenType;
 use pgs_base::{Copyable, Kind, Memory, Name};

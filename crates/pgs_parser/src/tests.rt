@@ -49,7 +49,10 @@ fn texts(rt: HostRuntime) -> Result<(), Fail> {
             "CREATE GRAPH TYPE g STRICT {(p {b INT, a STRING})};",
             "ok p.b=i.a=s",
         ),
-        ("CREATE GRAPH TYPE g STRICT {(a),(b:C{k INT})};", "ok a b:C.k=i"),
+        (
+            "CREATE GRAPH TYPE g STRICT {(a),(b:C{k INT})};",
+            "ok a b:C.k=i",
+        ),
         (
             "\tCREATE\r\nGRAPH  TYPE\n_g1\tSTRICT{\r\n( a :B\n&C ) , ( d ) }\t;\r\n",
             "ok a:B:C d",
@@ -57,7 +60,10 @@ fn texts(rt: HostRuntime) -> Result<(), Fail> {
         ("CREATE GRAPH TYPE g STRICT {(p: NODE)};", "-"),
         ("CREATE GRAPH TYPE OF STRICT {};", "-"),
         ("CREATE GRAPH TYPE g STRICT {(p {k INT, k STRING})};", "-"),
-        ("CREATE GRAPH TYPE g STRICT {(p {k INT}), (q {k INT})};", "ok p.k=i q.k=i"),
+        (
+            "CREATE GRAPH TYPE g STRICT {(p {k INT}), (q {k INT})};",
+            "ok p.k=i q.k=i",
+        ),
         ("CREATE GRAPH TYPE g STRICT {(p), (q), (p)};", "-"),
         ("CREATE GRAPH TYPE g STRICT {(p: q), (q)};", "-"),
         ("CREATE GRAPH TYPE g STRICT {(p: p)};", "-"),

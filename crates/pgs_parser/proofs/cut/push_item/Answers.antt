@@ -1,4 +1,4 @@
-use Rattle.std.proofs.Common.{sym, ap, ◌∙◌, arith, List, get_or, ◌++◌, ◌∷◌, []}
+use Rattle.std.proofs.Common.{sym, ap, ◌∙◌}
 use Rattle.pgs_parser.specs.Gives.{with_front}
 use Rattle.pgs_parser.specs.Cut.{tokens_of}
 use Rattle.pgs_parser.proofs.Cutting.{space_goes_on, sign_goes_on, other_fails, rest_of}

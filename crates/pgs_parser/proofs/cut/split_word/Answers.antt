@@ -1,4 +1,4 @@
-use Rattle.std.proofs.Common.{ap, ◌∙◌, take, true, sym, subst, ◌≤◌, length}
+use Rattle.std.proofs.Common.{ap, ◌∙◌, take}
 use Rattle.std.specs.List.{list_all}
 use Rattle.std.proofs.lemmas.List.Sums.{prefix_len-le-length}
 use Rattle.pgs_base.specs.Name.{is_name_byte}

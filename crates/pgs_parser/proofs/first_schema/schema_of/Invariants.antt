@@ -1,5 +1,5 @@
 use Rattle.std.proofs.Common.{◌≡◌, map, take}
-use Rattle.pgs_parser.specs.Reading.{first_type}
+use Rattle.pgs_parser.specs.Schema.{first_type}
 use Rattle.pgs_parser.proofs.first_schema.schema_of.Given as goal
 
 abbrev pub invariant-loop-one : goal.invariant-loop-one

@@ -1,6 +1,5 @@
-use Rattle.std.proofs.Common.{◌≡◌, ◌≤◌, ℕ, Bool, true, false, cond, List, [], ◌∷◌, length, Option, Some, None, refl, sym, ap, ◌∙◌, subst}
+use Rattle.std.proofs.Common.{◌≡◌, ℕ, Bool, true, false, cond, List, length, Option, Some, None, refl, sym, ap, ◌∙◌, subst}
 use Rattle.std.specs.Prelude.{nat_le}
-use Rattle.std.specs.List.{list_all}
 use Rattle.std.proofs.lemmas.Option.{cond_some}
 use Rattle.std.proofs.lemmas.Bool.{leb-true, le-leb}
 use Rattle.pgs_parser.specs.declared.token.Token.{Token}
@@ -8,7 +7,9 @@ use Rattle.pgs_parser.specs.declared.tree.Script.{Script}
 use Rattle.pgs_parser.specs.declared.first_schema.FirstSchema.{FirstSchema}
 use Rattle.pgs_parser.specs.Gives.{◌>>=◌}
 use Rattle.pgs_parser.specs.Cut.{tokens_of}
-use Rattle.pgs_parser.specs.Reading.{script_of, keeps_rules, schema_of, first_schema}
+use Rattle.pgs_parser.specs.Reading.{script_of}
+use Rattle.pgs_parser.specs.Rules.{keeps_rules}
+use Rattle.pgs_parser.specs.Schema.{schema_of, first_schema}
 use Rattle.pgs_parser.specs.Form.{IsFirstForm, Spells, script_tokens}
 use Rattle.pgs_parser.proofs.Sound.{bind_some, script_sound}
 use Rattle.pgs_parser.proofs.Complete.{script_complete}
@@ -33,15 +34,16 @@ is_of_the_form text schema e =
     let tokens = bind_some (tokens_of text) read_tokens schema whole.1 in
     let script = bind_some (script_of tokens.0) read_script schema tokens.2 in
     let kept = cond_some (keeps_rules script.0.types) (schema_of script.0.types) schema script.2 in
-    let spelled = script_sound tokens.0 script.0 script.1 in
-    ( script.0
-    , record {
+    let spelled = script_sound tokens.0 script.0 script.1 in (
+      script.0,
+      record {
         length = leb-true (length text) 1048576 whole.0;
         spelled = subst (λ ts. Spells ts text) spelled.0 (cut_sound text tokens.0 tokens.1);
         kinds = spelled.1;
         rules = kept.0;
-      }
-    , sym kept.1 )
+      },
+      sym kept.1,
+    )
 
 is_read : (text : List ℕ) (script : Script) → IsFirstForm text script → first_schema text ≡ Some (schema_of script.types)
 unfolding first_schema

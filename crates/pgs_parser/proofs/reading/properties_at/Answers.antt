@@ -1,4 +1,4 @@
-use Rattle.std.proofs.Common.{◌≡◌, Some, ◌∙◌, ◌++◌, ◌∷◌, [], sym, ap, length}
+use Rattle.std.proofs.Common.{Some, ◌∙◌, ◌++◌, ◌∷◌, [], sym, ap, length}
 use Rattle.std.proofs.lemmas.Result.{err_from_is_err_and}
 use Rattle.pgs_parser.specs.Reading.{property_at, more, listed}
 use Rattle.pgs_parser.proofs.Listing.{ahead, starts, start_fails, goes_on, ends, fails, left_less}
@@ -21,7 +21,7 @@ pub returns-in_err-property : goal.returns-in_err-property
 returns-in_err-property c =
     let p = err_from_is_err_and c.from_residual-in_err-property.result c.from_residual-in_err-property.ensures.1 in
     rw (p.1, p.2) (fails 44 property_at c.loop-after.properties.items c.loop-after.rest.now c.in-Some.after.now (listed 44 property_at c.args.tokens.now) c.in_err-property.field-0.0
-      (sym c.in-Some.ensures) c.loop-after.invariant c.in_err-property.ensures)
+    (sym c.in-Some.ensures) c.loop-after.invariant c.in_err-property.ensures)
 
 pub loop-after-smaller : goal.loop-after-smaller
 loop-after-smaller c = left_less 44 property_at (shortens property_at property_tokens has_first_kind reads_properties) c.loop-after.rest.now c.in-Some.after.now (c.in_ok-property.property, c.in_ok-property.after.now) (sym c.in-Some.ensures) c.in_ok-property.ensures
@@ -31,7 +31,7 @@ loop-after-preserved c =
     let rest = c.in_ok-property.after.now in
     ap (λ xs. ahead xs (more 44 property_at (length rest) rest)) c.in_ok-push-2.ensures.items
     ∙ goes_on 44 property_at (shortens property_at property_tokens has_first_kind reads_properties) c.loop-after.properties.items c.loop-after.rest.now c.in-Some.after.now (c.in_ok-property.property, rest) (listed 44 property_at c.args.tokens.now)
-      (sym c.in-Some.ensures) c.in_ok-property.ensures c.loop-after.invariant
+    (sym c.in-Some.ensures) c.in_ok-property.ensures c.loop-after.invariant
 
 pub returns : goal.returns
 returns c =

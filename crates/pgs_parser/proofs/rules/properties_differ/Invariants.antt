@@ -1,5 +1,5 @@
 use Rattle.std.proofs.Common.{map}
-use Rattle.pgs_parser.specs.Reading.{key_of}
+use Rattle.pgs_parser.specs.Rules.{key_of}
 use Rattle.pgs_parser.proofs.Differing.{Seen}
 use Rattle.pgs_parser.proofs.rules.properties_differ.Given as goal
 

@@ -1,4 +1,4 @@
-use Rattle.pgs_parser.specs.Reading.{type_names}
+use Rattle.pgs_parser.specs.Rules.{type_names}
 use Rattle.pgs_parser.proofs.Differing.{Seen}
 use Rattle.pgs_parser.proofs.rules.type_names.Given as goal
 
