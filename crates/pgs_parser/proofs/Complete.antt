@@ -10,7 +10,8 @@ use Rattle.pgs_parser.specs.declared.tree.WrittenType.{WrittenType}
 use Rattle.pgs_parser.specs.declared.tree.Script.{Script}
 use Rattle.pgs_parser.specs.Gives.{◌>>=◌}
 use Rattle.pgs_parser.specs.Reading.{Reader, sign_at, name_at, kind_at, more, listed, up_to_brace, labels_at, property_at, braces_at, type_at, head_at, script_of}
-use Rattle.pgs_parser.specs.Form.{separated, name_tokens, labels_tokens, kind_word, property_tokens, braces_tokens, type_tokens, script_tokens, is_first_kind, has_first_kind, has_first_kinds}
+use Rattle.pgs_parser.specs.Form.{separated, name_tokens, labels_tokens, kind_word, property_tokens, braces_tokens, type_tokens, script_tokens}
+use Rattle.pgs_parser.proofs.FirstKinds.{is_first_kind, has_first_kind, has_first_kinds}
 use Rattle.pgs_parser.proofs.Listing.{and_more, ahead, more-none, more-some}
 use Rattle.pgs_parser.proofs.Sound.{any_name}
 

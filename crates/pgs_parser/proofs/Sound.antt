@@ -14,7 +14,8 @@ use Rattle.pgs_parser.specs.declared.tree.Script.{Script}
 use Rattle.pgs_parser.specs.Gives.{◌>>=◌}
 use Rattle.pgs_parser.specs.Cut.{same_bytes}
 use Rattle.pgs_parser.specs.Reading.{Reader, sign_at, keyword_at, name_at, kind_at, kind_of_word, more, listed, up_to_brace, labels_at, property_at, braces_at, type_at, head_at, script_of}
-use Rattle.pgs_parser.specs.Form.{separated, name_tokens, labels_tokens, kind_word, property_tokens, braces_tokens, type_tokens, script_tokens, is_first_kind, has_first_kind, has_first_kinds}
+use Rattle.pgs_parser.specs.Form.{separated, name_tokens, labels_tokens, kind_word, property_tokens, braces_tokens, type_tokens, script_tokens}
+use Rattle.pgs_parser.proofs.FirstKinds.{is_first_kind, has_first_kind, has_first_kinds}
 use Rattle.pgs_parser.proofs.Listing.{Shortens, sign_is, and_more, more-none, more-some}
 
 pub bind_some : {A B : Type 0} (o : Option A) (f : A → Option B) (y : B) → (o >>= f) ≡ Some y → (x : A) × (o ≡ Some x) × (f x ≡ Some y)

@@ -1,6 +1,6 @@
 -- The first form of a schema: its grammar over tokens, how tokens are spelled as a text, and the rules beside.
-use Rattle.std.specs.Prelude.{◌≡◌, ℕ, ◌≤◌, Bool, true, false, List, [], ◌∷◌, ◌++◌, length, Option, Some, None, codes}
-use Rattle.std.specs.List.{flat_map, list_all}
+use Rattle.std.specs.Prelude.{◌≡◌, ◌⊎◌, ℕ, ◌≤◌, true, false, List, [], ◌∷◌, ◌++◌, map, length, Option, Some, None, codes}
+use Rattle.std.specs.List.{flat_map, list_all, All, Contains}
 use Rattle.pgs_base.specs.declared.value.Kind.{Kind}
 use Rattle.pgs_base.specs.declared.value.Kind.TheVariants as kinds
 use Rattle.pgs_base.specs.Name.{is_name}
@@ -10,7 +10,7 @@ use Rattle.pgs_parser.specs.declared.tree.WrittenType.{WrittenType}
 use Rattle.pgs_parser.specs.declared.tree.Script.{Script}
 use Rattle.pgs_parser.specs.Signs.{left_parenthesis, right_parenthesis, left_brace, right_brace, colon, comma, semicolon, ampersand}
 use Rattle.pgs_parser.specs.Cut.{is_space, is_sign, is_keyword, begins_word}
-use Rattle.pgs_parser.specs.Rules.{properties_of, keeps_rules}
+use Rattle.pgs_parser.specs.Rules.{properties_of, key_of, type_names}
 
 -- ---- the grammar
 
@@ -80,23 +80,26 @@ Spells (token ∷ tokens) text =
 
 -- ---- the rules beside
 
-abbrev pub is_first_kind : Kind → Bool
-is_first_kind kinds.Text = true
-is_first_kind kinds.Int = true
-is_first_kind kinds.Bool = false
-is_first_kind kinds.Date = false
+-- no name stands twice
+abbrev pub AllDiffer : List (List ℕ) → Type 0
+AllDiffer [] = Unit {0}
+AllDiffer (name ∷ names) = (Contains names name → ⊥) × AllDiffer names
 
-abbrev pub has_first_kind : List ℕ × Kind → Bool
-has_first_kind property = is_first_kind property.1
+abbrev pub IsFirstKind : Kind → Type 0
+IsFirstKind kind = (kind ≡ kinds.Text) ⊎ (kind ≡ kinds.Int)
 
-abbrev pub has_first_kinds : WrittenType → Bool
-has_first_kinds type = list_all has_first_kind (properties_of type)
+pub record KeepsRules (types : List WrittenType) : Type 0 where
+  -- type names differ from each other
+  pub names : AllDiffer (type_names types)
+  -- no label is a type's name
+  pub labels : All (λ (type : WrittenType). All (λ label. Contains (type_names types) label → ⊥) type.labels) types
+  -- keys differ inside one pair of braces
+  pub keys : All (λ (type : WrittenType). AllDiffer (map key_of (properties_of type))) types
+  -- kinds are STRING and INT
+  pub kinds : All (λ (type : WrittenType). All (λ (property : List ℕ × Kind). IsFirstKind property.1) (properties_of type)) types
 
 -- the text is of the form, and the script is what it spells
 pub record IsFirstForm (text : List ℕ) (script : Script) : Type 0 where
   pub length : length text ≤ 1048576
   pub spelled : Spells (script_tokens script) text
-  -- kinds are STRING and INT
-  pub kinds : list_all has_first_kinds script.types ≡ true
-  -- type names differ, no label is a type's name, keys differ inside one pair of braces
-  pub rules : keeps_rules script.types ≡ true
+  pub rules : KeepsRules script.types

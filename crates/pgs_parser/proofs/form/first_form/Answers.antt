@@ -11,6 +11,7 @@ use Rattle.pgs_parser.specs.Reading.{script_of}
 use Rattle.pgs_parser.specs.Rules.{keeps_rules}
 use Rattle.pgs_parser.specs.Schema.{schema_of, first_schema}
 use Rattle.pgs_parser.specs.Form.{IsFirstForm, Spells, script_tokens}
+use Rattle.pgs_parser.proofs.Ruled.{rules_hold, rules_kept, kinds_kept}
 use Rattle.pgs_parser.proofs.Sound.{bind_some, script_sound}
 use Rattle.pgs_parser.proofs.Complete.{script_complete}
 use Rattle.pgs_parser.proofs.Spelling.{cut_sound, cut_complete}
@@ -39,8 +40,7 @@ is_of_the_form text schema e =
       record {
         length = leb-true (length text) 1048576 whole.0;
         spelled = subst (λ ts. Spells ts text) spelled.0 (cut_sound text tokens.0 tokens.1);
-        kinds = spelled.1;
-        rules = kept.0;
+        rules = rules_hold script.0.types kept.0 spelled.1;
       },
       sym kept.1,
     )
@@ -50,8 +50,8 @@ unfolding first_schema
 is_read text script h =
     ap (λ b. cond b (tokens_of text >>= read_tokens) None) (le-leb (length text) 1048576 h.length)
     ∙ ap (λ o. o >>= read_tokens) (cut_complete (script_tokens script) text h.spelled)
-    ∙ ap (λ o. o >>= read_script) (script_complete script h.kinds)
-    ∙ ap (λ b. cond b (Some (schema_of script.types)) None) h.rules
+    ∙ ap (λ o. o >>= read_script) (script_complete script (kinds_kept script.types h.rules))
+    ∙ ap (λ b. cond b (Some (schema_of script.types)) None) (rules_kept script.types h.rules)
 
 pub returns-clause-read_is_of_the_form : goal.returns-clause-read_is_of_the_form
 returns-clause-read_is_of_the_form c = is_of_the_form

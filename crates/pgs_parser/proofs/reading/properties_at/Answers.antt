@@ -3,7 +3,8 @@ use Rattle.std.proofs.lemmas.Result.{err_from_is_err_and}
 use Rattle.pgs_parser.specs.Reading.{property_at, more, listed}
 use Rattle.pgs_parser.proofs.Listing.{ahead, starts, start_fails, goes_on, ends, fails, left_less}
 use Rattle.pgs_parser.proofs.Sound.{shortens, reads_properties}
-use Rattle.pgs_parser.specs.Form.{property_tokens, has_first_kind}
+use Rattle.pgs_parser.specs.Form.{property_tokens}
+use Rattle.pgs_parser.proofs.FirstKinds.{has_first_kind}
 use Rattle.pgs_parser.proofs.reading.properties_at.Goals as goal
 
 pub returns-in_err-first : goal.returns-in_err-first
