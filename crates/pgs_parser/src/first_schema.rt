@@ -102,7 +102,8 @@ fn read(alloc: Global, text: &[u8]) -> Result<FirstSchema, Unread>
 
 /// The schema that a text of the first form spells. `None` exactly where the text isn't of this form:
 /// one statement `CREATE GRAPH TYPE name STRICT { .. };` of at most 1,048,576 bytes with node types in
-/// the braces, each with a name, labels and keys of kind STRING or INT. The form is in docs/FORMATS.md.
+/// the braces, each with a name, labels and keys of kind STRING or INT. The whole form is stated in
+/// `specs/Form.antt`. `Memory` where there was none left.
 pub fn parse_first(alloc: Global, text: &[u8]) -> Result<Option<FirstSchema>, Memory>
     ensures { IfOk result (λ found. found ≡ first_schema text.now) }
 {

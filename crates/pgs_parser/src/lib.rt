@@ -1,9 +1,8 @@
 //! Schema texts as trees: `parse_first` reads the first form of a schema.
 //!
 //! The one rule: a text is read exactly where it is of the form, and only want of memory keeps it from that.
-//! The form is stated as a grammar in `specs/Form.antt`, over tokens that `specs/Cut.antt` cuts from the text;
-//! `specs/Reading.antt` says which tree is read, and `first_form` that both say the same.
-//! The layer above uses `FirstSchema` and its parts alone.
+//! The form is a grammar in `specs/Form.antt`, over the tokens of `specs/Cut.antt`. `specs/Schema.antt` computes
+//! what is read, and `first_form` is the law that both say the same. The layer above uses `FirstSchema` alone.
 #![tactic(auto)]
 
 mod cut;
