@@ -1,0 +1,4 @@
+pub mod Digits
+pub mod Gathered
+pub mod Items
+pub mod Texts

@@ -1,0 +1,41 @@
+ghost use Rattle.std.specs.Prelude.{◌≡◌, IfOk};
+ghost use Rattle.pgs_json.specs.Reading.{first_txn};
+ghost use Rattle.pgs_json.specs.Unread.{Gives};
+
+use crate::operation::op_list;
+use crate::piece::after;
+use crate::unread::Unread;
+use pgs_base::Memory;
+use pgs_graph::Txn;
+use std::alloc::Global;
+
+/// The most bytes of a line.
+const LONGEST: usize = 1_048_576;
+
+#[tactic(auto, unfolding(crate::specs::Reading::first_txn, crate::specs::Reading::raw_at))]
+fn txn(alloc: Global, line: &[u8]) -> Result<Txn, Unread>
+    ensures { Gives (λ txn. txn) result (first_txn line.now) }
+{
+    if line.len() > LONGEST {
+        return Err(Unread::Unfit);
+    }
+    let start = after(b"{\"ops\":[", line)?;
+    let (ops, rest) = op_list(alloc, start)?;
+    let rest = after(b"}", rest)?;
+    if rest.is_empty() {
+        Ok(Txn { ops })
+    } else {
+        Err(Unread::Unfit)
+    }
+}
+
+/// The transaction of a line of the first form. `None` exactly where the line isn't of this form.
+pub fn read_first(alloc: Global, line: &[u8]) -> Result<Option<Txn>, Memory>
+    ensures { IfOk result (λ found. found ≡ first_txn line.now) }
+{
+    match txn(alloc, line) {
+        Ok(txn) => Ok(Some(txn)),
+        Err(Unread::Unfit) => Ok(None),
+        Err(Unread::Memory) => Err(Memory),
+    }
+}
