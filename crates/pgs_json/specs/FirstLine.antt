@@ -1,5 +1,5 @@
 -- The first form of a line: what stands in one, its one spelling, its limits, and the transaction that it names.
-use Rattle.std.specs.Prelude.{ℕ, ◌^◌, ℤ, pos, negsuc, Bool, true, false, ◌&&◌, not, List, [], ◌∷◌, ◌++◌, length, map, fold, flat_map, Option, Some, None, unwrap_or, nat_le, nat_lt, ◌==◌, codes, decimal}
+use Rattle.std.specs.Prelude.{◌≡◌, IsTrue, ℕ, ◌^◌, ℤ, pos, negsuc, Bool, true, false, ◌&&◌, not, List, [], ◌∷◌, ◌++◌, length, map, fold, flat_map, Option, Some, None, unwrap_or, nat_le, nat_lt, ◌==◌, codes, decimal}
 use Rattle.std.specs.Fmt.{signed_decimal}
 use Rattle.std.specs.Ordering.{nat_cmp}
 use Rattle.std.specs.Cmp.Lexicographic.{slice_cmp}
@@ -107,3 +107,8 @@ op_of raw = AddNode (record { 0 = raw.id }) (label_set (unwrap_or raw.labels [])
 -- the transaction that a line names
 abbrev pub txn_of : List RawOp → Txn
 txn_of raw = record { ops = map op_of raw }
+
+-- the line is the spelling of operations within the limits, and they name the transaction
+abbrev pub SpellsTxn : List ℕ → Txn → Type 0
+SpellsTxn line txn =
+    (raw : List RawOp) × IsTrue (is_first_line raw) × (line ≡ spelling raw) × (txn_of raw ≡ txn)

@@ -1,4 +1,6 @@
-ghost use Rattle.std.specs.Prelude.{◌≡◌, IfOk};
+ghost use Rattle.std.specs.Prelude.{◌≡◌, ◌↔◌, ℕ, List, Some, IfOk, IsTrue};
+ghost use Rattle.pgs_graph.specs.declared.operation.Txn.{Txn};
+ghost use Rattle.pgs_json.specs.FirstLine.{RawOp, SpellsTxn, is_first_line, spelling};
 ghost use Rattle.pgs_json.specs.Reading.{first_txn};
 ghost use Rattle.pgs_json.specs.Unread.{Gives};
 
@@ -38,4 +40,13 @@ pub fn read_first(alloc: Global, line: &[u8]) -> Result<Option<Txn>, Memory>
         Err(Unread::Unfit) => Ok(None),
         Err(Unread::Memory) => Err(Memory),
     }
+}
+
+/// A line is read as a transaction exactly where it is the spelling of operations within the limits
+/// that name this transaction. No two lists of operations within the limits have the same spelling.
+pub fn first_form_is_exact()
+    ensures exact { (line : List ℕ) (txn : Txn) → (first_txn line ≡ Some txn ↔ SpellsTxn line txn) }
+    ensures one_meaning { (a b : List RawOp)
+        → IsTrue (is_first_line a) → IsTrue (is_first_line b) → spelling a ≡ spelling b → a ≡ b }
+{
 }
