@@ -14,3 +14,6 @@ mod unread;
 mod value;
 
 pub use first_line::{first_form_is_exact, read_first};
+
+#[cfg(test)]
+mod tests;
