@@ -43,14 +43,17 @@ no_item unread.Unfit step item close count i s bytes total lt read so_far =
     let one : gathered_at step item close (count - i) s bytes ≡ None = rw (k, read) refl in
     sym so_far ∙ one
 
+none_fails : {Y : Type 0} (e : Unread) (read : Option Y) → read ≡ None → Fails e read
+none_fails unread.Memory read none = tt
+none_fails unread.Unfit read none = none
+
 pub no_end : {A S : Type 0} (e : Unread) (step : S → A → Option S) (item : List ℕ → Option (A × List ℕ)) (close count i : ℕ) (s : S) (x : A) (bytes middle : List ℕ) (total : Option (S × List ℕ)) → i < count
-    → item bytes ≡ Some (x, middle) → Fails e (end_at close middle) → gathered_at step item close (count - i) s bytes ≡ total → Fails e total
+    → item bytes ≡ Some (x, middle) → end_at close middle ≡ None → gathered_at step item close (count - i) s bytes ≡ total → Fails e total
 unfolding gathered_at items_at
-no_end unread.Memory step item close count i s x bytes middle total lt read end so_far = tt
-no_end unread.Unfit step item close count i s x bytes middle total lt read end so_far =
+no_end e step item close count i s x bytes middle total lt read end so_far =
     let k : count - i ≡ suc (count - (i + 1)) = omega arith in
     let one : gathered_at step item close (count - i) s bytes ≡ None = rw (k, read, end) refl in
-    sym so_far ∙ one
+    none_fails e total (sym so_far ∙ one)
 
 -- how the list goes on after an item
 abbrev pub others_at : {A : Type 0} (item : List ℕ → Option (A × List ℕ)) (close n : ℕ) (x : A) → Bool × List ℕ → Option (List A × List ℕ)

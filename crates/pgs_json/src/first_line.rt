@@ -21,9 +21,9 @@ fn txn(alloc: Global, line: &[u8]) -> Result<Txn, Unread>
     if line.len() > LONGEST {
         return Err(Unread::Unfit);
     }
-    let start = after(b"{\"ops\":[", line)?;
+    let start = after(b"{\"ops\":[", line).ok_or(Unread::Unfit)?;
     let (ops, rest) = op_list(alloc, start)?;
-    let rest = after(b"}", rest)?;
+    let rest = after(b"}", rest).ok_or(Unread::Unfit)?;
     if rest.is_empty() {
         Ok(Txn { ops })
     } else {

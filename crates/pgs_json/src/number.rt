@@ -2,9 +2,6 @@ ghost use Rattle.std.specs.Prelude.{◌≡◌, ◌≤◌, ◌+◌, ◌*◌, ◌^
 ghost use Rattle.std.specs.List.{prefix_len};
 ghost use Rattle.std.specs.Char.{digit_value};
 ghost use Rattle.pgs_json.specs.Reading.{is_digit, is_plain, digits_at, number_at, int_from_zero_at, int_below_zero_at, int_at};
-ghost use Rattle.pgs_json.specs.Unread.{Gives};
-
-use crate::unread::Unread;
 
 fn is_digit(byte: u8) -> bool
     ensures { result ≡ is_digit byte }
@@ -49,51 +46,49 @@ fn is_plain(digits: &[u8]) -> bool
 
 /// A number below 2^64.
 #[tactic(auto, unfolding(crate::specs::Reading::number_at))]
-pub fn number(bytes: &[u8]) -> Result<(u64, &[u8]), Unread>
-    ensures { Gives (λ x. (x.0, x.1.now)) result (number_at bytes.now) }
+pub fn number(bytes: &[u8]) -> Option<(u64, &[u8])>
+    ensures { option_map (λ x. (x.0, x.1.now)) result ≡ number_at bytes.now }
 {
-    let Some((number, count)) = digits(bytes) else {
-        return Err(Unread::Unfit);
-    };
+    let (number, count) = digits(bytes)?;
     let (digits, rest) = bytes.split_at(count);
     if is_plain(digits) {
-        Ok((number, rest))
+        Some((number, rest))
     } else {
-        Err(Unread::Unfit)
+        None
     }
 }
 
 #[tactic(auto, unfolding(crate::specs::Reading::int_from_zero_at))]
-fn int_from_zero(bytes: &[u8]) -> Result<(i64, &[u8]), Unread>
-    ensures { Gives (λ x. (x.0, x.1.now)) result (int_from_zero_at bytes.now) }
+fn int_from_zero(bytes: &[u8]) -> Option<(i64, &[u8])>
+    ensures { option_map (λ x. (x.0, x.1.now)) result ≡ int_from_zero_at bytes.now }
 {
     let (number, rest) = number(bytes)?;
     if number < 1 << 63 {
-        Ok((number as i64, rest))
+        Some((number as i64, rest))
     } else {
-        Err(Unread::Unfit)
+        None
     }
 }
 
 #[tactic(auto, unfolding(crate::specs::Reading::int_below_zero_at))]
-fn int_below_zero(bytes: &[u8]) -> Result<(i64, &[u8]), Unread>
-    ensures { Gives (λ x. (x.0, x.1.now)) result (int_below_zero_at bytes.now) }
+fn int_below_zero(bytes: &[u8]) -> Option<(i64, &[u8])>
+    ensures { option_map (λ x. (x.0, x.1.now)) result ≡ int_below_zero_at bytes.now }
 {
     let (number, rest) = number(bytes)?;
     if 1 <= number && number <= 1 << 63 {
-        Ok((-1 - (number - 1) as i64, rest))
+        Some((-1 - (number - 1) as i64, rest))
     } else {
-        Err(Unread::Unfit)
+        None
     }
 }
 
 /// A number of the signed 64-bit range.
 #[tactic(auto, unfolding(crate::specs::Reading::int_at))]
-pub fn int(bytes: &[u8]) -> Result<(i64, &[u8]), Unread>
-    ensures { Gives (λ x. (x.0, x.1.now)) result (int_at bytes.now) }
+pub fn int(bytes: &[u8]) -> Option<(i64, &[u8])>
+    ensures { option_map (λ x. (x.0, x.1.now)) result ≡ int_at bytes.now }
 {
     match bytes {
-        [] => Err(Unread::Unfit),
+        [] => None,
         [b'-', rest @ ..] => int_below_zero(rest),
         [_, ..] => int_from_zero(bytes),
     }

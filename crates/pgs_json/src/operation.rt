@@ -30,7 +30,7 @@ fn some_labels(alloc: Global, bytes: &[u8]) -> Result<(Labels, &[u8]), Unread>
     for _ in 0..MOST_LABELS {
         let (name, after_name) = name(alloc, rest)?;
         labels.insert(name)?;
-        let (is_last, after_end) = end(b']', after_name)?;
+        let (is_last, after_end) = end(b']', after_name).ok_or(Unread::Unfit)?;
         if is_last {
             return Ok((labels, after_end));
         }
@@ -57,7 +57,7 @@ fn some_props(alloc: Global, bytes: &[u8]) -> Result<(Props, &[u8]), Unread>
     for _ in 0..MOST_PAIRS {
         let (name, value, after_pair) = pair(alloc, rest)?;
         put_new(&mut props, name, value)?;
-        let (is_last, after_end) = end(b'}', after_pair)?;
+        let (is_last, after_end) = end(b'}', after_pair).ok_or(Unread::Unfit)?;
         if is_last {
             return Ok((props, after_end));
         }
@@ -123,11 +123,11 @@ fn props(alloc: Global, bytes: &[u8]) -> Result<(Props, &[u8]), Unread>
 fn op(alloc: Global, bytes: &[u8]) -> Result<(Op, &[u8]), Unread>
     ensures { Gives (λ x. (x.0, x.1.now)) result (graph_op_at bytes.now) }
 {
-    let start = after(b"{\"add_node\":", bytes)?;
-    let (id, rest) = number(start)?;
+    let start = after(b"{\"add_node\":", bytes).ok_or(Unread::Unfit)?;
+    let (id, rest) = number(start).ok_or(Unread::Unfit)?;
     let (labels, rest) = labels(alloc, rest)?;
     let (props, rest) = props(alloc, rest)?;
-    let rest = after(b"}", rest)?;
+    let rest = after(b"}", rest).ok_or(Unread::Unfit)?;
     let op = Op::AddNode {
         id: NodeId(id),
         labels,
@@ -154,7 +154,7 @@ fn some_ops(alloc: Global, bytes: &[u8]) -> Result<(List<Op>, &[u8]), Unread>
     for _ in 0..MOST_OPS {
         let (op, after_op) = op(alloc, rest)?;
         put_last(&mut ops, op)?;
-        let (is_last, after_end) = end(b']', after_op)?;
+        let (is_last, after_end) = end(b']', after_op).ok_or(Unread::Unfit)?;
         if is_last {
             return Ok((ops, after_end));
         }

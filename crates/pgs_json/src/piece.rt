@@ -1,36 +1,30 @@
-ghost use Rattle.std.specs.Prelude.{◌≡◌, ◌≤◌, length, IfOk, IsTrue};
+ghost use Rattle.std.specs.Prelude.{◌≡◌, ◌≤◌, length, option_map, IfSome, IsTrue};
 ghost use Rattle.std.specs.List.{list_all, prefix_len};
 ghost use Rattle.pgs_json.specs.FirstLine.{is_text_byte};
 ghost use Rattle.pgs_json.specs.Reading.{after, end_at, quoted_at};
-ghost use Rattle.pgs_json.specs.Unread.{Gives};
-
-use crate::unread::Unread;
 
 /// The bytes after a front.
 #[tactic(auto, unfolding(crate::specs::Reading::after))]
-pub fn after<'a>(front: &[u8], bytes: &'a [u8]) -> Result<&'a [u8], Unread>
-    ensures { Gives (λ rest. rest.now) result (after front.now bytes.now) }
+pub fn after<'a>(front: &[u8], bytes: &'a [u8]) -> Option<&'a [u8]>
+    ensures { option_map (λ rest. rest.now) result ≡ after front.now bytes.now }
 {
-    match bytes.strip_prefix(front) {
-        Some(rest) => Ok(rest),
-        None => Err(Unread::Unfit),
-    }
+    bytes.strip_prefix(front)
 }
 
 /// Whether a list ends here, by its closing byte, or goes on, by a comma.
 #[tactic(auto, unfolding(crate::specs::Reading::end_at))]
-pub fn end(close: u8, bytes: &[u8]) -> Result<(bool, &[u8]), Unread>
-    ensures { Gives (λ x. (x.0, x.1.now)) result (end_at close bytes.now) }
+pub fn end(close: u8, bytes: &[u8]) -> Option<(bool, &[u8])>
+    ensures { option_map (λ x. (x.0, x.1.now)) result ≡ end_at close bytes.now }
 {
     match bytes {
-        [] => Err(Unread::Unfit),
+        [] => None,
         [byte, rest @ ..] => {
             if *byte == close {
-                Ok((true, rest))
+                Some((true, rest))
             } else if *byte == b',' {
-                Ok((false, rest))
+                Some((false, rest))
             } else {
-                Err(Unread::Unfit)
+                None
             }
         }
     }
@@ -51,12 +45,12 @@ fn text_len(bytes: &[u8]) -> usize
 
 /// The bytes between quotation marks.
 #[tactic(auto, using(crate::proofs::Texts::front_is_text), unfolding(crate::specs::Reading::quoted_at))]
-pub fn quoted(bytes: &[u8]) -> Result<(&[u8], &[u8]), Unread>
-    ensures value { Gives (λ x. (x.0.now, x.1.now)) result (quoted_at bytes.now) }
-    ensures text { IfOk result (λ x. IsTrue (list_all is_text_byte x.0.now)) }
+pub fn quoted(bytes: &[u8]) -> Option<(&[u8], &[u8])>
+    ensures value { option_map (λ x. (x.0.now, x.1.now)) result ≡ quoted_at bytes.now }
+    ensures text { IfSome result (λ x. IsTrue (list_all is_text_byte x.0.now)) }
 {
     let inside = after(b"\"", bytes)?;
     let (text, rest) = inside.split_at(text_len(inside));
     let rest = after(b"\"", rest)?;
-    Ok((text, rest))
+    Some((text, rest))
 }

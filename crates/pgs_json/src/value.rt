@@ -15,7 +15,7 @@ use std::alloc::Global;
 pub fn name(alloc: Global, bytes: &[u8]) -> Result<(Name, &[u8]), Unread>
     ensures { Gives (λ x. (x.0, x.1.now)) result (name_at bytes.now) }
 {
-    let (name, rest) = quoted(bytes)?;
+    let (name, rest) = quoted(bytes).ok_or(Unread::Unfit)?;
     match Name::new(alloc, name)? {
         Some(name) => Ok((name, rest)),
         None => Err(Unread::Unfit),
@@ -39,7 +39,7 @@ fn characters(text: &[u8]) -> &str
 fn text(alloc: Global, bytes: &[u8]) -> Result<(Text, &[u8]), Unread>
     ensures { Gives (λ x. (x.0, x.1.now)) result (text_at bytes.now) }
 {
-    let (text, rest) = quoted(bytes)?;
+    let (text, rest) = quoted(bytes).ok_or(Unread::Unfit)?;
     let text = characters(text);
     match Text::new(alloc, text)? {
         Some(text) => Ok((text, rest)),
@@ -59,7 +59,7 @@ fn value(alloc: Global, bytes: &[u8]) -> Result<(Value, &[u8]), Unread>
             Ok((Value::Text(text), rest))
         }
         [_, ..] => {
-            let (number, rest) = int(bytes)?;
+            let (number, rest) = int(bytes).ok_or(Unread::Unfit)?;
             Ok((Value::Int(number), rest))
         }
     }
@@ -71,7 +71,7 @@ pub fn pair(alloc: Global, bytes: &[u8]) -> Result<(Name, Value, &[u8]), Unread>
     ensures { Gives (λ x. ((x.0, x.1), x.2.now)) result (pair_at bytes.now) }
 {
     let (name, rest) = name(alloc, bytes)?;
-    let rest = after(b":", rest)?;
+    let rest = after(b":", rest).ok_or(Unread::Unfit)?;
     let (value, rest) = value(alloc, rest)?;
     Ok((name, value, rest))
 }

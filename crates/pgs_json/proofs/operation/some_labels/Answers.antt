@@ -1,4 +1,4 @@
-use Rattle.std.proofs.Common.{◌≡◌, ℕ, [], Some, List, true, false, refl, ap, sym, ◌∙◌}
+use Rattle.std.proofs.Common.{◌≡◌, option_map, ℕ, [], Some, List, true, false, refl, ap, sym, ◌∙◌}
 use Rattle.std.proofs.lemmas.Result.{err_from_is_err_and}
 use Rattle.pgs_json.specs.Reading.{name_at, end_at}
 use Rattle.pgs_json.specs.Gathering.{with_label, gathered_at}
@@ -16,16 +16,16 @@ returns-in_err-name c =
 pub returns-in_err-is_last : goal.returns-in_err-is_last
 returns-in_err-is_last c =
     let p = err_from_is_err_and c.from_residual-in_err-is_last.result c.from_residual-in_err-is_last.ensures.1 in
-    rw (p.1, p.2) (no_end c.in_err-is_last.field-0.0 with_label name_at 93 64 c.loop.counter c.loop.labels c.in_ok-name.name c.loop.rest.now c.in_ok-name.after_name.now (gathered_at with_label name_at 93 64 [] c.args.bytes.now) c.loop-test.true c.in_ok-name.ensures c.in_err-is_last.ensures c.loop.invariant)
+    rw (p.1, p.2) (no_end c.in_err-is_last.field-0.0 with_label name_at 93 64 c.loop.counter c.loop.labels c.in_ok-name.name c.loop.rest.now c.in_ok-name.after_name.now (gathered_at with_label name_at 93 64 [] c.args.bytes.now) c.loop-test.true c.in_ok-name.ensures (sym c.end.ensures ∙ ap (option_map (λ x. (x.0, x.1.now))) c.in_err-is_last.ensures.ok_part) c.loop.invariant)
 
 pub returns-then-is_last : goal.returns-then-is_last
 returns-then-is_last c =
-    let ends : end_at 93 c.in_ok-name.after_name.now ≡ Some (true, c.in_ok-is_last.after_end.now) = c.in_ok-is_last.ensures ∙ ap (λ t. Some (t, c.in_ok-is_last.after_end.now)) c.if-is_last.true in
+    let ends : end_at 93 c.in_ok-name.after_name.now ≡ Some (true, c.in_ok-is_last.after_end.now) = sym c.end.ensures ∙ ap (option_map (λ x. (x.0, x.1.now))) c.in_ok-is_last.ensures.ok_part ∙ ap (λ t. Some (t, c.in_ok-is_last.after_end.now)) c.if-is_last.true in
     is_last with_label name_at 93 64 c.loop.counter c.loop.labels c.insert.new.self c.in_ok-name.name c.loop.rest.now c.in_ok-name.after_name.now c.in_ok-is_last.after_end.now (gathered_at with_label name_at 93 64 [] c.args.bytes.now) c.loop-test.true c.in_ok-name.ensures (ap (λ labels. Some labels) (sym c.in_ok-insert.ensures.ok)) ends c.loop.invariant
 
 pub loop-preserved : goal.loop-preserved
 loop-preserved c =
-    let goes : end_at 93 c.in_ok-name.after_name.now ≡ Some (false, c.in_ok-is_last.after_end.now) = c.in_ok-is_last.ensures ∙ ap (λ t. Some (t, c.in_ok-is_last.after_end.now)) c.if-is_last.false in
+    let goes : end_at 93 c.in_ok-name.after_name.now ≡ Some (false, c.in_ok-is_last.after_end.now) = sym c.end.ensures ∙ ap (option_map (λ x. (x.0, x.1.now))) c.in_ok-is_last.ensures.ok_part ∙ ap (λ t. Some (t, c.in_ok-is_last.after_end.now)) c.if-is_last.false in
     goes_on with_label name_at 93 64 c.loop.counter c.loop.labels c.insert.new.self c.in_ok-name.name c.loop.rest.now c.in_ok-name.after_name.now c.in_ok-is_last.after_end.now (gathered_at with_label name_at 93 64 [] c.args.bytes.now) c.loop-test.true c.in_ok-name.ensures (ap (λ labels. Some labels) (sym c.in_ok-insert.ensures.ok)) goes c.loop.invariant
 
 pub returns : goal.returns
