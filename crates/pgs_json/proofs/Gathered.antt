@@ -1,15 +1,14 @@
 -- What is gathered of labels, pairs and operations.
-use Rattle.std.proofs.Common.{◌≡◌, ◌≢◌, ℕ, ◌≤◌, length, get_or, arith, zero, suc, Bool, true, false, cond, not, ◌&&◌, ◌||◌, eqb, List, [], ◌∷◌, ◌++◌, map, Option, Some, None, refl, sym, ap, ◌∙◌, append_assoc}
-use Rattle.std.specs.Prelude.{fold, is_some}
-use Rattle.std.specs.Ordering.{nat_cmp, match_ordering, is_eq}
+use Rattle.std.proofs.Common.{◌≡◌, ◌≢◌, ℕ, ◌≤◌, length, get_or, arith, zero, suc, Bool, true, false, cond, not, ◌&&◌, ◌||◌, List, [], ◌∷◌, ◌++◌, map, Option, Some, None, refl, sym, ap, ◌∙◌, append_assoc}
+use Rattle.std.specs.Prelude.{fold}
+use Rattle.std.specs.Ordering.{nat_cmp, match_ordering}
 use Rattle.std.specs.declared.cmp.Ordering.{Ordering}
 use Rattle.std.specs.declared.cmp.Ordering.TheVariants.{Less, Equal, Greater}
-use Rattle.std.specs.Str.{bytes_eq}
 use Rattle.std.specs.Cmp.Lexicographic.{slice_cmp}
 use Rattle.std.specs.List.{list_any}
 use Rattle.std.specs.BTreeMap.{is_at, insert_entry}
 use Rattle.std.specs.BTreeSet.{insert_key}
-use Rattle.std.specs.Map.{lookup, keys_of}
+use Rattle.std.specs.Map.{keys_of}
 use Rattle.std.proofs.lemmas.List.{append-nil}
 use Rattle.std.proofs.lemmas.Map.Made.{is_some-lookup}
 use Rattle.std.proofs.lemmas.Map.Text.{is_eq-slice_cmp}
@@ -18,7 +17,7 @@ use Rattle.std.specs.Cmp.Lexicographic.{nat_list_eq_equiv}
 use Rattle.std.proofs.lemmas.Bool.{ne_eqb}
 use Rattle.pgs_base.specs.declared.value.Value.{Value}
 use Rattle.pgs_graph.specs.declared.operation.Op.{Op}
-use Rattle.pgs_json.specs.FirstLine.{RawOp, op_of, label_set, pair_map, are_distinct}
+use Rattle.pgs_json.specs.FirstLine.{op_of, label_set, pair_map, are_distinct}
 use Rattle.pgs_json.specs.Reading.{◌>>=◌, name_at, pair_at, end_at, items_at, list_at, label_list_at, pair_list_at, op_at, op_list_at, with_first}
 use Rattle.pgs_json.proofs.Items.{others_at}
 use Rattle.pgs_json.specs.Gathering.{gathered, gathered_items, gathered_at, seen, with_label, with_pair, with_op, graph_op_at}

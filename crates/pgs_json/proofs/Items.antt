@@ -1,10 +1,10 @@
 -- Items one after the other, as a loop reads them: i of at most count were read.
-use Rattle.std.proofs.Common.{◌≡◌, ℕ, zero, suc, ◌-◌, ◌+◌, ◌≤◌, ◌<◌, Bool, true, false, cond, List, [], ◌∷◌, Option, Some, None, refl, sym, ap, ◌∙◌, arith}
+use Rattle.std.proofs.Common.{◌≡◌, ℕ, suc, ◌-◌, ◌+◌, ◌≤◌, ◌<◌, Bool, true, false, cond, List, [], ◌∷◌, Option, Some, None, refl, sym, ◌∙◌, arith}
 use Rattle.pgs_json.specs.declared.unread.Unread.{Unread}
 use Rattle.pgs_json.specs.declared.unread.Unread.TheVariants as unread
 use Rattle.pgs_json.specs.Unread.{Fails}
 use Rattle.pgs_json.specs.Reading.{◌>>=◌, end_at, with_first, items_at}
-use Rattle.pgs_json.specs.Gathering.{gathered, gathered_items, gathered_at}
+use Rattle.pgs_json.specs.Gathering.{gathered_items, gathered_at}
 
 gathered-with_first : {A S : Type 0} (step : S → A → Option S) (s t : S) (x : A) (read : Option (List A × List ℕ)) → step s x ≡ Some t
     → ((read >>= with_first x) >>= gathered_items step s) ≡ (read >>= gathered_items step t)

@@ -1,5 +1,5 @@
 -- An operation and a line that are read are spelled so, and what is spelled so within the limits is read.
-use Rattle.std.proofs.Common.{◌≡◌, ◌≢◌, ℕ, zero, suc, ◌+◌, ◌^◌, ◌<◌, ◌≤◌, Bool, true, false, cond, ◌&&◌, not, ltb, leb, eqb, List, [], ◌∷◌, ◌++◌, length, Option, Some, None, refl, sym, ap, subst, ◌∙◌, append_assoc, arith}
+use Rattle.std.proofs.Common.{◌≡◌, ℕ, ◌^◌, ◌<◌, ◌≤◌, Bool, true, false, cond, ◌&&◌, ltb, leb, eqb, List, [], ◌∷◌, ◌++◌, length, Option, Some, None, refl, sym, ap, subst, ◌∙◌, append_assoc}
 use Rattle.std.specs.Prelude.{codes, decimal}
 use Rattle.std.specs.List.{list_all}
 use Rattle.std.specs.Map.{keys_of}
@@ -15,7 +15,7 @@ use Rattle.pgs_json.proofs.Texts.{both, and}
 use Rattle.pgs_json.proofs.Fronts.{bind_some, some_is, after_takes, after_again, stops}
 use Rattle.pgs_json.proofs.Numbers.{number_takes, number_again}
 use Rattle.pgs_json.proofs.Values.{name_takes, name_again, pair_takes, pair_again}
-use Rattle.pgs_json.proofs.Lists.{Reads, IsListed, Begins, list_takes, list_again}
+use Rattle.pgs_json.proofs.Lists.{Reads, list_takes, list_again}
 
 -- ---- labels
 

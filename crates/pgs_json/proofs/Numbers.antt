@@ -1,18 +1,18 @@
 -- A number that is read is spelled so, and its spelling is read.
-use Rattle.std.proofs.Common.{◌≡◌, ◌≢◌, ℕ, zero, suc, ◌+◌, ◌-◌, ◌*◌, ◌^◌, ◌<◌, ◌≤◌, Bool, true, false, cond, ◌&&◌, not, ltb, leb, eqb, List, [], ◌∷◌, ◌++◌, length, get_or, take, drop, Option, Some, None, ℤ, pos, negsuc, refl, sym, ap, subst, ◌∙◌, append_assoc, arith, rules}
+use Rattle.std.proofs.Common.{◌≡◌, ◌≢◌, ℕ, zero, suc, ◌-◌, ◌^◌, ◌<◌, ◌≤◌, Bool, true, false, cond, ◌&&◌, not, ltb, leb, eqb, List, [], ◌∷◌, ◌++◌, length, get_or, drop, Some, None, ℤ, pos, negsuc, refl, sym, ap, subst, ◌∙◌, arith}
 use Rattle.std.specs.Prelude.{decimal}
 use Rattle.std.specs.Fmt.{signed_decimal}
 use Rattle.std.specs.Int.{IsInRange}
-use Rattle.std.specs.List.{list_all, prefix_len, take_while}
+use Rattle.std.specs.List.{list_all, prefix_len}
 use Rattle.std.specs.Str.Parse.{digits_value}
-use Rattle.std.proofs.lemmas.Bool.{ltb-true, lt-ltb, leb-true, le-leb, eqb-true, eqb-false, eq-eqb, ne_eqb}
+use Rattle.std.proofs.lemmas.Bool.{ltb-true, lt-ltb, leb-true, le-leb, eqb-true, eq-eqb, ne_eqb}
 use Rattle.std.proofs.lemmas.Bool.Decides.{nat_tests}
 use Rattle.std.proofs.lemmas.Fmt.{digits_decimal, digits_value-decimal, decimal-digits_value, decimal_digit, decimal_nonempty, first_decimal}
 use Rattle.std.proofs.lemmas.Option.{cond_some}
-use Rattle.std.proofs.lemmas.Str.Parse.{IsNumeralModel, IsDigitsTest, numerals_by_value}
-use Rattle.pgs_json.specs.Reading.{◌>>=◌, is_digit, is_plain, digits_in, digits_at, number_at, int_at, int_from_zero_at, int_below_zero_at}
+use Rattle.std.proofs.lemmas.Str.Parse.{IsNumeralModel, numerals_by_value}
+use Rattle.pgs_json.specs.Reading.{is_digit, is_plain, digits_in, digits_at, number_at, int_at, int_from_zero_at, int_below_zero_at}
 use Rattle.pgs_json.proofs.Texts.{both, and, list_all-take_while}
-use Rattle.pgs_json.proofs.Fronts.{bind_some, some_is, stops, take-again, drop-again, prefix_len-again, front_takes}
+use Rattle.pgs_json.proofs.Fronts.{bind_some, stops, take-again, drop-again, front_takes}
 
 abbrev pub AreDigits : List ℕ → Type 0
 AreDigits ds = list_all is_digit ds ≡ true

@@ -7,7 +7,7 @@ use Rattle.std.specs.BTreeSet.{insert_key}
 use Rattle.std.specs.Map.{lookup}
 use Rattle.pgs_base.specs.declared.value.Value.{Value}
 use Rattle.pgs_graph.specs.declared.operation.Op.{Op}
-use Rattle.pgs_json.specs.FirstLine.{RawOp, op_of}
+use Rattle.pgs_json.specs.FirstLine.{op_of}
 use Rattle.pgs_json.specs.Reading.{◌>>=◌, items_at, op_at}
 
 -- the items added to what there is, each by one step

@@ -1,5 +1,5 @@
 -- Reading a line of the first form from left to right. Each part gives its value and the bytes after it.
-use Rattle.std.specs.Prelude.{◌≡◌, ℕ, zero, suc, ◌-◌, ◌^◌, ℤ, pos, negsuc, Bool, true, false, not, List, [], ◌∷◌, length, take, drop, Option, Some, None, option_and_then, Result, Ok, Err, nat_le, nat_lt, ◌==◌, if◌then◌else◌, codes, bytes_eq, ◌&&◌}
+use Rattle.std.specs.Prelude.{ℕ, zero, suc, ◌-◌, ◌^◌, ℤ, pos, negsuc, Bool, true, false, not, List, [], ◌∷◌, length, take, drop, Option, Some, None, option_and_then, nat_le, nat_lt, ◌==◌, if◌then◌else◌, codes, bytes_eq, ◌&&◌}
 use Rattle.std.specs.List.{prefix_len, take_while}
 use Rattle.std.specs.Str.Parse.{digits_value}
 use Rattle.std.specs.Map.{keys_of}

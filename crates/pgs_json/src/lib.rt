@@ -7,9 +7,11 @@
 #![tactic(auto)]
 
 mod first_line;
+mod labels;
 mod number;
 mod operation;
 mod piece;
+mod props;
 mod unread;
 mod value;
 

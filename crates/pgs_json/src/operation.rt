@@ -1,122 +1,21 @@
-ghost use Rattle.std.specs.Prelude.{◌≡◌, [], ◌∷◌, ◌++◌, unwrap_or, map, Err, OnOk, OnErr};
-ghost use Rattle.pgs_json.specs.FirstLine.{op_of, label_set, pair_map};
-ghost use Rattle.pgs_json.specs.Reading.{name_at, pair_at, label_list_at, pair_list_at, labels_at, props_at, op_list_at};
-ghost use Rattle.pgs_json.specs.Gathering.{gathered_at, seen, with_label, with_pair, with_op, graph_op_at};
+ghost use Rattle.std.specs.Prelude.{◌≡◌, [], ◌∷◌, ◌++◌, map, Err, OnOk, OnErr};
+ghost use Rattle.pgs_json.specs.FirstLine.{op_of};
+ghost use Rattle.pgs_json.specs.Reading.{op_list_at};
+ghost use Rattle.pgs_json.specs.Gathering.{gathered_at, seen, with_op, graph_op_at};
 ghost use Rattle.pgs_json.specs.Unread.{Gives};
 ghost use Rattle.pgs_json.specs.declared.unread.Unread.TheVariants.{Memory as OutOfMemory};
 
+use crate::labels::labels;
 use crate::number::number;
 use crate::piece::{after, end};
+use crate::props::props;
 use crate::unread::Unread;
-use crate::value::{name, pair};
-use pgs_base::{Labels, List, Name, NodeId, Props, Value};
+use pgs_base::{List, NodeId};
 use pgs_graph::Op;
 use std::alloc::Global;
 
-/// The most labels of an operation, as written.
-const MOST_LABELS: usize = 64;
-
-/// The most pairs of an operation.
-const MOST_PAIRS: usize = 256;
-
 /// The most operations of a line.
 const MOST_OPS: usize = 10_000;
-
-fn some_labels(alloc: Global, bytes: &[u8]) -> Result<(Labels, &[u8]), Unread>
-    ensures { Gives (λ x. (x.0, x.1.now)) result (gathered_at with_label name_at 93 64 [] bytes.now) }
-{
-    let mut labels = Labels::new(alloc);
-    let mut rest = bytes;
-    for _ in 0..MOST_LABELS {
-        let (name, after_name) = name(alloc, rest)?;
-        labels.insert(name)?;
-        let (is_last, after_end) = end(b']', after_name).ok_or(Unread::Unfit)?;
-        if is_last {
-            return Ok((labels, after_end));
-        }
-        rest = after_end;
-    }
-    Err(Unread::Unfit)
-}
-
-/// Puts in a pair whose name is new.
-fn put_new(props: &mut Props, name: Name, value: Value) -> Result<(), Unread>
-    ensures { Gives (λ _. props.new) result (with_pair props.old (name, value)) }
-{
-    match props.set(name, value)? {
-        None => Ok(()),
-        Some(_) => Err(Unread::Unfit),
-    }
-}
-
-fn some_props(alloc: Global, bytes: &[u8]) -> Result<(Props, &[u8]), Unread>
-    ensures { Gives (λ x. (x.0, x.1.now)) result (gathered_at with_pair pair_at 125 256 [] bytes.now) }
-{
-    let mut props = Props::new(alloc);
-    let mut rest = bytes;
-    for _ in 0..MOST_PAIRS {
-        let (name, value, after_pair) = pair(alloc, rest)?;
-        put_new(&mut props, name, value)?;
-        let (is_last, after_end) = end(b'}', after_pair).ok_or(Unread::Unfit)?;
-        if is_last {
-            return Ok((props, after_end));
-        }
-        rest = after_end;
-    }
-    Err(Unread::Unfit)
-}
-
-#[tactic(auto, unfolding(crate::specs::Reading::label_list_at, crate::specs::Reading::list_at))]
-fn label_list(alloc: Global, bytes: &[u8]) -> Result<(Labels, &[u8]), Unread>
-    ensures { Gives (λ x. (x.0, x.1.now)) result (seen label_set (label_list_at bytes.now)) }
-{
-    match bytes {
-        [] => Err(Unread::Unfit),
-        [byte, rest @ ..] => {
-            if *byte == b']' {
-                Ok((Labels::new(alloc), rest))
-            } else {
-                some_labels(alloc, bytes)
-            }
-        }
-    }
-}
-
-#[tactic(auto, unfolding(crate::specs::Reading::pair_list_at, crate::specs::Reading::list_at))]
-fn pair_list(alloc: Global, bytes: &[u8]) -> Result<(Props, &[u8]), Unread>
-    ensures { Gives (λ x. (x.0, x.1.now)) result (seen pair_map (pair_list_at bytes.now)) }
-{
-    match bytes {
-        [] => Err(Unread::Unfit),
-        [byte, rest @ ..] => {
-            if *byte == b'}' {
-                Ok((Props::new(alloc), rest))
-            } else {
-                some_props(alloc, bytes)
-            }
-        }
-    }
-}
-
-#[tactic(auto, unfolding(crate::specs::Reading::labels_at, crate::specs::Reading::after))]
-fn labels(alloc: Global, bytes: &[u8]) -> Result<(Labels, &[u8]), Unread>
-    ensures { Gives (λ x. (x.0, x.1.now)) result (seen (λ labels. label_set (unwrap_or labels [])) (labels_at bytes.now)) }
-{
-    match bytes.strip_prefix(b",\"labels\":[") {
-        Some(rest) => label_list(alloc, rest),
-        None => Ok((Labels::new(alloc), bytes)),
-    }
-}
-
-#[tactic(auto, unfolding(crate::specs::Reading::props_at, crate::specs::Reading::after))]
-fn props(alloc: Global, bytes: &[u8]) -> Result<(Props, &[u8]), Unread>
-    ensures { Gives (λ x. (x.0, x.1.now)) result (seen (λ pairs. pair_map (unwrap_or pairs [])) (props_at bytes.now)) }
-{
-    match bytes.strip_prefix(b",\"props\":{") {
-        Some(rest) => pair_list(alloc, rest),
-        None => Ok((Props::new(alloc), bytes)),
-    }
-}
 
 /// An operation that adds a node.
 #[tactic(auto, unfolding(crate::specs::Reading::op_at))]
@@ -146,6 +45,7 @@ fn put_last(ops: &mut List<Op>, op: Op) -> Result<(), Unread>
     }
 }
 
+/// The operations of a list that isn't empty.
 fn some_ops(alloc: Global, bytes: &[u8]) -> Result<(List<Op>, &[u8]), Unread>
     ensures { Gives (λ x. (x.0, x.1.now)) result (gathered_at with_op graph_op_at 93 10000 [] bytes.now) }
 {
@@ -163,7 +63,7 @@ fn some_ops(alloc: Global, bytes: &[u8]) -> Result<(List<Op>, &[u8]), Unread>
     Err(Unread::Unfit)
 }
 
-/// At most 10,000 operations, up to the closing bracket.
+/// The operations up to the closing bracket.
 #[tactic(auto, unfolding(crate::specs::Reading::op_list_at, crate::specs::Reading::list_at))]
 pub fn op_list(alloc: Global, bytes: &[u8]) -> Result<(List<Op>, &[u8]), Unread>
     ensures { Gives (λ x. (x.0, x.1.now)) result (seen (map op_of) (op_list_at bytes.now)) }

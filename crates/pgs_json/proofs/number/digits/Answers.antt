@@ -1,4 +1,4 @@
-use Rattle.std.proofs.Common.{◌≡◌, lit<, get_or, drop, refl, sym, ◌∙◌, ap, arith, Some, length, ◌*◌, ◌+◌, ◌^◌, ◌<◌, ◌≤◌, ℕ}
+use Rattle.std.proofs.Common.{◌≡◌, lit<, get_or, drop, refl, sym, ◌∙◌, ap, arith, Some, length, ◌*◌, ◌+◌, ℕ}
 use Rattle.std.specs.Char.{digit_value}
 use Rattle.pgs_json.proofs.Digits.{found_on, found_on-start, found_on-digit, found_on-other, found_on-end, found_on-large, small_from_some, large_from_none}
 use Rattle.pgs_json.proofs.number.digits.Goals as goal

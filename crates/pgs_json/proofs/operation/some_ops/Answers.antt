@@ -1,4 +1,4 @@
-use Rattle.std.proofs.Common.{◌≡◌, option_map, ℕ, [], Some, List, true, false, refl, ap, sym, ◌∙◌}
+use Rattle.std.proofs.Common.{◌≡◌, option_map, [], Some, true, false, ap, sym, ◌∙◌}
 use Rattle.std.proofs.lemmas.Result.{err_from_is_err_and}
 use Rattle.pgs_json.specs.Reading.{end_at}
 use Rattle.pgs_json.specs.Gathering.{with_op, graph_op_at, gathered_at}

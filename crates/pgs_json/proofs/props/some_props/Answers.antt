@@ -1,9 +1,9 @@
-use Rattle.std.proofs.Common.{◌≡◌, option_map, ℕ, [], Some, List, true, false, refl, ap, sym, ◌∙◌}
+use Rattle.std.proofs.Common.{◌≡◌, option_map, [], Some, true, false, ap, sym, ◌∙◌}
 use Rattle.std.proofs.lemmas.Result.{err_from_is_err_and}
 use Rattle.pgs_json.specs.Reading.{pair_at, end_at}
 use Rattle.pgs_json.specs.Gathering.{with_pair, gathered_at}
 use Rattle.pgs_json.proofs.Items.{goes_on, is_last, no_item, no_end, no_step, used_up}
-use Rattle.pgs_json.proofs.operation.some_props.Goals as goal
+use Rattle.pgs_json.proofs.props.some_props.Goals as goal
 
 pub loop-init : goal.loop-init
 loop-init c = ap (λ props. gathered_at with_pair pair_at 125 256 props c.args.bytes.now) c.new-props.ensures

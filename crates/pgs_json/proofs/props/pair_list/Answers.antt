@@ -1,7 +1,7 @@
 use Rattle.std.proofs.Common.{sym, subst}
 use Rattle.pgs_json.specs.Unread.{Gives}
 use Rattle.pgs_json.proofs.Gathered.{pair_list_at-gathered}
-use Rattle.pgs_json.proofs.operation.pair_list.Goals as goal
+use Rattle.pgs_json.proofs.props.pair_list.Goals as goal
 
 pub returns-else-byte-eq125 : goal.returns-else-byte-eq125
 returns-else-byte-eq125 c =

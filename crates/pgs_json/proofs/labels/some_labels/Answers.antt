@@ -1,9 +1,9 @@
-use Rattle.std.proofs.Common.{◌≡◌, option_map, ℕ, [], Some, List, true, false, refl, ap, sym, ◌∙◌}
+use Rattle.std.proofs.Common.{◌≡◌, option_map, [], Some, true, false, ap, sym, ◌∙◌}
 use Rattle.std.proofs.lemmas.Result.{err_from_is_err_and}
 use Rattle.pgs_json.specs.Reading.{name_at, end_at}
 use Rattle.pgs_json.specs.Gathering.{with_label, gathered_at}
 use Rattle.pgs_json.proofs.Items.{goes_on, is_last, no_item, no_end, used_up}
-use Rattle.pgs_json.proofs.operation.some_labels.Goals as goal
+use Rattle.pgs_json.proofs.labels.some_labels.Goals as goal
 
 pub loop-init : goal.loop-init
 loop-init c = ap (λ labels. gathered_at with_label name_at 93 64 labels c.args.bytes.now) c.new-labels.ensures

@@ -1,7 +1,7 @@
 use Rattle.std.proofs.Common.{sym, subst}
 use Rattle.pgs_json.specs.Unread.{Gives}
 use Rattle.pgs_json.proofs.Gathered.{label_list_at-gathered}
-use Rattle.pgs_json.proofs.operation.label_list.Goals as goal
+use Rattle.pgs_json.proofs.labels.label_list.Goals as goal
 
 pub returns-else-byte-eq93 : goal.returns-else-byte-eq93
 returns-else-byte-eq93 c =
