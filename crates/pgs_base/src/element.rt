@@ -1,3 +1,6 @@
+use crate::{Copyable, Memory};
+use std::alloc::Global;
+
 /// The number of a node.
 #[derive(Clone, Copy, Debug, PartialEq, Eq, PartialOrd, Ord, Hash)]
 pub struct NodeId(pub u64);
@@ -11,4 +14,16 @@ pub struct EdgeId(pub u64);
 pub enum Elem {
     Node(NodeId),
     Edge(EdgeId),
+}
+
+impl Copyable for NodeId {
+    fn copy(&self, _alloc: Global) -> Result<NodeId, Memory> {
+        Ok(*self)
+    }
+}
+
+impl Copyable for EdgeId {
+    fn copy(&self, _alloc: Global) -> Result<EdgeId, Memory> {
+        Ok(*self)
+    }
 }

@@ -1,4 +1,5 @@
-use crate::{Labels, NodeId, Props};
+use crate::{Copyable, Labels, Memory, NodeId, Props};
+use std::alloc::Global;
 
 /// What a node carries.
 #[derive(Debug, Drop)]
@@ -14,4 +15,25 @@ pub struct EdgeRow {
     pub target: NodeId,
     pub labels: Labels,
     pub props: Props,
+}
+
+impl Copyable for NodeRow {
+    fn copy(&self, alloc: Global) -> Result<NodeRow, Memory> {
+        let labels = self.labels.copy(alloc)?;
+        let props = self.props.copy(alloc)?;
+        Ok(NodeRow { labels, props })
+    }
+}
+
+impl Copyable for EdgeRow {
+    fn copy(&self, alloc: Global) -> Result<EdgeRow, Memory> {
+        let labels = self.labels.copy(alloc)?;
+        let props = self.props.copy(alloc)?;
+        Ok(EdgeRow {
+            source: self.source,
+            target: self.target,
+            labels,
+            props,
+        })
+    }
 }

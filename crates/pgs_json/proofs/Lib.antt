@@ -1,3 +1,4 @@
+pub mod Adds
 pub mod Digits
 pub mod Fronts
 pub mod Gathered

@@ -111,3 +111,8 @@ txn_of raw = record { ops = map op_of raw }
 abbrev pub SpellsTxn : List ℕ → Txn → Type 0
 SpellsTxn line txn =
     (raw : List RawOp) × IsTrue (is_first_line raw) × (line ≡ spelling raw) × (txn_of raw ≡ txn)
+
+-- whether an operation adds a node
+abbrev pub is_add_node : Op → Bool
+is_add_node (AddNode id labels props) = true
+is_add_node op = false

@@ -1,6 +1,7 @@
-ghost use Rattle.std.specs.Prelude.{◌≡◌, ◌↔◌, ℕ, List, Some, IfOk, IsTrue};
+ghost use Rattle.std.specs.Prelude.{◌≡◌, ◌↔◌, ℕ, List, Some, IfOk, IfSome, IsTrue};
+ghost use Rattle.std.specs.List.{list_all};
 ghost use Rattle.pgs_graph.specs.declared.operation.Txn.{Txn};
-ghost use Rattle.pgs_json.specs.FirstLine.{RawOp, SpellsTxn, is_first_line, spelling};
+ghost use Rattle.pgs_json.specs.FirstLine.{RawOp, SpellsTxn, is_add_node, is_first_line, spelling};
 ghost use Rattle.pgs_json.specs.Reading.{first_txn};
 ghost use Rattle.pgs_json.specs.Unread.{Gives};
 
@@ -33,7 +34,8 @@ fn txn(alloc: Global, line: &[u8]) -> Result<Txn, Unread>
 
 /// The transaction of a line of the first form. `None` exactly where the line isn't of this form.
 pub fn read_first(alloc: Global, line: &[u8]) -> Result<Option<Txn>, Memory>
-    ensures { IfOk result (λ found. found ≡ first_txn line.now) }
+    ensures value { IfOk result (λ found. found ≡ first_txn line.now) }
+    ensures adds { IfOk result (λ found. IfSome found (λ txn. IsTrue (list_all is_add_node txn.ops))) }
 {
     match txn(alloc, line) {
         Ok(txn) => Ok(Some(txn)),

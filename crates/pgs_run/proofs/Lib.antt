@@ -1,0 +1,17 @@
+pub mod Cutting
+pub mod FirstFound
+pub mod Following
+pub mod Fronts
+pub mod LastLine
+pub mod Leading
+pub mod LineEnd
+pub mod OneWord
+pub mod ReadingOn
+pub mod RunEnds
+pub mod RunWords
+pub mod SameFronts
+pub mod Separating
+pub mod Showing
+pub mod Stopping
+pub mod Telling
+pub mod ToldFronts

@@ -1,0 +1,52 @@
+-- A line or a text and its front say the same, since what is too long is refused.
+use Rattle.std.proofs.Common.{◌≡◌, ◌≢◌, ℕ, suc, ◌+◌, ◌<◌, ◌≤◌, Bool, true, false, ◌==◌, ◌||◌, ◌&&◌, nat_le, nat_lt, List, [], ◌∷◌, length, Option, None, codes, refl, sym, ap, ◌∙◌, arith}
+use Rattle.std.specs.Cmp.Lexicographic.{pointwise, unequal}
+use Rattle.std.proofs.lemmas.Bool.Decides.{nat_tests}
+use Rattle.pgs_base.specs.Graph.{Graph}
+use Rattle.pgs_parser.specs.declared.first_schema.FirstSchema.{FirstSchema}
+use Rattle.pgs_run.specs.Input.{text_limit, front_of, is_separator, is_blank}
+use Rattle.pgs_run.specs.Session.{Standing, txn_of, answer_to, after_refusal, after_line, pieces_of_line}
+use Rattle.pgs_run.specs.Texts.{refused_line, not_built_text}
+use Rattle.pgs_run.specs.Told.{schema_of}
+use Rattle.pgs_run.proofs.Fronts.{same_of_front}
+
+is_long : (n : ℕ) → text_limit < n → (nat_lt text_limit n ≡ true) × (nat_le n text_limit ≡ false)
+is_long n long = (grind (arith, nat_tests), grind (arith, nat_tests))
+
+long_separator : (line : List ℕ) → text_limit < length line → is_separator line ≡ false
+unfolding is_separator
+long_separator line long =
+    rw (unequal ◌==◌ line (codes "---") (λ e. omega arith), unequal ◌==◌ line (codes "---\r") (λ e. omega arith)) refl
+
+pub separator_of_front : (line : List ℕ) → is_separator (front_of line) ≡ is_separator line
+separator_of_front line = same_of_front is_separator false line long_separator
+
+long_schema : (text : List ℕ) → text_limit < length text → schema_of text ≡ None
+unfolding schema_of
+long_schema text long = rw (is_long (length text) long).0 refl
+
+pub schema_of_front : (text : List ℕ) → schema_of (front_of text) ≡ schema_of text
+schema_of_front text = same_of_front schema_of None text long_schema
+
+long_blank : (line : List ℕ) → text_limit < length line → is_blank line ≡ false
+unfolding is_blank
+long_blank line long = rw (is_long (length line) long).1 refl
+
+long_txn : (line : List ℕ) → text_limit < length line → txn_of line ≡ None
+unfolding txn_of
+long_txn line long = rw (is_long (length line) long).0 refl
+
+long_after : (schema : FirstSchema) (s : Standing) (line : List ℕ) → text_limit < length line → after_line schema s line ≡ after_refusal s
+unfolding after_line answer_to
+long_after schema s line long = rw (long_blank line long, long_txn line long) refl
+
+pub after_front : (schema : FirstSchema) (s : Standing) (line : List ℕ) → after_line schema s (front_of line) ≡ after_line schema s line
+after_front schema s line = same_of_front (after_line schema s) (after_refusal s) line (long_after schema s)
+
+long_pieces : (schema : FirstSchema) (s : Standing) (line : List ℕ) → text_limit < length line → pieces_of_line schema s line ≡ refused_line (s.number + 1) not_built_text ∷ []
+unfolding pieces_of_line answer_to
+long_pieces schema s line long = rw (long_blank line long, long_txn line long) refl
+
+pub pieces_of_front : (schema : FirstSchema) (s : Standing) (line : List ℕ) → pieces_of_line schema s (front_of line) ≡ pieces_of_line schema s line
+pieces_of_front schema s line =
+    same_of_front (pieces_of_line schema s) (refused_line (s.number + 1) not_built_text ∷ []) line (long_pieces schema s)

@@ -1,0 +1,11 @@
+use Rattle.std.proofs.Common.{refl}
+use Rattle.pgs_run.proofs.Showing.{shows_more, shows_torn}
+use Rattle.pgs_run.proofs.taking.put_piece.Goals as goal
+
+pub returns-in-Ok-clause-puts : goal.returns-in-Ok-clause-puts
+returns-in-Ok-clause-puts g c =
+    λ start before shows. rw (c.in-Some.is, ← c.as_bytes.ensures.value) (shows_more start _ _ before _ shows c.in-Ok.ensures.whole)
+
+pub returns-in-Some-clause-puts : goal.returns-in-Some-clause-puts
+returns-in-Some-clause-puts g c =
+    λ start before shows. rw (c.in-Some.is, ← c.as_bytes.ensures.value) (refl, shows_torn start _ _ before _ shows c.in-Err.ensures.front)

@@ -1,0 +1,13 @@
+use Rattle.std.proofs.Common.{[], Some, subst}
+use Rattle.pgs_world.specs.World.{output_of, AddsFront}
+use Rattle.pgs_run.proofs.RunEnds.{shows_none_yet}
+use Rattle.pgs_run.proofs.Showing.{shows_torn}
+use Rattle.pgs_run.specs.Texts.{words_refused_line}
+use Rattle.pgs_run.proofs.top_call.refuse_words.Goals as goal
+
+pub returns-in-Err-clause-shown : goal.returns-in-Err-clause-shown
+returns-in-Err-clause-shown g c = λ start out.
+    let old = output_of (g.W.World.view c.args.world.now) in
+    let new = output_of (g.W.World.view c.put.new.self) in
+    let front = subst (AddsFront old new) c.words_refused_line.ensures (subst (AddsFront old new) c.as_bytes.ensures.value c.in-Err.ensures.front) in
+    shows_torn (Some start) old new [] words_refused_line (shows_none_yet start old out) front

@@ -1,0 +1,12 @@
+pub mod Ending
+pub mod FirstVerdict
+pub mod Input
+pub mod Pieces
+pub mod Reading
+pub mod Run
+pub mod Session
+pub mod Stages
+pub mod Taking
+pub mod Texts
+pub mod Told
+pub mod Transcript

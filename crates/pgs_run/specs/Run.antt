@@ -1,0 +1,36 @@
+-- The causes of a run's answers.
+use Rattle.std.specs.Prelude.{◌≡◌, ◌⊎◌, ℕ, Bool, true, false, List, Option}
+use Rattle.pgs_world.specs.Count.{Rose}
+use Rattle.pgs_world.specs.Source.{IsAtEnd}
+use Rattle.pgs_run.specs.Pieces.{ShowsAll}
+use Rattle.pgs_run.specs.Told.{Told}
+use Rattle.pgs_run.specs.declared.status.Status.{Status}
+use Rattle.pgs_run.specs.declared.status.Status.TheVariants.{Accepted, Refused, BadWords, SchemaRefused, StoreRefused, DiskFault, ReadFault, PutFault, Memory, InputTooLong}
+
+-- Accepted and Refused come only where the source was read to its end
+abbrev pub IsRead : Option (List ℕ) → Status → Type 0
+IsRead left Accepted = IsAtEnd left
+IsRead left Refused = IsAtEnd left
+IsRead left status = Unit {0}
+
+-- A fault comes only where its count rose, and refused words only where the words are refused; no area is touched.
+abbrev pub HasRunCause : Bool → ℕ → ℕ → ℕ → ℕ → Status → Type 0
+HasRunCause read reads_before reads_now puts_before puts_now BadWords = read ≡ false
+HasRunCause read reads_before reads_now puts_before puts_now ReadFault = Rose reads_before reads_now
+HasRunCause read reads_before reads_now puts_before puts_now PutFault = Rose puts_before puts_now
+HasRunCause read reads_before reads_now puts_before puts_now StoreRefused = ⊥
+HasRunCause read reads_before reads_now puts_before puts_now DiskFault = ⊥
+HasRunCause read reads_before reads_now puts_before puts_now status = Unit {0}
+
+-- the words are refused, and nothing else comes of them but a fault of the put
+abbrev pub RefusesWords : Status → Type 0
+RefusesWords status = (status ≡ BadWords) ⊎ (status ≡ PutFault)
+
+-- a run that no fault and no want of memory disturbed
+abbrev pub IsDisturbed : Status → Type 0
+IsDisturbed status = (status ≡ ReadFault) ⊎ ((status ≡ PutFault) ⊎ (status ≡ Memory))
+
+-- the run ended with 0 or 1 and all that is told, or for want of memory
+abbrev pub IsComplete : Option (List ℕ) → Told → Status → Option (List ℕ) → Type 0
+IsComplete start told status now =
+    (status ≡ Memory) ⊎ (((status ≡ Accepted) ⊎ (status ≡ Refused)) × ShowsAll start told.pieces now)

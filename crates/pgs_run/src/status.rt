@@ -1,0 +1,31 @@
+/// How a run ended. The number is the exit status of the program.
+#[derive(Clone, Copy, Debug, PartialEq, Eq)]
+pub enum Status {
+    /// 0: the input was read to its end, and nothing was refused.
+    Accepted,
+    /// 1: the input was read to its end, and some line was refused.
+    Refused,
+    /// 2: the words are no command.
+    BadWords,
+    /// 3: the schema text was refused.
+    SchemaRefused,
+    /// 4: the store was refused.
+    StoreRefused,
+    /// 5: a call on an area failed; only where the world's count of area faults rose.
+    DiskFault,
+    /// 6: a read failed; only where the source's count of faults rose.
+    ReadFault,
+    /// 7: a put failed; only where the world's count of put faults rose.
+    PutFault,
+    /// 8: there was no memory.
+    Memory,
+    /// 9: the input has as many bytes as the budget of the run, or more.
+    InputTooLong,
+}
+
+impl Status {
+    /// The number of the status, 0 to 9.
+    pub fn number(self) -> u8 {
+        self as u8
+    }
+}

@@ -1,0 +1,146 @@
+ghost use Rattle.std.specs.Prelude.{◌≡◌, ◌⊎◌, ◌+◌, ◌-◌, ◌<◌, ◌≤◌, ◌^◌, List, ℕ, length, Some, true, false};
+ghost use Rattle.pgs_world.specs.Count.{Rose};
+ghost use Rattle.pgs_world.specs.World.{output_of, Adds};
+ghost use Rattle.pgs_run.specs.Ending.{Ends};
+ghost use Rattle.pgs_run.specs.Pieces.{ShowsAll};
+ghost use Rattle.pgs_run.specs.Run.{IsRead, HasRunCause, RefusesWords, IsDisturbed, IsComplete};
+ghost use Rattle.pgs_run.specs.Told.{is_try, told_try, told_of_words, told};
+
+use crate::Status;
+use crate::ending::end_input;
+use crate::reading::{End, read_all, read_buffer};
+use crate::stop::Stop;
+use crate::texts::words_refused_line;
+use crate::transcript::Transcript;
+use crate::words::is_try;
+use pgs_base::Words;
+use pgs_world::{Source, World};
+use std::alloc::Global;
+
+/// The budget of a run of the program: 2^40 bytes.
+pub const BUDGET: u64 = 1 << 40;
+
+// Runs the command `try`.
+fn run_try<S: Source, W: World>(alloc: Global, source: &mut S, world: &mut W, budget: u64) -> Status
+    requires { budget ≤ 2 ^ 40 }
+    ensures shown { (input start : List ℕ) → S.left source.old ≡ Some input → output_of (W.view world.old) ≡ Some start
+        → Ends (Some start) (told_try input budget) result (output_of (W.view world.new)) }
+    ensures read_fault { (input start rest : List ℕ) → S.left source.old ≡ Some input → output_of (W.view world.old) ≡ Some start
+        → S.left source.new ≡ Some rest → result ≡ Status.ReadFault
+        → ShowsAll (Some start) (told_try input (length input - length rest)).pieces (output_of (W.view world.new)) }
+    ensures whole { IsRead (S.left source.new) result }
+    ensures too_long { (input rest : List ℕ) → S.left source.old ≡ Some input → S.left source.new ≡ Some rest
+        → result ≡ Status.InputTooLong → length input ≡ budget + length rest }
+    ensures cause { HasRunCause true (S.faults source.old) (S.faults source.new) (W.view world.old).put_faults (W.view world.new).put_faults result }
+{
+    let mut buffer = match read_buffer(alloc) {
+        Ok(buffer) => buffer,
+        Err(_) => return Status::Memory,
+    };
+    let mut transcript = Transcript::new(alloc);
+    match read_all(
+        &mut transcript,
+        alloc,
+        source,
+        world,
+        buffer.as_mut_slice(),
+        budget,
+    ) {
+        Ok(end) => match end {
+            End::Whole => end_input(transcript, alloc, world),
+            End::Cut => Status::InputTooLong,
+        },
+        Err(stop) => match stop {
+            Stop::SchemaRefused => Status::SchemaRefused,
+            Stop::ReadFault => Status::ReadFault,
+            Stop::PutFault => Status::PutFault,
+            Stop::Memory => Status::Memory,
+        },
+    }
+}
+
+// Refuses the words.
+fn refuse_words<W: World>(world: &mut W) -> Status
+    ensures shown { (start : List ℕ) → output_of (W.view world.old) ≡ Some start
+        → Ends (Some start) told_of_words result (output_of (W.view world.new)) }
+    ensures answer { RefusesWords result }
+    ensures cause { result ≡ Status.PutFault → Rose (W.view world.old).put_faults (W.view world.new).put_faults }
+{
+    match world.put(words_refused_line().as_bytes()) {
+        Ok(()) => Status::BadWords,
+        Err(_) => Status::PutFault,
+    }
+}
+
+/// Runs the program's words over an input, an output and a budget of bytes of the input, 1 to 2^40, and answers
+/// the status. What it puts and answers is what `told` tells (docs/DEFINITIONS.md, "What a run tells"). A read asks
+/// for at most 65,536 bytes and never for more than is left of the budget; each line that is put is one `put`.
+pub fn run_within<S: Source, W: World>(
+    alloc: Global,
+    words: &Words,
+    source: &mut S,
+    world: &mut W,
+    budget: u64,
+) -> Status
+    requires positive { 0 < budget }
+    requires within { budget ≤ 2 ^ 40 }
+
+    // What the output shows, by the status. With 0, 1, 2, 3 and 9 it is all that is told, and the status is the one told.
+    ensures shown { (input start : List ℕ) → S.left source.old ≡ Some input → output_of (W.view world.old) ≡ Some start
+        → Ends (Some start) (told words.now input budget) result (output_of (W.view world.new)) }
+    // With 6 it is all that is told with the number of bytes that the reads gave in the budget's place.
+    ensures read_fault { (input start rest : List ℕ) → S.left source.old ≡ Some input → output_of (W.view world.old) ≡ Some start
+        → S.left source.new ≡ Some rest → result ≡ Status.ReadFault
+        → ShowsAll (Some start) (told words.now input (length input - length rest)).pieces (output_of (W.view world.new)) }
+
+    // When each answer comes.
+    ensures words { is_try words.now ≡ false → RefusesWords result }
+    ensures read_to_end { IsRead (S.left source.new) result }
+    ensures too_long { (input rest : List ℕ) → S.left source.old ≡ Some input → S.left source.new ≡ Some rest
+        → result ≡ Status.InputTooLong → length input ≡ budget + length rest }
+    ensures cause { HasRunCause (is_try words.now) (S.faults source.old) (S.faults source.new) (W.view world.old).put_faults (W.view world.new).put_faults result }
+
+    // Without a fault and want of memory the status is the one told.
+    ensures exact { (input start : List ℕ) → S.left source.old ≡ Some input → output_of (W.view world.old) ≡ Some start
+        → IsDisturbed result ⊎ (result ≡ (told words.now input budget).status) }
+    // An input below the budget, whose schema isn't refused, over a source and a world that don't fail, is run to its end.
+    ensures complete { (input start : List ℕ) → S.left source.old ≡ Some input → output_of (W.view world.old) ≡ Some start
+        → is_try words.now ≡ true → length input < budget → ((told words.now input budget).status ≡ Status.SchemaRefused → ⊥)
+        → (Rose (S.faults source.old) (S.faults source.new) → ⊥)
+        → (Rose (W.view world.old).put_faults (W.view world.new).put_faults → ⊥)
+        → IsComplete (Some start) (told words.now input budget) result (output_of (W.view world.new)) }
+{
+    if is_try(words) {
+        run_try(alloc, source, world, budget)
+    } else {
+        refuse_words(world)
+    }
+}
+
+/// Runs the program's words over an input and an output: `run_within` with a budget of 2^40 bytes.
+pub fn run<S: Source, W: World>(
+    alloc: Global,
+    words: &Words,
+    source: &mut S,
+    world: &mut W,
+) -> Status
+    ensures shown { (input start : List ℕ) → S.left source.old ≡ Some input → output_of (W.view world.old) ≡ Some start
+        → Ends (Some start) (told words.now input (2 ^ 40)) result (output_of (W.view world.new)) }
+    ensures read_fault { (input start rest : List ℕ) → S.left source.old ≡ Some input → output_of (W.view world.old) ≡ Some start
+        → S.left source.new ≡ Some rest → result ≡ Status.ReadFault
+        → ShowsAll (Some start) (told words.now input (length input - length rest)).pieces (output_of (W.view world.new)) }
+    ensures words { is_try words.now ≡ false → RefusesWords result }
+    ensures read_to_end { IsRead (S.left source.new) result }
+    ensures too_long { (input rest : List ℕ) → S.left source.old ≡ Some input → S.left source.new ≡ Some rest
+        → result ≡ Status.InputTooLong → length input ≡ 2 ^ 40 + length rest }
+    ensures cause { HasRunCause (is_try words.now) (S.faults source.old) (S.faults source.new) (W.view world.old).put_faults (W.view world.new).put_faults result }
+    ensures exact { (input start : List ℕ) → S.left source.old ≡ Some input → output_of (W.view world.old) ≡ Some start
+        → IsDisturbed result ⊎ (result ≡ (told words.now input (2 ^ 40)).status) }
+    ensures complete { (input start : List ℕ) → S.left source.old ≡ Some input → output_of (W.view world.old) ≡ Some start
+        → is_try words.now ≡ true → length input < 2 ^ 40 → ((told words.now input (2 ^ 40)).status ≡ Status.SchemaRefused → ⊥)
+        → (Rose (S.faults source.old) (S.faults source.new) → ⊥)
+        → (Rose (W.view world.old).put_faults (W.view world.new).put_faults → ⊥)
+        → IsComplete (Some start) (told words.now input (2 ^ 40)) result (output_of (W.view world.new)) }
+{
+    run_within(alloc, words, source, world, BUDGET)
+}
