@@ -6,6 +6,7 @@
 //! Nothing here knows schemas, files or text formats.
 #![tactic(auto)]
 
+mod boxed;
 mod copying;
 mod day;
 mod element;
@@ -20,6 +21,7 @@ mod text;
 mod value;
 mod words;
 
+pub use boxed::Boxed;
 pub use copying::Copyable;
 pub use day::Day;
 pub use element::{EdgeId, Elem, NodeId};
