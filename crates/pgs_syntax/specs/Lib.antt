@@ -1,3 +1,5 @@
 pub mod Fitting
 pub mod Join
+pub mod Samples
 pub mod Typed
+pub mod Valid
