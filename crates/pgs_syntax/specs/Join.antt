@@ -1,7 +1,7 @@
 -- The join of pairs, and of triples of pairs. A pair is what an element carries, its labels and its properties, and is
 -- written as a row. It is the join of two pairs where its labels and properties are theirs together; a property that
 -- both have, has one value in both, since it is the pair's.
-use Rattle.std.specs.Prelude.{ℕ, Bool, true, false, ◌&&◌, List, [], ◌∷◌, map, flat_map}
+use Rattle.std.specs.Prelude.{ℕ, Bool, true, false, ◌&&◌, List, [], ◌∷◌, map, filter, flat_map}
 use Rattle.std.specs.List.{list_any}
 use Rattle.pgs_base.specs.declared.row.NodeRow.{NodeRow}
 use Rattle.pgs_base.specs.declared.value.Value.{Value}
@@ -63,6 +63,7 @@ of_triples = record {
   asks = λ test t. is_empty_pair t.source && test t.own && is_empty_pair t.target;
 }
 
--- whether it is a join of two, one of which passes the first test and the other the second
+-- whether it is a join of two, the first of which passes one test and the second the other
 abbrev pub joined : {P : Type 0} → Joins P → (P → Bool) → (P → Bool) → P → Bool
-joined {P} joins first second p = list_any (λ (s : P × P). first s.0 && second s.1) (joins.halves_of p)
+joined {P} joins first second p =
+    list_any (λ (s : P × P). first s.0) (filter (λ (s : P × P). second s.1) (joins.halves_of p))

@@ -9,6 +9,7 @@ mod key;
 mod pattern;
 mod raw;
 mod resolved;
+pub mod samples;
 mod script;
 mod specification;
 
