@@ -1,3 +1,5 @@
 pub mod Count
+pub mod MemSource
+pub mod MemWorld
 pub mod Source
 pub mod World

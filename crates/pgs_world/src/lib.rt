@@ -5,9 +5,15 @@
 #![tactic(auto)]
 
 mod fault;
+mod mem_source;
+mod mem_world;
+mod quiet_source;
 mod source;
 mod world;
 
 pub use fault::{PutFault, SourceFault};
+pub use mem_source::MemSource;
+pub use mem_world::MemWorld;
+pub use quiet_source::QuietSource;
 pub use source::Source;
 pub use world::World;
