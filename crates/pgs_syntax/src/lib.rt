@@ -6,6 +6,7 @@
 
 mod element_type;
 mod key;
+pub mod laws;
 mod pattern;
 mod raw;
 mod resolved;
