@@ -4,7 +4,7 @@ use denote.Hole.Carrier.{hidden}
 use Rattle.pgs_base.specs.declared.element.Elem.TheVariants as elems
 use Rattle.pgs_base.specs.declared.part.Part.TheVariants as parts
 use Rattle.pgs_base.specs.declared.value.Value.TheVariants.{Text, Int}
-use Rattle.pgs_syntax.specs.declared.resolved.TypeNo.TheVariants.{Node, Edge}
+use Rattle.pgs_syntax.specs.declared.resolved.TypeNo.TheVariants.{Node}
 use Rattle.pgs_syntax.specs.declared.specification.Spec.TheBlock as block
 use Rattle.pgs_syntax.specs.Samples.{staff, ann, shared_key, with, open_type, abstract_types, acquaintance, acquainted, social, cyd, bob, two_steps, steps_to, moderator, forum, by_n4, by_n5, keyed, edge, two_apart, names_later, names_twice}
 use Rattle.pgs_syntax.specs.Join.{pair_of}

@@ -1,5 +1,5 @@
 -- Tests of halves: it doesn't matter which half is called the first, and a half that is empty leaves the whole to the other.
-use Rattle.std.proofs.Common.{◌≡◌, ℕ, Bool, true, false, ◌&&◌, ◌||◌, List, [], ◌∷◌, ◌++◌, map, filter, flat_map, refl, sym, ◌∙◌, ap, cond}
+use Rattle.std.proofs.Common.{◌≡◌, ℕ, Bool, true, false, ◌&&◌, ◌||◌, List, [], ◌∷◌, map, filter, flat_map, refl, sym, ◌∙◌, ap, cond}
 use Rattle.std.specs.List.{list_any}
 use Rattle.std.proofs.lemmas.List.Folds.{list_any-append}
 use Rattle.std.proofs.Math.Bool.{or-false, and_comm}
@@ -70,7 +70,7 @@ Entries = List (List ℕ × Value)
 
 pub any_halves : (c : NodeRow × NodeRow → Bool) (p : NodeRow) →
     list_any c (halves p) ≡ list_any (λ (l : Names × Names). list_any (λ (k : Entries × Entries).
-        c (pair_of l.0 k.0, pair_of l.1 k.1)) (splits p.props)) (splits p.labels)
+    c (pair_of l.0 k.0, pair_of l.1 k.1)) (splits p.props)) (splits p.labels)
 any_halves c p =
     any_flat_map c _ (splits p.labels)
     ∙ any_same _ _ (λ (l : Names × Names). any_map c (λ (k : Entries × Entries). (pair_of l.0 k.0, pair_of l.1 k.1)) (splits p.props)) (splits p.labels)

@@ -88,7 +88,7 @@ abbrev pub fits_below : List (NodeType Leaf) → ℕ → ℕ → NodeRow → Boo
 fits_below types zero number p = false
 fits_below types (suc bound) number p =
     elim (number == bound) [
-      true ↦ option_map_or (λ (type : NodeType Leaf). suits of_pairs (fits_below types bound) type.spec p) (slice_get types bound) false
+      | true ↦ option_map_or (λ (type : NodeType Leaf). suits of_pairs (fits_below types bound) type.spec p) (slice_get types bound) false
       | false ↦ fits_below types bound number p
     ]
 
@@ -111,7 +111,7 @@ abbrev pub fits_edge_below : Resolved → ℕ → ℕ → Triple → Bool
 fits_edge_below resolved zero number t = false
 fits_edge_below resolved (suc bound) number t =
     elim (number == bound) [
-      true ↦ option_map_or
+      | true ↦ option_map_or
           (λ (type : EdgeType Leaf). joined of_triples (has_ends_of resolved type) (suits of_triples (fits_edge_below resolved bound) type.middle) t)
           (slice_get resolved.edges bound) false
       | false ↦ fits_edge_below resolved bound number t

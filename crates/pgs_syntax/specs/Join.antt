@@ -28,8 +28,8 @@ pair_of labels props = record { labels = labels; props = props }
 abbrev pub halves : NodeRow → List (NodeRow × NodeRow)
 halves p =
     flat_map (λ (l : List (List ℕ) × List (List ℕ)).
-        map (λ (k : List (List ℕ × Value) × List (List ℕ × Value)). (pair_of l.0 k.0, pair_of l.1 k.1)) (splits p.props))
-        (splits p.labels)
+    map (λ (k : List (List ℕ × Value) × List (List ℕ × Value)). (pair_of l.0 k.0, pair_of l.1 k.1)) (splits p.props))
+    (splits p.labels)
 
 -- a triple of pairs: of an edge's source, of the edge itself, and of its target
 pub record Triple : Type 0 where
@@ -41,8 +41,8 @@ pub record Triple : Type 0 where
 abbrev pub triple_halves : Triple → List (Triple × Triple)
 triple_halves t =
     flat_map (λ (s : NodeRow × NodeRow). flat_map (λ (m : NodeRow × NodeRow). map (λ (e : NodeRow × NodeRow).
-        (record { source = s.0; own = m.0; target = e.0 }, record { source = s.1; own = m.1; target = e.1 }))
-        (halves t.target)) (halves t.own)) (halves t.source)
+    (record { source = s.0; own = m.0; target = e.0 }, record { source = s.1; own = m.1; target = e.1 }))
+    (halves t.target)) (halves t.own)) (halves t.source)
 
 -- a pair without labels and properties
 abbrev pub is_empty_pair : NodeRow → Bool

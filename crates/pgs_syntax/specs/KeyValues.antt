@@ -1,5 +1,5 @@
 -- The scope of a key, and the key values of an element.
-use Rattle.std.specs.Prelude.{Bool, true, false, List, [], ◌∷◌, ◌++◌, Option, Some, None, filter, filter_map, slice_get, option_map, option_and_then}
+use Rattle.std.specs.Prelude.{Bool, true, false, List, [], ◌∷◌, ◌++◌, Option, Some, filter, filter_map, slice_get, option_map, option_and_then}
 use Rattle.std.specs.Option.{option_map_or}
 use Rattle.std.specs.List.{list_any}
 use Rattle.std.specs.BTreeSet.{insert_key}
@@ -33,7 +33,7 @@ abbrev pub part_of : Graph → List Elem → Expr → Option Part
 part_of g elems (Element var) = option_map parts.Elem (slice_get elems var)
 part_of g elems (Property var key) =
     option_map parts.Value
-        (option_and_then (λ (own : NodeRow). value_at key own.props) (option_and_then (carried g) (slice_get elems var)))
+    (option_and_then (λ (own : NodeRow). value_at key own.props) (option_and_then (carried g) (slice_get elems var)))
 
 -- the tuple of expressions under a match, where each of them gives something
 abbrev pub tuple_of : Graph → List Expr → List Elem → Option (List Part)

@@ -1,6 +1,6 @@
 -- Matches of a pattern in a graph: an element for each variable, so that all that the pattern demands holds. Two variables
 -- may take the same element.
-use Rattle.std.specs.Prelude.{ℕ, Bool, true, false, ◌&&◌, ◌==◌, List, [], ◌∷◌, Option, Some, None, map, flat_map, filter, slice_get, option_map, option_and_then}
+use Rattle.std.specs.Prelude.{ℕ, Bool, true, false, ◌&&◌, ◌==◌, List, [], ◌∷◌, Option, Some, map, flat_map, filter, slice_get, option_map, option_and_then}
 use Rattle.std.specs.Ordering.{is_eq}
 use Rattle.std.specs.Option.{option_map_or}
 use Rattle.std.specs.List.{list_any, list_all}

@@ -1,5 +1,5 @@
 -- Schemas, pairs and triples on which the definitions are tried.
-use Rattle.std.specs.Prelude.{ℕ, Bool, true, false, ℤ, pos, List, [], ◌∷◌, codes}
+use Rattle.std.specs.Prelude.{ℕ, Bool, true, false, pos, List, [], ◌∷◌, codes}
 use Rattle.pgs_base.specs.declared.element.NodeId.{NodeId}
 use Rattle.pgs_base.specs.declared.element.EdgeId.{EdgeId}
 use Rattle.pgs_base.specs.declared.row.NodeRow.{NodeRow}
@@ -26,7 +26,7 @@ use Rattle.pgs_syntax.specs.declared.specification.Leaf.TheVariants.{Label, Name
 use Rattle.pgs_syntax.specs.declared.specification.Property.{Property}
 use Rattle.pgs_syntax.specs.declared.specification.Spec as specs
 use Rattle.pgs_syntax.specs.declared.specification.Spec.{Spec, Word, And, Or, Opt}
-use Rattle.pgs_syntax.specs.Join.{Triple, pair_of}
+use Rattle.pgs_syntax.specs.Join.{pair_of}
 
 -- a label, a named type, and braces without and with OPEN
 abbrev pub label : List ℕ → Spec Leaf
@@ -104,10 +104,10 @@ ann = pair_of (codes "Employee" ∷ codes "Person" ∷ [])
 abbrev pub shared_key : Resolved
 shared_key =
     schema
-        (node_type (codes "a") 1 (braces (property (codes "k") kinds.Int ∷ []))
-        ∷ node_type (codes "b") 2 (braces (optional (codes "k") kinds.Text ∷ []))
-        ∷ node_type (codes "c") 3 (type 0 & type 1) ∷ [])
-        [] (numbers.Node 2 ∷ []) []
+    (node_type (codes "a") 1 (braces (property (codes "k") kinds.Int ∷ []))
+    ∷ node_type (codes "b") 2 (braces (optional (codes "k") kinds.Text ∷ []))
+    ∷ node_type (codes "c") 3 (type 0 & type 1) ∷ [])
+    [] (numbers.Node 2 ∷ []) []
 
 -- a pair of one property
 abbrev pub with : List ℕ → Value → NodeRow
@@ -122,16 +122,16 @@ open_type =
 abbrev pub abstract_types : Resolved
 abstract_types =
     schema
-        (abstract_type (codes "t") 1 (label (codes "A")) ∷ abstract_type (codes "u") 2 (label (codes "B")) ∷ [])
-        [] (numbers.Node 0 ∷ numbers.Node 1 ∷ []) []
+    (abstract_type (codes "t") 1 (label (codes "A")) ∷ abstract_type (codes "u") 2 (label (codes "B")) ∷ [])
+    [] (numbers.Node 0 ∷ numbers.Node 1 ∷ []) []
 
 -- (p: P), (q: P & Q), (:q)-[e: knows]->(:p)
 abbrev pub acquaintance : Resolved
 acquaintance =
     schema
-        (node_type (codes "p") 1 (label (codes "P")) ∷ node_type (codes "q") 2 (label (codes "P") & label (codes "Q")) ∷ [])
-        (record { name = codes "e"; hidden = false; place = 3; source = type 1; middle = label (codes "knows"); target = type 0 } ∷ [])
-        (numbers.Node 0 ∷ numbers.Node 1 ∷ numbers.Edge 0 ∷ []) []
+    (node_type (codes "p") 1 (label (codes "P")) ∷ node_type (codes "q") 2 (label (codes "P") & label (codes "Q")) ∷ [])
+    (record { name = codes "e"; hidden = false; place = 3; source = type 1; middle = label (codes "knows"); target = type 0 } ∷ [])
+    (numbers.Node 0 ∷ numbers.Node 1 ∷ numbers.Edge 0 ∷ []) []
 
 -- n1 with these labels, n2 with P, and e1 from n1 to n2 with knows
 abbrev pub acquainted : List (List ℕ) → Graph
@@ -145,13 +145,13 @@ acquainted labels = record {
 abbrev pub social : Resolved
 social =
     schema
-        (abstract_type (codes "namedType") 1 (braces (property (codes "name") kinds.Text ∷ []))
-        ∷ node_type (codes "personType") 2
-            ((type 0 & label (codes "Person")) & braces (property (codes "mail") kinds.Text ∷ optional (codes "born") kinds.Date ∷ []))
-        ∷ node_type (codes "employeeType") 3
-            ((type 1 & label (codes "Employee")) & braces (property (codes "salary") kinds.Int ∷ []))
-        ∷ [])
-        [] (numbers.Node 0 ∷ numbers.Node 1 ∷ numbers.Node 2 ∷ []) []
+    (abstract_type (codes "namedType") 1 (braces (property (codes "name") kinds.Text ∷ []))
+    ∷ node_type (codes "personType") 2
+    ((type 0 & label (codes "Person")) & braces (property (codes "mail") kinds.Text ∷ optional (codes "born") kinds.Date ∷ []))
+    ∷ node_type (codes "employeeType") 3
+    ((type 1 & label (codes "Employee")) & braces (property (codes "salary") kinds.Int ∷ []))
+    ∷ [])
+    [] (numbers.Node 0 ∷ numbers.Node 1 ∷ numbers.Node 2 ∷ []) []
 
 -- Cyd, a person born on a day, and Bob, who is employed where he has this label
 abbrev pub cyd : NodeRow
@@ -166,10 +166,10 @@ bob labels = pair_of labels
 abbrev pub two_steps : Key
 two_steps =
     key (qualifiers true false false)
-        (pattern (false ∷ []) (HasLabel 0 (codes "A") ∷ []))
-        (PropertyOf 4 (codes "v") ∷ [])
-        (pattern (false ∷ true ∷ false ∷ true ∷ false ∷ [])
-            (HasLabel 1 (codes "r") ∷ Ends 1 0 2 ∷ HasLabel 3 (codes "r") ∷ Ends 3 2 4 ∷ []))
+    (pattern (false ∷ []) (HasLabel 0 (codes "A") ∷ []))
+    (PropertyOf 4 (codes "v") ∷ [])
+    (pattern (false ∷ true ∷ false ∷ true ∷ false ∷ [])
+    (HasLabel 1 (codes "r") ∷ Ends 1 0 2 ∷ HasLabel 3 (codes "r") ∷ Ends 3 2 4 ∷ []))
 
 -- n3 with A, n5, n9 with these properties, e1 from n3 to n5 and e2 from n5 to n9, both with r
 abbrev pub steps_to : List (List ℕ × Value) → Graph
@@ -182,11 +182,11 @@ steps_to props = record {
 abbrev pub moderator : Key
 moderator =
     key (qualifiers true true true)
-        (pattern (false ∷ true ∷ false ∷ [])
-            (HasLabel 0 (codes "Forum") ∷ HasLabel 1 (codes "joined") ∷ HasLabel 2 (codes "Person") ∷ Ends 1 2 0 ∷ []))
-        (PropertyOf 0 (codes "name") ∷ Element 2 ∷ [])
-        (pattern (false ∷ true ∷ false ∷ [])
-            (HasLabel 1 (codes "moderates") ∷ HasLabel 2 (codes "Person") ∷ Ends 1 2 0 ∷ []))
+    (pattern (false ∷ true ∷ false ∷ [])
+    (HasLabel 0 (codes "Forum") ∷ HasLabel 1 (codes "joined") ∷ HasLabel 2 (codes "Person") ∷ Ends 1 2 0 ∷ []))
+    (PropertyOf 0 (codes "name") ∷ Element 2 ∷ [])
+    (pattern (false ∷ true ∷ false ∷ [])
+    (HasLabel 1 (codes "moderates") ∷ HasLabel 2 (codes "Person") ∷ Ends 1 2 0 ∷ []))
 
 -- n1, the forum db, n4 and n5 with Person, e1 joined from n4 to n1, and these edges
 abbrev pub forum : List (EdgeId × EdgeRow) → Graph

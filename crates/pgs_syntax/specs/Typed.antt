@@ -1,5 +1,5 @@
 -- Which elements are typed: those that fit a type of the guard that isn't abstract.
-use Rattle.std.specs.Prelude.{ℕ, Bool, true, false, ◌&&◌, not, Option, Some, None, slice_get, option_and_then}
+use Rattle.std.specs.Prelude.{ℕ, Bool, false, ◌&&◌, not, Option, slice_get, option_and_then}
 use Rattle.std.specs.Option.{option_map, option_map_or}
 use Rattle.std.specs.List.{list_any}
 use Rattle.pgs_base.specs.declared.row.NodeRow.{NodeRow}
@@ -43,7 +43,7 @@ edge_typed resolved t = list_any (types_edge resolved t) resolved.guard.types
 abbrev pub triple_at : Graph → EdgeRow → Option Triple
 triple_at g row =
     option_and_then (λ source. option_map (λ target. record { source = source; own = pair_of row.labels row.props; target = target })
-        (node_at g row.target)) (node_at g row.source)
+    (node_at g row.target)) (node_at g row.source)
 
 -- whether the edge of this row is typed in a graph
 abbrev pub edge_is_typed : Resolved → Graph → EdgeRow → Bool

@@ -14,9 +14,8 @@ use Rattle.pgs_syntax.specs.declared.pattern.Pattern.{Pattern}
 use Rattle.pgs_syntax.specs.declared.resolved.Resolved.{Resolved}
 use Rattle.pgs_syntax.specs.declared.resolved.TypeNo.{TypeNo}
 use Rattle.pgs_syntax.specs.declared.resolved.TypeNo.TheVariants.{Node, Edge}
-use Rattle.pgs_syntax.specs.declared.specification.Braces.{Braces}
 use Rattle.pgs_syntax.specs.declared.specification.Leaf.{Leaf}
-use Rattle.pgs_syntax.specs.declared.specification.Leaf.TheVariants.{Label, Named}
+use Rattle.pgs_syntax.specs.declared.specification.Leaf.TheVariants.{Named}
 use Rattle.pgs_syntax.specs.declared.specification.Property.{Property as BracedProperty}
 use Rattle.pgs_syntax.specs.declared.specification.Spec as specs
 use Rattle.pgs_syntax.specs.declared.specification.Spec.{Spec, Empty, Word, OpenLabels, And', Or', Opt', Row_of-Spec, end_of-Spec, more_of-Spec}

@@ -13,13 +13,11 @@ ghost use Rattle.pgs_syntax.specs.Fitting.{fits, value_at, is_named_by};
 pub fn parts_in_any_order()
     ensures { (resolved : Resolved) (first second : Spec Leaf) (p : NodeRow) →
         fits resolved (And (first ∷ second ∷ [])) p ≡ fits resolved (And (second ∷ first ∷ [])) p }
-{
-}
+{}
 
 /// Braces without OPEN admit no key that they don't name.
 pub fn closed_braces_admit_no_further_key()
     ensures { (resolved : Resolved) (properties : List Property) (p : NodeRow) (key : List ℕ) →
         fits resolved (specs.Braces (record { properties = properties; more = false })) p ≡ true →
         is_named_by properties key ≡ false → value_at key p.props ≡ None }
-{
-}
+{}

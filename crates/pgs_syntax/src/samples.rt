@@ -16,43 +16,37 @@ ghost use Rattle.pgs_syntax.specs.Valid.{is_valid, is_valid_key, is_valid_patter
 pub fn heirs()
     ensures heir_typed { node_typed (staff (Node 0 ∷ Node 1 ∷ [])) ann ≡ true }
     ensures parent_closed { node_typed (staff (Node 0 ∷ [])) ann ≡ false }
-{
-}
+{}
 
 /// Where one part asks for a key and the other part leaves it optional, both have to be met by one value.
 pub fn shared_keys()
     ensures first_kind { node_typed shared_key (with (codes "k") (Int (pos 5))) ≡ true }
     ensures other_kind { node_typed shared_key (with (codes "k") (Text (codes "s"))) ≡ false }
-{
-}
+{}
 
 /// With OPEN the keys that the braces don't name are free; those that they name are not.
 pub fn open_braces()
     ensures named_key { node_typed open_type (with (codes "age") (Text (codes "x"))) ≡ false }
     ensures free_key { node_typed open_type (with (codes "zip") (Text (codes "x"))) ≡ true }
-{
-}
+{}
 
 /// An abstract type makes no element typed.
 pub fn abstract_types()
     ensures { node_typed abstract_types (pair_of (codes "A" ∷ []) []) ≡ false }
-{
-}
+{}
 
 /// An edge is typed by its ends too: without the label Q its source fits no more.
 pub fn edge_ends()
     ensures edge_typed { edge_is_typed acquaintance (acquainted (codes "P" ∷ codes "Q" ∷ [])) (edge 1 1 2 (codes "knows")).1 ≡ true }
     ensures edge_untyped { edge_is_typed acquaintance (acquainted (codes "P" ∷ [])) (edge 1 1 2 (codes "knows")).1 ≡ false }
-{
-}
+{}
 
 /// Persons and employees of a social network. A salary wants the label Employee.
 pub fn social_types()
     ensures person_typed { node_typed social cyd ≡ true }
     ensures employee_typed { node_typed social (bob (codes "Employee" ∷ codes "Person" ∷ [])) ≡ true }
     ensures salary_needs_label { node_typed social (bob (codes "Person" ∷ [])) ≡ false }
-{
-}
+{}
 
 /// A key value read at the end of two steps, and its absence.
 pub fn values_at_a_distance()
@@ -60,8 +54,7 @@ pub fn values_at_a_distance()
     ensures steps_value { key_values (keyed (two_steps ∷ [])) (steps_to ((codes "v", Int (pos 1)) ∷ [])) two_steps (elems.Node (record { 0 = 3 }))
         ≡ (parts.Value (Int (pos 1)) ∷ []) ∷ [] }
     ensures steps_absent { key_values (keyed (two_steps ∷ [])) (steps_to []) two_steps (elems.Node (record { 0 = 3 })) ≡ [] }
-{
-}
+{}
 
 /// A key value of a property and an element: one for each moderator of a forum.
 pub fn values_of_parts()
@@ -71,8 +64,7 @@ pub fn values_of_parts()
     ensures two_moderators { key_values (keyed (moderator ∷ [])) (forum (by_n4 ∷ by_n5 ∷ [])) moderator (elems.Node (record { 0 = 1 }))
         ≡ (parts.Value (Text (codes "db")) ∷ parts.Elem (elems.Node (record { 0 = 4 })) ∷ [])
         ∷ (parts.Value (Text (codes "db")) ∷ parts.Elem (elems.Node (record { 0 = 5 })) ∷ []) ∷ [] }
-{
-}
+{}
 
 /// Schemas and keys that are valid, and some that aren't: a pattern in two parts, a type that names a later one, braces
 /// that name a key twice.
@@ -84,5 +76,4 @@ pub fn validity()
     ensures apart { is_valid_pattern two_apart ≡ false }
     ensures too_early { is_valid names_later ≡ false }
     ensures twice { is_valid names_twice ≡ false }
-{
-}
+{}
