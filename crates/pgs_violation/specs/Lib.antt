@@ -1,2 +1,6 @@
+pub mod Changed
 pub mod Decision
 pub mod Staging
+pub mod Standing
+pub mod StandingLaws
+pub mod Violations
