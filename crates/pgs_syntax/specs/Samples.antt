@@ -203,9 +203,9 @@ by_n4 = edge 2 4 1 (codes "moderates")
 abbrev pub by_n5 : EdgeId × EdgeRow
 by_n5 = edge 3 5 1 (codes "moderates")
 
--- a schema of keys alone
+-- a schema of keys alone, under which an element need not be typed
 abbrev pub keyed : List Key → Resolved
-keyed keys = schema [] [] [] keys
+keyed keys = record { nodes = []; edges = []; guard = record { strict = false; types = []; keys = keys } }
 
 -- the pattern (x), (y:A), whose variables nothing connects
 abbrev pub two_apart : Pattern

@@ -1,5 +1,6 @@
 pub mod Changed
 pub mod Decision
+pub mod Samples
 pub mod Staging
 pub mod Standing
 pub mod StandingLaws
