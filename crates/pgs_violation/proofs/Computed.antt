@@ -7,7 +7,7 @@ use Rattle.pgs_base.specs.Graph.{empty_graph}
 use Rattle.pgs_syntax.specs.declared.specification.Spec.TheBlock as block
 use Rattle.pgs_syntax.specs.Samples.{two_steps, steps_to, moderator, forum, by_n4, by_n5, keyed}
 use Rattle.pgs_violation.specs.declared.rejection.Rejection.TheVariants as rejections
-use Rattle.pgs_violation.specs.declared.violation.Verdict.TheVariants.{Conforms, Refused}
+use Rattle.pgs_violation.specs.declared.violation.Verdict.TheVariants.{Conforms}
 use Rattle.pgs_violation.specs.declared.violation.Violation.TheVariants.{UntypedNode, Mandatory, Singleton, Exclusive}
 use Rattle.pgs_violation.specs.Decision.{decisions}
 use Rattle.pgs_violation.specs.Samples.{limits, the_node, one_text, mails, two_persons, add_two_persons, set_mail, txn, one_mail}
@@ -15,9 +15,9 @@ use Rattle.pgs_violation.specs.Violations.{violations, verdict}
 
 pub only_the_last_graph :
     decisions limits (verdict mails) empty_graph
-        (add_two_persons (codes "a") (codes "b") ∷ txn (set_mail 1 (codes "b") ∷ []) ∷ txn (set_mail 1 (codes "b") ∷ set_mail 2 (codes "a") ∷ []) ∷ [])
+    (add_two_persons (codes "a") (codes "b") ∷ txn (set_mail 1 (codes "b") ∷ []) ∷ txn (set_mail 1 (codes "b") ∷ set_mail 2 (codes "a") ∷ []) ∷ [])
     ≡ Ok (two_persons (codes "a") (codes "b")) ∷ Err (rejections.Violation (Exclusive 1 (the_node 1) (the_node 2) (one_text (codes "b"))))
-        ∷ Ok (two_persons (codes "b") (codes "a")) ∷ []
+    ∷ Ok (two_persons (codes "b") (codes "a")) ∷ []
 unfolding block.hidden-the_row-Spec-0 hidden
 only_the_last_graph = refl
 

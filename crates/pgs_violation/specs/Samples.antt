@@ -1,6 +1,5 @@
 -- Schemas, graphs and transactions on which the definitions are tried.
-use Rattle.std.specs.Prelude.{ℕ, true, false, pos, List, [], ◌∷◌, codes}
-use Rattle.pgs_base.specs.declared.element.NodeId.{NodeId}
+use Rattle.std.specs.Prelude.{ℕ, true, false, List, [], ◌∷◌, codes}
 use Rattle.pgs_base.specs.declared.element.Elem.{Elem}
 use Rattle.pgs_base.specs.declared.element.Elem.TheVariants as elems
 use Rattle.pgs_base.specs.declared.limits.Limits.{Limits}
@@ -35,13 +34,13 @@ one_text text = parts.Value (values.Text text) ∷ []
 abbrev pub mail_key : Key
 mail_key =
     key (qualifiers false false true) (pattern (false ∷ []) (FitsNode 0 0 ∷ [])) (Property 0 (codes "mail") ∷ [])
-        (pattern (false ∷ []) [])
+    (pattern (false ∷ []) [])
 
 -- STRICT {(person: Person {mail STRING}), FOR (x:person) EXCLUSIVE x.mail}
 abbrev pub mails : Resolved
 mails =
     schema (node_type (codes "person") 1 (label (codes "Person") & braces (property (codes "mail") kinds.Text ∷ [])) ∷ []) []
-        (Node 0 ∷ []) (mail_key ∷ [])
+    (Node 0 ∷ []) (mail_key ∷ [])
 
 -- a property of a text
 abbrev pub mail : List ℕ → List (List ℕ × Value)

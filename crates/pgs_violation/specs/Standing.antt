@@ -1,6 +1,6 @@
 -- Where a violation stands among the violations of a graph: those of no key first, then key by key; of one key by the number
 -- of the violation; of one number by the least element.
-use Rattle.std.specs.Prelude.{ℕ, List}
+use Rattle.std.specs.Prelude.{ℕ}
 use Rattle.std.specs.declared.cmp.Ordering.{Ordering}
 use Rattle.std.specs.declared.cmp.Ordering.TheVariants.{Equal}
 use Rattle.std.specs.Ordering.{nat_cmp, ordering_then}
@@ -46,4 +46,4 @@ carried_cmp a b = Equal
 abbrev pub violation_cmp : Violation → Violation → Ordering
 violation_cmp a b =
     ordering_then (ordering_then (ordering_then (nat_cmp (key_of a) (key_of b)) (nat_cmp (number_of a) (number_of b)))
-        (elem_cmp (elem_of a) (elem_of b))) (carried_cmp a b)
+    (elem_cmp (elem_of a) (elem_of b))) (carried_cmp a b)

@@ -1,9 +1,8 @@
 -- The order of violations is total, and tells different ones apart.
-use Rattle.std.proofs.Common.{◌≡◌, ℕ, List, [], ◌∷◌, refl, ◌∙◌, ap, subst, Ordering, Less, Equal, Greater}
-use Rattle.std.specs.Ordering.{nat_cmp, ordering_then, on}
+use Rattle.std.proofs.Common.{◌≡◌, List, [], ◌∷◌, refl, ◌∙◌, ap, subst, Ordering, Less, Equal, Greater}
+use Rattle.std.specs.Ordering.{nat_cmp, ordering_then}
 use Rattle.std.specs.Cmp.{IsTotalOrder, nat_cmp_total, on_total, then_total}
 use Rattle.std.specs.Cmp.Lexicographic.{slice_cmp, lists_total}
-use Rattle.pgs_base.specs.declared.element.Elem.{Elem}
 use Rattle.pgs_base.specs.declared.part.Part.{Part}
 use Rattle.pgs_base.specs.declared.part.Part.TheVariants as parts
 use Rattle.pgs_base.specs.Order.{elem_cmp, tuple_cmp}
@@ -22,7 +21,7 @@ carried v = []
 abbrev full_cmp : Violation → Violation → Ordering
 full_cmp a b =
     ordering_then (ordering_then (ordering_then (nat_cmp (key_of a) (key_of b)) (nat_cmp (number_of a) (number_of b)))
-        (elem_cmp (elem_of a) (elem_of b))) (slice_cmp tuple_cmp (carried a) (carried b))
+    (elem_cmp (elem_of a) (elem_of b))) (slice_cmp tuple_cmp (carried a) (carried b))
 
 then_Equal : (a : Ordering) → ordering_then a Equal ≡ a
 then_Equal Less = refl
@@ -54,5 +53,5 @@ full_cmp_same a b = settled (nat_cmp (key_of a) (key_of b)) (nat_cmp (number_of 
 pub violation_cmp_total : IsTotalOrder violation_cmp
 violation_cmp_total =
     subst IsTotalOrder (λ i a b. full_cmp_same a b i)
-        (then_total (then_total (then_total (on_total key_of nat_cmp_total) (on_total number_of nat_cmp_total)) (on_total elem_of elem_cmp_total))
-            (on_total carried (lists_total tuple_cmp_total)))
+    (then_total (then_total (then_total (on_total key_of nat_cmp_total) (on_total number_of nat_cmp_total)) (on_total elem_of elem_cmp_total))
+    (on_total carried (lists_total tuple_cmp_total)))

@@ -2,7 +2,9 @@
 //! decision on a transaction in `specs/`. They know no shapes, plans or indexes.
 #![tactic(auto)]
 
+pub mod laws;
 mod rejection;
+pub mod samples;
 mod structural;
 mod violation;
 

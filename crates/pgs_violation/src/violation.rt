@@ -12,11 +12,18 @@ use std::cmp::Ordering;
 #[derive(Debug, Drop)]
 pub enum Violation {
     /// 25: the node fits no type.
-    UntypedNode { node: NodeId },
+    UntypedNode {
+        node: NodeId,
+    },
     /// 26: the edge fits no type.
-    UntypedEdge { edge: EdgeId },
+    UntypedEdge {
+        edge: EdgeId,
+    },
     /// 27: the element of the key's scope has no key value.
-    Mandatory { key: u32, elem: Elem },
+    Mandatory {
+        key: u32,
+        elem: Elem,
+    },
     /// 28: the element of the scope has several key values, of which these are the two least.
     Singleton {
         key: u32,
