@@ -1,13 +1,14 @@
 -- Edits keep keys ascending, and what a look-up finds after an edit.
-use Rattle.std.proofs.Common.{◌≡◌, Bool, true, false, cond, List, [], ◌∷◌, refl, sym, ap, subst, ◌∙◌, Ordering, Less, Equal, Greater}
+use Rattle.std.proofs.Common.{◌≡◌, true≢false, Decides, is_lt, Bool, true, false, cond, List, [], ◌∷◌, refl, sym, ap, subst, ◌∙◌, Ordering, Less, Equal, Greater}
 use Rattle.std.specs.Ordering.{match_ordering, ordering_reverse}
-use Rattle.std.specs.Cmp.{IsTotalOrder}
-use Rattle.std.specs.List.{AllByRecursion}
+use Rattle.std.specs.Cmp.{IsTotalOrder, first_so, second_so}
+use Rattle.std.specs.List.{AllByRecursion, list_all}
 use Rattle.std.specs.List.Sorted.{IsStrictlySortedBy}
 use Rattle.std.specs.Map.{keys_of, remove_entry}
 use Rattle.std.specs.Set.{remove_key}
 use Rattle.std.specs.BTreeMap.{insert_entry}
 use Rattle.std.specs.BTreeSet.{insert_key}
+use Rattle.pgs_base.specs.Graph.{ascends}
 
 module _ {K V : Type 0} where
   -- the keys after an entry is put in
@@ -86,3 +87,26 @@ ascending_none cmp ks e = subst (IsStrictlySortedBy cmp) (sym e) none
   where
     none : IsStrictlySortedBy cmp []
     none = tt
+
+-- `ascends` of the plain graph decides what the rows' contracts say
+module _ {K : Type 0} (cmp : K → K → Ordering) where
+  all_from_test : (k : K) (ks : List K) → list_all (λ later. is_lt (cmp k later)) ks ≡ true → AllByRecursion (λ y. cmp k y ≡ Less) ks
+  all_from_test k [] h = tt
+  all_from_test k (x ∷ xs) h = (less (cmp k x) (first_so _ _ h), all_from_test k xs (second_so _ _ h))
+    where
+      less : (o : Ordering) → is_lt o ≡ true → o ≡ Less
+      less Less e = refl
+      less Equal e = absurd (true≢false (sym e))
+      less Greater e = absurd (true≢false (sym e))
+
+  test_from_all : (k : K) (ks : List K) → AllByRecursion (λ y. cmp k y ≡ Less) ks → list_all (λ later. is_lt (cmp k later)) ks ≡ true
+  test_from_all k [] a = refl
+  test_from_all k (x ∷ xs) a = rw a.0 (test_from_all k xs a.1)
+
+  pub ascends_decides : (ks : List K) → Decides (ascends cmp ks) (IsStrictlySortedBy cmp ks)
+  unfolding IsStrictlySortedBy
+  ascends_decides [] = (λ e. tt, λ s. refl)
+  ascends_decides (k ∷ ks) = (
+    λ e. (all_from_test k ks (first_so _ _ e), (ascends_decides ks).0 (second_so _ _ e)),
+    λ s. rw (test_from_all k ks s.0) ((ascends_decides ks).1 s.1),
+  )

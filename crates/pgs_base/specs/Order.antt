@@ -47,3 +47,11 @@ part_cmp (parts.Elem a) (parts.Elem b) = elem_cmp a b
 -- tuples go part by part, and a proper prefix comes first
 abbrev pub tuple_cmp : List Part → List Part → Ordering
 tuple_cmp = slice_cmp part_cmp
+
+-- rows of properties go by name, and then by value
+abbrev pub row_cmp : List ℕ × Value → List ℕ × Value → Ordering
+row_cmp a b = ordering_then (slice_cmp nat_cmp a.0 b.0) (value_cmp a.1 b.1)
+
+-- properties go row by row, and a proper prefix comes first
+abbrev pub props_cmp : List (List ℕ × Value) → List (List ℕ × Value) → Ordering
+props_cmp = slice_cmp row_cmp

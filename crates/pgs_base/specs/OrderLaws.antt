@@ -1,16 +1,16 @@
 -- The orders of values, elements, parts and tuples are total, and tell different ones apart.
-use Rattle.std.proofs.Common.{◌≡◌, ℕ, ℤ, Bool, true, false, List, [], ◌∷◌, ◌⊎◌, inl, inr, refl, ap, subst, Ordering, Less, Equal, Greater}
-use Rattle.std.specs.Ordering.{nat_cmp, int_cmp, bool_cmp, ordering_then, ordering_reverse, on}
-use Rattle.std.specs.Cmp.{IsTotalOrder, nat_cmp_total, int_cmp_total, bool_cmp_total, on_total, then_total}
-use Rattle.std.specs.Cmp.Lexicographic.{slice_cmp, nat_list_cmp_total, lists_total}
-use Rattle.std.proofs.lemmas.Map.Lookups.{CmpEqualImpliesEq, exact_unsigned, exact_signed, exact_bytes}
+use Rattle.std.proofs.Common.{◌≡◌, Decides, nat_eq, ℕ, ℤ, Bool, true, false, List, [], ◌∷◌, ◌⊎◌, inl, inr, refl, ap, subst, Ordering, Less, Equal, Greater}
+use Rattle.std.specs.Ordering.{nat_cmp, int_cmp, bool_cmp, ordering_then, ordering_reverse, on, eq_by_cmp}
+use Rattle.std.specs.Cmp.{IsTotalOrder, nat_cmp_total, int_cmp_total, bool_cmp_total, on_total, then_total, Equal-is, eq_by_cmp_equiv}
+use Rattle.std.specs.Cmp.Lexicographic.{pointwise, pointwise_decides, bytes_decides, slice_cmp, nat_list_cmp_total, lists_total}
+use Rattle.std.proofs.lemmas.Map.Lookups.{CmpEqualImpliesEq, exact_unsigned, exact_signed, exact_bytes, exact_pairs}
 use Rattle.pgs_base.specs.declared.element.Elem.{Elem}
 use Rattle.pgs_base.specs.declared.element.Elem.TheVariants.{Node, Edge}
 use Rattle.pgs_base.specs.declared.part.Part.{Part}
 use Rattle.pgs_base.specs.declared.part.Part.TheVariants as parts
 use Rattle.pgs_base.specs.declared.value.Value.{Value}
 use Rattle.pgs_base.specs.declared.value.Value.TheVariants as values
-use Rattle.pgs_base.specs.Order.{day_cmp, value_cmp, elem_cmp, part_cmp, tuple_cmp}
+use Rattle.pgs_base.specs.Order.{day_cmp, value_cmp, elem_cmp, part_cmp, tuple_cmp, props_cmp}
 
 pub day_cmp_total : IsTotalOrder day_cmp
 day_cmp_total = then_total (on_total (λ (a : ℕ × ℕ × ℕ). a.0) nat_cmp_total) (then_total (on_total (λ (a : ℕ × ℕ × ℕ). a.1) nat_cmp_total) (on_total (λ (a : ℕ × ℕ × ℕ). a.2) nat_cmp_total))
@@ -98,6 +98,9 @@ part_cmp_total = read_total part_sum part_as_sum (sum_total value_cmp_total elem
 pub tuple_cmp_total : IsTotalOrder tuple_cmp
 tuple_cmp_total = lists_total part_cmp_total
 
+pub props_cmp_total : IsTotalOrder props_cmp
+props_cmp_total = lists_total (then_total (on_total (λ (row : List ℕ × Value). row.0) nat_list_cmp_total) (on_total (λ (row : List ℕ × Value). row.1) value_cmp_total))
+
 -- ---- what compares `Equal` is equal
 
 both_Equal : (a b : Ordering) → ordering_then a b ≡ Equal → (a ≡ Equal) × (b ≡ Equal)
@@ -135,10 +138,39 @@ exact_part (parts.Value a) (parts.Value b) h = ap parts.Value (exact_value a b h
 exact_part (parts.Elem a) (parts.Elem b) h = ap parts.Elem (exact_elem a b h)
 exact_part x y h = cc
 
--- and tuples
+exact_lists : {A : Type 0} {R : A → A → Ordering} → CmpEqualImpliesEq R → CmpEqualImpliesEq (slice_cmp R)
+exact_lists exact [] [] h = refl
+exact_lists {R = R} exact (x ∷ xs) (y ∷ ys) h =
+    let both = both_Equal (R x y) (slice_cmp R xs ys) h in
+    λ i. exact x y both.0 i ∷ exact_lists exact xs ys both.1 i
+exact_lists exact xs ys h = cc
+
+-- tuples
 pub exact_tuple : CmpEqualImpliesEq tuple_cmp
-exact_tuple [] [] h = refl
-exact_tuple (x ∷ xs) (y ∷ ys) h =
-    let both = both_Equal (part_cmp x y) (tuple_cmp xs ys) h in
-    λ i. exact_part x y both.0 i ∷ exact_tuple xs ys both.1 i
-exact_tuple xs ys h = cc
+exact_tuple = exact_lists exact_part
+
+-- properties
+pub exact_props : CmpEqualImpliesEq props_cmp
+exact_props = exact_lists (exact_pairs (slice_cmp nat_cmp) value_cmp exact_bytes exact_value)
+
+-- and names
+pub exact_name : CmpEqualImpliesEq (slice_cmp nat_cmp)
+exact_name = exact_bytes
+
+-- ---- so `==`, where it goes by the order, holds exactly of equal values
+
+same_decides : {K : Type 0} {R : K → K → Ordering} → IsTotalOrder R → CmpEqualImpliesEq R → (x y : K) → Decides (eq_by_cmp R x y) (x ≡ y)
+same_decides {R = R} total exact x y = (λ t. exact x y ((Equal-is (R x y)).0 t), λ e. subst (λ z. eq_by_cmp R x z ≡ true) e ((eq_by_cmp_equiv total).refl x))
+
+pub part_eq_decides : (x y : Part) → Decides (eq_by_cmp part_cmp x y) (x ≡ y)
+part_eq_decides = same_decides part_cmp_total exact_part
+
+pub tuple_eq_decides : (x y : List Part) → Decides (eq_by_cmp tuple_cmp x y) (x ≡ y)
+tuple_eq_decides = same_decides tuple_cmp_total exact_tuple
+
+pub props_eq_decides : (xs ys : List (List ℕ × Value)) → Decides (eq_by_cmp props_cmp xs ys) (xs ≡ ys)
+props_eq_decides = same_decides props_cmp_total exact_props
+
+-- of labels, whose `==` goes name by name
+pub labels_eq_decides : (xs ys : List (List ℕ)) → Decides (pointwise (pointwise nat_eq) xs ys) (xs ≡ ys)
+labels_eq_decides = pointwise_decides bytes_decides

@@ -117,11 +117,54 @@ impl PartialEq for Labels {
 
     ghost laws = { partial_equiv_from_equiv (lists_equiv nat_list_eq_equiv) };
 
-    fn eq(&self, other: &Labels) -> bool {
+    #[tactic(auto, using(crate::specs::OrderLaws::labels_eq_decides))]
+    fn eq(&self, other: &Labels) -> bool
+        ensures value { result ≡ pointwise (pointwise nat_eq) self.now other.now }
+        ensures same { IsTrue result ↔ (self.now ≡ other.now) }
+    {
         self.as_slice() == other.as_slice()
     }
 }
 
 impl Eq for Labels {
     ghost laws = { lists_equiv nat_list_eq_equiv };
+}
+
+#[cfg(test)]
+mod tests {
+    use super::*;
+    use std::test::Fail;
+
+    fn name(alloc: Global, text: &str) -> Result<Name, Fail> {
+        match Name::new(alloc, text.as_bytes())? {
+            Some(name) => Ok(name),
+            None => Err(Fail::new("no name")),
+        }
+    }
+
+    #[test]
+    fn labels_are_a_set(rt: HostRuntime) -> Result<(), Fail> {
+        let alloc = rt.alloc();
+        let mut labels = Labels::new(alloc);
+        for (text, new) in [("b", true), ("a", true), ("b", false), ("ab", true)] {
+            assert_eq!(rt; labels.insert(name(alloc, text)?)?, new, "{text}");
+        }
+        let mut others = labels.copy(alloc)?;
+        assert!(rt; others == labels);
+        assert!(rt; others.remove(&name(alloc, "a")?));
+        assert!(rt; others != labels);
+        assert!(rt; !others.remove(&name(alloc, "a")?));
+        let mut place = 0;
+        for text in ["a", "ab", "b"] {
+            assert!(rt;
+                labels
+                    .at(place)
+                    .is_some_and(|label| label.bytes() == text.as_bytes())
+            );
+            assert_eq!(rt; others.contains(&name(alloc, text)?), text != "a", "{text}");
+            place += 1;
+        }
+        assert_eq!(rt; (labels.len(), others.len()), (3, 2));
+        Ok(())
+    }
 }

@@ -32,7 +32,11 @@ impl PartialEq for Part {
 
     ghost laws = { partial_equiv_from_equiv (eq_by_cmp_equiv part_cmp_total) };
 
-    fn eq(&self, other: &Part) -> bool {
+    #[tactic(auto, using(crate::specs::OrderLaws::part_eq_decides))]
+    fn eq(&self, other: &Part) -> bool
+        ensures value { result ≡ eq_by_cmp part_cmp self.now other.now }
+        ensures same { IsTrue result ↔ (self.now ≡ other.now) }
+    {
         self.cmp(other).is_eq()
     }
 }

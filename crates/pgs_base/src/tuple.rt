@@ -52,7 +52,11 @@ impl PartialEq for Tuple {
 
     ghost laws = { partial_equiv_from_equiv (eq_by_cmp_equiv tuple_cmp_total) };
 
-    fn eq(&self, other: &Tuple) -> bool {
+    #[tactic(auto, using(crate::specs::OrderLaws::tuple_eq_decides))]
+    fn eq(&self, other: &Tuple) -> bool
+        ensures value { result ≡ eq_by_cmp tuple_cmp self.now other.now }
+        ensures same { IsTrue result ↔ (self.now ≡ other.now) }
+    {
         self.cmp(other).is_eq()
     }
 }
