@@ -37,7 +37,7 @@ any_and false p (x ∷ xs) = any_and false p xs
 
 -- ---- splits
 
-swap_first : (a b c : Bool) → (a || (b || c)) ≡ (b || (a || c))
+pub swap_first : (a b c : Bool) → (a || (b || c)) ≡ (b || (a || c))
 swap_first true true c = refl
 swap_first true false c = refl
 swap_first false b c = refl

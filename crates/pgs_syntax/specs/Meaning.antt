@@ -1,0 +1,30 @@
+-- What a join is, in other words: of each label and of each key.
+use Rattle.std.specs.Prelude.{◌≡◌, ℕ, Bool, true, ◌&&◌, ◌||◌, List, Option, Some, None}
+use Rattle.std.specs.Ordering.{nat_cmp}
+use Rattle.std.specs.Cmp.Lexicographic.{slice_cmp}
+use Rattle.std.specs.Map.{keys_of}
+use Rattle.pgs_base.specs.declared.row.NodeRow.{NodeRow}
+use Rattle.pgs_base.specs.declared.value.Value.{Value}
+use Rattle.pgs_base.specs.Graph.{ascends}
+use Rattle.pgs_syntax.specs.Fitting.{has_label, value_at}
+
+-- whether the labels and the keys of a pair ascend strictly, as those of an element do
+abbrev pub is_in_order : NodeRow → Bool
+is_in_order p = ascends (slice_cmp nat_cmp) p.labels && ascends (slice_cmp nat_cmp) (keys_of p.props)
+
+-- what two maps have at a key together: they agree where both have a value
+abbrev pub IsUnionAt : Option Value → Option Value → Option Value → Type 0
+IsUnionAt None None whole = whole ≡ None
+IsUnionAt (Some v) None whole = whole ≡ Some v
+IsUnionAt None (Some w) whole = whole ≡ Some w
+IsUnionAt (Some v) (Some w) whole = (v ≡ w) × (whole ≡ Some v)
+
+-- a pair is the join of two: it has the labels of both, their maps agree on shared keys, and it has the values of both
+pub record IsJoin (first second p : NodeRow) : Type 0 where
+  pub labels : (label : List ℕ) → has_label label p.labels ≡ (has_label label first.labels || has_label label second.labels)
+  pub values : (key : List ℕ) → IsUnionAt (value_at key first.props) (value_at key second.props) (value_at key p.props)
+
+-- there are two pairs whose join is the pair, one of which passes the first test and the other the second
+abbrev pub IsJoinOf : (NodeRow → Bool) → (NodeRow → Bool) → NodeRow → Type 0
+IsJoinOf f g p = (first : NodeRow) × (second : NodeRow) × (is_in_order first ≡ true) × (is_in_order second ≡ true)
+    × IsJoin first second p × (f first ≡ true) × (g second ≡ true)
