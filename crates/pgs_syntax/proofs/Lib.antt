@@ -1,4 +1,5 @@
 pub mod Computed
 pub mod Halves
+pub mod JoinMeans
 pub mod Parts
 pub mod Splits
