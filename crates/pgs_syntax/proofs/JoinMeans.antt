@@ -1,12 +1,12 @@
 -- A test of joins says that there are two pairs, each of which passes its test, whose join is the pair.
-use Rattle.std.proofs.Common.{◌≡◌, ℕ, Bool, true, false, ◌&&◌, ◌||◌, cond, ◌↔◌, List, [], ◌∷◌, map, filter, Option, Some, None, is_some, refl, sym, ◌∙◌, ap, subst, true≢false, Ordering, Less, Equal, Greater, is_lt, is_eq}
+use Rattle.std.proofs.Common.{◌≡◌, ℕ, Bool, true, false, ◌&&◌, ◌||◌, cond, List, [], ◌∷◌, filter, Option, Some, None, is_some, refl, sym, ◌∙◌, ap, subst, true≢false, Ordering, Less, Equal, Greater, is_lt, is_eq}
 use Rattle.std.specs.Ordering.{nat_cmp}
 use Rattle.std.specs.Cmp.{tied_itself}
 use Rattle.std.specs.Cmp.Lexicographic.{slice_cmp, nat_list_cmp_total}
-use Rattle.std.specs.List.{list_any, list_all}
+use Rattle.std.specs.List.{list_all}
 use Rattle.std.specs.List.Sorted.{IsStrictlySortedBy}
-use Rattle.std.specs.Map.{keys_of, lookup}
-use Rattle.std.proofs.lemmas.Bool.{or_cases, and_parts, and_from}
+use Rattle.std.specs.Map.{keys_of}
+use Rattle.std.proofs.lemmas.Bool.{and_parts, and_from}
 use Rattle.std.proofs.lemmas.List.Kept.{IsStrictlySortedBy-filter}
 use Rattle.std.proofs.lemmas.Map.Entries.{lookup-filter-keys}
 use Rattle.std.proofs.lemmas.Map.Lookups.{exact_bytes}
@@ -16,9 +16,9 @@ use Rattle.pgs_base.specs.declared.value.Value.{Value}
 use Rattle.pgs_base.specs.Graph.{ascends}
 use Rattle.pgs_base.proofs.Ascending.{ascends_decides}
 use Rattle.pgs_base.proofs.Lookups.{same_entries, same_keys}
-use Rattle.pgs_syntax.specs.Join.{splits, pair_of, halves, of_pairs, joined}
+use Rattle.pgs_syntax.specs.Join.{pair_of, of_pairs, joined, joined_all}
 use Rattle.pgs_syntax.specs.Fitting.{same_name, has_label, value_at}
-use Rattle.pgs_syntax.specs.Meaning.{is_in_order, IsUnionAt, IsJoin, IsJoinOf}
+use Rattle.pgs_syntax.specs.Meaning.{is_in_order, IsUnionAt, IsJoinOf, IsJoinOfAll}
 use Rattle.pgs_syntax.proofs.Halves.{joined_any, any_halves}
 use Rattle.pgs_syntax.proofs.Parts.{one_name}
 use Rattle.pgs_syntax.proofs.Splits.{IsSplit, none, to_left, to_right, to_both, split_from_any, any_from_split, split_any, split_ascends, split_map}
@@ -110,7 +110,7 @@ all_labels : (t : List ℕ → Bool) (labels : Names) → ((x : List ℕ) → ha
 all_labels t [] h = refl
 all_labels t (label ∷ labels) h =
     and_from _ _ (h label (ap (λ b. b || has_label label labels) (own_name label)))
-        (all_labels t labels (λ x there. h x (or_second (same_name x label) (has_label x labels) there)))
+    (all_labels t labels (λ x there. h x (or_second (same_name x label) (has_label x labels) there)))
 
 absorb_left : (a b : Bool) → (a && (a || b)) ≡ a
 absorb_left true b = refl
@@ -129,27 +129,27 @@ module _ (part labels : Names) where
       ((label : List ℕ) → (in_part label && has_label label labels) ≡ in_part label) → filter in_part labels ≡ part
   picked_labels first second all =
       same_keys nat_list_cmp_total exact_bytes (filter in_part labels) part
-          (IsStrictlySortedBy-filter (slice_cmp nat_cmp) in_part labels ((ascends_decides (slice_cmp nat_cmp) labels).0 second))
-          ((ascends_decides (slice_cmp nat_cmp) part).0 first)
-          (λ q. any-filter_same (same_name q) in_part (in_part q) (λ k same. ap in_part (sym (one_name q k same))) labels ∙ all q)
+      (IsStrictlySortedBy-filter (slice_cmp nat_cmp) in_part labels ((ascends_decides (slice_cmp nat_cmp) labels).0 second))
+      ((ascends_decides (slice_cmp nat_cmp) part).0 first)
+      (λ q. any-filter_same (same_name q) in_part (in_part q) (λ k same. ap in_part (sym (one_name q k same))) labels ∙ all q)
 
 pub labels_split : (l r labels : Names) → ascends (slice_cmp nat_cmp) l ≡ true → ascends (slice_cmp nat_cmp) r ≡ true → ascends (slice_cmp nat_cmp) labels ≡ true →
     ((label : List ℕ) → has_label label labels ≡ (has_label label l || has_label label r)) → IsSplit l r labels
 labels_split l r labels left right whole together =
     let all : list_all (λ x. has_label x l || has_label x r) labels ≡ true = all_labels _ labels (λ x there. sym (together x) ∙ there) in
     let first : filter (in_part l labels) labels ≡ l =
-        picked_labels l labels left whole (λ q. ap (λ b. has_label q l && b) (together q) ∙ absorb_left (has_label q l) (has_label q r)) in
+    picked_labels l labels left whole (λ q. ap (λ b. has_label q l && b) (together q) ∙ absorb_left (has_label q l) (has_label q r)) in
     let second : filter (in_part r labels) labels ≡ r =
-        picked_labels r labels right whole (λ q. ap (λ b. has_label q r && b) (together q) ∙ absorb_right (has_label q l) (has_label q r)) in
+    picked_labels r labels right whole (λ q. ap (λ b. has_label q r && b) (together q) ∙ absorb_right (has_label q l) (has_label q r)) in
     subst (λ (s : Names). IsSplit s r labels) first
-        (subst (λ (s : Names). IsSplit (filter (in_part l labels) labels) s labels) second (picked (in_part l labels) (in_part r labels) labels all))
+    (subst (λ (s : Names). IsSplit (filter (in_part l labels) labels) s labels) second (picked (in_part l labels) (in_part r labels) labels all))
 
 all_entries : (t : List ℕ × Value → Bool) (entries : Entries) →
     ((entry : List ℕ × Value) → is_some (value_at entry.0 entries) ≡ true → t entry ≡ true) → list_all t entries ≡ true
 all_entries t [] h = refl
 all_entries t (entry ∷ entries) h =
     and_from _ _ (h entry (ap (λ b. is_some (cond b (Some entry.1) (value_at entry.0 entries))) (own_name entry.0)))
-        (all_entries t entries (λ other there. h other (kept (same_name other.0 entry.0) (value_at other.0 entries) there)))
+    (all_entries t entries (λ other there. h other (kept (same_name other.0 entry.0) (value_at other.0 entries) there)))
   where
     kept : (b : Bool) (o : Option Value) → is_some o ≡ true → is_some (cond b (Some entry.1) o) ≡ true
     kept true o there = refl
@@ -189,23 +189,23 @@ module _ (part entries : Entries) where
       ((key : List ℕ) → cond (is_some (value_at key part)) (value_at key entries) None ≡ value_at key part) → filter keyed entries ≡ part
   picked_entries first second all =
       same_entries nat_list_cmp_total exact_bytes (filter keyed entries) part
-          (subst (IsStrictlySortedBy (slice_cmp nat_cmp)) (sym (keys-filter (λ key. is_some (value_at key part)) entries))
-              (IsStrictlySortedBy-filter (slice_cmp nat_cmp) (λ key. is_some (value_at key part)) (keys_of entries)
-                  ((ascends_decides (slice_cmp nat_cmp) (keys_of entries)).0 second)))
-          ((ascends_decides (slice_cmp nat_cmp) (keys_of part)).0 first)
-          (λ q. lookup-filter-keys (same_name q) (λ key. is_some (value_at key part)) (is_some (value_at q part))
-              (λ k same. ap (λ key. is_some (value_at key part)) (sym (one_name q k same))) entries ∙ all q)
+      (subst (IsStrictlySortedBy (slice_cmp nat_cmp)) (sym (keys-filter (λ key. is_some (value_at key part)) entries))
+      (IsStrictlySortedBy-filter (slice_cmp nat_cmp) (λ key. is_some (value_at key part)) (keys_of entries)
+      ((ascends_decides (slice_cmp nat_cmp) (keys_of entries)).0 second)))
+      ((ascends_decides (slice_cmp nat_cmp) (keys_of part)).0 first)
+      (λ q. lookup-filter-keys (same_name q) (λ key. is_some (value_at key part)) (is_some (value_at q part))
+      (λ k same. ap (λ key. is_some (value_at key part)) (sym (one_name q k same))) entries ∙ all q)
 
 pub values_split : (l r entries : Entries) → ascends (slice_cmp nat_cmp) (keys_of l) ≡ true → ascends (slice_cmp nat_cmp) (keys_of r) ≡ true →
     ascends (slice_cmp nat_cmp) (keys_of entries) ≡ true →
     ((key : List ℕ) → IsUnionAt (value_at key l) (value_at key r) (value_at key entries)) → IsSplit l r entries
 values_split l r entries left right whole together =
     let all : list_all (λ entry. keyed l entries entry || keyed r entries entry) entries ≡ true =
-        all_entries _ entries (λ entry there. union_some _ _ _ (together entry.0) there) in
+    all_entries _ entries (λ entry there. union_some _ _ _ (together entry.0) there) in
     let first : filter (keyed l entries) entries ≡ l = picked_entries l entries left whole (λ q. union_left _ _ _ (together q)) in
     let second : filter (keyed r entries) entries ≡ r = picked_entries r entries right whole (λ q. union_right _ _ _ (together q)) in
     subst (λ (s : Entries). IsSplit s r entries) first
-        (subst (λ (s : Entries). IsSplit (filter (keyed l entries) entries) s entries) second (picked (keyed l entries) (keyed r entries) entries all))
+    (subst (λ (s : Entries). IsSplit (filter (keyed l entries) entries) s entries) second (picked (keyed l entries) (keyed r entries) entries all))
 
 -- ---- joins
 
@@ -224,12 +224,18 @@ module _ (f g : NodeRow → Bool) (p : NodeRow) (order : is_in_order p ≡ true)
       let passes = and_parts _ _ props.3 in
       let labels_ascend = split_ascends (slice_cmp nat_cmp) labels.0 labels.1 p.labels labels.2 labels_order in
       let keys_ascend = split_ascends (slice_cmp nat_cmp) (keys_of props.0) (keys_of props.1) (keys_of p.props)
-          (split_map (λ (e : List ℕ × Value). e.0) props.0 props.1 p.props props.2) keys_order in
-      (pair_of labels.0 props.0, pair_of labels.1 props.1, and_from _ _ labels_ascend.0 keys_ascend.0, and_from _ _ labels_ascend.1 keys_ascend.1,
+      (split_map (λ (e : List ℕ × Value). e.0) props.0 props.1 p.props props.2) keys_order in (
+        pair_of labels.0 props.0,
+        pair_of labels.1 props.1,
+        and_from _ _ labels_ascend.0 keys_ascend.0,
+        and_from _ _ labels_ascend.1 keys_ascend.1,
         record {
           labels = λ label. split_any (same_name label) labels.0 labels.1 p.labels labels.2;
           values = λ key. split_values key props.0 props.1 p.props props.2 keys_order;
-        }, passes.1, passes.0)
+        },
+        passes.1,
+        passes.0,
+      )
 
   pub meant : IsJoinOf f g p → joined of_pairs f g p ≡ true
   meant (first, second, one, other, join, passes, too) =
@@ -237,3 +243,15 @@ module _ (f g : NodeRow → Bool) (p : NodeRow) (order : is_in_order p ≡ true)
       let props = values_split first.props second.props p.props (and_parts _ _ one).1 (and_parts _ _ other).1 keys_order join.values in
       joined_any of_pairs f g p ∙ any_halves (λ (s : NodeRow × NodeRow). g s.1 && f s.0) p
       ∙ any_from_split _ first.labels second.labels p.labels labels (any_from_split _ first.props second.props p.props props (and_from _ _ too passes))
+
+-- joins of one pair for each test
+pub all_mean : (tests : List (NodeRow → Bool)) (p : NodeRow) → is_in_order p ≡ true → joined_all of_pairs tests p ≡ true → IsJoinOfAll tests p
+all_mean [] p order h = h
+all_mean (test ∷ tests) p order h =
+    let parts = means test (joined_all of_pairs tests) p order h in
+    (parts.0, parts.1, parts.2, parts.3, parts.4, parts.5, all_mean tests parts.1 parts.3 parts.6)
+
+pub all_meant : (tests : List (NodeRow → Bool)) (p : NodeRow) → is_in_order p ≡ true → IsJoinOfAll tests p → joined_all of_pairs tests p ≡ true
+all_meant [] p order h = h
+all_meant (test ∷ tests) p order (first, rest, one, other, join, passes, all) =
+    meant test (joined_all of_pairs tests) p order (first, rest, one, other, join, passes, all_meant tests rest other all)

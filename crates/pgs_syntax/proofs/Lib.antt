@@ -2,4 +2,5 @@ pub mod Computed
 pub mod Halves
 pub mod JoinMeans
 pub mod Parts
+pub mod Specs
 pub mod Splits

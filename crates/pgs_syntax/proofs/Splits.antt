@@ -1,26 +1,11 @@
 -- What the couples of `splits` are, and which couples of lists that ascend are among them.
-use Rattle.std.proofs.Common.{◌≡◌, ℕ, Bool, true, false, ◌&&◌, ◌||◌, not, cond, ◌⊎◌, ⊎_elim, List, [], ◌∷◌, map, filter, Option, Some, None, is_some, refl, sym, ◌∙◌, ap, subst, true≢false, Ordering, is_lt, is_eq}
-use Rattle.std.specs.Ordering.{nat_cmp}
-use Rattle.std.specs.Cmp.{tied_itself}
-use Rattle.std.specs.Cmp.Lexicographic.{slice_cmp, nat_list_cmp_total}
+use Rattle.std.proofs.Common.{◌≡◌, Bool, true, false, ◌||◌, ⊎_elim, List, [], ◌∷◌, map, refl, sym, ◌∙◌, ap, true≢false, Ordering, is_lt}
 use Rattle.std.specs.List.{list_any, list_all}
-use Rattle.std.specs.List.Sorted.{IsStrictlySortedBy}
-use Rattle.std.specs.Map.{keys_of, lookup}
 use Rattle.std.proofs.Math.Bool.{or-false}
 use Rattle.std.proofs.lemmas.Bool.{or_cases, and_parts, and_from}
-use Rattle.std.proofs.lemmas.List.Kept.{IsStrictlySortedBy-filter}
-use Rattle.std.proofs.lemmas.Map.Entries.{lookup-filter-keys}
-use Rattle.std.proofs.lemmas.Map.Lookups.{exact_bytes}
-use Rattle.std.proofs.lemmas.Map.Views.{any-filter_same}
-use Rattle.pgs_base.specs.declared.value.Value.{Value}
 use Rattle.pgs_base.specs.Graph.{ascends}
-use Rattle.pgs_base.proofs.Ascending.{ascends_decides}
-use Rattle.pgs_base.proofs.Lookups.{same_entries, same_keys}
 use Rattle.pgs_syntax.specs.Join.{ways, splits}
-use Rattle.pgs_syntax.specs.Fitting.{same_name, has_label, value_at}
-use Rattle.pgs_syntax.specs.Meaning.{IsUnionAt}
 use Rattle.pgs_syntax.proofs.Halves.{any_flat_map, swap_first}
-use Rattle.pgs_syntax.proofs.Parts.{one_name}
 
 -- each item of a list goes to the left, to the right, or to both
 pub data IsSplit {X : Type 0} : List X → List X → List X → Type 0 where
@@ -42,10 +27,10 @@ split_from_any {X} c (x ∷ xs) h =
         (left : List X) × (right : List X) × IsSplit left right (x ∷ xs) × (c (left, right) ≡ true)
     placed l r split e =
         ⊎_elim (λ first. (x ∷ l, r, to_left split, first))
-            (λ rest. ⊎_elim (λ second. (l, x ∷ r, to_right split, second))
-                (λ last. (x ∷ l, x ∷ r, to_both split, sym (or-false _) ∙ last))
-                (or_cases _ _ rest))
-            (or_cases _ _ e)
+        (λ rest. ⊎_elim (λ second. (l, x ∷ r, to_right split, second))
+        (λ last. (x ∷ l, x ∷ r, to_both split, sym (or-false _) ∙ last))
+        (or_cases _ _ rest))
+        (or_cases _ _ e)
 
 or_second : (a b : Bool) → b ≡ true → (a || b) ≡ true
 or_second true b h = refl

@@ -67,3 +67,8 @@ of_triples = record {
 abbrev pub joined : {P : Type 0} → Joins P → (P → Bool) → (P → Bool) → P → Bool
 joined {P} joins first second p =
     list_any (λ (s : P × P). first s.0) (filter (λ (s : P × P). second s.1) (joins.halves_of p))
+
+-- whether it is a join of some, one for each test and passing it
+abbrev pub joined_all : {P : Type 0} → Joins P → List (P → Bool) → P → Bool
+joined_all joins [] p = joins.asks is_empty_pair p
+joined_all joins (test ∷ tests) p = joined joins test (joined_all joins tests) p

@@ -1,11 +1,12 @@
 -- What a join is, in other words: of each label and of each key.
-use Rattle.std.specs.Prelude.{◌≡◌, ℕ, Bool, true, ◌&&◌, ◌||◌, List, Option, Some, None}
+use Rattle.std.specs.Prelude.{◌≡◌, ℕ, Bool, true, ◌&&◌, ◌||◌, List, [], ◌∷◌, Option, Some, None}
 use Rattle.std.specs.Ordering.{nat_cmp}
 use Rattle.std.specs.Cmp.Lexicographic.{slice_cmp}
 use Rattle.std.specs.Map.{keys_of}
 use Rattle.pgs_base.specs.declared.row.NodeRow.{NodeRow}
 use Rattle.pgs_base.specs.declared.value.Value.{Value}
 use Rattle.pgs_base.specs.Graph.{ascends}
+use Rattle.pgs_syntax.specs.Join.{is_empty_pair}
 use Rattle.pgs_syntax.specs.Fitting.{has_label, value_at}
 
 -- whether the labels and the keys of a pair ascend strictly, as those of an element do
@@ -28,3 +29,9 @@ pub record IsJoin (first second p : NodeRow) : Type 0 where
 abbrev pub IsJoinOf : (NodeRow → Bool) → (NodeRow → Bool) → NodeRow → Type 0
 IsJoinOf f g p = (first : NodeRow) × (second : NodeRow) × (is_in_order first ≡ true) × (is_in_order second ≡ true)
     × IsJoin first second p × (f first ≡ true) × (g second ≡ true)
+
+-- there are pairs, one for each test and passing it, whose join is the pair; the join of none is the empty pair
+abbrev pub IsJoinOfAll : List (NodeRow → Bool) → NodeRow → Type 0
+IsJoinOfAll [] p = is_empty_pair p ≡ true
+IsJoinOfAll (test ∷ tests) p = (first : NodeRow) × (rest : NodeRow) × (is_in_order first ≡ true) × (is_in_order rest ≡ true)
+    × IsJoin first rest p × (test first ≡ true) × IsJoinOfAll tests rest
