@@ -3,7 +3,7 @@ use Rattle.std.proofs.Common.{◌≡◌, ℕ, Bool, true, false, ◌&&◌, ◌||
 use Rattle.std.specs.Ordering.{nat_cmp}
 use Rattle.std.specs.Cmp.{tied_itself}
 use Rattle.std.specs.Cmp.Lexicographic.{slice_cmp, nat_list_cmp_total}
-use Rattle.std.specs.List.{list_all}
+use Rattle.std.specs.List.{list_any, list_all}
 use Rattle.std.specs.List.Sorted.{IsStrictlySortedBy}
 use Rattle.std.specs.Map.{keys_of}
 use Rattle.std.proofs.lemmas.Bool.{and_parts, and_from}
@@ -16,9 +16,9 @@ use Rattle.pgs_base.specs.declared.value.Value.{Value}
 use Rattle.pgs_base.specs.Graph.{ascends}
 use Rattle.pgs_base.proofs.Ascending.{ascends_decides}
 use Rattle.pgs_base.proofs.Lookups.{same_entries, same_keys}
-use Rattle.pgs_syntax.specs.Join.{pair_of, of_pairs, joined, joined_all}
+use Rattle.pgs_syntax.specs.Join.{pair_of, halves, of_pairs, joined, joined_all}
 use Rattle.pgs_syntax.specs.Fitting.{same_name, has_label, value_at}
-use Rattle.pgs_syntax.specs.Meaning.{is_in_order, IsUnionAt, IsJoinOf, IsJoinOfAll}
+use Rattle.pgs_syntax.specs.Meaning.{is_in_order, IsUnionAt, IsJoin, IsJoinWhere, IsJoinOf, IsJoinOfAll}
 use Rattle.pgs_syntax.proofs.Halves.{joined_any, any_halves}
 use Rattle.pgs_syntax.proofs.Parts.{one_name}
 use Rattle.pgs_syntax.proofs.Splits.{IsSplit, none, to_left, to_right, to_both, split_from_any, any_from_split, split_any, split_ascends, split_map}
@@ -209,40 +209,37 @@ values_split l r entries left right whole together =
 
 -- ---- joins
 
+-- a couple of halves that passes a test is two pairs whose join is the pair, and the other way round
+pub halves_found : (c : NodeRow × NodeRow → Bool) (p : NodeRow) → is_in_order p ≡ true → list_any c (halves p) ≡ true → IsJoinWhere (λ first second. c (first, second)) p
+halves_found c p order h =
+    let labels = split_from_any _ p.labels (sym (any_halves c p) ∙ h) in
+    let props = split_from_any _ p.props labels.3 in
+    let labels_ascend = split_ascends (slice_cmp nat_cmp) labels.0 labels.1 p.labels labels.2 (and_parts _ _ order).0 in
+    let keys_ascend = split_ascends (slice_cmp nat_cmp) (keys_of props.0) (keys_of props.1) (keys_of p.props)
+        (split_map (λ (e : List ℕ × Value). e.0) props.0 props.1 p.props props.2) (and_parts _ _ order).1 in
+    (pair_of labels.0 props.0, pair_of labels.1 props.1, and_from _ _ labels_ascend.0 keys_ascend.0, and_from _ _ labels_ascend.1 keys_ascend.1,
+      record {
+        labels = λ label. split_any (same_name label) labels.0 labels.1 p.labels labels.2;
+        values = λ key. split_values key props.0 props.1 p.props props.2 (and_parts _ _ order).1;
+      }, props.3)
+
+pub halves_given : (c : NodeRow × NodeRow → Bool) (p : NodeRow) → is_in_order p ≡ true → IsJoinWhere (λ first second. c (first, second)) p → list_any c (halves p) ≡ true
+halves_given c p order (first, second, one, other, join, passes) =
+    let labels = labels_split first.labels second.labels p.labels (and_parts _ _ one).0 (and_parts _ _ other).0 (and_parts _ _ order).0 join.labels in
+    let props = values_split first.props second.props p.props (and_parts _ _ one).1 (and_parts _ _ other).1 (and_parts _ _ order).1 join.values in
+    any_halves c p ∙ any_from_split _ first.labels second.labels p.labels labels (any_from_split _ first.props second.props p.props props passes)
+
 module _ (f g : NodeRow → Bool) (p : NodeRow) (order : is_in_order p ≡ true) where
-  abbrev labels_order : ascends (slice_cmp nat_cmp) p.labels ≡ true
-  labels_order = (and_parts _ _ order).0
-
-  abbrev keys_order : ascends (slice_cmp nat_cmp) (keys_of p.props) ≡ true
-  keys_order = (and_parts _ _ order).1
-
   pub means : joined of_pairs f g p ≡ true → IsJoinOf f g p
   means h =
-      let passed = sym (any_halves (λ (s : NodeRow × NodeRow). g s.1 && f s.0) p) ∙ sym (joined_any of_pairs f g p) ∙ h in
-      let labels = split_from_any _ p.labels passed in
-      let props = split_from_any _ p.props labels.3 in
-      let passes = and_parts _ _ props.3 in
-      let labels_ascend = split_ascends (slice_cmp nat_cmp) labels.0 labels.1 p.labels labels.2 labels_order in
-      let keys_ascend = split_ascends (slice_cmp nat_cmp) (keys_of props.0) (keys_of props.1) (keys_of p.props)
-      (split_map (λ (e : List ℕ × Value). e.0) props.0 props.1 p.props props.2) keys_order in (
-        pair_of labels.0 props.0,
-        pair_of labels.1 props.1,
-        and_from _ _ labels_ascend.0 keys_ascend.0,
-        and_from _ _ labels_ascend.1 keys_ascend.1,
-        record {
-          labels = λ label. split_any (same_name label) labels.0 labels.1 p.labels labels.2;
-          values = λ key. split_values key props.0 props.1 p.props props.2 keys_order;
-        },
-        passes.1,
-        passes.0,
-      )
+      let join = halves_found (λ (s : NodeRow × NodeRow). g s.1 && f s.0) p order (sym (joined_any of_pairs f g p) ∙ h) in
+      let passes = and_parts _ _ join.5 in
+      (join.0, join.1, join.2, join.3, join.4, passes.1, passes.0)
 
   pub meant : IsJoinOf f g p → joined of_pairs f g p ≡ true
   meant (first, second, one, other, join, passes, too) =
-      let labels = labels_split first.labels second.labels p.labels (and_parts _ _ one).0 (and_parts _ _ other).0 labels_order join.labels in
-      let props = values_split first.props second.props p.props (and_parts _ _ one).1 (and_parts _ _ other).1 keys_order join.values in
-      joined_any of_pairs f g p ∙ any_halves (λ (s : NodeRow × NodeRow). g s.1 && f s.0) p
-      ∙ any_from_split _ first.labels second.labels p.labels labels (any_from_split _ first.props second.props p.props props (and_from _ _ too passes))
+      joined_any of_pairs f g p
+      ∙ halves_given (λ (s : NodeRow × NodeRow). g s.1 && f s.0) p order (first, second, one, other, join, and_from _ _ too passes)
 
 -- joins of one pair for each test
 pub all_mean : (tests : List (NodeRow → Bool)) (p : NodeRow) → is_in_order p ≡ true → joined_all of_pairs tests p ≡ true → IsJoinOfAll tests p

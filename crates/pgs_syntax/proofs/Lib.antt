@@ -1,4 +1,6 @@
+pub mod Assigned
 pub mod Computed
+pub mod Edges
 pub mod Halves
 pub mod JoinMeans
 pub mod Parts

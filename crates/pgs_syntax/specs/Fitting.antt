@@ -105,15 +105,18 @@ abbrev pub has_ends_of : Resolved → EdgeType Leaf → Triple → Bool
 has_ends_of resolved type t =
     fits resolved type.source t.source && is_empty_pair t.own && fits resolved type.target t.target
 
--- Whether a triple fits the edge type of a number below a bound: it is the join of one that fits the middle with pairs
--- at the ends that fit the source and the target. A middle names edge types of lesser numbers alone.
+-- Whether a triple fits an edge type: it is the join of one that fits the middle with pairs at the ends that fit the source
+-- and the target. What a number in the middle asks is given.
+abbrev pub fits_edge_type : Resolved → (ℕ → Triple → Bool) → EdgeType Leaf → Triple → Bool
+fits_edge_type resolved named type t =
+    joined of_triples (has_ends_of resolved type) (suits of_triples named type.middle) t
+
+-- Whether a triple fits the edge type of a number below a bound. A middle names edge types of lesser numbers alone.
 abbrev pub fits_edge_below : Resolved → ℕ → ℕ → Triple → Bool
 fits_edge_below resolved zero number t = false
 fits_edge_below resolved (suc bound) number t =
     elim (number == bound) [
-      | true ↦ option_map_or
-          (λ (type : EdgeType Leaf). joined of_triples (has_ends_of resolved type) (suits of_triples (fits_edge_below resolved bound) type.middle) t)
-          (slice_get resolved.edges bound) false
+      | true ↦ option_map_or (λ (type : EdgeType Leaf). fits_edge_type resolved (fits_edge_below resolved bound) type t) (slice_get resolved.edges bound) false
       | false ↦ fits_edge_below resolved bound number t
     ]
 

@@ -6,7 +6,7 @@ use Rattle.std.specs.Map.{keys_of}
 use Rattle.pgs_base.specs.declared.row.NodeRow.{NodeRow}
 use Rattle.pgs_base.specs.declared.value.Value.{Value}
 use Rattle.pgs_base.specs.Graph.{ascends}
-use Rattle.pgs_syntax.specs.Join.{is_empty_pair}
+use Rattle.pgs_syntax.specs.Join.{is_empty_pair, Triple}
 use Rattle.pgs_syntax.specs.Fitting.{has_label, value_at}
 
 -- whether the labels and the keys of a pair ascend strictly, as those of an element do
@@ -25,6 +25,11 @@ pub record IsJoin (first second p : NodeRow) : Type 0 where
   pub labels : (label : List ℕ) → has_label label p.labels ≡ (has_label label first.labels || has_label label second.labels)
   pub values : (key : List ℕ) → IsUnionAt (value_at key first.props) (value_at key second.props) (value_at key p.props)
 
+-- there are two pairs whose join is the pair and which together pass a test
+abbrev pub IsJoinWhere : (NodeRow → NodeRow → Bool) → NodeRow → Type 0
+IsJoinWhere test p = (first : NodeRow) × (second : NodeRow) × (is_in_order first ≡ true) × (is_in_order second ≡ true)
+    × IsJoin first second p × (test first second ≡ true)
+
 -- there are two pairs whose join is the pair, one of which passes the first test and the other the second
 abbrev pub IsJoinOf : (NodeRow → Bool) → (NodeRow → Bool) → NodeRow → Type 0
 IsJoinOf f g p = (first : NodeRow) × (second : NodeRow) × (is_in_order first ≡ true) × (is_in_order second ≡ true)
@@ -35,3 +40,16 @@ abbrev pub IsJoinOfAll : List (NodeRow → Bool) → NodeRow → Type 0
 IsJoinOfAll [] p = is_empty_pair p ≡ true
 IsJoinOfAll (test ∷ tests) p = (first : NodeRow) × (rest : NodeRow) × (is_in_order first ≡ true) × (is_in_order rest ≡ true)
     × IsJoin first rest p × (test first ≡ true) × IsJoinOfAll tests rest
+
+-- there are two pairs whose join is the pair and of which a claim holds
+abbrev pub IsJoinSuch : (NodeRow → NodeRow → Type 0) → NodeRow → Type 0
+IsJoinSuch Claim p = (first : NodeRow) × (second : NodeRow) × (is_in_order first ≡ true) × (is_in_order second ≡ true)
+    × IsJoin first second p × Claim first second
+
+-- there are pairs that pass the tests of a source and of a target, and the edge's own pair with others at its ends passes the
+-- test of a middle; the pair at each end is the join of these two
+abbrev pub IsEdgeOf : (NodeRow → Bool) → (NodeRow → Bool) → (Triple → Bool) → Triple → Type 0
+IsEdgeOf source target middle t =
+    IsJoinSuch (λ of_source first. IsJoinSuch (λ of_target last.
+        (source of_source ≡ true) × (target of_target ≡ true) × (middle (record { source = first; own = t.own; target = last }) ≡ true))
+        t.target) t.source

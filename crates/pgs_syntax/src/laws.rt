@@ -1,15 +1,26 @@
 //! Laws that show that the definitions mean what they should. The functions do nothing; their contracts are the statements.
 
-ghost use Rattle.std.specs.Prelude.{◌≡◌, ◌↔◌, ℕ, Bool, true, false, List, [], ◌∷◌, None, map};
+ghost use Rattle.std.specs.Prelude.{◌≡◌, ◌↔◌, ℕ, Bool, true, false, List, [], ◌∷◌, Some, None, map};
+ghost use Rattle.std.specs.List.{list_any};
+ghost use Rattle.std.specs.BTreeMap.{is_at};
+ghost use Rattle.pgs_base.specs.declared.element.Elem.{Elem};
+ghost use Rattle.pgs_base.specs.declared.part.Part.{Part};
 ghost use Rattle.pgs_base.specs.declared.row.NodeRow.{NodeRow};
+ghost use Rattle.pgs_base.specs.Graph.{Graph};
+ghost use Rattle.pgs_base.specs.Order.{tuple_cmp};
+ghost use Rattle.pgs_syntax.specs.declared.element_type.EdgeType.{EdgeType};
+ghost use Rattle.pgs_syntax.specs.declared.key.Key.{Key};
+ghost use Rattle.pgs_syntax.specs.declared.pattern.Pattern.{Pattern};
 ghost use Rattle.pgs_syntax.specs.declared.resolved.Resolved.{Resolved};
 ghost use Rattle.pgs_syntax.specs.declared.specification.Leaf.{Leaf};
 ghost use Rattle.pgs_syntax.specs.declared.specification.Property.{Property};
 ghost use Rattle.pgs_syntax.specs.declared.specification.Spec as specs;
 ghost use Rattle.pgs_syntax.specs.declared.specification.Spec.{Spec, And};
-ghost use Rattle.pgs_syntax.specs.Join.{of_pairs, joined};
-ghost use Rattle.pgs_syntax.specs.Meaning.{is_in_order, IsJoinOf, IsJoinOfAll};
-ghost use Rattle.pgs_syntax.specs.Fitting.{fits, value_at, is_named_by};
+ghost use Rattle.pgs_syntax.specs.Join.{Triple, of_pairs, of_triples, joined};
+ghost use Rattle.pgs_syntax.specs.KeyValues.{starts_at, is_in_scope, tuple_of, key_values};
+ghost use Rattle.pgs_syntax.specs.Matches.{is_match, matches};
+ghost use Rattle.pgs_syntax.specs.Meaning.{is_in_order, IsJoinOf, IsJoinOfAll, IsEdgeOf};
+ghost use Rattle.pgs_syntax.specs.Fitting.{suits, fits, fits_edge_type, value_at, is_named_by};
 
 /// Whether a pair fits `A & B` doesn't depend on the order of the parts.
 pub fn parts_in_any_order()
@@ -36,3 +47,40 @@ pub fn parts_are_joined()
     ensures { (resolved : Resolved) (parts : List (Spec Leaf)) (p : NodeRow) → is_in_order p ≡ true →
         (fits resolved (And parts) p ≡ true) ↔ IsJoinOfAll (map (fits resolved) parts) p }
 {}
+
+/// The list of a pattern's matches has exactly the assignments that are a match: one of the list passes a test exactly
+/// where some match passes it.
+pub fn every_match_is_listed()
+    ensures { (resolved : Resolved) (g : Graph) (pattern : Pattern) (test : List Elem → Bool) →
+        (list_any test (matches resolved g pattern) ≡ true)
+        ↔ ((elems : List Elem) × (is_match resolved g pattern elems ≡ true) × (test elems ≡ true)) }
+{
+}
+
+/// An element is in the scope of a key exactly where some match of the scope gives it to variable 0.
+pub fn scope_is_by_matches()
+    ensures { (resolved : Resolved) (g : Graph) (key : Key) (elem : Elem) →
+        (is_in_scope resolved g key elem ≡ true)
+        ↔ ((elems : List Elem) × (is_match resolved g key.scope elems ≡ true) × (starts_at elem elems ≡ true)) }
+{
+}
+
+/// A tuple is a key value of an element exactly where some match of the descriptor gives the element to variable 0 and
+/// the expressions give the tuple under it.
+pub fn key_values_are_by_matches()
+    ensures { (resolved : Resolved) (g : Graph) (key : Key) (elem : Elem) (tuple : List Part) →
+        (list_any (is_at (tuple_cmp tuple)) (key_values resolved g key elem) ≡ true)
+        ↔ ((elems : List Elem) × (is_match resolved g key.descriptor elems ≡ true) × (starts_at elem elems ≡ true)
+            × (tuple_of g key.exprs elems ≡ Some tuple)) }
+{
+}
+
+/// A triple fits an edge type exactly where some triple with its own pair fits the middle, some pairs fit the source and
+/// the target, and the pair at each end is the join of these two.
+pub fn edges_fit_by_their_ends()
+    ensures { (resolved : Resolved) (named : ℕ → Triple → Bool) (type : EdgeType Leaf) (t : Triple) →
+        is_in_order t.source ≡ true → is_in_order t.target ≡ true →
+        (fits_edge_type resolved named type t ≡ true)
+        ↔ IsEdgeOf (fits resolved type.source) (fits resolved type.target) (suits of_triples named type.middle) t }
+{
+}
