@@ -1,5 +1,5 @@
 -- The matches of a pattern are exactly the assignments that are a match; so are the scope and the key values of a key.
-use Rattle.std.proofs.Common.{◌≡◌, ℕ, Bool, true, false, ◌&&◌, ◌||◌, cond, ◌↔◌, ⊎_elim, List, [], ◌∷◌, map, filter, Option, Some, None, refl, sym, ◌∙◌, ap, subst, true≢false}
+use Rattle.std.proofs.Common.{◌≡◌, Bool, true, false, ◌&&◌, ◌||◌, ⊎_elim, List, [], ◌∷◌, map, filter, Option, Some, None, refl, sym, ◌∙◌, ap, true≢false}
 use Rattle.std.specs.Prelude.{filter_map}
 use Rattle.std.specs.Option.{option_map_or}
 use Rattle.std.specs.List.{list_any, list_all, cons_option}
@@ -17,9 +17,9 @@ use Rattle.pgs_base.proofs.Lookups.{any-insert_key}
 use Rattle.pgs_syntax.specs.declared.key.Key.{Key}
 use Rattle.pgs_syntax.specs.declared.pattern.Pattern.{Pattern}
 use Rattle.pgs_syntax.specs.declared.resolved.Resolved.{Resolved}
-use Rattle.pgs_syntax.specs.KeyValues.{starts_at, is_in_scope, tuple_of, as_set, key_values}
+use Rattle.pgs_syntax.specs.KeyValues.{starts_at, tuple_of, as_set, key_values}
 use Rattle.pgs_syntax.specs.Matches.{same_elem, elements, assignments, are_there, holds, is_match, matches}
-use Rattle.pgs_syntax.proofs.Halves.{any_same, any_map, any_flat_map, any_filter}
+use Rattle.pgs_syntax.proofs.Halves.{any_map, any_flat_map, any_filter}
 
 or_first : (a b : Bool) → a ≡ true → (a || b) ≡ true
 or_first true b h = refl
@@ -36,15 +36,15 @@ found : (test : Elem → Bool) (xs : List Elem) → list_any test xs ≡ true �
 found test [] h = absurd (true≢false (sym h))
 found test (x ∷ xs) h =
     ⊎_elim (λ here. (x, or_first (same_elem x x) _ (ap is_eq (tied_itself elem_cmp_total x)), here))
-        (λ later. let rest = found test xs later in (rest.0, or_second (same_elem rest.0 x) _ rest.1, rest.2))
-        (or_cases _ _ h)
+    (λ later. let rest = found test xs later in (rest.0, or_second (same_elem rest.0 x) _ rest.1, rest.2))
+    (or_cases _ _ h)
 
 given : (test : Elem → Bool) (x : Elem) (xs : List Elem) → list_any (same_elem x) xs ≡ true → test x ≡ true → list_any test xs ≡ true
 given test x [] there h = there
 given test x (y ∷ ys) there h =
     ⊎_elim (λ here. or_first (test y) _ (ap test (sym (exact_elem x y ((Equal-is (elem_cmp x y)).0 here))) ∙ h))
-        (λ later. or_second (test y) _ (given test x ys later h))
-        (or_cases _ _ there)
+    (λ later. or_second (test y) _ (given test x ys later h))
+    (or_cases _ _ there)
 
 -- ---- assignments
 
@@ -54,7 +54,7 @@ module _ (g : Graph) where
   assigned test [] h = ([], refl, sym (or-false (test [])) ∙ h)
   assigned test (kind ∷ kinds) h =
       let first = found (λ elem. list_any test (map (λ elems. elem ∷ elems) (assignments g kinds))) (elements g kind)
-          (sym (any_flat_map test (λ elem. map (λ elems. elem ∷ elems) (assignments g kinds)) (elements g kind)) ∙ h) in
+      (sym (any_flat_map test (λ elem. map (λ elems. elem ∷ elems) (assignments g kinds)) (elements g kind)) ∙ h) in
       let rest = assigned (λ elems. test (first.0 ∷ elems)) kinds (sym (any_map test (λ elems. first.0 ∷ elems) (assignments g kinds)) ∙ first.2) in
       (first.0 ∷ rest.0, and_from _ _ first.1 rest.1, rest.2)
 
@@ -67,7 +67,7 @@ module _ (g : Graph) where
       let parts = and_parts _ _ there in
       any_flat_map test (λ first. map (λ rest. first ∷ rest) (assignments g kinds)) (elements g kind)
       ∙ given (λ first. list_any test (map (λ rest. first ∷ rest) (assignments g kinds))) elem (elements g kind) parts.0
-          (any_map test (λ rest. elem ∷ rest) (assignments g kinds) ∙ assigns (λ rest. test (elem ∷ rest)) kinds elems parts.1 h)
+      (any_map test (λ rest. elem ∷ rest) (assignments g kinds) ∙ assigns (λ rest. test (elem ∷ rest)) kinds elems parts.1 h)
 
 -- ---- matches
 
@@ -75,7 +75,7 @@ pub match_found : (resolved : Resolved) (g : Graph) (pattern : Pattern) (test : 
     (elems : List Elem) × (is_match resolved g pattern elems ≡ true) × (test elems ≡ true)
 match_found resolved g pattern test h =
     let any = assigned g (λ elems. list_all (holds resolved g elems) pattern.atoms && test elems) pattern.edge_vars
-        (sym (any_filter test (λ elems. list_all (holds resolved g elems) pattern.atoms) (assignments g pattern.edge_vars)) ∙ h) in
+    (sym (any_filter test (λ elems. list_all (holds resolved g elems) pattern.atoms) (assignments g pattern.edge_vars)) ∙ h) in
     let parts = and_parts _ _ any.2 in
     (any.0, and_from _ _ any.1 parts.0, parts.1)
 

@@ -1,5 +1,5 @@
 -- What a triple that fits an edge type is, by its ends.
-use Rattle.std.proofs.Common.{◌≡◌, Bool, true, false, ◌&&◌, List, map, flat_map, refl, sym, ◌∙◌, ap}
+use Rattle.std.proofs.Common.{◌≡◌, Bool, true, false, ◌&&◌, refl, sym, ◌∙◌}
 use Rattle.std.specs.List.{list_any}
 use Rattle.std.proofs.lemmas.Bool.{and_parts, and_from}
 use Rattle.pgs_base.specs.declared.row.NodeRow.{NodeRow}
@@ -14,12 +14,12 @@ triple source own target = record { source = source; own = own; target = target 
 -- a test of the couples of triples, pair by pair
 pub any_triple_halves : (c : Triple × Triple → Bool) (t : Triple) →
     list_any c (triple_halves t) ≡ list_any (λ (s : NodeRow × NodeRow). list_any (λ (m : NodeRow × NodeRow). list_any (λ (e : NodeRow × NodeRow).
-        c (triple s.0 m.0 e.0, triple s.1 m.1 e.1)) (halves t.target)) (halves t.own)) (halves t.source)
+    c (triple s.0 m.0 e.0, triple s.1 m.1 e.1)) (halves t.target)) (halves t.own)) (halves t.source)
 any_triple_halves c t =
     any_flat_map c _ (halves t.source)
     ∙ any_same _ _ (λ (s : NodeRow × NodeRow). any_flat_map c _ (halves t.own)
-        ∙ any_same _ _ (λ (m : NodeRow × NodeRow). any_map c (λ (e : NodeRow × NodeRow). (triple s.0 m.0 e.0, triple s.1 m.1 e.1)) (halves t.target)) (halves t.own))
-        (halves t.source)
+    ∙ any_same _ _ (λ (m : NodeRow × NodeRow). any_map c (λ (e : NodeRow × NodeRow). (triple s.0 m.0 e.0, triple s.1 m.1 e.1)) (halves t.target)) (halves t.own))
+    (halves t.source)
 
 -- where the first half has to be empty, the second is the whole
 halves_other : (h : NodeRow → Bool) (p : NodeRow) → list_any (λ (s : NodeRow × NodeRow). is_empty_pair s.0 && h s.1) (halves p) ≡ h p
@@ -40,7 +40,7 @@ module _ (source target : NodeRow → Bool) (middle : Triple → Bool) where
   -- an edge's own pair is the middle's: only the pairs at its ends are split
   pub edge_any : (t : Triple) → joined of_triples ends middle t
       ≡ list_any (λ (s : NodeRow × NodeRow). list_any (λ (e : NodeRow × NodeRow).
-          middle (triple s.1 t.own e.1) && (source s.0 && target e.0)) (halves t.target)) (halves t.source)
+      middle (triple s.1 t.own e.1) && (source s.0 && target e.0)) (halves t.target)) (halves t.source)
   edge_any t =
       joined_any of_triples ends middle t
       ∙ any_triple_halves (λ (u : Triple × Triple). middle u.1 && ends u.0) t
@@ -51,9 +51,9 @@ module _ (source target : NodeRow → Bool) (middle : Triple → Bool) where
           ≡ list_any (λ (e : NodeRow × NodeRow). middle (triple s.1 t.own e.1) && (source s.0 && target e.0)) (halves t.target)
       by_own s =
           any_same _ _ (λ (m : NodeRow × NodeRow).
-              any_same _ _ (λ (e : NodeRow × NodeRow). regroup (middle (triple s.1 m.1 e.1)) (source s.0) (is_empty_pair m.0) (target e.0)) (halves t.target)
-              ∙ any_and (is_empty_pair m.0) (λ (e : NodeRow × NodeRow). middle (triple s.1 m.1 e.1) && (source s.0 && target e.0)) (halves t.target))
-              (halves t.own)
+          any_same _ _ (λ (e : NodeRow × NodeRow). regroup (middle (triple s.1 m.1 e.1)) (source s.0) (is_empty_pair m.0) (target e.0)) (halves t.target)
+          ∙ any_and (is_empty_pair m.0) (λ (e : NodeRow × NodeRow). middle (triple s.1 m.1 e.1) && (source s.0 && target e.0)) (halves t.target))
+          (halves t.own)
           ∙ halves_other (λ own. list_any (λ (e : NodeRow × NodeRow). middle (triple s.1 own e.1) && (source s.0 && target e.0)) (halves t.target)) t.own
 
   pub edge_found : (t : Triple) → is_in_order t.source ≡ true → is_in_order t.target ≡ true → joined of_triples ends middle t ≡ true → IsEdgeOf source target middle t
@@ -67,5 +67,11 @@ module _ (source target : NodeRow → Bool) (middle : Triple → Bool) where
   pub edge_given : (t : Triple) → is_in_order t.source ≡ true → is_in_order t.target ≡ true → IsEdgeOf source target middle t → joined of_triples ends middle t ≡ true
   edge_given t first last (of_source, at_source, a, b, join, (of_target, at_target, c, d, other, (fits, too, passes))) =
       edge_any t
-      ∙ halves_given _ t.source first (of_source, at_source, a, b, join,
-          halves_given _ t.target last (of_target, at_target, c, d, other, and_from _ _ passes (and_from _ _ fits too)))
+      ∙ halves_given _ t.source first (
+        of_source,
+        at_source,
+        a,
+        b,
+        join,
+        halves_given _ t.target last (of_target, at_target, c, d, other, and_from _ _ passes (and_from _ _ fits too)),
+      )

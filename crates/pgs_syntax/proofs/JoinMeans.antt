@@ -18,7 +18,7 @@ use Rattle.pgs_base.proofs.Ascending.{ascends_decides}
 use Rattle.pgs_base.proofs.Lookups.{same_entries, same_keys}
 use Rattle.pgs_syntax.specs.Join.{pair_of, halves, of_pairs, joined, joined_all}
 use Rattle.pgs_syntax.specs.Fitting.{same_name, has_label, value_at}
-use Rattle.pgs_syntax.specs.Meaning.{is_in_order, IsUnionAt, IsJoin, IsJoinWhere, IsJoinOf, IsJoinOfAll}
+use Rattle.pgs_syntax.specs.Meaning.{is_in_order, IsUnionAt, IsJoinWhere, IsJoinOf, IsJoinOfAll}
 use Rattle.pgs_syntax.proofs.Halves.{joined_any, any_halves}
 use Rattle.pgs_syntax.proofs.Parts.{one_name}
 use Rattle.pgs_syntax.proofs.Splits.{IsSplit, none, to_left, to_right, to_both, split_from_any, any_from_split, split_any, split_ascends, split_map}
@@ -216,12 +216,17 @@ halves_found c p order h =
     let props = split_from_any _ p.props labels.3 in
     let labels_ascend = split_ascends (slice_cmp nat_cmp) labels.0 labels.1 p.labels labels.2 (and_parts _ _ order).0 in
     let keys_ascend = split_ascends (slice_cmp nat_cmp) (keys_of props.0) (keys_of props.1) (keys_of p.props)
-        (split_map (λ (e : List ℕ × Value). e.0) props.0 props.1 p.props props.2) (and_parts _ _ order).1 in
-    (pair_of labels.0 props.0, pair_of labels.1 props.1, and_from _ _ labels_ascend.0 keys_ascend.0, and_from _ _ labels_ascend.1 keys_ascend.1,
+    (split_map (λ (e : List ℕ × Value). e.0) props.0 props.1 p.props props.2) (and_parts _ _ order).1 in (
+      pair_of labels.0 props.0,
+      pair_of labels.1 props.1,
+      and_from _ _ labels_ascend.0 keys_ascend.0,
+      and_from _ _ labels_ascend.1 keys_ascend.1,
       record {
         labels = λ label. split_any (same_name label) labels.0 labels.1 p.labels labels.2;
         values = λ key. split_values key props.0 props.1 p.props props.2 (and_parts _ _ order).1;
-      }, props.3)
+      },
+      props.3,
+    )
 
 pub halves_given : (c : NodeRow × NodeRow → Bool) (p : NodeRow) → is_in_order p ≡ true → IsJoinWhere (λ first second. c (first, second)) p → list_any c (halves p) ≡ true
 halves_given c p order (first, second, one, other, join, passes) =

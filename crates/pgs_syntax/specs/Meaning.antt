@@ -51,5 +51,5 @@ IsJoinSuch Claim p = (first : NodeRow) × (second : NodeRow) × (is_in_order fir
 abbrev pub IsEdgeOf : (NodeRow → Bool) → (NodeRow → Bool) → (Triple → Bool) → Triple → Type 0
 IsEdgeOf source target middle t =
     IsJoinSuch (λ of_source first. IsJoinSuch (λ of_target last.
-        (source of_source ≡ true) × (target of_target ≡ true) × (middle (record { source = first; own = t.own; target = last }) ≡ true))
-        t.target) t.source
+    (source of_source ≡ true) × (target of_target ≡ true) × (middle (record { source = first; own = t.own; target = last }) ≡ true))
+    t.target) t.source

@@ -1,6 +1,6 @@
 //! Laws that show that the definitions mean what they should. The functions do nothing; their contracts are the statements.
 
-ghost use Rattle.std.specs.Prelude.{◌≡◌, ◌↔◌, ℕ, Bool, true, false, List, [], ◌∷◌, Some, None, map};
+ghost use Rattle.std.specs.Prelude.{◌≡◌, ◌↔◌, ℕ, Bool, true, false, List, [], ◌∷◌, Some, None, map, slice_get};
 ghost use Rattle.std.specs.List.{list_any};
 ghost use Rattle.std.specs.BTreeMap.{is_at};
 ghost use Rattle.pgs_base.specs.declared.element.Elem.{Elem};
@@ -9,6 +9,7 @@ ghost use Rattle.pgs_base.specs.declared.row.NodeRow.{NodeRow};
 ghost use Rattle.pgs_base.specs.Graph.{Graph};
 ghost use Rattle.pgs_base.specs.Order.{tuple_cmp};
 ghost use Rattle.pgs_syntax.specs.declared.element_type.EdgeType.{EdgeType};
+ghost use Rattle.pgs_syntax.specs.declared.element_type.NodeType.{NodeType};
 ghost use Rattle.pgs_syntax.specs.declared.key.Key.{Key};
 ghost use Rattle.pgs_syntax.specs.declared.pattern.Pattern.{Pattern};
 ghost use Rattle.pgs_syntax.specs.declared.resolved.Resolved.{Resolved};
@@ -20,7 +21,8 @@ ghost use Rattle.pgs_syntax.specs.Join.{Triple, of_pairs, of_triples, joined};
 ghost use Rattle.pgs_syntax.specs.KeyValues.{starts_at, is_in_scope, tuple_of, key_values};
 ghost use Rattle.pgs_syntax.specs.Matches.{is_match, matches};
 ghost use Rattle.pgs_syntax.specs.Meaning.{is_in_order, IsJoinOf, IsJoinOfAll, IsEdgeOf};
-ghost use Rattle.pgs_syntax.specs.Fitting.{suits, fits, fits_edge_type, value_at, is_named_by};
+ghost use Rattle.pgs_syntax.specs.Valid.{is_valid};
+ghost use Rattle.pgs_syntax.specs.Fitting.{suits, fits, fits_node, fits_edge, fits_edge_type, value_at, is_named_by};
 
 /// Whether a pair fits `A & B` doesn't depend on the order of the parts.
 pub fn parts_in_any_order()
@@ -54,16 +56,14 @@ pub fn every_match_is_listed()
     ensures { (resolved : Resolved) (g : Graph) (pattern : Pattern) (test : List Elem → Bool) →
         (list_any test (matches resolved g pattern) ≡ true)
         ↔ ((elems : List Elem) × (is_match resolved g pattern elems ≡ true) × (test elems ≡ true)) }
-{
-}
+{}
 
 /// An element is in the scope of a key exactly where some match of the scope gives it to variable 0.
 pub fn scope_is_by_matches()
     ensures { (resolved : Resolved) (g : Graph) (key : Key) (elem : Elem) →
         (is_in_scope resolved g key elem ≡ true)
         ↔ ((elems : List Elem) × (is_match resolved g key.scope elems ≡ true) × (starts_at elem elems ≡ true)) }
-{
-}
+{}
 
 /// A tuple is a key value of an element exactly where some match of the descriptor gives the element to variable 0 and
 /// the expressions give the tuple under it.
@@ -71,9 +71,8 @@ pub fn key_values_are_by_matches()
     ensures { (resolved : Resolved) (g : Graph) (key : Key) (elem : Elem) (tuple : List Part) →
         (list_any (is_at (tuple_cmp tuple)) (key_values resolved g key elem) ≡ true)
         ↔ ((elems : List Elem) × (is_match resolved g key.descriptor elems ≡ true) × (starts_at elem elems ≡ true)
-            × (tuple_of g key.exprs elems ≡ Some tuple)) }
-{
-}
+        × (tuple_of g key.exprs elems ≡ Some tuple)) }
+{}
 
 /// A triple fits an edge type exactly where some triple with its own pair fits the middle, some pairs fit the source and
 /// the target, and the pair at each end is the join of these two.
@@ -82,5 +81,13 @@ pub fn edges_fit_by_their_ends()
         is_in_order t.source ≡ true → is_in_order t.target ≡ true →
         (fits_edge_type resolved named type t ≡ true)
         ↔ IsEdgeOf (fits resolved type.source) (fits resolved type.target) (suits of_triples named type.middle) t }
-{
-}
+{}
+
+/// In a valid schema the number of a type asks what the type asks: the recursion over lesser numbers loses nothing.
+pub fn numbers_mean_their_types()
+    ensures nodes { (resolved : Resolved) → is_valid resolved ≡ true → (number : ℕ) (type : NodeType Leaf) →
+        slice_get resolved.nodes number ≡ Some type → (p : NodeRow) → fits_node resolved number p ≡ fits resolved type.spec p }
+    ensures edges { (resolved : Resolved) → is_valid resolved ≡ true → (number : ℕ) (type : EdgeType Leaf) →
+        slice_get resolved.edges number ≡ Some type → (t : Triple) →
+        fits_edge resolved number t ≡ fits_edge_type resolved (fits_edge resolved) type t }
+{}
