@@ -89,13 +89,13 @@ pub node_after : (g : Graph) (delta : Delta) (id : NodeId) → is_graph g ≡ tr
     node_at (changed g delta) id ≡ after_changes (lookup (is_at (node_cmp id)) delta.nodes) (node_at g id)
 node_after g delta id graph sound =
     lookup-entries_changed node_cmp_total id g.nodes delta.nodes (ascending_nodes g graph)
-        ((ascends_decides node_cmp (keys_of delta.nodes)).0 (and_parts _ _ (and_parts _ _ sound).0).0)
+    ((ascends_decides node_cmp (keys_of delta.nodes)).0 (and_parts _ _ (and_parts _ _ sound).0).0)
 
 pub edge_after : (g : Graph) (delta : Delta) (id : EdgeId) → is_graph g ≡ true → is_sound g delta ≡ true →
     edge_at (changed g delta) id ≡ after_changes (lookup (is_at (edge_cmp id)) delta.edges) (edge_at g id)
 edge_after g delta id graph sound =
     lookup-entries_changed edge_cmp_total id g.edges delta.edges (ascending_edges g graph)
-        ((ascends_decides edge_cmp (keys_of delta.edges)).0 (and_parts _ _ (and_parts _ _ sound).0).1)
+    ((ascends_decides edge_cmp (keys_of delta.edges)).0 (and_parts _ _ (and_parts _ _ sound).0).1)
 
 -- two sound deltas that leave the same rows make one graph
 pub same_changed : (g : Graph) (first second : Delta) → is_graph g ≡ true → is_sound g first ≡ true → is_sound g second ≡ true →
@@ -104,5 +104,5 @@ pub same_changed : (g : Graph) (first second : Delta) → is_graph g ≡ true �
     changed g first ≡ changed g second
 same_changed g first second graph one other nodes edges =
     same_graph (changed g first) (changed g second) (and_parts _ _ one).1 (and_parts _ _ other).1
-        (λ id. node_after g first id graph one ∙ nodes id ∙ sym (node_after g second id graph other))
-        (λ id. edge_after g first id graph one ∙ edges id ∙ sym (edge_after g second id graph other))
+    (λ id. node_after g first id graph one ∙ nodes id ∙ sym (node_after g second id graph other))
+    (λ id. edge_after g first id graph one ∙ edges id ∙ sym (edge_after g second id graph other))
