@@ -24,10 +24,12 @@ ghost use Rattle.pgs_syntax.specs.Meaning.{is_in_order, IsJoinOf, IsJoinOfAll, I
 ghost use Rattle.pgs_syntax.specs.Valid.{is_valid};
 ghost use Rattle.pgs_syntax.specs.Fitting.{suits, fits, fits_node, fits_edge, fits_edge_type, value_at, is_named_by};
 
-/// Whether a pair fits `A & B` doesn't depend on the order of the parts.
+/// Whether a pair or a triple fits `A & B` doesn't depend on the order of the parts.
 pub fn parts_in_any_order()
-    ensures { (resolved : Resolved) (first second : Spec Leaf) (p : NodeRow) →
+    ensures pairs { (resolved : Resolved) (first second : Spec Leaf) (p : NodeRow) →
         fits resolved (And (first ∷ second ∷ [])) p ≡ fits resolved (And (second ∷ first ∷ [])) p }
+    ensures triples { (named : ℕ → Triple → Bool) (first second : Spec Leaf) (t : Triple) →
+        suits of_triples named (And (first ∷ second ∷ [])) t ≡ suits of_triples named (And (second ∷ first ∷ [])) t }
 {}
 
 /// Braces without OPEN admit no key that they don't name.
