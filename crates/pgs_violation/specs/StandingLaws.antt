@@ -1,5 +1,5 @@
 -- The order of violations is total, and tells different ones apart.
-use Rattle.std.proofs.Common.{◌≡◌, List, [], ◌∷◌, refl, ◌∙◌, ap, subst, Ordering, Less, Equal, Greater}
+use Rattle.std.proofs.Common.{true≢false, is_lt, is_gt, ◌≡◌, List, [], ◌∷◌, refl, ◌∙◌, ap, subst, Ordering, Less, Equal, Greater}
 use Rattle.std.specs.Ordering.{nat_cmp, ordering_then}
 use Rattle.std.specs.Cmp.{IsTotalOrder, nat_cmp_total, on_total, then_total}
 use Rattle.std.specs.Cmp.Lexicographic.{slice_cmp, lists_total}
@@ -28,16 +28,24 @@ then_Equal Less = refl
 then_Equal Equal = refl
 then_Equal Greater = refl
 
+not_less : Less ≡ Equal → ⊥
+not_less e = true≢false (ap is_lt e)
+
+not_greater : Greater ≡ Equal → ⊥
+not_greater e = true≢false (ap is_gt e)
+
 same_number : (a b : Violation) → nat_cmp (number_of a) (number_of b) ≡ Equal → slice_cmp tuple_cmp (carried a) (carried b) ≡ carried_cmp a b
-same_number (UntypedNode node) (UntypedNode other) e = refl
-same_number (UntypedEdge edge) (UntypedEdge other) e = refl
-same_number (Mandatory key elem) (Mandatory other_key other_elem) e = refl
 same_number (Singleton key elem first second) (Singleton other_key other_elem other_first other_second) e =
     ap (ordering_then (tuple_cmp first other_first)) (then_Equal (tuple_cmp second other_second))
 same_number (Exclusive key first second tuple) (Exclusive other_key other_first other_second other_tuple) e =
     ap (λ o. ordering_then o (ordering_then (tuple_cmp tuple other_tuple) Equal)) (then_Equal (elem_cmp second other_second))
     ∙ ap (ordering_then (elem_cmp second other_second)) (then_Equal (tuple_cmp tuple other_tuple))
-same_number a b e = cc
+same_number (Singleton key elem first second) (Exclusive other_key other_first other_second other_tuple) e = absurd (not_less e)
+same_number (Singleton key elem first second) b e = absurd (not_greater e)
+same_number (Exclusive key first second tuple) b e = absurd (not_greater e)
+same_number a (Singleton other_key other_elem other_first other_second) e = absurd (not_less e)
+same_number a (Exclusive other_key other_first other_second other_tuple) e = absurd (not_less e)
+same_number a b e = refl
 
 settled : (k n e c d : Ordering) → (n ≡ Equal → c ≡ d) →
     ordering_then (ordering_then (ordering_then k n) e) c ≡ ordering_then (ordering_then (ordering_then k n) e) d
