@@ -1,5 +1,13 @@
 pub mod Count
+pub mod Disk
+pub mod Held
+pub mod History
+pub mod Left
+pub mod MemArea
 pub mod MemSource
 pub mod MemWorld
+pub mod Moment
+pub mod Sound
 pub mod Source
+pub mod Untold
 pub mod World

@@ -1,0 +1,7 @@
+pub mod Blots
+pub mod Images
+pub mod MemMoments
+pub mod MemSteps
+pub mod Moments
+pub mod Pushes
+pub mod Sounds
