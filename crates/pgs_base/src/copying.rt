@@ -9,3 +9,22 @@ pub trait Copyable {
     fn copy(&self, alloc: Global) -> Result<Self, Memory>
         ensures { IfOk result (λ copied. copied ≡ self.now) };
 }
+
+impl<A: Copyable + Drop, B: Copyable> Copyable for (A, B) {
+    fn copy(&self, alloc: Global) -> Result<(A, B), Memory> {
+        let first = self.0.copy(alloc)?;
+        let second = self.1.copy(alloc)?;
+        Ok((first, second))
+    }
+}
+
+/// Equal items. `Memory` where there was none left.
+pub(crate) fn copy_items<T: Copyable + Drop>(alloc: Global, items: &[T]) -> Result<Vec<T>, Memory>
+    ensures { IfOk result (λ copied. copied.items ≡ items.now) }
+{
+    let mut copied = Vec::with_capacity(alloc, items.len())?;
+    for item in items {
+        copied.push(item.copy(alloc)?)?;
+    }
+    Ok(copied)
+}

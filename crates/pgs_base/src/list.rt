@@ -3,6 +3,7 @@ ghost use Rattle.std.specs.Option.{option_copied};
 ghost use Rattle.std.proofs.Common.{rules};
 ghost use Rattle.std.specs.Cmp.Lexicographic.{pointwise, slice_cmp, slice_partial_cmp, lists_per, lists_equiv, lists_po, lists_total, lists_agrees, lists_ties};
 
+use crate::copying::copy_items;
 use crate::{Copyable, Memory};
 use std::alloc::Global;
 use std::cmp::Ordering;
@@ -100,5 +101,12 @@ impl<T: Copy> List<T> {
 impl Copyable for List<u8> {
     fn copy(&self, alloc: Global) -> Result<List<u8>, Memory> {
         List::from_slice(alloc, self.as_slice())
+    }
+}
+
+impl<T: Copyable + Drop> Copyable for List<T> {
+    fn copy(&self, alloc: Global) -> Result<List<T>, Memory> {
+        let items = copy_items(alloc, self.as_slice())?;
+        Ok(List { items })
     }
 }

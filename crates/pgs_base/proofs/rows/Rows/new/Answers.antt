@@ -1,0 +1,9 @@
+use Rattle.std.proofs.Common.{◌≡◌, [], ap, rules}
+use Rattle.std.specs.Map.{keys_of}
+use Rattle.pgs_base.proofs.Ascending.{ascending_none}
+use Rattle.pgs_base.proofs.rows.Rows.new.Goals as goal
+
+pub invariant_of-result : goal.invariant_of-result
+invariant_of-result g c =
+    let none : c.new.result.items ≡ [] = search rules in
+    ascending_none g.K.Ord.cmp _ (ap keys_of none)

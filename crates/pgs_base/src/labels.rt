@@ -1,0 +1,127 @@
+ghost use Rattle.std.specs.Prelude.{◌≡◌, ◌<◌, ◌↔◌, [], length, not, slice_get, IfOk, OnErr, OnOk, OnSome, IsTrue, nat_eq, false};
+ghost use Rattle.std.specs.Option.{option_copied};
+ghost use Rattle.std.specs.Ordering.{nat_cmp};
+ghost use Rattle.std.specs.Cmp.{partial_equiv_from_equiv};
+ghost use Rattle.std.specs.Cmp.Lexicographic.{pointwise, slice_cmp, lists_equiv, nat_list_eq_equiv};
+ghost use Rattle.std.specs.List.{list_any};
+ghost use Rattle.std.specs.List.Sorted.{IsStrictlySortedBy};
+ghost use Rattle.std.specs.BTreeMap.{is_at};
+ghost use Rattle.std.specs.BTreeSet.{insert_key};
+ghost use Rattle.std.specs.Set.{remove_key};
+
+use crate::{Copyable, Memory, Name, Ordered};
+use std::alloc::Global;
+use std::marker::Model;
+
+/// The labels of an element: a set of names. Contracts see them as a list that ascends strictly.
+#[derive(Debug, Drop)]
+pub struct Labels {
+    names: Ordered<Name>,
+}
+
+impl Model for Labels {
+    ghost use Rattle.std.specs.Prelude.{List, ℕ};
+    ghost use Rattle.std.specs.Coded.{coded_list, coded_ℕ};
+
+    ghost Value = { List (List ℕ) };
+
+    ghost coded = { coded_list (coded_list coded_ℕ) };
+
+    ghost view = { λ labels. labels.names };
+}
+
+impl Labels {
+    /// No labels. It takes no memory.
+    pub fn new(alloc: Global) -> Labels
+        ensures { result ≡ [] }
+    {
+        Labels {
+            names: Ordered::new(alloc),
+        }
+    }
+
+    /// How many labels there are.
+    pub fn len(&self) -> usize
+        ensures value { result ≡ length self.now }
+        ensures ascending { IsStrictlySortedBy (slice_cmp nat_cmp) self.now }
+    {
+        self.names.len()
+    }
+
+    /// Whether there is no label.
+    pub fn is_empty(&self) -> bool
+        ensures { IsTrue result ↔ (self.now ≡ []) }
+    {
+        self.names.is_empty()
+    }
+
+    /// The label at a place, from 0. `None` exactly past the last.
+    pub fn at(&self, place: usize) -> Option<&Name>
+        ensures value { option_copied result ≡ slice_get self.now place }
+        ensures within { OnSome result (place < length self.now) }
+    {
+        self.names.at(place)
+    }
+
+    /// All labels, in order.
+    pub fn as_slice(&self) -> &[Name]
+        ensures value { result.now ≡ self.now }
+        ensures ascending { IsStrictlySortedBy (slice_cmp nat_cmp) self.now }
+    {
+        self.names.as_slice()
+    }
+
+    /// Whether a label is there.
+    pub fn contains(&self, name: &Name) -> bool
+        ensures { result ≡ list_any (is_at (slice_cmp nat_cmp name.now)) self.now }
+    {
+        self.names.contains(name)
+    }
+
+    /// Puts a label in. Answers whether it was new. After `Memory`, which comes only for a new label,
+    /// the labels are as they were.
+    pub fn insert(&mut self, name: Name) -> Result<bool, Memory>
+        ensures ok { OnOk result (self.new ≡ insert_key (slice_cmp nat_cmp) self.old name) }
+        ensures answer { IfOk result (λ added. added ≡ not (list_any (is_at (slice_cmp nat_cmp name)) self.old)) }
+        ensures err { OnErr result (self.new ≡ self.old) }
+        ensures only_new { OnErr result (list_any (is_at (slice_cmp nat_cmp name)) self.old ≡ false) }
+    {
+        self.names.insert(name)
+    }
+
+    /// Takes a label out. Answers whether it was there.
+    pub fn remove(&mut self, name: &Name) -> bool
+        ensures names { self.new ≡ remove_key (is_at (slice_cmp nat_cmp name.now)) self.old }
+        ensures answer { result ≡ list_any (is_at (slice_cmp nat_cmp name.now)) self.old }
+    {
+        self.names.remove(name)
+    }
+
+    /// Takes the memory for more labels ahead. The labels stay as they are.
+    pub fn reserve(&mut self, more: usize) -> Result<(), Memory>
+        ensures { self.new ≡ self.old }
+    {
+        self.names.reserve(more)
+    }
+}
+
+impl Copyable for Labels {
+    fn copy(&self, alloc: Global) -> Result<Labels, Memory> {
+        let names = self.names.copy(alloc)?;
+        Ok(Labels { names })
+    }
+}
+
+impl PartialEq for Labels {
+    ghost eq = { pointwise (pointwise nat_eq) };
+
+    ghost laws = { partial_equiv_from_equiv (lists_equiv nat_list_eq_equiv) };
+
+    fn eq(&self, other: &Labels) -> bool {
+        self.as_slice() == other.as_slice()
+    }
+}
+
+impl Eq for Labels {
+    ghost laws = { lists_equiv nat_list_eq_equiv };
+}

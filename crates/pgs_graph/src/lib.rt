@@ -1,0 +1,10 @@
+//! The operations on a property graph, transactions of them, and the rows that a change puts in or takes out.
+//! Rows and graphs themselves, and what they mean, stand in `pgs_base`.
+#![tactic(auto)]
+
+mod delta;
+mod operation;
+
+pub use delta::Delta;
+pub use operation::{Op, Txn};
+pub use pgs_base::{EdgeRow, NodeRow};
