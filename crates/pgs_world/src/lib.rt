@@ -28,3 +28,6 @@ pub use silent_world::SilentWorld;
 pub use source::Source;
 pub use synced::{cut_synced, sync_both, write_synced};
 pub use world::World;
+
+#[cfg(test)]
+mod tests;

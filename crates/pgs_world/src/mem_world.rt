@@ -117,6 +117,13 @@ impl MemWorld {
         self.contents.output.as_slice()
     }
 
+    /// What a read of the area gives, without a call of the world.
+    pub fn bytes(&self, area: Area) -> &[u8]
+        ensures { part area (⟦<MemWorld as World>⟧.view self.now).shown ≡ result.now }
+    {
+        self.contents.bytes(area)
+    }
+
     /// Both areas and the output, as a stop leaves them.
     pub fn left(self, alloc: Global, how: Leave) -> Result<(Bytes, Bytes, Bytes), Memory>
         ensures may_leave { IfOk result (λ left. (⟦<MemWorld as World>⟧.view self).may_leave (record { a = left.0; b = left.1; output = left.2 })) }
