@@ -1,4 +1,5 @@
 pub mod Blots
+pub mod DiskModel
 pub mod Images
 pub mod MemMoments
 pub mod MemSteps

@@ -1,9 +1,10 @@
 -- How calls on a world compose, and what follows on a settled one.
-use Rattle.std.proofs.Common.{◌≡◌, ◌⊎◌, inl, inr, ⊎_elim, ℕ, ◌≤◌, List, IsTrue, refl, sym, ◌∙◌, ap, subst, arith}
+use Rattle.std.proofs.Common.{◌≡◌, ◌⊎◌, inl, inr, ⊎_elim, ℕ, ◌≤◌, List, IsTrue, refl, sym, ◌∙◌, ap, subst, arith, Some, ◌++◌}
+use Rattle.std.specs.Option.{option_map}
 use Rattle.pgs_world.specs.declared.area.Area.{Area}
 use Rattle.pgs_world.specs.declared.area.Area.TheVariants.{A, B}
-use Rattle.pgs_world.specs.World.{Triple, View, part}
-use Rattle.pgs_world.specs.Disk.{IsSameBeside}
+use Rattle.pgs_world.specs.World.{Triple, View, part, output_of, Adds}
+use Rattle.pgs_world.specs.Disk.{IsSameBeside, Puts}
 use Rattle.pgs_world.specs.Moment.{IsTimed, Passes, StopsBy, EachSince, IsQuiet, IsSynced, IsSettled}
 
 -- before the first call
@@ -161,3 +162,34 @@ settled_step area old mid new step same s p stops beside quiet synced =
       where
         q : Passes old new
         q = passes_on old mid new p quiet.passes
+
+-- all that was put is the shown output
+pub output_told : (view : View) → IsTrue view.tells_output → output_of view ≡ Some view.shown.output
+output_told view tells = rw tells refl
+
+same_some : (x y : List ℕ) → Some x ≡ Some y → x ≡ y
+same_some x y is = cc
+
+-- the shown output grows by what is added
+pub shown_added : (old new : View) (bytes : List ℕ) → IsTrue old.tells_output → IsTrue new.tells_output → Adds (output_of old) (output_of new) bytes → new.shown.output ≡ old.shown.output ++ bytes
+shown_added old new bytes tells still added =
+    same_some new.shown.output (old.shown.output ++ bytes) (sym (output_told new still) ∙ added ∙ ap (λ o. option_map (λ output. output ++ bytes) o) (output_told old tells))
+
+-- a settled world stays settled when output is put, also where the put fails
+pub settled_put : (old new : View) (piece : List ℕ) → IsSettled old → Passes old new → StopsBy (Puts piece) old new → new.shown.a ≡ old.shown.a → new.shown.b ≡ old.shown.b → IsSettled new
+settled_put old new piece s p stops a b =
+    record {
+      honest = honest;
+      tells_bytes = p.tells_bytes ∙ s.tells_bytes;
+      tells_output = output;
+      only = λ c left. only c left (stops s.honest c (p.timed.now old.moment c p.later left));
+    }
+  where
+    honest : IsTrue new.honest
+    honest = p.honest ∙ s.honest
+    output : IsTrue new.tells_output
+    output = p.tells_output ∙ s.tells_output
+    only : (c : Triple) → new.may_leave c → (d : Triple) × old.may_leave d × Puts piece d c → c ≡ new.shown
+    only c left from =
+        let was = s.only from.0 from.1 in
+        same_triple c new.shown (from.2.a ∙ ap (λ (d : Triple). d.a) was ∙ sym a) (from.2.b ∙ ap (λ (d : Triple). d.b) was ∙ sym b) (p.timed.output honest output c left)

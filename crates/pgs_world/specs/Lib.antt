@@ -1,3 +1,4 @@
+pub mod Changes
 pub mod Count
 pub mod Disk
 pub mod Held
@@ -7,6 +8,7 @@ pub mod MemArea
 pub mod MemSource
 pub mod MemWorld
 pub mod Moment
+pub mod Silent
 pub mod Sound
 pub mod Source
 pub mod Untold
