@@ -1,5 +1,6 @@
 pub mod Blots
 pub mod DiskModel
+pub mod Fronts
 pub mod Images
 pub mod MemMoments
 pub mod MemSteps

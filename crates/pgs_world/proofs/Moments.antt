@@ -187,8 +187,10 @@ settled_put old new piece s p stops a b =
   where
     honest : IsTrue new.honest
     honest = p.honest ∙ s.honest
+
     output : IsTrue new.tells_output
     output = p.tells_output ∙ s.tells_output
+
     only : (c : Triple) → new.may_leave c → (d : Triple) × old.may_leave d × Puts piece d c → c ≡ new.shown
     only c left from =
         let was = s.only from.0 from.1 in

@@ -155,11 +155,18 @@ known_kept world kept is sound =
     subst IsKnown is (record { well = well_state world.contents sound.well; area_count = sound.area_count; put_count = sound.put_count })
 
 -- a sync has memory for the bytes that are there, since no more were handed in than there is room for
-pub synced_room : (world : Inside) (area : Area) → IsSound world → length (area_in area world.contents).bytes.items ≤ vec_capacity (area_in area world.contents).synced
-synced_room world area sound = omega (arith, sound.grown area, (sound.areas_room area).synced, (sound.well area).image.no_longer, sound.pieces_room_left)
-
-pub kept_room : (world : Inside) (area : Area) → IsSound world → length (area_in area world.contents).bytes.items ≤ vec_capacity (area_in area world.contents).kept
-kept_room world area sound = omega (arith, sound.grown area, (sound.areas_room area).kept, (sound.well area).image.no_longer, sound.pieces_room_left)
+pub synced_room : (world : Inside) (area : Area) → IsSound world → HasRoom (length (area_in area world.contents).bytes.items) (area_in area world.contents)
+synced_room world area sound =
+    let room = sound.areas_room area in
+    let few : length (area_in area world.contents).bytes.items ≤ first_size world area + world.meter.room = omega (arith, sound.grown area, (sound.well area).image.no_longer, sound.pieces_room_left) in
+    record {
+      bytes = omega (arith, few, room.bytes);
+      synced = omega (arith, few, room.synced);
+      kept = omega (arith, few, room.kept);
+      within = room.within;
+      same = room.same;
+      same_kept = room.same_kept;
+    }
 
 pub cut-done : (world : Kept) (area : Area) (len : ℕ) → not (fails_next world.meter) ≡ true
     → after_cut_to world area len ≡ changed world (counted world.meter) (with_area area (after_cut (area_of area world.now) len) world.now)

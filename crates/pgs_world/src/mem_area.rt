@@ -19,6 +19,8 @@ pub(crate) struct MemArea {
     pub(crate) kept: Vec<Option<u8>>,
     /// The greatest length since the sync.
     pub(crate) greatest: usize,
+    /// Below this place nothing was changed since the sync, so that a sync looks at no more than what changed.
+    pub(crate) low: usize,
 }
 
 impl MemArea {
@@ -35,6 +37,7 @@ impl MemArea {
             synced: Vec::with_capacity(alloc, size)?,
             kept: Vec::with_capacity(alloc, size)?,
             greatest: 0,
+            low: 0,
         };
         area.sync();
         Ok(area)
@@ -51,6 +54,7 @@ impl MemArea {
         write_over(&mut self.bytes, at, piece);
         blot(&mut self.kept, at, piece.len());
         self.greatest = self.greatest.max(end);
+        self.low = self.low.min(at);
     }
 
     /// Cuts to a length.
@@ -60,18 +64,21 @@ impl MemArea {
     {
         self.bytes.truncate(len);
         self.kept.truncate(len);
+        self.low = self.low.min(len);
     }
 
     /// Takes what a read gives for the bytes on the disk.
     pub(crate) fn sync(&mut self)
-        requires synced { length self.old.bytes.items ≤ vec_capacity self.old.synced }
-        requires kept { length self.old.bytes.items ≤ vec_capacity self.old.kept }
+        requires { HasRoom (length self.old.bytes.items) self.old }
         ensures held { held_of self.new ≡ on_disk self.old.bytes.items }
         ensures room { (size : ℕ) → HasRoom size self.old → HasRoom size self.new }
     {
-        self.synced.clear();
-        self.synced.extend_from_slice(&self.bytes).unwrap();
-        keep_all(&mut self.kept, &self.bytes);
+        let changed = &self.bytes[self.low..];
+        self.synced.truncate(self.low);
+        self.synced.extend_from_slice(changed).unwrap();
+        self.kept.truncate(self.low);
+        keep_all(&mut self.kept, changed);
+        self.low = self.bytes.len();
         self.greatest = self.bytes.len();
     }
 }
@@ -149,13 +156,12 @@ fn blot(kept: &mut Vec<Option<u8>>, at: usize, count: usize)
     }
 }
 
-/// Keeps these bytes in place of the ones that are there.
+/// Keeps these bytes behind those that are kept.
 fn keep_all(kept: &mut Vec<Option<u8>>, bytes: &[u8])
-    requires { length bytes.now ≤ vec_capacity kept.old }
-    ensures kept { kept.new.items ≡ all_kept bytes.now }
+    requires { length kept.old.items + length bytes.now ≤ vec_capacity kept.old }
+    ensures kept { kept.new.items ≡ kept.old.items ++ all_kept bytes.now }
     ensures capacity { vec_capacity kept.old ≤ vec_capacity kept.new }
 {
-    kept.clear();
     for byte in bytes {
         kept.push(Some(*byte)).unwrap();
     }

@@ -78,8 +78,7 @@ impl Contents {
     }
 
     pub(crate) fn sync(&mut self, area: Area)
-        requires synced { length (area_in area self.old).bytes.items ≤ vec_capacity (area_in area self.old).synced }
-        requires kept { length (area_in area self.old).bytes.items ≤ vec_capacity (area_in area self.old).kept }
+        requires { HasRoom (length (area_in area self.old).bytes.items) (area_in area self.old) }
         ensures state { state_of self.new ≡ with_area area (on_disk (held_of (area_in area self.old)).bytes) (state_of self.old) }
         ensures room { (which : Area) (size : ℕ) → HasRoom size (area_in which self.old) → HasRoom size (area_in which self.new) }
         ensures output { self.new.output ≡ self.old.output }

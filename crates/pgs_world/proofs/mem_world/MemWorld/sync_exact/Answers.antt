@@ -7,17 +7,14 @@ use Rattle.pgs_world.specs.Sound.{kept_of}
 use Rattle.pgs_world.specs.declared.meter.Meter.{Meter}
 use Rattle.pgs_world.specs.declared.mem_contents.Note.TheVariants.{Sync}
 use Rattle.pgs_world.proofs.MemMoments.{well-sync}
-use Rattle.pgs_world.proofs.Sounds.{Changes, area-state, well_state, known_kept, grows-sync, sound-changed, kept-changed, calls-admitted, sync-done, synced_room, kept_room}
+use Rattle.pgs_world.proofs.Sounds.{Changes, area-state, well_state, known_kept, grows-sync, sound-changed, kept-changed, calls-admitted, sync-done, synced_room}
 use Rattle.pgs_world.proofs.mem_world.MemWorld.sync_exact.Goals as goal
 
 pub returns-then-not-admits-clause-known : goal.returns-then-not-admits-clause-known
 returns-then-not-admits-clause-known c = known_kept c.self.inside c.args.self.now c.self.view_is c.self.invariant
 
-pub sync-requires-clause-synced : goal.sync-requires-clause-synced
-sync-requires-clause-synced c = synced_room c.self.inside c.args.area c.self.invariant
-
-pub sync-requires-clause-kept : goal.sync-requires-clause-kept
-sync-requires-clause-kept c = kept_room c.self.inside c.args.area c.self.invariant
+pub sync-requires : goal.sync-requires
+sync-requires c = synced_room c.self.inside c.args.area c.self.invariant
 
 change : (c : goal.After-add_note) → Changes c.self.inside c.sync.new.self c.add_note.new.notes c.add_note.new.pieces c.admits.new.self (Sync c.args.area) []
 change c =
