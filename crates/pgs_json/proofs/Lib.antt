@@ -1,0 +1,9 @@
+pub mod Digits
+pub mod Fronts
+pub mod Gathered
+pub mod Items
+pub mod Lines
+pub mod Lists
+pub mod Numbers
+pub mod Texts
+pub mod Values

@@ -1,0 +1,4 @@
+pub mod FirstLine
+pub mod Gathering
+pub mod Reading
+pub mod Unread

@@ -1,0 +1,19 @@
+//! Transactions from lines of JSON. For now one exact form of line is read: operations that add nodes.
+//!
+//! Its one rule: a line is read exactly where it is the spelling of operations within the limits.
+//! The spelling, the limits and the transaction that such a line names stand in `specs/FirstLine.antt`,
+//! apart from reading, which goes from left to right in `specs/Reading.antt`; `first_form_is_exact`
+//! says that both are one. The layer above uses `read_first` and its `first_txn` alone.
+#![tactic(auto)]
+
+mod first_line;
+mod number;
+mod operation;
+mod piece;
+mod unread;
+mod value;
+
+pub use first_line::{first_form_is_exact, read_first};
+
+#[cfg(test)]
+mod tests;

@@ -1,0 +1,22 @@
+use pgs_base;
+use std::alloc::AllocError;
+
+/// Why nothing was read.
+#[derive(Clone, Copy, Debug, PartialEq, Eq)]
+pub enum Unread {
+    /// There was no memory for it.
+    Memory,
+    /// The bytes aren't of the first form.
+    Unfit,
+}
+
+impl From<pgs_base::Memory> for Unread {
+    ghost use Rattle.std.specs.Prelude.{◌≡◌};
+    ghost use Rattle.pgs_json.specs.declared.unread.Unread.TheVariants.{Memory as OutOfMemory};
+
+    ghost from_gives = { λ _ e. e ≡ OutOfMemory };
+
+    fn from(_: pgs_base::Memory) -> Unread {
+        Unread::Memory
+    }
+}
