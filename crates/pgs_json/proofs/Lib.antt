@@ -7,3 +7,4 @@ pub mod Lists
 pub mod Numbers
 pub mod Texts
 pub mod Values
+mod LabelOrder

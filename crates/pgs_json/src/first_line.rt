@@ -48,5 +48,4 @@ pub fn first_form_is_exact()
     ensures exact { (line : List ℕ) (txn : Txn) → (first_txn line ≡ Some txn ↔ SpellsTxn line txn) }
     ensures one_meaning { (a b : List RawOp)
         → IsTrue (is_first_line a) → IsTrue (is_first_line b) → spelling a ≡ spelling b → a ≡ b }
-{
-}
+{}

@@ -10,10 +10,15 @@ mod first_line;
 mod number;
 mod operation;
 mod piece;
+mod samples;
 mod unread;
 mod value;
 
 pub use first_line::{first_form_is_exact, read_first};
+pub use samples::{
+    canonical_texts, labels_in_another_order, lines_that_add, lines_that_change, lines_with_values,
+    other_lines, texts_of_changes,
+};
 
 #[cfg(test)]
 mod tests;
