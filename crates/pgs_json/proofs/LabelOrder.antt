@@ -19,6 +19,7 @@ two_labels : (a b : List ℕ) → label_set (a ∷ b ∷ []) ≡ label_set (b �
 two_labels a b = by_order a b (slice_cmp nat_cmp a b) (slice_cmp nat_cmp b a) (nat_list_cmp_total.antisymm a b) (exact_name a b)
 
 by_names : (a b : List ℕ) (p q : Bool) → is_name a ≡ p → is_name b ≡ q → labels_of (array (item (string a) (item (string b) no_items))) ≡ labels_of (array (item (string b) (item (string a) no_items)))
+unfolding labels_of
 by_names a b true true h k = rw (h, k) (ap Some (two_labels a b))
 by_names a b true false h k = rw (h, k) refl
 by_names a b false true h k = rw (h, k) refl

@@ -64,9 +64,9 @@ before_others : {A : Type 0} (spell : A → List ℕ) (fits : A → Bool) (close
     → bytes ≡ spell f ++ (44 ∷ after) → fits f ≡ true → IsItems spell fits close n after others → IsItems spell fits close (suc n) bytes (f ∷ others.0, others.1)
 before_others spell fits close n f bytes after others taken fit items =
     let more : listed spell (f ∷ others.0) ≡ spell f ++ (44 ∷ listed spell others.0) =
-    ap (λ (xs : List _). listed spell (f ∷ xs)) items.is ∙ listed-more spell f items.first items.others ∙ ap (λ (xs : List _). spell f ++ (44 ∷ listed spell xs)) (sym items.is) in
+      ap (λ (xs : List _). listed spell (f ∷ xs)) items.is ∙ listed-more spell f items.first items.others ∙ ap (λ (xs : List _). spell f ++ (44 ∷ listed spell xs)) (sym items.is) in
     let whole : bytes ≡ listed spell (f ∷ others.0) ++ (close ∷ others.1) =
-    taken ∙ ap (λ (b : List ℕ). spell f ++ (44 ∷ b)) items.listed_so.parts ∙ sym (append_assoc (spell f) (44 ∷ listed spell others.0) (close ∷ others.1)) ∙ ap (λ (b : List ℕ). b ++ (close ∷ others.1)) (sym more) in
+      taken ∙ ap (λ (b : List ℕ). spell f ++ (44 ∷ b)) items.listed_so.parts ∙ sym (append_assoc (spell f) (44 ∷ listed spell others.0) (close ∷ others.1)) ∙ ap (λ (b : List ℕ). b ++ (close ∷ others.1)) (sym more) in
     record {
       first = f;
       others = others.0;

@@ -17,7 +17,7 @@ mod value;
 pub use first_line::{first_form_is_exact, read_first};
 pub use samples::{
     canonical_texts, labels_in_another_order, lines_that_add, lines_that_change, lines_with_values,
-    other_lines, texts_of_changes,
+    other_lines, texts_of_changes, written_and_read,
 };
 
 #[cfg(test)]

@@ -4,6 +4,7 @@
 ghost use Rattle.std.specs.Prelude.{◌≡◌, [], ◌∷◌, ◌++◌, ◌^◌, ℕ, List, pos, negsuc, true, Some, None, codes, decimal};
 ghost use Rattle.pgs_base.specs.declared.value.Value.TheVariants as values;
 ghost use Rattle.pgs_graph.specs.declared.operation.Op.TheVariants.{AddNode, AddEdge, RemoveNode, DetachNode, RemoveEdge, SetNode, UnsetNode, LabelNode, UnlabelNode, SetEdge, UnsetEdge, LabelEdge, UnlabelEdge};
+ghost use Rattle.pgs_graph.specs.declared.operation.Txn.{Txn};
 ghost use Rattle.serde_json.specs.Data.{string, array, item, no_items};
 ghost use Rattle.pgs_json.specs.Form.{labels_of};
 ghost use Rattle.pgs_json.specs.Line.{txn_of};
@@ -121,6 +122,20 @@ pub fn texts_of_changes()
     }) None
         ≡ codes "{\"ops\":[{\"remove_edge\":1},{\"key\":\"k\",\"unset_edge\":3},{\"label\":\"A\",\"label_edge\":4},{\"label\":\"B\",\"unlabel_edge\":5}]}" }
 {}
+
+/// What is written is read again as the same transaction.
+pub fn written_and_read()
+    ensures nodes { let txn : Txn = record { ops = AddNode (record { 0 = 1 }) (codes "A" ∷ codes "B" ∷ [])
+            ((codes "b", values.Bool true) ∷ (codes "d", values.Date (999, 12, 31)) ∷ (codes "i", values.Int (negsuc 4)) ∷ (codes "t", values.Text (34 ∷ 92 ∷ 9 ∷ 31 ∷ 195 ∷ 164 ∷ [])) ∷ [])
+            ∷ RemoveNode (record { 0 = 2 }) ∷ DetachNode (record { 0 = 3 }) ∷ SetNode (record { 0 = 4 }) (codes "k") (values.Int (pos 0)) ∷ UnsetNode (record { 0 = 5 }) (codes "k")
+            ∷ LabelNode (record { 0 = 6 }) (codes "A") ∷ UnlabelNode (record { 0 = 7 }) (codes "B") ∷ [] } in
+        txn_of (text_of_txn txn None) ≡ Some txn }
+    ensures edges { let txn : Txn = record { ops = AddEdge (record { 0 = 1 }) (record { 0 = 2 }) (record { 0 = 3 }) [] []
+            ∷ RemoveEdge (record { 0 = 2 }) ∷ SetEdge (record { 0 = 4 }) (codes "k") (values.Text []) ∷ UnsetEdge (record { 0 = 5 }) (codes "k")
+            ∷ LabelEdge (record { 0 = 6 }) (codes "A") ∷ UnlabelEdge (record { 0 = 7 }) (codes "B") ∷ [] } in
+        txn_of (text_of_txn txn None) ≡ Some txn }
+{
+}
 
 /// The order of two labels is of no matter.
 pub fn labels_in_another_order()
