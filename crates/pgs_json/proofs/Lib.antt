@@ -8,3 +8,5 @@ pub mod Numbers
 pub mod Texts
 pub mod Values
 mod LabelOrder
+mod FormParts
+mod FormLoops

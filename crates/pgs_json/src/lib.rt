@@ -7,6 +7,8 @@
 #![tactic(auto)]
 
 mod first_line;
+mod json_op;
+mod json_part;
 mod number;
 mod operation;
 mod piece;
