@@ -1,8 +1,10 @@
 -- What is made of items and members, one after the other.
-use Rattle.std.proofs.Common.{◌≡◌, ℕ, List, [], ◌∷◌, Option, Some, None, option_and_then, refl, sym, ap, ◌∙◌}
+use Rattle.std.proofs.Common.{◌≡◌, ℕ, List, [], ◌∷◌, ◌++◌, Option, Some, None, option_and_then, refl, sym, ap, ◌∙◌, append_assoc}
+use Rattle.std.proofs.lemmas.List.{append-nil}
+use Rattle.pgs_graph.specs.declared.operation.Op.{Op}
 use Rattle.std.specs.Prelude.{fold}
 use Rattle.serde_json.specs.Data.{Data, Items, no_items, item, Members, no_members, member}
-use Rattle.pgs_json.specs.Form.{◌>>=◌, each_item, each_member}
+use Rattle.pgs_json.specs.Form.{◌>>=◌, each_item, each_member, op_of}
 
 -- what is there after the items, each put in
 abbrev pub after_items : {A S : Type 0} → (Data → Option A) → (S → A → S) → S → Items → Option S
@@ -11,20 +13,19 @@ after_items form_of put s ds = each_item form_of ds >>= λ xs. Some (fold put s 
 abbrev pub after_members : {A S : Type 0} → (List ℕ → Data → Option A) → (S → A → S) → S → Members → Option S
 after_members form_of put s ms = each_member form_of ms >>= λ xs. Some (fold put s xs)
 
-later : {A S : Type 0} (put : S → A → S) (s : S) (x : A) (rest : Option (List A)) → ((rest >>= λ xs. Some (x ∷ xs)) >>= λ xs. Some (fold put s xs)) ≡ (rest >>= λ xs. Some (fold put (put s x) xs))
-later put s x None = refl
-later put s x (Some xs) = refl
+-- ---- operations
 
-pub after_item : {A S : Type 0} (form_of : Data → Option A) (put : S → A → S) (s : S) (d : Data) (ds : Items) (x : A) → form_of d ≡ Some x → after_items form_of put s (item d ds) ≡ after_items form_of put (put s x) ds
-after_item form_of put s d ds x e =
-    ap (λ o. (o >>= λ x. each_item form_of ds >>= λ xs. Some (x ∷ xs)) >>= λ xs. Some (fold put s xs)) e ∙ later put s x (each_item form_of ds)
+abbrev pub put_op : List Op → Op → List Op
+put_op ops op = ops ++ op ∷ []
 
-pub no_item : {A S : Type 0} (form_of : Data → Option A) (put : S → A → S) (s : S) (d : Data) (ds : Items) → form_of d ≡ None → after_items form_of put s (item d ds) ≡ None
-no_item form_of put s d ds e = ap (λ o. (o >>= λ x. each_item form_of ds >>= λ xs. Some (x ∷ xs)) >>= λ xs. Some (fold put s xs)) e
+put_all : (ops more : List Op) → fold put_op ops more ≡ ops ++ more
+put_all ops [] = sym (append-nil ops)
+put_all ops (x ∷ xs) = put_all (ops ++ x ∷ []) xs ∙ append_assoc ops (x ∷ []) xs
 
-pub after_member : {A S : Type 0} (form_of : List ℕ → Data → Option A) (put : S → A → S) (s : S) (k : List ℕ) (d : Data) (ms : Members) (x : A) → form_of k d ≡ Some x → after_members form_of put s (member k d ms) ≡ after_members form_of put (put s x) ms
-after_member form_of put s k d ms x e =
-    ap (λ o. (o >>= λ x. each_member form_of ms >>= λ xs. Some (x ∷ xs)) >>= λ xs. Some (fold put s xs)) e ∙ later put s x (each_member form_of ms)
+put_each : (read : Option (List Op)) → (read >>= λ xs. Some (fold put_op [] xs)) ≡ read
+put_each None = refl
+put_each (Some xs) = ap (λ (ops : List Op). Some ops) (put_all [] xs)
 
-pub no_member : {A S : Type 0} (form_of : List ℕ → Data → Option A) (put : S → A → S) (s : S) (k : List ℕ) (d : Data) (ms : Members) → form_of k d ≡ None → after_members form_of put s (member k d ms) ≡ None
-no_member form_of put s k d ms e = ap (λ o. (o >>= λ x. each_member form_of ms >>= λ xs. Some (x ∷ xs)) >>= λ xs. Some (fold put s xs)) e
+-- operations that are put in one after the other stand in their order
+pub ops_in_order : (ds : Items) → after_items op_of put_op [] ds ≡ each_item op_of ds
+ops_in_order ds = put_each (each_item op_of ds)

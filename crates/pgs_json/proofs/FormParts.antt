@@ -2,7 +2,12 @@
 use Rattle.std.proofs.Common.{◌≡◌, ℕ, zero, suc, lit≤, ◌+◌, ◌*◌, ◌^◌, ◌<◌, ◌≤◌, Bool, true, false, cond, ltb, ◌&&◌, ◌||◌, List, [], ◌∷◌, length, map, Option, Some, None, refl, sym, ap, ◌∙◌, arith, Bor}
 use Rattle.std.specs.List.{list_all, list_any, take_while}
 use Rattle.std.specs.Char.{digit_value}
-use Rattle.std.specs.Str.{bytes_eq}
+use Rattle.std.specs.Str.{bytes_eq, is_utf8, IsUtf8}
+use Rattle.std.proofs.lemmas.Str.{is_utf8-from_IsUtf8, IsUtf8-from_is_utf8}
+use Rattle.serde_json.specs.Data.{Data}
+use Rattle.serde_json.specs.Read.{read}
+use Rattle.pgs_json.specs.Form.{form}
+use Rattle.pgs_json.specs.Line.{txn_of}
 use Rattle.std.specs.Str.Parse.{digits_value, AllDigits}
 use Rattle.std.proofs.lemmas.Int.Digits.{digits_value-lt}
 use Rattle.std.proofs.lemmas.Bool.{lt-ltb}
@@ -10,11 +15,6 @@ use Rattle.std.proofs.lemmas.Bool.Decides.{nat_tests}
 use Rattle.std.proofs.lemmas.List.Sums.{take_while-cons}
 use Rattle.pgs_base.specs.Name.{is_between}
 use Rattle.pgs_json.specs.Reading.{is_digit, digits_in, digits_at}
-
--- whether the names hold one
-pub among : (name : List ℕ) (names : List (Bor (List ℕ))) → list_any (λ (one : Bor (List ℕ)). bytes_eq name one.now) names ≡ list_any (bytes_eq name) (map (λ (one : Bor (List ℕ)). one.now) names)
-among name [] = refl
-among name (one ∷ names) = ap (λ (t : Bool). bytes_eq name one.now || t) (among name names)
 
 digit_small : (b : ℕ) → is_digit b ≡ true → digit_value b < 10
 digit_small b h = grind (arith, nat_tests)
@@ -56,3 +56,16 @@ digits_at_all bs h short =
     let small : digits_value 10 bs < 2 ^ 64 = lt_of bs (length bs) short (digits_small bs h) in
     ap (λ ds. cond (ltb (digits_value 10 ds) (2 ^ 64)) (Some (digits_value 10 ds)) None) (digits_in-all bs h)
     ∙ ap (λ (t : Bool). cond t (Some (digits_value 10 bs)) None) (lt-ltb _ _ small)
+
+-- a line that is read as a value, and one that isn't
+pub line_value : (line : List ℕ) (d : Data) → IsUtf8 line → read line ≡ Some d → txn_of line ≡ form d
+unfolding txn_of
+line_value line d utf8 e = rw (is_utf8-from_IsUtf8 line utf8, e) refl
+
+line_none_by : (line : List ℕ) (b : Bool) → is_utf8 line ≡ b → (IsUtf8 line → read line ≡ None) → txn_of line ≡ None
+unfolding txn_of
+line_none_by line true e h = rw (e, h (IsUtf8-from_is_utf8 line e)) refl
+line_none_by line false e h = rw e refl
+
+pub line_none : (line : List ℕ) → (IsUtf8 line → read line ≡ None) → txn_of line ≡ None
+line_none line h = line_none_by line (is_utf8 line) refl h
