@@ -1,9 +1,9 @@
 -- What is made of items and members, one after the other.
-use Rattle.std.proofs.Common.{◌≡◌, ℕ, List, [], ◌∷◌, ◌++◌, Option, Some, None, option_and_then, refl, sym, ap, ◌∙◌, append_assoc}
+use Rattle.std.proofs.Common.{◌≡◌, ℕ, List, [], ◌∷◌, ◌++◌, Option, Some, None, refl, sym, ap, ◌∙◌, append_assoc}
 use Rattle.std.proofs.lemmas.List.{append-nil}
 use Rattle.pgs_graph.specs.declared.operation.Op.{Op}
 use Rattle.std.specs.Prelude.{fold}
-use Rattle.serde_json.specs.Data.{Data, Items, no_items, item, Members, no_members, member}
+use Rattle.serde_json.specs.Data.{Data, Items, Members}
 use Rattle.pgs_json.specs.Form.{◌>>=◌, each_item, each_member, op_of}
 
 -- what is there after the items, each put in

@@ -88,7 +88,7 @@ unfoldable pub day_in : List ℕ → Option (ℕ × ℕ × ℕ)
 day_in text =
     if has_dashes text
     then (number_in (slice_range text 0 4) >>= λ year. number_in (slice_range text 5 7) >>= λ month.
-      number_in (slice_range text 8 10) >>= λ day. if_day year month day)
+    number_in (slice_range text 8 10) >>= λ day. if_day year month day)
     else None
 
 abbrev pub day_of : Data → Option (ℕ × ℕ × ℕ)
@@ -136,9 +136,9 @@ unfoldable pub add_node : Data → Option Op
 add_node d =
     if has_only (codes "add_node" ∷ codes "labels" ∷ codes "props" ∷ []) d
     then (part id_of (codes "add_node") d >>= λ id.
-      part_or_empty labels_of (codes "labels") d >>= λ labels.
-      part_or_empty props_of (codes "props") d >>= λ props.
-      Some (AddNode (node id) labels props))
+    part_or_empty labels_of (codes "labels") d >>= λ labels.
+    part_or_empty props_of (codes "props") d >>= λ props.
+    Some (AddNode (node id) labels props))
     else None
 
 -- `add_edge`, `from` and `to`, and maybe `labels` and `props`
@@ -146,11 +146,11 @@ unfoldable pub add_edge : Data → Option Op
 add_edge d =
     if has_only (codes "add_edge" ∷ codes "from" ∷ codes "to" ∷ codes "labels" ∷ codes "props" ∷ []) d
     then (part id_of (codes "add_edge") d >>= λ id.
-      part id_of (codes "from") d >>= λ source.
-      part id_of (codes "to") d >>= λ target.
-      part_or_empty labels_of (codes "labels") d >>= λ labels.
-      part_or_empty props_of (codes "props") d >>= λ props.
-      Some (AddEdge (edge id) (node source) (node target) labels props))
+    part id_of (codes "from") d >>= λ source.
+    part id_of (codes "to") d >>= λ target.
+    part_or_empty labels_of (codes "labels") d >>= λ labels.
+    part_or_empty props_of (codes "props") d >>= λ props.
+    Some (AddEdge (edge id) (node source) (node target) labels props))
     else None
 
 -- an object whose one member has this kind as its name: the id that it names
@@ -169,7 +169,7 @@ unfoldable pub with_value : List ℕ → Data → Option (ℕ × List ℕ × Val
 with_value kind d =
     if has_only (kind ∷ codes "key" ∷ codes "value" ∷ []) d
     then (part id_of kind d >>= λ id. part name_of (codes "key") d >>= λ key.
-      part value_of (codes "value") d >>= λ value. Some (id, key, value))
+    part value_of (codes "value") d >>= λ value. Some (id, key, value))
     else None
 
 -- the first that is there

@@ -215,42 +215,60 @@ fn unset_node(alloc: Global, object: &Json) -> Result<Op, Unread>
     ensures { Gives (λ x. x) result (option_map (λ p. UnsetNode (node p.0) p.1) (with_name (codes "unset_node") (codes "key") (view object.now))) }
 {
     let (id, key) = with_name(alloc, object, "unset_node", "key")?;
-    Ok(Op::UnsetNode { id: NodeId(id), key })
+    Ok(Op::UnsetNode {
+        id: NodeId(id),
+        key,
+    })
 }
 
 fn unset_edge(alloc: Global, object: &Json) -> Result<Op, Unread>
     ensures { Gives (λ x. x) result (option_map (λ p. UnsetEdge (edge p.0) p.1) (with_name (codes "unset_edge") (codes "key") (view object.now))) }
 {
     let (id, key) = with_name(alloc, object, "unset_edge", "key")?;
-    Ok(Op::UnsetEdge { id: EdgeId(id), key })
+    Ok(Op::UnsetEdge {
+        id: EdgeId(id),
+        key,
+    })
 }
 
 fn label_node(alloc: Global, object: &Json) -> Result<Op, Unread>
     ensures { Gives (λ x. x) result (option_map (λ p. LabelNode (node p.0) p.1) (with_name (codes "label_node") (codes "label") (view object.now))) }
 {
     let (id, label) = with_name(alloc, object, "label_node", "label")?;
-    Ok(Op::LabelNode { id: NodeId(id), label })
+    Ok(Op::LabelNode {
+        id: NodeId(id),
+        label,
+    })
 }
 
 fn label_edge(alloc: Global, object: &Json) -> Result<Op, Unread>
     ensures { Gives (λ x. x) result (option_map (λ p. LabelEdge (edge p.0) p.1) (with_name (codes "label_edge") (codes "label") (view object.now))) }
 {
     let (id, label) = with_name(alloc, object, "label_edge", "label")?;
-    Ok(Op::LabelEdge { id: EdgeId(id), label })
+    Ok(Op::LabelEdge {
+        id: EdgeId(id),
+        label,
+    })
 }
 
 fn unlabel_node(alloc: Global, object: &Json) -> Result<Op, Unread>
     ensures { Gives (λ x. x) result (option_map (λ p. UnlabelNode (node p.0) p.1) (with_name (codes "unlabel_node") (codes "label") (view object.now))) }
 {
     let (id, label) = with_name(alloc, object, "unlabel_node", "label")?;
-    Ok(Op::UnlabelNode { id: NodeId(id), label })
+    Ok(Op::UnlabelNode {
+        id: NodeId(id),
+        label,
+    })
 }
 
 fn unlabel_edge(alloc: Global, object: &Json) -> Result<Op, Unread>
     ensures { Gives (λ x. x) result (option_map (λ p. UnlabelEdge (edge p.0) p.1) (with_name (codes "unlabel_edge") (codes "label") (view object.now))) }
 {
     let (id, label) = with_name(alloc, object, "unlabel_edge", "label")?;
-    Ok(Op::UnlabelEdge { id: EdgeId(id), label })
+    Ok(Op::UnlabelEdge {
+        id: EdgeId(id),
+        label,
+    })
 }
 
 #[tactic(auto, unfolding(crate::specs::Form::node_op))]

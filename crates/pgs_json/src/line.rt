@@ -47,12 +47,27 @@ mod tests {
     fn lines_are_read(rt: HostRuntime) -> Result<(), Fail> {
         for (line, want) in [
             (b"{\"ops\":[]}".as_slice(), Some(0usize)),
-            (b" { \"ops\" : [ {\"add_node\":1}, {\"to\":1,\"from\":1,\"add_edge\":1} ] } ".as_slice(), Some(2)),
-            (b"{\"ops\":[{\"set_node\":1,\"key\":\"k\",\"value\":{\"date\":\"2024-02-29\"}}]}".as_slice(), Some(1)),
-            (b"{\"ops\":[{\"set_node\":1,\"key\":\"k\",\"value\":{\"date\":\"2023-02-29\"}}]}".as_slice(), None),
-            (b"{\"ops\":[{\"set_node\":1,\"key\":\"k\",\"value\":\"\xff\"}]}".as_slice(), None),
+            (
+                b" { \"ops\" : [ {\"add_node\":1}, {\"to\":1,\"from\":1,\"add_edge\":1} ] } ".as_slice(),
+                Some(2),
+            ),
+            (
+                b"{\"ops\":[{\"set_node\":1,\"key\":\"k\",\"value\":{\"date\":\"2024-02-29\"}}]}".as_slice(),
+                Some(1),
+            ),
+            (
+                b"{\"ops\":[{\"set_node\":1,\"key\":\"k\",\"value\":{\"date\":\"2023-02-29\"}}]}".as_slice(),
+                None,
+            ),
+            (
+                b"{\"ops\":[{\"set_node\":1,\"key\":\"k\",\"value\":\"\xff\"}]}".as_slice(),
+                None,
+            ),
             (b"{\"ops\":[{\"remove_node\":1.0}]}".as_slice(), None),
-            (b"{\"ops\":[{\"remove_node\":1,\"label\":\"A\"}]}".as_slice(), None),
+            (
+                b"{\"ops\":[{\"remove_node\":1,\"label\":\"A\"}]}".as_slice(),
+                None,
+            ),
             (b"{\"commit\":1,\"ops\":[]}".as_slice(), None),
             (b"".as_slice(), None),
         ] {

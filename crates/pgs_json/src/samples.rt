@@ -125,17 +125,20 @@ pub fn texts_of_changes()
 
 /// What is written is read again as the same transaction.
 pub fn written_and_read()
-    ensures nodes { let txn : Txn = record { ops = AddNode (record { 0 = 1 }) (codes "A" ∷ codes "B" ∷ [])
-            ((codes "b", values.Bool true) ∷ (codes "d", values.Date (999, 12, 31)) ∷ (codes "i", values.Int (negsuc 4)) ∷ (codes "t", values.Text (34 ∷ 92 ∷ 9 ∷ 31 ∷ 195 ∷ 164 ∷ [])) ∷ [])
-            ∷ RemoveNode (record { 0 = 2 }) ∷ DetachNode (record { 0 = 3 }) ∷ SetNode (record { 0 = 4 }) (codes "k") (values.Int (pos 0)) ∷ UnsetNode (record { 0 = 5 }) (codes "k")
-            ∷ LabelNode (record { 0 = 6 }) (codes "A") ∷ UnlabelNode (record { 0 = 7 }) (codes "B") ∷ [] } in
+    ensures nodes { let txn : Txn = record {
+      ops = AddNode (record { 0 = 1 }) (codes "A" ∷ codes "B" ∷ [])
+          ((codes "b", values.Bool true) ∷ (codes "d", values.Date (999, 12, 31)) ∷ (codes "i", values.Int (negsuc 4)) ∷ (codes "t", values.Text (34 ∷ 92 ∷ 9 ∷ 31 ∷ 195 ∷ 164 ∷ [])) ∷ [])
+          ∷ RemoveNode (record { 0 = 2 }) ∷ DetachNode (record { 0 = 3 }) ∷ SetNode (record { 0 = 4 }) (codes "k") (values.Int (pos 0)) ∷ UnsetNode (record { 0 = 5 }) (codes "k")
+          ∷ LabelNode (record { 0 = 6 }) (codes "A") ∷ UnlabelNode (record { 0 = 7 }) (codes "B") ∷ [];
+    } in
         txn_of (text_of_txn txn None) ≡ Some txn }
-    ensures edges { let txn : Txn = record { ops = AddEdge (record { 0 = 1 }) (record { 0 = 2 }) (record { 0 = 3 }) [] []
-            ∷ RemoveEdge (record { 0 = 2 }) ∷ SetEdge (record { 0 = 4 }) (codes "k") (values.Text []) ∷ UnsetEdge (record { 0 = 5 }) (codes "k")
-            ∷ LabelEdge (record { 0 = 6 }) (codes "A") ∷ UnlabelEdge (record { 0 = 7 }) (codes "B") ∷ [] } in
+    ensures edges { let txn : Txn = record {
+      ops = AddEdge (record { 0 = 1 }) (record { 0 = 2 }) (record { 0 = 3 }) [] []
+          ∷ RemoveEdge (record { 0 = 2 }) ∷ SetEdge (record { 0 = 4 }) (codes "k") (values.Text []) ∷ UnsetEdge (record { 0 = 5 }) (codes "k")
+          ∷ LabelEdge (record { 0 = 6 }) (codes "A") ∷ UnlabelEdge (record { 0 = 7 }) (codes "B") ∷ [];
+    } in
         txn_of (text_of_txn txn None) ≡ Some txn }
-{
-}
+{}
 
 /// The order of two labels is of no matter.
 pub fn labels_in_another_order()
