@@ -5,8 +5,10 @@ pub mod Fronts
 pub mod LastLine
 pub mod Leading
 pub mod LineEnd
+pub mod Listing
 pub mod OneWord
 pub mod ReadingOn
+pub mod Reporting
 pub mod RunEnds
 pub mod RunWords
 pub mod SameFronts

@@ -1,8 +1,10 @@
 pub mod Ending
 pub mod FirstVerdict
 pub mod Input
+pub mod LineList
 pub mod Pieces
 pub mod Reading
+pub mod Report
 pub mod Run
 pub mod Session
 pub mod Stages

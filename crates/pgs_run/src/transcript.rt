@@ -29,8 +29,9 @@ pub struct Transcript {
     pub phase: Phase,
 }
 
+/// Whether a line ends the schema part: `---`, with or without a carriage return.
 #[tactic(auto, unfolding(crate::specs::Input::is_separator))]
-fn is_separator(line: &[u8]) -> bool
+pub(crate) fn is_separator(line: &[u8]) -> bool
     ensures { result ≡ is_separator line.now }
 {
     line == b"---".as_slice() || line == b"---\r".as_slice()
