@@ -6,4 +6,6 @@
 #[cfg(test)]
 mod ran;
 #[cfg(test)]
+mod told;
+#[cfg(test)]
 mod worked;
