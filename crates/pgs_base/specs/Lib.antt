@@ -5,3 +5,4 @@ pub mod Order
 pub mod OrderLaws
 pub mod Places
 pub mod Value
+pub mod formers

@@ -6,6 +6,7 @@
 //! Nothing here knows schemas, files or text formats.
 #![tactic(auto)]
 
+mod boxed;
 mod copying;
 mod day;
 mod element;
@@ -25,6 +26,7 @@ mod tuple_set;
 mod value;
 mod words;
 
+pub use boxed::Boxed;
 pub use copying::Copyable;
 pub use day::Day;
 pub use element::{EdgeId, Elem, NodeId};

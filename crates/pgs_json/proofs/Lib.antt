@@ -8,3 +8,6 @@ pub mod Lists
 pub mod Numbers
 pub mod Texts
 pub mod Values
+mod LabelOrder
+mod FormParts
+mod FormLoops

@@ -1,4 +1,7 @@
+pub mod Canonical
 pub mod FirstLine
+pub mod Form
 pub mod Gathering
+pub mod Line
 pub mod Reading
 pub mod Unread

@@ -7,15 +7,24 @@
 #![tactic(auto)]
 
 mod first_line;
+mod json_op;
+mod json_part;
 mod labels;
+mod line;
 mod number;
 mod operation;
 mod piece;
 mod props;
+mod samples;
 mod unread;
 mod value;
 
 pub use first_line::{first_form_is_exact, read_first};
+pub use line::read_txn;
+pub use samples::{
+    canonical_texts, labels_in_another_order, lines_that_add, lines_that_change, lines_with_values,
+    other_lines, texts_of_changes, written_and_read,
+};
 
 #[cfg(test)]
 mod tests;

@@ -20,7 +20,7 @@ fn with_digit(number: u64, byte: u8) -> Option<u64>
 
 /// The number that the digits at the front write, and how many there are.
 #[tactic(auto, unfolding(crate::specs::Reading::digits_at))]
-fn digits(bytes: &[u8]) -> Option<(u64, usize)>
+pub fn digits(bytes: &[u8]) -> Option<(u64, usize)>
     ensures value { result ≡ option_map (λ number. (number, prefix_len is_digit bytes.now)) (digits_at bytes.now) }
     ensures within { IfSome result (λ found. found.1 ≤ length bytes.now) }
 {

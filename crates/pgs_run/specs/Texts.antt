@@ -1,5 +1,5 @@
 -- The printed texts. Numbers are plain decimals; each line has its line feed.
-use Rattle.std.specs.Prelude.{ℕ, List, ◌++◌, codes}
+use Rattle.std.specs.Prelude.{ℕ, List, [], ◌++◌, codes}
 use Rattle.std.specs.Fmt.{decimal}
 use Rattle.pgs_base.specs.declared.element.NodeId.{NodeId}
 use Rattle.pgs_base.specs.declared.element.EdgeId.{EdgeId}
@@ -35,9 +35,11 @@ structural_text limits (ElementTooLarge op) =
 structural_text limits (TooManyElements count) =
     codes "24 " ++ (decimal count ++ (codes " elements, at most " ++ decimal limits.elements))
 
+-- A graph type of the first form has no keys, so violations of keys never come: their texts come with the keys.
 abbrev pub violation_text : Violation → List ℕ
 violation_text (UntypedNode node) = codes "25 node " ++ (elem_text (Node node) ++ codes " fits no type")
 violation_text (UntypedEdge edge) = codes "26 edge " ++ (elem_text (Edge edge) ++ codes " fits no type")
+violation_text violation = []
 
 -- the number and the words of a rejection
 abbrev pub rejection_text : Limits → Rejection → List ℕ

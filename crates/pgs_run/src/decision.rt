@@ -13,7 +13,7 @@ use pgs_violation::{Rejection, Verdict};
 use std::alloc::Global;
 
 /// Why a transaction wasn't accepted.
-#[derive(Clone, Copy, Debug, PartialEq, Eq)]
+#[derive(Debug, Drop)]
 pub enum DecideFault {
     Memory,
     Rejected(Rejection),

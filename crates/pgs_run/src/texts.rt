@@ -52,8 +52,8 @@ fn structural_text(alloc: Global, limits: &Limits, structural: Structural) -> Re
     }
 }
 
-fn violation_text(alloc: Global, violation: Violation) -> Result<String, Memory>
-    ensures { IfOk result (λ text. string_bytes text ≡ violation_text violation) }
+fn violation_text(alloc: Global, violation: &Violation) -> Result<String, Memory>
+    ensures { IfOk result (λ text. string_bytes text ≡ violation_text violation.now) }
 {
     match violation {
         Violation::UntypedNode { node } => {
@@ -62,6 +62,7 @@ fn violation_text(alloc: Global, violation: Violation) -> Result<String, Memory>
         Violation::UntypedEdge { edge } => {
             Ok(format!(in alloc; "26 edge e{} fits no type", edge.0)?)
         }
+        _ => Ok(String::new(alloc)),
     }
 }
 
@@ -75,7 +76,7 @@ pub fn rejection_text(
 {
     match rejection {
         Rejection::Structural(structural) => structural_text(alloc, limits, *structural),
-        Rejection::Violation(violation) => violation_text(alloc, *violation),
+        Rejection::Violation(violation) => violation_text(alloc, violation),
     }
 }
 

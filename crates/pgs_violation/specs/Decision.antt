@@ -1,5 +1,5 @@
 -- The decision on a transaction. How a graph is judged, by a schema, is a parameter.
-use Rattle.std.specs.Prelude.{Result, Ok, Err, nat_lt, if◌then◌else◌}
+use Rattle.std.specs.Prelude.{List, [], ◌∷◌, Result, Ok, Err, nat_lt, if◌then◌else◌}
 use Rattle.pgs_base.specs.declared.limits.Limits.{Limits}
 use Rattle.pgs_base.specs.Graph.{Graph, element_count}
 use Rattle.pgs_graph.specs.declared.operation.Txn.{Txn}
@@ -30,3 +30,21 @@ judging limits verdict (Err structural) = Err (ByStructure structural)
 -- the graph after a transaction that is accepted, or why it is rejected
 abbrev pub decide : Limits → (Graph → Verdict) → Graph → Txn → Result Graph Rejection
 decide limits verdict g txn = judging limits verdict (staged limits g txn)
+
+-- the graph on which the next transaction is decided: the new one after an accepted transaction, else the same
+abbrev pub graph_after : Graph → Result Graph Rejection → Graph
+graph_after g (Ok next) = next
+graph_after g (Err rejection) = g
+
+-- the decisions on transactions, each on the graph after the accepted ones before it
+abbrev pub decisions : Limits → (Graph → Verdict) → Graph → List Txn → List (Result Graph Rejection)
+decisions limits verdict g [] = []
+decisions limits verdict g (txn ∷ txns) =
+    let decision = decide limits verdict g txn in
+    decision ∷ decisions limits verdict (graph_after g decision) txns
+
+-- the graph after the accepted ones of transactions
+abbrev pub graph_after_all : Limits → (Graph → Verdict) → Graph → List Txn → Graph
+graph_after_all limits verdict g [] = g
+graph_after_all limits verdict g (txn ∷ txns) =
+    graph_after_all limits verdict (graph_after g (decide limits verdict g txn)) txns

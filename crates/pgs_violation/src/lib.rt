@@ -1,8 +1,13 @@
-//! Why a graph doesn't conform and why a transaction is rejected, with the definitions of staging and of the
-//! decision on a transaction in `specs/`. They know no shapes, plans or indexes.
+//! Why a graph doesn't conform to a schema and why a transaction is rejected.
+//!
+//! The types are plain; a `Violation` has the order in which violations stand in the list of a graph's violations. What the
+//! violations of a graph are, the graph after a transaction, sound deltas and the decision on transactions stand in `specs/`.
+//! These definitions compute, and they know no compiled forms, no search plans and no indexes.
 #![tactic(auto)]
 
+pub mod laws;
 mod rejection;
+pub mod samples;
 mod structural;
 mod violation;
 

@@ -1,7 +1,7 @@
 use crate::{Structural, Violation};
 
 /// Why a transaction is rejected.
-#[derive(Clone, Copy, Debug, PartialEq, Eq)]
+#[derive(Debug, PartialEq, Eq, Drop)]
 pub enum Rejection {
     Structural(Structural),
     Violation(Violation),

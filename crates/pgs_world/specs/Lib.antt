@@ -1,5 +1,15 @@
+pub mod Changes
 pub mod Count
+pub mod Disk
+pub mod Held
+pub mod History
+pub mod Left
+pub mod MemArea
 pub mod MemSource
 pub mod MemWorld
+pub mod Moment
+pub mod Silent
+pub mod Sound
 pub mod Source
+pub mod Untold
 pub mod World

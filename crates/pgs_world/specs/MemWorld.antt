@@ -1,39 +1,221 @@
--- A world in memory that fails as listed.
-use Rattle.std.specs.Prelude.{ℕ, Bool, ◌||◌, List, ◌++◌, length, ◌+◌, ◌-◌, ◌^◌, min, nat_lt, if◌then◌else◌}
+-- A world in memory: what it holds, what it held before each call that changed it, and its counts.
+use Rattle.std.specs.Prelude.{◌≡◌, ◌⊎◌, ℕ, suc, zero, Bool, true, ◌||◌, List, [], ◌∷◌, ◌++◌, length, drop, ◌+◌, ◌-◌, ◌^◌, ◌<◌, ◌≤◌, min, nat_lt, if◌then◌else◌}
+use Rattle.std.proofs.Common.{inl, inr, arith}
 use Rattle.pgs_world.specs.Count.{raised, is_listed}
+use Rattle.pgs_world.specs.Held.{Held, IsImage, IsWell, after_write, after_cut, on_disk}
+use Rattle.pgs_world.specs.Moment.{IsTimed}
+use Rattle.pgs_world.specs.World.{Triple, View}
+use Rattle.pgs_world.specs.declared.area.Area.{Area}
+use Rattle.pgs_world.specs.declared.area.Area.TheVariants.{A, B}
+use Rattle.pgs_world.specs.declared.meter.Meter.{Meter}
+
+-- both areas and the output
+pub record State : Type 0 where
+  pub a : Held
+  pub b : Held
+  pub output : List ℕ
+
+abbrev pub area_of : Area → State → Held
+area_of A state = state.a
+area_of B state = state.b
+
+abbrev pub with_area : Area → Held → State → State
+with_area A held state = record { a = held; b = state.b; output = state.output }
+with_area B held state = record { a = state.a; b = held; output = state.output }
+
+abbrev pub with_output : List ℕ → State → State
+with_output output state = record { a = state.a; b = state.b; output = output }
+
+abbrev pub shown_of : State → Triple
+shown_of state = record { a = state.a.bytes; b = state.b.bytes; output = state.output }
+
+-- what a stop in this state may leave
+pub record Leaves (state : State) (triple : Triple) : Type 0 where
+  pub a : IsImage state.a triple.a
+  pub b : IsImage state.b triple.b
+  pub output : triple.output ≡ state.output
+
+-- what a stop in one of these states may have left
+abbrev pub HadLeft : List State → Triple → Type 0
+HadLeft [] triple = ⊥
+HadLeft (state ∷ past) triple = Leaves state triple ⊎ HadLeft past triple
 
 pub record Kept : Type 0 where
-  -- all that was put
-  pub output : List ℕ
-  -- how many calls it has room for, and how many bytes
-  pub room : ℕ
-  -- the numbers of the calls that fail, from 1
-  pub fail : List ℕ
-  -- how many calls there were, how many bytes were handed to them, and how many puts failed
-  pub calls : ℕ
-  pub handed : ℕ
-  pub put_faults : ℕ
+  -- the states before each call that changed it, in order
+  pub past : List State
+  pub now : State
+  pub meter : Meter
+
+abbrev pub view_of : Kept → View
+view_of world =
+    record {
+      honest = true;
+      tells_bytes = true;
+      tells_output = true;
+      shown = shown_of world.now;
+      moment = length world.past;
+      area_faults = world.meter.area_faults;
+      put_faults = world.meter.put_faults;
+      may_leave = Leaves world.now;
+      left_since = λ t triple. Leaves world.now triple ⊎ HadLeft (drop t world.past) triple;
+    }
+
+none_left : (past : List State) (c : Triple) → HadLeft (drop (length past) past) c → ⊥
+none_left [] c had = had
+none_left (s ∷ past) c had = none_left past c had
+
+had_in_front : (t : ℕ) (past : List State) (c : Triple) → HadLeft (drop t past) c → HadLeft past c
+had_in_front zero past c had = had
+had_in_front (suc t) [] c had = had
+had_in_front (suc t) (s ∷ past) c had = inr (had_in_front t past c had)
+
+had_earlier : (t u : ℕ) (past : List State) (c : Triple) → t ≤ u → HadLeft (drop u past) c → HadLeft (drop t past) c
+had_earlier zero u past c le had = had_in_front u past c had
+had_earlier (suc t) zero past c le had = absurd (omega arith)
+had_earlier (suc t) (suc u) [] c le had = had
+had_earlier (suc t) (suc u) (s ∷ past) c le had = had_earlier t u past c (omega arith) had
+
+only_now : (world : Kept) (c : Triple) → Leaves world.now c ⊎ HadLeft (drop (length world.past) world.past) c → Leaves world.now c
+only_now world c (inl now) = now
+only_now world c (inr had) = absurd (none_left world.past c had)
+
+earlier_now : (world : Kept) (t u : ℕ) (c : Triple) → t ≤ u → Leaves world.now c ⊎ HadLeft (drop u world.past) c → Leaves world.now c ⊎ HadLeft (drop t world.past) c
+earlier_now world t u c le (inl now) = inl now
+earlier_now world t u c le (inr had) = inr (had_earlier t u world.past c le had)
+
+pub timed_kept : (world : Kept) → IsTimed (view_of world)
+timed_kept world =
+    record {
+      now = λ t c le left. inl left;
+      only_now = λ c left. only_now world c left;
+      earlier = λ t u c le left. earlier_now world t u c le left;
+      output = λ honest tells c left. left.output;
+    }
+
+-- each area is as it can be
+pub record IsWellState (state : State) : Type 0 where
+  pub a : IsWell state.a
+  pub b : IsWell state.b
+
+-- what holds of every world in memory
+pub record IsKnown (world : Kept) : Type 0 where
+  pub well : IsWellState world.now
+  pub area_count : world.meter.area_faults < 2 ^ 64
+  pub put_count : world.meter.put_faults < 2 ^ 64
 
 -- the bytes handed in so far, with so many more
 abbrev pub handed_with : ℕ → ℕ → ℕ
 handed_with handed more = min (handed + more) (2 ^ 64 - 1)
 
--- the next call is listed, or one more than there is room for
-abbrev pub fails_next : Kept → Bool
-fails_next world = is_listed world.fail (raised world.calls) || nat_lt world.room (raised world.calls)
+-- the next call is listed, or past the last that may succeed
+abbrev pub fails_next : Meter → Bool
+fails_next meter = is_listed meter.fail (raised meter.calls) || nat_lt meter.most (raised meter.calls)
 
--- the next put fails, with a piece of so many bytes
-abbrev pub refuses_put : Kept → ℕ → Bool
-refuses_put world more = fails_next world || nat_lt world.room (handed_with world.handed more)
+-- the same, for a call with a piece of so many bytes: it also fails where the bytes handed in exceed the room
+abbrev pub refuses : Meter → ℕ → Bool
+refuses meter more = fails_next meter || nat_lt meter.room (handed_with meter.handed more)
 
--- the world after a put: one that fails puts nothing
+-- after a call that is counted
+abbrev pub counted : Meter → Meter
+counted meter =
+    record {
+      room = meter.room;
+      most = meter.most;
+      fail = meter.fail;
+      calls = raised meter.calls;
+      handed = meter.handed;
+      area_faults = meter.area_faults;
+      put_faults = meter.put_faults;
+    }
+
+-- and its piece too
+abbrev pub handed_in : Meter → ℕ → Meter
+handed_in meter more =
+    record {
+      room = meter.room;
+      most = meter.most;
+      fail = meter.fail;
+      calls = raised meter.calls;
+      handed = handed_with meter.handed more;
+      area_faults = meter.area_faults;
+      put_faults = meter.put_faults;
+    }
+
+abbrev pub area_failed : Meter → Meter
+area_failed meter =
+    record {
+      room = meter.room;
+      most = meter.most;
+      fail = meter.fail;
+      calls = meter.calls;
+      handed = meter.handed;
+      area_faults = raised meter.area_faults;
+      put_faults = meter.put_faults;
+    }
+
+abbrev pub put_failed : Meter → Meter
+put_failed meter =
+    record {
+      room = meter.room;
+      most = meter.most;
+      fail = meter.fail;
+      calls = meter.calls;
+      handed = meter.handed;
+      area_faults = meter.area_faults;
+      put_faults = raised meter.put_faults;
+    }
+
+-- the same state under other counts
+abbrev pub unchanged : Kept → Meter → Kept
+unchanged world meter = record { past = world.past; now = world.now; meter = meter }
+
+-- a new state, and the old one is past
+abbrev pub changed : Kept → Meter → State → Kept
+changed world meter state = record { past = world.past ++ world.now ∷ []; now = state; meter = meter }
+
+-- an area of more bytes than this, or a write past it, is a fault
+abbrev pub most_bytes : ℕ
+most_bytes = 2 ^ 40
+
+abbrev pub len_fails : Kept → Area → Bool
+len_fails world area = fails_next world.meter || nat_lt most_bytes (length (area_of area world.now).bytes)
+
+abbrev pub write_fails : Kept → ℕ → ℕ → Bool
+write_fails world at count = refuses world.meter count || nat_lt most_bytes (at + count)
+
+-- after a call that only reads
+abbrev pub after_read : Kept → Bool → Kept
+after_read world fails = unchanged world (if fails then area_failed (counted world.meter) else counted world.meter)
+
+abbrev pub after_write_at : Kept → Area → ℕ → List ℕ → Kept
+after_write_at world area at piece =
+    if write_fails world at (length piece)
+    then unchanged world (area_failed (handed_in world.meter (length piece)))
+    else changed world (handed_in world.meter (length piece)) (with_area area (after_write (area_of area world.now) at piece) world.now)
+
+abbrev pub after_cut_to : Kept → Area → ℕ → Kept
+after_cut_to world area len =
+    if fails_next world.meter
+    then unchanged world (area_failed (counted world.meter))
+    else changed world (counted world.meter) (with_area area (after_cut (area_of area world.now) len) world.now)
+
+abbrev pub after_sync : Kept → Area → Kept
+after_sync world area =
+    if fails_next world.meter
+    then unchanged world (area_failed (counted world.meter))
+    else changed world (counted world.meter) (with_area area (on_disk (area_of area world.now).bytes) world.now)
+
 abbrev pub after_put : Kept → List ℕ → Kept
 after_put world piece =
+    if refuses world.meter (length piece)
+    then unchanged world (put_failed (handed_in world.meter (length piece)))
+    else changed world (handed_in world.meter (length piece)) (with_output (world.now.output ++ piece) world.now)
+
+-- a world with these areas, all of them on the disk, and no output
+abbrev pub begun : List ℕ → List ℕ → ℕ → ℕ → List ℕ → Kept
+begun a b room most fail =
     record {
-      output = if refuses_put world (length piece) then world.output else world.output ++ piece;
-      room = world.room;
-      fail = world.fail;
-      calls = raised world.calls;
-      handed = handed_with world.handed (length piece);
-      put_faults = if refuses_put world (length piece) then raised world.put_faults else world.put_faults;
+      past = [];
+      now = record { a = on_disk a; b = on_disk b; output = [] };
+      meter = record { room = room; most = most; fail = fail; calls = 0; handed = 0; area_faults = 0; put_faults = 0 };
     }

@@ -5,6 +5,11 @@ use thiserror::Error;
 #[error("the source failed")]
 pub struct SourceFault;
 
+/// A call on an area failed. It comes only where the world's count of area faults rose.
+#[derive(Clone, Copy, Debug, PartialEq, Eq, Error)]
+#[error("the area failed")]
+pub struct AreaFault;
+
 /// A put of output failed. It comes only where the world's count of put faults rose.
 #[derive(Clone, Copy, Debug, PartialEq, Eq, Error)]
 #[error("the output failed")]

@@ -1,19 +1,35 @@
-//! The outside of the store as traits with a written meaning: a source of bytes, and a world that output
-//! is put to. Each counts its faults, and code that is generic over a trait can't raise the count by
+//! The outside of the store as traits with a written meaning: a source of bytes, and a world of two areas
+//! and an output. Each counts its faults, and code that is generic over a trait can't raise the count by
 //! itself: so "this fault only where its count rose" refuses a body that gives up.
 //! The meanings stand in `specs/`. Beside each trait are forms in memory, which are honest and fail as listed.
 #![tactic(auto)]
 
+mod area;
 mod fault;
+mod leave;
+mod mem_area;
+mod mem_contents;
 mod mem_source;
 mod mem_world;
+mod meter;
+mod model;
 mod quiet_source;
+mod silent_world;
 mod source;
+mod synced;
 mod world;
 
-pub use fault::{PutFault, SourceFault};
+pub use area::Area;
+pub use fault::{AreaFault, PutFault, SourceFault};
+pub use leave::Leave;
 pub use mem_source::MemSource;
 pub use mem_world::MemWorld;
+pub use model::disk_model;
 pub use quiet_source::QuietSource;
+pub use silent_world::SilentWorld;
 pub use source::Source;
+pub use synced::{cut_synced, sync_both, write_synced};
 pub use world::World;
+
+#[cfg(test)]
+mod tests;

@@ -1,41 +1,55 @@
-ghost use Rattle.std.specs.Prelude.{◌≡◌, ◌≤◌, ◌^◌, [], is_err, length, IfOk, OnOk, OnErr, Some};
+ghost use Rattle.std.specs.Prelude.{◌≡◌, ◌+◌, ◌≤◌, ◌^◌, [], not, length, take, drop, min, is_some, is_err, Some, IfSome, IfOk, OnOk, OnErr, IsTrue};
 ghost use Rattle.pgs_world.specs.Count.{Rose};
-ghost use Rattle.pgs_world.specs.MemWorld.{refuses_put, after_put};
-ghost use Rattle.pgs_world.specs.World.{output_of, Adds, AddsFront};
+ghost use Rattle.pgs_world.specs.Disk.{written_over, IsSameBeside, Writes, Cuts, Puts};
+ghost use Rattle.pgs_world.specs.Left.{left_of};
+ghost use Rattle.pgs_world.specs.MemWorld.{IsKnown, view_of, area_of, begun, fails_next, refuses, len_fails, write_fails, after_read, after_write_at, after_cut_to, after_sync, after_put};
+ghost use Rattle.pgs_world.specs.Moment.{Passes, StopsBy, IsQuiet, ShowsOne, IsSynced, IsSettled};
+ghost use Rattle.pgs_world.specs.World.{output_of, part, Adds, AddsFront};
 
-use crate::{PutFault, World};
+use crate::mem_contents::{Contents, Note, add_note};
+use crate::meter::Meter;
+use crate::{Area, AreaFault, Leave, PutFault, World};
 use pgs_base::{Bytes, List, Memory};
 use std::alloc::Global;
 use std::marker::Model;
 
-/// A world in memory: it tells its output, and fails exactly as listed. No call asks for memory.
+/// An area of more bytes than this, or a write past it, is a fault.
+const MOST_BYTES: u64 = 1 << 40;
+
+/// A world in memory. It is honest, tells its bytes and its output, and fails exactly as listed.
+///
+/// It takes its memory when it is made, and no call asks for more.
 #[derive(Debug, Drop)]
 pub struct MemWorld {
-    a: Bytes,
-    b: Bytes,
-    output: Vec<u8>,
-    room: u64,
-    fail: List<u64>,
-    calls: u64,
-    handed: u64,
-    put_faults: u64,
+    first_a: Bytes,
+    first_b: Bytes,
+    contents: Contents,
+    /// The calls that changed it, and the bytes that they were handed.
+    notes: Vec<Note>,
+    pieces: Vec<u8>,
+    meter: Meter,
 }
 
 impl Model for MemWorld {
-    ghost use Rattle.std.specs.Prelude.{◌≤◌, vec_len, vec_capacity};
     ghost use Rattle.pgs_world.specs.MemWorld.{Kept};
 
     ghost Value = { Kept };
 
-    ghost view = { λ w. record { output = w.output.items; room = w.room; fail = w.fail; calls = w.calls; handed = w.handed; put_faults = w.put_faults } };
+    ghost use Rattle.pgs_world.specs.Sound.{kept_of, IsSound};
 
-    ghost invariant = { λ w. (vec_len w.output ≤ w.handed) × (w.room ≤ vec_capacity w.output) };
+    ghost view = { kept_of };
+
+    ghost invariant = { IsSound };
 }
 
 impl MemWorld {
-    /// A world with these areas and no output, which takes at once the memory for `room` bytes and calls.
-    /// It fails exactly at the calls that are listed, counted from 1, at every call after the `room`-th,
-    /// and at a piece with which the bytes handed in so far exceed `room`.
+    /// A world with these areas, all of them on the disk, and no output. It takes at once the memory for
+    /// `room` calls and for `room` bytes written and put; no call asks for more.
+    ///
+    /// It fails exactly at the calls that are listed, counted from 1 over all kinds of calls, at every call
+    /// after the `room`-th, at a piece with which the bytes handed in so far exceed `room` (also those
+    /// handed to calls that failed), and where an area has, or would have, more than 2^40 bytes.
+    /// `room` is at most 2^32.
     pub fn new(
         alloc: Global,
         a: Bytes,
@@ -46,18 +60,53 @@ impl MemWorld {
         requires { room ≤ 2 ^ 32 }
         ensures output { IfOk result (λ world. output_of (⟦<MemWorld as World>⟧.view world) ≡ Some []) }
         ensures put_faults { IfOk result (λ world. (⟦<MemWorld as World>⟧.view world).put_faults ≡ 0) }
-        ensures kept { IfOk result (λ world. world ≡ record { output = []; room = room; fail = fail; calls = 0; handed = 0; put_faults = 0 }) }
+        ensures area_faults { IfOk result (λ world. (⟦<MemWorld as World>⟧.view world).area_faults ≡ 0) }
+        ensures shown { IfOk result (λ world. (⟦<MemWorld as World>⟧.view world).shown ≡ record { a = a; b = b; output = [] }) }
+        ensures settled { IfOk result (λ world. IsSettled (⟦<MemWorld as World>⟧.view world)) }
+        ensures kept { IfOk result (λ world. world ≡ begun a b room room fail) }
     {
-        let output = Vec::with_capacity(alloc, room as usize)?;
+        MemWorld::starting(alloc, a, b, room, room, fail)
+    }
+
+    /// The same, but every call after the first `calls` ones fails, and no other is listed.
+    pub fn stopping(
+        alloc: Global,
+        a: Bytes,
+        b: Bytes,
+        room: u64,
+        calls: u64,
+    ) -> Result<MemWorld, Memory>
+        requires { room ≤ 2 ^ 32 }
+        ensures shown { IfOk result (λ world. (⟦<MemWorld as World>⟧.view world).shown ≡ record { a = a; b = b; output = [] }) }
+        ensures settled { IfOk result (λ world. IsSettled (⟦<MemWorld as World>⟧.view world)) }
+        ensures kept { IfOk result (λ world. world ≡ begun a b room (min room calls) []) }
+    {
+        MemWorld::starting(alloc, a, b, room, room.min(calls), List::new(alloc))
+    }
+
+    fn starting(
+        alloc: Global,
+        a: Bytes,
+        b: Bytes,
+        room: u64,
+        most: u64,
+        fail: List<u64>,
+    ) -> Result<MemWorld, Memory>
+        requires room { room ≤ 2 ^ 32 }
+        requires most { most ≤ room }
+        ensures { IfOk result (λ world. world ≡ begun a b room most fail) }
+    {
+        let count = room as usize;
+        let contents = Contents::new(alloc, &a, &b, count)?;
+        let notes = Vec::with_capacity(alloc, count)?;
+        let pieces = Vec::with_capacity(alloc, count)?;
         Ok(MemWorld {
-            a,
-            b,
-            output,
-            room,
-            fail,
-            calls: 0,
-            handed: 0,
-            put_faults: 0,
+            first_a: a,
+            first_b: b,
+            contents,
+            notes,
+            pieces,
+            meter: Meter::new(room, most, fail),
         })
     }
 
@@ -65,33 +114,252 @@ impl MemWorld {
     pub fn output(&self) -> &[u8]
         ensures { output_of (⟦<MemWorld as World>⟧.view self.now) ≡ Some result.now }
     {
-        self.output.as_slice()
+        self.contents.output.as_slice()
+    }
+
+    /// What a read of the area gives, without a call of the world.
+    pub fn bytes(&self, area: Area) -> &[u8]
+        ensures { part area (⟦<MemWorld as World>⟧.view self.now).shown ≡ result.now }
+    {
+        self.contents.bytes(area)
+    }
+
+    /// Both areas and the output, as a stop leaves them.
+    pub fn left(self, alloc: Global, how: Leave) -> Result<(Bytes, Bytes, Bytes), Memory>
+        ensures may_leave { IfOk result (λ left. (⟦<MemWorld as World>⟧.view self).may_leave (record { a = left.0; b = left.1; output = left.2 })) }
+        ensures a { IfOk result (λ left. left.0 ≡ left_of how self.now.a) }
+        ensures b { IfOk result (λ left. left.1 ≡ left_of how self.now.b) }
+        ensures output { IfOk result (λ left. left.2 ≡ self.now.output) }
+    {
+        let a = self.contents.a.left(alloc, how)?;
+        let b = self.contents.b.left(alloc, how)?;
+        let output = List::from_slice(alloc, &self.contents.output)?;
+        Ok((a, b, output))
+    }
+
+    /// Writes, or says that the call fails.
+    fn write_exact(&mut self, area: Area, at: u64, bytes: &[u8]) -> bool
+        requires { at ≤ length (area_of area self.old.now).bytes }
+        ensures did { result ≡ not (write_fails self.old at (length bytes.now)) }
+        ensures after { self.new ≡ after_write_at self.old area at bytes.now }
+        ensures known { IsKnown self.old }
+    {
+        let admits = self.meter.admits_piece(bytes);
+        if !admits || at.saturating_add(bytes.len() as u64) > MOST_BYTES {
+            self.meter.count_area_fault();
+            return false;
+        }
+        self.contents.write(area, at as usize, bytes);
+        let call = Note::Write(area, at, bytes.len() as u64);
+        add_note(&mut self.notes, &mut self.pieces, call, bytes);
+        true
+    }
+
+    /// Cuts, or says that the call fails.
+    fn cut_exact(&mut self, area: Area, len: u64) -> bool
+        ensures did { result ≡ not (fails_next self.old.meter) }
+        ensures after { self.new ≡ after_cut_to self.old area len }
+        ensures known { IsKnown self.old }
+    {
+        if !self.meter.admits() {
+            self.meter.count_area_fault();
+            return false;
+        }
+        self.contents.cut(area, len as usize);
+        add_note(&mut self.notes, &mut self.pieces, Note::Cut(area, len), &[]);
+        true
+    }
+
+    /// Syncs, or says that the call fails.
+    fn sync_exact(&mut self, area: Area) -> bool
+        ensures did { result ≡ not (fails_next self.old.meter) }
+        ensures after { self.new ≡ after_sync self.old area }
+        ensures known { IsKnown self.old }
+    {
+        if !self.meter.admits() {
+            self.meter.count_area_fault();
+            return false;
+        }
+        self.contents.sync(area);
+        add_note(&mut self.notes, &mut self.pieces, Note::Sync(area), &[]);
+        true
+    }
+
+    /// Puts, or says that the call fails.
+    fn put_exact(&mut self, piece: &[u8]) -> bool
+        ensures did { result ≡ not (refuses self.old.meter (length piece.now)) }
+        ensures after { self.new ≡ after_put self.old piece.now }
+        ensures known { IsKnown self.old }
+    {
+        if !self.meter.admits_piece(piece) {
+            self.meter.count_put_fault();
+            return false;
+        }
+        self.contents.put(piece);
+        let call = Note::Put(piece.len() as u64);
+        add_note(&mut self.notes, &mut self.pieces, call, piece);
+        true
+    }
+
+    /// The length of an area, where the call doesn't fail.
+    fn len_exact(&mut self, area: Area) -> Option<u64>
+        ensures did { is_some result ≡ not (len_fails self.old area) }
+        ensures length { IfSome result (λ count. count ≡ length (area_of area self.old.now).bytes) }
+        ensures after { self.new ≡ after_read self.old (len_fails self.old area) }
+        ensures known { IsKnown self.old }
+    {
+        let admits = self.meter.admits();
+        let len = self.contents.bytes(area).len() as u64;
+        if !admits || len > MOST_BYTES {
+            self.meter.count_area_fault();
+            return None;
+        }
+        Some(len)
+    }
+
+    /// Fills the buffer, or says that the call fails.
+    fn read_exact(&mut self, area: Area, at: u64, buf: &mut [u8]) -> bool
+        requires { at + length buf.old ≤ length (area_of area self.old.now).bytes }
+        ensures did { result ≡ not (fails_next self.old.meter) }
+        ensures bytes { IsTrue result → buf.new ≡ take (length buf.old) (drop at (area_of area self.old.now).bytes) }
+        ensures after { self.new ≡ after_read self.old (fails_next self.old.meter) }
+        ensures known { IsKnown self.old }
+    {
+        if !self.meter.admits() {
+            self.meter.count_area_fault();
+            return false;
+        }
+        let at = at as usize;
+        buf.copy_from_slice(&self.contents.bytes(area)[at..at + buf.len()]);
+        true
     }
 }
 
 impl World for MemWorld {
-    ghost use Rattle.std.specs.Prelude.{Some};
+    ghost use Rattle.pgs_world.specs.MemWorld.{view_of, timed_kept};
 
-    ghost view = { λ w. record { output = Some w.output; put_faults = w.put_faults } };
+    ghost view = { view_of };
 
-    /// Fails exactly as listed and past the room, and then puts nothing.
+    ghost timed = { timed_kept };
+
+    /// Fails exactly as listed, past the last call, and where the area has more than 2^40 bytes.
+    fn len(&mut self, area: Area) -> Result<u64, AreaFault>
+        ensures fails { is_err result ≡ len_fails self.old area }
+        ensures after { self.new ≡ after_read self.old (len_fails self.old area) }
+
+        // What every world says.
+        ensures length { IfOk result (λ count. IsTrue (view_of self.old).tells_bytes → count ≡ length (part area (view_of self.old).shown)) }
+        ensures limit { IfOk result (λ count. count ≤ 2 ^ 40) }
+        ensures quiet { IsQuiet (view_of self.old) (view_of self.new) }
+        ensures image { ShowsOne (view_of self.new) }
+        ensures cause { OnErr result (Rose (view_of self.old).area_faults (view_of self.new).area_faults) }
+        ensures no_cause { OnOk result ((view_of self.new).area_faults ≡ (view_of self.old).area_faults) }
+        ensures no_put { (view_of self.new).put_faults ≡ (view_of self.old).put_faults }
+    {
+        self.len_exact(area).ok_or(AreaFault)
+    }
+
+    /// Fails exactly as listed and past the last call.
+    fn read_at(&mut self, area: Area, at: u64, buf: &mut [u8]) -> Result<(), AreaFault>
+        requires { IsTrue (view_of self.old).tells_bytes → at + length buf.old ≤ length (part area (view_of self.old).shown) }
+        ensures fails { is_err result ≡ fails_next self.old.meter }
+        ensures after { self.new ≡ after_read self.old (fails_next self.old.meter) }
+
+        // What every world says.
+        ensures bytes { OnOk result (IsTrue (view_of self.old).tells_bytes → buf.new ≡ take (length buf.old) (drop at (part area (view_of self.old).shown))) }
+        ensures quiet { IsQuiet (view_of self.old) (view_of self.new) }
+        ensures image { ShowsOne (view_of self.new) }
+        ensures cause { OnErr result (Rose (view_of self.old).area_faults (view_of self.new).area_faults) }
+        ensures no_cause { OnOk result ((view_of self.new).area_faults ≡ (view_of self.old).area_faults) }
+        ensures no_put { (view_of self.new).put_faults ≡ (view_of self.old).put_faults }
+    {
+        area_answer(self.read_exact(area, at, buf))
+    }
+
+    /// Fails exactly as listed, past the last call, past the room and past 2^40 bytes, and then writes nothing.
+    fn write_at(&mut self, area: Area, at: u64, bytes: &[u8]) -> Result<(), AreaFault>
+        requires { IsTrue (view_of self.old).tells_bytes → at ≤ length (part area (view_of self.old).shown) }
+        ensures fails { is_err result ≡ write_fails self.old at (length bytes.now) }
+        ensures after { self.new ≡ after_write_at self.old area at bytes.now }
+
+        // What every world says.
+        ensures written { OnOk result (IsTrue (view_of self.old).tells_bytes → part area (view_of self.new).shown ≡ written_over (part area (view_of self.old).shown) at bytes.now) }
+        ensures limit { OnOk result (at + length bytes.now ≤ 2 ^ 40) }
+        ensures beside { IsSameBeside area (view_of self.old).shown (view_of self.new).shown }
+        ensures stops { StopsBy (Writes area at (length bytes.now)) (view_of self.old) (view_of self.new) }
+        ensures passes { Passes (view_of self.old) (view_of self.new) }
+        ensures image { ShowsOne (view_of self.new) }
+        ensures cause { OnErr result (Rose (view_of self.old).area_faults (view_of self.new).area_faults) }
+        ensures no_cause { OnOk result ((view_of self.new).area_faults ≡ (view_of self.old).area_faults) }
+        ensures no_put { (view_of self.new).put_faults ≡ (view_of self.old).put_faults }
+    {
+        area_answer(self.write_exact(area, at, bytes))
+    }
+
+    /// Fails exactly as listed and past the last call, and then cuts nothing.
+    fn cut(&mut self, area: Area, len: u64) -> Result<(), AreaFault>
+        requires { IsTrue (view_of self.old).tells_bytes → len ≤ length (part area (view_of self.old).shown) }
+        ensures fails { is_err result ≡ fails_next self.old.meter }
+        ensures after { self.new ≡ after_cut_to self.old area len }
+
+        // What every world says.
+        ensures cut { OnOk result (IsTrue (view_of self.old).tells_bytes → part area (view_of self.new).shown ≡ take len (part area (view_of self.old).shown)) }
+        ensures beside { IsSameBeside area (view_of self.old).shown (view_of self.new).shown }
+        ensures stops { StopsBy (Cuts area len) (view_of self.old) (view_of self.new) }
+        ensures passes { Passes (view_of self.old) (view_of self.new) }
+        ensures image { ShowsOne (view_of self.new) }
+        ensures cause { OnErr result (Rose (view_of self.old).area_faults (view_of self.new).area_faults) }
+        ensures no_cause { OnOk result ((view_of self.new).area_faults ≡ (view_of self.old).area_faults) }
+        ensures no_put { (view_of self.new).put_faults ≡ (view_of self.old).put_faults }
+    {
+        area_answer(self.cut_exact(area, len))
+    }
+
+    /// Fails exactly as listed and past the last call, and then syncs nothing.
+    fn sync(&mut self, area: Area) -> Result<(), AreaFault>
+        ensures fails { is_err result ≡ fails_next self.old.meter }
+        ensures after { self.new ≡ after_sync self.old area }
+
+        // What every world says.
+        ensures synced { OnOk result (IsSynced area (view_of self.new)) }
+        ensures quiet { IsQuiet (view_of self.old) (view_of self.new) }
+        ensures image { ShowsOne (view_of self.new) }
+        ensures cause { OnErr result (Rose (view_of self.old).area_faults (view_of self.new).area_faults) }
+        ensures no_cause { OnOk result ((view_of self.new).area_faults ≡ (view_of self.old).area_faults) }
+        ensures no_put { (view_of self.new).put_faults ≡ (view_of self.old).put_faults }
+    {
+        area_answer(self.sync_exact(area))
+    }
+
+    /// Fails exactly as listed, past the last call and past the room, and then puts nothing.
     fn put(&mut self, piece: &[u8]) -> Result<(), PutFault>
-        ensures fails { is_err result ≡ refuses_put self.old (length piece.now) }
+        ensures fails { is_err result ≡ refuses self.old.meter (length piece.now) }
         ensures after { self.new ≡ after_put self.old piece.now }
 
         // What every world says.
-        ensures whole { OnOk result (Adds (Some self.old.output) (Some self.new.output) piece.now) }
-        ensures front { OnErr result (AddsFront (Some self.old.output) (Some self.new.output) piece.now) }
-        ensures cause { OnErr result (Rose self.old.put_faults self.new.put_faults) }
-        ensures faults_stay { self.old.put_faults ≤ self.new.put_faults }
+        ensures whole { OnOk result (Adds (output_of (view_of self.old)) (output_of (view_of self.new)) piece.now) }
+        ensures front { OnErr result (AddsFront (output_of (view_of self.old)) (output_of (view_of self.new)) piece.now) }
+        ensures cause { OnErr result (Rose (view_of self.old).put_faults (view_of self.new).put_faults) }
+        ensures faults_stay { (view_of self.old).put_faults ≤ (view_of self.new).put_faults }
+        ensures a { (view_of self.new).shown.a ≡ (view_of self.old).shown.a }
+        ensures b { (view_of self.new).shown.b ≡ (view_of self.old).shown.b }
+        ensures stops { StopsBy (Puts piece.now) (view_of self.old) (view_of self.new) }
+        ensures passes { Passes (view_of self.old) (view_of self.new) }
+        ensures image { ShowsOne (view_of self.new) }
+        ensures no_cause { OnOk result ((view_of self.new).put_faults ≡ (view_of self.old).put_faults) }
+        ensures no_area { (view_of self.new).area_faults ≡ (view_of self.old).area_faults }
     {
-        self.calls = self.calls.saturating_add(1);
-        self.handed = self.handed.saturating_add(piece.len() as u64);
-        let is_listed = self.fail.as_slice().contains(&self.calls);
-        if is_listed || self.room < self.calls || self.room < self.handed {
-            self.put_faults = self.put_faults.saturating_add(1);
-            return Err(PutFault);
+        if self.put_exact(piece) {
+            Ok(())
+        } else {
+            Err(PutFault)
         }
-        self.output.extend_from_slice(piece).map_err(|_| PutFault)
     }
+}
+
+/// The answer of a call on an area.
+fn area_answer(did: bool) -> Result<(), AreaFault>
+    ensures { is_err result ≡ not did }
+{
+    if did { Ok(()) } else { Err(AreaFault) }
 }

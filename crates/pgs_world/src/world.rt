@@ -1,19 +1,93 @@
-ghost use Rattle.std.specs.Prelude.{◌≡◌, ◌≤◌, OnOk, OnErr};
+ghost use Rattle.std.specs.Prelude.{◌≡◌, ◌+◌, ◌^◌, ◌≤◌, length, take, drop, IsTrue, IfOk, OnOk, OnErr};
 ghost use Rattle.pgs_world.specs.Count.{Rose};
-ghost use Rattle.pgs_world.specs.World.{View, output_of, Adds, AddsFront};
+ghost use Rattle.pgs_world.specs.Disk.{written_over, IsSameBeside, Writes, Cuts, Puts};
+ghost use Rattle.pgs_world.specs.Moment.{IsTimed, Passes, StopsBy, IsQuiet, ShowsOne, IsSynced};
+ghost use Rattle.pgs_world.specs.World.{View, output_of, part, Adds, AddsFront};
 
-use crate::PutFault;
+use crate::{Area, AreaFault, PutFault};
 
-/// Where the output of a run goes.
+/// Two areas of bytes and an output.
+///
+/// A call that fails raised a count. What a contract says of the bytes and of the output holds where the
+/// world tells them, and what it says of stops holds where the world is honest (docs/DEFINITIONS.md).
 pub trait World {
     /// What contracts see of the world.
     ghost view: { Self → View };
 
+    /// The length of an area, in bytes. An area of more than 2^40 bytes is a fault.
+    fn len(&mut self, area: Area) -> Result<u64, AreaFault>
+        ensures length { IfOk result (λ count. IsTrue (view self.old).tells_bytes → count ≡ length (part area (view self.old).shown)) }
+        ensures limit { IfOk result (λ count. count ≤ 2 ^ 40) }
+        ensures quiet { IsQuiet (view self.old) (view self.new) }
+        ensures image { ShowsOne (view self.new) }
+        ensures cause { OnErr result (Rose (view self.old).area_faults (view self.new).area_faults) }
+        ensures no_cause { OnOk result ((view self.new).area_faults ≡ (view self.old).area_faults) }
+        ensures no_put { (view self.new).put_faults ≡ (view self.old).put_faults };
+
+    /// Fills the buffer with the bytes of an area from a place on. A range outside the area is a fault
+    /// where its length isn't told, and where it is told no caller may ask for one.
+    fn read_at(&mut self, area: Area, at: u64, buf: &mut [u8]) -> Result<(), AreaFault>
+        requires { IsTrue (view self.old).tells_bytes → at + length buf.old ≤ length (part area (view self.old).shown) }
+        ensures bytes { OnOk result (IsTrue (view self.old).tells_bytes → buf.new ≡ take (length buf.old) (drop at (part area (view self.old).shown))) }
+        ensures quiet { IsQuiet (view self.old) (view self.new) }
+        ensures image { ShowsOne (view self.new) }
+        ensures cause { OnErr result (Rose (view self.old).area_faults (view self.new).area_faults) }
+        ensures no_cause { OnOk result ((view self.new).area_faults ≡ (view self.old).area_faults) }
+        ensures no_put { (view self.new).put_faults ≡ (view self.old).put_faults };
+
+    /// Writes over what is there, and past the end. Until a sync of the area, a stop may leave any bytes in
+    /// the range and any length between the old and the new one. A write past 2^40 bytes is a fault. After
+    /// a fault the bytes are as if part of it had been done.
+    fn write_at(&mut self, area: Area, at: u64, bytes: &[u8]) -> Result<(), AreaFault>
+        requires { IsTrue (view self.old).tells_bytes → at ≤ length (part area (view self.old).shown) }
+        ensures written { OnOk result (IsTrue (view self.old).tells_bytes → part area (view self.new).shown ≡ written_over (part area (view self.old).shown) at bytes.now) }
+        ensures limit { OnOk result (at + length bytes.now ≤ 2 ^ 40) }
+        ensures beside { IsSameBeside area (view self.old).shown (view self.new).shown }
+        ensures stops { StopsBy (Writes area at (length bytes.now)) (view self.old) (view self.new) }
+        ensures passes { Passes (view self.old) (view self.new) }
+        ensures image { ShowsOne (view self.new) }
+        ensures cause { OnErr result (Rose (view self.old).area_faults (view self.new).area_faults) }
+        ensures no_cause { OnOk result ((view self.new).area_faults ≡ (view self.old).area_faults) }
+        ensures no_put { (view self.new).put_faults ≡ (view self.old).put_faults };
+
+    /// Cuts an area to a length. Until a sync of the area, a stop may leave any bytes behind the cut, up to
+    /// the old length. After a fault the bytes are as if part of it had been done.
+    fn cut(&mut self, area: Area, len: u64) -> Result<(), AreaFault>
+        requires { IsTrue (view self.old).tells_bytes → len ≤ length (part area (view self.old).shown) }
+        ensures cut { OnOk result (IsTrue (view self.old).tells_bytes → part area (view self.new).shown ≡ take len (part area (view self.old).shown)) }
+        ensures beside { IsSameBeside area (view self.old).shown (view self.new).shown }
+        ensures stops { StopsBy (Cuts area len) (view self.old) (view self.new) }
+        ensures passes { Passes (view self.old) (view self.new) }
+        ensures image { ShowsOne (view self.new) }
+        ensures cause { OnErr result (Rose (view self.old).area_faults (view self.new).area_faults) }
+        ensures no_cause { OnOk result ((view self.new).area_faults ≡ (view self.old).area_faults) }
+        ensures no_put { (view self.new).put_faults ≡ (view self.old).put_faults };
+
+    /// After it, a stop leaves of the area what a read gives.
+    fn sync(&mut self, area: Area) -> Result<(), AreaFault>
+        ensures synced { OnOk result (IsSynced area (view self.new)) }
+        ensures quiet { IsQuiet (view self.old) (view self.new) }
+        ensures image { ShowsOne (view self.new) }
+        ensures cause { OnErr result (Rose (view self.old).area_faults (view self.new).area_faults) }
+        ensures no_cause { OnOk result ((view self.new).area_faults ≡ (view self.old).area_faults) }
+        ensures no_put { (view self.new).put_faults ≡ (view self.old).put_faults };
+
     /// Puts the piece at the end of the output. After `PutFault` some front of it may have been put, and
-    /// the count of put faults rose.
+    /// the count of put faults rose. A stop during the call leaves some front of it.
     fn put(&mut self, piece: &[u8]) -> Result<(), PutFault>
         ensures whole { OnOk result (Adds (output_of (view self.old)) (output_of (view self.new)) piece.now) }
         ensures front { OnErr result (AddsFront (output_of (view self.old)) (output_of (view self.new)) piece.now) }
         ensures cause { OnErr result (Rose (view self.old).put_faults (view self.new).put_faults) }
-        ensures faults_stay { (view self.old).put_faults ≤ (view self.new).put_faults };
+        ensures faults_stay { (view self.old).put_faults ≤ (view self.new).put_faults }
+
+        ensures a { (view self.new).shown.a ≡ (view self.old).shown.a }
+        ensures b { (view self.new).shown.b ≡ (view self.old).shown.b }
+        ensures stops { StopsBy (Puts piece.now) (view self.old) (view self.new) }
+        ensures passes { Passes (view self.old) (view self.new) }
+        ensures image { ShowsOne (view self.new) }
+        ensures no_cause { OnOk result ((view self.new).put_faults ≡ (view self.old).put_faults) }
+        ensures no_area { (view self.new).area_faults ≡ (view self.old).area_faults };
+
+    /// What a stop may leave now, and since each moment, belong together.
+    ghost timed: { (world : Self) → IsTimed (view world) };
 }

@@ -1,0 +1,72 @@
+ghost use Rattle.std.specs.Prelude.{◌≡◌, ◌≤◌};
+ghost use Rattle.pgs_world.specs.Count.{Rose};
+
+use pgs_world::{Area, AreaFault, PutFault, World};
+use std::io::Write;
+
+/// A writer as a world. It tells nothing of the output and has no areas yet, and counts its faults.
+#[derive(Drop)]
+pub struct StdoutWorld<W: Write> {
+    writer: W,
+    area_faults: u64,
+    put_faults: u64,
+}
+
+impl<W: Write> StdoutWorld<W> {
+    /// The writer as a world without a fault.
+    pub fn new(writer: W) -> StdoutWorld<W> {
+        StdoutWorld {
+            writer,
+            area_faults: 0,
+            put_faults: 0,
+        }
+    }
+
+    // Counts a call on an area: no command has one yet.
+    fn area_fault(&mut self) -> AreaFault
+        ensures risen { Rose self.old.area_faults self.new.area_faults }
+        ensures later { self.old.area_faults ≤ self.new.area_faults }
+        ensures puts_stay { self.new.put_faults ≡ self.old.put_faults }
+    {
+        self.area_faults = self.area_faults.saturating_add(1);
+        AreaFault
+    }
+}
+
+impl<W: Write> World for StdoutWorld<W> {
+    ghost use Rattle.pgs_world.specs.Untold.{untold, timed_untold};
+
+    ghost view = { λ world. untold world.area_faults world.put_faults };
+
+    ghost timed = { λ world. timed_untold world.area_faults world.put_faults };
+
+    fn len(&mut self, _area: Area) -> Result<u64, AreaFault> {
+        Err(self.area_fault())
+    }
+
+    fn read_at(&mut self, _area: Area, _at: u64, _buf: &mut [u8]) -> Result<(), AreaFault> {
+        Err(self.area_fault())
+    }
+
+    fn write_at(&mut self, _area: Area, _at: u64, _bytes: &[u8]) -> Result<(), AreaFault> {
+        Err(self.area_fault())
+    }
+
+    fn cut(&mut self, _area: Area, _len: u64) -> Result<(), AreaFault> {
+        Err(self.area_fault())
+    }
+
+    fn sync(&mut self, _area: Area) -> Result<(), AreaFault> {
+        Err(self.area_fault())
+    }
+
+    fn put(&mut self, piece: &[u8]) -> Result<(), PutFault> {
+        match self.writer.write_all(piece) {
+            Ok(()) => Ok(()),
+            Err(_) => {
+                self.put_faults = self.put_faults.saturating_add(1);
+                Err(PutFault)
+            }
+        }
+    }
+}

@@ -1,0 +1,61 @@
+ghost use Rattle.std.specs.Prelude.{◌≡◌, IfOk};
+
+use crate::Memory;
+use std::alloc::Global;
+use std::marker::Model;
+
+/// A `Box` that contracts see as the value in it, so that two boxes of one value are equal. A type that
+/// holds itself is written with it.
+#[derive(Debug, Drop)]
+pub struct Boxed<T> {
+    inner: Box<T>,
+}
+
+impl<T> Model for Boxed<T> {
+    ghost Value = { T };
+
+    ghost coded = { T.code };
+
+    ghost view = { λ boxed. boxed.inner.value };
+}
+
+impl<T> Boxed<T> {
+    /// The value in the box.
+    pub fn get(&self) -> &T
+        ensures { result.now ≡ self.now }
+    {
+        &self.inner
+    }
+
+    /// The value, taken out of the box.
+    pub fn into_inner(self) -> T
+        ensures { result ≡ self }
+    {
+        let Boxed { inner } = self;
+        Box::into_inner(inner)
+    }
+}
+
+impl<T: Drop> Boxed<T> {
+    /// The value in a box. `Memory` where there was none left.
+    pub fn new(alloc: Global, value: T) -> Result<Boxed<T>, Memory>
+        ensures { IfOk result (λ boxed. boxed ≡ value) }
+    {
+        let inner = Box::new(alloc, value)?;
+        Ok(Boxed { inner })
+    }
+}
+
+#[cfg(test)]
+mod tests {
+    use super::*;
+    use std::test::Fail;
+
+    #[test]
+    fn a_box_holds_its_value(rt: HostRuntime) -> Result<(), Fail> {
+        let boxed = Boxed::new(rt.alloc(), 7)?;
+        assert_eq!(rt; *boxed.get(), 7);
+        assert_eq!(rt; boxed.into_inner(), 7);
+        Ok(())
+    }
+}

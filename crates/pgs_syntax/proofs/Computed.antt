@@ -1,0 +1,104 @@
+-- What the definitions give on the samples: each computes.
+use Rattle.std.proofs.Common.{◌≡◌, true, false, pos, [], ◌∷◌, codes, refl}
+use denote.Hole.Carrier.{hidden}
+use Rattle.pgs_base.specs.declared.element.Elem.TheVariants as elems
+use Rattle.pgs_base.specs.declared.part.Part.TheVariants as parts
+use Rattle.pgs_base.specs.declared.value.Value.TheVariants.{Text, Int}
+use Rattle.pgs_syntax.specs.declared.resolved.TypeNo.TheVariants.{Node}
+use Rattle.pgs_syntax.specs.declared.specification.Spec.TheBlock as block
+use Rattle.pgs_syntax.specs.Samples.{staff, ann, shared_key, with, open_type, abstract_types, acquaintance, acquainted, social, cyd, bob, two_steps, steps_to, moderator, forum, by_n4, by_n5, keyed, edge, two_apart, names_later, names_twice}
+use Rattle.pgs_syntax.specs.Join.{pair_of}
+use Rattle.pgs_syntax.specs.Typed.{node_typed, edge_is_typed}
+use Rattle.pgs_syntax.specs.KeyValues.{scope_of, key_values}
+use Rattle.pgs_syntax.specs.Valid.{is_valid, is_valid_key, is_valid_pattern}
+
+pub heir_typed : node_typed (staff (Node 0 ∷ Node 1 ∷ [])) ann ≡ true
+unfolding block.hidden-the_row-Spec-0 hidden
+heir_typed = refl
+
+pub parent_closed : node_typed (staff (Node 0 ∷ [])) ann ≡ false
+unfolding block.hidden-the_row-Spec-0 hidden
+parent_closed = refl
+
+pub first_kind : node_typed shared_key (with (codes "k") (Int (pos 5))) ≡ true
+unfolding block.hidden-the_row-Spec-0 hidden
+first_kind = refl
+
+pub other_kind : node_typed shared_key (with (codes "k") (Text (codes "s"))) ≡ false
+unfolding block.hidden-the_row-Spec-0 hidden
+other_kind = refl
+
+pub named_key : node_typed open_type (with (codes "age") (Text (codes "x"))) ≡ false
+named_key = refl
+
+pub free_key : node_typed open_type (with (codes "zip") (Text (codes "x"))) ≡ true
+free_key = refl
+
+pub abstract_only : node_typed abstract_types (pair_of (codes "A" ∷ []) []) ≡ false
+abstract_only = refl
+
+pub edge_typed : edge_is_typed acquaintance (acquainted (codes "P" ∷ codes "Q" ∷ [])) (edge 1 1 2 (codes "knows")).1 ≡ true
+unfolding block.hidden-the_row-Spec-0 hidden
+edge_typed = refl
+
+pub edge_untyped : edge_is_typed acquaintance (acquainted (codes "P" ∷ [])) (edge 1 1 2 (codes "knows")).1 ≡ false
+unfolding block.hidden-the_row-Spec-0 hidden
+edge_untyped = refl
+
+pub person_typed : node_typed social cyd ≡ true
+unfolding block.hidden-the_row-Spec-0 hidden
+person_typed = refl
+
+pub employee_typed : node_typed social (bob (codes "Employee" ∷ codes "Person" ∷ [])) ≡ true
+unfolding block.hidden-the_row-Spec-0 hidden
+employee_typed = refl
+
+pub salary_needs_label : node_typed social (bob (codes "Person" ∷ [])) ≡ false
+unfolding block.hidden-the_row-Spec-0 hidden
+salary_needs_label = refl
+
+pub steps_scope : scope_of (keyed (two_steps ∷ [])) (steps_to []) two_steps ≡ elems.Node (record { 0 = 3 }) ∷ []
+steps_scope = refl
+
+pub steps_value : key_values (keyed (two_steps ∷ [])) (steps_to ((codes "v", Int (pos 1)) ∷ [])) two_steps (elems.Node (record { 0 = 3 }))
+    ≡ (parts.Value (Int (pos 1)) ∷ []) ∷ []
+steps_value = refl
+
+pub steps_absent : key_values (keyed (two_steps ∷ [])) (steps_to []) two_steps (elems.Node (record { 0 = 3 })) ≡ []
+steps_absent = refl
+
+pub forum_scope : scope_of (keyed (moderator ∷ [])) (forum (by_n4 ∷ [])) moderator ≡ elems.Node (record { 0 = 1 }) ∷ []
+forum_scope = refl
+
+pub one_moderator : key_values (keyed (moderator ∷ [])) (forum (by_n4 ∷ [])) moderator (elems.Node (record { 0 = 1 }))
+    ≡ (parts.Value (Text (codes "db")) ∷ parts.Elem (elems.Node (record { 0 = 4 })) ∷ []) ∷ []
+one_moderator = refl
+
+pub two_moderators : key_values (keyed (moderator ∷ [])) (forum (by_n4 ∷ by_n5 ∷ [])) moderator (elems.Node (record { 0 = 1 }))
+    ≡ (parts.Value (Text (codes "db")) ∷ parts.Elem (elems.Node (record { 0 = 4 })) ∷ [])
+    ∷ (parts.Value (Text (codes "db")) ∷ parts.Elem (elems.Node (record { 0 = 5 })) ∷ []) ∷ []
+two_moderators = refl
+
+pub valid_social : is_valid social ≡ true
+unfolding block.hidden-the_row-Spec-0 hidden
+valid_social = refl
+
+pub valid_acquaintance : is_valid acquaintance ≡ true
+unfolding block.hidden-the_row-Spec-0 hidden
+valid_acquaintance = refl
+
+pub valid_moderator : is_valid_key moderator ≡ true
+valid_moderator = refl
+
+pub valid_steps : is_valid_key two_steps ≡ true
+valid_steps = refl
+
+pub apart : is_valid_pattern two_apart ≡ false
+apart = refl
+
+pub too_early : is_valid names_later ≡ false
+unfolding block.hidden-the_row-Spec-0 hidden
+too_early = refl
+
+pub twice : is_valid names_twice ≡ false
+twice = refl

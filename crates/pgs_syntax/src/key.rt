@@ -1,0 +1,20 @@
+use crate::{Expr, Pattern};
+use pgs_base::List;
+
+/// What a key asks: MANDATORY, that each element of the scope has a key value; SINGLETON, that it has at most one;
+/// EXCLUSIVE, that no two elements of the scope share one. IDENTIFIER is all three.
+#[derive(Clone, Copy, Debug, PartialEq, Eq)]
+pub struct Qualifiers {
+    pub mandatory: bool,
+    pub singleton: bool,
+    pub exclusive: bool,
+}
+
+/// A key: `FOR scope qualifiers exprs WITHIN descriptor`. Variable 0 is the element in both patterns.
+#[derive(Debug, Drop)]
+pub struct Key {
+    pub qualifiers: Qualifiers,
+    pub scope: Pattern,
+    pub descriptor: Pattern,
+    pub exprs: List<Expr>,
+}

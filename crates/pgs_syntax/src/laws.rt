@@ -1,0 +1,95 @@
+//! Laws that show that the definitions mean what they should. The functions do nothing; their contracts are the statements.
+
+ghost use Rattle.std.specs.Prelude.{◌≡◌, ◌↔◌, ℕ, Bool, true, false, List, [], ◌∷◌, Some, None, map, slice_get};
+ghost use Rattle.std.specs.List.{list_any};
+ghost use Rattle.std.specs.BTreeMap.{is_at};
+ghost use Rattle.pgs_base.specs.declared.element.Elem.{Elem};
+ghost use Rattle.pgs_base.specs.declared.part.Part.{Part};
+ghost use Rattle.pgs_base.specs.declared.row.NodeRow.{NodeRow};
+ghost use Rattle.pgs_base.specs.Graph.{Graph};
+ghost use Rattle.pgs_base.specs.Order.{tuple_cmp};
+ghost use Rattle.pgs_syntax.specs.declared.element_type.EdgeType.{EdgeType};
+ghost use Rattle.pgs_syntax.specs.declared.element_type.NodeType.{NodeType};
+ghost use Rattle.pgs_syntax.specs.declared.key.Key.{Key};
+ghost use Rattle.pgs_syntax.specs.declared.pattern.Pattern.{Pattern};
+ghost use Rattle.pgs_syntax.specs.declared.resolved.Resolved.{Resolved};
+ghost use Rattle.pgs_syntax.specs.declared.specification.Leaf.{Leaf};
+ghost use Rattle.pgs_syntax.specs.declared.specification.Property.{Property};
+ghost use Rattle.pgs_syntax.specs.declared.specification.Spec as specs;
+ghost use Rattle.pgs_syntax.specs.declared.specification.Spec.{Spec, And};
+ghost use Rattle.pgs_syntax.specs.Join.{Triple, of_pairs, of_triples, joined};
+ghost use Rattle.pgs_syntax.specs.KeyValues.{starts_at, is_in_scope, tuple_of, key_values};
+ghost use Rattle.pgs_syntax.specs.Matches.{is_match, matches};
+ghost use Rattle.pgs_syntax.specs.Meaning.{is_in_order, IsJoinOf, IsJoinOfAll, IsEdgeOf};
+ghost use Rattle.pgs_syntax.specs.Valid.{is_valid};
+ghost use Rattle.pgs_syntax.specs.Fitting.{suits, fits, fits_node, fits_edge, fits_edge_type, value_at, is_named_by};
+
+/// Whether a pair or a triple fits `A & B` doesn't depend on the order of the parts.
+pub fn parts_in_any_order()
+    ensures pairs { (resolved : Resolved) (first second : Spec Leaf) (p : NodeRow) →
+        fits resolved (And (first ∷ second ∷ [])) p ≡ fits resolved (And (second ∷ first ∷ [])) p }
+    ensures triples { (named : ℕ → Triple → Bool) (first second : Spec Leaf) (t : Triple) →
+        suits of_triples named (And (first ∷ second ∷ [])) t ≡ suits of_triples named (And (second ∷ first ∷ [])) t }
+{}
+
+/// Braces without OPEN admit no key that they don't name.
+pub fn closed_braces_admit_no_further_key()
+    ensures { (resolved : Resolved) (properties : List Property) (p : NodeRow) (key : List ℕ) →
+        fits resolved (specs.Braces (record { properties = properties; more = false })) p ≡ true →
+        is_named_by properties key ≡ false → value_at key p.props ≡ None }
+{}
+
+/// The test of joins in other words: there are two pairs, one of which passes the one test and the other the other, so
+/// that the pair has the labels of both, their properties agree on shared keys, and it has the properties of both.
+pub fn a_join_is_of_two_pairs()
+    ensures { (first second : NodeRow → Bool) (p : NodeRow) → is_in_order p ≡ true →
+        (joined of_pairs first second p ≡ true) ↔ IsJoinOf first second p }
+{}
+
+/// A pair fits `A & B & ..` exactly where there are pairs, one for each part and fitting it, whose join it is.
+pub fn parts_are_joined()
+    ensures { (resolved : Resolved) (parts : List (Spec Leaf)) (p : NodeRow) → is_in_order p ≡ true →
+        (fits resolved (And parts) p ≡ true) ↔ IsJoinOfAll (map (fits resolved) parts) p }
+{}
+
+/// The list of a pattern's matches has exactly the assignments that are a match: one of the list passes a test exactly
+/// where some match passes it.
+pub fn every_match_is_listed()
+    ensures { (resolved : Resolved) (g : Graph) (pattern : Pattern) (test : List Elem → Bool) →
+        (list_any test (matches resolved g pattern) ≡ true)
+        ↔ ((elems : List Elem) × (is_match resolved g pattern elems ≡ true) × (test elems ≡ true)) }
+{}
+
+/// An element is in the scope of a key exactly where some match of the scope gives it to variable 0.
+pub fn scope_is_by_matches()
+    ensures { (resolved : Resolved) (g : Graph) (key : Key) (elem : Elem) →
+        (is_in_scope resolved g key elem ≡ true)
+        ↔ ((elems : List Elem) × (is_match resolved g key.scope elems ≡ true) × (starts_at elem elems ≡ true)) }
+{}
+
+/// A tuple is a key value of an element exactly where some match of the descriptor gives the element to variable 0 and
+/// the expressions give the tuple under it.
+pub fn key_values_are_by_matches()
+    ensures { (resolved : Resolved) (g : Graph) (key : Key) (elem : Elem) (tuple : List Part) →
+        (list_any (is_at (tuple_cmp tuple)) (key_values resolved g key elem) ≡ true)
+        ↔ ((elems : List Elem) × (is_match resolved g key.descriptor elems ≡ true) × (starts_at elem elems ≡ true)
+        × (tuple_of g key.exprs elems ≡ Some tuple)) }
+{}
+
+/// A triple fits an edge type exactly where some triple with its own pair fits the middle, some pairs fit the source and
+/// the target, and the pair at each end is the join of these two.
+pub fn edges_fit_by_their_ends()
+    ensures { (resolved : Resolved) (named : ℕ → Triple → Bool) (type : EdgeType Leaf) (t : Triple) →
+        is_in_order t.source ≡ true → is_in_order t.target ≡ true →
+        (fits_edge_type resolved named type t ≡ true)
+        ↔ IsEdgeOf (fits resolved type.source) (fits resolved type.target) (suits of_triples named type.middle) t }
+{}
+
+/// In a valid schema the number of a type asks what the type asks: the recursion over lesser numbers loses nothing.
+pub fn numbers_mean_their_types()
+    ensures nodes { (resolved : Resolved) → is_valid resolved ≡ true → (number : ℕ) (type : NodeType Leaf) →
+        slice_get resolved.nodes number ≡ Some type → (p : NodeRow) → fits_node resolved number p ≡ fits resolved type.spec p }
+    ensures edges { (resolved : Resolved) → is_valid resolved ≡ true → (number : ℕ) (type : EdgeType Leaf) →
+        slice_get resolved.edges number ≡ Some type → (t : Triple) →
+        fits_edge resolved number t ≡ fits_edge_type resolved (fits_edge resolved) type t }
+{}

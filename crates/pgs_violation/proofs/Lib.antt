@@ -1,0 +1,4 @@
+pub mod Computed
+pub mod Deltas
+pub mod FirstOf
+pub mod InOrder

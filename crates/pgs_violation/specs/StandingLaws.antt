@@ -1,0 +1,65 @@
+-- The order of violations is total, and tells different ones apart.
+use Rattle.std.proofs.Common.{true≢false, is_lt, is_gt, ◌≡◌, List, [], ◌∷◌, refl, ◌∙◌, ap, subst, Ordering, Less, Equal, Greater}
+use Rattle.std.specs.Ordering.{nat_cmp, ordering_then}
+use Rattle.std.specs.Cmp.{IsTotalOrder, nat_cmp_total, on_total, then_total}
+use Rattle.std.specs.Cmp.Lexicographic.{slice_cmp, lists_total}
+use Rattle.pgs_base.specs.declared.part.Part.{Part}
+use Rattle.pgs_base.specs.declared.part.Part.TheVariants as parts
+use Rattle.pgs_base.specs.Order.{elem_cmp, tuple_cmp}
+use Rattle.pgs_base.specs.OrderLaws.{elem_cmp_total, tuple_cmp_total}
+use Rattle.pgs_violation.specs.declared.violation.Violation.{Violation}
+use Rattle.pgs_violation.specs.declared.violation.Violation.TheVariants.{UntypedNode, UntypedEdge, Mandatory, Singleton, Exclusive}
+use Rattle.pgs_violation.specs.Standing.{violation_cmp, key_of, number_of, elem_of, carried_cmp}
+
+-- what a violation carries, as tuples
+abbrev carried : Violation → List (List Part)
+carried (Singleton key elem first second) = first ∷ second ∷ []
+carried (Exclusive key first second tuple) = (parts.Elem second ∷ []) ∷ tuple ∷ []
+carried v = []
+
+-- the order of violations, in which what two of different numbers carry compares too
+abbrev full_cmp : Violation → Violation → Ordering
+full_cmp a b =
+    ordering_then (ordering_then (ordering_then (nat_cmp (key_of a) (key_of b)) (nat_cmp (number_of a) (number_of b)))
+    (elem_cmp (elem_of a) (elem_of b))) (slice_cmp tuple_cmp (carried a) (carried b))
+
+then_Equal : (a : Ordering) → ordering_then a Equal ≡ a
+then_Equal Less = refl
+then_Equal Equal = refl
+then_Equal Greater = refl
+
+not_less : Less ≡ Equal → ⊥
+not_less e = true≢false (ap is_lt e)
+
+not_greater : Greater ≡ Equal → ⊥
+not_greater e = true≢false (ap is_gt e)
+
+same_number : (a b : Violation) → nat_cmp (number_of a) (number_of b) ≡ Equal → slice_cmp tuple_cmp (carried a) (carried b) ≡ carried_cmp a b
+same_number (Singleton key elem first second) (Singleton other_key other_elem other_first other_second) e =
+    ap (ordering_then (tuple_cmp first other_first)) (then_Equal (tuple_cmp second other_second))
+same_number (Exclusive key first second tuple) (Exclusive other_key other_first other_second other_tuple) e =
+    ap (λ o. ordering_then o (ordering_then (tuple_cmp tuple other_tuple) Equal)) (then_Equal (elem_cmp second other_second))
+    ∙ ap (ordering_then (elem_cmp second other_second)) (then_Equal (tuple_cmp tuple other_tuple))
+same_number (Singleton key elem first second) (Exclusive other_key other_first other_second other_tuple) e = absurd (not_less e)
+same_number (Singleton key elem first second) b e = absurd (not_greater e)
+same_number (Exclusive key first second tuple) b e = absurd (not_greater e)
+same_number a (Singleton other_key other_elem other_first other_second) e = absurd (not_less e)
+same_number a (Exclusive other_key other_first other_second other_tuple) e = absurd (not_less e)
+same_number a b e = refl
+
+settled : (k n e c d : Ordering) → (n ≡ Equal → c ≡ d) →
+    ordering_then (ordering_then (ordering_then k n) e) c ≡ ordering_then (ordering_then (ordering_then k n) e) d
+settled Less n e c d h = refl
+settled Greater n e c d h = refl
+settled Equal Less e c d h = refl
+settled Equal Greater e c d h = refl
+settled Equal Equal e c d h = ap (ordering_then e) (h refl)
+
+full_cmp_same : (a b : Violation) → full_cmp a b ≡ violation_cmp a b
+full_cmp_same a b = settled (nat_cmp (key_of a) (key_of b)) (nat_cmp (number_of a) (number_of b)) (elem_cmp (elem_of a) (elem_of b)) _ _ (same_number a b)
+
+pub violation_cmp_total : IsTotalOrder violation_cmp
+violation_cmp_total =
+    subst IsTotalOrder (λ i a b. full_cmp_same a b i)
+    (then_total (then_total (then_total (on_total key_of nat_cmp_total) (on_total number_of nat_cmp_total)) (on_total elem_of elem_cmp_total))
+    (on_total carried (lists_total tuple_cmp_total)))

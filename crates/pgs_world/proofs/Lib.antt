@@ -1,0 +1,9 @@
+pub mod Blots
+pub mod DiskModel
+pub mod Fronts
+pub mod Images
+pub mod MemMoments
+pub mod MemSteps
+pub mod Moments
+pub mod Pushes
+pub mod Sounds

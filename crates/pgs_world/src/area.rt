@@ -1,0 +1,6 @@
+/// One of the two areas of bytes that a world has.
+#[derive(Clone, Copy, Debug, PartialEq, Eq)]
+pub enum Area {
+    A,
+    B,
+}

@@ -1,0 +1,186 @@
+ghost use Rattle.std.specs.Prelude.{◌≡◌, ◌+◌, ◌≤◌, ◌^◌, false, length, take, drop, is_err, IsTrue, IfOk, OnOk, OnErr};
+ghost use Rattle.pgs_world.specs.Count.{Rose};
+ghost use Rattle.pgs_world.specs.Disk.{written_over, IsSameBeside, Writes, Cuts, Puts};
+ghost use Rattle.pgs_world.specs.Moment.{Passes, StopsBy, IsQuiet, ShowsOne, IsSynced};
+ghost use Rattle.pgs_world.specs.Silent.{silent_view, fails_next, area_fails, is_outside, after_area_call, after_put};
+ghost use Rattle.pgs_world.specs.World.{output_of, part, Adds, AddsFront};
+
+use crate::{Area, AreaFault, PutFault, World};
+use pgs_base::List;
+use std::marker::Model;
+
+/// A world that tells nothing: contracts know no more of it than its counts, as of real files.
+///
+/// Its areas are empty and take nothing in, and what is put goes nowhere. It also fails at the listed calls.
+#[derive(Debug, Drop)]
+pub struct SilentWorld {
+    fail: List<u64>,
+    calls: u64,
+    area_faults: u64,
+    put_faults: u64,
+}
+
+impl Model for SilentWorld {
+    ghost use Rattle.pgs_world.specs.Silent.{Silent};
+
+    ghost Value = { Silent };
+
+    ghost view = { λ w. record { fail = w.fail; calls = w.calls; area_faults = w.area_faults; put_faults = w.put_faults } };
+}
+
+impl SilentWorld {
+    /// A world that fails at the listed calls, counted from 1 over all kinds of calls.
+    pub fn new(fail: List<u64>) -> SilentWorld
+        ensures { result ≡ record { fail = fail; calls = 0; area_faults = 0; put_faults = 0 } }
+    {
+        SilentWorld {
+            fail,
+            calls: 0,
+            area_faults: 0,
+            put_faults: 0,
+        }
+    }
+
+    /// Counts a call on an area, which fails where it is refused or listed.
+    fn area_call(&mut self, refused: bool) -> Result<(), AreaFault>
+        ensures fails { is_err result ≡ area_fails self.old refused }
+        ensures after { self.new ≡ after_area_call self.old (area_fails self.old refused) }
+        ensures cause { OnErr result (Rose self.old.area_faults self.new.area_faults) }
+        ensures no_cause { OnOk result (self.new.area_faults ≡ self.old.area_faults) }
+        ensures stays { self.old.area_faults ≤ self.new.area_faults }
+    {
+        self.calls = self.calls.saturating_add(1);
+        if refused || self.fail.as_slice().contains(&self.calls) {
+            self.area_faults = self.area_faults.saturating_add(1);
+            return Err(AreaFault);
+        }
+        Ok(())
+    }
+}
+
+impl World for SilentWorld {
+    ghost use Rattle.pgs_world.specs.Silent.{silent_view};
+    ghost use Rattle.pgs_world.specs.Untold.{timed_untold};
+
+    ghost view = { silent_view };
+
+    ghost timed = { λ w. timed_untold w.area_faults w.put_faults };
+
+    /// 0, unless the call is listed.
+    fn len(&mut self, area: Area) -> Result<u64, AreaFault>
+        ensures empty { IfOk result (λ count. count ≡ 0) }
+        ensures fails { is_err result ≡ area_fails self.old (false) }
+        ensures after { self.new ≡ after_area_call self.old (area_fails self.old (false)) }
+
+        // What every world says.
+        ensures length { IfOk result (λ count. IsTrue (silent_view self.old).tells_bytes → count ≡ length (part area (silent_view self.old).shown)) }
+        ensures limit { IfOk result (λ count. count ≤ 2 ^ 40) }
+        ensures quiet { IsQuiet (silent_view self.old) (silent_view self.new) }
+        ensures image { ShowsOne (silent_view self.new) }
+        ensures cause { OnErr result (Rose (silent_view self.old).area_faults (silent_view self.new).area_faults) }
+        ensures no_cause { OnOk result ((silent_view self.new).area_faults ≡ (silent_view self.old).area_faults) }
+        ensures no_put { (silent_view self.new).put_faults ≡ (silent_view self.old).put_faults }
+    {
+        self.area_call(false)?;
+        Ok(0)
+    }
+
+    /// Fails at each range that isn't empty, and where the call is listed.
+    fn read_at(&mut self, area: Area, at: u64, buf: &mut [u8]) -> Result<(), AreaFault>
+        requires { IsTrue (silent_view self.old).tells_bytes → at + length buf.old ≤ length (part area (silent_view self.old).shown) }
+        ensures same { buf.new ≡ buf.old }
+        ensures fails { is_err result ≡ area_fails self.old (is_outside at (length buf.old)) }
+        ensures after { self.new ≡ after_area_call self.old (area_fails self.old (is_outside at (length buf.old))) }
+
+        // What every world says.
+        ensures bytes { OnOk result (IsTrue (silent_view self.old).tells_bytes → buf.new ≡ take (length buf.old) (drop at (part area (silent_view self.old).shown))) }
+        ensures quiet { IsQuiet (silent_view self.old) (silent_view self.new) }
+        ensures image { ShowsOne (silent_view self.new) }
+        ensures cause { OnErr result (Rose (silent_view self.old).area_faults (silent_view self.new).area_faults) }
+        ensures no_cause { OnOk result ((silent_view self.new).area_faults ≡ (silent_view self.old).area_faults) }
+        ensures no_put { (silent_view self.new).put_faults ≡ (silent_view self.old).put_faults }
+    {
+        self.area_call(at != 0 || !buf.is_empty())
+    }
+
+    /// Fails at each piece that isn't empty, past the front, and where the call is listed.
+    fn write_at(&mut self, area: Area, at: u64, bytes: &[u8]) -> Result<(), AreaFault>
+        requires { IsTrue (silent_view self.old).tells_bytes → at ≤ length (part area (silent_view self.old).shown) }
+        ensures fails { is_err result ≡ area_fails self.old (is_outside at (length bytes.now)) }
+        ensures after { self.new ≡ after_area_call self.old (area_fails self.old (is_outside at (length bytes.now))) }
+
+        // What every world says.
+        ensures written { OnOk result (IsTrue (silent_view self.old).tells_bytes → part area (silent_view self.new).shown ≡ written_over (part area (silent_view self.old).shown) at bytes.now) }
+        ensures limit { OnOk result (at + length bytes.now ≤ 2 ^ 40) }
+        ensures beside { IsSameBeside area (silent_view self.old).shown (silent_view self.new).shown }
+        ensures stops { StopsBy (Writes area at (length bytes.now)) (silent_view self.old) (silent_view self.new) }
+        ensures passes { Passes (silent_view self.old) (silent_view self.new) }
+        ensures image { ShowsOne (silent_view self.new) }
+        ensures cause { OnErr result (Rose (silent_view self.old).area_faults (silent_view self.new).area_faults) }
+        ensures no_cause { OnOk result ((silent_view self.new).area_faults ≡ (silent_view self.old).area_faults) }
+        ensures no_put { (silent_view self.new).put_faults ≡ (silent_view self.old).put_faults }
+    {
+        self.area_call(at != 0 || !bytes.is_empty())
+    }
+
+    /// Fails at each length but 0, and where the call is listed.
+    fn cut(&mut self, area: Area, len: u64) -> Result<(), AreaFault>
+        requires { IsTrue (silent_view self.old).tells_bytes → len ≤ length (part area (silent_view self.old).shown) }
+        ensures fails { is_err result ≡ area_fails self.old (is_outside len 0) }
+        ensures after { self.new ≡ after_area_call self.old (area_fails self.old (is_outside len 0)) }
+
+        // What every world says.
+        ensures cut { OnOk result (IsTrue (silent_view self.old).tells_bytes → part area (silent_view self.new).shown ≡ take len (part area (silent_view self.old).shown)) }
+        ensures beside { IsSameBeside area (silent_view self.old).shown (silent_view self.new).shown }
+        ensures stops { StopsBy (Cuts area len) (silent_view self.old) (silent_view self.new) }
+        ensures passes { Passes (silent_view self.old) (silent_view self.new) }
+        ensures image { ShowsOne (silent_view self.new) }
+        ensures cause { OnErr result (Rose (silent_view self.old).area_faults (silent_view self.new).area_faults) }
+        ensures no_cause { OnOk result ((silent_view self.new).area_faults ≡ (silent_view self.old).area_faults) }
+        ensures no_put { (silent_view self.new).put_faults ≡ (silent_view self.old).put_faults }
+    {
+        self.area_call(len != 0)
+    }
+
+    /// Fails where the call is listed.
+    fn sync(&mut self, area: Area) -> Result<(), AreaFault>
+        ensures fails { is_err result ≡ area_fails self.old (false) }
+        ensures after { self.new ≡ after_area_call self.old (area_fails self.old (false)) }
+
+        // What every world says.
+        ensures synced { OnOk result (IsSynced area (silent_view self.new)) }
+        ensures quiet { IsQuiet (silent_view self.old) (silent_view self.new) }
+        ensures image { ShowsOne (silent_view self.new) }
+        ensures cause { OnErr result (Rose (silent_view self.old).area_faults (silent_view self.new).area_faults) }
+        ensures no_cause { OnOk result ((silent_view self.new).area_faults ≡ (silent_view self.old).area_faults) }
+        ensures no_put { (silent_view self.new).put_faults ≡ (silent_view self.old).put_faults }
+    {
+        self.area_call(false)
+    }
+
+    /// Fails where the call is listed.
+    fn put(&mut self, piece: &[u8]) -> Result<(), PutFault>
+        ensures fails { is_err result ≡ fails_next self.old }
+        ensures after { self.new ≡ after_put self.old }
+
+        // What every world says.
+        ensures whole { OnOk result (Adds (output_of (silent_view self.old)) (output_of (silent_view self.new)) piece.now) }
+        ensures front { OnErr result (AddsFront (output_of (silent_view self.old)) (output_of (silent_view self.new)) piece.now) }
+        ensures cause { OnErr result (Rose (silent_view self.old).put_faults (silent_view self.new).put_faults) }
+        ensures faults_stay { (silent_view self.old).put_faults ≤ (silent_view self.new).put_faults }
+        ensures a { (silent_view self.new).shown.a ≡ (silent_view self.old).shown.a }
+        ensures b { (silent_view self.new).shown.b ≡ (silent_view self.old).shown.b }
+        ensures stops { StopsBy (Puts piece.now) (silent_view self.old) (silent_view self.new) }
+        ensures passes { Passes (silent_view self.old) (silent_view self.new) }
+        ensures image { ShowsOne (silent_view self.new) }
+        ensures no_cause { OnOk result ((silent_view self.new).put_faults ≡ (silent_view self.old).put_faults) }
+        ensures no_area { (silent_view self.new).area_faults ≡ (silent_view self.old).area_faults }
+    {
+        self.calls = self.calls.saturating_add(1);
+        if self.fail.as_slice().contains(&self.calls) {
+            self.put_faults = self.put_faults.saturating_add(1);
+            return Err(PutFault);
+        }
+        Ok(())
+    }
+}
