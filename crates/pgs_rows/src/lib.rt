@@ -8,4 +8,6 @@ mod examples;
 #[cfg(test)]
 mod ran;
 #[cfg(test)]
+mod told;
+#[cfg(test)]
 mod worked;
