@@ -1,0 +1,14 @@
+mod Closing
+mod Sizes
+mod Spans
+mod Steps
+mod Lists
+mod Characters
+mod Written
+mod Sound
+mod Beginnings
+mod Reach
+mod Longest
+mod OneCut
+mod WellFormed
+mod Examples

@@ -1,0 +1,121 @@
+use crate::{LexFault, TokenKind, lex};
+use std::alloc::{AllocError, Global};
+use std::test::Fail;
+
+fn letter(kind: TokenKind) -> &'static str {
+    match kind {
+        TokenKind::Name => "n",
+        TokenKind::Keyword => "k",
+        TokenKind::Number => "d",
+        TokenKind::Text => "t",
+        TokenKind::Sign => "s",
+    }
+}
+
+// Each token as the letter of its kind and its bytes, with a space after it, or the line of the bad byte.
+fn shown(alloc: Global, text: &[u8]) -> Result<Vec<u8>, AllocError> {
+    let mut out = Vec::new(alloc);
+    if text.len() > 1_048_576 {
+        return Ok(out);
+    }
+    match lex(alloc, text) {
+        Err(LexFault::Memory) => Err(AllocError),
+        Err(LexFault::Lex { line }) => {
+            let told = format!(in alloc; "line {line}")?;
+            out.extend_from_slice(told.as_bytes())?;
+            Ok(out)
+        }
+        Ok(tokens) => {
+            for place in 0..tokens.len() {
+                if let Some(token) = tokens.at(place) {
+                    out.extend_from_slice(letter(token.kind).as_bytes())?;
+                    out.extend_from_slice(token.slice)?;
+                    out.extend_from_slice(b" ".as_slice())?;
+                }
+            }
+            Ok(out)
+        }
+    }
+}
+
+// Written by hand from the forms of items.
+const CASES: &[(&[u8], &[u8])] = &[
+    // spaces and comments are no tokens, and a carriage return is a space
+    (b"", b""),
+    (b"a\r\n\tb", b"na nb "),
+    (b"a//b\nc", b"na nc "),
+    (b"// caf\xc3\xa9 // it's", b""),
+    (b"a\n// b\xffc", b"line 2"),
+    (b"// \xe2\x82", b"line 1"),
+    (b"a / b", b"line 1"),
+    // words, names and keywords
+    (b"CREATE Create create _1", b"kCREATE nCreate ncreate n_1 "),
+    (
+        b"aaaaaaaaaaaaaaaaaaaaaaaaaaaaaaaaaaaaaaaaaaaaaaaaaaaaaaaaaaaaaaaa",
+        b"naaaaaaaaaaaaaaaaaaaaaaaaaaaaaaaaaaaaaaaaaaaaaaaaaaaaaaaaaaaaaaaa ",
+    ),
+    (
+        b"aaaaaaaaaaaaaaaaaaaaaaaaaaaaaaaaaaaaaaaaaaaaaaaaaaaaaaaaaaaaaaaaa",
+        b"line 1",
+    ),
+    (b"`CREATE`;`a`", b"n`CREATE` s; n`a` "),
+    (b"``", b"line 1"),
+    (b"`a b`", b"line 1"),
+    (b"`5`", b"line 1"),
+    (
+        b"`aaaaaaaaaaaaaaaaaaaaaaaaaaaaaaaaaaaaaaaaaaaaaaaaaaaaaaaaaaaaaaaa`",
+        b"n`aaaaaaaaaaaaaaaaaaaaaaaaaaaaaaaaaaaaaaaaaaaaaaaaaaaaaaaaaaaaaaaa` ",
+    ),
+    (
+        b"`aaaaaaaaaaaaaaaaaaaaaaaaaaaaaaaaaaaaaaaaaaaaaaaaaaaaaaaaaaaaaaaaa`",
+        b"line 1",
+    ),
+    (b"`a", b"line 1"),
+    (b"\xc3\xa9", b"line 1"),
+    // numbers, and the minus sign before them
+    (b"-5 - 5 --5", b"d-5 s- d5 s- d-5 "),
+    (b"5..7 5.7", b"d5 s.. d7 d5 s. d7 "),
+    (b"007a", b"d007 na "),
+    // strings
+    (b"'' 'a' '\xc3\xa9'", b"t'' t'a' t'\xc3\xa9' "),
+    (b"'it''s'''", b"t'it''s''' "),
+    (b"'a'b", b"t'a' nb "),
+    (b"'", b"line 1"),
+    (b"'''", b"line 1"),
+    (b"'a", b"line 1"),
+    (b"'a\n'", b"line 1"),
+    (b"'\xff'", b"line 1"),
+    // signs
+    (b"()[]{}:,;.&|?", b"s( s) s[ s] s{ s} s: s, s; s. s& s| s? "),
+    (
+        b"-[a]->(b)<-[c]-",
+        b"s- s[ na s] s-> s( nb s) s<- s[ nc s] s- ",
+    ),
+    (b"...", b"s.. s. "),
+    (b"a < b", b"line 1"),
+    (b"a > b", b"line 1"),
+    // the line of the first bad byte
+    (b"a\nb\n  # c\n#", b"line 3"),
+    (b"\x00", b"line 1"),
+];
+
+#[test]
+fn items(rt: HostRuntime) -> Result<(), Fail> {
+    for (place, (text, want)) in CASES.iter().enumerate() {
+        let told = shown(rt.alloc(), text)?;
+        assert_eq!(rt; told.as_slice(), *want, "case {place}");
+    }
+    Ok(())
+}
+
+#[test]
+fn places(rt: HostRuntime) -> Result<(), Fail> {
+    let Ok(tokens) = lex(rt.alloc(), b"ab // c\n 'd'".as_slice()) else {
+        return Err(AllocError.into());
+    };
+    assert_eq!(rt; tokens.len(), 2);
+    let spans = tokens.at(1).map(|token| (token.start, token.end));
+    assert_eq!(rt; spans, Some((9, 12)));
+    assert!(rt; tokens.at(2).is_none());
+    Ok(())
+}
