@@ -13,9 +13,9 @@ use Rattle.std.proofs.lemmas.Map.{lookup-remove_entry}
 use Rattle.std.proofs.lemmas.Map.Keys.{IsDistinct-from_sorted}
 use Rattle.std.proofs.lemmas.Map.Made.{is_some-lookup}
 use Rattle.std.proofs.lemmas.List.Edits.{length-insert, length-remove}
-use Rattle.pgs_base.specs.Places.{place_of, IsKeyAt, IsKeyGap, IsEntryAt, IsEntryGap}
+use Rattle.pgs_base.specs.Places.{IsKeyAt, IsKeyGap, IsEntryAt, IsEntryGap}
 use Rattle.pgs_base.proofs.Ascending.{keys-insert_entry, keys-remove_entry}
-use Rattle.pgs_base.proofs.Places.{key_placed, entry_placed}
+use Rattle.pgs_base.proofs.Places.{place_of, key_placed, entry_placed}
 
 -- ---- look-ups of one key
 

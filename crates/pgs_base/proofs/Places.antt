@@ -8,8 +8,18 @@ use Rattle.std.specs.Map.{keys_of, lookup, remove_entry}
 use Rattle.std.specs.Set.{remove_key}
 use Rattle.std.specs.BTreeMap.{is_at, insert_entry}
 use Rattle.std.specs.BTreeSet.{insert_key}
-use Rattle.pgs_base.specs.Places.{place_of, one_further, IsKeyAt, IsKeyGap, IsEntryAt, IsEntryGap}
+use Rattle.pgs_base.specs.Places.{IsKeyAt, IsKeyGap, IsEntryAt, IsEntryGap}
 use Rattle.pgs_base.proofs.Ascending.{ascending-insert_key, ascending-remove_key, ascending-insert_entry, ascending-remove_entry}
+
+-- the same answer, one place further on
+abbrev pub one_further : Result ℕ ℕ → Result ℕ ℕ
+one_further (Ok i) = Ok (suc i)
+one_further (Err i) = Err (suc i)
+
+-- the place of the first item that the query is not above: `Ok` where it is equal to that item, and else `Err`
+abbrev pub place_of : {X : Type 0} → (X → Ordering) → List X → Result ℕ ℕ
+place_of compare [] = Err 0
+place_of compare (x ∷ xs) = match_ordering (compare x) (Err 0) (Ok 0) (one_further (place_of compare xs))
 
 module _ {X : Type 0} (compare : X → Ordering) where
   -- all items after one that the query is not above are above the query

@@ -1,23 +1,12 @@
--- Where a query stands among items that ascend.
-use Rattle.std.specs.Prelude.{◌≡◌, ℕ, ◌<◌, ◌≤◌, suc, true, false, List, [], ◌∷◌, length, get_or, set, insert, remove, is_some, Some, None, Result, Ok, Err}
+-- Where a key stands among keys or entries that ascend, or would stand, and what an edit there gives.
+use Rattle.std.specs.Prelude.{◌≡◌, ℕ, ◌<◌, ◌≤◌, true, false, List, length, get_or, set, insert, remove, is_some, Some, None}
 use Rattle.std.specs.declared.cmp.Ordering.{Ordering}
-use Rattle.std.specs.Ordering.{match_ordering}
 use Rattle.std.specs.List.{list_any}
 use Rattle.std.specs.List.Sorted.{IsStrictlySortedBy}
 use Rattle.std.specs.Map.{keys_of, lookup, remove_entry}
 use Rattle.std.specs.Set.{remove_key}
 use Rattle.std.specs.BTreeMap.{is_at, insert_entry}
 use Rattle.std.specs.BTreeSet.{insert_key}
-
--- the same answer, one place further on
-abbrev pub one_further : Result ℕ ℕ → Result ℕ ℕ
-one_further (Ok i) = Ok (suc i)
-one_further (Err i) = Err (suc i)
-
--- the place of the first item that the query is not above: `Ok` where it is equal to that item, and else `Err`
-abbrev pub place_of : {X : Type 0} → (X → Ordering) → List X → Result ℕ ℕ
-place_of compare [] = Err 0
-place_of compare (x ∷ xs) = match_ordering (compare x) (Err 0) (Ok 0) (one_further (place_of compare xs))
 
 -- the key stands at place i
 pub record IsKeyAt {K : Type 0} (cmp : K → K → Ordering) (k : K) (ks : List K) (i : ℕ) : Type 0 where

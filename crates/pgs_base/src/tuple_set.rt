@@ -102,13 +102,14 @@ impl Copyable for TupleSet {
 #[cfg(test)]
 mod tests {
     use super::*;
-    use crate::{Elem, List, NodeId, Part, Value};
+    use crate::{List, Part, Value};
     use std::test::Fail;
 
-    fn pair(alloc: Global, first: Part, second: Part) -> Result<Tuple, Fail> {
+    // A number, and then a truth value.
+    fn pair(alloc: Global, number: i64) -> Result<Tuple, Fail> {
         let mut parts = List::new(alloc);
-        for part in [first, second] {
-            if parts.push(part).is_err() {
+        for value in [Value::Int(number), Value::Bool(true)] {
+            if parts.push(Part::Value(value)).is_err() {
                 return Err(Fail::new("no memory"));
             }
         }
@@ -116,43 +117,16 @@ mod tests {
     }
 
     #[test]
-    fn tuples_go_part_by_part(rt: HostRuntime) -> Result<(), Fail> {
+    fn tuples_are_a_set(rt: HostRuntime) -> Result<(), Fail> {
         let alloc = rt.alloc();
         let mut set = TupleSet::new(alloc);
-        assert!(rt;
-            set.insert(pair(
-                alloc,
-                Part::Value(Value::Int(1)),
-                Part::Elem(Elem::Node(NodeId(2)))
-            )?)?
-        );
-        assert!(rt;
-            set.insert(pair(
-                alloc,
-                Part::Value(Value::Int(1)),
-                Part::Value(Value::Bool(true))
-            )?)?
-        );
-        assert!(rt;
-            set.insert(pair(
-                alloc,
-                Part::Value(Value::Int(-5)),
-                Part::Value(Value::Bool(true))
-            )?)?
-        );
-        let one = pair(
-            alloc,
-            Part::Value(Value::Int(1)),
-            Part::Value(Value::Bool(true)),
-        )?;
-        assert!(rt; set.contains(&one));
-        assert!(rt; set.at(1) == Some(&one));
-        assert!(rt; !set.insert(one.copy(alloc)?)?);
-        assert!(rt; set.insert(Tuple::new(List::new(alloc)))?);
+        for (number, new) in [(1, true), (-5, true), (1, false)] {
+            assert_eq!(rt; set.insert(pair(alloc, number)?)?, new, "{number}");
+        }
         let copied = set.copy(alloc)?;
-        assert!(rt; copied.at(2) == Some(&one));
-        assert!(rt; copied.at(0).is_some_and(|first| first.parts().is_empty()));
-        assert_eq!(rt; (set.len(), copied.len()), (4, 4));
+        assert!(rt; copied.at(0) == Some(&pair(alloc, -5)?));
+        assert!(rt; copied.contains(&pair(alloc, 1)?));
+        assert_eq!(rt; copied.len(), 2);
         Ok(())
     }
 }
