@@ -1,0 +1,10 @@
+use Rattle.std.proofs.Common.{◌≡◌, length}
+use Rattle.pgs_parser.specs.Reading.{more, listed, name_at}
+use Rattle.pgs_parser.proofs.Listing.{ahead}
+use Rattle.pgs_parser.proofs.reading.names_at.Given as goal
+
+abbrev pub invariant-loop-after : goal.invariant-loop-after
+invariant-loop-after l = ahead l.names.items (more 38 name_at (length l.rest) l.rest) ≡ listed 38 name_at l.tokens
+
+abbrev pub decreases-loop-after : goal.decreases-loop-after
+decreases-loop-after l = length l.rest

@@ -1,0 +1,21 @@
+//! Schema texts as trees: `parse_first` reads the first form of a schema.
+//!
+//! The one rule: a text is read exactly where it is of the form, and only want of memory keeps it from that.
+//! The form is a grammar in `specs/Form.antt`, over the tokens of `specs/Cut.antt`. `specs/Schema.antt` computes
+//! what is read, and `first_form` is the law that both say the same. The layer above uses `FirstSchema` alone.
+#![tactic(auto)]
+
+mod cut;
+mod first_schema;
+mod form;
+mod reading;
+mod rules;
+mod token;
+mod tree;
+mod unread;
+
+pub use first_schema::{FirstSchema, FirstType, parse_first};
+pub use form::first_form;
+
+#[cfg(test)]
+mod tests;

@@ -1,0 +1,30 @@
+ghost use Rattle.std.specs.Prelude.{◌≡◌};
+ghost use Rattle.pgs_parser.specs.declared.unread.Unread.TheVariants as unread;
+
+use pgs_base::Memory;
+use std::alloc::AllocFailed;
+
+/// Why a text wasn't read.
+#[derive(Clone, Copy, Debug, PartialEq, Eq)]
+pub enum Unread {
+    /// There was no memory.
+    Memory,
+    /// The text isn't of the form.
+    OtherForm,
+}
+
+impl From<Memory> for Unread {
+    ghost from_gives = { λ _ e. e ≡ unread.Memory };
+
+    fn from(_: Memory) -> Unread {
+        Unread::Memory
+    }
+}
+
+impl<T: Drop> From<AllocFailed<T>> for Unread {
+    ghost from_gives = { λ _ e. e ≡ unread.Memory };
+
+    fn from(_: AllocFailed<T>) -> Unread {
+        Unread::Memory
+    }
+}
