@@ -10,6 +10,7 @@ mod first_schema;
 mod form;
 mod reading;
 mod rules;
+pub mod samples;
 mod token;
 mod tree;
 mod unread;
