@@ -6,3 +6,4 @@ pub mod Listing
 pub mod Ruled
 pub mod Sound
 pub mod Spelling
+pub mod Texts
