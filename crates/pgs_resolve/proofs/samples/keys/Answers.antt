@@ -1,0 +1,8 @@
+use Rattle.pgs_resolve.proofs.Computed as samples
+use Rattle.pgs_resolve.proofs.samples.keys.Goals as goal
+
+pub returns-clause-steps_resolved : goal.returns-clause-steps_resolved
+returns-clause-steps_resolved c = samples.steps_resolved
+
+pub returns-clause-moderator_resolved : goal.returns-clause-moderator_resolved
+returns-clause-moderator_resolved c = samples.moderator_resolved
