@@ -1,10 +1,21 @@
 //! What the grammar says of small texts, which stand in `specs/Samples.antt`. The functions do nothing; their contracts
 //! are the statements.
 
-ghost use Rattle.pgs_parser.specs.Samples.{least_text, least};
-ghost use Rattle.pgs_parser.specs.Text.{IsFound, script};
+ghost use Rattle.std.specs.Prelude.{◌<◌, ℕ, List, length};
+ghost use Rattle.pgs_parser.specs.Samples.{least_text, least_script, staff_text, staff_script, acquaintance_text, acquaintance_script, moderator_text, moderator_script, forms_text, forms_script, bad_byte_text};
+ghost use Rattle.pgs_parser.specs.Text.{IsFound, script, too_long, no_item};
 
-/// The least schema text is a script of one graph type.
-pub fn least_schema()
-    ensures { IsFound least_text (script least) }
+/// Texts that are scripts: the least one, one of node types, one of an edge type, one of a key, and one of many forms.
+pub fn scripts()
+    ensures least { IsFound least_text (script least_script) }
+    ensures staff { IsFound staff_text (script staff_script) }
+    ensures acquaintance { IsFound acquaintance_text (script acquaintance_script) }
+    ensures moderator { IsFound moderator_text (script moderator_script) }
+    ensures forms { IsFound forms_text (script forms_script) }
+{}
+
+/// Texts that are none: one of over 1,048,576 bytes, and one with a byte that begins no item.
+pub fn unreadable()
+    ensures long { (text : List ℕ) → 1048576 < length text → IsFound text too_long }
+    ensures bad_byte { IsFound bad_byte_text (no_item 1) }
 {}

@@ -8,7 +8,8 @@ use Rattle.pgs_resolve.specs.declared.fault.KeyCause.TheVariants.{UnknownVariabl
 use Rattle.pgs_resolve.specs.declared.fault.ResolveFault.TheVariants as faults
 use Rattle.pgs_resolve.specs.Order.{numbering_of}
 use Rattle.pgs_resolve.specs.Resolution.{resolution}
-use Rattle.pgs_resolve.specs.Samples.{script, staff_script, acquaintance_script, acquaintance_schema, backwards_script, cycle_of_types, cycle_of_imports, declared_twice, not_declared, wrong_kind, keyed_script, reads_y, two_steps_written, moderator_written}
+use Rattle.pgs_parser.specs.Samples.{script, staff_script, acquaintance_script, backwards_script, cycle_of_types, cycle_of_imports, declared_twice, not_declared, wrong_kind, keyed_script, reads_y, two_steps_written, moderator_written}
+use Rattle.pgs_resolve.specs.Samples.{acquaintance_schema}
 
 pub staff_resolved : resolution staff_script ≡ Ok (staff (numbers.Node 0 ∷ numbers.Node 1 ∷ []))
 unfolding resolution block.hidden-the_row-Spec-0 hidden

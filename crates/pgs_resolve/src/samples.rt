@@ -8,7 +8,8 @@ ghost use Rattle.pgs_resolve.specs.declared.fault.KeyCause.TheVariants.{UnknownV
 ghost use Rattle.pgs_resolve.specs.declared.fault.ResolveFault.TheVariants as faults;
 ghost use Rattle.pgs_resolve.specs.Order.{numbering_of};
 ghost use Rattle.pgs_resolve.specs.Resolution.{resolution};
-ghost use Rattle.pgs_resolve.specs.Samples.{script, staff_script, acquaintance_script, acquaintance_schema, backwards_script, cycle_of_types, cycle_of_imports, declared_twice, not_declared, wrong_kind, keyed_script, reads_y, two_steps_written, moderator_written};
+ghost use Rattle.pgs_parser.specs.Samples.{script, staff_script, acquaintance_script, backwards_script, cycle_of_types, cycle_of_imports, declared_twice, not_declared, wrong_kind, keyed_script, reads_y, two_steps_written, moderator_written};
+ghost use Rattle.pgs_resolve.specs.Samples.{acquaintance_schema};
 
 /// Schemas of types alone.
 pub fn schemas()
