@@ -1,6 +1,7 @@
 pub mod Complete
 pub mod Cutting
 pub mod Differing
+pub mod Findings
 pub mod FirstKinds
 pub mod Listing
 pub mod Ruled

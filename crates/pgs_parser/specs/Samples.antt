@@ -158,6 +158,66 @@ moderator_written = record {
 abbrev pub moderator_script : Script
 moderator_script = keyed_script moderator_written
 
+-- a key of these parts that asks that x.k differs
+abbrev pub differing : List RawPath → Option (List RawPath) → List RawExpr → RawKey
+differing scope within exprs = record {
+  place = 2; qualifiers = qualifiers false false true; scope = scope; exprs = exprs; within = within;
+}
+
+-- a node place of a variable, and one without
+abbrev pub var : List ℕ → RawPlace
+var name = place (Some name) []
+
+abbrev pub nameless : RawPlace
+nameless = place None []
+
+-- x.k
+abbrev pub x_k : RawExpr
+x_k = record { var = codes "x"; key = Some (codes "k") }
+
+-- FOR () EXCLUSIVE x.k, and FOR (x) EXCLUSIVE x.k WITHIN (y)
+abbrev pub names_nothing : RawKey
+names_nothing = differing (alone nameless ∷ []) None (x_k ∷ [])
+
+abbrev pub leaves_x_out : RawKey
+leaves_x_out = differing (alone (var (codes "x")) ∷ []) (Some (alone (var (codes "y")) ∷ [])) (x_k ∷ [])
+
+-- FOR (x)-[x]->() EXCLUSIVE x.k
+abbrev pub node_and_edge : RawKey
+node_and_edge = differing (path (var (codes "x")) (step true (var (codes "x")) nameless ∷ []) ∷ []) None (x_k ∷ [])
+
+-- FOR (x)-[]->(y) EXCLUSIVE x.k WITHIN (x)-[]->(y)
+abbrev pub x_to_y : List RawPath
+x_to_y = path (var (codes "x")) (step true nameless (var (codes "y")) ∷ []) ∷ []
+
+abbrev pub shares_y : RawKey
+shares_y = differing x_to_y (Some x_to_y) (x_k ∷ [])
+
+-- FOR (x), (y) EXCLUSIVE x.k, and FOR (x), (x)-[]->(y) EXCLUSIVE x.k, which is linked
+abbrev pub apart : RawKey
+apart = differing (alone (var (codes "x")) ∷ alone (var (codes "y")) ∷ []) None (x_k ∷ [])
+
+abbrev pub linked : RawKey
+linked = differing (alone (var (codes "x")) ∷ x_to_y) None (x_k ∷ [])
+
+-- FOR (x), (x), (x), (x), (x) EXCLUSIVE x.k
+abbrev pub of_five_paths : RawKey
+of_five_paths =
+    let x = alone (var (codes "x")) in
+    differing (x ∷ x ∷ x ∷ x ∷ x ∷ []) None (x_k ∷ [])
+
+-- FOR ()-[e]->(y:A) EXCLUSIVE e, whose first named variable is an edge
+abbrev pub edge_first : RawKey
+edge_first = differing (path nameless (
+    step true (var (codes "e")) (place (Some (codes "y")) (codes "A" ∷ [])) ∷ []) ∷ []) None (record { var = codes "e"; key = None } ∷ [])
+
+-- CREATE GRAPH TYPE f STRICT {(a)}; CREATE GRAPH TYPE h LOOSE IMPORTS f {(b), a}; CREATE GRAPH TYPE g LOOSE IMPORTS h, f {(c)};
+abbrev pub importing : Script
+importing = script (
+    graph (codes "f") true 1 [] (members.Node (written (codes "a") 2 Empty) ∷ []) []
+    ∷ graph (codes "h") false 3 (codes "f" ∷ []) (members.Node (written (codes "b") 4 Empty) ∷ members.Named (codes "a") ∷ []) []
+    ∷ graph (codes "g") false 5 (codes "h" ∷ codes "f" ∷ []) (members.Node (written (codes "c") 6 Empty) ∷ []) [] ∷ [])
+
 -- a text of many forms: ABSTRACT behind TYPE, parentheses, a quoted name, an arrow to the left, tests, qualifiers with
 -- a comma and without
 abbrev pub forms_text : List ℕ

@@ -8,6 +8,7 @@
 mod cut;
 mod first_schema;
 mod form;
+pub mod laws;
 mod reading;
 mod rules;
 pub mod samples;

@@ -3,6 +3,7 @@ use Rattle.std.specs.Prelude.{true, false, [], ◌∷◌, codes}
 use Rattle.pgs_syntax.specs.declared.resolved.Resolved.{Resolved}
 use Rattle.pgs_syntax.specs.declared.resolved.TypeNo.TheVariants as numbers
 use Rattle.pgs_syntax.specs.declared.specification.Spec.{And}
+use Rattle.pgs_resolve.specs.Order.{Numbering}
 use Rattle.pgs_syntax.specs.Samples.{label, type, node_type}
 
 -- the schema of nodes that know other nodes
@@ -12,3 +13,7 @@ acquaintance_schema = record {
   edges = record { name = codes "e"; hidden = false; place = 4; source = type 1; middle = label (codes "knows"); target = type 0 } ∷ [];
   guard = record { strict = true; types = numbers.Node 0 ∷ numbers.Node 1 ∷ numbers.Edge 0 ∷ []; keys = [] };
 }
+
+-- no type has a name
+abbrev pub no_names : Numbering
+no_names = record { nodes = []; edges = [] }

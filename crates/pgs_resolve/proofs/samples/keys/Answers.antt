@@ -6,3 +6,6 @@ returns-clause-steps_resolved c = samples.steps_resolved
 
 pub returns-clause-moderator_resolved : goal.returns-clause-moderator_resolved
 returns-clause-moderator_resolved c = samples.moderator_resolved
+
+pub returns-clause-edge_first : goal.returns-clause-edge_first
+returns-clause-edge_first c = samples.edge_first

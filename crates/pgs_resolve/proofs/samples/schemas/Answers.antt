@@ -6,3 +6,9 @@ returns-clause-staff_resolved c = samples.staff_resolved
 
 pub returns-clause-acquaintance_resolved : goal.returns-clause-acquaintance_resolved
 returns-clause-acquaintance_resolved c = samples.acquaintance_resolved
+
+pub returns-clause-acquaintance_valid : goal.returns-clause-acquaintance_valid
+returns-clause-acquaintance_valid c = samples.acquaintance_valid
+
+pub returns-clause-listed_before : goal.returns-clause-listed_before
+returns-clause-listed_before c = samples.listed_before
