@@ -4,6 +4,7 @@ pub mod Differing
 pub mod Findings
 pub mod FirstKinds
 pub mod Listing
+pub mod NoMode
 pub mod Ruled
 pub mod Sound
 pub mod Spelling

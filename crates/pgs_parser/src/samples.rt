@@ -2,8 +2,8 @@
 //! are the statements.
 
 ghost use Rattle.std.specs.Prelude.{◌<◌, ℕ, List, length};
-ghost use Rattle.pgs_parser.specs.Samples.{least_text, least_script, staff_text, staff_script, acquaintance_text, acquaintance_script, moderator_text, moderator_script, forms_text, forms_script, bad_byte_text};
-ghost use Rattle.pgs_parser.specs.Text.{IsFound, script, too_long, no_item};
+ghost use Rattle.pgs_parser.specs.Samples.{least_text, least_script, staff_text, staff_script, acquaintance_text, acquaintance_script, moderator_text, moderator_script, forms_text, forms_script, bad_byte_text, no_mode_text};
+ghost use Rattle.pgs_parser.specs.Text.{IsFound, script, too_long, no_item, no_statement};
 
 /// Texts that are scripts: the least one, one of node types, one of an edge type, one of a key, and one of many forms.
 pub fn scripts()
@@ -14,8 +14,9 @@ pub fn scripts()
     ensures forms { IsFound forms_text (script forms_script) }
 {}
 
-/// Texts that are none: one of over 1,048,576 bytes, and one with a byte that begins no item.
+/// Texts that are none: one of over 1,048,576 bytes, one with a byte that begins no item, and one whose statement is none.
 pub fn unreadable()
     ensures long { (text : List ℕ) → 1048576 < length text → IsFound text too_long }
     ensures bad_byte { IsFound bad_byte_text (no_item 1) }
+    ensures no_mode { IsFound no_mode_text (no_statement 1) }
 {}
