@@ -94,6 +94,24 @@ moderator_found = is_script (omega arith) refl (record {
   places = refl;
 })
 
+pub mail_found : IsFound samples.mail_text (script samples.mail_script)
+unfolding tokens_of tokens_from item_at is_utf8 utf8_valid_len chars encode_utf8
+mail_found = is_script (omega arith) refl (record {
+  statements =
+    ((_, here (refl, refl), (_, here (refl, refl), (_, here (refl, refl), (_, here (refl, refl), (_,
+    here (refl, refl), (_, refl, (_, here (refl, refl), (_, (_, (_, (_, refl, (_, here (refl, refl), (_,
+    here (refl, refl), (_, (Some (Word (codes "Person")), false,
+    Some (record { properties = record { key = codes "mail"; kind = kinds.Text; optional = false } ∷ []; more = false }),
+    refl, (_, (_, here (refl, refl), one_conj (one_unit (plain (named (here (refl, refl)))))), (_, refl, (_,
+    here (refl, refl), (_, (_, (_, refl, (_, here (refl, refl), here (refl, refl))), refl), here (refl,
+    refl)))))), here (refl, refl))))), refl), (_, here (refl, refl), (_, (_, here (refl, refl), (_, (_, (_,
+    (_, here (refl, refl), (_, (_, here (refl, refl), (_, (_, here (refl, refl), (_, here (refl, refl),
+    refl)), refl)), here (refl, refl))), refl), refl), (_, inr (codes "EXCLUSIVE" ∷ [], refl, refl, (_,
+    here (refl, refl), refl)), (_, (_, (_, here (refl, refl), (_, here (refl, refl), here (refl, refl))),
+    refl), refl)))), refl))), (_, here (refl, refl), here (refl, refl)))))))))), tt);
+  places = refl;
+})
+
 pub forms_found : IsFound samples.forms_text (script samples.forms_script)
 unfolding tokens_of tokens_from item_at is_utf8 utf8_valid_len chars encode_utf8
 forms_found = is_script (omega arith) refl (record {

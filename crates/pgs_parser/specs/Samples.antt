@@ -218,6 +218,24 @@ importing = script (
     ∷ graph (codes "h") false 3 (codes "f" ∷ []) (members.Node (written (codes "b") 4 Empty) ∷ members.Named (codes "a") ∷ []) []
     ∷ graph (codes "g") false 5 (codes "h" ∷ codes "f" ∷ []) (members.Node (written (codes "c") 6 Empty) ∷ []) [] ∷ [])
 
+-- persons whose mail differs
+abbrev pub mail_text : List ℕ
+mail_text = codes "CREATE GRAPH TYPE g STRICT {(person: Person {mail STRING}), FOR (x:person) EXCLUSIVE x.mail};"
+
+abbrev pub mail_key : RawKey
+mail_key = record {
+  place = 3; qualifiers = qualifiers false false true;
+  scope = alone (place (Some (codes "x")) (codes "person" ∷ [])) ∷ [];
+  exprs = record { var = codes "x"; key = Some (codes "mail") } ∷ [];
+  within = None;
+}
+
+abbrev pub mail_script : Script
+mail_script = script (
+    graph (codes "g") true 1 [] (members.Node (written (codes "person") 2
+        (And (word (codes "Person") ∷ specs.Braces (record { properties = property (codes "mail") kinds.Text ∷ []; more = false }) ∷ []))) ∷ [])
+        (mail_key ∷ []) ∷ [])
+
 -- a text of many forms: ABSTRACT behind TYPE, parentheses, a quoted name, an arrow to the left, tests, qualifiers with
 -- a comma and without
 abbrev pub forms_text : List ℕ

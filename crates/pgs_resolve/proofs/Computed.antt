@@ -10,6 +10,7 @@ use Rattle.pgs_syntax.specs.Samples.{staff, keyed, two_steps, moderator, pattern
 use Rattle.pgs_syntax.specs.Valid.{is_valid}
 use Rattle.pgs_parser.specs.Samples as texts
 use Rattle.pgs_parser.specs.Text.{is_script}
+use Rattle.pgs_parser.proofs.NoMode.{no_mode_found}
 use Rattle.pgs_parser.proofs.Texts as found
 use Rattle.pgs_resolve.specs.declared.fault.KeyCause.TheVariants.{NoX, TwoKinds, Shared, Disconnected, UnknownVariable, TooLarge}
 use Rattle.pgs_resolve.specs.declared.fault.ResolveFault.TheVariants as faults
@@ -17,8 +18,8 @@ use Rattle.pgs_resolve.specs.KeyFaults.{cause_of}
 use Rattle.pgs_resolve.specs.Order.{numbering_of}
 use Rattle.pgs_resolve.specs.Patterns.{resolved_key}
 use Rattle.pgs_resolve.specs.Resolution.{resolution, resolved}
-use Rattle.pgs_resolve.specs.Samples.{acquaintance_schema, no_names}
-use Rattle.pgs_resolve.specs.SchemaOf.{IsSchemaOf, refused, schema, begins_no_item, of_items, of_refusal, of_script}
+use Rattle.pgs_resolve.specs.Samples.{acquaintance_schema, mail_schema, no_names}
+use Rattle.pgs_resolve.specs.SchemaOf.{IsSchemaOf, refused, schema, begins_no_item, is_no_statement, of_items, of_statements, of_refusal, of_script}
 
 pub staff_resolved : resolution texts.staff_script ≡ Ok (staff (numbers.Node 0 ∷ numbers.Node 1 ∷ []))
 unfolding resolution block.hidden-the_row-Spec-0 hidden
@@ -119,3 +120,17 @@ from_texts_staff = of_script found.staff_found staff_resolved
 
 pub from_texts_moderator : IsSchemaOf texts.moderator_text (schema (keyed (moderator ∷ [])))
 from_texts_moderator = of_script found.moderator_found moderator_resolved
+
+pub mail_resolved : resolution texts.mail_script ≡ Ok mail_schema
+unfolding resolution block.hidden-the_row-Spec-0 hidden
+mail_resolved = refl
+
+pub mail_valid : is_valid mail_schema ≡ true
+unfolding block.hidden-the_row-Spec-0 hidden
+mail_valid = refl
+
+pub from_texts_mail : IsSchemaOf texts.mail_text (schema mail_schema)
+from_texts_mail = of_script found.mail_found mail_resolved
+
+pub from_texts_no_mode : IsSchemaOf texts.no_mode_text (is_no_statement 1)
+from_texts_no_mode = of_statements no_mode_found

@@ -1,10 +1,13 @@
 -- Schemas of the samples.
 use Rattle.std.specs.Prelude.{true, false, [], ◌∷◌, codes}
+use Rattle.pgs_base.specs.declared.value.Kind.TheVariants as kinds
+use Rattle.pgs_syntax.specs.declared.pattern.Atom.TheVariants.{FitsNode}
+use Rattle.pgs_syntax.specs.declared.pattern.Expr.TheVariants.{Property}
 use Rattle.pgs_syntax.specs.declared.resolved.Resolved.{Resolved}
 use Rattle.pgs_syntax.specs.declared.resolved.TypeNo.TheVariants as numbers
 use Rattle.pgs_syntax.specs.declared.specification.Spec.{And}
 use Rattle.pgs_resolve.specs.Order.{Numbering}
-use Rattle.pgs_syntax.specs.Samples.{label, type, node_type}
+use Rattle.pgs_syntax.specs.Samples.{label, type, node_type, braces, property, key, qualifiers, pattern}
 
 -- the schema of nodes that know other nodes
 abbrev pub acquaintance_schema : Resolved
@@ -17,3 +20,16 @@ acquaintance_schema = record {
 -- no type has a name
 abbrev pub no_names : Numbering
 no_names = record { nodes = []; edges = [] }
+
+-- the schema of persons whose mail differs
+abbrev pub mail_schema : Resolved
+mail_schema = record {
+  nodes = node_type (codes "person") 2 (And (label (codes "Person") ∷ braces (property (codes "mail") kinds.Text ∷ []) ∷ [])) ∷ [];
+  edges = [];
+  guard = record {
+    strict = true;
+    types = numbers.Node 0 ∷ [];
+    keys = key (qualifiers false false true) (pattern (false ∷ []) (FitsNode 0 0 ∷ [])) (Property 0 (codes "mail") ∷ [])
+        (pattern (false ∷ []) []) ∷ [];
+  };
+}

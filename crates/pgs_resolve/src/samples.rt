@@ -12,8 +12,8 @@ ghost use Rattle.pgs_resolve.specs.KeyFaults.{cause_of};
 ghost use Rattle.pgs_resolve.specs.Order.{numbering_of};
 ghost use Rattle.pgs_resolve.specs.Patterns.{resolved_key};
 ghost use Rattle.pgs_resolve.specs.Resolution.{resolution, resolved};
-ghost use Rattle.pgs_resolve.specs.Samples.{acquaintance_schema, no_names};
-ghost use Rattle.pgs_resolve.specs.SchemaOf.{IsSchemaOf, refused, schema, begins_no_item};
+ghost use Rattle.pgs_resolve.specs.Samples.{acquaintance_schema, mail_schema, no_names};
+ghost use Rattle.pgs_resolve.specs.SchemaOf.{IsSchemaOf, refused, schema, begins_no_item, is_no_statement};
 ghost use Rattle.pgs_parser.specs.Samples as texts;
 
 /// Schemas of types alone.
@@ -34,6 +34,8 @@ pub fn guards()
 pub fn keys()
     ensures steps_resolved { resolution (texts.keyed_script texts.two_steps_written) ≡ Ok (keyed (two_steps ∷ [])) }
     ensures moderator_resolved { resolution (texts.keyed_script texts.moderator_written) ≡ Ok (keyed (moderator ∷ [])) }
+    ensures mail_resolved { resolution texts.mail_script ≡ Ok mail_schema }
+    ensures mail_valid { is_valid mail_schema ≡ true }
     ensures edge_first { (resolved_key no_names texts.edge_first).scope ≡ pattern (true ∷ false ∷ false ∷ []) (HasLabel 2 (codes "A") ∷ Ends 0 1 2 ∷ []) }
 {}
 
@@ -61,10 +63,12 @@ pub fn causes()
     ensures linked { cause_of 256 texts.linked ≡ None }
 {}
 
-/// Texts to the end: one with a byte that begins no item, the empty one, and two with their schemas.
+/// Texts to the end: one with a byte that begins no item, the empty one, one whose statement is none, and three with their schemas.
 pub fn from_texts()
     ensures bad_byte { IsSchemaOf texts.bad_byte_text (begins_no_item 1) }
+    ensures no_mode { IsSchemaOf texts.no_mode_text (is_no_statement 1) }
     ensures empty { IsSchemaOf [] (refused faults.NoGraphType) }
     ensures staff { IsSchemaOf texts.staff_text (schema (staff (numbers.Node 0 ∷ numbers.Node 1 ∷ []))) }
+    ensures mail { IsSchemaOf texts.mail_text (schema mail_schema) }
     ensures moderator { IsSchemaOf texts.moderator_text (schema (keyed (moderator ∷ []))) }
 {}

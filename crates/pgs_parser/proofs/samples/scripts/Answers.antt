@@ -13,5 +13,8 @@ returns-clause-acquaintance c = texts.acquaintance_found
 pub returns-clause-moderator : goal.returns-clause-moderator
 returns-clause-moderator c = texts.moderator_found
 
+pub returns-clause-mail : goal.returns-clause-mail
+returns-clause-mail c = texts.mail_found
+
 pub returns-clause-forms : goal.returns-clause-forms
 returns-clause-forms c = texts.forms_found

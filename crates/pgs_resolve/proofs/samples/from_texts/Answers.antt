@@ -12,3 +12,9 @@ returns-clause-staff c = samples.from_texts_staff
 
 pub returns-clause-moderator : goal.returns-clause-moderator
 returns-clause-moderator c = samples.from_texts_moderator
+
+pub returns-clause-mail : goal.returns-clause-mail
+returns-clause-mail c = samples.from_texts_mail
+
+pub returns-clause-no_mode : goal.returns-clause-no_mode
+returns-clause-no_mode c = samples.from_texts_no_mode

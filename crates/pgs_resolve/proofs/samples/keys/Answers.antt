@@ -9,3 +9,9 @@ returns-clause-moderator_resolved c = samples.moderator_resolved
 
 pub returns-clause-edge_first : goal.returns-clause-edge_first
 returns-clause-edge_first c = samples.edge_first
+
+pub returns-clause-mail_resolved : goal.returns-clause-mail_resolved
+returns-clause-mail_resolved c = samples.mail_resolved
+
+pub returns-clause-mail_valid : goal.returns-clause-mail_valid
+returns-clause-mail_valid c = samples.mail_valid
