@@ -5,6 +5,7 @@ pub mod Findings
 pub mod FirstKinds
 pub mod Listing
 pub mod NoMode
+pub mod OneToken
 pub mod Ruled
 pub mod Sound
 pub mod Spelling

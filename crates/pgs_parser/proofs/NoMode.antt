@@ -8,19 +8,10 @@ use Rattle.pgs_lexer.specs.declared.kind.TokenKind.{TokenKind}
 use Rattle.pgs_lexer.specs.declared.kind.TokenKind.TheVariants.{Keyword, Name, Sign}
 use Rattle.pgs_syntax.specs.declared.script.Statement.{Statement}
 use Rattle.pgs_syntax.specs.declared.script.Statement.TheVariants.{Node, Edge, Graph}
-use Rattle.pgs_parser.specs.Production.{IsToken, here}
+use Rattle.pgs_parser.proofs.OneToken.{pass, is_asked}
 use Rattle.pgs_parser.specs.Statements.{create, mode, IsNoStatement}
 use Rattle.pgs_parser.specs.Samples.{no_mode_text}
 use Rattle.pgs_parser.specs.Text.{IsFound, no_statement, has_no_statement}
-
--- what is read after a token, and the token itself
-pub pass : {IsAsked : Lexeme → Type 0} {More : List Lexeme → Type 0} {token : Lexeme} {rest : List Lexeme} →
-    (between : List Lexeme) × IsToken IsAsked (token ∷ rest) between × More between → More rest
-pass (_, here asked, more) = more
-
-pub is_asked : {IsAsked : Lexeme → Type 0} {More : List Lexeme → Type 0} {token : Lexeme} {rest : List Lexeme} →
-    (between : List Lexeme) × IsToken IsAsked (token ∷ rest) between × More between → IsAsked token
-is_asked (_, here asked, more) = asked
 
 not_created : (hidden : Bool) (what : String) (first second : Lexeme) (rest after : List Lexeme) →
     (second.bytes ≡ codes what → ⊥) → (second.bytes ≡ codes "ABSTRACT" → ⊥) → create hidden what (first ∷ second ∷ rest) after → ⊥
