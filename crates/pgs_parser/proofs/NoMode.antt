@@ -40,5 +40,12 @@ none (Graph type) h = no_mode type.strict _ _ _ (λ e. cc) (pass (pass (pass (pa
 pub no_mode_found : IsFound no_mode_text (no_statement 1)
 unfolding tokens_of tokens_from item_at
 no_mode_found = has_no_statement {tokens = tokens} (omega arith) refl (record {
-  front = []; piece = tokens; back = []; trees = []; cut = refl; number = refl; earlier = tt; none = none;
+  front = [];
+  piece = tokens;
+  back = [];
+  trees = [];
+  cut = refl;
+  number = refl;
+  earlier = tt;
+  none = none;
 })

@@ -50,10 +50,10 @@ staff_text = codes "CREATE NODE TYPE (personType: Person {name STRING}); CREATE 
 abbrev pub staff_script : Script
 staff_script = script (
     Node (written (codes "personType") 1
-        (And (word (codes "Person") ∷ specs.Braces (record { properties = property (codes "name") kinds.Text ∷ []; more = false }) ∷ [])))
+    (And (word (codes "Person") ∷ specs.Braces (record { properties = property (codes "name") kinds.Text ∷ []; more = false }) ∷ [])))
     ∷ Node (written (codes "employeeType") 2
-        (And (And (word (codes "personType") ∷ word (codes "Employee") ∷ [])
-        ∷ specs.Braces (record { properties = property (codes "salary") kinds.Int ∷ []; more = false }) ∷ [])))
+    (And (And (word (codes "personType") ∷ word (codes "Employee") ∷ [])
+    ∷ specs.Braces (record { properties = property (codes "salary") kinds.Int ∷ []; more = false }) ∷ [])))
     ∷ graph (codes "g") true 3 [] (members.Named (codes "personType") ∷ members.Named (codes "employeeType") ∷ []) []
     ∷ [])
 
@@ -64,12 +64,16 @@ acquaintance_text = codes "CREATE GRAPH TYPE g STRICT {(p: P), (q: P & Q), (:q)-
 abbrev pub acquaintance_script : Script
 acquaintance_script = script (
     graph (codes "g") true 1 [] (
-        members.Node (written (codes "p") 2 (word (codes "P")))
-        ∷ members.Node (written (codes "q") 3 (And (word (codes "P") ∷ word (codes "Q") ∷ [])))
-        ∷ members.Edge (record {
-            name = codes "e"; hidden = false; place = 4;
-            source = word (codes "q"); middle = word (codes "knows"); target = word (codes "p");
-        }) ∷ []) [] ∷ [])
+    members.Node (written (codes "p") 2 (word (codes "P")))
+    ∷ members.Node (written (codes "q") 3 (And (word (codes "P") ∷ word (codes "Q") ∷ [])))
+    ∷ members.Edge (record {
+      name = codes "e";
+      hidden = false;
+      place = 4;
+      source = word (codes "q");
+      middle = word (codes "knows");
+      target = word (codes "p");
+    }) ∷ []) [] ∷ [])
 
 -- the types named before their declarations: (c: b), (b: a), (a: A)
 abbrev pub backwards_script : Script
@@ -101,7 +105,12 @@ abbrev pub wrong_kind : Script
 wrong_kind = script (
     Node (written (codes "a") 1 (word (codes "A")))
     ∷ graph (codes "g") false 2 [] (members.Edge (record {
-        name = codes "e"; hidden = false; place = 3; source = Empty; middle = word (codes "a"); target = Empty;
+      name = codes "e";
+      hidden = false;
+      place = 3;
+      source = Empty;
+      middle = word (codes "a");
+      target = Empty;
     }) ∷ []) [] ∷ [])
 
 -- a place of a path with this variable and these labels, and a path of one place
@@ -124,7 +133,8 @@ keyed_script key = script (graph (codes "g") false 1 [] [] (key ∷ []) ∷ [])
 -- FOR (x) EXCLUSIVE y.k
 abbrev pub reads_y : RawKey
 reads_y = record {
-  place = 2; qualifiers = qualifiers false false true;
+  place = 2;
+  qualifiers = qualifiers false false true;
   scope = alone (place (Some (codes "x")) []) ∷ [];
   exprs = record { var = codes "y"; key = Some (codes "k") } ∷ [];
   within = None;
@@ -133,7 +143,8 @@ reads_y = record {
 -- FOR (x:A) MANDATORY z.v WITHIN (x)-[:r]->()-[:r]->(z)
 abbrev pub two_steps_written : RawKey
 two_steps_written = record {
-  place = 2; qualifiers = qualifiers true false false;
+  place = 2;
+  qualifiers = qualifiers true false false;
   scope = alone (place (Some (codes "x")) (codes "A" ∷ [])) ∷ [];
   exprs = record { var = codes "z"; key = Some (codes "v") } ∷ [];
   within = Some (path (place (Some (codes "x")) []) (
@@ -147,7 +158,8 @@ moderator_text = codes "CREATE GRAPH TYPE g LOOSE {FOR (f:Forum)<-[:joined]-(:Pe
 
 abbrev pub moderator_written : RawKey
 moderator_written = record {
-  place = 2; qualifiers = qualifiers true true true;
+  place = 2;
+  qualifiers = qualifiers true true true;
   scope = path (place (Some (codes "f")) (codes "Forum" ∷ [])) (
       step false (place None (codes "joined" ∷ [])) (place None (codes "Person" ∷ [])) ∷ []) ∷ [];
   exprs = record { var = codes "f"; key = Some (codes "name") } ∷ record { var = codes "p"; key = None } ∷ [];
@@ -161,7 +173,11 @@ moderator_script = keyed_script moderator_written
 -- a key of these parts that asks that x.k differs
 abbrev pub differing : List RawPath → Option (List RawPath) → List RawExpr → RawKey
 differing scope within exprs = record {
-  place = 2; qualifiers = qualifiers false false true; scope = scope; exprs = exprs; within = within;
+  place = 2;
+  qualifiers = qualifiers false false true;
+  scope = scope;
+  exprs = exprs;
+  within = within;
 }
 
 -- a node place of a variable, and one without
@@ -224,7 +240,8 @@ mail_text = codes "CREATE GRAPH TYPE g STRICT {(person: Person {mail STRING}), F
 
 abbrev pub mail_key : RawKey
 mail_key = record {
-  place = 3; qualifiers = qualifiers false false true;
+  place = 3;
+  qualifiers = qualifiers false false true;
   scope = alone (place (Some (codes "x")) (codes "person" ∷ [])) ∷ [];
   exprs = record { var = codes "x"; key = Some (codes "mail") } ∷ [];
   within = None;
@@ -233,8 +250,8 @@ mail_key = record {
 abbrev pub mail_script : Script
 mail_script = script (
     graph (codes "g") true 1 [] (members.Node (written (codes "person") 2
-        (And (word (codes "Person") ∷ specs.Braces (record { properties = property (codes "mail") kinds.Text ∷ []; more = false }) ∷ []))) ∷ [])
-        (mail_key ∷ []) ∷ [])
+    (And (word (codes "Person") ∷ specs.Braces (record { properties = property (codes "mail") kinds.Text ∷ []; more = false }) ∷ []))) ∷ [])
+    (mail_key ∷ []) ∷ [])
 
 -- a text of many forms: ABSTRACT behind TYPE, parentheses, a quoted name, an arrow to the left, tests, qualifiers with
 -- a comma and without
@@ -249,11 +266,15 @@ forms_body = And (
 
 abbrev pub forms_key : RawKey
 forms_key = record {
-  place = 4; qualifiers = qualifiers true true true;
-  scope = alone (record { var = Some (codes "x"); filter = record {
-    names = codes "t" ∷ [];
-    tests = (codes "k", values.Date (2024, 2, 29)) ∷ (codes "s", values.Text (codes "it's")) ∷ (codes "n", values.Int (negsuc 4)) ∷ [];
-  } }) ∷ [];
+  place = 4;
+  qualifiers = qualifiers true true true;
+  scope = alone (record {
+    var = Some (codes "x");
+    filter = record {
+      names = codes "t" ∷ [];
+      tests = (codes "k", values.Date (2024, 2, 29)) ∷ (codes "s", values.Text (codes "it's")) ∷ (codes "n", values.Int (negsuc 4)) ∷ [];
+    };
+  }) ∷ [];
   exprs = record { var = codes "x"; key = Some (codes "k") } ∷ record { var = codes "x"; key = None } ∷ [];
   within = None;
 }
@@ -262,7 +283,12 @@ abbrev pub forms_script : Script
 forms_script = script (
     Node (record { name = codes "t"; hidden = true; place = 1; spec = forms_body })
     ∷ graph (codes "h") false 2 (codes "g" ∷ []) (members.Edge (record {
-        name = codes "e"; hidden = false; place = 3; source = OpenLabels; middle = Empty; target = word (codes "t");
+      name = codes "e";
+      hidden = false;
+      place = 3;
+      source = OpenLabels;
+      middle = Empty;
+      target = word (codes "t");
     }) ∷ []) (forms_key ∷ []) ∷ [])
 
 -- texts that are no script: by a byte that begins no item, and by a statement

@@ -83,13 +83,18 @@ abbrev mutual
 
 abbrev pub resolved_node : Numbering → NodeType (List ℕ) → NodeType Leaf
 resolved_node numbering type = record {
-  name = type.name; hidden = type.hidden; place = type.place; spec = resolved_spec numbering.nodes type.spec;
+  name = type.name;
+  hidden = type.hidden;
+  place = type.place;
+  spec = resolved_spec numbering.nodes type.spec;
 }
 
 -- at its ends an edge type names node types, and in its middle edge types
 abbrev pub resolved_edge : Numbering → EdgeType (List ℕ) → EdgeType Leaf
 resolved_edge numbering type = record {
-  name = type.name; hidden = type.hidden; place = type.place;
+  name = type.name;
+  hidden = type.hidden;
+  place = type.place;
   source = resolved_spec numbering.nodes type.source;
   middle = resolved_spec numbering.edges type.middle;
   target = resolved_spec numbering.nodes type.target;
