@@ -6,7 +6,6 @@ use Rattle.pgs_lexer.specs.Cut.{tokens_of, tokens_from}
 use Rattle.pgs_lexer.specs.Token.{Lexeme}
 use Rattle.pgs_lexer.specs.declared.kind.TokenKind.{TokenKind}
 use Rattle.pgs_lexer.specs.declared.kind.TokenKind.TheVariants.{Keyword, Name, Sign}
-use Rattle.pgs_syntax.specs.declared.script.Statement.{Statement}
 use Rattle.pgs_syntax.specs.declared.script.Statement.TheVariants.{Node, Edge, Graph}
 use Rattle.pgs_parser.proofs.OneToken.{pass, is_asked}
 use Rattle.pgs_parser.specs.Statements.{create, mode, IsNoStatement}

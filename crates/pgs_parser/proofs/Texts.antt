@@ -1,20 +1,18 @@
 -- The samples' texts are the scripts that the samples say, each by its derivation.
 use Rattle.std.proofs.Common.{true, false, [], ◌∷◌, Some, None, inl, inr, refl, arith, codes}
-use denote.Hole.Carrier.{hidden}
 use Rattle.std.specs.Char.{encode_utf8}
 use Rattle.std.specs.Str.{is_utf8, chars}
 use Rattle.std.specs.Str.Lossy.{utf8_valid_len}
 use Rattle.pgs_lexer.specs.Scan.{item_at}
 use Rattle.pgs_lexer.specs.Cut.{tokens_of, tokens_from}
 use Rattle.pgs_base.specs.declared.value.Kind.TheVariants as kinds
-use Rattle.pgs_syntax.specs.declared.specification.Spec as specs
 use Rattle.pgs_syntax.specs.declared.specification.Spec.{Word, Or, And, Opt}
 use Rattle.pgs_parser.specs.Production.{here}
 use Rattle.pgs_parser.proofs.OneToken.{◌⟨◌⟩◌}
 use Rattle.pgs_parser.specs.Types.{named, parenthesised, plain, optional, one_unit, units, one_conj, conjs}
 use Rattle.pgs_parser.specs.Samples as samples
 use Rattle.pgs_parser.specs.Samples.{word}
-use Rattle.pgs_parser.specs.Text.{IsFound, script, is_script, too_long, is_too_long, no_item, has_no_item}
+use Rattle.pgs_parser.specs.Text.{IsFound, script, is_script, no_item, has_no_item}
 
 pub least_found : IsFound samples.least_text (script samples.least_script)
 unfolding tokens_of tokens_from item_at is_utf8 utf8_valid_len chars encode_utf8

@@ -1,11 +1,9 @@
 -- The grammar of keys. Each production has its tree as its argument.
-use Rattle.std.specs.Prelude.{◌≡◌, ℕ, Bool, true, false, ◌&&◌, List, [], ◌∷◌, Option, Some, None, codes}
+use Rattle.std.specs.Prelude.{◌≡◌, ℕ, Bool, true, false, ◌&&◌, List, [], ◌∷◌, codes}
 use Rattle.std.specs.List.{list_all}
 use Rattle.pgs_base.specs.declared.value.Value.{Value}
-use Rattle.pgs_lexer.specs.Token.{Lexeme}
 use Rattle.pgs_lexer.specs.declared.kind.TokenKind.TheVariants as tokens
 use Rattle.pgs_syntax.specs.declared.key.Qualifiers.{Qualifiers}
-use Rattle.pgs_syntax.specs.declared.raw.RawFilter.{RawFilter}
 use Rattle.pgs_syntax.specs.declared.raw.RawPlace.{RawPlace}
 use Rattle.pgs_syntax.specs.declared.raw.RawStep.{RawStep}
 use Rattle.pgs_syntax.specs.declared.raw.RawPath.{RawPath}
@@ -13,7 +11,7 @@ use Rattle.pgs_syntax.specs.declared.raw.RawExpr.{RawExpr}
 use Rattle.pgs_syntax.specs.declared.raw.RawKey.{RawKey}
 use Rattle.pgs_syntax.specs.Fitting.{has_label, same_name}
 use Rattle.pgs_syntax.specs.Valid.{are_distinct}
-use Rattle.pgs_parser.specs.Production.{Production, ◌▸◌, ◌or◌, nothing, never, IsToken, keyword, sign, maybe, each, listed, maybe_listed}
+use Rattle.pgs_parser.specs.Production.{Production, ◌▸◌, ◌or◌, nothing, IsToken, keyword, sign, maybe, each, listed}
 use Rattle.pgs_parser.specs.Literal.{name, literal}
 
 -- name ":" literal

@@ -3,19 +3,16 @@ use Rattle.std.specs.Prelude.{ℕ, Bool, true, false, List, [], ◌∷◌, Optio
 use Rattle.pgs_base.specs.declared.value.Kind.TheVariants as kinds
 use Rattle.pgs_base.specs.declared.value.Value.TheVariants as values
 use Rattle.pgs_syntax.specs.declared.element_type.NodeType.{NodeType}
-use Rattle.pgs_syntax.specs.declared.key.Qualifiers.{Qualifiers}
 use Rattle.pgs_syntax.specs.declared.raw.RawExpr.{RawExpr}
 use Rattle.pgs_syntax.specs.declared.raw.RawKey.{RawKey}
 use Rattle.pgs_syntax.specs.declared.raw.RawPath.{RawPath}
 use Rattle.pgs_syntax.specs.declared.raw.RawPlace.{RawPlace}
 use Rattle.pgs_syntax.specs.declared.raw.RawStep.{RawStep}
-use Rattle.pgs_syntax.specs.declared.script.GraphType.{GraphType}
 use Rattle.pgs_syntax.specs.declared.script.Member.{Member}
 use Rattle.pgs_syntax.specs.declared.script.Member.TheVariants as members
 use Rattle.pgs_syntax.specs.declared.script.Script.{Script}
 use Rattle.pgs_syntax.specs.declared.script.Statement.{Statement}
-use Rattle.pgs_syntax.specs.declared.script.Statement.TheVariants.{Node, Edge, Graph}
-use Rattle.pgs_syntax.specs.declared.specification.Property.{Property}
+use Rattle.pgs_syntax.specs.declared.script.Statement.TheVariants.{Node, Graph}
 use Rattle.pgs_syntax.specs.declared.specification.Spec as specs
 use Rattle.pgs_syntax.specs.declared.specification.Spec.{Spec, Empty, Word, OpenLabels, And, Or, Opt}
 use Rattle.pgs_syntax.specs.Samples.{property, optional, qualifiers}

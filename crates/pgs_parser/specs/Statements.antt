@@ -2,12 +2,7 @@
 use Prim.Native.String.{String}
 use Rattle.std.specs.Prelude.{◌≡◌, ℕ, ◌+◌, ◌==◌, Bool, true, false, ◌&&◌, List, [], ◌∷◌, ◌++◌, map, flat_map, length, if◌then◌else◌, bytes_eq, codes}
 use Rattle.pgs_lexer.specs.Token.{Lexeme}
-use Rattle.pgs_lexer.specs.declared.kind.TokenKind.{TokenKind}
-use Rattle.pgs_lexer.specs.declared.kind.TokenKind.TheVariants as tokens
-use Rattle.pgs_syntax.specs.declared.element_type.NodeType.{NodeType}
-use Rattle.pgs_syntax.specs.declared.element_type.EdgeType.{EdgeType}
 use Rattle.pgs_syntax.specs.declared.raw.RawKey.{RawKey}
-use Rattle.pgs_syntax.specs.declared.script.GraphType.{GraphType}
 use Rattle.pgs_syntax.specs.declared.script.Member.{Member}
 use Rattle.pgs_syntax.specs.declared.script.Member.TheVariants as members
 use Rattle.pgs_syntax.specs.declared.script.Script.{Script}

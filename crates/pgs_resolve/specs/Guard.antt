@@ -1,11 +1,8 @@
 -- The guard of a script: the last graph type. Its imports are walked depth first, each graph type once, and the members of
 -- each come after those of its imports.
-use Rattle.std.specs.Prelude.{ℕ, zero, suc, Bool, true, false, not, List, [], ◌∷◌, ◌++◌, length, Option, Some, None, map, filter, filter_map, flat_map, if◌then◌else◌, option_map}
+use Rattle.std.specs.Prelude.{ℕ, zero, suc, false, not, List, [], ◌∷◌, ◌++◌, length, Option, Some, None, map, filter, filter_map, flat_map, if◌then◌else◌, option_map}
 use Rattle.std.specs.List.{fold}
 use Rattle.std.specs.Option.{option_map_or}
-use Rattle.pgs_syntax.specs.declared.element_type.NodeType.{NodeType}
-use Rattle.pgs_syntax.specs.declared.element_type.EdgeType.{EdgeType}
-use Rattle.pgs_syntax.specs.declared.raw.RawKey.{RawKey}
 use Rattle.pgs_syntax.specs.declared.resolved.Guarding.{Guarding}
 use Rattle.pgs_syntax.specs.declared.resolved.TypeNo.{TypeNo}
 use Rattle.pgs_syntax.specs.declared.resolved.TypeNo.TheVariants.{Node, Edge}

@@ -1,5 +1,5 @@
 -- The faults of keys.
-use Rattle.std.specs.Prelude.{ℕ, ◌+◌, Bool, true, false, not, ◌&&◌, ◌||◌, List, [], ◌∷◌, ◌++◌, length, Option, Some, None, map, filter, nat_lt, unwrap_or, is_some, option_map}
+use Rattle.std.specs.Prelude.{ℕ, Bool, true, false, not, ◌&&◌, ◌||◌, List, [], ◌∷◌, ◌++◌, length, Option, filter, nat_lt, unwrap_or, option_map}
 use Rattle.std.specs.List.{list_any, list_all, find}
 use Rattle.std.specs.Option.{option_map_or}
 use Rattle.pgs_syntax.specs.declared.raw.RawExpr.{RawExpr}
@@ -9,7 +9,6 @@ use Rattle.pgs_syntax.specs.Fitting.{same_name, has_label}
 use Rattle.pgs_syntax.specs.Valid.{is_connected}
 use Rattle.pgs_resolve.specs.declared.fault.KeyCause.{KeyCause}
 use Rattle.pgs_resolve.specs.declared.fault.KeyCause.TheVariants.{NoX, TwoKinds, Shared, Disconnected, UnknownVariable, TooLarge}
-use Rattle.pgs_resolve.specs.Order.{Numbering}
 use Rattle.pgs_resolve.specs.Patterns.{Place, places_of, named_in, x_of, pattern_of}
 
 -- the paths of a written descriptor

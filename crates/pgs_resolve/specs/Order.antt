@@ -1,6 +1,6 @@
 -- The order of types in a resolved schema, and names as labels or types. Node types, and apart from them edge types, are
 -- listed so that each next one is the least by place among those whose named types of the same kind are all listed.
-use Rattle.std.specs.Prelude.{ℕ, zero, suc, Bool, true, false, not, List, [], ◌∷◌, ◌++◌, length, Option, Some, None, map, filter, filter_map, if◌then◌else◌, nat_le, option_map}
+use Rattle.std.specs.Prelude.{ℕ, zero, suc, Bool, not, List, [], ◌∷◌, ◌++◌, length, Option, Some, None, map, filter, filter_map, if◌then◌else◌, nat_le, option_map}
 use Rattle.std.specs.List.{list_all, position}
 use Rattle.std.specs.Option.{option_map_or}
 use Rattle.pgs_syntax.specs.declared.element_type.NodeType.{NodeType}

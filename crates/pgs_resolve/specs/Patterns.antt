@@ -1,7 +1,7 @@
 -- Keys resolved: their paths as patterns over numbered variables. The variable x, the first that the scope names, has number
 -- 0 in both patterns, and the others go by their first places. A place without a name is a variable of its own.
-use Rattle.std.specs.Prelude.{ℕ, ◌+◌, ◌*◌, ◌==◌, Bool, true, false, not, List, [], ◌∷◌, ◌++◌, length, take, Option, Some, None, map, filter, filter_map, flat_map, unwrap_or, slice_get, if◌then◌else◌}
-use Rattle.std.specs.List.{list_any, enumerate_from, position}
+use Rattle.std.specs.Prelude.{ℕ, ◌+◌, ◌*◌, ◌==◌, Bool, true, false, not, List, [], ◌∷◌, ◌++◌, length, take, Option, map, filter, filter_map, flat_map, unwrap_or, slice_get}
+use Rattle.std.specs.List.{enumerate_from, position}
 use Rattle.std.specs.Option.{option_map_or}
 use Rattle.pgs_base.specs.declared.value.Value.{Value}
 use Rattle.pgs_syntax.specs.declared.key.Key.{Key}

@@ -1,7 +1,7 @@
 -- The names for which a script is refused, each list in the order of the tree: names declared twice, names that aren't
 -- declared, names of the wrong kind. And the names on cycles.
-use Rattle.std.specs.Prelude.{ℕ, zero, suc, Bool, true, false, not, ◌&&◌, ◌||◌, List, [], ◌∷◌, ◌++◌, length, Option, Some, None, map, filter, filter_map, flat_map, if◌then◌else◌}
-use Rattle.std.specs.List.{list_any, find}
+use Rattle.std.specs.Prelude.{ℕ, zero, suc, Bool, true, false, not, ◌||◌, List, [], ◌∷◌, ◌++◌, length, Option, Some, None, map, filter, flat_map, if◌then◌else◌}
+use Rattle.std.specs.List.{list_any}
 use Rattle.std.specs.Option.{option_map_or}
 use Rattle.std.specs.Ordering.{nat_cmp, is_lt}
 use Rattle.std.specs.Cmp.Lexicographic.{slice_cmp}
@@ -9,7 +9,6 @@ use Rattle.pgs_syntax.specs.declared.element_type.NodeType.{NodeType}
 use Rattle.pgs_syntax.specs.declared.element_type.EdgeType.{EdgeType}
 use Rattle.pgs_syntax.specs.declared.raw.RawKey.{RawKey}
 use Rattle.pgs_syntax.specs.declared.raw.RawPath.{RawPath}
-use Rattle.pgs_syntax.specs.declared.raw.RawPlace.{RawPlace}
 use Rattle.pgs_syntax.specs.declared.raw.RawStep.{RawStep}
 use Rattle.pgs_syntax.specs.declared.script.GraphType.{GraphType}
 use Rattle.pgs_syntax.specs.declared.script.Member.{Member}
@@ -19,7 +18,7 @@ use Rattle.pgs_syntax.specs.declared.script.Statement.{Statement}
 use Rattle.pgs_syntax.specs.declared.script.Statement.TheVariants.{Node, Edge, Graph}
 use Rattle.pgs_syntax.specs.declared.specification.Spec.{Spec}
 use Rattle.pgs_syntax.specs.Fitting.{same_name, has_label}
-use Rattle.pgs_resolve.specs.Declarations.{words_of, braces_of, types_of, graphs_of, nodes_of, edges_of, node_named, edge_named, graph_named, is_node_type, is_edge_type, is_graph_type}
+use Rattle.pgs_resolve.specs.Declarations.{words_of, braces_of, graphs_of, nodes_of, edges_of, node_named, edge_named, graph_named, is_node_type, is_edge_type, is_graph_type}
 
 -- ---- declared twice
 

@@ -1,17 +1,16 @@
 -- The schema of a script: the first of its refusals, or the one resolved schema.
-use Rattle.std.specs.Prelude.{ℕ, List, [], ◌∷◌, ◌++◌, Option, Some, None, Result, Ok, Err, map, filter_map, option_map}
+use Rattle.std.specs.Prelude.{ℕ, List, [], ◌∷◌, ◌++◌, Option, Result, Ok, Err, map, filter_map, option_map}
 use Rattle.std.specs.List.{enumerate_from}
 use Rattle.std.specs.Option.{option_map_or}
 use Rattle.pgs_syntax.specs.declared.raw.RawKey.{RawKey}
 use Rattle.pgs_syntax.specs.declared.resolved.Resolved.{Resolved}
 use Rattle.pgs_syntax.specs.declared.script.GraphType.{GraphType}
 use Rattle.pgs_syntax.specs.declared.script.Script.{Script}
-use Rattle.pgs_resolve.specs.declared.fault.KeyCause.{KeyCause}
 use Rattle.pgs_resolve.specs.declared.fault.ResolveFault.{ResolveFault}
 use Rattle.pgs_resolve.specs.declared.fault.ResolveFault.TheVariants as faults
 use Rattle.pgs_resolve.specs.Declarations.{graphs_of, keys_of}
 use Rattle.pgs_resolve.specs.Refused.{duplicates, unknowns, wrong_kinds, cycle}
-use Rattle.pgs_resolve.specs.Order.{Numbering, numbering_of, resolved_nodes, resolved_edges}
+use Rattle.pgs_resolve.specs.Order.{numbering_of, resolved_nodes, resolved_edges}
 use Rattle.pgs_resolve.specs.KeyFaults.{cause_of}
 use Rattle.pgs_resolve.specs.Guard.{guarding}
 
