@@ -1,10 +1,10 @@
 -- A text is found to be one thing.
-use Rattle.std.proofs.Common.{◌≡◌, ℕ, suc, ◌+◌, ◌<◌, ◌≤◌, List, [], ◌∷◌, ◌++◌, length, Result, Ok, Err, refl, sym, ◌∙◌, ap, subst, arith}
+use Rattle.std.proofs.Common.{◌≡◌, ℕ, suc, ◌+◌, List, [], ◌∷◌, ◌++◌, length, Result, Ok, refl, sym, ◌∙◌, ap, subst, arith}
 use Rattle.pgs_lexer.specs.Token.{Lexeme}
 use Rattle.pgs_syntax.specs.declared.script.Script.{Script}
 use Rattle.pgs_syntax.specs.declared.script.Statement.{Statement}
-use Rattle.pgs_parser.specs.Statements.{pieces_of, AreStatements, IsNoStatement, IsScript, IsNoScriptFrom}
-use Rattle.pgs_parser.specs.Text.{Found, too_long, no_item, no_statement, script, IsFound, is_too_long, has_no_item, has_no_statement, is_script, Agree}
+use Rattle.pgs_parser.specs.Statements.{AreStatements, IsNoStatement, IsScript, IsNoScriptFrom}
+use Rattle.pgs_parser.specs.Text.{Found, IsFound, is_too_long, has_no_item, has_no_statement, is_script, Agree}
 
 -- pieces one of which is no statement are not all statements
 not_all : (trees : List Statement) (front : List (List Lexeme)) (piece : List Lexeme) (back : List (List Lexeme)) →

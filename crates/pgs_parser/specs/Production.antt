@@ -59,8 +59,3 @@ each item (x ∷ xs) = item x ▸ each item xs
 abbrev pub listed : {A : Type 0} → Production → (A → Production) → List A → Production
 listed separator item [] = never
 listed separator item (x ∷ xs) = item x ▸ each (λ y. separator ▸ item y) xs
-
--- the same, or nothing at all
-abbrev pub maybe_listed : {A : Type 0} → Production → (A → Production) → List A → Production
-maybe_listed separator item [] = nothing
-maybe_listed separator item (x ∷ xs) = listed separator item (x ∷ xs)
