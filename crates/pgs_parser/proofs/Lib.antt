@@ -1,8 +1,12 @@
 pub mod Complete
 pub mod Cutting
 pub mod Differing
+pub mod Findings
 pub mod FirstKinds
 pub mod Listing
+pub mod NoMode
+pub mod OneToken
 pub mod Ruled
 pub mod Sound
 pub mod Spelling
+pub mod Texts

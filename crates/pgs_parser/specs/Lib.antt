@@ -1,7 +1,14 @@
 pub mod Cut
 pub mod Form
 pub mod Gives
+pub mod Keys
+pub mod Literal
+pub mod Production
 pub mod Reading
 pub mod Rules
+pub mod Samples
 pub mod Schema
 pub mod Signs
+pub mod Statements
+pub mod Text
+pub mod Types

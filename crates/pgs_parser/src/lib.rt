@@ -3,13 +3,18 @@
 //! The one rule: a text is read exactly where it is of the form, and only want of memory keeps it from that.
 //! The form is a grammar in `specs/Form.antt`, over the tokens of `specs/Cut.antt`. `specs/Schema.antt` computes
 //! what is read, and `first_form` is the law that both say the same. The layer above uses `FirstSchema` alone.
+//!
+//! The grammar of the whole language is a relation between the lexer's tokens and the trees of `pgs_syntax`, in
+//! `specs/Types.antt`, `specs/Keys.antt` and `specs/Statements.antt`; `specs/Text.antt` says what a text is by it.
 #![tactic(auto)]
 
 mod cut;
 mod first_schema;
 mod form;
+pub mod laws;
 mod reading;
 mod rules;
+pub mod samples;
 mod token;
 mod tree;
 mod unread;

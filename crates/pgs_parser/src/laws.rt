@@ -1,0 +1,9 @@
+//! Laws of the grammar. The functions do nothing; their contracts are the statements.
+
+ghost use Rattle.std.specs.Prelude.{ℕ, List};
+ghost use Rattle.pgs_parser.specs.Text.{Found, IsFound, Agree};
+
+/// A text is found to be one thing: two findings of it are of one kind, with the same line or the same number.
+pub fn one_finding()
+    ensures { (text : List ℕ) (one other : Found) → IsFound text one → IsFound text other → Agree one other }
+{}

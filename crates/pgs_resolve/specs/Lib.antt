@@ -1,0 +1,9 @@
+pub mod Declarations
+pub mod Guard
+pub mod KeyFaults
+pub mod Order
+pub mod Patterns
+pub mod Refused
+pub mod Resolution
+pub mod Samples
+pub mod SchemaOf

@@ -1,0 +1,39 @@
+use pgs_base::Name;
+
+/// Why a key has no meaning. For one key they are tested in this order.
+#[derive(Clone, Copy, Debug, PartialEq, Eq)]
+pub enum KeyCause {
+    /// The scope names no variable, or a written descriptor doesn't name the scope's first one.
+    NoX,
+    /// A variable stands at a node place and at an edge place.
+    TwoKinds,
+    /// Another variable than the scope's first one is named in scope and descriptor.
+    Shared,
+    /// The variables of the scope, or of the descriptor, aren't all linked through edge places and their ends.
+    Disconnected,
+    /// An expression names a variable that isn't in the descriptor.
+    UnknownVariable,
+    /// Scope or descriptor has over 4 paths or over 8 edge places, there are over 16 expressions, or the key is the
+    /// 257th of the script or a later one.
+    TooLarge,
+}
+
+/// Why a script is no schema. The refusals are tested in this order over the whole script, each by its first place in
+/// it, and `Cycle` by the least name.
+#[derive(Debug, Drop)]
+pub enum ResolveFault {
+    /// There was no memory.
+    Memory,
+    /// Refusal 12: the script has no graph type.
+    NoGraphType,
+    /// Refusal 13: two element types, two graph types, or two properties in one pair of braces have this name.
+    Duplicate { name: Name },
+    /// Refusal 14: a listed member isn't a declared element type, or an import isn't a declared graph type.
+    Unknown { name: Name },
+    /// Refusal 15: an edge type is named where a node type has to be, or a node type where an edge type has to be.
+    Kind { name: Name },
+    /// Refusal 16: the least name on a cycle of element types that name each other, or of imports.
+    Cycle { name: Name },
+    /// Refusal 18: the key of this number, from 1 in the order of the script, has a fault.
+    BadKey { key: u64, cause: KeyCause },
+}

@@ -1,0 +1,74 @@
+//! What the definitions say of small scripts and texts, which stand in `specs/Samples.antt` here and in the parser's. The
+//! functions do nothing; their contracts are the statements.
+
+ghost use Rattle.std.specs.Prelude.{◌≡◌, true, false, List, ℕ, [], ◌∷◌, Ok, Err, None, Some, codes};
+ghost use Rattle.pgs_syntax.specs.declared.pattern.Atom.TheVariants.{Ends, HasLabel};
+ghost use Rattle.pgs_syntax.specs.declared.resolved.TypeNo.TheVariants as numbers;
+ghost use Rattle.pgs_syntax.specs.Samples.{staff, keyed, two_steps, moderator, pattern};
+ghost use Rattle.pgs_syntax.specs.Valid.{is_valid};
+ghost use Rattle.pgs_resolve.specs.declared.fault.KeyCause.TheVariants.{NoX, TwoKinds, Shared, Disconnected, UnknownVariable, TooLarge};
+ghost use Rattle.pgs_resolve.specs.declared.fault.ResolveFault.TheVariants as faults;
+ghost use Rattle.pgs_resolve.specs.KeyFaults.{cause_of};
+ghost use Rattle.pgs_resolve.specs.Order.{numbering_of};
+ghost use Rattle.pgs_resolve.specs.Patterns.{resolved_key};
+ghost use Rattle.pgs_resolve.specs.Resolution.{resolution, resolved};
+ghost use Rattle.pgs_resolve.specs.Samples.{acquaintance_schema, mail_schema, no_names};
+ghost use Rattle.pgs_resolve.specs.SchemaOf.{IsSchemaOf, refused, schema, begins_no_item, is_no_statement};
+ghost use Rattle.pgs_parser.specs.Samples as texts;
+
+/// Schemas of types alone.
+pub fn schemas()
+    ensures staff_resolved { resolution texts.staff_script ≡ Ok (staff (numbers.Node 0 ∷ numbers.Node 1 ∷ [])) }
+    ensures acquaintance_resolved { resolution texts.acquaintance_script ≡ Ok acquaintance_schema }
+    ensures acquaintance_valid { is_valid acquaintance_schema ≡ true }
+    ensures listed_before { (numbering_of texts.backwards_script).nodes ≡ codes "a" ∷ codes "b" ∷ codes "c" ∷ [] }
+{}
+
+/// Members of imported graph types come first, each once, and only the word of the guard itself counts.
+pub fn guards()
+    ensures imports_first { (resolved texts.importing).guard.types ≡ numbers.Node 0 ∷ numbers.Node 1 ∷ numbers.Node 2 ∷ [] }
+    ensures own_word { (resolved texts.importing).guard.strict ≡ false }
+{}
+
+/// Schemas of one key.
+pub fn keys()
+    ensures steps_resolved { resolution (texts.keyed_script texts.two_steps_written) ≡ Ok (keyed (two_steps ∷ [])) }
+    ensures moderator_resolved { resolution (texts.keyed_script texts.moderator_written) ≡ Ok (keyed (moderator ∷ [])) }
+    ensures mail_resolved { resolution texts.mail_script ≡ Ok mail_schema }
+    ensures mail_valid { is_valid mail_schema ≡ true }
+    ensures edge_first { (resolved_key no_names texts.edge_first).scope ≡ pattern (true ∷ false ∷ false ∷ []) (HasLabel 2 (codes "A") ∷ Ends 0 1 2 ∷ []) }
+{}
+
+/// A script that is refused, for each refusal.
+pub fn refusals()
+    ensures no_graph_type { resolution (texts.script []) ≡ Err faults.NoGraphType }
+    ensures duplicate { resolution texts.declared_twice ≡ Err (faults.Duplicate (codes "a")) }
+    ensures unknown { resolution texts.not_declared ≡ Err (faults.Unknown (codes "a")) }
+    ensures kind { resolution texts.wrong_kind ≡ Err (faults.Kind (codes "a")) }
+    ensures types_cycle { resolution texts.cycle_of_types ≡ Err (faults.Cycle (codes "a")) }
+    ensures imports_cycle { resolution texts.cycle_of_imports ≡ Err (faults.Cycle (codes "g")) }
+    ensures bad_key { resolution (texts.keyed_script texts.reads_y) ≡ Err (faults.BadKey 1 UnknownVariable) }
+{}
+
+/// A key for each cause that it can be refused for, and one that is not.
+pub fn causes()
+    ensures names_nothing { cause_of 1 texts.names_nothing ≡ Some NoX }
+    ensures leaves_x_out { cause_of 1 texts.leaves_x_out ≡ Some NoX }
+    ensures node_and_edge { cause_of 1 texts.node_and_edge ≡ Some TwoKinds }
+    ensures shares_y { cause_of 1 texts.shares_y ≡ Some Shared }
+    ensures apart { cause_of 1 texts.apart ≡ Some Disconnected }
+    ensures reads_y { cause_of 1 texts.reads_y ≡ Some UnknownVariable }
+    ensures of_five_paths { cause_of 1 texts.of_five_paths ≡ Some TooLarge }
+    ensures too_late { cause_of 257 texts.linked ≡ Some TooLarge }
+    ensures linked { cause_of 256 texts.linked ≡ None }
+{}
+
+/// Texts to the end: one with a byte that begins no item, the empty one, one whose statement is none, and three with their schemas.
+pub fn from_texts()
+    ensures bad_byte { IsSchemaOf texts.bad_byte_text (begins_no_item 1) }
+    ensures no_mode { IsSchemaOf texts.no_mode_text (is_no_statement 1) }
+    ensures empty { IsSchemaOf [] (refused faults.NoGraphType) }
+    ensures staff { IsSchemaOf texts.staff_text (schema (staff (numbers.Node 0 ∷ numbers.Node 1 ∷ []))) }
+    ensures mail { IsSchemaOf texts.mail_text (schema mail_schema) }
+    ensures moderator { IsSchemaOf texts.moderator_text (schema (keyed (moderator ∷ []))) }
+{}
