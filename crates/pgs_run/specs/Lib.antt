@@ -1,4 +1,5 @@
 pub mod Ending
+pub mod ExitStatus
 pub mod FirstVerdict
 pub mod Input
 pub mod LineList

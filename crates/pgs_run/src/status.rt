@@ -1,3 +1,6 @@
+ghost use Rattle.std.specs.Prelude.{◌≡◌};
+ghost use Rattle.pgs_run.specs.ExitStatus.{status_number};
+
 /// How a run ended. The number is the exit status of the program.
 #[derive(Clone, Copy, Debug, PartialEq, Eq)]
 pub enum Status {
@@ -25,7 +28,20 @@ pub enum Status {
 
 impl Status {
     /// The number of the status, 0 to 9.
-    pub fn number(self) -> u8 {
-        self as u8
+    pub fn number(self) -> u8
+        ensures { result ≡ status_number self }
+    {
+        match self {
+            Status::Accepted => 0,
+            Status::Refused => 1,
+            Status::BadWords => 2,
+            Status::SchemaRefused => 3,
+            Status::StoreRefused => 4,
+            Status::DiskFault => 5,
+            Status::ReadFault => 6,
+            Status::PutFault => 7,
+            Status::Memory => 8,
+            Status::InputTooLong => 9,
+        }
     }
 }
