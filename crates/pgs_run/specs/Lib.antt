@@ -1,3 +1,4 @@
+pub mod Areas
 pub mod Ending
 pub mod FirstVerdict
 pub mod Input
