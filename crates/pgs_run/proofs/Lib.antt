@@ -1,3 +1,4 @@
+pub mod AreasKept
 pub mod Cutting
 pub mod FirstFound
 pub mod Following

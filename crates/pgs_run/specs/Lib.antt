@@ -1,3 +1,4 @@
+pub mod Areas
 pub mod Ending
 pub mod ExitStatus
 pub mod FirstVerdict

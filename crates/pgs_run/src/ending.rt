@@ -1,5 +1,6 @@
 ghost use Rattle.std.specs.Prelude.{◌≡◌, ◌≤◌, [], List, ℕ, Option, true, false};
 ghost use Rattle.pgs_world.specs.World.{output_of};
+ghost use Rattle.pgs_run.specs.Areas.{KeepsAreas};
 ghost use Rattle.pgs_run.specs.Ending.{Ends, HasEndCause};
 ghost use Rattle.pgs_run.specs.Pieces.{ShowsAll};
 ghost use Rattle.pgs_run.specs.Told.{schema_of, told_schema, told_lines, told_cut, told_whole};
@@ -17,6 +18,7 @@ fn end_schema<W: World>(text: &[u8], alloc: Global, world: &mut W) -> Status
         → Ends start (told_schema true (schema_of text.now) []) result (output_of (W.view world.new)) }
     ensures cause { HasEndCause (W.view world.old).put_faults (W.view world.new).put_faults result }
     ensures faults_stay { (W.view world.old).put_faults ≤ (W.view world.new).put_faults }
+    ensures areas { KeepsAreas (W.view world.old) (W.view world.new) }
 {
     let (phase, piece) = match judge(alloc, text) {
         Ok(next) => next,
@@ -39,6 +41,7 @@ fn end_phase<W: World>(phase: Phase, alloc: Global, world: &mut W) -> Status
         → Ends start (told_lines true lines) result (output_of (W.view world.new)) }
     ensures cause { HasEndCause (W.view world.old).put_faults (W.view world.new).put_faults result }
     ensures faults_stay { (W.view world.old).put_faults ≤ (W.view world.new).put_faults }
+    ensures areas { KeepsAreas (W.view world.old) (W.view world.new) }
 {
     match phase {
         Phase::Schema(part) => end_schema(part.text.as_slice(), alloc, world),
@@ -61,6 +64,7 @@ pub fn end_input<W: World>(mut transcript: Transcript, alloc: Global, world: &mu
         → Ends start (told_whole seen) result (output_of (W.view world.new)) }
     ensures cause { HasEndCause (W.view world.old).put_faults (W.view world.new).put_faults result }
     ensures faults_stay { (W.view world.old).put_faults ≤ (W.view world.new).put_faults }
+    ensures areas { KeepsAreas (W.view world.old) (W.view world.new) }
 {
     let piece = match transcript.end_line(alloc) {
         Ok(piece) => piece,

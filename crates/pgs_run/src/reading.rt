@@ -2,6 +2,7 @@ ghost use Rattle.std.specs.Prelude.{◌≡◌, ◌<◌, ◌≤◌, ◌^◌, ◌�
 ghost use Rattle.pgs_world.specs.Count.{Rose};
 ghost use Rattle.pgs_world.specs.Source.{Takes, IsAtEnd};
 ghost use Rattle.pgs_world.specs.World.{output_of};
+ghost use Rattle.pgs_run.specs.Areas.{KeepsAreas};
 ghost use Rattle.pgs_run.specs.Pieces.{ShowsAll};
 ghost use Rattle.pgs_run.specs.Reading.{HasCause, Reads};
 ghost use Rattle.pgs_run.specs.Transcript.{IsAt, HasRoomFor, is_refused};
@@ -76,6 +77,7 @@ pub fn read_all<S: Source, W: World>(
     ensures cause { IfErr result (HasCause (S.faults source.old) (S.faults source.new) (W.view world.old).put_faults (W.view world.new).put_faults) }
     ensures read_faults_stay { S.faults source.old ≤ S.faults source.new }
     ensures put_faults_stay { (W.view world.old).put_faults ≤ (W.view world.new).put_faults }
+    ensures areas { KeepsAreas (W.view world.old) (W.view world.new) }
 {
     let mut left = budget;
     while left > 0 {

@@ -1,6 +1,7 @@
 ghost use Rattle.std.specs.Prelude.{◌≡◌, ◌≤◌, ◌+◌, ◌∷◌, ◌++◌, [], List, ℕ, Option, length, IfErr, OnOk, OnErr, true, false};
 ghost use Rattle.pgs_world.specs.Count.{Rose};
 ghost use Rattle.pgs_world.specs.World.{output_of};
+ghost use Rattle.pgs_run.specs.Areas.{KeepsAreas};
 ghost use Rattle.pgs_run.specs.Input.{has_no_feed};
 ghost use Rattle.pgs_run.specs.Pieces.{bytes_in, ShowsAll};
 ghost use Rattle.pgs_run.specs.Told.{told_cut};
@@ -20,6 +21,7 @@ pub fn put_piece<W: World>(world: &mut W, piece: Option<String>) -> Result<(), S
     ensures cause { IfErr result (HasPutCause (W.view world.old).put_faults (W.view world.new).put_faults) }
     ensures rose { OnErr result (Rose (W.view world.old).put_faults (W.view world.new).put_faults) }
     ensures faults_stay { (W.view world.old).put_faults ≤ (W.view world.new).put_faults }
+    ensures areas { KeepsAreas (W.view world.old) (W.view world.new) }
 {
     match piece {
         Some(piece) => match world.put(piece.as_bytes()) {
@@ -46,6 +48,7 @@ fn take_line<W: World>(
         → TakesTo start (seen ++ (part.now ++ 10 ∷ [])) transcript.new result (output_of (W.view world.new)) }
     ensures cause { IfErr result (HasPutCause (W.view world.old).put_faults (W.view world.new).put_faults) }
     ensures faults_stay { (W.view world.old).put_faults ≤ (W.view world.new).put_faults }
+    ensures areas { KeepsAreas (W.view world.old) (W.view world.new) }
 {
     match transcript.push_part(part) {
         Ok(()) => {}
@@ -82,6 +85,7 @@ pub fn take_bytes<W: World>(
         → TakesTo start (seen ++ bytes.now) transcript.new result (output_of (W.view world.new)) }
     ensures cause { IfErr result (HasPutCause (W.view world.old).put_faults (W.view world.new).put_faults) }
     ensures faults_stay { (W.view world.old).put_faults ≤ (W.view world.new).put_faults }
+    ensures areas { KeepsAreas (W.view world.old) (W.view world.new) }
 {
     let mut rest = bytes;
     while let Some(end) = line_end(rest) {

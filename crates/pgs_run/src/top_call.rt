@@ -1,6 +1,7 @@
 ghost use Rattle.std.specs.Prelude.{◌≡◌, ◌⊎◌, ◌+◌, ◌-◌, ◌<◌, ◌≤◌, ◌^◌, List, ℕ, length, Some, true, false};
 ghost use Rattle.pgs_world.specs.Count.{Rose};
 ghost use Rattle.pgs_world.specs.World.{output_of, Adds};
+ghost use Rattle.pgs_run.specs.Areas.{KeepsAreas};
 ghost use Rattle.pgs_run.specs.Ending.{Ends};
 ghost use Rattle.pgs_run.specs.Pieces.{ShowsAll};
 ghost use Rattle.pgs_run.specs.Run.{IsRead, HasRunCause, RefusesWords, IsDisturbed, IsComplete};
@@ -32,6 +33,7 @@ fn run_try<S: Source, W: World>(alloc: Global, source: &mut S, world: &mut W, bu
     ensures too_long { (input rest : List ℕ) → S.left source.old ≡ Some input → S.left source.new ≡ Some rest
         → result ≡ Status.InputTooLong → length input ≡ budget + length rest }
     ensures cause { HasRunCause true (S.faults source.old) (S.faults source.new) (W.view world.old).put_faults (W.view world.new).put_faults result }
+    ensures areas { KeepsAreas (W.view world.old) (W.view world.new) }
 {
     let mut buffer = match read_buffer(alloc) {
         Ok(buffer) => buffer,
@@ -65,6 +67,7 @@ fn refuse_words<W: World>(world: &mut W) -> Status
         → Ends (Some start) told_of_words result (output_of (W.view world.new)) }
     ensures answer { RefusesWords result }
     ensures cause { result ≡ Status.PutFault → Rose (W.view world.old).put_faults (W.view world.new).put_faults }
+    ensures areas { KeepsAreas (W.view world.old) (W.view world.new) }
 {
     match world.put(words_refused_line().as_bytes()) {
         Ok(()) => Status::BadWords,
@@ -109,6 +112,8 @@ pub fn run_within<S: Source, W: World>(
         → (Rose (S.faults source.old) (S.faults source.new) → ⊥)
         → (Rose (W.view world.old).put_faults (W.view world.new).put_faults → ⊥)
         → IsComplete (Some start) (told words.now input budget) result (output_of (W.view world.new)) }
+    // Both areas are as at the start, and a stop during the run leaves of them only what it could leave at the start.
+    ensures areas { KeepsAreas (W.view world.old) (W.view world.new) }
 {
     if is_try(words) {
         run_try(alloc, source, world, budget)
@@ -141,6 +146,7 @@ pub fn run<S: Source, W: World>(
         → (Rose (S.faults source.old) (S.faults source.new) → ⊥)
         → (Rose (W.view world.old).put_faults (W.view world.new).put_faults → ⊥)
         → IsComplete (Some start) (told words.now input (2 ^ 40)) result (output_of (W.view world.new)) }
+    ensures areas { KeepsAreas (W.view world.old) (W.view world.new) }
 {
     run_within(alloc, words, source, world, BUDGET)
 }

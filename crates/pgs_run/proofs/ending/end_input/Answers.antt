@@ -1,9 +1,10 @@
-use Rattle.std.proofs.Common.{◌++◌, false, subst}
+use Rattle.std.proofs.Common.{false, subst}
 use Rattle.pgs_world.specs.World.{output_of}
 use Rattle.pgs_run.specs.Pieces.{bytes_in, ShowsAll, ShowsTorn}
 use Rattle.pgs_run.specs.Told.{told_lines, told_cut, told_whole}
 use Rattle.pgs_run.proofs.Leading.{room_of}
 use Rattle.pgs_run.proofs.LastLine.{last, stands_last, pieces_last, tells_whole, tells_cut_whole, all_first, torn_more}
+use Rattle.pgs_run.proofs.AreasKept.{keeps_none, keeps_on}
 use Rattle.pgs_run.proofs.ending.end_input.Goals as goal
 
 pub end_line-requires : goal.end_line-requires
@@ -26,3 +27,9 @@ returns-clause-ends g c = λ start seen at shows.
     let pieces = pieces_last seen c.args.transcript (bytes_in c.in-Ok.piece) at c.in-Ok.ensures.piece in
     let now = output_of (g.W.World.view c.put_piece.new.world) in
     c.end_phase.ensures.ends start (last seen) (stands_last seen c.args.transcript c.end_line.new.self.phase at c.in-Ok.ensures.phase) (subst (λ ps. ShowsAll start ps now) pieces put)
+
+pub returns-in-Err-clause-areas : goal.returns-in-Err-clause-areas
+returns-in-Err-clause-areas g c = keeps_none _ (g.met.W.World.timed c.args.world.now)
+
+pub returns-clause-areas : goal.returns-clause-areas
+returns-clause-areas g c = keeps_on _ _ _ c.put_piece.ensures.areas c.end_phase.ensures.areas

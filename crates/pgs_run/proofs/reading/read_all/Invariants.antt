@@ -1,5 +1,6 @@
 use Rattle.std.proofs.Common.{◌≡◌, false, ◌≤◌, ◌<◌, length}
 use Rattle.pgs_world.specs.World.{output_of}
+use Rattle.pgs_run.specs.Areas.{KeepsAreas}
 use Rattle.pgs_run.specs.Reading.{GoesOn}
 use Rattle.pgs_run.specs.Transcript.{is_refused}
 use Rattle.pgs_run.proofs.reading.read_all.Given as goal
@@ -11,6 +12,7 @@ invariant-loop-left g l = record {
   buffer : 0 < length l.buffer;
   reads : g.S.Source.faults l.fn.source ≤ g.S.Source.faults l.source;
   puts : (g.W.World.view l.fn.world).put_faults ≤ (g.W.World.view l.world).put_faults;
+  areas : KeepsAreas (g.W.World.view l.fn.world) (g.W.World.view l.world);
 }
 
 abbrev pub decreases-loop-left : goal.decreases-loop-left

@@ -1,12 +1,12 @@
-use Rattle.std.proofs.Common.{◌≡◌, ◌+◌, ◌∷◌, ◌++◌, [], List, ℕ, length, take, drop, true, sym, ap, subst, ◌∙◌, append_assoc}
+use Rattle.std.proofs.Common.{rules, arith, ◌≡◌, ◌+◌, ◌++◌, take, drop, true, sym, subst}
+use Rattle.std.proofs.lemmas.Grind.{common_steps}
 use Rattle.pgs_world.specs.World.{output_of}
 use Rattle.pgs_run.specs.Input.{has_no_feed}
 use Rattle.pgs_run.specs.Pieces.{ShowsAll}
-use Rattle.pgs_run.specs.Told.{told_cut}
-use Rattle.pgs_run.specs.Transcript.{IsAt}
 use Rattle.pgs_run.proofs.Leading.{rest_taken, rest_told}
 use Rattle.pgs_run.proofs.LineEnd.{none_left}
 use Rattle.pgs_run.proofs.Stopping.{stops_in_part, stops_before}
+use Rattle.pgs_run.proofs.AreasKept.{keeps_none, keeps_on}
 use Rattle.pgs_run.proofs.taking.take_bytes.Goals as goal
 
 pub returns-in-Err-clause-takes : goal.returns-in-Err-clause-takes
@@ -33,3 +33,26 @@ pub returns-in-Err-push_part-clause-takes : goal.returns-in-Err-push_part-clause
 returns-in-Err-push_part-clause-takes g c = λ start seen at shows.
     let so_far = c.loop-end.invariant.takes start seen at shows in
     stops_before start seen c.args.bytes.now so_far.taken c.loop-end.rest.now _ so_far.parts so_far.shows
+
+pub loop-end-init : goal.loop-end-init
+loop-end-init g c = record {
+  room = search rules;
+  going = search rules;
+  at = search rules;
+  takes = search rules;
+  faults = search rules;
+  areas = keeps_none _ (g.met.W.World.timed c.args.world.now);
+}
+
+pub loop-end-preserved : goal.loop-end-preserved
+loop-end-preserved g c = record {
+  room = grind (arith, common_steps);
+  going = search rules;
+  at = grind (arith, common_steps);
+  takes = grind (arith, common_steps);
+  faults = search rules;
+  areas = keeps_on _ _ _ c.loop-end.invariant.areas c.take_line.ensures.areas;
+}
+
+pub returns-in-Err-clause-areas : goal.returns-in-Err-clause-areas
+returns-in-Err-clause-areas g c = keeps_on _ _ _ c.loop-end.invariant.areas c.take_line.ensures.areas

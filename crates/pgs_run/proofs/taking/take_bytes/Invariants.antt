@@ -1,5 +1,6 @@
 use Rattle.std.proofs.Common.{◌≡◌, false, ◌≤◌, ◌++◌, List, ℕ, Option, length}
 use Rattle.pgs_world.specs.World.{output_of}
+use Rattle.pgs_run.specs.Areas.{KeepsAreas}
 use Rattle.pgs_run.specs.Pieces.{ShowsAll}
 use Rattle.pgs_run.specs.Taking.{TakenSoFar}
 use Rattle.pgs_run.specs.Told.{told_cut}
@@ -13,6 +14,7 @@ invariant-loop-end g l = record {
   at : (seen : List ℕ) → IsAt seen l.fn.transcript → (taken : List ℕ) × (l.fn.bytes ≡ taken ++ l.rest) × IsAt (seen ++ taken) l.transcript;
   takes : (start : Option (List ℕ)) (seen : List ℕ) → IsAt seen l.fn.transcript → ShowsAll start (told_cut seen).pieces (output_of (g.W.World.view l.fn.world)) → TakenSoFar start seen l.fn.bytes l.rest l.transcript (output_of (g.W.World.view l.world));
   faults : (g.W.World.view l.fn.world).put_faults ≤ (g.W.World.view l.world).put_faults;
+  areas : KeepsAreas (g.W.World.view l.fn.world) (g.W.World.view l.world);
 }
 
 abbrev pub decreases-loop-end : goal.decreases-loop-end

@@ -1,12 +1,13 @@
-use Rattle.std.proofs.Common.{◌≡◌, ◌∷◌, ◌++◌, [], List, ℕ, length, sym, subst}
+use Rattle.std.proofs.Common.{◌∷◌, ◌++◌, [], length, sym, subst}
 use Rattle.std.proofs.lemmas.List.{append-nil}
 use Rattle.pgs_world.specs.World.{output_of}
 use Rattle.pgs_run.specs.declared.stop.Stop.{Stop}
 use Rattle.pgs_run.specs.Pieces.{bytes_in, ShowsAll, ShowsTorn}
 use Rattle.pgs_run.specs.Taking.{StopShows}
 use Rattle.pgs_run.specs.Told.{told_cut}
-use Rattle.pgs_run.specs.Transcript.{HasRoomFor, HasRoom}
-use Rattle.pgs_run.proofs.Leading.{room_of, room_part, line_taken, told_refusal}
+use Rattle.pgs_run.specs.Transcript.{HasRoom}
+use Rattle.pgs_run.proofs.Leading.{room_part, line_taken, told_refusal}
+use Rattle.pgs_run.proofs.AreasKept.{keeps_none}
 use Rattle.pgs_run.proofs.taking.take_line.Goals as goal
 
 pub end_line-requires : goal.end_line-requires
@@ -49,3 +50,9 @@ pub returns-clause-at : goal.returns-clause-at
 returns-clause-at g c = λ seen at.
     let t = line_taken seen c.args.part.now c.args.transcript.now c.push_part.new.self c.end_line.new.self (bytes_in c.in-Ok-end_line.piece) c.requires.line c.in-Ok.ensures c.in-Ok-end_line.ensures.phase c.in-Ok-end_line.ensures.line c.in-Ok-end_line.ensures.piece at in
     t.at
+
+pub returns-in-Err-clause-areas : goal.returns-in-Err-clause-areas
+returns-in-Err-clause-areas g c = keeps_none _ (g.met.W.World.timed c.args.world.now)
+
+pub returns-in-Err-end_line-clause-areas : goal.returns-in-Err-end_line-clause-areas
+returns-in-Err-end_line-clause-areas g c = keeps_none _ (g.met.W.World.timed c.args.world.now)

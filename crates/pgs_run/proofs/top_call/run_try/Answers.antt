@@ -1,9 +1,10 @@
-use Rattle.std.proofs.Common.{◌≡◌, Some, Ok, Err, [], sym, subst}
+use Rattle.std.proofs.Common.{Some, Ok, Err, sym, subst}
 use Rattle.pgs_world.specs.World.{output_of}
 use Rattle.pgs_run.specs.Ending.{Ends}
 use Rattle.pgs_run.specs.Reading.{Reads}
 use Rattle.pgs_run.specs.Told.{Told}
 use Rattle.pgs_run.proofs.RunEnds.{at_start, shows_nothing, shows_none_yet, is_read, whole_told, cut_ends, cut_length, refused_ends, torn_ends, first_ends, read_fault_ends}
+use Rattle.pgs_run.proofs.AreasKept.{keeps_none, keeps_on}
 use Rattle.pgs_run.proofs.top_call.run_try.Goals as goal
 
 pub read_all-requires-clause-start : goal.read_all-requires-clause-start
@@ -84,3 +85,9 @@ returns-clause-shown g c = λ input start left out.
     let reads = c.in-Err-read_all.ensures.reads (Some start) (shows_none_yet start _ out) in
     let r = subst (λ stop. Reads (Some start) c.args.budget before after c.read_all.new.transcript (Err stop) now) c.in-Memory.is reads in
     first_ends input (Some start) before after now c.args.budget c.read_all.new.transcript r left
+
+pub returns-in-Err-clause-areas : goal.returns-in-Err-clause-areas
+returns-in-Err-clause-areas g c = keeps_none _ (g.met.W.World.timed c.args.world.now)
+
+pub returns-in-Whole-clause-areas : goal.returns-in-Whole-clause-areas
+returns-in-Whole-clause-areas g c = keeps_on _ _ _ c.read_all.ensures.areas c.end_input.ensures.areas
