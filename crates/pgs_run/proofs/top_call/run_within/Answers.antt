@@ -1,9 +1,9 @@
-use Rattle.std.proofs.Common.{◌≡◌, ◌⊎◌, ◌-◌, Some, length, sym, ap, subst, ◌∙◌}
+use Rattle.std.proofs.Common.{◌≡◌, ◌-◌, Some, length, sym, subst}
 use Rattle.pgs_world.specs.World.{output_of}
 use Rattle.pgs_run.specs.declared.status.Status.TheVariants.{SchemaRefused}
 use Rattle.pgs_run.specs.Ending.{Ends}
 use Rattle.pgs_run.specs.Pieces.{ShowsAll}
-use Rattle.pgs_run.specs.Run.{IsDisturbed, IsComplete}
+use Rattle.pgs_run.specs.Run.{IsComplete}
 use Rattle.pgs_run.specs.Told.{Told, told}
 use Rattle.pgs_run.proofs.RunWords.{told_read, told_refused, exact_of, complete_of}
 use Rattle.pgs_run.proofs.top_call.run_within.Goals as goal

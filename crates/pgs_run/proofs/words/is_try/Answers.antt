@@ -1,4 +1,4 @@
-use Rattle.std.proofs.Common.{◌≡◌, ◌==◌, ◌&&◌, length, sym, ap, ◌∙◌}
+use Rattle.std.proofs.Common.{◌==◌, ◌&&◌, length, sym, ap, ◌∙◌}
 use Rattle.pgs_run.proofs.OneWord.{is_try_first}
 use Rattle.pgs_run.proofs.words.is_try.Goals as goal
 
