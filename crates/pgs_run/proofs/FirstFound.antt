@@ -1,16 +1,15 @@
 -- The first violation of a graph without edges is that of its first untyped node.
-use Rattle.std.proofs.Common.{◌≡◌, Bool, true, false, List, [], ◌∷◌, ◌++◌, Option, Some, None, map, refl, sym, ap, ◌∙◌}
+use Rattle.std.proofs.Common.{◌≡◌, Bool, true, false, List, [], ◌∷◌, ◌++◌, Option, Some, None, map, refl}
 use Rattle.std.specs.List.{filter, find}
 use Rattle.std.specs.Option.{option_map}
 use Rattle.pgs_base.specs.declared.element.NodeId.{NodeId}
 use Rattle.pgs_base.specs.declared.row.NodeRow.{NodeRow}
 use Rattle.pgs_base.specs.Graph.{Graph}
 use Rattle.pgs_parser.specs.declared.first_schema.FirstSchema.{FirstSchema}
-use Rattle.pgs_violation.specs.declared.violation.Violation.{Violation}
 use Rattle.pgs_violation.specs.declared.violation.Violation.TheVariants.{UntypedNode}
 use Rattle.pgs_violation.specs.declared.violation.Verdict.{Verdict}
 use Rattle.pgs_violation.specs.declared.violation.Verdict.TheVariants.{Conforms, Refused}
-use Rattle.pgs_run.specs.FirstVerdict.{is_untyped, first_violations, verdict_of, first_verdict}
+use Rattle.pgs_run.specs.FirstVerdict.{is_untyped, verdict_of, first_verdict}
 
 -- the verdict where this node is the first without a type
 abbrev pub verdict_at : Option NodeId → Verdict

@@ -1,29 +1,25 @@
 -- What the last line of an input tells, and what a schema tells that is all of it.
-use Rattle.std.proofs.Common.{◌≡◌, ℕ, suc, ◌+◌, Bool, true, false, ◌||◌, cond, List, [], ◌∷◌, ◌++◌, Option, Some, None, refl, sym, ap, subst, ◌∙◌}
+use Rattle.std.proofs.Common.{◌≡◌, ℕ, Bool, true, false, List, [], ◌∷◌, ◌++◌, Option, Some, None, refl, sym, ap, subst, ◌∙◌}
 use Rattle.std.specs.List.{list_any, join_with_byte}
 use Rattle.pgs_parser.specs.declared.first_schema.FirstSchema.{FirstSchema}
 use Rattle.pgs_run.specs.declared.schema_part.SchemaPart.{SchemaPart}
 use Rattle.pgs_run.specs.declared.status.Status.{Status}
 use Rattle.pgs_run.specs.declared.status.Status.TheVariants.{SchemaRefused, InputTooLong}
 use Rattle.std.proofs.lemmas.List.{append-nil}
-use Rattle.pgs_run.specs.declared.stop.Stop.{Stop}
-use Rattle.pgs_run.specs.declared.stop.Stop.TheVariants as stops
 use Rattle.pgs_run.specs.declared.transcript.Phase.{Phase}
 use Rattle.pgs_run.specs.declared.transcript.Phase.TheVariants.{Schema, Lines, Refused}
 use Rattle.pgs_run.specs.declared.transcript.Transcript.{Transcript}
-use Rattle.pgs_world.specs.Count.{Rose}
 use Rattle.pgs_run.specs.Ending.{Ends}
-use Rattle.pgs_run.specs.Input.{lines_of, front_of, is_separator, schema_part, after_separator}
+use Rattle.pgs_run.specs.Input.{lines_of, is_separator, schema_part, after_separator}
 use Rattle.pgs_run.specs.Pieces.{ShowsAll, ShowsFirst, ShowsTorn}
 use Rattle.pgs_run.specs.Session.{after_lines, pieces_of_lines}
-use Rattle.pgs_run.specs.Taking.{HasPutCause}
 use Rattle.pgs_run.specs.Told.{Told, schema_of, told_schema, told_lines, told_cut, told_whole, start}
 use Rattle.pgs_run.specs.Transcript.{after_end, pieces_at_end, is_refused, Stands, IsAt}
 use Rattle.pgs_run.proofs.SameFronts.{schema_of_front}
-use Rattle.pgs_run.proofs.Separating.{HasOne, HasNo, before-none, after-none, before-append, after-append}
+use Rattle.pgs_run.proofs.Separating.{HasOne, before-none, after-none, before-append, after-append}
 use Rattle.pgs_run.proofs.Following.{pieces_of_lines-append}
 use Rattle.pgs_run.proofs.Telling.{one_more, told_without, stands_end, pieces_end}
-use Rattle.pgs_run.proofs.Showing.{first_of_more, torn_of_more, first_of_all}
+use Rattle.pgs_run.proofs.Showing.{first_of_more, torn_of_more}
 
 -- ---- a schema that is the whole input
 

@@ -1,17 +1,15 @@
 -- Where bytes lead when more of them come.
-use Rattle.std.proofs.Common.{◌≡◌, ℕ, suc, ◌+◌, ◌-◌, ◌<◌, ◌≤◌, ◌^◌, true, false, List, [], ◌∷◌, ◌++◌, Option, Some, None, length, refl, sym, ap, subst, ◌∙◌, append_assoc, arith}
-use Rattle.pgs_parser.specs.declared.first_schema.FirstSchema.{FirstSchema}
-use Rattle.pgs_run.specs.declared.schema_part.SchemaPart.{SchemaPart}
+use Rattle.std.proofs.Common.{◌≡◌, ℕ, ◌+◌, ◌<◌, ◌≤◌, ◌^◌, true, false, List, [], ◌∷◌, ◌++◌, length, refl, sym, ap, subst, ◌∙◌, append_assoc, arith}
 use Rattle.pgs_run.specs.declared.transcript.Phase.{Phase}
 use Rattle.pgs_run.specs.declared.transcript.Phase.TheVariants.{Schema, Lines, Refused}
 use Rattle.pgs_run.specs.declared.transcript.Transcript.{Transcript}
 use Rattle.pgs_run.specs.declared.status.Status.TheVariants.{SchemaRefused}
 use Rattle.pgs_run.specs.Input.{Lines as CutLines, lines_of, front_of, has_no_feed, after_separator}
-use Rattle.pgs_run.specs.Session.{Standing, after_lines}
+use Rattle.pgs_run.specs.Session.{Standing}
 use Rattle.pgs_run.specs.Told.{Told, start, told_lines, told_cut}
 use Rattle.pgs_run.specs.Transcript.{after_end, pieces_at_end, with_part, is_refused, HasRoom, HasRoomFor, Stands, IsAt}
 use Rattle.pgs_run.proofs.Cutting.{lines_of_extended, lines_of_fed, lines_of_few}
-use Rattle.pgs_run.proofs.Following.{IsCounted, counted_lines}
+use Rattle.pgs_run.proofs.Following.{counted_lines}
 use Rattle.pgs_run.proofs.Fronts.{front_left}
 use Rattle.pgs_run.proofs.Separating.{after-few}
 use Rattle.pgs_run.proofs.Telling.{stands_end, pieces_end, status_refused}

@@ -1,22 +1,19 @@
 -- What a run shows of its input, by how the reading ended.
-use Rattle.std.proofs.Common.{◌≡◌, ℕ, ◌+◌, ◌-◌, ◌<◌, ◌≤◌, false, List, [], ◌∷◌, ◌++◌, length, Option, Some, None, Result, Ok, Err, refl, sym, ap, subst, ◌∙◌, append_assoc, length-append, arith}
+use Rattle.std.proofs.Common.{◌≡◌, ℕ, ◌+◌, ◌-◌, ◌≤◌, false, List, [], ◌++◌, length, Option, Some, None, Ok, Err, refl, sym, ap, subst, ◌∙◌, append_assoc, length-append, arith}
 use Rattle.std.proofs.lemmas.List.{append-nil}
 use Rattle.pgs_world.specs.Source.{Takes, IsAtEnd}
 use Rattle.pgs_run.specs.declared.reading.End.TheVariants.{Whole, Cut}
 use Rattle.pgs_run.specs.declared.status.Status.{Status}
 use Rattle.pgs_run.specs.declared.status.Status.TheVariants.{Accepted, Refused, BadWords, SchemaRefused, StoreRefused, DiskFault, ReadFault, PutFault, Memory, InputTooLong}
 use Rattle.pgs_run.specs.declared.schema_part.SchemaPart.{SchemaPart}
-use Rattle.pgs_run.specs.declared.stop.Stop.{Stop}
 use Rattle.pgs_run.specs.declared.stop.Stop.TheVariants as stops
-use Rattle.pgs_run.specs.declared.transcript.Phase.{Phase}
 use Rattle.pgs_run.specs.declared.transcript.Phase.TheVariants.{Schema}
 use Rattle.pgs_run.specs.declared.transcript.Transcript.{Transcript}
 use Rattle.pgs_run.specs.Ending.{Ends}
 use Rattle.pgs_run.specs.Input.{front_of}
 use Rattle.pgs_run.specs.Pieces.{ShowsAll, ShowsFirst, ShowsTorn}
-use Rattle.pgs_run.specs.Reading.{Reads, EndsAt, StopsIn}
+use Rattle.pgs_run.specs.Reading.{Reads}
 use Rattle.pgs_run.specs.Run.{IsRead}
-use Rattle.pgs_run.specs.Taking.{StopsAt}
 use Rattle.pgs_run.specs.Told.{Told, told_cut, told_whole, told_try}
 use Rattle.pgs_run.specs.Transcript.{IsAt, Stands, is_refused}
 use Rattle.pgs_run.proofs.LastLine.{first_more, torn_more, cut_status}

@@ -1,15 +1,14 @@
 -- The answers of a run, from those of the command that its words name.
-use Rattle.std.proofs.Common.{◌≡◌, ◌⊎◌, ℕ, ◌+◌, ◌-◌, ◌<◌, Bool, true, false, cond, List, [], ◌∷◌, ◌++◌, length, Option, Some, None, refl, sym, ap, subst, ◌∙◌, inl, inr}
+use Rattle.std.proofs.Common.{◌≡◌, ◌⊎◌, ℕ, ◌<◌, Bool, true, false, cond, List, [], ◌∷◌, ◌++◌, length, Option, Some, None, refl, sym, subst, inl, inr}
 use Rattle.pgs_world.specs.Count.{Rose}
 use Rattle.pgs_parser.specs.declared.first_schema.FirstSchema.{FirstSchema}
 use Rattle.pgs_run.specs.declared.status.Status.{Status}
 use Rattle.pgs_run.specs.declared.status.Status.TheVariants.{Accepted, Refused, BadWords, SchemaRefused, StoreRefused, DiskFault, ReadFault, PutFault, Memory, InputTooLong}
 use Rattle.pgs_run.specs.Ending.{Ends}
 use Rattle.pgs_run.specs.Input.{lines_of, after_separator, schema_part}
-use Rattle.pgs_run.specs.Pieces.{ShowsAll}
 use Rattle.pgs_run.specs.Run.{IsDisturbed, IsComplete, HasRunCause}
 use Rattle.pgs_run.specs.Session.{Standing, after_lines}
-use Rattle.pgs_run.specs.Told.{Told, start, schema_of, told_schema, told_lines, told_whole, told_try, told_of_words, is_try, told}
+use Rattle.pgs_run.specs.Told.{Told, start, schema_of, told_schema, told_try, told_of_words, is_try, told}
 use Rattle.pgs_run.proofs.ToldFronts.{try_whole}
 
 pub told_read : (words : List (List ℕ)) (input : List ℕ) (budget : ℕ) → is_try words ≡ true → told words input budget ≡ told_try input budget

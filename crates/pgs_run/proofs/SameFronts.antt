@@ -1,8 +1,7 @@
 -- A line or a text and its front say the same, since what is too long is refused.
-use Rattle.std.proofs.Common.{◌≡◌, ◌≢◌, ℕ, suc, ◌+◌, ◌<◌, ◌≤◌, Bool, true, false, ◌==◌, ◌||◌, ◌&&◌, nat_le, nat_lt, List, [], ◌∷◌, length, Option, None, codes, refl, sym, ap, ◌∙◌, arith}
-use Rattle.std.specs.Cmp.Lexicographic.{pointwise, unequal}
+use Rattle.std.proofs.Common.{◌≡◌, ℕ, ◌+◌, ◌<◌, true, false, ◌==◌, nat_le, nat_lt, List, [], ◌∷◌, length, None, codes, refl, arith}
+use Rattle.std.specs.Cmp.Lexicographic.{unequal}
 use Rattle.std.proofs.lemmas.Bool.Decides.{nat_tests}
-use Rattle.pgs_base.specs.Graph.{Graph}
 use Rattle.pgs_parser.specs.declared.first_schema.FirstSchema.{FirstSchema}
 use Rattle.pgs_run.specs.Input.{text_limit, front_of, is_separator, is_blank}
 use Rattle.pgs_run.specs.Session.{Standing, txn_of, answer_to, after_refusal, after_line, pieces_of_line}

@@ -1,11 +1,11 @@
 -- A stop inside some bytes is one inside more bytes.
-use Rattle.std.proofs.Common.{◌≡◌, ℕ, List, [], ◌∷◌, ◌++◌, Option, refl, sym, ap, ◌∙◌, append_assoc}
+use Rattle.std.proofs.Common.{◌≡◌, ℕ, List, [], ◌∷◌, ◌++◌, Option, sym, ap, ◌∙◌, append_assoc}
 use Rattle.std.proofs.lemmas.List.{append-nil}
 use Rattle.pgs_run.specs.declared.stop.Stop.{Stop}
 use Rattle.pgs_run.specs.declared.stop.Stop.TheVariants as stops
 use Rattle.pgs_run.specs.Pieces.{ShowsAll}
-use Rattle.pgs_run.specs.Taking.{StopShows, StopsAt}
-use Rattle.pgs_run.specs.Told.{Told, told_cut}
+use Rattle.pgs_run.specs.Taking.{StopsAt}
+use Rattle.pgs_run.specs.Told.{told_cut}
 
 pub stops_later : (start now : Option (List ℕ)) (all seen more : List ℕ) (stop : Stop) → all ≡ seen ++ more → StopsAt start seen stop now → StopsAt start all stop now
 stops_later start now all seen more stop parts stopped = record {

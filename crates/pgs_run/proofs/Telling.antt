@@ -1,13 +1,13 @@
 -- What lines tell when one more line ends.
-use Rattle.std.proofs.Common.{◌≡◌, ℕ, suc, ◌+◌, Bool, true, false, ◌||◌, not, cond, List, [], ◌∷◌, ◌++◌, Option, Some, None, refl, sym, ap, subst, ◌∙◌, append_assoc}
-use Rattle.std.specs.List.{list_any, join_with_byte}
+use Rattle.std.proofs.Common.{◌≡◌, ℕ, Bool, true, false, not, cond, List, [], ◌∷◌, ◌++◌, Option, Some, None, refl, sym, ap, ◌∙◌, append_assoc}
+use Rattle.std.specs.List.{join_with_byte}
 use Rattle.std.proofs.lemmas.List.{append-nil}
 use Rattle.pgs_parser.specs.declared.first_schema.FirstSchema.{FirstSchema}
 use Rattle.pgs_run.specs.declared.schema_part.SchemaPart.{SchemaPart}
 use Rattle.pgs_run.specs.declared.status.Status.TheVariants.{SchemaRefused}
 use Rattle.pgs_run.specs.declared.transcript.Phase.{Phase}
 use Rattle.pgs_run.specs.declared.transcript.Phase.TheVariants.{Schema, Lines, Refused}
-use Rattle.pgs_run.specs.Input.{front_of, is_separator, schema_part, before_separator, after_separator}
+use Rattle.pgs_run.specs.Input.{front_of, is_separator, schema_part, after_separator}
 use Rattle.pgs_run.specs.Session.{Standing, after_line, after_lines, pieces_of_line, pieces_of_lines}
 use Rattle.pgs_run.specs.Told.{start, schema_of, told_schema, told_lines}
 use Rattle.pgs_run.specs.Transcript.{with_line, after_schema, pieces_of_schema, after_end, pieces_at_end, has_none, Stands}

@@ -1,9 +1,9 @@
 -- What an input tells, from what its first bytes tell.
-use Rattle.std.proofs.Common.{◌≡◌, ℕ, ◌+◌, ◌-◌, ◌<◌, ◌≤◌, Bool, true, false, nat_le, List, [], ◌∷◌, ◌++◌, length, take, refl, sym, ap, subst, ◌∙◌, append_assoc, length-append, arith}
+use Rattle.std.proofs.Common.{◌≡◌, ℕ, ◌+◌, ◌-◌, ◌<◌, ◌≤◌, Bool, true, false, nat_le, List, [], ◌∷◌, ◌++◌, length, take, refl, sym, ap, ◌∙◌, append_assoc, length-append, arith}
 use Rattle.std.proofs.Math.Seq.{take-append_seam, take-append-add}
 use Rattle.std.proofs.lemmas.Bool.Decides.{nat_tests}
 use Rattle.pgs_run.specs.declared.status.Status.TheVariants.{SchemaRefused}
-use Rattle.pgs_run.specs.Input.{Lines, lines_of}
+use Rattle.pgs_run.specs.Input.{lines_of}
 use Rattle.pgs_run.specs.Told.{Told, told_lines, told_cut, told_whole, told_try}
 use Rattle.pgs_run.proofs.Cutting.{lines_of_goes_on}
 use Rattle.pgs_run.proofs.LastLine.{Tells, tells_more, refused_same}

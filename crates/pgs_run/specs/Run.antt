@@ -1,11 +1,11 @@
 -- The causes of a run's answers.
-use Rattle.std.specs.Prelude.{◌≡◌, ◌⊎◌, ℕ, Bool, true, false, List, Option}
+use Rattle.std.specs.Prelude.{◌≡◌, ◌⊎◌, ℕ, Bool, false, List, Option}
 use Rattle.pgs_world.specs.Count.{Rose}
 use Rattle.pgs_world.specs.Source.{IsAtEnd}
 use Rattle.pgs_run.specs.Pieces.{ShowsAll}
 use Rattle.pgs_run.specs.Told.{Told}
 use Rattle.pgs_run.specs.declared.status.Status.{Status}
-use Rattle.pgs_run.specs.declared.status.Status.TheVariants.{Accepted, Refused, BadWords, SchemaRefused, StoreRefused, DiskFault, ReadFault, PutFault, Memory, InputTooLong}
+use Rattle.pgs_run.specs.declared.status.Status.TheVariants.{Accepted, Refused, BadWords, StoreRefused, DiskFault, ReadFault, PutFault, Memory}
 
 -- Accepted and Refused come only where the source was read to its end
 abbrev pub IsRead : Option (List ℕ) → Status → Type 0

@@ -1,5 +1,5 @@
 -- What the output shows after bytes were taken, and where the taking stopped.
-use Rattle.std.specs.Prelude.{◌≡◌, ℕ, List, [], ◌∷◌, ◌++◌, Option, Result, Ok, Err}
+use Rattle.std.specs.Prelude.{◌≡◌, ℕ, List, ◌++◌, Option, Result, Ok, Err}
 use Rattle.pgs_world.specs.Count.{Rose}
 use Rattle.pgs_run.specs.declared.status.Status.TheVariants.{SchemaRefused}
 use Rattle.pgs_run.specs.declared.stop.Stop.{Stop}

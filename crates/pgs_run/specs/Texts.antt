@@ -1,8 +1,6 @@
 -- The printed texts. Numbers are plain decimals; each line has its line feed.
 use Rattle.std.specs.Prelude.{ℕ, List, [], ◌++◌, codes}
 use Rattle.std.specs.Fmt.{decimal}
-use Rattle.pgs_base.specs.declared.element.NodeId.{NodeId}
-use Rattle.pgs_base.specs.declared.element.EdgeId.{EdgeId}
 use Rattle.pgs_base.specs.declared.element.Elem.{Elem}
 use Rattle.pgs_base.specs.declared.element.Elem.TheVariants.{Node, Edge}
 use Rattle.pgs_base.specs.declared.limits.Limits.{Limits}

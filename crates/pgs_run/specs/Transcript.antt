@@ -1,5 +1,5 @@
 -- Where a run stands inside its input, and that this is where the lines so far lead.
-use Rattle.std.specs.Prelude.{◌≡◌, ◌<◌, ◌-◌, ◌^◌, ℕ, Bool, true, false, ◌||◌, List, [], ◌∷◌, ◌++◌, length, ◌+◌, Option, Some, None, not, if◌then◌else◌}
+use Rattle.std.specs.Prelude.{◌≡◌, ◌<◌, ◌-◌, ◌^◌, ℕ, Bool, true, false, List, [], ◌∷◌, ◌++◌, length, ◌+◌, Option, Some, None, not, if◌then◌else◌}
 use Rattle.std.specs.List.{list_any, join_with_byte}
 use Rattle.pgs_parser.specs.declared.first_schema.FirstSchema.{FirstSchema}
 use Rattle.pgs_run.specs.declared.schema_part.SchemaPart.{SchemaPart}
@@ -7,7 +7,7 @@ use Rattle.pgs_run.specs.declared.transcript.Phase.{Phase}
 use Rattle.pgs_run.specs.declared.transcript.Transcript.{Transcript}
 use Rattle.pgs_run.specs.declared.transcript.Phase.TheVariants.{Schema, Lines, Refused}
 use Rattle.pgs_run.specs.Input.{front_of, lines_of, is_separator, schema_part, after_separator}
-use Rattle.pgs_run.specs.Session.{Standing, after_line, after_lines, pieces_of_line}
+use Rattle.pgs_run.specs.Session.{after_line, after_lines, pieces_of_line}
 use Rattle.pgs_run.specs.Texts.{not_built_text, schema_refused_line}
 use Rattle.pgs_run.specs.Told.{start, schema_of}
 
