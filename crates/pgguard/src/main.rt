@@ -5,21 +5,32 @@
 
 mod stdin_source;
 mod stdout_world;
+#[cfg(test)]
+mod tests;
 
-use pgs_base::Words;
+use pgs_base::{Memory, Words};
 use pgs_run::{Status, run};
 use std::alloc::Global;
 use std::env::{self, Env};
+use std::io::ErrorKind;
 use std::process::ExitCode;
 use stdin_source::StdinSource;
 use stdout_world::StdoutWorld;
 
-// The words after the program's name. Words that aren't UTF-8 are no words of a command.
-fn words_of(rt: &(impl Env + Alloc), alloc: Global) -> Result<Words, Status> {
+// The words after the program's name. Arguments that aren't all UTF-8 give no words, which are no command.
+fn words_of(rt: &(impl Env + Alloc), alloc: Global) -> Result<Words, Memory> {
     let mut words = Words::new(alloc);
-    let arguments = env::args(rt).map_err(|_| Status::BadWords)?;
-    for argument in arguments.skip(1) {
-        words.push(argument.as_str()).map_err(|_| Status::Memory)?;
+    match env::args(rt) {
+        Ok(arguments) => {
+            for argument in arguments.skip(1) {
+                words.push(argument.as_str())?;
+            }
+        }
+        Err(error) => {
+            if error.kind() == ErrorKind::OutOfMemory {
+                return Err(Memory);
+            }
+        }
     }
     Ok(words)
 }
@@ -31,7 +42,7 @@ fn main(rt: HostRuntime) -> ExitCode {
             let mut world = StdoutWorld::new(rt.stdout());
             run(rt.alloc(), &words, &mut source, &mut world)
         }
-        Err(status) => status,
+        Err(Memory) => Status::Memory,
     };
     ExitCode::from(status.number())
 }

@@ -32,3 +32,42 @@ impl<R: Read> Source for StdinSource<R> {
         }
     }
 }
+
+#[cfg(test)]
+mod tests {
+    use super::*;
+    use std::io;
+    use std::test::Fail;
+
+    /// Gives one byte, then an error, then another byte and the end.
+    #[derive(Drop)]
+    struct Flaky {
+        reads: u32,
+    }
+
+    impl Read for Flaky {
+        fn read(&mut self, buf: &mut [u8]) -> io::Result<usize> {
+            self.reads = self.reads.saturating_add(1);
+            match (self.reads, buf.first_mut()) {
+                (2, _) => Err(io::Error::from(io::ErrorKind::BrokenPipe)),
+                (1 | 3, Some(place)) => {
+                    *place = b'x';
+                    Ok(1)
+                }
+                _ => Ok(0),
+            }
+        }
+    }
+
+    #[test]
+    fn reads_and_their_faults(rt: HostRuntime) -> Result<(), Fail> {
+        let mut source = StdinSource::new(Flaky { reads: 0 });
+        let mut buf = [0; 4];
+        for (want, faults) in [(Ok(1), 0), (Err(SourceFault), 1), (Ok(1), 1), (Ok(0), 1)] {
+            assert_eq!(rt; source.read(&mut buf), want);
+            assert_eq!(rt; source.faults, faults);
+        }
+        assert_eq!(rt; buf.as_slice(), b"x\0\0\0".as_slice());
+        Ok(())
+    }
+}

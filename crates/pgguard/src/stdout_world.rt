@@ -70,3 +70,67 @@ impl<W: Write> World for StdoutWorld<W> {
         }
     }
 }
+
+#[cfg(test)]
+mod tests {
+    use super::*;
+    use std::alloc::Global;
+    use std::io;
+    use std::test::Fail;
+
+    /// Keeps one byte of each write, and fails at the fourth.
+    #[derive(Drop)]
+    struct Slow {
+        kept: Vec<u8>,
+        writes: u32,
+    }
+
+    impl Write for Slow {
+        fn write(&mut self, buf: &[u8]) -> io::Result<usize> {
+            self.writes = self.writes.saturating_add(1);
+            match buf.first() {
+                _ if self.writes == 4 => Err(io::Error::from(io::ErrorKind::BrokenPipe)),
+                Some(byte) => {
+                    self.kept.push(*byte)?;
+                    Ok(1)
+                }
+                None => Ok(0),
+            }
+        }
+
+        fn flush(&mut self) -> io::Result<()> {
+            Ok(())
+        }
+    }
+
+    #[test]
+    fn pieces_are_put_whole_and_faults_counted(rt: HostRuntime) -> Result<(), Fail> {
+        let mut world = StdoutWorld::new(Slow {
+            kept: Vec::new(rt.alloc()),
+            writes: 0,
+        });
+        for (piece, want, faults, kept) in [
+            ("ab", Ok(()), 0, "ab"),
+            ("cd", Err(PutFault), 1, "abc"),
+            ("e", Ok(()), 1, "abce"),
+        ] {
+            assert_eq!(rt; world.put(piece.as_bytes()), want, "{piece}");
+            assert_eq!(rt; world.put_faults, faults, "{piece}");
+            assert_eq!(rt; world.writer.kept.as_slice(), kept.as_bytes(), "{piece}");
+        }
+        assert_eq!(rt; world.area_faults, 0);
+        Ok(())
+    }
+
+    #[test]
+    fn each_call_on_an_area_is_a_counted_fault(rt: HostRuntime) -> Result<(), Fail> {
+        let mut world = StdoutWorld::new(io::sink());
+        assert!(rt; world.len(Area::A).is_err());
+        assert!(rt; world.read_at(Area::B, 0, &mut []).is_err());
+        assert!(rt; world.write_at(Area::A, 0, &[1]).is_err());
+        assert!(rt; world.cut(Area::B, 0).is_err());
+        assert!(rt; world.sync(Area::A).is_err());
+        assert_eq!(rt; (world.area_faults, world.put_faults), (5, 0));
+        Ok(())
+    }
+}

@@ -5,6 +5,7 @@
 #![tactic(auto)]
 
 mod area;
+mod area_limit;
 mod fault;
 mod leave;
 mod mem_area;

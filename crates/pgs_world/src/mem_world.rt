@@ -6,15 +6,13 @@ ghost use Rattle.pgs_world.specs.MemWorld.{IsKnown, view_of, area_of, begun, fai
 ghost use Rattle.pgs_world.specs.Moment.{Passes, StopsBy, IsQuiet, ShowsOne, IsSynced, IsSettled};
 ghost use Rattle.pgs_world.specs.World.{output_of, part, Adds, AddsFront};
 
+use crate::area_limit::passes_limit;
 use crate::mem_contents::{Contents, Note, add_note};
 use crate::meter::Meter;
 use crate::{Area, AreaFault, Leave, PutFault, World};
 use pgs_base::{Bytes, List, Memory};
 use std::alloc::Global;
 use std::marker::Model;
-
-/// An area of more bytes than this, or a write past it, is a fault.
-const MOST_BYTES: u64 = 1 << 40;
 
 /// A world in memory. It is honest, tells its bytes and its output, and fails exactly as listed.
 ///
@@ -145,7 +143,7 @@ impl MemWorld {
         ensures known { IsKnown self.old }
     {
         let admits = self.meter.admits_piece(bytes);
-        if !admits || at.saturating_add(bytes.len() as u64) > MOST_BYTES {
+        if !admits || passes_limit(at, bytes.len() as u64) {
             self.meter.count_area_fault();
             return false;
         }
@@ -210,7 +208,7 @@ impl MemWorld {
     {
         let admits = self.meter.admits();
         let len = self.contents.bytes(area).len() as u64;
-        if !admits || len > MOST_BYTES {
+        if !admits || passes_limit(0, len) {
             self.meter.count_area_fault();
             return None;
         }

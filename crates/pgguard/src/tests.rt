@@ -1,0 +1,52 @@
+//! The program's source and world over bytes in memory: what `main` does with standard input and output, but for the
+//! system's own.
+
+use crate::stdin_source::StdinSource;
+use crate::stdout_world::StdoutWorld;
+use pgs_base::Words;
+use pgs_run::run;
+use std::test::Fail;
+
+const PERSONS: &str = r#"CREATE GRAPH TYPE g STRICT {(p: Person {name STRING})};
+---
+{"ops":[{"add_node":1,"labels":["Person"],"props":{"name":"Ann"}}]}
+{"ops":[{"add_node":1,"labels":["Person"],"props":{"name":"Ann"}}]}
+{"ops":[{"add_node":2,"labels":["Person"]}]}
+{"ops":[{"remove_node":1}]}
+"#;
+
+#[test]
+fn runs(rt: HostRuntime) -> Result<(), Fail> {
+    for (word, input, want, status) in [
+        ("try", "CREATE GRAPH TYPE g STRICT {};\n---\n", "", 0),
+        (
+            "try",
+            "CREATE GRAPH TYPE g STRICT {};\n---\n{\"ops\":[{\"add_node\":1}]}\n",
+            "1 refused 25 node n1 fits no type\n",
+            1,
+        ),
+        (
+            "try",
+            PERSONS,
+            "1 committed 1\n2 refused 23 op 1: n1 is already there\n3 refused 25 node n2 fits no type\n4 refused 40 not built yet\n",
+            1,
+        ),
+        (
+            "try",
+            "CREATE GRAPH TYPE g LOOSE {};",
+            "schema refused 40 not built yet\n",
+            3,
+        ),
+        ("tri", "", "words refused 35\n", 2),
+    ] {
+        let mut words = Words::new(rt.alloc());
+        words.push(word)?;
+        let mut output = Vec::new(rt.alloc());
+        let mut source = StdinSource::new(input.as_bytes());
+        let mut world = StdoutWorld::new(&mut output);
+        let found = run(rt.alloc(), &words, &mut source, &mut world);
+        assert_eq!(rt; found.number(), status, "{input}");
+        assert_eq!(rt; output.as_slice(), want.as_bytes(), "{input}");
+    }
+    Ok(())
+}
