@@ -2,10 +2,10 @@
 use Rattle.std.proofs.Common.{◌≡◌, ℕ, Bool, true, false, nat_le, List, [], ◌∷◌, length, Option, Some, None, refl, subst}
 use Rattle.std.specs.List.{list_all}
 use Rattle.pgs_graph.specs.declared.operation.Txn.{Txn}
-use Rattle.pgs_json.specs.FirstLine.{RawOp, txn_of, is_add_node}
+use Rattle.pgs_json.specs.FirstLine.{RawOp, named_txn, is_add_node}
 use Rattle.pgs_json.specs.Reading.{first_txn, raw_at}
 
-only_adds : (raw : List RawOp) → list_all is_add_node (txn_of raw).ops ≡ true
+only_adds : (raw : List RawOp) → list_all is_add_node (named_txn raw).ops ≡ true
 only_adds [] = refl
 only_adds (op ∷ ops) = only_adds ops
 
@@ -14,8 +14,8 @@ unfolding first_txn
 adds_by line txn false raw e r found = let h : None ≡ Some txn = rw e at found in cc
 adds_by line txn true None e r found = let h = rw (e, r) at found in cc
 adds_by line txn true (Some raw) e r found =
-    let h : Some (txn_of raw) ≡ Some txn = rw (e, r) at found in
-    let same : txn_of raw ≡ txn = cc in
+    let h : Some (named_txn raw) ≡ Some txn = rw (e, r) at found in
+    let same : named_txn raw ≡ txn = cc in
     subst (λ (t : Txn). list_all is_add_node t.ops ≡ true) same (only_adds raw)
 
 pub adds_found : (line : List ℕ) (txn : Txn) → first_txn line ≡ Some txn → list_all is_add_node txn.ops ≡ true

@@ -4,7 +4,7 @@ use Rattle.std.specs.Ordering.{nat_cmp, ordering_reverse, match_ordering}
 use Rattle.std.specs.Cmp.Lexicographic.{slice_cmp, nat_list_cmp_total}
 use Rattle.pgs_base.specs.OrderLaws.{exact_name}
 use Rattle.pgs_base.specs.Name.{is_name}
-use Rattle.pgs_json.specs.FirstLine.{label_set}
+use Rattle.pgs_json.specs.Sets.{label_set}
 use Rattle.pgs_json.specs.Form.{labels_of}
 use Rattle.serde_json.specs.Data.{string, array, item, no_items}
 

@@ -9,7 +9,7 @@ use Rattle.std.proofs.lemmas.Option.{cond_some}
 use Rattle.pgs_base.specs.declared.value.Value.{Value}
 use Rattle.pgs_base.specs.Name.{is_name}
 use Rattle.pgs_graph.specs.declared.operation.Txn.{Txn}
-use Rattle.pgs_json.specs.FirstLine.{RawOp, listed, quoted, pair, labels, props, op, spelling, is_first_pair, are_distinct, are_first_labels, are_first_pairs, is_first_op, is_first_line, txn_of}
+use Rattle.pgs_json.specs.FirstLine.{RawOp, listed, quoted, pair, labels, props, op, spelling, is_first_pair, are_distinct, are_first_labels, are_first_pairs, is_first_op, is_first_line, named_txn}
 use Rattle.pgs_json.specs.Reading.{◌>>=◌, after, is_digit, number_at, name_at, pair_at, list_at, label_list_at, pair_list_at, part_in, labels_at, props_at, op_at, op_list_at, raw_at, first_txn}
 use Rattle.pgs_json.proofs.Texts.{both, and}
 use Rattle.pgs_json.proofs.Fronts.{bind_some, some_is, after_takes, after_again, stops}
@@ -200,17 +200,17 @@ raw_line_again raw fits =
     raw_again raw (leb-true (length raw) 10000 outer.0) (both (list_all is_first_op raw) (leb (length (spelling raw)) 1048576) outer.1).0
 
 -- the transaction that is read is named by operations within the limits, which the line spells
-pub first_txn_takes : (line : List ℕ) (txn : Txn) → first_txn line ≡ Some txn → (raw : List RawOp) × (is_first_line raw ≡ true) × (line ≡ spelling raw) × (txn_of raw ≡ txn)
+pub first_txn_takes : (line : List ℕ) (txn : Txn) → first_txn line ≡ Some txn → (raw : List RawOp) × (is_first_line raw ≡ true) × (line ≡ spelling raw) × (named_txn raw ≡ txn)
 unfolding first_txn
 first_txn_takes line txn e =
-    let a = cond_then (leb (length line) 1048576) (raw_at line >>= λ raw. Some (txn_of raw)) txn e in
-    let b = bind_some (raw_at line) (λ raw. Some (txn_of raw)) txn a.1 in
+    let a = cond_then (leb (length line) 1048576) (raw_at line >>= λ raw. Some (named_txn raw)) txn e in
+    let b = bind_some (raw_at line) (λ raw. Some (named_txn raw)) txn a.1 in
     let read = raw_takes line b.0 b.1 in
     let short : leb (length (spelling b.0)) 1048576 ≡ true = ap (λ (l : List ℕ). leb (length l) 1048576) (sym read.0) ∙ a.0 in
-    (b.0, and (leb (length b.0) 10000) (list_all is_first_op b.0 && leb (length (spelling b.0)) 1048576) (le-leb (length b.0) 10000 read.1) (and (list_all is_first_op b.0) (leb (length (spelling b.0)) 1048576) read.2 short), read.0, some_is (txn_of b.0) txn b.2)
+    (b.0, and (leb (length b.0) 10000) (list_all is_first_op b.0 && leb (length (spelling b.0)) 1048576) (le-leb (length b.0) 10000 read.1) (and (list_all is_first_op b.0) (leb (length (spelling b.0)) 1048576) read.2 short), read.0, some_is (named_txn b.0) txn b.2)
 
 -- what operations within the limits spell is read as the transaction that they name
-pub first_txn_again : (raw : List RawOp) → is_first_line raw ≡ true → first_txn (spelling raw) ≡ Some (txn_of raw)
+pub first_txn_again : (raw : List RawOp) → is_first_line raw ≡ true → first_txn (spelling raw) ≡ Some (named_txn raw)
 unfolding first_txn
 first_txn_again raw fits =
     let outer = both (leb (length raw) 10000) (list_all is_first_op raw && leb (length (spelling raw)) 1048576) fits in

@@ -1,11 +1,10 @@
 -- The first form of a line: what stands in one, its one spelling, its limits, and the transaction that it names.
-use Rattle.std.specs.Prelude.{◌≡◌, IsTrue, ℕ, ◌^◌, pos, negsuc, Bool, true, false, ◌&&◌, not, List, [], ◌∷◌, ◌++◌, length, map, fold, flat_map, Option, Some, None, unwrap_or, nat_le, nat_lt, ◌==◌, codes, decimal}
+use Rattle.std.specs.Prelude.{◌≡◌, IsTrue, ℕ, ◌^◌, pos, negsuc, Bool, true, false, ◌&&◌, not, List, [], ◌∷◌, ◌++◌, length, map, flat_map, Option, Some, None, unwrap_or, nat_le, nat_lt, ◌==◌, codes, decimal}
 use Rattle.std.specs.Fmt.{signed_decimal}
 use Rattle.std.specs.Ordering.{nat_cmp}
 use Rattle.std.specs.Cmp.Lexicographic.{slice_cmp}
 use Rattle.std.specs.List.{list_all, list_any}
-use Rattle.std.specs.BTreeMap.{is_at, insert_entry}
-use Rattle.std.specs.BTreeSet.{insert_key}
+use Rattle.std.specs.BTreeMap.{is_at}
 use Rattle.std.specs.Map.{keys_of}
 use Rattle.pgs_base.specs.declared.value.Value.{Value}
 use Rattle.pgs_base.specs.declared.value.Value.TheVariants as values
@@ -13,6 +12,7 @@ use Rattle.pgs_base.specs.Name.{is_between, is_name}
 use Rattle.pgs_graph.specs.declared.operation.Op.{Op}
 use Rattle.pgs_graph.specs.declared.operation.Op.TheVariants.{AddNode}
 use Rattle.pgs_graph.specs.declared.operation.Txn.{Txn}
+use Rattle.pgs_json.specs.Sets.{label_set, pair_map}
 
 -- an operation as it is written: labels and pairs in their order, or absent
 pub record RawOp : Type 0 where
@@ -93,24 +93,17 @@ is_first_line raw =
 
 -- ---- what it names
 
--- the set of the names, and the map of the pairs
-abbrev pub label_set : List (List ℕ) → List (List ℕ)
-label_set names = fold (insert_key (slice_cmp nat_cmp)) [] names
-
-abbrev pub pair_map : List (List ℕ × Value) → List (List ℕ × Value)
-pair_map pairs = fold (λ map p. insert_entry (slice_cmp nat_cmp) map p.0 p.1) [] pairs
-
 abbrev pub op_of : RawOp → Op
 op_of raw = AddNode (record { 0 = raw.id }) (label_set (unwrap_or raw.labels [])) (pair_map (unwrap_or raw.props []))
 
 -- the transaction that a line names
-abbrev pub txn_of : List RawOp → Txn
-txn_of raw = record { ops = map op_of raw }
+abbrev pub named_txn : List RawOp → Txn
+named_txn raw = record { ops = map op_of raw }
 
 -- the line is the spelling of operations within the limits, and they name the transaction
 abbrev pub SpellsTxn : List ℕ → Txn → Type 0
 SpellsTxn line txn =
-    (raw : List RawOp) × IsTrue (is_first_line raw) × (line ≡ spelling raw) × (txn_of raw ≡ txn)
+    (raw : List RawOp) × IsTrue (is_first_line raw) × (line ≡ spelling raw) × (named_txn raw ≡ txn)
 
 -- whether an operation adds a node
 abbrev pub is_add_node : Op → Bool

@@ -4,4 +4,5 @@ pub mod Form
 pub mod Gathering
 pub mod Line
 pub mod Reading
+pub mod Sets
 pub mod Unread

@@ -7,7 +7,7 @@ use Rattle.pgs_base.specs.declared.value.Value.{Value}
 use Rattle.pgs_base.specs.declared.value.Value.TheVariants as values
 use Rattle.pgs_base.specs.Name.{is_between, is_name}
 use Rattle.pgs_graph.specs.declared.operation.Txn.{Txn}
-use Rattle.pgs_json.specs.FirstLine.{RawOp, is_text_byte, are_distinct, txn_of}
+use Rattle.pgs_json.specs.FirstLine.{RawOp, is_text_byte, are_distinct, named_txn}
 
 infixl 10 ◌>>=◌
 abbrev pub ◌>>=◌ : {A B : Type 0} → Option A → (A → Option B) → Option B
@@ -157,4 +157,4 @@ raw_at bytes = do
 -- the transaction of a line of the first form
 unfoldable pub first_txn : List ℕ → Option Txn
 first_txn line =
-    if nat_le (length line) 1048576 then (raw_at line >>= λ raw. Some (txn_of raw)) else None
+    if nat_le (length line) 1048576 then (raw_at line >>= λ raw. Some (named_txn raw)) else None

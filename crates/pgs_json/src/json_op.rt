@@ -3,7 +3,7 @@
 ghost use Rattle.std.specs.Prelude.{◌≡◌, [], ◌∷◌, ◌++◌, codes, option_map, option_and_then, Some, Err, OnOk, OnErr, if◌then◌else◌};
 ghost use Rattle.serde_json.specs.View.{view, items_view, members_view};
 ghost use Rattle.pgs_graph.specs.declared.operation.Op.TheVariants.{RemoveNode, DetachNode, RemoveEdge, SetNode, UnsetNode, LabelNode, UnlabelNode, SetEdge, UnsetEdge, LabelEdge, UnlabelEdge};
-ghost use Rattle.pgs_json.specs.FirstLine.{label_set, pair_map};
+ghost use Rattle.pgs_json.specs.Sets.{label_set, pair_map};
 ghost use Rattle.pgs_json.specs.Form.{has_only, part, part_or_empty, each_item, each_member, pair_of, id_of, name_of, value_of, labels_of, props_of, node, edge, add_node, add_edge, with_id, with_name, with_value, node_op, edge_op, op_of, ops_of, form};
 ghost use Rattle.pgs_json.specs.Unread.{Gives};
 ghost use Rattle.pgs_json.specs.declared.unread.Unread.TheVariants.{Memory as OutOfMemory};
@@ -336,7 +336,8 @@ fn op(alloc: Global, object: &Json) -> Result<Op, Unread>
     }
 }
 
-fn put_last(ops: &mut List<Op>, op: Op) -> Result<(), Unread>
+/// Puts an operation last.
+pub fn put_last(ops: &mut List<Op>, op: Op) -> Result<(), Unread>
     ensures ok { OnOk result (ops.new ≡ ops.old ++ op ∷ []) }
     ensures err { OnErr result (result ≡ Err OutOfMemory) }
 {

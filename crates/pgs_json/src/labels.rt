@@ -1,5 +1,5 @@
 ghost use Rattle.std.specs.Prelude.{◌≡◌, [], unwrap_or};
-ghost use Rattle.pgs_json.specs.FirstLine.{label_set};
+ghost use Rattle.pgs_json.specs.Sets.{label_set};
 ghost use Rattle.pgs_json.specs.Reading.{name_at, label_list_at, labels_at};
 ghost use Rattle.pgs_json.specs.Gathering.{gathered_at, seen, with_label};
 ghost use Rattle.pgs_json.specs.Unread.{Gives};

@@ -1,9 +1,10 @@
-//! Transactions from lines of JSON. For now one exact form of line is read: operations that add nodes.
+//! Transactions from lines of JSON, in two forms. The run reads the first form, one exact spelling of operations that add
+//! nodes: `read_first`. Transactions as JSON values, over what `serde_json` reads, are read by `read_txn`; no run uses it yet.
 //!
-//! Its one rule: a line is read exactly where it is the spelling of operations within the limits.
-//! The spelling, the limits and the transaction that such a line names stand in `specs/FirstLine.antt`,
-//! apart from reading, which goes from left to right in `specs/Reading.antt`; `first_form_is_exact`
-//! says that both are one. The layer above uses `read_first` and its `first_txn` alone.
+//! The one rule of both: a line is read exactly where it is of the form, and only want of memory keeps it from that.
+//! The spelling and the limits of the first form stand in `specs/FirstLine.antt`, apart from reading, which goes from left
+//! to right in `specs/Reading.antt`; `first_form_is_exact` says that both are one. The form of JSON values stands in
+//! `specs/Form.antt` and `specs/Line.antt`, the canonical text of a transaction in `specs/Canonical.antt`.
 #![tactic(auto)]
 
 mod first_line;

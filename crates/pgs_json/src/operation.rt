@@ -5,6 +5,7 @@ ghost use Rattle.pgs_json.specs.Gathering.{gathered_at, seen, with_op, graph_op_
 ghost use Rattle.pgs_json.specs.Unread.{Gives};
 ghost use Rattle.pgs_json.specs.declared.unread.Unread.TheVariants.{Memory as OutOfMemory};
 
+use crate::json_op::put_last;
 use crate::labels::labels;
 use crate::number::number;
 use crate::piece::{after, end};
@@ -33,16 +34,6 @@ fn op(alloc: Global, bytes: &[u8]) -> Result<(Op, &[u8]), Unread>
         props,
     };
     Ok((op, rest))
-}
-
-fn put_last(ops: &mut List<Op>, op: Op) -> Result<(), Unread>
-    ensures ok { OnOk result (ops.new ≡ ops.old ++ op ∷ []) }
-    ensures err { OnErr result (result ≡ Err OutOfMemory) }
-{
-    match ops.push(op) {
-        Ok(()) => Ok(()),
-        Err(_) => Err(Unread::Memory),
-    }
 }
 
 /// The operations of a list that isn't empty.

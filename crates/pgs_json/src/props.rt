@@ -1,5 +1,5 @@
 ghost use Rattle.std.specs.Prelude.{◌≡◌, [], unwrap_or};
-ghost use Rattle.pgs_json.specs.FirstLine.{pair_map};
+ghost use Rattle.pgs_json.specs.Sets.{pair_map};
 ghost use Rattle.pgs_json.specs.Reading.{pair_at, pair_list_at, props_at};
 ghost use Rattle.pgs_json.specs.Gathering.{gathered_at, seen, with_pair};
 ghost use Rattle.pgs_json.specs.Unread.{Gives};

@@ -1,12 +1,9 @@
-use pgs_base;
-use std::alloc::AllocError;
-
 /// Why nothing was read.
 #[derive(Clone, Copy, Debug, PartialEq, Eq)]
 pub enum Unread {
     /// There was no memory for it.
     Memory,
-    /// The bytes aren't of the first form.
+    /// What was given isn't of the form that is read.
     Unfit,
 }
 

@@ -97,6 +97,32 @@ const CASES: &[(&[u8], &[u8])] = &[
     // the line of the first bad byte
     (b"a\nb\n  # c\n#", b"line 3"),
     (b"\x00", b"line 1"),
+    // statements and keys as they are written
+    (b"CREATE GRAPH TYPE g LOOSE {#};", b"line 1"),
+    (
+        b"CREATE GRAPH TYPE g STRICT {(`NODE`: A)}; // end",
+        b"kCREATE kGRAPH kTYPE ng kSTRICT s{ s( n`NODE` s: nA s) s} s; ",
+    ),
+    (
+        b"CREATE NODE TYPE ABSTRACT (namedType {name STRING});",
+        b"kCREATE kNODE kTYPE kABSTRACT s( nnamedType s{ nname kSTRING s} s) s; ",
+    ),
+    (
+        b"CREATE NODE TYPE (personType: namedType & Person {mail STRING, OPTIONAL born DATE});",
+        b"kCREATE kNODE kTYPE s( npersonType s: nnamedType s& nPerson s{ nmail kSTRING s, kOPTIONAL nborn kDATE s} s) s; ",
+    ),
+    (
+        b"CREATE EDGE TYPE (:personType|employeeType)-[joinedType: joined]->(:forumType);",
+        b"kCREATE kEDGE kTYPE s( s: npersonType s| nemployeeType s) s- s[ njoinedType s: njoined s] s-> s( s: nforumType s) s; ",
+    ),
+    (
+        b"FOR (f:Forum)<-[:joined]-(:Person) IDENTIFIER f.name, p WITHIN (f)<-[:moderates]-(p:Person),",
+        b"kFOR s( nf s: nForum s) s<- s[ s: njoined s] s- s( s: nPerson s) kIDENTIFIER nf s. nname s, np kWITHIN s( nf s) s<- s[ s: nmoderates s] s- s( np s: nPerson s) s, ",
+    ),
+    (
+        b"FOR (x:A) MANDATORY z.v WITHIN (x)-[:r]->()-[:r]->(z)",
+        b"kFOR s( nx s: nA s) kMANDATORY nz s. nv kWITHIN s( nx s) s- s[ s: nr s] s-> s( s) s- s[ s: nr s] s-> s( nz s) ",
+    ),
 ];
 
 #[test]

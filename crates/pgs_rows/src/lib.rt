@@ -6,6 +6,8 @@
 #[cfg(test)]
 mod examples;
 #[cfg(test)]
+mod limits;
+#[cfg(test)]
 mod ran;
 #[cfg(test)]
 mod told;

@@ -10,7 +10,7 @@ const PIECE: usize = 7;
 const INPUTS: [&str; 3] = [
     "CREATE GRAPH TYPE g LOOSE {};\n---\n{\"ops\":[]}\n",
     "CREATE GRAPH TYPE g STRICT {(t)};\r\n---\r\n\n{\"ops\":[{\"add_node\":1}]}\n \t\r\n{\"ops\":[{\"add_node\":1}]}\n{}\n",
-    "CREATE GRAPH TYPE g STRICT\n{(: A)};\n---\n{\"ops\":[]}\n\n{\"ops\":[{\"add_node\":7}]}\n---",
+    "CREATE GRAPH TYPE g STRICT\n{(t: A)};\n---\n{\"ops\":[]}\n\n{\"ops\":[{\"add_node\":7,\"labels\":[\"A\"]}]}",
 ];
 
 /// The front of the output that the first pieces make.

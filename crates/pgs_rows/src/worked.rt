@@ -1,5 +1,4 @@
 use crate::ran::{PIECES, Setting, quiet, run_with, words_of};
-use std::alloc::{AllocError, Global};
 use std::test::Fail;
 
 const EMPTY: &str = "CREATE GRAPH TYPE g STRICT {};\n---\n";
@@ -138,46 +137,6 @@ fn budgets_and_faults(rt: HostRuntime) -> Result<(), Fail> {
             assert_eq!(rt; found.text(), want, "{input} {setting:?}");
             assert_eq!(rt; found.status.number(), status, "{input} {setting:?}");
         }
-    }
-    Ok(())
-}
-
-/// A line of this many bytes.
-fn push_long_line(input: &mut String, len: u32) -> Result<(), AllocError> {
-    for _ in 0..len {
-        input.push('x')?;
-    }
-    input.push('\n')
-}
-
-/// A line that adds so many bare nodes, with the numbers from 1.
-fn push_nodes(alloc: Global, input: &mut String, count: u32) -> Result<(), AllocError> {
-    input.push_str("{\"ops\":[")?;
-    for place in 0..count {
-        let digits = (u64::from(place) + 1).to_string(alloc)?;
-        input.push_str(if place == 0 { "" } else { "," })?;
-        input.push_str("{\"add_node\":")?;
-        input.push_str(digits.as_str())?;
-        input.push('}')?;
-    }
-    input.push_str("]}\n")
-}
-
-#[test]
-fn limits(rt: HostRuntime) -> Result<(), Fail> {
-    let words = words_of(rt.alloc(), "try,")?;
-    let mut input = String::from_str(rt.alloc(), "CREATE GRAPH TYPE g STRICT {(t)};\n---\n")?;
-    push_long_line(&mut input, 1_048_577)?;
-    push_nodes(rt.alloc(), &mut input, 10_001)?;
-    push_nodes(rt.alloc(), &mut input, 10_000)?;
-    for piece in PIECES {
-        let found = run_with(rt.alloc(), &words, input.as_bytes(), quiet(piece))?;
-        assert_eq!(rt;
-            found.text(),
-            "1 refused 40 not built yet\n2 refused 40 not built yet\n3 committed 1\n",
-            "{piece}"
-        );
-        assert_eq!(rt; found.status.number(), 1, "{piece}");
     }
     Ok(())
 }
