@@ -52,10 +52,11 @@ path p = node p.start ▸ each step p.steps
 abbrev pub paths : List RawPath → Production
 paths = listed (sign ",") path
 
--- the words of qualifiers: each is one of the three, and none stands twice
+-- the words of qualifiers
 abbrev pub qualifier_words : List (List ℕ)
 qualifier_words = codes "EXCLUSIVE" ∷ codes "MANDATORY" ∷ codes "SINGLETON" ∷ []
 
+-- whether each word is one of these, and none stands twice
 abbrev pub are_qualifiers : List (List ℕ) → Bool
 are_qualifiers words = list_all (λ word. has_label word qualifier_words) words && are_distinct same_name words
 

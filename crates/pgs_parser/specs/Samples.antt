@@ -1,5 +1,5 @@
 -- Schema texts, and the scripts that they are.
-use Rattle.std.specs.Prelude.{ℕ, Bool, true, false, List, [], ◌∷◌, Option, Some, None, negsuc, codes}
+use Rattle.std.specs.Prelude.{ℕ, Bool, true, false, List, [], ◌∷◌, Option, Some, None, negsuc, replicate, codes}
 use Rattle.pgs_base.specs.declared.value.Kind.TheVariants as kinds
 use Rattle.pgs_base.specs.declared.value.Value.TheVariants as values
 use Rattle.pgs_syntax.specs.declared.element_type.NodeType.{NodeType}
@@ -219,17 +219,25 @@ of_five_paths =
     let x = alone (var (codes "x")) in
     differing (x ∷ x ∷ x ∷ x ∷ x ∷ []) None (x_k ∷ [])
 
+-- FOR (x)-[]->().. EXCLUSIVE x.k with so many edges, and FOR (x) EXCLUSIVE x.k, .. with so many expressions
+abbrev pub of_edges : ℕ → RawKey
+of_edges count = differing (path (var (codes "x")) (replicate count (step true nameless nameless)) ∷ []) None (x_k ∷ [])
+
+abbrev pub of_exprs : ℕ → RawKey
+of_exprs count = differing (alone (var (codes "x")) ∷ []) None (replicate count x_k)
+
 -- FOR ()-[e]->(y:A) EXCLUSIVE e, whose first named variable is an edge
 abbrev pub edge_first : RawKey
 edge_first = differing (path nameless (
     step true (var (codes "e")) (place (Some (codes "y")) (codes "A" ∷ [])) ∷ []) ∷ []) None (record { var = codes "e"; key = None } ∷ [])
 
--- CREATE GRAPH TYPE f STRICT {(a)}; CREATE GRAPH TYPE h LOOSE IMPORTS f {(b), a}; CREATE GRAPH TYPE g LOOSE IMPORTS h, f {(c)};
+-- CREATE GRAPH TYPE f STRICT {(a), FOR (x), (x)-[]->(y) EXCLUSIVE x.k}; CREATE GRAPH TYPE h LOOSE IMPORTS f {(b), a};
+-- CREATE GRAPH TYPE g LOOSE IMPORTS h, f {(c)};
 abbrev pub importing : Script
 importing = script (
-    graph (codes "f") true 1 [] (members.Node (written (codes "a") 2 Empty) ∷ []) []
-    ∷ graph (codes "h") false 3 (codes "f" ∷ []) (members.Node (written (codes "b") 4 Empty) ∷ members.Named (codes "a") ∷ []) []
-    ∷ graph (codes "g") false 5 (codes "h" ∷ codes "f" ∷ []) (members.Node (written (codes "c") 6 Empty) ∷ []) [] ∷ [])
+    graph (codes "f") true 1 [] (members.Node (written (codes "a") 2 Empty) ∷ []) (record linked { place = 3 } ∷ [])
+    ∷ graph (codes "h") false 4 (codes "f" ∷ []) (members.Node (written (codes "b") 5 Empty) ∷ members.Named (codes "a") ∷ []) []
+    ∷ graph (codes "g") false 6 (codes "h" ∷ codes "f" ∷ []) (members.Node (written (codes "c") 7 Empty) ∷ []) [] ∷ [])
 
 -- persons whose mail differs
 abbrev pub mail_text : List ℕ

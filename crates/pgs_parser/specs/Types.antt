@@ -79,7 +79,7 @@ parts labels is_open braces =
     option_map_or (λ spec. spec ∷ []) labels [] ++ (if is_open then OpenLabels ∷ [] else [])
     ++ option_map_or (λ b. specs.Braces b ∷ []) braces []
 
--- no part is empty, one part is itself, and several are their join
+-- without parts it is empty, one part is itself, and several are their join
 abbrev pub together : List Written → Written
 together [] = Empty
 together (part ∷ []) = part

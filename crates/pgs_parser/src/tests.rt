@@ -88,36 +88,3 @@ fn texts(rt: HostRuntime) -> Result<(), Fail> {
     }
     Ok(())
 }
-
-/// Appends a byte this many times.
-fn repeat(text: &mut Vec<u8>, byte: u8, count: usize) -> Result<(), AllocError> {
-    for _ in 0..count {
-        text.push(byte)?;
-    }
-    Ok(())
-}
-
-/// A schema whose name has this many bytes, with this many spaces behind.
-fn padded(alloc: Global, name: usize, spaces: usize) -> Result<Vec<u8>, AllocError> {
-    let mut text = Vec::from_slice(alloc, b"CREATE GRAPH TYPE ")?;
-    repeat(&mut text, b'g', name)?;
-    text.extend_from_slice(b" STRICT {};")?;
-    repeat(&mut text, b' ', spaces)?;
-    Ok(text)
-}
-
-#[test]
-fn lengths(rt: HostRuntime) -> Result<(), Fail> {
-    for (name, spaces, length, expected) in [
-        (64, 0, 93, "ok"),
-        (65, 0, 94, "-"),
-        (1, 1_048_546, 1_048_576, "ok"),
-        (1, 1_048_547, 1_048_577, "-"),
-    ] {
-        let text = padded(rt.alloc(), name, spaces).ok().ok_or("memory")?;
-        assert_eq!(rt; text.len(), length);
-        let found = told(rt.alloc(), text.as_slice()).ok().ok_or("memory")?;
-        assert_eq!(rt; found.as_str(), expected, "{name} {length}");
-    }
-    Ok(())
-}

@@ -1,4 +1,5 @@
 -- What the definitions give on the samples: each computes.
+use Rattle.std.specs.Prelude.{length}
 use Rattle.std.proofs.Common.{◌≡◌, true, false, [], ◌∷◌, Ok, Err, None, Some, codes, refl, arith}
 use denote.Hole.Carrier.{hidden}
 use Rattle.pgs_lexer.specs.Scan.{item_at}
@@ -38,6 +39,9 @@ listed_before = refl
 
 pub imports_first : (resolved texts.importing).guard.types ≡ numbers.Node 0 ∷ numbers.Node 1 ∷ numbers.Node 2 ∷ []
 imports_first = refl
+
+pub keys_once : length (resolved texts.importing).guard.keys ≡ 1
+keys_once = refl
 
 pub own_word : (resolved texts.importing).guard.strict ≡ false
 own_word = refl
@@ -101,6 +105,18 @@ causes_reads_y = refl
 
 pub causes_of_five_paths : cause_of 1 texts.of_five_paths ≡ Some TooLarge
 causes_of_five_paths = refl
+
+pub causes_of_nine_edges : cause_of 1 (texts.of_edges 9) ≡ Some TooLarge
+causes_of_nine_edges = refl
+
+pub causes_of_eight_edges : cause_of 1 (texts.of_edges 8) ≡ None
+causes_of_eight_edges = refl
+
+pub causes_of_17_expressions : cause_of 1 (texts.of_exprs 17) ≡ Some TooLarge
+causes_of_17_expressions = refl
+
+pub causes_of_16_expressions : cause_of 1 (texts.of_exprs 16) ≡ None
+causes_of_16_expressions = refl
 
 pub causes_too_late : cause_of 257 texts.linked ≡ Some TooLarge
 causes_too_late = refl

@@ -29,8 +29,8 @@ walked script (suc depth) before name =
     if has_label name before then before else fold (walked script depth) before (imported_by script name) ++ name ∷ []
 
 -- the graph types whose members count, in order
-abbrev pub guards_of : Script → List GraphType
-guards_of script =
+abbrev pub walked_graphs : Script → List GraphType
+walked_graphs script =
     let names = option_map_or (λ (type : GraphType). walked script (length (graphs_of script)) [] type.name) (last_of (graphs_of script)) [] in
     filter_map (graph_named script) names
 
@@ -53,10 +53,10 @@ type_no numbering name =
 -- what the guard asks: only its own word STRICT or LOOSE counts
 abbrev pub guarding : Script → Numbering → Guarding
 guarding script numbering =
-    let guards = guards_of script in
-    let names = each_once (map name_of (flat_map (λ (type : GraphType). type.members) guards)) in
+    let graphs = walked_graphs script in
+    let names = each_once (map name_of (flat_map (λ (type : GraphType). type.members) graphs)) in
     record {
       strict = option_map_or (λ (type : GraphType). type.strict) (last_of (graphs_of script)) false;
       types = filter_map (type_no numbering) names;
-      keys = map (resolved_key numbering) (flat_map (λ (type : GraphType). type.keys) guards);
+      keys = map (resolved_key numbering) (flat_map (λ (type : GraphType). type.keys) graphs);
     }

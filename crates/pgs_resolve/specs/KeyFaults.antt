@@ -23,13 +23,14 @@ descriptor_names key x = option_map_or (λ paths. named_in (places_of paths)) ke
 abbrev pub has_no_x : RawKey → Bool
 has_no_x key = not (option_map_or (λ x. has_label x (descriptor_names key x)) (x_of key) false)
 
--- whether a variable stands at a node place and at an edge place
+-- the edge places among places, and the node places
 abbrev pub edge_places : List Place → List Place
 edge_places places = filter (λ (place : Place). place.is_edge) places
 
 abbrev pub node_places : List Place → List Place
 node_places places = filter (λ (place : Place). not place.is_edge) places
 
+-- whether a variable stands at a node place and at an edge place
 abbrev pub has_two_kinds : RawKey → Bool
 has_two_kinds key =
     let places = places_of key.scope ++ places_of (within_of key) in

@@ -1,7 +1,7 @@
 //! What the definitions say of small scripts and texts, which stand in `specs/Samples.antt` here and in the parser's. The
 //! functions do nothing; their contracts are the statements.
 
-ghost use Rattle.std.specs.Prelude.{◌≡◌, true, false, List, ℕ, [], ◌∷◌, Ok, Err, None, Some, codes};
+ghost use Rattle.std.specs.Prelude.{◌≡◌, true, false, List, ℕ, [], ◌∷◌, Ok, Err, None, Some, codes, length};
 ghost use Rattle.pgs_syntax.specs.declared.pattern.Atom.TheVariants.{Ends, HasLabel};
 ghost use Rattle.pgs_syntax.specs.declared.resolved.TypeNo.TheVariants as numbers;
 ghost use Rattle.pgs_syntax.specs.Samples.{staff, keyed, two_steps, moderator, pattern};
@@ -28,6 +28,7 @@ pub fn schemas()
 pub fn guards()
     ensures imports_first { (resolved texts.importing).guard.types ≡ numbers.Node 0 ∷ numbers.Node 1 ∷ numbers.Node 2 ∷ [] }
     ensures own_word { (resolved texts.importing).guard.strict ≡ false }
+    ensures keys_once { length (resolved texts.importing).guard.keys ≡ 1 }
 {}
 
 /// Schemas of one key.
@@ -59,6 +60,10 @@ pub fn causes()
     ensures apart { cause_of 1 texts.apart ≡ Some Disconnected }
     ensures reads_y { cause_of 1 texts.reads_y ≡ Some UnknownVariable }
     ensures of_five_paths { cause_of 1 texts.of_five_paths ≡ Some TooLarge }
+    ensures of_nine_edges { cause_of 1 (texts.of_edges 9) ≡ Some TooLarge }
+    ensures of_eight_edges { cause_of 1 (texts.of_edges 8) ≡ None }
+    ensures of_17_expressions { cause_of 1 (texts.of_exprs 17) ≡ Some TooLarge }
+    ensures of_16_expressions { cause_of 1 (texts.of_exprs 16) ≡ None }
     ensures too_late { cause_of 257 texts.linked ≡ Some TooLarge }
     ensures linked { cause_of 256 texts.linked ≡ None }
 {}

@@ -24,6 +24,15 @@ struct Repeated {
 }
 
 impl Repeated {
+    fn new(before: &'static str, piece: &'static str, count: u32, after: &'static str) -> Repeated {
+        Repeated {
+            before,
+            piece,
+            count,
+            after,
+        }
+    }
+
     fn push_to(&self, input: &mut String) -> Result<(), AllocError> {
         input.push_str(self.before)?;
         for _ in 0..self.count {
@@ -44,20 +53,6 @@ fn printed(alloc: Global, input: &str) -> Result<String, Fail> {
     printed_in(alloc, input, 65_536)
 }
 
-fn repeated(
-    before: &'static str,
-    piece: &'static str,
-    count: u32,
-    after: &'static str,
-) -> Repeated {
-    Repeated {
-        before,
-        piece,
-        count,
-        after,
-    }
-}
-
 #[test]
 fn repeated_in_a_line(rt: HostRuntime) -> Result<(), Fail> {
     let labels = "{\"ops\":[{\"add_node\":1,\"labels\":[\"A\"";
@@ -65,16 +60,16 @@ fn repeated_in_a_line(rt: HostRuntime) -> Result<(), Fail> {
     let key = "{\"ops\":[{\"add_node\":1,\"props\":{\"k";
     let text = "{\"ops\":[{\"add_node\":1,\"props\":{\"k\":\"";
     for (line, want) in [
-        (repeated(labels, ",\"A\"", 63, "]}]}\n"), COMMITTED),
-        (repeated(labels, ",\"A\"", 64, "]}]}\n"), NOT_BUILT),
-        (repeated(label, "a", 63, "\"]}]}\n"), UNTYPED),
-        (repeated(label, "a", 64, "\"]}]}\n"), NOT_BUILT),
-        (repeated(key, "k", 63, "\":\"\"}}]}\n"), UNTYPED),
-        (repeated(key, "k", 64, "\":\"\"}}]}\n"), NOT_BUILT),
-        (repeated(text, "x", 65_535, "\"}}]}\n"), COMMITTED),
-        (repeated(text, "x", 65_536, "\"}}]}\n"), NOT_BUILT),
-        (repeated("", " ", 1_048_576, "\n"), ""),
-        (repeated("", " ", 1_048_577, "\n"), NOT_BUILT),
+        (Repeated::new(labels, ",\"A\"", 63, "]}]}\n"), COMMITTED),
+        (Repeated::new(labels, ",\"A\"", 64, "]}]}\n"), NOT_BUILT),
+        (Repeated::new(label, "a", 63, "\"]}]}\n"), UNTYPED),
+        (Repeated::new(label, "a", 64, "\"]}]}\n"), NOT_BUILT),
+        (Repeated::new(key, "k", 63, "\":\"\"}}]}\n"), UNTYPED),
+        (Repeated::new(key, "k", 64, "\":\"\"}}]}\n"), NOT_BUILT),
+        (Repeated::new(text, "x", 65_535, "\"}}]}\n"), COMMITTED),
+        (Repeated::new(text, "x", 65_536, "\"}}]}\n"), NOT_BUILT),
+        (Repeated::new("", " ", 1_048_576, "\n"), ""),
+        (Repeated::new("", " ", 1_048_577, "\n"), NOT_BUILT),
     ] {
         let mut input = String::from_str(rt.alloc(), SCHEMA)?;
         line.push_to(&mut input)?;
@@ -177,7 +172,7 @@ fn push_line_with_len(alloc: Global, input: &mut String, len: usize) -> Result<(
         let digits = place.to_string(alloc)?;
         line.push_str("\"k")?;
         line.push_str(digits.as_str())?;
-        repeated("\":\"", "x", 65_000, "\",").push_to(&mut line)?;
+        Repeated::new("\":\"", "x", 65_000, "\",").push_to(&mut line)?;
     }
     line.push_str("\"last\":\"")?;
     for _ in line.len()..len.saturating_sub(5) {
@@ -206,43 +201,46 @@ fn limits_of_a_schema(rt: HostRuntime) -> Result<(), Fail> {
     let refused = "schema refused 40 not built yet\n";
     let graph = "CREATE GRAPH TYPE g STRICT {(t";
     for (text, want) in [
-        (repeated("CREATE GRAPH TYPE g", "g", 63, " STRICT {};"), ""),
         (
-            repeated("CREATE GRAPH TYPE g", "g", 64, " STRICT {};"),
-            refused,
-        ),
-        (repeated(graph, "t", 63, ")};"), ""),
-        (repeated(graph, "t", 64, ")};"), refused),
-        (
-            repeated("CREATE GRAPH TYPE g STRICT {(t: L", "l", 63, ")};"),
+            Repeated::new("CREATE GRAPH TYPE g", "g", 63, " STRICT {};"),
             "",
         ),
         (
-            repeated("CREATE GRAPH TYPE g STRICT {(t: L", "l", 64, ")};"),
+            Repeated::new("CREATE GRAPH TYPE g", "g", 64, " STRICT {};"),
             refused,
         ),
+        (Repeated::new(graph, "t", 63, ")};"), ""),
+        (Repeated::new(graph, "t", 64, ")};"), refused),
         (
-            repeated("CREATE GRAPH TYPE g STRICT {(t {k", "k", 63, " INT})};"),
+            Repeated::new("CREATE GRAPH TYPE g STRICT {(t: L", "l", 63, ")};"),
             "",
         ),
         (
-            repeated("CREATE GRAPH TYPE g STRICT {(t {k", "k", 64, " INT})};"),
+            Repeated::new("CREATE GRAPH TYPE g STRICT {(t: L", "l", 64, ")};"),
             refused,
         ),
         (
-            repeated("CREATE GRAPH TYPE g STRICT {};", " ", 1_048_546, ""),
+            Repeated::new("CREATE GRAPH TYPE g STRICT {(t {k", "k", 63, " INT})};"),
             "",
         ),
         (
-            repeated("CREATE GRAPH TYPE g STRICT {};", " ", 1_048_547, ""),
+            Repeated::new("CREATE GRAPH TYPE g STRICT {(t {k", "k", 64, " INT})};"),
             refused,
         ),
         (
-            repeated("CREATE GRAPH TYPE g STRICT {(t: STRIC", "T", 0, ")};"),
+            Repeated::new("CREATE GRAPH TYPE g STRICT {};", " ", 1_048_546, ""),
             "",
         ),
         (
-            repeated("CREATE GRAPH TYPE g STRICT {(t: STRIC", "T", 1, ")};"),
+            Repeated::new("CREATE GRAPH TYPE g STRICT {};", " ", 1_048_547, ""),
+            refused,
+        ),
+        (
+            Repeated::new("CREATE GRAPH TYPE g STRICT {(t: STRIC", "T", 0, ")};"),
+            "",
+        ),
+        (
+            Repeated::new("CREATE GRAPH TYPE g STRICT {(t: STRIC", "T", 1, ")};"),
             refused,
         ),
     ] {

@@ -27,3 +27,15 @@ returns-clause-too_late c = samples.causes_too_late
 
 pub returns-clause-linked : goal.returns-clause-linked
 returns-clause-linked c = samples.causes_linked
+
+pub returns-clause-of_nine_edges : goal.returns-clause-of_nine_edges
+returns-clause-of_nine_edges c = samples.causes_of_nine_edges
+
+pub returns-clause-of_eight_edges : goal.returns-clause-of_eight_edges
+returns-clause-of_eight_edges c = samples.causes_of_eight_edges
+
+pub returns-clause-of_17_expressions : goal.returns-clause-of_17_expressions
+returns-clause-of_17_expressions c = samples.causes_of_17_expressions
+
+pub returns-clause-of_16_expressions : goal.returns-clause-of_16_expressions
+returns-clause-of_16_expressions c = samples.causes_of_16_expressions
