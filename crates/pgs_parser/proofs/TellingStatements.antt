@@ -142,7 +142,7 @@ graph_both x y before a b h k =
     let o = skip i.1.1 i.1.2 in
     let e = split members_tell (x.members, x.keys) (y.members, y.keys) (λ m r. (r.0, r.1)) (λ m r. (r.0, r.1)) o.1 o.2 in
     let c = skip e.1.1 e.1.2 in
-    (graph_numbers x y n.0 d.0 i.0 e.0.0 e.0.1, one_place c.1 c.2)
+    (graph_numbers x y n.0 d.0 i.0 e.0.0 e.0.1, one_place {before = c.0} c.1 c.2)
 
 -- ---- statements
 
