@@ -1,5 +1,5 @@
 -- Trees that are the same but for the numbers of their declarations: lists of such trees, and the numbers that go up from 1.
-use Rattle.std.proofs.Common.{◌≡◌, ℕ, suc, ◌+◌, ◌==◌, Bool, true, false, ◌&&◌, List, [], ◌∷◌, ◌++◌, length, map, flat_map, refl, sym, ap, ap₂, ◌∙◌, arith, length-append}
+use Rattle.std.proofs.Common.{◌≡◌, ℕ, suc, ◌+◌, ◌==◌, true, List, [], ◌∷◌, ◌++◌, length, map, flat_map, refl, sym, ap, ap₂, ◌∙◌, arith, length-append}
 use Rattle.std.proofs.lemmas.Bool.{and_parts, eqb-true}
 use Rattle.pgs_syntax.specs.declared.raw.RawKey.{RawKey}
 use Rattle.pgs_parser.specs.Statements.{count_from}
@@ -22,9 +22,10 @@ same_parts (x ∷ xs) back (y ∷ ys) behind l e =
 -- two trees beside two others
 pub both_same : {A B : Type 0} (f : A → List ℕ) (g : B → List ℕ) (x y : A) (z w : B) → SameBut f x y → SameBut g z w →
     (length (f x ++ g z) ≡ length (f y ++ g w)) × (f x ++ g z ≡ f y ++ g w → (x ≡ y) × (z ≡ w))
-both_same f g x y z w s t =
-    (length-append (f x) (g z) ∙ ap₂ ◌+◌ s.0 t.0 ∙ sym (length-append (f y) (g w)),
-      λ e. let parts = same_parts (f x) (g z) (f y) (g w) s.0 e in (s.1 parts.0, t.1 parts.1))
+both_same f g x y z w s t = (
+  length-append (f x) (g z) ∙ ap₂ ◌+◌ s.0 t.0 ∙ sym (length-append (f y) (g w)),
+  λ e. let parts = same_parts (f x) (g z) (f y) (g w) s.0 e in (s.1 parts.0, t.1 parts.1),
+)
 
 pub many_same : {A : Type 0} (places : A → List ℕ) (xs ys : List A) → Pairwise (SameBut places) xs ys → SameBut (flat_map places) xs ys
 many_same places [] [] s = (refl, λ e. refl)
@@ -39,11 +40,13 @@ keys_same [] [] s = (refl, λ e. refl)
 keys_same [] (y ∷ ys) s = absurd s
 keys_same (x ∷ xs) [] s = absurd s
 keys_same (x ∷ xs) (y ∷ ys) s =
-    let t = keys_same xs ys s.1 in
-    (ap suc t.0, λ e.
-    let first : x.place ≡ y.place = cc e in
-    let rest : map (λ (k : RawKey). k.place) xs ≡ map (λ (k : RawKey). k.place) ys = cc e in
-    ap₂ ◌∷◌ (s.0 first) (t.1 rest))
+    let t = keys_same xs ys s.1 in (
+      ap suc t.0,
+      λ e.
+          let first : x.place ≡ y.place = cc e in
+          let rest : map (λ (k : RawKey). k.place) xs ≡ map (λ (k : RawKey). k.place) ys = cc e in
+          ap₂ ◌∷◌ (s.0 first) (t.1 rest),
+    )
 
 -- lists of one length that count from one number are one list
 pub one_count : (n : ℕ) (xs ys : List ℕ) → count_from n xs ≡ true → count_from n ys ≡ true → length xs ≡ length ys → xs ≡ ys

@@ -5,7 +5,7 @@ use Rattle.pgs_syntax.specs.declared.script.Script.{Script}
 use Rattle.pgs_syntax.specs.declared.script.Statement.{Statement}
 use Rattle.pgs_parser.specs.Statements.{AreStatements, IsNoStatement, IsScript, IsNoScriptFrom}
 use Rattle.pgs_parser.proofs.OneScript.{one_script}
-use Rattle.pgs_parser.specs.Text.{Found, too_long, no_item, no_statement, script, IsFound, is_too_long, has_no_item, has_no_statement, is_script}
+use Rattle.pgs_parser.specs.Text.{Found, no_item, no_statement, script, IsFound, is_too_long, has_no_item, has_no_statement, is_script}
 
 -- pieces one of which is no statement are not all statements
 not_all : (trees : List Statement) (front : List (List Lexeme)) (piece : List Lexeme) (back : List (List Lexeme)) →

@@ -43,10 +43,12 @@ next_spelled : (test : Test) (kind : TokenKind) (text : String) {tokens rest : L
 next_spelled test kind text (here asked) = ap₂ test asked.0 asked.1
 
 -- a test at a sign, and at a keyword
-pub next_sign : (test : Test) (text : String) {tokens rest : List Lexeme} → sign text tokens rest → next test tokens ≡ test Sign (codes text)
+pub next_sign : (test : Test) (text : String) {tokens rest : List Lexeme} → sign text tokens rest →
+    next test tokens ≡ test Sign (codes text)
 next_sign test text h = next_spelled test Sign text h
 
-pub next_keyword : (test : Test) (text : String) {tokens rest : List Lexeme} → keyword text tokens rest → next test tokens ≡ test Keyword (codes text)
+pub next_keyword : (test : Test) (text : String) {tokens rest : List Lexeme} → keyword text tokens rest →
+    next test tokens ≡ test Keyword (codes text)
 next_keyword test text h = next_spelled test Keyword text h
 
 -- a token's test tells what it tells at the token's kind
@@ -60,7 +62,8 @@ pub next_name : (test : Test) (value : Bool) {wanted : List ℕ} {tokens rest : 
 next_name test value tells h = next_kind test value tells (λ token asked. asked.0) h
 
 -- what holds of each of the words holds of bytes that are one of them
-among : (P : List ℕ → Type 0) (holds : String → Bool) → ((text : String) → holds text ≡ true → P (codes text)) → (texts : List String) (bytes : List ℕ) →
+among : (P : List ℕ → Type 0) (holds : String → Bool) → ((text : String) → holds text ≡ true → P (codes text)) →
+    (texts : List String) (bytes : List ℕ) →
     list_all holds texts ≡ true → list_any (λ text. bytes_eq bytes (codes text)) texts ≡ true → P bytes
 among P holds gives [] bytes all e = cc
 among P holds gives (t ∷ ts) bytes all e =
@@ -81,7 +84,8 @@ gives_sign : (test : Test) (value : Bool) (text : String) → tells test value t
 gives_sign test true text e = (and_parts (test Keyword (codes text)) (test Sign (codes text)) e).1
 gives_sign test false text e = (or_parts (test Keyword (codes text)) (test Sign (codes text)) (not-true _ e)).1
 
-word_at : (test : Test) (value : Bool) (texts : List String) (kind : TokenKind) (bytes : List ℕ) → list_all (tells test value) texts ≡ true →
+word_at : (test : Test) (value : Bool) (texts : List String) (kind : TokenKind) (bytes : List ℕ) →
+    list_all (tells test value) texts ≡ true →
     word texts kind bytes ≡ true → test kind bytes ≡ value
 word_at test value texts Name bytes all e = cc
 word_at test value texts Keyword bytes all e = among (λ b. test Keyword b ≡ value) (tells test value) (gives_keyword test value) texts bytes all e
@@ -95,7 +99,8 @@ pub next_word : (test : Test) (value : Bool) (texts : List String) (tokens : Lis
 next_word test value texts [] all e = cc
 next_word test value texts (token ∷ rest) all e = word_at test value texts token.kind token.bytes all e
 
-fewer_at : (text : String) (texts : List String) (kind : TokenKind) (bytes : List ℕ) → word (text ∷ texts) kind bytes ≡ false → word texts kind bytes ≡ false
+fewer_at : (text : String) (texts : List String) (kind : TokenKind) (bytes : List ℕ) → word (text ∷ texts) kind bytes ≡ false →
+    word texts kind bytes ≡ false
 fewer_at text texts Name bytes e = refl
 fewer_at text texts Keyword bytes e = (or_parts (bytes_eq bytes (codes text)) (list_any (λ t. bytes_eq bytes (codes t)) texts) e).1
 fewer_at text texts Number bytes e = refl
@@ -103,7 +108,8 @@ fewer_at text texts Text bytes e = refl
 fewer_at text texts Sign bytes e = (or_parts (bytes_eq bytes (codes text)) (list_any (λ t. bytes_eq bytes (codes t)) texts) e).1
 
 -- a token that is none of the words is none of those after the first
-pub fewer : (text : String) (texts : List String) (tokens : List Lexeme) → next (word (text ∷ texts)) tokens ≡ false → next (word texts) tokens ≡ false
+pub fewer : (text : String) (texts : List String) (tokens : List Lexeme) → next (word (text ∷ texts)) tokens ≡ false →
+    next (word texts) tokens ≡ false
 fewer text texts [] e = refl
 fewer text texts (token ∷ rest) e = fewer_at text texts token.kind token.bytes e
 
@@ -112,7 +118,8 @@ pub clash : {A : Type 0} {answer : Bool} → answer ≡ true → answer ≡ fals
 clash p q = cc
 
 -- two words that are spelled apart are not one token
-pub apart : {A : Type 0} (kind sort : TokenKind) (text other : String) {tokens a b : List Lexeme} → bytes_eq (codes text) (codes other) ≡ false →
+pub apart : {A : Type 0} (kind sort : TokenKind) (text other : String) {tokens a b : List Lexeme} →
+    bytes_eq (codes text) (codes other) ≡ false →
     IsToken (IsSpelled kind text) tokens a → IsToken (IsSpelled sort other) tokens b → A
 apart kind sort text other e h k =
     let test : Test = λ kind bytes. bytes_eq bytes (codes other) in

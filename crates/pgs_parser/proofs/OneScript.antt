@@ -1,5 +1,5 @@
 -- Tokens are at most one script.
-use Rattle.std.proofs.Common.{◌≡◌, ℕ, List, [], ◌∷◌, length, flat_map, ap}
+use Rattle.std.proofs.Common.{◌≡◌, List, [], ◌∷◌, flat_map, ap}
 use Rattle.pgs_lexer.specs.Token.{Lexeme}
 use Rattle.pgs_syntax.specs.declared.script.Script.{Script}
 use Rattle.pgs_syntax.specs.declared.script.Statement.{Statement}

@@ -1,9 +1,9 @@
 -- Which productions tell their trees: the same tokens, before ends of some kind, are read as one tree up to one place.
 use Prim.Native.String.{String}
-use Rattle.std.proofs.Common.{◌≡◌, ℕ, Bool, true, false, List, [], ◌∷◌, Option, Some, None, refl, sym, ap, ap₂, ◌∙◌, subst, codes}
+use Rattle.std.proofs.Common.{◌≡◌, Bool, true, false, List, [], ◌∷◌, Option, Some, None, refl, sym, ap, ◌∙◌, subst, codes}
 use Rattle.pgs_lexer.specs.Token.{Lexeme}
 use Rattle.pgs_lexer.specs.declared.kind.TokenKind.TheVariants as tokens
-use Rattle.pgs_parser.specs.Production.{Production, ◌▸◌, nothing, IsToken, here, IsSpelled, keyword, keyword_if, maybe, each, listed}
+use Rattle.pgs_parser.specs.Production.{Production, ◌▸◌, IsToken, here, keyword_if, maybe}
 use Rattle.pgs_parser.specs.Literal.{name}
 use Rattle.pgs_parser.proofs.NextToken.{Test, next, word, next_keyword, clash}
 
@@ -34,7 +34,8 @@ split t x y {Second = Second} ends stops (m, i, r) (n, j, s) =
 
 -- what each of two chains reads after a first token
 pub skip : {Asked Wanted : Lexeme → Type 0} {First Second : List Lexeme → Type 0} {before : List Lexeme} →
-    (between : List Lexeme) × IsToken Asked before between × First between → (between : List Lexeme) × IsToken Wanted before between × Second between →
+    (between : List Lexeme) × IsToken Asked before between × First between →
+    (between : List Lexeme) × IsToken Wanted before between × Second between →
     (between : List Lexeme) × First between × Second between
 skip (m, here p, r) (n, here q, s) = (m, r, s)
 
@@ -101,12 +102,14 @@ keyword_if_tells text e = record { both = two }
 
 -- a test of what begins an item and of what follows it, at an item that may be left out
 pub maybe_begins : {A : Type 0} (test : Test) (value : Bool) {item : A → Production} →
-    ((x : A) (a b : List Lexeme) → item x a b → next test a ≡ value) → (there : Option A) (before after : List Lexeme) → maybe item there before after →
+    ((x : A) (a b : List Lexeme) → item x a b → next test a ≡ value) → (there : Option A) (before after : List Lexeme) →
+    maybe item there before after →
     next test after ≡ value → next test before ≡ value
 maybe_begins test value begins None before after h e = ap (next test) h ∙ e
 maybe_begins test value begins (Some x) before after h e = begins x before after h
 
-pub keyword_if_begins : (test : Test) (value : Bool) (text : String) → test tokens.Keyword (codes text) ≡ value → (there : Bool) (before after : List Lexeme) →
+pub keyword_if_begins : (test : Test) (value : Bool) (text : String) → test tokens.Keyword (codes text) ≡ value →
+    (there : Bool) (before after : List Lexeme) →
     keyword_if there text before after → next test after ≡ value → next test before ≡ value
 keyword_if_begins test value text begins false before after h e = ap (next test) h ∙ e
 keyword_if_begins test value text begins true before after h e = next_keyword test text h ∙ begins

@@ -1,20 +1,20 @@
 -- Keys tell their trees.
-use Rattle.std.proofs.Common.{◌≡◌, ℕ, Bool, true, false, ◌&&◌, List, [], ◌∷◌, Option, Some, None, inl, inr, refl, sym, ap, ap₂, ◌∙◌, subst, codes, bytes_eq}
+use Rattle.std.proofs.Common.{◌≡◌, ℕ, Bool, true, false, List, [], ◌∷◌, Option, Some, None, inl, inr, refl, sym, ap, ap₂, ◌∙◌, subst, codes}
 use Rattle.std.specs.List.{list_all}
 use Rattle.std.proofs.lemmas.Bool.{and_parts}
 use Rattle.pgs_lexer.specs.Token.{Lexeme}
-use Rattle.pgs_lexer.specs.declared.kind.TokenKind.TheVariants.{Name, Keyword, Sign}
+use Rattle.pgs_lexer.specs.declared.kind.TokenKind.TheVariants.{Keyword, Sign}
 use Rattle.pgs_syntax.specs.declared.key.Qualifiers.{Qualifiers}
 use Rattle.pgs_syntax.specs.declared.raw.RawExpr.{RawExpr}
 use Rattle.pgs_syntax.specs.declared.raw.RawKey.{RawKey}
 use Rattle.pgs_syntax.specs.declared.raw.RawPath.{RawPath}
 use Rattle.pgs_syntax.specs.Fitting.{has_label, same_name}
 use Rattle.pgs_syntax.specs.Valid.{are_distinct}
-use Rattle.pgs_parser.specs.Production.{Production, ◌▸◌, ◌or◌, nothing, IsToken, here, sign, keyword, maybe, listed}
+use Rattle.pgs_parser.specs.Production.{Production, ◌▸◌, ◌or◌, nothing, here, sign, keyword, maybe, listed}
 use Rattle.pgs_parser.specs.Literal.{name}
 use Rattle.pgs_parser.specs.Keys.{paths, path, qualifier_words, are_qualifiers, asked_by, qualifier, qualifiers, expr, key}
 use Rattle.pgs_parser.proofs.NextToken.{Test, next, word, a_name, a_sign, next_sign, next_keyword, next_name, next_kind, clash, apart}
-use Rattle.pgs_parser.proofs.Telling.{Tells, Anything, Passes, Fails, split, skip, one_place, token_tells, name_tells, after_token, before_ends, maybe_tells, maybe_begins}
+use Rattle.pgs_parser.proofs.Telling.{Tells, Anything, Passes, Fails, split, skip, one_place, token_tells, name_tells, after_token, before_ends, maybe_tells}
 use Rattle.pgs_parser.proofs.TellingLists.{Pairwise, Stops, separated, listed_tells, equal_lists}
 use Rattle.pgs_parser.proofs.TellingPaths.{step_signs, PathsEnd, paths_tell}
 
@@ -64,7 +64,8 @@ no_identifier (w ∷ ws) before a b e h k =
     let first = and_parts (has_label w qualifier_words) (list_all (λ word. has_label word qualifier_words) ws) all.0 in
     clash (is_three k.1 ∙ first.0) (next_keyword three "IDENTIFIER" h)
 
-qualifiers_both : (x y : Qualifiers) (before a b : List Lexeme) → qualifiers x before a → qualifiers y before b → Passes a_name a → Passes a_name b →
+qualifiers_both : (x y : Qualifiers) (before a b : List Lexeme) → qualifiers x before a → qualifiers y before b → Passes a_name a →
+    Passes a_name b →
     (x ≡ y) × (a ≡ b)
 qualifiers_both x y before a b (inl h) (inl k) f g = (h.0 ∙ sym k.0, one_place h.1 k.1)
 qualifiers_both x y before a b (inl h) (inr k) f g = absurd (no_identifier k.0 before a b k.1 h.1 k.3)
@@ -75,12 +76,14 @@ qualifiers_both x y before a b (inr h) (inr k) f g =
 qualifiers_tell : Tells ◌≡◌ (Passes a_name) qualifiers
 qualifiers_tell = record { both = qualifiers_both }
 
-words_begin : (test : Test) (value : Bool) → ((bytes : List ℕ) → test Keyword bytes ≡ value) → (words : List (List ℕ)) (before after : List Lexeme) →
+words_begin : (test : Test) (value : Bool) → ((bytes : List ℕ) → test Keyword bytes ≡ value) →
+    (words : List (List ℕ)) (before after : List Lexeme) →
     listed (sign "," or nothing) qualifier words before after → next test before ≡ value
 words_begin test value e [] before after h = absurd h
 words_begin test value e (w ∷ ws) before after h = next_kind test value e (λ token asked. asked.0) h.1
 
-qualifiers_begin : (test : Test) (value : Bool) → ((bytes : List ℕ) → test Keyword bytes ≡ value) → (x : Qualifiers) (before after : List Lexeme) →
+qualifiers_begin : (test : Test) (value : Bool) → ((bytes : List ℕ) → test Keyword bytes ≡ value) →
+    (x : Qualifiers) (before after : List Lexeme) →
     qualifiers x before after → next test before ≡ value
 qualifiers_begin test value e x before after (inl h) = next_keyword test "IDENTIFIER" h.1 ∙ e (codes "IDENTIFIER")
 qualifiers_begin test value e x before after (inr h) = words_begin test value e h.0 before after h.3
@@ -94,12 +97,14 @@ abbrev dot : Test
 dot = word ("." ∷ [])
 
 expr_tells : Tells ◌≡◌ (Fails dot) expr
-expr_tells = record { both = λ x y before a b h k f g.
-    let rest : Tells ◌≡◌ (Fails dot) (maybe (λ key. sign "." ▸ name key)) =
-    maybe_tells (before_ends (λ a f. tt) (after_token name_tells)) (λ x a b f h. clash (next_sign dot "." h.1) f) in
-    let s = split name_tells x.var y.var (λ m r. tt) (λ m r. tt) h k in
-    let t = rest.both x.key y.key s.1.0 a b s.1.1 s.1.2 f g in
-    (same_expr x y s.0 t.0, t.1) }
+expr_tells = record {
+  both = λ x y before a b h k f g.
+      let rest : Tells ◌≡◌ (Fails dot) (maybe (λ key. sign "." ▸ name key)) =
+      maybe_tells (before_ends (λ a f. tt) (after_token name_tells)) (λ x a b f h. clash (next_sign dot "." h.1) f) in
+      let s = split name_tells x.var y.var (λ m r. tt) (λ m r. tt) h k in
+      let t = rest.both x.key y.key s.1.0 a b s.1.1 s.1.2 f g in
+      (same_expr x y s.0 t.0, t.1);
+}
 
 -- where no dot and no further expression follows
 record ExprsEnd (after : List Lexeme) : Type 0 where
@@ -120,7 +125,8 @@ pub data MemberEnd : List Lexeme → Type 0 where
   last : {before after : List Lexeme} → sign "}" before after → MemberEnd before
   key_next : {before after : List Lexeme} → (sign "," ▸ keyword "FOR") before after → MemberEnd before
 
-member_end : (test : Test) (value : Bool) → test Sign (codes "}") ≡ value → test Sign (codes ",") ≡ value → {after : List Lexeme} → MemberEnd after →
+member_end : (test : Test) (value : Bool) →
+    test Sign (codes "}") ≡ value → test Sign (codes ",") ≡ value → {after : List Lexeme} → MemberEnd after →
     next test after ≡ value
 member_end test value e f (last h) = next_sign test "}" h ∙ e
 member_end test value e f (key_next h) = next_sign test "," h.1 ∙ f
@@ -166,13 +172,15 @@ same_key x y d e f g p =
     ∙ ap₂ {C = RawKey} (λ exprs within. record y { exprs = exprs; within = within }) f g
 
 key_tells : Tells SameKey MemberEnd key
-key_tells = record { both = λ x y before a b h k f g.
-    let s = skip h k in
-    let t = split paths_tell x.scope y.scope (λ m r. scope_end x.qualifiers m r.0 r.1) (λ m r. scope_end y.qualifiers m r.0 r.1) s.1 s.2 in
-    let u = split qualifiers_tell x.qualifiers y.qualifiers (λ m r. exprs_begin x.exprs m r.0 r.1) (λ m r. exprs_begin y.exprs m r.0 r.1) t.1.1 t.1.2 in
-    let v = split exprs_tell x.exprs y.exprs (λ m r. exprs_end x.within m a r f) (λ m r. exprs_end y.within m b r g) u.1.1 u.1.2 in
-    let w = within_tells.both x.within y.within v.1.0 a b v.1.1 v.1.2 f g in
-    (same_key x y t.0 u.0 v.0 w.0, w.1) }
+key_tells = record {
+  both = λ x y before a b h k f g.
+      let s = skip h k in
+      let t = split paths_tell x.scope y.scope (λ m r. scope_end x.qualifiers m r.0 r.1) (λ m r. scope_end y.qualifiers m r.0 r.1) s.1 s.2 in
+      let u = split qualifiers_tell x.qualifiers y.qualifiers (λ m r. exprs_begin x.exprs m r.0 r.1) (λ m r. exprs_begin y.exprs m r.0 r.1) t.1.1 t.1.2 in
+      let v = split exprs_tell x.exprs y.exprs (λ m r. exprs_end x.within m a r f) (λ m r. exprs_end y.within m b r g) u.1.1 u.1.2 in
+      let w = within_tells.both x.within y.within v.1.0 a b v.1.1 v.1.2 f g in
+      (same_key x y t.0 u.0 v.0 w.0, w.1);
+}
 
 -- } comes next
 abbrev pub Closed : List Lexeme → Type 0

@@ -1,9 +1,9 @@
 -- Labels tell their trees.
 use Prim.Native.String.{String}
-use Rattle.std.proofs.Common.{◌≡◌, ℕ, zero, suc, true, false, List, [], ◌∷◌, refl, sym, ap, ◌∙◌}
+use Rattle.std.proofs.Common.{◌≡◌, ℕ, zero, suc, true, List, [], ◌∷◌, refl, sym, ap, ◌∙◌}
 use Rattle.pgs_lexer.specs.Token.{Lexeme}
 use Rattle.pgs_syntax.specs.declared.specification.Spec.{Empty, Word, And, Or, Opt}
-use Rattle.pgs_parser.specs.Production.{Production, ◌▸◌, never, sign, listed}
+use Rattle.pgs_parser.specs.Production.{Production, never, sign, listed}
 use Rattle.pgs_parser.specs.Types.{Written, IsAtom, named, parenthesised, IsUnit, plain, optional, IsConj, one_unit, units, IsLabels, one_conj, conjs, labels_within, labels}
 use Rattle.pgs_parser.proofs.NextToken.{next, word, a_name, next_sign, next_name, fewer, clash}
 use Rattle.pgs_parser.proofs.Telling.{Tells, Anything, Fails, split, skip, one_place, name_tells}
@@ -60,10 +60,12 @@ module _ (inner : Written → Production) (tells : Tells ◌≡◌ (Fails (word 
   as_units x before after (units first second more h) = (first ∷ second ∷ more, refl, h)
 
   conj_tells : Tells ◌≡◌ (Fails (word after_conj)) (IsConj inner)
-  conj_tells = record { both = λ x y before a b h k f g.
-      let l = as_units x before a h in let m = as_units y before b k in
-      let s = units_tell.both l.0 m.0 before a b l.2 m.2 f g in
-      (l.1 ∙ ap (several And) s.0 ∙ sym m.1, s.1) }
+  conj_tells = record {
+    both = λ x y before a b h k f g.
+        let l = as_units x before a h in let m = as_units y before b k in
+        let s = units_tell.both l.0 m.0 before a b l.2 m.2 f g in
+        (l.1 ∙ ap (several And) s.0 ∙ sym m.1, s.1);
+  }
 
   conjs_tell : Tells ◌≡◌ (Fails (word after_labels)) (listed (sign "|") (IsConj inner))
   conjs_tell = equal_lists (separated conj_tells (λ a f. fewer "|" after_conj a f) (λ a b h. next_sign (word after_conj) "|" h)
@@ -75,10 +77,12 @@ module _ (inner : Written → Production) (tells : Tells ◌≡◌ (Fails (word 
   as_conjs x before after (conjs first second more h) = (first ∷ second ∷ more, refl, h)
 
   level_tells : Tells ◌≡◌ (Fails (word after_labels)) (IsLabels inner)
-  level_tells = record { both = λ x y before a b h k f g.
-      let l = as_conjs x before a h in let m = as_conjs y before b k in
-      let s = conjs_tell.both l.0 m.0 before a b l.2 m.2 f g in
-      (l.1 ∙ ap (several Or) s.0 ∙ sym m.1, s.1) }
+  level_tells = record {
+    both = λ x y before a b h k f g.
+        let l = as_conjs x before a h in let m = as_conjs y before b k in
+        let s = conjs_tell.both l.0 m.0 before a b l.2 m.2 f g in
+        (l.1 ∙ ap (several Or) s.0 ∙ sym m.1, s.1);
+  }
 
 -- labels tell their tree where none of their signs follows, however deep they are
 within_tells : (depth : ℕ) → Tells ◌≡◌ (Fails (word after_labels)) (labels_within depth)

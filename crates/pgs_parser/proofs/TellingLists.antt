@@ -39,7 +39,8 @@ module _ {A : Type 0} {Same : A → A → Type 0} {Inner Ends : List Lexeme → 
 
   -- the same, after a first item
   chain_both : {item : A → Production} → Tells Same Inner item → (x y : A) (xs ys : List A) (before a b : List Lexeme) →
-      (item x ▸ each further xs) before a → (item y ▸ each further ys) before b → Ends a → Ends b → Pairwise Same (x ∷ xs) (y ∷ ys) × (a ≡ b)
+      (item x ▸ each further xs) before a → (item y ▸ each further ys) before b → Ends a → Ends b →
+      Pairwise Same (x ∷ xs) (y ∷ ys) × (a ≡ b)
   chain_both first x y xs ys before a b h k f g =
       let s = split first x y (λ m r. each_begins xs m a f r) (λ m r. each_begins ys m b g r) h k in
       let more = each_both xs ys s.1.0 a b s.1.1 s.1.2 f g in
@@ -50,7 +51,8 @@ module _ {A : Type 0} {Same : A → A → Type 0} {Inner Ends : List Lexeme → 
     (first : Tells Same Inner item) (tells : Tells Same Inner (λ x. separator ▸ item x)) (ends : (a : List Lexeme) → Ends a → Inner a)
     (begins : (x : A) (a b : List Lexeme) → (separator ▸ item x) a b → Inner a)
     (none : (x : A) (a b : List Lexeme) → Ends a → (separator ▸ item x) a b → ⊥) where
-  listed_both : (xs ys : List A) (before a b : List Lexeme) → listed separator item xs before a → listed separator item ys before b → Ends a → Ends b →
+  listed_both : (xs ys : List A) (before a b : List Lexeme) → listed separator item xs before a → listed separator item ys before b →
+      Ends a → Ends b →
       Pairwise Same xs ys × (a ≡ b)
   listed_both [] ys before a b h k f g = absurd h
   listed_both (x ∷ xs) [] before a b h k f g = absurd k
@@ -66,7 +68,8 @@ pub separated : {A : Type 0} {Same : A → A → Type 0} {Inner Ends : List Lexe
 separated {IsAsked = IsAsked} {item = item} t ends begins none =
     listed_tells (IsToken IsAsked) item t (after_token t) ends (λ x a b h. begins a h.0 h.1) none
 
-pub equal_lists : {A : Type 0} {Ends : List Lexeme → Type 0} {item : List A → Production} → Tells (Pairwise ◌≡◌) Ends item → Tells ◌≡◌ Ends item
+pub equal_lists : {A : Type 0} {Ends : List Lexeme → Type 0} {item : List A → Production} → Tells (Pairwise ◌≡◌) Ends item →
+    Tells ◌≡◌ Ends item
 equal_lists t = same_by pairwise_equal t
 
 -- no further item begins here

@@ -1,5 +1,5 @@
 -- The elements and keys of a graph type tell their trees, up to the numbers of the declarations.
-use Rattle.std.proofs.Common.{◌≡◌, ℕ, Bool, true, false, List, [], ◌∷◌, length, refl, sym, ap, ap₂, ◌∙◌, codes}
+use Rattle.std.proofs.Common.{◌≡◌, ℕ, Bool, true, false, List, [], ◌∷◌, length, refl, ap, ap₂, ◌∙◌, codes}
 use Rattle.pgs_lexer.specs.Token.{Lexeme}
 use Rattle.pgs_lexer.specs.declared.kind.TokenKind.TheVariants as tokens
 use Rattle.pgs_syntax.specs.declared.element_type.NodeType.{NodeType}
@@ -7,9 +7,8 @@ use Rattle.pgs_syntax.specs.declared.element_type.EdgeType.{EdgeType}
 use Rattle.pgs_syntax.specs.declared.raw.RawKey.{RawKey}
 use Rattle.pgs_syntax.specs.declared.script.Member.{Member}
 use Rattle.pgs_syntax.specs.declared.script.Member.TheVariants.{Named, Node, Edge}
-use Rattle.pgs_parser.specs.Production.{Production, ◌▸◌, IsToken, sign, keyword, keyword_if, listed}
+use Rattle.pgs_parser.specs.Production.{◌▸◌, sign, keyword_if}
 use Rattle.pgs_parser.specs.Literal.{name}
-use Rattle.pgs_parser.specs.Types.{node_type, edge_type}
 use Rattle.pgs_parser.specs.Statements.{element, elements, keys, members_of, place_of_member}
 use Rattle.pgs_parser.proofs.NextToken.{Test, next, word, a_name, next_sign, next_name, clash, apart}
 use Rattle.pgs_parser.proofs.Telling.{Tells, Anything, Passes, Fails, split, skip, name_tells, keyword_if_tells, keyword_if_begins}
@@ -41,7 +40,8 @@ abbrev abstract : Test
 abstract = word ("ABSTRACT" ∷ [])
 
 -- what a test tells of a name, of ABSTRACT and of (, it tells of what begins an element
-element_begins : (test : Test) (value : Bool) → ((bytes : List ℕ) → test tokens.Name bytes ≡ value) → test tokens.Keyword (codes "ABSTRACT") ≡ value →
+element_begins : (test : Test) (value : Bool) → ((bytes : List ℕ) → test tokens.Name bytes ≡ value) →
+    test tokens.Keyword (codes "ABSTRACT") ≡ value →
     test tokens.Sign (codes "(") ≡ value → (x : Member) (before after : List Lexeme) → element x before after → next test before ≡ value
 element_begins test value d e f (Named named) before after h = next_name test value d h
 element_begins test value d e f (Node type) before after h =
@@ -88,14 +88,16 @@ element_tells = record { both = λ x y before a b h k _ _. element_both x y befo
 elements_tell : Tells (Pairwise (SameBut place_of_member)) (Stops (λ x. sign "," ▸ element x)) elements
 elements_tell = free_list _ element_tells
 
-elements_begin : (test : Test) (value : Bool) → ((bytes : List ℕ) → test tokens.Name bytes ≡ value) → test tokens.Keyword (codes "ABSTRACT") ≡ value →
+elements_begin : (test : Test) (value : Bool) → ((bytes : List ℕ) → test tokens.Name bytes ≡ value) →
+    test tokens.Keyword (codes "ABSTRACT") ≡ value →
     test tokens.Sign (codes "(") ≡ value → (xs : List Member) (before after : List Lexeme) → elements xs before after → next test before ≡ value
 elements_begin test value d e f [] before after h = absurd h
 elements_begin test value d e f (x ∷ xs) before after h = element_begins test value d e f x before h.0 h.1
 
 -- ---- elements and keys
 
-as_joined : (xs : List Member) (ks : List RawKey) (before after : List Lexeme) → members_of xs ks before after → Joined elements keys [] [] xs ks before after
+as_joined : (xs : List Member) (ks : List RawKey) (before after : List Lexeme) → members_of xs ks before after →
+    Joined elements keys [] [] xs ks before after
 as_joined [] [] before after h = neither h
 as_joined [] (k ∷ ks) before after h = back_alone h
 as_joined (x ∷ xs) [] before after h = front_alone h
@@ -109,12 +111,14 @@ no_for xs before after h = elements_begin for false (λ bytes. refl) refl refl x
 
 pub members_tell : Tells (λ v w. Pairwise (SameBut place_of_member) v.0 w.0 × Pairwise SameKey v.1 w.1) Closed
     (λ (v : List Member × List RawKey). members_of v.0 v.1)
-members_tell = record { both = λ v w before a b h k f g.
-    let s = joined_both elements_tell keys_tell (λ a f x b h. apart tokens.Sign tokens.Sign "}" "," refl f.1 h.1)
-    (λ y a b h x c k. let t = skip h k in clash (keys_begin y t.0 b t.1) (element_begins for false (λ bytes. refl) refl refl x t.0 c t.2))
-    (λ x a b f h. clash (next_sign (word ("}" ∷ [])) "}" f.1) (elements_begin (word ("}" ∷ [])) false (λ bytes. refl) refl refl x a b h))
-    (λ y a b f h. clash (keys_begin y a b h) (next_sign for "}" f.1))
-    (λ a b f h. apart tokens.Sign tokens.Sign "}" "," refl f.1 h)
-    (λ x y before a b h k. clash (keys_begin y before b k) (no_for x before a h))
-    tt tt v.0 w.0 v.1 w.1 before a b (as_joined v.0 v.1 before a h) (as_joined w.0 w.1 before b k) f g in
-    ((s.0, s.1), s.2) }
+members_tell = record {
+  both = λ v w before a b h k f g.
+      let s = joined_both elements_tell keys_tell (λ a f x b h. apart tokens.Sign tokens.Sign "}" "," refl f.1 h.1)
+      (λ y a b h x c k. let t = skip h k in clash (keys_begin y t.0 b t.1) (element_begins for false (λ bytes. refl) refl refl x t.0 c t.2))
+      (λ x a b f h. clash (next_sign (word ("}" ∷ [])) "}" f.1) (elements_begin (word ("}" ∷ [])) false (λ bytes. refl) refl refl x a b h))
+      (λ y a b f h. clash (keys_begin y a b h) (next_sign for "}" f.1))
+      (λ a b f h. apart tokens.Sign tokens.Sign "}" "," refl f.1 h)
+      (λ x y before a b h k. clash (keys_begin y before b k) (no_for x before a h))
+      tt tt v.0 w.0 v.1 w.1 before a b (as_joined v.0 v.1 before a h) (as_joined w.0 w.1 before b k) f g in
+      ((s.0, s.1), s.2);
+}

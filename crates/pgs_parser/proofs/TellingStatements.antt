@@ -1,6 +1,6 @@
 -- Statements tell their trees, up to the numbers of the declarations.
 use Prim.Native.String.{String}
-use Rattle.std.proofs.Common.{◌≡◌, ℕ, suc, Bool, true, false, cond, List, [], ◌∷◌, ◌++◌, length, map, flat_map, inl, inr, refl, sym, ap, ap₂, ◌∙◌, codes, bytes_eq, if◌then◌else◌}
+use Rattle.std.proofs.Common.{◌≡◌, ℕ, suc, Bool, true, false, cond, List, [], ◌∷◌, ◌++◌, map, flat_map, inl, inr, refl, sym, ap, ap₂, ◌∙◌, codes, bytes_eq, if◌then◌else◌}
 use Rattle.std.proofs.lemmas.Slice.Eq.{bytes_eq-Decides}
 use Rattle.pgs_lexer.specs.Token.{Lexeme}
 use Rattle.pgs_lexer.specs.declared.kind.TokenKind.TheVariants as tokens
@@ -11,7 +11,7 @@ use Rattle.pgs_syntax.specs.declared.script.Statement.{Statement}
 use Rattle.pgs_syntax.specs.declared.script.Statement.TheVariants.{Node, Edge, Graph}
 use Rattle.pgs_parser.specs.Production.{Production, ◌▸◌, IsToken, here, sign, keyword, listed}
 use Rattle.pgs_parser.specs.Literal.{name}
-use Rattle.pgs_parser.specs.Statements.{create, mode, imports, statement, place_of_member, places_in}
+use Rattle.pgs_parser.specs.Statements.{create, members_of, mode, imports, statement, place_of_member, places_in}
 use Rattle.pgs_parser.proofs.NextToken.{Test, next, word, next_sign, next_keyword, clash, apart}
 use Rattle.pgs_parser.proofs.Telling.{Tells, Anything, Fails, split, skip, one_place, weaker, read_tells, name_tells}
 use Rattle.pgs_parser.proofs.TellingLists.{Pairwise, Stops, free_list, equal_lists}
@@ -25,7 +25,8 @@ use Rattle.pgs_parser.proofs.DeclarationNumbers.{both_same, many_same, keys_same
 abbrev abstract : Test
 abstract = word ("ABSTRACT" ∷ [])
 
-create_both : (what : String) → bytes_eq (codes what) (codes "ABSTRACT") ≡ false → (x y : Bool) (before a b : List Lexeme) → create x what before a →
+create_both : (what : String) → bytes_eq (codes what) (codes "ABSTRACT") ≡ false → (x y : Bool) (before a b : List Lexeme) →
+    create x what before a →
     create y what before b → Fails abstract a → Fails abstract b → (x ≡ y) × (a ≡ b)
 create_both what e false false before a b h k f g = let s = skip h k in let t = skip s.1 s.2 in (refl, one_place t.1 t.2)
 create_both what e false true before a b h (inl k) f g = let s = skip h k in apart tokens.Keyword tokens.Keyword what "ABSTRACT" e s.1.1 s.2.1
@@ -43,7 +44,8 @@ create_both what e true true before a b (inr h) (inl k) f g = let s = skip h k i
 create_both what e true true before a b (inr h) (inr k) f g =
     let s = skip h k in let t = skip s.1 s.2 in let u = skip t.1 t.2 in (refl, one_place u.1 u.2)
 
-create_tells : (what : String) → bytes_eq (codes what) (codes "ABSTRACT") ≡ false → Tells ◌≡◌ (Fails abstract) (λ hidden. create hidden what)
+create_tells : (what : String) → bytes_eq (codes what) (codes "ABSTRACT") ≡ false →
+    Tells ◌≡◌ (Fails abstract) (λ hidden. create hidden what)
 create_tells what e = record { both = create_both what e }
 
 -- the word after CREATE, or after CREATE ABSTRACT
@@ -56,7 +58,8 @@ noun (a ∷ b ∷ rest) = if bytes_eq b.bytes (codes "ABSTRACT") then first_byte
 noun _ = []
 
 noun_second : {IsAsked : Lexeme → Type 0} {More : List Lexeme → Type 0} (what : String) → bytes_eq (codes what) (codes "ABSTRACT") ≡ false →
-    {before : List Lexeme} → (m : List Lexeme) × IsToken IsAsked before m × ((n : List Lexeme) × keyword what m n × More n) → noun before ≡ codes what
+    {before : List Lexeme} → (m : List Lexeme) × IsToken IsAsked before m × ((n : List Lexeme) × keyword what m n × More n) →
+    noun before ≡ codes what
 noun_second what e (m, here p, (n, here q, r)) =
     ap (λ bytes. if bytes_eq bytes (codes "ABSTRACT") then first_bytes n else bytes) q.1 ∙ ap (λ test. cond test (first_bytes n) (codes what)) e
 
@@ -66,7 +69,8 @@ noun_third : {IsAsked : Lexeme → Type 0} {More : List Lexeme → Type 0} (what
 noun_third what (m, here p, (n, here {token = t} q, (o, here {token = u} r, s))) =
     ap (λ bytes. if bytes_eq bytes (codes "ABSTRACT") then u.bytes else bytes) q.1 ∙ r.1
 
-create_noun : (what : String) → bytes_eq (codes what) (codes "ABSTRACT") ≡ false → (x : Bool) (before after : List Lexeme) → create x what before after →
+create_noun : (what : String) → bytes_eq (codes what) (codes "ABSTRACT") ≡ false → (x : Bool) (before after : List Lexeme) →
+    create x what before after →
     noun before ≡ codes what
 create_noun what e false before after h = noun_second what e h
 create_noun what e true before after (inl h) = noun_third what h
@@ -90,18 +94,22 @@ other_sort x y before a b e h k =
 
 -- ---- graph types
 
-mode_token : (x : Bool) (before after : List Lexeme) → mode x before after → IsToken (λ token. bytes_eq token.bytes (codes "STRICT") ≡ x) before after
+mode_token : (x : Bool) (before after : List Lexeme) → mode x before after →
+    IsToken (λ token. bytes_eq token.bytes (codes "STRICT") ≡ x) before after
 mode_token true before after h = weaker (λ token asked. ap (λ bytes. bytes_eq bytes (codes "STRICT")) asked.1) h
 mode_token false before after h = weaker (λ token asked. ap (λ bytes. bytes_eq bytes (codes "STRICT")) asked.1) h
 
 mode_tells : Tells ◌≡◌ Anything mode
-mode_tells = record { both = λ x y before a b h k f g.
-    (read_tells (λ token. bytes_eq token.bytes (codes "STRICT"))).both x y before a b (mode_token x before a h) (mode_token y before b k) tt tt }
+mode_tells = record {
+  both = λ x y before a b h k f g.
+      (read_tells (λ token. bytes_eq token.bytes (codes "STRICT"))).both x y before a b (mode_token x before a h) (mode_token y before b k) tt tt;
+}
 
 abbrev importing : Test
 importing = word ("IMPORTS" ∷ "," ∷ [])
 
-imports_both : (xs ys : List (List ℕ)) (before a b : List Lexeme) → imports xs before a → imports ys before b → Fails importing a → Fails importing b →
+imports_both : (xs ys : List (List ℕ)) (before a b : List Lexeme) → imports xs before a → imports ys before b → Fails importing a →
+    Fails importing b →
     (xs ≡ ys) × (a ≡ b)
 imports_both [] [] before a b h k f g = (refl, sym h ∙ k)
 imports_both [] (y ∷ ys) before a b h k f g = clash (next_keyword importing "IMPORTS" k.1) (ap (next importing) h ∙ f)
@@ -125,12 +133,27 @@ graph_numbers : (x y : GraphType) → x.name ≡ y.name → x.strict ≡ y.stric
     Pairwise (SameBut place_of_member) x.members y.members → Pairwise SameKey x.keys y.keys → SameBut places_in (Graph x) (Graph y)
 graph_numbers x y c d e ms ks =
     let s = both_same (flat_map place_of_member) (map (λ (k : RawKey). k.place)) x.members y.members x.keys y.keys
-    (many_same place_of_member x.members y.members ms) (keys_same x.keys y.keys ks) in
-    (ap suc s.0, λ p.
-    let first : x.place ≡ y.place = cc p in
-    let rest : flat_map place_of_member x.members ++ map (λ (k : RawKey). k.place) x.keys ≡ flat_map place_of_member y.members ++ map (λ (k : RawKey). k.place) y.keys = cc p in
-    let t = s.1 rest in
-    ap Graph (same_graph x y c d e first t.0 t.1))
+    (many_same place_of_member x.members y.members ms) (keys_same x.keys y.keys ks) in (
+      ap suc s.0,
+      λ p.
+          let first : x.place ≡ y.place = cc p in
+          let rest : flat_map place_of_member x.members ++ map (λ (k : RawKey). k.place) x.keys ≡ flat_map place_of_member y.members ++ map (λ (k : RawKey). k.place) y.keys = cc p in
+          let t = s.1 rest in
+          ap Graph (same_graph x y c d e first t.0 t.1),
+    )
+
+-- what stands between the braces of a graph type, and its end
+abbrev block : List Member × List RawKey → Production
+block v = sign "{" ▸ members_of v.0 v.1 ▸ sign "}" ▸ sign ";"
+
+block_tells : Tells (λ v w. Pairwise (SameBut place_of_member) v.0 w.0 × Pairwise SameKey v.1 w.1) Anything block
+block_tells = record {
+  both = λ v w before a b h k f g.
+      let s = skip h k in
+      let t = split members_tell v w (λ m r. (r.0, r.1)) (λ m r. (r.0, r.1)) s.1 s.2 in
+      let u = skip t.1.1 t.1.2 in
+      (t.0, one_place u.1 u.2);
+}
 
 graph_both : (x y : GraphType) (before a b : List Lexeme) → statement (Graph x) before a → statement (Graph y) before b →
     SameBut places_in (Graph x) (Graph y) × (a ≡ b)
@@ -139,14 +162,13 @@ graph_both x y before a b h k =
     let n = split name_tells x.name y.name (λ m r. tt) (λ m r. tt) u.1 u.2 in
     let d = split mode_tells x.strict y.strict (λ m r. tt) (λ m r. tt) n.1.1 n.1.2 in
     let i = split imports_tell x.imports y.imports (λ m r. next_sign importing "{" r.1) (λ m r. next_sign importing "{" r.1) d.1.1 d.1.2 in
-    let o = skip i.1.1 i.1.2 in
-    let e = split members_tell (x.members, x.keys) (y.members, y.keys) (λ m r. (r.0, r.1)) (λ m r. (r.0, r.1)) o.1 o.2 in
-    let c = skip e.1.1 e.1.2 in
-    (graph_numbers x y n.0 d.0 i.0 e.0.0 e.0.1, one_place {before = c.0} c.1 c.2)
+    let e = block_tells.both (x.members, x.keys) (y.members, y.keys) i.1.0 a b i.1.1 i.1.2 tt tt in
+    (graph_numbers x y n.0 d.0 i.0 e.0.0 e.0.1, e.1)
 
 -- ---- statements
 
-pub statement_both : (x y : Statement) (before a b : List Lexeme) → statement x before a → statement y before b → SameBut places_in x y × (a ≡ b)
+pub statement_both : (x y : Statement) (before a b : List Lexeme) → statement x before a → statement y before b →
+    SameBut places_in x y × (a ≡ b)
 statement_both (Node x) (Node y) before a b h k =
     let s = split (create_tells "NODE" refl) x.hidden y.hidden (λ m r. node_begins abstract x m r.0 r.1) (λ m r. node_begins abstract y m r.0 r.1) h k in
     let t = split node_tells x y (λ m r. tt) (λ m r. tt) s.1.1 s.1.2 in

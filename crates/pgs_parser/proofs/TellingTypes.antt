@@ -1,6 +1,6 @@
 -- Node types and edge types tell their trees.
 use Prim.Native.String.{String}
-use Rattle.std.proofs.Common.{◌≡◌, ℕ, Bool, true, false, List, [], ◌∷◌, Option, Some, None, refl, sym, ap, ap₂, ◌∙◌, subst, codes, bytes_eq, if◌then◌else◌, inl, inr}
+use Rattle.std.proofs.Common.{◌≡◌, ℕ, Bool, true, false, List, [], ◌∷◌, Option, refl, sym, ap, ap₂, ◌∙◌, subst, codes, bytes_eq, if◌then◌else◌, inl, inr}
 use Rattle.std.specs.List.{list_all}
 use Rattle.pgs_base.specs.declared.value.Kind.{Kind}
 use Rattle.pgs_base.specs.declared.value.Kind.TheVariants as kinds
@@ -15,7 +15,7 @@ use Rattle.pgs_parser.specs.Literal.{name}
 use Rattle.pgs_parser.specs.Types.{Written, labels, kind, property, properties, braces, parts, together, body, node_type, end_of, middle_of, edge_type}
 use Rattle.pgs_parser.proofs.NextToken.{Test, next, word, tells, a_name, next_sign, next_keyword, next_name, next_word, fewer, clash, apart}
 use Rattle.pgs_parser.proofs.Telling.{Tells, Anything, Passes, Fails, split, skip, one_place, weaker, read_tells, name_tells, after_token, before_ends, maybe_tells, keyword_if_tells, maybe_begins, keyword_if_begins}
-use Rattle.pgs_parser.proofs.TellingLists.{Stops, free_list, equal_lists, Joined, neither, back_alone, front_alone, front_and_back, joined_both}
+use Rattle.pgs_parser.proofs.TellingLists.{free_list, equal_lists, Joined, neither, back_alone, front_alone, front_and_back, joined_both}
 use Rattle.pgs_parser.proofs.TellingLabels.{after_labels, labels_tell}
 
 -- ---- properties and braces
@@ -33,8 +33,10 @@ kind_token kinds.Bool before after h = weaker (λ token asked. ap kind_of asked.
 kind_token kinds.Date before after h = weaker (λ token asked. ap kind_of asked.1) h
 
 kind_tells : Tells ◌≡◌ Anything kind
-kind_tells = record { both = λ x y before a b h k f g.
-    (read_tells (λ token. kind_of token.bytes)).both x y before a b (kind_token x before a h) (kind_token y before b k) tt tt }
+kind_tells = record {
+  both = λ x y before a b h k f g.
+      (read_tells (λ token. kind_of token.bytes)).both x y before a b (kind_token x before a h) (kind_token y before b k) tt tt;
+}
 
 same_property : (x y : Property) → x.key ≡ y.key → x.kind ≡ y.kind → x.optional ≡ y.optional → x ≡ y
 same_property x y e f g =
@@ -43,12 +45,14 @@ same_property x y e f g =
     ∙ ap (λ optional. record { key = y.key; kind = y.kind; optional = optional }) g
 
 property_tells : Tells ◌≡◌ Anything property
-property_tells = record { both = λ x y before a b h k f g.
-    let fails = λ (wanted : List ℕ) (m : List Lexeme) (n : List Lexeme) (r : name wanted m n). next_name (word ("OPTIONAL" ∷ [])) false (λ bytes. refl) r in
-    let s = split (keyword_if_tells "OPTIONAL" refl) x.optional y.optional (λ m r. fails x.key m r.0 r.1) (λ m r. fails y.key m r.0 r.1) h k in
-    let t = split name_tells x.key y.key (λ m r. tt) (λ m r. tt) s.1.1 s.1.2 in
-    let u = kind_tells.both x.kind y.kind t.1.0 a b t.1.1 t.1.2 tt tt in
-    (same_property x y t.0 u.0 s.0, u.1) }
+property_tells = record {
+  both = λ x y before a b h k f g.
+      let fails = λ (wanted : List ℕ) (m : List Lexeme) (n : List Lexeme) (r : name wanted m n). next_name (word ("OPTIONAL" ∷ [])) false (λ bytes. refl) r in
+      let s = split (keyword_if_tells "OPTIONAL" refl) x.optional y.optional (λ m r. fails x.key m r.0 r.1) (λ m r. fails y.key m r.0 r.1) h k in
+      let t = split name_tells x.key y.key (λ m r. tt) (λ m r. tt) s.1.1 s.1.2 in
+      let u = kind_tells.both x.kind y.kind t.1.0 a b t.1.1 t.1.2 tt tt in
+      (same_property x y t.0 u.0 s.0, u.1);
+}
 
 -- a property begins with OPTIONAL or a name
 property_begins : (test : Test) (value : Bool) → test Keyword (codes "OPTIONAL") ≡ value → ((bytes : List ℕ) → test Name bytes ≡ value) →
@@ -63,7 +67,8 @@ is_open true = keyword "OPEN"
 open_tells : Tells ◌≡◌ (Passes (word ("}" ∷ []))) is_open
 open_tells = record { both = two }
   where
-    two : (x y : Bool) (before a b : List Lexeme) → is_open x before a → is_open y before b → Passes (word ("}" ∷ [])) a → Passes (word ("}" ∷ [])) b → (x ≡ y) × (a ≡ b)
+    two : (x y : Bool) (before a b : List Lexeme) → is_open x before a → is_open y before b →
+        Passes (word ("}" ∷ [])) a → Passes (word ("}" ∷ [])) b → (x ≡ y) × (a ≡ b)
     two false y before a b h k f g = absurd h
     two true false before a b h k f g = absurd k
     two true true before a b h k f g = (refl, one_place h k)
@@ -84,7 +89,8 @@ front_begins : (test : Test) (value : Bool) → test Keyword (codes "OPTIONAL") 
 front_begins test value e f [] a b h = absurd h
 front_begins test value e f (x ∷ xs) a b h = property_begins test value e f x a h.0 h.1
 
-properties_both : (xs ys : List Property) (more any : Bool) (before a b : List Lexeme) → properties xs more before a → properties ys any before b →
+properties_both : (xs ys : List Property) (more any : Bool) (before a b : List Lexeme) → properties xs more before a →
+    properties ys any before b →
     Passes (word ("}" ∷ [])) a → Passes (word ("}" ∷ [])) b → (xs ≡ ys) × (more ≡ any) × (a ≡ b)
 properties_both xs ys more any before a b h k f g =
     joined_both (equal_lists (free_list _ property_tells)) open_tells
@@ -100,11 +106,13 @@ same_braces : (x y : Braces) → x.properties ≡ y.properties → x.more ≡ y.
 same_braces x y e f = ap₂ {C = Braces} (λ properties more. record { properties = properties; more = more }) e f
 
 braces_tells : Tells ◌≡◌ Anything braces
-braces_tells = record { both = λ x y before a b h k f g.
-    let t = skip h k in
-    let closes = λ (m : List Lexeme) (n : List Lexeme) (r : sign "}" m n). next_sign (word ("}" ∷ [])) "}" r in
-    let p = properties_both x.properties y.properties x.more y.more t.0 t.1.0 t.2.0 t.1.1 t.2.1 (closes t.1.0 a t.1.2) (closes t.2.0 b t.2.2) in
-    (same_braces x y p.0 p.1, one_place t.1.2 (subst (λ m. sign "}" m b) (sym p.2) t.2.2)) }
+braces_tells = record {
+  both = λ x y before a b h k f g.
+      let t = skip h k in
+      let closes = λ (m : List Lexeme) (n : List Lexeme) (r : sign "}" m n). next_sign (word ("}" ∷ [])) "}" r in
+      let p = properties_both x.properties y.properties x.more y.more t.0 t.1.0 t.2.0 t.1.1 t.2.1 (closes t.1.0 a t.1.2) (closes t.2.0 b t.2.2) in
+      (same_braces x y p.0 p.1, one_place t.1.2 (subst (λ m. sign "}" m b) (sym p.2) t.2.2));
+}
 
 -- ---- bodies
 
@@ -113,13 +121,16 @@ abbrev pub closers : List String
 closers = ")" ∷ "]" ∷ []
 
 -- what begins a body's braces and what begins what follows its labels
-braces_begin : (test : Test) (value : Bool) → test Sign (codes "{") ≡ value → list_all (tells test value) closers ≡ true → (x : Option Braces) (before after : List Lexeme) →
+braces_begin : (test : Test) (value : Bool) →
+    test Sign (codes "{") ≡ value → list_all (tells test value) closers ≡ true → (x : Option Braces) (before after : List Lexeme) →
     maybe braces x before after → Passes (word closers) after → next test before ≡ value
 braces_begin test value e all x before after h f =
     maybe_begins test value (λ y a b k. next_sign test "{" k.1 ∙ e) x before after h (next_word test value closers after all f)
 
-open_or_braces_begin : (test : Test) (value : Bool) → test Keyword (codes "OPEN") ≡ value → test Sign (codes "{") ≡ value → list_all (tells test value) closers ≡ true →
-    (there : Bool) (x : Option Braces) (before after : List Lexeme) → (keyword_if there "OPEN" ▸ maybe braces x) before after → Passes (word closers) after →
+open_or_braces_begin : (test : Test) (value : Bool) → test Keyword (codes "OPEN") ≡ value →
+    test Sign (codes "{") ≡ value → list_all (tells test value) closers ≡ true →
+    (there : Bool) (x : Option Braces) (before after : List Lexeme) → (keyword_if there "OPEN" ▸ maybe braces x) before after →
+    Passes (word closers) after →
     next test before ≡ value
 open_or_braces_begin test value d e all there x before after h f =
     keyword_if_begins test value "OPEN" d there before h.0 h.1 (braces_begin test value e all x h.0 after h.2 f)
@@ -135,13 +146,15 @@ braces_part : Tells ◌≡◌ (Fails (word ("{" ∷ []))) (maybe braces)
 braces_part = maybe_tells (before_ends (λ a f. tt) braces_tells) (λ x a b f h. clash (next_sign (word ("{" ∷ [])) "{" h.1) f)
 
 pub body_tells : Tells ◌≡◌ (Passes (word closers)) body
-body_tells = record { both = λ x y before a b h k f g.
-    let s = split labels_part h.0 k.0 (λ m r. open_or_braces_begin (word (":" ∷ after_labels)) false refl refl refl h.1 h.2 m a r f)
-    (λ m r. open_or_braces_begin (word (":" ∷ after_labels)) false refl refl refl k.1 k.2 m b r g) h.4 k.4 in
-    let t = split (keyword_if_tells "OPEN" refl) h.1 k.1 (λ m r. braces_begin (word ("OPEN" ∷ [])) false refl refl h.2 m a r f)
-    (λ m r. braces_begin (word ("OPEN" ∷ [])) false refl refl k.2 m b r g) s.1.1 s.1.2 in
-    let u = braces_part.both h.2 k.2 t.1.0 a b t.1.1 t.1.2 (next_word (word ("{" ∷ [])) false closers a refl f) (next_word (word ("{" ∷ [])) false closers b refl g) in
-    (h.3 ∙ ap (λ p. together (parts p h.1 h.2)) s.0 ∙ ap (λ p. together (parts k.0 p h.2)) t.0 ∙ ap (λ p. together (parts k.0 k.1 p)) u.0 ∙ sym k.3, u.1) }
+body_tells = record {
+  both = λ x y before a b h k f g.
+      let s = split labels_part h.0 k.0 (λ m r. open_or_braces_begin (word (":" ∷ after_labels)) false refl refl refl h.1 h.2 m a r f)
+      (λ m r. open_or_braces_begin (word (":" ∷ after_labels)) false refl refl refl k.1 k.2 m b r g) h.4 k.4 in
+      let t = split (keyword_if_tells "OPEN" refl) h.1 k.1 (λ m r. braces_begin (word ("OPEN" ∷ [])) false refl refl h.2 m a r f)
+      (λ m r. braces_begin (word ("OPEN" ∷ [])) false refl refl k.2 m b r g) s.1.1 s.1.2 in
+      let u = braces_part.both h.2 k.2 t.1.0 a b t.1.1 t.1.2 (next_word (word ("{" ∷ [])) false closers a refl f) (next_word (word ("{" ∷ [])) false closers b refl g) in
+      (h.3 ∙ ap (λ p. together (parts p h.1 h.2)) s.0 ∙ ap (λ p. together (parts k.0 p h.2)) t.0 ∙ ap (λ p. together (parts k.0 k.1 p)) u.0 ∙ sym k.3, u.1);
+}
 
 -- no body begins with a name
 body_begins : (x : Written) (before after : List Lexeme) → body x before after → Passes (word closers) after → Fails a_name before
@@ -169,24 +182,30 @@ pub square_closes : (m n : List Lexeme) → sign "]" m n → Passes (word closer
 square_closes m n h = next_sign (word closers) "]" h
 
 pub node_tells : Tells SameNode Anything node_type
-node_tells = record { both = λ x y before a b h k f g.
-    let s = skip h k in
-    let t = split name_tells x.name y.name (λ m r. tt) (λ m r. tt) s.1 s.2 in
-    let u = split body_tells x.spec y.spec (λ m r. round_closes m a r) (λ m r. round_closes m b r) t.1.1 t.1.2 in
-    (record { name = t.0; spec = u.0 }, one_place u.1.1 u.1.2) }
+node_tells = record {
+  both = λ x y before a b h k f g.
+      let s = skip h k in
+      let t = split name_tells x.name y.name (λ m r. tt) (λ m r. tt) s.1 s.2 in
+      let u = split body_tells x.spec y.spec (λ m r. round_closes m a r) (λ m r. round_closes m b r) t.1.1 t.1.2 in
+      (record { name = t.0; spec = u.0 }, one_place u.1.1 u.1.2);
+}
 
 end_tells : Tells ◌≡◌ Anything end_of
-end_tells = record { both = λ x y before a b h k f g.
-    let s = skip h k in
-    let u = split body_tells x y (λ m r. round_closes m a r) (λ m r. round_closes m b r) s.1 s.2 in
-    (u.0, one_place u.1.1 u.1.2) }
+end_tells = record {
+  both = λ x y before a b h k f g.
+      let s = skip h k in
+      let u = split body_tells x y (λ m r. round_closes m a r) (λ m r. round_closes m b r) s.1 s.2 in
+      (u.0, one_place u.1.1 u.1.2);
+}
 
 middle_tells : Tells (λ x y. (x.name ≡ y.name) × (x.middle ≡ y.middle)) Anything middle_of
-middle_tells = record { both = λ x y before a b h k f g.
-    let s = skip h k in
-    let t = split name_tells x.name y.name (λ m r. tt) (λ m r. tt) s.1 s.2 in
-    let u = split body_tells x.middle y.middle (λ m r. square_closes m a r) (λ m r. square_closes m b r) t.1.1 t.1.2 in
-    ((t.0, u.0), one_place u.1.1 u.1.2) }
+middle_tells = record {
+  both = λ x y before a b h k f g.
+      let s = skip h k in
+      let t = split name_tells x.name y.name (λ m r. tt) (λ m r. tt) s.1 s.2 in
+      let u = split body_tells x.middle y.middle (λ m r. square_closes m a r) (λ m r. square_closes m b r) t.1.1 t.1.2 in
+      ((t.0, u.0), one_place u.1.1 u.1.2);
+}
 
 edge_both : (x y : EdgeType (List ℕ)) (before a b : List Lexeme) → edge_type x before a → edge_type y before b → SameEdge x y × (a ≡ b)
 edge_both x y before a b (inl h) (inl k) =
@@ -212,10 +231,12 @@ pub edge_tells : Tells SameEdge Anything edge_type
 edge_tells = record { both = λ x y before a b h k f g. edge_both x y before a b h k }
 
 -- each begins with (
-pub node_begins : (test : Test) (x : NodeType (List ℕ)) (before after : List Lexeme) → node_type x before after → next test before ≡ test Sign (codes "(")
+pub node_begins : (test : Test) (x : NodeType (List ℕ)) (before after : List Lexeme) → node_type x before after →
+    next test before ≡ test Sign (codes "(")
 node_begins test x before after h = next_sign test "(" h.1
 
-pub edge_begins : (test : Test) (x : EdgeType (List ℕ)) (before after : List Lexeme) → edge_type x before after → next test before ≡ test Sign (codes "(")
+pub edge_begins : (test : Test) (x : EdgeType (List ℕ)) (before after : List Lexeme) → edge_type x before after →
+    next test before ≡ test Sign (codes "(")
 edge_begins test x before after (inl h) = next_sign test "(" h.1.1
 edge_begins test x before after (inr h) = next_sign test "(" h.1.1
 
@@ -224,6 +245,7 @@ no_end : (x : NodeType (List ℕ)) (y : Written) (before a b : List Lexeme) → 
 no_end x y before a b h k =
     let s = skip h k in clash (next_name a_name true (λ bytes. refl) s.1.1) (body_begins y s.0 s.2.0 s.2.1 (round_closes s.2.0 b s.2.2))
 
-pub node_or_edge : (x : NodeType (List ℕ)) (y : EdgeType (List ℕ)) (before a b : List Lexeme) → node_type x before a → edge_type y before b → ⊥
+pub node_or_edge : (x : NodeType (List ℕ)) (y : EdgeType (List ℕ)) (before a b : List Lexeme) → node_type x before a →
+    edge_type y before b → ⊥
 node_or_edge x y before a b h (inl k) = no_end x y.source before a k.0 h k.1
 node_or_edge x y before a b h (inr k) = no_end x y.target before a k.0 h k.1
