@@ -85,8 +85,7 @@ gives_sign test true text e = (and_parts (test Keyword (codes text)) (test Sign 
 gives_sign test false text e = (or_parts (test Keyword (codes text)) (test Sign (codes text)) (not-true _ e)).1
 
 word_at : (test : Test) (value : Bool) (texts : List String) (kind : TokenKind) (bytes : List ℕ) →
-    list_all (tells test value) texts ≡ true →
-    word texts kind bytes ≡ true → test kind bytes ≡ value
+    list_all (tells test value) texts ≡ true → word texts kind bytes ≡ true → test kind bytes ≡ value
 word_at test value texts Name bytes all e = cc
 word_at test value texts Keyword bytes all e = among (λ b. test Keyword b ≡ value) (tells test value) (gives_keyword test value) texts bytes all e
 word_at test value texts Number bytes all e = cc
@@ -119,8 +118,7 @@ clash p q = cc
 
 -- two words that are spelled apart are not one token
 pub apart : {A : Type 0} (kind sort : TokenKind) (text other : String) {tokens a b : List Lexeme} →
-    bytes_eq (codes text) (codes other) ≡ false →
-    IsToken (IsSpelled kind text) tokens a → IsToken (IsSpelled sort other) tokens b → A
+    bytes_eq (codes text) (codes other) ≡ false → IsToken (IsSpelled kind text) tokens a → IsToken (IsSpelled sort other) tokens b → A
 apart kind sort text other e h k =
     let test : Test = λ kind bytes. bytes_eq bytes (codes other) in
     clash (next_spelled test sort other k ∙ (bytes_eq-Decides (codes other) (codes other)).1 refl) (next_spelled test kind text h ∙ e)

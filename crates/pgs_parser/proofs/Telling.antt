@@ -35,8 +35,7 @@ split t x y {Second = Second} ends stops (m, i, r) (n, j, s) =
 -- what each of two chains reads after a first token
 pub skip : {Asked Wanted : Lexeme → Type 0} {First Second : List Lexeme → Type 0} {before : List Lexeme} →
     (between : List Lexeme) × IsToken Asked before between × First between →
-    (between : List Lexeme) × IsToken Wanted before between × Second between →
-    (between : List Lexeme) × First between × Second between
+    (between : List Lexeme) × IsToken Wanted before between × Second between → (between : List Lexeme) × First between × Second between
 skip (m, here p, r) (n, here q, s) = (m, r, s)
 
 -- one token leads to one place
@@ -103,13 +102,11 @@ keyword_if_tells text e = record { both = two }
 -- a test of what begins an item and of what follows it, at an item that may be left out
 pub maybe_begins : {A : Type 0} (test : Test) (value : Bool) {item : A → Production} →
     ((x : A) (a b : List Lexeme) → item x a b → next test a ≡ value) → (there : Option A) (before after : List Lexeme) →
-    maybe item there before after →
-    next test after ≡ value → next test before ≡ value
+    maybe item there before after → next test after ≡ value → next test before ≡ value
 maybe_begins test value begins None before after h e = ap (next test) h ∙ e
 maybe_begins test value begins (Some x) before after h e = begins x before after h
 
 pub keyword_if_begins : (test : Test) (value : Bool) (text : String) → test tokens.Keyword (codes text) ≡ value →
-    (there : Bool) (before after : List Lexeme) →
-    keyword_if there text before after → next test after ≡ value → next test before ≡ value
+    (there : Bool) (before after : List Lexeme) → keyword_if there text before after → next test after ≡ value → next test before ≡ value
 keyword_if_begins test value text begins false before after h e = ap (next test) h ∙ e
 keyword_if_begins test value text begins true before after h e = next_keyword test text h ∙ begins

@@ -65,8 +65,7 @@ no_identifier (w ∷ ws) before a b e h k =
     clash (is_three k.1 ∙ first.0) (next_keyword three "IDENTIFIER" h)
 
 qualifiers_both : (x y : Qualifiers) (before a b : List Lexeme) → qualifiers x before a → qualifiers y before b → Passes a_name a →
-    Passes a_name b →
-    (x ≡ y) × (a ≡ b)
+    Passes a_name b → (x ≡ y) × (a ≡ b)
 qualifiers_both x y before a b (inl h) (inl k) f g = (h.0 ∙ sym k.0, one_place h.1 k.1)
 qualifiers_both x y before a b (inl h) (inr k) f g = absurd (no_identifier k.0 before a b k.1 h.1 k.3)
 qualifiers_both x y before a b (inr h) (inl k) f g = absurd (no_identifier h.0 before b a h.1 k.1 h.3)
@@ -83,8 +82,7 @@ words_begin test value e [] before after h = absurd h
 words_begin test value e (w ∷ ws) before after h = next_kind test value e (λ token asked. asked.0) h.1
 
 qualifiers_begin : (test : Test) (value : Bool) → ((bytes : List ℕ) → test Keyword bytes ≡ value) →
-    (x : Qualifiers) (before after : List Lexeme) →
-    qualifiers x before after → next test before ≡ value
+    (x : Qualifiers) (before after : List Lexeme) → qualifiers x before after → next test before ≡ value
 qualifiers_begin test value e x before after (inl h) = next_keyword test "IDENTIFIER" h.1 ∙ e (codes "IDENTIFIER")
 qualifiers_begin test value e x before after (inr h) = words_begin test value e h.0 before after h.3
 
@@ -126,8 +124,7 @@ pub data MemberEnd : List Lexeme → Type 0 where
   key_next : {before after : List Lexeme} → (sign "," ▸ keyword "FOR") before after → MemberEnd before
 
 member_end : (test : Test) (value : Bool) →
-    test Sign (codes "}") ≡ value → test Sign (codes ",") ≡ value → {after : List Lexeme} → MemberEnd after →
-    next test after ≡ value
+    test Sign (codes "}") ≡ value → test Sign (codes ",") ≡ value → {after : List Lexeme} → MemberEnd after → next test after ≡ value
 member_end test value e f (last h) = next_sign test "}" h ∙ e
 member_end test value e f (key_next h) = next_sign test "," h.1 ∙ f
 

@@ -52,8 +52,7 @@ module _ {A : Type 0} {Same : A → A → Type 0} {Inner Ends : List Lexeme → 
     (begins : (x : A) (a b : List Lexeme) → (separator ▸ item x) a b → Inner a)
     (none : (x : A) (a b : List Lexeme) → Ends a → (separator ▸ item x) a b → ⊥) where
   listed_both : (xs ys : List A) (before a b : List Lexeme) → listed separator item xs before a → listed separator item ys before b →
-      Ends a → Ends b →
-      Pairwise Same xs ys × (a ≡ b)
+      Ends a → Ends b → Pairwise Same xs ys × (a ≡ b)
   listed_both [] ys before a b h k f g = absurd h
   listed_both (x ∷ xs) [] before a b h k f g = absurd k
   listed_both (x ∷ xs) (y ∷ ys) before a b h k f g = chain_both tells ends begins none first x y xs ys before a b h k f g

@@ -76,8 +76,7 @@ test_tells = record {
 }
 
 tests_both : (xs ys : List (List ℕ × Value)) (before a b : List Lexeme) → tests xs before a → tests ys before b →
-    Fails (word ("{" ∷ [])) a →
-    Fails (word ("{" ∷ [])) b → (xs ≡ ys) × (a ≡ b)
+    Fails (word ("{" ∷ [])) a → Fails (word ("{" ∷ [])) b → (xs ≡ ys) × (a ≡ b)
 tests_both [] [] before a b h k f g = (refl, sym h ∙ k)
 tests_both [] (y ∷ ys) before a b h k f g = clash (next_sign (word ("{" ∷ [])) "{" k.1) (ap (next (word ("{" ∷ []))) h ∙ f)
 tests_both (x ∷ xs) [] before a b h k f g = clash (next_sign (word ("{" ∷ [])) "{" h.1) (ap (next (word ("{" ∷ []))) k ∙ g)
@@ -98,8 +97,7 @@ abbrev names_signs : Test
 names_signs = word (":" ∷ "&" ∷ [])
 
 names_both : (xs ys : List (List ℕ)) (before a b : List Lexeme) → names xs before a → names ys before b → Fails names_signs a →
-    Fails names_signs b →
-    (xs ≡ ys) × (a ≡ b)
+    Fails names_signs b → (xs ≡ ys) × (a ≡ b)
 names_both [] [] before a b h k f g = (refl, sym h ∙ k)
 names_both [] (y ∷ ys) before a b h k f g = clash (next_sign names_signs ":" k.1) (ap (next names_signs) h ∙ f)
 names_both (x ∷ xs) [] before a b h k f g = clash (next_sign names_signs ":" h.1) (ap (next names_signs) k ∙ g)

@@ -26,8 +26,7 @@ abbrev abstract : Test
 abstract = word ("ABSTRACT" ∷ [])
 
 create_both : (what : String) → bytes_eq (codes what) (codes "ABSTRACT") ≡ false → (x y : Bool) (before a b : List Lexeme) →
-    create x what before a →
-    create y what before b → Fails abstract a → Fails abstract b → (x ≡ y) × (a ≡ b)
+    create x what before a → create y what before b → Fails abstract a → Fails abstract b → (x ≡ y) × (a ≡ b)
 create_both what e false false before a b h k f g = let s = skip h k in let t = skip s.1 s.2 in (refl, one_place t.1 t.2)
 create_both what e false true before a b h (inl k) f g = let s = skip h k in apart tokens.Keyword tokens.Keyword what "ABSTRACT" e s.1.1 s.2.1
 create_both what e false true before a b h (inr k) f g =
@@ -70,8 +69,7 @@ noun_third what (m, here p, (n, here {token = t} q, (o, here {token = u} r, s)))
     ap (λ bytes. if bytes_eq bytes (codes "ABSTRACT") then u.bytes else bytes) q.1 ∙ r.1
 
 create_noun : (what : String) → bytes_eq (codes what) (codes "ABSTRACT") ≡ false → (x : Bool) (before after : List Lexeme) →
-    create x what before after →
-    noun before ≡ codes what
+    create x what before after → noun before ≡ codes what
 create_noun what e false before after h = noun_second what e h
 create_noun what e true before after (inl h) = noun_third what h
 create_noun what e true before after (inr h) = noun_second what e h
@@ -109,8 +107,7 @@ abbrev importing : Test
 importing = word ("IMPORTS" ∷ "," ∷ [])
 
 imports_both : (xs ys : List (List ℕ)) (before a b : List Lexeme) → imports xs before a → imports ys before b → Fails importing a →
-    Fails importing b →
-    (xs ≡ ys) × (a ≡ b)
+    Fails importing b → (xs ≡ ys) × (a ≡ b)
 imports_both [] [] before a b h k f g = (refl, sym h ∙ k)
 imports_both [] (y ∷ ys) before a b h k f g = clash (next_keyword importing "IMPORTS" k.1) (ap (next importing) h ∙ f)
 imports_both (x ∷ xs) [] before a b h k f g = clash (next_keyword importing "IMPORTS" h.1) (ap (next importing) k ∙ g)

@@ -90,8 +90,7 @@ front_begins test value e f [] a b h = absurd h
 front_begins test value e f (x ∷ xs) a b h = property_begins test value e f x a h.0 h.1
 
 properties_both : (xs ys : List Property) (more any : Bool) (before a b : List Lexeme) → properties xs more before a →
-    properties ys any before b →
-    Passes (word ("}" ∷ [])) a → Passes (word ("}" ∷ [])) b → (xs ≡ ys) × (more ≡ any) × (a ≡ b)
+    properties ys any before b → Passes (word ("}" ∷ [])) a → Passes (word ("}" ∷ [])) b → (xs ≡ ys) × (more ≡ any) × (a ≡ b)
 properties_both xs ys more any before a b h k f g =
     joined_both (equal_lists (free_list _ property_tells)) open_tells
     (λ a f x b h. clash f (next_sign (word ("}" ∷ [])) "," h.1))
@@ -130,8 +129,7 @@ braces_begin test value e all x before after h f =
 open_or_braces_begin : (test : Test) (value : Bool) → test Keyword (codes "OPEN") ≡ value →
     test Sign (codes "{") ≡ value → list_all (tells test value) closers ≡ true →
     (there : Bool) (x : Option Braces) (before after : List Lexeme) → (keyword_if there "OPEN" ▸ maybe braces x) before after →
-    Passes (word closers) after →
-    next test before ≡ value
+    Passes (word closers) after → next test before ≡ value
 open_or_braces_begin test value d e all there x before after h f =
     keyword_if_begins test value "OPEN" d there before h.0 h.1 (braces_begin test value e all x h.0 after h.2 f)
 
