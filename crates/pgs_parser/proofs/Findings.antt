@@ -4,7 +4,8 @@ use Rattle.pgs_lexer.specs.Token.{Lexeme}
 use Rattle.pgs_syntax.specs.declared.script.Script.{Script}
 use Rattle.pgs_syntax.specs.declared.script.Statement.{Statement}
 use Rattle.pgs_parser.specs.Statements.{AreStatements, IsNoStatement, IsScript, IsNoScriptFrom}
-use Rattle.pgs_parser.specs.Text.{Found, IsFound, is_too_long, has_no_item, has_no_statement, is_script, Agree}
+use Rattle.pgs_parser.proofs.OneScript.{one_script}
+use Rattle.pgs_parser.specs.Text.{Found, no_item, no_statement, script, IsFound, is_too_long, has_no_item, has_no_statement, is_script}
 
 -- pieces one of which is no statement are not all statements
 not_all : (trees : List Statement) (front : List (List Lexeme)) (piece : List Lexeme) (back : List (List Lexeme)) →
@@ -45,21 +46,22 @@ not_both {tree = tree} a b =
 same_tokens : {a b : List Lexeme} (found : Result (List Lexeme) ℕ) → found ≡ Ok a → found ≡ Ok b → a ≡ b
 same_tokens found h k = cc
 
-pub one_finding : (text : List ℕ) (one other : Found) → IsFound text one → IsFound text other → Agree one other
-one_finding text one other (is_too_long h) (is_too_long k) = tt
+pub one_finding : (text : List ℕ) (one other : Found) → IsFound text one → IsFound text other → one ≡ other
+one_finding text one other (is_too_long h) (is_too_long k) = refl
 one_finding text one other (is_too_long h) (has_no_item k _) = absurd (omega arith)
 one_finding text one other (is_too_long h) (has_no_statement k _ _) = absurd (omega arith)
 one_finding text one other (is_too_long h) (is_script k _ _) = absurd (omega arith)
 one_finding text one other (has_no_item h _) (is_too_long k) = absurd (omega arith)
-one_finding text one other (has_no_item h a) (has_no_item k b) = cc
+one_finding text one other (has_no_item {line = n} h a) (has_no_item {line = m} k b) = let same : n ≡ m = cc in ap no_item same
 one_finding text one other (has_no_item h a) (has_no_statement k b _) = cc
 one_finding text one other (has_no_item h a) (is_script k b _) = cc
 one_finding text one other (has_no_statement h _ _) (is_too_long k) = absurd (omega arith)
 one_finding text one other (has_no_statement h a _) (has_no_item k b) = cc
 one_finding text one other (has_no_statement {n = n} h a x) (has_no_statement k b y) =
-    same_number (subst (IsNoScriptFrom n) (same_tokens _ a b) x) y
-one_finding text one other (has_no_statement {n = n} h a x) (is_script k b y) = not_both y (subst (IsNoScriptFrom n) (same_tokens _ a b) x)
+    ap no_statement (same_number (subst (IsNoScriptFrom n) (same_tokens _ a b) x) y)
+one_finding text one other (has_no_statement {n = n} h a x) (is_script k b y) = absurd (not_both y (subst (IsNoScriptFrom n) (same_tokens _ a b) x))
 one_finding text one other (is_script h _ _) (is_too_long k) = absurd (omega arith)
 one_finding text one other (is_script h a _) (has_no_item k b) = cc
-one_finding text one other (is_script h a x) (has_no_statement {n = n} k b y) = not_both x (subst (IsNoScriptFrom n) (same_tokens _ b a) y)
-one_finding text one other (is_script h a x) (is_script k b y) = tt
+one_finding text one other (is_script h a x) (has_no_statement {n = n} k b y) = absurd (not_both x (subst (IsNoScriptFrom n) (same_tokens _ b a) y))
+one_finding text one other (is_script {tree = tree} {tokens = tokens} h a x) (is_script {tree = found} k b y) =
+    ap script (one_script tokens tree found x (subst (IsScript found) (same_tokens _ b a) y))

@@ -21,11 +21,3 @@ pub data IsFound (text : List ℕ) : Found → Type 0 where
       IsNoScriptFrom n tokens → IsFound text (no_statement n)
   is_script : {tree : Script} {tokens : List Lexeme} → length text ≤ 1048576 → tokens_of text ≡ Ok tokens →
       IsScript tree tokens → IsFound text (script tree)
-
--- whether two findings are of one kind, with the same line or the same number
-abbrev pub Agree : Found → Found → Type 0
-Agree too_long too_long = Unit {0}
-Agree (no_item a) (no_item b) = a ≡ b
-Agree (no_statement a) (no_statement b) = a ≡ b
-Agree (script a) (script b) = Unit {0}
-Agree _ _ = ⊥
