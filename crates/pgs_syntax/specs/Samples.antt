@@ -8,9 +8,9 @@ use Rattle.pgs_base.specs.declared.value.Kind.{Kind}
 use Rattle.pgs_base.specs.declared.value.Kind.TheVariants as kinds
 use Rattle.pgs_base.specs.declared.value.Value.{Value}
 use Rattle.pgs_base.specs.declared.value.Value.TheVariants as values
+use Rattle.pgs_base.specs.Graph.{Graph}
 use Rattle.pgs_syntax.specs.declared.element_type.NodeType.{NodeType}
 use Rattle.pgs_syntax.specs.declared.element_type.EdgeType.{EdgeType}
-use Rattle.pgs_base.specs.Graph.{Graph}
 use Rattle.pgs_syntax.specs.declared.key.Key.{Key}
 use Rattle.pgs_syntax.specs.declared.key.Qualifiers.{Qualifiers}
 use Rattle.pgs_syntax.specs.declared.pattern.Atom.{Atom}
@@ -60,7 +60,7 @@ node_type name place spec = record { name = name; hidden = false; place = place;
 abbrev pub abstract_type : List ℕ → ℕ → Spec Leaf → NodeType Leaf
 abstract_type name place spec = record { name = name; hidden = true; place = place; spec = spec }
 
--- a schema of these types, all of them members of the guard
+-- a STRICT schema of these node and edge types, with these members and keys
 abbrev pub schema : List (NodeType Leaf) → List (EdgeType Leaf) → List TypeNo → List Key → Resolved
 schema nodes edges types keys =
     record { nodes = nodes; edges = edges; guard = record { strict = true; types = types; keys = keys } }

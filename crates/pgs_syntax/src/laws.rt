@@ -20,7 +20,7 @@ ghost use Rattle.pgs_syntax.specs.declared.specification.Spec.{Spec, And};
 ghost use Rattle.pgs_syntax.specs.Join.{Triple, of_pairs, of_triples, joined};
 ghost use Rattle.pgs_syntax.specs.KeyValues.{starts_at, is_in_scope, tuple_of, key_values};
 ghost use Rattle.pgs_syntax.specs.Matches.{is_match, matches};
-ghost use Rattle.pgs_syntax.specs.Meaning.{is_in_order, IsJoinOf, IsJoinOfAll, IsEdgeOf};
+ghost use Rattle.pgs_syntax.specs.Meaning.{is_pair, IsJoinOf, IsJoinOfAll, IsEdgeOf};
 ghost use Rattle.pgs_syntax.specs.Valid.{is_valid};
 ghost use Rattle.pgs_syntax.specs.Fitting.{suits, fits, fits_node, fits_edge, fits_edge_type, value_at, is_named_by};
 
@@ -42,13 +42,13 @@ pub fn closed_braces_admit_no_further_key()
 /// The test of joins in other words: there are two pairs, one of which passes the one test and the other the other, so
 /// that the pair has the labels of both, their properties agree on shared keys, and it has the properties of both.
 pub fn a_join_is_of_two_pairs()
-    ensures { (first second : NodeRow → Bool) (p : NodeRow) → is_in_order p ≡ true →
+    ensures { (first second : NodeRow → Bool) (p : NodeRow) → is_pair p ≡ true →
         (joined of_pairs first second p ≡ true) ↔ IsJoinOf first second p }
 {}
 
 /// A pair fits `A & B & ..` exactly where there are pairs, one for each part and fitting it, whose join it is.
 pub fn parts_are_joined()
-    ensures { (resolved : Resolved) (parts : List (Spec Leaf)) (p : NodeRow) → is_in_order p ≡ true →
+    ensures { (resolved : Resolved) (parts : List (Spec Leaf)) (p : NodeRow) → is_pair p ≡ true →
         (fits resolved (And parts) p ≡ true) ↔ IsJoinOfAll (map (fits resolved) parts) p }
 {}
 
@@ -80,7 +80,7 @@ pub fn key_values_are_by_matches()
 /// the target, and the pair at each end is the join of these two.
 pub fn edges_fit_by_their_ends()
     ensures { (resolved : Resolved) (named : ℕ → Triple → Bool) (type : EdgeType Leaf) (t : Triple) →
-        is_in_order t.source ≡ true → is_in_order t.target ≡ true →
+        is_pair t.source ≡ true → is_pair t.target ≡ true →
         (fits_edge_type resolved named type t ≡ true)
         ↔ IsEdgeOf (fits resolved type.source) (fits resolved type.target) (suits of_triples named type.middle) t }
 {}
