@@ -1,4 +1,5 @@
 pub mod Assigned
+pub mod Closed
 pub mod Computed
 pub mod Edges
 pub mod Halves

@@ -1,6 +1,8 @@
+pub mod Closed
 pub mod Fitting
 pub mod Join
 pub mod KeyValues
+pub mod Linked
 pub mod Matches
 pub mod Meaning
 pub mod Samples

@@ -14,15 +14,15 @@ ghost use Rattle.pgs_syntax.specs.declared.key.Key.{Key};
 ghost use Rattle.pgs_syntax.specs.declared.pattern.Pattern.{Pattern};
 ghost use Rattle.pgs_syntax.specs.declared.resolved.Resolved.{Resolved};
 ghost use Rattle.pgs_syntax.specs.declared.specification.Leaf.{Leaf};
-ghost use Rattle.pgs_syntax.specs.declared.specification.Property.{Property};
-ghost use Rattle.pgs_syntax.specs.declared.specification.Spec as specs;
-ghost use Rattle.pgs_syntax.specs.declared.specification.Spec.{Spec, And};
+ghost use Rattle.pgs_syntax.specs.declared.specification.Leaf.TheVariants.{Named};
+ghost use Rattle.pgs_syntax.specs.declared.specification.Spec.{Spec, Word, And};
+ghost use Rattle.pgs_syntax.specs.Closed.{is_closed, names_key, is_closed_middle, middle_names_key};
 ghost use Rattle.pgs_syntax.specs.Join.{Triple, of_pairs, of_triples, joined};
 ghost use Rattle.pgs_syntax.specs.KeyValues.{starts_at, is_in_scope, tuple_of, key_values};
 ghost use Rattle.pgs_syntax.specs.Matches.{is_match, matches};
 ghost use Rattle.pgs_syntax.specs.Meaning.{is_pair, IsJoinOf, IsJoinOfAll, IsEdgeOf};
 ghost use Rattle.pgs_syntax.specs.Valid.{is_valid};
-ghost use Rattle.pgs_syntax.specs.Fitting.{suits, fits, fits_node, fits_edge, fits_edge_type, value_at, is_named_by};
+ghost use Rattle.pgs_syntax.specs.Fitting.{suits, fits, fits_node, fits_edge, fits_edge_type, value_at};
 
 /// Whether a pair or a triple fits `A & B` doesn't depend on the order of the parts.
 pub fn parts_in_any_order()
@@ -32,11 +32,18 @@ pub fn parts_in_any_order()
         suits of_triples named (And (first ∷ second ∷ [])) t ≡ suits of_triples named (And (second ∷ first ∷ [])) t }
 {}
 
-/// Braces without OPEN admit no key that they don't name.
-pub fn closed_braces_admit_no_further_key()
-    ensures { (resolved : Resolved) (properties : List Property) (p : NodeRow) (key : List ℕ) →
-        fits resolved (specs.Braces (record { properties = properties; more = false })) p ≡ true →
-        is_named_by properties key ≡ false → value_at key p.props ≡ None }
+/// A specification without OPEN in braces admits no key that it doesn't name, also through `&`, `|`, `?` and the types that it
+/// names. So does a type of such a specification.
+pub fn closed_types_admit_no_further_key()
+    ensures nodes { (resolved : Resolved) (spec : Spec Leaf) (p : NodeRow) (key : List ℕ) →
+        is_closed resolved spec ≡ true → fits resolved spec p ≡ true → names_key resolved spec key ≡ false →
+        value_at key p.props ≡ None }
+    ensures node_types { (resolved : Resolved) (number : ℕ) (p : NodeRow) (key : List ℕ) →
+        is_closed resolved (Word (Named number)) ≡ true → fits_node resolved number p ≡ true →
+        names_key resolved (Word (Named number)) key ≡ false → value_at key p.props ≡ None }
+    ensures edge_types { (resolved : Resolved) (number : ℕ) (t : Triple) (key : List ℕ) →
+        is_closed_middle resolved (Word (Named number)) ≡ true → fits_edge resolved number t ≡ true →
+        middle_names_key resolved (Word (Named number)) key ≡ false → value_at key t.own.props ≡ None }
 {}
 
 /// The test of joins in other words: there are two pairs, one of which passes the one test and the other the other, so
