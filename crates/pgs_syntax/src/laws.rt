@@ -1,7 +1,7 @@
 //! Laws that show that the definitions mean what they should. The functions do nothing; their contracts are the statements.
 
-ghost use Rattle.std.specs.Prelude.{◌≡◌, ◌↔◌, ℕ, Bool, true, false, List, [], ◌∷◌, Some, None, map, slice_get};
-ghost use Rattle.std.specs.List.{list_any};
+ghost use Rattle.std.specs.Prelude.{◌≡◌, ◌↔◌, ℕ, ◌<◌, Bool, true, false, List, [], ◌∷◌, Some, None, length, map, slice_get};
+ghost use Rattle.std.specs.List.{list_any, list_all};
 ghost use Rattle.std.specs.BTreeMap.{is_at};
 ghost use Rattle.pgs_base.specs.declared.element.Elem.{Elem};
 ghost use Rattle.pgs_base.specs.declared.part.Part.{Part};
@@ -19,9 +19,10 @@ ghost use Rattle.pgs_syntax.specs.declared.specification.Spec.{Spec, Word, And};
 ghost use Rattle.pgs_syntax.specs.Closed.{is_closed, names_key, is_closed_middle, middle_names_key};
 ghost use Rattle.pgs_syntax.specs.Join.{Triple, of_pairs, of_triples, joined};
 ghost use Rattle.pgs_syntax.specs.KeyValues.{starts_at, is_in_scope, tuple_of, key_values};
+ghost use Rattle.pgs_syntax.specs.Linked.{IsLinked};
 ghost use Rattle.pgs_syntax.specs.Matches.{is_match, matches};
 ghost use Rattle.pgs_syntax.specs.Meaning.{is_pair, IsJoinOf, IsJoinOfAll, IsEdgeOf};
-ghost use Rattle.pgs_syntax.specs.Valid.{is_valid};
+ghost use Rattle.pgs_syntax.specs.Valid.{speaks_of, is_connected, is_valid};
 ghost use Rattle.pgs_syntax.specs.Fitting.{suits, fits, fits_node, fits_edge, fits_edge_type, value_at};
 
 /// Whether a pair or a triple fits `A & B` doesn't depend on the order of the parts.
@@ -57,6 +58,13 @@ pub fn a_join_is_of_two_pairs()
 pub fn parts_are_joined()
     ensures { (resolved : Resolved) (parts : List (Spec Leaf)) (p : NodeRow) → is_pair p ≡ true →
         (fits resolved (And parts) p ≡ true) ↔ IsJoinOfAll (map (fits resolved) parts) p }
+{}
+
+/// The variables of a pattern are in one group exactly where each is linked with variable 0: steps lead from the one to the
+/// other, each from an edge to an end of it or back.
+pub fn connected_patterns_are_linked()
+    ensures { (pattern : Pattern) → list_all (speaks_of pattern.edge_vars) pattern.atoms ≡ true →
+        (is_connected pattern ≡ true) ↔ ((var : ℕ) → var < length pattern.edge_vars → IsLinked pattern.atoms 0 var) }
 {}
 
 /// The list of a pattern's matches has exactly the assignments that are a match: one of the list passes a test exactly
