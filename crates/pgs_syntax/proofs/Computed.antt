@@ -1,9 +1,11 @@
 -- What the definitions give on the samples: each computes.
-use Rattle.std.proofs.Common.{◌≡◌, true, false, pos, [], ◌∷◌, codes, refl}
+use Rattle.std.proofs.Common.{◌≡◌, true, false, pos, negsuc, [], ◌∷◌, codes, refl}
+use Rattle.std.specs.Char.{encode_utf8}
+use Rattle.std.specs.Str.{is_utf8, chars}
 use denote.Hole.Carrier.{hidden}
 use Rattle.pgs_base.specs.declared.element.Elem.TheVariants as elems
 use Rattle.pgs_base.specs.declared.part.Part.TheVariants as parts
-use Rattle.pgs_base.specs.declared.value.Value.TheVariants.{Text, Int}
+use Rattle.pgs_base.specs.declared.value.Value.TheVariants.{Text, Int, Date}
 use Rattle.pgs_syntax.specs.declared.resolved.TypeNo.TheVariants.{Node}
 use Rattle.pgs_syntax.specs.declared.specification.Leaf.TheVariants.{Named}
 use Rattle.pgs_syntax.specs.declared.specification.Spec.{Word}
@@ -13,6 +15,7 @@ use Rattle.pgs_syntax.specs.KeySamples.{the_node, one_text, mail_key, mails, two
 use Rattle.pgs_syntax.specs.Samples.{staff, ann, shared_key, labelled, with, open_type, either_type, open_labels, bare_type, abstract_types, acquaintance, acquainted, tied, ties, social, cyd, bob, two_steps, steps_to, moderator, forum, by_n4, by_n5, keyed, edge, two_apart, names_later, names_twice}
 use Rattle.pgs_syntax.specs.Join.{pair_of}
 use Rattle.pgs_syntax.specs.Typed.{node_typed, edge_is_typed}
+use Rattle.pgs_syntax.specs.Meaning.{is_pair}
 use Rattle.pgs_syntax.specs.KeyValues.{scope_of, key_values}
 use Rattle.pgs_syntax.specs.Valid.{is_valid, is_valid_key, is_valid_pattern}
 
@@ -199,3 +202,26 @@ valid_mails = refl
 
 pub valid_holder : is_valid_key holder ≡ true
 valid_holder = refl
+
+pub ann_is_pair : is_pair ann ≡ true
+unfolding is_utf8 chars encode_utf8
+ann_is_pair = refl
+
+pub least_number : is_pair (with (codes "k") (Int (negsuc 9223372036854775807))) ≡ true
+least_number = refl
+
+pub descending : is_pair (labelled (codes "B" ∷ codes "A" ∷ [])) ≡ false
+descending = refl
+
+pub no_name : is_pair (labelled (codes "1A" ∷ [])) ≡ false
+no_name = refl
+
+pub beyond_range : is_pair (with (codes "k") (Int (pos 9223372036854775808))) ≡ false
+beyond_range = refl
+
+pub no_text : is_pair (with (codes "k") (Text (255 ∷ []))) ≡ false
+unfolding is_utf8 chars
+no_text = refl
+
+pub no_day : is_pair (with (codes "k") (Date (2023, 2, 29))) ≡ false
+no_day = refl

@@ -1,6 +1,6 @@
 //! Laws that show that the definitions mean what they should. The functions do nothing; their contracts are the statements.
 
-ghost use Rattle.std.specs.Prelude.{◌≡◌, ◌↔◌, ℕ, ◌<◌, Bool, true, false, List, [], ◌∷◌, Some, None, length, map, slice_get};
+ghost use Rattle.std.specs.Prelude.{◌≡◌, ◌↔◌, ℕ, ◌<◌, ◌||◌, Bool, true, false, List, [], ◌∷◌, Some, None, length, map, slice_get};
 ghost use Rattle.std.specs.List.{list_any, list_all};
 ghost use Rattle.std.specs.BTreeMap.{is_at};
 ghost use Rattle.pgs_base.specs.declared.element.Elem.{Elem};
@@ -15,9 +15,9 @@ ghost use Rattle.pgs_syntax.specs.declared.pattern.Pattern.{Pattern};
 ghost use Rattle.pgs_syntax.specs.declared.resolved.Resolved.{Resolved};
 ghost use Rattle.pgs_syntax.specs.declared.specification.Leaf.{Leaf};
 ghost use Rattle.pgs_syntax.specs.declared.specification.Leaf.TheVariants.{Named};
-ghost use Rattle.pgs_syntax.specs.declared.specification.Spec.{Spec, Word, And};
+ghost use Rattle.pgs_syntax.specs.declared.specification.Spec.{Spec, Word, And, Or, Opt};
 ghost use Rattle.pgs_syntax.specs.Closed.{is_closed, names_key, is_closed_middle, middle_names_key};
-ghost use Rattle.pgs_syntax.specs.Join.{Triple, of_pairs, of_triples, joined};
+ghost use Rattle.pgs_syntax.specs.Join.{Triple, is_empty_pair, of_pairs, of_triples, joined};
 ghost use Rattle.pgs_syntax.specs.KeyValues.{starts_at, is_in_scope, tuple_of, key_values};
 ghost use Rattle.pgs_syntax.specs.Linked.{IsLinked};
 ghost use Rattle.pgs_syntax.specs.Matches.{is_match, matches};
@@ -58,6 +58,19 @@ pub fn a_join_is_of_two_pairs()
 pub fn parts_are_joined()
     ensures { (resolved : Resolved) (parts : List (Spec Leaf)) (p : NodeRow) → is_pair p ≡ true →
         (fits resolved (And parts) p ≡ true) ↔ IsJoinOfAll (map (fits resolved) parts) p }
+{}
+
+/// A pair fits `A | B | ..` exactly where it fits some part, and `A?` exactly where it is empty or fits the part. So it is with
+/// triples.
+pub fn parts_are_alternatives()
+    ensures unions { (resolved : Resolved) (parts : List (Spec Leaf)) (p : NodeRow) →
+        fits resolved (Or parts) p ≡ list_any (λ part. fits resolved part p) parts }
+    ensures options { (resolved : Resolved) (part : Spec Leaf) (p : NodeRow) →
+        fits resolved (Opt part) p ≡ (is_empty_pair p || fits resolved part p) }
+    ensures edge_unions { (named : ℕ → Triple → Bool) (parts : List (Spec Leaf)) (t : Triple) →
+        suits of_triples named (Or parts) t ≡ list_any (λ part. suits of_triples named part t) parts }
+    ensures edge_options { (named : ℕ → Triple → Bool) (part : Spec Leaf) (t : Triple) →
+        suits of_triples named (Opt part) t ≡ (of_triples.asks is_empty_pair t || suits of_triples named part t) }
 {}
 
 /// The variables of a pattern are in one group exactly where each is linked with variable 0: steps lead from the one to the

@@ -1,10 +1,10 @@
 //! What the definitions say of small schemas and graphs, which stand in `specs/Samples.antt` and
 //! `specs/KeySamples.antt`. The functions do nothing; their contracts are the statements.
 
-ghost use Rattle.std.specs.Prelude.{◌≡◌, true, false, pos, [], ◌∷◌, codes};
+ghost use Rattle.std.specs.Prelude.{◌≡◌, true, false, pos, negsuc, [], ◌∷◌, codes};
 ghost use Rattle.pgs_base.specs.declared.element.Elem.TheVariants as elems;
 ghost use Rattle.pgs_base.specs.declared.part.Part.TheVariants as parts;
-ghost use Rattle.pgs_base.specs.declared.value.Value.TheVariants.{Text, Int};
+ghost use Rattle.pgs_base.specs.declared.value.Value.TheVariants.{Text, Int, Date};
 ghost use Rattle.pgs_syntax.specs.declared.resolved.TypeNo.TheVariants.{Node, Edge};
 ghost use Rattle.pgs_syntax.specs.declared.specification.Leaf.TheVariants.{Named};
 ghost use Rattle.pgs_syntax.specs.declared.specification.Spec.{Word};
@@ -12,9 +12,21 @@ ghost use Rattle.pgs_syntax.specs.Closed.{is_closed, names_key};
 ghost use Rattle.pgs_syntax.specs.Join.{pair_of};
 ghost use Rattle.pgs_syntax.specs.KeySamples.{the_node, one_text, mail_key, mails, two_persons, holder, held_post};
 ghost use Rattle.pgs_syntax.specs.KeyValues.{scope_of, key_values};
+ghost use Rattle.pgs_syntax.specs.Meaning.{is_pair};
 ghost use Rattle.pgs_syntax.specs.Samples.{staff, ann, shared_key, labelled, with, open_type, either_type, open_labels, bare_type, abstract_types, acquaintance, acquainted, tied, ties, social, cyd, bob, two_steps, steps_to, moderator, forum, by_n4, by_n5, keyed, edge, two_apart, names_later, names_twice};
 ghost use Rattle.pgs_syntax.specs.Typed.{node_typed, edge_is_typed};
 ghost use Rattle.pgs_syntax.specs.Valid.{is_valid, is_valid_key, is_valid_pattern};
+
+/// Which rows are pairs: the names of labels and keys ascend, and values are in their range.
+pub fn pairs()
+    ensures ann_is_pair { is_pair ann ≡ true }
+    ensures least_number { is_pair (with (codes "k") (Int (negsuc 9223372036854775807))) ≡ true }
+    ensures descending { is_pair (labelled (codes "B" ∷ codes "A" ∷ [])) ≡ false }
+    ensures no_name { is_pair (labelled (codes "1A" ∷ [])) ≡ false }
+    ensures beyond_range { is_pair (with (codes "k") (Int (pos 9223372036854775808))) ≡ false }
+    ensures no_text { is_pair (with (codes "k") (Text (255 ∷ []))) ≡ false }
+    ensures no_day { is_pair (with (codes "k") (Date (2023, 2, 29))) ≡ false }
+{}
 
 /// A type that adds to a closed type types its own elements. The closed type alone doesn't.
 pub fn heirs()
