@@ -1,5 +1,5 @@
 -- A pair that fits a closed specification has no key that the specification doesn't name.
-use Rattle.std.proofs.Common.{◌≡◌, ℕ, zero, suc, Bool, true, false, ◌&&◌, ◌||◌, ◌==◌, cond, ⊎_elim, List, [], ◌∷◌, Option, Some, None, length, slice_get, refl, sym, ◌∙◌, ap, true≢false}
+use Rattle.std.proofs.Common.{◌≡◌, ℕ, zero, suc, Bool, true, false, ◌&&◌, ◌||◌, ◌==◌, cond, ⊎_elim, List, [], ◌∷◌, Option, Some, None, length, slice_get, refl, sym, ◌∙◌, true≢false}
 use Rattle.std.specs.List.{list_any, list_all}
 use Rattle.std.specs.Option.{option_map_or}
 use Rattle.std.proofs.lemmas.Bool.{and_parts, or_cases, or_parts, not-true}
@@ -11,12 +11,11 @@ use Rattle.pgs_syntax.specs.declared.resolved.Resolved.{Resolved}
 use Rattle.pgs_syntax.specs.declared.specification.Braces.{Braces}
 use Rattle.pgs_syntax.specs.declared.specification.Leaf.{Leaf}
 use Rattle.pgs_syntax.specs.declared.specification.Leaf.TheVariants.{Label, Named}
-use Rattle.pgs_syntax.specs.declared.specification.Property.{Property}
 use Rattle.pgs_syntax.specs.declared.specification.Spec as specs
 use Rattle.pgs_syntax.specs.declared.specification.Spec.{Spec, Empty, Word, OpenLabels, And', Or', Opt', Row_of-Spec, end_of-Spec, more_of-Spec}
 use Rattle.pgs_syntax.specs.Closed.{some_braces, some_braces_of, some_below, has_more, names, is_closed, names_key}
 use Rattle.pgs_syntax.specs.Fitting.{suits, suits_each, suits_some, same_name, value_at, is_named_by, fits, fits_node, fits_below, fits_edge_type, fits_edge_below, has_ends_of}
-use Rattle.pgs_syntax.specs.Join.{is_empty, is_empty_pair, pair_of, halves, triple_halves, Triple, Joins, of_pairs, of_triples, joined}
+use Rattle.pgs_syntax.specs.Join.{is_empty, is_empty_pair, pair_of, halves, Triple, Joins, of_pairs, of_triples, joined}
 use Rattle.pgs_syntax.proofs.Edges.{any_triple_halves}
 use Rattle.pgs_syntax.proofs.Halves.{any_halves, joined_any}
 use Rattle.pgs_syntax.proofs.Parts.{absent_unnamed}
@@ -157,9 +156,9 @@ module _ (key : List ℕ) where
             absent key of_pairs (λ q. q) (λ test q e. e) pairs_joined _ _ (fits_below types bound) before type.spec closed unnamed p h
 
         by : (b : Bool) →
-            (elim b [ | true ↦ option_map_or (in_node has_more) (slice_get types bound) false | false ↦ some_below has_more node_spec types bound number ]) ≡ false →
-            (elim b [ | true ↦ option_map_or (in_node (names key)) (slice_get types bound) false | false ↦ some_below (names key) node_spec types bound number ]) ≡ false →
-            LacksAll (λ p. elim b [ | true ↦ option_map_or (suits_node p) (slice_get types bound) false | false ↦ fits_below types bound number p ])
+            (elim b [ true ↦ option_map_or (in_node has_more) (slice_get types bound) false | false ↦ some_below has_more node_spec types bound number ]) ≡ false →
+            (elim b [ true ↦ option_map_or (in_node (names key)) (slice_get types bound) false | false ↦ some_below (names key) node_spec types bound number ]) ≡ false →
+            LacksAll (λ p. elim b [ true ↦ option_map_or (suits_node p) (slice_get types bound) false | false ↦ fits_below types bound number p ])
         by true closed unnamed p h = at (slice_get types bound) closed unnamed p h
         by false closed unnamed p h = before number closed unnamed p h
 
@@ -194,11 +193,11 @@ module _ (key : List ℕ) where
             (fits_edge_below resolved bound) before type.middle closed unnamed) t h
 
         by : (b : Bool) →
-            (elim b [ | true ↦ option_map_or (in_edge has_more) (slice_get resolved.edges bound) false | false ↦ some_below has_more edge_spec resolved.edges bound number ])
+            (elim b [ true ↦ option_map_or (in_edge has_more) (slice_get resolved.edges bound) false | false ↦ some_below has_more edge_spec resolved.edges bound number ])
             ≡ false →
-            (elim b [ | true ↦ option_map_or (in_edge (names key)) (slice_get resolved.edges bound) false | false ↦ some_below (names key) edge_spec resolved.edges bound number ])
+            (elim b [ true ↦ option_map_or (in_edge (names key)) (slice_get resolved.edges bound) false | false ↦ some_below (names key) edge_spec resolved.edges bound number ])
             ≡ false →
-            LacksOwn (λ t. elim b [ | true ↦ option_map_or (suits_edge t) (slice_get resolved.edges bound) false | false ↦ fits_edge_below resolved bound number t ])
+            LacksOwn (λ t. elim b [ true ↦ option_map_or (suits_edge t) (slice_get resolved.edges bound) false | false ↦ fits_edge_below resolved bound number t ])
         by true closed unnamed t h = at (slice_get resolved.edges bound) closed unnamed t h
         by false closed unnamed t h = before number closed unnamed t h
 

@@ -18,7 +18,7 @@ use Rattle.pgs_syntax.specs.declared.specification.Leaf.{Leaf}
 use Rattle.pgs_syntax.specs.declared.specification.Leaf.TheVariants.{Named}
 use Rattle.pgs_syntax.specs.declared.specification.Property.{Property as BracedProperty}
 use Rattle.pgs_syntax.specs.declared.specification.Spec as specs
-use Rattle.pgs_syntax.specs.declared.specification.Spec.{Spec, Empty, Word, OpenLabels, And', Or', Opt', Row_of-Spec, end_of-Spec, more_of-Spec}
+use Rattle.pgs_syntax.specs.declared.specification.Spec.{Spec, Word, And', Or', Opt', Row_of-Spec, end_of-Spec, more_of-Spec}
 use Rattle.pgs_syntax.specs.Fitting.{same_name}
 
 -- whether a variable is an edge of the pattern, and whether it is a node

@@ -5,7 +5,7 @@ ghost use Rattle.std.specs.Prelude.{◌≡◌, true, false, pos, negsuc, [], ◌
 ghost use Rattle.pgs_base.specs.declared.element.Elem.TheVariants as elems;
 ghost use Rattle.pgs_base.specs.declared.part.Part.TheVariants as parts;
 ghost use Rattle.pgs_base.specs.declared.value.Value.TheVariants.{Text, Int, Date};
-ghost use Rattle.pgs_syntax.specs.declared.resolved.TypeNo.TheVariants.{Node, Edge};
+ghost use Rattle.pgs_syntax.specs.declared.resolved.TypeNo.TheVariants.{Node};
 ghost use Rattle.pgs_syntax.specs.declared.specification.Leaf.TheVariants.{Named};
 ghost use Rattle.pgs_syntax.specs.declared.specification.Spec.{Word};
 ghost use Rattle.pgs_syntax.specs.Closed.{is_closed, names_key};

@@ -10,7 +10,7 @@ ghost use Rattle.pgs_syntax.specs.Samples.{acquaintance, acquainted, two_steps, 
 ghost use Rattle.pgs_violation.specs.declared.rejection.Rejection.TheVariants as rejections;
 ghost use Rattle.pgs_violation.specs.declared.structural.Cause.TheVariants.{NoNode, NoEdge, HasEdges};
 ghost use Rattle.pgs_violation.specs.declared.structural.Structural.TheVariants.{TooManyOps, BadOp, ElementTooLarge, TooManyElements};
-ghost use Rattle.pgs_violation.specs.declared.violation.Verdict.TheVariants.{Conforms, Refused};
+ghost use Rattle.pgs_violation.specs.declared.violation.Verdict.TheVariants.{Conforms};
 ghost use Rattle.pgs_violation.specs.declared.violation.Violation.TheVariants.{UntypedNode, UntypedEdge, Mandatory, Singleton, Exclusive};
 ghost use Rattle.pgs_violation.specs.Decision.{decisions};
 ghost use Rattle.pgs_violation.specs.Samples.{limits, tight, txn, add_node, add_edge, remove_node, detach_node, remove_edge, set_mail, unset, add_two_persons, one_mail, lone, looped, many_labels};
