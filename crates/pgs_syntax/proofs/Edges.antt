@@ -8,7 +8,7 @@ use Rattle.pgs_syntax.specs.declared.specification.Leaf.{Leaf}
 use Rattle.pgs_syntax.specs.declared.specification.Spec.{Spec, And}
 use Rattle.pgs_syntax.specs.Fitting.{suits}
 use Rattle.pgs_syntax.specs.Join.{Triple, halves, triple_halves, is_empty_pair, of_triples, joined}
-use Rattle.pgs_syntax.specs.Meaning.{is_in_order, IsEdgeOf}
+use Rattle.pgs_syntax.specs.Meaning.{is_pair, IsEdgeOf}
 use Rattle.pgs_syntax.proofs.Halves.{any_same, any_map, any_flat_map, any_and, halves_swap, halves_whole, joined_any, joined_same}
 use Rattle.pgs_syntax.proofs.Parts.{suits_two}
 use Rattle.pgs_syntax.proofs.JoinMeans.{halves_found, halves_given}
@@ -61,7 +61,7 @@ module _ (source target : NodeRow → Bool) (middle : Triple → Bool) where
           (halves t.own)
           ∙ halves_other (λ own. list_any (λ (e : NodeRow × NodeRow). middle (triple s.1 own e.1) && (source s.0 && target e.0)) (halves t.target)) t.own
 
-  pub edge_found : (t : Triple) → is_in_order t.source ≡ true → is_in_order t.target ≡ true → joined of_triples ends middle t ≡ true → IsEdgeOf source target middle t
+  pub edge_found : (t : Triple) → is_pair t.source ≡ true → is_pair t.target ≡ true → joined of_triples ends middle t ≡ true → IsEdgeOf source target middle t
   edge_found t first last h =
       let s = halves_found _ t.source first (sym (edge_any t) ∙ h) in
       let e = halves_found _ t.target last s.5 in
@@ -69,7 +69,7 @@ module _ (source target : NodeRow → Bool) (middle : Triple → Bool) where
       let outer = and_parts _ _ parts.1 in
       (s.0, s.1, s.2, s.3, s.4, (e.0, e.1, e.2, e.3, e.4, (outer.0, outer.1, parts.0)))
 
-  pub edge_given : (t : Triple) → is_in_order t.source ≡ true → is_in_order t.target ≡ true → IsEdgeOf source target middle t → joined of_triples ends middle t ≡ true
+  pub edge_given : (t : Triple) → is_pair t.source ≡ true → is_pair t.target ≡ true → IsEdgeOf source target middle t → joined of_triples ends middle t ≡ true
   edge_given t first last (of_source, at_source, a, b, join, (of_target, at_target, c, d, other, (fits, too, passes))) =
       edge_any t
       ∙ halves_given _ t.source first (

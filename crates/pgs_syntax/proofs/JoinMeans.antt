@@ -14,14 +14,16 @@ use Rattle.std.proofs.lemmas.Map.Views.{any-filter_same}
 use Rattle.pgs_base.specs.declared.row.NodeRow.{NodeRow}
 use Rattle.pgs_base.specs.declared.value.Value.{Value}
 use Rattle.pgs_base.specs.Graph.{ascends}
+use Rattle.pgs_base.specs.Name.{is_name}
+use Rattle.pgs_base.specs.Value.{is_value}
 use Rattle.pgs_base.proofs.Ascending.{ascends_decides}
 use Rattle.pgs_base.proofs.Lookups.{same_entries, same_keys}
 use Rattle.pgs_syntax.specs.Join.{pair_of, halves, of_pairs, joined, joined_all}
 use Rattle.pgs_syntax.specs.Fitting.{same_name, has_label, value_at}
-use Rattle.pgs_syntax.specs.Meaning.{is_in_order, IsUnionAt, IsJoinWhere, IsJoinOf, IsJoinOfAll}
+use Rattle.pgs_syntax.specs.Meaning.{are_names, is_pair, IsUnionAt, IsJoinWhere, IsJoinOf, IsJoinOfAll}
 use Rattle.pgs_syntax.proofs.Halves.{joined_any, any_halves}
 use Rattle.pgs_syntax.proofs.Parts.{one_name}
-use Rattle.pgs_syntax.proofs.Splits.{IsSplit, none, to_left, to_right, to_both, split_from_any, any_from_split, split_any, split_ascends, split_map}
+use Rattle.pgs_syntax.proofs.Splits.{IsSplit, none, to_left, to_right, to_both, split_from_any, any_from_split, split_any, split_all, split_ascends, split_map}
 
 abbrev Names : Type 0
 Names = List (List ℕ)
@@ -209,51 +211,67 @@ values_split l r entries left right whole together =
 
 -- ---- joins
 
+labels_ascend : (p : NodeRow) → is_pair p ≡ true → ascends (slice_cmp nat_cmp) p.labels ≡ true
+labels_ascend p pair = (and_parts _ _ (and_parts _ _ (and_parts _ _ pair).0).0).0
+
+keys_ascend : (p : NodeRow) → is_pair p ≡ true → ascends (slice_cmp nat_cmp) (keys_of p.props) ≡ true
+keys_ascend p pair = (and_parts _ _ (and_parts _ _ (and_parts _ _ pair).0).1).0
+
+split_names : (l r names : Names) → IsSplit l r names → are_names names ≡ true → (are_names l ≡ true) × (are_names r ≡ true)
+split_names l r names split h =
+    let parts = and_parts _ _ h in
+    let order = split_ascends (slice_cmp nat_cmp) l r names split parts.0 in
+    let all = split_all is_name l r names split parts.1 in
+    (and_from _ _ order.0 all.0, and_from _ _ order.1 all.1)
+
 -- a couple of halves that passes a test is two pairs whose join is the pair, and the other way round
-pub halves_found : (c : NodeRow × NodeRow → Bool) (p : NodeRow) → is_in_order p ≡ true → list_any c (halves p) ≡ true → IsJoinWhere (λ first second. c (first, second)) p
-halves_found c p order h =
+pub halves_found : (c : NodeRow × NodeRow → Bool) (p : NodeRow) → is_pair p ≡ true → list_any c (halves p) ≡ true → IsJoinWhere (λ first second. c (first, second)) p
+halves_found c p pair h =
     let labels = split_from_any _ p.labels (sym (any_halves c p) ∙ h) in
     let props = split_from_any _ p.props labels.3 in
-    let labels_ascend = split_ascends (slice_cmp nat_cmp) labels.0 labels.1 p.labels labels.2 (and_parts _ _ order).0 in
-    let keys_ascend = split_ascends (slice_cmp nat_cmp) (keys_of props.0) (keys_of props.1) (keys_of p.props)
-    (split_map (λ (e : List ℕ × Value). e.0) props.0 props.1 p.props props.2) (and_parts _ _ order).1 in (
+    let parts = and_parts _ _ pair in
+    let names = and_parts _ _ parts.0 in
+    let by_label = split_names labels.0 labels.1 p.labels labels.2 names.0 in
+    let by_key = split_names (keys_of props.0) (keys_of props.1) (keys_of p.props)
+    (split_map (λ (e : List ℕ × Value). e.0) props.0 props.1 p.props props.2) names.1 in
+    let by_value = split_all (λ (e : List ℕ × Value). is_value e.1) props.0 props.1 p.props props.2 parts.1 in (
       pair_of labels.0 props.0,
       pair_of labels.1 props.1,
-      and_from _ _ labels_ascend.0 keys_ascend.0,
-      and_from _ _ labels_ascend.1 keys_ascend.1,
+      and_from _ _ (and_from _ _ by_label.0 by_key.0) by_value.0,
+      and_from _ _ (and_from _ _ by_label.1 by_key.1) by_value.1,
       record {
         labels = λ label. split_any (same_name label) labels.0 labels.1 p.labels labels.2;
-        values = λ key. split_values key props.0 props.1 p.props props.2 (and_parts _ _ order).1;
+        values = λ key. split_values key props.0 props.1 p.props props.2 (keys_ascend p pair);
       },
       props.3,
     )
 
-pub halves_given : (c : NodeRow × NodeRow → Bool) (p : NodeRow) → is_in_order p ≡ true → IsJoinWhere (λ first second. c (first, second)) p → list_any c (halves p) ≡ true
-halves_given c p order (first, second, one, other, join, passes) =
-    let labels = labels_split first.labels second.labels p.labels (and_parts _ _ one).0 (and_parts _ _ other).0 (and_parts _ _ order).0 join.labels in
-    let props = values_split first.props second.props p.props (and_parts _ _ one).1 (and_parts _ _ other).1 (and_parts _ _ order).1 join.values in
+pub halves_given : (c : NodeRow × NodeRow → Bool) (p : NodeRow) → is_pair p ≡ true → IsJoinWhere (λ first second. c (first, second)) p → list_any c (halves p) ≡ true
+halves_given c p pair (first, second, one, other, join, passes) =
+    let labels = labels_split first.labels second.labels p.labels (labels_ascend first one) (labels_ascend second other) (labels_ascend p pair) join.labels in
+    let props = values_split first.props second.props p.props (keys_ascend first one) (keys_ascend second other) (keys_ascend p pair) join.values in
     any_halves c p ∙ any_from_split _ first.labels second.labels p.labels labels (any_from_split _ first.props second.props p.props props passes)
 
-module _ (f g : NodeRow → Bool) (p : NodeRow) (order : is_in_order p ≡ true) where
+module _ (f g : NodeRow → Bool) (p : NodeRow) (pair : is_pair p ≡ true) where
   pub means : joined of_pairs f g p ≡ true → IsJoinOf f g p
   means h =
-      let join = halves_found (λ (s : NodeRow × NodeRow). g s.1 && f s.0) p order (sym (joined_any of_pairs f g p) ∙ h) in
+      let join = halves_found (λ (s : NodeRow × NodeRow). g s.1 && f s.0) p pair (sym (joined_any of_pairs f g p) ∙ h) in
       let passes = and_parts _ _ join.5 in
       (join.0, join.1, join.2, join.3, join.4, passes.1, passes.0)
 
   pub meant : IsJoinOf f g p → joined of_pairs f g p ≡ true
   meant (first, second, one, other, join, passes, too) =
       joined_any of_pairs f g p
-      ∙ halves_given (λ (s : NodeRow × NodeRow). g s.1 && f s.0) p order (first, second, one, other, join, and_from _ _ too passes)
+      ∙ halves_given (λ (s : NodeRow × NodeRow). g s.1 && f s.0) p pair (first, second, one, other, join, and_from _ _ too passes)
 
 -- joins of one pair for each test
-pub all_mean : (tests : List (NodeRow → Bool)) (p : NodeRow) → is_in_order p ≡ true → joined_all of_pairs tests p ≡ true → IsJoinOfAll tests p
-all_mean [] p order h = h
-all_mean (test ∷ tests) p order h =
-    let parts = means test (joined_all of_pairs tests) p order h in
+pub all_mean : (tests : List (NodeRow → Bool)) (p : NodeRow) → is_pair p ≡ true → joined_all of_pairs tests p ≡ true → IsJoinOfAll tests p
+all_mean [] p pair h = h
+all_mean (test ∷ tests) p pair h =
+    let parts = means test (joined_all of_pairs tests) p pair h in
     (parts.0, parts.1, parts.2, parts.3, parts.4, parts.5, all_mean tests parts.1 parts.3 parts.6)
 
-pub all_meant : (tests : List (NodeRow → Bool)) (p : NodeRow) → is_in_order p ≡ true → IsJoinOfAll tests p → joined_all of_pairs tests p ≡ true
-all_meant [] p order h = h
-all_meant (test ∷ tests) p order (first, rest, one, other, join, passes, all) =
-    meant test (joined_all of_pairs tests) p order (first, rest, one, other, join, passes, all_meant tests rest other all)
+pub all_meant : (tests : List (NodeRow → Bool)) (p : NodeRow) → is_pair p ≡ true → IsJoinOfAll tests p → joined_all of_pairs tests p ≡ true
+all_meant [] p pair h = h
+all_meant (test ∷ tests) p pair (first, rest, one, other, join, passes, all) =
+    meant test (joined_all of_pairs tests) p pair (first, rest, one, other, join, passes, all_meant tests rest other all)

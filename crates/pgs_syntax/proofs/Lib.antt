@@ -1,5 +1,7 @@
 pub mod Assigned
+pub mod Closed
 pub mod Computed
+pub mod Connected
 pub mod Edges
 pub mod Halves
 pub mod JoinMeans

@@ -1,6 +1,9 @@
+pub mod Closed
 pub mod Fitting
 pub mod Join
+pub mod KeySamples
 pub mod KeyValues
+pub mod Linked
 pub mod Matches
 pub mod Meaning
 pub mod Samples

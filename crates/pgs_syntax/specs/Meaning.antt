@@ -1,17 +1,26 @@
--- What a join is, in other words: of each label and of each key.
+-- What a pair is, and what a join is in other words: of each label and of each key.
 use Rattle.std.specs.Prelude.{◌≡◌, ℕ, Bool, true, ◌&&◌, ◌||◌, List, [], ◌∷◌, Option, Some, None}
+use Rattle.std.specs.List.{list_all}
 use Rattle.std.specs.Ordering.{nat_cmp}
 use Rattle.std.specs.Cmp.Lexicographic.{slice_cmp}
 use Rattle.std.specs.Map.{keys_of}
 use Rattle.pgs_base.specs.declared.row.NodeRow.{NodeRow}
 use Rattle.pgs_base.specs.declared.value.Value.{Value}
 use Rattle.pgs_base.specs.Graph.{ascends}
+use Rattle.pgs_base.specs.Name.{is_name}
+use Rattle.pgs_base.specs.Value.{is_value}
 use Rattle.pgs_syntax.specs.Join.{is_empty_pair, Triple}
 use Rattle.pgs_syntax.specs.Fitting.{has_label, value_at}
 
--- whether the labels and the keys of a pair ascend strictly, as those of an element do
-abbrev pub is_in_order : NodeRow → Bool
-is_in_order p = ascends (slice_cmp nat_cmp) p.labels && ascends (slice_cmp nat_cmp) (keys_of p.props)
+-- whether labels, or keys, are those of a pair: they ascend strictly, and each is a name
+abbrev pub are_names : List (List ℕ) → Bool
+are_names names = ascends (slice_cmp nat_cmp) names && list_all is_name names
+
+-- whether a row is a pair, as an element can carry it: its labels and its keys are such names, and its values are values
+abbrev pub is_pair : NodeRow → Bool
+is_pair p =
+    are_names p.labels && are_names (keys_of p.props)
+    && list_all (λ (entry : List ℕ × Value). is_value entry.1) p.props
 
 -- what two maps have at a key together: they agree where both have a value
 abbrev pub IsUnionAt : Option Value → Option Value → Option Value → Type 0
@@ -27,23 +36,23 @@ pub record IsJoin (first second p : NodeRow) : Type 0 where
 
 -- there are two pairs whose join is the pair and which together pass a test
 abbrev pub IsJoinWhere : (NodeRow → NodeRow → Bool) → NodeRow → Type 0
-IsJoinWhere test p = (first : NodeRow) × (second : NodeRow) × (is_in_order first ≡ true) × (is_in_order second ≡ true)
+IsJoinWhere test p = (first : NodeRow) × (second : NodeRow) × (is_pair first ≡ true) × (is_pair second ≡ true)
     × IsJoin first second p × (test first second ≡ true)
 
 -- there are two pairs whose join is the pair, one of which passes the first test and the other the second
 abbrev pub IsJoinOf : (NodeRow → Bool) → (NodeRow → Bool) → NodeRow → Type 0
-IsJoinOf f g p = (first : NodeRow) × (second : NodeRow) × (is_in_order first ≡ true) × (is_in_order second ≡ true)
+IsJoinOf f g p = (first : NodeRow) × (second : NodeRow) × (is_pair first ≡ true) × (is_pair second ≡ true)
     × IsJoin first second p × (f first ≡ true) × (g second ≡ true)
 
 -- there are pairs, one for each test and passing it, whose join is the pair; the join of none is the empty pair
 abbrev pub IsJoinOfAll : List (NodeRow → Bool) → NodeRow → Type 0
 IsJoinOfAll [] p = is_empty_pair p ≡ true
-IsJoinOfAll (test ∷ tests) p = (first : NodeRow) × (rest : NodeRow) × (is_in_order first ≡ true) × (is_in_order rest ≡ true)
+IsJoinOfAll (test ∷ tests) p = (first : NodeRow) × (rest : NodeRow) × (is_pair first ≡ true) × (is_pair rest ≡ true)
     × IsJoin first rest p × (test first ≡ true) × IsJoinOfAll tests rest
 
 -- there are two pairs whose join is the pair and of which a claim holds
 abbrev pub IsJoinSuch : (NodeRow → NodeRow → Type 0) → NodeRow → Type 0
-IsJoinSuch Claim p = (first : NodeRow) × (second : NodeRow) × (is_in_order first ≡ true) × (is_in_order second ≡ true)
+IsJoinSuch Claim p = (first : NodeRow) × (second : NodeRow) × (is_pair first ≡ true) × (is_pair second ≡ true)
     × IsJoin first second p × Claim first second
 
 -- there are pairs that pass the tests of a source and of a target, and the edge's own pair with others at its ends passes the

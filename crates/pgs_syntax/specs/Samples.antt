@@ -8,9 +8,9 @@ use Rattle.pgs_base.specs.declared.value.Kind.{Kind}
 use Rattle.pgs_base.specs.declared.value.Kind.TheVariants as kinds
 use Rattle.pgs_base.specs.declared.value.Value.{Value}
 use Rattle.pgs_base.specs.declared.value.Value.TheVariants as values
+use Rattle.pgs_base.specs.Graph.{Graph}
 use Rattle.pgs_syntax.specs.declared.element_type.NodeType.{NodeType}
 use Rattle.pgs_syntax.specs.declared.element_type.EdgeType.{EdgeType}
-use Rattle.pgs_base.specs.Graph.{Graph}
 use Rattle.pgs_syntax.specs.declared.key.Key.{Key}
 use Rattle.pgs_syntax.specs.declared.key.Qualifiers.{Qualifiers}
 use Rattle.pgs_syntax.specs.declared.pattern.Atom.{Atom}
@@ -25,7 +25,7 @@ use Rattle.pgs_syntax.specs.declared.specification.Leaf.{Leaf}
 use Rattle.pgs_syntax.specs.declared.specification.Leaf.TheVariants.{Label, Named}
 use Rattle.pgs_syntax.specs.declared.specification.Property.{Property}
 use Rattle.pgs_syntax.specs.declared.specification.Spec as specs
-use Rattle.pgs_syntax.specs.declared.specification.Spec.{Spec, Word, And, Or, Opt}
+use Rattle.pgs_syntax.specs.declared.specification.Spec.{Spec, Empty, Word, OpenLabels, And, Or, Opt}
 use Rattle.pgs_syntax.specs.Join.{pair_of}
 
 -- a label, a named type, and braces without and with OPEN
@@ -60,7 +60,7 @@ node_type name place spec = record { name = name; hidden = false; place = place;
 abbrev pub abstract_type : List ℕ → ℕ → Spec Leaf → NodeType Leaf
 abstract_type name place spec = record { name = name; hidden = true; place = place; spec = spec }
 
--- a schema of these types, all of them members of the guard
+-- a STRICT schema of these node and edge types, with these members and keys
 abbrev pub schema : List (NodeType Leaf) → List (EdgeType Leaf) → List TypeNo → List Key → Resolved
 schema nodes edges types keys =
     record { nodes = nodes; edges = edges; guard = record { strict = true; types = types; keys = keys } }
@@ -109,6 +109,10 @@ shared_key =
     ∷ node_type (codes "c") 3 (type 0 & type 1) ∷ [])
     [] (numbers.Node 2 ∷ []) []
 
+-- a pair of labels
+abbrev pub labelled : List (List ℕ) → NodeRow
+labelled labels = pair_of labels []
+
 -- a pair of one property
 abbrev pub with : List ℕ → Value → NodeRow
 with key value = pair_of [] ((key, value) ∷ [])
@@ -117,6 +121,21 @@ with key value = pair_of [] ((key, value) ∷ [])
 abbrev pub open_type : Resolved
 open_type =
     schema (node_type (codes "t") 1 (open_braces (optional (codes "age") kinds.Int ∷ [])) ∷ []) [] (numbers.Node 0 ∷ []) []
+
+-- (t: A | (B & C?))
+abbrev pub either_type : Resolved
+either_type =
+    schema
+    (node_type (codes "t") 1 (Or (label (codes "A") ∷ (label (codes "B") & Opt (label (codes "C"))) ∷ [])) ∷ [])
+    [] (numbers.Node 0 ∷ []) []
+
+-- (t: A OPEN)
+abbrev pub open_labels : Resolved
+open_labels = schema (node_type (codes "t") 1 (label (codes "A") & OpenLabels) ∷ []) [] (numbers.Node 0 ∷ []) []
+
+-- (t)
+abbrev pub bare_type : Resolved
+bare_type = schema (node_type (codes "t") 1 Empty ∷ []) [] (numbers.Node 0 ∷ []) []
 
 -- ABSTRACT (t: A), ABSTRACT (u: B)
 abbrev pub abstract_types : Resolved
@@ -133,12 +152,32 @@ acquaintance =
     (record { name = codes "e"; hidden = false; place = 3; source = type 1; middle = label (codes "knows"); target = type 0 } ∷ [])
     (numbers.Node 0 ∷ numbers.Node 1 ∷ numbers.Edge 0 ∷ []) []
 
--- n1 with these labels, n2 with P, and e1 from n1 to n2 with knows
-abbrev pub acquainted : List (List ℕ) → Graph
-acquainted labels = record {
+-- n1 with these labels, n2 with P, and e1 from n1 to n2 with this label
+abbrev pub tied : List (List ℕ) → List ℕ → Graph
+tied labels name = record {
   nodes = node 1 labels [] ∷ node 2 (codes "P" ∷ []) [] ∷ [];
-  edges = edge 1 1 2 (codes "knows") ∷ [];
+  edges = edge 1 1 2 name ∷ [];
 }
+
+-- the same with knows
+abbrev pub acquainted : List (List ℕ) → Graph
+acquainted labels = tied labels (codes "knows")
+
+-- (p: P), (q: Q), (:p)-[e: knows]->(:p), (:q)-[f: e | likes]->(:p), of which f is a member
+abbrev pub ties : Resolved
+ties =
+    schema
+    (node_type (codes "p") 1 (label (codes "P")) ∷ node_type (codes "q") 2 (label (codes "Q")) ∷ [])
+    (record { name = codes "e"; hidden = false; place = 3; source = type 0; middle = label (codes "knows"); target = type 0 }
+    ∷ record {
+      name = codes "f";
+      hidden = false;
+      place = 4;
+      source = type 1;
+      middle = Or (type 0 ∷ label (codes "likes") ∷ []);
+      target = type 0;
+    } ∷ [])
+    (numbers.Edge 1 ∷ []) []
 
 -- ABSTRACT (namedType {name STRING}), (personType: namedType & Person {mail STRING, OPTIONAL born DATE}) and
 -- (employeeType: personType & Employee {salary INT}), as members

@@ -15,21 +15,21 @@ use Rattle.pgs_syntax.specs.Join.{Triple, pair_of}
 use Rattle.pgs_syntax.specs.Fitting.{fits_node, fits_edge}
 
 -- whether a node type, and an edge type, is there and isn't abstract
-abbrev pub is_open_node_type : Resolved → ℕ → Bool
-is_open_node_type resolved number = option_map_or (λ (type : NodeType Leaf). not type.hidden) (slice_get resolved.nodes number) false
+abbrev pub is_concrete_node_type : Resolved → ℕ → Bool
+is_concrete_node_type resolved number = option_map_or (λ (type : NodeType Leaf). not type.hidden) (slice_get resolved.nodes number) false
 
-abbrev pub is_open_edge_type : Resolved → ℕ → Bool
-is_open_edge_type resolved number = option_map_or (λ (type : EdgeType Leaf). not type.hidden) (slice_get resolved.edges number) false
+abbrev pub is_concrete_edge_type : Resolved → ℕ → Bool
+is_concrete_edge_type resolved number = option_map_or (λ (type : EdgeType Leaf). not type.hidden) (slice_get resolved.edges number) false
 
 -- whether a type makes a node of this pair typed
 abbrev pub types_node : Resolved → NodeRow → TypeNo → Bool
-types_node resolved p (Node number) = is_open_node_type resolved number && fits_node resolved number p
+types_node resolved p (Node number) = is_concrete_node_type resolved number && fits_node resolved number p
 types_node resolved p (Edge number) = false
 
 -- whether a type makes an edge of this triple typed
 abbrev pub types_edge : Resolved → Triple → TypeNo → Bool
 types_edge resolved t (Node number) = false
-types_edge resolved t (Edge number) = is_open_edge_type resolved number && fits_edge resolved number t
+types_edge resolved t (Edge number) = is_concrete_edge_type resolved number && fits_edge resolved number t
 
 -- whether a node of this pair is typed
 abbrev pub node_typed : Resolved → NodeRow → Bool

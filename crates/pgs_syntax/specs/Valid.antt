@@ -18,7 +18,7 @@ use Rattle.pgs_syntax.specs.declared.specification.Leaf.{Leaf}
 use Rattle.pgs_syntax.specs.declared.specification.Leaf.TheVariants.{Named}
 use Rattle.pgs_syntax.specs.declared.specification.Property.{Property as BracedProperty}
 use Rattle.pgs_syntax.specs.declared.specification.Spec as specs
-use Rattle.pgs_syntax.specs.declared.specification.Spec.{Spec, Empty, Word, OpenLabels, And', Or', Opt', Row_of-Spec, end_of-Spec, more_of-Spec}
+use Rattle.pgs_syntax.specs.declared.specification.Spec.{Spec, Word, And', Or', Opt', Row_of-Spec, end_of-Spec, more_of-Spec}
 use Rattle.pgs_syntax.specs.Fitting.{same_name}
 
 -- whether a variable is an edge of the pattern, and whether it is a node
@@ -114,7 +114,8 @@ abbrev mutual
   are_valid_specs bound end_of-Spec = true
   are_valid_specs bound (more_of-Spec part parts) = is_valid_spec bound part && are_valid_specs bound parts
 
--- whether node types, the first of which has this number, name only types before themselves
+-- whether node types, the first of which has this number, name only types before themselves, and no braces in them name a
+-- key twice
 abbrev pub are_valid_nodes : ℕ → List (NodeType Leaf) → Bool
 are_valid_nodes number [] = true
 are_valid_nodes number (type ∷ types) = is_valid_spec number type.spec && are_valid_nodes (number + 1) types
@@ -147,8 +148,8 @@ abbrev pub places_of : Resolved → List ℕ
 places_of resolved =
     map (λ (type : NodeType Leaf). type.place) resolved.nodes ++ map (λ (type : EdgeType Leaf). type.place) resolved.edges
 
--- whether a resolved schema is valid: its types name only types before themselves, no two have one place, the guard's
--- types are there, and it has at most 256 keys, which are valid
+-- whether a resolved schema is valid: its types name only types before themselves, none of their braces names a key twice, no
+-- two have one place, the guard's types are there, and it has at most 256 keys, which are valid
 abbrev pub is_valid : Resolved → Bool
 is_valid resolved =
     are_valid_nodes 0 resolved.nodes && are_valid_edges (length resolved.nodes) 0 resolved.edges

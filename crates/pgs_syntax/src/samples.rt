@@ -1,16 +1,32 @@
-//! What the definitions say of small schemas and graphs, which stand in `specs/Samples.antt`. The functions do nothing; their
-//! contracts are the statements.
+//! What the definitions say of small schemas and graphs, which stand in `specs/Samples.antt` and
+//! `specs/KeySamples.antt`. The functions do nothing; their contracts are the statements.
 
-ghost use Rattle.std.specs.Prelude.{◌≡◌, true, false, pos, [], ◌∷◌, codes};
+ghost use Rattle.std.specs.Prelude.{◌≡◌, true, false, pos, negsuc, [], ◌∷◌, codes};
 ghost use Rattle.pgs_base.specs.declared.element.Elem.TheVariants as elems;
 ghost use Rattle.pgs_base.specs.declared.part.Part.TheVariants as parts;
-ghost use Rattle.pgs_base.specs.declared.value.Value.TheVariants.{Text, Int};
-ghost use Rattle.pgs_syntax.specs.declared.resolved.TypeNo.TheVariants.{Node, Edge};
+ghost use Rattle.pgs_base.specs.declared.value.Value.TheVariants.{Text, Int, Date};
+ghost use Rattle.pgs_syntax.specs.declared.resolved.TypeNo.TheVariants.{Node};
+ghost use Rattle.pgs_syntax.specs.declared.specification.Leaf.TheVariants.{Named};
+ghost use Rattle.pgs_syntax.specs.declared.specification.Spec.{Word};
+ghost use Rattle.pgs_syntax.specs.Closed.{is_closed, names_key};
 ghost use Rattle.pgs_syntax.specs.Join.{pair_of};
+ghost use Rattle.pgs_syntax.specs.KeySamples.{the_node, one_text, mail_key, mails, two_persons, holder, held_post};
 ghost use Rattle.pgs_syntax.specs.KeyValues.{scope_of, key_values};
-ghost use Rattle.pgs_syntax.specs.Samples.{staff, ann, shared_key, with, open_type, abstract_types, acquaintance, acquainted, social, cyd, bob, two_steps, steps_to, moderator, forum, by_n4, by_n5, keyed, edge, two_apart, names_later, names_twice};
+ghost use Rattle.pgs_syntax.specs.Meaning.{is_pair};
+ghost use Rattle.pgs_syntax.specs.Samples.{staff, ann, shared_key, labelled, with, open_type, either_type, open_labels, bare_type, abstract_types, acquaintance, acquainted, tied, ties, social, cyd, bob, two_steps, steps_to, moderator, forum, by_n4, by_n5, keyed, edge, two_apart, names_later, names_twice};
 ghost use Rattle.pgs_syntax.specs.Typed.{node_typed, edge_is_typed};
 ghost use Rattle.pgs_syntax.specs.Valid.{is_valid, is_valid_key, is_valid_pattern};
+
+/// Which rows are pairs: the names of labels and keys ascend, and values are in their range.
+pub fn pairs()
+    ensures ann_is_pair { is_pair ann ≡ true }
+    ensures least_number { is_pair (with (codes "k") (Int (negsuc 9223372036854775807))) ≡ true }
+    ensures descending { is_pair (labelled (codes "B" ∷ codes "A" ∷ [])) ≡ false }
+    ensures no_name { is_pair (labelled (codes "1A" ∷ [])) ≡ false }
+    ensures beyond_range { is_pair (with (codes "k") (Int (pos 9223372036854775808))) ≡ false }
+    ensures no_text { is_pair (with (codes "k") (Text (255 ∷ []))) ≡ false }
+    ensures no_day { is_pair (with (codes "k") (Date (2023, 2, 29))) ≡ false }
+{}
 
 /// A type that adds to a closed type types its own elements. The closed type alone doesn't.
 pub fn heirs()
@@ -30,6 +46,27 @@ pub fn open_braces()
     ensures free_key { node_typed open_type (with (codes "zip") (Text (codes "x"))) ≡ true }
 {}
 
+/// A union, a conjunction and an optional part.
+pub fn unions_and_options()
+    ensures left_fits { node_typed either_type (labelled (codes "A" ∷ [])) ≡ true }
+    ensures option_left_out { node_typed either_type (labelled (codes "B" ∷ [])) ≡ true }
+    ensures option_taken { node_typed either_type (labelled (codes "B" ∷ codes "C" ∷ [])) ≡ true }
+    ensures option_alone { node_typed either_type (labelled (codes "C" ∷ [])) ≡ false }
+{}
+
+/// With OPEN beside the labels further labels are free; those that are written have to be there.
+pub fn open_labels()
+    ensures further_label { node_typed open_labels (labelled (codes "A" ∷ codes "B" ∷ [])) ≡ true }
+    ensures label_missing { node_typed open_labels (labelled (codes "B" ∷ [])) ≡ false }
+{}
+
+/// A type of which nothing is written has no labels and no properties.
+pub fn bare_types()
+    ensures empty_fits { node_typed bare_type (labelled []) ≡ true }
+    ensures label_refused { node_typed bare_type (labelled (codes "A" ∷ [])) ≡ false }
+    ensures key_refused { node_typed bare_type (with (codes "k") (Int (pos 5))) ≡ false }
+{}
+
 /// An abstract type makes no element typed.
 pub fn abstract_types()
     ensures { node_typed abstract_types (pair_of (codes "A" ∷ []) []) ≡ false }
@@ -39,6 +76,14 @@ pub fn abstract_types()
 pub fn edge_ends()
     ensures edge_typed { edge_is_typed acquaintance (acquainted (codes "P" ∷ codes "Q" ∷ [])) (edge 1 1 2 (codes "knows")).1 ≡ true }
     ensures edge_untyped { edge_is_typed acquaintance (acquainted (codes "P" ∷ [])) (edge 1 1 2 (codes "knows")).1 ≡ false }
+{}
+
+/// An edge type whose middle is a union of another edge type and a label. The ends of the type that it names count too.
+pub fn edge_unions()
+    ensures by_label { edge_is_typed ties (tied (codes "Q" ∷ []) (codes "likes")) (edge 1 1 2 (codes "likes")).1 ≡ true }
+    ensures by_type { edge_is_typed ties (tied (codes "P" ∷ codes "Q" ∷ []) (codes "knows")) (edge 1 1 2 (codes "knows")).1 ≡ true }
+    ensures without_its_end { edge_is_typed ties (tied (codes "Q" ∷ []) (codes "knows")) (edge 1 1 2 (codes "knows")).1 ≡ false }
+    ensures neither { edge_is_typed ties (tied (codes "P" ∷ codes "Q" ∷ []) (codes "hates")) (edge 1 1 2 (codes "hates")).1 ≡ false }
 {}
 
 /// Persons and employees of a social network. A salary wants the label Employee.
@@ -66,6 +111,27 @@ pub fn values_of_parts()
         ∷ (parts.Value (Text (codes "db")) ∷ parts.Elem (elems.Node (record { 0 = 5 })) ∷ []) ∷ [] }
 {}
 
+/// The scope of a key that says which type its elements fit, and a key value.
+pub fn values_of_mails()
+    ensures mail_scope { scope_of mails (two_persons (codes "a") (codes "b")) mail_key ≡ the_node 1 ∷ the_node 2 ∷ [] }
+    ensures mail_value { key_values mails (two_persons (codes "a") (codes "b")) mail_key (the_node 1) ≡ one_text (codes "a") ∷ [] }
+{}
+
+/// The forum that holds a post, as the key value of the post.
+pub fn values_of_holders()
+    ensures post_scope { scope_of (keyed (holder ∷ [])) held_post holder ≡ the_node 20 ∷ [] }
+    ensures post_holder { key_values (keyed (holder ∷ [])) held_post holder (the_node 20) ≡ (parts.Elem (the_node 10) ∷ []) ∷ [] }
+{}
+
+/// Which specifications are closed, and which keys they name, in braces of their own or of the types that they name.
+pub fn closedness()
+    ensures employee_closed { is_closed social (Word (Named 2)) ≡ true }
+    ensures own_key { names_key social (Word (Named 2)) (codes "salary") ≡ true }
+    ensures parents_key { names_key social (Word (Named 2)) (codes "name") ≡ true }
+    ensures other_key { names_key social (Word (Named 2)) (codes "age") ≡ false }
+    ensures open_not_closed { is_closed open_type (Word (Named 0)) ≡ false }
+{}
+
 /// Schemas and keys that are valid, and some that aren't: a pattern in two parts, a type that names a later one, braces
 /// that name a key twice.
 pub fn validity()
@@ -73,6 +139,9 @@ pub fn validity()
     ensures valid_acquaintance { is_valid acquaintance ≡ true }
     ensures valid_moderator { is_valid_key moderator ≡ true }
     ensures valid_steps { is_valid_key two_steps ≡ true }
+    ensures valid_ties { is_valid ties ≡ true }
+    ensures valid_mails { is_valid mails ≡ true }
+    ensures valid_holder { is_valid_key holder ≡ true }
     ensures apart { is_valid_pattern two_apart ≡ false }
     ensures too_early { is_valid names_later ≡ false }
     ensures twice { is_valid names_twice ≡ false }

@@ -42,9 +42,3 @@ decisions limits verdict g [] = []
 decisions limits verdict g (txn ∷ txns) =
     let decision = decide limits verdict g txn in
     decision ∷ decisions limits verdict (graph_after g decision) txns
-
--- the graph after the accepted ones of transactions
-abbrev pub graph_after_all : Limits → (Graph → Verdict) → Graph → List Txn → Graph
-graph_after_all limits verdict g [] = g
-graph_after_all limits verdict g (txn ∷ txns) =
-    graph_after_all limits verdict (graph_after g (decide limits verdict g txn)) txns

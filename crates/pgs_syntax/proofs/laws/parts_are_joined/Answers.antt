@@ -6,7 +6,7 @@ use Rattle.pgs_syntax.proofs.Specs.{suits_and}
 use Rattle.pgs_syntax.proofs.laws.parts_are_joined.Goals as goal
 
 pub returns : goal.returns
-returns c = λ resolved parts p order. (
-  λ h. all_mean (map (fits resolved) parts) p order (sym (suits_and of_pairs (fits_node resolved) parts p) ∙ h),
-  λ h. suits_and of_pairs (fits_node resolved) parts p ∙ all_meant (map (fits resolved) parts) p order h,
+returns c = λ resolved parts p pair. (
+  λ h. all_mean (map (fits resolved) parts) p pair (sym (suits_and of_pairs (fits_node resolved) parts p) ∙ h),
+  λ h. suits_and of_pairs (fits_node resolved) parts p ∙ all_meant (map (fits resolved) parts) p pair h,
 )

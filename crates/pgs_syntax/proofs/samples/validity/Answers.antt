@@ -21,3 +21,12 @@ returns-clause-too_early c = samples.too_early
 
 pub returns-clause-twice : goal.returns-clause-twice
 returns-clause-twice c = samples.twice
+
+pub returns-clause-valid_ties : goal.returns-clause-valid_ties
+returns-clause-valid_ties c = samples.valid_ties
+
+pub returns-clause-valid_mails : goal.returns-clause-valid_mails
+returns-clause-valid_mails c = samples.valid_mails
+
+pub returns-clause-valid_holder : goal.returns-clause-valid_holder
+returns-clause-valid_holder c = samples.valid_holder
