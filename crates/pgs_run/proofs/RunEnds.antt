@@ -5,7 +5,7 @@ use Rattle.pgs_world.specs.Source.{Takes, IsAtEnd}
 use Rattle.pgs_run.specs.declared.reading.End.{End}
 use Rattle.pgs_run.specs.declared.reading.End.TheVariants.{Whole, Cut}
 use Rattle.pgs_run.specs.declared.status.Status.{Status}
-use Rattle.pgs_run.specs.declared.status.Status.TheVariants.{Accepted, Refused, BadWords, SchemaRefused, StoreRefused, DiskFault, ReadFault, PutFault, Memory, InputTooLong}
+use Rattle.pgs_run.specs.declared.status.Status.TheVariants.{SchemaRefused, ReadFault, PutFault, Memory, InputTooLong}
 use Rattle.pgs_run.specs.declared.schema_part.SchemaPart.{SchemaPart}
 use Rattle.pgs_run.specs.declared.stop.Stop.{Stop}
 use Rattle.pgs_run.specs.declared.stop.Stop.TheVariants as stops
@@ -13,9 +13,9 @@ use Rattle.pgs_run.specs.declared.transcript.Phase.TheVariants.{Schema}
 use Rattle.pgs_run.specs.declared.transcript.Transcript.{Transcript}
 use Rattle.pgs_run.specs.Ending.{Ends, HasEndCause}
 use Rattle.pgs_run.specs.Input.{front_of}
-use Rattle.pgs_run.specs.Pieces.{ShowsAll, ShowsFirst, ShowsTorn}
+use Rattle.pgs_run.specs.Pieces.{ShowsAll}
 use Rattle.pgs_run.specs.Reading.{Reads}
-use Rattle.pgs_run.specs.Run.{IsRead, EndsTry, HasTryCause}
+use Rattle.pgs_run.specs.Run.{EndsTry}
 use Rattle.pgs_run.specs.Told.{Told, told_cut, told_whole, told_try}
 use Rattle.pgs_run.specs.Transcript.{IsAt, Stands, is_refused}
 use Rattle.pgs_run.proofs.LastLine.{Tells, all_first, first_more, torn_more, cut_status}
@@ -55,18 +55,6 @@ rest_of input seen before left is taken = rest_by input seen left (sym is ∙ ta
 
 at_end_of : (rest : List ℕ) (left : Option (List ℕ)) → left ≡ Some rest → IsAtEnd left → rest ≡ []
 at_end_of rest left is at_end = subst IsAtEnd is at_end
-
-pub is_read : (left : Option (List ℕ)) (status : Status) → IsAtEnd left → IsRead left status
-is_read left Accepted end = end
-is_read left Refused end = end
-is_read left BadWords end = tt
-is_read left SchemaRefused end = tt
-is_read left StoreRefused end = tt
-is_read left DiskFault end = tt
-is_read left ReadFault end = tt
-is_read left PutFault end = tt
-is_read left Memory end = tt
-is_read left InputTooLong end = tt
 
 -- the input was read to its end
 pub whole_told : (input : List ℕ) (start before left now : Option (List ℕ)) (budget : ℕ) (t : Transcript) (r : Reads start budget before left t (Ok Whole) now) → before ≡ Some input → told_try input budget ≡ told_whole r.seen
@@ -143,10 +131,10 @@ cut_ends start before left now input budget t end how ended_so cut_so reads is g
     let r = reads_as start before left now budget t end (Ok Cut) so reads in
     let going : is_refused t.phase ≡ false = subst (λ e. OnOk e (is_refused t.phase ≡ false)) so going in
     record {
-    shown = subst (λ (told : Told). Ends start told InputTooLong now) (sym (cut_told input start before left now budget t r is)) (r.ends.2, cut_status r.seen t going r.ends.1);
-    read_fault = λ rest left_is same. cc;
-    within = λ rest left_is. within_budget input rest r.seen budget before left is r.taken (let few = r.ends.0 in omega arith) left_is;
-    too_long = λ rest left_is same. taken_length input rest r.seen before left is r.taken left_is ∙ ap (λ n. n + length rest) r.ends.0;
+      shown = subst (λ (told : Told). Ends start told InputTooLong now) (sym (cut_told input start before left now budget t r is)) (r.ends.2, cut_status r.seen t going r.ends.1);
+      read_fault = λ rest left_is same. cc;
+      within = λ rest left_is. within_budget input rest r.seen budget before left is r.taken (let few = r.ends.0 in omega arith) left_is;
+      too_long = λ rest left_is same. taken_length input rest r.seen before left is r.taken left_is ∙ ap (λ n. n + length rest) r.ends.0;
     }
 
 pub refused_ends : (start before left now : Option (List ℕ)) (input : List ℕ) (budget : ℕ) (t : Transcript) (end : Result End Stop) (stop : Stop) → end ≡ Err stop → stop ≡ stops.SchemaRefused → Reads start budget before left t end now → before ≡ Some input → EndsTry start input budget left SchemaRefused now
@@ -204,19 +192,3 @@ read_fault_ends start before left now input budget t end stop ended_so stopped_s
       within = λ rest left_is. within_budget input rest r.seen budget before left is r.taken r.ends.0 left_is;
       too_long = λ rest left_is same. cc;
     }
-
--- the counts of a run whose input was read to its end
-pub whole_cause : (reads reads_now puts puts_mid puts_now : ℕ) (status : Status) → reads_now ≡ reads → puts_mid ≡ puts → HasEndCause puts_mid puts_now status → HasTryCause reads reads_now puts puts_now status
-whole_cause reads reads_now puts puts_mid puts_now status same mid cause = by_status status (subst (λ count. HasEndCause count puts_now status) mid cause)
-  where
-    by_status : (status : Status) → HasEndCause puts puts_now status → HasTryCause reads reads_now puts puts_now status
-    by_status Accepted cause = (same, cause)
-    by_status Refused cause = (same, cause)
-    by_status BadWords cause = absurd cause
-    by_status SchemaRefused cause = (same, cause)
-    by_status StoreRefused cause = absurd cause
-    by_status DiskFault cause = absurd cause
-    by_status ReadFault cause = absurd cause
-    by_status PutFault cause = (same, cause)
-    by_status Memory cause = (same, cause)
-    by_status InputTooLong cause = absurd cause
