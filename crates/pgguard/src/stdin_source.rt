@@ -1,4 +1,4 @@
-ghost use Rattle.std.specs.Prelude.{None};
+ghost use Rattle.std.specs.Prelude.{◌≡◌, None};
 
 use pgs_world::{Source, SourceFault};
 use std::io::Read;
@@ -12,7 +12,9 @@ pub struct StdinSource<R: Read> {
 
 impl<R: Read> StdinSource<R> {
     /// The reader as a source without a fault.
-    pub fn new(reader: R) -> StdinSource<R> {
+    pub fn new(reader: R) -> StdinSource<R>
+        ensures { ⟦<StdinSource<R> as Source>⟧.faults result ≡ 0 }
+    {
         StdinSource { reader, faults: 0 }
     }
 }

@@ -14,7 +14,10 @@ pub struct StdoutWorld<W: Write> {
 
 impl<W: Write> StdoutWorld<W> {
     /// The writer as a world without a fault.
-    pub fn new(writer: W) -> StdoutWorld<W> {
+    pub fn new(writer: W) -> StdoutWorld<W>
+        ensures area_faults { (⟦<StdoutWorld<W> as World>⟧.view result).area_faults ≡ 0 }
+        ensures put_faults { (⟦<StdoutWorld<W> as World>⟧.view result).put_faults ≡ 0 }
+    {
         StdoutWorld {
             writer,
             area_faults: 0,

@@ -6,7 +6,7 @@ use Rattle.pgs_run.specs.declared.status.Status.{Status}
 use Rattle.pgs_run.specs.declared.status.Status.TheVariants.{Accepted, Refused, BadWords, SchemaRefused, StoreRefused, DiskFault, ReadFault, PutFault, Memory, InputTooLong}
 use Rattle.pgs_run.specs.Ending.{Ends}
 use Rattle.pgs_run.specs.Input.{lines_of, after_separator, schema_part}
-use Rattle.pgs_run.specs.Run.{IsDisturbed, IsComplete, HasRunCause}
+use Rattle.pgs_run.specs.Run.{IsDisturbed, IsComplete, HasTryCause, HasRunCause}
 use Rattle.pgs_run.specs.Session.{Standing, after_lines}
 use Rattle.pgs_run.specs.Told.{Told, start, schema_of, told_schema, told_try, told_of_words, is_try, told}
 use Rattle.pgs_run.proofs.ToldFronts.{try_whole}
@@ -18,6 +18,45 @@ told_read words input budget is = rw is refl
 pub told_refused : (words : List (List ℕ)) (input : List ℕ) (budget : ℕ) → is_try words ≡ false → told words input budget ≡ told_of_words
 unfolding told
 told_refused words input budget is = rw is refl
+
+-- a fault that is answered came, and no other
+pub try_cause : (reads reads_now puts puts_now : ℕ) (status : Status) → HasTryCause reads reads_now puts puts_now status → HasRunCause true reads reads_now puts puts_now status
+try_cause reads reads_now puts puts_now Accepted cause = tt
+try_cause reads reads_now puts puts_now Refused cause = tt
+try_cause reads reads_now puts puts_now BadWords cause = absurd cause
+try_cause reads reads_now puts puts_now SchemaRefused cause = tt
+try_cause reads reads_now puts puts_now StoreRefused cause = absurd cause
+try_cause reads reads_now puts puts_now DiskFault cause = absurd cause
+try_cause reads reads_now puts puts_now ReadFault cause = cause.0
+try_cause reads reads_now puts puts_now PutFault cause = cause.1
+try_cause reads reads_now puts puts_now Memory cause = tt
+try_cause reads reads_now puts puts_now InputTooLong cause = tt
+
+-- a read fault that isn't answered didn't come
+pub try_read_told : (reads reads_now puts puts_now : ℕ) (status : Status) → HasTryCause reads reads_now puts puts_now status → (status ≡ ReadFault → ⊥) → reads_now ≡ reads
+try_read_told reads reads_now puts puts_now Accepted cause other = cause.0
+try_read_told reads reads_now puts puts_now Refused cause other = cause.0
+try_read_told reads reads_now puts puts_now BadWords cause other = absurd cause
+try_read_told reads reads_now puts puts_now SchemaRefused cause other = cause.0
+try_read_told reads reads_now puts puts_now StoreRefused cause other = absurd cause
+try_read_told reads reads_now puts puts_now DiskFault cause other = absurd cause
+try_read_told reads reads_now puts puts_now ReadFault cause other = absurd (other refl)
+try_read_told reads reads_now puts puts_now PutFault cause other = cause.0
+try_read_told reads reads_now puts puts_now Memory cause other = cause.0
+try_read_told reads reads_now puts puts_now InputTooLong cause other = cause.0
+
+-- a put fault that isn't answered didn't come
+pub try_put_told : (reads reads_now puts puts_now : ℕ) (status : Status) → HasTryCause reads reads_now puts puts_now status → (status ≡ PutFault → ⊥) → puts_now ≡ puts
+try_put_told reads reads_now puts puts_now Accepted cause other = cause.1
+try_put_told reads reads_now puts puts_now Refused cause other = cause.1
+try_put_told reads reads_now puts puts_now BadWords cause other = absurd cause
+try_put_told reads reads_now puts puts_now SchemaRefused cause other = cause.1
+try_put_told reads reads_now puts puts_now StoreRefused cause other = absurd cause
+try_put_told reads reads_now puts puts_now DiskFault cause other = absurd cause
+try_put_told reads reads_now puts puts_now ReadFault cause other = cause.1
+try_put_told reads reads_now puts puts_now PutFault cause other = absurd (other refl)
+try_put_told reads reads_now puts puts_now Memory cause other = cause.1
+try_put_told reads reads_now puts puts_now InputTooLong cause other = cause.1
 
 -- a run that nothing disturbed has the status told
 pub exact_of : (start now : Option (List ℕ)) (told : Told) (status : Status) → Ends start told status now → IsDisturbed status ⊎ (status ≡ told.status)

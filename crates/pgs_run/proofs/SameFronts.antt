@@ -4,7 +4,7 @@ use Rattle.std.specs.Cmp.Lexicographic.{unequal}
 use Rattle.std.proofs.lemmas.Bool.Decides.{nat_tests}
 use Rattle.pgs_parser.specs.declared.first_schema.FirstSchema.{FirstSchema}
 use Rattle.pgs_run.specs.Input.{text_limit, front_of, is_separator, is_blank}
-use Rattle.pgs_run.specs.Session.{Standing, txn_of, answer_to, after_refusal, after_line, pieces_of_line}
+use Rattle.pgs_run.specs.Session.{Standing, first_txn_of, answer_to, after_refusal, after_line, pieces_of_line}
 use Rattle.pgs_run.specs.Texts.{refused_line, not_built_text}
 use Rattle.pgs_run.specs.Told.{schema_of}
 use Rattle.pgs_run.proofs.Fronts.{same_of_front}
@@ -31,8 +31,8 @@ long_blank : (line : List ℕ) → text_limit < length line → is_blank line �
 unfolding is_blank
 long_blank line long = rw (is_long (length line) long).1 refl
 
-long_txn : (line : List ℕ) → text_limit < length line → txn_of line ≡ None
-unfolding txn_of
+long_txn : (line : List ℕ) → text_limit < length line → first_txn_of line ≡ None
+unfolding first_txn_of
 long_txn line long = rw (is_long (length line) long).0 refl
 
 long_after : (schema : FirstSchema) (s : Standing) (line : List ℕ) → text_limit < length line → after_line schema s line ≡ after_refusal s

@@ -30,10 +30,6 @@ shows_torn start old new before piece shows adds = record {
   shows = shows_more start old new before adds.front shows adds.added;
 }
 
--- all pieces are some first pieces of all
-pub first_of_all : (start now : Option (List ℕ)) (pieces later : List (List ℕ)) → ShowsAll start pieces now → ShowsFirst start (pieces ++ later) now
-first_of_all start now pieces later shows = record { first = pieces; later = later; parts = refl; shows = shows }
-
 -- what shows some first pieces shows them too where more follow
 pub first_of_more : (start now : Option (List ℕ)) (pieces later : List (List ℕ)) → ShowsFirst start pieces now → ShowsFirst start (pieces ++ later) now
 first_of_more start now pieces later shows = record {

@@ -9,4 +9,6 @@ pub record KeepsAreas (old new : View) : Type 0 where
   pub a : new.shown.a ≡ old.shown.a
   pub b : new.shown.b ≡ old.shown.b
   pub passes : Passes old new
+  -- no call on an area failed
+  pub area_faults : new.area_faults ≡ old.area_faults
   pub images : IsTrue old.honest → (c : Triple) → new.left_since old.moment c → (d : Triple) × old.may_leave d × (c.a ≡ d.a) × (c.b ≡ d.b)

@@ -12,12 +12,13 @@ use Rattle.pgs_run.specs.Taking.{StopsAt}
 use Rattle.pgs_run.specs.Told.{told_cut}
 use Rattle.pgs_run.specs.Transcript.{IsAt}
 
--- a stop at a read or a put comes only where its count rose
-abbrev pub HasCause : ℕ → ℕ → ℕ → ℕ → Stop → Type 0
-HasCause reads_before reads_now puts_before puts_now stops.SchemaRefused = Unit {0}
-HasCause reads_before reads_now puts_before puts_now stops.ReadFault = Rose reads_before reads_now
-HasCause reads_before reads_now puts_before puts_now stops.PutFault = Rose puts_before puts_now
-HasCause reads_before reads_now puts_before puts_now stops.Memory = Unit {0}
+-- the counts of read faults and of put faults: each rose exactly where the reading stopped at its fault
+abbrev pub HasCause : ℕ → ℕ → ℕ → ℕ → Result End Stop → Type 0
+HasCause reads_before reads_now puts_before puts_now (Ok end) = (reads_now ≡ reads_before) × (puts_now ≡ puts_before)
+HasCause reads_before reads_now puts_before puts_now (Err stops.SchemaRefused) = (reads_now ≡ reads_before) × (puts_now ≡ puts_before)
+HasCause reads_before reads_now puts_before puts_now (Err stops.ReadFault) = Rose reads_before reads_now × (puts_now ≡ puts_before)
+HasCause reads_before reads_now puts_before puts_now (Err stops.PutFault) = (reads_now ≡ reads_before) × Rose puts_before puts_now
+HasCause reads_before reads_now puts_before puts_now (Err stops.Memory) = (reads_now ≡ reads_before) × (puts_now ≡ puts_before)
 
 -- what the output shows of these bytes where the run stopped
 abbrev pub StopsIn : Option (List ℕ) → List ℕ → Stop → Option (List ℕ) → Type 0

@@ -25,8 +25,8 @@ abbrev pub standard : Limits
 standard = record { ops = 10000; elements = 1000000 }
 
 -- the transaction of a line, where the line is of the first form
-unfoldable pub txn_of : List ℕ → Option Txn
-txn_of line = if nat_lt text_limit (length line) then None else first_txn line
+unfoldable pub first_txn_of : List ℕ → Option Txn
+first_txn_of line = if nat_lt text_limit (length line) then None else first_txn line
 
 -- the decision on a transaction: the graph after it, or why it is rejected
 unfoldable pub decision_on : FirstSchema → Graph → Txn → Result Graph Rejection
@@ -44,7 +44,7 @@ answer_to_txn schema g (Some txn) = with_text (decision_on schema g txn)
 
 -- the answer to a line that isn't blank
 unfoldable pub answer_to : FirstSchema → Graph → List ℕ → Result Graph (List ℕ)
-answer_to schema g line = answer_to_txn schema g (txn_of line)
+answer_to schema g line = answer_to_txn schema g (first_txn_of line)
 
 -- where the run stands after a refused line
 abbrev pub after_refusal : Standing → Standing

@@ -33,12 +33,12 @@ abbrev pub TakesTo : {T : Type 0} → Option (List ℕ) → List ℕ → Transcr
 TakesTo start seen transcript (Ok done) now = IsAt seen transcript × ShowsAll start (told_cut seen).pieces now
 TakesTo start seen transcript (Err stop) now = StopsAt start seen stop now
 
--- a stop at a put comes only where the count of put faults rose; reading isn't stopped here
+-- the count of put faults rose exactly where a put stopped the run; reading isn't stopped here
 abbrev pub HasPutCause : ℕ → ℕ → Stop → Type 0
-HasPutCause before now stops.SchemaRefused = Unit {0}
+HasPutCause before now stops.SchemaRefused = now ≡ before
 HasPutCause before now stops.ReadFault = ⊥
 HasPutCause before now stops.PutFault = Rose before now
-HasPutCause before now stops.Memory = Unit {0}
+HasPutCause before now stops.Memory = now ≡ before
 
 -- of these bytes all but the rest were taken and shown
 pub record TakenSoFar (start : Option (List ℕ)) (seen bytes rest : List ℕ) (transcript : Transcript) (now : Option (List ℕ)) : Type 0 where

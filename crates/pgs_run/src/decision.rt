@@ -1,4 +1,4 @@
-ghost use Rattle.std.specs.Prelude.{◌≡◌, IsTrue};
+ghost use Rattle.std.specs.Prelude.{IsTrue};
 ghost use Rattle.std.specs.List.{list_all};
 ghost use Rattle.pgs_json.specs.FirstLine.{is_add_node};
 ghost use Rattle.pgs_run.specs.Session.{decision_on};

@@ -1,14 +1,15 @@
-ghost use Rattle.std.specs.Prelude.{◌≡◌, ◌≤◌, [], List, ℕ, Option, true, false};
+ghost use Rattle.std.specs.Prelude.{◌≡◌, ◌≤◌, [], List, ℕ, Option, IfOk, OnOk, true, false};
 ghost use Rattle.pgs_world.specs.World.{output_of};
 ghost use Rattle.pgs_run.specs.Areas.{KeepsAreas};
 ghost use Rattle.pgs_run.specs.Ending.{Ends, HasEndCause};
-ghost use Rattle.pgs_run.specs.Pieces.{ShowsAll};
+ghost use Rattle.pgs_run.specs.Pieces.{ShowsAll, bytes_in};
 ghost use Rattle.pgs_run.specs.Told.{schema_of, told_schema, told_lines, told_cut, told_whole};
-ghost use Rattle.pgs_run.specs.Transcript.{Stands, IsAt, HasRoomFor};
+ghost use Rattle.pgs_run.specs.Transcript.{Stands, IsAt, HasRoom, HasRoomFor, after_end, pieces_at_end};
 
 use crate::Status;
 use crate::taking::put_piece;
 use crate::transcript::{Phase, Transcript, judge};
+use pgs_base::Memory;
 use pgs_world::World;
 use std::alloc::Global;
 
@@ -56,6 +57,15 @@ fn end_phase<W: World>(phase: Phase, alloc: Global, world: &mut W) -> Status
     }
 }
 
+// Ends the last line, and answers what it tells.
+fn end_last(transcript: &mut Transcript, alloc: Global) -> Result<Option<String>, Memory>
+    requires { HasRoom transcript.old.phase }
+    ensures phase { OnOk result (transcript.new.phase ≡ after_end transcript.old.phase transcript.old.line) }
+    ensures piece { IfOk result (λ piece. bytes_in piece ≡ pieces_at_end transcript.old.phase transcript.old.line) }
+{
+    transcript.end_line(alloc)
+}
+
 /// Ends a run whose input was read to its end. The last line has no line feed.
 pub fn end_input<W: World>(mut transcript: Transcript, alloc: Global, world: &mut W) -> Status
     requires { HasRoomFor 1 transcript }
@@ -66,7 +76,7 @@ pub fn end_input<W: World>(mut transcript: Transcript, alloc: Global, world: &mu
     ensures faults_stay { (W.view world.old).put_faults ≤ (W.view world.new).put_faults }
     ensures areas { KeepsAreas (W.view world.old) (W.view world.new) }
 {
-    let piece = match transcript.end_line(alloc) {
+    let piece = match end_last(&mut transcript, alloc) {
         Ok(piece) => piece,
         Err(_) => return Status::Memory,
     };

@@ -1,5 +1,5 @@
 ghost use Rattle.std.specs.Prelude.{◌≡◌};
-ghost use Rattle.std.specs.List.{list_all, list_any, find};
+ghost use Rattle.std.specs.List.{list_all, find};
 ghost use Rattle.std.specs.Option.{option_map};
 ghost use Rattle.pgs_run.specs.FirstVerdict.{is_of_kind, has_key, is_key, fits_first, is_typed, is_untyped, first_verdict};
 

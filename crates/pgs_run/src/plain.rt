@@ -1,9 +1,8 @@
-ghost use Rattle.std.specs.Prelude.{◌≡◌, ◌<◌, ◌≤◌, ◌^◌, [], ◌∷◌, ◌++◌, IfOk, OnOk, OnErr, Some};
+ghost use Rattle.std.specs.Prelude.{◌≡◌, ◌<◌, ◌≤◌, ◌^◌, [], ◌∷◌, ◌++◌, IfOk, OnOk, Some};
 ghost use Rattle.std.specs.List.{join_with_byte};
 ghost use Rattle.pgs_run.specs.Pieces.{bytes_in};
 ghost use Rattle.pgs_run.specs.Report.{Reports};
-ghost use Rattle.pgs_run.specs.Session.{after_lines, pieces_of_lines};
-ghost use Rattle.pgs_run.specs.Told.{start, schema_of, status_of, told_schema, told_lines, told_try, told};
+ghost use Rattle.pgs_run.specs.Told.{schema_of, status_of, told_schema, told_lines, told_try, told};
 
 use crate::Status;
 use crate::line_list::{joined, lines_of, separator_place};

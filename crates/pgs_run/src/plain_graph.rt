@@ -1,5 +1,4 @@
-ghost use Rattle.std.specs.Prelude.{◌≡◌, ◌+◌, [], length, is_some, IfOk, OnOk, OnErr};
-ghost use Rattle.std.specs.Option.{option_copied};
+ghost use Rattle.std.specs.Prelude.{◌≡◌, [], is_some, OnOk, OnErr};
 ghost use Rattle.pgs_base.specs.Graph.{empty_graph, node_at, with_node, element_count};
 
 use pgs_base::{Copyable, Memory, NodeId, NodeRow, Rows};

@@ -1,4 +1,4 @@
-ghost use Rattle.std.specs.Prelude.{◌≡◌, ◌<◌, ◌≤◌, ◌^◌, ◌∷◌, [], List, ℕ, Option, Ok, length, take, IfOk, IfErr, OnErr, OnOk, vec_len, false};
+ghost use Rattle.std.specs.Prelude.{◌≡◌, ◌<◌, ◌≤◌, ◌^◌, [], List, ℕ, Option, Ok, length, take, IfOk, IfErr, OnErr, OnOk, vec_len, false};
 ghost use Rattle.pgs_world.specs.Count.{Rose};
 ghost use Rattle.pgs_world.specs.Source.{Takes, IsAtEnd};
 ghost use Rattle.pgs_world.specs.World.{output_of};
@@ -26,11 +26,18 @@ pub enum End {
     Cut,
 }
 
+// So many bytes of zero.
+fn zeros(alloc: Global, count: usize) -> Result<Vec<u8>, Memory>
+    ensures { IfOk result (λ zeros. vec_len zeros ≡ count) }
+{
+    Ok(Vec::from_elem(alloc, 0u8, count)?)
+}
+
 /// The buffer of all reads.
 pub fn read_buffer(alloc: Global) -> Result<Vec<u8>, Memory>
-    ensures { IfOk result (λ buffer. 0 < vec_len buffer) }
+    ensures { IfOk result (λ buffer. vec_len buffer ≡ 65536) }
 {
-    Ok(Vec::from_elem(alloc, 0u8, READ_SIZE)?)
+    zeros(alloc, READ_SIZE)
 }
 
 // Reads into the front of the buffer, and never more than is left of the budget.
@@ -44,6 +51,7 @@ fn read_some<S: Source>(source: &mut S, buffer: &mut [u8], left: u64) -> Result<
     ensures fault { IfErr result (λ stop. stop ≡ Stop.ReadFault) }
     ensures kept { OnErr result (S.left source.new ≡ S.left source.old) }
     ensures cause { OnErr result (Rose (S.faults source.old) (S.faults source.new)) }
+    ensures no_cause { OnOk result (S.faults source.new ≡ S.faults source.old) }
     ensures faults_stay { S.faults source.old ≤ S.faults source.new }
 {
     let most = if left < buffer.len() as u64 {
@@ -74,7 +82,7 @@ pub fn read_all<S: Source, W: World>(
         → Reads start budget (S.left source.old) (S.left source.new) transcript.new result (output_of (W.view world.new)) }
     ensures room { OnOk result (HasRoomFor 1 transcript.new) }
     ensures going { OnOk result (is_refused transcript.new.phase ≡ false) }
-    ensures cause { IfErr result (HasCause (S.faults source.old) (S.faults source.new) (W.view world.old).put_faults (W.view world.new).put_faults) }
+    ensures cause { HasCause (S.faults source.old) (S.faults source.new) (W.view world.old).put_faults (W.view world.new).put_faults result }
     ensures read_faults_stay { S.faults source.old ≤ S.faults source.new }
     ensures put_faults_stay { (W.view world.old).put_faults ≤ (W.view world.new).put_faults }
     ensures areas { KeepsAreas (W.view world.old) (W.view world.new) }

@@ -1,5 +1,4 @@
-ghost use Rattle.std.specs.Prelude.{◌≡◌, ◌∷◌, [], ◌++◌, IfOk, OnOk, true, false, if◌then◌else◌};
-ghost use Rattle.pgs_run.specs.Input.{front_of};
+ghost use Rattle.std.specs.Prelude.{◌≡◌, [], IfOk, OnOk, false};
 ghost use Rattle.pgs_run.specs.Told.{schema_of};
 ghost use Rattle.pgs_run.specs.Transcript.{with_line};
 

@@ -1,10 +1,9 @@
-ghost use Rattle.std.specs.Prelude.{◌≡◌, ◌+◌, ◌<◌, ◌≤◌, ◌^◌, ◌-◌, IfOk, IfSome, OnOk, IsTrue, Ok, Err, Some, string_bytes};
+ghost use Rattle.std.specs.Prelude.{◌≡◌, ◌+◌, ◌<◌, ◌^◌, ◌-◌, IfOk, IfSome, OnOk, IsTrue, Ok, Err, Some, string_bytes};
 ghost use Rattle.std.specs.List.{list_all};
 ghost use Rattle.pgs_json.specs.FirstLine.{is_add_node};
 ghost use Rattle.pgs_run.specs.Input.{is_blank, is_blank_byte};
 ghost use Rattle.pgs_run.specs.Pieces.{bytes_in};
-ghost use Rattle.pgs_run.specs.Session.{txn_of, with_text, answer_to, answer_to_txn, after_answer, after_refusal, verdict_line, after_line, pieces_of_line};
-ghost use Rattle.pgs_run.specs.Stages.{GivesDecision};
+ghost use Rattle.pgs_run.specs.Session.{first_txn_of, with_text, answer_to, answer_to_txn, after_answer, after_refusal, verdict_line, after_line, pieces_of_line};
 ghost use Rattle.pgs_run.specs.Told.{start};
 
 use crate::decision::{DecideFault, decide};
@@ -51,9 +50,9 @@ fn is_blank_text(line: &[u8]) -> bool
 }
 
 // The transaction of a line, where the line is of the form that is built.
-#[tactic(auto, unfolding(crate::specs::Session::txn_of))]
-fn txn_of(alloc: Global, line: &[u8]) -> Result<Option<Txn>, Memory>
-    ensures value { IfOk result (λ txn. txn ≡ txn_of line.now) }
+#[tactic(auto, unfolding(crate::specs::Session::first_txn_of))]
+fn first_txn_of(alloc: Global, line: &[u8]) -> Result<Option<Txn>, Memory>
+    ensures value { IfOk result (λ txn. txn ≡ first_txn_of line.now) }
     ensures adds { IfOk result (λ txn. IfSome txn (λ txn. IsTrue (list_all is_add_node txn.ops))) }
 {
     if line.len() > TEXT_LIMIT {
@@ -140,7 +139,7 @@ impl Session {
         ensures session { OnOk result (self.new ≡ after_answer self.old (answer_to schema.now self.old.graph line.now)) }
         ensures piece { IfOk result (λ piece. string_bytes piece ≡ verdict_line self.old (answer_to schema.now self.old.graph line.now)) }
     {
-        match txn_of(alloc, line)? {
+        match first_txn_of(alloc, line)? {
             Some(txn) => self.take_txn(alloc, schema, &txn),
             None => {
                 let piece = not_built_line(alloc, self.number + 1)?;

@@ -1,4 +1,4 @@
-ghost use Rattle.std.specs.Prelude.{◌≡◌, ◌<◌, ◌^◌, Err, Ok, OnOk, IfOk, IsTrue, length};
+ghost use Rattle.std.specs.Prelude.{◌≡◌, ◌<◌, ◌^◌, Err, Ok, IsTrue, length};
 ghost use Rattle.std.specs.List.{list_all};
 ghost use Rattle.pgs_json.specs.FirstLine.{is_add_node};
 ghost use Rattle.pgs_violation.specs.Staging.{step, after_ops, added_node, is_small, staged};

@@ -1,7 +1,3 @@
-use crate::Status;
-use pgs_base::Memory;
-use pgs_world::{PutFault, SourceFault};
-
 /// What ends a run before the end of its input and of its budget.
 #[derive(Clone, Copy, Debug, PartialEq, Eq)]
 pub enum Stop {

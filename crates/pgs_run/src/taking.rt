@@ -20,6 +20,7 @@ pub fn put_piece<W: World>(world: &mut W, piece: Option<String>) -> Result<(), S
     ensures puts { (start : Option (List ℕ)) (before : List (List ℕ)) → ShowsAll start before (output_of (W.view world.old)) → Puts start before (bytes_in piece) result (output_of (W.view world.new)) }
     ensures cause { IfErr result (HasPutCause (W.view world.old).put_faults (W.view world.new).put_faults) }
     ensures rose { OnErr result (Rose (W.view world.old).put_faults (W.view world.new).put_faults) }
+    ensures no_cause { OnOk result ((W.view world.new).put_faults ≡ (W.view world.old).put_faults) }
     ensures faults_stay { (W.view world.old).put_faults ≤ (W.view world.new).put_faults }
     ensures areas { KeepsAreas (W.view world.old) (W.view world.new) }
 {
@@ -47,6 +48,7 @@ fn take_line<W: World>(
         → ShowsAll start (told_cut seen).pieces (output_of (W.view world.old))
         → TakesTo start (seen ++ (part.now ++ 10 ∷ [])) transcript.new result (output_of (W.view world.new)) }
     ensures cause { IfErr result (HasPutCause (W.view world.old).put_faults (W.view world.new).put_faults) }
+    ensures no_cause { OnOk result ((W.view world.new).put_faults ≡ (W.view world.old).put_faults) }
     ensures faults_stay { (W.view world.old).put_faults ≤ (W.view world.new).put_faults }
     ensures areas { KeepsAreas (W.view world.old) (W.view world.new) }
 {
@@ -84,6 +86,7 @@ pub fn take_bytes<W: World>(
         → ShowsAll start (told_cut seen).pieces (output_of (W.view world.old))
         → TakesTo start (seen ++ bytes.now) transcript.new result (output_of (W.view world.new)) }
     ensures cause { IfErr result (HasPutCause (W.view world.old).put_faults (W.view world.new).put_faults) }
+    ensures no_cause { OnOk result ((W.view world.new).put_faults ≡ (W.view world.old).put_faults) }
     ensures faults_stay { (W.view world.old).put_faults ≤ (W.view world.new).put_faults }
     ensures areas { KeepsAreas (W.view world.old) (W.view world.new) }
 {

@@ -1,7 +1,6 @@
 ghost use Rattle.std.specs.Prelude.{◌≡◌, ℕ, ◌+◌, ◌≤◌, ◌++◌, ◌∷◌, [], length, IfOk, vec_len, vec_capacity};
 ghost use Rattle.pgs_world.specs.declared.area.Area.{Area};
 ghost use Rattle.pgs_world.specs.Held.{after_write, after_cut, on_disk};
-ghost use Rattle.pgs_world.specs.History.{taken_by};
 ghost use Rattle.pgs_world.specs.MemArea.{held_of, area_in, state_of, size_in, HasRoom};
 ghost use Rattle.pgs_world.specs.MemWorld.{with_area, with_output};
 

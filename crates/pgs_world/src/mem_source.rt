@@ -1,4 +1,4 @@
-ghost use Rattle.std.specs.Prelude.{◌≡◌, ◌<◌, ◌≤◌, ◌++◌, is_err, length, take, drop, min, Some, IfOk, OnErr};
+ghost use Rattle.std.specs.Prelude.{◌≡◌, ◌<◌, ◌≤◌, ◌++◌, is_err, length, take, drop, min, Some, IfOk, OnOk, OnErr};
 ghost use Rattle.pgs_world.specs.Count.{Rose};
 ghost use Rattle.pgs_world.specs.MemSource.{fails_next, gives_next, after_read};
 ghost use Rattle.pgs_world.specs.Source.{Takes, IsAtEnd};
@@ -68,6 +68,7 @@ impl Source for MemSource {
         ensures end { 0 < length buf.old → result ≡ Ok 0 → IsAtEnd (Some self.old.left) }
         ensures kept { OnErr result (Some self.new.left ≡ Some self.old.left) }
         ensures cause { OnErr result (Rose self.old.faults self.new.faults) }
+        ensures no_cause { OnOk result (self.new.faults ≡ self.old.faults) }
         ensures faults_stay { self.old.faults ≤ self.new.faults }
     {
         self.calls = self.calls.saturating_add(1);

@@ -46,8 +46,8 @@ impl MemWorld {
     ///
     /// It fails exactly at the calls that are listed, counted from 1 over all kinds of calls, at every call
     /// after the `room`-th, at a piece with which the bytes handed in so far exceed `room` (also those
-    /// handed to calls that failed), and where an area has, or would have, more than 2^40 bytes.
-    /// `room` is at most 2^32.
+    /// handed to calls that failed), at a `len` of an area of more than 2^40 bytes, and at a write whose range
+    /// ends past 2^40 bytes. `room` is at most 2^32.
     pub fn new(
         alloc: Global,
         a: Bytes,

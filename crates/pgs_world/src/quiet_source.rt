@@ -1,4 +1,4 @@
-ghost use Rattle.std.specs.Prelude.{◌≡◌, is_ok, length, take, drop, min, Some, IfOk};
+ghost use Rattle.std.specs.Prelude.{◌≡◌, length, take, drop, min, Some, IfOk};
 
 use crate::mem_source::copy_front;
 use crate::{Source, SourceFault};

@@ -1,4 +1,4 @@
-ghost use Rattle.std.specs.Prelude.{◌≡◌, ◌<◌, ◌≤◌, ◌^◌, List, ℕ, length, take, Option, Ok, IfOk, OnErr};
+ghost use Rattle.std.specs.Prelude.{◌≡◌, ◌<◌, ◌≤◌, List, ℕ, length, take, Option, Ok, IfOk, OnOk, OnErr};
 ghost use Rattle.pgs_world.specs.Count.{Rose};
 ghost use Rattle.pgs_world.specs.Source.{Takes, IsAtEnd};
 
@@ -14,12 +14,13 @@ pub trait Source {
 
     /// Takes the next bytes into the front of the buffer, and says how many. 0 for a buffer that isn't
     /// empty is the end of the input. After `SourceFault` the bytes left are as they were, and the
-    /// count of faults rose.
+    /// count of faults rose; else that count is as it was.
     fn read(&mut self, buf: &mut [u8]) -> Result<usize, SourceFault>
         ensures within { IfOk result (λ count. count ≤ length buf.new) }
         ensures taken { IfOk result (λ count. Takes (left self.old) (left self.new) (take count buf.new)) }
         ensures end { 0 < length buf.old → result ≡ Ok 0 → IsAtEnd (left self.old) }
         ensures kept { OnErr result (left self.new ≡ left self.old) }
         ensures cause { OnErr result (Rose (faults self.old) (faults self.new)) }
+        ensures no_cause { OnOk result (faults self.new ≡ faults self.old) }
         ensures faults_stay { faults self.old ≤ faults self.new };
 }

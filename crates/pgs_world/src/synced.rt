@@ -1,7 +1,7 @@
-ghost use Rattle.std.specs.Prelude.{◌≡◌, ◌+◌, ◌≤◌, length, take, IsTrue, OnOk, OnErr};
+ghost use Rattle.std.specs.Prelude.{◌≡◌, ◌+◌, ◌≤◌, ◌^◌, length, take, IsTrue, OnOk, OnErr};
 ghost use Rattle.pgs_world.specs.Count.{Rose};
 ghost use Rattle.pgs_world.specs.Disk.{written_over, IsSameBeside, Writes, Cuts};
-ghost use Rattle.pgs_world.specs.Moment.{Passes, StopsBy, IsQuiet, IsSynced, IsSettled};
+ghost use Rattle.pgs_world.specs.Moment.{Passes, StopsBy, IsQuiet, ShowsOne, IsSynced, IsSettled};
 ghost use Rattle.pgs_world.specs.World.{part};
 
 use crate::{Area, AreaFault, World};
@@ -16,12 +16,15 @@ pub fn write_synced<W: World>(
 ) -> Result<(), AreaFault>
     requires { IsTrue (W.view world.old).tells_bytes → at ≤ length (part area (W.view world.old).shown) }
     ensures written { OnOk result (IsTrue (W.view world.old).tells_bytes → part area (W.view world.new).shown ≡ written_over (part area (W.view world.old).shown) at bytes.now) }
+    ensures limit { OnOk result (at + length bytes.now ≤ 2 ^ 40) }
     ensures beside { IsSameBeside area (W.view world.old).shown (W.view world.new).shown }
     ensures stops { StopsBy (Writes area at (length bytes.now)) (W.view world.old) (W.view world.new) }
     ensures passes { Passes (W.view world.old) (W.view world.new) }
     ensures synced { OnOk result (IsSynced area (W.view world.new)) }
     ensures settled { OnOk result (IsSettled (W.view world.old) → IsSettled (W.view world.new)) }
+    ensures image { ShowsOne (W.view world.new) }
     ensures cause { OnErr result (Rose (W.view world.old).area_faults (W.view world.new).area_faults) }
+    ensures no_cause { OnOk result ((W.view world.new).area_faults ≡ (W.view world.old).area_faults) }
     ensures no_put { (W.view world.new).put_faults ≡ (W.view world.old).put_faults }
 {
     world.write_at(area, at, bytes)?;
@@ -38,7 +41,9 @@ pub fn cut_synced<W: World>(world: &mut W, area: Area, len: u64) -> Result<(), A
     ensures passes { Passes (W.view world.old) (W.view world.new) }
     ensures synced { OnOk result (IsSynced area (W.view world.new)) }
     ensures settled { OnOk result (IsSettled (W.view world.old) → IsSettled (W.view world.new)) }
+    ensures image { ShowsOne (W.view world.new) }
     ensures cause { OnErr result (Rose (W.view world.old).area_faults (W.view world.new).area_faults) }
+    ensures no_cause { OnOk result ((W.view world.new).area_faults ≡ (W.view world.old).area_faults) }
     ensures no_put { (W.view world.new).put_faults ≡ (W.view world.old).put_faults }
 {
     world.cut(area, len)?;
@@ -49,7 +54,9 @@ pub fn cut_synced<W: World>(world: &mut W, area: Area, len: u64) -> Result<(), A
 pub fn sync_both<W: World>(world: &mut W) -> Result<(), AreaFault>
     ensures settled { OnOk result (IsTrue (W.view world.old).honest → IsTrue (W.view world.old).tells_bytes → IsTrue (W.view world.old).tells_output → IsSettled (W.view world.new)) }
     ensures quiet { IsQuiet (W.view world.old) (W.view world.new) }
+    ensures image { ShowsOne (W.view world.new) }
     ensures cause { OnErr result (Rose (W.view world.old).area_faults (W.view world.new).area_faults) }
+    ensures no_cause { OnOk result ((W.view world.new).area_faults ≡ (W.view world.old).area_faults) }
     ensures no_put { (W.view world.new).put_faults ≡ (W.view world.old).put_faults }
 {
     world.sync(Area::A)?;

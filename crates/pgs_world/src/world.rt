@@ -24,8 +24,8 @@ pub trait World {
         ensures no_cause { OnOk result ((view self.new).area_faults ≡ (view self.old).area_faults) }
         ensures no_put { (view self.new).put_faults ≡ (view self.old).put_faults };
 
-    /// Fills the buffer with the bytes of an area from a place on. A range outside the area is a fault
-    /// where its length isn't told, and where it is told no caller may ask for one.
+    /// Fills the buffer with the bytes of an area from a place on. Where the length is told, no caller may ask
+    /// for a range outside the area; where it isn't, an implementation should make such a range a fault.
     fn read_at(&mut self, area: Area, at: u64, buf: &mut [u8]) -> Result<(), AreaFault>
         requires { IsTrue (view self.old).tells_bytes → at + length buf.old ≤ length (part area (view self.old).shown) }
         ensures bytes { OnOk result (IsTrue (view self.old).tells_bytes → buf.new ≡ take (length buf.old) (drop at (part area (view self.old).shown))) }

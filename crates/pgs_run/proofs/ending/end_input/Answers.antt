@@ -7,8 +7,8 @@ use Rattle.pgs_run.proofs.LastLine.{last, stands_last, pieces_last, tells_whole,
 use Rattle.pgs_run.proofs.AreasKept.{keeps_none, keeps_on}
 use Rattle.pgs_run.proofs.ending.end_input.Goals as goal
 
-pub end_line-requires : goal.end_line-requires
-end_line-requires g c = room_of 1 c.args.transcript c.requires
+pub end_last-requires : goal.end_last-requires
+end_last-requires g c = room_of 1 c.args.transcript c.requires
 
 pub returns-in-Err-clause-ends : goal.returns-in-Err-clause-ends
 returns-in-Err-clause-ends g c = λ start seen at shows.
@@ -26,7 +26,7 @@ returns-clause-ends g c = λ start seen at shows.
     let put = c.in-Ok-put_piece.ensures.puts start (told_cut seen).pieces shows in
     let pieces = pieces_last seen c.args.transcript (bytes_in c.in-Ok.piece) at c.in-Ok.ensures.piece in
     let now = output_of (g.W.World.view c.put_piece.new.world) in
-    c.end_phase.ensures.ends start (last seen) (stands_last seen c.args.transcript c.end_line.new.self.phase at c.in-Ok.ensures.phase) (subst (λ ps. ShowsAll start ps now) pieces put)
+    c.end_phase.ensures.ends start (last seen) (stands_last seen c.args.transcript c.end_last.new.transcript.phase at c.in-Ok.ensures.phase) (subst (λ ps. ShowsAll start ps now) pieces put)
 
 pub returns-in-Err-clause-areas : goal.returns-in-Err-clause-areas
 returns-in-Err-clause-areas g c = keeps_none _ (g.met.W.World.timed c.args.world.now)

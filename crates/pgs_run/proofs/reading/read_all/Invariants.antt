@@ -1,4 +1,4 @@
-use Rattle.std.proofs.Common.{◌≡◌, false, ◌≤◌, ◌<◌, length}
+use Rattle.std.proofs.Common.{◌≡◌, false, ◌<◌, length}
 use Rattle.pgs_world.specs.World.{output_of}
 use Rattle.pgs_run.specs.Areas.{KeepsAreas}
 use Rattle.pgs_run.specs.Reading.{GoesOn}
@@ -10,8 +10,8 @@ invariant-loop-left g l = record {
   on : GoesOn l.fn.budget l.left (g.S.Source.left l.fn.source) (g.S.Source.left l.source) l.transcript (output_of (g.W.World.view l.fn.world)) (output_of (g.W.World.view l.world));
   going : is_refused l.transcript.phase ≡ false;
   buffer : 0 < length l.buffer;
-  reads : g.S.Source.faults l.fn.source ≤ g.S.Source.faults l.source;
-  puts : (g.W.World.view l.fn.world).put_faults ≤ (g.W.World.view l.world).put_faults;
+  reads : g.S.Source.faults l.source ≡ g.S.Source.faults l.fn.source;
+  puts : (g.W.World.view l.world).put_faults ≡ (g.W.World.view l.fn.world).put_faults;
   areas : KeepsAreas (g.W.World.view l.fn.world) (g.W.World.view l.world);
 }
 

@@ -1,4 +1,4 @@
-use Rattle.std.proofs.Common.{◌≡◌, false, ◌≤◌, ◌++◌, List, ℕ, Option, length}
+use Rattle.std.proofs.Common.{◌≡◌, false, ◌++◌, List, ℕ, Option, length}
 use Rattle.pgs_world.specs.World.{output_of}
 use Rattle.pgs_run.specs.Areas.{KeepsAreas}
 use Rattle.pgs_run.specs.Pieces.{ShowsAll}
@@ -13,7 +13,7 @@ invariant-loop-end g l = record {
   going : is_refused l.transcript.phase ≡ false;
   at : (seen : List ℕ) → IsAt seen l.fn.transcript → (taken : List ℕ) × (l.fn.bytes ≡ taken ++ l.rest) × IsAt (seen ++ taken) l.transcript;
   takes : (start : Option (List ℕ)) (seen : List ℕ) → IsAt seen l.fn.transcript → ShowsAll start (told_cut seen).pieces (output_of (g.W.World.view l.fn.world)) → TakenSoFar start seen l.fn.bytes l.rest l.transcript (output_of (g.W.World.view l.world));
-  faults : (g.W.World.view l.fn.world).put_faults ≤ (g.W.World.view l.world).put_faults;
+  faults : (g.W.World.view l.world).put_faults ≡ (g.W.World.view l.fn.world).put_faults;
   areas : KeepsAreas (g.W.World.view l.fn.world) (g.W.World.view l.world);
 }
 
