@@ -3,6 +3,7 @@
 #![tactic(auto)]
 
 mod delta;
+pub mod laws;
 mod operation;
 
 pub use delta::Delta;

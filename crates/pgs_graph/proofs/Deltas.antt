@@ -13,7 +13,7 @@ use Rattle.pgs_base.specs.Graph.{Graph, node_cmp, edge_cmp, node_at, edge_at, is
 use Rattle.pgs_base.proofs.Ascending.{ascending-insert_entry, ascending-remove_entry, ascends_decides}
 use Rattle.pgs_base.proofs.Lookups.{lookup-insert_entry, lookup-remove_key, same_entries}
 use Rattle.pgs_graph.specs.declared.delta.Delta.{Delta}
-use Rattle.pgs_violation.specs.Changed.{entry_changed, entries_changed, changed, is_sound, after_changes}
+use Rattle.pgs_graph.specs.Changed.{entry_changed, entries_changed, changed, is_sound, after_changes}
 
 pub node_cmp_total : IsTotalOrder node_cmp
 node_cmp_total = on_total (λ (id : NodeId). id.0) nat_cmp_total
