@@ -3,9 +3,11 @@
 #![tactic(auto)]
 
 mod delta;
+mod graph;
 pub mod laws;
 mod operation;
 
 pub use delta::Delta;
+pub use graph::Graph;
 pub use operation::{Op, Txn};
 pub use pgs_base::{EdgeRow, NodeRow};
