@@ -5,6 +5,7 @@
 mod delta;
 mod graph;
 pub mod laws;
+mod merging;
 mod operation;
 
 pub use delta::Delta;
