@@ -45,6 +45,13 @@ module _ {K V : Type 0} {cmp : K → K → Ordering} (total : IsTotalOrder cmp) 
   ascending-entry_changed k (Some v) entries sorted = ascending-insert_entry total k v entries sorted
   ascending-entry_changed k None entries sorted = ascending-remove_entry total (is_at (cmp k)) entries sorted
 
+  -- changes keep the keys ascending
+  pub ascending-entries_changed : (entries : List (K × V)) (changes : List (K × Option V)) → IsStrictlySortedBy cmp (keys_of entries) →
+      IsStrictlySortedBy cmp (keys_of (entries_changed cmp entries changes))
+  ascending-entries_changed entries [] sorted = sorted
+  ascending-entries_changed entries (change ∷ changes) sorted =
+      ascending-entries_changed (entry_changed cmp entries change.0 change.1) changes (ascending-entry_changed change.0 change.1 entries sorted)
+
   -- after changes of ascending keys there stands the change of a key, where there is one, and else what stood there
   pub lookup-entries_changed : (q : K) (entries : List (K × V)) (changes : List (K × Option V)) → IsStrictlySortedBy cmp (keys_of entries) →
       IsStrictlySortedBy cmp (keys_of changes) →
@@ -84,18 +91,27 @@ same_graph g h first second nodes edges =
     let same_edges = same_entries edge_cmp_total exact_edge g.edges h.edges (ascending_edges g first) (ascending_edges h second) edges in
     λ i. record { nodes = same_nodes i; edges = same_edges i }
 
+-- the numbers of a sound delta ascend
+pub ascending_changed_nodes : (g : Graph) (delta : Delta) → is_sound g delta ≡ true → IsStrictlySortedBy node_cmp (keys_of delta.nodes)
+ascending_changed_nodes g delta sound = (ascends_decides node_cmp (keys_of delta.nodes)).0 (and_parts _ _ (and_parts _ _ sound).0).0
+
+pub ascending_changed_edges : (g : Graph) (delta : Delta) → is_sound g delta ≡ true → IsStrictlySortedBy edge_cmp (keys_of delta.edges)
+ascending_changed_edges g delta sound = (ascends_decides edge_cmp (keys_of delta.edges)).0 (and_parts _ _ (and_parts _ _ sound).0).1
+
+-- what it makes is a graph
+pub changed_graph : (g : Graph) (delta : Delta) → is_sound g delta ≡ true → is_graph (changed g delta) ≡ true
+changed_graph g delta sound = (and_parts _ _ sound).1
+
 -- the rows after a sound delta
 pub node_after : (g : Graph) (delta : Delta) (id : NodeId) → is_graph g ≡ true → is_sound g delta ≡ true →
     node_at (changed g delta) id ≡ after_changes (lookup (is_at (node_cmp id)) delta.nodes) (node_at g id)
 node_after g delta id graph sound =
-    lookup-entries_changed node_cmp_total id g.nodes delta.nodes (ascending_nodes g graph)
-    ((ascends_decides node_cmp (keys_of delta.nodes)).0 (and_parts _ _ (and_parts _ _ sound).0).0)
+    lookup-entries_changed node_cmp_total id g.nodes delta.nodes (ascending_nodes g graph) (ascending_changed_nodes g delta sound)
 
 pub edge_after : (g : Graph) (delta : Delta) (id : EdgeId) → is_graph g ≡ true → is_sound g delta ≡ true →
     edge_at (changed g delta) id ≡ after_changes (lookup (is_at (edge_cmp id)) delta.edges) (edge_at g id)
 edge_after g delta id graph sound =
-    lookup-entries_changed edge_cmp_total id g.edges delta.edges (ascending_edges g graph)
-    ((ascends_decides edge_cmp (keys_of delta.edges)).0 (and_parts _ _ (and_parts _ _ sound).0).1)
+    lookup-entries_changed edge_cmp_total id g.edges delta.edges (ascending_edges g graph) (ascending_changed_edges g delta sound)
 
 -- two sound deltas that leave the same rows make one graph
 pub same_changed : (g : Graph) (first second : Delta) → is_graph g ≡ true → is_sound g first ≡ true → is_sound g second ≡ true →
@@ -103,6 +119,6 @@ pub same_changed : (g : Graph) (first second : Delta) → is_graph g ≡ true �
     ((id : EdgeId) → after_changes (lookup (is_at (edge_cmp id)) first.edges) (edge_at g id) ≡ after_changes (lookup (is_at (edge_cmp id)) second.edges) (edge_at g id)) →
     changed g first ≡ changed g second
 same_changed g first second graph one other nodes edges =
-    same_graph (changed g first) (changed g second) (and_parts _ _ one).1 (and_parts _ _ other).1
+    same_graph (changed g first) (changed g second) (changed_graph g first one) (changed_graph g second other)
     (λ id. node_after g first id graph one ∙ nodes id ∙ sym (node_after g second id graph other))
     (λ id. edge_after g first id graph one ∙ edges id ∙ sym (edge_after g second id graph other))

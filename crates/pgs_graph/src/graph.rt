@@ -1,9 +1,15 @@
-ghost use Rattle.std.specs.Prelude.{◌≡◌, true};
+ghost use Rattle.std.specs.Prelude.{◌≡◌, ◌+◌, ◌≤◌, true, [], length, IfOk, OnOk, OnErr, vec_len, vec_capacity};
+ghost use Rattle.std.specs.List.Sorted.{IsStrictlySortedBy};
+ghost use Rattle.std.specs.Map.{keys_of};
 ghost use Rattle.pgs_base.specs.Graph.{empty_graph};
+ghost use Rattle.pgs_graph.specs.Changed.{entries_changed, changed, is_sound};
 
-use pgs_base::{Copyable, EdgeId, EdgeRow, Memory, NodeId, NodeRow, Rows};
+use crate::Delta;
+use crate::merging::merged;
+use pgs_base::{Copyable, EdgeId, EdgeRow, List, Memory, NodeId, NodeRow, Rows};
 use std::alloc::Global;
 use std::marker::Model;
+use std::mem;
 
 /// A property graph as two lists of rows by ascending number. Contracts see the graph of the definitions.
 #[derive(Debug, Drop)]
@@ -35,6 +41,47 @@ impl Graph {
             edges: Rows::new(alloc),
         }
     }
+
+    /// Puts the rows of a sound delta in, and takes out what it removes. After `Memory` the graph is as it was.
+    pub fn change(&mut self, delta: Delta) -> Result<(), Memory>
+        requires { is_sound self.old delta ≡ true }
+        ensures ok { OnOk result (self.new ≡ changed self.old delta) }
+        ensures err { OnErr result (self.new ≡ self.old) }
+    {
+        let Delta { nodes, edges } = delta;
+        let node_room = room_for(self.alloc, self.nodes.len(), nodes.len())?;
+        let edge_room = room_for(self.alloc, self.edges.len(), edges.len())?;
+        change_rows(&mut self.nodes, nodes, self.alloc, node_room);
+        change_rows(&mut self.edges, edges, self.alloc, edge_room);
+        Ok(())
+    }
+}
+
+// An empty vector with room for so many rows and changes.
+fn room_for<T: Drop>(alloc: Global, rows: usize, changes: usize) -> Result<Vec<T>, Memory>
+    ensures empty { IfOk result (λ room. room.items ≡ []) }
+    ensures enough { IfOk result (λ room. vec_len room + rows + changes ≤ vec_capacity room) }
+{
+    match rows.checked_add(changes) {
+        Some(all) => Ok(Vec::with_capacity(alloc, all)?),
+        None => Err(Memory),
+    }
+}
+
+// Does changes of ascending keys, in a vector that has room for all rows and changes.
+fn change_rows<K: Ord + Drop, V: Drop>(
+    rows: &mut Rows<K, V>,
+    changes: List<(K, Option<V>)>,
+    alloc: Global,
+    room: Vec<(K, V)>,
+)
+    requires ascending { IsStrictlySortedBy K.cmp (keys_of changes) }
+    requires empty { room.items ≡ [] }
+    requires enough { vec_len room + length rows.old + length changes ≤ vec_capacity room }
+    ensures { rows.new ≡ entries_changed K.cmp rows.old changes }
+{
+    let old = mem::replace(rows, Rows::new(alloc));
+    *rows = Rows::from_vec(merged(old.into_vec(), changes.into_vec(), room));
 }
 
 impl Copyable for Graph {
