@@ -27,14 +27,15 @@ exact_node a b h = ap (λ n. record { 0 = n }) (exact_unsigned a.0 b.0 h)
 pub exact_edge : CmpEqualImpliesEq edge_cmp
 exact_edge a b h = ap (λ n. record { 0 = n }) (exact_unsigned a.0 b.0 h)
 
-module _ {K V : Type 0} {cmp : K → K → Ordering} (total : IsTotalOrder cmp) where
-  -- a key that ties with a lesser key than all of the list isn't in it
-  absent_below : (q k : K) → cmp q k ≡ Ordering.Equal → (changes : List (K × Option V)) → AllByRecursion (λ y. cmp k y ≡ Less) (keys_of changes) → lookup (is_at (cmp q)) changes ≡ None
-  absent_below q k tie [] below = refl
-  absent_below q k tie (change ∷ changes) below =
-      let other : is_at (cmp q) change.0 ≡ false = ap is_eq (total.congr q k change.0 tie ∙ below.0) in
-      rw other (absent_below q k tie changes below.1)
+-- a key that ties with a lesser key than all of the list isn't in it
+pub absent_below : {K W : Type 0} {cmp : K → K → Ordering} → IsTotalOrder cmp → (q k : K) → cmp q k ≡ Ordering.Equal → (entries : List (K × W)) →
+    AllByRecursion (λ y. cmp k y ≡ Less) (keys_of entries) → lookup (is_at (cmp q)) entries ≡ None
+absent_below total q k tie [] below = refl
+absent_below {cmp = cmp} total q k tie (entry ∷ entries) below =
+    let other : is_at (cmp q) entry.0 ≡ false = ap is_eq (total.congr q k entry.0 tie ∙ below.0) in
+    rw other (absent_below total q k tie entries below.1)
 
+module _ {K V : Type 0} {cmp : K → K → Ordering} (total : IsTotalOrder cmp) where
   lookup-entry_changed : (q k : K) (w : Option V) (entries : List (K × V)) → IsStrictlySortedBy cmp (keys_of entries) →
       lookup (is_at (cmp q)) (entry_changed cmp entries k w) ≡ cond (is_at (cmp k) q) w (lookup (is_at (cmp q)) entries)
   lookup-entry_changed q k (Some v) entries sorted = lookup-insert_entry total q k v entries
@@ -73,15 +74,15 @@ module _ {K V : Type 0} {cmp : K → K → Ordering} (total : IsTotalOrder cmp) 
           either : (b : Bool) → is_at (cmp q) change.0 ≡ b →
               after_changes (lookup (is_at (cmp q)) changes) (cond b change.1 (lookup (is_at (cmp q)) entries))
               ≡ after_changes (cond b (Some change.1) (lookup (is_at (cmp q)) changes)) (lookup (is_at (cmp q)) entries)
-          either true same = ap (λ o. after_changes o change.1) (absent_below q change.0 ((Equal-is (cmp q change.0)).0 same) changes ascending.0)
+          either true same = ap (λ o. after_changes o change.1) (absent_below total q change.0 ((Equal-is (cmp q change.0)).0 same) changes ascending.0)
           either false other = refl
 
 -- ---- graphs
 
-ascending_nodes : (g : Graph) → is_graph g ≡ true → IsStrictlySortedBy node_cmp (keys_of g.nodes)
+pub ascending_nodes : (g : Graph) → is_graph g ≡ true → IsStrictlySortedBy node_cmp (keys_of g.nodes)
 ascending_nodes g graph = (ascends_decides node_cmp (keys_of g.nodes)).0 (and_parts _ _ (and_parts _ _ graph).0).0
 
-ascending_edges : (g : Graph) → is_graph g ≡ true → IsStrictlySortedBy edge_cmp (keys_of g.edges)
+pub ascending_edges : (g : Graph) → is_graph g ≡ true → IsStrictlySortedBy edge_cmp (keys_of g.edges)
 ascending_edges g graph = (ascends_decides edge_cmp (keys_of g.edges)).0 (and_parts _ _ (and_parts _ _ graph).0).1
 
 -- graphs that have the same rows are equal

@@ -4,12 +4,14 @@ ghost use Rattle.std.specs.Map.{keys_of};
 ghost use Rattle.pgs_base.specs.Graph.{empty_graph};
 ghost use Rattle.pgs_graph.specs.Changed.{entries_changed, changed, is_sound};
 
-use crate::Delta;
 use crate::merging::merged;
-use pgs_base::{Copyable, EdgeId, EdgeRow, List, Memory, NodeId, NodeRow, Rows};
+use crate::scan::{End, keys, nth_edge};
+use crate::{Delta, EdgeRef, GraphRead, NodeRef};
+use pgs_base::{Copyable, EdgeId, EdgeRow, List, Memory, NodeId, NodeRow, Rows, Steps};
 use std::alloc::Global;
 use std::marker::Model;
 use std::mem;
+use std::sync::ledger::Ledger;
 
 /// A property graph as two lists of rows by ascending number. Contracts see the graph of the definitions.
 #[derive(Debug, Drop)]
@@ -93,5 +95,65 @@ impl Copyable for Graph {
             nodes,
             edges,
         })
+    }
+}
+
+impl GraphRead for Graph {
+    ghost meaning = { λ graph. graph };
+
+    fn node<L: Ledger>(&self, id: NodeId, steps: &mut Steps<L>) -> Option<NodeRef<'_>> {
+        steps.tick();
+        match self.nodes.get(&id) {
+            Some(row) => Some(NodeRef {
+                labels: &row.labels,
+                props: &row.props,
+            }),
+            None => None,
+        }
+    }
+
+    fn edge<L: Ledger>(&self, id: EdgeId, steps: &mut Steps<L>) -> Option<EdgeRef<'_>> {
+        steps.tick();
+        match self.edges.get(&id) {
+            Some(row) => Some(EdgeRef {
+                source: row.source,
+                target: row.target,
+                labels: &row.labels,
+                props: &row.props,
+            }),
+            None => None,
+        }
+    }
+
+    fn out_edge<L: Ledger>(&self, id: NodeId, nth: usize, steps: &mut Steps<L>) -> Option<EdgeId> {
+        steps.tick();
+        nth_edge(self.edges.as_slice(), End::Source, id, nth)
+    }
+
+    fn in_edge<L: Ledger>(&self, id: NodeId, nth: usize, steps: &mut Steps<L>) -> Option<EdgeId> {
+        steps.tick();
+        nth_edge(self.edges.as_slice(), End::Target, id, nth)
+    }
+
+    fn node_ids<L: Ledger>(
+        &self,
+        alloc: Global,
+        steps: &mut Steps<L>,
+    ) -> Result<List<NodeId>, Memory> {
+        keys(alloc, self.nodes.as_slice(), steps)
+    }
+
+    fn edge_ids<L: Ledger>(
+        &self,
+        alloc: Global,
+        steps: &mut Steps<L>,
+    ) -> Result<List<EdgeId>, Memory> {
+        keys(alloc, self.edges.as_slice(), steps)
+    }
+
+    fn count(&self) -> u64 {
+        let nodes = self.nodes.as_slice();
+        let edges = self.edges.as_slice();
+        nodes.len() as u64 + edges.len() as u64
     }
 }

@@ -7,8 +7,11 @@ mod graph;
 pub mod laws;
 mod merging;
 mod operation;
+mod read;
+mod scan;
 
 pub use delta::Delta;
 pub use graph::Graph;
 pub use operation::{Op, Txn};
 pub use pgs_base::{EdgeRow, NodeRow};
+pub use read::{EdgeRef, GraphRead, NodeRef};
