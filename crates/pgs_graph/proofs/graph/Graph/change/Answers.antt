@@ -19,5 +19,5 @@ invariant_of-self c =
     let nodes = c.change_rows.new.rows in
     let edges = c.change_rows-2.new.rows in
     let made : record { nodes = nodes; edges = edges } ≡ changed c.args.self.now c.args.delta =
-        (λ i. record { nodes = c.change_rows.ensures i; edges = c.change_rows-2.ensures i }) ∙ ap (λ (g : Graph). changed g c.args.delta) c.self.view_is in
+    (λ i. record { nodes = c.change_rows.ensures i; edges = c.change_rows-2.ensures i }) ∙ ap (λ (g : Graph). changed g c.args.delta) c.self.view_is in
     subst (λ (g : Graph). is_graph g ≡ true) (sym made) (changed_graph c.args.self.now c.args.delta c.requires)
