@@ -1,12 +1,12 @@
 -- What one change does to rows that are merged with it.
-use Rattle.std.proofs.Common.{◌≡◌, Bool, List, [], ◌∷◌, ◌++◌, Option, Some, None, refl, sym, ◌∙◌, ap, subst, append_assoc, true≢false, true, false, is_gt, is_eq, take, drop, Ordering, Less, Equal, Greater}
+use Rattle.std.proofs.Common.{◌≡◌, List, [], ◌∷◌, ◌++◌, Option, Some, None, refl, sym, ◌∙◌, ap, append_assoc, true≢false, true, false, is_gt, is_eq, take, drop, Ordering, Less, Equal, Greater}
 use Rattle.std.specs.Ordering.{ordering_reverse}
 use Rattle.std.specs.Cmp.{IsTotalOrder, alike_right}
 use Rattle.std.specs.List.{AllByRecursion}
 use Rattle.std.specs.List.Sorted.{IsStrictlySortedBy}
 use Rattle.std.specs.Map.{keys_of, remove_entry}
 use Rattle.std.specs.BTreeMap.{is_at, insert_entry}
-use Rattle.pgs_graph.specs.Changed.{entry_changed, entries_changed}
+use Rattle.pgs_graph.specs.Changed.{entries_changed}
 use Rattle.pgs_graph.specs.Merging.{left_at, order_to_first}
 
 pub greater_from : (o : Ordering) → is_gt o ≡ true → o ≡ Greater

@@ -1,6 +1,3 @@
-use Rattle.std.proofs.Common.{◌≡◌, ◌∙◌, sym, ap, subst}
-use Rattle.std.specs.List.Sorted.{IsStrictlySortedBy}
-use Rattle.std.specs.Map.{keys_of}
 use Rattle.pgs_graph.proofs.Deltas.{ascending-entries_changed}
 use Rattle.pgs_graph.proofs.graph.change_rows.Goals as goal
 

@@ -1,5 +1,4 @@
-use Rattle.std.proofs.Common.{◌≡◌, ◌++◌, sym, ap, ◌∙◌, arith}
-use Rattle.std.specs.Map.{keys_of}
+use Rattle.std.proofs.Common.{sym, ◌∙◌, arith}
 use Rattle.pgs_graph.proofs.OneChange.{greater_from, equal_from, less_from, moved_below, changed_there, changed_first, ascending_rest}
 use Rattle.pgs_graph.proofs.merging.change_at.Goals.{then-is_eq, else-is_eq}
 use Rattle.pgs_graph.proofs.merging.change_at.Goals as goal

@@ -1,4 +1,3 @@
-use Rattle.std.proofs.Common.{◌≡◌}
 use Rattle.pgs_graph.specs.declared.scan.End.TheVariants.{Target}
 use Rattle.pgs_graph.proofs.EdgesWith.{listed_end}
 use Rattle.pgs_graph.proofs.graph.GraphGraphRead.in_edge.Goals as goal

@@ -1,4 +1,3 @@
-use Rattle.std.proofs.Common.{◌≡◌}
 use Rattle.pgs_graph.specs.declared.scan.End.TheVariants.{Source}
 use Rattle.pgs_graph.proofs.EdgesWith.{listed_end}
 use Rattle.pgs_graph.proofs.graph.GraphGraphRead.out_edge.Goals as goal
