@@ -1,7 +1,7 @@
 //! The words of every other crate: names, values, element numbers, and lists and ordered rows of them.
 //!
 //! Every type here with private fields is seen by contracts as one value: a name and a text as
-//! their bytes, a `List` as a list, `Labels` and `Props` as lists with strictly ascending names.
+//! their bytes, a `List` as a list, `Labels` and `Props` as lists with strictly ascending names, `Steps` as a number.
 //! The plain graph that all definitions speak of stands in `specs/Graph.antt`.
 //! Nothing here knows schemas, files or text formats.
 #![tactic(auto)]
@@ -20,6 +20,7 @@ mod part;
 mod props;
 mod row;
 mod rows;
+mod steps;
 mod text;
 mod tuple;
 mod tuple_set;
@@ -40,6 +41,7 @@ pub use part::Part;
 pub use props::Props;
 pub use row::{EdgeRow, NodeRow};
 pub use rows::Rows;
+pub use steps::Steps;
 pub use text::Text;
 pub use tuple::Tuple;
 pub use tuple_set::TupleSet;
