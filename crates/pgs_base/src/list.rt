@@ -1,4 +1,4 @@
-ghost use Rattle.std.specs.Prelude.{◌≡◌, ◌<◌, ◌↔◌, [], ◌∷◌, ◌++◌, length, slice_get, IfOk, IfErr, OnOk, OnErr, OnSome, IsTrue};
+ghost use Rattle.std.specs.Prelude.{◌≡◌, ◌<◌, ◌↔◌, [], ◌∷◌, ◌++◌, length, slice_get, IfOk, IfErr, OnOk, OnErr, OnSome, IsTrue, vec_len};
 ghost use Rattle.std.specs.Option.{option_copied};
 ghost use Rattle.std.proofs.Common.{rules};
 ghost use Rattle.std.specs.Cmp.Lexicographic.{pointwise, slice_cmp, slice_partial_cmp, lists_per, lists_equiv, lists_po, lists_total, lists_agrees, lists_ties};
@@ -44,6 +44,15 @@ impl<T> List<T> {
         ensures { result ≡ items.items }
     {
         List { items }
+    }
+
+    /// The items as a vector, in order.
+    pub fn into_vec(self) -> Vec<T>
+        ensures items { result.items ≡ self }
+        ensures len { vec_len result ≡ length self }
+    {
+        let List { items } = self;
+        items
     }
 
     /// Puts the item last. After `Memory` the list is as it was, and the item is handed back.

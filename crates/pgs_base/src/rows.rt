@@ -1,4 +1,4 @@
-ghost use Rattle.std.specs.Prelude.{◌≡◌, ◌<◌, ◌↔◌, [], length, slice_get, IfOk, OnErr, OnOk, OnSome, IsTrue, MatchResult, is_some, None};
+ghost use Rattle.std.specs.Prelude.{◌≡◌, ◌<◌, ◌↔◌, [], length, slice_get, IfOk, OnErr, OnOk, OnSome, IsTrue, MatchResult, is_some, None, vec_len};
 ghost use Rattle.std.specs.Option.{option_copied};
 ghost use Rattle.std.specs.List.Sorted.{IsStrictlySortedBy};
 ghost use Rattle.std.specs.Map.{keys_of, lookup, remove_entry};
@@ -72,6 +72,24 @@ impl<K: Ord, V> Rows<K, V> {
         ensures ascending { IsStrictlySortedBy K.cmp (keys_of self.now) }
     {
         self.rows.as_slice()
+    }
+
+    /// The rows of a vector whose keys ascend strictly.
+    pub fn from_vec(rows: Vec<(K, V)>) -> Rows<K, V>
+        requires { IsStrictlySortedBy K.cmp (keys_of rows.items) }
+        ensures { result ≡ rows.items }
+    {
+        Rows { rows }
+    }
+
+    /// The rows as a vector, in order.
+    pub fn into_vec(self) -> Vec<(K, V)>
+        ensures items { result.items ≡ self }
+        ensures len { vec_len result ≡ length self }
+        ensures ascending { IsStrictlySortedBy K.cmp (keys_of self) }
+    {
+        let Rows { rows } = self;
+        rows
     }
 
     // Where the key stands, or where it would go.

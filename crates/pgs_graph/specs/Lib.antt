@@ -1,0 +1,4 @@
+pub mod Changed
+pub mod Merging
+pub mod Reads
+pub mod Samples

@@ -1,4 +1,5 @@
-use pgs_base::{EdgeId, Labels, List, Name, NodeId, Props, Value};
+use pgs_base::{Copyable, EdgeId, Labels, List, Memory, Name, NodeId, Props, Value};
+use std::alloc::Global;
 
 /// One change of a graph.
 #[derive(Debug, Drop)]
@@ -66,4 +67,73 @@ pub enum Op {
 #[derive(Debug, Drop)]
 pub struct Txn {
     pub ops: List<Op>,
+}
+
+impl Copyable for Op {
+    fn copy(&self, alloc: Global) -> Result<Op, Memory> {
+        match self {
+            Op::AddNode { id, labels, props } => Ok(Op::AddNode {
+                id: *id,
+                labels: labels.copy(alloc)?,
+                props: props.copy(alloc)?,
+            }),
+            Op::AddEdge {
+                id,
+                source,
+                target,
+                labels,
+                props,
+            } => Ok(Op::AddEdge {
+                id: *id,
+                source: *source,
+                target: *target,
+                labels: labels.copy(alloc)?,
+                props: props.copy(alloc)?,
+            }),
+            Op::RemoveNode { id } => Ok(Op::RemoveNode { id: *id }),
+            Op::DetachNode { id } => Ok(Op::DetachNode { id: *id }),
+            Op::RemoveEdge { id } => Ok(Op::RemoveEdge { id: *id }),
+            Op::SetNode { id, key, value } => Ok(Op::SetNode {
+                id: *id,
+                key: key.copy(alloc)?,
+                value: value.copy(alloc)?,
+            }),
+            Op::UnsetNode { id, key } => Ok(Op::UnsetNode {
+                id: *id,
+                key: key.copy(alloc)?,
+            }),
+            Op::LabelNode { id, label } => Ok(Op::LabelNode {
+                id: *id,
+                label: label.copy(alloc)?,
+            }),
+            Op::UnlabelNode { id, label } => Ok(Op::UnlabelNode {
+                id: *id,
+                label: label.copy(alloc)?,
+            }),
+            Op::SetEdge { id, key, value } => Ok(Op::SetEdge {
+                id: *id,
+                key: key.copy(alloc)?,
+                value: value.copy(alloc)?,
+            }),
+            Op::UnsetEdge { id, key } => Ok(Op::UnsetEdge {
+                id: *id,
+                key: key.copy(alloc)?,
+            }),
+            Op::LabelEdge { id, label } => Ok(Op::LabelEdge {
+                id: *id,
+                label: label.copy(alloc)?,
+            }),
+            Op::UnlabelEdge { id, label } => Ok(Op::UnlabelEdge {
+                id: *id,
+                label: label.copy(alloc)?,
+            }),
+        }
+    }
+}
+
+impl Copyable for Txn {
+    fn copy(&self, alloc: Global) -> Result<Txn, Memory> {
+        let ops = self.ops.copy(alloc)?;
+        Ok(Txn { ops })
+    }
 }

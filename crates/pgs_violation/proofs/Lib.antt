@@ -1,4 +1,3 @@
 pub mod Computed
-pub mod Deltas
 pub mod FirstOf
 pub mod InOrder

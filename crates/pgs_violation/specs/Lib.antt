@@ -1,4 +1,3 @@
-pub mod Changed
 pub mod Decision
 pub mod Samples
 pub mod Staging

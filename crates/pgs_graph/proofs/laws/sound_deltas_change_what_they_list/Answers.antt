@@ -1,5 +1,5 @@
-use Rattle.pgs_violation.proofs.Deltas as deltas
-use Rattle.pgs_violation.proofs.laws.sound_deltas_change_what_they_list.Goals as goal
+use Rattle.pgs_graph.proofs.Deltas as deltas
+use Rattle.pgs_graph.proofs.laws.sound_deltas_change_what_they_list.Goals as goal
 
 pub returns-clause-nodes : goal.returns-clause-nodes
 returns-clause-nodes c = deltas.node_after

@@ -13,7 +13,7 @@ use Rattle.pgs_base.specs.Graph.{Graph, node_cmp, edge_cmp, node_at, edge_at, is
 use Rattle.pgs_base.proofs.Ascending.{ascending-insert_entry, ascending-remove_entry, ascends_decides}
 use Rattle.pgs_base.proofs.Lookups.{lookup-insert_entry, lookup-remove_key, same_entries}
 use Rattle.pgs_graph.specs.declared.delta.Delta.{Delta}
-use Rattle.pgs_violation.specs.Changed.{entry_changed, entries_changed, changed, is_sound, after_changes}
+use Rattle.pgs_graph.specs.Changed.{entry_changed, entries_changed, changed, is_sound, after_changes}
 
 pub node_cmp_total : IsTotalOrder node_cmp
 node_cmp_total = on_total (λ (id : NodeId). id.0) nat_cmp_total
@@ -27,14 +27,15 @@ exact_node a b h = ap (λ n. record { 0 = n }) (exact_unsigned a.0 b.0 h)
 pub exact_edge : CmpEqualImpliesEq edge_cmp
 exact_edge a b h = ap (λ n. record { 0 = n }) (exact_unsigned a.0 b.0 h)
 
-module _ {K V : Type 0} {cmp : K → K → Ordering} (total : IsTotalOrder cmp) where
-  -- a key that ties with a lesser key than all of the list isn't in it
-  absent_below : (q k : K) → cmp q k ≡ Ordering.Equal → (changes : List (K × Option V)) → AllByRecursion (λ y. cmp k y ≡ Less) (keys_of changes) → lookup (is_at (cmp q)) changes ≡ None
-  absent_below q k tie [] below = refl
-  absent_below q k tie (change ∷ changes) below =
-      let other : is_at (cmp q) change.0 ≡ false = ap is_eq (total.congr q k change.0 tie ∙ below.0) in
-      rw other (absent_below q k tie changes below.1)
+-- a key that ties with a lesser key than all of the list isn't in it
+pub absent_below : {K W : Type 0} {cmp : K → K → Ordering} → IsTotalOrder cmp → (q k : K) → cmp q k ≡ Ordering.Equal → (entries : List (K × W)) →
+    AllByRecursion (λ y. cmp k y ≡ Less) (keys_of entries) → lookup (is_at (cmp q)) entries ≡ None
+absent_below total q k tie [] below = refl
+absent_below {cmp = cmp} total q k tie (entry ∷ entries) below =
+    let other : is_at (cmp q) entry.0 ≡ false = ap is_eq (total.congr q k entry.0 tie ∙ below.0) in
+    rw other (absent_below total q k tie entries below.1)
 
+module _ {K V : Type 0} {cmp : K → K → Ordering} (total : IsTotalOrder cmp) where
   lookup-entry_changed : (q k : K) (w : Option V) (entries : List (K × V)) → IsStrictlySortedBy cmp (keys_of entries) →
       lookup (is_at (cmp q)) (entry_changed cmp entries k w) ≡ cond (is_at (cmp k) q) w (lookup (is_at (cmp q)) entries)
   lookup-entry_changed q k (Some v) entries sorted = lookup-insert_entry total q k v entries
@@ -44,6 +45,13 @@ module _ {K V : Type 0} {cmp : K → K → Ordering} (total : IsTotalOrder cmp) 
       IsStrictlySortedBy cmp (keys_of (entry_changed cmp entries k w))
   ascending-entry_changed k (Some v) entries sorted = ascending-insert_entry total k v entries sorted
   ascending-entry_changed k None entries sorted = ascending-remove_entry total (is_at (cmp k)) entries sorted
+
+  -- changes keep the keys ascending
+  pub ascending-entries_changed : (entries : List (K × V)) (changes : List (K × Option V)) → IsStrictlySortedBy cmp (keys_of entries) →
+      IsStrictlySortedBy cmp (keys_of (entries_changed cmp entries changes))
+  ascending-entries_changed entries [] sorted = sorted
+  ascending-entries_changed entries (change ∷ changes) sorted =
+      ascending-entries_changed (entry_changed cmp entries change.0 change.1) changes (ascending-entry_changed change.0 change.1 entries sorted)
 
   -- after changes of ascending keys there stands the change of a key, where there is one, and else what stood there
   pub lookup-entries_changed : (q : K) (entries : List (K × V)) (changes : List (K × Option V)) → IsStrictlySortedBy cmp (keys_of entries) →
@@ -66,15 +74,15 @@ module _ {K V : Type 0} {cmp : K → K → Ordering} (total : IsTotalOrder cmp) 
           either : (b : Bool) → is_at (cmp q) change.0 ≡ b →
               after_changes (lookup (is_at (cmp q)) changes) (cond b change.1 (lookup (is_at (cmp q)) entries))
               ≡ after_changes (cond b (Some change.1) (lookup (is_at (cmp q)) changes)) (lookup (is_at (cmp q)) entries)
-          either true same = ap (λ o. after_changes o change.1) (absent_below q change.0 ((Equal-is (cmp q change.0)).0 same) changes ascending.0)
+          either true same = ap (λ o. after_changes o change.1) (absent_below total q change.0 ((Equal-is (cmp q change.0)).0 same) changes ascending.0)
           either false other = refl
 
 -- ---- graphs
 
-ascending_nodes : (g : Graph) → is_graph g ≡ true → IsStrictlySortedBy node_cmp (keys_of g.nodes)
+pub ascending_nodes : (g : Graph) → is_graph g ≡ true → IsStrictlySortedBy node_cmp (keys_of g.nodes)
 ascending_nodes g graph = (ascends_decides node_cmp (keys_of g.nodes)).0 (and_parts _ _ (and_parts _ _ graph).0).0
 
-ascending_edges : (g : Graph) → is_graph g ≡ true → IsStrictlySortedBy edge_cmp (keys_of g.edges)
+pub ascending_edges : (g : Graph) → is_graph g ≡ true → IsStrictlySortedBy edge_cmp (keys_of g.edges)
 ascending_edges g graph = (ascends_decides edge_cmp (keys_of g.edges)).0 (and_parts _ _ (and_parts _ _ graph).0).1
 
 -- graphs that have the same rows are equal
@@ -84,18 +92,27 @@ same_graph g h first second nodes edges =
     let same_edges = same_entries edge_cmp_total exact_edge g.edges h.edges (ascending_edges g first) (ascending_edges h second) edges in
     λ i. record { nodes = same_nodes i; edges = same_edges i }
 
+-- the numbers of a sound delta ascend
+pub ascending_changed_nodes : (g : Graph) (delta : Delta) → is_sound g delta ≡ true → IsStrictlySortedBy node_cmp (keys_of delta.nodes)
+ascending_changed_nodes g delta sound = (ascends_decides node_cmp (keys_of delta.nodes)).0 (and_parts _ _ (and_parts _ _ sound).0).0
+
+pub ascending_changed_edges : (g : Graph) (delta : Delta) → is_sound g delta ≡ true → IsStrictlySortedBy edge_cmp (keys_of delta.edges)
+ascending_changed_edges g delta sound = (ascends_decides edge_cmp (keys_of delta.edges)).0 (and_parts _ _ (and_parts _ _ sound).0).1
+
+-- what it makes is a graph
+pub changed_graph : (g : Graph) (delta : Delta) → is_sound g delta ≡ true → is_graph (changed g delta) ≡ true
+changed_graph g delta sound = (and_parts _ _ sound).1
+
 -- the rows after a sound delta
 pub node_after : (g : Graph) (delta : Delta) (id : NodeId) → is_graph g ≡ true → is_sound g delta ≡ true →
     node_at (changed g delta) id ≡ after_changes (lookup (is_at (node_cmp id)) delta.nodes) (node_at g id)
 node_after g delta id graph sound =
-    lookup-entries_changed node_cmp_total id g.nodes delta.nodes (ascending_nodes g graph)
-    ((ascends_decides node_cmp (keys_of delta.nodes)).0 (and_parts _ _ (and_parts _ _ sound).0).0)
+    lookup-entries_changed node_cmp_total id g.nodes delta.nodes (ascending_nodes g graph) (ascending_changed_nodes g delta sound)
 
 pub edge_after : (g : Graph) (delta : Delta) (id : EdgeId) → is_graph g ≡ true → is_sound g delta ≡ true →
     edge_at (changed g delta) id ≡ after_changes (lookup (is_at (edge_cmp id)) delta.edges) (edge_at g id)
 edge_after g delta id graph sound =
-    lookup-entries_changed edge_cmp_total id g.edges delta.edges (ascending_edges g graph)
-    ((ascends_decides edge_cmp (keys_of delta.edges)).0 (and_parts _ _ (and_parts _ _ sound).0).1)
+    lookup-entries_changed edge_cmp_total id g.edges delta.edges (ascending_edges g graph) (ascending_changed_edges g delta sound)
 
 -- two sound deltas that leave the same rows make one graph
 pub same_changed : (g : Graph) (first second : Delta) → is_graph g ≡ true → is_sound g first ≡ true → is_sound g second ≡ true →
@@ -103,6 +120,6 @@ pub same_changed : (g : Graph) (first second : Delta) → is_graph g ≡ true �
     ((id : EdgeId) → after_changes (lookup (is_at (edge_cmp id)) first.edges) (edge_at g id) ≡ after_changes (lookup (is_at (edge_cmp id)) second.edges) (edge_at g id)) →
     changed g first ≡ changed g second
 same_changed g first second graph one other nodes edges =
-    same_graph (changed g first) (changed g second) (and_parts _ _ one).1 (and_parts _ _ other).1
+    same_graph (changed g first) (changed g second) (changed_graph g first one) (changed_graph g second other)
     (λ id. node_after g first id graph one ∙ nodes id ∙ sym (node_after g second id graph other))
     (λ id. edge_after g first id graph one ∙ edges id ∙ sym (edge_after g second id graph other))

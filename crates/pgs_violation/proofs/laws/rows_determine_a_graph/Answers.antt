@@ -1,5 +1,0 @@
-use Rattle.pgs_violation.proofs.Deltas as deltas
-use Rattle.pgs_violation.proofs.laws.rows_determine_a_graph.Goals as goal
-
-pub returns : goal.returns
-returns c = deltas.same_graph
