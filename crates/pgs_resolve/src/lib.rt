@@ -5,6 +5,7 @@
 #![tactic(auto)]
 
 mod fault;
+pub mod laws;
 pub mod samples;
 
 pub use fault::{KeyCause, ResolveFault};
