@@ -1,6 +1,8 @@
 pub mod Day
+pub mod DayForm
 pub mod Graph
 pub mod Name
+pub mod Options
 pub mod Order
 pub mod OrderLaws
 pub mod Places

@@ -4,7 +4,8 @@ use Rattle.std.proofs.lemmas.List.{append-nil}
 use Rattle.pgs_graph.specs.declared.operation.Op.{Op}
 use Rattle.std.specs.Prelude.{fold}
 use Rattle.serde_json.specs.Data.{Data, Items, Members}
-use Rattle.pgs_json.specs.Form.{◌>>=◌, each_item, each_member, op_of}
+use Rattle.pgs_base.specs.Options.{◌>>=◌}
+use Rattle.pgs_json.specs.Form.{each_item, each_member, op_of}
 
 -- what is there after the items, each put in
 abbrev pub after_items : {A S : Type 0} → (Data → Option A) → (S → A → S) → S → Items → Option S

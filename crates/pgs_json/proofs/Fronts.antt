@@ -5,7 +5,8 @@ use Rattle.std.specs.Str.{bytes_eq}
 use Rattle.std.proofs.lemmas.List.{take_at, drop_at, take-append-drop}
 use Rattle.std.proofs.lemmas.Option.{cond_some}
 use Rattle.std.proofs.lemmas.Slice.Eq.{bytes_eq-Decides}
-use Rattle.pgs_json.specs.Reading.{◌>>=◌, after}
+use Rattle.pgs_base.specs.Options.{◌>>=◌}
+use Rattle.pgs_json.specs.Reading.{after}
 use Rattle.pgs_json.proofs.Texts.{both}
 
 -- the value of a step that gave one

@@ -19,7 +19,8 @@ use Rattle.pgs_base.specs.declared.value.Value.{Value}
 use Rattle.pgs_graph.specs.declared.operation.Op.{Op}
 use Rattle.pgs_json.specs.FirstLine.{op_of, are_distinct}
 use Rattle.pgs_json.specs.Sets.{label_set, pair_map}
-use Rattle.pgs_json.specs.Reading.{◌>>=◌, name_at, pair_at, end_at, items_at, list_at, label_list_at, pair_list_at, op_at, op_list_at, with_first}
+use Rattle.pgs_base.specs.Options.{◌>>=◌}
+use Rattle.pgs_json.specs.Reading.{name_at, pair_at, end_at, items_at, list_at, label_list_at, pair_list_at, op_at, op_list_at, with_first}
 use Rattle.pgs_json.proofs.Items.{others_at}
 use Rattle.pgs_json.specs.Gathering.{gathered, gathered_items, gathered_at, seen, with_label, with_pair, with_op, graph_op_at}
 

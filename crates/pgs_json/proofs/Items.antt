@@ -3,7 +3,8 @@ use Rattle.std.proofs.Common.{◌≡◌, ℕ, suc, ◌-◌, ◌+◌, ◌≤◌, 
 use Rattle.pgs_json.specs.declared.unread.Unread.{Unread}
 use Rattle.pgs_json.specs.declared.unread.Unread.TheVariants as unread
 use Rattle.pgs_json.specs.Unread.{Fails}
-use Rattle.pgs_json.specs.Reading.{◌>>=◌, end_at, with_first, items_at}
+use Rattle.pgs_base.specs.Options.{◌>>=◌}
+use Rattle.pgs_json.specs.Reading.{end_at, with_first, items_at}
 use Rattle.pgs_json.specs.Gathering.{gathered_items, gathered_at}
 
 gathered-with_first : {A S : Type 0} (step : S → A → Option S) (s t : S) (x : A) (read : Option (List A × List ℕ)) → step s x ≡ Some t

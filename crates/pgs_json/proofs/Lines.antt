@@ -10,7 +10,8 @@ use Rattle.pgs_base.specs.declared.value.Value.{Value}
 use Rattle.pgs_base.specs.Name.{is_name}
 use Rattle.pgs_graph.specs.declared.operation.Txn.{Txn}
 use Rattle.pgs_json.specs.FirstLine.{RawOp, listed, quoted, pair, labels, props, op, spelling, is_first_pair, are_distinct, are_first_labels, are_first_pairs, is_first_op, is_first_line, named_txn}
-use Rattle.pgs_json.specs.Reading.{◌>>=◌, after, is_digit, number_at, name_at, pair_at, list_at, label_list_at, pair_list_at, part_in, labels_at, props_at, op_at, op_list_at, raw_at, first_txn}
+use Rattle.pgs_base.specs.Options.{◌>>=◌}
+use Rattle.pgs_json.specs.Reading.{after, is_digit, number_at, name_at, pair_at, list_at, label_list_at, pair_list_at, part_in, labels_at, props_at, op_at, op_list_at, raw_at, first_txn}
 use Rattle.pgs_json.proofs.Texts.{both, and}
 use Rattle.pgs_json.proofs.Fronts.{bind_some, some_is, after_takes, after_again, stops}
 use Rattle.pgs_json.proofs.Numbers.{number_takes, number_again}

@@ -7,7 +7,8 @@ use Rattle.std.proofs.lemmas.List.{append-nil}
 use Rattle.std.proofs.lemmas.List.Concat.{flat_map-cons}
 use Rattle.std.proofs.lemmas.Option.{cond_some}
 use Rattle.pgs_json.specs.FirstLine.{listed}
-use Rattle.pgs_json.specs.Reading.{◌>>=◌, is_digit, end_at, with_first, items_at, list_at}
+use Rattle.pgs_base.specs.Options.{◌>>=◌}
+use Rattle.pgs_json.specs.Reading.{is_digit, end_at, with_first, items_at, list_at}
 use Rattle.pgs_json.proofs.Texts.{both, and}
 use Rattle.pgs_json.proofs.Fronts.{bind_some, some_is, stops}
 use Rattle.pgs_json.proofs.Items.{others_at}

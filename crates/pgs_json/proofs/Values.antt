@@ -10,7 +10,8 @@ use Rattle.pgs_base.specs.declared.value.Value.{Value}
 use Rattle.pgs_base.specs.declared.value.Value.TheVariants as values
 use Rattle.pgs_base.specs.Name.{is_name, is_name_start, is_name_byte}
 use Rattle.pgs_json.specs.FirstLine.{quoted, value, pair, is_text_byte, is_first_value, is_first_pair}
-use Rattle.pgs_json.specs.Reading.{◌>>=◌, after, is_digit, quoted_at, name_at, text_at, value_at, pair_at, int_at}
+use Rattle.pgs_base.specs.Options.{◌>>=◌}
+use Rattle.pgs_json.specs.Reading.{after, is_digit, quoted_at, name_at, text_at, value_at, pair_at, int_at}
 use Rattle.pgs_json.proofs.Texts.{both, and, list_all-take_while}
 use Rattle.pgs_json.proofs.Fronts.{bind_some, some_is, after_takes, after_again, stops, take-again, drop-again, front_takes}
 use Rattle.pgs_json.proofs.Numbers.{is_int, int_takes, int_again, decimal_first, other_first}

@@ -1,24 +1,20 @@
 -- The form of a transaction: which JSON values are one, part by part, and the operations that they name.
-use Rattle.std.specs.Prelude.{ℕ, Bool, false, ◌&&◌, List, [], ◌∷◌, length, Option, Some, None, option_map, option_and_then, nat_le, ◌==◌, if◌then◌else◌, codes, bytes_eq, slice_index, slice_range}
+use Rattle.std.specs.Prelude.{ℕ, Bool, false, ◌&&◌, List, [], ◌∷◌, length, Option, Some, None, option_map, nat_le, if◌then◌else◌, codes, bytes_eq}
 use Rattle.std.specs.Option.{option_or}
 use Rattle.std.specs.List.{list_all, list_any}
-use Rattle.std.specs.Str.Parse.{digits_value}
 use Rattle.pgs_base.specs.declared.element.NodeId.{NodeId}
 use Rattle.pgs_base.specs.declared.element.EdgeId.{EdgeId}
 use Rattle.pgs_base.specs.declared.value.Value.{Value}
 use Rattle.pgs_base.specs.declared.value.Value.TheVariants as values
-use Rattle.pgs_base.specs.Day.{is_day}
-use Rattle.pgs_base.specs.Name.{is_between, is_name}
+use Rattle.pgs_base.specs.DayForm.{day_in}
+use Rattle.pgs_base.specs.Name.{is_name}
+use Rattle.pgs_base.specs.Options.{◌>>=◌}
 use Rattle.pgs_graph.specs.declared.operation.Op.{Op}
 use Rattle.pgs_graph.specs.declared.operation.Op.TheVariants.{AddNode, AddEdge, RemoveNode, DetachNode, RemoveEdge, SetNode, UnsetNode, LabelNode, UnlabelNode, SetEdge, UnsetEdge, LabelEdge, UnlabelEdge}
 use Rattle.pgs_graph.specs.declared.operation.Txn.{Txn}
 use Rattle.pgs_json.specs.Sets.{label_set, pair_map}
 use Rattle.serde_json.specs.Data.{Data, null, boolean, number, string, array, object, Items, no_items, item, Members, no_members, member}
 use Rattle.serde_json.specs.Find.{as_number, as_u64, as_i64, as_str, as_array, as_object, get}
-
-infixl 10 ◌>>=◌
-abbrev pub ◌>>=◌ : {A B : Type 0} → Option A → (A → Option B) → Option B
-o >>= f = option_and_then f o
 
 -- ---- objects and lists
 
@@ -71,25 +67,6 @@ name_in text = if is_name text then Some text else None
 
 abbrev pub name_of : Data → Option (List ℕ)
 name_of d = as_str d >>= name_in
-
--- the number that decimal digits write
-abbrev pub number_in : List ℕ → Option ℕ
-number_in digits = if list_all (is_between 48 57) digits then Some (digits_value 10 digits) else None
-
--- whether a text is ten bytes with a `-` after the year and after the month
-abbrev pub has_dashes : List ℕ → Bool
-has_dashes text = length text == 10 && (slice_index text 4 == 45 && slice_index text 7 == 45)
-
-abbrev pub if_day : ℕ → ℕ → ℕ → Option (ℕ × ℕ × ℕ)
-if_day year month day = if is_day year month day then Some (year, month, day) else None
-
--- the day of a text such as `2024-02-29`
-unfoldable pub day_in : List ℕ → Option (ℕ × ℕ × ℕ)
-day_in text =
-    if has_dashes text
-    then (number_in (slice_range text 0 4) >>= λ year. number_in (slice_range text 5 7) >>= λ month.
-    number_in (slice_range text 8 10) >>= λ day. if_day year month day)
-    else None
 
 abbrev pub day_of : Data → Option (ℕ × ℕ × ℕ)
 day_of d = as_str d >>= day_in

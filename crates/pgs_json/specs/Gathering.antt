@@ -8,7 +8,8 @@ use Rattle.std.specs.Map.{lookup}
 use Rattle.pgs_base.specs.declared.value.Value.{Value}
 use Rattle.pgs_graph.specs.declared.operation.Op.{Op}
 use Rattle.pgs_json.specs.FirstLine.{op_of}
-use Rattle.pgs_json.specs.Reading.{◌>>=◌, items_at, op_at}
+use Rattle.pgs_base.specs.Options.{◌>>=◌}
+use Rattle.pgs_json.specs.Reading.{items_at, op_at}
 
 -- the items added to what there is, each by one step
 abbrev pub gathered : {A S : Type 0} → (S → A → Option S) → S → List A → Option S

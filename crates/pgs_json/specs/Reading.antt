@@ -1,17 +1,14 @@
 -- Reading a line of the first form from left to right. Each part gives its value and the bytes after it.
-use Rattle.std.specs.Prelude.{ℕ, zero, suc, ◌-◌, ◌^◌, ℤ, pos, negsuc, Bool, true, false, not, List, [], ◌∷◌, length, take, drop, Option, Some, None, option_and_then, nat_le, nat_lt, ◌==◌, if◌then◌else◌, codes, bytes_eq, ◌&&◌}
+use Rattle.std.specs.Prelude.{ℕ, zero, suc, ◌-◌, ◌^◌, ℤ, pos, negsuc, Bool, true, false, not, List, [], ◌∷◌, length, take, drop, Option, Some, None, nat_le, nat_lt, ◌==◌, if◌then◌else◌, codes, bytes_eq, ◌&&◌}
 use Rattle.std.specs.List.{prefix_len, take_while}
 use Rattle.std.specs.Str.Parse.{digits_value}
 use Rattle.std.specs.Map.{keys_of}
 use Rattle.pgs_base.specs.declared.value.Value.{Value}
 use Rattle.pgs_base.specs.declared.value.Value.TheVariants as values
 use Rattle.pgs_base.specs.Name.{is_between, is_name}
+use Rattle.pgs_base.specs.Options.{◌>>=◌}
 use Rattle.pgs_graph.specs.declared.operation.Txn.{Txn}
 use Rattle.pgs_json.specs.FirstLine.{RawOp, is_text_byte, are_distinct, named_txn}
-
-infixl 10 ◌>>=◌
-abbrev pub ◌>>=◌ : {A B : Type 0} → Option A → (A → Option B) → Option B
-o >>= f = option_and_then f o
 
 -- the bytes after a front
 unfoldable pub after : List ℕ → List ℕ → Option (List ℕ)

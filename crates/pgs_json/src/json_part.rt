@@ -4,7 +4,8 @@ ghost use Rattle.std.specs.Prelude.{◌≡◌, ◌≤◌, ◌<◌, ◌^◌, IfSo
 ghost use Rattle.std.specs.List.{list_any, list_all};
 ghost use Rattle.std.specs.Str.{bytes_eq};
 ghost use Rattle.serde_json.specs.View.{view, members_view};
-ghost use Rattle.pgs_json.specs.Form.{names_in, are_among, has_only, part, id_of, name_of, number_in, day_in, day_of, date_of, text_in, value_of};
+ghost use Rattle.pgs_json.specs.Form.{names_in, are_among, has_only, part, id_of, name_of, day_of, date_of, text_in, value_of};
+ghost use Rattle.pgs_base.specs.DayForm.{number_in, day_in};
 ghost use Rattle.pgs_base.specs.Name.{is_between};
 ghost use Rattle.pgs_base.specs.declared.value.Value.TheVariants as values;
 ghost use Rattle.pgs_json.specs.Unread.{Gives};
@@ -95,7 +96,7 @@ fn number_in(bytes: &[u8]) -> Option<u64>
     }
 }
 
-#[tactic(auto, unfolding(crate::specs::Form::day_in))]
+#[tactic(auto, unfolding(pgs_base::specs::DayForm::day_in))]
 fn day_in(text: &[u8]) -> Option<Day>
     ensures { result ≡ day_in text.now }
 {

@@ -8,7 +8,7 @@ use Rattle.pgs_parser.specs.declared.token.Token.{Token}
 use Rattle.pgs_parser.specs.declared.token.Token.TheVariants.{Name, Keyword, Sign}
 use Rattle.pgs_parser.specs.declared.tree.WrittenType.{WrittenType}
 use Rattle.pgs_parser.specs.declared.tree.Script.{Script}
-use Rattle.pgs_parser.specs.Gives.{◌>>=◌}
+use Rattle.pgs_base.specs.Options.{◌>>=◌}
 use Rattle.pgs_parser.specs.Reading.{Reader, sign_at, name_at, kind_at, more, listed, up_to_brace, labels_at, property_at, braces_at, type_at, head_at, script_of}
 use Rattle.pgs_parser.specs.Form.{separated, name_tokens, labels_tokens, kind_word, property_tokens, braces_tokens, type_tokens, script_tokens}
 use Rattle.pgs_parser.proofs.FirstKinds.{is_first_kind, has_first_kind, has_first_kinds}

@@ -8,7 +8,8 @@ use Rattle.std.proofs.lemmas.Option.{cond_some}
 use Rattle.pgs_base.specs.Name.{is_name, is_name_byte}
 use Rattle.pgs_parser.specs.declared.token.Token.{Token}
 use Rattle.pgs_parser.specs.declared.token.Token.TheVariants.{Sign}
-use Rattle.pgs_parser.specs.Gives.{◌>>=◌, with_front, IsCause}
+use Rattle.pgs_base.specs.Options.{◌>>=◌}
+use Rattle.pgs_parser.specs.Gives.{with_front, IsCause}
 use Rattle.pgs_parser.specs.declared.unread.Unread.{Unread}
 use Rattle.pgs_parser.specs.declared.unread.Unread.TheVariants as unread
 use Rattle.pgs_parser.specs.Cut.{is_space, is_sign, word_token, close, with_byte, run_and_tokens, tokens_of, begins_word}

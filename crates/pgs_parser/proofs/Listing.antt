@@ -7,7 +7,8 @@ use Rattle.pgs_parser.specs.declared.token.Token.{Token}
 use Rattle.pgs_parser.specs.declared.token.Token.TheVariants.{Name, Keyword, Sign}
 use Rattle.pgs_parser.specs.declared.unread.Unread.{Unread}
 use Rattle.pgs_parser.specs.declared.unread.Unread.TheVariants as unread
-use Rattle.pgs_parser.specs.Gives.{◌>>=◌, IsCause}
+use Rattle.pgs_base.specs.Options.{◌>>=◌}
+use Rattle.pgs_parser.specs.Gives.{IsCause}
 use Rattle.pgs_parser.specs.Reading.{Reader, sign_at, more, listed}
 
 -- an item takes at least one token

@@ -11,7 +11,7 @@ use Rattle.pgs_parser.specs.declared.token.Token.{Token}
 use Rattle.pgs_parser.specs.declared.token.Token.TheVariants.{Name, Keyword, Sign}
 use Rattle.pgs_parser.specs.declared.tree.WrittenType.{WrittenType}
 use Rattle.pgs_parser.specs.declared.tree.Script.{Script}
-use Rattle.pgs_parser.specs.Gives.{◌>>=◌}
+use Rattle.pgs_base.specs.Options.{◌>>=◌}
 use Rattle.pgs_parser.specs.Cut.{same_bytes}
 use Rattle.pgs_parser.specs.Reading.{Reader, sign_at, keyword_at, name_at, kind_at, kind_of_word, more, listed, up_to_brace, labels_at, property_at, braces_at, type_at, head_at, script_of}
 use Rattle.pgs_parser.specs.Form.{separated, name_tokens, labels_tokens, kind_word, property_tokens, braces_tokens, type_tokens, script_tokens}

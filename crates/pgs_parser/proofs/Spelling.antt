@@ -8,7 +8,7 @@ use Rattle.std.proofs.lemmas.Bool.{or_cases, or_left, and_parts, and_from, eqb-t
 use Rattle.pgs_base.specs.Name.{is_between, is_name, is_name_start, is_name_byte}
 use Rattle.pgs_parser.specs.declared.token.Token.{Token}
 use Rattle.pgs_parser.specs.declared.token.Token.TheVariants.{Name, Keyword, Sign}
-use Rattle.pgs_parser.specs.Gives.{◌>>=◌}
+use Rattle.pgs_base.specs.Options.{◌>>=◌}
 use Rattle.pgs_parser.specs.Cut.{is_space, is_sign, is_keyword, word_token, close, with_byte, run_and_tokens, tokens_of, begins_word}
 use Rattle.pgs_parser.specs.Form.{Spells, IsItem, IsEnd}
 use Rattle.pgs_parser.proofs.Cutting.{tokens-space, tokens-sign, tokens-name}

@@ -6,7 +6,7 @@ use Rattle.pgs_base.specs.Name.{is_name, is_name_byte}
 use Rattle.pgs_parser.specs.declared.token.Token.{Token}
 use Rattle.pgs_parser.specs.declared.token.Token.TheVariants.{Name, Keyword, Sign}
 use Rattle.pgs_parser.specs.Signs.{left_parenthesis, right_parenthesis, left_brace, right_brace, colon, comma, semicolon, ampersand}
-use Rattle.pgs_parser.specs.Gives.{◌>>=◌}
+use Rattle.pgs_base.specs.Options.{◌>>=◌}
 
 -- a space, a tab, a carriage return or a line feed
 abbrev pub is_space : ℕ → Bool

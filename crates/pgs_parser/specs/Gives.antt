@@ -1,11 +1,7 @@
 -- What a call that reads returned, against what there is to read.
-use Rattle.std.specs.Prelude.{◌≡◌, List, ◌++◌, Option, Some, None, option_and_then, option_map, Result, Ok, Err}
+use Rattle.std.specs.Prelude.{◌≡◌, List, ◌++◌, Option, Some, None, option_map, Result, Ok, Err}
 use Rattle.pgs_parser.specs.declared.unread.Unread.{Unread}
 use Rattle.pgs_parser.specs.declared.unread.Unread.TheVariants as unread
-
-infixl 10 ◌>>=◌
-abbrev pub ◌>>=◌ : {A B : Type 0} → Option A → (A → Option B) → Option B
-o >>= f = option_and_then f o
 
 -- a call that found no memory may have read anything
 abbrev pub IsCause : {Y : Type 0} → Option Y → Unread → Type 0

@@ -1,15 +1,14 @@
 -- What the bytes of a token are: a name, a text, a number, a day.
-use Rattle.std.specs.Prelude.{◌≡◌, ℕ, ◌≤◌, true, false, ◌&&◌, List, [], ◌∷◌, length, drop, Option, Some, None, if◌then◌else◌, ℤ}
+use Rattle.std.specs.Prelude.{◌≡◌, ℕ, ◌≤◌, true, false, ◌&&◌, List, [], ◌∷◌, length, drop, Some, if◌then◌else◌, ℤ}
 use Rattle.std.specs.Int.RustNames.{FitsSigned}
 use mir.Syntax.{w64}
 use Rattle.std.specs.Ffi.{without_last}
-use Rattle.std.specs.List.{list_all}
-use Rattle.std.specs.Str.Parse.{digits_value, signed_digits_value}
-use Rattle.pgs_base.specs.Day.{is_day}
+use Rattle.std.specs.Str.Parse.{signed_digits_value}
+use Rattle.pgs_base.specs.DayForm.{day_in}
 use Rattle.pgs_base.specs.declared.value.Value.{Value}
 use Rattle.pgs_base.specs.declared.value.Value.TheVariants as values
-use Rattle.pgs_lexer.specs.Form.{begins_with, is_quote, is_digit}
-use Rattle.pgs_lexer.specs.Scan.{is_backquote, is_minus}
+use Rattle.pgs_lexer.specs.Form.{begins_with, is_quote}
+use Rattle.pgs_lexer.specs.Scan.{is_backquote}
 use Rattle.pgs_lexer.specs.Token.{Lexeme}
 use Rattle.pgs_lexer.specs.declared.kind.TokenKind.TheVariants as tokens
 use Rattle.pgs_parser.specs.Production.{Production, ◌▸◌, IsToken, keyword}
@@ -31,17 +30,6 @@ with_single_quotes (a ∷ b ∷ text) = if is_quote a && is_quote b then a ∷ w
 -- the text that a string token is
 abbrev pub text_in : List ℕ → List ℕ
 text_in bytes = with_single_quotes (inside bytes)
-
--- the day of bytes in the day form: four digits, `-`, two digits, `-`, two digits, being a day
-abbrev pub day_in : List ℕ → Option (ℕ × ℕ × ℕ)
-day_in (a ∷ b ∷ c ∷ d ∷ e ∷ f ∷ g ∷ h ∷ i ∷ j ∷ []) =
-    let year = digits_value 10 (a ∷ b ∷ c ∷ d ∷ []) in
-    let month = digits_value 10 (f ∷ g ∷ []) in
-    let day = digits_value 10 (i ∷ j ∷ []) in
-    if list_all is_digit (a ∷ b ∷ c ∷ d ∷ f ∷ g ∷ i ∷ j ∷ []) && is_minus e && is_minus h && is_day year month day
-    then Some (year, month, day)
-    else None
-day_in _ = None
 
 -- the token is the name
 abbrev pub IsName : List ℕ → Lexeme → Type 0

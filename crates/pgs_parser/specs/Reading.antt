@@ -6,7 +6,7 @@ use Rattle.pgs_parser.specs.declared.token.Token.{Token}
 use Rattle.pgs_parser.specs.declared.token.Token.TheVariants.{Name, Keyword, Sign}
 use Rattle.pgs_parser.specs.declared.tree.WrittenType.{WrittenType}
 use Rattle.pgs_parser.specs.declared.tree.Script.{Script}
-use Rattle.pgs_parser.specs.Gives.{◌>>=◌}
+use Rattle.pgs_base.specs.Options.{◌>>=◌}
 use Rattle.pgs_parser.specs.Cut.{same_bytes}
 use Rattle.pgs_parser.specs.Signs.{left_parenthesis, right_parenthesis, left_brace, right_brace, colon, comma, semicolon, ampersand}
 

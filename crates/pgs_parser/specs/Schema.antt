@@ -6,7 +6,7 @@ use Rattle.std.specs.Cmp.Lexicographic.{slice_cmp}
 use Rattle.pgs_parser.specs.declared.tree.WrittenType.{WrittenType}
 use Rattle.pgs_parser.specs.declared.first_schema.FirstType.{FirstType}
 use Rattle.pgs_parser.specs.declared.first_schema.FirstSchema.{FirstSchema}
-use Rattle.pgs_parser.specs.Gives.{◌>>=◌}
+use Rattle.pgs_base.specs.Options.{◌>>=◌}
 use Rattle.pgs_parser.specs.Cut.{tokens_of}
 use Rattle.pgs_parser.specs.Reading.{script_of}
 use Rattle.pgs_parser.specs.Rules.{properties_of, keeps_rules}

@@ -1,7 +1,8 @@
 use Rattle.std.proofs.Common.{refl}
 use Rattle.std.specs.Str.{chars, is_utf8}
 use Rattle.serde_json.proofs.OnLiterals.{serde_json_on_literals}
-use Rattle.pgs_json.specs.Form.{day_in, labels_of, props_of, add_node, add_edge, with_id, with_name, with_value, node_op, edge_op, ops_of, form}
+use Rattle.pgs_base.specs.DayForm.{day_in}
+use Rattle.pgs_json.specs.Form.{labels_of, props_of, add_node, add_edge, with_id, with_name, with_value, node_op, edge_op, ops_of, form}
 use Rattle.pgs_json.specs.Line.{txn_of}
 use Rattle.pgs_json.proofs.samples.lines_with_values.Goals as goal
 

@@ -5,7 +5,7 @@ use Rattle.std.proofs.lemmas.Bool.{leb-true, le-leb}
 use Rattle.pgs_parser.specs.declared.token.Token.{Token}
 use Rattle.pgs_parser.specs.declared.tree.Script.{Script}
 use Rattle.pgs_parser.specs.declared.first_schema.FirstSchema.{FirstSchema}
-use Rattle.pgs_parser.specs.Gives.{◌>>=◌}
+use Rattle.pgs_base.specs.Options.{◌>>=◌}
 use Rattle.pgs_parser.specs.Cut.{tokens_of}
 use Rattle.pgs_parser.specs.Reading.{script_of}
 use Rattle.pgs_parser.specs.Rules.{keeps_rules}
