@@ -8,7 +8,7 @@ use Rattle.pgs_base.specs.declared.part.Part.TheVariants as parts
 use Rattle.pgs_base.specs.Order.{elem_cmp, tuple_cmp}
 use Rattle.pgs_base.specs.OrderLaws.{elem_cmp_total, tuple_cmp_total}
 use Rattle.pgs_violation.specs.declared.violation.Violation.{Violation}
-use Rattle.pgs_violation.specs.declared.violation.Violation.TheVariants.{UntypedNode, UntypedEdge, Mandatory, Singleton, Exclusive}
+use Rattle.pgs_violation.specs.declared.violation.Violation.TheVariants.{Singleton, Exclusive}
 use Rattle.pgs_violation.specs.Standing.{violation_cmp, key_of, number_of, elem_of, carried_cmp}
 
 -- what a violation carries, as tuples
