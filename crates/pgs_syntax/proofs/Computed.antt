@@ -17,7 +17,7 @@ use Rattle.pgs_syntax.specs.Join.{pair_of}
 use Rattle.pgs_syntax.specs.Typed.{node_typed, edge_is_typed}
 use Rattle.pgs_syntax.specs.Meaning.{is_pair}
 use Rattle.pgs_syntax.specs.KeyValues.{scope_of, key_values}
-use Rattle.pgs_syntax.specs.Valid.{is_valid, is_valid_key, is_valid_pattern}
+use Rattle.pgs_syntax.specs.Valid.{is_connected, is_valid, is_valid_key, is_valid_pattern}
 
 pub heir_typed : node_typed (staff (Node 0 ∷ Node 1 ∷ [])) ann ≡ true
 unfolding block.hidden-the_row-Spec-0 hidden
@@ -225,3 +225,6 @@ no_text = refl
 
 pub no_day : is_pair (with (codes "k") (Date (2023, 2, 29))) ≡ false
 no_day = refl
+
+pub unconnected : is_connected two_apart ≡ false
+unconnected = refl

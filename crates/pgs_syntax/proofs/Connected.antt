@@ -8,7 +8,7 @@ use Rattle.pgs_syntax.specs.declared.pattern.Atom.{Atom}
 use Rattle.pgs_syntax.specs.declared.pattern.Atom.TheVariants.{Ends, HasLabel, FitsNode, FitsEdge, Equals}
 use Rattle.pgs_syntax.specs.declared.pattern.Pattern.{Pattern}
 use Rattle.pgs_syntax.specs.Linked.{links, IsLinked, itself, further}
-use Rattle.pgs_syntax.specs.Valid.{is_edge_var, is_node_var, speaks_of, together, groups_after, is_connected}
+use Rattle.pgs_syntax.specs.Valid.{is_edge_var, is_node_var, speaks_of, together, groups_after, is_connected, is_valid_pattern}
 
 -- ---- links go both ways, and one after another
 
@@ -264,3 +264,12 @@ module _ (pattern : Pattern) (speaks : list_all (speaks_of pattern.edge_vars) pa
   linked_connected h =
       let size = last_size in
       at_all (λ group. group == slice_index last 0) last (λ i below. eq-eqb (slice_index last i) (slice_index last 0) (sym (linked_same (h i (omega arith)))))
+
+-- in a valid pattern all are linked
+pub all_linked : (pattern : Pattern) → is_valid_pattern pattern ≡ true → (first second : ℕ) → first < length pattern.edge_vars → second < length pattern.edge_vars →
+    IsLinked pattern.atoms first second
+all_linked pattern valid first second first_in second_in =
+    let parts = and_parts _ _ valid in
+    let speaks = (and_parts _ _ (and_parts _ _ parts.0).0).1 in
+    let linked = connected_linked pattern speaks parts.1 in
+    after pattern.atoms (back pattern.atoms (linked first first_in)) (linked second second_in)

@@ -22,7 +22,7 @@ ghost use Rattle.pgs_syntax.specs.KeyValues.{starts_at, is_in_scope, tuple_of, k
 ghost use Rattle.pgs_syntax.specs.Linked.{IsLinked};
 ghost use Rattle.pgs_syntax.specs.Matches.{is_match, matches};
 ghost use Rattle.pgs_syntax.specs.Meaning.{is_pair, IsJoinOf, IsJoinOfAll, IsEdgeOf};
-ghost use Rattle.pgs_syntax.specs.Valid.{speaks_of, is_connected, is_valid};
+ghost use Rattle.pgs_syntax.specs.Valid.{speaks_of, is_connected, is_valid_pattern, is_valid};
 ghost use Rattle.pgs_syntax.specs.Fitting.{suits, fits, fits_node, fits_edge, fits_edge_type, value_at};
 
 /// Whether a pair or a triple fits `A & B` doesn't depend on the order of the parts.
@@ -34,7 +34,7 @@ pub fn parts_in_any_order()
 {}
 
 /// A specification without OPEN in braces admits no key that it doesn't name, also through `&`, `|`, `?` and the types that it
-/// names. So does a type of such a specification.
+/// names. Nor does a node type or an edge type of such a specification.
 pub fn closed_types_admit_no_further_key()
     ensures nodes { (resolved : Resolved) (spec : Spec Leaf) (p : NodeRow) (key : List ℕ) →
         is_closed resolved spec ≡ true → fits resolved spec p ≡ true → names_key resolved spec key ≡ false →
@@ -74,10 +74,12 @@ pub fn parts_are_alternatives()
 {}
 
 /// The variables of a pattern are in one group exactly where each is linked with variable 0: steps lead from the one to the
-/// other, each from an edge to an end of it or back.
+/// other, each from an edge to an end of it or back. In a valid pattern any two variables are linked.
 pub fn connected_patterns_are_linked()
-    ensures { (pattern : Pattern) → list_all (speaks_of pattern.edge_vars) pattern.atoms ≡ true →
+    ensures groups { (pattern : Pattern) → list_all (speaks_of pattern.edge_vars) pattern.atoms ≡ true →
         (is_connected pattern ≡ true) ↔ ((var : ℕ) → var < length pattern.edge_vars → IsLinked pattern.atoms 0 var) }
+    ensures valid { (pattern : Pattern) → is_valid_pattern pattern ≡ true → (first second : ℕ) →
+        first < length pattern.edge_vars → second < length pattern.edge_vars → IsLinked pattern.atoms first second }
 {}
 
 /// The list of a pattern's matches has exactly the assignments that are a match: one of the list passes a test exactly

@@ -15,7 +15,7 @@ ghost use Rattle.pgs_syntax.specs.KeyValues.{scope_of, key_values};
 ghost use Rattle.pgs_syntax.specs.Meaning.{is_pair};
 ghost use Rattle.pgs_syntax.specs.Samples.{staff, ann, shared_key, labelled, with, open_type, either_type, open_labels, bare_type, abstract_types, acquaintance, acquainted, tied, ties, social, cyd, bob, two_steps, steps_to, moderator, forum, by_n4, by_n5, keyed, edge, two_apart, names_later, names_twice};
 ghost use Rattle.pgs_syntax.specs.Typed.{node_typed, edge_is_typed};
-ghost use Rattle.pgs_syntax.specs.Valid.{is_valid, is_valid_key, is_valid_pattern};
+ghost use Rattle.pgs_syntax.specs.Valid.{is_connected, is_valid, is_valid_key, is_valid_pattern};
 
 /// Which rows are pairs: the names of labels and keys ascend, and values are in their range.
 pub fn pairs()
@@ -142,6 +142,7 @@ pub fn validity()
     ensures valid_ties { is_valid ties ≡ true }
     ensures valid_mails { is_valid mails ≡ true }
     ensures valid_holder { is_valid_key holder ≡ true }
+    ensures unconnected { is_connected two_apart ≡ false }
     ensures apart { is_valid_pattern two_apart ≡ false }
     ensures too_early { is_valid names_later ≡ false }
     ensures twice { is_valid names_twice ≡ false }

@@ -30,3 +30,6 @@ returns-clause-valid_mails c = samples.valid_mails
 
 pub returns-clause-valid_holder : goal.returns-clause-valid_holder
 returns-clause-valid_holder c = samples.valid_holder
+
+pub returns-clause-unconnected : goal.returns-clause-unconnected
+returns-clause-unconnected c = samples.unconnected
