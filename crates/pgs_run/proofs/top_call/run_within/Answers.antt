@@ -1,5 +1,4 @@
 use Rattle.std.proofs.Common.{Some}
-use Rattle.pgs_world.specs.World.{output_of}
 use Rattle.pgs_run.specs.Told.{told}
 use Rattle.pgs_run.proofs.RunEnds.{shows_nothing, shows_none_yet}
 use Rattle.pgs_run.proofs.RunWords.{exact_of, complete_of}
