@@ -15,7 +15,7 @@ use Rattle.pgs_run.specs.Ending.{Ends, HasEndCause}
 use Rattle.pgs_run.specs.Input.{front_of}
 use Rattle.pgs_run.specs.Pieces.{ShowsAll}
 use Rattle.pgs_run.specs.Reading.{Reads}
-use Rattle.pgs_run.specs.Run.{EndsTry}
+use Rattle.pgs_run.specs.Run.{EndsAs}
 use Rattle.pgs_run.specs.Told.{Told, told_cut, told_whole, told_try}
 use Rattle.pgs_run.specs.Transcript.{IsAt, Stands, is_refused}
 use Rattle.pgs_run.proofs.LastLine.{Tells, all_first, first_more, torn_more, cut_status}
@@ -98,7 +98,7 @@ until_few : (until later seen : List ℕ) (budget : ℕ) → seen ≡ until ++ l
 until_few until later seen budget parts few = let e = ap length parts ∙ length-append until later in omega arith
 
 -- a run that ended so, with no fault of a read and below the budget
-ended : (start before left now : Option (List ℕ)) (input seen : List ℕ) (budget : ℕ) (status : Status) → before ≡ Some input → Takes before left seen → length seen ≤ budget → (status ≡ ReadFault → ⊥) → (status ≡ InputTooLong → ⊥) → Ends start (told_try input budget) status now → EndsTry start input budget left status now
+ended : (start before left now : Option (List ℕ)) (input seen : List ℕ) (budget : ℕ) (status : Status) → before ≡ Some input → Takes before left seen → length seen ≤ budget → (status ≡ ReadFault → ⊥) → (status ≡ InputTooLong → ⊥) → Ends start (told_try input budget) status now → EndsAs (told_try input) start input budget left status now
 ended start before left now input seen budget status is taken few no_fault not_cut shown = record {
   shown = shown;
   read_fault = λ rest left_is same. absurd (no_fault same);
@@ -110,7 +110,7 @@ pub reads_as : (start before left now : Option (List ℕ)) (budget : ℕ) (t : T
 reads_as start before left now budget t end so same reads = subst (λ e. Reads start budget before left t e now) same reads
 
 -- a run that ended before the first read
-pub unread_ends : (start left now : Option (List ℕ)) (input : List ℕ) (budget : ℕ) → left ≡ Some input → ShowsAll start [] now → EndsTry start input budget left Memory now
+pub unread_ends : (start left now : Option (List ℕ)) (input : List ℕ) (budget : ℕ) → left ≡ Some input → ShowsAll start [] now → EndsAs (told_try input) start input budget left Memory now
 unread_ends start left now input budget is shows = record {
   shown = record { first = []; later = (told_try input budget).pieces; parts = refl; shows = shows };
   read_fault = λ rest left_is same. cc;
@@ -118,14 +118,14 @@ unread_ends start left now input budget is shows = record {
   too_long = λ rest left_is same. cc;
 }
 
-pub whole_ends : (start before left old now : Option (List ℕ)) (input : List ℕ) (budget puts puts_now : ℕ) (t : Transcript) (status : Status) (r : Reads start budget before left t (Ok Whole) old) → before ≡ Some input → HasEndCause puts puts_now status → Ends start (told_whole r.seen) status now → EndsTry start input budget left status now
+pub whole_ends : (start before left old now : Option (List ℕ)) (input : List ℕ) (budget puts puts_now : ℕ) (t : Transcript) (status : Status) (r : Reads start budget before left t (Ok Whole) old) → before ≡ Some input → HasEndCause puts puts_now status → Ends start (told_whole r.seen) status now → EndsAs (told_try input) start input budget left status now
 whole_ends start before left old now input budget puts puts_now t status r is cause ends =
     ended start before left now input r.seen budget status is r.taken (let few = r.ends.0 in omega arith)
     (λ same. subst (HasEndCause puts puts_now) same cause)
     (λ same. subst (HasEndCause puts puts_now) same cause)
     (subst (λ (told : Told). Ends start told status now) (sym (whole_told input start before left old budget t r is)) ends)
 
-pub cut_ends : (start before left now : Option (List ℕ)) (input : List ℕ) (budget : ℕ) (t : Transcript) (end : Result End Stop) (how : End) → end ≡ Ok how → how ≡ Cut → Reads start budget before left t end now → before ≡ Some input → OnOk end (is_refused t.phase ≡ false) → EndsTry start input budget left InputTooLong now
+pub cut_ends : (start before left now : Option (List ℕ)) (input : List ℕ) (budget : ℕ) (t : Transcript) (end : Result End Stop) (how : End) → end ≡ Ok how → how ≡ Cut → Reads start budget before left t end now → before ≡ Some input → OnOk end (is_refused t.phase ≡ false) → EndsAs (told_try input) start input budget left InputTooLong now
 cut_ends start before left now input budget t end how ended_so cut_so reads is going =
     let so = ended_so ∙ ap Ok cut_so in
     let r = reads_as start before left now budget t end (Ok Cut) so reads in
@@ -137,7 +137,7 @@ cut_ends start before left now input budget t end how ended_so cut_so reads is g
       too_long = λ rest left_is same. taken_length input rest r.seen before left is r.taken left_is ∙ ap (λ n. n + length rest) r.ends.0;
     }
 
-pub refused_ends : (start before left now : Option (List ℕ)) (input : List ℕ) (budget : ℕ) (t : Transcript) (end : Result End Stop) (stop : Stop) → end ≡ Err stop → stop ≡ stops.SchemaRefused → Reads start budget before left t end now → before ≡ Some input → EndsTry start input budget left SchemaRefused now
+pub refused_ends : (start before left now : Option (List ℕ)) (input : List ℕ) (budget : ℕ) (t : Transcript) (end : Result End Stop) (stop : Stop) → end ≡ Err stop → stop ≡ stops.SchemaRefused → Reads start budget before left t end now → before ≡ Some input → EndsAs (told_try input) start input budget left SchemaRefused now
 refused_ends start before left now input budget t end stop ended_so stopped_so reads is =
     let r = reads_as start before left now budget t end (Err stops.SchemaRefused) (ended_so ∙ ap Err stopped_so) reads in
     let rest = rest_of input r.seen before left is r.taken in
@@ -155,7 +155,7 @@ stop_tells input until later seen rest budget parts until_parts few =
     subst (λ bytes. Tells (told_cut until).pieces (told_try bytes budget).pieces) (sym (stop_parts input until later seen rest parts until_parts))
     (try_tells until (later ++ rest) budget (until_few until later seen budget until_parts few))
 
-pub torn_ends : (start before left now : Option (List ℕ)) (input : List ℕ) (budget : ℕ) (t : Transcript) (end : Result End Stop) (stop : Stop) → end ≡ Err stop → stop ≡ stops.PutFault → Reads start budget before left t end now → before ≡ Some input → EndsTry start input budget left PutFault now
+pub torn_ends : (start before left now : Option (List ℕ)) (input : List ℕ) (budget : ℕ) (t : Transcript) (end : Result End Stop) (stop : Stop) → end ≡ Err stop → stop ≡ stops.PutFault → Reads start budget before left t end now → before ≡ Some input → EndsAs (told_try input) start input budget left PutFault now
 torn_ends start before left now input budget t end stop ended_so stopped_so reads is =
     let r = reads_as start before left now budget t end (Err stops.PutFault) (ended_so ∙ ap Err stopped_so) reads in
     let rest = rest_of input r.seen before left is r.taken in
@@ -163,7 +163,7 @@ torn_ends start before left now input budget t end stop ended_so stopped_so read
     ended start before left now input r.seen budget PutFault is r.taken r.ends.0 (λ same. cc) (λ same. cc)
     (torn_more start now _ _ (stop_tells input at.until at.later r.seen rest.rest budget rest.parts at.parts r.ends.0) at.shows)
 
-pub first_ends : (start before left now : Option (List ℕ)) (input : List ℕ) (budget : ℕ) (t : Transcript) (end : Result End Stop) (stop : Stop) → end ≡ Err stop → stop ≡ stops.Memory → Reads start budget before left t end now → before ≡ Some input → EndsTry start input budget left Memory now
+pub first_ends : (start before left now : Option (List ℕ)) (input : List ℕ) (budget : ℕ) (t : Transcript) (end : Result End Stop) (stop : Stop) → end ≡ Err stop → stop ≡ stops.Memory → Reads start budget before left t end now → before ≡ Some input → EndsAs (told_try input) start input budget left Memory now
 first_ends start before left now input budget t end stop ended_so stopped_so reads is =
     let r = reads_as start before left now budget t end (Err stops.Memory) (ended_so ∙ ap Err stopped_so) reads in
     let rest = rest_of input r.seen before left is r.taken in
@@ -181,7 +181,7 @@ given_told input rest seen before left is taken left_is =
     let count : length seen ≡ length input - length rest = omega arith in
     ap (λ bytes. told_try bytes (length input - length rest)) parts ∙ try_cut seen rest (length input - length rest) count
 
-pub read_fault_ends : (start before left now : Option (List ℕ)) (input : List ℕ) (budget : ℕ) (t : Transcript) (end : Result End Stop) (stop : Stop) → end ≡ Err stop → stop ≡ stops.ReadFault → Reads start budget before left t end now → before ≡ Some input → EndsTry start input budget left ReadFault now
+pub read_fault_ends : (start before left now : Option (List ℕ)) (input : List ℕ) (budget : ℕ) (t : Transcript) (end : Result End Stop) (stop : Stop) → end ≡ Err stop → stop ≡ stops.ReadFault → Reads start budget before left t end now → before ≡ Some input → EndsAs (told_try input) start input budget left ReadFault now
 read_fault_ends start before left now input budget t end stop ended_so stopped_so reads is =
     let r = reads_as start before left now budget t end (Err stops.ReadFault) (ended_so ∙ ap Err stopped_so) reads in
     let of = rest_of input r.seen before left is r.taken in

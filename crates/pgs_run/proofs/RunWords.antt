@@ -1,14 +1,16 @@
 -- The answers of a run, from those of the command that its words name.
-use Rattle.std.proofs.Common.{◌≡◌, ◌⊎◌, ℕ, ◌<◌, Bool, true, false, cond, List, [], ◌∷◌, ◌++◌, length, Option, Some, None, refl, sym, subst, inl, inr}
+use Rattle.std.proofs.Common.{◌≡◌, ◌⊎◌, ℕ, ◌-◌, ◌<◌, Bool, true, false, cond, List, [], ◌∷◌, ◌++◌, length, Option, Some, None, refl, sym, subst, inl, inr}
 use Rattle.pgs_world.specs.Count.{Rose}
 use Rattle.pgs_parser.specs.declared.first_schema.FirstSchema.{FirstSchema}
 use Rattle.pgs_run.specs.declared.status.Status.{Status}
 use Rattle.pgs_run.specs.declared.status.Status.TheVariants.{Accepted, Refused, BadWords, SchemaRefused, StoreRefused, DiskFault, ReadFault, PutFault, Memory, InputTooLong}
 use Rattle.pgs_run.specs.Ending.{Ends}
 use Rattle.pgs_run.specs.Input.{lines_of, after_separator, schema_part}
-use Rattle.pgs_run.specs.Run.{IsDisturbed, IsComplete, HasTryCause, HasRunCause}
+use Rattle.pgs_run.specs.Run.{EndsAs, RefusesWords, IsDisturbed, IsComplete, HasTryCause, HasRunCause}
 use Rattle.pgs_run.specs.Session.{Standing, after_lines}
 use Rattle.pgs_run.specs.Told.{Told, start, schema_of, told_schema, told_try, told_of_words, is_try, told}
+use Rattle.pgs_run.specs.Pieces.{ShowsAll}
+use Rattle.pgs_run.proofs.RunEnds.{within_unread}
 use Rattle.pgs_run.proofs.ToldFronts.{try_whole}
 
 pub told_read : (words : List (List ℕ)) (input : List ℕ) (budget : ℕ) → is_try words ≡ true → told words input budget ≡ told_try input budget
@@ -18,6 +20,35 @@ told_read words input budget is = rw is refl
 pub told_refused : (words : List (List ℕ)) (input : List ℕ) (budget : ℕ) → is_try words ≡ false → told words input budget ≡ told_of_words
 unfolding told
 told_refused words input budget is = rw is refl
+
+-- the words are those of the command `try`
+pub ends_read : (words : List (List ℕ)) (start left now : Option (List ℕ)) (input : List ℕ) (budget : ℕ) (status : Status) → is_try words ≡ true → EndsAs (told_try input) start input budget left status now → EndsAs (told words input) start input budget left status now
+ends_read words start left now input budget status is ends = record {
+  shown = subst (λ (t : Told). Ends start t status now) (same budget) ends.shown;
+  read_fault = λ rest left_is fault. subst (λ (t : Told). ShowsAll start t.pieces now) (same (length input - length rest)) (ends.read_fault rest left_is fault);
+  within = ends.within;
+  too_long = ends.too_long;
+}
+  where
+    same : (n : ℕ) → told_try input n ≡ told words input n
+    same n = sym (told_read words input n is)
+
+-- the words are refused
+pub ends_refused : (words : List (List ℕ)) (start left now : Option (List ℕ)) (input : List ℕ) (budget : ℕ) (status : Status) → is_try words ≡ false → left ≡ Some input → RefusesWords status → Ends start told_of_words status now → EndsAs (told words input) start input budget left status now
+ends_refused words start left now input budget status is left_all refuses ends = record {
+  shown = subst (λ (t : Told). Ends start t status now) (sym (told_refused words input budget is)) ends;
+  read_fault = λ rest left_is fault. absurd (no_read refuses fault);
+  within = λ rest left_is. within_unread input rest budget left left_all left_is;
+  too_long = λ rest left_is cut. absurd (not_cut refuses cut);
+}
+  where
+    no_read : {status : Status} → RefusesWords status → status ≡ ReadFault → ⊥
+    no_read (inl e) fault = cc
+    no_read (inr e) fault = cc
+
+    not_cut : {status : Status} → RefusesWords status → status ≡ InputTooLong → ⊥
+    not_cut (inl e) cut = cc
+    not_cut (inr e) cut = cc
 
 -- a fault that is answered came, and no other
 pub try_cause : (reads reads_now puts puts_now : ℕ) (status : Status) → HasTryCause reads reads_now puts puts_now status → HasRunCause true reads reads_now puts puts_now status
@@ -110,6 +141,7 @@ complete_by start now told StoreRefused reads reads_now puts puts_now done wider
 complete_by start now told DiskFault reads reads_now puts puts_now done wider no_read no_put cause ends = absurd ends
 
 -- an input below the budget is run to its end
-pub complete_of : (start now : Option (List ℕ)) (input : List ℕ) (budget : ℕ) (status : Status) (reads reads_now puts puts_now : ℕ) → length input < budget → ((told_try input budget).status ≡ SchemaRefused → ⊥) → (Rose reads reads_now → ⊥) → (Rose puts puts_now → ⊥) → HasRunCause true reads reads_now puts puts_now status → Ends start (told_try input budget) status now → IsComplete start (told_try input budget) status now
-complete_of start now input budget status reads reads_now puts puts_now short wider no_read no_put cause ends =
-    complete_by start now (told_try input budget) status reads reads_now puts puts_now (done_try input budget short) wider no_read no_put cause ends
+pub complete_of : (words : List (List ℕ)) (start now : Option (List ℕ)) (input : List ℕ) (budget : ℕ) (status : Status) (reads reads_now puts puts_now : ℕ) → is_try words ≡ true → length input < budget → ((told words input budget).status ≡ SchemaRefused → ⊥) → (Rose reads reads_now → ⊥) → (Rose puts puts_now → ⊥) → HasRunCause (is_try words) reads reads_now puts puts_now status → Ends start (told words input budget) status now → IsComplete start (told words input budget) status now
+complete_of words start now input budget status reads reads_now puts puts_now is short wider no_read no_put cause ends =
+    let done = subst (λ (t : Told). IsDone t.status) (sym (told_read words input budget is)) (done_try input budget short) in
+    complete_by start now (told words input budget) status reads reads_now puts puts_now done wider no_read no_put (subst (λ read. HasRunCause read reads reads_now puts puts_now status) is cause) ends

@@ -4,7 +4,7 @@ use Rattle.pgs_world.specs.Count.{Rose}
 use Rattle.pgs_world.specs.Source.{IsAtEnd}
 use Rattle.pgs_run.specs.Ending.{Ends}
 use Rattle.pgs_run.specs.Pieces.{ShowsAll}
-use Rattle.pgs_run.specs.Told.{Told, told_try}
+use Rattle.pgs_run.specs.Told.{Told}
 use Rattle.pgs_run.specs.declared.status.Status.{Status}
 use Rattle.pgs_run.specs.declared.status.Status.TheVariants.{Accepted, Refused, BadWords, StoreRefused, DiskFault, ReadFault, PutFault, Memory, InputTooLong}
 
@@ -23,11 +23,11 @@ HasRunCause read reads_before reads_now puts_before puts_now StoreRefused = ⊥
 HasRunCause read reads_before reads_now puts_before puts_now DiskFault = ⊥
 HasRunCause read reads_before reads_now puts_before puts_now status = Unit {0}
 
--- The command `try` ended so over this input, with this left of it.
-pub record EndsTry (start : Option (List ℕ)) (input : List ℕ) (budget : ℕ) (left : Option (List ℕ)) (status : Status) (now : Option (List ℕ)) : Type 0 where
-  pub shown : Ends start (told_try input budget) status now
+-- A run of which this is told by its budget ended so over this input, with this left of it.
+pub record EndsAs (tell : ℕ → Told) (start : Option (List ℕ)) (input : List ℕ) (budget : ℕ) (left : Option (List ℕ)) (status : Status) (now : Option (List ℕ)) : Type 0 where
+  pub shown : Ends start (tell budget) status now
   -- after a fault of a read all is put that is told with the number of bytes that the reads gave in the budget's place
-  pub read_fault : (rest : List ℕ) → left ≡ Some rest → status ≡ ReadFault → ShowsAll start (told_try input (length input - length rest)).pieces now
+  pub read_fault : (rest : List ℕ) → left ≡ Some rest → status ≡ ReadFault → ShowsAll start (tell (length input - length rest)).pieces now
   -- never more than the budget is taken, and all of it where the input is too long
   pub within : (rest : List ℕ) → left ≡ Some rest → length input ≤ budget + length rest
   pub too_long : (rest : List ℕ) → left ≡ Some rest → status ≡ InputTooLong → length input ≡ budget + length rest

@@ -62,6 +62,7 @@ fn end_last(transcript: &mut Transcript, alloc: Global) -> Result<Option<String>
     requires { HasRoom transcript.old.phase }
     ensures phase { OnOk result (transcript.new.phase ≡ after_end transcript.old.phase transcript.old.line) }
     ensures piece { IfOk result (λ piece. bytes_in piece ≡ pieces_at_end transcript.old.phase transcript.old.line) }
+    ensures line { OnOk result (transcript.new.line ≡ []) }
 {
     transcript.end_line(alloc)
 }

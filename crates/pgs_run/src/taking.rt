@@ -15,7 +15,7 @@ use pgs_world::World;
 use std::alloc::Global;
 
 /// Puts a piece, where there is one. `PutFault` is the one stop, and comes only where the count of put
-/// faults rose.
+/// faults rose; else that count is as before.
 pub fn put_piece<W: World>(world: &mut W, piece: Option<String>) -> Result<(), Stop>
     ensures puts { (start : Option (List ℕ)) (before : List (List ℕ)) → ShowsAll start before (output_of (W.view world.old)) → Puts start before (bytes_in piece) result (output_of (W.view world.new)) }
     ensures cause { IfErr result (HasPutCause (W.view world.old).put_faults (W.view world.new).put_faults) }

@@ -5,8 +5,8 @@ ghost use Rattle.pgs_run.specs.Areas.{KeepsAreas};
 ghost use Rattle.pgs_run.specs.Ending.{Ends};
 ghost use Rattle.pgs_run.specs.Pieces.{ShowsAll};
 ghost use Rattle.pgs_run.specs.Reading.{Reads, HasCause};
-ghost use Rattle.pgs_run.specs.Run.{IsRead, EndsTry, HasTryCause, HasRunCause, RefusesWords, IsDisturbed, IsComplete};
-ghost use Rattle.pgs_run.specs.Told.{is_try, told_of_words, told};
+ghost use Rattle.pgs_run.specs.Run.{IsRead, EndsAs, HasTryCause, HasRunCause, RefusesWords, IsDisturbed, IsComplete};
+ghost use Rattle.pgs_run.specs.Told.{is_try, told_try, told_of_words, told};
 ghost use Rattle.pgs_run.specs.Transcript.{HasRoomFor, is_refused};
 
 use crate::Status;
@@ -34,7 +34,7 @@ fn end_reading<W: World>(
     requires going { OnOk end (is_refused transcript.phase ≡ false) }
     ensures ends { (start before left : Option (List ℕ)) (input : List ℕ) (budget : ℕ) → before ≡ Some input
         → Reads start budget before left transcript end (output_of (W.view world.old))
-        → EndsTry start input budget left result (output_of (W.view world.new)) }
+        → EndsAs (told_try input) start input budget left result (output_of (W.view world.new)) }
     ensures whole { (start before left : Option (List ℕ)) (budget : ℕ) → Reads start budget before left transcript end (output_of (W.view world.old)) → IsRead left result }
     ensures cause { (reads_before reads_now puts_before : ℕ) → HasCause reads_before reads_now puts_before (W.view world.old).put_faults end
         → HasTryCause reads_before reads_now puts_before (W.view world.new).put_faults result }
@@ -58,7 +58,7 @@ fn end_reading<W: World>(
 fn run_try<S: Source, W: World>(alloc: Global, source: &mut S, world: &mut W, budget: u64) -> Status
     requires { budget ≤ 2 ^ 40 }
     ensures ends { (start : Option (List ℕ)) (input : List ℕ) → S.left source.old ≡ Some input → ShowsAll start [] (output_of (W.view world.old))
-        → EndsTry start input budget (S.left source.new) result (output_of (W.view world.new)) }
+        → EndsAs (told_try input) start input budget (S.left source.new) result (output_of (W.view world.new)) }
     ensures whole { IsRead (S.left source.new) result }
     ensures cause { HasTryCause (S.faults source.old) (S.faults source.new) (W.view world.old).put_faults (W.view world.new).put_faults result }
     ensures areas { KeepsAreas (W.view world.old) (W.view world.new) }
@@ -91,6 +91,33 @@ fn refuse_words<W: World>(world: &mut W) -> Status
     match world.put(words_refused_line().as_bytes()) {
         Ok(()) => Status::BadWords,
         Err(_) => Status::PutFault,
+    }
+}
+
+// Runs the words.
+fn run_words<S: Source, W: World>(
+    alloc: Global,
+    words: &Words,
+    source: &mut S,
+    world: &mut W,
+    budget: u64,
+) -> Status
+    requires { budget ≤ 2 ^ 40 }
+    ensures ends { (start : Option (List ℕ)) (input : List ℕ) → S.left source.old ≡ Some input → ShowsAll start [] (output_of (W.view world.old))
+        → EndsAs (told words.now input) start input budget (S.left source.new) result (output_of (W.view world.new)) }
+    ensures words_alone { is_try words.now ≡ false → S.left source.new ≡ S.left source.old }
+    ensures words_no_fault { is_try words.now ≡ false → S.faults source.new ≡ S.faults source.old }
+    ensures words { is_try words.now ≡ false → RefusesWords result }
+    ensures read_to_end { IsRead (S.left source.new) result }
+    ensures cause { HasRunCause (is_try words.now) (S.faults source.old) (S.faults source.new) (W.view world.old).put_faults (W.view world.new).put_faults result }
+    ensures read_fault_told { (result ≡ Status.ReadFault → ⊥) → S.faults source.new ≡ S.faults source.old }
+    ensures put_fault_told { (result ≡ Status.PutFault → ⊥) → (W.view world.new).put_faults ≡ (W.view world.old).put_faults }
+    ensures areas { KeepsAreas (W.view world.old) (W.view world.new) }
+{
+    if is_try(words) {
+        run_try(alloc, source, world, budget)
+    } else {
+        refuse_words(world)
     }
 }
 
@@ -142,11 +169,7 @@ pub fn run_within<S: Source, W: World>(
     // Both areas are as at the start, and a stop during the run leaves of them only what it could leave at the start.
     ensures areas { KeepsAreas (W.view world.old) (W.view world.new) }
 {
-    if is_try(words) {
-        run_try(alloc, source, world, budget)
-    } else {
-        refuse_words(world)
-    }
+    run_words(alloc, words, source, world, budget)
 }
 
 /// Runs the program's words over an input and an output: `run_within` with a budget of 2^40 bytes.
