@@ -88,6 +88,8 @@ pub data Joined {A B : Type 0} (front : A → Production) (back : B → Producti
   front_and_back : {x : A} {y : B} {before after : List Lexeme} → (front x ▸ sign "," ▸ back y) before after →
       Joined front back no_front no_back x y before after
 
+-- The front tells its tree before an end, and before a comma and a back; the back tells its tree before an end. No end begins a front, a
+-- back or a comma, and no tokens begin a front and a back.
 module _ {A B : Type 0} {Same : A → A → Type 0} {Alike : B → B → Type 0} {Inner Ends : List Lexeme → Type 0} {front : A → Production} {back : B → Production}
     {no_front : A} {no_back : B} (front_tells : Tells Same Inner front) (back_tells : Tells Alike Ends back)
     (ends : (a : List Lexeme) → Ends a → Inner a) (goes_on : (y : B) (a b : List Lexeme) → (sign "," ▸ back y) a b → Inner a)

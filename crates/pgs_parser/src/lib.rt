@@ -6,6 +6,7 @@
 //!
 //! The grammar of the whole language is a relation between the lexer's tokens and the trees of `pgs_syntax`, in
 //! `specs/Types.antt`, `specs/Keys.antt` and `specs/Statements.antt`; `specs/Text.antt` says what a text is by it.
+//! The laws in `laws` say that tokens are at most one script, and that a text is found to be one thing.
 #![tactic(auto)]
 
 mod cut;
