@@ -1,10 +1,11 @@
 -- The samples' texts are the scripts that the samples say, each by its derivation.
-use Rattle.std.proofs.Common.{true, false, [], ◌∷◌, Some, None, inl, inr, refl, arith, codes}
+use Rattle.std.proofs.Common.{◌≡◌, true, false, [], ◌∷◌, Some, None, inl, inr, refl, arith, codes}
 use Rattle.std.specs.Char.{encode_utf8}
 use Rattle.std.specs.Str.{is_utf8, chars}
 use Rattle.std.specs.Str.Lossy.{utf8_valid_len}
 use Rattle.pgs_lexer.specs.Scan.{item_at}
 use Rattle.pgs_lexer.specs.Cut.{tokens_of, tokens_from}
+use Rattle.pgs_base.specs.DayForm.{day_in}
 use Rattle.pgs_base.specs.declared.value.Kind.TheVariants as kinds
 use Rattle.pgs_syntax.specs.declared.specification.Spec.{Word, Or, And, Opt}
 use Rattle.pgs_parser.specs.Production.{here}
@@ -13,6 +14,11 @@ use Rattle.pgs_parser.specs.Types.{named, parenthesised, plain, optional, one_un
 use Rattle.pgs_parser.specs.Samples as samples
 use Rattle.pgs_parser.specs.Samples.{word}
 use Rattle.pgs_parser.specs.Text.{IsFound, script, is_script, no_item, has_no_item}
+
+-- the day in one of the texts
+leap_day : day_in (codes "2024-02-29") ≡ Some (2024, 2, 29)
+unfolding day_in
+leap_day = refl
 
 pub least_found : IsFound samples.least_text (script samples.least_script)
 unfolding tokens_of tokens_from item_at is_utf8 utf8_valid_len chars encode_utf8
@@ -226,7 +232,7 @@ forms_found = is_script (omega arith) refl (record {
           _ ⟨ (_ ⟨ here (refl, refl) ⟩ _ ⟨ (_ ⟨ (_ ⟨ (_ ⟨ here (refl, refl) ⟩ _ ⟨ (_ ⟨ here (refl, refl) ⟩
           _ ⟨ (_ ⟨ here (refl, refl) ⟩ _ ⟨ here (refl, refl) ⟩ refl) ⟩ _ ⟨ here (refl, refl) ⟩
           _ ⟨ (_ ⟨ (_ ⟨ here (refl, refl) ⟩ _ ⟨ here (refl, refl) ⟩ _ ⟨ here (refl, refl) ⟩
-          here (refl, refl)) ⟩ _ ⟨ (_ ⟨ here (refl, refl) ⟩ _ ⟨ here (refl, refl) ⟩ _ ⟨ here (refl, refl) ⟩
+          here (refl, leap_day)) ⟩ _ ⟨ (_ ⟨ here (refl, refl) ⟩ _ ⟨ here (refl, refl) ⟩ _ ⟨ here (refl, refl) ⟩
           here (refl, refl, omega arith)) ⟩ _ ⟨ (_ ⟨ here (refl, refl) ⟩ _ ⟨ here (refl, refl) ⟩
           _ ⟨ here (refl, refl) ⟩ here (refl, refl, omega arith)) ⟩ refl) ⟩ here (refl, refl)) ⟩
           here (refl, refl)) ⟩ refl) ⟩ refl) ⟩
