@@ -7,13 +7,14 @@ use Rattle.pgs_resolve.specs.Resolution.{resolution}
 use Rattle.pgs_resolve.specs.SchemaOf.{Answer, IsSchemaOf, longer_than_allowed, begins_no_item, is_no_statement, refused, schema, of_length, of_items, of_statements, of_refusal, of_script}
 
 -- what a text is found to be
-found_of : {text : List ℕ} {answer : Answer} → IsSchemaOf text answer → Found
+abbrev found_of : {text : List ℕ} {answer : Answer} → IsSchemaOf text answer → Found
 found_of (of_length f) = too_long
 found_of (of_items {line = line} f) = no_item line
 found_of (of_statements {n = n} f) = no_statement n
 found_of (of_refusal {tree = tree} f r) = script tree
 found_of (of_script {tree = tree} f r) = script tree
 
+-- and that it is
 is_found : {text : List ℕ} {answer : Answer} (h : IsSchemaOf text answer) → IsFound text (found_of h)
 is_found (of_length f) = f
 is_found (of_items f) = f
