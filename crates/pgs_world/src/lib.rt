@@ -1,6 +1,7 @@
 //! The outside of the store as traits with a written meaning: a source of bytes, and a world of two areas
 //! and an output. Each counts its faults, and code that is generic over a trait can't raise the count by
-//! itself: so "this fault only where its count rose" refuses a body that gives up.
+//! itself: so "this fault only where its count rose" refuses a body that gives up. A call that doesn't fail
+//! leaves the count: so "the count rose only where this fault is answered" refuses a body that forgets a fault.
 //! The meanings stand in `specs/`. Beside each trait are forms in memory that fail as listed: honest ones, and a
 //! world that tells nothing.
 #![tactic(auto)]
