@@ -1,10 +1,8 @@
 -- A text has one answer.
-use Rattle.std.proofs.Common.{◌≡◌, ℕ, List, Ok, Err, refl, ap}
-use Rattle.pgs_syntax.specs.declared.script.Script.{Script}
+use Rattle.std.proofs.Common.{◌≡◌, ℕ, List, refl}
 use Rattle.pgs_parser.specs.Text.{Found, too_long, no_item, no_statement, script, IsFound}
 use Rattle.pgs_parser.proofs.Findings.{one_finding}
-use Rattle.pgs_resolve.specs.Resolution.{resolution}
-use Rattle.pgs_resolve.specs.SchemaOf.{Answer, IsSchemaOf, longer_than_allowed, begins_no_item, is_no_statement, refused, schema, of_length, of_items, of_statements, of_refusal, of_script}
+use Rattle.pgs_resolve.specs.SchemaOf.{Answer, IsSchemaOf, of_length, of_items, of_statements, of_refusal, of_script}
 
 -- what a text is found to be
 abbrev found_of : {text : List ℕ} {answer : Answer} → IsSchemaOf text answer → Found
