@@ -1,5 +1,5 @@
 -- The form of a transaction: which JSON values are one, part by part, and the operations that they name.
-use Rattle.std.specs.Prelude.{ℕ, Bool, false, ◌&&◌, List, [], ◌∷◌, length, Option, Some, None, option_map, nat_le, if◌then◌else◌, codes, bytes_eq}
+use Rattle.std.specs.Prelude.{ℕ, Bool, false, List, [], ◌∷◌, length, Option, Some, None, option_map, nat_le, if◌then◌else◌, codes, bytes_eq}
 use Rattle.std.specs.Option.{option_or}
 use Rattle.std.specs.List.{list_all, list_any}
 use Rattle.pgs_base.specs.declared.element.NodeId.{NodeId}
