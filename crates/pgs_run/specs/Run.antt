@@ -45,7 +45,7 @@ HasTryCause reads_before reads_now puts_before puts_now status = (reads_now ≡ 
 abbrev pub RefusesWords : Status → Type 0
 RefusesWords status = (status ≡ BadWords) ⊎ (status ≡ PutFault)
 
--- a run that no fault and no want of memory disturbed
+-- a fault or want of memory disturbed the run
 abbrev pub IsDisturbed : Status → Type 0
 IsDisturbed status = (status ≡ ReadFault) ⊎ ((status ≡ PutFault) ⊎ (status ≡ Memory))
 

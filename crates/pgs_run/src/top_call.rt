@@ -166,7 +166,8 @@ pub fn run_within<S: Source, W: World>(
         → (Rose (S.faults source.old) (S.faults source.new) → ⊥)
         → (Rose (W.view world.old).put_faults (W.view world.new).put_faults → ⊥)
         → IsComplete (Some start) (told words.now input budget) result (output_of (W.view world.new)) }
-    // Both areas are as at the start, and a stop during the run leaves of them only what it could leave at the start.
+    // Both areas and the count of their faults are as at the start, and a stop during the run leaves of the areas only what
+    // it could leave at the start.
     ensures areas { KeepsAreas (W.view world.old) (W.view world.new) }
 {
     run_words(alloc, words, source, world, budget)
