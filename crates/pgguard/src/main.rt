@@ -3,6 +3,7 @@
 //! and world count their faults and tell nothing.
 #![tactic(auto)]
 
+mod faults;
 mod stdin_source;
 mod stdout_world;
 #[cfg(test)]

@@ -1,4 +1,8 @@
-ghost use Rattle.std.specs.Prelude.{◌≡◌, None};
+ghost use Rattle.std.specs.Prelude.{◌≡◌, ◌<◌, ◌≤◌, length, take, Ok, IfOk, OnOk, OnErr};
+ghost use Rattle.std.specs.Io.KnownBytes.{ReadConsumes};
+ghost use Rattle.pgs_world.specs.Count.{Rose};
+ghost use Rattle.pgs_world.specs.Source.{Takes, IsAtEnd};
+ghost use Rattle.pgguard.specs.Counted.{left_untold};
 
 use pgs_world::{Source, SourceFault};
 use std::io::Read;
@@ -13,18 +17,33 @@ pub struct StdinSource<R: Read> {
 impl<R: Read> StdinSource<R> {
     /// The reader as a source without a fault.
     pub fn new(reader: R) -> StdinSource<R>
-        ensures { ⟦<StdinSource<R> as Source>⟧.faults result ≡ 0 }
+        ensures reader { result.reader ≡ reader }
+        ensures faults { ⟦<StdinSource<R> as Source>⟧.faults result ≡ 0 }
     {
         StdinSource { reader, faults: 0 }
     }
 }
 
 impl<R: Read> Source for StdinSource<R> {
-    ghost left = { λ _. None };
+    ghost use Rattle.pgguard.specs.Counted.{left_untold};
+
+    ghost left = { λ _. left_untold };
 
     ghost faults = { λ source. source.faults };
 
-    fn read(&mut self, buf: &mut [u8]) -> Result<usize, SourceFault> {
+    /// One read of the reader, or a counted fault.
+    fn read(&mut self, buf: &mut [u8]) -> Result<usize, SourceFault>
+        ensures read { ReadConsumes (R.remaining self.old.reader) (R.remaining self.new.reader) result buf.new }
+
+        // What every source says.
+        ensures within { IfOk result (λ count. count ≤ length buf.new) }
+        ensures taken { IfOk result (λ count. Takes left_untold left_untold (take count buf.new)) }
+        ensures end { 0 < length buf.old → result ≡ Ok 0 → IsAtEnd left_untold }
+        ensures kept { OnErr result (left_untold ≡ left_untold) }
+        ensures cause { OnErr result (Rose self.old.faults self.new.faults) }
+        ensures no_cause { OnOk result (self.new.faults ≡ self.old.faults) }
+        ensures faults_stay { self.old.faults ≤ self.new.faults }
+    {
         match self.reader.read(buf) {
             Ok(count) => Ok(count),
             Err(_) => {
