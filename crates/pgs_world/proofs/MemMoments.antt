@@ -43,7 +43,7 @@ past_push : (past : List State) (now s : State) (t : ℕ) (c : Triple) → t ≤
 past_push past now s t c le left =
     inr (subst (λ (l : List State). HadLeft l c) (sym (drop_push t past now le)) (⊎_elim (had_newest (drop t past) now c) (had_push (drop t past) now c) left))
 
-module _ (world : Kept) (meter : Meter) (area : world.meter.area_faults ≤ meter.area_faults) (put : world.meter.put_faults ≤ meter.put_faults) where
+module _ (world : Kept) (meter : Meter) (area : world.meter.area_faults ≤ meter.area_faults) (put : world.meter.put_faults ≤ meter.put_faults) (puts : world.meter.puts ≤ meter.puts) where
   pub quiet-unchanged : IsQuiet (view_of world) (view_of (unchanged world meter))
   quiet-unchanged =
       record {
@@ -54,6 +54,7 @@ module _ (world : Kept) (meter : Meter) (area : world.meter.area_faults ≤ mete
           later = omega arith;
           area_faults = area;
           put_faults = put;
+          puts = puts;
           since = λ t c le left. inl left;
           past = λ t c le left. left;
           timed = timed_kept (unchanged world meter);
@@ -71,6 +72,7 @@ module _ (world : Kept) (meter : Meter) (area : world.meter.area_faults ≤ mete
         later = omega (arith, length-append world.past (world.now ∷ []));
         area_faults = area;
         put_faults = put;
+        puts = puts;
         since = λ t c le left. ⊎_elim (λ was. inl was) (λ new. inr (inl new)) (since_push world.past world.now state t c le left);
         past = λ t c le left. past_push world.past world.now state t c le left;
         timed = timed_kept (changed world meter state);

@@ -12,7 +12,7 @@ use Rattle.pgs_world.specs.declared.mem_world.MemWorld.TheInside.{Inside}
 use Rattle.pgs_world.specs.Held.{IsWell, after_write, after_cut, on_disk}
 use Rattle.pgs_world.specs.History.{taken_by, after_note, all_taken, outcome, history}
 use Rattle.pgs_world.specs.MemArea.{held_of, area_in, state_of, size_in, HasRoom}
-use Rattle.pgs_world.specs.MemWorld.{State, Kept, IsWellState, IsKnown, area_of, with_area, with_output, changed, fails_next, refuses, handed_with, counted, handed_in, write_fails, after_write_at, after_cut_to, after_sync, after_put}
+use Rattle.pgs_world.specs.MemWorld.{State, Kept, IsWellState, IsKnown, area_of, with_area, with_output, changed, fails_next, refuses, handed_with, counted, handed_in, put_done, write_fails, after_write_at, after_cut_to, after_sync, after_put}
 use Rattle.pgs_world.specs.Count.{raised}
 use Rattle.pgs_world.specs.Sound.{first_of, kept_of, first_size, IsSound}
 use Rattle.pgs_world.proofs.Images.{well-on_disk}
@@ -76,6 +76,7 @@ pub record Changes (old : Inside) (contents : Contents) (notes : Vec Note Global
   pub calls : old.meter.calls + 1 ≤ meter.calls
   pub area_count : meter.area_faults ≡ old.meter.area_faults
   pub put_count : meter.put_faults ≡ old.meter.put_faults
+  pub puts : meter.puts ≤ old.meter.puts + 1
   pub room_left : length old.pieces.items + length piece ≤ meter.room
   pub room : meter.room ≡ old.meter.room
   pub most : meter.most ≡ old.meter.most
@@ -105,6 +106,7 @@ module _ (old : Inside) (contents : Contents) (notes : Vec Note Global) (pieces 
         pieces_room_left = omega (arith, lengths, change.room_left);
         pieces_room = omega (arith, sound.pieces_room, change.pieces_room, change.room);
         notes_fit = omega (arith, counts, sound.notes_fit, change.calls);
+        puts_fit = omega (arith, counts, sound.puts_fit, change.puts);
         notes_room = omega (arith, sound.notes_room, change.notes_room, change.room);
         area_count = omega (arith, sound.area_count, change.area_count);
         put_count = omega (arith, sound.put_count, change.put_count);
@@ -177,15 +179,15 @@ pub sync-done : (world : Kept) (area : Area) → not (fails_next world.meter) �
 sync-done world area admits = rw (not_true (fails_next world.meter) admits) refl
 
 pub put-done : (world : Kept) (piece : List ℕ) → not (refuses world.meter (length piece)) ≡ true
-    → after_put world piece ≡ changed world (handed_in world.meter (length piece)) (with_output (world.now.output ++ piece) world.now)
+    → after_put world piece ≡ changed world (put_done (handed_in world.meter (length piece))) (with_output (world.now.output ++ piece) world.now)
 put-done world piece admits = rw (not_true (refuses world.meter (length piece)) admits) refl
 
 -- the fields of a world that was just made
 pub sound_begun : (a b : List ℕ) (contents : Contents) (notes : Vec Note Global) (pieces : Vec ℕ Global) (meter : Meter) → state_of contents ≡ record { a = on_disk a; b = on_disk b; output = [] }
     → ((area : Area) → HasRoom (size_in area (length a) (length b) + meter.room) (area_in area contents)) → meter.room ≤ vec_capacity contents.output → notes.items ≡ [] → pieces.items ≡ []
-    → meter.room ≤ vec_capacity notes → meter.room ≤ vec_capacity pieces → meter.most ≤ meter.room → meter.room ≤ 2 ^ 32 → meter.area_faults ≡ 0 → meter.put_faults ≡ 0
+    → meter.room ≤ vec_capacity notes → meter.room ≤ vec_capacity pieces → meter.most ≤ meter.room → meter.room ≤ 2 ^ 32 → meter.area_faults ≡ 0 → meter.put_faults ≡ 0 → meter.puts ≡ 0
     → IsSound (record { first_a = a; first_b = b; contents = contents; notes = notes; pieces = pieces; meter = meter })
-sound_begun a b contents notes pieces meter state rooms output no_notes no_pieces notes_room pieces_room most small no_area no_put =
+sound_begun a b contents notes pieces meter state rooms output no_notes no_pieces notes_room pieces_room most small no_area no_put no_puts =
     record {
       now = ap (λ (l : List Note). outcome first l pieces.items) no_notes ∙ sym state;
       taken = ap all_taken no_notes ∙ sym (ap length no_pieces);
@@ -198,6 +200,7 @@ sound_begun a b contents notes pieces meter state rooms output no_notes no_piece
       pieces_room_left = omega (arith, ap length no_pieces);
       pieces_room = pieces_room;
       notes_fit = omega (arith, ap length no_notes);
+      puts_fit = omega (arith, no_puts);
       notes_room = notes_room;
       area_count = omega (arith, no_area);
       put_count = omega (arith, no_put);

@@ -56,6 +56,7 @@ view_of world =
       moment = length world.past;
       area_faults = world.meter.area_faults;
       put_faults = world.meter.put_faults;
+      puts = world.meter.puts;
       may_leave = Leaves world.now;
       left_since = λ t triple. Leaves world.now triple ⊎ HadLeft (drop t world.past) triple;
     }
@@ -126,6 +127,7 @@ counted meter =
       handed = meter.handed;
       area_faults = meter.area_faults;
       put_faults = meter.put_faults;
+      puts = meter.puts;
     }
 
 -- and its piece too
@@ -139,6 +141,7 @@ handed_in meter more =
       handed = handed_with meter.handed more;
       area_faults = meter.area_faults;
       put_faults = meter.put_faults;
+      puts = meter.puts;
     }
 
 abbrev pub area_failed : Meter → Meter
@@ -151,6 +154,7 @@ area_failed meter =
       handed = meter.handed;
       area_faults = raised meter.area_faults;
       put_faults = meter.put_faults;
+      puts = meter.puts;
     }
 
 abbrev pub put_failed : Meter → Meter
@@ -163,6 +167,21 @@ put_failed meter =
       handed = meter.handed;
       area_faults = meter.area_faults;
       put_faults = raised meter.put_faults;
+      puts = meter.puts;
+    }
+
+-- after a put that succeeds
+abbrev pub put_done : Meter → Meter
+put_done meter =
+    record {
+      room = meter.room;
+      most = meter.most;
+      fail = meter.fail;
+      calls = meter.calls;
+      handed = meter.handed;
+      area_faults = meter.area_faults;
+      put_faults = meter.put_faults;
+      puts = meter.puts + 1;
     }
 
 -- the same state under other counts
@@ -209,7 +228,7 @@ abbrev pub after_put : Kept → List ℕ → Kept
 after_put world piece =
     if refuses world.meter (length piece)
     then unchanged world (put_failed (handed_in world.meter (length piece)))
-    else changed world (handed_in world.meter (length piece)) (with_output (world.now.output ++ piece) world.now)
+    else changed world (put_done (handed_in world.meter (length piece))) (with_output (world.now.output ++ piece) world.now)
 
 -- a world with these areas, all of them on the disk, and no output
 abbrev pub begun : List ℕ → List ℕ → ℕ → ℕ → List ℕ → Kept
@@ -217,5 +236,5 @@ begun a b room most fail =
     record {
       past = [];
       now = record { a = on_disk a; b = on_disk b; output = [] };
-      meter = record { room = room; most = most; fail = fail; calls = 0; handed = 0; area_faults = 0; put_faults = 0 };
+      meter = record { room = room; most = most; fail = fail; calls = 0; handed = 0; area_faults = 0; put_faults = 0; puts = 0 };
     }

@@ -37,6 +37,8 @@ pub record IsSound (world : Inside) : Type 0 where
   pub pieces_room_left : length world.pieces.items ≤ world.meter.room
   pub pieces_room : world.meter.room ≤ vec_capacity world.pieces
   pub notes_fit : length world.notes.items ≤ world.meter.calls
+  -- no more puts succeeded than calls changed it
+  pub puts_fit : world.meter.puts ≤ length world.notes.items
   pub notes_room : world.meter.room ≤ vec_capacity world.notes
   -- counts are u64
   pub area_count : world.meter.area_faults < 2 ^ 64

@@ -19,8 +19,11 @@ pub record View : Type 1 where
   pub shown : Triple
   -- a number that doesn't fall
   pub moment : ℕ
+  -- how many calls on an area, and how many puts, failed
   pub area_faults : ℕ
   pub put_faults : ℕ
+  -- how many puts answered Ok
+  pub puts : ℕ
   -- what a stop now may leave
   pub may_leave : Triple → Type 0
   -- what a stop at some moment since that one may have left

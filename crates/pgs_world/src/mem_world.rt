@@ -3,7 +3,7 @@ ghost use Rattle.pgs_world.specs.Count.{Rose};
 ghost use Rattle.pgs_world.specs.Disk.{written_over, IsSameBeside, Writes, Cuts, Puts};
 ghost use Rattle.pgs_world.specs.Left.{left_of};
 ghost use Rattle.pgs_world.specs.MemWorld.{IsKnown, view_of, area_of, begun, fails_next, refuses, len_fails, write_fails, after_read, after_write_at, after_cut_to, after_sync, after_put};
-ghost use Rattle.pgs_world.specs.Moment.{Passes, StopsBy, IsQuiet, ShowsOne, IsSynced, IsSettled};
+ghost use Rattle.pgs_world.specs.Moment.{Passes, StopsBy, IsQuiet, ShowsOne, IsSynced, IsSettled, MakesNoPut};
 ghost use Rattle.pgs_world.specs.World.{output_of, part, Adds, AddsFront};
 
 use crate::area_limit::passes_limit;
@@ -193,6 +193,7 @@ impl MemWorld {
             self.meter.count_put_fault();
             return false;
         }
+        self.meter.count_put();
         self.contents.put(piece);
         let call = Note::Put(piece.len() as u64);
         add_note(&mut self.notes, &mut self.pieces, call, piece);
@@ -252,7 +253,7 @@ impl World for MemWorld {
         ensures image { ShowsOne (view_of self.new) }
         ensures cause { OnErr result (Rose (view_of self.old).area_faults (view_of self.new).area_faults) }
         ensures no_cause { OnOk result ((view_of self.new).area_faults ≡ (view_of self.old).area_faults) }
-        ensures no_put { (view_of self.new).put_faults ≡ (view_of self.old).put_faults }
+        ensures no_put { MakesNoPut (view_of self.old) (view_of self.new) }
     {
         self.len_exact(area).ok_or(AreaFault)
     }
@@ -269,7 +270,7 @@ impl World for MemWorld {
         ensures image { ShowsOne (view_of self.new) }
         ensures cause { OnErr result (Rose (view_of self.old).area_faults (view_of self.new).area_faults) }
         ensures no_cause { OnOk result ((view_of self.new).area_faults ≡ (view_of self.old).area_faults) }
-        ensures no_put { (view_of self.new).put_faults ≡ (view_of self.old).put_faults }
+        ensures no_put { MakesNoPut (view_of self.old) (view_of self.new) }
     {
         area_answer(self.read_exact(area, at, buf))
     }
@@ -289,7 +290,7 @@ impl World for MemWorld {
         ensures image { ShowsOne (view_of self.new) }
         ensures cause { OnErr result (Rose (view_of self.old).area_faults (view_of self.new).area_faults) }
         ensures no_cause { OnOk result ((view_of self.new).area_faults ≡ (view_of self.old).area_faults) }
-        ensures no_put { (view_of self.new).put_faults ≡ (view_of self.old).put_faults }
+        ensures no_put { MakesNoPut (view_of self.old) (view_of self.new) }
     {
         area_answer(self.write_exact(area, at, bytes))
     }
@@ -308,7 +309,7 @@ impl World for MemWorld {
         ensures image { ShowsOne (view_of self.new) }
         ensures cause { OnErr result (Rose (view_of self.old).area_faults (view_of self.new).area_faults) }
         ensures no_cause { OnOk result ((view_of self.new).area_faults ≡ (view_of self.old).area_faults) }
-        ensures no_put { (view_of self.new).put_faults ≡ (view_of self.old).put_faults }
+        ensures no_put { MakesNoPut (view_of self.old) (view_of self.new) }
     {
         area_answer(self.cut_exact(area, len))
     }
@@ -324,7 +325,7 @@ impl World for MemWorld {
         ensures image { ShowsOne (view_of self.new) }
         ensures cause { OnErr result (Rose (view_of self.old).area_faults (view_of self.new).area_faults) }
         ensures no_cause { OnOk result ((view_of self.new).area_faults ≡ (view_of self.old).area_faults) }
-        ensures no_put { (view_of self.new).put_faults ≡ (view_of self.old).put_faults }
+        ensures no_put { MakesNoPut (view_of self.old) (view_of self.new) }
     {
         area_answer(self.sync_exact(area))
     }
@@ -344,6 +345,8 @@ impl World for MemWorld {
         ensures stops { StopsBy (Puts piece.now) (view_of self.old) (view_of self.new) }
         ensures passes { Passes (view_of self.old) (view_of self.new) }
         ensures image { ShowsOne (view_of self.new) }
+        ensures counted { OnOk result ((view_of self.new).puts ≡ (view_of self.old).puts + 1) }
+        ensures not_counted { OnErr result ((view_of self.new).puts ≡ (view_of self.old).puts) }
         ensures no_cause { OnOk result ((view_of self.new).put_faults ≡ (view_of self.old).put_faults) }
         ensures no_area { (view_of self.new).area_faults ≡ (view_of self.old).area_faults }
     {

@@ -37,6 +37,7 @@ change c =
       calls = omega (arith, ap (λ (m : Meter). m.calls) meter, few, c.self.invariant.most, c.self.invariant.small);
       area_count = ap (λ (m : Meter). m.area_faults) meter;
       put_count = ap (λ (m : Meter). m.put_faults) meter;
+      puts = omega (arith, ap (λ (m : Meter). m.puts) meter);
       room_left = omega (arith, ap (λ (m : Meter). m.room) meter, c.self.invariant.pieces_room_left);
       room = ap (λ (m : Meter). m.room) meter;
       most = ap (λ (m : Meter). m.most) meter;
