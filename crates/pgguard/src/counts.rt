@@ -29,6 +29,7 @@ impl Counts {
         ensures rose { Rose self.old.area_faults self.new.area_faults }
         ensures later { self.old.area_faults ≤ self.new.area_faults }
         ensures calls { self.old.calls ≤ self.new.calls }
+        ensures moment { Rose self.old.calls self.new.calls }
         ensures put_faults { self.new.put_faults ≡ self.old.put_faults }
         ensures puts { self.new.puts ≡ self.old.puts }
     {
@@ -41,6 +42,7 @@ impl Counts {
         ensures rose { Rose self.old.put_faults self.new.put_faults }
         ensures later { self.old.put_faults ≤ self.new.put_faults }
         ensures calls { self.old.calls ≤ self.new.calls }
+        ensures moment { Rose self.old.calls self.new.calls }
         ensures area_faults { self.new.area_faults ≡ self.old.area_faults }
         ensures puts { self.new.puts ≡ self.old.puts }
     {
@@ -53,6 +55,7 @@ impl Counts {
         requires { self.old.puts + 1 < 2 ^ 64 }
         ensures puts { self.new.puts ≡ self.old.puts + 1 }
         ensures calls { self.old.calls ≤ self.new.calls }
+        ensures moment { Rose self.old.calls self.new.calls }
         ensures area_faults { self.new.area_faults ≡ self.old.area_faults }
         ensures put_faults { self.new.put_faults ≡ self.old.put_faults }
     {

@@ -36,6 +36,7 @@ impl<W: Write> StdoutWorld<W> {
         ensures rose { Rose self.old.counts.area_faults self.new.counts.area_faults }
         ensures later { self.old.counts.area_faults ≤ self.new.counts.area_faults }
         ensures calls { self.old.counts.calls ≤ self.new.counts.calls }
+        ensures moment { Rose self.old.counts.calls self.new.counts.calls }
         ensures put_faults { self.new.counts.put_faults ≡ self.old.counts.put_faults }
         ensures puts { self.new.counts.puts ≡ self.old.counts.puts }
         ensures writer { self.new.writer ≡ self.old.writer }
@@ -61,6 +62,7 @@ impl<W: Write> World for StdoutWorld<W> {
         ensures length { IfOk result (λ count. IsTrue (view_of self.old.counts).tells_bytes → count ≡ length (part area (view_of self.old.counts).shown)) }
         ensures limit { IfOk result (λ count. count ≤ 2 ^ 40) }
         ensures quiet { IsQuiet (view_of self.old.counts) (view_of self.new.counts) }
+        ensures moment { Rose (view_of self.old.counts).moment (view_of self.new.counts).moment }
         ensures image { ShowsOne (view_of self.new.counts) }
         ensures cause { OnErr result (Rose (view_of self.old.counts).area_faults (view_of self.new.counts).area_faults) }
         ensures no_cause { OnOk result ((view_of self.new.counts).area_faults ≡ (view_of self.old.counts).area_faults) }
@@ -77,6 +79,7 @@ impl<W: Write> World for StdoutWorld<W> {
         // What every world says.
         ensures bytes { OnOk result (IsTrue (view_of self.old.counts).tells_bytes → buf.new ≡ take (length buf.old) (drop at (part area (view_of self.old.counts).shown))) }
         ensures quiet { IsQuiet (view_of self.old.counts) (view_of self.new.counts) }
+        ensures moment { Rose (view_of self.old.counts).moment (view_of self.new.counts).moment }
         ensures image { ShowsOne (view_of self.new.counts) }
         ensures cause { OnErr result (Rose (view_of self.old.counts).area_faults (view_of self.new.counts).area_faults) }
         ensures no_cause { OnOk result ((view_of self.new.counts).area_faults ≡ (view_of self.old.counts).area_faults) }
@@ -96,6 +99,7 @@ impl<W: Write> World for StdoutWorld<W> {
         ensures beside { IsSameBeside area (view_of self.old.counts).shown (view_of self.new.counts).shown }
         ensures stops { StopsBy (Writes area at (length bytes.now)) (view_of self.old.counts) (view_of self.new.counts) }
         ensures passes { Passes (view_of self.old.counts) (view_of self.new.counts) }
+        ensures moment { Rose (view_of self.old.counts).moment (view_of self.new.counts).moment }
         ensures image { ShowsOne (view_of self.new.counts) }
         ensures cause { OnErr result (Rose (view_of self.old.counts).area_faults (view_of self.new.counts).area_faults) }
         ensures no_cause { OnOk result ((view_of self.new.counts).area_faults ≡ (view_of self.old.counts).area_faults) }
@@ -114,6 +118,7 @@ impl<W: Write> World for StdoutWorld<W> {
         ensures beside { IsSameBeside area (view_of self.old.counts).shown (view_of self.new.counts).shown }
         ensures stops { StopsBy (Cuts area len) (view_of self.old.counts) (view_of self.new.counts) }
         ensures passes { Passes (view_of self.old.counts) (view_of self.new.counts) }
+        ensures moment { Rose (view_of self.old.counts).moment (view_of self.new.counts).moment }
         ensures image { ShowsOne (view_of self.new.counts) }
         ensures cause { OnErr result (Rose (view_of self.old.counts).area_faults (view_of self.new.counts).area_faults) }
         ensures no_cause { OnOk result ((view_of self.new.counts).area_faults ≡ (view_of self.old.counts).area_faults) }
@@ -129,6 +134,7 @@ impl<W: Write> World for StdoutWorld<W> {
         // What every world says.
         ensures synced { OnOk result (IsSynced area (view_of self.new.counts)) }
         ensures quiet { IsQuiet (view_of self.old.counts) (view_of self.new.counts) }
+        ensures moment { Rose (view_of self.old.counts).moment (view_of self.new.counts).moment }
         ensures image { ShowsOne (view_of self.new.counts) }
         ensures cause { OnErr result (Rose (view_of self.old.counts).area_faults (view_of self.new.counts).area_faults) }
         ensures no_cause { OnOk result ((view_of self.new.counts).area_faults ≡ (view_of self.old.counts).area_faults) }
@@ -151,6 +157,7 @@ impl<W: Write> World for StdoutWorld<W> {
         ensures b { (view_of self.new.counts).shown.b ≡ (view_of self.old.counts).shown.b }
         ensures stops { StopsBy (Puts piece.now) (view_of self.old.counts) (view_of self.new.counts) }
         ensures passes { Passes (view_of self.old.counts) (view_of self.new.counts) }
+        ensures moment { Rose (view_of self.old.counts).moment (view_of self.new.counts).moment }
         ensures image { ShowsOne (view_of self.new.counts) }
         ensures counted { OnOk result ((view_of self.new.counts).puts ≡ (view_of self.old.counts).puts + 1) }
         ensures not_counted { OnErr result ((view_of self.new.counts).puts ≡ (view_of self.old.counts).puts) }

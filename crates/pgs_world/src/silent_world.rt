@@ -51,6 +51,7 @@ impl SilentWorld {
         ensures no_cause { OnOk result (self.new.area_faults ≡ self.old.area_faults) }
         ensures stays { self.old.area_faults ≤ self.new.area_faults }
         ensures calls { self.old.calls ≤ self.new.calls }
+        ensures moment { Rose self.old.calls self.new.calls }
     {
         self.calls = self.calls.saturating_add(1);
         if refused || self.fail.as_slice().contains(&self.calls) {
@@ -79,6 +80,7 @@ impl World for SilentWorld {
         ensures length { IfOk result (λ count. IsTrue (silent_view self.old).tells_bytes → count ≡ length (part area (silent_view self.old).shown)) }
         ensures limit { IfOk result (λ count. count ≤ 2 ^ 40) }
         ensures quiet { IsQuiet (silent_view self.old) (silent_view self.new) }
+        ensures moment { Rose (silent_view self.old).moment (silent_view self.new).moment }
         ensures image { ShowsOne (silent_view self.new) }
         ensures cause { OnErr result (Rose (silent_view self.old).area_faults (silent_view self.new).area_faults) }
         ensures no_cause { OnOk result ((silent_view self.new).area_faults ≡ (silent_view self.old).area_faults) }
@@ -98,6 +100,7 @@ impl World for SilentWorld {
         // What every world says.
         ensures bytes { OnOk result (IsTrue (silent_view self.old).tells_bytes → buf.new ≡ take (length buf.old) (drop at (part area (silent_view self.old).shown))) }
         ensures quiet { IsQuiet (silent_view self.old) (silent_view self.new) }
+        ensures moment { Rose (silent_view self.old).moment (silent_view self.new).moment }
         ensures image { ShowsOne (silent_view self.new) }
         ensures cause { OnErr result (Rose (silent_view self.old).area_faults (silent_view self.new).area_faults) }
         ensures no_cause { OnOk result ((silent_view self.new).area_faults ≡ (silent_view self.old).area_faults) }
@@ -118,6 +121,7 @@ impl World for SilentWorld {
         ensures beside { IsSameBeside area (silent_view self.old).shown (silent_view self.new).shown }
         ensures stops { StopsBy (Writes area at (length bytes.now)) (silent_view self.old) (silent_view self.new) }
         ensures passes { Passes (silent_view self.old) (silent_view self.new) }
+        ensures moment { Rose (silent_view self.old).moment (silent_view self.new).moment }
         ensures image { ShowsOne (silent_view self.new) }
         ensures cause { OnErr result (Rose (silent_view self.old).area_faults (silent_view self.new).area_faults) }
         ensures no_cause { OnOk result ((silent_view self.new).area_faults ≡ (silent_view self.old).area_faults) }
@@ -137,6 +141,7 @@ impl World for SilentWorld {
         ensures beside { IsSameBeside area (silent_view self.old).shown (silent_view self.new).shown }
         ensures stops { StopsBy (Cuts area len) (silent_view self.old) (silent_view self.new) }
         ensures passes { Passes (silent_view self.old) (silent_view self.new) }
+        ensures moment { Rose (silent_view self.old).moment (silent_view self.new).moment }
         ensures image { ShowsOne (silent_view self.new) }
         ensures cause { OnErr result (Rose (silent_view self.old).area_faults (silent_view self.new).area_faults) }
         ensures no_cause { OnOk result ((silent_view self.new).area_faults ≡ (silent_view self.old).area_faults) }
@@ -153,6 +158,7 @@ impl World for SilentWorld {
         // What every world says.
         ensures synced { OnOk result (IsSynced area (silent_view self.new)) }
         ensures quiet { IsQuiet (silent_view self.old) (silent_view self.new) }
+        ensures moment { Rose (silent_view self.old).moment (silent_view self.new).moment }
         ensures image { ShowsOne (silent_view self.new) }
         ensures cause { OnErr result (Rose (silent_view self.old).area_faults (silent_view self.new).area_faults) }
         ensures no_cause { OnOk result ((silent_view self.new).area_faults ≡ (silent_view self.old).area_faults) }
@@ -175,6 +181,7 @@ impl World for SilentWorld {
         ensures b { (silent_view self.new).shown.b ≡ (silent_view self.old).shown.b }
         ensures stops { StopsBy (Puts piece.now) (silent_view self.old) (silent_view self.new) }
         ensures passes { Passes (silent_view self.old) (silent_view self.new) }
+        ensures moment { Rose (silent_view self.old).moment (silent_view self.new).moment }
         ensures image { ShowsOne (silent_view self.new) }
         ensures counted { OnOk result ((silent_view self.new).puts ≡ (silent_view self.old).puts + 1) }
         ensures not_counted { OnErr result ((silent_view self.new).puts ≡ (silent_view self.old).puts) }

@@ -19,6 +19,7 @@ pub trait World {
         ensures length { IfOk result (λ count. IsTrue (view self.old).tells_bytes → count ≡ length (part area (view self.old).shown)) }
         ensures limit { IfOk result (λ count. count ≤ 2 ^ 40) }
         ensures quiet { IsQuiet (view self.old) (view self.new) }
+        ensures moment { Rose (view self.old).moment (view self.new).moment }
         ensures image { ShowsOne (view self.new) }
         ensures cause { OnErr result (Rose (view self.old).area_faults (view self.new).area_faults) }
         ensures no_cause { OnOk result ((view self.new).area_faults ≡ (view self.old).area_faults) }
@@ -30,6 +31,7 @@ pub trait World {
         requires { IsTrue (view self.old).tells_bytes → at + length buf.old ≤ length (part area (view self.old).shown) }
         ensures bytes { OnOk result (IsTrue (view self.old).tells_bytes → buf.new ≡ take (length buf.old) (drop at (part area (view self.old).shown))) }
         ensures quiet { IsQuiet (view self.old) (view self.new) }
+        ensures moment { Rose (view self.old).moment (view self.new).moment }
         ensures image { ShowsOne (view self.new) }
         ensures cause { OnErr result (Rose (view self.old).area_faults (view self.new).area_faults) }
         ensures no_cause { OnOk result ((view self.new).area_faults ≡ (view self.old).area_faults) }
@@ -45,6 +47,7 @@ pub trait World {
         ensures beside { IsSameBeside area (view self.old).shown (view self.new).shown }
         ensures stops { StopsBy (Writes area at (length bytes.now)) (view self.old) (view self.new) }
         ensures passes { Passes (view self.old) (view self.new) }
+        ensures moment { Rose (view self.old).moment (view self.new).moment }
         ensures image { ShowsOne (view self.new) }
         ensures cause { OnErr result (Rose (view self.old).area_faults (view self.new).area_faults) }
         ensures no_cause { OnOk result ((view self.new).area_faults ≡ (view self.old).area_faults) }
@@ -58,6 +61,7 @@ pub trait World {
         ensures beside { IsSameBeside area (view self.old).shown (view self.new).shown }
         ensures stops { StopsBy (Cuts area len) (view self.old) (view self.new) }
         ensures passes { Passes (view self.old) (view self.new) }
+        ensures moment { Rose (view self.old).moment (view self.new).moment }
         ensures image { ShowsOne (view self.new) }
         ensures cause { OnErr result (Rose (view self.old).area_faults (view self.new).area_faults) }
         ensures no_cause { OnOk result ((view self.new).area_faults ≡ (view self.old).area_faults) }
@@ -67,6 +71,7 @@ pub trait World {
     fn sync(&mut self, area: Area) -> Result<(), AreaFault>
         ensures synced { OnOk result (IsSynced area (view self.new)) }
         ensures quiet { IsQuiet (view self.old) (view self.new) }
+        ensures moment { Rose (view self.old).moment (view self.new).moment }
         ensures image { ShowsOne (view self.new) }
         ensures cause { OnErr result (Rose (view self.old).area_faults (view self.new).area_faults) }
         ensures no_cause { OnOk result ((view self.new).area_faults ≡ (view self.old).area_faults) }
@@ -85,6 +90,7 @@ pub trait World {
         ensures b { (view self.new).shown.b ≡ (view self.old).shown.b }
         ensures stops { StopsBy (Puts piece.now) (view self.old) (view self.new) }
         ensures passes { Passes (view self.old) (view self.new) }
+        ensures moment { Rose (view self.old).moment (view self.new).moment }
         ensures image { ShowsOne (view self.new) }
         ensures counted { OnOk result ((view self.new).puts ≡ (view self.old).puts + 1) }
         ensures not_counted { OnErr result ((view self.new).puts ≡ (view self.old).puts) }

@@ -39,6 +39,7 @@ change c =
       pieces_room = c.add_note.ensures.pieces_room;
       handed = omega (arith, ap (λ (m : Meter). m.handed) meter, small, c.self.invariant.small);
       calls = omega (arith, ap (λ (m : Meter). m.calls) meter, few, c.self.invariant.most, c.self.invariant.small);
+      call_count = omega (arith, ap (λ (m : Meter). m.calls) meter);
       area_count = ap (λ (m : Meter). m.area_faults) meter;
       put_count = ap (λ (m : Meter). m.put_faults) meter;
       puts = omega (arith, ap (λ (m : Meter). m.puts) meter);
