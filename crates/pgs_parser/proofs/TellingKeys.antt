@@ -8,7 +8,7 @@ use Rattle.pgs_syntax.specs.declared.key.Qualifiers.{Qualifiers}
 use Rattle.pgs_syntax.specs.declared.raw.RawExpr.{RawExpr}
 use Rattle.pgs_syntax.specs.declared.raw.RawKey.{RawKey}
 use Rattle.pgs_syntax.specs.declared.raw.RawPath.{RawPath}
-use Rattle.pgs_syntax.specs.Fitting.{has_label, same_name}
+use Rattle.pgs_base.specs.Pair.{has_name, same_name}
 use Rattle.pgs_syntax.specs.Valid.{are_distinct}
 use Rattle.pgs_parser.specs.Production.{Production, ◌▸◌, ◌or◌, nothing, here, sign, keyword, maybe, listed}
 use Rattle.pgs_parser.specs.Literal.{name}
@@ -51,17 +51,17 @@ words_tell = equal_lists (listed_tells (sign "," or nothing) qualifier qualifier
 
 -- whether a token is spelled as one of the three words
 abbrev three : Test
-three kind bytes = has_label bytes qualifier_words
+three kind bytes = has_name bytes qualifier_words
 
-is_three : {word : List ℕ} {before after : List Lexeme} → qualifier word before after → next three before ≡ has_label word qualifier_words
-is_three (here asked) = ap (λ bytes. has_label bytes qualifier_words) asked.1
+is_three : {word : List ℕ} {before after : List Lexeme} → qualifier word before after → next three before ≡ has_name word qualifier_words
+is_three (here asked) = ap (λ bytes. has_name bytes qualifier_words) asked.1
 
 no_identifier : (words : List (List ℕ)) (before a b : List Lexeme) → are_qualifiers words ≡ true → keyword "IDENTIFIER" before a →
     listed (sign "," or nothing) qualifier words before b → ⊥
 no_identifier [] before a b e h k = k
 no_identifier (w ∷ ws) before a b e h k =
-    let all = and_parts (list_all (λ word. has_label word qualifier_words) (w ∷ ws)) (are_distinct same_name (w ∷ ws)) e in
-    let first = and_parts (has_label w qualifier_words) (list_all (λ word. has_label word qualifier_words) ws) all.0 in
+    let all = and_parts (list_all (λ word. has_name word qualifier_words) (w ∷ ws)) (are_distinct same_name (w ∷ ws)) e in
+    let first = and_parts (has_name w qualifier_words) (list_all (λ word. has_name word qualifier_words) ws) all.0 in
     clash (is_three k.1 ∙ first.0) (next_keyword three "IDENTIFIER" h)
 
 qualifiers_both : (x y : Qualifiers) (before a b : List Lexeme) → qualifiers x before a → qualifiers y before b → Passes a_name a →

@@ -9,7 +9,7 @@ use Rattle.pgs_syntax.specs.declared.raw.RawStep.{RawStep}
 use Rattle.pgs_syntax.specs.declared.raw.RawPath.{RawPath}
 use Rattle.pgs_syntax.specs.declared.raw.RawExpr.{RawExpr}
 use Rattle.pgs_syntax.specs.declared.raw.RawKey.{RawKey}
-use Rattle.pgs_syntax.specs.Fitting.{has_label, same_name}
+use Rattle.pgs_base.specs.Pair.{has_name, same_name}
 use Rattle.pgs_syntax.specs.Valid.{are_distinct}
 use Rattle.pgs_parser.specs.Production.{Production, ◌▸◌, ◌or◌, nothing, IsToken, keyword, sign, maybe, each, listed}
 use Rattle.pgs_parser.specs.Literal.{name, literal}
@@ -58,14 +58,14 @@ qualifier_words = codes "EXCLUSIVE" ∷ codes "MANDATORY" ∷ codes "SINGLETON" 
 
 -- whether each word is one of these, and none stands twice
 abbrev pub are_qualifiers : List (List ℕ) → Bool
-are_qualifiers words = list_all (λ word. has_label word qualifier_words) words && are_distinct same_name words
+are_qualifiers words = list_all (λ word. has_name word qualifier_words) words && are_distinct same_name words
 
 -- what words ask
 abbrev pub asked_by : List (List ℕ) → Qualifiers
 asked_by words = record {
-  mandatory = has_label (codes "MANDATORY") words;
-  singleton = has_label (codes "SINGLETON") words;
-  exclusive = has_label (codes "EXCLUSIVE") words;
+  mandatory = has_name (codes "MANDATORY") words;
+  singleton = has_name (codes "SINGLETON") words;
+  exclusive = has_name (codes "EXCLUSIVE") words;
 }
 
 -- qualifier = EXCLUSIVE | MANDATORY | SINGLETON
