@@ -48,6 +48,7 @@ fn push_cause(text: &mut TextBuffer, cause: Cause) -> Result<(), Memory>
     }
 }
 
+#[tactic(auto, using(crate::proofs::Appended::three_pieces))]
 fn push_structural(text: &mut TextBuffer, structural: Structural, limits: &Limits) -> Result<(), Memory>
     ensures { OnOk result (text.new ≡ text.old ++ structural_text structural limits.now) }
 {
@@ -56,8 +57,7 @@ fn push_structural(text: &mut TextBuffer, structural: Structural, limits: &Limit
             text.push(b"22 ")?;
             text.push_number(count)?;
             text.push(b" operations, at most ")?;
-            text.push_number(limits.ops as u64)?;
-            Ok(())
+            text.push_number(limits.ops as u64)
         }
         Structural::BadOp { op, cause } => {
             text.push(b"23 op ")?;
@@ -69,14 +69,12 @@ fn push_structural(text: &mut TextBuffer, structural: Structural, limits: &Limit
             text.push(b"24 ")?;
             text.push_number(count)?;
             text.push(b" elements, at most ")?;
-            text.push_number(limits.elements)?;
-            Ok(())
+            text.push_number(limits.elements)
         }
         Structural::ElementTooLarge { op } => {
             text.push(b"38 op ")?;
             text.push_number(op)?;
-            text.push(b": more than 64 labels or 256 properties")?;
-            Ok(())
+            text.push(b": more than 64 labels or 256 properties")
         }
     }
 }
@@ -109,13 +107,13 @@ fn push_shared_value(text: &mut TextBuffer, other: Elem, tuple: &Tuple) -> Resul
     text.push_tuple(tuple)
 }
 
+#[tactic(auto, using(crate::proofs::Appended::three_pieces))]
 fn push_untyped(text: &mut TextBuffer, number: &[u8], elem: Elem) -> Result<(), Memory>
     ensures { OnOk result (text.new ≡ text.old ++ (number.now ++ (elem_text elem ++ codes " fits no type"))) }
 {
     text.push(number)?;
     text.push_elem(elem)?;
-    text.push(b" fits no type")?;
-    Ok(())
+    text.push(b" fits no type")
 }
 
 fn push_violation(text: &mut TextBuffer, violation: &Violation) -> Result<(), Memory>

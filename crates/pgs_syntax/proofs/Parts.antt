@@ -7,12 +7,13 @@ use Rattle.std.proofs.lemmas.Slice.Eq.{bytes_eq-Decides}
 use denote.Hole.Carrier.{hidden}
 use Rattle.pgs_base.specs.declared.row.NodeRow.{NodeRow}
 use Rattle.pgs_base.specs.declared.value.Value.{Value}
+use Rattle.pgs_base.specs.Pair.{same_name, value_at}
 use Rattle.pgs_syntax.specs.declared.specification.Leaf.{Leaf}
 use Rattle.pgs_syntax.specs.declared.specification.Property.{Property}
 use Rattle.pgs_syntax.specs.declared.specification.Spec.{Spec, And}
 use Rattle.pgs_syntax.specs.declared.specification.Spec.TheBlock as block
 use Rattle.pgs_syntax.specs.Join.{Joins, of_pairs, joined, is_empty_pair}
-use Rattle.pgs_syntax.specs.Fitting.{suits, same_name, value_at, is_named_by}
+use Rattle.pgs_syntax.specs.Fitting.{suits, is_named_by}
 use Rattle.pgs_syntax.proofs.Halves.{joined_same, pairs_swap, pairs_whole}
 
 -- two parts, as joins

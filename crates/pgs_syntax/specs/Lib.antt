@@ -6,6 +6,7 @@ pub mod KeyValues
 pub mod Linked
 pub mod Matches
 pub mod Meaning
+pub mod Numbered
 pub mod Samples
 pub mod Typed
 pub mod Valid
