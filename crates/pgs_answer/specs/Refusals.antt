@@ -77,7 +77,6 @@ structural_text (ElementTooLarge op) limits = codes "38 op " ++ (decimal op ++ c
 
 -- ---- of a graph
 
-
 abbrev pub violation_text : Violation → List ℕ
 violation_text (UntypedNode node) = codes "25 node " ++ (elem_text (Node node) ++ codes " fits no type")
 violation_text (UntypedEdge edge) = codes "26 edge " ++ (elem_text (Edge edge) ++ codes " fits no type")

@@ -48,8 +48,11 @@ fn push_cause(text: &mut TextBuffer, cause: Cause) -> Result<(), Memory>
     }
 }
 
-#[tactic(auto, using(crate::proofs::Appended::three_pieces))]
-fn push_structural(text: &mut TextBuffer, structural: Structural, limits: &Limits) -> Result<(), Memory>
+fn push_structural(
+    text: &mut TextBuffer,
+    structural: Structural,
+    limits: &Limits,
+) -> Result<(), Memory>
     ensures { OnOk result (text.new ≡ text.old ++ structural_text structural limits.now) }
 {
     match structural {
@@ -57,7 +60,8 @@ fn push_structural(text: &mut TextBuffer, structural: Structural, limits: &Limit
             text.push(b"22 ")?;
             text.push_number(count)?;
             text.push(b" operations, at most ")?;
-            text.push_number(limits.ops as u64)
+            text.push_number(limits.ops as u64)?;
+            Ok(())
         }
         Structural::BadOp { op, cause } => {
             text.push(b"23 op ")?;
@@ -74,7 +78,8 @@ fn push_structural(text: &mut TextBuffer, structural: Structural, limits: &Limit
         Structural::ElementTooLarge { op } => {
             text.push(b"38 op ")?;
             text.push_number(op)?;
-            text.push(b": more than 64 labels or 256 properties")
+            text.push(b": more than 64 labels or 256 properties")?;
+            Ok(())
         }
     }
 }
@@ -107,13 +112,13 @@ fn push_shared_value(text: &mut TextBuffer, other: Elem, tuple: &Tuple) -> Resul
     text.push_tuple(tuple)
 }
 
-#[tactic(auto, using(crate::proofs::Appended::three_pieces))]
 fn push_untyped(text: &mut TextBuffer, number: &[u8], elem: Elem) -> Result<(), Memory>
     ensures { OnOk result (text.new ≡ text.old ++ (number.now ++ (elem_text elem ++ codes " fits no type"))) }
 {
     text.push(number)?;
     text.push_elem(elem)?;
-    text.push(b" fits no type")
+    text.push(b" fits no type")?;
+    Ok(())
 }
 
 fn push_violation(text: &mut TextBuffer, violation: &Violation) -> Result<(), Memory>
@@ -148,7 +153,11 @@ fn push_violation(text: &mut TextBuffer, violation: &Violation) -> Result<(), Me
 }
 
 /// Puts the text of a rejection last.
-pub(crate) fn push_rejection(text: &mut TextBuffer, rejection: &Rejection, limits: &Limits) -> Result<(), Memory>
+pub(crate) fn push_rejection(
+    text: &mut TextBuffer,
+    rejection: &Rejection,
+    limits: &Limits,
+) -> Result<(), Memory>
     ensures { OnOk result (text.new ≡ text.old ++ rejection_text rejection.now limits.now) }
 {
     match rejection {
@@ -158,7 +167,11 @@ pub(crate) fn push_rejection(text: &mut TextBuffer, rejection: &Rejection, limit
 }
 
 /// Refusals 22, 23, 24 and 38: why the operations of a transaction can't be done within the limits.
-pub fn structural_text(alloc: Global, structural: &Structural, limits: &Limits) -> Result<Bytes, Memory>
+pub fn structural_text(
+    alloc: Global,
+    structural: &Structural,
+    limits: &Limits,
+) -> Result<Bytes, Memory>
     ensures { IfOk result (λ text. text ≡ structural_text structural.now limits.now) }
 {
     let mut text = TextBuffer::with_room(alloc, ROOM)?;
@@ -176,7 +189,11 @@ pub fn violation_text(alloc: Global, violation: &Violation) -> Result<Bytes, Mem
 }
 
 /// Why a transaction is rejected: the text of what the rejection holds.
-pub fn rejection_text(alloc: Global, rejection: &Rejection, limits: &Limits) -> Result<Bytes, Memory>
+pub fn rejection_text(
+    alloc: Global,
+    rejection: &Rejection,
+    limits: &Limits,
+) -> Result<Bytes, Memory>
     ensures { IfOk result (λ text. text ≡ rejection_text rejection.now limits.now) }
 {
     let mut text = TextBuffer::with_room(alloc, ROOM)?;

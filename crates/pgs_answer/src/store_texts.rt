@@ -43,7 +43,12 @@ pub fn bad_record_text(alloc: Global, number: u64) -> Result<Bytes, Memory>
 }
 
 /// Refusal 34: the number of the record, from 1, and the rejection of what it holds.
-pub fn bad_history_text(alloc: Global, number: u64, rejection: &Rejection, limits: &Limits) -> Result<Bytes, Memory>
+pub fn bad_history_text(
+    alloc: Global,
+    number: u64,
+    rejection: &Rejection,
+    limits: &Limits,
+) -> Result<Bytes, Memory>
     ensures { IfOk result (λ text. text ≡ bad_history_text number rejection.now limits.now) }
 {
     let mut text = TextBuffer::with_room(alloc, ROOM)?;

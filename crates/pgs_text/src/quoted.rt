@@ -10,7 +10,11 @@ fn hex_digit(number: u8) -> u8
     requires { number < 16 }
     ensures { result ≡ digit_char number }
 {
-    if number < 10 { b'0' + number } else { b'a' + (number - 10) }
+    if number < 10 {
+        b'0' + number
+    } else {
+        b'a' + (number - 10)
+    }
 }
 
 impl TextBuffer {
@@ -26,7 +30,14 @@ impl TextBuffer {
             b'\n' => self.push(b"\\n"),
             12 => self.push(b"\\f"),
             b'\r' => self.push(b"\\r"),
-            0..32 => self.push(&[b'\\', b'u', b'0', b'0', hex_digit(byte / 16), hex_digit(byte % 16)]),
+            0..32 => self.push(&[
+                b'\\',
+                b'u',
+                b'0',
+                b'0',
+                hex_digit(byte / 16),
+                hex_digit(byte % 16),
+            ]),
             _ => self.push(&[byte]),
         }
     }

@@ -60,7 +60,11 @@ impl TextBuffer {
     pub fn push_truth(&mut self, truth: bool) -> Result<(), Memory>
         ensures { OnOk result (self.new ≡ self.old ++ truth_text truth) }
     {
-        if truth { self.push(b"true") } else { self.push(b"false") }
+        if truth {
+            self.push(b"true")
+        } else {
+            self.push(b"false")
+        }
     }
 
     fn push_two_digits(&mut self, number: u8) -> Result<(), Memory>
