@@ -7,5 +7,6 @@ pub mod Linked
 pub mod Matches
 pub mod Meaning
 pub mod Samples
+pub mod Triples
 pub mod Typed
 pub mod Valid
