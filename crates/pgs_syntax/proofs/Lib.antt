@@ -7,6 +7,7 @@ pub mod Edges
 pub mod Halves
 pub mod InOrder
 pub mod JoinMeans
+pub mod Members
 pub mod Named
 pub mod Parts
 pub mod Specs

@@ -3,6 +3,7 @@ pub mod Fitting
 pub mod Join
 pub mod KeySamples
 pub mod KeyValues
+pub mod Least
 pub mod Linked
 pub mod Matches
 pub mod Meaning

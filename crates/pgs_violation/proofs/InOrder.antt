@@ -22,8 +22,8 @@ use Rattle.pgs_syntax.specs.declared.key.Key.{Key}
 use Rattle.pgs_syntax.specs.declared.resolved.Resolved.{Resolved}
 use Rattle.pgs_syntax.specs.Join.{is_empty}
 use Rattle.pgs_syntax.specs.KeyValues.{is_in_scope, scope_of, key_values}
-use Rattle.pgs_syntax.specs.Matches.{elements}
 use Rattle.pgs_syntax.specs.Typed.{node_typed, edge_is_typed}
+use Rattle.pgs_syntax.proofs.InOrder.{nodes_ascend, edges_ascend, scope_ascends}
 use Rattle.pgs_violation.specs.declared.violation.Violation.{Violation}
 use Rattle.pgs_violation.specs.declared.violation.Violation.TheVariants.{UntypedNode, UntypedEdge, Mandatory, Singleton, Exclusive}
 use Rattle.pgs_violation.specs.Standing.{violation_cmp, key_of, number_of, elem_of, carried_cmp}
@@ -201,59 +201,16 @@ module _ (key : ℕ) (values : Elem → List (List Part)) where
       by None is e rest = rest e
       by (Some u) is e rest = sharing_says elem second v (is ∙ e)
 
--- ---- the elements of a graph ascend
-
-ascends_append : {K : Type 0} (cmp : K → K → Ordering) (xs ys : List K) → ascends cmp xs ≡ true → ascends cmp ys ≡ true →
-    list_all (λ x. list_all (λ y. is_lt (cmp x y)) ys) xs ≡ true → ascends cmp (xs ++ ys) ≡ true
-ascends_append cmp [] ys first second across = second
-ascends_append cmp (x ∷ xs) ys first second across =
-    let parts = and_parts _ _ first in
-    let apart = and_parts _ _ across in
-    and_from _ _ (list_all-append (λ w. is_lt (cmp x w)) xs ys ∙ and_from _ _ parts.0 apart.0) (ascends_append cmp xs ys parts.1 second apart.1)
-
-module _ {K V : Type 0} (cmp : K → K → Ordering) (elem : K → Elem) (same : (a b : K) → elem_cmp (elem a) (elem b) ≡ cmp a b) where
-  rows_later : (k : K) (rows : List (K × V)) → list_all (λ later. is_lt (cmp k later)) (keys_of rows) ≡ true →
-      list_all (λ later. is_lt (elem_cmp (elem k) later)) (map (λ (row : K × V). elem row.0) rows) ≡ true
-  rows_later k [] h = refl
-  rows_later k (row ∷ rows) h =
-      let parts = and_parts _ _ h in and_from _ _ (ap is_lt (same k row.0) ∙ parts.0) (rows_later k rows parts.1)
-
-  rows_ascend : (rows : List (K × V)) → ascends cmp (keys_of rows) ≡ true → ascends elem_cmp (map (λ (row : K × V). elem row.0) rows) ≡ true
-  rows_ascend [] h = refl
-  rows_ascend (row ∷ rows) h = let parts = and_parts _ _ h in and_from _ _ (rows_later row.0 rows parts.0) (rows_ascend rows parts.1)
-
-edges_after : (id : NodeId) (edges : List (EdgeId × EdgeRow)) → list_all (λ y. is_lt (elem_cmp (Node id) y)) (map (λ (edge : EdgeId × EdgeRow). Edge edge.0) edges) ≡ true
-edges_after id [] = refl
-edges_after id (edge ∷ edges) = edges_after id edges
-
-nodes_before : (nodes : List (NodeId × NodeRow)) (edges : List (EdgeId × EdgeRow)) →
-    list_all (λ x. list_all (λ y. is_lt (elem_cmp x y)) (map (λ (edge : EdgeId × EdgeRow). Edge edge.0) edges)) (map (λ (node : NodeId × NodeRow). Node node.0) nodes) ≡ true
-nodes_before [] edges = refl
-nodes_before (node ∷ nodes) edges = and_from _ _ (edges_after node.0 edges) (nodes_before nodes edges)
+-- ---- the whole list
 
 module _ (g : Graph) (graph : is_graph g ≡ true) where
-  nodes_ascend : ascends elem_cmp (map (λ (node : NodeId × NodeRow). Node node.0) g.nodes) ≡ true
-  nodes_ascend = rows_ascend node_cmp Node (λ a b. refl) g.nodes (and_parts _ _ (and_parts _ _ graph).0).0
-
-  edges_ascend : ascends elem_cmp (map (λ (edge : EdgeId × EdgeRow). Edge edge.0) g.edges) ≡ true
-  edges_ascend = rows_ascend edge_cmp Edge (λ a b. refl) g.edges (and_parts _ _ (and_parts _ _ graph).0).1
-
-  pub scope_ascends : (resolved : Resolved) (key : Key) → ascends elem_cmp (scope_of resolved g key) ≡ true
-  scope_ascends resolved key =
-      let all = ascends_append elem_cmp (elements g false) (elements g true) nodes_ascend edges_ascend (nodes_before g.nodes g.edges) in
-      (ascends_decides elem_cmp (scope_of resolved g key)).1
-      (IsStrictlySortedBy-filter elem_cmp (is_in_scope resolved g key) (elements g false ++ elements g true)
-      ((ascends_decides elem_cmp (elements g false ++ elements g true)).0 all))
-
-  -- ---- the whole list
-
   module _ (resolved : Resolved) where
     key_run : (number : ℕ) (key : Key) → Run (number * 100 + 27) (number * 100 + 30) (key_violations resolved g number key)
     key_run number key =
         let scope = scope_of resolved g key in
         let values = key_values resolved g key in
         let ordered : ascends elem_cmp (map (λ (elem : Elem). elem) scope) ≡ true =
-        subst (λ (xs : List Elem). ascends elem_cmp xs ≡ true) (sym (map-id scope)) (scope_ascends resolved key) in
+        subst (λ (xs : List Elem). ascends elem_cmp xs ≡ true) (sym (map-id scope)) (scope_ascends g graph resolved key) in
         let missing = asked _ _ key.qualifiers.mandatory _ (found_run (λ elem. elem) (without_value number values) number 27 (without_value_says number values) scope ordered) in
         let several = asked _ _ key.qualifiers.singleton _ (found_run (λ elem. elem) (with_two_values number values) number 28
         (λ elem v e. two_least_says number values elem (values elem) v e) scope ordered) in
@@ -273,8 +230,8 @@ module _ (g : Graph) (graph : is_graph g ≡ true) where
 
     pub violations_ascend : ascends violation_cmp (violations resolved g) ≡ true
     violations_ascend =
-        let nodes = found_run (λ (node : NodeId × NodeRow). Node node.0) (untyped_node resolved) 0 25 (untyped_node_says resolved) g.nodes nodes_ascend in
-        let edges = found_run (λ (edge : EdgeId × EdgeRow). Edge edge.0) (untyped_edge resolved g) 0 26 (untyped_edge_says resolved g) g.edges edges_ascend in
+        let nodes = found_run (λ (node : NodeId × NodeRow). Node node.0) (untyped_node resolved) 0 25 (untyped_node_says resolved) g.nodes (nodes_ascend g graph) in
+        let edges = found_run (λ (edge : EdgeId × EdgeRow). Edge edge.0) (untyped_edge resolved g) 0 26 (untyped_edge_says resolved g) g.edges (edges_ascend g graph) in
         let untyped = asked 25 27 resolved.guard.strict _ (append 25 26 27 _ _ (omega arith) (omega arith) nodes edges) in
         (append 25 127 ((1 + length resolved.guard.keys) * 100 + 27) _ _ (omega arith) (omega arith)
         (wide _ _ _ _ _ (omega arith) (omega arith) untyped) (keys_run 1 resolved.guard.keys)).ascending
