@@ -96,7 +96,7 @@ module _ {X Y : Type 0} (give : X → Option Y) where
 
 -- ---- the first of a list that ascends is its least
 
-is_less : (o : Ordering) → is_lt o ≡ true → o ≡ Less
+pub is_less : (o : Ordering) → is_lt o ≡ true → o ≡ Less
 is_less Less h = refl
 is_less Equal h = cc
 is_less Greater h = cc

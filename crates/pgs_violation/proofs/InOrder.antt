@@ -158,7 +158,7 @@ module _ {X : Type 0} (elem : X → Elem) (at : X → Option Violation) (key num
 
 -- ---- what each kind of violation says
 
-abbrev Says : Elem → ℕ → ℕ → Violation → Type 0
+abbrev pub Says : Elem → ℕ → ℕ → Violation → Type 0
 Says elem key number v = (key_of v ≡ key) × (number_of v ≡ number) × (elem_of v ≡ elem)
 
 unless : (b : Bool) (u v : Violation) → (if b then None else Some u) ≡ Some v → u ≡ v
@@ -169,17 +169,17 @@ when : (b : Bool) (u v : Violation) → (if b then Some u else None) ≡ Some v 
 when true u v e = cc
 when false u v e = cc
 
-untyped_node_says : (resolved : Resolved) (node : NodeId × NodeRow) (v : Violation) → untyped_node resolved node ≡ Some v → Says (Node node.0) 0 25 v
+pub untyped_node_says : (resolved : Resolved) (node : NodeId × NodeRow) (v : Violation) → untyped_node resolved node ≡ Some v → Says (Node node.0) 0 25 v
 untyped_node_says resolved node v e = subst (Says (Node node.0) 0 25) (unless (node_typed resolved node.1) (UntypedNode node.0) v e) (refl, refl, refl)
 
-untyped_edge_says : (resolved : Resolved) (g : Graph) (edge : EdgeId × EdgeRow) (v : Violation) → untyped_edge resolved g edge ≡ Some v → Says (Edge edge.0) 0 26 v
+pub untyped_edge_says : (resolved : Resolved) (g : Graph) (edge : EdgeId × EdgeRow) (v : Violation) → untyped_edge resolved g edge ≡ Some v → Says (Edge edge.0) 0 26 v
 untyped_edge_says resolved g edge v e = subst (Says (Edge edge.0) 0 26) (unless (edge_is_typed resolved g edge.1) (UntypedEdge edge.0) v e) (refl, refl, refl)
 
 module _ (key : ℕ) (values : Elem → List (List Part)) where
-  without_value_says : (elem : Elem) (v : Violation) → without_value key values elem ≡ Some v → Says elem key 27 v
+  pub without_value_says : (elem : Elem) (v : Violation) → without_value key values elem ≡ Some v → Says elem key 27 v
   without_value_says elem v e = subst (Says elem key 27) (when (is_empty (values elem)) (Mandatory key elem) v e) (refl, refl, refl)
 
-  two_least_says : (elem : Elem) (tuples : List (List Part)) (v : Violation) → two_least key elem tuples ≡ Some v → Says elem key 28 v
+  pub two_least_says : (elem : Elem) (tuples : List (List Part)) (v : Violation) → two_least key elem tuples ≡ Some v → Says elem key 28 v
   two_least_says elem [] v e = cc
   two_least_says elem (first ∷ []) v e = cc
   two_least_says elem (first ∷ second ∷ rest) v e =
@@ -192,7 +192,7 @@ module _ (key : ℕ) (values : Elem → List (List Part)) where
       by None e = cc
       by (Some tuple) e = let same : Exclusive key elem second tuple ≡ v = cc in subst (Says elem key 29) same (refl, refl, refl)
 
-  first_says : (elem : Elem) (later : List Elem) (v : Violation) → slice_get (filter_map (sharing key values elem) later) 0 ≡ Some v → Says elem key 29 v
+  pub first_says : (elem : Elem) (later : List Elem) (v : Violation) → slice_get (filter_map (sharing key values elem) later) 0 ≡ Some v → Says elem key 29 v
   first_says elem [] v e = cc
   first_says elem (second ∷ later) v e = by (sharing key values elem second) refl e (first_says elem later v)
     where
@@ -203,35 +203,34 @@ module _ (key : ℕ) (values : Elem → List (List Part)) where
 
 -- ---- the whole list
 
-module _ (g : Graph) (graph : is_graph g ≡ true) where
-  module _ (resolved : Resolved) where
-    key_run : (number : ℕ) (key : Key) → Run (number * 100 + 27) (number * 100 + 30) (key_violations resolved g number key)
-    key_run number key =
-        let scope = scope_of resolved g key in
-        let values = key_values resolved g key in
-        let ordered : ascends elem_cmp (map (λ (elem : Elem). elem) scope) ≡ true =
-        subst (λ (xs : List Elem). ascends elem_cmp xs ≡ true) (sym (map-id scope)) (scope_ascends g graph resolved key) in
-        let missing = asked _ _ key.qualifiers.mandatory _ (found_run (λ elem. elem) (without_value number values) number 27 (without_value_says number values) scope ordered) in
-        let several = asked _ _ key.qualifiers.singleton _ (found_run (λ elem. elem) (with_two_values number values) number 28
-        (λ elem v e. two_least_says number values elem (values elem) v e) scope ordered) in
-        let shared = asked _ _ key.qualifiers.exclusive _ (found_run (λ elem. elem) (with_shared_value number scope values) number 29
-        (λ elem v e. first_says number values elem (later_than elem scope) v e) scope ordered) in
-        append (number * 100 + 27) (number * 100 + 29) (number * 100 + 30) _ _ (omega arith) (omega arith)
-        (append (number * 100 + 27) (number * 100 + 28) (number * 100 + 29) _ _ (omega arith) (omega arith)
-        (wide _ _ _ _ _ (omega arith) (omega arith) missing) (wide _ _ _ _ _ (omega arith) (omega arith) several))
-        (wide _ _ _ _ _ (omega arith) (omega arith) shared)
+module _ (g : Graph) (graph : is_graph g ≡ true) (resolved : Resolved) where
+  key_run : (number : ℕ) (key : Key) → Run (number * 100 + 27) (number * 100 + 30) (key_violations resolved g number key)
+  key_run number key =
+      let scope = scope_of resolved g key in
+      let values = key_values resolved g key in
+      let ordered : ascends elem_cmp (map (λ (elem : Elem). elem) scope) ≡ true =
+      subst (λ (xs : List Elem). ascends elem_cmp xs ≡ true) (sym (map-id scope)) (scope_ascends g graph resolved key) in
+      let missing = asked _ _ key.qualifiers.mandatory _ (found_run (λ elem. elem) (without_value number values) number 27 (without_value_says number values) scope ordered) in
+      let several = asked _ _ key.qualifiers.singleton _ (found_run (λ elem. elem) (with_two_values number values) number 28
+      (λ elem v e. two_least_says number values elem (values elem) v e) scope ordered) in
+      let shared = asked _ _ key.qualifiers.exclusive _ (found_run (λ elem. elem) (with_shared_value number scope values) number 29
+      (λ elem v e. first_says number values elem (later_than elem scope) v e) scope ordered) in
+      append (number * 100 + 27) (number * 100 + 29) (number * 100 + 30) _ _ (omega arith) (omega arith)
+      (append (number * 100 + 27) (number * 100 + 28) (number * 100 + 29) _ _ (omega arith) (omega arith)
+      (wide _ _ _ _ _ (omega arith) (omega arith) missing) (wide _ _ _ _ _ (omega arith) (omega arith) several))
+      (wide _ _ _ _ _ (omega arith) (omega arith) shared)
 
-    keys_run : (number : ℕ) (keys : List Key) → Run (number * 100 + 27) ((number + length keys) * 100 + 27) (keys_violations resolved g number keys)
-    keys_run number [] = record { ascending = refl; within = tt }
-    keys_run number (key ∷ keys) =
-        append (number * 100 + 27) ((number + 1) * 100 + 27) ((number + length (key ∷ keys)) * 100 + 27) _ _ (omega arith) (omega arith)
-        (wide _ _ _ _ _ (omega arith) (omega arith) (key_run number key))
-        (wide _ _ _ _ _ (omega arith) (omega arith) (keys_run (number + 1) keys))
+  keys_run : (number : ℕ) (keys : List Key) → Run (number * 100 + 27) ((number + length keys) * 100 + 27) (keys_violations resolved g number keys)
+  keys_run number [] = record { ascending = refl; within = tt }
+  keys_run number (key ∷ keys) =
+      append (number * 100 + 27) ((number + 1) * 100 + 27) ((number + length (key ∷ keys)) * 100 + 27) _ _ (omega arith) (omega arith)
+      (wide _ _ _ _ _ (omega arith) (omega arith) (key_run number key))
+      (wide _ _ _ _ _ (omega arith) (omega arith) (keys_run (number + 1) keys))
 
-    pub violations_ascend : ascends violation_cmp (violations resolved g) ≡ true
-    violations_ascend =
-        let nodes = found_run (λ (node : NodeId × NodeRow). Node node.0) (untyped_node resolved) 0 25 (untyped_node_says resolved) g.nodes (nodes_ascend g graph) in
-        let edges = found_run (λ (edge : EdgeId × EdgeRow). Edge edge.0) (untyped_edge resolved g) 0 26 (untyped_edge_says resolved g) g.edges (edges_ascend g graph) in
-        let untyped = asked 25 27 resolved.guard.strict _ (append 25 26 27 _ _ (omega arith) (omega arith) nodes edges) in
-        (append 25 127 ((1 + length resolved.guard.keys) * 100 + 27) _ _ (omega arith) (omega arith)
-        (wide _ _ _ _ _ (omega arith) (omega arith) untyped) (keys_run 1 resolved.guard.keys)).ascending
+  pub violations_ascend : ascends violation_cmp (violations resolved g) ≡ true
+  violations_ascend =
+      let nodes = found_run (λ (node : NodeId × NodeRow). Node node.0) (untyped_node resolved) 0 25 (untyped_node_says resolved) g.nodes (nodes_ascend g graph) in
+      let edges = found_run (λ (edge : EdgeId × EdgeRow). Edge edge.0) (untyped_edge resolved g) 0 26 (untyped_edge_says resolved g) g.edges (edges_ascend g graph) in
+      let untyped = asked 25 27 resolved.guard.strict _ (append 25 26 27 _ _ (omega arith) (omega arith) nodes edges) in
+      (append 25 127 ((1 + length resolved.guard.keys) * 100 + 27) _ _ (omega arith) (omega arith)
+      (wide _ _ _ _ _ (omega arith) (omega arith) untyped) (keys_run 1 resolved.guard.keys)).ascending

@@ -1,3 +1,5 @@
+pub mod Carried
 pub mod Computed
 pub mod FirstOf
 pub mod InOrder
+pub mod Origins
