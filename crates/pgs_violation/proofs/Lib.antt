@@ -3,3 +3,4 @@ pub mod Computed
 pub mod FirstOf
 pub mod InOrder
 pub mod Origins
+pub mod StagedGraph
