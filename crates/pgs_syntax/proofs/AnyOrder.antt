@@ -6,7 +6,8 @@ use Rattle.std.proofs.lemmas.Bool.{and_parts, and_from}
 use Rattle.std.proofs.lemmas.List.Edits.{swap_is}
 use Rattle.std.proofs.lemmas.List.Sorted.{IsPermutation-keeps}
 use Rattle.pgs_base.specs.declared.row.NodeRow.{NodeRow}
-use Rattle.pgs_syntax.specs.Join.{Triple, pair_of, halves, triple_halves, Joins, of_pairs, of_triples, joined, joined_all}
+use Rattle.pgs_base.specs.Pair.{pair_of}
+use Rattle.pgs_syntax.specs.Join.{Triple, halves, triple_halves, Joins, of_pairs, of_triples, joined, joined_all}
 use Rattle.pgs_syntax.proofs.Edges.{any_triple_halves}
 use Rattle.pgs_syntax.proofs.Halves.{any_halves, joined_any, joined_same}
 use Rattle.pgs_syntax.proofs.Splits.{IsSplit, none, to_left, to_right, to_both, split_from_any, any_from_split}

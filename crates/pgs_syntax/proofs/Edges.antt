@@ -3,8 +3,9 @@ use Rattle.std.proofs.Common.{◌≡◌, Bool, true, false, ◌&&◌, refl, sym,
 use Rattle.std.specs.List.{list_any}
 use Rattle.std.proofs.lemmas.Bool.{and_parts, and_from}
 use Rattle.pgs_base.specs.declared.row.NodeRow.{NodeRow}
+use Rattle.pgs_base.specs.Pair.{is_pair}
 use Rattle.pgs_syntax.specs.Join.{Triple, halves, triple_halves, is_empty_pair, of_triples, joined}
-use Rattle.pgs_syntax.specs.Meaning.{is_pair, IsEdgeOf}
+use Rattle.pgs_syntax.specs.Meaning.{IsEdgeOf}
 use Rattle.pgs_syntax.proofs.Halves.{any_same, any_map, any_flat_map, any_and, halves_swap, halves_whole, joined_any}
 use Rattle.pgs_syntax.proofs.JoinMeans.{halves_found, halves_given}
 

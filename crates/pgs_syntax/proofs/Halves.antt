@@ -5,7 +5,8 @@ use Rattle.std.proofs.lemmas.List.Folds.{list_any-append}
 use Rattle.std.proofs.Math.Bool.{or-false}
 use Rattle.pgs_base.specs.declared.row.NodeRow.{NodeRow}
 use Rattle.pgs_base.specs.declared.value.Value.{Value}
-use Rattle.pgs_syntax.specs.Join.{is_empty, ways, splits, pair_of, halves, is_empty_pair, Joins, joined}
+use Rattle.pgs_base.specs.Pair.{pair_of}
+use Rattle.pgs_syntax.specs.Join.{is_empty, ways, splits, halves, is_empty_pair, Joins, joined}
 
 -- ---- tests of lists
 

@@ -14,8 +14,8 @@ use Rattle.pgs_base.specs.declared.element.Elem.TheVariants.{Node, Edge}
 use Rattle.pgs_base.specs.declared.part.Part.{Part}
 use Rattle.pgs_base.specs.declared.row.NodeRow.{NodeRow}
 use Rattle.pgs_base.specs.declared.row.EdgeRow.{EdgeRow}
-use Rattle.pgs_base.specs.Graph.{Graph, node_cmp, edge_cmp, ascends, is_graph}
-use Rattle.pgs_base.specs.Order.{elem_cmp, tuple_cmp}
+use Rattle.pgs_base.specs.Graph.{Graph, node_cmp, edge_cmp, is_graph}
+use Rattle.pgs_base.specs.Order.{ascends, elem_cmp, tuple_cmp}
 use Rattle.pgs_base.specs.OrderLaws.{tuple_cmp_total}
 use Rattle.pgs_base.proofs.Ascending.{ascends_decides, ascending-insert_key, ascending_none}
 use Rattle.pgs_syntax.specs.declared.key.Key.{Key}

@@ -1,25 +1,24 @@
 -- What a list contains: after a filter, and the least of a list that ascends. With it, what the scope of a key and the key values
 -- of an element contain.
-use Rattle.std.proofs.Common.{◌≡◌, ◌↔◌, zero, suc, Bool, true, false, cond, ⊎_elim, ◌⊎◌, inl, inr, List, [], ◌∷◌, ◌++◌, Option, Some, None, is_some, slice_get, refl, sym, ◌∙◌, ap, subst, true≢false, arith, Ordering, Less, Equal, Greater, is_lt}
+use Rattle.std.proofs.Common.{◌≡◌, zero, suc, Bool, true, false, cond, ⊎_elim, ◌⊎◌, inl, inr, List, [], ◌∷◌, ◌++◌, Option, Some, None, is_some, slice_get, refl, sym, ◌∙◌, ap, subst, true≢false, arith, Ordering, Less, Equal, Greater, is_lt}
 use Rattle.std.specs.Prelude.{Contains, filter, filter_map, find, option_and_then}
 use Rattle.std.specs.BTreeMap.{is_at}
 use Rattle.std.specs.List.{list_any, list_all, cons_option}
 use Rattle.std.specs.Cmp.{IsTotalOrder, Equal-is, eq_by_cmp_equiv, tied_itself}
-use Rattle.std.specs.Ordering.{ordering_reverse}
 use Rattle.std.proofs.lemmas.Bool.{and_parts}
 use Rattle.std.proofs.lemmas.List.Elements.{Contains-append_left, Contains-append_right}
 use Rattle.std.proofs.lemmas.Map.Views.{Contains-from_any, list_any-from_Contains}
 use Rattle.pgs_base.specs.declared.element.Elem.{Elem}
 use Rattle.pgs_base.specs.declared.part.Part.{Part}
-use Rattle.pgs_base.specs.Graph.{Graph, ascends}
-use Rattle.pgs_base.specs.Order.{elem_cmp, tuple_cmp}
-use Rattle.pgs_base.specs.OrderLaws.{elem_cmp_total, tuple_cmp_total, exact_elem, exact_tuple}
+use Rattle.pgs_base.specs.Graph.{Graph}
+use Rattle.pgs_base.specs.Order.{ascends, elem_cmp, tuple_cmp}
+use Rattle.pgs_base.specs.OrderLaws.{tuple_cmp_total, exact_elem, exact_tuple}
 use Rattle.pgs_syntax.specs.declared.key.Key.{Key}
 use Rattle.pgs_syntax.specs.declared.resolved.Resolved.{Resolved}
-use Rattle.pgs_syntax.specs.KeyValues.{starts_at, is_in_scope, scope_of, tuple_of, key_values}
+use Rattle.pgs_syntax.specs.KeyValues.{starts_at, is_in_scope, scope_of}
 use Rattle.pgs_syntax.specs.Least.{IsLeast}
 use Rattle.pgs_syntax.specs.Matches.{elements, are_there, is_match, same_elem}
-use Rattle.pgs_syntax.proofs.Assigned.{match_found, match_given, value_found, value_given}
+use Rattle.pgs_syntax.proofs.Assigned.{match_found, match_given}
 
 -- ---- members
 

@@ -5,8 +5,9 @@ use Rattle.std.proofs.lemmas.Bool.{and_parts}
 use Rattle.std.proofs.lemmas.Map.Text.{is_eq-slice_cmp}
 use Rattle.std.proofs.lemmas.Slice.Eq.{bytes_eq-Decides}
 use Rattle.pgs_base.specs.declared.value.Value.{Value}
+use Rattle.pgs_base.specs.Pair.{same_name, value_at}
 use Rattle.pgs_syntax.specs.declared.specification.Property.{Property}
-use Rattle.pgs_syntax.specs.Fitting.{same_name, value_at, is_named_by}
+use Rattle.pgs_syntax.specs.Fitting.{is_named_by}
 
 pub one_name : (a b : List ℕ) → same_name a b ≡ true → a ≡ b
 one_name a b same = (bytes_eq-Decides a b).0 (sym (is_eq-slice_cmp a b) ∙ same)

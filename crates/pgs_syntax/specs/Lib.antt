@@ -7,6 +7,7 @@ pub mod Least
 pub mod Linked
 pub mod Matches
 pub mod Meaning
+pub mod Numbered
 pub mod Samples
 pub mod Triples
 pub mod Typed

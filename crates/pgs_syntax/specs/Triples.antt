@@ -1,7 +1,8 @@
 -- What the join of triples is in other words, pair by pair.
 use Rattle.std.specs.Prelude.{◌≡◌, Bool, true, ◌&&◌, List, [], ◌∷◌}
+use Rattle.pgs_base.specs.Pair.{is_pair}
 use Rattle.pgs_syntax.specs.Join.{Triple, is_empty_pair}
-use Rattle.pgs_syntax.specs.Meaning.{is_pair, IsJoin}
+use Rattle.pgs_syntax.specs.Meaning.{IsJoin}
 
 -- whether each row of a triple is a pair
 abbrev pub is_triple : Triple → Bool

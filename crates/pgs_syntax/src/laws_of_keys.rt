@@ -3,8 +3,8 @@
 ghost use Rattle.std.specs.Prelude.{◌≡◌, ◌↔◌, true, List, Some, Contains};
 ghost use Rattle.pgs_base.specs.declared.element.Elem.{Elem};
 ghost use Rattle.pgs_base.specs.declared.part.Part.{Part};
-ghost use Rattle.pgs_base.specs.Graph.{Graph, ascends, is_graph};
-ghost use Rattle.pgs_base.specs.Order.{elem_cmp, tuple_cmp};
+ghost use Rattle.pgs_base.specs.Graph.{Graph, is_graph};
+ghost use Rattle.pgs_base.specs.Order.{ascends, elem_cmp, tuple_cmp};
 ghost use Rattle.pgs_syntax.specs.declared.key.Key.{Key};
 ghost use Rattle.pgs_syntax.specs.declared.resolved.Resolved.{Resolved};
 ghost use Rattle.pgs_syntax.specs.KeyValues.{starts_at, scope_of, tuple_of, key_values};

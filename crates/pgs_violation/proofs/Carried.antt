@@ -1,6 +1,6 @@
 -- What each violation in the list says, and that each that is so stands in it.
 use Rattle.std.proofs.Common.{◌≡◌, ℕ, Bool, true, false, cond, ⊎_elim, inl, inr, List, [], ◌∷◌, Option, Some, None, is_some, refl, sym, ◌∙◌, ap, subst, true≢false, arith, Ordering, Less, is_lt}
-use Rattle.std.specs.Prelude.{Contains, filter, find, option_map, option_and_then, if◌then◌else◌}
+use Rattle.std.specs.Prelude.{Contains, find, option_map, option_and_then, if◌then◌else◌}
 use Rattle.std.specs.BTreeMap.{is_at}
 use Rattle.std.specs.List.{list_any}
 use Rattle.std.proofs.lemmas.Bool.{and_parts}
@@ -9,8 +9,8 @@ use Rattle.pgs_base.specs.declared.element.NodeId.{NodeId}
 use Rattle.pgs_base.specs.declared.element.EdgeId.{EdgeId}
 use Rattle.pgs_base.specs.declared.element.Elem.{Elem}
 use Rattle.pgs_base.specs.declared.part.Part.{Part}
-use Rattle.pgs_base.specs.Graph.{Graph, ascends, is_graph}
-use Rattle.pgs_base.specs.Order.{elem_cmp, tuple_cmp}
+use Rattle.pgs_base.specs.Graph.{Graph, is_graph}
+use Rattle.pgs_base.specs.Order.{ascends, elem_cmp, tuple_cmp}
 use Rattle.pgs_base.specs.OrderLaws.{elem_cmp_total, tuple_cmp_total}
 use Rattle.pgs_base.proofs.Ascending.{ascends_decides}
 use Rattle.pgs_syntax.specs.declared.key.Key.{Key}
@@ -18,14 +18,14 @@ use Rattle.pgs_syntax.specs.declared.resolved.Resolved.{Resolved}
 use Rattle.pgs_syntax.specs.Join.{is_empty}
 use Rattle.pgs_syntax.specs.KeyValues.{scope_of, key_values}
 use Rattle.pgs_syntax.specs.Least.{IsLeast}
-use Rattle.pgs_syntax.specs.Typed.{node_typed, edge_is_typed}
+use Rattle.pgs_syntax.specs.Typed.{is_typed_node, is_typed_edge}
 use Rattle.pgs_syntax.proofs.InOrder.{scope_ascends, values_ascend}
 use Rattle.pgs_syntax.proofs.Members.{contains_first, contains_later, contains_cases, contains_none, kept_found, kept_given, first_given, is_less, all_above, never_itself, one_least, found_least, least_found, among, is_among}
 use Rattle.pgs_violation.specs.declared.violation.Violation.{Violation}
 use Rattle.pgs_violation.specs.declared.violation.Violation.TheVariants.{UntypedNode, UntypedEdge, Mandatory, Singleton, Exclusive}
 use Rattle.pgs_violation.specs.Meaning.{IsUntypedNode, IsUntypedEdge, IsKeyOf, LacksValue, IsLaterValue, HasTwoLeast, IsShared, IsLaterSharer, SharesLeast}
-use Rattle.pgs_violation.specs.Violations.{two_least, shared_tuple, later_than, sharing, with_shared_value, violations}
-use Rattle.pgs_violation.proofs.InOrder.{untyped_node_says, untyped_edge_says, without_value_says, two_least_says, first_says}
+use Rattle.pgs_violation.specs.Violations.{two_least, shared_tuple, later_than, sharing, exclusive_violation, violations}
+use Rattle.pgs_violation.proofs.InOrder.{untyped_node_says, untyped_edge_says, mandatory_violation_says, two_least_says, first_says}
 use Rattle.pgs_violation.proofs.Origins.{Origin, of_node, of_edge, missing, several, shared, origin, listed}
 
 -- ---- small steps
@@ -98,7 +98,7 @@ module _ (n : ℕ) (e : Elem) where
         cc,
         subst (IsLeast tuple_cmp (Contains (a ∷ b ∷ rest))) one (first_least a (b ∷ rest) order),
         subst (λ x. IsLeast tuple_cmp (After (a ∷ b ∷ rest) x) second) one
-        (subst (IsLeast tuple_cmp (After (a ∷ b ∷ rest) a)) other (second_least a b rest order)),
+            (subst (IsLeast tuple_cmp (After (a ∷ b ∷ rest) a)) other (second_least a b rest order)),
       )
 
   two_given : (tuples : List (List Part)) → ascends tuple_cmp tuples ≡ true → (first second : List Part) →
@@ -140,12 +140,12 @@ module _ (resolved : Resolved) (g : Graph) where
     where
       by : Origin resolved g (UntypedNode node) → IsUntypedNode resolved g node
       by (of_node own strict there gives) =
-          let facts = unless (node_typed resolved own.1) (UntypedNode own.0) (UntypedNode node) gives in
+          let facts = unless (is_typed_node resolved own.1) (UntypedNode own.0) (UntypedNode node) gives in
           let both = facts.1 in
           let same : own.0 ≡ node = cc in
           (own.1, strict, subst (λ id. Contains g.nodes (id, own.1)) same there, facts.0)
       by (of_edge own strict there gives) = let n = (untyped_edge_says resolved g own _ gives).1 in absurd (omega arith)
-      by (missing number key elem is asked there gives) = let n = (without_value_says number (key_values resolved g key) elem _ gives).1 in absurd (omega arith)
+      by (missing number key elem is asked there gives) = let n = (mandatory_violation_says number (key_values resolved g key) elem _ gives).1 in absurd (omega arith)
       by (several number key elem is asked there gives) = let n = (two_least_says number (key_values resolved g key) elem _ _ gives).1 in absurd (omega arith)
       by (shared number key elem is asked there gives) = let n = (first_says number (key_values resolved g key) elem _ _ gives).1 in absurd (omega arith)
 
@@ -158,12 +158,12 @@ module _ (resolved : Resolved) (g : Graph) where
     where
       by : Origin resolved g (UntypedEdge edge) → IsUntypedEdge resolved g edge
       by (of_edge own strict there gives) =
-          let facts = unless (edge_is_typed resolved g own.1) (UntypedEdge own.0) (UntypedEdge edge) gives in
+          let facts = unless (is_typed_edge resolved g own.1) (UntypedEdge own.0) (UntypedEdge edge) gives in
           let both = facts.1 in
           let same : own.0 ≡ edge = cc in
           (own.1, strict, subst (λ id. Contains g.edges (id, own.1)) same there, facts.0)
       by (of_node own strict there gives) = let n = (untyped_node_says resolved own _ gives).1 in absurd (omega arith)
-      by (missing number key elem is asked there gives) = let n = (without_value_says number (key_values resolved g key) elem _ gives).1 in absurd (omega arith)
+      by (missing number key elem is asked there gives) = let n = (mandatory_violation_says number (key_values resolved g key) elem _ gives).1 in absurd (omega arith)
       by (several number key elem is asked there gives) = let n = (two_least_says number (key_values resolved g key) elem _ _ gives).1 in absurd (omega arith)
       by (shared number key elem is asked there gives) = let n = (first_says number (key_values resolved g key) elem _ _ gives).1 in absurd (omega arith)
 
@@ -212,7 +212,7 @@ module _ (resolved : Resolved) (g : Graph) where
           )
       by (of_node own strict there gives) = let n = (untyped_node_says resolved own _ gives).1 in absurd (omega arith)
       by (of_edge own strict there gives) = let n = (untyped_edge_says resolved g own _ gives).1 in absurd (omega arith)
-      by (missing n key e is asked there gives) = let m = (without_value_says n (key_values resolved g key) e _ gives).1 in absurd (omega arith)
+      by (missing n key e is asked there gives) = let m = (mandatory_violation_says n (key_values resolved g key) e _ gives).1 in absurd (omega arith)
       by (shared n key e is asked there gives) = let m = (first_says n (key_values resolved g key) e _ _ gives).1 in absurd (omega arith)
 
   pub two_least_given : (number : ℕ) (elem : Elem) (first second : List Part) → HasTwoLeast resolved g number elem first second →
@@ -252,7 +252,7 @@ module _ (resolved : Resolved) (g : Graph) where
         kept None h = h
         kept (Some tuple) h = refl
 
-    sharing_found : (v : Violation) → with_shared_value n (scope_of resolved g key) values first ≡ Some v →
+    sharing_found : (v : Violation) → exclusive_violation n (scope_of resolved g key) values first ≡ Some v →
         (second : Elem) × (tuple : List Part) × (Exclusive n first second tuple ≡ v)
         × IsLeast elem_cmp (IsLaterSharer resolved g key first) second × IsLeast tuple_cmp (IsShared resolved g key first second) tuple
     sharing_found v gives =
@@ -266,7 +266,7 @@ module _ (resolved : Resolved) (g : Graph) where
         )
 
     sharing_given : (second : Elem) (tuple : List Part) → IsLeast elem_cmp (IsLaterSharer resolved g key first) second →
-        IsLeast tuple_cmp (IsShared resolved g key first second) tuple → with_shared_value n (scope_of resolved g key) values first ≡ Some (Exclusive n first second tuple)
+        IsLeast tuple_cmp (IsShared resolved g key first second) tuple → exclusive_violation n (scope_of resolved g key) values first ≡ Some (Exclusive n first second tuple)
     sharing_given second tuple least least_shared =
         first_given (sharing n values first) later
         ∙ ap (option_and_then (sharing n values first)) (least_found elem_cmp_total shares later second later_ascends (least_same second is_sharer sharer least))
@@ -289,14 +289,14 @@ module _ (resolved : Resolved) (g : Graph) where
               asked,
               subst (Contains (scope_of resolved g key)) firsts there,
               subst (λ x. IsLeast elem_cmp (IsLaterSharer resolved g key x) second) firsts
-              (subst (IsLeast elem_cmp (IsLaterSharer resolved g key e)) seconds facts.3),
+                  (subst (IsLeast elem_cmp (IsLaterSharer resolved g key e)) seconds facts.3),
               subst (λ x. IsLeast tuple_cmp (IsShared resolved g key x second) tuple) firsts
-              (subst (λ x. IsLeast tuple_cmp (IsShared resolved g key e x) tuple) seconds
-              (subst (IsLeast tuple_cmp (IsShared resolved g key e facts.0)) tuples facts.4)),
+                  (subst (λ x. IsLeast tuple_cmp (IsShared resolved g key e x) tuple) seconds
+                  (subst (IsLeast tuple_cmp (IsShared resolved g key e facts.0)) tuples facts.4)),
             )
         by (of_node own strict there gives) = let n = (untyped_node_says resolved own _ gives).1 in absurd (omega arith)
         by (of_edge own strict there gives) = let n = (untyped_edge_says resolved g own _ gives).1 in absurd (omega arith)
-        by (missing n key e is asked there gives) = let m = (without_value_says n (key_values resolved g key) e _ gives).1 in absurd (omega arith)
+        by (missing n key e is asked there gives) = let m = (mandatory_violation_says n (key_values resolved g key) e _ gives).1 in absurd (omega arith)
         by (several n key e is asked there gives) = let m = (two_least_says n (key_values resolved g key) e _ _ gives).1 in absurd (omega arith)
 
     pub sharers_given : SharesLeast resolved g number first second tuple → Contains (violations resolved g) (Exclusive number first second tuple)

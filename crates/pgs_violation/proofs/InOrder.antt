@@ -4,10 +4,8 @@ use Rattle.std.specs.Prelude.{filter_map, slice_get, option_map, if◌then◌els
 use Rattle.std.specs.Ordering.{nat_cmp, ordering_then}
 use Rattle.std.specs.Cmp.{tied_itself, nat_cmp_total, nat_cmp_is}
 use Rattle.std.specs.List.{list_all, AllByRecursion, cons_option}
-use Rattle.std.specs.Map.{keys_of}
 use Rattle.std.proofs.lemmas.Bool.{and_parts, and_from, cases_order}
 use Rattle.std.proofs.lemmas.List.Folds.{list_all-append}
-use Rattle.std.proofs.lemmas.List.Kept.{IsStrictlySortedBy-filter}
 use Rattle.pgs_base.specs.declared.element.NodeId.{NodeId}
 use Rattle.pgs_base.specs.declared.element.EdgeId.{EdgeId}
 use Rattle.pgs_base.specs.declared.element.Elem.{Elem}
@@ -15,19 +13,18 @@ use Rattle.pgs_base.specs.declared.element.Elem.TheVariants.{Node, Edge}
 use Rattle.pgs_base.specs.declared.part.Part.{Part}
 use Rattle.pgs_base.specs.declared.row.NodeRow.{NodeRow}
 use Rattle.pgs_base.specs.declared.row.EdgeRow.{EdgeRow}
-use Rattle.pgs_base.specs.Graph.{Graph, node_cmp, edge_cmp, ascends, is_graph}
-use Rattle.pgs_base.specs.Order.{elem_cmp}
-use Rattle.pgs_base.proofs.Ascending.{ascends_decides}
+use Rattle.pgs_base.specs.Graph.{Graph, is_graph}
+use Rattle.pgs_base.specs.Order.{elem_cmp, ascends}
 use Rattle.pgs_syntax.specs.declared.key.Key.{Key}
 use Rattle.pgs_syntax.specs.declared.resolved.Resolved.{Resolved}
 use Rattle.pgs_syntax.specs.Join.{is_empty}
-use Rattle.pgs_syntax.specs.KeyValues.{is_in_scope, scope_of, key_values}
-use Rattle.pgs_syntax.specs.Typed.{node_typed, edge_is_typed}
+use Rattle.pgs_syntax.specs.KeyValues.{scope_of, key_values}
+use Rattle.pgs_syntax.specs.Typed.{is_typed_node, is_typed_edge}
 use Rattle.pgs_syntax.proofs.InOrder.{nodes_ascend, edges_ascend, scope_ascends}
 use Rattle.pgs_violation.specs.declared.violation.Violation.{Violation}
 use Rattle.pgs_violation.specs.declared.violation.Violation.TheVariants.{UntypedNode, UntypedEdge, Mandatory, Singleton, Exclusive}
 use Rattle.pgs_violation.specs.Standing.{violation_cmp, key_of, number_of, elem_of, carried_cmp}
-use Rattle.pgs_violation.specs.Violations.{untyped_node, untyped_edge, without_value, two_least, with_two_values, shared_tuple, later_than, sharing, with_shared_value, where_asked, key_violations, keys_violations, violations}
+use Rattle.pgs_violation.specs.Violations.{untyped_node, untyped_edge, mandatory_violation, two_least, singleton_violation, shared_tuple, later_than, sharing, exclusive_violation, where_asked, key_violations, keys_violations, violations}
 
 -- ---- one number for the key and the number of a violation
 
@@ -170,14 +167,14 @@ when true u v e = cc
 when false u v e = cc
 
 pub untyped_node_says : (resolved : Resolved) (node : NodeId × NodeRow) (v : Violation) → untyped_node resolved node ≡ Some v → Says (Node node.0) 0 25 v
-untyped_node_says resolved node v e = subst (Says (Node node.0) 0 25) (unless (node_typed resolved node.1) (UntypedNode node.0) v e) (refl, refl, refl)
+untyped_node_says resolved node v e = subst (Says (Node node.0) 0 25) (unless (is_typed_node resolved node.1) (UntypedNode node.0) v e) (refl, refl, refl)
 
 pub untyped_edge_says : (resolved : Resolved) (g : Graph) (edge : EdgeId × EdgeRow) (v : Violation) → untyped_edge resolved g edge ≡ Some v → Says (Edge edge.0) 0 26 v
-untyped_edge_says resolved g edge v e = subst (Says (Edge edge.0) 0 26) (unless (edge_is_typed resolved g edge.1) (UntypedEdge edge.0) v e) (refl, refl, refl)
+untyped_edge_says resolved g edge v e = subst (Says (Edge edge.0) 0 26) (unless (is_typed_edge resolved g edge.1) (UntypedEdge edge.0) v e) (refl, refl, refl)
 
 module _ (key : ℕ) (values : Elem → List (List Part)) where
-  pub without_value_says : (elem : Elem) (v : Violation) → without_value key values elem ≡ Some v → Says elem key 27 v
-  without_value_says elem v e = subst (Says elem key 27) (when (is_empty (values elem)) (Mandatory key elem) v e) (refl, refl, refl)
+  pub mandatory_violation_says : (elem : Elem) (v : Violation) → mandatory_violation key values elem ≡ Some v → Says elem key 27 v
+  mandatory_violation_says elem v e = subst (Says elem key 27) (when (is_empty (values elem)) (Mandatory key elem) v e) (refl, refl, refl)
 
   pub two_least_says : (elem : Elem) (tuples : List (List Part)) (v : Violation) → two_least key elem tuples ≡ Some v → Says elem key 28 v
   two_least_says elem [] v e = cc
@@ -210,10 +207,10 @@ module _ (g : Graph) (graph : is_graph g ≡ true) (resolved : Resolved) where
       let values = key_values resolved g key in
       let ordered : ascends elem_cmp (map (λ (elem : Elem). elem) scope) ≡ true =
       subst (λ (xs : List Elem). ascends elem_cmp xs ≡ true) (sym (map-id scope)) (scope_ascends g graph resolved key) in
-      let missing = asked _ _ key.qualifiers.mandatory _ (found_run (λ elem. elem) (without_value number values) number 27 (without_value_says number values) scope ordered) in
-      let several = asked _ _ key.qualifiers.singleton _ (found_run (λ elem. elem) (with_two_values number values) number 28
+      let missing = asked _ _ key.qualifiers.mandatory _ (found_run (λ elem. elem) (mandatory_violation number values) number 27 (mandatory_violation_says number values) scope ordered) in
+      let several = asked _ _ key.qualifiers.singleton _ (found_run (λ elem. elem) (singleton_violation number values) number 28
       (λ elem v e. two_least_says number values elem (values elem) v e) scope ordered) in
-      let shared = asked _ _ key.qualifiers.exclusive _ (found_run (λ elem. elem) (with_shared_value number scope values) number 29
+      let shared = asked _ _ key.qualifiers.exclusive _ (found_run (λ elem. elem) (exclusive_violation number scope values) number 29
       (λ elem v e. first_says number values elem (later_than elem scope) v e) scope ordered) in
       append (number * 100 + 27) (number * 100 + 29) (number * 100 + 30) _ _ (omega arith) (omega arith)
       (append (number * 100 + 27) (number * 100 + 28) (number * 100 + 29) _ _ (omega arith) (omega arith)

@@ -1,35 +1,21 @@
 -- Where a violation in the list of a graph's violations comes from, and what it says.
-use Rattle.std.proofs.Common.{◌≡◌, ℕ, zero, suc, ◌+◌, Bool, true, false, cond, ⊎_elim, ◌⊎◌, inl, inr, List, [], ◌∷◌, ◌++◌, Option, Some, None, is_some, slice_get, refl, sym, ◌∙◌, ap, subst, true≢false, arith, Ordering, Less, is_lt}
-use Rattle.std.specs.Prelude.{Contains, filter, filter_map, find, option_map, option_and_then, if◌then◌else◌}
-use Rattle.std.specs.BTreeMap.{is_at}
-use Rattle.std.specs.List.{list_any}
-use Rattle.std.proofs.lemmas.Bool.{and_parts}
+use Rattle.std.proofs.Common.{◌≡◌, ℕ, zero, suc, ◌+◌, Bool, true, false, ⊎_elim, ◌⊎◌, inl, inr, List, [], ◌∷◌, ◌++◌, Some, slice_get, refl, sym, subst, arith}
+use Rattle.std.specs.Prelude.{Contains, filter_map}
 use Rattle.std.proofs.lemmas.List.Elements.{Contains-append_left, Contains-append_right, Contains-append_cases}
-use Rattle.std.proofs.lemmas.List.Kept.{IsStrictlySortedBy-filter}
 use Rattle.pgs_base.specs.declared.element.NodeId.{NodeId}
 use Rattle.pgs_base.specs.declared.element.EdgeId.{EdgeId}
 use Rattle.pgs_base.specs.declared.element.Elem.{Elem}
 use Rattle.pgs_base.specs.declared.part.Part.{Part}
 use Rattle.pgs_base.specs.declared.row.NodeRow.{NodeRow}
 use Rattle.pgs_base.specs.declared.row.EdgeRow.{EdgeRow}
-use Rattle.pgs_base.specs.Graph.{Graph, ascends, is_graph}
-use Rattle.pgs_base.specs.Order.{elem_cmp, tuple_cmp}
-use Rattle.pgs_base.specs.OrderLaws.{elem_cmp_total, tuple_cmp_total}
-use Rattle.pgs_base.proofs.Ascending.{ascends_decides}
+use Rattle.pgs_base.specs.Graph.{Graph}
 use Rattle.pgs_syntax.specs.declared.key.Key.{Key}
 use Rattle.pgs_syntax.specs.declared.resolved.Resolved.{Resolved}
-use Rattle.pgs_syntax.specs.Join.{is_empty}
 use Rattle.pgs_syntax.specs.KeyValues.{scope_of, key_values}
-use Rattle.pgs_syntax.specs.Least.{IsLeast}
-use Rattle.pgs_syntax.specs.Typed.{node_typed, edge_is_typed}
-use Rattle.pgs_syntax.proofs.InOrder.{scope_ascends, values_ascend}
-use Rattle.pgs_syntax.proofs.Members.{contains_first, contains_later, contains_cases, contains_none, kept_found, kept_given, given_found, given_given, first_given, is_less, all_above, never_itself, one_least, found_least, least_found, among, is_among}
+use Rattle.pgs_syntax.proofs.Members.{contains_none, given_found, given_given}
 use Rattle.pgs_violation.specs.declared.violation.Violation.{Violation}
-use Rattle.pgs_violation.specs.declared.violation.Violation.TheVariants.{UntypedNode, UntypedEdge, Mandatory, Singleton, Exclusive}
-use Rattle.pgs_violation.specs.Meaning.{IsUntypedNode, IsUntypedEdge, IsKeyOf, LacksValue, IsLaterValue, HasTwoLeast, IsShared, IsLaterSharer, SharesLeast}
-use Rattle.pgs_violation.specs.Standing.{number_of}
-use Rattle.pgs_violation.specs.Violations.{untyped_node, untyped_edge, without_value, two_least, with_two_values, shared_tuple, later_than, sharing, with_shared_value, where_asked, key_violations, keys_violations, violations}
-use Rattle.pgs_violation.proofs.InOrder.{untyped_node_says, untyped_edge_says, without_value_says, two_least_says, first_says}
+use Rattle.pgs_violation.specs.Meaning.{IsKeyOf}
+use Rattle.pgs_violation.specs.Violations.{untyped_node, untyped_edge, mandatory_violation, two_least, singleton_violation, exclusive_violation, where_asked, key_violations, keys_violations, violations}
 
 -- ---- the five sources of violations
 
@@ -47,11 +33,11 @@ module _ (resolved : Resolved) (g : Graph) where
     of_node : (node : NodeId × NodeRow) → resolved.guard.strict ≡ true → Contains g.nodes node → untyped_node resolved node ≡ Some v → Origin v
     of_edge : (edge : EdgeId × EdgeRow) → resolved.guard.strict ≡ true → Contains g.edges edge → untyped_edge resolved g edge ≡ Some v → Origin v
     missing : (number : ℕ) (key : Key) (elem : Elem) → IsKeyOf resolved number key → key.qualifiers.mandatory ≡ true → Contains (scope_of resolved g key) elem →
-        without_value number (key_values resolved g key) elem ≡ Some v → Origin v
+        mandatory_violation number (key_values resolved g key) elem ≡ Some v → Origin v
     several : (number : ℕ) (key : Key) (elem : Elem) → IsKeyOf resolved number key → key.qualifiers.singleton ≡ true → Contains (scope_of resolved g key) elem →
         two_least number elem (key_values resolved g key elem) ≡ Some v → Origin v
     shared : (number : ℕ) (key : Key) (elem : Elem) → IsKeyOf resolved number key → key.qualifiers.exclusive ≡ true → Contains (scope_of resolved g key) elem →
-        with_shared_value number (scope_of resolved g key) (key_values resolved g key) elem ≡ Some v → Origin v
+        exclusive_violation number (scope_of resolved g key) (key_values resolved g key) elem ≡ Some v → Origin v
 
   keys_found : (first : ℕ) (keys : List Key) (v : Violation) → Contains (keys_violations resolved g first keys) v →
       (place : ℕ) × (key : Key) × (slice_get keys place ≡ Some key) × Contains (key_violations resolved g (place + first) key) v
@@ -81,24 +67,24 @@ module _ (resolved : Resolved) (g : Graph) where
     values = key_values resolved g key
 
     abbrev of_mandatory : List Violation
-    of_mandatory = where_asked key.qualifiers.mandatory (filter_map (without_value number values) scope)
+    of_mandatory = where_asked key.qualifiers.mandatory (filter_map (mandatory_violation number values) scope)
 
     abbrev of_singleton : List Violation
-    of_singleton = where_asked key.qualifiers.singleton (filter_map (with_two_values number values) scope)
+    of_singleton = where_asked key.qualifiers.singleton (filter_map (singleton_violation number values) scope)
 
     abbrev of_exclusive : List Violation
-    of_exclusive = where_asked key.qualifiers.exclusive (filter_map (with_shared_value number scope values) scope)
+    of_exclusive = where_asked key.qualifiers.exclusive (filter_map (exclusive_violation number scope values) scope)
 
     key_origin : (v : Violation) → IsKeyOf resolved number key → Contains (key_violations resolved g number key) v → Origin v
     key_origin v is h =
         ⊎_elim (λ front. ⊎_elim
         (λ first. let asked = asked_found key.qualifiers.mandatory _ v first in
-        let found = given_found (without_value number values) scope v asked.1 in missing number key found.0 is asked.0 found.1 found.2)
+        let found = given_found (mandatory_violation number values) scope v asked.1 in missing number key found.0 is asked.0 found.1 found.2)
         (λ second. let asked = asked_found key.qualifiers.singleton _ v second in
-        let found = given_found (with_two_values number values) scope v asked.1 in several number key found.0 is asked.0 found.1 found.2)
+        let found = given_found (singleton_violation number values) scope v asked.1 in several number key found.0 is asked.0 found.1 found.2)
         (Contains-append_cases of_mandatory of_singleton v front))
         (λ last. let asked = asked_found key.qualifiers.exclusive _ v last in
-        let found = given_found (with_shared_value number scope values) scope v asked.1 in shared number key found.0 is asked.0 found.1 found.2)
+        let found = given_found (exclusive_violation number scope values) scope v asked.1 in shared number key found.0 is asked.0 found.1 found.2)
         (Contains-append_cases (of_mandatory ++ of_singleton) of_exclusive v h)
 
     key_listed : (v : Violation) → Contains (of_mandatory ++ of_singleton) v ⊎ Contains of_exclusive v → Contains (key_violations resolved g number key) v
@@ -142,10 +128,10 @@ module _ (resolved : Resolved) (g : Graph) where
       (Contains-append_right untyped_nodes untyped_edges v (given_given (untyped_edge resolved g) g.edges edge v there gives)))
   listed v (missing number key elem is asked there gives) =
       in_keys number key v is (key_listed number key v (inl (Contains-append_left (of_mandatory number key) (of_singleton number key) v
-      (asked_given key.qualifiers.mandatory _ v asked (given_given (without_value number (values number key)) (scope number key) elem v there gives)))))
+      (asked_given key.qualifiers.mandatory _ v asked (given_given (mandatory_violation number (values number key)) (scope number key) elem v there gives)))))
   listed v (several number key elem is asked there gives) =
       in_keys number key v is (key_listed number key v (inl (Contains-append_right (of_mandatory number key) (of_singleton number key) v
-      (asked_given key.qualifiers.singleton _ v asked (given_given (with_two_values number (values number key)) (scope number key) elem v there gives)))))
+      (asked_given key.qualifiers.singleton _ v asked (given_given (singleton_violation number (values number key)) (scope number key) elem v there gives)))))
   listed v (shared number key elem is asked there gives) =
       in_keys number key v is (key_listed number key v (inr
-      (asked_given key.qualifiers.exclusive _ v asked (given_given (with_shared_value number (scope number key) (values number key)) (scope number key) elem v there gives))))
+      (asked_given key.qualifiers.exclusive _ v asked (given_given (exclusive_violation number (scope number key) (values number key)) (scope number key) elem v there gives))))

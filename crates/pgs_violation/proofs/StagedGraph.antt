@@ -1,10 +1,9 @@
 -- The graph after a transaction on a graph is a graph.
-use Rattle.std.proofs.Common.{◌≡◌, ℕ, ◌+◌, Bool, true, false, cond, ◌||◌, ◌==◌, List, [], ◌∷◌, length, Option, Some, None, is_some, Result, Ok, Err, refl, sym, ◌∙◌, ap, subst, true≢false, not, Ordering, Less, Equal, Greater, is_lt, is_eq}
+use Rattle.std.proofs.Common.{◌≡◌, ℕ, ◌+◌, Bool, true, false, cond, ◌==◌, List, [], ◌∷◌, length, Option, Some, None, is_some, Result, Ok, Err, refl, sym, ◌∙◌, ap, subst, not, Ordering, Less, Equal, Greater, is_lt}
 use Rattle.std.specs.Prelude.{if◌then◌else◌, nat_lt, filter}
 use Rattle.std.specs.Ordering.{match_ordering}
 use Rattle.std.specs.Cmp.{IsTotalOrder, Equal-is, nat_cmp_total, on_total}
 use Rattle.std.specs.List.{list_all}
-use Rattle.std.specs.List.Sorted.{IsStrictlySortedBy}
 use Rattle.std.specs.Map.{keys_of, lookup, remove_entry}
 use Rattle.std.specs.BTreeMap.{is_at, insert_entry}
 use Rattle.std.proofs.lemmas.Bool.{and_parts, and_from, or_parts, eqb-false, not_from_false, not-true}
@@ -14,7 +13,9 @@ use Rattle.pgs_base.specs.declared.element.EdgeId.{EdgeId}
 use Rattle.pgs_base.specs.declared.limits.Limits.{Limits}
 use Rattle.pgs_base.specs.declared.row.NodeRow.{NodeRow}
 use Rattle.pgs_base.specs.declared.row.EdgeRow.{EdgeRow}
-use Rattle.pgs_base.specs.Graph.{Graph, node_cmp, edge_cmp, node_at, edge_at, with_node, with_edge, without_node, without_edge, is_end, ascends, has_ends, is_graph}
+use Rattle.pgs_base.specs.Graph.{Graph, node_cmp, edge_cmp, node_at, edge_at, with_node, with_edge, without_node, without_edge, is_end, has_ends, is_graph}
+use Rattle.pgs_base.specs.Order.{ascends}
+use Rattle.pgs_base.specs.Pair.{pair_of, put_value, take_value, put_name, take_name}
 use Rattle.pgs_base.proofs.Ascending.{ascends_decides, ascending-insert_entry, ascending-remove_entry}
 use Rattle.pgs_base.proofs.Lookups.{lookup-insert_entry, lookup-remove_key}
 use Rattle.pgs_graph.specs.declared.operation.Op.{Op}
@@ -22,7 +23,7 @@ use Rattle.pgs_graph.specs.declared.operation.Op.TheVariants.{AddNode, AddEdge, 
 use Rattle.pgs_graph.specs.declared.operation.Txn.{Txn}
 use Rattle.pgs_violation.specs.declared.structural.Cause.{Cause}
 use Rattle.pgs_violation.specs.declared.structural.Structural.{Structural}
-use Rattle.pgs_violation.specs.Staging.{◌>>=◌, StepFault, found_or, the_node, the_edge, is_small, put_node, put_edge, with_value, without_key, with_label, without_label, edges_at, detached, removed, added_node, added_edge, step, going_on, after_ops, within_limit, staged}
+use Rattle.pgs_violation.specs.Staging.{◌>>=◌, StepFault, found_or, node_or_fault, edge_or_fault, is_small, put_node, put_edge, edges_at, detached, lone_node_removed, added_edge, step, going_on, after_ops, within_limit, staged}
 
 -- ---- tests of all entries
 
@@ -225,27 +226,27 @@ same_graph g h r parts is e = let same : g ≡ h = cc in subst Parts same parts
 
 module _ (g h : Graph) (parts : Parts g) where
   -- a change of a node that is there, and of an edge that is there
-  node_changed : (id : NodeId) (new : NodeRow → NodeRow) → (the_node g id >>= λ row. put_node g id (new row)) ≡ Ok h → Parts h
+  node_changed : (id : NodeId) (new : NodeRow → NodeRow) → (node_or_fault g id >>= λ row. put_node g id (new row)) ≡ Ok h → Parts h
   node_changed id new e =
-      let there = bind_found (the_node g id) (λ row. put_node g id (new row)) h e in node_step g h parts id (new there.0) there.2
+      let there = bind_found (node_or_fault g id) (λ row. put_node g id (new row)) h e in node_step g h parts id (new there.0) there.2
 
   edge_changed : (id : EdgeId) (new : EdgeRow → EdgeRow) → ((row : EdgeRow) → has_ends g (new row) ≡ has_ends g row) →
-      (the_edge g id >>= λ row. put_edge g id (new row)) ≡ Ok h → Parts h
+      (edge_or_fault g id >>= λ row. put_edge g id (new row)) ≡ Ok h → Parts h
   edge_changed id new same e =
-      let there = bind_found (the_edge g id) (λ row. put_edge g id (new row)) h e in
+      let there = bind_found (edge_or_fault g id) (λ row. put_edge g id (new row)) h e in
       let row = row_found _ (edge_at g id) there.0 there.1 in
       edge_step g h parts id (new there.0) (same there.0 ∙ row_passes (has_ends g) (is_at (edge_cmp id)) g.edges there.0 parts.ends row) there.2
 
   edge_added : (id : EdgeId) (row : EdgeRow) → added_edge g id row ≡ Ok h → Parts h
   edge_added id row e =
       let rest = unless_found (is_some (edge_at g id)) _ _ h e in
-      let source = bind_found (the_node g row.source) (λ _. the_node g row.target >>= λ _. put_edge g id row) h rest in
-      let target = bind_found (the_node g row.target) (λ _. put_edge g id row) h source.2 in
+      let source = bind_found (node_or_fault g row.source) (λ _. node_or_fault g row.target >>= λ _. put_edge g id row) h rest in
+      let target = bind_found (node_or_fault g row.target) (λ _. put_edge g id row) h source.2 in
       let first = row_found _ (node_at g row.source) source.0 source.1 in
       let second = row_found _ (node_at g row.target) target.0 target.1 in
       edge_step g h parts id row (and_from _ _ (ap is_some first) (ap is_some second)) target.2
 
-  node_removed : (id : NodeId) (edges : List (EdgeId × EdgeRow)) → edges_at g id ≡ edges → removed g id edges ≡ Ok h → Parts h
+  node_removed : (id : NodeId) (edges : List (EdgeId × EdgeRow)) → edges_at g id ≡ edges → lone_node_removed g id edges ≡ Ok h → Parts h
   node_removed id [] none e =
       same_graph (without_node g id) h _
       (node_taken g id g.edges parts parts.edges parts.ends (none_pass (λ (edge : EdgeId × EdgeRow). is_end id edge.1) g.edges none)) refl e
@@ -258,22 +259,22 @@ module _ (g h : Graph) (parts : Parts g) where
       (all_kept (λ (edge : EdgeId × EdgeRow). has_ends g edge.1) away g.edges parts.ends) (all_pass away g.edges)
 
   step_kept : (op : Op) → step g op ≡ Ok h → Parts h
-  step_kept (AddNode id labels props) e = node_step g h parts id (record { labels = labels; props = props }) (unless_found (is_some (node_at g id)) _ _ h e)
+  step_kept (AddNode id labels props) e = node_step g h parts id (pair_of labels props) (unless_found (is_some (node_at g id)) _ _ h e)
   step_kept (AddEdge id source target labels props) e = edge_added id (record { source = source; target = target; labels = labels; props = props }) e
   step_kept (RemoveNode id) e =
-      let there = bind_found (the_node g id) (λ _. removed g id (edges_at g id)) h e in node_removed id (edges_at g id) refl there.2
+      let there = bind_found (node_or_fault g id) (λ _. lone_node_removed g id (edges_at g id)) h e in node_removed id (edges_at g id) refl there.2
   step_kept (DetachNode id) e =
-      let there = bind_found (the_node g id) (λ _. Ok (detached g id)) h e in same_graph (detached g id) h _ (node_detached id) refl there.2
+      let there = bind_found (node_or_fault g id) (λ _. Ok (detached g id)) h e in same_graph (detached g id) h _ (node_detached id) refl there.2
   step_kept (RemoveEdge id) e =
-      let there = bind_found (the_edge g id) (λ _. Ok (without_edge g id)) h e in same_graph (without_edge g id) h _ (edge_taken g id parts) refl there.2
-  step_kept (SetNode id key value) e = node_changed id (λ row. record row { props = with_value row.props key value }) e
-  step_kept (UnsetNode id key) e = node_changed id (λ row. record row { props = without_key row.props key }) e
-  step_kept (LabelNode id label) e = node_changed id (λ row. record row { labels = with_label row.labels label }) e
-  step_kept (UnlabelNode id label) e = node_changed id (λ row. record row { labels = without_label row.labels label }) e
-  step_kept (SetEdge id key value) e = edge_changed id (λ row. record row { props = with_value row.props key value }) (λ row. refl) e
-  step_kept (UnsetEdge id key) e = edge_changed id (λ row. record row { props = without_key row.props key }) (λ row. refl) e
-  step_kept (LabelEdge id label) e = edge_changed id (λ row. record row { labels = with_label row.labels label }) (λ row. refl) e
-  step_kept (UnlabelEdge id label) e = edge_changed id (λ row. record row { labels = without_label row.labels label }) (λ row. refl) e
+      let there = bind_found (edge_or_fault g id) (λ _. Ok (without_edge g id)) h e in same_graph (without_edge g id) h _ (edge_taken g id parts) refl there.2
+  step_kept (SetNode id key value) e = node_changed id (λ row. record row { props = put_value row.props key value }) e
+  step_kept (UnsetNode id key) e = node_changed id (λ row. record row { props = take_value row.props key }) e
+  step_kept (LabelNode id label) e = node_changed id (λ row. record row { labels = put_name row.labels label }) e
+  step_kept (UnlabelNode id label) e = node_changed id (λ row. record row { labels = take_name row.labels label }) e
+  step_kept (SetEdge id key value) e = edge_changed id (λ row. record row { props = put_value row.props key value }) (λ row. refl) e
+  step_kept (UnsetEdge id key) e = edge_changed id (λ row. record row { props = take_value row.props key }) (λ row. refl) e
+  step_kept (LabelEdge id label) e = edge_changed id (λ row. record row { labels = put_name row.labels label }) (λ row. refl) e
+  step_kept (UnlabelEdge id label) e = edge_changed id (λ row. record row { labels = take_name row.labels label }) (λ row. refl) e
 
 going_found : (place : ℕ) (r : Result Graph StepFault) (rest : Graph → Result Graph Structural) (h : Graph) → going_on place r rest ≡ Ok h →
     (next : Graph) × (r ≡ Ok next) × (rest next ≡ Ok h)

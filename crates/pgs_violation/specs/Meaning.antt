@@ -13,16 +13,16 @@ use Rattle.pgs_syntax.specs.declared.key.Key.{Key}
 use Rattle.pgs_syntax.specs.declared.resolved.Resolved.{Resolved}
 use Rattle.pgs_syntax.specs.KeyValues.{scope_of, key_values}
 use Rattle.pgs_syntax.specs.Least.{IsLeast}
-use Rattle.pgs_syntax.specs.Typed.{node_typed, edge_is_typed}
+use Rattle.pgs_syntax.specs.Typed.{is_typed_node, is_typed_edge}
 
 -- 25: the guard is strict, and the node is there and isn't typed; 26: the same of an edge
 abbrev pub IsUntypedNode : Resolved → Graph → NodeId → Type 0
 IsUntypedNode resolved g node = (row : NodeRow) × (resolved.guard.strict ≡ true) × Contains g.nodes (node, row)
-    × (node_typed resolved row ≡ false)
+    × (is_typed_node resolved row ≡ false)
 
 abbrev pub IsUntypedEdge : Resolved → Graph → EdgeId → Type 0
 IsUntypedEdge resolved g edge = (row : EdgeRow) × (resolved.guard.strict ≡ true) × Contains g.edges (edge, row)
-    × (edge_is_typed resolved g row ≡ false)
+    × (is_typed_edge resolved g row ≡ false)
 
 -- the key of a number: keys are numbered from 1
 abbrev pub IsKeyOf : Resolved → ℕ → Key → Type 0

@@ -35,7 +35,8 @@ not_less e = true≢false (ap is_lt e)
 not_greater : Greater ≡ Equal → ⊥
 not_greater e = true≢false (ap is_gt e)
 
-same_number : (a b : Violation) → nat_cmp (number_of a) (number_of b) ≡ Equal → slice_cmp tuple_cmp (carried a) (carried b) ≡ carried_cmp a b
+same_number : (a b : Violation) → nat_cmp (number_of a) (number_of b) ≡ Equal →
+    slice_cmp tuple_cmp (carried a) (carried b) ≡ carried_cmp a b
 same_number (Singleton key elem first second) (Singleton other_key other_elem other_first other_second) e =
     ap (ordering_then (tuple_cmp first other_first)) (then_Equal (tuple_cmp second other_second))
 same_number (Exclusive key first second tuple) (Exclusive other_key other_first other_second other_tuple) e =
@@ -57,12 +58,15 @@ settled Equal Greater e c d h = refl
 settled Equal Equal e c d h = ap (ordering_then e) (h refl)
 
 full_cmp_same : (a b : Violation) → full_cmp a b ≡ violation_cmp a b
-full_cmp_same a b = settled (nat_cmp (key_of a) (key_of b)) (nat_cmp (number_of a) (number_of b)) (elem_cmp (elem_of a) (elem_of b)) _ _ (same_number a b)
+full_cmp_same a b =
+    settled (nat_cmp (key_of a) (key_of b)) (nat_cmp (number_of a) (number_of b)) (elem_cmp (elem_of a) (elem_of b)) _ _
+    (same_number a b)
 
 pub violation_cmp_total : IsTotalOrder violation_cmp
 violation_cmp_total =
     subst IsTotalOrder (λ i a b. full_cmp_same a b i)
-    (then_total (then_total (then_total (on_total key_of nat_cmp_total) (on_total number_of nat_cmp_total)) (on_total elem_of elem_cmp_total))
+    (then_total (then_total (then_total (on_total key_of nat_cmp_total) (on_total number_of nat_cmp_total))
+    (on_total elem_of elem_cmp_total))
     (on_total carried (lists_total tuple_cmp_total)))
 
 -- ---- violations that compare `Equal` are equal
