@@ -15,7 +15,7 @@ cause_on before mid now stops.PutFault same cause = rw (sym same) cause
 cause_on before mid now stops.Memory same cause = cause ∙ same
 
 -- no read fails where nothing is read
-no_rise : (n : ℕ) → Rose n n → n ≡ 0 → ⊥
+pub no_rise : (n : ℕ) → Rose n n → n ≡ 0 → ⊥
 no_rise n rose is = let h : min (n + 1) (2 ^ 64 - 1) ≤ n = rose in absurd (omega arith)
 
 -- the same faults of a world

@@ -5,3 +5,5 @@ pub mod Input
 pub mod Machine
 pub mod May
 pub mod Pieces
+pub mod Reading
+pub mod Run

@@ -4,6 +4,8 @@
 mod driving;
 mod line_buffer;
 mod lines;
+mod reading;
+mod run;
 mod stop;
 mod taker;
 
