@@ -1,3 +1,4 @@
+pub mod AreasPut
 pub mod Begun
 pub mod Budget
 pub mod Causes

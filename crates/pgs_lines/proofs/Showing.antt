@@ -1,8 +1,9 @@
 -- What an output shows when more is put.
-use Rattle.std.proofs.Common.{◌≡◌, ℕ, List, [], ◌∷◌, ◌++◌, Option, Some, None, refl, sym, ap, subst, ◌∙◌, append_assoc}
+use Rattle.std.proofs.Common.{◌≡◌, ℕ, ◌+◌, ◌<◌, List, [], ◌∷◌, ◌++◌, length, take, drop, get_or, Option, Some, None, refl, sym, ap, subst, ◌∙◌, append_assoc, add-one}
+use Rattle.std.proofs.Math.Seq.{drop-cons, take-suc}
 use Rattle.std.specs.Option.{option_map}
 use Rattle.std.specs.List.{concat}
-use Rattle.std.proofs.lemmas.List.{append-nil}
+use Rattle.std.proofs.lemmas.List.{append-nil, take-append-drop}
 use Rattle.std.proofs.lemmas.List.Folds.{concat-append}
 use Rattle.pgs_world.specs.World.{Adds, AddsFront}
 use Rattle.pgs_lines.specs.declared.stop.Stop.{Stop}
@@ -98,3 +99,21 @@ ends_on stops.ReadFault start mid now xs told p q = first_on start mid now xs to
 ends_on stops.PutFault start mid now xs told p q = torn_on start mid now xs told.pieces p q
 ends_on stops.AreaFault start mid now xs told p q = first_on start mid now xs told.pieces p q
 ends_on stops.Memory start mid now xs told p q = first_on start mid now xs told.pieces p q
+
+parts_at : (pieces : List (List ℕ)) (place : ℕ) (d : List ℕ) → place < length pieces → pieces ≡ (take place pieces ++ get_or pieces place d ∷ []) ++ drop (place + 1) pieces
+parts_at pieces place d within =
+    sym (take-append-drop place pieces) ∙ ap (λ rest. take place pieces ++ rest) (drop-cons pieces place d within ∙ rw add-one refl)
+    ∙ sym (append_assoc (take place pieces) (get_or pieces place d ∷ []) (drop (place + 1) pieces))
+
+-- one more of these pieces was put
+pub pieces_on : (start mid now : Shown) (pieces : List (List ℕ)) (place : ℕ) (d : List ℕ) → place < length pieces → ShowsAll start (take place pieces) mid → ShowsAll mid (get_or pieces place d ∷ []) now → ShowsAll start (take (place + 1) pieces) now
+pieces_on start mid now pieces place d within p q =
+    let e : take (place + 1) pieces ≡ take place pieces ++ get_or pieces place d ∷ [] = rw add-one (take-suc pieces place d within) in
+    subst (λ front. ShowsAll start front now) (sym e) (shows_on start mid now (take place pieces) (get_or pieces place d ∷ []) p q)
+
+-- or its put failed
+pub pieces_stop : {E : Type 0} (start mid now : Shown) (pieces : List (List ℕ)) (place : ℕ) (d : List ℕ) (stop : Stop E) → place < length pieces → stop ≡ stops.PutFault → ShowsAll start (take place pieces) mid → Shows mid (get_or pieces place d ∷ []) stop now → Shows start pieces stop now
+pieces_stop start mid now pieces place d stop within is p q =
+    let torn : ShowsTorn mid (get_or pieces place d ∷ []) now = subst (λ s. Shows mid (get_or pieces place d ∷ []) s now) is q in
+    let on : ShowsTorn start pieces now = subst (λ all. ShowsTorn start all now) (sym (parts_at pieces place d within)) (torn_of_more start now (take place pieces ++ get_or pieces place d ∷ []) (drop (place + 1) pieces) (torn_on start mid now (take place pieces) (get_or pieces place d ∷ []) p torn)) in
+    subst (λ s. Shows start pieces s now) (sym is) on

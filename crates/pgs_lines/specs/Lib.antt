@@ -1,3 +1,5 @@
+pub mod Areas
+pub mod AreasKept
 pub mod Buffer
 pub mod Driving
 pub mod Ending
