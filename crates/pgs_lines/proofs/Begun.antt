@@ -1,5 +1,5 @@
 -- The front of a line that comes in parts.
-use Rattle.std.proofs.Common.{◌≡◌, true, ℕ, List, [], ◌++◌, refl, sym, ap, subst, ◌∙◌}
+use Rattle.std.proofs.Common.{◌≡◌, true, ℕ, List, [], ◌++◌, refl, sym, ap, ◌∙◌}
 use Rattle.pgs_lines.specs.Buffer.{Kept, IsBegun}
 use Rattle.pgs_lines.specs.Input.{Lines, has_no_feed, front_of, kept_of}
 use Rattle.pgs_lines.proofs.Cutting.{kept_begun, no_feed_kept}

@@ -1,10 +1,10 @@
 -- Causes of stops, one call after another.
-use Rattle.std.proofs.Common.{◌≡◌, ℕ, ◌+◌, ◌-◌, ◌≤◌, ◌^◌, min, Result, Ok, Err, refl, sym, ap, ◌∙◌, arith}
+use Rattle.std.proofs.Common.{◌≡◌, ℕ, ◌+◌, ◌-◌, ◌≤◌, ◌^◌, min, refl, sym, ap, ◌∙◌, arith}
 use Rattle.pgs_world.specs.Count.{Rose}
 use Rattle.pgs_world.specs.World.{View}
 use Rattle.pgs_lines.specs.declared.stop.Stop.{Stop}
 use Rattle.pgs_lines.specs.declared.stop.Stop.TheVariants as stops
-use Rattle.pgs_lines.specs.Ending.{Faults, faults_of, HasCause, HasAnyCause}
+use Rattle.pgs_lines.specs.Ending.{Faults, faults_of, HasCause}
 
 -- the counts were as before, and then a stop raised one or none
 pub cause_on : {E : Type 0} (before mid now : Faults) (stop : Stop E) → mid ≡ before → HasCause mid now stop → HasCause before now stop

@@ -1,5 +1,5 @@
 -- How a text's lines grow when more of the text comes.
-use Rattle.std.proofs.Common.{◌≡◌, ℕ, zero, suc, ◌≤◌, Bool, true, false, ◌==◌, ◌&&◌, List, [], ◌∷◌, ◌++◌, length, take, map, ◌+◌, refl, sym, ap, ◌∙◌, append_assoc, arith}
+use Rattle.std.proofs.Common.{◌≡◌, ℕ, zero, suc, ◌≤◌, Bool, true, false, ◌==◌, List, [], ◌∷◌, ◌++◌, length, take, map, ◌+◌, refl, sym, ap, ◌∙◌, append_assoc, arith}
 use Rattle.std.proofs.lemmas.List.{map-append}
 use Rattle.pgs_lines.proofs.Fronts.{front_left, front_none}
 use Rattle.pgs_lines.specs.Input.{Lines, with_byte, with_front, lines_of, has_no_feed, front_of, fronts_of, kept_of}

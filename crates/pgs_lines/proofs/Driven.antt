@@ -1,16 +1,16 @@
 -- How the takings of lines compose.
-use Rattle.std.proofs.Common.{◌≡◌, ℕ, ◌+◌, ◌-◌, ◌≤◌, true, List, [], ◌∷◌, ◌++◌, length, None, Result, Ok, Err, refl, sym, ap, subst, ◌∙◌, append_assoc, length-append, arith}
+use Rattle.std.proofs.Common.{◌≡◌, ℕ, ◌+◌, ◌-◌, ◌≤◌, true, List, [], ◌∷◌, ◌++◌, length, None, refl, sym, ap, subst, ◌∙◌, append_assoc, length-append, arith}
 use Rattle.std.proofs.lemmas.List.{append-nil}
 use Rattle.pgs_world.specs.Moment.{IsTimed}
 use Rattle.pgs_world.specs.World.{View}
 use Rattle.pgs_lines.specs.declared.stop.Stop.{Stop}
 use Rattle.pgs_lines.specs.declared.stop.Stop.TheVariants as stops
-use Rattle.pgs_lines.specs.Driving.{IsEndAt, LineLeads, LineShows, Runs, StopsAt, TakesTo, RunsSoFar}
+use Rattle.pgs_lines.specs.Driving.{IsEndAt, Runs, StopsAt, RunsSoFar}
 use Rattle.pgs_lines.specs.Ending.{Shows}
 use Rattle.pgs_lines.specs.Input.{Lines, kept_of, front_of, has_no_feed}
 use Rattle.pgs_lines.specs.Machine.{Standing, Going, Ended, Machine, Rule, HasRoomFor, after_line, pieces_of_line, after_lines, pieces_of_lines}
-use Rattle.pgs_lines.specs.Pieces.{Shown, shown_of, ShowsAll}
-use Rattle.pgs_lines.proofs.Cutting.{followed, kept_begun, kept_ended, kept_more, kept_goes_on}
+use Rattle.pgs_lines.specs.Pieces.{shown_of, ShowsAll}
+use Rattle.pgs_lines.proofs.Cutting.{followed, kept_begun, kept_more, kept_goes_on}
 use Rattle.pgs_lines.proofs.Showing.{shows_none, shows_on, stop_on}
 
 -- ---- lines

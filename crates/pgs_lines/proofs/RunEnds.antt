@@ -1,5 +1,5 @@
 -- What a run shows of its input, by how the reading ended.
-use Rattle.std.proofs.Common.{◌≡◌, ◌⊎◌, inl, inr, ℕ, ◌+◌, ◌-◌, ◌<◌, ◌≤◌, List, [], ◌∷◌, ◌++◌, length, Option, Some, None, Result, Ok, Err, refl, sym, ap, subst, ◌∙◌, length-append, arith}
+use Rattle.std.proofs.Common.{◌≡◌, inl, inr, ℕ, ◌+◌, ◌-◌, ◌≤◌, List, [], ◌∷◌, ◌++◌, length, Option, Some, None, Result, Ok, Err, refl, sym, ap, subst, ◌∙◌, length-append, arith}
 use Rattle.std.proofs.lemmas.List.{append-nil}
 use Rattle.pgs_world.specs.Moment.{IsTimed}
 use Rattle.pgs_world.specs.Source.{Takes, IsAtEnd}
@@ -11,14 +11,14 @@ use Rattle.pgs_lines.specs.declared.stop.Stop.TheVariants as stops
 use Rattle.pgs_lines.specs.Driving.{Runs, StopsAt}
 use Rattle.pgs_lines.specs.Ending.{Ends, faults_of, HasCause}
 use Rattle.pgs_lines.specs.Input.{kept_of}
-use Rattle.pgs_lines.specs.Machine.{Standing, Going, Ended, Machine, Rule, Told, after_line, after_lines, pieces_of_lines, told_at_end, status_at_cut, told_whole, told_cut, told_by}
+use Rattle.pgs_lines.specs.Machine.{Standing, Going, Ended, Machine, Rule, Told, after_lines, pieces_of_lines, told_at_end, status_at_cut, told_cut, told_by}
 use Rattle.pgs_lines.specs.Pieces.{Shown, shown_of, ShowsAll}
-use Rattle.pgs_lines.specs.Reading.{StopsIn, EndsAt, Reads}
+use Rattle.pgs_lines.specs.Reading.{StopsIn, Reads}
 use Rattle.pgs_lines.specs.Run.{EndsAs, EndsAtLine, EndsBy, Allows}
-use Rattle.pgs_lines.proofs.Budget.{TellsOn, ended_with, by_whole, by_cut, tells_on, ended_by}
+use Rattle.pgs_lines.proofs.Budget.{by_whole, by_cut, tells_on, ended_by}
 use Rattle.pgs_lines.proofs.Causes.{no_rise}
 use Rattle.pgs_lines.proofs.ReadingOn.{none_taken}
-use Rattle.pgs_lines.proofs.Showing.{shows_none, first_of_more, torn_of_more, all_first, ends_on}
+use Rattle.pgs_lines.proofs.Showing.{shows_none, first_of_more, torn_of_more, ends_on}
 
 -- ---- the source
 

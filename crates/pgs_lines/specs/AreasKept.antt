@@ -1,5 +1,5 @@
 -- What a call leaves of both areas, and that one call after another leaves it so.
-use Rattle.std.proofs.Common.{◌≡◌, ⊎_elim, ℕ, IsTrue, refl, ◌∙◌}
+use Rattle.std.proofs.Common.{◌≡◌, ⊎_elim, IsTrue, refl, ◌∙◌}
 use Rattle.pgs_world.specs.Moment.{IsTimed, Passes}
 use Rattle.pgs_world.specs.World.{Triple, View}
 use Rattle.pgs_world.proofs.Moments.{passes_none, passes_on}

@@ -1,5 +1,5 @@
 -- Where a machine stands inside its input, and how it is stopped there.
-use Rattle.std.specs.Prelude.{◌≡◌, true, ℕ, List, ◌++◌, Option, None, Result, Ok, Err}
+use Rattle.std.specs.Prelude.{◌≡◌, ℕ, List, ◌++◌, None, Result, Ok, Err}
 use Rattle.pgs_world.specs.World.{View}
 use Rattle.pgs_lines.specs.declared.stop.Stop.{Stop}
 use Rattle.pgs_lines.specs.declared.stop.Stop.TheVariants as stops

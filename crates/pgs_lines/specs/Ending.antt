@@ -1,5 +1,5 @@
 -- How a run ends: what the world shows, and the causes of its faults.
-use Rattle.std.specs.Prelude.{◌≡◌, ◌⊎◌, ℕ, List, Result, Ok, Err}
+use Rattle.std.specs.Prelude.{◌≡◌, ℕ, List, Result, Ok, Err}
 use Rattle.pgs_world.specs.Count.{Rose}
 use Rattle.pgs_world.specs.World.{View}
 use Rattle.pgs_lines.specs.declared.stop.Stop.{Stop}

@@ -82,12 +82,7 @@ impl LineTaker for Counting {
         Ok(())
     }
 
-    fn end_input<W: World>(
-        &mut self,
-        alloc: Global,
-        world: &mut W,
-        rest: &[u8],
-    ) -> Stop<CountEnd> {
+    fn end_input<W: World>(&mut self, alloc: Global, world: &mut W, rest: &[u8]) -> Stop<CountEnd> {
         let pieces = match last_pieces(alloc, self.lines, rest) {
             Ok(pieces) => pieces,
             Err(_) => return Stop::Memory,

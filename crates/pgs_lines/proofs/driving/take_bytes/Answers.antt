@@ -1,6 +1,6 @@
 use Rattle.std.proofs.Common.{rules, arith, ◌≡◌, ◌+◌, ◌++◌, length, take, true, sym, ap, subst, ◌∙◌}
 use Rattle.std.proofs.lemmas.Grind.{common_steps}
-use Rattle.pgs_lines.specs.Driving.{Runs, RunsSoFar}
+use Rattle.pgs_lines.specs.Driving.{Runs}
 use Rattle.pgs_lines.specs.Input.{has_no_feed, front_of}
 use Rattle.pgs_lines.proofs.Begun.{begun_more, kept_alone}
 use Rattle.pgs_lines.proofs.LineEnd.{none_left}

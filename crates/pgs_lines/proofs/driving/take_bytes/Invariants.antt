@@ -1,4 +1,4 @@
-use Rattle.std.proofs.Common.{◌≡◌, ◌≤◌, ◌+◌, ℕ, length}
+use Rattle.std.proofs.Common.{◌≡◌, ◌+◌, ℕ, length}
 use Rattle.pgs_lines.specs.Buffer.{IsBegun}
 use Rattle.pgs_lines.specs.Driving.{RunsSoFar}
 use Rattle.pgs_lines.specs.Ending.{faults_of}

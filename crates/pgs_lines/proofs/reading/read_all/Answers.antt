@@ -1,10 +1,10 @@
-use Rattle.std.proofs.Common.{rules, arith, ap, ◌≡◌, ◌∙◌, sym, take, List, ℕ, []}
+use Rattle.std.proofs.Common.{rules, arith, ap, ◌∙◌, sym, take, List, ℕ, []}
 use Rattle.std.proofs.lemmas.Grind.{common_steps}
 use Rattle.pgs_lines.specs.Input.{Lines}
 use Rattle.pgs_lines.proofs.Begun.{begun_none}
 use Rattle.pgs_lines.proofs.Cutting.{kept_nothing}
 use Rattle.pgs_lines.proofs.Driven.{runs_none, takes_in, stops_in}
-use Rattle.pgs_lines.proofs.ReadingOn.{read_none, read_on, read_stops, room_read, room_chunk}
+use Rattle.pgs_lines.proofs.ReadingOn.{read_none, read_on, read_stops, room_read}
 use Rattle.pgs_lines.proofs.reading.read_all.Goals as goal
 
 pub loop-left-init : goal.loop-left-init
