@@ -1,4 +1,6 @@
-use crate::{LexFault, TokenKind, lex};
+//! The tokens of texts.
+
+use pgs_lexer::{LexFault, Token, TokenKind, Tokens, lex};
 use std::alloc::{AllocError, Global};
 use std::test::Fail;
 
@@ -12,6 +14,27 @@ fn letter(kind: TokenKind) -> &'static str {
     }
 }
 
+fn put(out: &mut Vec<u8>, token: Token<'_>) -> Result<(), AllocError> {
+    out.extend_from_slice(letter(token.kind).as_bytes())?;
+    out.extend_from_slice(token.slice)?;
+    out.extend_from_slice(b" ".as_slice())
+}
+
+fn put_all(out: &mut Vec<u8>, tokens: &Tokens<'_>) -> Result<(), AllocError> {
+    for place in 0..tokens.len() {
+        if let Some(token) = tokens.at(place) {
+            put(out, token)?;
+        }
+    }
+    Ok(())
+}
+
+fn put_line(alloc: Global, out: &mut Vec<u8>, line: u64) -> Result<(), AllocError> {
+    let digits = line.to_string(alloc)?;
+    out.extend_from_slice(b"line ".as_slice())?;
+    out.extend_from_slice(digits.as_bytes())
+}
+
 // Each token as the letter of its kind and its bytes, with a space after it, or the line of the bad byte.
 fn shown(alloc: Global, text: &[u8]) -> Result<Vec<u8>, AllocError> {
     let mut out = Vec::new(alloc);
@@ -19,23 +42,11 @@ fn shown(alloc: Global, text: &[u8]) -> Result<Vec<u8>, AllocError> {
         return Ok(out);
     }
     match lex(alloc, text) {
-        Err(LexFault::Memory) => Err(AllocError),
-        Err(LexFault::Lex { line }) => {
-            let told = format!(in alloc; "line {line}")?;
-            out.extend_from_slice(told.as_bytes())?;
-            Ok(out)
-        }
-        Ok(tokens) => {
-            for place in 0..tokens.len() {
-                if let Some(token) = tokens.at(place) {
-                    out.extend_from_slice(letter(token.kind).as_bytes())?;
-                    out.extend_from_slice(token.slice)?;
-                    out.extend_from_slice(b" ".as_slice())?;
-                }
-            }
-            Ok(out)
-        }
+        Err(LexFault::Memory) => return Err(AllocError),
+        Err(LexFault::Lex { line }) => put_line(alloc, &mut out, line)?,
+        Ok(tokens) => put_all(&mut out, &tokens)?,
     }
+    Ok(out)
 }
 
 // Written by hand from the forms of items.
@@ -134,14 +145,18 @@ fn items(rt: HostRuntime) -> Result<(), Fail> {
     Ok(())
 }
 
+// How many tokens a text of two has, where the second is, and whether there is a third.
+fn counted(alloc: Global) -> Result<(usize, Option<(usize, usize)>, bool), LexFault> {
+    let tokens = lex(alloc, b"ab // c\n 'd'".as_slice())?;
+    let second = match tokens.at(1) {
+        Some(token) => Some((token.start, token.end)),
+        None => None,
+    };
+    Ok((tokens.len(), second, tokens.at(2).is_some()))
+}
+
 #[test]
 fn places(rt: HostRuntime) -> Result<(), Fail> {
-    let Ok(tokens) = lex(rt.alloc(), b"ab // c\n 'd'".as_slice()) else {
-        return Err(AllocError.into());
-    };
-    assert_eq!(rt; tokens.len(), 2);
-    let spans = tokens.at(1).map(|token| (token.start, token.end));
-    assert_eq!(rt; spans, Some((9, 12)));
-    assert!(rt; tokens.at(2).is_none());
+    assert_eq!(rt; counted(rt.alloc())?, (2, Some((9, 12)), false));
     Ok(())
 }
