@@ -2,7 +2,6 @@
 //! `specs/KeySamples.antt` and `specs/MatchSamples.antt`. The functions do nothing; their contracts are the statements.
 
 ghost use Rattle.std.specs.Prelude.{◌≡◌, true, false, pos, negsuc, [], ◌∷◌, codes};
-ghost use Rattle.pgs_base.specs.declared.element.Elem.TheVariants as elems;
 ghost use Rattle.pgs_base.specs.declared.part.Part.TheVariants as parts;
 ghost use Rattle.pgs_base.specs.declared.value.Value.TheVariants.{Text, Int, Date};
 ghost use Rattle.pgs_base.specs.Pair.{pair_of, is_pair};
@@ -97,20 +96,20 @@ pub fn social_types()
 
 /// A key value read at the end of two steps, and its absence.
 pub fn values_at_a_distance()
-    ensures steps_scope { scope_of (keyed (two_steps ∷ [])) (steps_to []) two_steps ≡ elems.Node (record { 0 = 3 }) ∷ [] }
-    ensures steps_value { key_values (keyed (two_steps ∷ [])) (steps_to ((codes "v", Int (pos 1)) ∷ [])) two_steps (elems.Node (record { 0 = 3 }))
+    ensures steps_scope { scope_of (keyed (two_steps ∷ [])) (steps_to []) two_steps ≡ the_node 3 ∷ [] }
+    ensures steps_value { key_values (keyed (two_steps ∷ [])) (steps_to ((codes "v", Int (pos 1)) ∷ [])) two_steps (the_node 3)
         ≡ (parts.Value (Int (pos 1)) ∷ []) ∷ [] }
-    ensures steps_absent { key_values (keyed (two_steps ∷ [])) (steps_to []) two_steps (elems.Node (record { 0 = 3 })) ≡ [] }
+    ensures steps_absent { key_values (keyed (two_steps ∷ [])) (steps_to []) two_steps (the_node 3) ≡ [] }
 {}
 
 /// A key value of a property and an element: one for each moderator of a forum.
 pub fn values_of_parts()
-    ensures forum_scope { scope_of (keyed (moderator ∷ [])) (forum (by_n4 ∷ [])) moderator ≡ elems.Node (record { 0 = 1 }) ∷ [] }
-    ensures one_moderator { key_values (keyed (moderator ∷ [])) (forum (by_n4 ∷ [])) moderator (elems.Node (record { 0 = 1 }))
-        ≡ (parts.Value (Text (codes "db")) ∷ parts.Elem (elems.Node (record { 0 = 4 })) ∷ []) ∷ [] }
-    ensures two_moderators { key_values (keyed (moderator ∷ [])) (forum (by_n4 ∷ by_n5 ∷ [])) moderator (elems.Node (record { 0 = 1 }))
-        ≡ (parts.Value (Text (codes "db")) ∷ parts.Elem (elems.Node (record { 0 = 4 })) ∷ [])
-        ∷ (parts.Value (Text (codes "db")) ∷ parts.Elem (elems.Node (record { 0 = 5 })) ∷ []) ∷ [] }
+    ensures forum_scope { scope_of (keyed (moderator ∷ [])) (forum (by_n4 ∷ [])) moderator ≡ the_node 1 ∷ [] }
+    ensures one_moderator { key_values (keyed (moderator ∷ [])) (forum (by_n4 ∷ [])) moderator (the_node 1)
+        ≡ (parts.Value (Text (codes "db")) ∷ parts.Elem (the_node 4) ∷ []) ∷ [] }
+    ensures two_moderators { key_values (keyed (moderator ∷ [])) (forum (by_n4 ∷ by_n5 ∷ [])) moderator (the_node 1)
+        ≡ (parts.Value (Text (codes "db")) ∷ parts.Elem (the_node 4) ∷ [])
+        ∷ (parts.Value (Text (codes "db")) ∷ parts.Elem (the_node 5) ∷ []) ∷ [] }
 {}
 
 /// The scope of a key that says which type its elements fit, and a key value.
@@ -140,7 +139,8 @@ pub fn matches_of_parallel_edges()
 
 /// Edges as elements of a scope, with a key value and without.
 pub fn edges_in_a_scope()
-    ensures edge_scope { scope_of (keyed []) valued_edges (edge_key (qualifiers true true true)) ≡ the_edge 1 ∷ the_edge 2 ∷ the_edge 3 ∷ [] }
+    ensures edge_scope { scope_of (keyed []) valued_edges (edge_key (qualifiers true true true))
+        ≡ the_edge 1 ∷ the_edge 2 ∷ the_edge 3 ∷ [] }
     ensures edge_value { key_values (keyed []) valued_edges (edge_key (qualifiers true true true)) (the_edge 2)
         ≡ (parts.Value (Int (pos 5)) ∷ []) ∷ [] }
     ensures edge_without { key_values (keyed []) valued_edges (edge_key (qualifiers true true true)) (the_edge 3) ≡ [] }

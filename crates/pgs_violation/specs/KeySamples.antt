@@ -7,7 +7,8 @@ use Rattle.pgs_syntax.specs.Samples.{node, edge}
 
 abbrev pub three_with : List (EdgeId × EdgeRow) → Graph
 three_with edges = record {
-  nodes = node 1 (codes "A" ∷ []) [] ∷ node 2 (codes "A" ∷ []) [] ∷ node 3 (codes "A" ∷ []) [] ∷ node 7 [] [] ∷ node 8 [] [] ∷ node 9 [] [] ∷ [];
+  nodes = node 1 (codes "A" ∷ []) [] ∷ node 2 (codes "A" ∷ []) [] ∷ node 3 (codes "A" ∷ []) []
+      ∷ node 7 [] [] ∷ node 8 [] [] ∷ node 9 [] [] ∷ [];
   edges = edges;
 }
 

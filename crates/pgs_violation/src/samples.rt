@@ -60,7 +60,8 @@ pub fn shared_value()
 /// A node is added with an edge at it. It is then not removed by itself, but with its edge.
 pub fn nodes_with_edges()
     ensures added { staged limits empty_graph (txn (add_node 1 [] ∷ add_edge 1 1 1 (codes "knows") ∷ [])) ≡ Ok looped }
-    ensures removal_refused { staged limits looped (txn (remove_node 1 ∷ [])) ≡ Err (BadOp 1 (HasEdges (record { 0 = 1 }) (record { 0 = 1 }))) }
+    ensures removal_refused { staged limits looped (txn (remove_node 1 ∷ []))
+        ≡ Err (BadOp 1 (HasEdges (record { 0 = 1 }) (record { 0 = 1 }))) }
     ensures detachment { staged limits looped (txn (detach_node 1 ∷ [])) ≡ Ok empty_graph }
 {}
 
@@ -74,7 +75,8 @@ pub fn limits_of_transactions()
 
 /// Elements that aren't there.
 pub fn absent_elements()
-    ensures edge_without_node { staged limits empty_graph (txn (add_edge 1 1 1 (codes "knows") ∷ [])) ≡ Err (BadOp 1 (NoNode (record { 0 = 1 }))) }
+    ensures edge_without_node { staged limits empty_graph (txn (add_edge 1 1 1 (codes "knows") ∷ []))
+        ≡ Err (BadOp 1 (NoNode (record { 0 = 1 }))) }
     ensures absent_edge { staged limits empty_graph (txn (remove_edge 7 ∷ [])) ≡ Err (BadOp 1 (NoEdge (record { 0 = 7 }))) }
 {}
 
@@ -82,13 +84,15 @@ pub fn absent_elements()
 pub fn one_after_another()
     ensures added_again { staged limits empty_graph (txn (add_node 1 (codes "A" ∷ []) ∷ remove_node 1 ∷ add_node 1 (codes "B" ∷ []) ∷ []))
         ≡ Ok (lone (codes "B" ∷ []) []) }
-    ensures set_and_unset { staged limits (lone [] []) (txn (set_mail 1 (codes "a") ∷ unset 1 (codes "name") ∷ [])) ≡ Ok (lone [] (mail (codes "a"))) }
+    ensures set_and_unset { staged limits (lone [] []) (txn (set_mail 1 (codes "a") ∷ unset 1 (codes "name") ∷ []))
+        ≡ Ok (lone [] (mail (codes "a"))) }
 {}
 
 /// An element that is there isn't added again.
 pub fn elements_that_are_there()
     ensures node { staged limits looped (txn (add_node 1 [] ∷ [])) ≡ Err (BadOp 1 (AlreadyThere (the_node 1))) }
-    ensures edge { staged limits looped (txn (add_node 2 [] ∷ add_edge 1 1 2 (codes "knows") ∷ [])) ≡ Err (BadOp 2 (AlreadyThere (the_edge 1))) }
+    ensures edge { staged limits looped (txn (add_node 2 [] ∷ add_edge 1 1 2 (codes "knows") ∷ []))
+        ≡ Err (BadOp 2 (AlreadyThere (the_edge 1))) }
 {}
 
 /// Adding an edge tests the edge's own number first, then the source, then the target.
@@ -129,7 +133,8 @@ pub fn limits_of_properties()
 /// Of the edges that are in the way of a removal the least is named, whether the node is its source or its target.
 pub fn edges_in_the_way()
     ensures least { staged limits two_ways (txn (remove_node 1 ∷ [])) ≡ Err (BadOp 1 (HasEdges (record { 0 = 1 }) (record { 0 = 2 }))) }
-    ensures next { staged limits two_ways (txn (remove_edge 2 ∷ remove_node 1 ∷ [])) ≡ Err (BadOp 2 (HasEdges (record { 0 = 1 }) (record { 0 = 5 }))) }
+    ensures next { staged limits two_ways (txn (remove_edge 2 ∷ remove_node 1 ∷ []))
+        ≡ Err (BadOp 2 (HasEdges (record { 0 = 1 }) (record { 0 = 5 }))) }
 {}
 
 /// An element with three key values: the two least are named.
@@ -154,7 +159,8 @@ pub fn violations_of_one_key()
 
 /// All violations of the first key go before those of the second.
 pub fn violations_of_two_keys()
-    ensures { violations (keyed (next_node (qualifiers true true true) (codes "r") ∷ next_node (qualifiers true true true) (codes "s") ∷ []))
+    ensures { violations
+        (keyed (next_node (qualifiers true true true) (codes "r") ∷ next_node (qualifiers true true true) (codes "s") ∷ []))
         (three_with each_kind_twice)
         ≡ Mandatory 1 (the_node 1) ∷ Singleton 1 (the_node 2) (parts.Elem (the_node 7) ∷ []) (parts.Elem (the_node 8) ∷ [])
         ∷ Exclusive 1 (the_node 2) (the_node 3) (parts.Elem (the_node 8) ∷ [])
