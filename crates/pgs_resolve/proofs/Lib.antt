@@ -1,2 +1,4 @@
 pub mod Computed
 mod OneAnswer
+pub mod Parts
+pub mod Same

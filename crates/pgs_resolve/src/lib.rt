@@ -5,6 +5,8 @@
 #![tactic(auto)]
 
 mod fault;
+mod names;
+mod pieces;
 pub mod laws;
 pub mod samples;
 
