@@ -4,9 +4,13 @@
 //! are computed in `specs/Resolution.antt`. `specs/SchemaOf.antt` says what a text is, from its bytes to its schema.
 #![tactic(auto)]
 
+mod declarations;
+mod duplicates;
 mod fault;
+mod kinds;
 mod names;
 mod pieces;
+mod unknown;
 pub mod laws;
 pub mod samples;
 
