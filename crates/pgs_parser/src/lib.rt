@@ -13,6 +13,7 @@ mod cut;
 mod first_schema;
 mod form;
 pub mod laws;
+mod qualifier;
 mod reading;
 mod rules;
 pub mod samples;

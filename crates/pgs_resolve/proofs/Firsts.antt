@@ -1,8 +1,8 @@
 -- The first item of lists one after another, and the first that a test finds.
-use Rattle.std.proofs.Common.{◌≡◌, ℕ, ◌+◌, ◌<◌, ◌≤◌, Bool, true, false, cond, List, [], ◌∷◌, ◌++◌, length, take, drop, map, filter, get_or, ◌||◌, Option, Some, None, refl, sym, ◌∙◌, ap}
+use Rattle.std.proofs.Common.{◌≡◌, ℕ, ◌+◌, ◌<◌, ◌≤◌, Bool, true, false, cond, List, [], ◌∷◌, ◌++◌, length, take, drop, map, filter, get_or, ◌||◌, Some, None, refl, sym, ◌∙◌, ap}
 use Rattle.std.specs.List.{flat_map, slice_get, find, list_any}
 use Rattle.std.specs.Option.{is_some}
-use Rattle.std.proofs.lemmas.List.{append-nil, take_all, take-append-drop, flat_map_more}
+use Rattle.std.proofs.lemmas.List.{take_all, take-append-drop, flat_map_more}
 use Rattle.std.proofs.lemmas.List.Concat.{flat_map-append}
 use Rattle.pgs_resolve.proofs.Walks.{one_more}
 

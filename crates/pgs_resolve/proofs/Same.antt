@@ -6,7 +6,7 @@ use Rattle.std.proofs.lemmas.Bool.Decides.{nat_tests, same_from_decides}
 use Rattle.std.proofs.lemmas.List.Folds.{position_or_len_push}
 use Rattle.std.proofs.lemmas.Map.Text.{is_eq-slice_cmp}
 use Rattle.std.proofs.lemmas.Slice.Eq.{bytes_eq-Decides}
-use Rattle.pgs_syntax.specs.Fitting.{same_name}
+use Rattle.pgs_base.specs.Pair.{same_name}
 
 -- two names are the same exactly where they are equal
 pub one_name : (a b : List ℕ) → same_name a b ≡ true → a ≡ b

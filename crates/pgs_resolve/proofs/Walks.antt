@@ -1,9 +1,8 @@
 -- Walks over a list that put what each item gives behind what was there.
-use Rattle.std.proofs.Common.{◌≡◌, ℕ, ◌+◌, ◌<◌, ◌≤◌, Bool, true, false, cond, List, [], ◌∷◌, ◌++◌, length, take, map, filter, get_or, Option, Some, None, refl, sym, ◌∙◌, ap}
+use Rattle.std.proofs.Common.{◌≡◌, ℕ, ◌+◌, ◌<◌, ◌≤◌, List, [], ◌∷◌, ◌++◌, length, take, map, get_or, Option, Some, None, refl, sym, ◌∙◌, ap}
 use Rattle.std.specs.List.{flat_map, filter_map, cons_option}
 use Rattle.std.specs.Option.{option_to_list}
-use Rattle.std.proofs.lemmas.List.{append-nil, append_assoc, take_all, take_more, flat_map_more}
-use Rattle.std.proofs.lemmas.List.Concat.{flat_map-append}
+use Rattle.std.proofs.lemmas.List.{append_assoc, take_all, take_more, flat_map_more}
 use Rattle.std.proofs.lemmas.List.Elements.{filter_map-append}
 
 -- one more item of a list

@@ -17,7 +17,7 @@ use Rattle.pgs_syntax.specs.declared.script.Script.{Script}
 use Rattle.pgs_syntax.specs.declared.script.Statement.{Statement}
 use Rattle.pgs_syntax.specs.declared.script.Statement.TheVariants.{Node, Edge, Graph}
 use Rattle.pgs_syntax.specs.declared.specification.Spec.{Spec}
-use Rattle.pgs_syntax.specs.Fitting.{same_name, has_label}
+use Rattle.pgs_base.specs.Pair.{same_name, has_name}
 use Rattle.pgs_resolve.specs.declared.duplicates.Mark.{Mark}
 use Rattle.pgs_resolve.specs.declared.duplicates.Mark.TheVariants as marks
 use Rattle.pgs_resolve.specs.declared.kinds.Use.{Use}
@@ -29,7 +29,7 @@ use Rattle.pgs_resolve.specs.Declarations.{words_of, braces_of, graphs_of, nodes
 abbrev pub repeated_after : List (List ℕ) → List (List ℕ) → List (List ℕ)
 repeated_after earlier [] = []
 repeated_after earlier (name ∷ names) =
-    (if has_label name earlier then name ∷ [] else []) ++ repeated_after (name ∷ earlier) names
+    (if has_name name earlier then name ∷ [] else []) ++ repeated_after (name ∷ earlier) names
 
 -- the places of the tree that can be a second one: each of an element type or a graph type, and those of properties that their
 -- braces have before

@@ -1,7 +1,7 @@
 ghost use Rattle.std.specs.Prelude.{◌≡◌, List, filter_map, ◌∷◌, ◌++◌, [], map, flat_map, slice_get, if◌then◌else◌, IfOk, OnOk};
 ghost use Rattle.std.specs.Option.{option_to_list};
 ghost use Rattle.pgs_syntax.specs.declared.specification.Property.{Property};
-ghost use Rattle.pgs_syntax.specs.Fitting.{has_label};
+ghost use Rattle.pgs_base.specs.Pair.{has_name};
 ghost use Rattle.pgs_resolve.specs.Declarations.{keys_in};
 ghost use Rattle.pgs_resolve.specs.declared.duplicates.Mark.{Mark};
 ghost use Rattle.pgs_resolve.specs.declared.duplicates.Mark.TheVariants as marked;
@@ -26,7 +26,7 @@ pub enum Mark {
 
 // Puts a mark last where the key is among those before.
 fn mark_again(alloc: Global, keys: &Names, key: &Name, marks: &mut Vec<Mark>) -> Result<(), Memory>
-    ensures { OnOk result (marks.new.items ≡ marks.old.items ++ (if has_label key.now keys.now then marked.Again key.now ∷ [] else [])) }
+    ensures { OnOk result (marks.new.items ≡ marks.old.items ++ (if has_name key.now keys.now then marked.Again key.now ∷ [] else [])) }
 {
     if keys.contains(key) {
         let key = key.copy(alloc)?;
@@ -36,7 +36,11 @@ fn mark_again(alloc: Global, keys: &Names, key: &Name, marks: &mut Vec<Mark>) ->
 }
 
 // Puts a mark last for each property that the braces have before.
-fn mark_repeated(alloc: Global, properties: &[Property], marks: &mut Vec<Mark>) -> Result<(), Memory>
+fn mark_repeated(
+    alloc: Global,
+    properties: &[Property],
+    marks: &mut Vec<Mark>,
+) -> Result<(), Memory>
     ensures { OnOk result (marks.new.items ≡ marks.old.items
         ++ map marked.Again (repeated_after [] (map (λ (property : Property). property.key) properties.now))) }
 {
@@ -146,7 +150,12 @@ fn is_second(elements: &Names, graphs: &Names, mark: &Mark) -> bool
     }
 }
 
-fn remember(alloc: Global, elements: &mut Names, graphs: &mut Names, mark: &Mark) -> Result<(), Memory>
+fn remember(
+    alloc: Global,
+    elements: &mut Names,
+    graphs: &mut Names,
+    mark: &Mark,
+) -> Result<(), Memory>
     ensures elements { OnOk result (elements.new ≡ elements.old ++ option_to_list (element_in mark.now)) }
     ensures graphs { OnOk result (graphs.new ≡ graphs.old ++ option_to_list (graph_in mark.now)) }
 {

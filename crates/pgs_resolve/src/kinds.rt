@@ -19,7 +19,12 @@ pub struct Use {
 }
 
 // Puts the uses of names last.
-fn use_names(alloc: Global, of_edge: bool, names: &[Name], uses: &mut Vec<Use>) -> Result<(), Memory>
+fn use_names(
+    alloc: Global,
+    of_edge: bool,
+    names: &[Name],
+    uses: &mut Vec<Use>,
+) -> Result<(), Memory>
     ensures { OnOk result (uses.new.items ≡ uses.old.items ++ uses_as of_edge names.now) }
 {
     for name in names {
@@ -29,7 +34,12 @@ fn use_names(alloc: Global, of_edge: bool, names: &[Name], uses: &mut Vec<Use>) 
     Ok(())
 }
 
-fn use_spec(alloc: Global, of_edge: bool, spec: &Spec<Name>, uses: &mut Vec<Use>) -> Result<(), Memory>
+fn use_spec(
+    alloc: Global,
+    of_edge: bool,
+    spec: &Spec<Name>,
+    uses: &mut Vec<Use>,
+) -> Result<(), Memory>
     ensures { OnOk result (uses.new.items ≡ uses.old.items ++ uses_as of_edge (words_of spec.now)) }
 {
     let words = words_of(alloc, spec)?;
@@ -162,7 +172,11 @@ fn first_wrong_of<'u>(declarations: &Declarations<'_>, uses: &'u [Use]) -> Optio
 
 /// The first name in the order of the tree that is one of a node type where an edge type may be named, or of an edge
 /// type where a node type may be.
-pub fn first_wrong(alloc: Global, declarations: &Declarations<'_>, script: &Script) -> Result<Option<Name>, Memory>
+pub fn first_wrong(
+    alloc: Global,
+    declarations: &Declarations<'_>,
+    script: &Script,
+) -> Result<Option<Name>, Memory>
     requires { AreOf script.now declarations.now }
     ensures { IfOk result (λ name. name ≡ slice_get (wrong_kinds script.now) 0) }
 {

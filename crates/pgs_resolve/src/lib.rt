@@ -8,10 +8,10 @@ mod declarations;
 mod duplicates;
 mod fault;
 mod kinds;
+pub mod laws;
 mod names;
 mod pieces;
-mod unknown;
-pub mod laws;
 pub mod samples;
+mod unknown;
 
 pub use fault::{KeyCause, ResolveFault};

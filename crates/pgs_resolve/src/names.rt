@@ -1,6 +1,6 @@
 ghost use Rattle.std.specs.Prelude.{◌≡◌, [], ◌∷◌, ◌++◌, length, OnOk, OnErr};
 ghost use Rattle.std.specs.List.{position};
-ghost use Rattle.pgs_syntax.specs.Fitting.{same_name, has_label};
+ghost use Rattle.pgs_base.specs.Pair.{same_name, has_name};
 
 use pgs_base::{Copyable, Memory, Name};
 use std::alloc::Global;
@@ -20,7 +20,7 @@ impl Model for Names {
     ghost use Rattle.std.specs.Cmp.Lexicographic.{slice_cmp};
     ghost use Rattle.std.specs.BTreeMap.{get};
     ghost use Rattle.std.specs.List.{position};
-    ghost use Rattle.pgs_syntax.specs.Fitting.{same_name};
+    ghost use Rattle.pgs_base.specs.Pair.{same_name};
 
     ghost Value = { List (List ℕ) };
 
@@ -63,7 +63,7 @@ impl Names {
 
     /// Whether a name is there.
     pub fn contains(&self, name: &Name) -> bool
-        ensures { result ≡ has_label name.now self.now }
+        ensures { result ≡ has_name name.now self.now }
     {
         self.places.contains_key(name)
     }

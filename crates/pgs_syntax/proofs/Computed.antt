@@ -6,6 +6,7 @@ use denote.Hole.Carrier.{hidden}
 use Rattle.pgs_base.specs.declared.element.Elem.TheVariants as elems
 use Rattle.pgs_base.specs.declared.part.Part.TheVariants as parts
 use Rattle.pgs_base.specs.declared.value.Value.TheVariants.{Text, Int, Date}
+use Rattle.pgs_base.specs.Pair.{pair_of, is_pair}
 use Rattle.pgs_syntax.specs.declared.resolved.TypeNo.TheVariants.{Node}
 use Rattle.pgs_syntax.specs.declared.specification.Leaf.TheVariants.{Named}
 use Rattle.pgs_syntax.specs.declared.specification.Spec.{Word}
@@ -13,54 +14,52 @@ use Rattle.pgs_syntax.specs.declared.specification.Spec.TheBlock as block
 use Rattle.pgs_syntax.specs.Closed.{is_closed, names_key}
 use Rattle.pgs_syntax.specs.KeySamples.{the_node, one_text, mail_key, mails, two_persons, holder, held_post}
 use Rattle.pgs_syntax.specs.Samples.{staff, ann, shared_key, labelled, with, open_type, either_type, open_labels, bare_type, abstract_types, acquaintance, acquainted, tied, ties, social, cyd, bob, two_steps, steps_to, moderator, forum, by_n4, by_n5, keyed, edge, two_apart, names_later, names_twice}
-use Rattle.pgs_syntax.specs.Join.{pair_of}
-use Rattle.pgs_syntax.specs.Typed.{node_typed, edge_is_typed}
-use Rattle.pgs_syntax.specs.Meaning.{is_pair}
+use Rattle.pgs_syntax.specs.Typed.{is_typed_node, is_typed_edge}
 use Rattle.pgs_syntax.specs.KeyValues.{scope_of, key_values}
 use Rattle.pgs_syntax.specs.Valid.{is_connected, is_valid, is_valid_key, is_valid_pattern}
 
-pub heir_typed : node_typed (staff (Node 0 ∷ Node 1 ∷ [])) ann ≡ true
+pub heir_typed : is_typed_node (staff (Node 0 ∷ Node 1 ∷ [])) ann ≡ true
 unfolding block.hidden-the_row-Spec-0 hidden
 heir_typed = refl
 
-pub parent_closed : node_typed (staff (Node 0 ∷ [])) ann ≡ false
+pub parent_closed : is_typed_node (staff (Node 0 ∷ [])) ann ≡ false
 unfolding block.hidden-the_row-Spec-0 hidden
 parent_closed = refl
 
-pub first_kind : node_typed shared_key (with (codes "k") (Int (pos 5))) ≡ true
+pub first_kind : is_typed_node shared_key (with (codes "k") (Int (pos 5))) ≡ true
 unfolding block.hidden-the_row-Spec-0 hidden
 first_kind = refl
 
-pub other_kind : node_typed shared_key (with (codes "k") (Text (codes "s"))) ≡ false
+pub other_kind : is_typed_node shared_key (with (codes "k") (Text (codes "s"))) ≡ false
 unfolding block.hidden-the_row-Spec-0 hidden
 other_kind = refl
 
-pub named_key : node_typed open_type (with (codes "age") (Text (codes "x"))) ≡ false
+pub named_key : is_typed_node open_type (with (codes "age") (Text (codes "x"))) ≡ false
 named_key = refl
 
-pub free_key : node_typed open_type (with (codes "zip") (Text (codes "x"))) ≡ true
+pub free_key : is_typed_node open_type (with (codes "zip") (Text (codes "x"))) ≡ true
 free_key = refl
 
-pub abstract_only : node_typed abstract_types (pair_of (codes "A" ∷ []) []) ≡ false
+pub abstract_only : is_typed_node abstract_types (pair_of (codes "A" ∷ []) []) ≡ false
 abstract_only = refl
 
-pub edge_typed : edge_is_typed acquaintance (acquainted (codes "P" ∷ codes "Q" ∷ [])) (edge 1 1 2 (codes "knows")).1 ≡ true
+pub edge_typed : is_typed_edge acquaintance (acquainted (codes "P" ∷ codes "Q" ∷ [])) (edge 1 1 2 (codes "knows")).1 ≡ true
 unfolding block.hidden-the_row-Spec-0 hidden
 edge_typed = refl
 
-pub edge_untyped : edge_is_typed acquaintance (acquainted (codes "P" ∷ [])) (edge 1 1 2 (codes "knows")).1 ≡ false
+pub edge_untyped : is_typed_edge acquaintance (acquainted (codes "P" ∷ [])) (edge 1 1 2 (codes "knows")).1 ≡ false
 unfolding block.hidden-the_row-Spec-0 hidden
 edge_untyped = refl
 
-pub person_typed : node_typed social cyd ≡ true
+pub person_typed : is_typed_node social cyd ≡ true
 unfolding block.hidden-the_row-Spec-0 hidden
 person_typed = refl
 
-pub employee_typed : node_typed social (bob (codes "Employee" ∷ codes "Person" ∷ [])) ≡ true
+pub employee_typed : is_typed_node social (bob (codes "Employee" ∷ codes "Person" ∷ [])) ≡ true
 unfolding block.hidden-the_row-Spec-0 hidden
 employee_typed = refl
 
-pub salary_needs_label : node_typed social (bob (codes "Person" ∷ [])) ≡ false
+pub salary_needs_label : is_typed_node social (bob (codes "Person" ∷ [])) ≡ false
 unfolding block.hidden-the_row-Spec-0 hidden
 salary_needs_label = refl
 
@@ -110,52 +109,52 @@ too_early = refl
 pub twice : is_valid names_twice ≡ false
 twice = refl
 
-pub left_fits : node_typed either_type (labelled (codes "A" ∷ [])) ≡ true
+pub left_fits : is_typed_node either_type (labelled (codes "A" ∷ [])) ≡ true
 unfolding block.hidden-the_row-Spec-0 block.hidden-the_row-Spec-1 hidden
 left_fits = refl
 
-pub option_left_out : node_typed either_type (labelled (codes "B" ∷ [])) ≡ true
+pub option_left_out : is_typed_node either_type (labelled (codes "B" ∷ [])) ≡ true
 unfolding block.hidden-the_row-Spec-0 block.hidden-the_row-Spec-1 hidden
 option_left_out = refl
 
-pub option_taken : node_typed either_type (labelled (codes "B" ∷ codes "C" ∷ [])) ≡ true
+pub option_taken : is_typed_node either_type (labelled (codes "B" ∷ codes "C" ∷ [])) ≡ true
 unfolding block.hidden-the_row-Spec-0 block.hidden-the_row-Spec-1 hidden
 option_taken = refl
 
-pub option_alone : node_typed either_type (labelled (codes "C" ∷ [])) ≡ false
+pub option_alone : is_typed_node either_type (labelled (codes "C" ∷ [])) ≡ false
 unfolding block.hidden-the_row-Spec-0 block.hidden-the_row-Spec-1 hidden
 option_alone = refl
 
-pub further_label : node_typed open_labels (labelled (codes "A" ∷ codes "B" ∷ [])) ≡ true
+pub further_label : is_typed_node open_labels (labelled (codes "A" ∷ codes "B" ∷ [])) ≡ true
 unfolding block.hidden-the_row-Spec-0 hidden
 further_label = refl
 
-pub label_missing : node_typed open_labels (labelled (codes "B" ∷ [])) ≡ false
+pub label_missing : is_typed_node open_labels (labelled (codes "B" ∷ [])) ≡ false
 unfolding block.hidden-the_row-Spec-0 hidden
 label_missing = refl
 
-pub empty_fits : node_typed bare_type (labelled []) ≡ true
+pub empty_fits : is_typed_node bare_type (labelled []) ≡ true
 empty_fits = refl
 
-pub label_refused : node_typed bare_type (labelled (codes "A" ∷ [])) ≡ false
+pub label_refused : is_typed_node bare_type (labelled (codes "A" ∷ [])) ≡ false
 label_refused = refl
 
-pub key_refused : node_typed bare_type (with (codes "k") (Int (pos 5))) ≡ false
+pub key_refused : is_typed_node bare_type (with (codes "k") (Int (pos 5))) ≡ false
 key_refused = refl
 
-pub by_label : edge_is_typed ties (tied (codes "Q" ∷ []) (codes "likes")) (edge 1 1 2 (codes "likes")).1 ≡ true
+pub by_label : is_typed_edge ties (tied (codes "Q" ∷ []) (codes "likes")) (edge 1 1 2 (codes "likes")).1 ≡ true
 unfolding block.hidden-the_row-Spec-0 hidden
 by_label = refl
 
-pub by_type : edge_is_typed ties (tied (codes "P" ∷ codes "Q" ∷ []) (codes "knows")) (edge 1 1 2 (codes "knows")).1 ≡ true
+pub by_type : is_typed_edge ties (tied (codes "P" ∷ codes "Q" ∷ []) (codes "knows")) (edge 1 1 2 (codes "knows")).1 ≡ true
 unfolding block.hidden-the_row-Spec-0 hidden
 by_type = refl
 
-pub without_its_end : edge_is_typed ties (tied (codes "Q" ∷ []) (codes "knows")) (edge 1 1 2 (codes "knows")).1 ≡ false
+pub without_its_end : is_typed_edge ties (tied (codes "Q" ∷ []) (codes "knows")) (edge 1 1 2 (codes "knows")).1 ≡ false
 unfolding block.hidden-the_row-Spec-0 hidden
 without_its_end = refl
 
-pub neither : edge_is_typed ties (tied (codes "P" ∷ codes "Q" ∷ []) (codes "hates")) (edge 1 1 2 (codes "hates")).1 ≡ false
+pub neither : is_typed_edge ties (tied (codes "P" ∷ codes "Q" ∷ []) (codes "hates")) (edge 1 1 2 (codes "hates")).1 ≡ false
 unfolding block.hidden-the_row-Spec-0 hidden
 neither = refl
 

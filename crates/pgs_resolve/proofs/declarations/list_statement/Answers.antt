@@ -1,4 +1,4 @@
-use Rattle.std.proofs.Common.{◌≡◌, ◌++◌, map, sym, ◌∙◌, ap, arith}
+use Rattle.std.proofs.Common.{◌++◌, map, sym, ◌∙◌, ap, arith}
 use Rattle.std.specs.List.{filter_map}
 use Rattle.pgs_resolve.specs.Declarations.{node_in, edge_in, declared_in}
 use Rattle.pgs_resolve.proofs.Members.{nodes_declared, edges_declared}

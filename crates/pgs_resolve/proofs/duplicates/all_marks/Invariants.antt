@@ -1,4 +1,4 @@
-use Rattle.std.proofs.Common.{◌≡◌, ◌++◌, take}
+use Rattle.std.proofs.Common.{◌≡◌, take}
 use Rattle.std.specs.List.{flat_map}
 use Rattle.pgs_resolve.specs.Refused.{marks_of}
 use Rattle.pgs_resolve.proofs.duplicates.all_marks.Given as goal

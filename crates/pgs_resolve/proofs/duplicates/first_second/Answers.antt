@@ -1,6 +1,5 @@
-use Rattle.std.proofs.Common.{◌≡◌, take, [], Some, sym, ◌∙◌, ap, arith}
-use Rattle.std.proofs.lemmas.List.{take_all}
-use Rattle.pgs_resolve.specs.Refused.{element_in, graph_in, seconds_after}
+use Rattle.std.proofs.Common.{take, [], Some, sym, ◌∙◌, ap, arith}
+use Rattle.pgs_resolve.specs.Refused.{element_in, graph_in}
 use Rattle.pgs_resolve.proofs.Repeats.{no_second, second_at}
 use Rattle.pgs_resolve.proofs.Walks.{more_kept}
 use Rattle.pgs_resolve.proofs.duplicates.first_second.Goals as goal
@@ -12,7 +11,7 @@ returns-then-is_second c =
     ∙ second_at c.args.marks.now _ _ (omega arith) c.mark-item.is c.loop-mark.invariant.none (sym second ∙ c.if-is_second.true)
 
 pub loop-mark-preserved : goal.loop-mark-preserved
-loop-mark-preserved c = 
+loop-mark-preserved c =
     let second = c.is_second.ensures (take c.loop-mark.mark-index c.args.marks.now) c.loop-mark.invariant.elements c.loop-mark.invariant.graphs in
     record {
       none = no_second c.args.marks.now _ _ (omega arith) c.mark-item.is c.loop-mark.invariant.none (sym second ∙ c.if-is_second.false);

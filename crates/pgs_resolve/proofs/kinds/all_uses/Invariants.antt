@@ -1,6 +1,6 @@
-use Rattle.std.proofs.Common.{◌≡◌, ◌++◌, [], false, take}
+use Rattle.std.proofs.Common.{◌≡◌, take}
 use Rattle.std.specs.List.{flat_map}
-use Rattle.pgs_resolve.specs.Refused.{uses_in, uses_as}
+use Rattle.pgs_resolve.specs.Refused.{uses_in}
 use Rattle.pgs_resolve.proofs.kinds.all_uses.Given as goal
 
 abbrev pub invariant-loop-statement : goal.invariant-loop-statement

@@ -1,6 +1,6 @@
-use Rattle.std.proofs.Common.{◌≡◌, ◌++◌, [], false, take}
+use Rattle.std.proofs.Common.{◌≡◌, ◌++◌, take}
 use Rattle.std.specs.List.{flat_map}
-use Rattle.pgs_resolve.specs.Refused.{uses_in_key, uses_as}
+use Rattle.pgs_resolve.specs.Refused.{uses_in_key}
 use Rattle.pgs_resolve.proofs.kinds.use_keys.Given as goal
 
 abbrev pub invariant-loop-key : goal.invariant-loop-key

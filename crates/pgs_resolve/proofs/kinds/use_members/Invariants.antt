@@ -1,6 +1,6 @@
-use Rattle.std.proofs.Common.{◌≡◌, ◌++◌, [], false, take}
+use Rattle.std.proofs.Common.{◌≡◌, ◌++◌, take}
 use Rattle.std.specs.List.{flat_map}
-use Rattle.pgs_resolve.specs.Refused.{uses_in_member, uses_as}
+use Rattle.pgs_resolve.specs.Refused.{uses_in_member}
 use Rattle.pgs_resolve.proofs.kinds.use_members.Given as goal
 
 abbrev pub invariant-loop-member : goal.invariant-loop-member

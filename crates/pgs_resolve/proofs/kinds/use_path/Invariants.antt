@@ -1,4 +1,4 @@
-use Rattle.std.proofs.Common.{◌≡◌, ◌++◌, [], false, take}
+use Rattle.std.proofs.Common.{◌≡◌, ◌++◌, false, take}
 use Rattle.std.specs.List.{flat_map}
 use Rattle.pgs_resolve.specs.Refused.{uses_in_step, uses_as}
 use Rattle.pgs_resolve.proofs.kinds.use_path.Given as goal

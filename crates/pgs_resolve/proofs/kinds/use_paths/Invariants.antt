@@ -1,6 +1,6 @@
-use Rattle.std.proofs.Common.{◌≡◌, ◌++◌, [], false, take}
+use Rattle.std.proofs.Common.{◌≡◌, ◌++◌, take}
 use Rattle.std.specs.List.{flat_map}
-use Rattle.pgs_resolve.specs.Refused.{uses_in_path, uses_as}
+use Rattle.pgs_resolve.specs.Refused.{uses_in_path}
 use Rattle.pgs_resolve.proofs.kinds.use_paths.Given as goal
 
 abbrev pub invariant-loop-path : goal.invariant-loop-path

@@ -1,4 +1,4 @@
-use Rattle.std.proofs.Common.{◌≡◌, List, ◌++◌, [], map, sym, ◌∙◌, ap, arith, take, length, refl, ◌+◌}
+use Rattle.std.proofs.Common.{sym, ◌∙◌, ap, arith, take, length, refl, ◌+◌}
 use denote.Bor.{Bor}
 use Rattle.std.specs.List.{flat_map, slice_get}
 use Rattle.pgs_syntax.specs.declared.script.GraphType.{GraphType}

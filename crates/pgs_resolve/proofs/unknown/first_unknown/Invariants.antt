@@ -1,4 +1,4 @@
-use Rattle.std.proofs.Common.{◌≡◌, [], take, map}
+use Rattle.std.proofs.Common.{◌≡◌, [], take}
 use Rattle.std.specs.List.{flat_map}
 use Rattle.pgs_syntax.specs.declared.script.Script.{Script}
 use Rattle.pgs_resolve.specs.Refused.{unknown_in}

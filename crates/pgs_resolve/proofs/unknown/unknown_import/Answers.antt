@@ -1,4 +1,4 @@
-use Rattle.std.proofs.Common.{◌≡◌, not, sym, ◌∙◌, ap, arith}
+use Rattle.std.proofs.Common.{not, sym, ◌∙◌, ap, arith}
 use Rattle.pgs_resolve.specs.Declarations.{is_graph_type}
 use Rattle.pgs_resolve.proofs.Firsts.{first_kept}
 use Rattle.pgs_resolve.proofs.unknown.unknown_import.Goals as goal

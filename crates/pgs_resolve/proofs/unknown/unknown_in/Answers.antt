@@ -1,4 +1,4 @@
-use Rattle.std.proofs.Common.{◌≡◌, not, filter, sym, ◌∙◌, ap}
+use Rattle.std.proofs.Common.{not, filter, sym, ◌∙◌, ap}
 use Rattle.std.specs.List.{flat_map, slice_get}
 use Rattle.pgs_resolve.specs.Declarations.{is_graph_type}
 use Rattle.pgs_resolve.specs.Refused.{unknown_member}

@@ -1,4 +1,4 @@
-use Rattle.std.proofs.Common.{ℕ, List, ◌≡◌, ◌++◌, [], map, sym, ◌∙◌, ap, arith}
+use Rattle.std.proofs.Common.{ℕ, List, [], map, ◌∙◌, ap, arith}
 use Rattle.std.specs.List.{filter_map, flat_map}
 use Rattle.std.proofs.lemmas.List.{take_all}
 use Rattle.pgs_syntax.specs.declared.element_type.NodeType.{NodeType}
