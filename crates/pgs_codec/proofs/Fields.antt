@@ -19,7 +19,7 @@ use Rattle.pgs_base.specs.Name.{is_name, is_name_start, is_name_byte}
 use Rattle.pgs_base.specs.Options.{◌>>=◌}
 use Rattle.pgs_base.specs.Value.{is_text, is_number, is_value}
 use Rattle.pgs_codec.specs.Payload.{name_field, labels_field, value_field, truth_byte, property_field, props_field, node_id_field, edge_id_field, node_row_field, edge_row_field, node_field, edge_field}
-use Rattle.pgs_codec.specs.Encodable.{is_labels, is_property, is_props, is_node_id, is_edge_id, is_node_row, is_edge_row, is_node, is_edge}
+use Rattle.pgs_codec.specs.Encodable.{is_date, is_labels, is_property, is_props, is_node_id, is_edge_id, is_node_row, is_edge_row, is_node, is_edge}
 use Rattle.pgs_codec.specs.Reading.{Reading, named_at, bytes_at, byte_at, number_at, counted_at, name_bytes_at, name_at, text_bytes_at, text_at, truth_at, day_parts_at, day_at, value_kinds, value_at, labels_at, property_at, props_at, node_id, edge_id, node_id_at, edge_id_at, node_row_at, edge_row_at, node_at, edge_at}
 use Rattle.pgs_codec.proofs.Exact.{IsBytes, IsBytes-rest, Takes, IsExact, then_some, same_given, pair_exact, named_exact, tested_exact, refit, bytes_take, bytes_again, named_again, two_bytes, four_bytes, eight_bytes, number_exact, byte_exact, byte_takes, counted_exact, kind_takes, row_takes}
 
@@ -68,9 +68,8 @@ text_bytes_exact = record {
 
 text_exact : IsExact (λ text. to_be_bytes w16 (length text) ++ text) is_text text_at
 unfolding text_at
-text_exact = refit (tested_exact text_bytes_exact is_utf8) is_text
-  (λ text e. let parts = and_parts (ltb (length text) (2 ^ 16)) (is_utf8 text) e in let short : length text < 2 ^ 16 = ltb-true _ _ parts.0 in and_from _ _ parts.1 (le-leb _ _ (omega arith)))
-  (λ text e. let parts = and_parts (is_utf8 text) (leb (length text) 65535) e in let short : length text ≤ 65535 = leb-true _ _ parts.1 in and_from _ _ (lt-ltb _ _ (omega arith)) parts.0)
+text_exact = refit (tested_exact text_bytes_exact is_text) is_text (λ text e. (and_parts (ltb (length text) (2 ^ 16)) (is_text text) e).1)
+  (λ text e. let short : length text ≤ 65535 = leb-true (length text) 65535 (and_parts (is_utf8 text) (leb (length text) 65535) e).1 in and_from _ _ (lt-ltb (length text) (2 ^ 16) (omega arith)) e)
 
 truth_exact : IsExact (λ b. b ∷ []) (λ b. leb b 1) truth_at
 unfolding truth_at
@@ -125,7 +124,7 @@ truth_of (suc (suc b)) e = let le : suc (suc b) ≤ 1 = leb-true _ _ e in absurd
 
 day_exact : IsExact (λ (d : ℕ × ℕ × ℕ). to_be_bytes w16 d.0 ++ d.1 ∷ d.2 ∷ []) (λ (d : ℕ × ℕ × ℕ). is_day d.0 d.1 d.2) day_at
 unfolding day_at day_parts_at
-day_exact = refit (tested_exact parts (λ (d : ℕ × ℕ × ℕ). is_day d.0 d.1 d.2)) (λ d. is_day d.0 d.1 d.2)
+day_exact = refit (tested_exact parts is_date) (λ d. is_day d.0 d.1 d.2)
   (λ d e. (and_parts (ltb d.0 (2 ^ 16) && (ltb d.1 256 && ltb d.2 256)) (is_day d.0 d.1 d.2) e).1)
   (λ d e. and_from _ _ (short_day d.0 d.1 d.2 e) e)
   where

@@ -9,6 +9,7 @@ use Rattle.pgs_base.specs.declared.element.EdgeId.{EdgeId}
 use Rattle.pgs_base.specs.declared.row.NodeRow.{NodeRow}
 use Rattle.pgs_base.specs.declared.row.EdgeRow.{EdgeRow}
 use Rattle.pgs_base.specs.declared.value.Value.{Value}
+use Rattle.pgs_base.specs.Day.{is_day}
 use Rattle.pgs_base.specs.Graph.{Graph, ascends, is_graph}
 use Rattle.pgs_base.specs.Name.{is_name}
 use Rattle.pgs_base.specs.Value.{is_value}
@@ -54,6 +55,9 @@ is_sized (commands.Txn txn) = nat_lt (length txn.ops) (2 ^ 32) && list_all adds_
 -- at most 64 names that ascend strictly
 abbrev pub is_labels : List (List ℕ) → Bool
 is_labels labels = nat_le (length labels) 64 && list_all is_name labels && ascends (slice_cmp nat_cmp) labels
+
+abbrev pub is_date : ℕ × ℕ × ℕ → Bool
+is_date day = is_day day.0 day.1 day.2
 
 -- a name and a value
 abbrev pub is_property : List ℕ × Value → Bool

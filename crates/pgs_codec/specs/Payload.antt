@@ -26,13 +26,21 @@ abbrev pub truth_byte : Bool → ℕ
 truth_byte true = 1
 truth_byte false = 0
 
--- a byte for the kind, and then two bytes of length and the text; a number in two's complement; a byte that is 1 where it is
--- true and else 0; or two bytes of year, one of month and one of day
+-- two bytes of length, and the bytes
+abbrev pub text_field : List ℕ → List ℕ
+text_field text = to_be_bytes w16 (length text) ++ text
+
+-- two bytes of year, one of month and one of day
+abbrev pub day_field : ℕ × ℕ × ℕ → List ℕ
+day_field day = to_be_bytes w16 day.0 ++ day.1 ∷ day.2 ∷ []
+
+-- a byte for the kind, and then the text; eight bytes of a number in two's complement; a byte that is 1 where it is true and
+-- else 0; or the day
 abbrev pub value_field : Value → List ℕ
-value_field (values.Text text) = 1 ∷ (to_be_bytes w16 (length text) ++ text)
+value_field (values.Text text) = 1 ∷ text_field text
 value_field (values.Int number) = 2 ∷ to_be_bytes w64 (cast_unsigned w64 number)
 value_field (values.Bool truth) = 3 ∷ truth_byte truth ∷ []
-value_field (values.Date day) = 4 ∷ (to_be_bytes w16 day.0 ++ day.1 ∷ day.2 ∷ [])
+value_field (values.Date day) = 4 ∷ day_field day
 
 -- a name and its value
 abbrev pub property_field : List ℕ × Value → List ℕ

@@ -8,7 +8,9 @@
 mod command;
 mod field;
 pub mod laws;
+mod order;
 mod reader;
 mod unread;
+mod value;
 
 pub use command::Command;
