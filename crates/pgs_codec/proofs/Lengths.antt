@@ -5,8 +5,13 @@ use Rattle.std.specs.List.{list_all}
 use Rattle.std.specs.Str.{IsUtf8}
 use Rattle.std.proofs.lemmas.Bool.{leb-true, le-leb, and_parts, and_from}
 use Rattle.std.proofs.lemmas.Str.{is_utf8-from_IsUtf8}
+use Rattle.std.specs.declared.cmp.Ordering.{Ordering}
+use Rattle.std.specs.List.Sorted.{IsStrictlySortedBy}
+use Rattle.pgs_base.specs.declared.value.Value.{Value}
+use Rattle.pgs_base.specs.Graph.{ascends}
 use Rattle.pgs_base.specs.Name.{is_name, is_name_start, is_name_byte}
 use Rattle.pgs_base.specs.Value.{is_text}
+use Rattle.pgs_base.proofs.Ascending.{ascends_decides}
 
 pub name_length : (name : List ℕ) → is_name name ≡ true → length name ≤ 64
 name_length [] e = absurd cc
@@ -20,3 +25,16 @@ text_fits text utf8 short = and_from _ _ (is_utf8-from_IsUtf8 text utf8) (le-leb
 pub all_so : {A : Type 0} (test : A → Bool) (xs : List A) → ((x : A) → test x ≡ true) → list_all test xs ≡ true
 all_so test [] so = refl
 all_so test (x ∷ xs) so = and_from (test x) (list_all test xs) (so x) (all_so test xs so)
+
+-- ---- order
+
+pub sorted_from_test : {K : Type 0} (cmp : K → K → Ordering) (ks : List K) → ascends cmp ks ≡ true → IsStrictlySortedBy cmp ks
+sorted_from_test cmp ks = (ascends_decides cmp ks).0
+
+pub test_from_sorted : {K : Type 0} (cmp : K → K → Ordering) (ks : List K) → IsStrictlySortedBy cmp ks → ascends cmp ks ≡ true
+test_from_sorted cmp ks = (ascends_decides cmp ks).1
+
+-- ---- names are small
+
+pub names_small : (names : List (List ℕ)) → list_all (λ _. true) names ≡ true
+names_small names = all_so (λ _. true) names (λ x. refl)

@@ -21,9 +21,16 @@ use Rattle.pgs_codec.specs.Payload.{payload_of}
 
 -- ---- sizes, which a caller of `encode` answers for
 
--- whether a row has at most 64 labels and 256 properties
+-- whether there are at most 64 labels
+abbrev pub are_small_labels : List (List ℕ) → Bool
+are_small_labels labels = nat_le (length labels) 64
+
+-- whether there are at most 256 properties
+abbrev pub are_small_props : List (List ℕ × Value) → Bool
+are_small_props props = nat_le (length props) 256
+
 abbrev pub is_small : List (List ℕ) → List (List ℕ × Value) → Bool
-is_small labels props = nat_le (length labels) 64 && nat_le (length props) 256
+is_small labels props = are_small_labels labels && are_small_props props
 
 -- whether an operation adds a small row, or adds none
 abbrev pub adds_small : Op → Bool

@@ -8,8 +8,10 @@
 mod command;
 mod field;
 pub mod laws;
+mod operation;
 mod order;
 mod reader;
+mod row;
 mod unread;
 mod value;
 
