@@ -38,3 +38,7 @@ test_from_sorted cmp ks = (ascends_decides cmp ks).1
 
 pub names_small : (names : List (List ℕ)) → list_all (λ _. true) names ≡ true
 names_small names = all_so (λ _. true) names (λ x. refl)
+
+-- a count is at most the limit of its bytes
+pub count_fits : (n limit : ℕ) → n < limit → leb n limit ≡ true
+count_fits n limit lt = le-leb n limit (omega arith)

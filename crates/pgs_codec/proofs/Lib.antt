@@ -5,4 +5,5 @@ pub mod Lengths
 pub mod Loops
 pub mod Ops
 pub mod Ordering
+pub mod Snapshots
 pub mod Texts

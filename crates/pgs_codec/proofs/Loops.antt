@@ -24,7 +24,7 @@ module _ {A : Type 0} (field : Reading A) (front : List A) (count i : ℕ) (byte
   goes_on x after lt h so_far =
       let k : count - i ≡ suc (count - (i + 1)) = omega arith in
       let one : with_front front (many_at field (count - i) bytes) ≡ with_front (front ++ x ∷ []) (many_at field (count - (i + 1)) after) =
-        rw (k, h) (regroup front x (many_at field (count - (i + 1)) after)) in
+      rw (k, h) (regroup front x (many_at field (count - (i + 1)) after)) in
       sym one ∙ so_far
 
   pub ends : (e : Unread) → i < count → Fails e (field bytes) → with_front front (many_at field (count - i) bytes) ≡ total → Fails e total

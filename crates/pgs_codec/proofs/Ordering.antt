@@ -30,11 +30,11 @@ module _ {K : Type 0} (cmp : K → K → Ordering) where
       elim (cases_lt (k + 1) place) [
         | inl earlier ↦ below k d earlier
         | inr here ↦
-          let k-is : k ≡ place - 1 = omega arith in
-          let next-is : k + 1 ≡ place = omega arith in
-          let first : get_or ks k d ≡ a = ap (λ i. get_or ks i d) k-is ∙ item_at ks (place - 1) a d (omega arith) at_a in
-          let second : get_or ks (k + 1) d ≡ b = ap (λ i. get_or ks i d) next-is ∙ item_at ks place b d lt at_b in
-          rw (first, second) (less_from (cmp a b) less)
+            let k-is : k ≡ place - 1 = omega arith in
+            let next-is : k + 1 ≡ place = omega arith in
+            let first : get_or ks k d ≡ a = ap (λ i. get_or ks i d) k-is ∙ item_at ks (place - 1) a d (omega arith) at_a in
+            let second : get_or ks (k + 1) d ≡ b = ap (λ i. get_or ks i d) next-is ∙ item_at ks place b d lt at_b in
+            rw (first, second) (less_from (cmp a b) less)
       ]
 
   pub not_in_order : (ks : List K) (place : ℕ) (a b : K) → 1 ≤ place → place < length ks → a ≡ get_or ks (place - 1) a → b ≡ get_or ks place b →

@@ -100,14 +100,21 @@ abbrev pub ops_field : List Op → List ℕ
 ops_field ops = to_be_bytes w32 (length ops) ++ flat_map op_field ops
 
 -- eight bytes of count, and the rows
+abbrev pub rows_field : {A : Type 0} → (A → List ℕ) → List A → List ℕ
+rows_field row rows = to_be_bytes w64 (length rows) ++ flat_map row rows
+
 abbrev pub nodes_field : List (NodeId × NodeRow) → List ℕ
-nodes_field nodes = to_be_bytes w64 (length nodes) ++ flat_map node_field nodes
+nodes_field = rows_field node_field
 
 abbrev pub edges_field : List (EdgeId × EdgeRow) → List ℕ
-edges_field edges = to_be_bytes w64 (length edges) ++ flat_map edge_field edges
+edges_field = rows_field edge_field
+
+-- the commits, the nodes and the edges
+abbrev pub snapshot_field : ℕ → List (NodeId × NodeRow) → List (EdgeId × EdgeRow) → List ℕ
+snapshot_field commits nodes edges = to_be_bytes w64 commits ++ (nodes_field nodes ++ edges_field edges)
 
 -- the one payload of a command
 unfoldable pub payload_of : Command → List ℕ
 payload_of (commands.Schema text) = 1 ∷ text
-payload_of (commands.Snapshot commits nodes edges) = 2 ∷ (to_be_bytes w64 commits ++ (nodes_field nodes ++ edges_field edges))
+payload_of (commands.Snapshot commits nodes edges) = 2 ∷ snapshot_field commits nodes edges
 payload_of (commands.Txn txn) = 3 ∷ ops_field txn.ops

@@ -22,6 +22,9 @@ pub(crate) trait Field: Drop {
     /// How it is read from the front of bytes.
     ghost field_at: { List ℕ → Option (Self × List ℕ) };
 
+    /// How many bytes it has, as far as memory reaches. Memory is taken by it; what is written doesn't rest on it.
+    fn size(&self) -> usize;
+
     /// Reads it from the front of what is left.
     fn read(alloc: Global, reader: &mut Reader<'_>) -> Result<Self, Unread>
         ensures { Reads (λ field. field) result reader.new.rest.now (field_at reader.old.rest.now) };
@@ -42,6 +45,10 @@ impl<A: Field, B: Field> Field for (A, B) {
 
     ghost field_at = { pair_at A.field_at B.field_at };
 
+    fn size(&self) -> usize {
+        self.0.size().saturating_add(self.1.size())
+    }
+
     #[tactic(auto, unfolding(crate::specs::Reading::pair_at))]
     fn read(alloc: Global, reader: &mut Reader<'_>) -> Result<(A, B), Unread> {
         let first = A::read(alloc, reader)?;
@@ -54,6 +61,15 @@ impl<A: Field, B: Field> Field for (A, B) {
         self.1.write(out)?;
         Ok(())
     }
+}
+
+/// How many bytes the fields have together, as far as memory reaches.
+pub(crate) fn size_of_all<F: Field>(fields: &[F]) -> usize {
+    let mut size: usize = 0;
+    for field in fields {
+        size = size.saturating_add(field.size());
+    }
+    size
 }
 
 /// Reads so many fields, one after another. Memory grows with the fields that are there, not with the count.

@@ -6,7 +6,10 @@
 #![tactic(auto)]
 
 mod command;
+mod decoding;
+mod encoding;
 mod field;
+mod framing;
 pub mod laws;
 mod operation;
 mod order;
@@ -16,3 +19,6 @@ mod unread;
 mod value;
 
 pub use command::Command;
+pub use decoding::decode;
+pub use encoding::encode;
+pub use framing::frame;

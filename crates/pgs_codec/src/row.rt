@@ -6,7 +6,7 @@ ghost use Rattle.pgs_codec.specs.Payload.{labels_field, props_field, node_id_fie
 ghost use Rattle.pgs_codec.specs.Reading.{counted_at, labels_at, props_at, node_id_at, edge_id_at, node_row_at, edge_row_at};
 ghost use Rattle.pgs_codec.specs.Unread.{Reads};
 
-use crate::field::{Field, read_all, write_all};
+use crate::field::{Field, read_all, size_of_all, write_all};
 use crate::order::{ascend, keys_ascend};
 use crate::reader::Reader;
 use crate::unread::Unread;
@@ -39,6 +39,10 @@ impl Field for Labels {
 
     ghost field_at = { labels_at };
 
+    fn size(&self) -> usize {
+        size_of_all(self.as_slice()).saturating_add(2)
+    }
+
     #[tactic(auto, using(crate::proofs::Lengths::sorted_from_test), unfolding(crate::specs::Reading::labels_at, crate::specs::Reading::tested_at))]
     fn read(alloc: Global, reader: &mut Reader<'_>) -> Result<Labels, Unread> {
         let names: Vec<Name> = read_counted(alloc, reader, 64)?;
@@ -64,6 +68,10 @@ impl Field for Props {
     ghost is_small = { are_small_props };
 
     ghost field_at = { props_at };
+
+    fn size(&self) -> usize {
+        size_of_all(self.as_slice()).saturating_add(2)
+    }
 
     #[tactic(auto, using(crate::proofs::Lengths::sorted_from_test), unfolding(crate::specs::Reading::props_at, crate::specs::Reading::property_at, crate::specs::Reading::tested_at))]
     fn read(alloc: Global, reader: &mut Reader<'_>) -> Result<Props, Unread> {
@@ -91,6 +99,10 @@ impl Field for NodeId {
 
     ghost field_at = { node_id_at };
 
+    fn size(&self) -> usize {
+        8
+    }
+
     #[tactic(auto, unfolding(crate::specs::Reading::node_id_at, crate::specs::Reading::named_at))]
     fn read(_alloc: Global, reader: &mut Reader<'_>) -> Result<NodeId, Unread> {
         let number = reader.number64()?;
@@ -112,6 +124,10 @@ impl Field for EdgeId {
 
     ghost field_at = { edge_id_at };
 
+    fn size(&self) -> usize {
+        8
+    }
+
     #[tactic(auto, unfolding(crate::specs::Reading::edge_id_at, crate::specs::Reading::named_at))]
     fn read(_alloc: Global, reader: &mut Reader<'_>) -> Result<EdgeId, Unread> {
         let number = reader.number64()?;
@@ -132,6 +148,10 @@ impl Field for NodeRow {
     ghost is_small = { is_small_node };
 
     ghost field_at = { node_row_at };
+
+    fn size(&self) -> usize {
+        self.labels.size().saturating_add(self.props.size())
+    }
 
     #[tactic(auto, unfolding(crate::specs::Reading::node_row_at, crate::specs::Reading::named_at, crate::specs::Reading::pair_at))]
     fn read(alloc: Global, reader: &mut Reader<'_>) -> Result<NodeRow, Unread> {
@@ -155,6 +175,13 @@ impl Field for EdgeRow {
     ghost is_small = { is_small_edge };
 
     ghost field_at = { edge_row_at };
+
+    fn size(&self) -> usize {
+        self.labels
+            .size()
+            .saturating_add(self.props.size())
+            .saturating_add(16)
+    }
 
     #[tactic(auto, unfolding(crate::specs::Reading::edge_row_at, crate::specs::Reading::named_at, crate::specs::Reading::pair_at))]
     fn read(alloc: Global, reader: &mut Reader<'_>) -> Result<EdgeRow, Unread> {

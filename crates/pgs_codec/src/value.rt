@@ -23,6 +23,10 @@ impl Field for Name {
 
     ghost field_at = { name_at };
 
+    fn size(&self) -> usize {
+        self.bytes().len().saturating_add(1)
+    }
+
     #[tactic(auto, unfolding(crate::specs::Reading::name_at, crate::specs::Reading::name_bytes_at, crate::specs::Reading::tested_at))]
     fn read(alloc: Global, reader: &mut Reader<'_>) -> Result<Name, Unread> {
         let len = reader.byte()?;
@@ -111,6 +115,15 @@ impl Field for Value {
     ghost is_small = { λ _. true };
 
     ghost field_at = { value_at };
+
+    fn size(&self) -> usize {
+        match self {
+            Value::Text(text) => text.text().len().saturating_add(3),
+            Value::Int(_) => 9,
+            Value::Bool(_) => 2,
+            Value::Date(_) => 5,
+        }
+    }
 
     #[tactic(auto, unfolding(crate::specs::Reading::value_at, crate::specs::Reading::named_at, crate::specs::Reading::byte_at))]
     fn read(alloc: Global, reader: &mut Reader<'_>) -> Result<Value, Unread> {

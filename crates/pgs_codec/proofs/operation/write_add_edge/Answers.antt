@@ -10,4 +10,4 @@ appended kind old a b c d e n₀ n₁ n₂ n₃ n₄ n₅ h₀ h₁ h₂ h₃ h�
 pub returns-clause-bytes : goal.returns-clause-bytes
 returns-clause-bytes c =
     appended 2 c.args.out.now.items (edge_id_field c.args.id.now) (node_id_field c.args.source.now) (node_id_field c.args.target.now) (labels_field c.args.labels.now) (props_field c.args.props.now)
-      _ _ _ _ _ _ c.in_ok-push.ensures.items c.in_ok-write.ensures.bytes c.in_ok-write-2.ensures.bytes c.in_ok-write-3.ensures.bytes c.in_ok-write-4.ensures.bytes c.in_ok-write-5.ensures.bytes
+    _ _ _ _ _ _ c.in_ok-push.ensures.items c.in_ok-write.ensures.bytes c.in_ok-write-2.ensures.bytes c.in_ok-write-3.ensures.bytes c.in_ok-write-4.ensures.bytes c.in_ok-write-5.ensures.bytes

@@ -10,8 +10,8 @@ returns-then-not-is_lt g c =
     let before : place - 1 < length rows = omega arith in
     let within : place < length (keys_of rows) = omega (arith, keys_length rows) in
     sym (not_in_order g.K.Ord.cmp (keys_of rows) place (get_or rows (place - 1) c.index-rows-place.result).0 (get_or rows place c.index-rows-place-in-loop-place.result).0
-      c.loop-place.auto.place within (key_at rows (place - 1) c.index-rows-place.result before) (key_at rows place c.index-rows-place-in-loop-place.result c.loop-place-test.true)
-      (ap is_lt (sym c.cmp.ensures) ∙ sym c.is_lt.ensures ∙ c.if-not-is_lt.true))
+    c.loop-place.auto.place within (key_at rows (place - 1) c.index-rows-place.result before) (key_at rows place c.index-rows-place-in-loop-place.result c.loop-place-test.true)
+    (ap is_lt (sym c.cmp.ensures) ∙ sym c.is_lt.ensures ∙ c.if-not-is_lt.true))
 
 pub loop-place-preserved : goal.loop-place-preserved
 loop-place-preserved g c =
@@ -20,8 +20,8 @@ loop-place-preserved g c =
     let before : place - 1 < length rows = omega arith in
     let within : place < length (keys_of rows) = omega (arith, keys_length rows) in
     in_order_more g.K.Ord.cmp (keys_of rows) place (get_or rows (place - 1) c.index-rows-place.result).0 (get_or rows place c.index-rows-place-in-loop-place.result).0
-      c.loop-place.auto.place within (key_at rows (place - 1) c.index-rows-place.result before) (key_at rows place c.index-rows-place-in-loop-place.result c.loop-place-test.true)
-      (ap is_lt (sym c.cmp.ensures) ∙ sym c.is_lt.ensures ∙ c.if-not-is_lt.false) c.loop-place.invariant
+    c.loop-place.auto.place within (key_at rows (place - 1) c.index-rows-place.result before) (key_at rows place c.index-rows-place-in-loop-place.result c.loop-place-test.true)
+    (ap is_lt (sym c.cmp.ensures) ∙ sym c.is_lt.ensures ∙ c.if-not-is_lt.false) c.loop-place.invariant
 
 pub returns : goal.returns
 returns g c =

@@ -15,16 +15,16 @@ tested text bytes made outcome e h is = ap (λ t. cond (leb (length t) 65535) (S
 pub returns-in_default : goal.returns-in_default
 returns-in_default c =
     is_not_utf8 c.args.reader.now.rest.now c.number16.new.self.rest.now c.in_ok-bytes.bytes.now c.bytes.new.self.rest.now c.in_ok-len.len c.in_ok-len.ensures
-      (taken c.from.result c.in_ok-len.len c.number16.new.self.rest.now _ c.from.ensures c.in_ok-bytes.ensures) c.in_default.ensures.cases.0
+    (taken c.from.result c.in_ok-len.len c.number16.new.self.rest.now _ c.from.ensures c.in_ok-bytes.ensures) c.in_default.ensures.cases.0
 
 pub returns-in-Some : goal.returns-in-Some
 returns-in-Some c =
     is_the_text c.args.reader.now.rest.now c.number16.new.self.rest.now c.in_ok-bytes.bytes.now c.bytes.new.self.rest.now c.in_ok-len.len c.in_ok-len.ensures
-      (taken c.from.result c.in_ok-len.len c.number16.new.self.rest.now _ c.from.ensures c.in_ok-bytes.ensures) c.in-Ok.ensures.cases.1 c.in-Some.text
-      (tested c.in-Ok.text.now c.in_ok-bytes.bytes.now c.in_ok-text.field-0 (Some c.in-Some.text) c.in-Ok.ensures.cases.0 c.in_ok-text.ensures c.in-Some.is)
+    (taken c.from.result c.in_ok-len.len c.number16.new.self.rest.now _ c.from.ensures c.in_ok-bytes.ensures) c.in-Ok.ensures.cases.1 c.in-Some.text
+    (tested c.in-Ok.text.now c.in_ok-bytes.bytes.now c.in_ok-text.field-0 (Some c.in-Some.text) c.in-Ok.ensures.cases.0 c.in_ok-text.ensures c.in-Some.is)
 
 pub returns-in-None : goal.returns-in-None
 returns-in-None c =
     is_too_long c.args.reader.now.rest.now c.number16.new.self.rest.now c.in_ok-bytes.bytes.now c.bytes.new.self.rest.now c.in_ok-len.len c.in_ok-len.ensures
-      (taken c.from.result c.in_ok-len.len c.number16.new.self.rest.now _ c.from.ensures c.in_ok-bytes.ensures)
-      (tested c.in-Ok.text.now c.in_ok-bytes.bytes.now c.in_ok-text.field-0 None c.in-Ok.ensures.cases.0 c.in_ok-text.ensures c.in-None.is)
+    (taken c.from.result c.in_ok-len.len c.number16.new.self.rest.now _ c.from.ensures c.in_ok-bytes.ensures)
+    (tested c.in-Ok.text.now c.in_ok-bytes.bytes.now c.in_ok-text.field-0 None c.in-Ok.ensures.cases.0 c.in_ok-text.ensures c.in-None.is)
