@@ -1,6 +1,6 @@
 -- A property graph: two finite maps, nodes to their rows and edges to theirs, each as its rows by ascending number.
-use Rattle.std.specs.Prelude.{ℕ, ◌+◌, Bool, true, ◌&&◌, ◌||◌, List, [], ◌∷◌, length, Option, is_some, ◌==◌}
-use Rattle.std.specs.Ordering.{nat_cmp, is_lt}
+use Rattle.std.specs.Prelude.{ℕ, ◌+◌, Bool, ◌&&◌, ◌||◌, List, [], length, Option, is_some, ◌==◌}
+use Rattle.std.specs.Ordering.{nat_cmp}
 use Rattle.std.specs.declared.cmp.Ordering.{Ordering}
 use Rattle.std.specs.List.{list_all}
 use Rattle.std.specs.BTreeMap.{is_at, insert_entry}
@@ -9,6 +9,7 @@ use Rattle.pgs_base.specs.declared.element.NodeId.{NodeId}
 use Rattle.pgs_base.specs.declared.element.EdgeId.{EdgeId}
 use Rattle.pgs_base.specs.declared.row.NodeRow.{NodeRow}
 use Rattle.pgs_base.specs.declared.row.EdgeRow.{EdgeRow}
+use Rattle.pgs_base.specs.Order.{ascends}
 
 -- the order of nodes and of edges: by number
 abbrev pub node_cmp : NodeId → NodeId → Ordering
@@ -54,11 +55,6 @@ without_edge g id = record g { edges = remove_entry (is_at (edge_cmp id)) g.edge
 -- whether a node is an end of an edge
 abbrev pub is_end : NodeId → EdgeRow → Bool
 is_end id row = row.source.0 == id.0 || row.target.0 == id.0
-
--- whether keys ascend strictly
-abbrev pub ascends : {K : Type 0} → (K → K → Ordering) → List K → Bool
-ascends cmp [] = true
-ascends cmp (k ∷ ks) = list_all (λ later. is_lt (cmp k later)) ks && ascends cmp ks
 
 -- whether both ends of an edge are nodes of the graph
 abbrev pub has_ends : Graph → EdgeRow → Bool

@@ -5,6 +5,7 @@ pub mod Name
 pub mod Options
 pub mod Order
 pub mod OrderLaws
+pub mod Pair
 pub mod Places
 pub mod Value
 pub mod formers

@@ -8,7 +8,7 @@ use Rattle.std.proofs.lemmas.Str.{is_utf8-from_IsUtf8}
 use Rattle.std.specs.declared.cmp.Ordering.{Ordering}
 use Rattle.std.specs.List.Sorted.{IsStrictlySortedBy}
 use Rattle.pgs_base.specs.declared.value.Value.{Value}
-use Rattle.pgs_base.specs.Graph.{ascends}
+use Rattle.pgs_base.specs.Order.{ascends}
 use Rattle.pgs_base.specs.Name.{is_name, is_name_start, is_name_byte}
 use Rattle.pgs_base.specs.Value.{is_text}
 use Rattle.pgs_base.proofs.Ascending.{ascends_decides}

@@ -7,7 +7,8 @@ use Rattle.pgs_base.specs.declared.element.NodeId.{NodeId}
 use Rattle.pgs_base.specs.declared.element.EdgeId.{EdgeId}
 use Rattle.pgs_base.specs.declared.row.NodeRow.{NodeRow}
 use Rattle.pgs_base.specs.declared.row.EdgeRow.{EdgeRow}
-use Rattle.pgs_base.specs.Graph.{ascends, node_cmp, edge_cmp, has_ends, is_graph}
+use Rattle.pgs_base.specs.Graph.{node_cmp, edge_cmp, has_ends, is_graph}
+use Rattle.pgs_base.specs.Order.{ascends}
 use Rattle.pgs_base.specs.Options.{◌>>=◌}
 use Rattle.pgs_codec.specs.declared.command.Command.{Command}
 use Rattle.pgs_codec.specs.declared.command.Command.TheVariants.{Snapshot}

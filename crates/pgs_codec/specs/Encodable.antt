@@ -10,7 +10,8 @@ use Rattle.pgs_base.specs.declared.row.NodeRow.{NodeRow}
 use Rattle.pgs_base.specs.declared.row.EdgeRow.{EdgeRow}
 use Rattle.pgs_base.specs.declared.value.Value.{Value}
 use Rattle.pgs_base.specs.Day.{is_day}
-use Rattle.pgs_base.specs.Graph.{Graph, ascends, is_graph}
+use Rattle.pgs_base.specs.Graph.{Graph, is_graph}
+use Rattle.pgs_base.specs.Order.{ascends}
 use Rattle.pgs_base.specs.Name.{is_name}
 use Rattle.pgs_base.specs.Value.{is_value}
 use Rattle.pgs_graph.specs.declared.operation.Op.{Op}

@@ -10,7 +10,8 @@ use Rattle.pgs_base.specs.declared.row.NodeRow.{NodeRow}
 use Rattle.pgs_base.specs.declared.row.EdgeRow.{EdgeRow}
 use Rattle.pgs_base.specs.declared.value.Value.{Value}
 use Rattle.pgs_base.specs.declared.value.Value.TheVariants as values
-use Rattle.pgs_base.specs.Graph.{ascends, is_graph}
+use Rattle.pgs_base.specs.Graph.{is_graph}
+use Rattle.pgs_base.specs.Order.{ascends}
 use Rattle.pgs_base.specs.Name.{is_name}
 use Rattle.pgs_base.specs.Options.{◌>>=◌}
 use Rattle.pgs_base.specs.Value.{is_text}

@@ -1,6 +1,6 @@
 ghost use Rattle.std.specs.Prelude.{◌≡◌};
 ghost use Rattle.std.specs.Map.{keys_of};
-ghost use Rattle.pgs_base.specs.Graph.{ascends};
+ghost use Rattle.pgs_base.specs.Order.{ascends};
 
 /// Whether keys ascend strictly.
 pub(crate) fn ascend<K: Ord>(keys: &[K]) -> bool

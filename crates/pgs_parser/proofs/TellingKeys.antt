@@ -1,36 +1,55 @@
 -- Keys tell their trees.
-use Rattle.std.proofs.Common.{◌≡◌, ℕ, Bool, true, false, List, [], ◌∷◌, Option, Some, None, inl, inr, refl, sym, ap, ap₂, ◌∙◌, subst, codes}
-use Rattle.std.specs.List.{list_all}
-use Rattle.std.proofs.lemmas.Bool.{and_parts}
+use Rattle.std.proofs.Common.{◌≡◌, ℕ, Bool, true, false, List, [], ◌∷◌, Option, Some, None, inl, inr, refl, sym, ap, ap₂, ◌∙◌, subst, codes, bytes_eq, if◌then◌else◌}
 use Rattle.pgs_lexer.specs.Token.{Lexeme}
 use Rattle.pgs_lexer.specs.declared.kind.TokenKind.TheVariants.{Keyword, Sign}
 use Rattle.pgs_syntax.specs.declared.key.Qualifiers.{Qualifiers}
 use Rattle.pgs_syntax.specs.declared.raw.RawExpr.{RawExpr}
 use Rattle.pgs_syntax.specs.declared.raw.RawKey.{RawKey}
 use Rattle.pgs_syntax.specs.declared.raw.RawPath.{RawPath}
-use Rattle.pgs_syntax.specs.Fitting.{has_label, same_name}
-use Rattle.pgs_syntax.specs.Valid.{are_distinct}
-use Rattle.pgs_parser.specs.Production.{Production, ◌▸◌, ◌or◌, nothing, here, sign, keyword, maybe, listed}
+use Rattle.pgs_parser.specs.Production.{Production, ◌▸◌, ◌or◌, nothing, IsToken, here, sign, keyword, maybe, listed}
+use Rattle.pgs_parser.specs.declared.qualifier.Qualifier.{Qualifier}
+use Rattle.pgs_parser.specs.declared.qualifier.Qualifier.TheVariants.{Exclusive, Mandatory, Singleton}
 use Rattle.pgs_parser.specs.Literal.{name}
-use Rattle.pgs_parser.specs.Keys.{paths, path, qualifier_words, are_qualifiers, asked_by, qualifier, qualifiers, expr, key}
+use Rattle.pgs_parser.specs.Keys.{paths, path, asked_by, qualifier, qualifiers, expr, key}
 use Rattle.pgs_parser.proofs.NextToken.{Test, next, word, a_name, a_sign, next_sign, next_keyword, next_name, next_kind, clash, apart}
-use Rattle.pgs_parser.proofs.Telling.{Tells, Anything, Passes, Fails, split, skip, one_place, token_tells, name_tells, after_token, before_ends, maybe_tells}
+use Rattle.pgs_parser.proofs.Telling.{Tells, Anything, Passes, Fails, split, skip, one_place, weaker, token_tells, name_tells, after_token, before_ends, maybe_tells}
 use Rattle.pgs_parser.proofs.TellingLists.{Pairwise, Stops, separated, listed_tells, equal_lists}
 use Rattle.pgs_parser.proofs.TellingPaths.{step_signs, PathsEnd, paths_tell}
 
 -- ---- qualifiers
 
+-- the qualifier that a word is
+abbrev qualifier_of : List ℕ → Qualifier
+qualifier_of bytes =
+    if bytes_eq bytes (codes "EXCLUSIVE") then Exclusive else (if bytes_eq bytes (codes "MANDATORY") then Mandatory else Singleton)
+
+-- one of the keywords, other than IDENTIFIER
+abbrev IsQualifier : Qualifier → Lexeme → Type 0
+IsQualifier x token = (token.kind ≡ Keyword) × (qualifier_of token.bytes ≡ x) × (word ("IDENTIFIER" ∷ []) Keyword token.bytes ≡ false)
+
+qualifier_token : (x : Qualifier) (before after : List Lexeme) → qualifier x before after → IsToken (IsQualifier x) before after
+qualifier_token Exclusive before after h = weaker (λ token asked. (asked.0, ap qualifier_of asked.1, ap (word ("IDENTIFIER" ∷ []) Keyword) asked.1)) h
+qualifier_token Mandatory before after h = weaker (λ token asked. (asked.0, ap qualifier_of asked.1, ap (word ("IDENTIFIER" ∷ []) Keyword) asked.1)) h
+qualifier_token Singleton before after h = weaker (λ token asked. (asked.0, ap qualifier_of asked.1, ap (word ("IDENTIFIER" ∷ []) Keyword) asked.1)) h
+
 qualifier_tells : Tells ◌≡◌ Anything qualifier
-qualifier_tells = token_tells (λ x y token p q. sym p.1 ∙ q.1)
+qualifier_tells = record {
+  both = λ x y before a b h k f g.
+      (token_tells {IsAsked = IsQualifier} (λ x y token p q. sym p.1 ∙ q.1)).both x y before a b (qualifier_token x before a h) (qualifier_token y before b k) tt tt;
+}
+
+qualifier_kind : (test : Test) (value : Bool) → ((bytes : List ℕ) → test Keyword bytes ≡ value) → (x : Qualifier) (before after : List Lexeme) →
+    qualifier x before after → next test before ≡ value
+qualifier_kind test value e x before after h = next_kind test value e (λ token asked. asked.0) (qualifier_token x before after h)
 
 -- a further qualifier, with or without a comma
-abbrev further : List ℕ → Production
+abbrev further : Qualifier → Production
 further word = (sign "," or nothing) ▸ qualifier word
 
-no_sign : (word : List ℕ) (before after : List Lexeme) → qualifier word before after → Fails a_sign before
-no_sign word before after h = next_kind a_sign false (λ bytes. refl) (λ token asked. asked.0) h
+no_sign : (word : Qualifier) (before after : List Lexeme) → qualifier word before after → Fails a_sign before
+no_sign word before after h = qualifier_kind a_sign false (λ bytes. refl) word before after h
 
-comma_or_none : (x y : List ℕ) (before m n a b : List Lexeme) → (sign "," or nothing) before m → (sign "," or nothing) before n →
+comma_or_none : (x y : Qualifier) (before m n a b : List Lexeme) → (sign "," or nothing) before m → (sign "," or nothing) before n →
     qualifier x m a → qualifier y n b → (x ≡ y) × (a ≡ b)
 comma_or_none x y before m n a b (inl p) (inl q) h k = qualifier_tells.both x y m a b h (subst (λ n. qualifier y n b) (one_place q p) k) tt tt
 comma_or_none x y before m n a b (inl p) (inr q) h k = clash (next_sign a_sign "," p) (ap (next a_sign) q ∙ no_sign y n b k)
@@ -41,34 +60,27 @@ further_tells : Tells ◌≡◌ Anything further
 further_tells = record { both = λ x y before a b h k _ _. comma_or_none x y before h.0 k.0 a b h.1 k.1 h.2 k.2 }
 
 -- no further qualifier begins with a name
-no_further : (x : List ℕ) (a m b : List Lexeme) → Passes a_name a → (sign "," or nothing) a m → qualifier x m b → ⊥
+no_further : (x : Qualifier) (a m b : List Lexeme) → Passes a_name a → (sign "," or nothing) a m → qualifier x m b → ⊥
 no_further x a m b f (inl p) h = clash f (next_sign a_name "," p)
-no_further x a m b f (inr p) h = clash f (ap (next a_name) p ∙ next_kind a_name false (λ bytes. refl) (λ token asked. asked.0) h)
+no_further x a m b f (inr p) h = clash f (ap (next a_name) p ∙ qualifier_kind a_name false (λ bytes. refl) x m b h)
 
 words_tell : Tells ◌≡◌ (Passes a_name) (listed (sign "," or nothing) qualifier)
 words_tell = equal_lists (listed_tells (sign "," or nothing) qualifier qualifier_tells further_tells (λ a f. tt) (λ x a b h. tt)
     (λ x a b f h. no_further x a h.0 b f h.1 h.2))
 
--- whether a token is spelled as one of the three words
-abbrev three : Test
-three kind bytes = has_label bytes qualifier_words
-
-is_three : {word : List ℕ} {before after : List Lexeme} → qualifier word before after → next three before ≡ has_label word qualifier_words
-is_three (here asked) = ap (λ bytes. has_label bytes qualifier_words) asked.1
-
-no_identifier : (words : List (List ℕ)) (before a b : List Lexeme) → are_qualifiers words ≡ true → keyword "IDENTIFIER" before a →
+no_identifier : (words : List Qualifier) (before a b : List Lexeme) → keyword "IDENTIFIER" before a →
     listed (sign "," or nothing) qualifier words before b → ⊥
-no_identifier [] before a b e h k = k
-no_identifier (w ∷ ws) before a b e h k =
-    let all = and_parts (list_all (λ word. has_label word qualifier_words) (w ∷ ws)) (are_distinct same_name (w ∷ ws)) e in
-    let first = and_parts (has_label w qualifier_words) (list_all (λ word. has_label word qualifier_words) ws) all.0 in
-    clash (is_three k.1 ∙ first.0) (next_keyword three "IDENTIFIER" h)
+no_identifier [] before a b h k = k
+no_identifier (w ∷ ws) before a b h k = not_one w before k.0 a (qualifier_token w before k.0 k.1) h
+  where
+    not_one : (w : Qualifier) (before m a : List Lexeme) → IsToken (IsQualifier w) before m → keyword "IDENTIFIER" before a → ⊥
+    not_one w before m a (here p) (here q) = clash (ap (word ("IDENTIFIER" ∷ []) Keyword) q.1) p.2
 
 qualifiers_both : (x y : Qualifiers) (before a b : List Lexeme) → qualifiers x before a → qualifiers y before b → Passes a_name a →
     Passes a_name b → (x ≡ y) × (a ≡ b)
 qualifiers_both x y before a b (inl h) (inl k) f g = (h.0 ∙ sym k.0, one_place h.1 k.1)
-qualifiers_both x y before a b (inl h) (inr k) f g = absurd (no_identifier k.0 before a b k.1 h.1 k.3)
-qualifiers_both x y before a b (inr h) (inl k) f g = absurd (no_identifier h.0 before b a h.1 k.1 h.3)
+qualifiers_both x y before a b (inl h) (inr k) f g = absurd (no_identifier k.0 before a b h.1 k.3)
+qualifiers_both x y before a b (inr h) (inl k) f g = absurd (no_identifier h.0 before b a k.1 h.3)
 qualifiers_both x y before a b (inr h) (inr k) f g =
     let s = words_tell.both h.0 k.0 before a b h.3 k.3 f g in (h.2 ∙ ap asked_by s.0 ∙ sym k.2, s.1)
 
@@ -76,10 +88,10 @@ qualifiers_tell : Tells ◌≡◌ (Passes a_name) qualifiers
 qualifiers_tell = record { both = qualifiers_both }
 
 words_begin : (test : Test) (value : Bool) → ((bytes : List ℕ) → test Keyword bytes ≡ value) →
-    (words : List (List ℕ)) (before after : List Lexeme) →
+    (words : List Qualifier) (before after : List Lexeme) →
     listed (sign "," or nothing) qualifier words before after → next test before ≡ value
 words_begin test value e [] before after h = absurd h
-words_begin test value e (w ∷ ws) before after h = next_kind test value e (λ token asked. asked.0) h.1
+words_begin test value e (w ∷ ws) before after h = qualifier_kind test value e w before h.0 h.1
 
 qualifiers_begin : (test : Test) (value : Bool) → ((bytes : List ℕ) → test Keyword bytes ≡ value) →
     (x : Qualifiers) (before after : List Lexeme) → qualifiers x before after → next test before ≡ value

@@ -9,6 +9,7 @@ use Rattle.pgs_base.specs.DayForm.{day_in}
 use Rattle.pgs_base.specs.declared.value.Kind.TheVariants as kinds
 use Rattle.pgs_syntax.specs.declared.specification.Spec.{Word, Or, And, Opt}
 use Rattle.pgs_parser.specs.Production.{here}
+use Rattle.pgs_parser.specs.declared.qualifier.Qualifier.TheVariants.{Exclusive, Mandatory, Singleton}
 use Rattle.pgs_parser.proofs.OneToken.{◌⟨◌⟩◌}
 use Rattle.pgs_parser.specs.Types.{named, parenthesised, plain, optional, one_unit, units, one_conj, conjs}
 use Rattle.pgs_parser.specs.Samples as samples
@@ -177,7 +178,7 @@ mail_found = is_script (omega arith) refl (record {
         here (refl, refl)) ⟩ refl) ⟩ _ ⟨ here (refl, refl) ⟩ _ ⟨ (_ ⟨ here (refl, refl) ⟩
         _ ⟨ (_ ⟨ (_ ⟨ (_ ⟨ here (refl, refl) ⟩ _ ⟨ (_ ⟨ here (refl, refl) ⟩ _ ⟨ (_ ⟨ here (refl, refl) ⟩
         _ ⟨ here (refl, refl) ⟩ refl) ⟩ refl) ⟩ here (refl, refl)) ⟩ refl) ⟩ refl) ⟩
-        _ ⟨ (inr (codes "EXCLUSIVE" ∷ [], refl, refl, _ ⟨ here (refl, refl) ⟩ refl)) ⟩
+        _ ⟨ (inr (Exclusive ∷ [], refl, refl, _ ⟨ here (refl, refl) ⟩ refl)) ⟩
         _ ⟨ (_ ⟨ (_ ⟨ here (refl, refl) ⟩ _ ⟨ here (refl, refl) ⟩ here (refl, refl)) ⟩ refl) ⟩ refl) ⟩
         refl) ⟩ _ ⟨ here (refl, refl) ⟩ here (refl, refl),
     tt,
@@ -237,7 +238,7 @@ forms_found = is_script (omega arith) refl (record {
           _ ⟨ here (refl, refl) ⟩ here (refl, refl, omega arith)) ⟩ refl) ⟩ here (refl, refl)) ⟩
           here (refl, refl)) ⟩ refl) ⟩ refl) ⟩
           _ ⟨ (inr (
-            codes "EXCLUSIVE" ∷ codes "MANDATORY" ∷ codes "SINGLETON" ∷ [],
+            Exclusive ∷ Mandatory ∷ Singleton ∷ [],
             refl,
             refl,
             _ ⟨ here (refl, refl) ⟩

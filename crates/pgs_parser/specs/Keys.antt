@@ -1,17 +1,17 @@
 -- The grammar of keys. Each production has its tree as its argument.
-use Rattle.std.specs.Prelude.{◌≡◌, ℕ, Bool, true, false, ◌&&◌, List, [], ◌∷◌, codes}
-use Rattle.std.specs.List.{list_all}
+use Rattle.std.specs.Prelude.{◌≡◌, ℕ, Bool, true, false, List, [], ◌∷◌}
+use Rattle.std.specs.List.{list_any}
 use Rattle.pgs_base.specs.declared.value.Value.{Value}
-use Rattle.pgs_lexer.specs.declared.kind.TokenKind.TheVariants as tokens
 use Rattle.pgs_syntax.specs.declared.key.Qualifiers.{Qualifiers}
 use Rattle.pgs_syntax.specs.declared.raw.RawPlace.{RawPlace}
 use Rattle.pgs_syntax.specs.declared.raw.RawStep.{RawStep}
 use Rattle.pgs_syntax.specs.declared.raw.RawPath.{RawPath}
 use Rattle.pgs_syntax.specs.declared.raw.RawExpr.{RawExpr}
 use Rattle.pgs_syntax.specs.declared.raw.RawKey.{RawKey}
-use Rattle.pgs_syntax.specs.Fitting.{has_label, same_name}
 use Rattle.pgs_syntax.specs.Valid.{are_distinct}
-use Rattle.pgs_parser.specs.Production.{Production, ◌▸◌, ◌or◌, nothing, IsToken, keyword, sign, maybe, each, listed}
+use Rattle.pgs_parser.specs.Production.{Production, ◌▸◌, ◌or◌, nothing, keyword, sign, maybe, each, listed}
+use Rattle.pgs_parser.specs.declared.qualifier.Qualifier.{Qualifier}
+use Rattle.pgs_parser.specs.declared.qualifier.Qualifier.TheVariants.{Exclusive, Mandatory, Singleton}
 use Rattle.pgs_parser.specs.Literal.{name, literal}
 
 -- name ":" literal
@@ -52,36 +52,39 @@ path p = node p.start ▸ each step p.steps
 abbrev pub paths : List RawPath → Production
 paths = listed (sign ",") path
 
--- the words of qualifiers
-abbrev pub qualifier_words : List (List ℕ)
-qualifier_words = codes "EXCLUSIVE" ∷ codes "MANDATORY" ∷ codes "SINGLETON" ∷ []
+-- whether two qualifiers are of one kind
+abbrev pub is_same_kind : Qualifier → Qualifier → Bool
+is_same_kind Exclusive Exclusive = true
+is_same_kind Mandatory Mandatory = true
+is_same_kind Singleton Singleton = true
+is_same_kind _ _ = false
 
--- whether each word is one of these, and none stands twice
-abbrev pub are_qualifiers : List (List ℕ) → Bool
-are_qualifiers words = list_all (λ word. has_label word qualifier_words) words && are_distinct same_name words
-
--- what words ask
-abbrev pub asked_by : List (List ℕ) → Qualifiers
-asked_by words = record {
-  mandatory = has_label (codes "MANDATORY") words;
-  singleton = has_label (codes "SINGLETON") words;
-  exclusive = has_label (codes "EXCLUSIVE") words;
+-- what qualifiers ask
+abbrev pub asked_by : List Qualifier → Qualifiers
+asked_by written = record {
+  mandatory = list_any (is_same_kind Mandatory) written;
+  singleton = list_any (is_same_kind Singleton) written;
+  exclusive = list_any (is_same_kind Exclusive) written;
 }
 
 -- qualifier = EXCLUSIVE | MANDATORY | SINGLETON
-abbrev pub qualifier : List ℕ → Production
-qualifier word = IsToken (λ token. (token.kind ≡ tokens.Keyword) × (token.bytes ≡ word))
+abbrev pub qualifier : Qualifier → Production
+qualifier Exclusive = keyword "EXCLUSIVE"
+qualifier Mandatory = keyword "MANDATORY"
+qualifier Singleton = keyword "SINGLETON"
 
--- qualifier {[","] qualifier}
+-- qualifier {[","] qualifier}, where each kind stands at most once
 abbrev pub qualifier_list : Qualifiers → Production
 qualifier_list asked before after =
-    (words : List (List ℕ)) × (are_qualifiers words ≡ true) × (asked ≡ asked_by words)
-    × listed (sign "," or nothing) qualifier words before after
+    (written : List Qualifier) × (are_distinct is_same_kind written ≡ true) × (asked ≡ asked_by written)
+    × listed (sign "," or nothing) qualifier written before after
 
 -- IDENTIFIER is all three
+abbrev pub all_asked : Qualifiers
+all_asked = record { mandatory = true; singleton = true; exclusive = true }
+
 abbrev pub identifier : Qualifiers → Production
-identifier asked before after =
-    (asked ≡ record { mandatory = true; singleton = true; exclusive = true }) × keyword "IDENTIFIER" before after
+identifier asked before after = (asked ≡ all_asked) × keyword "IDENTIFIER" before after
 
 -- qualifiers = IDENTIFIER | qualifier {[","] qualifier}
 abbrev pub qualifiers : Qualifiers → Production

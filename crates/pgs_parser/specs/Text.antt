@@ -1,9 +1,10 @@
 -- What a schema text is: a script, or the first reason why it is none.
-use Rattle.std.specs.Prelude.{◌≡◌, ℕ, ◌<◌, ◌≤◌, List, length, Ok, Err}
+use Rattle.std.specs.Prelude.{◌≡◌, ℕ, ◌<◌, ◌≤◌, List, length, nat_le, if◌then◌else◌, Result, Ok, Err}
 use Rattle.pgs_lexer.specs.Cut.{tokens_of}
 use Rattle.pgs_lexer.specs.Token.{Lexeme}
 use Rattle.pgs_syntax.specs.declared.script.Script.{Script}
 use Rattle.pgs_parser.specs.Statements.{IsScript, IsNoScriptFrom}
+use Rattle.pgs_parser.specs.StatementReaders.{script_of}
 
 -- what the text of a schema is found to be
 pub data Found : Type 0 where
@@ -21,3 +22,11 @@ pub data IsFound (text : List ℕ) : Found → Type 0 where
       IsNoScriptFrom n tokens → IsFound text (no_statement n)
   is_script : {tree : Script} {tokens : List Lexeme} → length text ≤ 1048576 → tokens_of text ≡ Ok tokens →
       IsScript tree tokens → IsFound text (script tree)
+
+-- the same as a function of the tokens, and of the text
+abbrev pub found_in : Result (List Lexeme) ℕ → Found
+found_in (Err line) = no_item line
+found_in (Ok tokens) = elim (script_of tokens) [ Ok tree ↦ script tree | Err n ↦ no_statement n ]
+
+unfoldable pub found : List ℕ → Found
+found text = if nat_le (length text) 1048576 then found_in (tokens_of text) else too_long

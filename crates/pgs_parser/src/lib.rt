@@ -13,6 +13,7 @@ mod cut;
 mod first_schema;
 mod form;
 pub mod laws;
+mod qualifier;
 mod reading;
 mod rules;
 pub mod samples;
@@ -22,6 +23,3 @@ mod unread;
 
 pub use first_schema::{FirstSchema, FirstType, parse_first};
 pub use form::first_form;
-
-#[cfg(test)]
-mod tests;

@@ -7,3 +7,4 @@ pub mod Refused
 pub mod Resolution
 pub mod Samples
 pub mod SchemaOf
+pub mod Width

@@ -17,7 +17,7 @@ use Rattle.pgs_syntax.specs.declared.script.Script.{Script}
 use Rattle.pgs_syntax.specs.declared.script.Statement.{Statement}
 use Rattle.pgs_syntax.specs.declared.script.Statement.TheVariants.{Node, Edge, Graph}
 use Rattle.pgs_syntax.specs.declared.specification.Spec.{Spec}
-use Rattle.pgs_syntax.specs.Fitting.{same_name, has_label}
+use Rattle.pgs_base.specs.Pair.{same_name, has_name}
 use Rattle.pgs_resolve.specs.Declarations.{words_of, braces_of, graphs_of, nodes_of, edges_of, node_named, edge_named, graph_named, is_node_type, is_edge_type, is_graph_type}
 
 -- ---- declared twice
@@ -26,7 +26,7 @@ use Rattle.pgs_resolve.specs.Declarations.{words_of, braces_of, graphs_of, nodes
 abbrev pub repeated_after : List (List ℕ) → List (List ℕ) → List (List ℕ)
 repeated_after earlier [] = []
 repeated_after earlier (name ∷ names) =
-    (if has_label name earlier then name ∷ [] else []) ++ repeated_after (name ∷ earlier) names
+    (if has_name name earlier then name ∷ [] else []) ++ repeated_after (name ∷ earlier) names
 
 -- a place of the tree that can be a second one: of an element type, of a graph type, or of a property that its braces have before
 pub data Mark : Type 0 where

@@ -13,14 +13,14 @@ use Rattle.std.proofs.lemmas.Map.Lookups.{exact_bytes}
 use Rattle.std.proofs.lemmas.Map.Views.{any-filter_same}
 use Rattle.pgs_base.specs.declared.row.NodeRow.{NodeRow}
 use Rattle.pgs_base.specs.declared.value.Value.{Value}
-use Rattle.pgs_base.specs.Graph.{ascends}
+use Rattle.pgs_base.specs.Order.{ascends}
 use Rattle.pgs_base.specs.Name.{is_name}
+use Rattle.pgs_base.specs.Pair.{same_name, has_name, value_at, pair_of, are_names, is_pair}
 use Rattle.pgs_base.specs.Value.{is_value}
 use Rattle.pgs_base.proofs.Ascending.{ascends_decides}
 use Rattle.pgs_base.proofs.Lookups.{same_entries, same_keys}
-use Rattle.pgs_syntax.specs.Join.{pair_of, halves, of_pairs, joined, joined_all}
-use Rattle.pgs_syntax.specs.Fitting.{same_name, has_label, value_at}
-use Rattle.pgs_syntax.specs.Meaning.{are_names, is_pair, IsUnionAt, IsJoinWhere, IsJoinOf, IsJoinOfAll}
+use Rattle.pgs_syntax.specs.Join.{halves, of_pairs, joined, joined_all}
+use Rattle.pgs_syntax.specs.Meaning.{IsUnionAt, IsJoinWhere, IsJoinOf, IsJoinOfAll}
 use Rattle.pgs_syntax.proofs.Halves.{joined_any, any_halves}
 use Rattle.pgs_syntax.proofs.Parts.{one_name}
 use Rattle.pgs_syntax.proofs.Splits.{IsSplit, none, to_left, to_right, to_both, split_from_any, any_from_split, split_any, split_all, split_ascends, split_map}
@@ -108,11 +108,11 @@ or_second : (a b : Bool) → b ≡ true → (a || b) ≡ true
 or_second true b h = refl
 or_second false b h = h
 
-all_labels : (t : List ℕ → Bool) (labels : Names) → ((x : List ℕ) → has_label x labels ≡ true → t x ≡ true) → list_all t labels ≡ true
+all_labels : (t : List ℕ → Bool) (labels : Names) → ((x : List ℕ) → has_name x labels ≡ true → t x ≡ true) → list_all t labels ≡ true
 all_labels t [] h = refl
 all_labels t (label ∷ labels) h =
-    and_from _ _ (h label (ap (λ b. b || has_label label labels) (own_name label)))
-    (all_labels t labels (λ x there. h x (or_second (same_name x label) (has_label x labels) there)))
+    and_from _ _ (h label (ap (λ b. b || has_name label labels) (own_name label)))
+    (all_labels t labels (λ x there. h x (or_second (same_name x label) (has_name x labels) there)))
 
 absorb_left : (a b : Bool) → (a && (a || b)) ≡ a
 absorb_left true b = refl
@@ -124,11 +124,11 @@ absorb_right a false = refl
 
 module _ (part labels : Names) where
   abbrev in_part : List ℕ → Bool
-  in_part x = has_label x part
+  in_part x = has_name x part
 
   -- the labels of a part, picked from the whole
   picked_labels : ascends (slice_cmp nat_cmp) part ≡ true → ascends (slice_cmp nat_cmp) labels ≡ true →
-      ((label : List ℕ) → (in_part label && has_label label labels) ≡ in_part label) → filter in_part labels ≡ part
+      ((label : List ℕ) → (in_part label && has_name label labels) ≡ in_part label) → filter in_part labels ≡ part
   picked_labels first second all =
       same_keys nat_list_cmp_total exact_bytes (filter in_part labels) part
       (IsStrictlySortedBy-filter (slice_cmp nat_cmp) in_part labels ((ascends_decides (slice_cmp nat_cmp) labels).0 second))
@@ -136,13 +136,13 @@ module _ (part labels : Names) where
       (λ q. any-filter_same (same_name q) in_part (in_part q) (λ k same. ap in_part (sym (one_name q k same))) labels ∙ all q)
 
 pub labels_split : (l r labels : Names) → ascends (slice_cmp nat_cmp) l ≡ true → ascends (slice_cmp nat_cmp) r ≡ true → ascends (slice_cmp nat_cmp) labels ≡ true →
-    ((label : List ℕ) → has_label label labels ≡ (has_label label l || has_label label r)) → IsSplit l r labels
+    ((label : List ℕ) → has_name label labels ≡ (has_name label l || has_name label r)) → IsSplit l r labels
 labels_split l r labels left right whole together =
-    let all : list_all (λ x. has_label x l || has_label x r) labels ≡ true = all_labels _ labels (λ x there. sym (together x) ∙ there) in
+    let all : list_all (λ x. has_name x l || has_name x r) labels ≡ true = all_labels _ labels (λ x there. sym (together x) ∙ there) in
     let first : filter (in_part l labels) labels ≡ l =
-    picked_labels l labels left whole (λ q. ap (λ b. has_label q l && b) (together q) ∙ absorb_left (has_label q l) (has_label q r)) in
+    picked_labels l labels left whole (λ q. ap (λ b. has_name q l && b) (together q) ∙ absorb_left (has_name q l) (has_name q r)) in
     let second : filter (in_part r labels) labels ≡ r =
-    picked_labels r labels right whole (λ q. ap (λ b. has_label q r && b) (together q) ∙ absorb_right (has_label q l) (has_label q r)) in
+    picked_labels r labels right whole (λ q. ap (λ b. has_name q r && b) (together q) ∙ absorb_right (has_name q l) (has_name q r)) in
     subst (λ (s : Names). IsSplit s r labels) first
     (subst (λ (s : Names). IsSplit (filter (in_part l labels) labels) s labels) second (picked (in_part l labels) (in_part r labels) labels all))
 

@@ -1,0 +1,7 @@
+/// What the keys of a schema ask, as it is written.
+#[derive(Clone, Copy, Debug, PartialEq, Eq)]
+pub enum Qualifier {
+    Exclusive,
+    Mandatory,
+    Singleton,
+}
