@@ -1,9 +1,9 @@
 -- Commands: a payload is decoded to its one command, and to no other.
-use Rattle.std.proofs.Common.{◌≡◌, ℕ, zero, suc, ◌^◌, ◌<◌, ◌≤◌, Bool, true, false, cond, ◌&&◌, List, [], ◌∷◌, ◌++◌, length, Option, Some, None, refl, sym, ap, subst, ◌∙◌, append_assoc, arith}
-use Rattle.std.specs.Prelude.{flat_map, eqb, leb, ltb}
+use Rattle.std.proofs.Common.{◌≡◌, ℕ, ◌^◌, ◌<◌, Bool, true, ◌&&◌, List, [], ◌∷◌, ◌++◌, length, Option, Some, None, refl, sym, ap, subst, ◌∙◌, arith}
+use Rattle.std.specs.Prelude.{eqb, leb, ltb}
 use Rattle.std.specs.Int.{w32, w64, to_be_bytes}
 use Rattle.std.specs.List.{list_all}
-use Rattle.std.proofs.lemmas.Bool.{leb-true, ltb-true, le-leb, lt-ltb, and_parts, and_from, eqb-true}
+use Rattle.std.proofs.lemmas.Bool.{ltb-true, le-leb, and_parts, and_from, eqb-true}
 use Rattle.std.proofs.lemmas.List.{append-nil, nil_from_length}
 use Rattle.std.proofs.lemmas.Option.{cond_some}
 use Rattle.pgs_base.specs.declared.element.NodeId.{NodeId}
@@ -15,10 +15,10 @@ use Rattle.pgs_base.specs.Options.{◌>>=◌}
 use Rattle.pgs_graph.specs.declared.operation.Op.{Op}
 use Rattle.pgs_codec.specs.declared.command.Command.{Command}
 use Rattle.pgs_codec.specs.declared.command.Command.TheVariants as commands
-use Rattle.pgs_codec.specs.Payload.{op_field, ops_field, node_field, nodes_field, edge_field, edges_field, payload_of}
+use Rattle.pgs_codec.specs.Payload.{ops_field, nodes_field, edges_field, payload_of}
 use Rattle.pgs_codec.specs.Encodable.{is_op, is_wide, is_node, is_edge, snapshot_graph, is_encodable, IsPayload}
-use Rattle.pgs_codec.specs.Reading.{Reading, counted_at, number_at, op_at, node_at, edge_at, schema_at, txn_at, snapshot_parts_at, snapshot_at, command_kinds, kind_at, tested_at, whole, decoded}
-use Rattle.pgs_codec.proofs.Exact.{IsBytes, Takes, IsExact, then_some, given, same_given, pair_exact, tested_exact, refit, counted_exact, named_takes, named_again, four_bytes, eight_bytes, number_exact, RowTakes, row_takes, kind_takes}
+use Rattle.pgs_codec.specs.Reading.{counted_at, op_at, node_at, edge_at, schema_at, txn_at, snapshot_parts_at, snapshot_at, command_kinds, kind_at, tested_at, whole, decoded}
+use Rattle.pgs_codec.proofs.Exact.{IsBytes, Takes, IsExact, then_some, given, same_given, pair_exact, tested_exact, refit, counted_exact, named_again, four_bytes, eight_bytes, number_exact, row_takes, kind_takes}
 use Rattle.pgs_codec.proofs.Fields.{node_exact, edge_exact}
 use Rattle.pgs_codec.proofs.Ops.{op_exact}
 

@@ -1,27 +1,24 @@
 -- Each field of a payload is read exactly.
-use Rattle.std.proofs.Common.{◌≡◌, ℕ, zero, suc, ◌+◌, ◌^◌, ◌<◌, ◌≤◌, Bool, true, false, cond, ◌&&◌, ◌||◌, List, [], ◌∷◌, ◌++◌, length, Option, Some, None, refl, sym, ap, subst, ◌∙◌, append_assoc, arith, inl, inr}
-use Rattle.std.specs.Prelude.{ℤ, pos, negsuc, if◌then◌else◌, flat_map, eqb, leb, ltb, FitsSigned}
-use Rattle.std.specs.Int.{w16, w32, w64, to_be_bytes, from_be_bytes, cast_signed, cast_unsigned}
+use Rattle.std.proofs.Common.{◌≡◌, ℕ, zero, suc, ◌^◌, ◌<◌, ◌≤◌, Bool, true, false, cond, ◌&&◌, List, [], ◌∷◌, ◌++◌, length, Some, refl, sym, ap, ◌∙◌, append_assoc, arith}
+use Rattle.std.specs.Prelude.{ℤ, pos, negsuc, eqb, leb, ltb, FitsSigned}
+use Rattle.std.specs.Int.{w16, w64, to_be_bytes, cast_signed, cast_unsigned}
 use Rattle.std.specs.Ordering.{nat_cmp}
 use Rattle.std.specs.Cmp.Lexicographic.{slice_cmp}
-use Rattle.std.specs.List.{list_all, AllByRecursion}
+use Rattle.std.specs.List.{list_all}
 use Rattle.std.specs.Map.{keys_of}
 use Rattle.std.specs.Str.{is_utf8}
-use Rattle.std.proofs.lemmas.Bool.{leb-true, ltb-true, ltb-false, le-leb, lt-ltb, and_parts, and_from, cases_Bool}
+use Rattle.std.proofs.lemmas.Bool.{leb-true, ltb-true, ltb-false, le-leb, lt-ltb, and_parts, and_from}
 use Rattle.std.proofs.lemmas.Int.{of_z-to_z, to_z-of_z}
-use Rattle.pgs_base.specs.declared.element.NodeId.{NodeId}
-use Rattle.pgs_base.specs.declared.element.EdgeId.{EdgeId}
 use Rattle.pgs_base.specs.declared.value.Value.{Value}
 use Rattle.pgs_base.specs.declared.value.Value.TheVariants as values
 use Rattle.pgs_base.specs.Day.{is_day}
 use Rattle.pgs_base.specs.Order.{ascends}
 use Rattle.pgs_base.specs.Name.{is_name, is_name_start, is_name_byte}
-use Rattle.pgs_base.specs.Options.{◌>>=◌}
 use Rattle.pgs_base.specs.Value.{is_text, is_number, is_value}
 use Rattle.pgs_codec.specs.Payload.{name_field, labels_field, value_field, truth_byte, property_field, props_field, node_id_field, edge_id_field, node_row_field, edge_row_field, node_field, edge_field}
 use Rattle.pgs_codec.specs.Encodable.{is_date, is_labels, is_property, is_props, is_node_id, is_edge_id, is_node_row, is_edge_row, is_node, is_edge}
-use Rattle.pgs_codec.specs.Reading.{Reading, named_at, bytes_at, byte_at, number_at, counted_at, name_bytes_at, name_at, text_bytes_at, text_at, truth_at, day_parts_at, day_at, value_kinds, value_at, labels_at, property_at, props_at, node_id, edge_id, node_id_at, edge_id_at, node_row_at, edge_row_at, node_at, edge_at}
-use Rattle.pgs_codec.proofs.Exact.{IsBytes, IsBytes-rest, Takes, IsExact, then_some, same_given, pair_exact, named_exact, tested_exact, refit, bytes_take, bytes_again, named_again, two_bytes, four_bytes, eight_bytes, number_exact, byte_exact, byte_takes, counted_exact, kind_takes, row_takes}
+use Rattle.pgs_codec.specs.Reading.{bytes_at, byte_at, number_at, name_bytes_at, name_at, text_bytes_at, text_at, truth_at, day_parts_at, day_at, value_kinds, value_at, labels_at, property_at, props_at, node_id, edge_id, node_id_at, edge_id_at, node_row_at, edge_row_at, node_at, edge_at}
+use Rattle.pgs_codec.proofs.Exact.{IsExact, then_some, pair_exact, named_exact, tested_exact, refit, bytes_take, bytes_again, named_again, two_bytes, eight_bytes, number_exact, byte_exact, counted_exact, kind_takes, row_takes}
 
 -- ---- names
 

@@ -1,10 +1,10 @@
 -- Operations are read exactly.
-use Rattle.std.proofs.Common.{◌≡◌, ℕ, Bool, true, ◌&&◌, List, [], ◌∷◌, ◌++◌, Some, refl}
+use Rattle.std.proofs.Common.{◌≡◌, ℕ, true, List, ◌++◌, Some, refl}
 use Rattle.pgs_graph.specs.declared.operation.Op.{Op}
 use Rattle.pgs_graph.specs.declared.operation.Op.TheVariants.{AddNode, AddEdge, RemoveNode, DetachNode, RemoveEdge, SetNode, UnsetNode, LabelNode, UnlabelNode, SetEdge, UnsetEdge, LabelEdge, UnlabelEdge}
-use Rattle.pgs_codec.specs.Payload.{op_field, node_id_field, edge_id_field, name_field, property_field}
+use Rattle.pgs_codec.specs.Payload.{op_field}
 use Rattle.pgs_codec.specs.Encodable.{is_op}
-use Rattle.pgs_codec.specs.Reading.{op_kinds, op_at, node_at, edge_at, node_id_at, edge_id_at, property_at, name_at, pair_at}
+use Rattle.pgs_codec.specs.Reading.{op_kinds, op_at}
 use Rattle.pgs_codec.proofs.Exact.{IsExact, pair_exact, kind_takes, row_takes, named_again}
 use Rattle.pgs_codec.proofs.Fields.{name_exact, property_exact, node_id_exact, edge_id_exact, node_exact, edge_exact}
 

@@ -1,5 +1,5 @@
 -- Reading a text: what its bytes say.
-use Rattle.std.proofs.Common.{◌≡◌, ℕ, Bool, true, false, cond, ◌&&◌, List, length, Option, Some, None, refl, sym, ap, ◌∙◌}
+use Rattle.std.proofs.Common.{◌≡◌, ℕ, Bool, true, false, cond, List, length, Some, None, refl, ap, ◌∙◌}
 use Rattle.std.specs.Prelude.{leb}
 use Rattle.std.specs.Int.{w16}
 use Rattle.std.specs.Str.{IsUtf8, is_utf8}

@@ -1,5 +1,5 @@
-use Rattle.std.proofs.Common.{◌≡◌, Some, None, sym, ◌∙◌, arith}
-use Rattle.pgs_codec.proofs.Commands.{decoded_takes, payload_decoded, not_decoded}
+use Rattle.std.proofs.Common.{arith}
+use Rattle.pgs_codec.proofs.Commands.{decoded_takes, not_decoded}
 use Rattle.pgs_codec.proofs.decoding.decode.Goals as goal
 
 pub returns-in-Ok-clause-found : goal.returns-in-Ok-clause-found

@@ -1,4 +1,4 @@
-use Rattle.std.proofs.Common.{◌≡◌, ℕ, List, ◌++◌, refl, append_assoc}
+use Rattle.std.proofs.Common.{◌≡◌, ℕ, List, ◌++◌, append_assoc}
 use Rattle.std.specs.Int.{w64, to_be_bytes}
 use Rattle.pgs_codec.specs.Payload.{nodes_field, edges_field}
 use Rattle.pgs_codec.proofs.encoding.write_snapshot.Goals as goal

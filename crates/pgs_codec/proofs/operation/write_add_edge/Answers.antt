@@ -1,4 +1,4 @@
-use Rattle.std.proofs.Common.{◌≡◌, ℕ, List, [], ◌∷◌, ◌++◌, refl, append_assoc}
+use Rattle.std.proofs.Common.{◌≡◌, ℕ, List, [], ◌∷◌, ◌++◌, append_assoc}
 use Rattle.pgs_codec.specs.Payload.{edge_id_field, node_id_field, labels_field, props_field}
 use Rattle.pgs_codec.proofs.operation.write_add_edge.Goals as goal
 

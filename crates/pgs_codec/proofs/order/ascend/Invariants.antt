@@ -1,4 +1,3 @@
-use Rattle.std.specs.Map.{keys_of}
 use Rattle.pgs_codec.proofs.Ordering.{InOrderBelow}
 use Rattle.pgs_codec.proofs.order.ascend.Given as goal
 
