@@ -1,3 +1,5 @@
 pub mod Ascending
 pub mod Lookups
+pub mod Pairs
 pub mod Places
+pub mod Texts

@@ -40,6 +40,7 @@ fn edge(alloc: Global, source: u64, target: u64) -> EdgeRow
 fn sample(alloc: Global, first: NodeRow) -> Result<Graph, Memory>
     ensures { IfOk result (λ graph. graph ≡ sample first) }
 {
+    first.facts();
     let nodes = vec![in alloc;
         (NodeId(1), Some(first)),
         (NodeId(2), Some(node(alloc))),
