@@ -1,4 +1,5 @@
 pub mod Decision
+pub mod Meaning
 pub mod Samples
 pub mod Staging
 pub mod Standing
