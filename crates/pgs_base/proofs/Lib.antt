@@ -1,4 +1,5 @@
 pub mod Ascending
+pub mod Graphs
 pub mod Lookups
 pub mod Pairs
 pub mod Places

@@ -28,19 +28,17 @@ module _ {K : Type 0} (cmp : K → K → Ordering) where
       by rest Equal = all
       by rest Greater = and_from _ _ (first_so _ _ all) rest
 
-  module _ {V : Type 0} (test : V → Bool) where
-    abbrev of_value : K × V → Bool
-    of_value entry = test entry.1
-
-    pub all_with_entry : (k : K) (v : V) (es : List (K × V)) → test v ≡ true → list_all of_value es ≡ true → list_all of_value (insert_entry cmp es k v) ≡ true
-    all_with_entry k v [] passes all = and_from _ _ passes refl
-    all_with_entry k v (e ∷ es) passes all = by (all_with_entry k v es passes (second_so _ _ all)) (cmp k e.0)
-      where
-        by : list_all of_value (insert_entry cmp es k v) ≡ true → (o : Ordering) →
-            list_all of_value (match_ordering o ((k, v) ∷ e ∷ es) ((e.0, v) ∷ es) (e ∷ insert_entry cmp es k v)) ≡ true
-        by rest Less = and_from _ _ passes all
-        by rest Equal = and_from _ _ passes (second_so _ _ all)
-        by rest Greater = and_from _ _ (first_so _ _ all) rest
+  -- a key may stay with another value
+  pub all_with_entry : {V : Type 0} (test : K × V → Bool) (k : K) (v : V) (es : List (K × V)) → test (k, v) ≡ true →
+      ((e : K × V) → test e ≡ true → test (e.0, v) ≡ true) → list_all test es ≡ true → list_all test (insert_entry cmp es k v) ≡ true
+  all_with_entry test k v [] passes other all = and_from _ _ passes refl
+  all_with_entry test k v (e ∷ es) passes other all = by (all_with_entry test k v es passes other (second_so _ _ all)) (cmp k e.0)
+    where
+      by : list_all test (insert_entry cmp es k v) ≡ true → (o : Ordering) →
+          list_all test (match_ordering o ((k, v) ∷ e ∷ es) ((e.0, v) ∷ es) (e ∷ insert_entry cmp es k v)) ≡ true
+      by rest Less = and_from _ _ passes all
+      by rest Equal = and_from _ _ (other e (first_so _ _ all)) (second_so _ _ all)
+      by rest Greater = and_from _ _ (first_so _ _ all) rest
 
 pub all_without_key : {K : Type 0} (test : K → Bool) (out : K → Bool) (ks : List K) → list_all test ks ≡ true → list_all test (remove_key out ks) ≡ true
 all_without_key test out [] all = refl
@@ -76,7 +74,7 @@ pub props_with : (props : List (List ℕ × Value)) (key : List ℕ) (value : Va
     are_props (put_value props key value) ≡ true
 props_with props key value are name is =
     and_from _ _ (subst (λ names. are_names names ≡ true) (sym (keys-insert_entry (slice_cmp nat_cmp) key value props)) (names_with (keys_of props) key (first_so _ _ are) name))
-    (all_with_entry (slice_cmp nat_cmp) is_value key value props is (second_so _ _ are))
+    (all_with_entry (slice_cmp nat_cmp) (λ (entry : List ℕ × Value). is_value entry.1) key value props is (λ e passes. is) (second_so _ _ are))
 
 pub props_without : (props : List (List ℕ × Value)) (key : List ℕ) → are_props props ≡ true → are_props (take_value props key) ≡ true
 props_without props key are =

@@ -69,12 +69,14 @@ is_element_number number = nat_lt number 18446744073709551616
 abbrev pub is_node_entry : NodeId × NodeRow → Bool
 is_node_entry node = is_element_number node.0.0 && is_pair node.1
 
--- whether an edge can stand in a graph: it has such a number, carries a pair, and both ends are nodes of the graph
-abbrev pub is_edge_entry : Graph → EdgeId × EdgeRow → Bool
-is_edge_entry g edge = is_element_number edge.0.0 && is_pair (pair_of edge.1.labels edge.1.props) && has_ends g edge.1
+-- the same of an edge
+abbrev pub is_edge_entry : EdgeId × EdgeRow → Bool
+is_edge_entry edge = is_element_number edge.0.0 && is_pair (pair_of edge.1.labels edge.1.props)
 
--- whether two lists of rows are a graph: each number stands once, in order, and each node and each edge can stand there
+-- whether two lists of rows are a graph: each number stands once, in order, each element can stand there, and both ends of each
+-- edge are there
 abbrev pub is_graph : Graph → Bool
 is_graph g =
     ascends node_cmp (keys_of g.nodes) && ascends edge_cmp (keys_of g.edges)
-    && list_all is_node_entry g.nodes && list_all (is_edge_entry g) g.edges
+    && list_all is_node_entry g.nodes && list_all is_edge_entry g.edges
+    && list_all (λ (edge : EdgeId × EdgeRow). has_ends g edge.1) g.edges
