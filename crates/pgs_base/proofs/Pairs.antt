@@ -4,6 +4,7 @@ use Rattle.std.specs.Ordering.{nat_cmp, match_ordering}
 use Rattle.std.specs.Cmp.{first_so, second_so}
 use Rattle.std.specs.Cmp.Lexicographic.{slice_cmp, nat_list_cmp_total}
 use Rattle.std.specs.List.{list_all}
+use Rattle.std.specs.List.Sorted.{IsStrictlySortedBy}
 use Rattle.std.specs.Map.{keys_of, remove_entry}
 use Rattle.std.specs.Set.{remove_key}
 use Rattle.std.specs.BTreeMap.{insert_entry}
@@ -80,3 +81,8 @@ pub props_without : (props : List (List ℕ × Value)) (key : List ℕ) → are_
 props_without props key are =
     and_from _ _ (subst (λ names. are_names names ≡ true) (sym (keys-remove_entry (same_name key) props)) (names_without (keys_of props) key (first_so _ _ are)))
     (all_without_entry (λ (entry : List ℕ × Value). is_value entry.1) (same_name key) props (second_so _ _ are))
+
+-- ---- what vectors meet whose keys ascend
+
+pub are_names_from : (names : List (List ℕ)) → IsStrictlySortedBy (slice_cmp nat_cmp) names → list_all is_name names ≡ true → are_names names ≡ true
+are_names_from names ascend is = and_from _ _ ((ascends_decides (slice_cmp nat_cmp) names).1 ascend) is

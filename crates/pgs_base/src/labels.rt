@@ -4,6 +4,8 @@ ghost use Rattle.std.specs.Ordering.{nat_cmp};
 ghost use Rattle.std.specs.Cmp.{partial_equiv_from_equiv};
 ghost use Rattle.std.specs.Cmp.Lexicographic.{pointwise, slice_cmp, lists_equiv, nat_list_eq_equiv};
 ghost use Rattle.std.specs.List.Sorted.{IsStrictlySortedBy};
+ghost use Rattle.std.specs.List.{list_all};
+ghost use Rattle.pgs_base.specs.Name.{is_name};
 ghost use Rattle.pgs_base.specs.Names.{are_names, has_name, put_name, take_name};
 
 use crate::{Copyable, Memory, Name, Ordered};
@@ -30,6 +32,15 @@ impl Model for Labels {
     ghost invariant = { λ labels. are_names labels.names ≡ true };
 }
 
+// What every slice of names meets. Nothing is done.
+fn name_facts(names: &[Name])
+    ensures { list_all is_name names.now ≡ true }
+{
+    for name in names {
+        let _name = name.bytes();
+    }
+}
+
 impl Labels {
     /// No labels. It takes no memory.
     pub fn new(alloc: Global) -> Labels
@@ -45,6 +56,7 @@ impl Labels {
         requires { IsStrictlySortedBy (slice_cmp nat_cmp) names.items }
         ensures { result ≡ names.items }
     {
+        name_facts(names.as_slice());
         Labels {
             names: Ordered::from_vec(names),
         }

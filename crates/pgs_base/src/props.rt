@@ -8,7 +8,9 @@ ghost use Rattle.std.specs.Ordering.{eq_by_cmp};
 ghost use Rattle.std.specs.Cmp.{partial_equiv_from_equiv, eq_by_cmp_equiv};
 ghost use Rattle.pgs_base.specs.Order.{props_cmp};
 ghost use Rattle.pgs_base.specs.OrderLaws.{props_cmp_total};
-ghost use Rattle.pgs_base.specs.Properties.{are_props, value_at, put_value, take_value};
+ghost use Rattle.std.specs.List.{list_all};
+ghost use Rattle.pgs_base.specs.Name.{is_name};
+ghost use Rattle.pgs_base.specs.Properties.{has_value, are_props, value_at, put_value, take_value};
 
 use crate::{Copyable, Memory, Name, Rows, Value};
 use std::alloc::Global;
@@ -33,6 +35,17 @@ impl Model for Props {
     ghost invariant = { λ props. are_props props.rows ≡ true };
 }
 
+// What every slice of names and values meets. Nothing is done.
+fn row_facts(rows: &[(Name, Value)])
+    ensures names { list_all is_name (keys_of rows.now) ≡ true }
+    ensures values { list_all has_value rows.now ≡ true }
+{
+    for row in rows {
+        let _name = row.0.bytes();
+        row.1.facts();
+    }
+}
+
 impl Props {
     /// No properties. It takes no memory.
     pub fn new(alloc: Global) -> Props
@@ -48,6 +61,7 @@ impl Props {
         requires { IsStrictlySortedBy (slice_cmp nat_cmp) (keys_of rows.items) }
         ensures { result ≡ rows.items }
     {
+        row_facts(rows.as_slice());
         Props {
             rows: Rows::from_vec(rows),
         }
