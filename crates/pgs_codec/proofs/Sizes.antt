@@ -34,8 +34,8 @@ small : (labels : List (List ℕ)) (props : List (List ℕ × Value)) → (is_la
 small labels props e =
     let parts = and_parts (is_labels labels) (is_props props) e in
     and_from (leb (length labels) 64) (leb (length props) 256)
-      (first_of_three (leb (length labels) 64) (list_all is_name labels) (ascends (slice_cmp nat_cmp) labels) parts.0)
-      (first_of_three (leb (length props) 256) (list_all is_property props) (ascends (slice_cmp nat_cmp) (keys_of props)) parts.1)
+    (first_of_three (leb (length labels) 64) (list_all is_name labels) (ascends (slice_cmp nat_cmp) labels) parts.0)
+    (first_of_three (leb (length props) 256) (list_all is_property props) (ascends (slice_cmp nat_cmp) (keys_of props)) parts.1)
 
 small_node : (node : NodeId × NodeRow) → is_node node ≡ true → is_small_node node.1 ≡ true
 small_node node e = small node.1.labels node.1.props (and_parts (is_node_id node.0) (is_node_row node.1) e).1
@@ -53,15 +53,15 @@ small_op (AddEdge id source target labels props) e = small_edge (id, record { so
 small_op op e = refl
 
 pub encodable_sized : (command : Command) → is_encodable command ≡ true → is_sized command ≡ true
-unfolding is_encodable is_sized
+unfolding is_encodable
 encodable_sized (commands.Schema text) e = refl
 encodable_sized (commands.Snapshot commits nodes edges) e =
     let outer = and_parts (are_parts commits nodes edges) (is_graph (snapshot_graph nodes edges)) e in
     let lists = (and_parts (is_wide commits) _ outer.0).1 in
     let both = and_parts (ltb (length nodes) (2 ^ 64) && list_all is_node nodes) (ltb (length edges) (2 ^ 64) && list_all is_edge edges) lists in
     and_from (list_all (λ (node : NodeId × NodeRow). is_small_node node.1) nodes && list_all (λ (edge : EdgeId × EdgeRow). is_small_edge edge.1) edges) (is_graph (snapshot_graph nodes edges))
-      (and_from _ _ (all_weaker is_node (λ (node : NodeId × NodeRow). is_small_node node.1) nodes small_node (and_parts _ (list_all is_node nodes) both.0).1)
-        (all_weaker is_edge (λ (edge : EdgeId × EdgeRow). is_small_edge edge.1) edges small_edge (and_parts _ (list_all is_edge edges) both.1).1)) outer.1
+    (and_from _ _ (all_weaker is_node (λ (node : NodeId × NodeRow). is_small_node node.1) nodes small_node (and_parts _ (list_all is_node nodes) both.0).1)
+    (all_weaker is_edge (λ (edge : EdgeId × EdgeRow). is_small_edge edge.1) edges small_edge (and_parts _ (list_all is_edge edges) both.1).1)) outer.1
 encodable_sized (commands.Txn txn) e =
     let parts = and_parts (ltb (length txn.ops) (2 ^ 32)) (list_all is_op txn.ops) e in
     and_from (ltb (length txn.ops) (2 ^ 32)) (list_all adds_small txn.ops) parts.0 (all_weaker is_op adds_small txn.ops small_op parts.1)
