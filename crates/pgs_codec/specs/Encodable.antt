@@ -108,7 +108,7 @@ is_op (UnlabelEdge id label) = is_edge_id id && is_name label
 unfoldable pub is_encodable : Command → Bool
 is_encodable (commands.Schema text) = true
 is_encodable (commands.Snapshot commits nodes edges) =
-    is_wide commits && (nat_lt (length nodes) (2 ^ 64) && list_all is_node nodes) && (nat_lt (length edges) (2 ^ 64) && list_all is_edge edges)
+    is_wide commits && (nat_lt (length nodes) (2 ^ 64) && list_all is_node nodes && (nat_lt (length edges) (2 ^ 64) && list_all is_edge edges))
     && is_graph (snapshot_graph nodes edges)
 is_encodable (commands.Txn txn) = nat_lt (length txn.ops) (2 ^ 32) && list_all is_op txn.ops
 

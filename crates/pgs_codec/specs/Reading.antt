@@ -95,11 +95,7 @@ unfoldable pub truth_at : Reading ℕ
 truth_at = tested_at (λ b. nat_le b 1) byte_at
 
 unfoldable pub day_parts_at : Reading (ℕ × ℕ × ℕ)
-day_parts_at bytes = do
-  year ← number_at w16 bytes
-  month ← byte_at year.1
-  day ← byte_at month.1
-  Some ((year.0, month.0, day.0), day.1)
+day_parts_at = named_at (λ d. (d.0, d.1.0, d.1.1)) (pair_at (number_at w16) (pair_at byte_at byte_at))
 
 unfoldable pub day_at : Reading (ℕ × ℕ × ℕ)
 day_at = tested_at (λ d. is_day d.0 d.1 d.2) day_parts_at

@@ -7,6 +7,7 @@
 
 mod command;
 mod field;
+pub mod laws;
 mod reader;
 mod unread;
 

@@ -1,0 +1,4 @@
+pub mod Commands
+pub mod Exact
+pub mod Fields
+pub mod Ops
