@@ -1,0 +1,4 @@
+pub mod Area
+pub mod Format
+pub mod Reading
+pub mod Stops
