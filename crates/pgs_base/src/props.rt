@@ -132,39 +132,3 @@ impl PartialEq for Props {
 impl Eq for Props {
     ghost laws = { eq_by_cmp_equiv props_cmp_total };
 }
-
-#[cfg(test)]
-mod tests {
-    use super::*;
-    use std::test::Fail;
-
-    fn name(alloc: Global, text: &str) -> Result<Name, Fail> {
-        match Name::new(alloc, text.as_bytes())? {
-            Some(name) => Ok(name),
-            None => Err(Fail::new("no name")),
-        }
-    }
-
-    #[test]
-    fn a_name_has_its_last_value(rt: HostRuntime) -> Result<(), Fail> {
-        let alloc = rt.alloc();
-        let mut props = Props::new(alloc);
-        for (text, number, old) in [("b", 1, None), ("a", 2, None), ("b", 3, Some(1))] {
-            let before = props.set(name(alloc, text)?, Value::Int(number))?;
-            assert!(rt; before == old.map(Value::Int), "{text} {number}");
-        }
-        let copied = props.copy(alloc)?;
-        assert!(rt; copied == props);
-        assert!(rt;
-            props.at(0).is_some_and(|row| row.0.bytes() == b"a".as_slice()
-                && *row.1 == Value::Int(2))
-        );
-        assert!(rt; props.at(2).is_none());
-        assert!(rt; props.unset(&name(alloc, "a")?) == Some(Value::Int(2)));
-        assert!(rt; props.unset(&name(alloc, "a")?).is_none());
-        assert!(rt; props.get(&name(alloc, "b")?) == Some(&Value::Int(3)));
-        assert!(rt; copied != props);
-        assert_eq!(rt; (props.len(), copied.len()), (1, 2));
-        Ok(())
-    }
-}

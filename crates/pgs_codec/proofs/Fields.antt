@@ -14,7 +14,7 @@ use Rattle.pgs_base.specs.declared.element.EdgeId.{EdgeId}
 use Rattle.pgs_base.specs.declared.value.Value.{Value}
 use Rattle.pgs_base.specs.declared.value.Value.TheVariants as values
 use Rattle.pgs_base.specs.Day.{is_day}
-use Rattle.pgs_base.specs.Graph.{ascends}
+use Rattle.pgs_base.specs.Order.{ascends}
 use Rattle.pgs_base.specs.Name.{is_name, is_name_start, is_name_byte}
 use Rattle.pgs_base.specs.Options.{◌>>=◌}
 use Rattle.pgs_base.specs.Value.{is_text, is_number, is_value}

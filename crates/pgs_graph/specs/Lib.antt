@@ -1,4 +1,3 @@
 pub mod Changed
 pub mod Merging
 pub mod Reads
-pub mod Samples
