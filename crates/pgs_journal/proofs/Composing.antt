@@ -35,3 +35,8 @@ beside_none area c = record { beside = refl; output = refl }
 -- what was only read leaves what a stop could leave before
 pub stops_quiet : (old new : View) (step : Triple → Triple → Type 0) → ((c : Triple) → step c c) → IsQuiet old new → StopsBy step old new
 stops_quiet old new step same quiet honest c left = (c, quiet.stops honest c left, same c)
+
+-- two calls that leave the rest as it is
+pub beside_then : (area : Area) (old mid new : View) → Passes old mid → Passes mid new → StopsBy (IsSameBeside area) old mid → StopsBy (IsSameBeside area) mid new → StopsBy (IsSameBeside area) old new
+beside_then area old mid new p q before after =
+    stops_then old mid new (IsSameBeside area) (IsSameBeside area) (IsSameBeside area) p q (λ d c one. one) (λ d e c one left two. beside_on area d e c one two) before after

@@ -72,7 +72,7 @@ one_byte at old new torn inside = some (drop at new) refl
       ∙ ap (λ (m : List ℕ). take at old ++ m) (is ∙ ap (λ (m : List ℕ). x ∷ m) (sym (ap (λ (m : List ℕ). drop 1 m) is) ∙ drop-drop 1 at new ∙ torn.after)),
     )
 
-open_is_one : (gate : ℕ) → is_open gate ≡ true → gate ≡ 1
+pub open_is_one : (gate : ℕ) → is_open gate ≡ true → gate ≡ 1
 open_is_one gate is = grind (arith, nat_tests)
 
 -- what an image holds where any byte may stand at the gate before the frame of a record

@@ -1,3 +1,4 @@
 pub mod Appending
 pub mod Composing
+pub mod Creating
 pub mod Images

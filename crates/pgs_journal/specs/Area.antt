@@ -12,6 +12,11 @@ abbrev pub opens : List ℕ → Bool
 opens [] = false
 opens (gate ∷ bytes) = is_open gate
 
+-- an area is empty, or its gate is open
+abbrev pub is_empty_or_open : List ℕ → Bool
+is_empty_or_open [] = true
+is_empty_or_open (gate ∷ bytes) = is_open gate
+
 -- fewer than 17 bytes, or a closed gate
 abbrev pub is_no_store : List ℕ → Bool
 is_no_store image = nat_lt (length image) 17 || not (opens image)

@@ -1,5 +1,5 @@
 -- What a stop during a call on one area may leave.
-use Rattle.std.specs.Prelude.{◌≡◌, ◌⊎◌, ℕ, ◌+◌, true, List, [], ◌∷◌, ◌++◌, length}
+use Rattle.std.specs.Prelude.{◌≡◌, ◌⊎◌, ℕ, ◌+◌, true, List, [], ◌∷◌, ◌++◌, length, take}
 use Rattle.pgs_codec.specs.Frame.{framed}
 use Rattle.pgs_world.specs.declared.area.Area.{Area}
 use Rattle.pgs_world.specs.Disk.{IsSameBeside}
@@ -22,3 +22,11 @@ Appends format epoch end payload old new =
 abbrev pub Creates : Format → ℕ → List (List ℕ) → ℕ → List ℕ → List ℕ → Type 0
 Creates format epoch payloads end old new =
     (new ≡ old) ⊎ ((is_no_store new ≡ true) ⊎ Holds format epoch payloads end new)
+
+-- the area is as it was, or no store
+abbrev pub Closes : List ℕ → List ℕ → Type 0
+Closes old new = (new ≡ old) ⊎ (is_no_store new ≡ true)
+
+-- the area's own gate stays as it was
+abbrev pub KeepsGate : List ℕ → List ℕ → Type 0
+KeepsGate old new = take 1 new ≡ take 1 old

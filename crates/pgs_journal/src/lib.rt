@@ -7,6 +7,7 @@
 
 mod area_state;
 mod journal;
+mod steps;
 
 pub use area_state::AreaState;
 pub use journal::Journal;
