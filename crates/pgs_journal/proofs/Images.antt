@@ -69,7 +69,7 @@ one_byte at old new torn inside = some (drop at new) refl
     some (x ∷ l) is = (
       x,
       sym (take-append-drop at new) ∙ ap (λ (m : List ℕ). m ++ drop at new) torn.before
-      ∙ ap (λ (m : List ℕ). take at old ++ m) (is ∙ ap (λ (m : List ℕ). x ∷ m) (sym (ap (λ (m : List ℕ). drop 1 m) is) ∙ drop-drop 1 at new ∙ torn.after)),
+          ∙ ap (λ (m : List ℕ). take at old ++ m) (is ∙ ap (λ (m : List ℕ). x ∷ m) (sym (ap (λ (m : List ℕ). drop 1 m) is) ∙ drop-drop 1 at new ∙ torn.after)),
     )
 
 pub open_is_one : (gate : ℕ) → is_open gate ≡ true → gate ≡ 1

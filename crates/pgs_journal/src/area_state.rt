@@ -8,7 +8,10 @@ pub enum AreaState {
     /// Its gate is open, and its head is no store's.
     Foreign,
     /// A store whose record of this number, from 1, is the first open one that isn't whole or isn't fit for its place.
-    Damaged { epoch: u64, number: u64 },
+    Damaged {
+        epoch: u64,
+        number: u64,
+    },
     /// A store of whole and fit records.
     Store {
         epoch: u64,

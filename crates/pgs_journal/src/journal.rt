@@ -40,7 +40,7 @@ impl Journal {
         // After Ok the area is the new store, and it is on the disk.
         ensures holds { (payloads : List (List ℕ)) → IsFrames First payloads first.now
             → IfOk result (λ journal. IsTrue (W.view world.old).tells_bytes
-                → Holds First epoch payloads journal.end (part area (W.view world.new).shown)) }
+            → Holds First epoch payloads journal.end (part area (W.view world.new).shown)) }
         ensures synced { OnOk result (IsSynced area (W.view world.new)) }
         ensures settled { OnOk result (IsSettled (W.view world.old) → IsSettled (W.view world.new)) }
         ensures journal { IfOk result (λ journal. journal ≡ record { area = area; epoch = epoch; end = 16 + length first.now }) }
@@ -84,7 +84,7 @@ impl Journal {
         ensures holds { (payload : List ℕ) (payloads : List (List ℕ)) → frame.now ≡ framed payload
             → Holds First self.old.epoch payloads self.old.end (part self.old.area (W.view world.old).shown)
             → OnOk result (IsTrue (W.view world.old).tells_bytes
-                → Holds First self.new.epoch (payloads ++ payload ∷ []) self.new.end (part self.new.area (W.view world.new).shown)) }
+            → Holds First self.new.epoch (payloads ++ payload ∷ []) self.new.end (part self.new.area (W.view world.new).shown)) }
         ensures synced { OnOk result (IsSynced self.old.area (W.view world.new)) }
         ensures settled { OnOk result (IsSettled (W.view world.old) → IsSettled (W.view world.new)) }
         ensures area { self.new.area ≡ self.old.area }

@@ -7,6 +7,7 @@
 
 mod area_state;
 mod journal;
+pub mod samples;
 mod steps;
 
 pub use area_state::AreaState;

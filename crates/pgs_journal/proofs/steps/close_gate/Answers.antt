@@ -16,9 +16,12 @@ returns-in_err-write_synced-clause-stops g c = λ told synced.
     let write = c.write_synced.ensures in
     quiet_stops old mid (g.W.World.view c.write_synced.new.world) (Turns area Closes) (λ t. record { image = inl refl; same = beside_none area t }) quiet write.passes
     (λ honest t left.
-        let from = write.stops honest t left in
-        (from.0, from.1, closing area old.shown from.0 t (sym (c.in_ok-must_close.ensures.answer told) ∙ c.if-branch.true)
-        (synced_quiet area old mid quiet synced honest (quiet.passes.tells_bytes ∙ told) from.0 from.1 ∙ ap (λ (s : Triple). part area s) quiet.shown) from.2))
+    let from = write.stops honest t left in (
+      from.0,
+      from.1,
+      closing area old.shown from.0 t (sym (c.in_ok-must_close.ensures.answer told) ∙ c.if-branch.true)
+          (synced_quiet area old mid quiet synced honest (quiet.passes.tells_bytes ∙ told) from.0 from.1 ∙ ap (λ (s : Triple). part area s) quiet.shown) from.2,
+    ))
 
 pub returns-in_err-write_synced-clause-stops_beside : goal.returns-in_err-write_synced-clause-stops_beside
 returns-in_err-write_synced-clause-stops_beside g c =
@@ -37,9 +40,12 @@ returns-in_ok-write_synced-clause-stops g c = λ told synced.
     let write = c.write_synced.ensures in
     quiet_stops old mid (g.W.World.view c.write_synced.new.world) (Turns area Closes) (λ t. record { image = inl refl; same = beside_none area t }) quiet write.passes
     (λ honest t left.
-        let from = write.stops honest t left in
-        (from.0, from.1, closing area old.shown from.0 t (sym (c.in_ok-must_close.ensures.answer told) ∙ c.if-branch.true)
-        (synced_quiet area old mid quiet synced honest (quiet.passes.tells_bytes ∙ told) from.0 from.1 ∙ ap (λ (s : Triple). part area s) quiet.shown) from.2))
+    let from = write.stops honest t left in (
+      from.0,
+      from.1,
+      closing area old.shown from.0 t (sym (c.in_ok-must_close.ensures.answer told) ∙ c.if-branch.true)
+          (synced_quiet area old mid quiet synced honest (quiet.passes.tells_bytes ∙ told) from.0 from.1 ∙ ap (λ (s : Triple). part area s) quiet.shown) from.2,
+    ))
 
 pub returns-in_ok-write_synced-clause-stops_beside : goal.returns-in_ok-write_synced-clause-stops_beside
 returns-in_ok-write_synced-clause-stops_beside g c =

@@ -29,9 +29,9 @@ returns-clause-settled g c =
     let old = g.W.World.view c.args.world.now in
     let mid = g.W.World.view c.write_at-2.new.self in
     on_ok_weaker c.sync.result (λ synced s.
-        settled_step c.args.area old mid (g.W.World.view c.sync.new.self) (Turns c.args.area KeepsGate) (λ d e turns. turns.same) s (passes_on old (g.W.World.view c.write_at.new.self) mid one.passes two.passes)
-        (both_writes c.args.area (length c.head_bytes.result) (length c.args.first.now) old (g.W.World.view c.write_at.new.self) mid one.passes two.passes one.stops two.stops)
-        (beside_on c.args.area old.shown (g.W.World.view c.write_at.new.self).shown mid.shown one.beside two.beside) c.sync.ensures.quiet synced) c.sync.ensures.synced
+    settled_step c.args.area old mid (g.W.World.view c.sync.new.self) (Turns c.args.area KeepsGate) (λ d e turns. turns.same) s (passes_on old (g.W.World.view c.write_at.new.self) mid one.passes two.passes)
+    (both_writes c.args.area (length c.head_bytes.result) (length c.args.first.now) old (g.W.World.view c.write_at.new.self) mid one.passes two.passes one.stops two.stops)
+    (beside_on c.args.area old.shown (g.W.World.view c.write_at.new.self).shown mid.shown one.beside two.beside) c.sync.ensures.quiet synced) c.sync.ensures.synced
 
 pub returns-clause-written : goal.returns-clause-written
 returns-clause-written g c =
@@ -40,6 +40,6 @@ returns-clause-written g c =
     let first = g.W.World.view c.write_at.new.self in
     let mid = g.W.World.view c.write_at-2.new.self in
     on_ok_weaker c.sync.result (λ synced told.
-        ap (λ (t : Triple). part area t) c.sync.ensures.quiet.shown
-        ∙ store_written c.args.epoch c.args.first.now (part area old.shown) (part area first.shown) (part area mid.shown) c.head_bytes.result (c.requires told) c.head_bytes.ensures (c.in_ok-write_at.ensures.written told)
-        (c.in_ok-write_at-2.ensures.written (c.write_at.ensures.passes.tells_bytes ∙ told))) c.sync.ensures.synced
+    ap (λ (t : Triple). part area t) c.sync.ensures.quiet.shown
+    ∙ store_written c.args.epoch c.args.first.now (part area old.shown) (part area first.shown) (part area mid.shown) c.head_bytes.result (c.requires told) c.head_bytes.ensures (c.in_ok-write_at.ensures.written told)
+    (c.in_ok-write_at-2.ensures.written (c.write_at.ensures.passes.tells_bytes ∙ told))) c.sync.ensures.synced
