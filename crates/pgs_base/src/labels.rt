@@ -40,6 +40,16 @@ impl Labels {
         }
     }
 
+    /// The labels of a vector in which the names ascend strictly.
+    pub fn from_vec(names: Vec<Name>) -> Labels
+        requires { IsStrictlySortedBy (slice_cmp nat_cmp) names.items }
+        ensures { result ≡ names.items }
+    {
+        Labels {
+            names: Ordered::from_vec(names),
+        }
+    }
+
     /// How many labels there are.
     pub fn len(&self) -> usize
         ensures value { result ≡ length self.now }

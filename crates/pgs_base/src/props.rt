@@ -40,6 +40,16 @@ impl Props {
         }
     }
 
+    /// The properties of a vector in which the names ascend strictly.
+    pub fn from_vec(rows: Vec<(Name, Value)>) -> Props
+        requires { IsStrictlySortedBy (slice_cmp nat_cmp) (keys_of rows.items) }
+        ensures { result ≡ rows.items }
+    {
+        Props {
+            rows: Rows::from_vec(rows),
+        }
+    }
+
     /// How many properties there are.
     pub fn len(&self) -> usize
         ensures value { result ≡ length self.now }
