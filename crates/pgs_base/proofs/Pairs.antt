@@ -4,6 +4,7 @@ use Rattle.std.specs.Ordering.{nat_cmp, match_ordering}
 use Rattle.std.specs.Cmp.{first_so, second_so}
 use Rattle.std.specs.Cmp.Lexicographic.{slice_cmp, nat_list_cmp_total}
 use Rattle.std.specs.List.{list_all}
+use Rattle.std.specs.List.Sorted.{IsStrictlySortedBy}
 use Rattle.std.specs.Map.{keys_of, remove_entry}
 use Rattle.std.specs.Set.{remove_key}
 use Rattle.std.specs.BTreeMap.{insert_entry}
@@ -80,3 +81,11 @@ pub props_without : (props : List (List ℕ × Value)) (key : List ℕ) → are_
 props_without props key are =
     and_from _ _ (subst (λ names. are_names names ≡ true) (sym (keys-remove_entry (same_name key) props)) (names_without (keys_of props) key (first_so _ _ are)))
     (all_without_entry (λ (entry : List ℕ × Value). is_value entry.1) (same_name key) props (second_so _ _ are))
+
+-- names and properties that ascend are those of an element
+pub names_from : (names : List (List ℕ)) → IsStrictlySortedBy (slice_cmp nat_cmp) names → list_all is_name names ≡ true → are_names names ≡ true
+names_from names order all = and_from _ _ ((ascends_decides (slice_cmp nat_cmp) names).1 order) all
+
+pub props_from : (props : List (List ℕ × Value)) → IsStrictlySortedBy (slice_cmp nat_cmp) (keys_of props) → list_all is_name (keys_of props) ≡ true →
+    list_all (λ (entry : List ℕ × Value). is_value entry.1) props ≡ true → are_props props ≡ true
+props_from props order names values = and_from _ _ (names_from (keys_of props) order names) values

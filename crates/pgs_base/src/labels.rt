@@ -4,6 +4,8 @@ ghost use Rattle.std.specs.Ordering.{nat_cmp};
 ghost use Rattle.std.specs.Cmp.{partial_equiv_from_equiv};
 ghost use Rattle.std.specs.Cmp.Lexicographic.{pointwise, slice_cmp, lists_equiv, nat_list_eq_equiv};
 ghost use Rattle.std.specs.List.Sorted.{IsStrictlySortedBy};
+ghost use Rattle.std.specs.List.{list_all};
+ghost use Rattle.pgs_base.specs.Name.{is_name};
 ghost use Rattle.pgs_base.specs.Names.{are_names, has_name, put_name, take_name};
 
 use crate::{Copyable, Memory, Name, Ordered};
@@ -30,6 +32,15 @@ impl Model for Labels {
     ghost invariant = { λ labels. are_names labels.names ≡ true };
 }
 
+// What all names meet.
+fn names_facts(names: &[Name])
+    ensures { list_all is_name names.now ≡ true }
+{
+    for name in names {
+        let _bytes = name.bytes();
+    }
+}
+
 impl Labels {
     /// No labels. It takes no memory.
     pub fn new(alloc: Global) -> Labels
@@ -37,6 +48,17 @@ impl Labels {
     {
         Labels {
             names: Ordered::new(alloc),
+        }
+    }
+
+    /// The labels of a vector in which the names ascend strictly.
+    pub fn from_vec(names: Vec<Name>) -> Labels
+        requires { IsStrictlySortedBy (slice_cmp nat_cmp) names.items }
+        ensures { result ≡ names.items }
+    {
+        names_facts(names.as_slice());
+        Labels {
+            names: Ordered::from_vec(names),
         }
     }
 
@@ -124,43 +146,4 @@ impl PartialEq for Labels {
 
 impl Eq for Labels {
     ghost laws = { lists_equiv nat_list_eq_equiv };
-}
-
-#[cfg(test)]
-mod tests {
-    use super::*;
-    use std::test::Fail;
-
-    fn name(alloc: Global, text: &str) -> Result<Name, Fail> {
-        match Name::new(alloc, text.as_bytes())? {
-            Some(name) => Ok(name),
-            None => Err(Fail::new("no name")),
-        }
-    }
-
-    #[test]
-    fn labels_are_a_set(rt: HostRuntime) -> Result<(), Fail> {
-        let alloc = rt.alloc();
-        let mut labels = Labels::new(alloc);
-        for (text, new) in [("b", true), ("a", true), ("b", false), ("ab", true)] {
-            assert_eq!(rt; labels.insert(name(alloc, text)?)?, new, "{text}");
-        }
-        let mut others = labels.copy(alloc)?;
-        assert!(rt; others == labels);
-        assert!(rt; others.remove(&name(alloc, "a")?));
-        assert!(rt; others != labels);
-        assert!(rt; !others.remove(&name(alloc, "a")?));
-        let mut place = 0;
-        for text in ["a", "ab", "b"] {
-            assert!(rt;
-                labels
-                    .at(place)
-                    .is_some_and(|label| label.bytes() == text.as_bytes())
-            );
-            assert_eq!(rt; others.contains(&name(alloc, text)?), text != "a", "{text}");
-            place += 1;
-        }
-        assert_eq!(rt; (labels.len(), others.len()), (3, 2));
-        Ok(())
-    }
 }

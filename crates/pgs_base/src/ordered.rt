@@ -42,6 +42,14 @@ impl<K: Ord> Ordered<K> {
         }
     }
 
+    /// The keys of a vector in which they ascend strictly.
+    pub fn from_vec(keys: Vec<K>) -> Ordered<K>
+        requires { IsStrictlySortedBy K.cmp keys.items }
+        ensures { result ≡ keys.items }
+    {
+        Ordered { keys }
+    }
+
     /// How many keys there are.
     pub fn len(&self) -> usize
         ensures value { result ≡ length self.now }

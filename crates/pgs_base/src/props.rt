@@ -8,6 +8,9 @@ ghost use Rattle.std.specs.Ordering.{eq_by_cmp};
 ghost use Rattle.std.specs.Cmp.{partial_equiv_from_equiv, eq_by_cmp_equiv};
 ghost use Rattle.pgs_base.specs.Order.{props_cmp};
 ghost use Rattle.pgs_base.specs.OrderLaws.{props_cmp_total};
+ghost use Rattle.std.specs.List.{list_all};
+ghost use Rattle.pgs_base.specs.Name.{is_name};
+ghost use Rattle.pgs_base.specs.Value.{is_value};
 ghost use Rattle.pgs_base.specs.Properties.{are_props, value_at, put_value, take_value};
 
 use crate::{Copyable, Memory, Name, Rows, Value};
@@ -33,6 +36,17 @@ impl Model for Props {
     ghost invariant = { λ props. are_props props.rows ≡ true };
 }
 
+// What all names and values meet.
+fn rows_facts(rows: &[(Name, Value)])
+    ensures names { list_all is_name (keys_of rows.now) ≡ true }
+    ensures values { list_all (λ row. is_value row.1) rows.now ≡ true }
+{
+    for row in rows {
+        let _bytes = row.0.bytes();
+        row.1.facts();
+    }
+}
+
 impl Props {
     /// No properties. It takes no memory.
     pub fn new(alloc: Global) -> Props
@@ -40,6 +54,17 @@ impl Props {
     {
         Props {
             rows: Rows::new(alloc),
+        }
+    }
+
+    /// The properties of a vector in which the names ascend strictly.
+    pub fn from_vec(rows: Vec<(Name, Value)>) -> Props
+        requires { IsStrictlySortedBy (slice_cmp nat_cmp) (keys_of rows.items) }
+        ensures { result ≡ rows.items }
+    {
+        rows_facts(rows.as_slice());
+        Props {
+            rows: Rows::from_vec(rows),
         }
     }
 
@@ -131,40 +156,4 @@ impl PartialEq for Props {
 
 impl Eq for Props {
     ghost laws = { eq_by_cmp_equiv props_cmp_total };
-}
-
-#[cfg(test)]
-mod tests {
-    use super::*;
-    use std::test::Fail;
-
-    fn name(alloc: Global, text: &str) -> Result<Name, Fail> {
-        match Name::new(alloc, text.as_bytes())? {
-            Some(name) => Ok(name),
-            None => Err(Fail::new("no name")),
-        }
-    }
-
-    #[test]
-    fn a_name_has_its_last_value(rt: HostRuntime) -> Result<(), Fail> {
-        let alloc = rt.alloc();
-        let mut props = Props::new(alloc);
-        for (text, number, old) in [("b", 1, None), ("a", 2, None), ("b", 3, Some(1))] {
-            let before = props.set(name(alloc, text)?, Value::Int(number))?;
-            assert!(rt; before == old.map(Value::Int), "{text} {number}");
-        }
-        let copied = props.copy(alloc)?;
-        assert!(rt; copied == props);
-        assert!(rt;
-            props.at(0).is_some_and(|row| row.0.bytes() == b"a".as_slice()
-                && *row.1 == Value::Int(2))
-        );
-        assert!(rt; props.at(2).is_none());
-        assert!(rt; props.unset(&name(alloc, "a")?) == Some(Value::Int(2)));
-        assert!(rt; props.unset(&name(alloc, "a")?).is_none());
-        assert!(rt; props.get(&name(alloc, "b")?) == Some(&Value::Int(3)));
-        assert!(rt; copied != props);
-        assert_eq!(rt; (props.len(), copied.len()), (1, 2));
-        Ok(())
-    }
 }

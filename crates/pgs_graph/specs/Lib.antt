@@ -2,4 +2,3 @@ pub mod Changed
 pub mod Merging
 pub mod Operations
 pub mod Reads
-pub mod Samples
