@@ -1,8 +1,8 @@
 -- The pieces of tokens, as the loops find them.
-use Rattle.std.proofs.Common.{◌≡◌, ℕ, zero, suc, ◌+◌, ◌<◌, ◌≤◌, ◌-◌, Bool, true, false, cond, List, [], ◌∷◌, ◌++◌, length, get_or, take, drop, slice_get, Some, refl, sym, ap, ap₂, ◌∙◌, arith, length-drop}
+use Rattle.std.proofs.Common.{◌≡◌, ℕ, zero, suc, ◌+◌, ◌<◌, ◌≤◌, ◌-◌, Bool, true, false, cond, List, [], ◌∷◌, ◌++◌, length, get_or, take, drop, slice_get, Some, IfSome, subst, refl, sym, ap, ap₂, ◌∙◌, arith, length-drop}
 use Rattle.std.specs.List.{slice_range}
 use Rattle.std.proofs.lemmas.List.{get_or-drop, length-take}
-use Rattle.std.proofs.lemmas.Option.{get_or_from_slice_get, slice_get_within}
+use Rattle.std.proofs.lemmas.Option.{get_or_from_slice_get, slice_get_within, slice_get-get_or}
 use Rattle.std.proofs.Math.Seq.{take-suc, drop-cons, drop-length}
 use Rattle.pgs_lexer.specs.Token.{Lexeme}
 use Rattle.pgs_parser.specs.Statements.{pieces_of, is_semicolon, with_token}
@@ -78,3 +78,11 @@ ends_last xs start place h e g =
     let some : 0 < length (slice_range xs start place) = omega (arith, length-take (place - start) (drop start xs), length-drop start xs) in
     g ∙ ap (λ ts. with_front (slice_range xs start place) (pieces_of ts)) none ∙ last-piece (slice_range xs start place) some
     ∙ ap (λ ts. slice_range xs start place ∷ pieces_of ts) (sym none)
+
+-- a token and what a test told of it
+pub told : (xs : List Lexeme) (place : ℕ) (answer : Bool) → place < length xs → IfSome (slice_get xs place) (λ token. answer ≡ is_semicolon token) →
+    (token : Lexeme) × (slice_get xs place ≡ Some token) × (is_semicolon token ≡ answer)
+told [] place answer h k = absurd (omega arith)
+told (x ∷ xs) place answer h k =
+    let e = slice_get-get_or (x ∷ xs) place x h in
+    (get_or (x ∷ xs) place x, e, sym (subst (λ o. IfSome o (λ token. answer ≡ is_semicolon token)) e k))

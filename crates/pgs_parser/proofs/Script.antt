@@ -1,6 +1,8 @@
 -- The statements of a script as the loop reads them: those so far in front of those to come.
-use Rattle.std.proofs.Common.{◌≡◌, ℕ, ◌+◌, ◌<◌, ◌≤◌, List, [], ◌∷◌, ◌++◌, length, Option, Some, None, Result, Ok, Err, refl, sym, ap, ap₂, ◌∙◌, subst, arith, append_assoc, length-append, true, append-nil}
+use Rattle.std.proofs.Common.{◌≡◌, ℕ, ◌+◌, ◌-◌, ◌<◌, ◌≤◌, List, [], ◌∷◌, ◌++◌, length, drop, Option, Some, None, Result, Ok, Err, refl, sym, ap, ap₂, ◌∙◌, subst, arith, append_assoc, length-append, true, append-nil}
 use Rattle.std.proofs.lemmas.Option.{same_Some}
+use Rattle.std.specs.List.{slice_range}
+use Rattle.std.proofs.lemmas.List.{length-take}
 use Rattle.pgs_lexer.specs.Token.{Lexeme}
 use Rattle.pgs_syntax.specs.declared.script.Statement.{Statement}
 use Rattle.pgs_parser.specs.Statements.{statement, places_in, count_from}
@@ -61,3 +63,35 @@ statement_of_sound place piece tree e =
     let m = s.2 in
     subst (λ tree. statement tree piece [] × (count_from place (places_in tree) ≡ true) × (length (places_in tree) ≤ length piece)) l.1
     (subst (statement found.0.0 piece) l.0 s.0, s.1, omega arith)
+
+-- ---- the loop
+
+pub step : (items new : List Statement) (tree : Statement) (place declared : ℕ) (piece : List Lexeme) (pieces rest : List (List Lexeme)) (whole : Result (List Statement) ℕ) →
+    pieces ≡ piece ∷ rest → statement_of place piece ≡ Some tree → declared ≡ length (places_in tree) → new ≡ items ++ tree ∷ [] →
+    with_statements items (statements_of (length items + 1) place pieces) ≡ whole →
+    with_statements new (statements_of (length new + 1) (place + declared) rest) ≡ whole
+step items new tree place declared piece pieces rest whole e q d f h =
+    let size : length new + 1 ≡ length items + 1 + 1 = omega (arith, ap length f, length-append items (tree ∷ [])) in
+    ap (λ n. with_statements new (statements_of n (place + declared) rest)) size
+    ∙ ap (λ d. with_statements new (statements_of (length items + 1 + 1) (place + d) rest)) d
+    ∙ ap (λ xs. with_statements xs (statements_of (length items + 1 + 1) (place + length (places_in tree)) rest)) f
+    ∙ sym (goes_on items tree (length items + 1) place piece rest q)
+    ∙ ap (λ ps. with_statements items (statements_of (length items + 1) place ps)) (sym e) ∙ h
+
+pub step_fails : (items : List Statement) (place number : ℕ) (piece : List Lexeme) (pieces rest : List (List Lexeme)) (whole : Result (List Statement) ℕ) →
+    pieces ≡ piece ∷ rest → statement_of place piece ≡ None → number ≡ length items + 1 →
+    with_statements items (statements_of (length items + 1) place pieces) ≡ whole → whole ≡ Err number
+step_fails items place number piece pieces rest whole e q n h =
+    sym h ∙ ap (λ ps. with_statements items (statements_of (length items + 1) place ps)) e ∙ fails items (length items + 1) place piece rest q ∙ ap Err (sym n)
+
+pub step_ends : (items : List Statement) (place : ℕ) (pieces : List (List Lexeme)) (whole : Result (List Statement) ℕ) →
+    pieces ≡ [] → with_statements items (statements_of (length items + 1) place pieces) ≡ whole → whole ≡ Ok items
+step_ends items place pieces whole e h =
+    sym h ∙ ap (λ ps. with_statements items (statements_of (length items + 1) place ps)) e ∙ ends items (length items + 1) place
+
+-- a statement has no more declarations than tokens
+pub few_declared : (place start end : ℕ) (tokens : List Lexeme) (tree : Statement) → end ≤ length tokens →
+    statement_of place (slice_range tokens start end) ≡ Some tree → length (places_in tree) ≤ end - start
+few_declared place start end tokens tree l e =
+    let few = (statement_of_sound place (slice_range tokens start end) tree e).2 in
+    omega (arith, length-take (end - start) (drop start tokens), few)

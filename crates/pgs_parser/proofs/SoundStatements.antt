@@ -163,9 +163,11 @@ members_sound place tokens x e =
     let a = elements_if_sound place tokens elements.0 elements.1 in
     let b = keys_if_sound elements.0.0 after tokens elements.0.1 keys.0 a.0.0 keys.1 in
     let l = a.0.1 in
-    holds (DeclaredAny (λ (x : List Member × List RawKey). members_of x.0 x.1) member_places place tokens) keys.2
-    ((b.0, let m = b.1 in omega arith), count_append place (flat_map place_of_member elements.0.0) (flat_map place_of_key keys.0.0) a.1 b.2,
-    let m = a.2 in let n = b.3 in omega (arith, length-append (flat_map place_of_member elements.0.0) (flat_map place_of_key keys.0.0)))
+    holds (DeclaredAny (λ (x : List Member × List RawKey). members_of x.0 x.1) member_places place tokens) keys.2 (
+      (b.0, let m = b.1 in omega arith),
+      count_append place (flat_map place_of_member elements.0.0) (flat_map place_of_key keys.0.0) a.1 b.2,
+      let m = a.2 in let n = b.3 in omega (arith, length-append (flat_map place_of_member elements.0.0) (flat_map place_of_key keys.0.0)),
+    )
 
 -- ---- statements
 

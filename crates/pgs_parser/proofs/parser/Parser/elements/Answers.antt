@@ -24,7 +24,7 @@ loop-self-init c =
           ap (λ xs. ahead xs (more (comma_unless (codes "FOR")) element_at place_of_member (length rest) (c.args.place + c.declared_by.result) rest))
           (c.in_ok-push.ensures.items ∙ ap (λ xs. xs ++ first ∷ []) c.new-elements.ensures.items)
           ∙ ap (λ n. ahead (first ∷ []) (more (comma_unless (codes "FOR")) element_at place_of_member (length rest) (c.args.place + n) rest)) c.declared_by.ensures.count
-    ∙ starts (comma_unless (codes "FOR")) element_at place_of_member c.args.place c.args.self.now (first, rest) c.in_ok-first.ensures;
+          ∙ starts (comma_unless (codes "FOR")) element_at place_of_member c.args.place c.args.self.now (first, rest) c.in_ok-first.ensures;
       numbers = omega (arith, c.declared_by.ensures.at_most_one);
     }
 
@@ -50,7 +50,7 @@ loop-self-preserved c =
       read =
           ap (λ xs. ahead xs (more (comma_unless (codes "FOR")) element_at place_of_member (length rest) (c.loop-self.next + c.declared_by-next.result) rest)) c.in_ok-push-2.ensures.items
           ∙ ap (λ n. ahead (items ++ element ∷ []) (more (comma_unless (codes "FOR")) element_at place_of_member (length rest) (c.loop-self.next + n) rest)) c.declared_by-next.ensures.count
-      ∙ goes_on (comma_unless (codes "FOR")) element_at place_of_member (comma_begin (codes "FOR")) (λ place tokens x e. (element_sound place tokens x e).0.1)
+          ∙ goes_on (comma_unless (codes "FOR")) element_at place_of_member (comma_begin (codes "FOR")) (λ place tokens x e. (element_sound place tokens x e).0.1)
           items c.loop-self.next c.loop-self.self c.passes_comma_unless.new.self (element, rest)
           (elements_at c.args.place c.args.self.now) c.loop-self-test.ensures c.in_ok-element.ensures c.loop-self.invariant.read;
       numbers = let n = c.loop-self.invariant.numbers in omega (arith, c.declared_by-next.ensures.at_most_one);
