@@ -30,4 +30,3 @@ pub mod TellingPaths
 pub mod TellingStatements
 pub mod TellingTypes
 pub mod Texts
-pub mod Whole

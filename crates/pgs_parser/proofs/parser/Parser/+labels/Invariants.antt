@@ -1,4 +1,4 @@
-use Rattle.std.proofs.Common.{◌≡◌, ◌+◌, ◌*◌, length, codes}
+use Rattle.std.proofs.Common.{◌≡◌, ◌+◌, ◌*◌, length}
 use Rattle.pgs_parser.specs.Reader.{more, none_declared, listed_at, sign_at}
 use Rattle.pgs_parser.specs.TypeReaders.{unit_at, conj_at, inner_at}
 use Rattle.pgs_parser.proofs.Items.{ahead}

@@ -4,7 +4,6 @@ use Rattle.pgs_parser.proofs.Items.{ahead}
 use Rattle.pgs_parser.specs.Reader.{comma_unless}
 use Rattle.pgs_parser.specs.Statements.{place_of_member}
 use Rattle.pgs_parser.specs.StatementReaders.{element_at, elements_at}
-use Rattle.pgs_parser.proofs.SoundStatements.{element_sound}
 use Rattle.pgs_parser.proofs.parser.Parser.elements.Given as goal
 
 abbrev pub invariant-loop-self : goal.invariant-loop-self

@@ -2,7 +2,7 @@ use Rattle.std.proofs.Common.{Some, ◌∙◌, ◌++◌, ◌∷◌, [], sym, ap,
 use Rattle.std.proofs.lemmas.Result.{err_from_is_err_and}
 use Rattle.pgs_parser.specs.Reader.{more, none_declared}
 use Rattle.pgs_parser.proofs.Items.{ahead, starts, start_fails, goes_on, ends, fails, left_less}
-use Rattle.pgs_parser.proofs.Chains.{comma_begin, after_begin}
+use Rattle.pgs_parser.proofs.Chains.{comma_begin}
 use Rattle.pgs_parser.specs.Reader.{comma_unless}
 use Rattle.pgs_parser.specs.KeyReaders.{expr_at, exprs_at}
 use Rattle.pgs_parser.proofs.SoundKeys.{expr_sound}

@@ -2,7 +2,7 @@ use Rattle.std.proofs.Common.{Some, ◌+◌, ◌∙◌, ◌++◌, ◌∷◌, [],
 use Rattle.std.proofs.lemmas.Result.{err_from_is_err_and}
 use Rattle.pgs_parser.specs.Reader.{more}
 use Rattle.pgs_parser.proofs.Items.{ahead, starts, start_fails, goes_on, ends, fails, left_less}
-use Rattle.pgs_parser.proofs.Chains.{comma_begin, after_begin}
+use Rattle.pgs_parser.proofs.Chains.{after_begin}
 use Rattle.pgs_parser.specs.Reader.{sign_at, the_sign}
 use Rattle.pgs_parser.specs.KeyReaders.{key_at}
 use Rattle.pgs_parser.specs.StatementReaders.{place_of_key, keys_at}

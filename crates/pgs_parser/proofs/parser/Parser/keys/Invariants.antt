@@ -1,10 +1,9 @@
-use Rattle.std.proofs.Common.{◌≡◌, ◌+◌, ◌≤◌, length, codes}
+use Rattle.std.proofs.Common.{◌≡◌, ◌+◌, ◌≤◌, length}
 use Rattle.pgs_parser.specs.Reader.{more}
 use Rattle.pgs_parser.proofs.Items.{ahead}
-use Rattle.pgs_parser.specs.Reader.{sign_at, the_sign}
+use Rattle.pgs_parser.specs.Reader.{sign_at}
 use Rattle.pgs_parser.specs.KeyReaders.{key_at}
 use Rattle.pgs_parser.specs.StatementReaders.{place_of_key, keys_at}
-use Rattle.pgs_parser.proofs.SoundStatements.{key_declared}
 use Rattle.pgs_parser.proofs.parser.Parser.keys.Given as goal
 
 abbrev pub invariant-loop-self : goal.invariant-loop-self

@@ -3,7 +3,6 @@ use Rattle.pgs_parser.specs.Reader.{more, none_declared}
 use Rattle.pgs_parser.proofs.Items.{ahead}
 use Rattle.pgs_parser.specs.Reader.{comma_unless}
 use Rattle.pgs_parser.specs.KeyReaders.{path_at, paths_at}
-use Rattle.pgs_parser.proofs.SoundKeys.{path_sound}
 use Rattle.pgs_parser.proofs.parser.Parser.paths.Given as goal
 
 abbrev pub invariant-loop-self : goal.invariant-loop-self

@@ -1,8 +1,8 @@
-use Rattle.std.proofs.Common.{Some, ◌∙◌, ◌++◌, ◌∷◌, [], sym, ap, ap₂, length, codes}
+use Rattle.std.proofs.Common.{Some, ◌∙◌, ◌++◌, ◌∷◌, [], sym, ap, ap₂, length}
 use Rattle.std.proofs.lemmas.Result.{err_from_is_err_and}
 use Rattle.pgs_parser.specs.Reader.{more, none_declared}
 use Rattle.pgs_parser.proofs.Items.{ahead, starts, start_fails, goes_on, ends, fails, left_less}
-use Rattle.pgs_parser.proofs.Chains.{comma_begin, after_begin}
+use Rattle.pgs_parser.proofs.Chains.{after_begin}
 use Rattle.pgs_parser.specs.Reader.{listed_at, after, the_sign, name_at}
 use Rattle.pgs_parser.proofs.Chains.{name_sound}
 use Rattle.pgs_parser.proofs.parser.Parser.some_names.Goals as goal

@@ -1,8 +1,7 @@
-use Rattle.std.proofs.Common.{◌≡◌, length, codes}
+use Rattle.std.proofs.Common.{◌≡◌, length}
 use Rattle.pgs_parser.specs.Reader.{more, none_declared}
 use Rattle.pgs_parser.proofs.Items.{ahead}
 use Rattle.pgs_parser.specs.Reader.{listed_at, after, the_sign, name_at}
-use Rattle.pgs_parser.proofs.Chains.{name_sound}
 use Rattle.pgs_parser.proofs.parser.Parser.some_names.Given as goal
 
 abbrev pub invariant-loop-self : goal.invariant-loop-self

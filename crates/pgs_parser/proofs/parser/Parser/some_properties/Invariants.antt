@@ -3,7 +3,6 @@ use Rattle.pgs_parser.specs.Reader.{more, none_declared}
 use Rattle.pgs_parser.proofs.Items.{ahead}
 use Rattle.pgs_parser.specs.Reader.{listed_at, comma_unless}
 use Rattle.pgs_parser.specs.TypeReaders.{property_at}
-use Rattle.pgs_parser.proofs.SoundTypes.{property_sound}
 use Rattle.pgs_parser.proofs.parser.Parser.some_properties.Given as goal
 
 abbrev pub invariant-loop-self : goal.invariant-loop-self

@@ -1,9 +1,8 @@
-use Rattle.std.proofs.Common.{◌≡◌, length, codes}
+use Rattle.std.proofs.Common.{◌≡◌, length}
 use Rattle.pgs_parser.specs.Reader.{more, none_declared}
 use Rattle.pgs_parser.proofs.Items.{ahead}
-use Rattle.pgs_parser.specs.Reader.{listed_at, sign_at, the_sign}
+use Rattle.pgs_parser.specs.Reader.{listed_at, sign_at}
 use Rattle.pgs_parser.specs.KeyReaders.{test_at}
-use Rattle.pgs_parser.proofs.SoundKeys.{test_sound}
 use Rattle.pgs_parser.proofs.parser.Parser.some_tests.Given as goal
 
 abbrev pub invariant-loop-self : goal.invariant-loop-self

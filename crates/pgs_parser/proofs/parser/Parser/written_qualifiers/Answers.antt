@@ -1,8 +1,7 @@
-use Rattle.std.proofs.Common.{Some, ◌∙◌, ◌++◌, ◌∷◌, [], sym, ap, ap₂, length, codes}
+use Rattle.std.proofs.Common.{Some, ◌∙◌, ◌++◌, ◌∷◌, [], sym, ap, ap₂, length}
 use Rattle.std.proofs.lemmas.Result.{err_from_is_err_and}
 use Rattle.pgs_parser.specs.Reader.{more, none_declared}
 use Rattle.pgs_parser.proofs.Items.{ahead, starts, start_fails, goes_on, ends, fails, left_less}
-use Rattle.pgs_parser.proofs.Chains.{comma_begin, after_begin}
 use Rattle.pgs_parser.specs.Reader.{listed_at}
 use Rattle.pgs_parser.specs.KeyReaders.{qualifier_at, qualifier_begins}
 use Rattle.pgs_parser.proofs.SoundKeys.{qualifier_sound, qualifier_begin}

@@ -1,9 +1,8 @@
-use Rattle.std.proofs.Common.{◌≡◌, length, codes}
+use Rattle.std.proofs.Common.{◌≡◌, length}
 use Rattle.pgs_parser.specs.Reader.{more, none_declared}
 use Rattle.pgs_parser.proofs.Items.{ahead}
 use Rattle.pgs_parser.specs.Reader.{listed_at}
 use Rattle.pgs_parser.specs.KeyReaders.{qualifier_at, qualifier_begins}
-use Rattle.pgs_parser.proofs.SoundKeys.{qualifier_sound, qualifier_begin}
 use Rattle.pgs_parser.proofs.parser.Parser.written_qualifiers.Given as goal
 
 abbrev pub invariant-loop-self : goal.invariant-loop-self
