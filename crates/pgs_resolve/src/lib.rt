@@ -7,10 +7,13 @@
 mod declarations;
 mod duplicates;
 mod fault;
+mod guard;
 mod kinds;
 pub mod laws;
 mod names;
 mod pieces;
+mod resolved_types;
+mod specifications;
 pub mod samples;
 mod unknown;
 
