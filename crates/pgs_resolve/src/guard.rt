@@ -1,5 +1,6 @@
-ghost use Rattle.std.specs.Prelude.{◌≡◌, ℕ, List, [], ◌∷◌, ◌++◌, filter_map, flat_map, IfOk, OnOk, map};
-ghost use Rattle.std.specs.Option.{option_copied, option_to_list};
+ghost use Rattle.std.specs.Prelude.{◌≡◌, ℕ, List, [], ◌∷◌, ◌++◌, filter_map, flat_map, if◌then◌else◌, IfOk, OnOk, map};
+ghost use Rattle.std.specs.Option.{option_to_list};
+ghost use Rattle.pgs_base.specs.Pair.{has_name};
 ghost use Rattle.pgs_resolve.specs.Guard.{name_of, each_once, type_no};
 
 use crate::names::Names;
@@ -30,15 +31,23 @@ fn type_no(nodes: &Names, edges: &Names, name: &Name) -> Option<TypeNo>
     }
 }
 
+// Puts the name of a member last where it isn't there.
+fn list_member(alloc: Global, member: &Member, names: &mut Names) -> Result<(), Memory>
+    ensures { OnOk result (names.new ≡ names.old ++ (if has_name (name_of member.now) names.old then [] else name_of member.now ∷ [])) }
+{
+    let name = name_of(member);
+    if !names.contains(name) {
+        names.push(alloc, name.copy(alloc)?)?;
+    }
+    Ok(())
+}
+
 // Puts the names of members last that aren't there.
 fn list_members(alloc: Global, members: &[Member], names: &mut Names) -> Result<(), Memory>
     ensures { (before : List (List ℕ)) → names.old ≡ each_once before → OnOk result (names.new ≡ each_once (before ++ map name_of members.now)) }
 {
     for member in members {
-        let name = name_of(member);
-        if !names.contains(name) {
-            names.push(alloc, name.copy(alloc)?)?;
-        }
+        list_member(alloc, member, names)?;
     }
     Ok(())
 }
@@ -54,14 +63,21 @@ fn member_names(alloc: Global, graphs: &[&GraphType]) -> Result<Names, Memory>
     Ok(names)
 }
 
+fn push_number(nodes: &Names, edges: &Names, name: &Name, types: &mut Vec<TypeNo>) -> Result<(), Memory>
+    ensures { OnOk result (types.new.items ≡ types.old.items ++ option_to_list (type_no (record { nodes = nodes.now; edges = edges.now }) name.now)) }
+{
+    if let Some(number) = type_no(nodes, edges, name) {
+        types.push(number)?;
+    }
+    Ok(())
+}
+
 fn numbered(alloc: Global, nodes: &Names, edges: &Names, names: &[Name]) -> Result<Vec<TypeNo>, Memory>
     ensures { IfOk result (λ types. types.items ≡ filter_map (type_no (record { nodes = nodes.now; edges = edges.now })) names.now) }
 {
     let mut types = Vec::new(alloc);
     for name in names {
-        if let Some(number) = type_no(nodes, edges, name) {
-            types.push(number)?;
-        }
+        push_number(nodes, edges, name, &mut types)?;
     }
     Ok(types)
 }
