@@ -6,5 +6,6 @@ mod OneAnswer
 pub mod Parts
 pub mod Repeats
 pub mod Same
+pub mod Steps
 pub mod Trees
 pub mod Walks

@@ -8,6 +8,7 @@ mod declarations;
 mod duplicates;
 mod fault;
 mod guard;
+mod imports;
 mod kinds;
 pub mod laws;
 mod names;
