@@ -1,13 +1,14 @@
 -- A walk over imports with the graph types on the way kept in a list.
 use Rattle.std.proofs.Common.{◌≡◌, ℕ, zero, suc, ◌+◌, ◌-◌, ◌*◌, ◌<◌, ◌≤◌, Bool, true, false, cond, List, [], ◌∷◌, ◌++◌, length, refl, sym, ◌∙◌, ap, arith}
-use Rattle.std.specs.List.{fold, sum_by}
+use Rattle.std.specs.List.{fold, sum_by, slice_get}
 use Rattle.std.proofs.lemmas.Nat.{mul-le}
 use Rattle.std.proofs.Math.Nat.{suc-mul}
 use Rattle.std.proofs.lemmas.List.Sums.{sum_by_push}
 use Rattle.pgs_base.specs.Pair.{has_name}
+use Rattle.pgs_syntax.specs.declared.script.GraphType.{GraphType}
 use Rattle.pgs_syntax.specs.declared.script.Script.{Script}
 use Rattle.pgs_resolve.specs.declared.imports.Frame.{Frame}
-use Rattle.pgs_resolve.specs.Guard.{walked}
+use Rattle.pgs_resolve.specs.Guard.{walked, last_of}
 use Rattle.pgs_resolve.specs.Refused.{imported_by}
 
 -- the names after a graph type and all its imports that are left, and after several graph types, the last first
@@ -110,3 +111,11 @@ deeper_by_one most (suc depth) n m k some e few =
     let same : cost most (suc depth - 1) ≡ cost most depth = ap (cost most) d in
     let times : k * cost most (suc depth - 1) ≡ k * cost most depth = ap (λ c. k * c) same in
     omega (arith, less, times)
+
+-- ---- the last graph type
+
+pub last_at : (types : List GraphType) (n : ℕ) → length types ≡ suc n → last_of types ≡ slice_get types n
+last_at [] n e = refl
+last_at (type ∷ []) n e = let z : n ≡ 0 = omega (arith, e) in ap (slice_get (type ∷ [])) (sym z)
+last_at (type ∷ other ∷ types) zero e = absurd (omega (arith, e))
+last_at (type ∷ other ∷ types) (suc n) e = last_at (other ∷ types) n (omega (arith, e))

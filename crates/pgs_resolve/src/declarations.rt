@@ -21,7 +21,8 @@ pub struct Declarations<'a> {
     pub graph_names: Names,
 }
 
-fn at<T: Copy>(items: &[T], place: usize) -> Option<T>
+/// The item at a place, from 0. `None` exactly past the last.
+pub fn at<T: Copy>(items: &[T], place: usize) -> Option<T>
     ensures { result ≡ slice_get items.now place }
 {
     items.get(place).copied()

@@ -1,13 +1,16 @@
-ghost use Rattle.std.specs.Prelude.{◌≡◌, ◌≤◌, [], ◌∷◌, length, IfOk, MatchOption};
+ghost use Rattle.std.specs.Prelude.{◌≡◌, ◌≤◌, [], ◌∷◌, ◌++◌, length, map, filter_map, IfOk, OnOk, MatchOption};
 ghost use Rattle.std.specs.List.{sum_by};
 ghost use Rattle.pgs_syntax.specs.declared.script.Script.{Script};
-ghost use Rattle.pgs_resolve.specs.Guard.{walked};
+ghost use Rattle.std.specs.Option.{option_copied, option_to_list};
+ghost use Rattle.pgs_resolve.specs.Declarations.{graphs_of, graph_named};
+ghost use Rattle.pgs_resolve.specs.Guard.{walked, last_of, walked_graphs};
 ghost use Rattle.pgs_resolve.specs.Refused.{imported_by};
 ghost use Rattle.pgs_resolve.specs.Tables.{AreOf};
 
-use crate::declarations::Declarations;
+use crate::declarations::{Declarations, at};
 use crate::names::Names;
 use pgs_base::{Copyable, Memory, Name};
+use pgs_syntax::GraphType;
 use std::alloc::Global;
 
 // A graph type on the way: its name, which is told after its imports; the imports that are left; how deep they are walked.
@@ -71,4 +74,51 @@ pub fn walk<'a>(alloc: Global, declarations: &Declarations<'a>, name: &'a Name) 
         }
     }
     Ok(names)
+}
+
+// The last graph type.
+fn last_graph<'a>(declarations: &Declarations<'a>) -> Option<&'a GraphType>
+    ensures { (script : Script) → AreOf script declarations.now → option_copied result ≡ last_of (graphs_of script) }
+{
+    let count = declarations.graphs.len();
+    if count == 0 {
+        return None;
+    }
+    at(&declarations.graphs, count - 1)
+}
+
+fn push_graph<'a>(declarations: &Declarations<'a>, name: &Name, graphs: &mut Vec<&'a GraphType>) -> Result<(), Memory>
+    ensures { (script : Script) → AreOf script declarations.now →
+        OnOk result (map (λ graph. graph.now) graphs.new.items ≡ map (λ graph. graph.now) graphs.old.items ++ option_to_list (graph_named script name.now)) }
+{
+    match declarations.graph(name) {
+        Some(graph) => graphs.push(graph)?,
+        None => {}
+    }
+    Ok(())
+}
+
+fn named_graphs<'a>(alloc: Global, declarations: &Declarations<'a>, names: &[Name]) -> Result<Vec<&'a GraphType>, Memory>
+    ensures { (script : Script) → AreOf script declarations.now →
+        IfOk result (λ graphs. map (λ graph. graph.now) graphs.items ≡ filter_map (graph_named script) names.now) }
+{
+    let mut graphs = Vec::new(alloc);
+    for name in names {
+        push_graph(declarations, name, &mut graphs)?;
+    }
+    Ok(graphs)
+}
+
+/// The graph types whose members and keys count, in order: the last one, after those that it imports.
+pub fn guard_graphs<'a>(alloc: Global, declarations: &Declarations<'a>) -> Result<Vec<&'a GraphType>, Memory>
+    ensures { (script : Script) → AreOf script declarations.now →
+        IfOk result (λ graphs. map (λ graph. graph.now) graphs.items ≡ walked_graphs script) }
+{
+    match last_graph(declarations) {
+        Some(last) => {
+            let names = walk(alloc, declarations, &last.name)?;
+            named_graphs(alloc, declarations, names.as_slice())
+        }
+        None => Ok(Vec::new(alloc)),
+    }
 }
