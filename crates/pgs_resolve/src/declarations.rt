@@ -1,7 +1,7 @@
 ghost use Rattle.std.specs.Prelude.{◌≡◌, ◌++◌, ◌≤◌, length, slice_get, map, filter_map, IfSome, IfOk, OnOk};
 ghost use Rattle.std.specs.Option.{option_to_list, option_copied};
 ghost use Rattle.std.specs.List.{sum_by};
-ghost use Rattle.pgs_resolve.specs.Declarations.{nodes_of, edges_of, graphs_of, declared_in, node_in, edge_in, graph_in, is_node_type, is_edge_type, is_graph_type, graph_named};
+ghost use Rattle.pgs_resolve.specs.Declarations.{nodes_of, edges_of, graphs_of, declared_in, node_in, edge_in, graph_in, is_node_type, is_edge_type, is_graph_type, graph_named, node_named, edge_named};
 ghost use Rattle.pgs_syntax.specs.declared.script.Script.{Script};
 ghost use Rattle.pgs_resolve.specs.Tables.{AreOf};
 
@@ -151,6 +151,26 @@ impl<'a> Declarations<'a> {
     {
         match self.graph_names.number(name) {
             Some(number) => at(&self.graphs, number as usize),
+            None => None,
+        }
+    }
+
+    /// The node type of a name.
+    pub fn node(&self, name: &Name) -> Option<&'a NodeType<Name>>
+        ensures { (script : Script) → AreOf script self.now → option_copied result ≡ node_named script name.now }
+    {
+        match self.node_names.number(name) {
+            Some(number) => at(&self.nodes, number as usize),
+            None => None,
+        }
+    }
+
+    /// The edge type of a name.
+    pub fn edge(&self, name: &Name) -> Option<&'a EdgeType<Name>>
+        ensures { (script : Script) → AreOf script self.now → option_copied result ≡ edge_named script name.now }
+    {
+        match self.edge_names.number(name) {
+            Some(number) => at(&self.edges, number as usize),
             None => None,
         }
     }

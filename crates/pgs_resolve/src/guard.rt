@@ -4,6 +4,7 @@ ghost use Rattle.pgs_base.specs.Pair.{has_name};
 ghost use Rattle.pgs_resolve.specs.Guard.{name_of, each_once, type_no};
 
 use crate::names::Names;
+use crate::order::Numbering;
 use pgs_base::{Copyable, Memory, Name};
 use pgs_syntax::{GraphType, Member, TypeNo};
 use std::alloc::Global;
@@ -19,12 +20,12 @@ fn name_of(member: &Member) -> &Name
 }
 
 // The number of the type of a name: of a node type, or of an edge type.
-fn type_no(nodes: &Names, edges: &Names, name: &Name) -> Option<TypeNo>
-    ensures { result ≡ type_no (record { nodes = nodes.now; edges = edges.now }) name.now }
+fn type_no(numbering: &Numbering, name: &Name) -> Option<TypeNo>
+    ensures { result ≡ type_no numbering.now name.now }
 {
-    match nodes.number(name) {
+    match numbering.nodes.number(name) {
         Some(number) => Some(TypeNo::Node(number)),
-        None => match edges.number(name) {
+        None => match numbering.edges.number(name) {
             Some(number) => Some(TypeNo::Edge(number)),
             None => None,
         },
@@ -63,30 +64,30 @@ fn member_names(alloc: Global, graphs: &[&GraphType]) -> Result<Names, Memory>
     Ok(names)
 }
 
-fn push_number(nodes: &Names, edges: &Names, name: &Name, types: &mut Vec<TypeNo>) -> Result<(), Memory>
-    ensures { OnOk result (types.new.items ≡ types.old.items ++ option_to_list (type_no (record { nodes = nodes.now; edges = edges.now }) name.now)) }
+fn push_number(numbering: &Numbering, name: &Name, types: &mut Vec<TypeNo>) -> Result<(), Memory>
+    ensures { OnOk result (types.new.items ≡ types.old.items ++ option_to_list (type_no numbering.now name.now)) }
 {
-    if let Some(number) = type_no(nodes, edges, name) {
+    if let Some(number) = type_no(numbering, name) {
         types.push(number)?;
     }
     Ok(())
 }
 
-fn numbered(alloc: Global, nodes: &Names, edges: &Names, names: &[Name]) -> Result<Vec<TypeNo>, Memory>
-    ensures { IfOk result (λ types. types.items ≡ filter_map (type_no (record { nodes = nodes.now; edges = edges.now })) names.now) }
+fn numbered(alloc: Global, numbering: &Numbering, names: &[Name]) -> Result<Vec<TypeNo>, Memory>
+    ensures { IfOk result (λ types. types.items ≡ filter_map (type_no numbering.now) names.now) }
 {
     let mut types = Vec::new(alloc);
     for name in names {
-        push_number(nodes, edges, name, &mut types)?;
+        push_number(numbering, name, &mut types)?;
     }
     Ok(types)
 }
 
 /// The numbers of the types that graph types list, each once, by their first places.
-pub fn listed_types(alloc: Global, nodes: &Names, edges: &Names, graphs: &[&GraphType]) -> Result<Vec<TypeNo>, Memory>
-    ensures { IfOk result (λ types. types.items ≡ filter_map (type_no (record { nodes = nodes.now; edges = edges.now }))
+pub fn listed_types(alloc: Global, numbering: &Numbering, graphs: &[&GraphType]) -> Result<Vec<TypeNo>, Memory>
+    ensures { IfOk result (λ types. types.items ≡ filter_map (type_no numbering.now)
         (each_once (map name_of (flat_map (λ graph. graph.now.members) graphs.now)))) }
 {
     let names = member_names(alloc, graphs)?;
-    numbered(alloc, nodes, edges, names.as_slice())
+    numbered(alloc, numbering, names.as_slice())
 }

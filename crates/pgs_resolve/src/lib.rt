@@ -12,6 +12,7 @@ mod imports;
 mod kinds;
 pub mod laws;
 mod names;
+mod order;
 mod pieces;
 mod resolved_types;
 mod specifications;

@@ -5,5 +5,5 @@ use Rattle.pgs_resolve.proofs.guard.numbered.Goals as goal
 
 pub loop-name-preserved : goal.loop-name-preserved
 loop-name-preserved c =
-    more_kept (type_no (record { nodes = c.args.nodes.now; edges = c.args.edges.now })) [] c.args.names.now _ _ _ _ (omega arith) c.name-item.is
+    more_kept (type_no c.args.numbering.now) [] c.args.names.now _ _ _ _ (omega arith) c.name-item.is
     c.loop-name.invariant c.in_ok-push_number.ensures

@@ -4,4 +4,4 @@ use Rattle.pgs_resolve.specs.Guard.{type_no}
 use Rattle.pgs_resolve.proofs.guard.numbered.Given as goal
 
 abbrev pub invariant-loop-name : goal.invariant-loop-name
-invariant-loop-name l = l.types.items ≡ filter_map (type_no (record { nodes = l.nodes; edges = l.edges })) (take l.name-index l.names)
+invariant-loop-name l = l.types.items ≡ filter_map (type_no l.numbering) (take l.name-index l.names)
