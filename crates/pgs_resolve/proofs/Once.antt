@@ -1,12 +1,11 @@
 -- Names, each once, with one more.
 use Rattle.std.proofs.Common.{◌≡◌, ℕ, ◌+◌, ◌<◌, Bool, true, false, not, cond, List, [], ◌∷◌, ◌++◌, ◌||◌, length, take, map, filter, get_or, refl, sym, ◌∙◌, ap}
-use Rattle.std.specs.List.{list_any, flat_map}
-use Rattle.std.proofs.lemmas.List.{append-nil, append_assoc, map-append, flat_map_more}
+use Rattle.std.proofs.lemmas.List.{append_assoc, map-append}
 use Rattle.std.proofs.lemmas.List.Elements.{filter-append}
 use Rattle.pgs_base.specs.Pair.{same_name, has_name}
 use Rattle.pgs_syntax.specs.declared.script.Member.{Member}
 use Rattle.pgs_resolve.specs.Guard.{name_of, each_once}
-use Rattle.pgs_resolve.proofs.Same.{in_turn, one_name, itself}
+use Rattle.pgs_resolve.proofs.Same.{in_turn, one_name}
 use Rattle.pgs_resolve.proofs.Walks.{one_more}
 
 abbrev others : List ℕ → List (List ℕ) → List (List ℕ)
@@ -55,7 +54,7 @@ more_once before members i member mid new lt is these after =
     let y : List ℕ = name_of member in
     let known : List (List ℕ) = before ++ map name_of (take i members) in
     let next : before ++ map name_of (take (i + 1) members) ≡ known ++ y ∷ [] =
-        ap (λ ms. before ++ map name_of ms) (one_more members i member lt is)
-        ∙ ap (λ ns. before ++ ns) (map-append name_of (take i members) (member ∷ [])) ∙ sym (append_assoc before _ _) in
+    ap (λ ms. before ++ map name_of ms) (one_more members i member lt is)
+    ∙ ap (λ ns. before ++ ns) (map-append name_of (take i members) (member ∷ [])) ∙ sym (append_assoc before _ _) in
     after ∙ ap (λ ns. ns ++ cond (has_name y ns) [] (y ∷ [])) these ∙ ap (λ b. each_once known ++ cond b [] (y ∷ [])) (known_once y known)
     ∙ sym (once_more known y) ∙ ap each_once (sym next)

@@ -3,7 +3,7 @@ use Rattle.std.proofs.Common.{◌≡◌, ℕ, List, [], ◌∷◌, map, refl, ap
 use mathlib.Core.Former.{list_count, this}
 use denote.Hole.Carrier.{hidden}
 use Rattle.pgs_syntax.specs.declared.specification.Leaf.{Leaf}
-use Rattle.pgs_syntax.specs.declared.specification.Spec.{Spec, And, And', Or, Or', Opt, Row_of-Spec, end_of-Spec, more_of-Spec}
+use Rattle.pgs_syntax.specs.declared.specification.Spec.{Spec, And, And', Or, Or', Opt, Row_of-Spec, more_of-Spec}
 use Rattle.pgs_syntax.specs.declared.specification.Spec.TheBlock as block
 use Rattle.pgs_resolve.specs.Order.{resolved_spec, resolved_specs}
 

@@ -84,7 +84,11 @@ fn numbered(alloc: Global, numbering: &Numbering, names: &[Name]) -> Result<Vec<
 }
 
 /// The numbers of the types that graph types list, each once, by their first places.
-pub fn listed_types(alloc: Global, numbering: &Numbering, graphs: &[&GraphType]) -> Result<Vec<TypeNo>, Memory>
+pub fn listed_types(
+    alloc: Global,
+    numbering: &Numbering,
+    graphs: &[&GraphType],
+) -> Result<Vec<TypeNo>, Memory>
     ensures { IfOk result (λ types. types.items ≡ filter_map (type_no numbering.now)
         (each_once (map name_of (flat_map (λ graph. graph.now.members) graphs.now)))) }
 {

@@ -42,7 +42,11 @@ fn split(names: &[Name]) -> Option<(&Name, &[Name])>
 
 /// The names that are walked from a graph type on, depth first, each after its imports and once. Imports are walked no
 /// deeper than there are graph types.
-pub fn walk<'a>(alloc: Global, declarations: &Declarations<'a>, name: &'a Name) -> Result<Names, Memory>
+pub fn walk<'a>(
+    alloc: Global,
+    declarations: &Declarations<'a>,
+    name: &'a Name,
+) -> Result<Names, Memory>
     ensures { (script : Script) → AreOf script declarations.now →
         IfOk result (λ names. names ≡ walked script (length declarations.now.graphs.items) [] name.now) }
 {
@@ -61,7 +65,10 @@ pub fn walk<'a>(alloc: Global, declarations: &Declarations<'a>, name: &'a Name) 
         match split(frame.rest) {
             None => names.push(alloc, frame.name.copy(alloc)?)?,
             Some(next) => {
-                stack.push(Frame { rest: next.1, ..frame })?;
+                stack.push(Frame {
+                    rest: next.1,
+                    ..frame
+                })?;
                 if frame.depth == 0 || names.contains(next.0) {
                     continue;
                 }
@@ -87,7 +94,11 @@ fn last_graph<'a>(declarations: &Declarations<'a>) -> Option<&'a GraphType>
     at(&declarations.graphs, count - 1)
 }
 
-fn push_graph<'a>(declarations: &Declarations<'a>, name: &Name, graphs: &mut Vec<&'a GraphType>) -> Result<(), Memory>
+fn push_graph<'a>(
+    declarations: &Declarations<'a>,
+    name: &Name,
+    graphs: &mut Vec<&'a GraphType>,
+) -> Result<(), Memory>
     ensures { (script : Script) → AreOf script declarations.now →
         OnOk result (map (λ graph. graph.now) graphs.new.items ≡ map (λ graph. graph.now) graphs.old.items ++ option_to_list (graph_named script name.now)) }
 {
@@ -98,7 +109,11 @@ fn push_graph<'a>(declarations: &Declarations<'a>, name: &Name, graphs: &mut Vec
     Ok(())
 }
 
-fn named_graphs<'a>(alloc: Global, declarations: &Declarations<'a>, names: &[Name]) -> Result<Vec<&'a GraphType>, Memory>
+fn named_graphs<'a>(
+    alloc: Global,
+    declarations: &Declarations<'a>,
+    names: &[Name],
+) -> Result<Vec<&'a GraphType>, Memory>
     ensures { (script : Script) → AreOf script declarations.now →
         IfOk result (λ graphs. map (λ graph. graph.now) graphs.items ≡ filter_map (graph_named script) names.now) }
 {
@@ -110,7 +125,10 @@ fn named_graphs<'a>(alloc: Global, declarations: &Declarations<'a>, names: &[Nam
 }
 
 /// The graph types whose members and keys count, in order: the last one, after those that it imports.
-pub fn guard_graphs<'a>(alloc: Global, declarations: &Declarations<'a>) -> Result<Vec<&'a GraphType>, Memory>
+pub fn guard_graphs<'a>(
+    alloc: Global,
+    declarations: &Declarations<'a>,
+) -> Result<Vec<&'a GraphType>, Memory>
     ensures { (script : Script) → AreOf script declarations.now →
         IfOk result (λ graphs. map (λ graph. graph.now) graphs.items ≡ walked_graphs script) }
 {

@@ -9,14 +9,16 @@ mod duplicates;
 mod fault;
 mod guard;
 mod imports;
+mod key_faults;
 mod kinds;
 pub mod laws;
 mod names;
 mod order;
 mod pieces;
+mod places;
 mod resolved_types;
-mod specifications;
 pub mod samples;
+mod specifications;
 mod unknown;
 
 pub use fault::{KeyCause, ResolveFault};

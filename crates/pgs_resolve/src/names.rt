@@ -1,5 +1,6 @@
-ghost use Rattle.std.specs.Prelude.{◌≡◌, [], ◌∷◌, ◌++◌, length, IfOk, OnOk, OnErr};
+ghost use Rattle.std.specs.Prelude.{◌≡◌, [], ◌∷◌, ◌++◌, length, slice_get, IfOk, OnOk, OnErr};
 ghost use Rattle.std.specs.List.{position};
+ghost use Rattle.std.specs.Option.{option_copied};
 ghost use Rattle.pgs_base.specs.Pair.{same_name, has_name};
 
 use pgs_base::{Copyable, Memory, Name};
@@ -77,6 +78,13 @@ impl Names {
         ensures { result ≡ has_name name.now self.now }
     {
         self.places.contains_key(name)
+    }
+
+    /// The first name. `None` exactly where there is none.
+    pub fn first(&self) -> Option<&Name>
+        ensures { option_copied result ≡ slice_get self.now 0 }
+    {
+        self.items.get(0)
     }
 
     /// All names in order.

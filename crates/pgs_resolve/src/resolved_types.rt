@@ -13,7 +13,11 @@ use pgs_syntax::{EdgeType, Leaf, NodeType};
 use std::alloc::Global;
 
 // A node type with its names resolved.
-fn resolve_node(alloc: Global, numbering: &Numbering, node: &NodeType<Name>) -> Result<NodeType<Leaf>, Memory>
+fn resolve_node(
+    alloc: Global,
+    numbering: &Numbering,
+    node: &NodeType<Name>,
+) -> Result<NodeType<Leaf>, Memory>
     ensures { IfOk result (λ resolved. resolved ≡ resolved_node numbering.now node.now) }
 {
     let name = node.name.copy(alloc)?;
@@ -27,7 +31,11 @@ fn resolve_node(alloc: Global, numbering: &Numbering, node: &NodeType<Name>) -> 
 }
 
 // An edge type with its names resolved: at its ends node types, and in its middle edge types.
-fn resolve_edge(alloc: Global, numbering: &Numbering, edge: &EdgeType<Name>) -> Result<EdgeType<Leaf>, Memory>
+fn resolve_edge(
+    alloc: Global,
+    numbering: &Numbering,
+    edge: &EdgeType<Name>,
+) -> Result<EdgeType<Leaf>, Memory>
     ensures { IfOk result (λ resolved. resolved ≡ resolved_edge numbering.now edge.now) }
 {
     let name = edge.name.copy(alloc)?;
@@ -44,7 +52,13 @@ fn resolve_edge(alloc: Global, numbering: &Numbering, edge: &EdgeType<Name>) -> 
     })
 }
 
-fn push_node(alloc: Global, declarations: &Declarations<'_>, numbering: &Numbering, name: &Name, resolved: &mut Vec<NodeType<Leaf>>) -> Result<(), Memory>
+fn push_node(
+    alloc: Global,
+    declarations: &Declarations<'_>,
+    numbering: &Numbering,
+    name: &Name,
+    resolved: &mut Vec<NodeType<Leaf>>,
+) -> Result<(), Memory>
     ensures { (script : Script) → AreOf script declarations.now →
         OnOk result (resolved.new.items ≡ resolved.old.items
         ++ option_to_list (option_map (resolved_node numbering.now) (node_named script name.now))) }
@@ -57,7 +71,11 @@ fn push_node(alloc: Global, declarations: &Declarations<'_>, numbering: &Numberi
 }
 
 /// All node types with their names resolved, in the order of their numbers.
-pub fn resolve_nodes(alloc: Global, declarations: &Declarations<'_>, numbering: &Numbering) -> Result<List<NodeType<Leaf>>, Memory>
+pub fn resolve_nodes(
+    alloc: Global,
+    declarations: &Declarations<'_>,
+    numbering: &Numbering,
+) -> Result<List<NodeType<Leaf>>, Memory>
     ensures { (script : Script) → AreOf script declarations.now →
         IfOk result (λ types. types ≡ resolved_nodes script numbering.now) }
 {
@@ -87,7 +105,11 @@ fn push_edge(
 }
 
 /// All edge types with their names resolved, in the order of their numbers.
-pub fn resolve_edges(alloc: Global, declarations: &Declarations<'_>, numbering: &Numbering) -> Result<List<EdgeType<Leaf>>, Memory>
+pub fn resolve_edges(
+    alloc: Global,
+    declarations: &Declarations<'_>,
+    numbering: &Numbering,
+) -> Result<List<EdgeType<Leaf>>, Memory>
     ensures { (script : Script) → AreOf script declarations.now →
         IfOk result (λ types. types ≡ resolved_edges script numbering.now) }
 {

@@ -53,7 +53,11 @@ pub fn resolve_spec(alloc: Global, names: &Names, spec: &Spec<Name>) -> Result<S
 }
 
 #[cycle(specifications)]
-fn resolve_parts(alloc: Global, names: &Names, parts: &[Spec<Name>]) -> Result<List<Spec<Leaf>>, Memory>
+fn resolve_parts(
+    alloc: Global,
+    names: &Names,
+    parts: &[Spec<Name>],
+) -> Result<List<Spec<Leaf>>, Memory>
     ensures { IfOk result (λ resolved. resolved ≡ map (resolved_spec names.now) parts.now) }
 {
     let mut resolved = Vec::new(alloc);

@@ -1,7 +1,7 @@
-use Rattle.std.proofs.Common.{◌≡◌, ℕ, ◌++◌, ◌∷◌, [], List, length, sym, ◌∙◌, ap, arith}
-use Rattle.std.specs.List.{fold, sum_by}
+use Rattle.std.proofs.Common.{◌≡◌, ℕ, ◌++◌, ◌∷◌, [], List, length, sym, ◌∙◌, ap}
+use Rattle.std.specs.List.{fold}
 use Rattle.pgs_resolve.specs.Guard.{walked}
-use Rattle.pgs_resolve.proofs.Steps.{finish, weight, finish_closed, next_walked, walked_none, walked_known, walked_deeper, less_after_next, less_after_deeper, next_is_less, deeper_by_one}
+use Rattle.pgs_resolve.proofs.Steps.{finish, finish_closed, next_walked, walked_none, walked_known, walked_deeper, less_after_next, less_after_deeper, next_is_less, deeper_by_one}
 use Rattle.pgs_resolve.proofs.imports.walk.Goals as goal
 use Rattle.pgs_resolve.proofs.imports.walk.Goals.{then-frame-eq0-via-then-frame-eq0, then-frame-eq0-via-else-frame-eq0+then-contains}
 

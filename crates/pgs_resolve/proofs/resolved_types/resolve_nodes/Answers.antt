@@ -1,5 +1,4 @@
-use Rattle.std.proofs.Common.{ℕ, List, [], ◌∙◌, ap, arith}
-use Rattle.std.specs.List.{filter_map}
+use Rattle.std.proofs.Common.{ℕ, List, [], arith}
 use Rattle.std.specs.Option.{option_map}
 use Rattle.pgs_resolve.specs.Declarations.{node_named}
 use Rattle.pgs_resolve.specs.Order.{resolved_node}
