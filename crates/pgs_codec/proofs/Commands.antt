@@ -1,9 +1,9 @@
 -- Commands: a payload is decoded to its one command, and to no other.
-use Rattle.std.proofs.Common.{◌≡◌, ℕ, zero, suc, ◌^◌, ◌<◌, ◌≤◌, Bool, true, false, cond, ◌&&◌, List, [], ◌∷◌, ◌++◌, length, Option, Some, None, refl, sym, ap, subst, ◌∙◌, append_assoc, arith}
-use Rattle.std.specs.Prelude.{flat_map, eqb, leb, ltb}
+use Rattle.std.proofs.Common.{◌≡◌, ℕ, ◌^◌, ◌<◌, Bool, true, ◌&&◌, List, [], ◌∷◌, ◌++◌, length, Option, Some, None, refl, sym, ap, subst, ◌∙◌, arith}
+use Rattle.std.specs.Prelude.{eqb, leb, ltb}
 use Rattle.std.specs.Int.{w32, w64, to_be_bytes}
 use Rattle.std.specs.List.{list_all}
-use Rattle.std.proofs.lemmas.Bool.{leb-true, ltb-true, le-leb, lt-ltb, and_parts, and_from, eqb-true}
+use Rattle.std.proofs.lemmas.Bool.{ltb-true, le-leb, and_parts, and_from, eqb-true}
 use Rattle.std.proofs.lemmas.List.{append-nil, nil_from_length}
 use Rattle.std.proofs.lemmas.Option.{cond_some}
 use Rattle.pgs_base.specs.declared.element.NodeId.{NodeId}
@@ -15,10 +15,10 @@ use Rattle.pgs_base.specs.Options.{◌>>=◌}
 use Rattle.pgs_graph.specs.declared.operation.Op.{Op}
 use Rattle.pgs_codec.specs.declared.command.Command.{Command}
 use Rattle.pgs_codec.specs.declared.command.Command.TheVariants as commands
-use Rattle.pgs_codec.specs.Payload.{op_field, ops_field, node_field, nodes_field, edge_field, edges_field, payload_of}
+use Rattle.pgs_codec.specs.Payload.{ops_field, nodes_field, edges_field, payload_of}
 use Rattle.pgs_codec.specs.Encodable.{is_op, is_wide, is_node, is_edge, snapshot_graph, is_encodable, IsPayload}
-use Rattle.pgs_codec.specs.Reading.{Reading, counted_at, number_at, op_at, node_at, edge_at, schema_at, txn_at, snapshot_parts_at, snapshot_at, command_kinds, kind_at, tested_at, whole, decoded}
-use Rattle.pgs_codec.proofs.Exact.{IsBytes, Takes, IsExact, then_some, same_given, pair_exact, tested_exact, refit, counted_exact, named_takes, named_again, four_bytes, eight_bytes, number_exact, RowTakes, row_takes, kind_takes}
+use Rattle.pgs_codec.specs.Reading.{counted_at, op_at, node_at, edge_at, schema_at, txn_at, snapshot_parts_at, snapshot_at, command_kinds, kind_at, tested_at, whole, decoded}
+use Rattle.pgs_codec.proofs.Exact.{IsBytes, Takes, IsExact, then_some, given, same_given, pair_exact, tested_exact, refit, counted_exact, named_again, four_bytes, eight_bytes, number_exact, row_takes, kind_takes}
 use Rattle.pgs_codec.proofs.Fields.{node_exact, edge_exact}
 use Rattle.pgs_codec.proofs.Ops.{op_exact}
 
@@ -36,15 +36,15 @@ below_again n limit all e =
 
 ops_exact : IsExact ops_field (λ ops. ltb (length ops) (2 ^ 32) && list_all is_op ops) (counted_at w32 (2 ^ 32) op_at)
 ops_exact = refit (counted_exact op_exact w32 (2 ^ 32) (2 ^ 32) four_bytes) (λ ops. ltb (length ops) (2 ^ 32) && list_all is_op ops)
-  (λ ops e. below (length ops) (2 ^ 32) (list_all is_op ops) e) (λ ops e. below_again (length ops) (2 ^ 32) (list_all is_op ops) e)
+    (λ ops e. below (length ops) (2 ^ 32) (list_all is_op ops) e) (λ ops e. below_again (length ops) (2 ^ 32) (list_all is_op ops) e)
 
 nodes_exact : IsExact nodes_field (λ nodes. ltb (length nodes) (2 ^ 64) && list_all is_node nodes) (counted_at w64 (2 ^ 64) node_at)
 nodes_exact = refit (counted_exact node_exact w64 (2 ^ 64) (2 ^ 64) eight_bytes) (λ nodes. ltb (length nodes) (2 ^ 64) && list_all is_node nodes)
-  (λ nodes e. below (length nodes) (2 ^ 64) (list_all is_node nodes) e) (λ nodes e. below_again (length nodes) (2 ^ 64) (list_all is_node nodes) e)
+    (λ nodes e. below (length nodes) (2 ^ 64) (list_all is_node nodes) e) (λ nodes e. below_again (length nodes) (2 ^ 64) (list_all is_node nodes) e)
 
 edges_exact : IsExact edges_field (λ edges. ltb (length edges) (2 ^ 64) && list_all is_edge edges) (counted_at w64 (2 ^ 64) edge_at)
 edges_exact = refit (counted_exact edge_exact w64 (2 ^ 64) (2 ^ 64) eight_bytes) (λ edges. ltb (length edges) (2 ^ 64) && list_all is_edge edges)
-  (λ edges e. below (length edges) (2 ^ 64) (list_all is_edge edges) e) (λ edges e. below_again (length edges) (2 ^ 64) (list_all is_edge edges) e)
+    (λ edges e. below (length edges) (2 ^ 64) (list_all is_edge edges) e) (λ edges e. below_again (length edges) (2 ^ 64) (list_all is_edge edges) e)
 
 abbrev Parts : Type 0
 Parts = ℕ × (List (NodeId × NodeRow) × List (EdgeId × EdgeRow))
@@ -70,10 +70,13 @@ txn_of ops = commands.Txn (record { ops = ops })
 
 command_takes : (bytes : List ℕ) (x : Command × List ℕ) → IsBytes bytes → kind_at command_kinds bytes ≡ Some x → Takes payload_of is_encodable bytes x
 unfolding payload_of is_encodable schema_at snapshot_at txn_at
-command_takes = kind_takes payload_of is_encodable command_kinds
-  (λ bytes x fits e. subst (Takes payload_of is_encodable (1 ∷ bytes)) (same_given (commands.Schema bytes, []) x e) (record { spelled = sym (append-nil (1 ∷ bytes)); fit = refl }),
-  (row_takes payload_of is_encodable 2 parts_exact snapshot_of (λ x e. refl) (λ x e. e),
-  (row_takes payload_of is_encodable 3 ops_exact txn_of (λ x e. refl) (λ x e. e), tt)))
+command_takes = kind_takes payload_of is_encodable command_kinds (
+  λ bytes x fits e. subst (Takes payload_of is_encodable (1 ∷ bytes)) (same_given (commands.Schema bytes, []) x e) (record { spelled = sym (append-nil (1 ∷ bytes)); fit = refl }),
+  (
+    row_takes payload_of is_encodable 2 parts_exact snapshot_of (λ x e. refl) (λ x e. e),
+    (row_takes payload_of is_encodable 3 ops_exact txn_of (λ x e. refl) (λ x e. e), tt),
+  ),
+)
 
 -- what is decoded has these bytes as its payload
 pub decoded_takes : (bytes : List ℕ) (command : Command) → IsBytes bytes → decoded bytes ≡ Some command → IsPayload command bytes
@@ -104,3 +107,6 @@ payload_decoded bytes command p = ap decoded p.spelled ∙ decoded_again command
 -- two commands with one payload are one
 pub one_command : (a b : Command) (bytes : List ℕ) → IsPayload a bytes → IsPayload b bytes → a ≡ b
 one_command a b bytes p q = same_given a b (sym (payload_decoded bytes a p) ∙ payload_decoded bytes b q)
+
+pub not_decoded : (bytes : List ℕ) (command : Command) → decoded bytes ≡ None → IsPayload command bytes → ⊥
+not_decoded bytes command e p = let clash : given command ≡ None = sym (payload_decoded bytes command p) ∙ e in absurd cc

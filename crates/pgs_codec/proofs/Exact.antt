@@ -1,9 +1,9 @@
 -- Fields that are read exactly: what is read is spelled so, and what is spelled so is read, whatever follows it.
-use Rattle.std.proofs.Common.{◌≡◌, ℕ, zero, suc, ◌+◌, ◌^◌, ◌<◌, ◌≤◌, Bool, true, false, cond, ◌&&◌, List, [], ◌∷◌, ◌++◌, length, get_or, take, drop, Option, Some, None, refl, sym, ap, subst, ◌∙◌, append_assoc, arith, inl, inr, lit<}
+use Rattle.std.proofs.Common.{◌≡◌, ℕ, zero, suc, ◌^◌, ◌<◌, ◌≤◌, Bool, true, false, cond, ◌&&◌, List, [], ◌∷◌, ◌++◌, length, get_or, take, drop, Option, Some, None, refl, sym, ap, subst, ◌∙◌, append_assoc, arith, inl, inr, lit<}
 use Rattle.std.specs.Prelude.{flat_map, eqb, leb, ltb}
 use Rattle.std.specs.Int.{Width, w16, w32, w64, byte_len, to_be_bytes, from_be_bytes}
 use Rattle.std.specs.List.{list_all, AllByRecursion}
-use Rattle.std.proofs.lemmas.Bool.{eqb-true, leb-true, ltb-true, ltb-false, le-ltb, le-leb, lt-ltb, and_parts, and_from, cases_Bool}
+use Rattle.std.proofs.lemmas.Bool.{eqb-true, ltb-true, ltb-false, le-ltb, lt-ltb, and_parts, and_from, cases_Bool}
 use Rattle.std.proofs.lemmas.List.{take_at, drop_at, take-append-drop, length-append, length-take}
 use Rattle.std.proofs.lemmas.Option.{cond_some}
 use Rattle.std.proofs.lemmas.Nat.{be_bytes_2, be_bytes_4, be_bytes_8, from_be_bytes-to_be_bytes_2, from_be_bytes-to_be_bytes_4, from_be_bytes-to_be_bytes_8}
@@ -37,7 +37,7 @@ pub then_some : {A B : Type 0} (o : Option A) (f : A → Option B) (y : B) → (
 then_some (Some x) f y e = (x, refl, e)
 then_some None f y e = absurd cc
 
-abbrev given : {A : Type 0} → A → Option A
+abbrev pub given : {A : Type 0} → A → Option A
 given x = Some x
 
 pub same_given : {A : Type 0} (x y : A) → given x ≡ given y → x ≡ y
@@ -55,7 +55,7 @@ module _ {A B : Type 0} {f : A → List ℕ} {p : A → Bool} {r : Reading A} {g
       let tb = second.takes a.0.1 b.0 (IsBytes-rest bytes (f a.0.0) a.0.1 ta.spelled fits) b.1 in
       let made : (A × B) × List ℕ = ((a.0.0, b.0.0), b.0.1) in
       subst (λ (y : (A × B) × List ℕ). Takes (λ (x : A × B). f x.0 ++ g x.1) (λ (x : A × B). p x.0 && q x.1) bytes y) (same_given made x b.2)
-        (record { spelled = ta.spelled ∙ ap (λ (t : List ℕ). f a.0.0 ++ t) tb.spelled ∙ sym (append_assoc (f a.0.0) (g b.0.0) b.0.1); fit = and_from _ _ ta.fit tb.fit })
+      (record { spelled = ta.spelled ∙ ap (λ (t : List ℕ). f a.0.0 ++ t) tb.spelled ∙ sym (append_assoc (f a.0.0) (g b.0.0) b.0.1); fit = and_from _ _ ta.fit tb.fit })
 
   pair_again : (x : A × B) (rest : List ℕ) → (p x.0 && q x.1) ≡ true → pair_at r s ((f x.0 ++ g x.1) ++ rest) ≡ Some (x, rest)
   unfolding pair_at
@@ -84,7 +84,7 @@ module _ {A : Type 0} {f : A → List ℕ} {p : A → Bool} {r : Reading A} (fie
   pub named_exact : {B : Type 0} (name : A → B) (parts : B → A) → ((y : B) → name (parts y) ≡ y) → ((x : A) → parts (name x) ≡ x) → IsExact (λ y. f (parts y)) (λ y. p (parts y)) (named_at name r)
   named_exact {B = B} name parts whole same = record {
     takes = λ bytes y fits e. named_takes name (λ bytes y. Takes (λ y. f (parts y)) (λ y. p (parts y)) bytes y) bytes y fits e
-      (λ x t. record { spelled = t.spelled ∙ ap (λ (a : A). f a ++ x.1) (sym (same x.0)); fit = ap p (same x.0) ∙ t.fit });
+        (λ x t. record { spelled = t.spelled ∙ ap (λ (a : A). f a ++ x.1) (sym (same x.0)); fit = ap p (same x.0) ∙ t.fit });
     again = λ y rest e. named_again name (parts y) rest e ∙ ap (λ (z : B). Some (z, rest)) (whole y);
   }
 
@@ -125,7 +125,7 @@ module _ {A : Type 0} {f : A → List ℕ} {p : A → Bool} {r : Reading A} (fie
       let tb = many_takes n a.0.1 b.0 (IsBytes-rest bytes (f a.0.0) a.0.1 ta.spelled fits) b.1 in
       let made : List A × List ℕ = (a.0.0 ∷ b.0.0, b.0.1) in
       subst (λ (y : List A × List ℕ). Takes (flat_map f) (list_all p) bytes y × (length y.0 ≡ suc n)) (same_given made x b.2)
-        (record { spelled = ta.spelled ∙ ap (λ (t : List ℕ). f a.0.0 ++ t) tb.0.spelled ∙ sym (append_assoc (f a.0.0) (flat_map f b.0.0) b.0.1); fit = and_from _ _ ta.fit tb.0.fit }, ap suc tb.1)
+      (record { spelled = ta.spelled ∙ ap (λ (t : List ℕ). f a.0.0 ++ t) tb.0.spelled ∙ sym (append_assoc (f a.0.0) (flat_map f b.0.0) b.0.1); fit = and_from _ _ ta.fit tb.0.fit }, ap suc tb.1)
 
   pub many_again : (xs : List A) (rest : List ℕ) → list_all p xs ≡ true → many_at r (length xs) (flat_map f xs ++ rest) ≡ Some (xs, rest)
   unfolding many_at
@@ -142,9 +142,9 @@ bytes_take n bytes x e =
     elim (cases_Bool (ltb (length bytes) n)) [
       | inl short ↦ absurd (let h : given x ≡ None = sym e ∙ ap (λ b. cond b None (Some (take n bytes, drop n bytes))) short in cc)
       | inr long ↦
-        let same : (take n bytes, drop n bytes) ≡ x = same_given _ x (ap (λ b. cond b None (Some (take n bytes, drop n bytes))) (sym long) ∙ e) in
-        let enough : n ≤ length bytes = ltb-false _ _ long in
-        subst (λ (y : List ℕ × List ℕ). (bytes ≡ y.0 ++ y.1) × (length y.0 ≡ n)) same (sym (take-append-drop n bytes), omega (arith, length-take n bytes))
+          let same : (take n bytes, drop n bytes) ≡ x = same_given _ x (ap (λ b. cond b None (Some (take n bytes, drop n bytes))) (sym long) ∙ e) in
+          let enough : n ≤ length bytes = ltb-false _ _ long in
+          subst (λ (y : List ℕ × List ℕ). (bytes ≡ y.0 ++ y.1) × (length y.0 ≡ n)) same (sym (take-append-drop n bytes), omega (arith, length-take n bytes))
     ]
 
 pub bytes_again : (front rest : List ℕ) → bytes_at (length front) (front ++ rest) ≡ Some (front, rest)
@@ -193,14 +193,14 @@ pub number_exact : (w : Width) (limit : ℕ) → IsNumber w limit → IsExact (t
 unfolding number_at
 number_exact w limit wide = record {
   takes = λ bytes x fits e.
-    let a = then_some (bytes_at (byte_len w) bytes) (λ n. Some (from_be_bytes w n.0, n.1)) x e in
-    let t = bytes_take (byte_len w) bytes a.0 a.1 in
-    let front : IsBytes a.0.0 = IsBytes-front a.0.0 a.0.1 (subst IsBytes t.0 fits) in
-    subst (Takes (to_be_bytes w) (λ n. ltb n limit) bytes) (same_given (from_be_bytes w a.0.0, a.0.1) x a.2)
+      let a = then_some (bytes_at (byte_len w) bytes) (λ n. Some (from_be_bytes w n.0, n.1)) x e in
+      let t = bytes_take (byte_len w) bytes a.0 a.1 in
+      let front : IsBytes a.0.0 = IsBytes-front a.0.0 a.0.1 (subst IsBytes t.0 fits) in
+      subst (Takes (to_be_bytes w) (λ n. ltb n limit) bytes) (same_given (from_be_bytes w a.0.0, a.0.1) x a.2)
       (record { spelled = t.0 ∙ ap (λ (l : List ℕ). l ++ a.0.1) (sym (wide.back a.0.0 t.1 front)); fit = lt-ltb _ _ (wide.below a.0.0 front) });
   again = λ n rest e.
-    let long : bytes_at (byte_len w) (to_be_bytes w n ++ rest) ≡ Some (to_be_bytes w n, rest) = subst (λ (k : ℕ). bytes_at k (to_be_bytes w n ++ rest) ≡ Some (to_be_bytes w n, rest)) (wide.len n) (bytes_again (to_be_bytes w n) rest) in
-    ap (λ (o : Option (List ℕ × List ℕ)). o >>= λ n. Some (from_be_bytes w n.0, n.1)) long ∙ ap (λ (k : ℕ). Some (k, rest)) (wide.again n (ltb-true n limit e));
+      let long : bytes_at (byte_len w) (to_be_bytes w n ++ rest) ≡ Some (to_be_bytes w n, rest) = subst (λ (k : ℕ). bytes_at k (to_be_bytes w n ++ rest) ≡ Some (to_be_bytes w n, rest)) (wide.len n) (bytes_again (to_be_bytes w n) rest) in
+      ap (λ (o : Option (List ℕ × List ℕ)). o >>= λ n. Some (from_be_bytes w n.0, n.1)) long ∙ ap (λ (k : ℕ). Some (k, rest)) (wide.again n (ltb-true n limit e));
 }
 
 pub byte_takes : (bytes : List ℕ) (x : ℕ × List ℕ) → byte_at bytes ≡ Some x → bytes ≡ x.0 ∷ x.1
@@ -223,19 +223,19 @@ module _ {A : Type 0} {f : A → List ℕ} {p : A → Bool} {r : Reading A} (fie
   unfolding counted_at
   counted_exact w limit most wide = record {
     takes = λ bytes x fits e.
-      let a = then_some (number_at w bytes) (λ count. cond (leb count.0 most) (many_at r count.0 count.1) None) x e in
-      let g = chosen_some (leb a.0.0 most) (many_at r a.0.0 a.0.1) x a.2 in
-      let ta = number.takes bytes a.0 fits a.1 in
-      let tb = many_takes field a.0.0 a.0.1 x (IsBytes-rest bytes (to_be_bytes w a.0.0) a.0.1 ta.spelled fits) g.1 in
-      record {
-        spelled = ta.spelled ∙ ap (λ (t : List ℕ). to_be_bytes w a.0.0 ++ t) tb.0.spelled ∙ sym (append_assoc (to_be_bytes w a.0.0) (flat_map f x.0) x.1)
-          ∙ ap (λ (n : ℕ). (to_be_bytes w n ++ flat_map f x.0) ++ x.1) (sym tb.1);
-        fit = and_from _ _ (and_from _ _ (ap (λ n. ltb n limit) tb.1 ∙ ta.fit) (ap (λ n. leb n most) tb.1 ∙ g.0)) tb.0.fit;
-      };
+        let a = then_some (number_at w bytes) (λ count. cond (leb count.0 most) (many_at r count.0 count.1) None) x e in
+        let g = chosen_some (leb a.0.0 most) (many_at r a.0.0 a.0.1) x a.2 in
+        let ta = number.takes bytes a.0 fits a.1 in
+        let tb = many_takes field a.0.0 a.0.1 x (IsBytes-rest bytes (to_be_bytes w a.0.0) a.0.1 ta.spelled fits) g.1 in
+        record {
+          spelled = ta.spelled ∙ ap (λ (t : List ℕ). to_be_bytes w a.0.0 ++ t) tb.0.spelled ∙ sym (append_assoc (to_be_bytes w a.0.0) (flat_map f x.0) x.1)
+              ∙ ap (λ (n : ℕ). (to_be_bytes w n ++ flat_map f x.0) ++ x.1) (sym tb.1);
+          fit = and_from _ _ (and_from _ _ (ap (λ n. ltb n limit) tb.1 ∙ ta.fit) (ap (λ n. leb n most) tb.1 ∙ g.0)) tb.0.fit;
+        };
     again = λ xs rest e.
-      let parts = and_parts (ltb (length xs) limit && leb (length xs) most) (list_all p xs) e in
-      let sizes = and_parts (ltb (length xs) limit) (leb (length xs) most) parts.0 in
-      rw (append_assoc (to_be_bytes w (length xs)) (flat_map f xs) rest, number.again (length xs) (flat_map f xs ++ rest) sizes.0, sizes.1) (many_again field xs rest parts.1);
+        let parts = and_parts (ltb (length xs) limit && leb (length xs) most) (list_all p xs) e in
+        let sizes = and_parts (ltb (length xs) limit) (leb (length xs) most) parts.0 in
+        rw (append_assoc (to_be_bytes w (length xs)) (flat_map f xs) rest, number.again (length xs) (flat_map f xs ++ rest) sizes.0, sizes.1) (many_again field xs rest parts.1);
   }
     where
       number : IsExact (to_be_bytes w) (λ n. ltb n limit) (number_at w)
@@ -258,7 +258,7 @@ module _ {A : Type 0} (field : A → List ℕ) (fits : A → Bool) where
   kind_in_takes (row ∷ rows) all kind bytes x fit e = by (kind_in_takes rows all.1 kind bytes x fit) (eqb kind row.0) refl e
     where
       by : (kind_in rows kind bytes ≡ Some x → Takes field fits (kind ∷ bytes) x) → (b : Bool) → eqb kind row.0 ≡ b → cond b (row.1 bytes) (kind_in rows kind bytes) ≡ Some x →
-        Takes field fits (kind ∷ bytes) x
+          Takes field fits (kind ∷ bytes) x
       by later true same h = subst (λ (k : ℕ). Takes field fits (k ∷ bytes) x) (sym (eqb-true kind row.0 same)) (all.0 bytes x fit h)
       by later false other h = later h
 
@@ -270,4 +270,4 @@ module _ {A : Type 0} (field : A → List ℕ) (fits : A → Bool) where
   pub row_takes : {B : Type 0} {f : B → List ℕ} {p : B → Bool} {r : Reading B} (kind : ℕ) (part : IsExact f p r) (name : B → A) →
       ((x : B) → p x ≡ true → field (name x) ≡ kind ∷ f x) → ((x : B) → p x ≡ true → fits (name x) ≡ true) → RowTakes field fits (kind, named_at name r)
   row_takes kind part name spelled fit bytes y is e = named_takes part name (λ bytes y. Takes field fits (kind ∷ bytes) y) bytes y is e
-    (λ x t. record { spelled = ap (λ (l : List ℕ). kind ∷ l) t.spelled ∙ ap (λ (l : List ℕ). l ++ x.1) (sym (spelled x.0 t.fit)); fit = fit x.0 t.fit })
+      (λ x t. record { spelled = ap (λ (l : List ℕ). kind ∷ l) t.spelled ∙ ap (λ (l : List ℕ). l ++ x.1) (sym (spelled x.0 t.fit)); fit = fit x.0 t.fit })

@@ -1,27 +1,24 @@
 -- Each field of a payload is read exactly.
-use Rattle.std.proofs.Common.{◌≡◌, ℕ, zero, suc, ◌+◌, ◌^◌, ◌<◌, ◌≤◌, Bool, true, false, cond, ◌&&◌, ◌||◌, List, [], ◌∷◌, ◌++◌, length, Option, Some, None, refl, sym, ap, subst, ◌∙◌, append_assoc, arith, inl, inr}
-use Rattle.std.specs.Prelude.{ℤ, pos, negsuc, if◌then◌else◌, flat_map, eqb, leb, ltb, FitsSigned}
-use Rattle.std.specs.Int.{w16, w32, w64, to_be_bytes, from_be_bytes, cast_signed, cast_unsigned}
+use Rattle.std.proofs.Common.{◌≡◌, ℕ, zero, suc, ◌^◌, ◌<◌, ◌≤◌, Bool, true, false, cond, ◌&&◌, List, [], ◌∷◌, ◌++◌, length, Some, refl, sym, ap, ◌∙◌, append_assoc, arith}
+use Rattle.std.specs.Prelude.{ℤ, pos, negsuc, eqb, leb, ltb, FitsSigned}
+use Rattle.std.specs.Int.{w16, w64, to_be_bytes, cast_signed, cast_unsigned}
 use Rattle.std.specs.Ordering.{nat_cmp}
 use Rattle.std.specs.Cmp.Lexicographic.{slice_cmp}
-use Rattle.std.specs.List.{list_all, AllByRecursion}
+use Rattle.std.specs.List.{list_all}
 use Rattle.std.specs.Map.{keys_of}
 use Rattle.std.specs.Str.{is_utf8}
-use Rattle.std.proofs.lemmas.Bool.{leb-true, ltb-true, ltb-false, le-leb, lt-ltb, and_parts, and_from, cases_Bool}
+use Rattle.std.proofs.lemmas.Bool.{leb-true, ltb-true, ltb-false, le-leb, lt-ltb, and_parts, and_from}
 use Rattle.std.proofs.lemmas.Int.{of_z-to_z, to_z-of_z}
-use Rattle.pgs_base.specs.declared.element.NodeId.{NodeId}
-use Rattle.pgs_base.specs.declared.element.EdgeId.{EdgeId}
 use Rattle.pgs_base.specs.declared.value.Value.{Value}
 use Rattle.pgs_base.specs.declared.value.Value.TheVariants as values
 use Rattle.pgs_base.specs.Day.{is_day}
-use Rattle.pgs_base.specs.Graph.{ascends}
+use Rattle.pgs_base.specs.Order.{ascends}
 use Rattle.pgs_base.specs.Name.{is_name, is_name_start, is_name_byte}
-use Rattle.pgs_base.specs.Options.{◌>>=◌}
 use Rattle.pgs_base.specs.Value.{is_text, is_number, is_value}
 use Rattle.pgs_codec.specs.Payload.{name_field, labels_field, value_field, truth_byte, property_field, props_field, node_id_field, edge_id_field, node_row_field, edge_row_field, node_field, edge_field}
-use Rattle.pgs_codec.specs.Encodable.{is_labels, is_property, is_props, is_node_id, is_edge_id, is_node_row, is_edge_row, is_node, is_edge}
-use Rattle.pgs_codec.specs.Reading.{Reading, named_at, bytes_at, byte_at, number_at, counted_at, name_bytes_at, name_at, text_bytes_at, text_at, truth_at, day_parts_at, day_at, value_kinds, value_at, labels_at, property_at, props_at, node_id, edge_id, node_id_at, edge_id_at, node_row_at, edge_row_at, node_at, edge_at}
-use Rattle.pgs_codec.proofs.Exact.{IsBytes, IsBytes-rest, Takes, IsExact, then_some, same_given, pair_exact, named_exact, tested_exact, refit, bytes_take, bytes_again, named_again, two_bytes, four_bytes, eight_bytes, number_exact, byte_exact, byte_takes, counted_exact, kind_takes, row_takes}
+use Rattle.pgs_codec.specs.Encodable.{is_date, is_labels, is_property, is_props, is_node_id, is_edge_id, is_node_row, is_edge_row, is_node, is_edge}
+use Rattle.pgs_codec.specs.Reading.{bytes_at, byte_at, number_at, name_bytes_at, name_at, text_bytes_at, text_at, truth_at, day_parts_at, day_at, value_kinds, value_at, labels_at, property_at, props_at, node_id, edge_id, node_id_at, edge_id_at, node_row_at, edge_row_at, node_at, edge_at}
+use Rattle.pgs_codec.proofs.Exact.{IsExact, then_some, pair_exact, named_exact, tested_exact, refit, bytes_take, bytes_again, named_again, two_bytes, eight_bytes, number_exact, byte_exact, counted_exact, kind_takes, row_takes}
 
 -- ---- names
 
@@ -29,13 +26,13 @@ name_bytes_exact : IsExact name_field (λ name. ltb (length name) 256) name_byte
 unfolding name_bytes_at byte_at
 name_bytes_exact = record {
   takes = λ bytes x fits e.
-    let a = then_some (byte_at bytes) (λ n. bytes_at n.0 n.1) x e in
-    let ta = byte_exact.takes bytes a.0 fits a.1 in
-    let tb = bytes_take a.0.0 a.0.1 x a.2 in
-    record {
-      spelled = ta.spelled ∙ ap (λ (l : List ℕ). a.0.0 ∷ l) tb.0 ∙ ap (λ (n : ℕ). n ∷ (x.0 ++ x.1)) (sym tb.1);
-      fit = ap (λ n. ltb n 256) tb.1 ∙ ta.fit;
-    };
+      let a = then_some (byte_at bytes) (λ n. bytes_at n.0 n.1) x e in
+      let ta = byte_exact.takes bytes a.0 fits a.1 in
+      let tb = bytes_take a.0.0 a.0.1 x a.2 in
+      record {
+        spelled = ta.spelled ∙ ap (λ (l : List ℕ). a.0.0 ∷ l) tb.0 ∙ ap (λ (n : ℕ). n ∷ (x.0 ++ x.1)) (sym tb.1);
+        fit = ap (λ n. ltb n 256) tb.1 ∙ ta.fit;
+      };
   again = λ name rest e. bytes_again name rest;
 }
 
@@ -53,13 +50,13 @@ text_bytes_exact : IsExact (λ text. to_be_bytes w16 (length text) ++ text) (λ 
 unfolding text_bytes_at
 text_bytes_exact = record {
   takes = λ bytes x fits e.
-    let a = then_some (number_at w16 bytes) (λ n. bytes_at n.0 n.1) x e in
-    let ta = number.takes bytes a.0 fits a.1 in
-    let tb = bytes_take a.0.0 a.0.1 x a.2 in
-    record {
-      spelled = ta.spelled ∙ ap (λ (l : List ℕ). to_be_bytes w16 a.0.0 ++ l) tb.0 ∙ sym (append_assoc (to_be_bytes w16 a.0.0) x.0 x.1) ∙ ap (λ (n : ℕ). (to_be_bytes w16 n ++ x.0) ++ x.1) (sym tb.1);
-      fit = ap (λ n. ltb n (2 ^ 16)) tb.1 ∙ ta.fit;
-    };
+      let a = then_some (number_at w16 bytes) (λ n. bytes_at n.0 n.1) x e in
+      let ta = number.takes bytes a.0 fits a.1 in
+      let tb = bytes_take a.0.0 a.0.1 x a.2 in
+      record {
+        spelled = ta.spelled ∙ ap (λ (l : List ℕ). to_be_bytes w16 a.0.0 ++ l) tb.0 ∙ sym (append_assoc (to_be_bytes w16 a.0.0) x.0 x.1) ∙ ap (λ (n : ℕ). (to_be_bytes w16 n ++ x.0) ++ x.1) (sym tb.1);
+        fit = ap (λ n. ltb n (2 ^ 16)) tb.1 ∙ ta.fit;
+      };
   again = λ text rest e. rw (append_assoc (to_be_bytes w16 (length text)) text rest, number.again (length text) (text ++ rest) e) (bytes_again text rest);
 }
   where
@@ -68,14 +65,13 @@ text_bytes_exact = record {
 
 text_exact : IsExact (λ text. to_be_bytes w16 (length text) ++ text) is_text text_at
 unfolding text_at
-text_exact = refit (tested_exact text_bytes_exact is_utf8) is_text
-  (λ text e. let parts = and_parts (ltb (length text) (2 ^ 16)) (is_utf8 text) e in let short : length text < 2 ^ 16 = ltb-true _ _ parts.0 in and_from _ _ parts.1 (le-leb _ _ (omega arith)))
-  (λ text e. let parts = and_parts (is_utf8 text) (leb (length text) 65535) e in let short : length text ≤ 65535 = leb-true _ _ parts.1 in and_from _ _ (lt-ltb _ _ (omega arith)) parts.0)
+text_exact = refit (tested_exact text_bytes_exact is_text) is_text (λ text e. (and_parts (ltb (length text) (2 ^ 16)) (is_text text) e).1)
+    (λ text e. let short : length text ≤ 65535 = leb-true (length text) 65535 (and_parts (is_utf8 text) (leb (length text) 65535) e).1 in and_from _ _ (lt-ltb (length text) (2 ^ 16) (omega arith)) e)
 
 truth_exact : IsExact (λ b. b ∷ []) (λ b. leb b 1) truth_at
 unfolding truth_at
 truth_exact = refit (tested_exact byte_exact (λ b. leb b 1)) (λ b. leb b 1) (λ b e. (and_parts (ltb b 256) (leb b 1) e).1)
-  (λ b e. let small : b ≤ 1 = leb-true _ _ e in and_from _ _ (lt-ltb _ _ (omega arith)) e)
+    (λ b e. let small : b ≤ 1 = leb-true _ _ e in and_from _ _ (lt-ltb _ _ (omega arith)) e)
 
 -- the numbers that eight bytes hold in two's complement
 signed_number : (n : ℕ) → ltb n (2 ^ 64) ≡ true → is_number (cast_signed w64 n) ≡ true
@@ -116,7 +112,7 @@ short_day year month day e =
     let twelve : month ≤ 12 = bounds.1 in
     let most : day ≤ 31 = short_by _ _ _ day bounds.2 in
     and_from (ltb year (2 ^ 16)) (ltb month 256 && ltb day 256) (lt-ltb year (2 ^ 16) (omega arith))
-      (and_from (ltb month 256) (ltb day 256) (lt-ltb month 256 (omega arith)) (lt-ltb day 256 (omega arith)))
+    (and_from (ltb month 256) (ltb day 256) (lt-ltb month 256 (omega arith)) (lt-ltb day 256 (omega arith)))
 
 truth_of : (b : ℕ) → leb b 1 ≡ true → truth_byte (eqb b 1) ≡ b
 truth_of zero e = refl
@@ -125,9 +121,9 @@ truth_of (suc (suc b)) e = let le : suc (suc b) ≤ 1 = leb-true _ _ e in absurd
 
 day_exact : IsExact (λ (d : ℕ × ℕ × ℕ). to_be_bytes w16 d.0 ++ d.1 ∷ d.2 ∷ []) (λ (d : ℕ × ℕ × ℕ). is_day d.0 d.1 d.2) day_at
 unfolding day_at day_parts_at
-day_exact = refit (tested_exact parts (λ (d : ℕ × ℕ × ℕ). is_day d.0 d.1 d.2)) (λ d. is_day d.0 d.1 d.2)
-  (λ d e. (and_parts (ltb d.0 (2 ^ 16) && (ltb d.1 256 && ltb d.2 256)) (is_day d.0 d.1 d.2) e).1)
-  (λ d e. and_from _ _ (short_day d.0 d.1 d.2 e) e)
+day_exact = refit (tested_exact parts is_date) (λ d. is_day d.0 d.1 d.2)
+    (λ d e. (and_parts (ltb d.0 (2 ^ 16) && (ltb d.1 256 && ltb d.2 256)) (is_day d.0 d.1 d.2) e).1)
+    (λ d e. and_from _ _ (short_day d.0 d.1 d.2 e) e)
   where
     parts : IsExact (λ (d : ℕ × ℕ × ℕ). to_be_bytes w16 d.0 ++ d.1 ∷ d.2 ∷ []) (λ (d : ℕ × ℕ × ℕ). ltb d.0 (2 ^ 16) && (ltb d.1 256 && ltb d.2 256)) day_parts_at
     parts = named_exact (pair_exact (number_exact w16 (2 ^ 16) two_bytes) (pair_exact byte_exact byte_exact)) (λ d. (d.0, d.1.0, d.1.1)) (λ d. (d.0, (d.1, d.2))) (λ d. refl) (λ d. refl)
@@ -135,11 +131,16 @@ day_exact = refit (tested_exact parts (λ (d : ℕ × ℕ × ℕ). is_day d.0 d.
 pub value_exact : IsExact value_field is_value value_at
 unfolding value_at
 value_exact = record {
-  takes = kind_takes value_field is_value value_kinds
-    (row_takes value_field is_value 1 text_exact values.Text (λ x e. refl) (λ x e. e),
-    (row_takes value_field is_value 2 number (λ n. values.Int (cast_signed w64 n)) (λ n e. ap (λ k. 2 ∷ to_be_bytes w64 k) (of_z-to_z w64 n (ltb-true _ _ e))) signed_number,
-    (row_takes value_field is_value 3 truth_exact (λ b. values.Bool (eqb b 1)) (λ b e. ap (λ k. 3 ∷ k ∷ []) (truth_of b e)) (λ b e. refl),
-    (row_takes value_field is_value 4 day_exact values.Date (λ d e. refl) (λ d e. e), tt))));
+  takes = kind_takes value_field is_value value_kinds (
+    row_takes value_field is_value 1 text_exact values.Text (λ x e. refl) (λ x e. e),
+    (
+      row_takes value_field is_value 2 number (λ n. values.Int (cast_signed w64 n)) (λ n e. ap (λ k. 2 ∷ to_be_bytes w64 k) (of_z-to_z w64 n (ltb-true _ _ e))) signed_number,
+      (
+        row_takes value_field is_value 3 truth_exact (λ b. values.Bool (eqb b 1)) (λ b e. ap (λ k. 3 ∷ k ∷ []) (truth_of b e)) (λ b e. refl),
+        (row_takes value_field is_value 4 day_exact values.Date (λ d e. refl) (λ d e. e), tt),
+      ),
+    ),
+  );
   again = again;
 }
   where
@@ -163,7 +164,7 @@ fewer n limit most all order lt e =
     let inner = and_parts (leb n most) all outer.0 in
     let few : n ≤ most = leb-true n most inner.0 in
     and_from (ltb n limit && leb n most && all) order
-      (and_from (ltb n limit && leb n most) all (and_from (ltb n limit) (leb n most) (lt-ltb n limit (omega arith)) inner.0) inner.1) outer.1
+    (and_from (ltb n limit && leb n most) all (and_from (ltb n limit) (leb n most) (lt-ltb n limit (omega arith)) inner.0) inner.1) outer.1
 
 few : (n limit most : ℕ) (all order : Bool) → (ltb n limit && leb n most && all && order) ≡ true → (leb n most && all && order) ≡ true
 few n limit most all order e =
@@ -174,8 +175,8 @@ few n limit most all order e =
 pub labels_exact : IsExact labels_field is_labels labels_at
 unfolding labels_at
 labels_exact = refit (tested_exact (counted_exact name_exact w16 (2 ^ 16) 64 two_bytes) (ascends (slice_cmp nat_cmp))) is_labels
-  (λ labels e. few (length labels) (2 ^ 16) 64 (list_all is_name labels) (ascends (slice_cmp nat_cmp) labels) e)
-  (λ labels e. fewer (length labels) (2 ^ 16) 64 (list_all is_name labels) (ascends (slice_cmp nat_cmp) labels) (omega arith) e)
+    (λ labels e. few (length labels) (2 ^ 16) 64 (list_all is_name labels) (ascends (slice_cmp nat_cmp) labels) e)
+    (λ labels e. fewer (length labels) (2 ^ 16) 64 (list_all is_name labels) (ascends (slice_cmp nat_cmp) labels) (omega arith) e)
 
 pub property_exact : IsExact property_field is_property property_at
 unfolding property_at
@@ -184,8 +185,8 @@ property_exact = pair_exact name_exact value_exact
 pub props_exact : IsExact props_field is_props props_at
 unfolding props_at
 props_exact = refit (tested_exact (counted_exact property_exact w16 (2 ^ 16) 256 two_bytes) (λ props. ascends (slice_cmp nat_cmp) (keys_of props))) is_props
-  (λ props e. few (length props) (2 ^ 16) 256 (list_all is_property props) (ascends (slice_cmp nat_cmp) (keys_of props)) e)
-  (λ props e. fewer (length props) (2 ^ 16) 256 (list_all is_property props) (ascends (slice_cmp nat_cmp) (keys_of props)) (omega arith) e)
+    (λ props e. few (length props) (2 ^ 16) 256 (list_all is_property props) (ascends (slice_cmp nat_cmp) (keys_of props)) e)
+    (λ props e. fewer (length props) (2 ^ 16) 256 (list_all is_property props) (ascends (slice_cmp nat_cmp) (keys_of props)) (omega arith) e)
 
 pub node_id_exact : IsExact node_id_field is_node_id node_id_at
 unfolding node_id_at
@@ -202,7 +203,7 @@ node_row_exact = named_exact (pair_exact labels_exact props_exact) (λ row. reco
 pub edge_row_exact : IsExact edge_row_field is_edge_row edge_row_at
 unfolding edge_row_at
 edge_row_exact = named_exact (pair_exact node_id_exact (pair_exact node_id_exact (pair_exact labels_exact props_exact)))
-  (λ row. record { source = row.0; target = row.1.0; labels = row.1.1.0; props = row.1.1.1 }) (λ row. (row.source, (row.target, (row.labels, row.props)))) (λ row. refl) (λ row. refl)
+    (λ row. record { source = row.0; target = row.1.0; labels = row.1.1.0; props = row.1.1.1 }) (λ row. (row.source, (row.target, (row.labels, row.props)))) (λ row. refl) (λ row. refl)
 
 pub node_exact : IsExact node_field is_node node_at
 unfolding node_at
