@@ -10,8 +10,7 @@ ghost use Rattle.pgs_base.specs.Order.{props_cmp};
 ghost use Rattle.pgs_base.specs.OrderLaws.{props_cmp_total};
 ghost use Rattle.std.specs.List.{list_all};
 ghost use Rattle.pgs_base.specs.Name.{is_name};
-ghost use Rattle.pgs_base.specs.Value.{is_value};
-ghost use Rattle.pgs_base.specs.Properties.{are_props, value_at, put_value, take_value};
+ghost use Rattle.pgs_base.specs.Properties.{has_value, are_props, value_at, put_value, take_value};
 
 use crate::{Copyable, Memory, Name, Rows, Value};
 use std::alloc::Global;
@@ -36,13 +35,13 @@ impl Model for Props {
     ghost invariant = { λ props. are_props props.rows ≡ true };
 }
 
-// What all names and values meet.
-fn rows_facts(rows: &[(Name, Value)])
+// What every slice of names and values meets. Nothing is done.
+fn row_facts(rows: &[(Name, Value)])
     ensures names { list_all is_name (keys_of rows.now) ≡ true }
-    ensures values { list_all (λ row. is_value row.1) rows.now ≡ true }
+    ensures values { list_all has_value rows.now ≡ true }
 {
     for row in rows {
-        let _bytes = row.0.bytes();
+        let _name = row.0.bytes();
         row.1.facts();
     }
 }
@@ -62,7 +61,7 @@ impl Props {
         requires { IsStrictlySortedBy (slice_cmp nat_cmp) (keys_of rows.items) }
         ensures { result ≡ rows.items }
     {
-        rows_facts(rows.as_slice());
+        row_facts(rows.as_slice());
         Props {
             rows: Rows::from_vec(rows),
         }
