@@ -5,5 +5,6 @@ pub mod Lengths
 pub mod Loops
 pub mod Ops
 pub mod Ordering
+pub mod Sizes
 pub mod Snapshots
 pub mod Texts

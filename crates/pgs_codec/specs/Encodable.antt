@@ -51,7 +51,7 @@ snapshot_graph nodes edges = record { nodes = nodes; edges = edges }
 
 -- whether a command has the sizes of a payload: small rows and fewer than 2 ^ 32 operations. The rows of a snapshot are a graph:
 -- the numbers of both lists ascend strictly, and both ends of each edge are among the nodes
-unfoldable pub is_sized : Command → Bool
+abbrev pub is_sized : Command → Bool
 is_sized (commands.Schema text) = true
 is_sized (commands.Snapshot commits nodes edges) =
     list_all (λ (node : NodeId × NodeRow). is_small_node node.1) nodes && list_all (λ (edge : EdgeId × EdgeRow). is_small_edge edge.1) edges

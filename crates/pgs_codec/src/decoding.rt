@@ -1,10 +1,10 @@
-ghost use Rattle.std.specs.Prelude.{◌≡◌, ◌^◌, IfOk, IfSome, IfNone, if◌then◌else◌, Some, None};
+ghost use Rattle.std.specs.Prelude.{◌≡◌, ◌^◌, IfOk, IfSome, IfNone, IsTrue, if◌then◌else◌, Some, None};
 ghost use Rattle.std.specs.Int.{w64};
 ghost use Rattle.std.specs.List.{list_all};
 ghost use Rattle.pgs_base.specs.Graph.{has_ends, is_graph};
 ghost use Rattle.pgs_codec.specs.declared.command.Command.{Command};
 ghost use Rattle.pgs_codec.specs.declared.command.Command.TheVariants.{Snapshot};
-ghost use Rattle.pgs_codec.specs.Encodable.{snapshot_graph, IsPayload};
+ghost use Rattle.pgs_codec.specs.Encodable.{is_sized, snapshot_graph, IsPayload};
 ghost use Rattle.pgs_codec.specs.Reading.{counted_at, txn_at, snapshot_parts_at, snapshot_at, schema_at, command_kinds, kind_at, decoded};
 ghost use Rattle.pgs_codec.specs.Unread.{Reads, Gives};
 
@@ -128,6 +128,8 @@ pub fn decode(alloc: Global, payload: &[u8]) -> Result<Option<Command>, Memory>
     ensures found { IfOk result (λ found. IfSome found (λ command. IsPayload command payload.now)) }
     ensures none { IfOk result (λ found. IfNone found ((command : Command) → IsPayload command payload.now → ⊥)) }
     ensures value { IfOk result (λ found. found ≡ decoded payload.now) }
+    // So it can be encoded again.
+    ensures sized { IfOk result (λ found. IfSome found (λ command. IsTrue (is_sized command))) }
 {
     match read_whole(alloc, payload) {
         Ok(command) => Ok(Some(command)),

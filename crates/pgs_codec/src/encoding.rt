@@ -59,7 +59,7 @@ fn size_of_payload(command: &Command) -> usize {
     rest.saturating_add(1)
 }
 
-#[tactic(auto, unfolding(crate::specs::Payload::payload_of, crate::specs::Encodable::is_sized, crate::specs::Encodable::is_encodable))]
+#[tactic(auto, unfolding(crate::specs::Payload::payload_of, crate::specs::Encodable::is_encodable))]
 fn write_command(command: &Command, out: &mut Vec<u8>) -> Result<(), Memory>
     requires { IsTrue (is_sized command.now) }
     ensures bytes { OnOk result (out.new.items ≡ out.old.items ++ payload_of command.now) }
