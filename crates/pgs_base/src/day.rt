@@ -1,4 +1,4 @@
-ghost use Rattle.std.specs.Prelude.{◌≡◌, if◌then◌else◌, IsTrue, Some, None, true};
+ghost use Rattle.std.specs.Prelude.{◌≡◌, if◌then◌else◌, IsTrue, Some, None};
 ghost use Rattle.pgs_base.specs.Day.{is_day};
 
 use crate::{Copyable, Memory};
@@ -46,13 +46,6 @@ impl Day {
         } else {
             None
         }
-    }
-
-    /// What every day meets: it is one of the calendar. Nothing is done.
-    pub fn facts(&self)
-        ensures { is_day self.now.0 self.now.1 self.now.2 ≡ true }
-    {
-        let _year = self.year;
     }
 
     /// The year, 1 to 9999.

@@ -1,7 +1,9 @@
 ghost use Rattle.std.specs.Prelude.{◌≡◌, true};
+ghost use Rattle.std.specs.List.{list_all};
+ghost use Rattle.pgs_base.specs.Graph.{is_node_entry, is_edge_entry};
 ghost use Rattle.pgs_base.specs.Pair.{pair_of, is_pair};
 
-use crate::{Copyable, Labels, Memory, NodeId, Props};
+use crate::{Copyable, EdgeId, Labels, Memory, NodeId, Props};
 use std::alloc::Global;
 
 /// What a node carries.
@@ -43,6 +45,26 @@ impl EdgeRow {
         ensures { is_pair (pair_of self.now.labels self.now.props) ≡ true }
     {
         pair_facts(&self.labels, &self.props);
+    }
+}
+
+/// What all nodes with their rows meet: each can stand in a graph. Nothing is done.
+pub fn nodes_facts(nodes: &[(NodeId, NodeRow)])
+    ensures { list_all is_node_entry nodes.now ≡ true }
+{
+    for node in nodes {
+        node.0.facts();
+        node.1.facts();
+    }
+}
+
+/// What all edges with their rows meet: each can stand in a graph, where its ends are there. Nothing is done.
+pub fn edges_facts(edges: &[(EdgeId, EdgeRow)])
+    ensures { list_all is_edge_entry edges.now ≡ true }
+{
+    for edge in edges {
+        edge.0.facts();
+        edge.1.facts();
     }
 }
 

@@ -49,7 +49,9 @@ impl Value {
                 let _number = *number;
             }
             Value::Bool(_) => {}
-            Value::Date(day) => day.facts(),
+            Value::Date(day) => {
+                let _day = day.day();
+            }
         }
     }
 }
