@@ -82,7 +82,10 @@ props_without props key are =
     and_from _ _ (subst (λ names. are_names names ≡ true) (sym (keys-remove_entry (same_name key) props)) (names_without (keys_of props) key (first_so _ _ are)))
     (all_without_entry (λ (entry : List ℕ × Value). is_value entry.1) (same_name key) props (second_so _ _ are))
 
--- ---- what vectors meet whose keys ascend
+-- names and properties that ascend are those of an element
+pub names_from : (names : List (List ℕ)) → IsStrictlySortedBy (slice_cmp nat_cmp) names → list_all is_name names ≡ true → are_names names ≡ true
+names_from names order all = and_from _ _ ((ascends_decides (slice_cmp nat_cmp) names).1 order) all
 
-pub are_names_from : (names : List (List ℕ)) → IsStrictlySortedBy (slice_cmp nat_cmp) names → list_all is_name names ≡ true → are_names names ≡ true
-are_names_from names ascend is = and_from _ _ ((ascends_decides (slice_cmp nat_cmp) names).1 ascend) is
+pub props_from : (props : List (List ℕ × Value)) → IsStrictlySortedBy (slice_cmp nat_cmp) (keys_of props) → list_all is_name (keys_of props) ≡ true →
+    list_all (λ (entry : List ℕ × Value). is_value entry.1) props ≡ true → are_props props ≡ true
+props_from props order names values = and_from _ _ (names_from (keys_of props) order names) values

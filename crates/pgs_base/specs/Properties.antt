@@ -20,10 +20,6 @@ put_value props key value = insert_entry (slice_cmp nat_cmp) props key value
 abbrev pub take_value : List (List ℕ × Value) → List ℕ → List (List ℕ × Value)
 take_value props key = remove_entry (same_name key) props
 
--- whether the value at a key is one
-abbrev pub has_value : List ℕ × Value → Bool
-has_value entry = is_value entry.1
-
 -- whether properties are those of an element: their keys are such names, and their values are values
 abbrev pub are_props : List (List ℕ × Value) → Bool
-are_props props = are_names (keys_of props) && list_all has_value props
+are_props props = are_names (keys_of props) && list_all (λ (entry : List ℕ × Value). is_value entry.1) props

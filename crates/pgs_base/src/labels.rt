@@ -32,12 +32,12 @@ impl Model for Labels {
     ghost invariant = { λ labels. are_names labels.names ≡ true };
 }
 
-// What every slice of names meets. Nothing is done.
-fn name_facts(names: &[Name])
+// What all names meet.
+fn names_facts(names: &[Name])
     ensures { list_all is_name names.now ≡ true }
 {
     for name in names {
-        let _name = name.bytes();
+        let _bytes = name.bytes();
     }
 }
 
@@ -56,7 +56,7 @@ impl Labels {
         requires { IsStrictlySortedBy (slice_cmp nat_cmp) names.items }
         ensures { result ≡ names.items }
     {
-        name_facts(names.as_slice());
+        names_facts(names.as_slice());
         Labels {
             names: Ordered::from_vec(names),
         }

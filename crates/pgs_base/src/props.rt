@@ -10,7 +10,8 @@ ghost use Rattle.pgs_base.specs.Order.{props_cmp};
 ghost use Rattle.pgs_base.specs.OrderLaws.{props_cmp_total};
 ghost use Rattle.std.specs.List.{list_all};
 ghost use Rattle.pgs_base.specs.Name.{is_name};
-ghost use Rattle.pgs_base.specs.Properties.{has_value, are_props, value_at, put_value, take_value};
+ghost use Rattle.pgs_base.specs.Value.{is_value};
+ghost use Rattle.pgs_base.specs.Properties.{are_props, value_at, put_value, take_value};
 
 use crate::{Copyable, Memory, Name, Rows, Value};
 use std::alloc::Global;
@@ -35,13 +36,13 @@ impl Model for Props {
     ghost invariant = { λ props. are_props props.rows ≡ true };
 }
 
-// What every slice of names and values meets. Nothing is done.
-fn row_facts(rows: &[(Name, Value)])
+// What all names and values meet.
+fn rows_facts(rows: &[(Name, Value)])
     ensures names { list_all is_name (keys_of rows.now) ≡ true }
-    ensures values { list_all has_value rows.now ≡ true }
+    ensures values { list_all (λ row. is_value row.1) rows.now ≡ true }
 {
     for row in rows {
-        let _name = row.0.bytes();
+        let _bytes = row.0.bytes();
         row.1.facts();
     }
 }
@@ -61,7 +62,7 @@ impl Props {
         requires { IsStrictlySortedBy (slice_cmp nat_cmp) (keys_of rows.items) }
         ensures { result ≡ rows.items }
     {
-        row_facts(rows.as_slice());
+        rows_facts(rows.as_slice());
         Props {
             rows: Rows::from_vec(rows),
         }

@@ -1,6 +1,6 @@
-ghost use Rattle.std.specs.Prelude.{◌≡◌, IfOk, true};
-ghost use Rattle.pgs_graph.specs.Operations.{is_well_formed_op, is_well_formed_txn};
+ghost use Rattle.std.specs.Prelude.{◌≡◌, true, IfOk};
 ghost use Rattle.pgs_graph.specs.declared.operation.Op.TheVariants.{AddNode, AddEdge, SetNode, UnsetNode, LabelNode, UnlabelNode, SetEdge, UnsetEdge, LabelEdge, UnlabelEdge};
+ghost use Rattle.pgs_graph.specs.Operations.{is_well_formed_op, is_well_formed_txn};
 
 use pgs_base::{Copyable, EdgeId, Labels, List, Memory, Name, NodeId, Props, Value, pair_facts};
 use std::alloc::Global;
@@ -71,6 +71,67 @@ pub enum Op {
 #[derive(Debug, Drop)]
 pub struct Txn {
     pub ops: List<Op>,
+}
+
+impl Op {
+    /// What every operation meets: it is well formed. Nothing is done.
+    pub fn facts(&self)
+        ensures { is_well_formed_op self.now ≡ true }
+    {
+        match self {
+            Op::AddNode { id, labels, props } => {
+                id.facts();
+                pair_facts(labels, props);
+            }
+            Op::AddEdge {
+                id,
+                source,
+                target,
+                labels,
+                props,
+            } => {
+                id.facts();
+                source.facts();
+                target.facts();
+                pair_facts(labels, props);
+            }
+            Op::RemoveNode { id } | Op::DetachNode { id } => id.facts(),
+            Op::RemoveEdge { id } => id.facts(),
+            Op::SetNode { id, key, value } => {
+                id.facts();
+                let _name = key.bytes();
+                value.facts();
+            }
+            Op::SetEdge { id, key, value } => {
+                id.facts();
+                let _name = key.bytes();
+                value.facts();
+            }
+            Op::UnsetNode { id, key: name }
+            | Op::LabelNode { id, label: name }
+            | Op::UnlabelNode { id, label: name } => {
+                id.facts();
+                let _name = name.bytes();
+            }
+            Op::UnsetEdge { id, key: name }
+            | Op::LabelEdge { id, label: name }
+            | Op::UnlabelEdge { id, label: name } => {
+                id.facts();
+                let _name = name.bytes();
+            }
+        }
+    }
+}
+
+impl Txn {
+    /// What every transaction meets: it is well formed. Nothing is done.
+    pub fn facts(&self)
+        ensures { is_well_formed_txn self.now ≡ true }
+    {
+        for op in self.ops.as_slice() {
+            op.facts();
+        }
+    }
 }
 
 fn add_node(alloc: Global, id: NodeId, labels: &Labels, props: &Props) -> Result<Op, Memory>
@@ -158,67 +219,6 @@ fn unlabel_edge(alloc: Global, id: EdgeId, label: &Name) -> Result<Op, Memory>
 {
     let label = label.copy(alloc)?;
     Ok(Op::UnlabelEdge { id, label })
-}
-
-impl Op {
-    /// What every operation meets: it is well formed. Nothing is done.
-    pub fn facts(&self)
-        ensures { is_well_formed_op self.now ≡ true }
-    {
-        match self {
-            Op::AddNode { id, labels, props } => {
-                id.facts();
-                pair_facts(labels, props);
-            }
-            Op::AddEdge {
-                id,
-                source,
-                target,
-                labels,
-                props,
-            } => {
-                id.facts();
-                source.facts();
-                target.facts();
-                pair_facts(labels, props);
-            }
-            Op::RemoveNode { id } | Op::DetachNode { id } => id.facts(),
-            Op::RemoveEdge { id } => id.facts(),
-            Op::SetNode { id, key, value } => {
-                id.facts();
-                let _name = key.bytes();
-                value.facts();
-            }
-            Op::SetEdge { id, key, value } => {
-                id.facts();
-                let _name = key.bytes();
-                value.facts();
-            }
-            Op::UnsetNode { id, key: name }
-            | Op::LabelNode { id, label: name }
-            | Op::UnlabelNode { id, label: name } => {
-                id.facts();
-                let _name = name.bytes();
-            }
-            Op::UnsetEdge { id, key: name }
-            | Op::LabelEdge { id, label: name }
-            | Op::UnlabelEdge { id, label: name } => {
-                id.facts();
-                let _name = name.bytes();
-            }
-        }
-    }
-}
-
-impl Txn {
-    /// What every transaction meets: it is well formed. Nothing is done.
-    pub fn facts(&self)
-        ensures { is_well_formed_txn self.now ≡ true }
-    {
-        for op in self.ops.as_slice() {
-            op.facts();
-        }
-    }
 }
 
 impl Copyable for Op {

@@ -1,7 +1,13 @@
 -- The first item of lists one after another, and the first that a test finds.
-use Rattle.std.proofs.Common.{◌≡◌, ℕ, ◌+◌, ◌<◌, ◌≤◌, Bool, true, false, cond, List, [], ◌∷◌, ◌++◌, length, take, drop, map, filter, get_or, ◌||◌, Some, None, refl, sym, ◌∙◌, ap}
-use Rattle.std.specs.List.{flat_map, slice_get, find, list_any}
-use Rattle.std.specs.Option.{is_some}
+use Rattle.std.proofs.Common.{◌≡◌, ℕ, ◌+◌, ◌<◌, ◌≤◌, Bool, true, false, cond, List, [], ◌∷◌, ◌++◌, length, take, drop, map, filter, get_or, ◌||◌, not, Option, Some, None, refl, sym, ◌∙◌, ap, arith}
+use denote.Bor.{Bor}
+use Rattle.std.proofs.lemmas.Bool.Decides.{nat_tests}
+use Rattle.std.proofs.lemmas.Option.{slice_get_past, slice_get-map, get_or_from_slice_get, slice_get_within}
+use Rattle.std.proofs.lemmas.List.Sums.{get_or-le-sum_by}
+use Rattle.std.proofs.lemmas.List.Folds.{find_at}
+use Rattle.std.proofs.lemmas.List.{length-map}
+use Rattle.std.specs.List.{flat_map, slice_get, find, list_any, position, position_or_len, sum_by}
+use Rattle.std.specs.Option.{is_some, option_copied, option_map, IfSome}
 use Rattle.std.proofs.lemmas.List.{take_all, take-append-drop, flat_map_more}
 use Rattle.std.proofs.lemmas.List.Concat.{flat_map-append}
 use Rattle.pgs_resolve.proofs.Walks.{one_more}
@@ -68,3 +74,43 @@ first_kept {X} p xs i x lt is before here =
 pub flat_map_through : {X Y A : Type 0} (f : X → Y) (g : Y → List A) (xs : List X) → flat_map (λ x. g (f x)) xs ≡ flat_map g (map f xs)
 flat_map_through f g [] = refl
 flat_map_through f g (x ∷ xs) = ap (λ ys. g (f x) ++ ys) (flat_map_through f g xs)
+
+-- the item of a name, by its place among the names of all
+module _ {X K : Type 0} (key : X → K) (same : K → Bool) where
+  same_place : (xs : List X) → position_or_len same (map key xs) ≡ position_or_len (λ x. same (key x)) xs
+  same_place [] = refl
+  same_place (x ∷ xs) = ap (λ n. cond (not (same (key x))) (1 + n) 0) (same_place xs)
+
+  some_at : (b : Bool) (n k : ℕ) → Some n ≡ cond b (Some k) None → n ≡ k
+  some_at true n k e = grind arith
+  some_at false n k e = cc
+
+  none_at : (b : Bool) (k : ℕ) → None ≡ cond b (Some k) None → b ≡ false
+  none_at true k e = cc
+  none_at false k e = refl
+
+  pub named_at : (xs : List X) (names : List K) (n : ℕ) → names ≡ map key xs → Some n ≡ position same names → find (λ x. same (key x)) xs ≡ slice_get xs n
+  named_at xs names n these at =
+      find_at (λ x. same (key x)) xs
+      ∙ ap (slice_get xs) (sym (same_place xs) ∙ ap (position_or_len same) (sym these) ∙ sym (some_at _ n _ at))
+
+  pub named_nowhere : (xs : List X) (names : List K) → names ≡ map key xs → None ≡ position same names → find (λ x. same (key x)) xs ≡ None
+  named_nowhere xs names these at =
+      find_at (λ x. same (key x)) xs
+      ∙ slice_get_past xs _ (let past = none_at _ _ at in let e = ap (position_or_len same) these ∙ same_place xs in let l = ap length these ∙ length-map xs key in grind (arith, nat_tests))
+
+-- an item behind a reference
+pub copied_at : {X : Type 0} (items : List (Bor X)) (n : ℕ) → option_copied (slice_get items n) ≡ slice_get (map (λ item. item.now) items) n
+copied_at {X} items n = by (slice_get items n) ∙ sym (slice_get-map (λ item. item.now) items n)
+  where
+    by : (o : Option (Bor X)) → option_copied o ≡ option_map (λ item. item.now) o
+    by None = refl
+    by (Some item) = refl
+
+-- what an item counts is within the sum over all
+pub within_sum : {X : Type 0} (f : X → ℕ) (xs : List X) (n : ℕ) (o : Option X) → o ≡ slice_get xs n → IfSome o (λ x. f x ≤ sum_by f xs)
+within_sum f xs n None e = tt
+within_sum f xs n (Some x) e =
+    let at = get_or_from_slice_get xs n x x (sym e) in
+    let bound = get_or-le-sum_by f xs n x (slice_get_within xs n x (sym e)) in
+    rw at at bound

@@ -49,3 +49,8 @@ module _ {X Y A : Type 0} (f : X → List Y) (h : Y → Option A) where
 pub map_through : {X Y Z : Type 0} (f : X → Y) (g : Y → Z) (xs : List X) → map (λ x. g (f x)) xs ≡ map g (map f xs)
 map_through f g [] = refl
 map_through f g (x ∷ xs) = ap (λ ys. g (f x) ∷ ys) (map_through f g xs)
+
+-- what is kept of mapped items
+pub kept_through : {X Y A : Type 0} (f : X → Y) (h : Y → Option A) (xs : List X) → filter_map (λ x. h (f x)) xs ≡ filter_map h (map f xs)
+kept_through f h [] = refl
+kept_through f h (x ∷ xs) = ap (cons_option (h (f x))) (kept_through f h xs)

@@ -1,8 +1,10 @@
 pub mod Declarations
 pub mod Guard
 pub mod KeyFaults
+pub mod KeyNames
 pub mod Order
 pub mod Patterns
+pub mod Placed
 pub mod Refused
 pub mod Resolution
 pub mod Samples

@@ -1,6 +1,7 @@
-ghost use Rattle.std.specs.Prelude.{◌≡◌, ◌++◌, map, filter_map, IfOk, OnOk};
-ghost use Rattle.std.specs.Option.{option_to_list};
-ghost use Rattle.pgs_resolve.specs.Declarations.{nodes_of, edges_of, graphs_of, declared_in, node_in, edge_in, graph_in, is_node_type, is_edge_type, is_graph_type};
+ghost use Rattle.std.specs.Prelude.{◌≡◌, ◌++◌, ◌≤◌, length, slice_get, map, filter_map, IfSome, IfOk, OnOk};
+ghost use Rattle.std.specs.Option.{option_to_list, option_copied};
+ghost use Rattle.std.specs.List.{sum_by};
+ghost use Rattle.pgs_resolve.specs.Declarations.{nodes_of, edges_of, graphs_of, declared_in, node_in, edge_in, graph_in, is_node_type, is_edge_type, is_graph_type, graph_named, node_named, edge_named};
 ghost use Rattle.pgs_syntax.specs.declared.script.Script.{Script};
 ghost use Rattle.pgs_resolve.specs.Tables.{AreOf};
 
@@ -18,6 +19,13 @@ pub struct Declarations<'a> {
     pub node_names: Names,
     pub edge_names: Names,
     pub graph_names: Names,
+}
+
+/// The item at a place, from 0. `None` exactly past the last.
+pub fn at<T: Copy>(items: &[T], place: usize) -> Option<T>
+    ensures { result ≡ slice_get items.now place }
+{
+    items.get(place).copied()
 }
 
 // Puts the types that a member declares last.
@@ -134,5 +142,36 @@ impl<'a> Declarations<'a> {
         ensures { (script : Script) → AreOf script self.now → result ≡ is_graph_type script name.now }
     {
         self.graph_names.contains(name)
+    }
+
+    /// The graph type of a name. Its imports are no more than those of all graph types together.
+    pub fn graph(&self, name: &Name) -> Option<&'a GraphType>
+        ensures value { (script : Script) → AreOf script self.now → option_copied result ≡ graph_named script name.now }
+        ensures within { IfSome result (λ graph. length graph.now.imports ≤ sum_by (λ type. length type.now.imports) self.now.graphs.items) }
+    {
+        match self.graph_names.number(name) {
+            Some(number) => at(&self.graphs, number as usize),
+            None => None,
+        }
+    }
+
+    /// The node type of a name.
+    pub fn node(&self, name: &Name) -> Option<&'a NodeType<Name>>
+        ensures { (script : Script) → AreOf script self.now → option_copied result ≡ node_named script name.now }
+    {
+        match self.node_names.number(name) {
+            Some(number) => at(&self.nodes, number as usize),
+            None => None,
+        }
+    }
+
+    /// The edge type of a name.
+    pub fn edge(&self, name: &Name) -> Option<&'a EdgeType<Name>>
+        ensures { (script : Script) → AreOf script self.now → option_copied result ≡ edge_named script name.now }
+    {
+        match self.edge_names.number(name) {
+            Some(number) => at(&self.edges, number as usize),
+            None => None,
+        }
     }
 }

@@ -7,11 +7,18 @@
 mod declarations;
 mod duplicates;
 mod fault;
+mod guard;
+mod imports;
+mod key_faults;
 mod kinds;
 pub mod laws;
 mod names;
+mod order;
 mod pieces;
+mod places;
+mod resolved_types;
 pub mod samples;
+mod specifications;
 mod unknown;
 
 pub use fault::{KeyCause, ResolveFault};

@@ -1,5 +1,6 @@
-ghost use Rattle.std.specs.Prelude.{◌≡◌, [], ◌∷◌, ◌++◌, length, OnOk, OnErr};
+ghost use Rattle.std.specs.Prelude.{◌≡◌, [], ◌∷◌, ◌++◌, length, slice_get, IfOk, OnOk, OnErr};
 ghost use Rattle.std.specs.List.{position};
+ghost use Rattle.std.specs.Option.{option_copied};
 ghost use Rattle.pgs_base.specs.Pair.{same_name, has_name};
 
 use pgs_base::{Copyable, Memory, Name};
@@ -11,7 +12,7 @@ use std::marker::Model;
 #[derive(Drop)]
 pub struct Names {
     items: Vec<Name>,
-    places: BTreeMap<Name, usize>,
+    places: BTreeMap<Name, u32>,
 }
 
 impl Model for Names {
@@ -27,6 +28,16 @@ impl Model for Names {
     ghost view = { λ names. names.items.items };
 
     ghost invariant = { λ names. (name : List ℕ) → get (slice_cmp nat_cmp) names.places name ≡ position (same_name name) names.items.items };
+}
+
+// The number of a new name after so many. Numbers have 32 bits: there is no memory for more names.
+fn next_number(len: usize) -> Result<u32, Memory>
+    ensures { IfOk result (λ number. number ≡ len) }
+{
+    match u32::try_from(len) {
+        Ok(number) => Ok(number),
+        Err(_) => Err(Memory),
+    }
 }
 
 impl Names {
@@ -45,17 +56,18 @@ impl Names {
         ensures ok { OnOk result (self.new ≡ self.old ++ name ∷ []) }
         ensures err { OnErr result (self.new ≡ self.old) }
     {
+        let number = next_number(self.items.len())?;
         self.items.reserve(1)?;
         if !self.places.contains_key(&name) {
             let key = name.copy(alloc)?;
-            self.places.insert(key, self.items.len())?;
+            self.places.insert(key, number)?;
         }
         self.items.push(name)?;
         Ok(())
     }
 
-    /// The first place of a name, from 0. `None` exactly where it isn't there.
-    pub fn place(&self, name: &Name) -> Option<usize>
+    /// The number of a name, its first place from 0. `None` exactly where it isn't there.
+    pub fn number(&self, name: &Name) -> Option<u32>
         ensures { result ≡ position (same_name name.now) self.now }
     {
         self.places.get(name).copied()
@@ -66,6 +78,13 @@ impl Names {
         ensures { result ≡ has_name name.now self.now }
     {
         self.places.contains_key(name)
+    }
+
+    /// The first name. `None` exactly where there is none.
+    pub fn first(&self) -> Option<&Name>
+        ensures { option_copied result ≡ slice_get self.now 0 }
+    {
+        self.items.get(0)
     }
 
     /// All names in order.

@@ -20,7 +20,7 @@ invariant_of-self-2 c q =
           c.in_ok-push.ensures.items ∙ ap (λ j. j.items.items ++ c.args.name ∷ []) w.self-inside-is
           ∙ ap (λ xs. xs ++ c.args.name ∷ []) c.in_ok-reserve.ensures.items in
           ap (λ j. get (slice_cmp nat_cmp) j.places q) w.self-inside-is ∙ w.in_ok-insert.ensures.updates.0 q
-          ∙ (let e = c.self.invariant q in let l : w.len.result ≡ length c.self.inside.items.items = grind (arith, common_steps) in let k : w.in_ok-key.key ≡ c.args.name = w.in_ok-key.ensures in cc)
+          ∙ (let e = c.self.invariant q in let l : c.in_ok-number.number ≡ length c.self.inside.items.items = grind (arith, common_steps) in let k : w.in_ok-key.key ≡ c.args.name = w.in_ok-key.ensures in cc)
           ∙ new_place c.self.inside.items.items c.args.name q kept ∙ ap (position (same_name q)) (sym pushed)
       | else-not-contains_key w ↦
           let kept : is_some (position (same_name c.args.name) c.self.inside.items.items) ≡ true = cc in

@@ -1,0 +1,13 @@
+use Rattle.std.proofs.Common.{◌≡◌, ℕ, List, true, take}
+use Rattle.std.specs.List.{list_all}
+use Rattle.std.specs.Map.{keys_of}
+use Rattle.pgs_base.specs.declared.value.Value.{Value}
+use Rattle.pgs_base.specs.Name.{is_name}
+use Rattle.pgs_base.specs.Value.{is_value}
+use Rattle.pgs_base.proofs.props.rows_facts.Given as goal
+
+abbrev pub invariant-loop-row : goal.invariant-loop-row
+invariant-loop-row l = record {
+  names : list_all is_name (keys_of (take l.row-index l.rows)) ≡ true;
+  values : list_all (λ (row : List ℕ × Value). is_value row.1) (take l.row-index l.rows) ≡ true;
+}
