@@ -28,7 +28,7 @@ counted_answer : (n : ℕ) (s : Standing) (answer : Result Graph (List ℕ)) →
 counted_answer n s (Ok g) c = record { lines = let h = c.lines in omega arith; commits = let h = c.commits in omega arith }
 counted_answer n s (Err text) c = record { lines = let h = c.lines in omega arith; commits = let h = c.commits in omega arith }
 
-counted_line : (n : ℕ) (verdict : Graph → Verdict) (s : Standing) (line : List ℕ) (blank : Bool) → is_skipped line ≡ blank → IsCounted n s → IsCounted (suc n) (after_line verdict s line)
+pub counted_line : (n : ℕ) (verdict : Graph → Verdict) (s : Standing) (line : List ℕ) (blank : Bool) → is_skipped line ≡ blank → IsCounted n s → IsCounted (suc n) (after_line verdict s line)
 unfolding after_line
 counted_line n verdict s line true e c = rw e (record { lines = let h = c.lines in omega arith; commits = let h = c.commits in omega arith })
 counted_line n verdict s line false e c = rw e (counted_answer n s (answer_to verdict s.graph line) c)

@@ -1,9 +1,11 @@
 pub mod FirstFound
 pub mod Following
+pub mod Lines
 pub mod Listing
 pub mod Machine
 pub mod OneWord
 pub mod Reporting
+pub mod Room
 pub mod SameFronts
 pub mod Separating
 pub mod Telling

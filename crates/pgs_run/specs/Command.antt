@@ -25,5 +25,5 @@ uses_areas (Some Try) = false
 
 -- The source tells this input, where the command reads it, and the world tells its bytes, where the command uses the areas.
 pub record IsTold (command : Option Command) (left : Option (List ℕ)) (view : View) (input : List ℕ) : Type 0 where
-  pub input : IsTrue (reads_source command) → left ≡ Some input
-  pub areas : IsTrue (uses_areas command) → IsTrue view.tells_bytes
+  pub source : reads_source command ≡ true → left ≡ Some input
+  pub bytes : uses_areas command ≡ true → IsTrue view.tells_bytes

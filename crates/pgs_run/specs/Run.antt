@@ -50,8 +50,8 @@ abbrev pub IsComplete : Shown → Told Status → Status → Shown → Type 0
 IsComplete start told status now =
     (status ≡ Memory) ⊎ (((status ≡ Accepted) ⊎ (status ≡ Refused)) × ShowsAll start told.pieces now)
 
--- no count of faults rose
-pub record IsUndisturbed (before now : Faults) : Type 0 where
-  pub reads : Rose before.reads now.reads → ⊥
-  pub areas : Rose before.areas now.areas → ⊥
+-- no count rose of a fault that the command may meet
+pub record IsUndisturbed (command : Option Command) (before now : Faults) : Type 0 where
+  pub reads : reads_source command ≡ true → Rose before.reads now.reads → ⊥
+  pub areas : uses_areas command ≡ true → Rose before.areas now.areas → ⊥
   pub puts : Rose before.puts now.puts → ⊥

@@ -1,5 +1,5 @@
-ghost use Rattle.std.specs.Prelude.{◌≡◌};
-ghost use Rattle.pgs_run.specs.Command.{command_of};
+ghost use Rattle.std.specs.Prelude.{◌≡◌, codes};
+ghost use Rattle.pgs_run.specs.Command.{is_word, command_of};
 
 use pgs_base::Words;
 
@@ -10,19 +10,25 @@ pub enum Command {
     Try,
 }
 
-/// The command that the words name. `None` is exactly where they are no command: the words are refused.
+// Whether the words are those of the command `try`: that word alone.
 #[tactic(auto, using(crate::proofs::OneWord::is_word_none))]
+fn is_try(words: &Words) -> bool
+    ensures { result ≡ is_word words.now (codes "try") }
+{
+    match words.at(0) {
+        Some(word) => word == "try" && words.len() == 1,
+        None => false,
+    }
+}
+
+/// The command that the words name. `None` is exactly where they are no command: the words are refused.
+#[tactic(auto, unfolding(crate::specs::Command::command_of))]
 pub fn command_of(words: &Words) -> Option<Command>
     ensures { result ≡ command_of words.now }
 {
-    match words.at(0) {
-        Some(word) => {
-            if word == "try" && words.len() == 1 {
-                Some(Command::Try)
-            } else {
-                None
-            }
-        }
-        None => None,
+    if is_try(words) {
+        Some(Command::Try)
+    } else {
+        None
     }
 }
