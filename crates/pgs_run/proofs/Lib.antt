@@ -9,3 +9,4 @@ pub mod Room
 pub mod SameFronts
 pub mod Separating
 pub mod Telling
+pub mod TryEnds

@@ -17,8 +17,9 @@ mod session;
 mod staging;
 mod status;
 mod texts;
+mod top_call;
 mod trying;
 
 pub use plain::{Report, tell};
-
 pub use status::Status;
+pub use top_call::{BUDGET, run, run_within};
