@@ -6,6 +6,7 @@ pub mod Machine
 pub mod OneWord
 pub mod Reporting
 pub mod Room
+pub mod RunWords
 pub mod SameFronts
 pub mod Separating
 pub mod Telling
