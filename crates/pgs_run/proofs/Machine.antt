@@ -1,8 +1,8 @@
 -- The machine of the command `try` tells what `told_try` says.
-use Rattle.std.proofs.Common.{◌≡◌, ℕ, ◌<◌, Bool, true, false, nat_le, List, [], ◌∷◌, ◌++◌, length, take, map, Result, Ok, Err, refl, sym, ap, subst, ◌∙◌, append_assoc}
+use Rattle.std.proofs.Common.{◌≡◌, ℕ, Bool, true, false, nat_le, List, [], ◌∷◌, ◌++◌, length, take, map, Err, refl, sym, ap, subst, ◌∙◌, append_assoc}
 use Rattle.std.proofs.lemmas.List.{append-nil}
 use Rattle.std.specs.List.{list_any, join_with_byte}
-use Rattle.pgs_lines.specs.Input.{lines_of, front_of, kept_of}
+use Rattle.pgs_lines.specs.Input.{lines_of, kept_of}
 use Rattle.pgs_lines.specs.Machine as machine
 use Rattle.pgs_lines.specs.Machine.{Told, Standing, Going, Ended, told_by, told_at_end, status_at_cut}
 use Rattle.pgs_lines.proofs.Fronts.{front_none}
@@ -15,7 +15,7 @@ use Rattle.pgs_run.specs.Input.{text_limit, text_front, is_separator, after_sepa
 use Rattle.pgs_run.specs.Part.{Part}
 use Rattle.pgs_run.specs.Session.{after_lines, pieces_of_lines}
 use Rattle.pgs_run.specs.Told.{start, status_of, schema_of, told_schema, told_lines, told_cut, told_whole, told_try}
-use Rattle.pgs_run.specs.Trying.{trying, first_phase, Stands, next_of, after_end, pieces_at_end, told_after, told_last}
+use Rattle.pgs_run.specs.Trying.{trying, first_phase, Stands, next_of, after_end, pieces_at_end, told_after}
 use Rattle.pgs_run.proofs.SameFronts.{schema_of_front}
 use Rattle.pgs_run.proofs.Separating.{before-none, after-none}
 use Rattle.pgs_run.proofs.Telling.{told_with, told_without, told_refused, stands_end, pieces_end, status_refused}

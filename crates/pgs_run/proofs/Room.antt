@@ -1,5 +1,5 @@
 -- Room for counting lines and commits.
-use Rattle.std.proofs.Common.{◌≡◌, ℕ, suc, ◌+◌, ◌-◌, ◌<◌, ◌≤◌, ◌^◌, Bool, true, false, List, Result, Ok, Err, refl, sym, subst, arith}
+use Rattle.std.proofs.Common.{◌≡◌, ℕ, ◌+◌, ◌-◌, ◌<◌, ◌^◌, Bool, true, false, List, Result, Ok, Err, refl, arith}
 use Rattle.pgs_parser.specs.declared.first_schema.FirstSchema.{FirstSchema}
 use Rattle.pgs_run.specs.declared.trying.Phase.{Phase}
 use Rattle.pgs_run.specs.declared.trying.Phase.TheVariants.{Schema, Lines, Refused}
@@ -7,7 +7,7 @@ use Rattle.pgs_run.specs.FirstVerdict.{first_verdict}
 use Rattle.pgs_run.specs.Input.{is_separator, is_skipped}
 use Rattle.pgs_run.specs.Part.{Part}
 use Rattle.pgs_run.specs.Told.{schema_of}
-use Rattle.pgs_run.specs.Trying.{HasRoom, after_schema, after_end, with_line}
+use Rattle.pgs_run.specs.Trying.{HasRoom, after_schema, after_end}
 use Rattle.pgs_run.proofs.Following.{IsCounted, counted_line}
 
 room_schema : (lines : ℕ) (schema : Result FirstSchema (List ℕ)) → lines + 1 < 2 ^ 64 → HasRoom lines (after_schema schema)

@@ -5,7 +5,6 @@ use Rattle.pgs_lines.specs.Input.{lines_of}
 use Rattle.pgs_lines.specs.Machine.{Told}
 use Rattle.pgs_lines.specs.Pieces.{Shown, ShowsAll}
 use Rattle.pgs_lines.proofs.RunEnds.{within_unread}
-use Rattle.pgs_world.specs.Count.{Rose}
 use Rattle.pgs_world.specs.World.{View}
 use Rattle.pgs_parser.specs.declared.first_schema.FirstSchema.{FirstSchema}
 use Rattle.pgs_run.specs.declared.command.Command.{Command}

@@ -1,10 +1,10 @@
 -- The status of a run of `try`, by how its run over lines ended.
-use Rattle.std.proofs.Common.{◌≡◌, ◌⊎◌, inl, inr, ℕ, ◌+◌, ◌-◌, ◌≤◌, Bool, true, false, cond, List, [], ◌∷◌, length, Option, Some, None, Result, Ok, Err, refl, sym, ap, subst, ◌∙◌}
+use Rattle.std.proofs.Common.{◌≡◌, ◌⊎◌, inl, inr, ℕ, ◌+◌, ◌-◌, Bool, true, false, cond, List, [], length, Option, Some, Result, Ok, Err, refl, sym, ap, subst, ◌∙◌}
 use Rattle.pgs_lines.specs.declared.stop.Stop.{Stop}
 use Rattle.pgs_lines.specs.declared.stop.Stop.TheVariants as stops
 use Rattle.pgs_lines.specs.Ending as lines
 use Rattle.pgs_lines.specs.Ending.{Faults, HasCause}
-use Rattle.pgs_lines.specs.Machine.{Told, Standing, Going, Ended, told_by}
+use Rattle.pgs_lines.specs.Machine.{Told, Ended, told_by}
 use Rattle.pgs_lines.specs.May.{MayCome}
 use Rattle.pgs_lines.specs.Pieces.{Shown, ShowsAll}
 use Rattle.pgs_lines.specs.Run as over
@@ -20,9 +20,8 @@ use Rattle.pgs_run.specs.declared.trying.Phase.TheVariants as phases
 use Rattle.pgs_run.specs.Ending.{Ends, status_at}
 use Rattle.pgs_run.specs.Input.{text_limit}
 use Rattle.pgs_run.specs.Run.{IsRead, EndsAs, HasRunCause}
-use Rattle.pgs_run.specs.Session.{Standing as Session}
 use Rattle.pgs_run.specs.Told.{schema_of, told_schema, told_try}
-use Rattle.pgs_run.specs.Trying.{trying, first_phase, next_of, after_end, told_after, told_last}
+use Rattle.pgs_run.specs.Trying.{trying, first_phase, next_of, after_end, told_after}
 use Rattle.pgs_run.proofs.Machine.{told_by_try}
 
 -- ---- the statuses of the machine's own

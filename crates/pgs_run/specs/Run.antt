@@ -1,5 +1,5 @@
 -- How a run ends, and the causes of its answers.
-use Rattle.std.specs.Prelude.{◌≡◌, ◌⊎◌, ℕ, ◌+◌, ◌-◌, ◌≤◌, Bool, true, List, length, Option, Some, None}
+use Rattle.std.specs.Prelude.{◌≡◌, ◌⊎◌, ℕ, ◌+◌, ◌-◌, ◌≤◌, true, List, length, Option, Some, None}
 use Rattle.pgs_lines.specs.Ending.{Faults}
 use Rattle.pgs_lines.specs.Machine.{Told}
 use Rattle.pgs_lines.specs.Pieces.{Shown, ShowsAll}
@@ -7,7 +7,7 @@ use Rattle.pgs_world.specs.Count.{Rose}
 use Rattle.pgs_world.specs.Source.{IsAtEnd}
 use Rattle.pgs_run.specs.declared.command.Command.{Command}
 use Rattle.pgs_run.specs.declared.status.Status.{Status}
-use Rattle.pgs_run.specs.declared.status.Status.TheVariants.{Accepted, Refused, BadWords, SchemaRefused, StoreRefused, DiskFault, ReadFault, PutFault, Memory, InputTooLong}
+use Rattle.pgs_run.specs.declared.status.Status.TheVariants.{Accepted, Refused, BadWords, StoreRefused, DiskFault, ReadFault, PutFault, Memory, InputTooLong}
 use Rattle.pgs_run.specs.Command.{reads_source, uses_areas}
 use Rattle.pgs_run.specs.Ending.{Ends}
 

@@ -3,7 +3,7 @@ use Rattle.std.specs.Prelude.{◌≡◌, ◌<◌, ◌^◌, ℕ, ◌+◌, Bool, t
 use Rattle.std.specs.List.{list_any, join_with_byte}
 use Rattle.pgs_lines.specs.declared.stop.Stop.{Stop}
 use Rattle.pgs_lines.specs.declared.stop.Stop.TheVariants as stops
-use Rattle.pgs_lines.specs.Machine.{Machine, Standing as RunStanding, Step, Told, Going, Ended}
+use Rattle.pgs_lines.specs.Machine.{Machine, Standing as RunStanding, Told, Going, Ended}
 use Rattle.pgs_parser.specs.declared.first_schema.FirstSchema.{FirstSchema}
 use Rattle.pgs_run.specs.declared.status.Status.{Status}
 use Rattle.pgs_run.specs.declared.status.Status.TheVariants as statuses

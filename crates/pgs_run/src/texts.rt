@@ -92,9 +92,7 @@ fn piece_of(text: String) -> Bytes
 pub fn committed_line(alloc: Global, line: u64, commit: u64) -> Result<Bytes, Memory>
     ensures { IfOk result (λ piece. piece ≡ committed_line line commit) }
 {
-    Ok(piece_of(
-        format!(in alloc; "{line} committed {commit}\n")?,
-    ))
+    Ok(piece_of(format!(in alloc; "{line} committed {commit}\n")?))
 }
 
 // A text behind this front, and a line feed.

@@ -1,4 +1,3 @@
-use Rattle.std.proofs.Common.{IfOk, List, ℕ, ◌++◌, ◌∷◌, [], ◌≡◌, codes, subst, sym, ap, ◌∙◌, append_assoc}
 use Rattle.pgs_run.specs.Texts.{refused_line}
 use Rattle.pgs_run.proofs.Lines.{line_of_front}
 use Rattle.pgs_run.proofs.texts.refused_line.Goals as goal

@@ -1,5 +1,4 @@
 use Rattle.std.proofs.Common.{refl}
-use Rattle.pgs_lines.specs.Ending.{faults_of}
 use Rattle.pgs_lines.specs.Pieces.{shown_of}
 use Rattle.pgs_run.specs.Command.{command_of}
 use Rattle.pgs_run.specs.Told.{areas_of, told}

@@ -1,6 +1,5 @@
 use Rattle.std.proofs.Common.{rules, sym, subst, ◌∙◌}
 use Rattle.pgs_lines.specs.Ending.{faults_of}
-use Rattle.pgs_lines.specs.Pieces.{shown_of}
 use Rattle.pgs_run.specs.Run.{HasRunCause}
 use Rattle.pgs_run.specs.Told.{areas_of}
 use Rattle.pgs_run.proofs.RunWords.{ends_try, ends_refused}

@@ -1,4 +1,4 @@
-use Rattle.std.proofs.Common.{◌≡◌, ap, sym, subst, ◌∙◌, List, ℕ}
+use Rattle.std.proofs.Common.{ap, subst, ◌∙◌}
 use Rattle.pgs_lines.specs.Ending.{Ends}
 use Rattle.pgs_lines.specs.Pieces.{shown_of, ShowsAll}
 use Rattle.pgs_lines.proofs.Showing.{ends_on}

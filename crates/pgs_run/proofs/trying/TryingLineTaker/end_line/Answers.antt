@@ -1,4 +1,4 @@
-use Rattle.std.proofs.Common.{◌≡◌, ap, sym, subst, ◌∙◌}
+use Rattle.std.proofs.Common.{ap, sym, subst, ◌∙◌}
 use Rattle.pgs_run.specs.Trying.{HasRoom, after_end}
 use Rattle.pgs_run.proofs.Room.{room_end}
 use Rattle.pgs_run.proofs.trying.TryingLineTaker.end_line.Goals as goal
