@@ -23,6 +23,3 @@ mod unread;
 
 pub use first_schema::{FirstSchema, FirstType, parse_first};
 pub use form::first_form;
-
-#[cfg(test)]
-mod tests;

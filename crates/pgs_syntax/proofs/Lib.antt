@@ -1,7 +1,6 @@
 pub mod AnyOrder
 pub mod Assigned
 pub mod Closed
-pub mod Computed
 pub mod Connected
 pub mod Edges
 pub mod Halves

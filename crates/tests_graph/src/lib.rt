@@ -1,0 +1,17 @@
+//! Tests of the public calls of `pgs_graph` and `pgs_json`: a small graph that is changed, copied and read through the trait,
+//! and transactions from lines of JSON. What is expected was written by hand.
+//! Nothing but tests stands here.
+#![tactic(auto)]
+
+#[cfg(test)]
+mod changes;
+#[cfg(test)]
+mod copies;
+#[cfg(test)]
+mod first_lines;
+#[cfg(test)]
+mod json_lines;
+#[cfg(test)]
+mod reads;
+#[cfg(test)]
+mod sample;
