@@ -118,7 +118,7 @@ complete_by start now told StoreRefused old new done wider none cause ends = abs
 complete_by start now told InputTooLong old new done wider none cause ends = absurd (never (not_done told.status InputTooLong done wider ends.1) (λ e. cc) (λ e. cc))
 complete_by start now told PutFault old new done wider none cause ends = absurd (none.puts cause.0)
 complete_by start now told Memory old new done wider none cause ends = inl refl
-complete_by start now told ReadFault old new done wider none cause ends = absurd (none.reads refl cause.1)
+complete_by start now told ReadFault old new done wider none cause ends = absurd (none.reads refl cause.1.0)
 complete_by start now told DiskFault old new done wider none cause ends = let no : false ≡ true = cause.0 in cc
 
 -- an input below the budget is run to its end

@@ -162,7 +162,7 @@ own_cause old new budget before left status (inr (inr (is, cut))) same = subst (
 
 cause_at : (old new : Faults) (budget : ℕ) (before left : Option (List ℕ)) (stop : Stop Status) → EndsBy trying budget before left stop → MayCome trying stop → HasCause old new stop → HasRunCause (Some Try) old new (status_at stop)
 cause_at old new budget before left (stops.Ended status) by may cause = own_cause old new budget before left status (own_of budget before left status by) cause
-cause_at old new budget before left stops.ReadFault by may cause = (refl, cause.0, cause.1, cause.2)
+cause_at old new budget before left stops.ReadFault by may cause = (refl, cause)
 cause_at old new budget before left stops.AreaFault by may cause = absurd may
 cause_at old new budget before left stops.PutFault by may cause = cause
 cause_at old new budget before left stops.Memory by may cause = cause

@@ -1,6 +1,6 @@
 -- How a run ends, and the causes of its answers.
 use Rattle.std.specs.Prelude.{◌≡◌, ◌⊎◌, ℕ, ◌+◌, ◌-◌, ◌≤◌, true, List, length, Option, Some, None}
-use Rattle.pgs_lines.specs.Ending.{Faults}
+use Rattle.pgs_lines.specs.Ending.{Faults, ReadsRose, AreasRose, PutsRose}
 use Rattle.pgs_lines.specs.Machine.{Told}
 use Rattle.pgs_lines.specs.Pieces.{Shown, ShowsAll}
 use Rattle.pgs_world.specs.Count.{Rose}
@@ -23,13 +23,14 @@ IsRead left status = Unit {0}
 abbrev pub HasRunCause : Option Command → Faults → Faults → Status → Type 0
 HasRunCause command before now BadWords = (command ≡ None) × (now ≡ before)
 HasRunCause command before now StoreRefused = (uses_areas command ≡ true) × (now ≡ before)
-HasRunCause command before now DiskFault = (uses_areas command ≡ true) × Rose before.areas now.areas × (now.reads ≡ before.reads) × (now.puts ≡ before.puts)
-HasRunCause command before now ReadFault = (reads_source command ≡ true) × Rose before.reads now.reads × (now.areas ≡ before.areas) × (now.puts ≡ before.puts)
-HasRunCause command before now PutFault = Rose before.puts now.puts × (now.reads ≡ before.reads) × (now.areas ≡ before.areas)
+HasRunCause command before now DiskFault = (uses_areas command ≡ true) × AreasRose before now
+HasRunCause command before now ReadFault = (reads_source command ≡ true) × ReadsRose before now
+HasRunCause command before now PutFault = PutsRose before now
 HasRunCause command before now status = now ≡ before
 
 -- A run of which this is told by its budget ended so over this input, with this left of it.
-pub record EndsAs (tell : ℕ → Told Status) (start : Shown) (input : List ℕ) (budget : ℕ) (left : Option (List ℕ)) (status : Status) (now : Shown) : Type 0 where
+pub record EndsAs (tell : ℕ → Told Status) (start : Shown) (input : List ℕ) (budget : ℕ) (left : Option (List ℕ))
+    (status : Status) (now : Shown) : Type 0 where
   pub shown : Ends start (tell budget) status now
   -- after a fault of a read all is put that is told with the number of bytes that the reads gave in the budget's place
   pub read_fault : (rest : List ℕ) → left ≡ Some rest → status ≡ ReadFault → ShowsAll start (tell (length input - length rest)).pieces now
