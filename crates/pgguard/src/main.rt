@@ -1,9 +1,9 @@
 //! The program: it makes the words, standard input and standard output, and calls `pgs_run::run`.
 //! Nothing else stands here. What a terminal, a pipe or a file holds is told by no clause: the real source
-//! and world count their faults and tell nothing.
+//! and world count their calls and faults and tell nothing.
 #![tactic(auto)]
 
-mod faults;
+mod counts;
 mod stdin_source;
 mod stdout_world;
 #[cfg(test)]

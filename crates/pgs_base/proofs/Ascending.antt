@@ -8,7 +8,7 @@ use Rattle.std.specs.Map.{keys_of, remove_entry}
 use Rattle.std.specs.Set.{remove_key}
 use Rattle.std.specs.BTreeMap.{insert_entry}
 use Rattle.std.specs.BTreeSet.{insert_key}
-use Rattle.pgs_base.specs.Graph.{ascends}
+use Rattle.pgs_base.specs.Order.{ascends}
 
 module _ {K V : Type 0} where
   -- the keys after an entry is put in

@@ -13,7 +13,9 @@ use Rattle.pgs_base.specs.declared.value.Value.TheVariants as values
 use Rattle.pgs_base.specs.Order.{day_cmp, value_cmp, elem_cmp, part_cmp, tuple_cmp, props_cmp}
 
 pub day_cmp_total : IsTotalOrder day_cmp
-day_cmp_total = then_total (on_total (λ (a : ℕ × ℕ × ℕ). a.0) nat_cmp_total) (then_total (on_total (λ (a : ℕ × ℕ × ℕ). a.1) nat_cmp_total) (on_total (λ (a : ℕ × ℕ × ℕ). a.2) nat_cmp_total))
+day_cmp_total =
+    then_total (on_total (λ (a : ℕ × ℕ × ℕ). a.0) nat_cmp_total)
+    (then_total (on_total (λ (a : ℕ × ℕ × ℕ). a.1) nat_cmp_total) (on_total (λ (a : ℕ × ℕ × ℕ). a.2) nat_cmp_total))
 
 -- ---- the first kind before the second, and each by its own order
 
@@ -50,7 +52,8 @@ module _ {A B : Type 0} {R : A → A → Ordering} {S : B → B → Ordering} (r
   sum_total = record { antisymm = sum_antisymm; trans = sum_trans; congr = sum_congr }
 
 -- an order that reads its values as such sums is total too
-read_total : {K J : Type 0} {Q : K → K → Ordering} {R : J → J → Ordering} (read : K → J) → ((x y : K) → on read R x y ≡ Q x y) → IsTotalOrder R → IsTotalOrder Q
+read_total : {K J : Type 0} {Q : K → K → Ordering} {R : J → J → Ordering} (read : K → J) →
+    ((x y : K) → on read R x y ≡ Q x y) → IsTotalOrder R → IsTotalOrder Q
 read_total read same r = subst IsTotalOrder (λ i x y. same x y i) (on_total read r)
 
 -- ---- the orders are total
@@ -61,7 +64,8 @@ value_sum (values.Int a) = inr (inl a)
 value_sum (values.Bool a) = inr (inr (inl a))
 value_sum (values.Date a) = inr (inr (inr a))
 
-value_as_sum : (x y : Value) → on value_sum (sum_cmp (slice_cmp nat_cmp) (sum_cmp int_cmp (sum_cmp bool_cmp day_cmp))) x y ≡ value_cmp x y
+value_as_sum : (x y : Value) →
+    on value_sum (sum_cmp (slice_cmp nat_cmp) (sum_cmp int_cmp (sum_cmp bool_cmp day_cmp))) x y ≡ value_cmp x y
 value_as_sum (values.Text a) (values.Text b) = refl
 value_as_sum (values.Int a) (values.Int b) = refl
 value_as_sum (values.Bool a) (values.Bool b) = refl
@@ -99,7 +103,9 @@ pub tuple_cmp_total : IsTotalOrder tuple_cmp
 tuple_cmp_total = lists_total part_cmp_total
 
 pub props_cmp_total : IsTotalOrder props_cmp
-props_cmp_total = lists_total (then_total (on_total (λ (row : List ℕ × Value). row.0) nat_list_cmp_total) (on_total (λ (row : List ℕ × Value). row.1) value_cmp_total))
+props_cmp_total =
+    lists_total (then_total (on_total (λ (row : List ℕ × Value). row.0) nat_list_cmp_total)
+    (on_total (λ (row : List ℕ × Value). row.1) value_cmp_total))
 
 -- ---- what compares `Equal` is equal
 
@@ -160,7 +166,8 @@ exact_name = exact_bytes
 -- ---- so `==`, where it goes by the order, holds exactly of equal values
 
 same_decides : {K : Type 0} {R : K → K → Ordering} → IsTotalOrder R → CmpEqualImpliesEq R → (x y : K) → Decides (eq_by_cmp R x y) (x ≡ y)
-same_decides {R = R} total exact x y = (λ t. exact x y ((Equal-is (R x y)).0 t), λ e. subst (λ z. eq_by_cmp R x z ≡ true) e ((eq_by_cmp_equiv total).refl x))
+same_decides {R = R} total exact x y =
+    (λ t. exact x y ((Equal-is (R x y)).0 t), λ e. subst (λ z. eq_by_cmp R x z ≡ true) e ((eq_by_cmp_equiv total).refl x))
 
 pub part_eq_decides : (x y : Part) → Decides (eq_by_cmp part_cmp x y) (x ≡ y)
 part_eq_decides = same_decides part_cmp_total exact_part

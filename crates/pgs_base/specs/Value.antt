@@ -1,5 +1,5 @@
 -- Values and their kinds.
-use Rattle.std.specs.Prelude.{ℕ, ℤ, pos, negsuc, Bool, true, ◌&&◌, List, length, nat_le, int_le}
+use Rattle.std.specs.Prelude.{ℕ, ℤ, pos, negsuc, Bool, true, ◌&&◌, ◌==◌, List, length, nat_le, int_le}
 use Rattle.std.specs.Str.{is_utf8}
 use Rattle.pgs_base.specs.declared.value.Kind.{Kind}
 use Rattle.pgs_base.specs.declared.value.Kind.TheVariants as kinds
@@ -13,6 +13,17 @@ kind_of (values.Text text) = kinds.Text
 kind_of (values.Int number) = kinds.Int
 kind_of (values.Bool truth) = kinds.Bool
 kind_of (values.Date day) = kinds.Date
+
+-- the place of a kind: texts, numbers, truth values, days
+abbrev pub kind_rank : Kind → ℕ
+kind_rank kinds.Text = 0
+kind_rank kinds.Int = 1
+kind_rank kinds.Bool = 2
+kind_rank kinds.Date = 3
+
+-- whether a value is of a kind
+abbrev pub is_of_kind : Kind → Value → Bool
+is_of_kind kind value = kind_rank (kind_of value) == kind_rank kind
 
 -- whether bytes are those of a text: UTF-8, and at most 65,535 of them
 abbrev pub is_text : List ℕ → Bool

@@ -1,4 +1,4 @@
-ghost use Rattle.std.specs.Prelude.{◌≡◌, if◌then◌else◌, Some, None};
+ghost use Rattle.std.specs.Prelude.{◌≡◌, if◌then◌else◌, IsTrue, Some, None, true};
 ghost use Rattle.pgs_base.specs.Day.{is_day};
 
 use crate::{Copyable, Memory};
@@ -48,6 +48,13 @@ impl Day {
         }
     }
 
+    /// What every day meets: it is one of the calendar. Nothing is done.
+    pub fn facts(&self)
+        ensures { is_day self.now.0 self.now.1 self.now.2 ≡ true }
+    {
+        let _year = self.year;
+    }
+
     /// The year, 1 to 9999.
     pub fn year(&self) -> u16
         ensures { result ≡ self.now.0 }
@@ -64,7 +71,8 @@ impl Day {
 
     /// The day of its month, from 1.
     pub fn day(&self) -> u8
-        ensures { result ≡ self.now.2 }
+        ensures value { result ≡ self.now.2 }
+        ensures calendar { IsTrue (is_day self.now.0 self.now.1 self.now.2) }
     {
         self.day
     }

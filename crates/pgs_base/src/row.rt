@@ -1,3 +1,6 @@
+ghost use Rattle.std.specs.Prelude.{◌≡◌, true};
+ghost use Rattle.pgs_base.specs.Pair.{pair_of, is_pair};
+
 use crate::{Copyable, Labels, Memory, NodeId, Props};
 use std::alloc::Global;
 
@@ -15,6 +18,32 @@ pub struct EdgeRow {
     pub target: NodeId,
     pub labels: Labels,
     pub props: Props,
+}
+
+/// What all labels and properties meet: together they are a pair. Nothing is done.
+pub fn pair_facts(labels: &Labels, props: &Props)
+    ensures { is_pair (pair_of labels.now props.now) ≡ true }
+{
+    let _names = labels.as_slice();
+    let _rows = props.as_slice();
+}
+
+impl NodeRow {
+    /// What every row of a node meets: it is a pair. Nothing is done.
+    pub fn facts(&self)
+        ensures { is_pair self.now ≡ true }
+    {
+        pair_facts(&self.labels, &self.props);
+    }
+}
+
+impl EdgeRow {
+    /// What every row of an edge meets: it carries a pair. Nothing is done.
+    pub fn facts(&self)
+        ensures { is_pair (pair_of self.now.labels self.now.props) ≡ true }
+    {
+        pair_facts(&self.labels, &self.props);
+    }
 }
 
 impl Copyable for NodeRow {

@@ -3,7 +3,8 @@ use Rattle.std.specs.Prelude.{Bool, ◌&&◌, List, [], ◌∷◌, Option, Some,
 use Rattle.std.specs.declared.cmp.Ordering.{Ordering}
 use Rattle.std.specs.BTreeMap.{is_at, insert_entry}
 use Rattle.std.specs.Map.{keys_of, remove_entry}
-use Rattle.pgs_base.specs.Graph.{Graph, node_cmp, edge_cmp, ascends, is_graph}
+use Rattle.pgs_base.specs.Graph.{Graph, node_cmp, edge_cmp, is_graph}
+use Rattle.pgs_base.specs.Order.{ascends}
 use Rattle.pgs_graph.specs.declared.delta.Delta.{Delta}
 
 -- entries after a change at a key: its value put in, or the key taken out

@@ -4,16 +4,11 @@ use Rattle.std.specs.List.{filter}
 use Rattle.std.specs.Map.{keys_of}
 use Rattle.pgs_base.specs.declared.element.NodeId.{NodeId}
 use Rattle.pgs_base.specs.declared.element.EdgeId.{EdgeId}
-use Rattle.pgs_base.specs.declared.row.NodeRow.{NodeRow}
 use Rattle.pgs_base.specs.declared.row.EdgeRow.{EdgeRow}
 use Rattle.pgs_base.specs.declared.value.Value.{Value}
 use Rattle.pgs_base.specs.Graph.{Graph}
 use Rattle.pgs_graph.specs.declared.scan.End.{End}
 use Rattle.pgs_graph.specs.declared.scan.End.TheVariants.{Source, Target}
-
--- the row of a node that carries these
-abbrev pub node_row : List (List ℕ) → List (List ℕ × Value) → NodeRow
-node_row labels props = record { labels = labels; props = props }
 
 -- the row of an edge between these nodes that carries these
 abbrev pub edge_row : NodeId → NodeId → List (List ℕ) → List (List ℕ × Value) → EdgeRow

@@ -2,7 +2,8 @@ ghost use Rattle.std.specs.Prelude.{◌≡◌, ◌+◌, ◌≤◌, true, length,
 ghost use Rattle.std.specs.Map.{keys_of};
 ghost use Rattle.pgs_base.specs.declared.row.EdgeRow.{EdgeRow};
 ghost use Rattle.pgs_base.specs.Graph.{Graph, node_at, edge_at, element_count, is_graph};
-ghost use Rattle.pgs_graph.specs.Reads.{node_row, edge_row, out_edges_of, in_edges_of};
+ghost use Rattle.pgs_base.specs.Pair.{pair_of};
+ghost use Rattle.pgs_graph.specs.Reads.{edge_row, out_edges_of, in_edges_of};
 
 use pgs_base::{EdgeId, Labels, List, Memory, NodeId, Props, Steps};
 use std::alloc::Global;
@@ -32,7 +33,7 @@ pub trait GraphRead {
 
     /// What a node carries. `None` exactly where there is no such node.
     fn node<L: Ledger>(&self, id: NodeId, steps: &mut Steps<L>) -> Option<NodeRef<'_>>
-        ensures value { option_map (λ node. node_row node.labels.now node.props.now) result ≡ node_at (meaning self.now) id }
+        ensures value { option_map (λ node. pair_of node.labels.now node.props.now) result ≡ node_at (meaning self.now) id }
         ensures tick { steps.new ≡ steps.old + 1 }
         ensures graph { is_graph (meaning self.now) ≡ true };
 

@@ -5,27 +5,12 @@ use Rattle.std.specs.Fmt.{signed_decimal}
 use Rattle.std.specs.List.{join_with_byte}
 use Rattle.pgs_base.specs.declared.value.Value.{Value}
 use Rattle.pgs_base.specs.declared.value.Value.TheVariants as values
+use Rattle.pgs_text.specs.Text.{quoted, day_text, truth_text}
 use Rattle.pgs_graph.specs.declared.operation.Op.{Op}
 use Rattle.pgs_graph.specs.declared.operation.Op.TheVariants.{AddNode, AddEdge, RemoveNode, DetachNode, RemoveEdge, SetNode, UnsetNode, LabelNode, UnlabelNode, SetEdge, UnsetEdge, LabelEdge, UnlabelEdge}
 use Rattle.pgs_graph.specs.declared.operation.Txn.{Txn}
 
--- ---- texts, lists and objects
-
--- a byte inside a quoted text; hexadecimal digits are lower-case
-abbrev pub escaped : ℕ → List ℕ
-escaped b =
-    if b == 34 then codes "\\\""
-    else (if b == 92 then codes "\\\\"
-    else (if b == 8 then codes "\\b"
-    else (if b == 9 then codes "\\t"
-    else (if b == 10 then codes "\\n"
-    else (if b == 12 then codes "\\f"
-    else (if b == 13 then codes "\\r"
-    else (if nat_lt b 32 then codes "\\u00" ++ digit_char (b / 16) ∷ digit_char (b % 16) ∷ []
-    else b ∷ [])))))))
-
-unfoldable pub quoted : List ℕ → List ℕ
-quoted text = codes "\"" ++ (flat_map escaped text ++ codes "\"")
+-- ---- lists and objects
 
 abbrev pub list_text : List (List ℕ) → List ℕ
 list_text items = codes "[" ++ (join_with_byte 44 items ++ codes "]")
@@ -38,18 +23,6 @@ abbrev pub object_text : List (List ℕ × List ℕ) → List ℕ
 object_text ms = codes "{" ++ (join_with_byte 44 (map member_text ms) ++ codes "}")
 
 -- ---- values, labels and properties
-
-abbrev pub two_digits : ℕ → List ℕ
-two_digits n = digit_char (n / 10) ∷ digit_char (n % 10) ∷ []
-
--- a day as `2024-02-29`
-abbrev pub day_text : ℕ × ℕ × ℕ → List ℕ
-day_text day =
-    two_digits (day.0 / 100) ++ (two_digits (day.0 % 100) ++ (codes "-" ++ (two_digits day.1 ++ (codes "-" ++ two_digits day.2))))
-
-abbrev pub truth_text : Bool → List ℕ
-truth_text true = codes "true"
-truth_text false = codes "false"
 
 abbrev pub value_text : Value → List ℕ
 value_text (values.Text text) = quoted text

@@ -32,6 +32,3 @@ pub use fault::ParseFault;
 pub use first_schema::{FirstSchema, FirstType, parse_first};
 pub use form::first_form;
 pub use parsing::parse;
-
-#[cfg(test)]
-mod tests;

@@ -19,8 +19,9 @@ use Rattle.pgs_resolve.specs.KeyFaults.{cause_of}
 use Rattle.pgs_resolve.specs.Order.{numbering_of}
 use Rattle.pgs_resolve.specs.Patterns.{resolved_key}
 use Rattle.pgs_resolve.specs.Resolution.{resolution, resolved}
-use Rattle.pgs_resolve.specs.Samples.{acquaintance_schema, mail_schema, no_names}
+use Rattle.pgs_resolve.specs.Samples.{acquaintance_schema, mail_schema, no_names, of_nodes, of_options, widest, narrow}
 use Rattle.pgs_resolve.specs.SchemaOf.{IsSchemaOf, refused, schema, begins_no_item, is_no_statement, of_items, of_statements, of_refusal, of_script}
+use Rattle.pgs_resolve.specs.Width.{first_too_wide}
 
 pub staff_resolved : resolution texts.staff_script ≡ Ok (staff (numbers.Node 0 ∷ numbers.Node 1 ∷ []))
 unfolding resolution block.hidden-the_row-Spec-0 hidden
@@ -132,10 +133,12 @@ unfolding tokens_of tokens_from item_at resolution
 from_texts_empty = of_refusal {tree = texts.script []} (is_script (omega arith) refl (record { statements = tt; places = refl })) refl
 
 pub from_texts_staff : IsSchemaOf texts.staff_text (schema (staff (numbers.Node 0 ∷ numbers.Node 1 ∷ [])))
-from_texts_staff = of_script found.staff_found staff_resolved
+unfolding first_too_wide block.hidden-the_row-Spec-0 hidden
+from_texts_staff = of_script found.staff_found staff_resolved refl
 
 pub from_texts_moderator : IsSchemaOf texts.moderator_text (schema (keyed (moderator ∷ [])))
-from_texts_moderator = of_script found.moderator_found moderator_resolved
+unfolding first_too_wide
+from_texts_moderator = of_script found.moderator_found moderator_resolved refl
 
 pub mail_resolved : resolution texts.mail_script ≡ Ok mail_schema
 unfolding resolution block.hidden-the_row-Spec-0 hidden
@@ -146,7 +149,24 @@ unfolding block.hidden-the_row-Spec-0 hidden
 mail_valid = refl
 
 pub from_texts_mail : IsSchemaOf texts.mail_text (schema mail_schema)
-from_texts_mail = of_script found.mail_found mail_resolved
+unfolding first_too_wide block.hidden-the_row-Spec-0 hidden
+from_texts_mail = of_script found.mail_found mail_resolved refl
 
 pub from_texts_no_mode : IsSchemaOf texts.no_mode_text (is_no_statement 1)
 from_texts_no_mode = of_statements no_mode_found
+
+pub widths_thirteen : first_too_wide (of_options 13) ≡ Some (codes "t")
+unfolding first_too_wide block.hidden-the_row-Spec-0 block.hidden-the_row-Spec-1 hidden
+widths_thirteen = refl
+
+pub widths_twelve : first_too_wide (of_options 12) ≡ None
+unfolding first_too_wide block.hidden-the_row-Spec-0 block.hidden-the_row-Spec-1 hidden
+widths_twelve = refl
+
+pub widths_one_type : first_too_wide (of_nodes (widest ∷ [])) ≡ None
+unfolding first_too_wide block.hidden-the_row-Spec-0 block.hidden-the_row-Spec-1 hidden
+widths_one_type = refl
+
+pub widths_one_more : first_too_wide (of_nodes (narrow (codes "q") 3 ∷ narrow (codes "p") 2 ∷ widest ∷ [])) ≡ Some (codes "p")
+unfolding first_too_wide block.hidden-the_row-Spec-0 block.hidden-the_row-Spec-1 hidden
+widths_one_more = refl

@@ -1,2 +1,8 @@
 pub mod Computed
+pub mod Firsts
+pub mod Members
 mod OneAnswer
+pub mod Parts
+pub mod Repeats
+pub mod Same
+pub mod Walks

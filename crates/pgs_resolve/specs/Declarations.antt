@@ -13,7 +13,7 @@ use Rattle.pgs_syntax.specs.declared.script.Statement.TheVariants.{Node, Edge, G
 use Rattle.pgs_syntax.specs.declared.specification.Property.{Property}
 use Rattle.pgs_syntax.specs.declared.specification.Spec as specs
 use Rattle.pgs_syntax.specs.declared.specification.Spec.{Spec, Empty, Word, OpenLabels, And', Or', Opt', Row_of-Spec, end_of-Spec, more_of-Spec}
-use Rattle.pgs_syntax.specs.Fitting.{same_name}
+use Rattle.pgs_base.specs.Pair.{same_name}
 
 -- the pieces of a specification that have no parts, in order
 abbrev mutual

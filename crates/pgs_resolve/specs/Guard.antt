@@ -10,7 +10,7 @@ use Rattle.pgs_syntax.specs.declared.script.GraphType.{GraphType}
 use Rattle.pgs_syntax.specs.declared.script.Member.{Member}
 use Rattle.pgs_syntax.specs.declared.script.Member.TheVariants as members
 use Rattle.pgs_syntax.specs.declared.script.Script.{Script}
-use Rattle.pgs_syntax.specs.Fitting.{same_name, has_label}
+use Rattle.pgs_base.specs.Pair.{same_name, has_name}
 use Rattle.pgs_resolve.specs.Declarations.{graphs_of, graph_named}
 use Rattle.pgs_resolve.specs.Order.{Numbering, number_in}
 use Rattle.pgs_resolve.specs.Patterns.{resolved_key}
@@ -26,7 +26,7 @@ last_of (type ∷ types) = Some (option_map_or (λ last. last) (last_of types) t
 abbrev pub walked : Script → ℕ → List (List ℕ) → List ℕ → List (List ℕ)
 walked script zero before name = before
 walked script (suc depth) before name =
-    if has_label name before then before else fold (walked script depth) before (imported_by script name) ++ name ∷ []
+    if has_name name before then before else fold (walked script depth) before (imported_by script name) ++ name ∷ []
 
 -- the graph types whose members count, in order
 abbrev pub walked_graphs : Script → List GraphType

@@ -5,7 +5,7 @@ use Rattle.std.specs.Option.{option_map_or}
 use Rattle.pgs_syntax.specs.declared.raw.RawExpr.{RawExpr}
 use Rattle.pgs_syntax.specs.declared.raw.RawKey.{RawKey}
 use Rattle.pgs_syntax.specs.declared.raw.RawPath.{RawPath}
-use Rattle.pgs_syntax.specs.Fitting.{same_name, has_label}
+use Rattle.pgs_base.specs.Pair.{same_name, has_name}
 use Rattle.pgs_syntax.specs.Valid.{is_connected}
 use Rattle.pgs_resolve.specs.declared.fault.KeyCause.{KeyCause}
 use Rattle.pgs_resolve.specs.declared.fault.KeyCause.TheVariants.{NoX, TwoKinds, Shared, Disconnected, UnknownVariable, TooLarge}
@@ -21,7 +21,7 @@ descriptor_names key x = option_map_or (λ paths. named_in (places_of paths)) ke
 
 -- whether the scope names no variable, or a written descriptor doesn't name its first one
 abbrev pub has_no_x : RawKey → Bool
-has_no_x key = not (option_map_or (λ x. has_label x (descriptor_names key x)) (x_of key) false)
+has_no_x key = not (option_map_or (λ x. has_name x (descriptor_names key x)) (x_of key) false)
 
 -- the edge places among places, and the node places
 abbrev pub edge_places : List Place → List Place
@@ -34,13 +34,13 @@ node_places places = filter (λ (place : Place). not place.is_edge) places
 abbrev pub has_two_kinds : RawKey → Bool
 has_two_kinds key =
     let places = places_of key.scope ++ places_of (within_of key) in
-    list_any (λ name. has_label name (named_in (node_places places))) (named_in (edge_places places))
+    list_any (λ name. has_name name (named_in (node_places places))) (named_in (edge_places places))
 
 -- whether another variable than x is named in scope and descriptor
 abbrev pub shares_more : RawKey → Bool
 shares_more key =
     let x = unwrap_or (x_of key) [] in
-    list_any (λ name. not (same_name x name) && has_label name (named_in (places_of (within_of key)))) (named_in (places_of key.scope))
+    list_any (λ name. not (same_name x name) && has_name name (named_in (places_of (within_of key)))) (named_in (places_of key.scope))
 
 -- whether the variables of the scope, or of the descriptor, aren't all linked by edges
 abbrev pub is_apart : RawKey → Bool
@@ -53,7 +53,7 @@ is_apart key =
 abbrev pub reads_unknown : RawKey → Bool
 reads_unknown key =
     let names = descriptor_names key (unwrap_or (x_of key) []) in
-    not (list_all (λ (expr : RawExpr). has_label expr.var names) key.exprs)
+    not (list_all (λ (expr : RawExpr). has_name expr.var names) key.exprs)
 
 -- whether paths are over 4, or have over 8 edge places
 abbrev pub are_too_large : List RawPath → Bool

@@ -7,3 +7,5 @@ pub mod Refused
 pub mod Resolution
 pub mod Samples
 pub mod SchemaOf
+pub mod Tables
+pub mod Width

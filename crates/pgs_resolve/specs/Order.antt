@@ -10,7 +10,7 @@ use Rattle.pgs_syntax.specs.declared.specification.Leaf.{Leaf}
 use Rattle.pgs_syntax.specs.declared.specification.Leaf.TheVariants.{Label, Named}
 use Rattle.pgs_syntax.specs.declared.specification.Spec as specs
 use Rattle.pgs_syntax.specs.declared.specification.Spec.{Spec, Empty, Word, OpenLabels, And', Or', Opt', Row_of-Spec, end_of-Spec, more_of-Spec}
-use Rattle.pgs_syntax.specs.Fitting.{same_name, has_label}
+use Rattle.pgs_base.specs.Pair.{same_name, has_name}
 use Rattle.pgs_resolve.specs.Declarations.{words_of, nodes_of, edges_of, node_named, edge_named, is_node_type, is_edge_type}
 
 -- a type to be listed: its name, its place, and the types of its kind that it names
@@ -21,7 +21,7 @@ pub record Entry : Type 0 where
 
 -- whether all types that it names are listed
 abbrev pub is_ready : List (List ℕ) → Entry → Bool
-is_ready listed entry = list_all (λ name. has_label name listed) entry.names
+is_ready listed entry = list_all (λ name. has_name name listed) entry.names
 
 -- the entry of the least place
 abbrev pub sooner : Entry → Entry → Entry

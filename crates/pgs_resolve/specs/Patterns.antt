@@ -16,7 +16,7 @@ use Rattle.pgs_syntax.specs.declared.raw.RawKey.{RawKey}
 use Rattle.pgs_syntax.specs.declared.raw.RawPath.{RawPath}
 use Rattle.pgs_syntax.specs.declared.raw.RawPlace.{RawPlace}
 use Rattle.pgs_syntax.specs.declared.raw.RawStep.{RawStep}
-use Rattle.pgs_syntax.specs.Fitting.{same_name}
+use Rattle.pgs_base.specs.Pair.{same_name}
 use Rattle.pgs_resolve.specs.Order.{Numbering, number_in}
 
 -- a place of paths, and whether it is an edge place

@@ -1,11 +1,13 @@
 -- Schemas of the samples.
-use Rattle.std.specs.Prelude.{true, false, [], ◌∷◌, codes}
+use Rattle.std.specs.Prelude.{ℕ, true, false, List, [], ◌∷◌, ◌++◌, replicate, codes}
 use Rattle.pgs_base.specs.declared.value.Kind.TheVariants as kinds
 use Rattle.pgs_syntax.specs.declared.pattern.Atom.TheVariants.{FitsNode}
 use Rattle.pgs_syntax.specs.declared.pattern.Expr.TheVariants.{Property}
 use Rattle.pgs_syntax.specs.declared.resolved.Resolved.{Resolved}
 use Rattle.pgs_syntax.specs.declared.resolved.TypeNo.TheVariants as numbers
-use Rattle.pgs_syntax.specs.declared.specification.Spec.{And}
+use Rattle.pgs_syntax.specs.declared.element_type.NodeType.{NodeType}
+use Rattle.pgs_syntax.specs.declared.specification.Leaf.{Leaf}
+use Rattle.pgs_syntax.specs.declared.specification.Spec.{Spec, And, Opt}
 use Rattle.pgs_resolve.specs.Order.{Numbering}
 use Rattle.pgs_syntax.specs.Samples.{label, type, node_type, braces, property, key, qualifiers, pattern}
 
@@ -33,3 +35,23 @@ mail_schema = record {
         (pattern (false ∷ []) []) ∷ [];
   };
 }
+
+-- the schema of node types alone
+abbrev pub of_nodes : List (NodeType Leaf) → Resolved
+of_nodes types = record { nodes = types; edges = []; guard = record { strict = false; types = []; keys = [] } }
+
+-- so many labels, each of them optional
+abbrev pub options : ℕ → List (Spec Leaf)
+options number = replicate number (Opt (label (codes "a")))
+
+-- (t: a? & a? & ..), of so many parts
+abbrev pub of_options : ℕ → Resolved
+of_options number = of_nodes (node_type (codes "t") 1 (And (options number)) ∷ [])
+
+-- a type as wide as all types may be together: 4,096 forms of 1,024 labels
+abbrev pub widest : NodeType Leaf
+widest = node_type (codes "widest") 1 (And (options 12 ++ replicate 1012 (label (codes "b"))))
+
+-- a type of one form and one label, at a place
+abbrev pub narrow : List ℕ → ℕ → NodeType Leaf
+narrow name place = node_type name place (label (codes "a"))

@@ -4,8 +4,14 @@
 //! are computed in `specs/Resolution.antt`. `specs/SchemaOf.antt` says what a text is, from its bytes to its schema.
 #![tactic(auto)]
 
+mod declarations;
+mod duplicates;
 mod fault;
+mod kinds;
 pub mod laws;
+mod names;
+mod pieces;
 pub mod samples;
+mod unknown;
 
 pub use fault::{KeyCause, ResolveFault};

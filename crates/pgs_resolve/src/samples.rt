@@ -12,8 +12,9 @@ ghost use Rattle.pgs_resolve.specs.KeyFaults.{cause_of};
 ghost use Rattle.pgs_resolve.specs.Order.{numbering_of};
 ghost use Rattle.pgs_resolve.specs.Patterns.{resolved_key};
 ghost use Rattle.pgs_resolve.specs.Resolution.{resolution, resolved};
-ghost use Rattle.pgs_resolve.specs.Samples.{acquaintance_schema, mail_schema, no_names};
+ghost use Rattle.pgs_resolve.specs.Samples.{acquaintance_schema, mail_schema, no_names, of_nodes, of_options, widest, narrow};
 ghost use Rattle.pgs_resolve.specs.SchemaOf.{IsSchemaOf, refused, schema, begins_no_item, is_no_statement};
+ghost use Rattle.pgs_resolve.specs.Width.{first_too_wide};
 ghost use Rattle.pgs_parser.specs.Samples as texts;
 
 /// Schemas of types alone.
@@ -66,6 +67,15 @@ pub fn causes()
     ensures of_16_expressions { cause_of 1 (texts.of_exprs 16) ≡ None }
     ensures too_late { cause_of 257 texts.linked ≡ Some TooLarge }
     ensures linked { cause_of 256 texts.linked ≡ None }
+{}
+
+/// Thirteen optional labels are too many, and twelve are not. Where all types together are too wide, the first by its place
+/// with which they are is named, wherever it is listed.
+pub fn widths()
+    ensures thirteen { first_too_wide (of_options 13) ≡ Some (codes "t") }
+    ensures twelve { first_too_wide (of_options 12) ≡ None }
+    ensures one_type { first_too_wide (of_nodes (widest ∷ [])) ≡ None }
+    ensures one_more { first_too_wide (of_nodes (narrow (codes "q") 3 ∷ narrow (codes "p") 2 ∷ widest ∷ [])) ≡ Some (codes "p") }
 {}
 
 /// Texts to the end: one with a byte that begins no item, the empty one, one whose statement is none, and three with their schemas.

@@ -5,6 +5,7 @@ use Rattle.std.specs.Option.{option_map_or}
 use Rattle.std.proofs.lemmas.Bool.{and_parts, or_cases, or_parts, not-true}
 use Rattle.pgs_base.specs.declared.row.NodeRow.{NodeRow}
 use Rattle.pgs_base.specs.declared.value.Value.{Value}
+use Rattle.pgs_base.specs.Pair.{same_name, value_at, pair_of}
 use Rattle.pgs_syntax.specs.declared.element_type.NodeType.{NodeType}
 use Rattle.pgs_syntax.specs.declared.element_type.EdgeType.{EdgeType}
 use Rattle.pgs_syntax.specs.declared.resolved.Resolved.{Resolved}
@@ -14,8 +15,8 @@ use Rattle.pgs_syntax.specs.declared.specification.Leaf.TheVariants.{Label, Name
 use Rattle.pgs_syntax.specs.declared.specification.Spec as specs
 use Rattle.pgs_syntax.specs.declared.specification.Spec.{Spec, Empty, Word, OpenLabels, And', Or', Opt', Row_of-Spec, end_of-Spec, more_of-Spec}
 use Rattle.pgs_syntax.specs.Closed.{some_braces, some_braces_of, some_below, has_more, names, is_closed, names_key}
-use Rattle.pgs_syntax.specs.Fitting.{suits, suits_each, suits_some, same_name, value_at, is_named_by, fits, fits_node, fits_below, fits_edge_type, fits_edge_below, has_ends_of}
-use Rattle.pgs_syntax.specs.Join.{is_empty, is_empty_pair, pair_of, halves, Triple, Joins, of_pairs, of_triples, joined}
+use Rattle.pgs_syntax.specs.Fitting.{suits, suits_each, suits_some, is_named_by, fits, fits_node, fits_below, fits_edge_type, fits_edge_below, has_ends_of}
+use Rattle.pgs_syntax.specs.Join.{is_empty, is_empty_pair, halves, Triple, Joins, of_pairs, of_triples, joined}
 use Rattle.pgs_syntax.proofs.Edges.{any_triple_halves}
 use Rattle.pgs_syntax.proofs.Halves.{any_halves, joined_any}
 use Rattle.pgs_syntax.proofs.Parts.{absent_unnamed}

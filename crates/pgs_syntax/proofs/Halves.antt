@@ -2,10 +2,11 @@
 use Rattle.std.proofs.Common.{◌≡◌, ℕ, Bool, true, false, ◌&&◌, ◌||◌, List, [], ◌∷◌, map, filter, flat_map, refl, sym, ◌∙◌, ap, cond}
 use Rattle.std.specs.List.{list_any}
 use Rattle.std.proofs.lemmas.List.Folds.{list_any-append}
-use Rattle.std.proofs.Math.Bool.{or-false, and_comm}
+use Rattle.std.proofs.Math.Bool.{or-false}
 use Rattle.pgs_base.specs.declared.row.NodeRow.{NodeRow}
 use Rattle.pgs_base.specs.declared.value.Value.{Value}
-use Rattle.pgs_syntax.specs.Join.{is_empty, ways, splits, pair_of, halves, is_empty_pair, Joins, of_pairs, joined}
+use Rattle.pgs_base.specs.Pair.{pair_of}
+use Rattle.pgs_syntax.specs.Join.{is_empty, ways, splits, halves, is_empty_pair, Joins, joined}
 
 -- ---- tests of lists
 
@@ -115,15 +116,3 @@ joined_same {P} joins f g h k first second p =
     joined_any joins f g p
     ∙ any_same _ (λ (s : P × P). k s.1 && h s.0) (λ (s : P × P). let a = first s.0 in let b = second s.1 in cc) (joins.halves_of p)
     ∙ sym (joined_any joins h k p)
-
--- the two tests of a join may change places
-pub pairs_swap : (f g : NodeRow → Bool) (p : NodeRow) → joined of_pairs f g p ≡ joined of_pairs g f p
-pairs_swap f g p =
-    joined_any of_pairs f g p
-    ∙ halves_swap _ p
-    ∙ any_same _ _ (λ (s : NodeRow × NodeRow). and_comm (g s.0) (f s.1)) (halves p)
-    ∙ sym (joined_any of_pairs g f p)
-
--- the join with the empty pair
-pub pairs_whole : (f : NodeRow → Bool) (p : NodeRow) → joined of_pairs f is_empty_pair p ≡ f p
-pairs_whole f p = joined_any of_pairs f is_empty_pair p ∙ halves_whole f p

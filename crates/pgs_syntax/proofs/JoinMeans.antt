@@ -13,14 +13,14 @@ use Rattle.std.proofs.lemmas.Map.Lookups.{exact_bytes}
 use Rattle.std.proofs.lemmas.Map.Views.{any-filter_same}
 use Rattle.pgs_base.specs.declared.row.NodeRow.{NodeRow}
 use Rattle.pgs_base.specs.declared.value.Value.{Value}
-use Rattle.pgs_base.specs.Graph.{ascends}
+use Rattle.pgs_base.specs.Order.{ascends}
 use Rattle.pgs_base.specs.Name.{is_name}
+use Rattle.pgs_base.specs.Pair.{same_name, has_name, value_at, pair_of, are_names, is_pair}
 use Rattle.pgs_base.specs.Value.{is_value}
 use Rattle.pgs_base.proofs.Ascending.{ascends_decides}
 use Rattle.pgs_base.proofs.Lookups.{same_entries, same_keys}
-use Rattle.pgs_syntax.specs.Join.{pair_of, halves, of_pairs, joined, joined_all}
-use Rattle.pgs_syntax.specs.Fitting.{same_name, has_label, value_at}
-use Rattle.pgs_syntax.specs.Meaning.{are_names, is_pair, IsUnionAt, IsJoinWhere, IsJoinOf, IsJoinOfAll}
+use Rattle.pgs_syntax.specs.Join.{halves, of_pairs, joined, joined_all}
+use Rattle.pgs_syntax.specs.Meaning.{IsUnionAt, IsJoinWhere, IsJoinOf, IsJoinOfAll}
 use Rattle.pgs_syntax.proofs.Halves.{joined_any, any_halves}
 use Rattle.pgs_syntax.proofs.Parts.{one_name}
 use Rattle.pgs_syntax.proofs.Splits.{IsSplit, none, to_left, to_right, to_both, split_from_any, any_from_split, split_any, split_all, split_ascends, split_map}
@@ -108,11 +108,11 @@ or_second : (a b : Bool) → b ≡ true → (a || b) ≡ true
 or_second true b h = refl
 or_second false b h = h
 
-all_labels : (t : List ℕ → Bool) (labels : Names) → ((x : List ℕ) → has_label x labels ≡ true → t x ≡ true) → list_all t labels ≡ true
+all_labels : (t : List ℕ → Bool) (labels : Names) → ((x : List ℕ) → has_name x labels ≡ true → t x ≡ true) → list_all t labels ≡ true
 all_labels t [] h = refl
 all_labels t (label ∷ labels) h =
-    and_from _ _ (h label (ap (λ b. b || has_label label labels) (own_name label)))
-    (all_labels t labels (λ x there. h x (or_second (same_name x label) (has_label x labels) there)))
+    and_from _ _ (h label (ap (λ b. b || has_name label labels) (own_name label)))
+    (all_labels t labels (λ x there. h x (or_second (same_name x label) (has_name x labels) there)))
 
 absorb_left : (a b : Bool) → (a && (a || b)) ≡ a
 absorb_left true b = refl
@@ -124,11 +124,11 @@ absorb_right a false = refl
 
 module _ (part labels : Names) where
   abbrev in_part : List ℕ → Bool
-  in_part x = has_label x part
+  in_part x = has_name x part
 
   -- the labels of a part, picked from the whole
   picked_labels : ascends (slice_cmp nat_cmp) part ≡ true → ascends (slice_cmp nat_cmp) labels ≡ true →
-      ((label : List ℕ) → (in_part label && has_label label labels) ≡ in_part label) → filter in_part labels ≡ part
+      ((label : List ℕ) → (in_part label && has_name label labels) ≡ in_part label) → filter in_part labels ≡ part
   picked_labels first second all =
       same_keys nat_list_cmp_total exact_bytes (filter in_part labels) part
       (IsStrictlySortedBy-filter (slice_cmp nat_cmp) in_part labels ((ascends_decides (slice_cmp nat_cmp) labels).0 second))
@@ -136,13 +136,13 @@ module _ (part labels : Names) where
       (λ q. any-filter_same (same_name q) in_part (in_part q) (λ k same. ap in_part (sym (one_name q k same))) labels ∙ all q)
 
 pub labels_split : (l r labels : Names) → ascends (slice_cmp nat_cmp) l ≡ true → ascends (slice_cmp nat_cmp) r ≡ true → ascends (slice_cmp nat_cmp) labels ≡ true →
-    ((label : List ℕ) → has_label label labels ≡ (has_label label l || has_label label r)) → IsSplit l r labels
+    ((label : List ℕ) → has_name label labels ≡ (has_name label l || has_name label r)) → IsSplit l r labels
 labels_split l r labels left right whole together =
-    let all : list_all (λ x. has_label x l || has_label x r) labels ≡ true = all_labels _ labels (λ x there. sym (together x) ∙ there) in
+    let all : list_all (λ x. has_name x l || has_name x r) labels ≡ true = all_labels _ labels (λ x there. sym (together x) ∙ there) in
     let first : filter (in_part l labels) labels ≡ l =
-    picked_labels l labels left whole (λ q. ap (λ b. has_label q l && b) (together q) ∙ absorb_left (has_label q l) (has_label q r)) in
+    picked_labels l labels left whole (λ q. ap (λ b. has_name q l && b) (together q) ∙ absorb_left (has_name q l) (has_name q r)) in
     let second : filter (in_part r labels) labels ≡ r =
-    picked_labels r labels right whole (λ q. ap (λ b. has_label q r && b) (together q) ∙ absorb_right (has_label q l) (has_label q r)) in
+    picked_labels r labels right whole (λ q. ap (λ b. has_name q r && b) (together q) ∙ absorb_right (has_name q l) (has_name q r)) in
     subst (λ (s : Names). IsSplit s r labels) first
     (subst (λ (s : Names). IsSplit (filter (in_part l labels) labels) s labels) second (picked (in_part l labels) (in_part r labels) labels all))
 
@@ -212,10 +212,10 @@ values_split l r entries left right whole together =
 -- ---- joins
 
 labels_ascend : (p : NodeRow) → is_pair p ≡ true → ascends (slice_cmp nat_cmp) p.labels ≡ true
-labels_ascend p pair = (and_parts _ _ (and_parts _ _ (and_parts _ _ pair).0).0).0
+labels_ascend p pair = (and_parts _ _ (and_parts _ _ pair).0).0
 
 keys_ascend : (p : NodeRow) → is_pair p ≡ true → ascends (slice_cmp nat_cmp) (keys_of p.props) ≡ true
-keys_ascend p pair = (and_parts _ _ (and_parts _ _ (and_parts _ _ pair).0).1).0
+keys_ascend p pair = (and_parts _ _ (and_parts _ _ (and_parts _ _ pair).1).0).0
 
 split_names : (l r names : Names) → IsSplit l r names → are_names names ≡ true → (are_names l ≡ true) × (are_names r ≡ true)
 split_names l r names split h =
@@ -230,15 +230,15 @@ halves_found c p pair h =
     let labels = split_from_any _ p.labels (sym (any_halves c p) ∙ h) in
     let props = split_from_any _ p.props labels.3 in
     let parts = and_parts _ _ pair in
-    let names = and_parts _ _ parts.0 in
-    let by_label = split_names labels.0 labels.1 p.labels labels.2 names.0 in
+    let values = and_parts _ _ parts.1 in
+    let by_label = split_names labels.0 labels.1 p.labels labels.2 parts.0 in
     let by_key = split_names (keys_of props.0) (keys_of props.1) (keys_of p.props)
-    (split_map (λ (e : List ℕ × Value). e.0) props.0 props.1 p.props props.2) names.1 in
-    let by_value = split_all (λ (e : List ℕ × Value). is_value e.1) props.0 props.1 p.props props.2 parts.1 in (
+    (split_map (λ (e : List ℕ × Value). e.0) props.0 props.1 p.props props.2) values.0 in
+    let by_value = split_all (λ (e : List ℕ × Value). is_value e.1) props.0 props.1 p.props props.2 values.1 in (
       pair_of labels.0 props.0,
       pair_of labels.1 props.1,
-      and_from _ _ (and_from _ _ by_label.0 by_key.0) by_value.0,
-      and_from _ _ (and_from _ _ by_label.1 by_key.1) by_value.1,
+      and_from _ _ by_label.0 (and_from _ _ by_key.0 by_value.0),
+      and_from _ _ by_label.1 (and_from _ _ by_key.1 by_value.1),
       record {
         labels = λ label. split_any (same_name label) labels.0 labels.1 p.labels labels.2;
         values = λ key. split_values key props.0 props.1 p.props props.2 (keys_ascend p pair);

@@ -1,11 +1,14 @@
+pub mod AnyOrder
 pub mod Assigned
 pub mod Closed
-pub mod Computed
 pub mod Connected
 pub mod Edges
 pub mod Halves
+pub mod InOrder
 pub mod JoinMeans
+pub mod Members
 pub mod Named
 pub mod Parts
 pub mod Specs
 pub mod Splits
+pub mod TriplesMean

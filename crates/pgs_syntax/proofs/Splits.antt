@@ -3,7 +3,7 @@ use Rattle.std.proofs.Common.{◌≡◌, Bool, true, false, ◌||◌, ⊎_elim, 
 use Rattle.std.specs.List.{list_any, list_all}
 use Rattle.std.proofs.Math.Bool.{or-false}
 use Rattle.std.proofs.lemmas.Bool.{or_cases, and_parts, and_from}
-use Rattle.pgs_base.specs.Graph.{ascends}
+use Rattle.pgs_base.specs.Order.{ascends}
 use Rattle.pgs_syntax.specs.Join.{ways, splits}
 use Rattle.pgs_syntax.proofs.Halves.{any_flat_map, swap_first}
 

@@ -1,7 +1,6 @@
 -- Which keys the braces of a specification name, and whether some of them have OPEN. A named type counts with its own braces,
 -- and so do the types that it names.
-use Rattle.std.specs.Prelude.{ℕ, zero, suc, Bool, true, false, ◌||◌, ◌==◌, not, List, length, slice_get}
-use Rattle.std.specs.Option.{option_map_or}
+use Rattle.std.specs.Prelude.{ℕ, Bool, false, ◌||◌, not, List, length}
 use Rattle.pgs_syntax.specs.declared.element_type.NodeType.{NodeType}
 use Rattle.pgs_syntax.specs.declared.element_type.EdgeType.{EdgeType}
 use Rattle.pgs_syntax.specs.declared.resolved.Resolved.{Resolved}
@@ -11,6 +10,7 @@ use Rattle.pgs_syntax.specs.declared.specification.Leaf.TheVariants.{Named}
 use Rattle.pgs_syntax.specs.declared.specification.Spec as specs
 use Rattle.pgs_syntax.specs.declared.specification.Spec.{Spec, Word, And', Or', Opt', Row_of-Spec, end_of-Spec, more_of-Spec}
 use Rattle.pgs_syntax.specs.Fitting.{is_named_by}
+use Rattle.pgs_syntax.specs.Numbered.{passes_below}
 
 -- Whether some braces in a specification pass a test. Whether some in a named type do is given.
 module _ (test : Braces → Bool) (named : ℕ → Bool) where
@@ -27,15 +27,13 @@ module _ (test : Braces → Bool) (named : ℕ → Bool) where
     some_braces_of end_of-Spec = false
     some_braces_of (more_of-Spec part parts) = some_braces part || some_braces_of parts
 
--- Whether some braces in the type of a number below a bound pass a test, where each type has one specification. A type names
--- types of lesser numbers alone.
+-- whether some braces in a type of one specification pass a test, where it is known in which types of its numbers some do
+abbrev pub some_in_type : {T : Type 0} → (T → Spec Leaf) → (ℕ → (Braces → Bool) → Bool) → T → (Braces → Bool) → Bool
+some_in_type spec_of named type test = some_braces test (λ number. named number test) (spec_of type)
+
+-- whether some braces in the type of a number below a bound pass a test
 abbrev pub some_below : {T : Type 0} → (Braces → Bool) → (T → Spec Leaf) → List T → ℕ → ℕ → Bool
-some_below test spec_of types zero number = false
-some_below {T} test spec_of types (suc bound) number =
-    elim (number == bound) [
-      | true ↦ option_map_or (λ (type : T). some_braces test (some_below test spec_of types bound) (spec_of type)) (slice_get types bound) false
-      | false ↦ some_below test spec_of types bound number
-    ]
+some_below test spec_of types bound number = passes_below (some_in_type spec_of) types bound number test
 
 -- whether some braces in a specification of nodes pass a test, and in one of the middle of edges
 abbrev pub some_of_nodes : Resolved → (Braces → Bool) → Spec Leaf → Bool

@@ -1,16 +1,11 @@
 -- Which pairs fit a specification, and which triples of pairs an edge type.
-use Rattle.std.specs.Prelude.{ℕ, zero, suc, Bool, true, false, ◌&&◌, ◌||◌, ◌==◌, List, Option, length, slice_get}
-use Rattle.std.specs.Ordering.{nat_cmp}
-use Rattle.std.specs.Cmp.Lexicographic.{slice_cmp}
+use Rattle.std.specs.Prelude.{ℕ, Bool, false, ◌&&◌, ◌||◌, List, length}
 use Rattle.std.specs.List.{list_any, list_all}
-use Rattle.std.specs.BTreeMap.{is_at}
-use Rattle.std.specs.Map.{lookup}
 use Rattle.std.specs.Option.{option_map_or}
 use Rattle.pgs_base.specs.declared.row.NodeRow.{NodeRow}
-use Rattle.pgs_base.specs.declared.value.Kind.{Kind}
-use Rattle.pgs_base.specs.declared.value.Kind.TheVariants as kinds
 use Rattle.pgs_base.specs.declared.value.Value.{Value}
-use Rattle.pgs_base.specs.declared.value.Value.TheVariants as values
+use Rattle.pgs_base.specs.Pair.{same_name, has_name, value_at}
+use Rattle.pgs_base.specs.Value.{is_of_kind}
 use Rattle.pgs_syntax.specs.declared.element_type.NodeType.{NodeType}
 use Rattle.pgs_syntax.specs.declared.element_type.EdgeType.{EdgeType}
 use Rattle.pgs_syntax.specs.declared.resolved.Resolved.{Resolved}
@@ -21,30 +16,11 @@ use Rattle.pgs_syntax.specs.declared.specification.Property.{Property}
 use Rattle.pgs_syntax.specs.declared.specification.Spec as specs
 use Rattle.pgs_syntax.specs.declared.specification.Spec.{Spec, Empty, Word, OpenLabels, And', Or', Opt', Row_of-Spec, end_of-Spec, more_of-Spec}
 use Rattle.pgs_syntax.specs.Join.{Joins, of_pairs, of_triples, joined, Triple, is_empty, is_empty_pair}
-
--- whether two names are one
-abbrev pub same_name : List ℕ → List ℕ → Bool
-same_name a b = is_at (slice_cmp nat_cmp a) b
-
--- whether a label is among the labels
-abbrev pub has_label : List ℕ → List (List ℕ) → Bool
-has_label label labels = list_any (same_name label) labels
-
--- the value of a key, where it is present
-abbrev pub value_at : List ℕ → List (List ℕ × Value) → Option Value
-value_at key props = lookup (same_name key) props
-
--- whether a value is of a kind
-abbrev pub is_of_kind : Kind → Value → Bool
-is_of_kind kinds.Text (values.Text text) = true
-is_of_kind kinds.Int (values.Int number) = true
-is_of_kind kinds.Bool (values.Bool truth) = true
-is_of_kind kinds.Date (values.Date day) = true
-is_of_kind _ _ = false
+use Rattle.pgs_syntax.specs.Numbered.{passes_below}
 
 -- whether a pair has exactly this label, and no properties
 abbrev pub is_only : List ℕ → NodeRow → Bool
-is_only label p = has_label label p.labels && list_all (same_name label) p.labels && is_empty p.props
+is_only label p = has_name label p.labels && list_all (same_name label) p.labels && is_empty p.props
 
 -- whether a property is present with a value of its kind, or optional and absent
 abbrev pub is_met : List (List ℕ × Value) → Property → Bool
@@ -83,14 +59,13 @@ module _ {P : Type 0} (joins : Joins P) (named : ℕ → P → Bool) where
     suits_some end_of-Spec p = false
     suits_some (more_of-Spec part parts) p = suits part p || suits_some parts p
 
--- Whether a pair fits the node type of a number below a bound. A type names types of lesser numbers alone.
+-- whether a pair fits a node type, where it is known which pairs fit the types of its numbers
+abbrev pub fits_node_type : (ℕ → NodeRow → Bool) → NodeType Leaf → NodeRow → Bool
+fits_node_type named type p = suits of_pairs named type.spec p
+
+-- whether a pair fits the node type of a number below a bound
 abbrev pub fits_below : List (NodeType Leaf) → ℕ → ℕ → NodeRow → Bool
-fits_below types zero number p = false
-fits_below types (suc bound) number p =
-    elim (number == bound) [
-      | true ↦ option_map_or (λ (type : NodeType Leaf). suits of_pairs (fits_below types bound) type.spec p) (slice_get types bound) false
-      | false ↦ fits_below types bound number p
-    ]
+fits_below types = passes_below fits_node_type types
 
 -- whether a pair fits the node type of a number
 abbrev pub fits_node : Resolved → ℕ → NodeRow → Bool
@@ -111,14 +86,9 @@ abbrev pub fits_edge_type : Resolved → (ℕ → Triple → Bool) → EdgeType 
 fits_edge_type resolved named type t =
     joined of_triples (has_ends_of resolved type) (suits of_triples named type.middle) t
 
--- Whether a triple fits the edge type of a number below a bound. A middle names edge types of lesser numbers alone.
+-- whether a triple fits the edge type of a number below a bound
 abbrev pub fits_edge_below : Resolved → ℕ → ℕ → Triple → Bool
-fits_edge_below resolved zero number t = false
-fits_edge_below resolved (suc bound) number t =
-    elim (number == bound) [
-      | true ↦ option_map_or (λ (type : EdgeType Leaf). fits_edge_type resolved (fits_edge_below resolved bound) type t) (slice_get resolved.edges bound) false
-      | false ↦ fits_edge_below resolved bound number t
-    ]
+fits_edge_below resolved = passes_below (fits_edge_type resolved) resolved.edges
 
 -- whether a triple fits the edge type of a number
 abbrev pub fits_edge : Resolved → ℕ → Triple → Bool

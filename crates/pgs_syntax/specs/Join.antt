@@ -5,6 +5,7 @@ use Rattle.std.specs.Prelude.{ℕ, Bool, true, false, ◌&&◌, List, [], ◌∷
 use Rattle.std.specs.List.{list_any}
 use Rattle.pgs_base.specs.declared.row.NodeRow.{NodeRow}
 use Rattle.pgs_base.specs.declared.value.Value.{Value}
+use Rattle.pgs_base.specs.Pair.{pair_of}
 
 -- whether a list has no items
 abbrev pub is_empty : {X : Type 0} → List X → Bool
@@ -20,16 +21,17 @@ abbrev pub splits : {X : Type 0} → List X → List (List X × List X)
 splits [] = ([], []) ∷ []
 splits (x ∷ xs) = flat_map (ways x) (splits xs)
 
--- the pair of these labels and properties
-abbrev pub pair_of : List (List ℕ) → List (List ℕ × Value) → NodeRow
-pair_of labels props = record { labels = labels; props = props }
+-- each of some with each of others, put together
+abbrev pub each_with_each : {X Y Z : Type 0} → (X → Y → Z) → List X → List Y → List Z
+each_with_each f xs ys = flat_map (λ x. map (f x) ys) xs
+
+-- two pairs, of two parts of labels and two parts of properties
+abbrev pub two_pairs : List (List ℕ) × List (List ℕ) → List (List ℕ × Value) × List (List ℕ × Value) → NodeRow × NodeRow
+two_pairs labels props = (pair_of labels.0 props.0, pair_of labels.1 props.1)
 
 -- the couples of pairs whose join is the pair
 abbrev pub halves : NodeRow → List (NodeRow × NodeRow)
-halves p =
-    flat_map (λ (l : List (List ℕ) × List (List ℕ)).
-    map (λ (k : List (List ℕ × Value) × List (List ℕ × Value)). (pair_of l.0 k.0, pair_of l.1 k.1)) (splits p.props))
-    (splits p.labels)
+halves p = each_with_each two_pairs (splits p.labels) (splits p.props)
 
 -- a triple of pairs: of an edge's source, of the edge itself, and of its target
 pub record Triple : Type 0 where
@@ -37,12 +39,15 @@ pub record Triple : Type 0 where
   pub own : NodeRow
   pub target : NodeRow
 
+-- two triples, of two pairs at each place
+abbrev pub two_triples : NodeRow × NodeRow → NodeRow × NodeRow → NodeRow × NodeRow → Triple × Triple
+two_triples source own target =
+    (record { source = source.0; own = own.0; target = target.0 }, record { source = source.1; own = own.1; target = target.1 })
+
 -- the couples of triples whose join, pair by pair, is the triple
 abbrev pub triple_halves : Triple → List (Triple × Triple)
 triple_halves t =
-    flat_map (λ (s : NodeRow × NodeRow). flat_map (λ (m : NodeRow × NodeRow). map (λ (e : NodeRow × NodeRow).
-    (record { source = s.0; own = m.0; target = e.0 }, record { source = s.1; own = m.1; target = e.1 }))
-    (halves t.target)) (halves t.own)) (halves t.source)
+    flat_map (λ source. each_with_each (two_triples source) (halves t.own) (halves t.target)) (halves t.source)
 
 -- a pair without labels and properties
 abbrev pub is_empty_pair : NodeRow → Bool

@@ -9,11 +9,11 @@ use Rattle.pgs_base.specs.declared.part.Part.TheVariants as parts
 use Rattle.pgs_base.specs.declared.row.NodeRow.{NodeRow}
 use Rattle.pgs_base.specs.Graph.{Graph}
 use Rattle.pgs_base.specs.Order.{tuple_cmp}
+use Rattle.pgs_base.specs.Pair.{value_at}
 use Rattle.pgs_syntax.specs.declared.key.Key.{Key}
 use Rattle.pgs_syntax.specs.declared.pattern.Expr.{Expr}
 use Rattle.pgs_syntax.specs.declared.pattern.Expr.TheVariants.{Element, Property}
 use Rattle.pgs_syntax.specs.declared.resolved.Resolved.{Resolved}
-use Rattle.pgs_syntax.specs.Fitting.{value_at}
 use Rattle.pgs_syntax.specs.Matches.{same_elem, carried, elements, matches}
 
 -- whether elements begin with an element, that of variable 0

@@ -3,9 +3,13 @@ pub mod Fitting
 pub mod Join
 pub mod KeySamples
 pub mod KeyValues
+pub mod Least
 pub mod Linked
+pub mod MatchSamples
 pub mod Matches
 pub mod Meaning
+pub mod Numbered
 pub mod Samples
+pub mod Triples
 pub mod Typed
 pub mod Valid

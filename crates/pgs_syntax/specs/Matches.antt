@@ -1,6 +1,6 @@
 -- Matches of a pattern in a graph: an element for each variable, so that all that the pattern demands holds. Two variables
 -- may take the same element.
-use Rattle.std.specs.Prelude.{ℕ, Bool, true, false, ◌&&◌, ◌==◌, List, [], ◌∷◌, Option, Some, map, flat_map, filter, slice_get, option_map, option_and_then}
+use Rattle.std.specs.Prelude.{ℕ, Bool, true, false, ◌&&◌, ◌==◌, List, [], ◌∷◌, Option, Some, map, filter, slice_get, option_map, option_and_then}
 use Rattle.std.specs.Ordering.{is_eq}
 use Rattle.std.specs.Option.{option_map_or}
 use Rattle.std.specs.List.{list_any, list_all}
@@ -13,12 +13,13 @@ use Rattle.pgs_base.specs.declared.row.EdgeRow.{EdgeRow}
 use Rattle.pgs_base.specs.declared.value.Value.{Value}
 use Rattle.pgs_base.specs.Graph.{Graph, node_at, edge_at}
 use Rattle.pgs_base.specs.Order.{value_cmp, elem_cmp}
+use Rattle.pgs_base.specs.Pair.{has_name, value_at, pair_of}
 use Rattle.pgs_syntax.specs.declared.pattern.Atom.{Atom}
 use Rattle.pgs_syntax.specs.declared.pattern.Atom.TheVariants.{Ends, HasLabel, FitsNode, FitsEdge, Equals}
 use Rattle.pgs_syntax.specs.declared.pattern.Pattern.{Pattern}
 use Rattle.pgs_syntax.specs.declared.resolved.Resolved.{Resolved}
-use Rattle.pgs_syntax.specs.Join.{pair_of}
-use Rattle.pgs_syntax.specs.Fitting.{has_label, value_at, fits_node, fits_edge}
+use Rattle.pgs_syntax.specs.Join.{each_with_each}
+use Rattle.pgs_syntax.specs.Fitting.{fits_node, fits_edge}
 use Rattle.pgs_syntax.specs.Typed.{triple_at}
 
 -- whether two elements, and two values, are one
@@ -57,7 +58,7 @@ carries g elems var test = option_map_or test (option_and_then (carried g) (slic
 abbrev pub holds : Resolved → Graph → List Elem → Atom → Bool
 holds resolved g elems (Ends edge source target) =
     leads g (slice_get elems edge) (slice_get elems source) (slice_get elems target)
-holds resolved g elems (HasLabel var label) = carries g elems var (λ own. has_label label own.labels)
+holds resolved g elems (HasLabel var label) = carries g elems var (λ own. has_name label own.labels)
 holds resolved g elems (FitsNode var number) =
     option_map_or (is_node_of_type resolved g number) (slice_get elems var) false
 holds resolved g elems (FitsEdge var number) =
@@ -74,7 +75,7 @@ elements g false = map (λ (node : NodeId × NodeRow). Node node.0) g.nodes
 abbrev pub assignments : Graph → List Bool → List (List Elem)
 assignments g [] = [] ∷ []
 assignments g (is_edge ∷ edge_vars) =
-    flat_map (λ elem. map (λ elems. elem ∷ elems) (assignments g edge_vars)) (elements g is_edge)
+    each_with_each (λ elem elems. elem ∷ elems) (elements g is_edge) (assignments g edge_vars)
 
 -- whether each variable has an element of the graph, of its kind
 abbrev pub are_there : Graph → List Bool → List Elem → Bool

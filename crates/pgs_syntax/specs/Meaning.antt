@@ -1,26 +1,9 @@
--- What a pair is, and what a join is in other words: of each label and of each key.
-use Rattle.std.specs.Prelude.{◌≡◌, ℕ, Bool, true, ◌&&◌, ◌||◌, List, [], ◌∷◌, Option, Some, None}
-use Rattle.std.specs.List.{list_all}
-use Rattle.std.specs.Ordering.{nat_cmp}
-use Rattle.std.specs.Cmp.Lexicographic.{slice_cmp}
-use Rattle.std.specs.Map.{keys_of}
+-- What a join is in other words: of each label and of each key.
+use Rattle.std.specs.Prelude.{◌≡◌, ℕ, Bool, true, ◌||◌, List, [], ◌∷◌, Option, Some, None}
 use Rattle.pgs_base.specs.declared.row.NodeRow.{NodeRow}
 use Rattle.pgs_base.specs.declared.value.Value.{Value}
-use Rattle.pgs_base.specs.Graph.{ascends}
-use Rattle.pgs_base.specs.Name.{is_name}
-use Rattle.pgs_base.specs.Value.{is_value}
+use Rattle.pgs_base.specs.Pair.{has_name, value_at, is_pair}
 use Rattle.pgs_syntax.specs.Join.{is_empty_pair, Triple}
-use Rattle.pgs_syntax.specs.Fitting.{has_label, value_at}
-
--- whether labels, or keys, are those of a pair: they ascend strictly, and each is a name
-abbrev pub are_names : List (List ℕ) → Bool
-are_names names = ascends (slice_cmp nat_cmp) names && list_all is_name names
-
--- whether a row is a pair, as an element can carry it: its labels and its keys are such names, and its values are values
-abbrev pub is_pair : NodeRow → Bool
-is_pair p =
-    are_names p.labels && are_names (keys_of p.props)
-    && list_all (λ (entry : List ℕ × Value). is_value entry.1) p.props
 
 -- what two maps have at a key together: they agree where both have a value
 abbrev pub IsUnionAt : Option Value → Option Value → Option Value → Type 0
@@ -31,7 +14,7 @@ IsUnionAt (Some v) (Some w) whole = (v ≡ w) × (whole ≡ Some v)
 
 -- a pair is the join of two: it has the labels of both, their maps agree on shared keys, and it has the values of both
 pub record IsJoin (first second p : NodeRow) : Type 0 where
-  pub labels : (label : List ℕ) → has_label label p.labels ≡ (has_label label first.labels || has_label label second.labels)
+  pub labels : (label : List ℕ) → has_name label p.labels ≡ (has_name label first.labels || has_name label second.labels)
   pub values : (key : List ℕ) → IsUnionAt (value_at key first.props) (value_at key second.props) (value_at key p.props)
 
 -- there are two pairs whose join is the pair and which together pass a test

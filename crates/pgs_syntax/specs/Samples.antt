@@ -9,6 +9,7 @@ use Rattle.pgs_base.specs.declared.value.Kind.TheVariants as kinds
 use Rattle.pgs_base.specs.declared.value.Value.{Value}
 use Rattle.pgs_base.specs.declared.value.Value.TheVariants as values
 use Rattle.pgs_base.specs.Graph.{Graph}
+use Rattle.pgs_base.specs.Pair.{pair_of}
 use Rattle.pgs_syntax.specs.declared.element_type.NodeType.{NodeType}
 use Rattle.pgs_syntax.specs.declared.element_type.EdgeType.{EdgeType}
 use Rattle.pgs_syntax.specs.declared.key.Key.{Key}
@@ -26,7 +27,6 @@ use Rattle.pgs_syntax.specs.declared.specification.Leaf.TheVariants.{Label, Name
 use Rattle.pgs_syntax.specs.declared.specification.Property.{Property}
 use Rattle.pgs_syntax.specs.declared.specification.Spec as specs
 use Rattle.pgs_syntax.specs.declared.specification.Spec.{Spec, Empty, Word, OpenLabels, And, Or, Opt}
-use Rattle.pgs_syntax.specs.Join.{pair_of}
 
 -- a label, a named type, and braces without and with OPEN
 abbrev pub label : List ℕ → Spec Leaf

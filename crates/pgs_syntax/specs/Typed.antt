@@ -5,13 +5,14 @@ use Rattle.std.specs.List.{list_any}
 use Rattle.pgs_base.specs.declared.row.NodeRow.{NodeRow}
 use Rattle.pgs_base.specs.declared.row.EdgeRow.{EdgeRow}
 use Rattle.pgs_base.specs.Graph.{Graph, node_at}
+use Rattle.pgs_base.specs.Pair.{pair_of}
 use Rattle.pgs_syntax.specs.declared.element_type.NodeType.{NodeType}
 use Rattle.pgs_syntax.specs.declared.element_type.EdgeType.{EdgeType}
 use Rattle.pgs_syntax.specs.declared.resolved.Resolved.{Resolved}
 use Rattle.pgs_syntax.specs.declared.resolved.TypeNo.{TypeNo}
 use Rattle.pgs_syntax.specs.declared.resolved.TypeNo.TheVariants.{Node, Edge}
 use Rattle.pgs_syntax.specs.declared.specification.Leaf.{Leaf}
-use Rattle.pgs_syntax.specs.Join.{Triple, pair_of}
+use Rattle.pgs_syntax.specs.Join.{Triple}
 use Rattle.pgs_syntax.specs.Fitting.{fits_node, fits_edge}
 
 -- whether a node type, and an edge type, is there and isn't abstract
@@ -32,12 +33,12 @@ types_edge resolved t (Node number) = false
 types_edge resolved t (Edge number) = is_concrete_edge_type resolved number && fits_edge resolved number t
 
 -- whether a node of this pair is typed
-abbrev pub node_typed : Resolved → NodeRow → Bool
-node_typed resolved p = list_any (types_node resolved p) resolved.guard.types
+abbrev pub is_typed_node : Resolved → NodeRow → Bool
+is_typed_node resolved p = list_any (types_node resolved p) resolved.guard.types
 
 -- whether an edge of this triple is typed
-abbrev pub edge_typed : Resolved → Triple → Bool
-edge_typed resolved t = list_any (types_edge resolved t) resolved.guard.types
+abbrev pub is_typed_triple : Resolved → Triple → Bool
+is_typed_triple resolved t = list_any (types_edge resolved t) resolved.guard.types
 
 -- the triple of an edge: the pairs of its source, of itself and of its target, where both ends are there
 abbrev pub triple_at : Graph → EdgeRow → Option Triple
@@ -46,5 +47,5 @@ triple_at g row =
     (node_at g row.target)) (node_at g row.source)
 
 -- whether the edge of this row is typed in a graph
-abbrev pub edge_is_typed : Resolved → Graph → EdgeRow → Bool
-edge_is_typed resolved g row = option_map_or (edge_typed resolved) (triple_at g row) false
+abbrev pub is_typed_edge : Resolved → Graph → EdgeRow → Bool
+is_typed_edge resolved g row = option_map_or (is_typed_triple resolved) (triple_at g row) false

@@ -1,6 +1,6 @@
 //! Laws that show that the definitions mean what they should. The functions do nothing; their contracts are the statements.
 
-ghost use Rattle.std.specs.Prelude.{◌≡◌, ◌↔◌, ℕ, ◌<◌, ◌||◌, Bool, true, false, List, [], ◌∷◌, Some, None, length, map, slice_get};
+ghost use Rattle.std.specs.Prelude.{◌≡◌, ◌↔◌, ℕ, ◌<◌, ◌||◌, Bool, true, false, List, Some, None, length, map, slice_get};
 ghost use Rattle.std.specs.List.{list_any, list_all};
 ghost use Rattle.std.specs.BTreeMap.{is_at};
 ghost use Rattle.pgs_base.specs.declared.element.Elem.{Elem};
@@ -8,6 +8,7 @@ ghost use Rattle.pgs_base.specs.declared.part.Part.{Part};
 ghost use Rattle.pgs_base.specs.declared.row.NodeRow.{NodeRow};
 ghost use Rattle.pgs_base.specs.Graph.{Graph};
 ghost use Rattle.pgs_base.specs.Order.{tuple_cmp};
+ghost use Rattle.pgs_base.specs.Pair.{value_at, is_pair};
 ghost use Rattle.pgs_syntax.specs.declared.element_type.EdgeType.{EdgeType};
 ghost use Rattle.pgs_syntax.specs.declared.element_type.NodeType.{NodeType};
 ghost use Rattle.pgs_syntax.specs.declared.key.Key.{Key};
@@ -21,17 +22,9 @@ ghost use Rattle.pgs_syntax.specs.Join.{Triple, is_empty_pair, of_pairs, of_trip
 ghost use Rattle.pgs_syntax.specs.KeyValues.{starts_at, is_in_scope, tuple_of, key_values};
 ghost use Rattle.pgs_syntax.specs.Linked.{IsLinked};
 ghost use Rattle.pgs_syntax.specs.Matches.{is_match, matches};
-ghost use Rattle.pgs_syntax.specs.Meaning.{is_pair, IsJoinOf, IsJoinOfAll, IsEdgeOf};
+ghost use Rattle.pgs_syntax.specs.Meaning.{IsJoinOf, IsJoinOfAll, IsEdgeOf};
 ghost use Rattle.pgs_syntax.specs.Valid.{speaks_of, is_connected, is_valid_pattern, is_valid};
-ghost use Rattle.pgs_syntax.specs.Fitting.{suits, fits, fits_node, fits_edge, fits_edge_type, value_at};
-
-/// Whether a pair or a triple fits `A & B` doesn't depend on the order of the parts.
-pub fn parts_in_any_order()
-    ensures pairs { (resolved : Resolved) (first second : Spec Leaf) (p : NodeRow) →
-        fits resolved (And (first ∷ second ∷ [])) p ≡ fits resolved (And (second ∷ first ∷ [])) p }
-    ensures triples { (named : ℕ → Triple → Bool) (first second : Spec Leaf) (t : Triple) →
-        suits of_triples named (And (first ∷ second ∷ [])) t ≡ suits of_triples named (And (second ∷ first ∷ [])) t }
-{}
+ghost use Rattle.pgs_syntax.specs.Fitting.{suits, fits, fits_node, fits_edge, fits_edge_type};
 
 /// A specification without OPEN in braces admits no key that it doesn't name, also through `&`, `|`, `?` and the types that it
 /// names. Nor does a node type or an edge type of such a specification.

@@ -7,6 +7,8 @@
 mod element_type;
 mod key;
 pub mod laws;
+pub mod laws_of_joins;
+pub mod laws_of_keys;
 mod pattern;
 mod raw;
 mod resolved;

@@ -4,10 +4,8 @@ use Rattle.std.specs.Prelude.{filter_map, slice_get, option_map, if◌then◌els
 use Rattle.std.specs.Ordering.{nat_cmp, ordering_then}
 use Rattle.std.specs.Cmp.{tied_itself, nat_cmp_total, nat_cmp_is}
 use Rattle.std.specs.List.{list_all, AllByRecursion, cons_option}
-use Rattle.std.specs.Map.{keys_of}
 use Rattle.std.proofs.lemmas.Bool.{and_parts, and_from, cases_order}
 use Rattle.std.proofs.lemmas.List.Folds.{list_all-append}
-use Rattle.std.proofs.lemmas.List.Kept.{IsStrictlySortedBy-filter}
 use Rattle.pgs_base.specs.declared.element.NodeId.{NodeId}
 use Rattle.pgs_base.specs.declared.element.EdgeId.{EdgeId}
 use Rattle.pgs_base.specs.declared.element.Elem.{Elem}
@@ -15,19 +13,18 @@ use Rattle.pgs_base.specs.declared.element.Elem.TheVariants.{Node, Edge}
 use Rattle.pgs_base.specs.declared.part.Part.{Part}
 use Rattle.pgs_base.specs.declared.row.NodeRow.{NodeRow}
 use Rattle.pgs_base.specs.declared.row.EdgeRow.{EdgeRow}
-use Rattle.pgs_base.specs.Graph.{Graph, node_cmp, edge_cmp, ascends, is_graph}
-use Rattle.pgs_base.specs.Order.{elem_cmp}
-use Rattle.pgs_base.proofs.Ascending.{ascends_decides}
+use Rattle.pgs_base.specs.Graph.{Graph, is_graph}
+use Rattle.pgs_base.specs.Order.{elem_cmp, ascends}
 use Rattle.pgs_syntax.specs.declared.key.Key.{Key}
 use Rattle.pgs_syntax.specs.declared.resolved.Resolved.{Resolved}
 use Rattle.pgs_syntax.specs.Join.{is_empty}
-use Rattle.pgs_syntax.specs.KeyValues.{is_in_scope, scope_of, key_values}
-use Rattle.pgs_syntax.specs.Matches.{elements}
-use Rattle.pgs_syntax.specs.Typed.{node_typed, edge_is_typed}
+use Rattle.pgs_syntax.specs.KeyValues.{scope_of, key_values}
+use Rattle.pgs_syntax.specs.Typed.{is_typed_node, is_typed_edge}
+use Rattle.pgs_syntax.proofs.InOrder.{nodes_ascend, edges_ascend, scope_ascends}
 use Rattle.pgs_violation.specs.declared.violation.Violation.{Violation}
 use Rattle.pgs_violation.specs.declared.violation.Violation.TheVariants.{UntypedNode, UntypedEdge, Mandatory, Singleton, Exclusive}
 use Rattle.pgs_violation.specs.Standing.{violation_cmp, key_of, number_of, elem_of, carried_cmp}
-use Rattle.pgs_violation.specs.Violations.{untyped_node, untyped_edge, without_value, two_least, with_two_values, shared_tuple, later_than, sharing, with_shared_value, where_asked, key_violations, keys_violations, violations}
+use Rattle.pgs_violation.specs.Violations.{untyped_node, untyped_edge, mandatory_violation, two_least, singleton_violation, shared_tuple, later_than, sharing, exclusive_violation, where_asked, key_violations, keys_violations, violations}
 
 -- ---- one number for the key and the number of a violation
 
@@ -158,7 +155,7 @@ module _ {X : Type 0} (elem : X → Elem) (at : X → Option Violation) (key num
 
 -- ---- what each kind of violation says
 
-abbrev Says : Elem → ℕ → ℕ → Violation → Type 0
+abbrev pub Says : Elem → ℕ → ℕ → Violation → Type 0
 Says elem key number v = (key_of v ≡ key) × (number_of v ≡ number) × (elem_of v ≡ elem)
 
 unless : (b : Bool) (u v : Violation) → (if b then None else Some u) ≡ Some v → u ≡ v
@@ -169,17 +166,17 @@ when : (b : Bool) (u v : Violation) → (if b then Some u else None) ≡ Some v 
 when true u v e = cc
 when false u v e = cc
 
-untyped_node_says : (resolved : Resolved) (node : NodeId × NodeRow) (v : Violation) → untyped_node resolved node ≡ Some v → Says (Node node.0) 0 25 v
-untyped_node_says resolved node v e = subst (Says (Node node.0) 0 25) (unless (node_typed resolved node.1) (UntypedNode node.0) v e) (refl, refl, refl)
+pub untyped_node_says : (resolved : Resolved) (node : NodeId × NodeRow) (v : Violation) → untyped_node resolved node ≡ Some v → Says (Node node.0) 0 25 v
+untyped_node_says resolved node v e = subst (Says (Node node.0) 0 25) (unless (is_typed_node resolved node.1) (UntypedNode node.0) v e) (refl, refl, refl)
 
-untyped_edge_says : (resolved : Resolved) (g : Graph) (edge : EdgeId × EdgeRow) (v : Violation) → untyped_edge resolved g edge ≡ Some v → Says (Edge edge.0) 0 26 v
-untyped_edge_says resolved g edge v e = subst (Says (Edge edge.0) 0 26) (unless (edge_is_typed resolved g edge.1) (UntypedEdge edge.0) v e) (refl, refl, refl)
+pub untyped_edge_says : (resolved : Resolved) (g : Graph) (edge : EdgeId × EdgeRow) (v : Violation) → untyped_edge resolved g edge ≡ Some v → Says (Edge edge.0) 0 26 v
+untyped_edge_says resolved g edge v e = subst (Says (Edge edge.0) 0 26) (unless (is_typed_edge resolved g edge.1) (UntypedEdge edge.0) v e) (refl, refl, refl)
 
 module _ (key : ℕ) (values : Elem → List (List Part)) where
-  without_value_says : (elem : Elem) (v : Violation) → without_value key values elem ≡ Some v → Says elem key 27 v
-  without_value_says elem v e = subst (Says elem key 27) (when (is_empty (values elem)) (Mandatory key elem) v e) (refl, refl, refl)
+  pub mandatory_violation_says : (elem : Elem) (v : Violation) → mandatory_violation key values elem ≡ Some v → Says elem key 27 v
+  mandatory_violation_says elem v e = subst (Says elem key 27) (when (is_empty (values elem)) (Mandatory key elem) v e) (refl, refl, refl)
 
-  two_least_says : (elem : Elem) (tuples : List (List Part)) (v : Violation) → two_least key elem tuples ≡ Some v → Says elem key 28 v
+  pub two_least_says : (elem : Elem) (tuples : List (List Part)) (v : Violation) → two_least key elem tuples ≡ Some v → Says elem key 28 v
   two_least_says elem [] v e = cc
   two_least_says elem (first ∷ []) v e = cc
   two_least_says elem (first ∷ second ∷ rest) v e =
@@ -192,7 +189,7 @@ module _ (key : ℕ) (values : Elem → List (List Part)) where
       by None e = cc
       by (Some tuple) e = let same : Exclusive key elem second tuple ≡ v = cc in subst (Says elem key 29) same (refl, refl, refl)
 
-  first_says : (elem : Elem) (later : List Elem) (v : Violation) → slice_get (filter_map (sharing key values elem) later) 0 ≡ Some v → Says elem key 29 v
+  pub first_says : (elem : Elem) (later : List Elem) (v : Violation) → slice_get (filter_map (sharing key values elem) later) 0 ≡ Some v → Says elem key 29 v
   first_says elem [] v e = cc
   first_says elem (second ∷ later) v e = by (sharing key values elem second) refl e (first_says elem later v)
     where
@@ -201,80 +198,36 @@ module _ (key : ℕ) (values : Elem → List (List Part)) where
       by None is e rest = rest e
       by (Some u) is e rest = sharing_says elem second v (is ∙ e)
 
--- ---- the elements of a graph ascend
+-- ---- the whole list
 
-ascends_append : {K : Type 0} (cmp : K → K → Ordering) (xs ys : List K) → ascends cmp xs ≡ true → ascends cmp ys ≡ true →
-    list_all (λ x. list_all (λ y. is_lt (cmp x y)) ys) xs ≡ true → ascends cmp (xs ++ ys) ≡ true
-ascends_append cmp [] ys first second across = second
-ascends_append cmp (x ∷ xs) ys first second across =
-    let parts = and_parts _ _ first in
-    let apart = and_parts _ _ across in
-    and_from _ _ (list_all-append (λ w. is_lt (cmp x w)) xs ys ∙ and_from _ _ parts.0 apart.0) (ascends_append cmp xs ys parts.1 second apart.1)
+module _ (g : Graph) (graph : is_graph g ≡ true) (resolved : Resolved) where
+  key_run : (number : ℕ) (key : Key) → Run (number * 100 + 27) (number * 100 + 30) (key_violations resolved g number key)
+  key_run number key =
+      let scope = scope_of resolved g key in
+      let values = key_values resolved g key in
+      let ordered : ascends elem_cmp (map (λ (elem : Elem). elem) scope) ≡ true =
+      subst (λ (xs : List Elem). ascends elem_cmp xs ≡ true) (sym (map-id scope)) (scope_ascends g graph resolved key) in
+      let missing = asked _ _ key.qualifiers.mandatory _ (found_run (λ elem. elem) (mandatory_violation number values) number 27 (mandatory_violation_says number values) scope ordered) in
+      let several = asked _ _ key.qualifiers.singleton _ (found_run (λ elem. elem) (singleton_violation number values) number 28
+      (λ elem v e. two_least_says number values elem (values elem) v e) scope ordered) in
+      let shared = asked _ _ key.qualifiers.exclusive _ (found_run (λ elem. elem) (exclusive_violation number scope values) number 29
+      (λ elem v e. first_says number values elem (later_than elem scope) v e) scope ordered) in
+      append (number * 100 + 27) (number * 100 + 29) (number * 100 + 30) _ _ (omega arith) (omega arith)
+      (append (number * 100 + 27) (number * 100 + 28) (number * 100 + 29) _ _ (omega arith) (omega arith)
+      (wide _ _ _ _ _ (omega arith) (omega arith) missing) (wide _ _ _ _ _ (omega arith) (omega arith) several))
+      (wide _ _ _ _ _ (omega arith) (omega arith) shared)
 
-module _ {K V : Type 0} (cmp : K → K → Ordering) (elem : K → Elem) (same : (a b : K) → elem_cmp (elem a) (elem b) ≡ cmp a b) where
-  rows_later : (k : K) (rows : List (K × V)) → list_all (λ later. is_lt (cmp k later)) (keys_of rows) ≡ true →
-      list_all (λ later. is_lt (elem_cmp (elem k) later)) (map (λ (row : K × V). elem row.0) rows) ≡ true
-  rows_later k [] h = refl
-  rows_later k (row ∷ rows) h =
-      let parts = and_parts _ _ h in and_from _ _ (ap is_lt (same k row.0) ∙ parts.0) (rows_later k rows parts.1)
+  keys_run : (number : ℕ) (keys : List Key) → Run (number * 100 + 27) ((number + length keys) * 100 + 27) (keys_violations resolved g number keys)
+  keys_run number [] = record { ascending = refl; within = tt }
+  keys_run number (key ∷ keys) =
+      append (number * 100 + 27) ((number + 1) * 100 + 27) ((number + length (key ∷ keys)) * 100 + 27) _ _ (omega arith) (omega arith)
+      (wide _ _ _ _ _ (omega arith) (omega arith) (key_run number key))
+      (wide _ _ _ _ _ (omega arith) (omega arith) (keys_run (number + 1) keys))
 
-  rows_ascend : (rows : List (K × V)) → ascends cmp (keys_of rows) ≡ true → ascends elem_cmp (map (λ (row : K × V). elem row.0) rows) ≡ true
-  rows_ascend [] h = refl
-  rows_ascend (row ∷ rows) h = let parts = and_parts _ _ h in and_from _ _ (rows_later row.0 rows parts.0) (rows_ascend rows parts.1)
-
-edges_after : (id : NodeId) (edges : List (EdgeId × EdgeRow)) → list_all (λ y. is_lt (elem_cmp (Node id) y)) (map (λ (edge : EdgeId × EdgeRow). Edge edge.0) edges) ≡ true
-edges_after id [] = refl
-edges_after id (edge ∷ edges) = edges_after id edges
-
-nodes_before : (nodes : List (NodeId × NodeRow)) (edges : List (EdgeId × EdgeRow)) →
-    list_all (λ x. list_all (λ y. is_lt (elem_cmp x y)) (map (λ (edge : EdgeId × EdgeRow). Edge edge.0) edges)) (map (λ (node : NodeId × NodeRow). Node node.0) nodes) ≡ true
-nodes_before [] edges = refl
-nodes_before (node ∷ nodes) edges = and_from _ _ (edges_after node.0 edges) (nodes_before nodes edges)
-
-module _ (g : Graph) (graph : is_graph g ≡ true) where
-  nodes_ascend : ascends elem_cmp (map (λ (node : NodeId × NodeRow). Node node.0) g.nodes) ≡ true
-  nodes_ascend = rows_ascend node_cmp Node (λ a b. refl) g.nodes (and_parts _ _ (and_parts _ _ graph).0).0
-
-  edges_ascend : ascends elem_cmp (map (λ (edge : EdgeId × EdgeRow). Edge edge.0) g.edges) ≡ true
-  edges_ascend = rows_ascend edge_cmp Edge (λ a b. refl) g.edges (and_parts _ _ (and_parts _ _ graph).0).1
-
-  pub scope_ascends : (resolved : Resolved) (key : Key) → ascends elem_cmp (scope_of resolved g key) ≡ true
-  scope_ascends resolved key =
-      let all = ascends_append elem_cmp (elements g false) (elements g true) nodes_ascend edges_ascend (nodes_before g.nodes g.edges) in
-      (ascends_decides elem_cmp (scope_of resolved g key)).1
-      (IsStrictlySortedBy-filter elem_cmp (is_in_scope resolved g key) (elements g false ++ elements g true)
-      ((ascends_decides elem_cmp (elements g false ++ elements g true)).0 all))
-
-  -- ---- the whole list
-
-  module _ (resolved : Resolved) where
-    key_run : (number : ℕ) (key : Key) → Run (number * 100 + 27) (number * 100 + 30) (key_violations resolved g number key)
-    key_run number key =
-        let scope = scope_of resolved g key in
-        let values = key_values resolved g key in
-        let ordered : ascends elem_cmp (map (λ (elem : Elem). elem) scope) ≡ true =
-        subst (λ (xs : List Elem). ascends elem_cmp xs ≡ true) (sym (map-id scope)) (scope_ascends resolved key) in
-        let missing = asked _ _ key.qualifiers.mandatory _ (found_run (λ elem. elem) (without_value number values) number 27 (without_value_says number values) scope ordered) in
-        let several = asked _ _ key.qualifiers.singleton _ (found_run (λ elem. elem) (with_two_values number values) number 28
-        (λ elem v e. two_least_says number values elem (values elem) v e) scope ordered) in
-        let shared = asked _ _ key.qualifiers.exclusive _ (found_run (λ elem. elem) (with_shared_value number scope values) number 29
-        (λ elem v e. first_says number values elem (later_than elem scope) v e) scope ordered) in
-        append (number * 100 + 27) (number * 100 + 29) (number * 100 + 30) _ _ (omega arith) (omega arith)
-        (append (number * 100 + 27) (number * 100 + 28) (number * 100 + 29) _ _ (omega arith) (omega arith)
-        (wide _ _ _ _ _ (omega arith) (omega arith) missing) (wide _ _ _ _ _ (omega arith) (omega arith) several))
-        (wide _ _ _ _ _ (omega arith) (omega arith) shared)
-
-    keys_run : (number : ℕ) (keys : List Key) → Run (number * 100 + 27) ((number + length keys) * 100 + 27) (keys_violations resolved g number keys)
-    keys_run number [] = record { ascending = refl; within = tt }
-    keys_run number (key ∷ keys) =
-        append (number * 100 + 27) ((number + 1) * 100 + 27) ((number + length (key ∷ keys)) * 100 + 27) _ _ (omega arith) (omega arith)
-        (wide _ _ _ _ _ (omega arith) (omega arith) (key_run number key))
-        (wide _ _ _ _ _ (omega arith) (omega arith) (keys_run (number + 1) keys))
-
-    pub violations_ascend : ascends violation_cmp (violations resolved g) ≡ true
-    violations_ascend =
-        let nodes = found_run (λ (node : NodeId × NodeRow). Node node.0) (untyped_node resolved) 0 25 (untyped_node_says resolved) g.nodes nodes_ascend in
-        let edges = found_run (λ (edge : EdgeId × EdgeRow). Edge edge.0) (untyped_edge resolved g) 0 26 (untyped_edge_says resolved g) g.edges edges_ascend in
-        let untyped = asked 25 27 resolved.guard.strict _ (append 25 26 27 _ _ (omega arith) (omega arith) nodes edges) in
-        (append 25 127 ((1 + length resolved.guard.keys) * 100 + 27) _ _ (omega arith) (omega arith)
-        (wide _ _ _ _ _ (omega arith) (omega arith) untyped) (keys_run 1 resolved.guard.keys)).ascending
+  pub violations_ascend : ascends violation_cmp (violations resolved g) ≡ true
+  violations_ascend =
+      let nodes = found_run (λ (node : NodeId × NodeRow). Node node.0) (untyped_node resolved) 0 25 (untyped_node_says resolved) g.nodes (nodes_ascend g graph) in
+      let edges = found_run (λ (edge : EdgeId × EdgeRow). Edge edge.0) (untyped_edge resolved g) 0 26 (untyped_edge_says resolved g) g.edges (edges_ascend g graph) in
+      let untyped = asked 25 27 resolved.guard.strict _ (append 25 26 27 _ _ (omega arith) (omega arith) nodes edges) in
+      (append 25 127 ((1 + length resolved.guard.keys) * 100 + 27) _ _ (omega arith) (omega arith)
+      (wide _ _ _ _ _ (omega arith) (omega arith) untyped) (keys_run 1 resolved.guard.keys)).ascending

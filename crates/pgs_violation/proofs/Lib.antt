@@ -1,3 +1,5 @@
-pub mod Computed
+pub mod Carried
 pub mod FirstOf
 pub mod InOrder
+pub mod Origins
+pub mod StagedGraph

@@ -49,7 +49,8 @@ unset number key = UnsetNode (record { 0 = number }) key
 -- adding two persons with these mails
 abbrev pub add_two_persons : List ℕ → List ℕ → Txn
 add_two_persons first second =
-    txn (AddNode (record { 0 = 1 }) (codes "Person" ∷ []) (mail first) ∷ AddNode (record { 0 = 2 }) (codes "Person" ∷ []) (mail second) ∷ [])
+    txn (AddNode (record { 0 = 1 }) (codes "Person" ∷ []) (mail first)
+    ∷ AddNode (record { 0 = 2 }) (codes "Person" ∷ []) (mail second) ∷ [])
 
 -- three persons of one mail, and a person without
 abbrev pub one_mail : Graph

@@ -1,12 +1,6 @@
 -- Staging: the graph after the operations of a transaction, or why they can't be done.
 use Rattle.std.specs.Prelude.{ℕ, ◌+◌, Bool, ◌&&◌, List, [], ◌∷◌, length, Option, Some, None, is_some, Result, Ok, Err, nat_le, nat_lt, if◌then◌else◌, not}
 use Rattle.std.specs.List.{filter}
-use Rattle.std.specs.Ordering.{nat_cmp}
-use Rattle.std.specs.Cmp.Lexicographic.{slice_cmp}
-use Rattle.std.specs.BTreeMap.{is_at, insert_entry}
-use Rattle.std.specs.BTreeSet.{insert_key}
-use Rattle.std.specs.Map.{remove_entry}
-use Rattle.std.specs.Set.{remove_key}
 use Rattle.pgs_base.specs.declared.element.NodeId.{NodeId}
 use Rattle.pgs_base.specs.declared.element.EdgeId.{EdgeId}
 use Rattle.pgs_base.specs.declared.element.Elem.TheVariants.{Node, Edge}
@@ -15,6 +9,7 @@ use Rattle.pgs_base.specs.declared.row.NodeRow.{NodeRow}
 use Rattle.pgs_base.specs.declared.row.EdgeRow.{EdgeRow}
 use Rattle.pgs_base.specs.declared.value.Value.{Value}
 use Rattle.pgs_base.specs.Graph.{Graph, node_at, edge_at, element_count, with_node, with_edge, without_node, without_edge, is_end}
+use Rattle.pgs_base.specs.Pair.{pair_of, put_value, take_value, put_name, take_name}
 use Rattle.pgs_graph.specs.declared.operation.Op.{Op}
 use Rattle.pgs_graph.specs.declared.operation.Op.TheVariants.{AddNode, AddEdge, RemoveNode, DetachNode, RemoveEdge, SetNode, UnsetNode, LabelNode, UnlabelNode, SetEdge, UnsetEdge, LabelEdge, UnlabelEdge}
 use Rattle.pgs_graph.specs.declared.operation.Txn.{Txn}
@@ -39,12 +34,12 @@ found_or cause None = Err (Unable cause)
 found_or cause (Some found) = Ok found
 
 -- the row of the node, or that there is no such node
-abbrev pub the_node : Graph → NodeId → Result NodeRow StepFault
-the_node g id = found_or (NoNode id) (node_at g id)
+abbrev pub node_or_fault : Graph → NodeId → Result NodeRow StepFault
+node_or_fault g id = found_or (NoNode id) (node_at g id)
 
 -- the row of the edge, or that there is no such edge
-abbrev pub the_edge : Graph → EdgeId → Result EdgeRow StepFault
-the_edge g id = found_or (NoEdge id) (edge_at g id)
+abbrev pub edge_or_fault : Graph → EdgeId → Result EdgeRow StepFault
+edge_or_fault g id = found_or (NoEdge id) (edge_at g id)
 
 -- an element has at most 64 labels and 256 properties
 abbrev pub is_small : List (List ℕ) → List (List ℕ × Value) → Bool
@@ -56,19 +51,6 @@ put_node g id row = if is_small row.labels row.props then Ok (with_node g id row
 
 abbrev pub put_edge : Graph → EdgeId → EdgeRow → Result Graph StepFault
 put_edge g id row = if is_small row.labels row.props then Ok (with_edge g id row) else Err TooLarge
-
--- the properties with this value of the key, and without the key; the labels with this one, and without it
-abbrev pub with_value : List (List ℕ × Value) → List ℕ → Value → List (List ℕ × Value)
-with_value props key value = insert_entry (slice_cmp nat_cmp) props key value
-
-abbrev pub without_key : List (List ℕ × Value) → List ℕ → List (List ℕ × Value)
-without_key props key = remove_entry (is_at (slice_cmp nat_cmp key)) props
-
-abbrev pub with_label : List (List ℕ) → List ℕ → List (List ℕ)
-with_label labels label = insert_key (slice_cmp nat_cmp) labels label
-
-abbrev pub without_label : List (List ℕ) → List ℕ → List (List ℕ)
-without_label labels label = remove_key (is_at (slice_cmp nat_cmp label)) labels
 
 -- the edges at a node, by number
 abbrev pub edges_at : Graph → NodeId → List (EdgeId × EdgeRow)
@@ -82,9 +64,9 @@ detached g id = record {
 }
 
 -- the graph without a node that has no edges
-abbrev pub removed : Graph → NodeId → List (EdgeId × EdgeRow) → Result Graph StepFault
-removed g id [] = Ok (without_node g id)
-removed g id (edge ∷ edges) = Err (Unable (HasEdges id edge.0))
+abbrev pub lone_node_removed : Graph → NodeId → List (EdgeId × EdgeRow) → Result Graph StepFault
+lone_node_removed g id [] = Ok (without_node g id)
+lone_node_removed g id (edge ∷ edges) = Err (Unable (HasEdges id edge.0))
 
 -- the graph with a new node
 abbrev pub added_node : Graph → NodeId → NodeRow → Result Graph StepFault
@@ -95,24 +77,24 @@ added_node g id row =
 abbrev pub added_edge : Graph → EdgeId → EdgeRow → Result Graph StepFault
 added_edge g id row =
     if is_some (edge_at g id) then Err (Unable (AlreadyThere (Edge id)))
-    else (the_node g row.source >>= λ _. the_node g row.target >>= λ _. put_edge g id row)
+    else (node_or_fault g row.source >>= λ _. node_or_fault g row.target >>= λ _. put_edge g id row)
 
 -- the graph after one operation, or why it is at fault
 abbrev pub step : Graph → Op → Result Graph StepFault
-step g (AddNode id labels props) = added_node g id (record { labels = labels; props = props })
+step g (AddNode id labels props) = added_node g id (pair_of labels props)
 step g (AddEdge id source target labels props) =
     added_edge g id (record { source = source; target = target; labels = labels; props = props })
-step g (RemoveNode id) = the_node g id >>= λ _. removed g id (edges_at g id)
-step g (DetachNode id) = the_node g id >>= λ _. Ok (detached g id)
-step g (RemoveEdge id) = the_edge g id >>= λ _. Ok (without_edge g id)
-step g (SetNode id key value) = the_node g id >>= λ row. put_node g id (record row { props = with_value row.props key value })
-step g (UnsetNode id key) = the_node g id >>= λ row. put_node g id (record row { props = without_key row.props key })
-step g (LabelNode id label) = the_node g id >>= λ row. put_node g id (record row { labels = with_label row.labels label })
-step g (UnlabelNode id label) = the_node g id >>= λ row. put_node g id (record row { labels = without_label row.labels label })
-step g (SetEdge id key value) = the_edge g id >>= λ row. put_edge g id (record row { props = with_value row.props key value })
-step g (UnsetEdge id key) = the_edge g id >>= λ row. put_edge g id (record row { props = without_key row.props key })
-step g (LabelEdge id label) = the_edge g id >>= λ row. put_edge g id (record row { labels = with_label row.labels label })
-step g (UnlabelEdge id label) = the_edge g id >>= λ row. put_edge g id (record row { labels = without_label row.labels label })
+step g (RemoveNode id) = node_or_fault g id >>= λ _. lone_node_removed g id (edges_at g id)
+step g (DetachNode id) = node_or_fault g id >>= λ _. Ok (detached g id)
+step g (RemoveEdge id) = edge_or_fault g id >>= λ _. Ok (without_edge g id)
+step g (SetNode id key value) = node_or_fault g id >>= λ row. put_node g id (record row { props = put_value row.props key value })
+step g (UnsetNode id key) = node_or_fault g id >>= λ row. put_node g id (record row { props = take_value row.props key })
+step g (LabelNode id label) = node_or_fault g id >>= λ row. put_node g id (record row { labels = put_name row.labels label })
+step g (UnlabelNode id label) = node_or_fault g id >>= λ row. put_node g id (record row { labels = take_name row.labels label })
+step g (SetEdge id key value) = edge_or_fault g id >>= λ row. put_edge g id (record row { props = put_value row.props key value })
+step g (UnsetEdge id key) = edge_or_fault g id >>= λ row. put_edge g id (record row { props = take_value row.props key })
+step g (LabelEdge id label) = edge_or_fault g id >>= λ row. put_edge g id (record row { labels = put_name row.labels label })
+step g (UnlabelEdge id label) = edge_or_fault g id >>= λ row. put_edge g id (record row { labels = take_name row.labels label })
 
 -- the refusal of the operation at a place, from 1
 abbrev pub refusal_at : ℕ → StepFault → Structural

@@ -16,7 +16,7 @@ use Rattle.pgs_syntax.specs.declared.key.Key.{Key}
 use Rattle.pgs_syntax.specs.declared.resolved.Resolved.{Resolved}
 use Rattle.pgs_syntax.specs.Join.{is_empty}
 use Rattle.pgs_syntax.specs.KeyValues.{scope_of, key_values}
-use Rattle.pgs_syntax.specs.Typed.{node_typed, edge_is_typed}
+use Rattle.pgs_syntax.specs.Typed.{is_typed_node, is_typed_edge}
 use Rattle.pgs_violation.specs.declared.violation.Verdict.{Verdict}
 use Rattle.pgs_violation.specs.declared.violation.Verdict.TheVariants.{Conforms, Refused}
 use Rattle.pgs_violation.specs.declared.violation.Violation.{Violation}
@@ -24,22 +24,22 @@ use Rattle.pgs_violation.specs.declared.violation.Violation.TheVariants.{Untyped
 
 -- 25 for a node that isn't typed, and 26 for an edge that isn't
 abbrev pub untyped_node : Resolved → NodeId × NodeRow → Option Violation
-untyped_node resolved node = if node_typed resolved node.1 then None else Some (UntypedNode node.0)
+untyped_node resolved node = if is_typed_node resolved node.1 then None else Some (UntypedNode node.0)
 
 abbrev pub untyped_edge : Resolved → Graph → EdgeId × EdgeRow → Option Violation
-untyped_edge resolved g edge = if edge_is_typed resolved g edge.1 then None else Some (UntypedEdge edge.0)
+untyped_edge resolved g edge = if is_typed_edge resolved g edge.1 then None else Some (UntypedEdge edge.0)
 
 -- 27 for an element without a key value
-abbrev pub without_value : ℕ → (Elem → List (List Part)) → Elem → Option Violation
-without_value number values elem = if is_empty (values elem) then Some (Mandatory number elem) else None
+abbrev pub mandatory_violation : ℕ → (Elem → List (List Part)) → Elem → Option Violation
+mandatory_violation number values elem = if is_empty (values elem) then Some (Mandatory number elem) else None
 
 -- 28 for an element with several key values, with the two least
 abbrev pub two_least : ℕ → Elem → List (List Part) → Option Violation
 two_least number elem (first ∷ second ∷ rest) = Some (Singleton number elem first second)
 two_least number elem _ = None
 
-abbrev pub with_two_values : ℕ → (Elem → List (List Part)) → Elem → Option Violation
-with_two_values number values elem = two_least number elem (values elem)
+abbrev pub singleton_violation : ℕ → (Elem → List (List Part)) → Elem → Option Violation
+singleton_violation number values elem = two_least number elem (values elem)
 
 -- the least tuple that two sets share
 abbrev pub shared_tuple : List (List Part) → List (List Part) → Option (List Part)
@@ -54,8 +54,8 @@ abbrev pub sharing : ℕ → (Elem → List (List Part)) → Elem → Elem → O
 sharing number values first second = option_map (Exclusive number first second) (shared_tuple (values first) (values second))
 
 -- 29 for an element that shares a key value with a later element of the scope, with the first of these
-abbrev pub with_shared_value : ℕ → List Elem → (Elem → List (List Part)) → Elem → Option Violation
-with_shared_value number scope values elem = slice_get (filter_map (sharing number values elem) (later_than elem scope)) 0
+abbrev pub exclusive_violation : ℕ → List Elem → (Elem → List (List Part)) → Elem → Option Violation
+exclusive_violation number scope values elem = slice_get (filter_map (sharing number values elem) (later_than elem scope)) 0
 
 -- what is found, where it is asked for
 abbrev pub where_asked : Bool → List Violation → List Violation
@@ -67,9 +67,9 @@ abbrev pub key_violations : Resolved → Graph → ℕ → Key → List Violatio
 key_violations resolved g number key =
     let scope = scope_of resolved g key in
     let values = key_values resolved g key in
-    where_asked key.qualifiers.mandatory (filter_map (without_value number values) scope)
-    ++ where_asked key.qualifiers.singleton (filter_map (with_two_values number values) scope)
-    ++ where_asked key.qualifiers.exclusive (filter_map (with_shared_value number scope values) scope)
+    where_asked key.qualifiers.mandatory (filter_map (mandatory_violation number values) scope)
+    ++ where_asked key.qualifiers.singleton (filter_map (singleton_violation number values) scope)
+    ++ where_asked key.qualifiers.exclusive (filter_map (exclusive_violation number scope values) scope)
 
 -- the violations of keys, of which the first has this number
 abbrev pub keys_violations : Resolved → Graph → ℕ → List Key → List Violation

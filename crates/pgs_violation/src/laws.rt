@@ -2,7 +2,8 @@
 
 ghost use Rattle.std.specs.Prelude.{◌≡◌, ◌↔◌, ◌≤◌, true, [], Some, Ok, slice_get};
 ghost use Rattle.pgs_base.specs.declared.limits.Limits.{Limits};
-ghost use Rattle.pgs_base.specs.Graph.{Graph, element_count, ascends, is_graph};
+ghost use Rattle.pgs_base.specs.Graph.{Graph, element_count, is_graph};
+ghost use Rattle.pgs_base.specs.Order.{ascends};
 ghost use Rattle.pgs_syntax.specs.declared.resolved.Resolved.{Resolved};
 ghost use Rattle.pgs_violation.specs.declared.violation.Violation.{Violation};
 ghost use Rattle.pgs_violation.specs.declared.violation.Verdict.TheVariants.{Conforms, Refused};

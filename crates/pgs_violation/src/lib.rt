@@ -6,6 +6,8 @@
 #![tactic(auto)]
 
 pub mod laws;
+pub mod laws_of_staging;
+pub mod laws_of_violations;
 mod rejection;
 pub mod samples;
 mod structural;

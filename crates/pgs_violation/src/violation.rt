@@ -1,4 +1,4 @@
-ghost use Rattle.std.specs.Prelude.{◌≡◌, Some, refl};
+ghost use Rattle.std.specs.Prelude.{◌≡◌, ◌↔◌, IsTrue, Some, refl};
 ghost use Rattle.std.specs.Ordering.{eq_by_cmp};
 ghost use Rattle.std.specs.Cmp.{partial_equiv_from_equiv, eq_by_cmp_equiv, po};
 ghost use Rattle.pgs_violation.specs.Standing.{violation_cmp, key_of, number_of, elem_of, carried_cmp};
@@ -110,7 +110,11 @@ impl PartialEq for Violation {
 
     ghost laws = { partial_equiv_from_equiv (eq_by_cmp_equiv violation_cmp_total) };
 
-    fn eq(&self, other: &Violation) -> bool {
+    #[tactic(auto, using(crate::specs::StandingLaws::violation_eq_decides))]
+    fn eq(&self, other: &Violation) -> bool
+        ensures value { result ≡ eq_by_cmp violation_cmp self.now other.now }
+        ensures same { IsTrue result ↔ (self.now ≡ other.now) }
+    {
         self.cmp(other).is_eq()
     }
 }

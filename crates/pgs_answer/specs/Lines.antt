@@ -1,0 +1,57 @@
+-- The lines that a run puts, each with its line feed. A parameter `text` is the number and the words of a refusal or violation.
+use Rattle.std.specs.Prelude.{ℕ, Bool, true, false, List, ◌++◌, codes, decimal}
+use Rattle.pgs_base.specs.declared.element.Elem.{Elem}
+use Rattle.pgs_base.specs.declared.part.Part.{Part}
+use Rattle.pgs_text.specs.Text.{elem_text, tuple_text}
+
+abbrev pub schema_refused_line : List ℕ → List ℕ
+schema_refused_line text = codes "schema refused " ++ (text ++ codes "\n")
+
+abbrev pub store_refused_line : List ℕ → List ℕ
+store_refused_line text = codes "store refused " ++ (text ++ codes "\n")
+
+abbrev pub words_refused_line : List ℕ
+words_refused_line = codes "words refused 35\n"
+
+abbrev pub committed_line : ℕ → ℕ → List ℕ
+committed_line line commit = decimal line ++ (codes " committed " ++ (decimal commit ++ codes "\n"))
+
+abbrev pub refused_line : ℕ → List ℕ → List ℕ
+refused_line line text = decimal line ++ (codes " refused " ++ (text ++ codes "\n"))
+
+abbrev pub violation_line : List ℕ → List ℕ
+violation_line text = codes "violation " ++ (text ++ codes "\n")
+
+abbrev pub loaded_line : ℕ → ℕ → List ℕ
+loaded_line types keys = codes "loaded types=" ++ (decimal types ++ (codes " keys=" ++ (decimal keys ++ codes "\n")))
+
+abbrev pub feeds_lost_line : ℕ → List ℕ
+feeds_lost_line lost = codes "feeds lost=" ++ (decimal lost ++ codes "\n")
+
+abbrev pub schema_line : List ℕ → List ℕ
+schema_line schema = schema ++ codes "\n"
+
+abbrev pub separator_line : List ℕ
+separator_line = codes "---\n"
+
+-- an abstract type is told apart
+abbrev pub type_line : Bool → List ℕ → List ℕ
+type_line false name = codes "type " ++ (name ++ codes "\n")
+type_line true name = codes "abstract " ++ (name ++ codes "\n")
+
+abbrev pub key_scope_line : ℕ → List ℕ
+key_scope_line key = codes "key " ++ (decimal key ++ codes " scope\n")
+
+abbrev pub key_value_line : ℕ → List Part → List ℕ
+key_value_line key tuple = codes "key " ++ (decimal key ++ (codes " value " ++ (tuple_text tuple ++ codes "\n")))
+
+abbrev pub absent_line : Elem → List ℕ
+absent_line elem = elem_text elem ++ codes " is not in the graph\n"
+
+abbrev pub gen_line : ℕ → ℕ → ℕ → ℕ → ℕ → List ℕ
+gen_line committed refused nodes edges in1 =
+    codes "gen committed=" ++ (decimal committed ++ (codes " refused=" ++ (decimal refused ++ (codes " nodes=" ++ (decimal nodes
+    ++ (codes " edges=" ++ (decimal edges ++ (codes " in1=" ++ (decimal in1 ++ codes "\n")))))))))
+
+abbrev pub checkpoint_line : ℕ → ℕ → List ℕ
+checkpoint_line epoch commits = codes "checkpoint epoch=" ++ (decimal epoch ++ (codes " commits=" ++ (decimal commits ++ codes "\n")))

@@ -1,0 +1,140 @@
+ghost use Rattle.std.specs.Prelude.{◌≡◌, ◌++◌, codes, decimal, IfOk, OnOk};
+ghost use Rattle.pgs_answer.specs.Lines.{schema_refused_line, store_refused_line, words_refused_line, committed_line, refused_line, violation_line, loaded_line, feeds_lost_line, gen_line, checkpoint_line};
+
+use pgs_base::{Bytes, Memory};
+use pgs_text::TextBuffer;
+use std::alloc::Global;
+
+// Room for the words of a line and two numbers.
+const ROOM: usize = 64;
+
+/// The line of a refused schema.
+pub fn schema_refused_line(alloc: Global, text: &[u8]) -> Result<Bytes, Memory>
+    ensures { IfOk result (λ line. line ≡ schema_refused_line text.now) }
+{
+    let mut line = TextBuffer::with_room(alloc, text.len().saturating_add(ROOM))?;
+    line.push(b"schema refused ")?;
+    line.push(text)?;
+    line.push(b"\n")?;
+    Ok(line.into_bytes())
+}
+
+/// The line of a refused store.
+pub fn store_refused_line(alloc: Global, text: &[u8]) -> Result<Bytes, Memory>
+    ensures { IfOk result (λ line. line ≡ store_refused_line text.now) }
+{
+    let mut line = TextBuffer::with_room(alloc, text.len().saturating_add(ROOM))?;
+    line.push(b"store refused ")?;
+    line.push(text)?;
+    line.push(b"\n")?;
+    Ok(line.into_bytes())
+}
+
+/// The line of refused words: refusal 35.
+pub fn words_refused_line(alloc: Global) -> Result<Bytes, Memory>
+    ensures { IfOk result (λ line. line ≡ words_refused_line) }
+{
+    Bytes::from_slice(alloc, b"words refused 35\n")
+}
+
+/// The verdict line of a committed transaction: the number of its line and of its commit, from 1.
+pub fn committed_line(alloc: Global, line_number: u64, commit: u64) -> Result<Bytes, Memory>
+    ensures { IfOk result (λ line. line ≡ committed_line line_number commit) }
+{
+    let mut line = TextBuffer::with_room(alloc, ROOM)?;
+    line.push_number(line_number)?;
+    line.push(b" committed ")?;
+    line.push_number(commit)?;
+    line.push(b"\n")?;
+    Ok(line.into_bytes())
+}
+
+/// The verdict line of a refused transaction: the number of its line, from 1, and why.
+pub fn refused_line(alloc: Global, line_number: u64, text: &[u8]) -> Result<Bytes, Memory>
+    ensures { IfOk result (λ line. line ≡ refused_line line_number text.now) }
+{
+    let mut line = TextBuffer::with_room(alloc, text.len().saturating_add(ROOM))?;
+    line.push_number(line_number)?;
+    line.push(b" refused ")?;
+    line.push(text)?;
+    line.push(b"\n")?;
+    Ok(line.into_bytes())
+}
+
+/// The line of a violation that is listed.
+pub fn violation_line(alloc: Global, text: &[u8]) -> Result<Bytes, Memory>
+    ensures { IfOk result (λ line. line ≡ violation_line text.now) }
+{
+    let mut line = TextBuffer::with_room(alloc, text.len().saturating_add(ROOM))?;
+    line.push(b"violation ")?;
+    line.push(text)?;
+    line.push(b"\n")?;
+    Ok(line.into_bytes())
+}
+
+/// The line of a loaded store: how many types and keys the guard has.
+pub fn loaded_line(alloc: Global, types: u64, keys: u64) -> Result<Bytes, Memory>
+    ensures { IfOk result (λ line. line ≡ loaded_line types keys) }
+{
+    let mut line = TextBuffer::with_room(alloc, ROOM)?;
+    line.push(b"loaded types=")?;
+    line.push_number(types)?;
+    line.push(b" keys=")?;
+    line.push_number(keys)?;
+    line.push(b"\n")?;
+    Ok(line.into_bytes())
+}
+
+/// The last line of a run in which feeds were lost, with their number.
+pub fn feeds_lost_line(alloc: Global, lost: u64) -> Result<Bytes, Memory>
+    ensures { IfOk result (λ line. line ≡ feeds_lost_line lost) }
+{
+    let mut line = TextBuffer::with_room(alloc, ROOM)?;
+    line.push(b"feeds lost=")?;
+    line.push_number(lost)?;
+    line.push(b"\n")?;
+    Ok(line.into_bytes())
+}
+
+// Puts a name with its count last.
+fn push_count(line: &mut TextBuffer, name: &[u8], count: u64) -> Result<(), Memory>
+    ensures { OnOk result (line.new ≡ line.old ++ (name.now ++ decimal count)) }
+{
+    line.push(name)?;
+    line.push_number(count)
+}
+
+/// The line of a generated workload: how many transactions were committed and refused, how many nodes and edges there are, and how
+/// many edges come in at node 1.
+pub fn gen_line(
+    alloc: Global,
+    committed: u64,
+    refused: u64,
+    nodes: u64,
+    edges: u64,
+    in1: u64,
+) -> Result<Bytes, Memory>
+    ensures { IfOk result (λ line. line ≡ gen_line committed refused nodes edges in1) }
+{
+    let mut line = TextBuffer::with_room(alloc, 160)?;
+    push_count(&mut line, b"gen committed=", committed)?;
+    push_count(&mut line, b" refused=", refused)?;
+    push_count(&mut line, b" nodes=", nodes)?;
+    push_count(&mut line, b" edges=", edges)?;
+    push_count(&mut line, b" in1=", in1)?;
+    line.push(b"\n")?;
+    Ok(line.into_bytes())
+}
+
+/// The line of a checkpoint: the new epoch, and the commits that the store has.
+pub fn checkpoint_line(alloc: Global, epoch: u64, commits: u64) -> Result<Bytes, Memory>
+    ensures { IfOk result (λ line. line ≡ checkpoint_line epoch commits) }
+{
+    let mut line = TextBuffer::with_room(alloc, ROOM)?;
+    line.push(b"checkpoint epoch=")?;
+    line.push_number(epoch)?;
+    line.push(b" commits=")?;
+    line.push_number(commits)?;
+    line.push(b"\n")?;
+    Ok(line.into_bytes())
+}

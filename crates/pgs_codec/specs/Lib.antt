@@ -1,0 +1,6 @@
+pub mod Encodable
+pub mod Frame
+pub mod Payload
+pub mod Places
+pub mod Reading
+pub mod Unread

@@ -1,0 +1,30 @@
+ghost use Rattle.std.specs.Prelude.{◌≡◌};
+ghost use Rattle.pgs_codec.specs.declared.unread.Unread.TheVariants.{Memory as OutOfMemory};
+
+use pgs_base::Memory;
+use std::alloc::AllocFailed;
+
+/// Why nothing was read.
+#[derive(Clone, Copy, Debug, PartialEq, Eq)]
+pub(crate) enum Unread {
+    /// There was no memory for it.
+    Memory,
+    /// The bytes are not those of what is read.
+    Unfit,
+}
+
+impl From<Memory> for Unread {
+    ghost from_gives = { λ _ e. e ≡ OutOfMemory };
+
+    fn from(_: Memory) -> Unread {
+        Unread::Memory
+    }
+}
+
+impl<T: Drop> From<AllocFailed<T>> for Unread {
+    ghost from_gives = { λ _ e. e ≡ OutOfMemory };
+
+    fn from(_: AllocFailed<T>) -> Unread {
+        Unread::Memory
+    }
+}
