@@ -4,5 +4,6 @@ pub mod Composing
 pub mod Creating
 pub mod Images
 pub mod States
+pub mod Written
 pub mod ReadingOn
 pub mod Fits

@@ -9,6 +9,7 @@ mod area_scan;
 mod area_state;
 mod journal;
 mod judging;
+pub mod laws;
 mod records;
 pub mod samples;
 mod scan_fault;
