@@ -4,19 +4,19 @@ use Rattle.pgs_base.specs.declared.element.Elem.{Elem}
 use Rattle.pgs_base.specs.declared.part.Part.{Part}
 use Rattle.pgs_text.specs.Text.{elem_text, tuple_text}
 
-abbrev pub schema_refused_line : List ℕ → List ℕ
+unfoldable pub schema_refused_line : List ℕ → List ℕ
 schema_refused_line text = codes "schema refused " ++ (text ++ codes "\n")
 
 abbrev pub store_refused_line : List ℕ → List ℕ
 store_refused_line text = codes "store refused " ++ (text ++ codes "\n")
 
-abbrev pub words_refused_line : List ℕ
+unfoldable pub words_refused_line : List ℕ
 words_refused_line = codes "words refused 35\n"
 
-abbrev pub committed_line : ℕ → ℕ → List ℕ
+unfoldable pub committed_line : ℕ → ℕ → List ℕ
 committed_line line commit = decimal line ++ (codes " committed " ++ (decimal commit ++ codes "\n"))
 
-abbrev pub refused_line : ℕ → List ℕ → List ℕ
+unfoldable pub refused_line : ℕ → List ℕ → List ℕ
 refused_line line text = decimal line ++ (codes " refused " ++ (text ++ codes "\n"))
 
 abbrev pub violation_line : List ℕ → List ℕ

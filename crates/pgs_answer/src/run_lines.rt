@@ -9,6 +9,7 @@ use std::alloc::Global;
 const ROOM: usize = 64;
 
 /// The line of a refused schema.
+#[tactic(auto, unfolding(crate::specs::Lines::schema_refused_line))]
 pub fn schema_refused_line(alloc: Global, text: &[u8]) -> Result<Bytes, Memory>
     ensures { IfOk result (λ line. line ≡ schema_refused_line text.now) }
 {
@@ -31,6 +32,7 @@ pub fn store_refused_line(alloc: Global, text: &[u8]) -> Result<Bytes, Memory>
 }
 
 /// The line of refused words: refusal 35.
+#[tactic(auto, unfolding(crate::specs::Lines::words_refused_line))]
 pub fn words_refused_line(alloc: Global) -> Result<Bytes, Memory>
     ensures { IfOk result (λ line. line ≡ words_refused_line) }
 {
@@ -38,6 +40,7 @@ pub fn words_refused_line(alloc: Global) -> Result<Bytes, Memory>
 }
 
 /// The verdict line of a committed transaction: the number of its line and of its commit, from 1.
+#[tactic(auto, unfolding(crate::specs::Lines::committed_line))]
 pub fn committed_line(alloc: Global, line_number: u64, commit: u64) -> Result<Bytes, Memory>
     ensures { IfOk result (λ line. line ≡ committed_line line_number commit) }
 {
@@ -50,6 +53,7 @@ pub fn committed_line(alloc: Global, line_number: u64, commit: u64) -> Result<By
 }
 
 /// The verdict line of a refused transaction: the number of its line, from 1, and why.
+#[tactic(auto, unfolding(crate::specs::Lines::refused_line))]
 pub fn refused_line(alloc: Global, line_number: u64, text: &[u8]) -> Result<Bytes, Memory>
     ensures { IfOk result (λ line. line ≡ refused_line line_number text.now) }
 {

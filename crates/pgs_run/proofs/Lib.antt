@@ -1,6 +1,5 @@
 pub mod FirstFound
 pub mod Following
-pub mod Lines
 pub mod Listing
 pub mod Machine
 pub mod OneWord

@@ -8,7 +8,8 @@ use Rattle.pgs_lines.proofs.Fronts.{same_of_front}
 use Rattle.pgs_violation.specs.declared.violation.Verdict.{Verdict}
 use Rattle.pgs_run.specs.Input.{text_limit, text_front, is_separator, is_skipped}
 use Rattle.pgs_run.specs.Session.{Standing, txn_of, answer_to, after_refusal, after_line, pieces_of_line}
-use Rattle.pgs_run.specs.Texts.{refused_line, not_built_text}
+use Rattle.pgs_answer.specs.Lines.{refused_line}
+use Rattle.pgs_run.specs.Texts.{not_built_text}
 use Rattle.pgs_run.specs.Told.{schema_of}
 
 is_long : (n : ℕ) → text_limit < n → (nat_lt text_limit n ≡ true) × (nat_le n text_limit ≡ false)

@@ -7,8 +7,10 @@ use Rattle.pgs_violation.specs.declared.rejection.Rejection.{Rejection}
 use Rattle.pgs_violation.specs.declared.violation.Verdict.{Verdict}
 use Rattle.pgs_violation.specs.Decision.{decide}
 use Rattle.pgs_json.specs.Reading.{first_txn}
+use Rattle.pgs_answer.specs.Lines.{committed_line, refused_line}
+use Rattle.pgs_answer.specs.Refusals.{rejection_text}
 use Rattle.pgs_run.specs.Input.{text_limit, is_skipped}
-use Rattle.pgs_run.specs.Texts.{rejection_text, not_built_text, committed_line, refused_line}
+use Rattle.pgs_run.specs.Texts.{not_built_text}
 
 -- where a run stands between two lines
 pub record Standing : Type 0 where
@@ -39,7 +41,7 @@ decision_on verdict g txn = decide standard verdict g txn
 -- a decision, with the text of a rejection
 abbrev pub with_text : Result Graph Rejection → Result Graph (List ℕ)
 with_text (Ok g) = Ok g
-with_text (Err rejection) = Err (rejection_text standard rejection)
+with_text (Err rejection) = Err (rejection_text rejection standard)
 
 -- the answer to a transaction, or to a refusal: the graph after it, or the text
 abbrev pub answer_to_txn : (Graph → Verdict) → Graph → Result Txn (List ℕ) → Result Graph (List ℕ)

@@ -15,7 +15,8 @@ use Rattle.pgs_run.specs.Command.{command_of}
 use Rattle.pgs_run.specs.FirstVerdict.{first_verdict}
 use Rattle.pgs_run.specs.Input.{text_limit, is_separator, schema_part, after_separator}
 use Rattle.pgs_run.specs.Session.{Standing, or_not_built, after_lines, pieces_of_lines}
-use Rattle.pgs_run.specs.Texts.{not_built_text, schema_refused_line, words_refused_line}
+use Rattle.pgs_run.specs.Texts.{not_built_text}
+use Rattle.pgs_answer.specs.Lines.{schema_refused_line, words_refused_line}
 
 -- where a run stands before its first line
 abbrev pub start : Standing

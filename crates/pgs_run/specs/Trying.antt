@@ -13,7 +13,7 @@ use Rattle.pgs_run.specs.FirstVerdict.{first_verdict}
 use Rattle.pgs_run.specs.Input.{text_front, is_separator, schema_part, after_separator}
 use Rattle.pgs_run.specs.Part.{Part}
 use Rattle.pgs_run.specs.Session.{after_line, after_lines, pieces_of_line}
-use Rattle.pgs_run.specs.Texts.{schema_refused_line}
+use Rattle.pgs_answer.specs.Lines.{schema_refused_line}
 use Rattle.pgs_run.specs.Told.{start, schema_of, status_of, told_schema}
 
 -- the schema part with one more line

@@ -9,7 +9,7 @@ use crate::command::{Command, command_of};
 use crate::line_list::{joined, lines_of, separator_place};
 use crate::schema_part::schema_of;
 use crate::session::Session;
-use crate::texts::{schema_refused_line, words_refused_line};
+use pgs_answer::{schema_refused_line, words_refused_line};
 use pgs_base::{Bytes, List, Memory, Words};
 use pgs_parser::FirstSchema;
 use std::alloc::Global;

@@ -9,7 +9,8 @@ ghost use Rattle.pgs_run.specs.Told.{start};
 use crate::decision::{DecideFault, decide};
 use crate::plain_graph::PlainGraph;
 use crate::schema_part::TEXT_LIMIT;
-use crate::texts::{committed_line, not_built_text, refused_line, rejection_text};
+use crate::texts::not_built_text;
+use pgs_answer::{committed_line, refused_line, rejection_text};
 use pgs_base::{Bytes, Limits, Memory};
 use pgs_graph::Txn;
 use pgs_json::read_first;
@@ -104,8 +105,8 @@ impl Session {
         ensures session { OnOk result (self.new ≡ after_answer self.old (with_text (Err rejection.now))) }
         ensures piece { IfOk result (λ piece. piece ≡ verdict_line self.old (with_text (Err rejection.now))) }
     {
-        let text = rejection_text(alloc, &Limits::standard(), rejection)?;
-        let piece = refused_line(alloc, self.number + 1, text.as_bytes())?;
+        let text = rejection_text(alloc, rejection, &Limits::standard())?;
+        let piece = refused_line(alloc, self.number + 1, text.as_slice())?;
         self.refuse();
         Ok(piece)
     }

@@ -13,7 +13,7 @@ ghost use Rattle.pgs_run.specs.Trying.{trying, first_phase, after_schema, pieces
 use crate::Status;
 use crate::schema_part::{SchemaPart, schema_of};
 use crate::session::Session;
-use crate::texts::schema_refused_line;
+use pgs_answer::schema_refused_line;
 use pgs_base::{Bytes, Memory};
 use pgs_lines::{LineTaker, Stop, put_piece};
 use pgs_parser::FirstSchema;
