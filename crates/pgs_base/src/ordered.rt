@@ -129,14 +129,6 @@ impl<K: Ord> Ordered<K> {
             Err(_) => false,
         }
     }
-
-    /// Takes the memory for more keys ahead. The keys stay as they are.
-    pub fn reserve(&mut self, more: usize) -> Result<(), Memory>
-        ensures { self.new ≡ self.old }
-    {
-        self.keys.reserve(more)?;
-        Ok(())
-    }
 }
 
 impl<K: Ord + Copyable + Drop> Copyable for Ordered<K> {

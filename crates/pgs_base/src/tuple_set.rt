@@ -83,13 +83,6 @@ impl TupleSet {
     {
         self.tuples.insert(tuple)
     }
-
-    /// Takes the memory for more tuples ahead. The tuples stay as they are.
-    pub fn reserve(&mut self, more: usize) -> Result<(), Memory>
-        ensures { self.new ≡ self.old }
-    {
-        self.tuples.reserve(more)
-    }
 }
 
 impl Copyable for TupleSet {

@@ -15,7 +15,7 @@ use Rattle.pgs_base.specs.Graph.{is_graph}
 use Rattle.pgs_base.specs.Name.{is_name}
 use Rattle.pgs_base.specs.Order.{ascends}
 use Rattle.pgs_graph.specs.declared.operation.Op.{Op}
-use Rattle.pgs_graph.specs.declared.operation.Op.TheVariants.{AddNode, AddEdge, RemoveNode, DetachNode, RemoveEdge, SetNode, UnsetNode, LabelNode, UnlabelNode, SetEdge, UnsetEdge, LabelEdge, UnlabelEdge}
+use Rattle.pgs_graph.specs.declared.operation.Op.TheVariants.{AddNode, AddEdge}
 use Rattle.pgs_codec.specs.declared.command.Command.{Command}
 use Rattle.pgs_codec.specs.declared.command.Command.TheVariants as commands
 use Rattle.pgs_codec.specs.Encodable.{is_wide, is_node_id, is_edge_id, is_labels, is_props, is_property, is_node_row, is_edge_row, is_node, is_edge, is_op, is_small, is_small_node, is_small_edge, adds_small, are_parts, snapshot_graph, is_sized, is_encodable}

@@ -1,15 +1,16 @@
 -- Reading a snapshot: its parts, and then that they are a graph.
-use Rattle.std.proofs.Common.{◌≡◌, ℕ, Bool, true, false, cond, ◌&&◌, List, Option, Some, None, refl, sym, ap, ◌∙◌}
+use Rattle.std.proofs.Common.{◌≡◌, ℕ, Bool, true, false, cond, List, Option, Some, None, refl, sym, ap, ◌∙◌}
 use Rattle.std.specs.List.{list_all}
 use Rattle.std.specs.Map.{keys_of}
-use Rattle.std.proofs.lemmas.Bool.{and_from, cond-true}
+use Rattle.std.proofs.lemmas.Bool.{cond-true}
 use Rattle.pgs_base.specs.declared.element.NodeId.{NodeId}
 use Rattle.pgs_base.specs.declared.element.EdgeId.{EdgeId}
 use Rattle.pgs_base.specs.declared.row.NodeRow.{NodeRow}
 use Rattle.pgs_base.specs.declared.row.EdgeRow.{EdgeRow}
-use Rattle.pgs_base.specs.Graph.{node_cmp, edge_cmp, has_ends, is_graph}
+use Rattle.pgs_base.specs.Graph.{node_cmp, edge_cmp, has_ends, is_node_entry, is_edge_entry, is_graph}
 use Rattle.pgs_base.specs.Order.{ascends}
 use Rattle.pgs_base.specs.Options.{◌>>=◌}
+use Rattle.pgs_base.proofs.Graphs.{graph_from}
 use Rattle.pgs_codec.specs.declared.command.Command.{Command}
 use Rattle.pgs_codec.specs.declared.command.Command.TheVariants.{Snapshot}
 use Rattle.pgs_codec.specs.declared.unread.Unread.{Unread}
@@ -54,11 +55,12 @@ module _ (rest left : List ℕ) (commits : ℕ) (nodes : List (NodeId × NodeRow
   no_snapshot unread.Memory f = tt
   no_snapshot unread.Unfit f = snapshot_read ∙ none_left (is_graph (snapshot_graph nodes edges)) (Snapshot commits nodes edges) left f
 
--- rows that pass the three tests are a graph
+-- rows that pass the three tests are a graph, since each can stand in one
 pub graph_found : (commits : ℕ) (nodes same_nodes : List (NodeId × NodeRow)) (edges same_edges : List (EdgeId × EdgeRow)) → ascends node_cmp (keys_of nodes) ≡ true →
-    ascends edge_cmp (keys_of edges) ≡ true → list_all (λ (edge : EdgeId × EdgeRow). has_ends (snapshot_graph nodes edges) edge.1) edges ≡ true → same_nodes ≡ nodes → same_edges ≡ edges →
+    ascends edge_cmp (keys_of edges) ≡ true → list_all is_node_entry nodes ≡ true → list_all is_edge_entry edges ≡ true →
+    list_all (λ (edge : EdgeId × EdgeRow). has_ends (snapshot_graph nodes edges) edge.1) edges ≡ true → same_nodes ≡ nodes → same_edges ≡ edges →
     if_graph commits nodes edges ≡ Some (Snapshot commits same_nodes same_edges)
-graph_found commits nodes same_nodes edges same_edges by_node by_edge ends n e =
+graph_found commits nodes same_nodes edges same_edges by_node by_edge stand join ends n e =
     cond-true (is_graph (snapshot_graph nodes edges)) (Some (Snapshot commits nodes edges)) None
-    (and_from (ascends node_cmp (keys_of nodes) && ascends edge_cmp (keys_of edges)) _ (and_from (ascends node_cmp (keys_of nodes)) (ascends edge_cmp (keys_of edges)) by_node by_edge) ends)
+    (graph_from (snapshot_graph nodes edges) (record { node_order = by_node; edge_order = by_edge; nodes = stand; edges = join; ends = ends }))
     ∙ ap (λ (l : List (NodeId × NodeRow)). Some (Snapshot commits l edges)) (sym n) ∙ ap (λ (l : List (EdgeId × EdgeRow)). Some (Snapshot commits same_nodes l)) (sym e)

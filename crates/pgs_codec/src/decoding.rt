@@ -13,7 +13,7 @@ use crate::field::{Field, read_all};
 use crate::order::keys_ascend;
 use crate::reader::Reader;
 use crate::unread::Unread;
-use pgs_base::{EdgeId, EdgeRow, List, Memory, NodeId, NodeRow, Rows};
+use pgs_base::{EdgeId, EdgeRow, List, Memory, NodeId, NodeRow, Rows, edges_facts, nodes_facts};
 use pgs_graph::Txn;
 use std::alloc::Global;
 
@@ -66,6 +66,8 @@ fn snapshot_of(
     if !keys_ascend(nodes.as_slice()) || !keys_ascend(edges.as_slice()) {
         return Err(Unread::Unfit);
     }
+    nodes_facts(nodes.as_slice());
+    edges_facts(edges.as_slice());
     let nodes = Rows::from_vec(nodes);
     if !have_ends(&nodes, edges.as_slice()) {
         return Err(Unread::Unfit);

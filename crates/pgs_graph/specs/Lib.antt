@@ -1,3 +1,4 @@
 pub mod Changed
 pub mod Merging
+pub mod Operations
 pub mod Reads

@@ -1,2 +1,11 @@
 pub mod Computed
+pub mod Firsts
+pub mod Members
+pub mod Once
 mod OneAnswer
+pub mod Parts
+pub mod Repeats
+pub mod Same
+pub mod Steps
+pub mod Trees
+pub mod Walks

@@ -1,10 +1,13 @@
 pub mod Declarations
 pub mod Guard
 pub mod KeyFaults
+pub mod KeyNames
 pub mod Order
 pub mod Patterns
+pub mod Placed
 pub mod Refused
 pub mod Resolution
 pub mod Samples
 pub mod SchemaOf
+pub mod Tables
 pub mod Width

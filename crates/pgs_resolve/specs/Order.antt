@@ -11,6 +11,7 @@ use Rattle.pgs_syntax.specs.declared.specification.Leaf.TheVariants.{Label, Name
 use Rattle.pgs_syntax.specs.declared.specification.Spec as specs
 use Rattle.pgs_syntax.specs.declared.specification.Spec.{Spec, Empty, Word, OpenLabels, And', Or', Opt', Row_of-Spec, end_of-Spec, more_of-Spec}
 use Rattle.pgs_base.specs.Pair.{same_name, has_name}
+pub use Rattle.pgs_resolve.specs.declared.order.Numbering.{Numbering}
 use Rattle.pgs_resolve.specs.Declarations.{words_of, nodes_of, edges_of, node_named, edge_named, is_node_type, is_edge_type}
 
 -- a type to be listed: its name, its place, and the types of its kind that it names
@@ -48,10 +49,6 @@ edge_entry script type =
     record { name = type.name; place = type.place; names = filter (is_edge_type script) (words_of type.middle) }
 
 -- the names of the node types and of the edge types, each at the place of its number
-pub record Numbering : Type 0 where
-  pub nodes : List (List ℕ)
-  pub edges : List (List ℕ)
-
 abbrev pub numbering_of : Script → Numbering
 numbering_of script = record {
   nodes = listing (length (nodes_of script)) [] (map (node_entry script) (nodes_of script));

@@ -18,6 +18,9 @@ use Rattle.pgs_syntax.specs.declared.script.Statement.{Statement}
 use Rattle.pgs_syntax.specs.declared.script.Statement.TheVariants.{Node, Edge, Graph}
 use Rattle.pgs_syntax.specs.declared.specification.Spec.{Spec}
 use Rattle.pgs_base.specs.Pair.{same_name, has_name}
+use Rattle.pgs_resolve.specs.declared.duplicates.Mark.{Mark}
+use Rattle.pgs_resolve.specs.declared.duplicates.Mark.TheVariants as marks
+use Rattle.pgs_resolve.specs.declared.kinds.Use.{Use}
 use Rattle.pgs_resolve.specs.Declarations.{words_of, braces_of, graphs_of, nodes_of, edges_of, node_named, edge_named, graph_named, is_node_type, is_edge_type, is_graph_type}
 
 -- ---- declared twice
@@ -28,39 +31,44 @@ repeated_after earlier [] = []
 repeated_after earlier (name ∷ names) =
     (if has_name name earlier then name ∷ [] else []) ++ repeated_after (name ∷ earlier) names
 
--- a place of the tree that can be a second one: of an element type, of a graph type, or of a property that its braces have before
-pub data Mark : Type 0 where
-  element : List ℕ → Mark
-  graph : List ℕ → Mark
-  again : List ℕ → Mark
-
+-- the places of the tree that can be a second one: each of an element type or a graph type, and those of properties that their
+-- braces have before
 abbrev pub marked : Mark → List ℕ
-marked (element name) = name
-marked (graph name) = name
-marked (again name) = name
+marked (marks.Element name) = name
+marked (marks.Graph name) = name
+marked (marks.Again name) = name
+
+-- the element type, and the graph type, that is marked
+abbrev pub element_in : Mark → Option (List ℕ)
+element_in (marks.Element name) = Some name
+element_in _ = None
+
+abbrev pub graph_in : Mark → Option (List ℕ)
+graph_in (marks.Graph name) = Some name
+graph_in _ = None
 
 abbrev pub marks_in : Spec (List ℕ) → List Mark
-marks_in spec = map again (flat_map (repeated_after []) (braces_of spec))
+marks_in spec = map marks.Again (flat_map (repeated_after []) (braces_of spec))
 
 abbrev pub marks_of_member : Member → List Mark
 marks_of_member (members.Named name) = []
-marks_of_member (members.Node type) = element type.name ∷ marks_in type.spec
+marks_of_member (members.Node type) = marks.Element type.name ∷ marks_in type.spec
 marks_of_member (members.Edge type) =
-    element type.name ∷ marks_in type.source ++ marks_in type.middle ++ marks_in type.target
+    marks.Element type.name ∷ marks_in type.source ++ marks_in type.middle ++ marks_in type.target
 
 abbrev pub marks_of : Statement → List Mark
 marks_of (Node type) = marks_of_member (members.Node type)
 marks_of (Edge type) = marks_of_member (members.Edge type)
-marks_of (Graph type) = graph type.name ∷ flat_map marks_of_member type.members
+marks_of (Graph type) = marks.Graph type.name ∷ flat_map marks_of_member type.members
 
 -- whether a mark is a second one, after those that stand before
 abbrev pub is_after : Mark → Mark → Bool
-is_after (element a) (element b) = same_name a b
-is_after (graph a) (graph b) = same_name a b
+is_after (marks.Element a) (marks.Element b) = same_name a b
+is_after (marks.Graph a) (marks.Graph b) = same_name a b
 is_after _ _ = false
 
 abbrev pub is_second : List Mark → Mark → Bool
-is_second earlier (again name) = true
+is_second earlier (marks.Again name) = true
 is_second earlier mark = list_any (is_after mark) earlier
 
 abbrev pub seconds_after : List Mark → List Mark → List (List ℕ)
@@ -88,37 +96,36 @@ unknowns script = flat_map (unknown_in script) (graphs_of script)
 
 -- ---- of the wrong kind
 
--- the edge types among names that stand where node types are meant, and the node types where edge types are
-abbrev pub wrong_among : Script → Bool → List (List ℕ) → List (List ℕ)
-wrong_among script false names = filter (is_edge_type script) names
-wrong_among script true names = filter (is_node_type script) names
+-- names that stand where edge types may be named, or where node types may be
+abbrev pub uses_as : Bool → List (List ℕ) → List Use
+uses_as of_edge names = map (λ name. record { of_edge = of_edge; name = name }) names
 
-abbrev pub wrong_in_member : Script → Member → List (List ℕ)
-wrong_in_member script (members.Named name) = []
-wrong_in_member script (members.Node type) = wrong_among script false (words_of type.spec)
-wrong_in_member script (members.Edge type) =
-    wrong_among script false (words_of type.source) ++ wrong_among script true (words_of type.middle)
-    ++ wrong_among script false (words_of type.target)
+abbrev pub uses_in_member : Member → List Use
+uses_in_member (members.Named name) = []
+uses_in_member (members.Node type) = uses_as false (words_of type.spec)
+uses_in_member (members.Edge type) =
+    uses_as false (words_of type.source) ++ uses_as true (words_of type.middle) ++ uses_as false (words_of type.target)
 
-abbrev pub wrong_in_step : Script → RawStep → List (List ℕ)
-wrong_in_step script step =
-    wrong_among script true step.edge.filter.names ++ wrong_among script false step.node.filter.names
+abbrev pub uses_in_step : RawStep → List Use
+uses_in_step step = uses_as true step.edge.filter.names ++ uses_as false step.node.filter.names
 
-abbrev pub wrong_in_path : Script → RawPath → List (List ℕ)
-wrong_in_path script path =
-    wrong_among script false path.start.filter.names ++ flat_map (wrong_in_step script) path.steps
+abbrev pub uses_in_path : RawPath → List Use
+uses_in_path path = uses_as false path.start.filter.names ++ flat_map uses_in_step path.steps
 
-abbrev pub wrong_in_key : Script → RawKey → List (List ℕ)
-wrong_in_key script key =
-    flat_map (wrong_in_path script) key.scope ++ option_map_or (flat_map (wrong_in_path script)) key.within []
+abbrev pub uses_in_key : RawKey → List Use
+uses_in_key key = flat_map uses_in_path key.scope ++ option_map_or (flat_map uses_in_path) key.within []
 
-abbrev pub wrong_in : Script → Statement → List (List ℕ)
-wrong_in script (Node type) = wrong_in_member script (members.Node type)
-wrong_in script (Edge type) = wrong_in_member script (members.Edge type)
-wrong_in script (Graph type) = flat_map (wrong_in_member script) type.members ++ flat_map (wrong_in_key script) type.keys
+abbrev pub uses_in : Statement → List Use
+uses_in (Node type) = uses_in_member (members.Node type)
+uses_in (Edge type) = uses_in_member (members.Edge type)
+uses_in (Graph type) = flat_map uses_in_member type.members ++ flat_map uses_in_key type.keys
+
+-- the node types where edge types may be named, and the edge types where node types may be
+abbrev pub is_wrong : Script → Use → Bool
+is_wrong script meant = if meant.of_edge then is_node_type script meant.name else is_edge_type script meant.name
 
 abbrev pub wrong_kinds : Script → List (List ℕ)
-wrong_kinds script = flat_map (wrong_in script) script.statements
+wrong_kinds script = map (λ (meant : Use). meant.name) (filter (is_wrong script) (flat_map uses_in script.statements))
 
 -- ---- on a cycle
 

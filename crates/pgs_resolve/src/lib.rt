@@ -4,8 +4,21 @@
 //! are computed in `specs/Resolution.antt`. `specs/SchemaOf.antt` says what a text is, from its bytes to its schema.
 #![tactic(auto)]
 
+mod declarations;
+mod duplicates;
 mod fault;
+mod guard;
+mod imports;
+mod key_faults;
+mod kinds;
 pub mod laws;
+mod names;
+mod order;
+mod pieces;
+mod places;
+mod resolved_types;
 pub mod samples;
+mod specifications;
+mod unknown;
 
 pub use fault::{KeyCause, ResolveFault};

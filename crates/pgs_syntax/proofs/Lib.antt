@@ -1,5 +1,6 @@
 pub mod AnyOrder
 pub mod Assigned
+pub mod Carried
 pub mod Closed
 pub mod Connected
 pub mod Edges

@@ -33,18 +33,43 @@ pub fn edges_at<G: GraphRead, L: Ledger>(
     (out, into, steps.shown())
 }
 
+/// The number of an edge, or 0 for none.
+fn number(edge: Option<EdgeId>) -> u64 {
+    match edge {
+        Some(id) => id.0,
+        None => 0,
+    }
+}
+
+/// Of a node of the sample: the numbers of the edges at places 0 and 1 out of it and into it, 0 for none, and the ticks.
+fn listed(alloc: Global, id: u64) -> Result<([u64; 4], u64), Memory> {
+    let graph = sample(alloc, node(alloc))?;
+    let ([first_out, second_out], [first_in, second_in], ticks) = edges_at::<Graph, Brand>(
+        &graph,
+        id,
+        Blank::new(1),
+    );
+    let numbers = [
+        number(first_out),
+        number(second_out),
+        number(first_in),
+        number(second_in),
+    ];
+    Ok((numbers, ticks))
+}
+
+/// Each node with its edges.
+const LISTS: &[(u64, [u64; 4])] = &[
+    (1, [4, 6, 0, 0]),
+    (2, [5, 0, 4, 5]),
+    (3, [0, 0, 6, 0]),
+    (4, [0, 0, 0, 0]),
+];
+
 #[test]
 fn edges_are_listed_at_both_ends(rt: HostRuntime) -> Result<(), Fail> {
-    let graph = sample(rt.alloc(), node(rt.alloc()))?;
-    let [four, five, six] = [Some(EdgeId(4)), Some(EdgeId(5)), Some(EdgeId(6))];
-    for (id, out, into) in [
-        (1, [four, six], [None, None]),
-        (2, [five, None], [four, five]),
-        (3, [None, None], [six, None]),
-        (4, [None, None], [None, None]),
-    ] {
-        let read = edges_at::<Graph, Brand>(&graph, id, Blank::new(1));
-        assert_eq!(rt; read, (out, into, 4), "{id}");
+    for (id, want) in LISTS {
+        assert_eq!(rt; listed(rt.alloc(), *id)?, (*want, 4), "{id}");
     }
     Ok(())
 }
@@ -96,17 +121,26 @@ fn labelled(alloc: Global, label: &Name) -> Result<Graph, Memory> {
     sample(alloc, first)
 }
 
+type Read = (Option<bool>, Option<(u64, u64)>, u64);
+
+/// Whether a node has the label Person that the first one has, the ends of an edge, and the ticks.
+fn read(alloc: Global, node: u64, edge: u64) -> Result<Read, Fail> {
+    let label = name(alloc, "Person")?;
+    let graph = labelled(alloc, &label)?;
+    Ok(carried::<Graph, Brand>(&graph, node, edge, &label, Blank::new(1)))
+}
+
+/// A node and an edge, and what is read of them.
+const READS: &[(u64, u64, Read)] = &[
+    (1, 4, (Some(true), Some((1, 2)), 2)),
+    (2, 5, (Some(false), Some((2, 2)), 2)),
+    (4, 7, (None, None, 2)),
+];
+
 #[test]
 fn elements_are_read(rt: HostRuntime) -> Result<(), Fail> {
-    let label = name(rt.alloc(), "Person")?;
-    let graph = labelled(rt.alloc(), &label)?;
-    for (node, edge, labelled, ends) in [
-        (1, 4, Some(true), Some((1, 2))),
-        (2, 5, Some(false), Some((2, 2))),
-        (4, 7, None, None),
-    ] {
-        let read = carried::<Graph, Brand>(&graph, node, edge, &label, Blank::new(1));
-        assert_eq!(rt; read, (labelled, ends, 2), "{node} {edge}");
+    for (node, edge, want) in READS {
+        assert_eq!(rt; read(rt.alloc(), *node, *edge)?, *want, "{node} {edge}");
     }
     Ok(())
 }

@@ -70,6 +70,7 @@ fn whole(alloc: Global, first: NodeRow) -> Result<Delta, Memory>
 pub fn sample(alloc: Global, first: NodeRow) -> Result<Graph, Memory>
     ensures { IfOk result (λ graph. graph ≡ sample first) }
 {
+    first.facts();
     let delta = whole(alloc, first)?;
     let mut graph = Graph::new(alloc);
     graph.change(delta)?;

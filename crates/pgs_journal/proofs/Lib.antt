@@ -1,0 +1,5 @@
+pub mod Appending
+pub mod Composing
+pub mod Creating
+pub mod Images
+pub mod Fits

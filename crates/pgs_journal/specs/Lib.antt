@@ -1,0 +1,5 @@
+pub mod Area
+pub mod Format
+pub mod Reading
+pub mod Samples
+pub mod Stops

@@ -1,0 +1,56 @@
+-- Walks over a list that put what each item gives behind what was there.
+use Rattle.std.proofs.Common.{◌≡◌, ℕ, ◌+◌, ◌<◌, ◌≤◌, List, [], ◌∷◌, ◌++◌, length, take, map, get_or, Option, Some, None, refl, sym, ◌∙◌, ap}
+use Rattle.std.specs.List.{flat_map, filter_map, cons_option}
+use Rattle.std.specs.Option.{option_to_list}
+use Rattle.std.proofs.lemmas.List.{append_assoc, take_all, take_more, flat_map_more}
+use Rattle.std.proofs.lemmas.List.Elements.{filter_map-append}
+
+-- one more item of a list
+module _ {X : Type 0} where
+  pub one_more : (xs : List X) (i : ℕ) (x : X) → i < length xs → x ≡ get_or xs i x → take (i + 1) xs ≡ take i xs ++ x ∷ []
+  one_more xs i x h is = take_more xs i x h ∙ ap (λ y. take i xs ++ y ∷ []) (sym is)
+
+module _ {X A : Type 0} (f : X → List A) where
+  pub more_of : (old : List A) (xs : List X) (i : ℕ) (x : X) (mid new : List A) → i < length xs → x ≡ get_or xs i x →
+      mid ≡ old ++ flat_map f (take i xs) → new ≡ mid ++ f x → new ≡ old ++ flat_map f (take (i + 1) xs)
+  more_of old xs i x mid new h is before after =
+      after ∙ ap (λ ys. ys ++ f x) before ∙ flat_map_more f old (take i xs) x ∙ ap (λ ys. old ++ flat_map f ys) (sym (one_more xs i x h is))
+
+  pub all_of : (old : List A) (xs ys : List X) (i : ℕ) (new : List A) → length xs ≤ i → xs ≡ ys →
+      new ≡ old ++ flat_map f (take i xs) → new ≡ old ++ flat_map f ys
+  all_of old xs ys i new h same before = before ∙ ap (λ zs. old ++ flat_map f zs) (take_all i xs h ∙ same)
+
+module _ {X A : Type 0} (f : X → Option A) where
+  one_kept : (o : Option A) → cons_option o [] ≡ option_to_list o
+  one_kept None = refl
+  one_kept (Some x) = refl
+
+  pub more_kept : (old : List A) (xs : List X) (i : ℕ) (x : X) (mid new : List A) → i < length xs → x ≡ get_or xs i x →
+      mid ≡ old ++ filter_map f (take i xs) → new ≡ mid ++ option_to_list (f x) → new ≡ old ++ filter_map f (take (i + 1) xs)
+  more_kept old xs i x mid new h is before after =
+      after ∙ ap (λ ys. ys ++ option_to_list (f x)) before ∙ append_assoc old (filter_map f (take i xs)) (option_to_list (f x))
+      ∙ ap (λ ys. old ++ ys)
+      (ap (λ ys. filter_map f (take i xs) ++ ys) (sym (one_kept (f x))) ∙ sym (filter_map-append f (take i xs) (x ∷ []))
+      ∙ ap (filter_map f) (sym (one_more xs i x h is)))
+
+  pub all_kept : (old : List A) (xs ys : List X) (i : ℕ) (new : List A) → length xs ≤ i → xs ≡ ys →
+      new ≡ old ++ filter_map f (take i xs) → new ≡ old ++ filter_map f ys
+  all_kept old xs ys i new h same before = before ∙ ap (λ zs. old ++ filter_map f zs) (take_all i xs h ∙ same)
+
+-- what is kept of what each item gives
+module _ {X Y A : Type 0} (f : X → List Y) (h : Y → Option A) where
+  pub more_kept_of : (xs : List X) (i : ℕ) (x : X) (mid new : List A) → i < length xs → x ≡ get_or xs i x →
+      mid ≡ filter_map h (flat_map f (take i xs)) → new ≡ mid ++ filter_map h (f x) → new ≡ filter_map h (flat_map f (take (i + 1) xs))
+  more_kept_of xs i x mid new lt is before after =
+      after ∙ ap (λ ys. ys ++ filter_map h (f x)) before ∙ sym (filter_map-append h (flat_map f (take i xs)) (f x))
+      ∙ ap (filter_map h) (flat_map_more f [] (take i xs) x ∙ ap (flat_map f) (sym (one_more xs i x lt is)))
+
+-- two maps one after the other
+pub map_through : {X Y Z : Type 0} (f : X → Y) (g : Y → Z) (xs : List X) → map (λ x. g (f x)) xs ≡ map g (map f xs)
+map_through f g [] = refl
+map_through f g (x ∷ xs) = ap (λ ys. g (f x) ∷ ys) (map_through f g xs)
+
+-- what is kept of mapped items
+pub kept_through : {X Y A : Type 0} (f : X → Y) (h : Y → Option A) (xs : List X) → filter_map (λ x. h (f x)) xs ≡ filter_map h (map f xs)
+kept_through f h [] = refl
+kept_through f h (x ∷ xs) = ap (cons_option (h (f x))) (kept_through f h xs)

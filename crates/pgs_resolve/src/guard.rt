@@ -1,0 +1,97 @@
+ghost use Rattle.std.specs.Prelude.{◌≡◌, ℕ, List, [], ◌∷◌, ◌++◌, filter_map, flat_map, if◌then◌else◌, IfOk, OnOk, map};
+ghost use Rattle.std.specs.Option.{option_to_list};
+ghost use Rattle.pgs_base.specs.Pair.{has_name};
+ghost use Rattle.pgs_resolve.specs.Guard.{name_of, each_once, type_no};
+
+use crate::names::Names;
+use crate::order::Numbering;
+use pgs_base::{Copyable, Memory, Name};
+use pgs_syntax::{GraphType, Member, TypeNo};
+use std::alloc::Global;
+
+fn name_of(member: &Member) -> &Name
+    ensures { result.now ≡ name_of member.now }
+{
+    match member {
+        Member::Named(name) => name,
+        Member::Node(node) => &node.name,
+        Member::Edge(edge) => &edge.name,
+    }
+}
+
+// The number of the type of a name: of a node type, or of an edge type.
+fn type_no(numbering: &Numbering, name: &Name) -> Option<TypeNo>
+    ensures { result ≡ type_no numbering.now name.now }
+{
+    match numbering.nodes.number(name) {
+        Some(number) => Some(TypeNo::Node(number)),
+        None => match numbering.edges.number(name) {
+            Some(number) => Some(TypeNo::Edge(number)),
+            None => None,
+        },
+    }
+}
+
+// Puts the name of a member last where it isn't there.
+fn list_member(alloc: Global, member: &Member, names: &mut Names) -> Result<(), Memory>
+    ensures { OnOk result (names.new ≡ names.old ++ (if has_name (name_of member.now) names.old then [] else name_of member.now ∷ [])) }
+{
+    let name = name_of(member);
+    if !names.contains(name) {
+        names.push(alloc, name.copy(alloc)?)?;
+    }
+    Ok(())
+}
+
+// Puts the names of members last that aren't there.
+fn list_members(alloc: Global, members: &[Member], names: &mut Names) -> Result<(), Memory>
+    ensures { (before : List (List ℕ)) → names.old ≡ each_once before → OnOk result (names.new ≡ each_once (before ++ map name_of members.now)) }
+{
+    for member in members {
+        list_member(alloc, member, names)?;
+    }
+    Ok(())
+}
+
+// The names of the members of graph types, each once, by their first places.
+fn member_names(alloc: Global, graphs: &[&GraphType]) -> Result<Names, Memory>
+    ensures { IfOk result (λ names. names ≡ each_once (map name_of (flat_map (λ graph. graph.now.members) graphs.now))) }
+{
+    let mut names = Names::new(alloc);
+    for graph in graphs {
+        list_members(alloc, graph.members.as_slice(), &mut names)?;
+    }
+    Ok(names)
+}
+
+fn push_number(numbering: &Numbering, name: &Name, types: &mut Vec<TypeNo>) -> Result<(), Memory>
+    ensures { OnOk result (types.new.items ≡ types.old.items ++ option_to_list (type_no numbering.now name.now)) }
+{
+    if let Some(number) = type_no(numbering, name) {
+        types.push(number)?;
+    }
+    Ok(())
+}
+
+fn numbered(alloc: Global, numbering: &Numbering, names: &[Name]) -> Result<Vec<TypeNo>, Memory>
+    ensures { IfOk result (λ types. types.items ≡ filter_map (type_no numbering.now) names.now) }
+{
+    let mut types = Vec::new(alloc);
+    for name in names {
+        push_number(numbering, name, &mut types)?;
+    }
+    Ok(types)
+}
+
+/// The numbers of the types that graph types list, each once, by their first places.
+pub fn listed_types(
+    alloc: Global,
+    numbering: &Numbering,
+    graphs: &[&GraphType],
+) -> Result<Vec<TypeNo>, Memory>
+    ensures { IfOk result (λ types. types.items ≡ filter_map (type_no numbering.now)
+        (each_once (map name_of (flat_map (λ graph. graph.now.members) graphs.now)))) }
+{
+    let names = member_names(alloc, graphs)?;
+    numbered(alloc, numbering, names.as_slice())
+}
