@@ -1,5 +1,9 @@
 pub mod Appending
+pub mod Bounding
 pub mod Composing
 pub mod Creating
 pub mod Images
+pub mod States
+pub mod Written
+pub mod ReadingOn
 pub mod Fits

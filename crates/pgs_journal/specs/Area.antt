@@ -5,7 +5,8 @@ use Rattle.pgs_codec.specs.Places.{is_payload_of, is_schema, is_txn, is_snapshot
 use Rattle.pgs_journal.specs.declared.area_state.AreaState.{AreaState}
 use Rattle.pgs_journal.specs.declared.area_state.AreaState.TheVariants.{NoStore, Foreign, Damaged, Store}
 use Rattle.pgs_journal.specs.Format.{Format, is_open, is_epoch, magic, opened}
-use Rattle.pgs_journal.specs.Reading.{Found, records_in}
+use Rattle.pgs_journal.specs.declared.records.Found.{Found}
+use Rattle.pgs_journal.specs.Reading.{records_in}
 
 -- the first byte is an open gate
 abbrev pub opens : List ℕ → Bool

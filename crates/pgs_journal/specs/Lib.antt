@@ -1,4 +1,5 @@
 pub mod Area
+pub mod Bounds
 pub mod Format
 pub mod Reading
 pub mod Samples

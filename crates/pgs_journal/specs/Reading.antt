@@ -1,6 +1,7 @@
 -- How the records of an area are read from its first gate on.
 use Rattle.std.specs.Prelude.{ℕ, zero, suc, ◌+◌, Bool, true, false, List, [], ◌∷◌, length, take, drop, nat_lt, if◌then◌else◌}
 use Rattle.byteorder.specs.Endian.{big_number}
+use Rattle.pgs_journal.specs.declared.records.Found.{Found}
 use Rattle.pgs_journal.specs.Format.{Format, is_open}
 
 -- what stands at a gate
@@ -22,15 +23,14 @@ abbrev pub next_of : Format → ℕ → List ℕ → Next
 next_of format number [] = Closed
 next_of format number (gate ∷ bytes) = if is_open gate then record_of format number bytes else Closed
 
-pub record Found : Type 0 where
-  pub payloads : List (List ℕ)
-  -- the gate behind them is closed
-  pub ended : Bool
+-- the same with one payload before them
+abbrev pub after_one : List ℕ → Found → Found
+after_one payload found = record { payloads = payload ∷ found.payloads; ended = found.ended }
 
 abbrev pub found_at : Next → (List ℕ → Found) → Found
 found_at Closed go = record { payloads = []; ended = true }
 found_at Torn go = record { payloads = []; ended = false }
-found_at (Whole payload rest) go = let after = go rest in record { payloads = payload ∷ after.payloads; ended = after.ended }
+found_at (Whole payload rest) go = after_one payload (go rest)
 
 -- at most so many records, the first of them of this number
 abbrev pub records_within : Format → ℕ → ℕ → List ℕ → Found
@@ -39,4 +39,4 @@ records_within format (suc most) number bytes = found_at (next_of format number 
 
 -- all of them: each takes some bytes
 abbrev pub records_in : Format → List ℕ → Found
-records_in format bytes = records_within format (length bytes) 1 bytes
+records_in format bytes = records_within format (suc (length bytes)) 1 bytes

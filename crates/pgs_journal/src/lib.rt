@@ -5,10 +5,17 @@
 //! stand in `specs/Format.antt`, what an area is in `specs/Area.antt`, what stops leave in `specs/Stops.antt`.
 #![tactic(auto)]
 
+mod area_scan;
 mod area_state;
 mod journal;
+mod judging;
+pub mod laws;
+mod records;
 pub mod samples;
+mod scan_fault;
 mod steps;
 
+pub use area_scan::scan;
 pub use area_state::AreaState;
 pub use journal::Journal;
+pub use scan_fault::ScanFault;

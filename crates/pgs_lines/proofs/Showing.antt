@@ -1,5 +1,5 @@
 -- What an output shows when more is put.
-use Rattle.std.proofs.Common.{◌≡◌, ℕ, ◌+◌, ◌<◌, List, [], ◌∷◌, ◌++◌, length, take, drop, get_or, Option, Some, None, refl, sym, ap, subst, ◌∙◌, append_assoc, add-one}
+use Rattle.std.proofs.Common.{◌≡◌, ℕ, ◌+◌, ◌<◌, List, [], ◌∷◌, ◌++◌, length, take, drop, get_or, Option, Some, None, refl, sym, ap, subst, ◌∙◌, append_assoc, length-append, add-one, arith}
 use Rattle.std.proofs.Math.Seq.{drop-cons, take-suc}
 use Rattle.std.specs.Option.{option_map}
 use Rattle.std.specs.List.{concat}
@@ -12,35 +12,48 @@ use Rattle.pgs_lines.specs.Ending.{Shows, Ends}
 use Rattle.pgs_lines.specs.Machine.{Told}
 use Rattle.pgs_lines.specs.Pieces.{Shown, ShowsAll, ShowsFirst, ShowsTorn}
 
-more_of : (start : Shown) (xs ys : List (List ℕ)) → option_map (λ (out : List ℕ). out ++ concat ys) (option_map (λ (out : List ℕ). out ++ concat xs) start) ≡ option_map (λ (out : List ℕ). out ++ concat (xs ++ ys)) start
+more_of : (start : Option (List ℕ)) (xs ys : List (List ℕ)) → option_map (λ (out : List ℕ). out ++ concat ys) (option_map (λ (out : List ℕ). out ++ concat xs) start) ≡ option_map (λ (out : List ℕ). out ++ concat (xs ++ ys)) start
 more_of None xs ys = refl
 more_of (Some out) xs ys = ap Some (append_assoc out (concat xs) (concat ys) ∙ ap (λ rest. out ++ rest) (sym (concat-append xs ys)))
 
+none_of : (start : Option (List ℕ)) → start ≡ option_map (λ (out : List ℕ). out ++ concat []) start
+none_of None = refl
+none_of (Some out) = ap Some (sym (append-nil out))
+
 -- nothing was put
 pub shows_none : (start : Shown) → ShowsAll start [] start
-shows_none None = refl
-shows_none (Some out) = ap Some (sym (append-nil out))
+shows_none start = record { output = none_of start.output; puts = omega arith }
+
+output_on : (start mid now : Option (List ℕ)) (xs ys : List (List ℕ)) → mid ≡ option_map (λ (out : List ℕ). out ++ concat xs) start → now ≡ option_map (λ (out : List ℕ). out ++ concat ys) mid → now ≡ option_map (λ (out : List ℕ). out ++ concat (xs ++ ys)) start
+output_on start mid now xs ys p q = q ∙ ap (λ o. option_map (λ (out : List ℕ). out ++ concat ys) o) p ∙ more_of start xs ys
+
+puts_on : (start mid now : ℕ) (xs ys : List (List ℕ)) → mid ≡ start + length xs → now ≡ mid + length ys → now ≡ start + length (xs ++ ys)
+puts_on start mid now xs ys p q = let e = length-append xs ys in omega arith
 
 pub shows_on : (start mid now : Shown) (xs ys : List (List ℕ)) → ShowsAll start xs mid → ShowsAll mid ys now → ShowsAll start (xs ++ ys) now
-shows_on start mid now xs ys p q = q ∙ ap (λ o. option_map (λ (out : List ℕ). out ++ concat ys) o) p ∙ more_of start xs ys
+shows_on start mid now xs ys p q = record {
+  output = output_on start.output mid.output now.output xs ys p.output q.output;
+  puts = puts_on start.puts mid.puts now.puts xs ys p.puts q.puts;
+}
 
 one_of : (old : Option (List ℕ)) (piece : List ℕ) → option_map (λ (out : List ℕ). out ++ piece) old ≡ option_map (λ (out : List ℕ). out ++ concat (piece ∷ [])) old
 one_of None piece = refl
 one_of (Some out) piece = ap (λ (p : List ℕ). Some (out ++ p)) (sym (append-nil piece))
 
 -- a piece was put whole
-pub shows_one : (old new : Shown) (piece : List ℕ) → Adds old new piece → ShowsAll old (piece ∷ []) new
-shows_one old new piece adds = adds ∙ one_of old piece
+pub shows_one : (old new : Shown) (piece : List ℕ) → Adds old.output new.output piece → new.puts ≡ old.puts + 1 → ShowsAll old (piece ∷ []) new
+shows_one old new piece adds counted = record { output = adds ∙ one_of old.output piece; puts = omega arith }
 
 -- a front of a piece was put
-pub torn_one : (old new : Shown) (piece : List ℕ) → AddsFront old new piece → ShowsTorn old (piece ∷ []) new
-torn_one old new piece adds = record {
+pub torn_one : (old new : Shown) (piece : List ℕ) → AddsFront old.output new.output piece → new.puts ≡ old.puts → ShowsTorn old (piece ∷ []) new
+torn_one old new piece adds counted = record {
   first = [];
   front = adds.front;
   back = adds.back;
   later = [];
   parts = ap (λ p. p ∷ []) adds.parts;
-  shows = shows_one old new adds.front adds.added;
+  output = adds.added ∙ one_of old.output adds.front;
+  puts = omega arith;
 }
 
 pub first_on : (start mid now : Shown) (xs ys : List (List ℕ)) → ShowsAll start xs mid → ShowsFirst mid ys now → ShowsFirst start (xs ++ ys) now
@@ -58,7 +71,9 @@ torn_on start mid now xs ys p q = record {
   back = q.back;
   later = q.later;
   parts = ap (λ more. xs ++ more) q.parts ∙ sym (append_assoc xs q.first ((q.front ++ q.back) ∷ q.later));
-  shows = subst (λ pieces. ShowsAll start pieces now) (sym (append_assoc xs q.first (q.front ∷ []))) (shows_on start mid now xs (q.first ++ q.front ∷ []) p q.shows);
+  output = output_on start.output mid.output now.output xs (q.first ++ q.front ∷ []) p.output q.output
+      ∙ ap (λ pieces. option_map (λ (out : List ℕ). out ++ concat pieces) start.output) (sym (append_assoc xs q.first (q.front ∷ [])));
+  puts = puts_on start.puts mid.puts now.puts xs q.first p.puts q.puts;
 }
 
 -- all pieces, and then what a stop shows of more
@@ -85,7 +100,8 @@ torn_of_more start now pieces later shows = record {
   back = shows.back;
   later = shows.later ++ later;
   parts = ap (λ all. all ++ later) shows.parts ∙ append_assoc shows.first ((shows.front ++ shows.back) ∷ shows.later) later;
-  shows = shows.shows;
+  output = shows.output;
+  puts = shows.puts;
 }
 
 -- all pieces are some first ones of more

@@ -28,14 +28,16 @@ LineShows start pieces (Err stop) now = Shows start pieces stop now
 
 -- The run that began in this state, on this world, took these bytes: it stands where their lines lead, with the front of the
 -- rest, all that the lines tell is shown, and no more was done to the world than they allow.
-pub record Runs {E : Type 0} (m : Machine E) (rule : Rule m) (limit : ℕ) (s : m.State) (start : View) (seen : List ℕ) (state : m.State) (line : List ℕ) (now : View) : Type 0 where
+pub record Runs {E : Type 0} (m : Machine E) (rule : Rule m) (limit : ℕ) (s : m.State) (start : View) (seen : List ℕ)
+    (state : m.State) (line : List ℕ) (now : View) : Type 0 where
   pub stands : after_lines m (Going s) (kept_of limit seen).ended ≡ Going state
   pub begun : line ≡ (kept_of limit seen).rest
   pub shows : ShowsAll (shown_of start) (pieces_of_lines m (Going s) (kept_of limit seen).ended) (shown_of now)
   pub allowed : rule.allows s (kept_of limit seen).ended None start now
 
 -- it was stopped after these of its lines, or inside the last of them
-pub record StopsAt {E : Type 0} (m : Machine E) (rule : Rule m) (s : m.State) (start : View) (ended : List (List ℕ)) (stop : Stop E) (now : View) : Type 0 where
+pub record StopsAt {E : Type 0} (m : Machine E) (rule : Rule m) (s : m.State) (start : View) (ended : List (List ℕ))
+    (stop : Stop E) (now : View) : Type 0 where
   pub until : List (List ℕ)
   pub later : List (List ℕ)
   pub parts : ended ≡ until ++ later
@@ -43,12 +45,14 @@ pub record StopsAt {E : Type 0} (m : Machine E) (rule : Rule m) (s : m.State) (s
   pub ends : IsEndAt (after_lines m (Going s) until) stop
   pub allowed : rule.allows s until None start now
 
-abbrev pub TakesTo : {T E : Type 0} (m : Machine E) (rule : Rule m) → ℕ → m.State → View → List ℕ → m.State → List ℕ → Result T (Stop E) → View → Type 0
+abbrev pub TakesTo : {T E : Type 0} (m : Machine E) (rule : Rule m) → ℕ → m.State → View → List ℕ → m.State → List ℕ
+    → Result T (Stop E) → View → Type 0
 TakesTo m rule limit s start seen state line (Ok done) now = Runs m rule limit s start seen state line now
 TakesTo m rule limit s start seen state line (Err stop) now = StopsAt m rule s start (kept_of limit seen).ended stop now
 
 -- of these bytes all but the rest were taken
-pub record RunsSoFar {E : Type 0} (m : Machine E) (rule : Rule m) (limit : ℕ) (s : m.State) (start : View) (seen bytes rest : List ℕ) (state : m.State) (line : List ℕ) (now : View) : Type 0 where
+pub record RunsSoFar {E : Type 0} (m : Machine E) (rule : Rule m) (limit : ℕ) (s : m.State) (start : View) (seen bytes rest : List ℕ)
+    (state : m.State) (line : List ℕ) (now : View) : Type 0 where
   pub taken : List ℕ
   pub parts : bytes ≡ taken ++ rest
   pub runs : Runs m rule limit s start (seen ++ taken) state line now

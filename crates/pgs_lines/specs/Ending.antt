@@ -33,12 +33,22 @@ pub record Faults : Type 0 where
 abbrev pub faults_of : ℕ → View → Faults
 faults_of reads view = record { reads = reads; areas = view.area_faults; puts = view.put_faults }
 
+-- one count of faults rose, and the others are as before
+abbrev pub ReadsRose : Faults → Faults → Type 0
+ReadsRose before now = Rose before.reads now.reads × (now.areas ≡ before.areas) × (now.puts ≡ before.puts)
+
+abbrev pub AreasRose : Faults → Faults → Type 0
+AreasRose before now = Rose before.areas now.areas × (now.reads ≡ before.reads) × (now.puts ≡ before.puts)
+
+abbrev pub PutsRose : Faults → Faults → Type 0
+PutsRose before now = Rose before.puts now.puts × (now.reads ≡ before.reads) × (now.areas ≡ before.areas)
+
 -- a fault that stops the run came, and no other
 abbrev pub HasCause : {E : Type 0} → Faults → Faults → Stop E → Type 0
 HasCause before now (stops.Ended status) = now ≡ before
-HasCause before now stops.ReadFault = Rose before.reads now.reads × (now.areas ≡ before.areas) × (now.puts ≡ before.puts)
-HasCause before now stops.AreaFault = Rose before.areas now.areas × (now.reads ≡ before.reads) × (now.puts ≡ before.puts)
-HasCause before now stops.PutFault = Rose before.puts now.puts × (now.reads ≡ before.reads) × (now.areas ≡ before.areas)
+HasCause before now stops.ReadFault = ReadsRose before now
+HasCause before now stops.AreaFault = AreasRose before now
+HasCause before now stops.PutFault = PutsRose before now
 HasCause before now stops.Memory = now ≡ before
 
 -- the same where the run may go on

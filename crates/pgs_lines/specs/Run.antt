@@ -10,10 +10,12 @@ use Rattle.pgs_lines.specs.Machine.{Ended, Machine, Rule, Told}
 use Rattle.pgs_lines.specs.Pieces.{Shown, ShowsAll}
 
 -- A run of which this is told by its budget ended so over this input, with this left of it.
-pub record EndsAs {E : Type 0} (tell : ℕ → Told E) (start : Shown) (input : List ℕ) (budget : ℕ) (left : Option (List ℕ)) (stop : Stop E) (now : Shown) : Type 0 where
+pub record EndsAs {E : Type 0} (tell : ℕ → Told E) (start : Shown) (input : List ℕ) (budget : ℕ) (left : Option (List ℕ))
+    (stop : Stop E) (now : Shown) : Type 0 where
   pub shown : Ends start (tell budget) stop now
   -- after a fault of a read all is put that is told with the number of bytes that the reads gave in the budget's place
-  pub read_fault : (rest : List ℕ) → left ≡ Some rest → stop ≡ stops.ReadFault → ShowsAll start (tell (length input - length rest)).pieces now
+  pub read_fault : (rest : List ℕ) → left ≡ Some rest → stop ≡ stops.ReadFault
+      → ShowsAll start (tell (length input - length rest)).pieces now
   -- never more than the budget is taken
   pub within : (rest : List ℕ) → left ≡ Some rest → length input ≤ budget + length rest
 
@@ -47,7 +49,8 @@ EndsBy m budget before left stops.PutFault = Unit {0}
 EndsBy m budget before left stops.Memory = Unit {0}
 
 -- What was done to the world is what these lines of the bytes taken allow, and the end of the input where that was reached.
-pub record Allows {E : Type 0} (m : Machine E) (rule : Rule m) (limit : ℕ) (s : m.State) (before left : Option (List ℕ)) (old new : View) : Type 0 where
+pub record Allows {E : Type 0} (m : Machine E) (rule : Rule m) (limit : ℕ) (s : m.State) (before left : Option (List ℕ))
+    (old new : View) : Type 0 where
   pub bytes : List ℕ
   pub taken : Takes before left bytes
   pub lines : List (List ℕ)

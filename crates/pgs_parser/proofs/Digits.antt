@@ -5,7 +5,7 @@ use Rattle.std.specs.List.{list_all}
 use Rattle.std.specs.Str.{all_scalars}
 use Rattle.std.specs.Ffi.{without_last}
 use Rattle.std.specs.Str.Parse.{digits_value, signed_digits_value, AllDigits, IsNumeral, without_leading_plus, without_leading_sign}
-use Rattle.std.proofs.lemmas.Bool.{and_parts, and_from, not-true, not_from_false, eqb-true, eqb-false, ne_eqb, leb-true}
+use Rattle.std.proofs.lemmas.Bool.{and_parts, and_from, not-true, not_from_false, eqb-true, eqb-false, ne_eqb, leb-true, le-leb}
 use Rattle.std.proofs.lemmas.Bool.Decides.{nat_tests}
 use Rattle.std.proofs.lemmas.Fmt.{IsAscii-from_digits}
 use Rattle.std.proofs.lemmas.Int.Digits.{digits_value-lt}
@@ -90,6 +90,14 @@ in_range (pos n) e =
 in_range (negsuc n) e =
     let h = leb-true n 9223372036854775807 (and_parts (int_le (negsuc 9223372036854775807) (negsuc n)) (int_le (negsuc n) (pos 9223372036854775807)) e).0 in
     omega arith
+
+pub within_range : (n : ℤ) → FitsSigned w64 n → is_number n ≡ true
+within_range (pos n) f =
+    let h : n ≤ 9223372036854775807 = omega arith in
+    and_from (int_le (negsuc 9223372036854775807) (pos n)) (int_le (pos n) (pos 9223372036854775807)) refl (le-leb n 9223372036854775807 h)
+within_range (negsuc n) f =
+    let h : n ≤ 9223372036854775807 = omega arith in
+    and_from (int_le (negsuc 9223372036854775807) (negsuc n)) (int_le (negsuc n) (pos 9223372036854775807)) (le-leb n 9223372036854775807 h) refl
 
 out_of_range : (n : ℤ) (b : Bool) → is_number n ≡ b → (FitsSigned w64 n → ⊥) → b ≡ false
 out_of_range n true e h = absurd (h (in_range n e))

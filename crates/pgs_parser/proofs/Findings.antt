@@ -1,47 +1,15 @@
 -- A text is found to be one thing.
-use Rattle.std.proofs.Common.{◌≡◌, ℕ, suc, ◌+◌, List, [], ◌∷◌, ◌++◌, length, Result, Ok, refl, sym, ◌∙◌, ap, subst, arith}
+use Rattle.std.proofs.Common.{◌≡◌, ℕ, suc, ◌+◌, List, [], ◌∷◌, ◌++◌, length, Result, Ok, refl, sym, ◌∙◌, ap, subst, arith, Err, ◌≤◌, Bool, true, false, cond, ◌↔◌, nat_le}
+use Rattle.std.proofs.lemmas.Bool.{leb-true, leb-false}
+use Rattle.pgs_lexer.specs.Cut.{tokens_of}
+use Rattle.pgs_parser.specs.StatementReaders.{script_of}
 use Rattle.pgs_lexer.specs.Token.{Lexeme}
 use Rattle.pgs_syntax.specs.declared.script.Script.{Script}
 use Rattle.pgs_syntax.specs.declared.script.Statement.{Statement}
 use Rattle.pgs_parser.specs.Statements.{AreStatements, IsNoStatement, IsScript, IsNoScriptFrom}
-use Rattle.pgs_parser.proofs.OneScript.{one_script}
-use Rattle.pgs_parser.specs.Text.{Found, no_item, no_statement, script, IsFound, is_too_long, has_no_item, has_no_statement, is_script}
-
--- pieces one of which is no statement are not all statements
-not_all : (trees : List Statement) (front : List (List Lexeme)) (piece : List Lexeme) (back : List (List Lexeme)) →
-    AreStatements trees (front ++ piece ∷ back) → IsNoStatement piece → ⊥
-not_all [] [] piece back h none = h
-not_all [] (f ∷ front) piece back h none = h
-not_all (t ∷ ts) [] piece back h none = none t h.0
-not_all (t ∷ ts) (f ∷ front) piece back h none = not_all ts front piece back h.1 none
-
--- the front of the first piece that is no statement is as long in each cut
-same_front : (trees others : List Statement) (front along : List (List Lexeme)) (piece other : List Lexeme) (back behind : List (List Lexeme)) →
-    front ++ piece ∷ back ≡ along ++ other ∷ behind → AreStatements trees front → AreStatements others along →
-    IsNoStatement piece → IsNoStatement other → length front ≡ length along
-same_front trees others [] [] piece other back behind e h k none nor = refl
-same_front trees [] [] (g ∷ along) piece other back behind e h k none nor = absurd k
-same_front trees (u ∷ us) [] (g ∷ along) piece other back behind e h k none nor =
-    let first : piece ≡ g = cc in
-    absurd (none u (subst (λ p. AreStatements (u ∷ []) (p ∷ [])) (sym first) (k.0, tt)).0)
-same_front [] others (f ∷ front) [] piece other back behind e h k none nor = absurd h
-same_front (t ∷ ts) others (f ∷ front) [] piece other back behind e h k none nor =
-    let first : f ≡ other = cc in
-    absurd (nor t (subst (λ p. AreStatements (t ∷ []) (p ∷ [])) first (h.0, tt)).0)
-same_front [] others (f ∷ front) (g ∷ along) piece other back behind e h k none nor = absurd h
-same_front (t ∷ ts) [] (f ∷ front) (g ∷ along) piece other back behind e h k none nor = absurd k
-same_front (t ∷ ts) (u ∷ us) (f ∷ front) (g ∷ along) piece other back behind e h k none nor =
-    let rest : front ++ piece ∷ back ≡ along ++ other ∷ behind = cc in
-    ap suc (same_front ts us front along piece other back behind rest h.1 k.1 none nor)
-
-same_number : {n m : ℕ} {tokens : List Lexeme} → IsNoScriptFrom n tokens → IsNoScriptFrom m tokens → n ≡ m
-same_number a b =
-    let fronts = same_front a.trees b.trees a.front b.front a.piece b.piece a.back b.back (sym a.cut ∙ b.cut) a.earlier b.earlier a.none b.none in
-    a.number ∙ ap (λ n. n + 1) fronts ∙ sym b.number
-
-not_both : {n : ℕ} {tree : Script} {tokens : List Lexeme} → IsScript tree tokens → IsNoScriptFrom n tokens → ⊥
-not_both {tree = tree} a b =
-    not_all tree.statements b.front b.piece b.back (subst (AreStatements tree.statements) b.cut a.statements) b.none
+use Rattle.pgs_parser.proofs.FirstNones.{same_number, not_both}
+use Rattle.pgs_parser.proofs.WholeScripts.{one_script, scripts, no_scripts}
+use Rattle.pgs_parser.specs.Text.{Found, no_item, no_statement, script, IsFound, found_in, found, too_long, is_too_long, has_no_item, has_no_statement, is_script}
 
 same_tokens : {a b : List Lexeme} (found : Result (List Lexeme) ℕ) → found ≡ Ok a → found ≡ Ok b → a ≡ b
 same_tokens found h k = cc
@@ -65,3 +33,26 @@ one_finding text one other (is_script h a _) (has_no_item k b) = cc
 one_finding text one other (is_script h a x) (has_no_statement {n = n} k b y) = absurd (not_both x (subst (IsNoScriptFrom n) (same_tokens _ b a) y))
 one_finding text one other (is_script {tree = tree} {tokens = tokens} h a x) (is_script {tree = found} k b y) =
     ap script (one_script tokens tree found x (subst (IsScript found) (same_tokens _ b a) y))
+
+-- ---- what a text is found to be, as a function
+
+of_script : (text : List ℕ) (tokens : List Lexeme) (read : Result Script ℕ) → length text ≤ 1048576 → tokens_of text ≡ Ok tokens → script_of tokens ≡ read →
+    IsFound text (elim read [ Ok tree ↦ script tree | Err n ↦ no_statement n ])
+of_script text tokens (Ok tree) l e q = is_script l e ((scripts tokens tree).0 q)
+of_script text tokens (Err n) l e q = has_no_statement l e ((no_scripts tokens n).0 q)
+
+of_tokens : (text : List ℕ) (read : Result (List Lexeme) ℕ) → length text ≤ 1048576 → tokens_of text ≡ read → IsFound text (found_in read)
+of_tokens text (Ok tokens) l e = of_script text tokens (script_of tokens) l e refl
+of_tokens text (Err line) l e = has_no_item l e
+
+of_length : (text : List ℕ) (short : Bool) → nat_le (length text) 1048576 ≡ short → IsFound text (cond short (found_in (tokens_of text)) too_long)
+of_length text true e = of_tokens text (tokens_of text) (leb-true (length text) 1048576 e) refl
+of_length text false e = is_too_long (leb-false (length text) 1048576 e)
+
+-- what is computed is found
+pub is_found : (text : List ℕ) → IsFound text (found text)
+unfolding found
+is_found text = of_length text (nat_le (length text) 1048576) refl
+
+pub findings : (text : List ℕ) (finding : Found) → (found text ≡ finding) ↔ IsFound text finding
+findings text finding = (λ e. subst (IsFound text) e (is_found text), λ h. one_finding text (found text) finding (is_found text) h)

@@ -1,42 +1,21 @@
 -- Tests of the next token, by its kind and its bytes.
 use Prim.Native.String.{String}
-use Rattle.std.proofs.Common.{◌≡◌, ℕ, Bool, true, false, not, ◌&&◌, ◌||◌, List, [], ◌∷◌, refl, sym, ap, ap₂, ◌∙◌, subst, codes, bytes_eq, ⊎_elim}
+use Rattle.std.proofs.Common.{◌≡◌, ℕ, Bool, true, false, not, ◌&&◌, ◌||◌, List, [], ◌∷◌, Option, Some, None, refl, sym, ap, ap₂, ◌∙◌, subst, codes, bytes_eq, ⊎_elim}
 use Rattle.std.specs.List.{list_any, list_all}
 use Rattle.std.proofs.lemmas.Bool.{and_parts, or_parts, or_cases, not-true}
 use Rattle.std.proofs.lemmas.Slice.Eq.{bytes_eq-Decides}
 use Rattle.pgs_lexer.specs.Token.{Lexeme}
 use Rattle.pgs_lexer.specs.declared.kind.TokenKind.{TokenKind}
 use Rattle.pgs_lexer.specs.declared.kind.TokenKind.TheVariants.{Name, Keyword, Number, Text, Sign}
-use Rattle.pgs_parser.specs.Production.{IsToken, here, IsSpelled, keyword, sign}
+use Rattle.pgs_parser.specs.Production.{Production, IsToken, here, IsSpelled, keyword, sign, keyword_if, maybe}
 use Rattle.pgs_parser.specs.Literal.{name}
-
-abbrev pub Test : Type 0
-Test = TokenKind → List ℕ → Bool
-
--- whether there is a next token and it passes
-abbrev pub next : Test → List Lexeme → Bool
-next test [] = false
-next test (token ∷ rest) = test token.kind token.bytes
+use Rattle.pgs_parser.specs.Reader.{Test, next}
 
 -- the keywords and signs of these spellings
 abbrev pub word : List String → Test
 word texts Keyword bytes = list_any (λ text. bytes_eq bytes (codes text)) texts
 word texts Sign bytes = list_any (λ text. bytes_eq bytes (codes text)) texts
 word texts _ bytes = false
-
--- the signs; those of these spellings
-abbrev pub a_sign : Test
-a_sign Sign bytes = true
-a_sign _ bytes = false
-
-abbrev pub sign_of : List String → Test
-sign_of texts Sign bytes = list_any (λ text. bytes_eq bytes (codes text)) texts
-sign_of texts _ bytes = false
-
--- the names
-abbrev pub a_name : Test
-a_name Name bytes = true
-a_name _ bytes = false
 
 next_spelled : (test : Test) (kind : TokenKind) (text : String) {tokens rest : List Lexeme} →
     IsToken (IsSpelled kind text) tokens rest → next test tokens ≡ test kind (codes text)
@@ -112,13 +91,21 @@ pub fewer : (text : String) (texts : List String) (tokens : List Lexeme) → nex
 fewer text texts [] e = refl
 fewer text texts (token ∷ rest) e = fewer_at text texts token.kind token.bytes e
 
--- one test does not tell two things of one token
-pub clash : {A : Type 0} {answer : Bool} → answer ≡ true → answer ≡ false → A
-clash p q = cc
+-- the next token passes; it does not pass
+abbrev pub Passes : Test → List Lexeme → Type 0
+Passes test tokens = next test tokens ≡ true
 
--- two words that are spelled apart are not one token
-pub apart : {A : Type 0} (kind sort : TokenKind) (text other : String) {tokens a b : List Lexeme} →
-    bytes_eq (codes text) (codes other) ≡ false → IsToken (IsSpelled kind text) tokens a → IsToken (IsSpelled sort other) tokens b → A
-apart kind sort text other e h k =
-    let test : Test = λ kind bytes. bytes_eq bytes (codes other) in
-    clash (next_spelled test sort other k ∙ (bytes_eq-Decides (codes other) (codes other)).1 refl) (next_spelled test kind text h ∙ e)
+abbrev pub Fails : Test → List Lexeme → Type 0
+Fails test tokens = next test tokens ≡ false
+
+-- a test of what begins an item and of what follows it, at an item that may be left out
+pub maybe_begins : {A : Type 0} (test : Test) (value : Bool) {item : A → Production} →
+    ((x : A) (a b : List Lexeme) → item x a b → next test a ≡ value) → (there : Option A) (before after : List Lexeme) →
+    maybe item there before after → next test after ≡ value → next test before ≡ value
+maybe_begins test value begins None before after h e = ap (next test) h ∙ e
+maybe_begins test value begins (Some x) before after h e = begins x before after h
+
+pub keyword_if_begins : (test : Test) (value : Bool) (text : String) → test Keyword (codes text) ≡ value →
+    (there : Bool) (before after : List Lexeme) → keyword_if there text before after → next test after ≡ value → next test before ≡ value
+keyword_if_begins test value text begins false before after h e = ap (next test) h ∙ e
+keyword_if_begins test value text begins true before after h e = next_keyword test text h ∙ begins

@@ -235,7 +235,7 @@ path_sound tokens x e =
     let l = b.left in
     holds (Took path tokens) steps.2 ((start.0.1, a.0, b.items), omega arith)
 
-paths_sound : Sound paths_at paths
+pub paths_sound : Sound paths_at paths
 paths_sound = commas_sound (codes "FOR") path_at path path_sound
 
 -- ---- qualifiers

@@ -25,7 +25,7 @@ use Rattle.pgs_parser.proofs.SoundTypes.{node_type_sound, edge_type_sound}
 use Rattle.pgs_parser.proofs.SoundKeys.{key_sound, key_number}
 
 -- one declaration
-one_number : (n m : ℕ) → m ≡ n → count_from n (m ∷ []) ≡ true
+pub one_number : (n m : ℕ) → m ≡ n → count_from n (m ∷ []) ≡ true
 one_number n m e = and_from (m == n) true (eq-eqb m n e) refl
 
 -- ---- members

@@ -171,7 +171,7 @@ open_sound (p ∷ ps) start tokens x h e =
     ]
 
 -- braces after the first of them
-abbrev braces_rest : Braces → Production
+abbrev pub braces_rest : Braces → Production
 braces_rest b = properties b.properties b.more ▸ sign "}"
 
 braces_rest_sound : Sound braces_rest_at braces_rest
@@ -227,7 +227,7 @@ end_sound tokens x e =
     holds (Took end_of tokens) close_.2 ((open_.0, a.0, (spec.0.1, b.0, c.0)), omega arith)
 
 -- what stands in an edge type's arrow
-abbrev middle : List ℕ × Written → Production
+abbrev pub middle : List ℕ × Written → Production
 middle x = sign "[" ▸ name x.0 ▸ body x.1 ▸ sign "]"
 
 middle_sound : Sound middle_at middle

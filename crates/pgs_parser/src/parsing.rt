@@ -1,7 +1,9 @@
-ghost use Rattle.std.specs.Prelude.{◌≡◌, ◌+◌, ◌-◌, ◌<◌, ◌≤◌, ◌^◌, ◌∷◌, ℕ, length, drop, slice_get, IfSome};
+ghost use Rattle.std.specs.Prelude.{◌≡◌, ◌+◌, ◌-◌, ◌<◌, ◌≤◌, ◌^◌, ◌∷◌, ℕ, length, drop, slice_get, IfSome, IfOk, IsErrOf, Ok, Err};
 ghost use Rattle.std.specs.List.{slice_range};
 ghost use Rattle.pgs_parser.specs.Parsed.{Parses};
-ghost use Rattle.pgs_parser.specs.Statements.{pieces_of, is_semicolon};
+ghost use Rattle.pgs_syntax.specs.declared.script.Script.{Script as ScriptTree};
+ghost use Rattle.pgs_parser.specs.declared.fault.ParseFault.TheVariants as faults;
+ghost use Rattle.pgs_parser.specs.Statements.{pieces_of, is_semicolon, IsScript, IsNoScriptFrom};
 ghost use Rattle.pgs_parser.specs.StatementReaders.{script_of, statement_of, statements_of};
 ghost use Rattle.pgs_parser.specs.Gives.{Gives};
 
@@ -84,16 +86,32 @@ fn statements(alloc: Global, tokens: &Tokens<'_>) -> Result<List<Statement>, Par
     Ok(List::from_vec(statements))
 }
 
-/// The script that tokens are, by the grammar in `docs/GRAMMAR.md`. Declarations are numbered from 1 in the order of
-/// their first tokens. Names and texts are copied out of the tokens once.
+/// The script that tokens are, by the function `script_of`.
+#[tactic(auto, unfolding(crate::specs::StatementReaders::script_of))]
+fn script(alloc: Global, tokens: &Tokens<'_>) -> Result<Script, ParseFault>
+    ensures { Parses (λ script. script) result (script_of tokens.now) }
+{
+    let statements = statements(alloc, tokens)?;
+    Ok(Script { statements })
+}
+
+/// The script that tokens are, by the grammar in `specs/Statements.antt`. Declarations are numbered from 1 in the order
+/// of their first tokens. Names and texts are copied out of the tokens once.
 ///
 /// - `Syntax { statement }` exactly where the tokens up to the semicolon of this number, from 1, or those after the last
 ///   semicolon, are no statement, and all earlier ones are.
 /// - `Memory` where there is none for the tree.
-#[tactic(auto, unfolding(crate::specs::StatementReaders::script_of))]
 pub fn parse(alloc: Global, tokens: &Tokens<'_>) -> Result<Script, ParseFault>
+    // What is returned is what the tokens are by the grammar.
+    ensures script { IfOk result (λ script. IsScript script tokens.now) }
+    ensures statement { (n : ℕ) → IsErrOf result (faults.Syntax n) → IsNoScriptFrom n tokens.now }
+
+    // And what they are is returned, unless memory runs out.
+    ensures only_script { (script : ScriptTree) → IsScript script tokens.now → Parses (λ script. script) result (Ok script) }
+    ensures only_statement { (n : ℕ) → IsNoScriptFrom n tokens.now → Parses (λ script. script) result (Err n) }
+
+    // The same as a function of the tokens.
     ensures computed { Parses (λ script. script) result (script_of tokens.now) }
 {
-    let statements = statements(alloc, tokens)?;
-    Ok(Script { statements })
+    script(alloc, tokens)
 }

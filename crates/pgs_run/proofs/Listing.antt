@@ -5,9 +5,10 @@ use Rattle.std.proofs.Math.Seq.{drop-cons}
 use Rattle.std.proofs.lemmas.List.{take-append-drop}
 use Rattle.std.proofs.lemmas.Bool.Decides.{nat_tests}
 use Rattle.pgs_run.specs.declared.line_list.LineList.{LineList}
-use Rattle.pgs_run.specs.Input.{Lines, lines_of, is_separator, before_separator, after_separator}
+use Rattle.pgs_lines.specs.Input.{Lines, lines_of}
+use Rattle.pgs_run.specs.Input.{is_separator, before_separator, after_separator}
 use Rattle.pgs_run.specs.LineList.{IsCutInto, IsFirstSeparator}
-use Rattle.pgs_run.proofs.Cutting.{fed, lines_of_fed, lines_of_extended}
+use Rattle.pgs_lines.proofs.Cutting.{fed, lines_of_fed, lines_of_extended}
 use Rattle.pgs_run.proofs.Separating.{HasOne, HasNo, any-append, before-append, after-append, before-first, after-first, join_more}
 
 -- ---- one more byte

@@ -1,13 +1,15 @@
 -- A line or a text and its front say the same, since what is too long is refused.
-use Rattle.std.proofs.Common.{◌≡◌, ℕ, ◌+◌, ◌<◌, true, false, ◌==◌, nat_le, nat_lt, List, [], ◌∷◌, length, None, codes, refl, arith}
+use Rattle.std.proofs.Common.{◌≡◌, ℕ, ◌+◌, ◌<◌, true, false, ◌==◌, nat_le, nat_lt, List, [], ◌∷◌, length, Err, codes, refl, arith}
 use Rattle.std.specs.Cmp.Lexicographic.{unequal}
 use Rattle.std.proofs.lemmas.Bool.Decides.{nat_tests}
-use Rattle.pgs_parser.specs.declared.first_schema.FirstSchema.{FirstSchema}
-use Rattle.pgs_run.specs.Input.{text_limit, front_of, is_separator, is_blank}
-use Rattle.pgs_run.specs.Session.{Standing, first_txn_of, answer_to, after_refusal, after_line, pieces_of_line}
+use Rattle.pgs_base.specs.Graph.{Graph}
+use Rattle.pgs_lines.specs.Input.{is_blank}
+use Rattle.pgs_lines.proofs.Fronts.{same_of_front}
+use Rattle.pgs_violation.specs.declared.violation.Verdict.{Verdict}
+use Rattle.pgs_run.specs.Input.{text_limit, text_front, is_separator, is_skipped}
+use Rattle.pgs_run.specs.Session.{Standing, txn_of, answer_to, after_refusal, after_line, pieces_of_line}
 use Rattle.pgs_run.specs.Texts.{refused_line, not_built_text}
 use Rattle.pgs_run.specs.Told.{schema_of}
-use Rattle.pgs_run.proofs.Fronts.{same_of_front}
 
 is_long : (n : ℕ) → text_limit < n → (nat_lt text_limit n ≡ true) × (nat_le n text_limit ≡ false)
 is_long n long = (grind (arith, nat_tests), grind (arith, nat_tests))
@@ -17,35 +19,35 @@ unfolding is_separator
 long_separator line long =
     rw (unequal ◌==◌ line (codes "---") (λ e. omega arith), unequal ◌==◌ line (codes "---\r") (λ e. omega arith)) refl
 
-pub separator_of_front : (line : List ℕ) → is_separator (front_of line) ≡ is_separator line
-separator_of_front line = same_of_front is_separator false line long_separator
+pub separator_of_front : (line : List ℕ) → is_separator (text_front line) ≡ is_separator line
+separator_of_front line = same_of_front text_limit is_separator false line long_separator
 
-long_schema : (text : List ℕ) → text_limit < length text → schema_of text ≡ None
+long_schema : (text : List ℕ) → text_limit < length text → schema_of text ≡ Err not_built_text
 unfolding schema_of
 long_schema text long = rw (is_long (length text) long).0 refl
 
-pub schema_of_front : (text : List ℕ) → schema_of (front_of text) ≡ schema_of text
-schema_of_front text = same_of_front schema_of None text long_schema
+pub schema_of_front : (text : List ℕ) → schema_of (text_front text) ≡ schema_of text
+schema_of_front text = same_of_front text_limit schema_of (Err not_built_text) text long_schema
 
-long_blank : (line : List ℕ) → text_limit < length line → is_blank line ≡ false
+long_blank : (line : List ℕ) → text_limit < length line → is_skipped line ≡ false
 unfolding is_blank
 long_blank line long = rw (is_long (length line) long).1 refl
 
-long_txn : (line : List ℕ) → text_limit < length line → first_txn_of line ≡ None
-unfolding first_txn_of
+long_txn : (line : List ℕ) → text_limit < length line → txn_of line ≡ Err not_built_text
+unfolding txn_of
 long_txn line long = rw (is_long (length line) long).0 refl
 
-long_after : (schema : FirstSchema) (s : Standing) (line : List ℕ) → text_limit < length line → after_line schema s line ≡ after_refusal s
+long_after : (verdict : Graph → Verdict) (s : Standing) (line : List ℕ) → text_limit < length line → after_line verdict s line ≡ after_refusal s
 unfolding after_line answer_to
-long_after schema s line long = rw (long_blank line long, long_txn line long) refl
+long_after verdict s line long = rw (long_blank line long, long_txn line long) refl
 
-pub after_front : (schema : FirstSchema) (s : Standing) (line : List ℕ) → after_line schema s (front_of line) ≡ after_line schema s line
-after_front schema s line = same_of_front (after_line schema s) (after_refusal s) line (long_after schema s)
+pub after_front : (verdict : Graph → Verdict) (s : Standing) (line : List ℕ) → after_line verdict s (text_front line) ≡ after_line verdict s line
+after_front verdict s line = same_of_front text_limit (after_line verdict s) (after_refusal s) line (long_after verdict s)
 
-long_pieces : (schema : FirstSchema) (s : Standing) (line : List ℕ) → text_limit < length line → pieces_of_line schema s line ≡ refused_line (s.number + 1) not_built_text ∷ []
+long_pieces : (verdict : Graph → Verdict) (s : Standing) (line : List ℕ) → text_limit < length line → pieces_of_line verdict s line ≡ refused_line (s.number + 1) not_built_text ∷ []
 unfolding pieces_of_line answer_to
-long_pieces schema s line long = rw (long_blank line long, long_txn line long) refl
+long_pieces verdict s line long = rw (long_blank line long, long_txn line long) refl
 
-pub pieces_of_front : (schema : FirstSchema) (s : Standing) (line : List ℕ) → pieces_of_line schema s (front_of line) ≡ pieces_of_line schema s line
-pieces_of_front schema s line =
-    same_of_front (pieces_of_line schema s) (refused_line (s.number + 1) not_built_text ∷ []) line (long_pieces schema s)
+pub pieces_of_front : (verdict : Graph → Verdict) (s : Standing) (line : List ℕ) → pieces_of_line verdict s (text_front line) ≡ pieces_of_line verdict s line
+pieces_of_front verdict s line =
+    same_of_front text_limit (pieces_of_line verdict s) (refused_line (s.number + 1) not_built_text ∷ []) line (long_pieces verdict s)

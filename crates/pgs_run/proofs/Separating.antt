@@ -2,7 +2,7 @@
 use Rattle.std.proofs.Common.{◌≡◌, ℕ, suc, ◌≤◌, Bool, true, false, ◌||◌, List, [], ◌∷◌, ◌++◌, length, cond, refl, sym, ap, ◌∙◌, append_assoc, arith}
 use Rattle.std.specs.List.{list_any, join_with_byte}
 use Rattle.pgs_run.specs.Input.{is_separator, before_separator, after_separator}
-use Rattle.pgs_run.specs.Transcript.{has_none}
+use Rattle.pgs_run.specs.Trying.{has_none}
 
 abbrev pub HasOne : List (List ℕ) → Type 0
 HasOne lines = list_any is_separator lines ≡ true

@@ -2,7 +2,8 @@
 use Rattle.std.specs.Prelude.{◌≡◌, ℕ, ◌+◌, ◌<◌, true, List, length, take, drop}
 use Rattle.std.specs.List.{list_any}
 use Rattle.pgs_run.specs.declared.line_list.LineList.{LineList}
-use Rattle.pgs_run.specs.Input.{lines_of, is_separator, before_separator, after_separator}
+use Rattle.pgs_lines.specs.Input.{lines_of}
+use Rattle.pgs_run.specs.Input.{is_separator, before_separator, after_separator}
 
 -- these are the text's lines
 pub record IsCutInto (text : List ℕ) (lines : LineList) : Type 0 where

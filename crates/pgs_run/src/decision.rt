@@ -1,6 +1,7 @@
 ghost use Rattle.std.specs.Prelude.{IsTrue};
 ghost use Rattle.std.specs.List.{list_all};
 ghost use Rattle.pgs_json.specs.FirstLine.{is_add_node};
+ghost use Rattle.pgs_run.specs.FirstVerdict.{first_verdict};
 ghost use Rattle.pgs_run.specs.Session.{decision_on};
 ghost use Rattle.pgs_run.specs.Stages.{GivesDecision};
 
@@ -29,7 +30,7 @@ pub fn decide(
     txn: &Txn,
 ) -> Result<PlainGraph, DecideFault>
     requires { IsTrue (list_all is_add_node txn.now.ops) }
-    ensures { GivesDecision result (decision_on schema.now graph.now txn.now) }
+    ensures { GivesDecision result (decision_on (first_verdict schema.now) graph.now txn.now) }
 {
     match staged(alloc, graph, txn) {
         Ok(after) => match first_verdict(schema, &after) {

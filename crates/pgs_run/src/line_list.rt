@@ -1,9 +1,10 @@
 ghost use Rattle.std.specs.Prelude.{◌≡◌, ◌∷◌, ◌++◌, [], length, IfOk, MatchOption, List, ℕ, OnOk, false};
 ghost use Rattle.std.specs.List.{join_with_byte, list_any};
-ghost use Rattle.pgs_run.specs.Input.{lines_of, is_separator};
+ghost use Rattle.pgs_lines.specs.Input.{lines_of};
+ghost use Rattle.pgs_run.specs.Input.{is_separator};
 ghost use Rattle.pgs_run.specs.LineList.{IsCutInto, IsFirstSeparator};
 
-use crate::transcript::is_separator;
+use crate::trying::is_separator;
 use pgs_base::{Bytes, List, Memory};
 use std::alloc::Global;
 

@@ -1,15 +1,15 @@
-ghost use Rattle.std.specs.Prelude.{◌≡◌, ◌<◌, ◌≤◌, ◌^◌, [], ◌∷◌, ◌++◌, IfOk, OnOk, Some};
+ghost use Rattle.std.specs.Prelude.{◌≡◌, ◌<◌, ◌≤◌, ◌^◌, [], ◌∷◌, ◌++◌, IfOk, OnOk, Ok, ℕ};
 ghost use Rattle.std.specs.List.{join_with_byte};
-ghost use Rattle.pgs_run.specs.Pieces.{bytes_in};
+ghost use Rattle.pgs_run.specs.Pieces.{pieces_in};
 ghost use Rattle.pgs_run.specs.Report.{Reports};
-ghost use Rattle.pgs_run.specs.Told.{schema_of, status_of, told_schema, told_lines, told_try, told};
+ghost use Rattle.pgs_run.specs.Told.{schema_of, status_of, told_schema, told_lines, told_try, Areas, told};
 
 use crate::Status;
+use crate::command::{Command, command_of};
 use crate::line_list::{joined, lines_of, separator_place};
 use crate::schema_part::schema_of;
 use crate::session::Session;
 use crate::texts::{schema_refused_line, words_refused_line};
-use crate::words::is_try;
 use pgs_base::{Bytes, List, Memory, Words};
 use pgs_parser::FirstSchema;
 use std::alloc::Global;
@@ -23,27 +23,20 @@ pub struct Report {
 }
 
 // The report of one piece.
-fn one_piece(alloc: Global, piece: &str, status: Status) -> Result<Report, Memory>
-    ensures pieces { IfOk result (λ report. report.pieces ≡ piece.now ∷ []) }
+fn one_piece(alloc: Global, piece: Bytes, status: Status) -> Result<Report, Memory>
+    ensures pieces { IfOk result (λ report. report.pieces ≡ piece ∷ []) }
     ensures status { IfOk result (λ report. report.status ≡ status) }
 {
     let mut pieces = List::new(alloc);
-    push_piece(&mut pieces, alloc, piece)?;
+    pieces.push(piece).map_err(|_| Memory)?;
     Ok(Report { pieces, status })
 }
 
-fn push_piece(pieces: &mut List<Bytes>, alloc: Global, piece: &str) -> Result<(), Memory>
-    ensures { OnOk result (pieces.new ≡ pieces.old ++ piece.now ∷ []) }
-{
-    let bytes = Bytes::from_slice(alloc, piece.as_bytes())?;
-    pieces.push(bytes).map_err(|_| Memory)
-}
-
-fn push_any(pieces: &mut List<Bytes>, alloc: Global, piece: Option<String>) -> Result<(), Memory>
-    ensures { OnOk result (pieces.new ≡ pieces.old ++ bytes_in piece) }
+fn push_any(pieces: &mut List<Bytes>, piece: Option<Bytes>) -> Result<(), Memory>
+    ensures { OnOk result (pieces.new ≡ pieces.old ++ pieces_in piece) }
 {
     match piece {
-        Some(piece) => push_piece(pieces, alloc, piece.as_str()),
+        Some(piece) => pieces.push(piece).map_err(|_| Memory),
         None => Ok(()),
     }
 }
@@ -67,13 +60,13 @@ fn tell_session(
     schema: &FirstSchema,
     lines: &[Bytes],
 ) -> Result<Report, Memory>
-    ensures { IfOk result (λ report. Reports report (told_schema whole (Some schema.now) lines.now)) }
+    ensures { IfOk result (λ report. Reports report (told_schema whole (Ok schema.now) lines.now)) }
 {
     let mut session = Session::new(alloc);
     let mut pieces = List::new(alloc);
     for line in lines {
         let piece = session.take_line(alloc, schema, line.as_slice())?;
-        push_any(&mut pieces, alloc, piece)?;
+        push_any(&mut pieces, piece)?;
     }
     let status = status_of(whole, &session);
     Ok(Report { pieces, status })
@@ -90,10 +83,10 @@ fn tell_schema(
 {
     let text = joined(alloc, before)?;
     match schema_of(alloc, text.as_slice())? {
-        Some(schema) => tell_session(alloc, whole, &schema, after),
-        None => {
-            let piece = schema_refused_line(alloc)?;
-            one_piece(alloc, piece.as_str(), Status::SchemaRefused)
+        Ok(schema) => tell_session(alloc, whole, &schema, after),
+        Err(text) => {
+            let piece = schema_refused_line(alloc, text.as_slice())?;
+            one_piece(alloc, piece, Status::SchemaRefused)
         }
     }
 }
@@ -131,18 +124,20 @@ fn tell_try(alloc: Global, input: &[u8], budget: u64) -> Result<Report, Memory>
     tell_lines(alloc, true, all.as_slice())
 }
 
-/// What a run tells of its words, its input and its budget, 1 to 2^40 bytes (docs/DEFINITIONS.md, "What a run
-/// tells"). It takes the input whole, copies its lines, and is slow: runs are compared with it.
+/// What a run tells of its words, its input and its budget, 1 to 2^40 bytes, where no command uses the areas or the feeds
+/// (docs/DEFINITIONS.md, "What a run tells"). It takes the input whole, copies its lines, and is slow: runs are compared with it.
 #[tactic(auto, unfolding(crate::specs::Told::told))]
 pub fn tell(alloc: Global, words: &Words, input: &[u8], budget: u64) -> Result<Report, Memory>
     requires positive { 0 < budget }
     requires within { budget ≤ 2 ^ 40 }
-    ensures pieces { IfOk result (λ report. report.pieces ≡ (told words.now input.now budget).pieces) }
-    ensures status { IfOk result (λ report. report.status ≡ (told words.now input.now budget).status) }
+    ensures pieces { (areas : Areas) (lost : ℕ) → IfOk result (λ report. report.pieces ≡ (told words.now input.now areas budget lost).pieces) }
+    ensures status { (areas : Areas) (lost : ℕ) → IfOk result (λ report. report.status ≡ (told words.now input.now areas budget lost).status) }
 {
-    if is_try(words) {
-        tell_try(alloc, input, budget)
-    } else {
-        one_piece(alloc, words_refused_line(), Status::BadWords)
+    match command_of(words) {
+        Some(Command::Try) => tell_try(alloc, input, budget),
+        None => {
+            let piece = words_refused_line(alloc)?;
+            one_piece(alloc, piece, Status::BadWords)
+        }
     }
 }

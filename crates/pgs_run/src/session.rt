@@ -1,18 +1,19 @@
-ghost use Rattle.std.specs.Prelude.{◌≡◌, ◌+◌, ◌<◌, ◌^◌, ◌-◌, IfOk, IfSome, OnOk, IsTrue, Ok, Err, Some, string_bytes};
+ghost use Rattle.std.specs.Prelude.{◌≡◌, ◌+◌, ◌<◌, ◌^◌, ◌-◌, IfOk, OnOk, IsTrue, Ok, Err};
 ghost use Rattle.std.specs.List.{list_all};
 ghost use Rattle.pgs_json.specs.FirstLine.{is_add_node};
-ghost use Rattle.pgs_run.specs.Input.{is_blank, is_blank_byte};
-ghost use Rattle.pgs_run.specs.Pieces.{bytes_in};
-ghost use Rattle.pgs_run.specs.Session.{first_txn_of, with_text, answer_to, answer_to_txn, after_answer, after_refusal, verdict_line, after_line, pieces_of_line};
+ghost use Rattle.pgs_run.specs.FirstVerdict.{first_verdict};
+ghost use Rattle.pgs_run.specs.Pieces.{pieces_in};
+ghost use Rattle.pgs_run.specs.Session.{txn_of, with_text, answer_to, answer_to_txn, after_answer, after_refusal, verdict_line, after_line, pieces_of_line};
 ghost use Rattle.pgs_run.specs.Told.{start};
 
 use crate::decision::{DecideFault, decide};
-use crate::front_buffer::TEXT_LIMIT;
 use crate::plain_graph::PlainGraph;
-use crate::texts::{committed_line, not_built_line, refused_line, rejection_text};
-use pgs_base::{Limits, Memory};
+use crate::schema_part::TEXT_LIMIT;
+use crate::texts::{committed_line, not_built_text, refused_line, rejection_text};
+use pgs_base::{Bytes, Limits, Memory};
 use pgs_graph::Txn;
 use pgs_json::read_first;
+use pgs_lines::is_blank;
 use pgs_parser::FirstSchema;
 use pgs_violation::Rejection;
 use std::alloc::Global;
@@ -35,30 +36,23 @@ impl Model for Session {
     ghost view = { λ s. record { number = s.number; commits = s.commits; refused = s.refused; graph = s.graph } };
 }
 
-#[tactic(auto, unfolding(crate::specs::Input::is_blank))]
-fn is_blank(line: &[u8]) -> bool
-    ensures { result ≡ is_blank line.now }
-{
-    line.len() <= TEXT_LIMIT && is_blank_text(line)
-}
-
-fn is_blank_text(line: &[u8]) -> bool
-    ensures { result ≡ list_all is_blank_byte line.now }
-{
-    line.iter()
-        .all(|byte| matches!(*byte, b' ' | b'\t' | b'\r'))
-}
-
-// The transaction of a line, where the line is of the form that is built.
-#[tactic(auto, unfolding(crate::specs::Session::first_txn_of))]
-fn first_txn_of(alloc: Global, line: &[u8]) -> Result<Option<Txn>, Memory>
-    ensures value { IfOk result (λ txn. txn ≡ first_txn_of line.now) }
-    ensures adds { IfOk result (λ txn. IfSome txn (λ txn. IsTrue (list_all is_add_node txn.ops))) }
+// The transaction of a line, or the text of its refusal.
+#[tactic(auto, unfolding(crate::specs::Session::txn_of))]
+fn txn_of(alloc: Global, line: &[u8]) -> Result<Result<Txn, Bytes>, Memory>
+    ensures value { IfOk result (λ txn. txn ≡ txn_of line.now) }
+    ensures adds { IfOk result (λ txn. IfOk txn (λ txn. IsTrue (list_all is_add_node txn.ops))) }
 {
     if line.len() > TEXT_LIMIT {
-        return Ok(None);
+        let text = not_built_text(alloc)?;
+        return Ok(Err(text));
     }
-    read_first(alloc, line)
+    match read_first(alloc, line)? {
+        Some(txn) => Ok(Ok(txn)),
+        None => {
+            let text = not_built_text(alloc)?;
+            Ok(Err(text))
+        }
+    }
 }
 
 impl Session {
@@ -82,11 +76,11 @@ impl Session {
     }
 
     // Takes the graph of a commit in, and answers its line.
-    fn commit(&mut self, alloc: Global, graph: PlainGraph) -> Result<String, Memory>
+    fn commit(&mut self, alloc: Global, graph: PlainGraph) -> Result<Bytes, Memory>
         requires lines { self.old.number < 2 ^ 64 - 1 }
         requires commits { self.old.commits < 2 ^ 64 - 1 }
         ensures session { OnOk result (self.new ≡ after_answer self.old (Ok graph)) }
-        ensures piece { IfOk result (λ piece. string_bytes piece ≡ verdict_line self.old (Ok graph)) }
+        ensures piece { IfOk result (λ piece. piece ≡ verdict_line self.old (Ok graph)) }
     {
         let piece = committed_line(alloc, self.number + 1, self.commits + 1)?;
         self.number += 1;
@@ -105,24 +99,24 @@ impl Session {
     }
 
     // Answers a rejected transaction.
-    fn reject(&mut self, alloc: Global, rejection: &Rejection) -> Result<String, Memory>
+    fn reject(&mut self, alloc: Global, rejection: &Rejection) -> Result<Bytes, Memory>
         requires { self.old.number < 2 ^ 64 - 1 }
         ensures session { OnOk result (self.new ≡ after_answer self.old (with_text (Err rejection.now))) }
-        ensures piece { IfOk result (λ piece. string_bytes piece ≡ verdict_line self.old (with_text (Err rejection.now))) }
+        ensures piece { IfOk result (λ piece. piece ≡ verdict_line self.old (with_text (Err rejection.now))) }
     {
         let text = rejection_text(alloc, &Limits::standard(), rejection)?;
-        let piece = refused_line(alloc, self.number + 1, text.as_str())?;
+        let piece = refused_line(alloc, self.number + 1, text.as_bytes())?;
         self.refuse();
         Ok(piece)
     }
 
     // Decides a transaction, and answers its verdict line.
-    fn take_txn(&mut self, alloc: Global, schema: &FirstSchema, txn: &Txn) -> Result<String, Memory>
+    fn take_txn(&mut self, alloc: Global, schema: &FirstSchema, txn: &Txn) -> Result<Bytes, Memory>
         requires adds { IsTrue (list_all is_add_node txn.now.ops) }
         requires lines { self.old.number < 2 ^ 64 - 1 }
         requires commits { self.old.commits < 2 ^ 64 - 1 }
-        ensures session { OnOk result (self.new ≡ after_answer self.old (answer_to_txn schema.now self.old.graph (Some txn.now))) }
-        ensures piece { IfOk result (λ piece. string_bytes piece ≡ verdict_line self.old (answer_to_txn schema.now self.old.graph (Some txn.now))) }
+        ensures session { OnOk result (self.new ≡ after_answer self.old (answer_to_txn (first_verdict schema.now) self.old.graph (Ok txn.now))) }
+        ensures piece { IfOk result (λ piece. piece ≡ verdict_line self.old (answer_to_txn (first_verdict schema.now) self.old.graph (Ok txn.now))) }
     {
         match decide(alloc, schema, &self.graph, txn) {
             Ok(graph) => self.commit(alloc, graph),
@@ -133,16 +127,16 @@ impl Session {
 
     // Answers a line that isn't blank with its verdict line.
     #[tactic(auto, unfolding(crate::specs::Session::answer_to))]
-    fn answer(&mut self, alloc: Global, schema: &FirstSchema, line: &[u8]) -> Result<String, Memory>
+    fn answer(&mut self, alloc: Global, schema: &FirstSchema, line: &[u8]) -> Result<Bytes, Memory>
         requires lines { self.old.number < 2 ^ 64 - 1 }
         requires commits { self.old.commits < 2 ^ 64 - 1 }
-        ensures session { OnOk result (self.new ≡ after_answer self.old (answer_to schema.now self.old.graph line.now)) }
-        ensures piece { IfOk result (λ piece. string_bytes piece ≡ verdict_line self.old (answer_to schema.now self.old.graph line.now)) }
+        ensures session { OnOk result (self.new ≡ after_answer self.old (answer_to (first_verdict schema.now) self.old.graph line.now)) }
+        ensures piece { IfOk result (λ piece. piece ≡ verdict_line self.old (answer_to (first_verdict schema.now) self.old.graph line.now)) }
     {
-        match first_txn_of(alloc, line)? {
-            Some(txn) => self.take_txn(alloc, schema, &txn),
-            None => {
-                let piece = not_built_line(alloc, self.number + 1)?;
+        match txn_of(alloc, line)? {
+            Ok(txn) => self.take_txn(alloc, schema, &txn),
+            Err(text) => {
+                let piece = refused_line(alloc, self.number + 1, text.as_slice())?;
                 self.refuse();
                 Ok(piece)
             }
@@ -157,13 +151,13 @@ impl Session {
         alloc: Global,
         schema: &FirstSchema,
         line: &[u8],
-    ) -> Result<Option<String>, Memory>
+    ) -> Result<Option<Bytes>, Memory>
         requires lines { self.old.number < 2 ^ 64 - 1 }
         requires commits { self.old.commits < 2 ^ 64 - 1 }
-        ensures session { OnOk result (self.new ≡ after_line schema.now self.old line.now) }
-        ensures piece { IfOk result (λ piece. bytes_in piece ≡ pieces_of_line schema.now self.old line.now) }
+        ensures session { OnOk result (self.new ≡ after_line (first_verdict schema.now) self.old line.now) }
+        ensures piece { IfOk result (λ piece. pieces_in piece ≡ pieces_of_line (first_verdict schema.now) self.old line.now) }
     {
-        if is_blank(line) {
+        if is_blank(line, TEXT_LIMIT) {
             return Ok(None);
         }
         let piece = self.answer(alloc, schema, line)?;

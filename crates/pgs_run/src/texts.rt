@@ -1,7 +1,7 @@
-ghost use Rattle.std.specs.Prelude.{◌≡◌, IfOk, string_bytes};
+ghost use Rattle.std.specs.Prelude.{◌≡◌, ◌∷◌, ◌++◌, [], IfOk, string_bytes};
 ghost use Rattle.pgs_run.specs.Texts.{elem_text, cause_text, structural_text, violation_text, rejection_text, not_built_text, committed_line, refused_line, schema_refused_line, words_refused_line};
 
-use pgs_base::{Elem, Limits, Memory};
+use pgs_base::{Bytes, Elem, Limits, Memory};
 use pgs_violation::{Cause, Rejection, Structural, Violation};
 use std::alloc::Global;
 
@@ -80,42 +80,61 @@ pub fn rejection_text(
     }
 }
 
+// A text as a piece.
+fn piece_of(text: String) -> Bytes
+    ensures { result ≡ string_bytes text }
+{
+    Bytes::from_vec(text.into_bytes())
+}
+
 /// The line of a commit, with its line feed.
 #[tactic(auto, unfolding(crate::specs::Texts::committed_line))]
-pub fn committed_line(alloc: Global, line: u64, commit: u64) -> Result<String, Memory>
-    ensures { IfOk result (λ piece. string_bytes piece ≡ committed_line line commit) }
+pub fn committed_line(alloc: Global, line: u64, commit: u64) -> Result<Bytes, Memory>
+    ensures { IfOk result (λ piece. piece ≡ committed_line line commit) }
 {
-    Ok(format!(in alloc; "{line} committed {commit}\n")?)
+    Ok(piece_of(format!(in alloc; "{line} committed {commit}\n")?))
 }
 
-/// The line of a refusal, with its line feed.
+// A text behind this front, and a line feed.
+fn ended_line(front: String, text: &[u8]) -> Result<Bytes, Memory>
+    ensures { IfOk result (λ piece. piece ≡ string_bytes front ++ (text.now ++ 10 ∷ [])) }
+{
+    let mut piece = front.into_bytes();
+    piece.extend_from_slice(text)?;
+    piece.push(b'\n')?;
+    Ok(Bytes::from_vec(piece))
+}
+
+/// The line of a refusal with this text, with its line feed.
 #[tactic(auto, unfolding(crate::specs::Texts::refused_line))]
-pub fn refused_line(alloc: Global, line: u64, text: &str) -> Result<String, Memory>
-    ensures { IfOk result (λ piece. string_bytes piece ≡ refused_line line text.now) }
+pub fn refused_line(alloc: Global, line: u64, text: &[u8]) -> Result<Bytes, Memory>
+    ensures { IfOk result (λ piece. piece ≡ refused_line line text.now) }
 {
-    Ok(format!(in alloc; "{line} refused {text}\n")?)
+    let front = format!(in alloc; "{line} refused ")?;
+    ended_line(front, text)
 }
 
-/// The line of a refusal that is no rejection: the line isn't of a form that is built yet.
-#[tactic(auto, unfolding(crate::specs::Texts::refused_line, crate::specs::Texts::not_built_text))]
-pub fn not_built_line(alloc: Global, line: u64) -> Result<String, Memory>
-    ensures { IfOk result (λ piece. string_bytes piece ≡ refused_line line not_built_text) }
+/// The number and the words of what isn't built yet.
+#[tactic(auto, unfolding(crate::specs::Texts::not_built_text))]
+pub fn not_built_text(alloc: Global) -> Result<Bytes, Memory>
+    ensures { IfOk result (λ text. text ≡ not_built_text) }
 {
-    Ok(format!(in alloc; "{line} refused 40 not built yet\n")?)
+    Bytes::from_slice(alloc, b"40 not built yet")
 }
 
-/// The line for a schema text that isn't of a form that is built yet, with its line feed.
-#[tactic(auto, unfolding(crate::specs::Texts::schema_refused_line, crate::specs::Texts::not_built_text))]
-pub fn schema_refused_line(alloc: Global) -> Result<String, Memory>
-    ensures { IfOk result (λ piece. string_bytes piece ≡ schema_refused_line not_built_text) }
+/// The line for a schema text with this refusal, with its line feed.
+#[tactic(auto, unfolding(crate::specs::Texts::schema_refused_line))]
+pub fn schema_refused_line(alloc: Global, text: &[u8]) -> Result<Bytes, Memory>
+    ensures { IfOk result (λ piece. piece ≡ schema_refused_line text.now) }
 {
-    Ok(String::from_str(alloc, "schema refused 40 not built yet\n")?)
+    let front = String::from_str(alloc, "schema refused ")?;
+    ended_line(front, text)
 }
 
 /// The line for words that are no command, with its line feed.
 #[tactic(auto, unfolding(crate::specs::Texts::words_refused_line))]
-pub fn words_refused_line() -> &'static str
-    ensures { result.now ≡ words_refused_line }
+pub fn words_refused_line(alloc: Global) -> Result<Bytes, Memory>
+    ensures { IfOk result (λ piece. piece ≡ words_refused_line) }
 {
-    "words refused 35\n"
+    Bytes::from_slice(alloc, b"words refused 35\n")
 }

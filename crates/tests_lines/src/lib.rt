@@ -5,5 +5,7 @@
 #![tactic(auto)]
 
 mod counting;
+#[cfg(test)]
+mod tests;
 
 pub use counting::{CountEnd, LIMIT, count_lines};

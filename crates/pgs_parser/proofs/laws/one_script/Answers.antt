@@ -1,4 +1,4 @@
-use Rattle.pgs_parser.proofs.OneScript.{one_script}
+use Rattle.pgs_parser.proofs.WholeScripts.{one_script}
 use Rattle.pgs_parser.proofs.laws.one_script.Goals as goal
 
 pub returns : goal.returns
