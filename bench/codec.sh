@@ -16,8 +16,11 @@ cat >"$work/crates/coding/src/main.rt" <<'E'
 //! Decodes, encodes or reads as JSON the same 1,000 transactions, as often as it has words after the first, which says what it does.
 #![tactic(auto)]
 
+ghost use Rattle.std.specs.Prelude.{IsTrue};
+ghost use Rattle.pgs_codec.specs.Encodable.{is_sized};
+
 use pgs_base::Memory;
-use pgs_codec::{decode, encode};
+use pgs_codec::{Command, decode, encode};
 use pgs_json::read_txn;
 use std::alloc::{AllocError, Global};
 use std::env;
@@ -91,17 +94,24 @@ fn read_all(alloc: Global, lines: &[String]) -> Result<u64, Memory> {
     Ok(taken)
 }
 
-// How many times a payload's command is encoded.
-fn encode_all(alloc: Global, payload: &[u8]) -> Result<u64, Memory> {
+// How many payloads a command is encoded to.
+fn encode_often(alloc: Global, command: &Command) -> Result<u64, Memory>
+    requires { IsTrue (is_sized command.now) }
+{
     let mut given: u64 = 0;
-    if let Some(command) = decode(alloc, payload)? {
-        for _ in 0..TRANSACTIONS {
-            if encode(alloc, &command)?.len() == payload.len() {
-                given = given.saturating_add(1);
-            }
+    for _ in 0..TRANSACTIONS {
+        if !encode(alloc, command)?.is_empty() {
+            given = given.saturating_add(1);
         }
     }
     Ok(given)
+}
+
+fn encode_all(alloc: Global, payload: &[u8]) -> Result<u64, Memory> {
+    match decode(alloc, payload)? {
+        Some(command) => encode_often(alloc, &command),
+        None => Ok(0),
+    }
 }
 
 fn turns(alloc: Global, kind: &str, count: usize) -> Result<u64, Memory> {
@@ -145,16 +155,15 @@ E
 cd "$work/crates/coding"
 built="$work/crates/coding/out/coding"
 (rt all check && rt run) >"$work/log" 2>&1 </dev/null || [ -x "$built" ] || { tail -n 20 "$work/log" >&2; exit 1; }
+# The processor's time of the program itself, which other work on the machine changes least.
 milliseconds() {
-  local start
-  start=$(date +%s%N)
-  "$built" "$@" || { echo "the program ended with $?" >&2; exit 1; }
-  echo $(( ($(date +%s%N) - start) / 1000000 ))
+  local TIMEFORMAT='%U'
+  { time "$built" "$@" || { echo "the program ended with $?" >&2; exit 1; }; } 2>&1 | awk '{ print $1 * 1000 }'
 }
 base=$(milliseconds decode)
-mapfile -t words < <(seq 200)
+mapfile -t words < <(seq 1000)
 for kind in decode encode json; do
   all=$(milliseconds "$kind" "${words[@]}")
   bytes=93; [ "$kind" = json ] && bytes=159
-  awk "BEGIN { ms = $all - $base; printf \"%s: %.2f us a transaction, %.0f MB/s of %d bytes each\\n\", \"$kind\", ms / 200, $bytes * 200 / ms, $bytes }"
+  awk "BEGIN { ms = $all - $base; printf \"%s: %.2f us a transaction, %.0f MB/s of %d bytes each\n\", \"$kind\", ms / 1000, $bytes * 1000 / ms, $bytes }"
 done

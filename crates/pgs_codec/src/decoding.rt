@@ -124,8 +124,8 @@ fn read_whole(alloc: Global, payload: &[u8]) -> Result<Command, Unread>
     }
 }
 
-/// The command whose payload the bytes are. `None` exactly where they are no command's payload. A count or a length takes no
-/// memory that the bytes don't hold.
+/// The command whose payload the bytes are. `None` exactly where they are no command's payload; `Memory` where there was none left.
+/// A count or a length takes no memory that the bytes don't hold.
 pub fn decode(alloc: Global, payload: &[u8]) -> Result<Option<Command>, Memory>
     ensures found { IfOk result (λ found. IfSome found (λ command. IsPayload command payload.now)) }
     ensures none { IfOk result (λ found. IfNone found ((command : Command) → IsPayload command payload.now → ⊥)) }

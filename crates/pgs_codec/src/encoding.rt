@@ -88,7 +88,7 @@ fn write_command(command: &Command, out: &mut Vec<u8>) -> Result<(), Memory>
 
 /// The payload of a command. It asks that each row has at most 64 labels and 256 properties, that a transaction has fewer than
 /// 2^32 operations, and that the rows of a snapshot are a graph: both lists ascend strictly by number, and both ends of each edge
-/// are among the nodes. Memory is taken once, for as many bytes as the payload has.
+/// are among the nodes. Memory is taken once, for as many bytes as the payload has; `Memory` where there was none left.
 pub fn encode(alloc: Global, command: &Command) -> Result<Bytes, Memory>
     requires { IsTrue (is_sized command.now) }
     ensures payload { IfOk result (λ bytes. IsPayload command.now bytes) }

@@ -6,6 +6,7 @@ use pgs_base::{Bytes, List, Memory};
 use std::alloc::Global;
 
 /// A payload as it is appended to a journal: eight bytes of its length, the payload, and the closed gate of the record after it.
+/// `Memory` where there was none left.
 pub fn frame(alloc: Global, payload: &[u8]) -> Result<Bytes, Memory>
     ensures { IfOk result (λ frame. frame ≡ framed payload.now) }
 {

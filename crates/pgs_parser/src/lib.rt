@@ -1,12 +1,9 @@
-//! Schema texts as trees: `parse_first` reads the first form of a schema.
+//! Schema texts as trees: `parse` reads scripts from the lexer's tokens, and `parse_first` the first form of a schema.
 //!
-//! The one rule: a text is read exactly where it is of the form, and only want of memory keeps it from that.
-//! The form is a grammar in `specs/Form.antt`, over the tokens of `specs/Cut.antt`. `specs/Schema.antt` computes
-//! what is read, and `first_form` is the law that both say the same. The layer above uses `FirstSchema` alone.
-//!
-//! The grammar of the whole language is a relation between the lexer's tokens and the trees of `pgs_syntax`, in
-//! `specs/Types.antt`, `specs/Keys.antt` and `specs/Statements.antt`; `specs/Text.antt` says what a text is by it.
-//! The laws in `laws` say that tokens are at most one script, and that a text is found to be one thing.
+//! The one rule: what is read is exactly what the grammar says, and only want of memory keeps a call from it.
+//! The grammar is a relation, in `specs/Types.antt`, `specs/Keys.antt` and `specs/Statements.antt`, and `script_of` in
+//! `specs/StatementReaders.antt` computes it; the laws in `laws` say that both agree, and `specs/Text.antt` what a text is.
+//! The first form has its own grammar, `specs/Form.antt`, with the law `first_form`. The layer above uses `parse` and `FirstSchema`.
 #![tactic(auto)]
 
 mod cut;

@@ -221,11 +221,7 @@ impl Parser<'_> {
         ensures { Reads result self.new (hidden_at earlier self.old) }
     {
         self.keyword(b"TYPE")?;
-        if earlier {
-            Ok(true)
-        } else {
-            Ok(self.keyword_if(b"ABSTRACT"))
-        }
+        Ok(earlier || self.keyword_if(b"ABSTRACT"))
     }
 
     /// A node type, after CREATE and NODE.

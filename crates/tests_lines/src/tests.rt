@@ -8,8 +8,22 @@ use std::test::Fail;
 type Row = (&'static str, usize, u64, u64, u64, &'static str);
 
 const ROWS: [Row; 6] = [
-    ("a\n\n \t\r\nb\nab", 65_536, 0, 0, 99, "lines=2\nab\n Ended(Counted)"),
-    ("a\n\n \t\r\nb\nab", 1, 0, 0, 99, "lines=2\nab\n Ended(Counted)"),
+    (
+        "a\n\n \t\r\nb\nab",
+        65_536,
+        0,
+        0,
+        99,
+        "lines=2\nab\n Ended(Counted)",
+    ),
+    (
+        "a\n\n \t\r\nb\nab",
+        1,
+        0,
+        0,
+        99,
+        "lines=2\nab\n Ended(Counted)",
+    ),
     ("a\n.\nb\n", 2, 0, 0, 99, "point\n Ended(Point)"),
     ("a\nb\n", 3, 0, 0, 4, " Ended(Cut)"),
     ("a\nb\n", 3, 2, 0, 99, " ReadFault"),
@@ -47,7 +61,13 @@ fn spaces(alloc: Global, count: usize) -> Result<String, Memory> {
     let reads = List::new(alloc);
     let bytes = List::from_slice(alloc, line.as_bytes())?;
     let mut source = MemSource::new(bytes, 7, reads);
-    let mut world = MemWorld::new(alloc, List::new(alloc), List::new(alloc), 65_536, List::new(alloc))?;
+    let mut world = MemWorld::new(
+        alloc,
+        List::new(alloc),
+        List::new(alloc),
+        65_536,
+        List::new(alloc),
+    )?;
     let end = count_lines(alloc, &mut source, &mut world, 1 << 20);
     let output = str::from_utf8(world.output()).unwrap_or("not a text");
     Ok(format!(in alloc; "{output}{end:?}")?)

@@ -1,0 +1,135 @@
+//! A store that is made and takes one record, stopped after each number of calls, with each kind of leaving.
+
+ghost use Rattle.std.specs.Prelude.{◌≡◌, ◌∷◌, []};
+ghost use Rattle.pgs_codec.specs.Frame.{framed};
+ghost use Rattle.pgs_journal.specs.Format.{First, IsFrames};
+ghost use Rattle.pgs_journal.specs.Samples.{schema_payload, txn_payload};
+
+use pgs_base::{Bytes, List, Memory};
+use pgs_journal::{AreaState, Journal, ScanFault, scan};
+use pgs_world::{Area, Leave, MemWorld, World};
+use std::alloc::Global;
+use std::test::Fail;
+
+/// The schema `CREATE GRAPH TYPE g LOOSE {};`, framed.
+const SCHEMA: &[u8] = b"\0\0\0\0\0\0\0\x1e\x01CREATE GRAPH TYPE g LOOSE {};\0";
+
+/// A transaction that adds node 1, framed.
+const TXN: &[u8] = b"\0\0\0\0\0\0\0\x12\x03\0\0\0\x01\x01\0\0\0\0\0\0\0\x01\0\0\0\0\0";
+
+/// What an area is, as a number: 0 for no store, else the number of its records; 90 to 92 for the rest.
+fn number_of(state: &AreaState) -> u64 {
+    match state {
+        AreaState::NoStore => 0,
+        AreaState::Store { payloads, .. } => payloads.len() as u64,
+        AreaState::Foreign => 90,
+        AreaState::Damaged { number, .. } => 90u64.saturating_add(*number),
+    }
+}
+
+/// Makes a store in area A and appends a record.
+fn make<W: World>(world: &mut W, first: &[u8], frame: &[u8]) -> bool
+    requires first { IsFrames First (schema_payload ∷ []) first.now }
+    requires frame { frame.now ≡ framed txn_payload }
+{
+    match Journal::create(world, Area::A, 1, first) {
+        Ok(mut journal) => journal.append(world, frame).is_ok(),
+        Err(_) => false,
+    }
+}
+
+/// What is read of area A once the world stopped after so many calls and left its bytes so.
+fn left_after(alloc: Global, calls: u64, how: Leave) -> Result<u64, Memory> {
+    let mut world = MemWorld::stopping(alloc, List::new(alloc), List::new(alloc), 256, calls)?;
+    make(&mut world, SCHEMA, TXN);
+    let (a, b, _) = world.left(alloc, how)?;
+    scanned(alloc, a, b)
+}
+
+/// What is read of area A.
+fn scanned(alloc: Global, a: Bytes, b: Bytes) -> Result<u64, Memory> {
+    let mut world = MemWorld::new(alloc, a, b, 256, List::new(alloc))?;
+    match scan(alloc, &mut world, Area::A) {
+        Ok(state) => Ok(number_of(&state)),
+        Err(ScanFault::Memory) => Err(Memory),
+        Err(ScanFault::AreaFault) => Ok(99),
+    }
+}
+
+const WAYS: [Leave; 5] = [
+    Leave::Old,
+    Leave::New,
+    Leave::Fill(0),
+    Leave::Fill(1),
+    Leave::Fill(7),
+];
+
+/// After so many calls, from 0 on, with each leaving.
+const RECORDS: [[u64; 5]; 15] = [
+    [0, 0, 0, 0, 0],
+    [0, 0, 0, 0, 0],
+    [0, 0, 0, 0, 0],
+    [0, 0, 0, 0, 0],
+    [0, 0, 0, 0, 0],
+    [0, 0, 0, 0, 0],
+    [0, 0, 0, 0, 0],
+    [0, 0, 0, 0, 0],
+    [0, 0, 0, 0, 0],
+    [0, 1, 0, 1, 0],
+    [1, 1, 1, 1, 1],
+    [1, 1, 1, 1, 1],
+    [1, 1, 1, 1, 1],
+    [1, 2, 1, 2, 1],
+    [2, 2, 2, 2, 2],
+];
+
+#[test]
+fn each_stop_leaves_the_records_before_or_one_more(rt: HostRuntime) -> Result<(), Fail> {
+    for (calls, row) in RECORDS.iter().enumerate() {
+        for (how, want) in WAYS.iter().zip(row) {
+            let records = left_after(rt.alloc(), calls as u64, *how)?;
+            assert_eq!(rt; records, *want, "{calls} calls, {how:?}");
+        }
+    }
+    Ok(())
+}
+
+/// What is read of an area of these bytes.
+fn read_of(alloc: Global, bytes: &[u8]) -> Result<u64, Memory> {
+    let a = List::from_slice(alloc, bytes)?;
+    scanned(alloc, a, List::new(alloc))
+}
+
+const LOADED: &[u8] =
+    b"\x01PGSGRD1\0\0\0\0\0\0\0\x01\x01\0\0\0\0\0\0\0\x1e\x01CREATE GRAPH TYPE g LOOSE {};";
+
+#[test]
+fn areas_are_read_as_what_they_are(rt: HostRuntime) -> Result<(), Fail> {
+    for (behind, want) in [
+        ("\x00", 1),
+        ("\x07", 1),
+        ("\x01\0\0\0\0\0\0\0\x12\x03\0\0\0\x01\x01\0\0", 92),
+        ("\x01\x7f\u{0}\0\0\0\0\0\0\0", 92),
+        ("", 91),
+    ] {
+        let mut bytes = Vec::new(rt.alloc());
+        bytes.extend_from_slice(LOADED)?;
+        bytes.extend_from_slice(behind.as_bytes())?;
+        assert_eq!(rt; read_of(rt.alloc(), &bytes)?, want, "{behind:?}");
+    }
+    Ok(())
+}
+
+#[test]
+fn other_areas_are_no_store_or_foreign(rt: HostRuntime) -> Result<(), Fail> {
+    for (bytes, want) in [
+        ("", 0),
+        ("\x01", 0),
+        ("\x01xxxxxxxxxxxxxxxx", 90),
+        ("\x01xxxxxxxxxxxxxxx", 0),
+        ("\x00xxxxxxxxxxxxxxxx", 0),
+    ] {
+        assert_eq!(rt; read_of(rt.alloc(), bytes.as_bytes())?, want, "{bytes:?}");
+    }
+    Ok(())
+}
