@@ -1,14 +1,15 @@
 -- What a stop leaves of an area during the two writes of a record.
-use Rattle.std.proofs.Common.{◌≡◌, inl, ℕ, ◌+◌, ◌≤◌, List, [], ◌∷◌, ◌++◌, length, take, drop, refl, sym, ◌∙◌, ap, subst, arith, append_assoc, length-append, length-take}
+use Rattle.std.proofs.Common.{◌≡◌, inl, ℕ, ◌+◌, ◌≤◌, List, [], ◌∷◌, ◌++◌, IsTrue, length, take, drop, sym, ◌∙◌, ap, subst, arith, append_assoc, length-take}
 use Rattle.std.proofs.lemmas.List.{drop_at}
 use Rattle.std.proofs.Math.Seq.{take-append_seam}
 use Rattle.pgs_codec.specs.Frame.{framed}
 use Rattle.pgs_world.specs.declared.area.Area.{Area}
 use Rattle.pgs_world.specs.Disk.{written_over, Writes}
-use Rattle.pgs_world.specs.World.{Triple, part}
+use Rattle.pgs_world.specs.Moment.{Passes, StopsBy, IsSynced}
+use Rattle.pgs_world.specs.World.{Triple, View, part}
 use Rattle.pgs_journal.specs.Format.{First, opened, Holds}
 use Rattle.pgs_journal.specs.Stops.{Turns, Appends}
-use Rattle.pgs_journal.proofs.Composing.{beside_on}
+use Rattle.pgs_journal.proofs.Composing.{stops_then, beside_on}
 use Rattle.pgs_journal.proofs.Images.{holds-front, holds-more, before_gate, appended}
 
 -- bytes that were written behind the first so many
@@ -52,3 +53,10 @@ module _ (area : Area) (epoch end : ℕ) (frame payload : List ℕ) (is : frame 
         (opened_now ∙ append_assoc (take end mid) (1 ∷ []) (drop (end + 1) mid)
         ∙ ap (λ (l : List ℕ). l ++ 1 ∷ drop (end + 1) mid) (before_gate epoch payloads end old mid h (ap (λ (l : List ℕ). take (end + 1) l) written ∙ front-written (end + 1) old frame inside))
         ∙ ap (λ (l : List ℕ). opened First epoch payloads ++ 1 ∷ l) behind))
+
+    -- what a stop leaves during both writes
+    pub append_stops : (first next last : View) → IsTrue first.tells_bytes → part area next.shown ≡ mid → IsSynced area next → Passes first next → Passes next last
+        → StopsBy (Writes area (end + 1) (length frame)) first next → StopsBy (Writes area end 1) next last → StopsBy (Turns area (Appends First epoch end payload)) first last
+    append_stops first next last told shown synced p q one two honest =
+        stops_then first next last (Writes area (end + 1) (length frame)) (Writes area end 1) (Turns area (Appends First epoch end payload)) p q first_write
+        (λ d e c write left then. second_write d e c write (synced (p.honest ∙ honest) (p.tells_bytes ∙ told) e left ∙ shown) then) one two honest

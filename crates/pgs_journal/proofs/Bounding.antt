@@ -1,14 +1,11 @@
 -- What an area's state is bounded by.
-use Rattle.std.proofs.Common.{◌≡◌, ℕ, zero, suc, ◌+◌, ◌≤◌, ◌<◌, ◌^◌, Bool, true, false, not, ◌||◌, ◌&&◌, nat_lt, IsTrue, List, [], ◌∷◌, ◌++◌, length, take, drop, Some, None, refl, sym, ◌∙◌, ap, subst, arith, length-append, length-drop, if◌then◌else◌, bytes_eq}
+use Rattle.std.proofs.Common.{◌≡◌, ℕ, zero, suc, ◌+◌, ◌≤◌, ◌^◌, Bool, true, false, not, ◌||◌, ◌&&◌, nat_lt, IsTrue, List, [], ◌∷◌, length, take, drop, Some, None, refl, arith, length-append, length-drop, if◌then◌else◌, bytes_eq}
 use Rattle.std.specs.declared.option.Option.{Option}
 use Rattle.std.proofs.lemmas.Bool.{and_parts}
 use Rattle.std.proofs.lemmas.Bool.Decides.{nat_tests}
-use Rattle.byteorder.specs.Endian.{big_bytes}
-use Rattle.pgs_journal.specs.declared.area_state.AreaState.{AreaState}
 use Rattle.pgs_journal.specs.declared.area_state.AreaState.TheVariants.{NoStore, Foreign, Damaged, Store}
-use Rattle.pgs_journal.specs.declared.records.Found.{Found}
 use Rattle.pgs_journal.specs.Area.{opens, is_no_store, epoch_of, has_head, first_unfit, is_fit, has_some, judged, store_of, state_within, area_state}
-use Rattle.pgs_journal.specs.Bounds.{IsBounded, IsBoundedStore}
+use Rattle.pgs_journal.specs.Bounds.{IsBounded}
 use Rattle.pgs_journal.specs.Format.{First, is_epoch, magic, opened, open_records}
 use Rattle.pgs_journal.specs.Reading.{Next, Closed, Torn, Whole, next_of, found_at, records_within, records_in}
 use Rattle.pgs_journal.proofs.ReadingOn.{whole_size}

@@ -1,5 +1,5 @@
 -- How what stops leave composes, over two calls on one area.
-use Rattle.std.proofs.Common.{◌≡◌, ⊎_elim, ℕ, List, IsTrue, refl, ◌∙◌}
+use Rattle.std.proofs.Common.{⊎_elim, refl, ◌∙◌}
 use Rattle.pgs_world.specs.declared.area.Area.{Area}
 use Rattle.pgs_world.specs.Disk.{IsSameBeside}
 use Rattle.pgs_world.specs.Moment.{Passes, StopsBy, IsQuiet}

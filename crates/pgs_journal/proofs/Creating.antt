@@ -1,14 +1,13 @@
 -- What a stop leaves of an area while a store is made in it.
-use Rattle.std.proofs.Common.{◌≡◌, ◌⊎◌, inl, inr, ⊎_elim, ℕ, suc, zero, ◌+◌, ◌≤◌, ◌<◌, Bool, true, false, not, ◌||◌, nat_lt, nat_eq, IsTrue, List, [], ◌∷◌, ◌++◌, length, take, drop, refl, sym, ◌∙◌, ap, subst, arith, append_assoc, length-append, length-take, length-drop}
-use Rattle.std.proofs.lemmas.Bool.{false≢true}
+use Rattle.std.proofs.Common.{◌≡◌, ◌⊎◌, inl, inr, ⊎_elim, ℕ, ◌+◌, ◌≤◌, ◌<◌, Bool, true, false, not, ◌||◌, nat_lt, IsTrue, List, [], ◌∷◌, ◌++◌, length, take, drop, refl, sym, ◌∙◌, ap, arith, append_assoc, length-append}
 use Rattle.std.proofs.lemmas.Bool.Decides.{nat_tests}
 use Rattle.std.proofs.lemmas.List.{append-nil, take_all, drop_all, take-take, drop_at}
 use Rattle.pgs_world.specs.declared.area.Area.{Area}
 use Rattle.pgs_world.specs.Disk.{written_over, IsTorn, IsSameBeside, Writes, Cuts}
-use Rattle.pgs_world.specs.Moment.{Passes, StopsBy, IsQuiet, IsSynced}
+use Rattle.pgs_world.specs.Moment.{Passes, StopsBy, IsSynced}
 use Rattle.pgs_world.specs.World.{Triple, View, part}
 use Rattle.pgs_journal.specs.Area.{opens, is_empty_or_open, is_no_store}
-use Rattle.pgs_journal.specs.Format.{First, is_open, is_epoch, head_body, open_records, opened, Holds, IsFrames}
+use Rattle.pgs_journal.specs.Format.{First, is_open, is_epoch, head_body, open_records, Holds, IsFrames}
 use Rattle.pgs_journal.specs.Stops.{Turns, Closes, KeepsGate, Creates}
 use Rattle.pgs_journal.proofs.Composing.{stops_then, stops_weaker, beside_on}
 use Rattle.pgs_journal.proofs.Images.{one_byte, open_is_one}

@@ -1,12 +1,12 @@
 -- What an image holds once bytes were written behind its last record, and once the gate there was written.
-use Rattle.std.proofs.Common.{◌≡◌, ◌⊎◌, inl, inr, ℕ, suc, ◌+◌, ◌≤◌, ◌<◌, max, Bool, true, false, List, [], ◌∷◌, ◌++◌, length, take, drop, refl, sym, ◌∙◌, ap, subst, arith, nat_eq, append_assoc, length-append, length-take, length-drop}
+use Rattle.std.proofs.Common.{◌≡◌, ◌⊎◌, inl, inr, ℕ, suc, ◌+◌, ◌≤◌, ◌<◌, Bool, true, false, List, [], ◌∷◌, ◌++◌, length, take, drop, refl, sym, ◌∙◌, ap, arith, append_assoc, length-append, length-drop}
 use Rattle.std.proofs.lemmas.Bool.Decides.{nat_tests}
-use Rattle.std.proofs.lemmas.List.{append-nil, take-take, take-append-drop, drop-drop, drop_at}
+use Rattle.std.proofs.lemmas.List.{append-nil, take-take, take-append-drop, drop-drop}
 use Rattle.std.proofs.Math.Seq.{take-append-add}
 use Rattle.byteorder.specs.Endian.{big_bytes}
 use Rattle.pgs_codec.specs.Frame.{framed}
 use Rattle.pgs_world.specs.Disk.{IsTorn}
-use Rattle.pgs_journal.specs.Format.{Format, First, is_open, head_body, open_records, opened, Holds}
+use Rattle.pgs_journal.specs.Format.{First, is_open, head_body, open_records, opened, Holds}
 
 -- the bytes up to the closed gate, and the gate
 front : (epoch : ℕ) (payloads : List (List ℕ)) (end : ℕ) (image : List ℕ) → (h : Holds First epoch payloads end image) → take (end + 1) image ≡ opened First epoch payloads ++ h.gate ∷ []

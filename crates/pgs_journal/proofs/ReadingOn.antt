@@ -5,7 +5,7 @@ use Rattle.std.proofs.lemmas.List.{append-nil}
 use Rattle.byteorder.specs.Endian.{big_number, big_bytes}
 use Rattle.pgs_journal.specs.declared.records.Found.{Found}
 use Rattle.pgs_journal.specs.Format.{First, is_open, open_records}
-use Rattle.pgs_journal.specs.Reading.{Next, Closed, Torn, Whole, record_of, next_of, after_one, found_at, records_within, records_in}
+use Rattle.pgs_journal.specs.Reading.{Next, Closed, Torn, Whole, record_of, next_of, after_one, found_at, records_within}
 
 payload_in : Next → List ℕ
 payload_in Closed = []

@@ -1,12 +1,10 @@
 -- What an area is once its gate and its head were read.
-use Rattle.std.proofs.Common.{◌≡◌, ℕ, ◌≤◌, Bool, true, false, not, ◌||◌, nat_lt, List, [], ◌∷◌, length, drop, slice_index, Some, None, refl, sym, ◌∙◌, ap, arith, if◌then◌else◌}
+use Rattle.std.proofs.Common.{◌≡◌, ℕ, ◌≤◌, Bool, true, false, not, ◌||◌, nat_lt, List, [], ◌∷◌, length, drop, slice_index, Some, None, sym, ◌∙◌, ap, arith, if◌then◌else◌}
 use Rattle.std.specs.declared.option.Option.{Option}
-use Rattle.std.proofs.lemmas.Bool.{false≢true}
 use Rattle.std.proofs.lemmas.Bool.Decides.{nat_tests}
-use Rattle.pgs_journal.specs.declared.area_state.AreaState.{AreaState}
 use Rattle.pgs_journal.specs.declared.area_state.AreaState.TheVariants.{NoStore, Foreign}
 use Rattle.pgs_journal.specs.declared.records.Found.{Found}
-use Rattle.pgs_journal.specs.Area.{opens, is_no_store, epoch_of, has_head, state_within, area_state}
+use Rattle.pgs_journal.specs.Area.{is_no_store, epoch_of, has_head, state_within, area_state}
 use Rattle.pgs_journal.specs.Format.{First, is_open}
 use Rattle.pgs_journal.specs.Reading.{records_in}
 

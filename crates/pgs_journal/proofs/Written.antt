@@ -1,15 +1,13 @@
 -- What was written as a store is read as it.
-use Rattle.std.proofs.Common.{◌≡◌, ℕ, zero, suc, ◌+◌, ◌-◌, ◌≤◌, ◌<◌, ◌^◌, Bool, true, false, not, ◌||◌, ◌&&◌, nat_lt, IsTrue, List, [], ◌∷◌, ◌++◌, length, take, drop, None, refl, sym, ◌∙◌, ap, subst, arith, append_assoc, length-append, if◌then◌else◌, bytes_eq}
+use Rattle.std.proofs.Common.{◌≡◌, ℕ, zero, suc, ◌+◌, ◌≤◌, ◌<◌, ◌^◌, Bool, true, false, ◌||◌, nat_lt, IsTrue, List, [], ◌∷◌, ◌++◌, length, take, drop, None, refl, sym, ◌∙◌, ap, subst, arith, append_assoc, length-append, if◌then◌else◌}
 use Rattle.std.proofs.lemmas.Bool.Decides.{nat_tests}
 use Rattle.std.proofs.Math.Seq.{take-append_seam, drop-append_seam}
 use Rattle.byteorder.specs.Endian.{big_bytes, big_number}
 use Rattle.byteorder.specs.Numbers.{big_number-reads_back}
-use Rattle.pgs_journal.specs.declared.area_state.AreaState.{AreaState}
 use Rattle.pgs_journal.specs.declared.area_state.AreaState.TheVariants.{NoStore, Foreign, Damaged, Store}
-use Rattle.pgs_journal.specs.declared.records.Found.{Found}
-use Rattle.pgs_journal.specs.Area.{opens, is_no_store, epoch_of, has_head, first_unfit, has_some, judged, store_of, state_within, area_state}
+use Rattle.pgs_journal.specs.Area.{epoch_of, has_head, first_unfit, has_some, judged, store_of, state_within, area_state}
 use Rattle.pgs_journal.specs.Format.{First, is_open, is_epoch, open_records, opened, Holds}
-use Rattle.pgs_journal.specs.Reading.{Next, Closed, Torn, Whole, record_of, next_of, after_one, found_at, records_within, records_in}
+use Rattle.pgs_journal.specs.Reading.{Next, Closed, Torn, Whole, record_of, after_one, found_at, records_within, records_in}
 
 is_less : (m n : ℕ) → m < n → nat_lt m n ≡ true
 is_less m n lt = grind (arith, nat_tests)

@@ -1,5 +1,5 @@
 -- How the records of an area are read from its first gate on.
-use Rattle.std.specs.Prelude.{ℕ, zero, suc, ◌+◌, Bool, true, false, List, [], ◌∷◌, length, take, drop, nat_lt, if◌then◌else◌}
+use Rattle.std.specs.Prelude.{ℕ, zero, suc, ◌+◌, true, false, List, [], ◌∷◌, length, take, drop, nat_lt, if◌then◌else◌}
 use Rattle.byteorder.specs.Endian.{big_number}
 use Rattle.pgs_journal.specs.declared.records.Found.{Found}
 use Rattle.pgs_journal.specs.Format.{Format, is_open}

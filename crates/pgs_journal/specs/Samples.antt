@@ -1,5 +1,5 @@
 -- Areas written out byte by byte.
-use Rattle.std.specs.Prelude.{ℕ, List, [], ◌∷◌, ◌++◌, take, replicate, codes}
+use Rattle.std.specs.Prelude.{ℕ, List, [], ◌∷◌, ◌++◌, replicate, codes}
 
 -- the schema `CREATE GRAPH TYPE g LOOSE {};`
 abbrev pub schema_payload : List ℕ

@@ -4,6 +4,8 @@
 #![tactic(auto)]
 
 #[cfg(test)]
+mod parsing;
+#[cfg(test)]
 mod schema_texts;
 #[cfg(test)]
 mod tokens;

@@ -1,4 +1,4 @@
-use Rattle.std.proofs.Common.{◌≡◌, ℕ, ◌≤◌, IsTrue, arith}
+use Rattle.std.proofs.Common.{ℕ, ◌≤◌, IsTrue, arith}
 use Rattle.std.proofs.lemmas.Bool.Decides.{nat_tests}
 use Rattle.pgs_journal.specs.Format.{is_epoch}
 use Rattle.pgs_journal.proofs.Written.{holds-read}

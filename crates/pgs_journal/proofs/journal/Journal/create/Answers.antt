@@ -1,7 +1,6 @@
 use Rattle.std.proofs.Common.{List, ℕ, ◌≡◌, ◌≤◌, length, take, sym, ◌∙◌, ap, arith, length-take}
-use Rattle.std.proofs.lemmas.Result.{on_ok_weaker}
 use Rattle.pgs_world.specs.Disk.{Writes, Cuts, IsSameBeside}
-use Rattle.pgs_world.specs.World.{Triple, part}
+use Rattle.pgs_world.specs.World.{part}
 use Rattle.pgs_world.proofs.Moments.{passes_on}
 use Rattle.pgs_journal.specs.Area.{opens}
 use Rattle.pgs_journal.specs.Stops.{Turns, KeepsGate}
