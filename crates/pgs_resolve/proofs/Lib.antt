@@ -1,5 +1,7 @@
 pub mod Computed
 pub mod Firsts
+pub mod Held
+pub mod Listed
 pub mod Members
 pub mod Once
 mod OneAnswer

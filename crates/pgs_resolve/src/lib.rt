@@ -4,6 +4,7 @@
 //! are computed in `specs/Resolution.antt`. `specs/SchemaOf.antt` says what a text is, from its bytes to its schema.
 #![tactic(auto)]
 
+mod atoms;
 mod declarations;
 mod duplicates;
 mod fault;
@@ -20,5 +21,6 @@ mod resolved_types;
 pub mod samples;
 mod specifications;
 mod unknown;
+mod variables;
 
 pub use fault::{KeyCause, ResolveFault};
