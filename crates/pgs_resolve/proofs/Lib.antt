@@ -8,6 +8,7 @@ mod OneAnswer
 pub mod Parts
 pub mod Repeats
 pub mod Same
+pub mod Stepped
 pub mod Steps
 pub mod Trees
 pub mod Walks

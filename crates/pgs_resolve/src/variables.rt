@@ -1,4 +1,4 @@
-ghost use Rattle.std.specs.Prelude.{◌≡◌, ℕ, Bool, List, [], map, OnOk, IfOk};
+ghost use Rattle.std.specs.Prelude.{◌≡◌, ℕ, Bool, List, [], ◌∷◌, false, map, OnOk, IfOk};
 ghost use Rattle.std.specs.List.{find};
 ghost use Rattle.std.specs.Option.{option_map, option_to_list};
 ghost use Rattle.pgs_syntax.specs.declared.raw.RawPath.{RawPath};
@@ -118,6 +118,22 @@ fn first_variable(alloc: Global, x: &Name, places: &[PlaceRef<'_>]) -> Result<Va
 }
 
 impl Variables {
+    /// The number of the variable of a name.
+    pub fn number_named(&self, name: &Name) -> u32
+        ensures { (variables : List (Variable × Bool)) → Holds variables self.now → result ≡ number_of variables (called name.now) }
+    {
+        self.named.get(name).copied().unwrap_or(0)
+    }
+
+    /// The variable of a name alone, a node.
+    pub fn of_name(alloc: Global, x: &Name) -> Result<Variables, Memory>
+        ensures { IfOk result (Holds ((called x.now, false) ∷ [])) }
+    {
+        let mut variables = Variables::new(alloc);
+        variables.add_named(alloc, x, false)?;
+        Ok(variables)
+    }
+
     /// The variables of places, with x, where it is named, before the others.
     pub fn of_places(alloc: Global, x: &Name, places: &[PlaceRef<'_>]) -> Result<Variables, Memory>
         ensures { (paths : List RawPath) → map placed places.now ≡ places_of paths → IfOk result (Holds (variables_of x.now paths)) }
