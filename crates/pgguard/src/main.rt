@@ -1,9 +1,9 @@
 //! The program: it makes the words, standard input and standard output, and calls `pgs_run::run`.
 //! Nothing else stands here. What a terminal, a pipe or a file holds is told by no clause: the real source
-//! and world count their faults and tell nothing.
+//! and world count their calls and faults and tell nothing.
 #![tactic(auto)]
 
-mod faults;
+mod counts;
 mod stdin_source;
 mod stdout_world;
 #[cfg(test)]
@@ -12,32 +12,32 @@ mod tests;
 use pgs_base::{Memory, Words};
 use pgs_run::{Status, run};
 use std::alloc::Global;
-use std::env::{self, Env};
-use std::io::ErrorKind;
+use std::env::{self, Args};
+use std::io::{self, ErrorKind};
 use std::process::ExitCode;
 use stdin_source::StdinSource;
 use stdout_world::StdoutWorld;
 
-// The words after the program's name. Arguments that aren't all UTF-8 give no words, which are no command.
-fn words_of(rt: &(impl Env + Alloc), alloc: Global) -> Result<Words, Memory> {
+// All of the arguments but the program's name.
+fn words_in(alloc: Global, arguments: Args) -> Result<Words, Memory> {
     let mut words = Words::new(alloc);
-    match env::args(rt) {
-        Ok(arguments) => {
-            for argument in arguments.skip(1) {
-                words.push(argument.as_str())?;
-            }
-        }
-        Err(error) => {
-            if error.kind() == ErrorKind::OutOfMemory {
-                return Err(Memory);
-            }
-        }
+    for argument in arguments.skip(1) {
+        words.push(argument.as_str())?;
     }
     Ok(words)
 }
 
+// The words after the program's name. Arguments that aren't all UTF-8 give no words, which are no command.
+fn words_of(alloc: Global, arguments: io::Result<Args>) -> Result<Words, Memory> {
+    match arguments {
+        Ok(arguments) => words_in(alloc, arguments),
+        Err(error) if error.kind() == ErrorKind::OutOfMemory => Err(Memory),
+        Err(_) => Ok(Words::new(alloc)),
+    }
+}
+
 fn main(rt: HostRuntime) -> ExitCode {
-    let status = match words_of(&rt, rt.alloc()) {
+    let status = match words_of(rt.alloc(), env::args(&rt)) {
         Ok(words) => {
             let mut source = StdinSource::new(rt.stdin());
             let mut world = StdoutWorld::new(rt.stdout());

@@ -1,5 +1,5 @@
 -- A property graph: two finite maps, nodes to their rows and edges to theirs, each as its rows by ascending number.
-use Rattle.std.specs.Prelude.{ℕ, ◌+◌, Bool, ◌&&◌, ◌||◌, List, [], length, Option, is_some, ◌==◌}
+use Rattle.std.specs.Prelude.{ℕ, ◌+◌, Bool, ◌&&◌, ◌||◌, List, [], length, nat_lt, Option, is_some, ◌==◌}
 use Rattle.std.specs.Ordering.{nat_cmp}
 use Rattle.std.specs.declared.cmp.Ordering.{Ordering}
 use Rattle.std.specs.List.{list_all}
@@ -10,6 +10,7 @@ use Rattle.pgs_base.specs.declared.element.EdgeId.{EdgeId}
 use Rattle.pgs_base.specs.declared.row.NodeRow.{NodeRow}
 use Rattle.pgs_base.specs.declared.row.EdgeRow.{EdgeRow}
 use Rattle.pgs_base.specs.Order.{ascends}
+use Rattle.pgs_base.specs.Pair.{pair_of, is_pair}
 
 -- the order of nodes and of edges: by number
 abbrev pub node_cmp : NodeId → NodeId → Ordering
@@ -60,8 +61,22 @@ is_end id row = row.source.0 == id.0 || row.target.0 == id.0
 abbrev pub has_ends : Graph → EdgeRow → Bool
 has_ends g row = is_some (node_at g row.source) && is_some (node_at g row.target)
 
--- whether two lists of rows are a graph: each number stands once, in order, and both ends of each edge are there
+-- whether a number can be that of an element: it is below 2 ^ 64
+abbrev pub is_element_number : ℕ → Bool
+is_element_number number = nat_lt number 18446744073709551616
+
+-- whether a node can stand in a graph: it has such a number, and carries a pair
+abbrev pub is_node_entry : NodeId × NodeRow → Bool
+is_node_entry node = is_element_number node.0.0 && is_pair node.1
+
+-- the same of an edge
+abbrev pub is_edge_entry : EdgeId × EdgeRow → Bool
+is_edge_entry edge = is_element_number edge.0.0 && is_pair (pair_of edge.1.labels edge.1.props)
+
+-- whether two lists of rows are a graph: each number stands once, in order, each element can stand there, and both ends of each
+-- edge are there
 abbrev pub is_graph : Graph → Bool
 is_graph g =
     ascends node_cmp (keys_of g.nodes) && ascends edge_cmp (keys_of g.edges)
+    && list_all is_node_entry g.nodes && list_all is_edge_entry g.edges
     && list_all (λ (edge : EdgeId × EdgeRow). has_ends g edge.1) g.edges

@@ -2,10 +2,12 @@ pub mod Day
 pub mod DayForm
 pub mod Graph
 pub mod Name
+pub mod Names
 pub mod Options
 pub mod Order
 pub mod OrderLaws
 pub mod Pair
 pub mod Places
+pub mod Properties
 pub mod Value
 pub mod formers

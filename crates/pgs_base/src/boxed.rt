@@ -45,17 +45,3 @@ impl<T: Drop> Boxed<T> {
         Ok(Boxed { inner })
     }
 }
-
-#[cfg(test)]
-mod tests {
-    use super::*;
-    use std::test::Fail;
-
-    #[test]
-    fn a_box_holds_its_value(rt: HostRuntime) -> Result<(), Fail> {
-        let boxed = Boxed::new(rt.alloc(), 7)?;
-        assert_eq!(rt; *boxed.get(), 7);
-        assert_eq!(rt; boxed.into_inner(), 7);
-        Ok(())
-    }
-}

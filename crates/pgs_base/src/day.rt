@@ -1,4 +1,4 @@
-ghost use Rattle.std.specs.Prelude.{◌≡◌, if◌then◌else◌, Some, None};
+ghost use Rattle.std.specs.Prelude.{◌≡◌, if◌then◌else◌, IsTrue, Some, None};
 ghost use Rattle.pgs_base.specs.Day.{is_day};
 
 use crate::{Copyable, Memory};
@@ -64,7 +64,8 @@ impl Day {
 
     /// The day of its month, from 1.
     pub fn day(&self) -> u8
-        ensures { result ≡ self.now.2 }
+        ensures value { result ≡ self.now.2 }
+        ensures calendar { IsTrue (is_day self.now.0 self.now.1 self.now.2) }
     {
         self.day
     }

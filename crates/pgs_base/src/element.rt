@@ -1,3 +1,6 @@
+ghost use Rattle.std.specs.Prelude.{◌≡◌, true};
+ghost use Rattle.pgs_base.specs.Graph.{is_element_number};
+
 use crate::{Copyable, Memory};
 use std::alloc::Global;
 
@@ -14,6 +17,20 @@ pub struct EdgeId(pub u64);
 pub enum Elem {
     Node(NodeId),
     Edge(EdgeId),
+}
+
+impl NodeId {
+    /// What every number of a node meets: it is below 2^64. Nothing is done.
+    pub fn facts(self)
+        ensures { is_element_number self.0 ≡ true }
+    {}
+}
+
+impl EdgeId {
+    /// What every number of an edge meets: it is below 2^64. Nothing is done.
+    pub fn facts(self)
+        ensures { is_element_number self.0 ≡ true }
+    {}
 }
 
 impl Copyable for NodeId {

@@ -1,13 +1,12 @@
-ghost use Rattle.std.specs.Prelude.{◌≡◌, ◌<◌, ◌↔◌, [], length, not, slice_get, IfOk, OnErr, OnOk, OnSome, IsTrue, nat_eq, false};
+ghost use Rattle.std.specs.Prelude.{◌≡◌, ◌<◌, ◌↔◌, [], length, not, slice_get, IfOk, OnErr, OnOk, OnSome, IsTrue, nat_eq, false, true};
 ghost use Rattle.std.specs.Option.{option_copied};
 ghost use Rattle.std.specs.Ordering.{nat_cmp};
 ghost use Rattle.std.specs.Cmp.{partial_equiv_from_equiv};
 ghost use Rattle.std.specs.Cmp.Lexicographic.{pointwise, slice_cmp, lists_equiv, nat_list_eq_equiv};
-ghost use Rattle.std.specs.List.{list_any};
 ghost use Rattle.std.specs.List.Sorted.{IsStrictlySortedBy};
-ghost use Rattle.std.specs.BTreeMap.{is_at};
-ghost use Rattle.std.specs.BTreeSet.{insert_key};
-ghost use Rattle.std.specs.Set.{remove_key};
+ghost use Rattle.std.specs.List.{list_all};
+ghost use Rattle.pgs_base.specs.Name.{is_name};
+ghost use Rattle.pgs_base.specs.Names.{are_names, has_name, put_name, take_name};
 
 use crate::{Copyable, Memory, Name, Ordered};
 use std::alloc::Global;
@@ -20,14 +19,26 @@ pub struct Labels {
 }
 
 impl Model for Labels {
-    ghost use Rattle.std.specs.Prelude.{List, ℕ};
+    ghost use Rattle.std.specs.Prelude.{◌≡◌, List, ℕ, true};
     ghost use Rattle.std.specs.Coded.{coded_list, coded_ℕ};
+    ghost use Rattle.pgs_base.specs.Names.{are_names};
 
     ghost Value = { List (List ℕ) };
 
     ghost coded = { coded_list (coded_list coded_ℕ) };
 
     ghost view = { λ labels. labels.names };
+
+    ghost invariant = { λ labels. are_names labels.names ≡ true };
+}
+
+// What every slice of names meets. Nothing is done.
+fn name_facts(names: &[Name])
+    ensures { list_all is_name names.now ≡ true }
+{
+    for name in names {
+        let _name = name.bytes();
+    }
 }
 
 impl Labels {
@@ -37,6 +48,17 @@ impl Labels {
     {
         Labels {
             names: Ordered::new(alloc),
+        }
+    }
+
+    /// The labels of a vector in which the names ascend strictly.
+    pub fn from_vec(names: Vec<Name>) -> Labels
+        requires { IsStrictlySortedBy (slice_cmp nat_cmp) names.items }
+        ensures { result ≡ names.items }
+    {
+        name_facts(names.as_slice());
+        Labels {
+            names: Ordered::from_vec(names),
         }
     }
 
@@ -67,13 +89,14 @@ impl Labels {
     pub fn as_slice(&self) -> &[Name]
         ensures value { result.now ≡ self.now }
         ensures ascending { IsStrictlySortedBy (slice_cmp nat_cmp) self.now }
+        ensures names { are_names self.now ≡ true }
     {
         self.names.as_slice()
     }
 
     /// Whether a label is there.
     pub fn contains(&self, name: &Name) -> bool
-        ensures { result ≡ list_any (is_at (slice_cmp nat_cmp name.now)) self.now }
+        ensures { result ≡ has_name name.now self.now }
     {
         self.names.contains(name)
     }
@@ -81,27 +104,22 @@ impl Labels {
     /// Puts a label in. Answers whether it was new. After `Memory`, which comes only for a new label,
     /// the labels are as they were.
     pub fn insert(&mut self, name: Name) -> Result<bool, Memory>
-        ensures ok { OnOk result (self.new ≡ insert_key (slice_cmp nat_cmp) self.old name) }
-        ensures answer { IfOk result (λ added. added ≡ not (list_any (is_at (slice_cmp nat_cmp name)) self.old)) }
+        ensures ok { OnOk result (self.new ≡ put_name self.old name) }
+        ensures answer { IfOk result (λ added. added ≡ not (has_name name self.old)) }
         ensures err { OnErr result (self.new ≡ self.old) }
-        ensures only_new { OnErr result (list_any (is_at (slice_cmp nat_cmp name)) self.old ≡ false) }
+        ensures only_new { OnErr result (has_name name self.old ≡ false) }
     {
-        self.names.insert(name)
+        let _bytes = name.bytes();
+        let added = self.names.insert(name)?;
+        Ok(added)
     }
 
     /// Takes a label out. Answers whether it was there.
     pub fn remove(&mut self, name: &Name) -> bool
-        ensures names { self.new ≡ remove_key (is_at (slice_cmp nat_cmp name.now)) self.old }
-        ensures answer { result ≡ list_any (is_at (slice_cmp nat_cmp name.now)) self.old }
+        ensures names { self.new ≡ take_name self.old name.now }
+        ensures answer { result ≡ has_name name.now self.old }
     {
         self.names.remove(name)
-    }
-
-    /// Takes the memory for more labels ahead. The labels stay as they are.
-    pub fn reserve(&mut self, more: usize) -> Result<(), Memory>
-        ensures { self.new ≡ self.old }
-    {
-        self.names.reserve(more)
     }
 }
 
@@ -128,43 +146,4 @@ impl PartialEq for Labels {
 
 impl Eq for Labels {
     ghost laws = { lists_equiv nat_list_eq_equiv };
-}
-
-#[cfg(test)]
-mod tests {
-    use super::*;
-    use std::test::Fail;
-
-    fn name(alloc: Global, text: &str) -> Result<Name, Fail> {
-        match Name::new(alloc, text.as_bytes())? {
-            Some(name) => Ok(name),
-            None => Err(Fail::new("no name")),
-        }
-    }
-
-    #[test]
-    fn labels_are_a_set(rt: HostRuntime) -> Result<(), Fail> {
-        let alloc = rt.alloc();
-        let mut labels = Labels::new(alloc);
-        for (text, new) in [("b", true), ("a", true), ("b", false), ("ab", true)] {
-            assert_eq!(rt; labels.insert(name(alloc, text)?)?, new, "{text}");
-        }
-        let mut others = labels.copy(alloc)?;
-        assert!(rt; others == labels);
-        assert!(rt; others.remove(&name(alloc, "a")?));
-        assert!(rt; others != labels);
-        assert!(rt; !others.remove(&name(alloc, "a")?));
-        let mut place = 0;
-        for text in ["a", "ab", "b"] {
-            assert!(rt;
-                labels
-                    .at(place)
-                    .is_some_and(|label| label.bytes() == text.as_bytes())
-            );
-            assert_eq!(rt; others.contains(&name(alloc, text)?), text != "a", "{text}");
-            place += 1;
-        }
-        assert_eq!(rt; (labels.len(), others.len()), (3, 2));
-        Ok(())
-    }
 }

@@ -39,7 +39,7 @@ pub use name::Name;
 pub use ordered::Ordered;
 pub use part::Part;
 pub use props::Props;
-pub use row::{EdgeRow, NodeRow};
+pub use row::{EdgeRow, NodeRow, edges_facts, nodes_facts, pair_facts};
 pub use rows::Rows;
 pub use steps::Steps;
 pub use text::Text;

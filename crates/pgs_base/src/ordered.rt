@@ -42,6 +42,14 @@ impl<K: Ord> Ordered<K> {
         }
     }
 
+    /// The keys of a vector in which they ascend strictly.
+    pub fn from_vec(keys: Vec<K>) -> Ordered<K>
+        requires { IsStrictlySortedBy K.cmp keys.items }
+        ensures { result ≡ keys.items }
+    {
+        Ordered { keys }
+    }
+
     /// How many keys there are.
     pub fn len(&self) -> usize
         ensures value { result ≡ length self.now }
@@ -120,14 +128,6 @@ impl<K: Ord> Ordered<K> {
             }
             Err(_) => false,
         }
-    }
-
-    /// Takes the memory for more keys ahead. The keys stay as they are.
-    pub fn reserve(&mut self, more: usize) -> Result<(), Memory>
-        ensures { self.new ≡ self.old }
-    {
-        self.keys.reserve(more)?;
-        Ok(())
     }
 }
 

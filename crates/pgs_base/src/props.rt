@@ -1,14 +1,16 @@
-ghost use Rattle.std.specs.Prelude.{◌≡◌, ◌<◌, ◌↔◌, [], length, slice_get, option_map, IfOk, OnErr, OnOk, OnSome, IsTrue, None};
+ghost use Rattle.std.specs.Prelude.{◌≡◌, ◌<◌, ◌↔◌, [], length, slice_get, option_map, IfOk, OnErr, OnOk, OnSome, IsTrue, None, true};
 ghost use Rattle.std.specs.Option.{option_copied};
 ghost use Rattle.std.specs.Ordering.{nat_cmp};
 ghost use Rattle.std.specs.Cmp.Lexicographic.{slice_cmp};
 ghost use Rattle.std.specs.List.Sorted.{IsStrictlySortedBy};
-ghost use Rattle.std.specs.Map.{keys_of, lookup, remove_entry};
-ghost use Rattle.std.specs.BTreeMap.{is_at, insert_entry};
+ghost use Rattle.std.specs.Map.{keys_of};
 ghost use Rattle.std.specs.Ordering.{eq_by_cmp};
 ghost use Rattle.std.specs.Cmp.{partial_equiv_from_equiv, eq_by_cmp_equiv};
 ghost use Rattle.pgs_base.specs.Order.{props_cmp};
 ghost use Rattle.pgs_base.specs.OrderLaws.{props_cmp_total};
+ghost use Rattle.std.specs.List.{list_all};
+ghost use Rattle.pgs_base.specs.Name.{is_name};
+ghost use Rattle.pgs_base.specs.Properties.{has_value, are_props, value_at, put_value, take_value};
 
 use crate::{Copyable, Memory, Name, Rows, Value};
 use std::alloc::Global;
@@ -22,12 +24,26 @@ pub struct Props {
 }
 
 impl Model for Props {
-    ghost use Rattle.std.specs.Prelude.{List, ℕ};
+    ghost use Rattle.std.specs.Prelude.{◌≡◌, List, ℕ, true};
     ghost use Rattle.pgs_base.specs.declared.value.Value.{Value as PropertyValue};
+    ghost use Rattle.pgs_base.specs.Properties.{are_props};
 
     ghost Value = { List (List ℕ × PropertyValue) };
 
     ghost view = { λ props. props.rows };
+
+    ghost invariant = { λ props. are_props props.rows ≡ true };
+}
+
+// What every slice of names and values meets. Nothing is done.
+fn row_facts(rows: &[(Name, Value)])
+    ensures names { list_all is_name (keys_of rows.now) ≡ true }
+    ensures values { list_all has_value rows.now ≡ true }
+{
+    for row in rows {
+        let _name = row.0.bytes();
+        row.1.facts();
+    }
 }
 
 impl Props {
@@ -37,6 +53,17 @@ impl Props {
     {
         Props {
             rows: Rows::new(alloc),
+        }
+    }
+
+    /// The properties of a vector in which the names ascend strictly.
+    pub fn from_vec(rows: Vec<(Name, Value)>) -> Props
+        requires { IsStrictlySortedBy (slice_cmp nat_cmp) (keys_of rows.items) }
+        ensures { result ≡ rows.items }
+    {
+        row_facts(rows.as_slice());
+        Props {
+            rows: Rows::from_vec(rows),
         }
     }
 
@@ -70,13 +97,14 @@ impl Props {
     pub fn as_slice(&self) -> &[(Name, Value)]
         ensures value { result.now ≡ self.now }
         ensures ascending { IsStrictlySortedBy (slice_cmp nat_cmp) (keys_of self.now) }
+        ensures props { are_props self.now ≡ true }
     {
         self.rows.as_slice()
     }
 
     /// The value at a name. `None` exactly where the name is absent.
     pub fn get(&self, name: &Name) -> Option<&Value>
-        ensures { option_copied result ≡ lookup (is_at (slice_cmp nat_cmp name.now)) self.now }
+        ensures { option_copied result ≡ value_at name.now self.now }
     {
         self.rows.get(name)
     }
@@ -84,27 +112,23 @@ impl Props {
     /// Sets the value at a name, and answers the value that was there. After `Memory`, which comes only for a
     /// new name, the properties are as they were.
     pub fn set(&mut self, name: Name, value: Value) -> Result<Option<Value>, Memory>
-        ensures ok { OnOk result (self.new ≡ insert_entry (slice_cmp nat_cmp) self.old name value) }
-        ensures answer { IfOk result (λ old. old ≡ lookup (is_at (slice_cmp nat_cmp name)) self.old) }
+        ensures ok { OnOk result (self.new ≡ put_value self.old name value) }
+        ensures answer { IfOk result (λ old. old ≡ value_at name self.old) }
         ensures err { OnErr result (self.new ≡ self.old) }
-        ensures only_new { OnErr result (lookup (is_at (slice_cmp nat_cmp name)) self.old ≡ None) }
+        ensures only_new { OnErr result (value_at name self.old ≡ None) }
     {
-        self.rows.set(name, value)
+        let _bytes = name.bytes();
+        value.facts();
+        let old = self.rows.set(name, value)?;
+        Ok(old)
     }
 
     /// Takes a name and its value out. Answers the value, or `None` exactly where the name was absent.
     pub fn unset(&mut self, name: &Name) -> Option<Value>
-        ensures rows { self.new ≡ remove_entry (is_at (slice_cmp nat_cmp name.now)) self.old }
-        ensures answer { result ≡ lookup (is_at (slice_cmp nat_cmp name.now)) self.old }
+        ensures rows { self.new ≡ take_value self.old name.now }
+        ensures answer { result ≡ value_at name.now self.old }
     {
         self.rows.unset(name)
-    }
-
-    /// Takes the memory for more properties ahead. The properties stay as they are.
-    pub fn reserve(&mut self, more: usize) -> Result<(), Memory>
-        ensures { self.new ≡ self.old }
-    {
-        self.rows.reserve(more)
     }
 }
 
@@ -131,40 +155,4 @@ impl PartialEq for Props {
 
 impl Eq for Props {
     ghost laws = { eq_by_cmp_equiv props_cmp_total };
-}
-
-#[cfg(test)]
-mod tests {
-    use super::*;
-    use std::test::Fail;
-
-    fn name(alloc: Global, text: &str) -> Result<Name, Fail> {
-        match Name::new(alloc, text.as_bytes())? {
-            Some(name) => Ok(name),
-            None => Err(Fail::new("no name")),
-        }
-    }
-
-    #[test]
-    fn a_name_has_its_last_value(rt: HostRuntime) -> Result<(), Fail> {
-        let alloc = rt.alloc();
-        let mut props = Props::new(alloc);
-        for (text, number, old) in [("b", 1, None), ("a", 2, None), ("b", 3, Some(1))] {
-            let before = props.set(name(alloc, text)?, Value::Int(number))?;
-            assert!(rt; before == old.map(Value::Int), "{text} {number}");
-        }
-        let copied = props.copy(alloc)?;
-        assert!(rt; copied == props);
-        assert!(rt;
-            props.at(0).is_some_and(|row| row.0.bytes() == b"a".as_slice()
-                && *row.1 == Value::Int(2))
-        );
-        assert!(rt; props.at(2).is_none());
-        assert!(rt; props.unset(&name(alloc, "a")?) == Some(Value::Int(2)));
-        assert!(rt; props.unset(&name(alloc, "a")?).is_none());
-        assert!(rt; props.get(&name(alloc, "b")?) == Some(&Value::Int(3)));
-        assert!(rt; copied != props);
-        assert_eq!(rt; (props.len(), copied.len()), (1, 2));
-        Ok(())
-    }
 }

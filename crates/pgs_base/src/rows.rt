@@ -161,14 +161,6 @@ impl<K: Ord, V> Rows<K, V> {
             Err(_) => None,
         }
     }
-
-    /// Takes the memory for more rows ahead. The rows stay as they are.
-    pub fn reserve(&mut self, more: usize) -> Result<(), Memory>
-        ensures { self.new ≡ self.old }
-    {
-        self.rows.reserve(more)?;
-        Ok(())
-    }
 }
 
 impl<K: Ord + Copyable + Drop, V: Copyable + Drop> Copyable for Rows<K, V> {

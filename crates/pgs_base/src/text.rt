@@ -1,7 +1,8 @@
-ghost use Rattle.std.specs.Prelude.{◌≡◌, ◌≤◌, length, IfOk, if◌then◌else◌, nat_eq, nat_le, refl, Some, None};
+ghost use Rattle.std.specs.Prelude.{◌≡◌, ◌≤◌, length, IfOk, if◌then◌else◌, nat_eq, nat_le, refl, Some, None, true};
 ghost use Rattle.std.specs.Ordering.{nat_cmp};
 ghost use Rattle.std.specs.Cmp.Lexicographic.{pointwise, slice_cmp, nat_list_eq_equiv, nat_list_cmp_total, texts_po, texts_ties};
 ghost use Rattle.std.specs.Cmp.{partial_equiv_from_equiv};
+ghost use Rattle.pgs_base.specs.Value.{is_text};
 
 use crate::{Copyable, Memory};
 use std::alloc::Global;
@@ -47,11 +48,15 @@ impl Text {
     }
 
     /// The characters of the text.
+    #[tactic(auto, using(crate::proofs::Texts::text_from))]
     pub fn text(&self) -> &str
         ensures text { result.now ≡ self.now }
         ensures short { length self.now ≤ 65535 }
+        ensures valid { is_text self.now ≡ true }
     {
-        self.text.as_str()
+        let text = self.text.as_str();
+        let _bytes = text.as_bytes();
+        text
     }
 }
 

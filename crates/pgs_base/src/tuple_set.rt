@@ -83,50 +83,11 @@ impl TupleSet {
     {
         self.tuples.insert(tuple)
     }
-
-    /// Takes the memory for more tuples ahead. The tuples stay as they are.
-    pub fn reserve(&mut self, more: usize) -> Result<(), Memory>
-        ensures { self.new ≡ self.old }
-    {
-        self.tuples.reserve(more)
-    }
 }
 
 impl Copyable for TupleSet {
     fn copy(&self, alloc: Global) -> Result<TupleSet, Memory> {
         let tuples = self.tuples.copy(alloc)?;
         Ok(TupleSet { tuples })
-    }
-}
-
-#[cfg(test)]
-mod tests {
-    use super::*;
-    use crate::{List, Part, Value};
-    use std::test::Fail;
-
-    // A number, and then a truth value.
-    fn pair(alloc: Global, number: i64) -> Result<Tuple, Fail> {
-        let mut parts = List::new(alloc);
-        for value in [Value::Int(number), Value::Bool(true)] {
-            if parts.push(Part::Value(value)).is_err() {
-                return Err(Fail::new("no memory"));
-            }
-        }
-        Ok(Tuple::new(parts))
-    }
-
-    #[test]
-    fn tuples_are_a_set(rt: HostRuntime) -> Result<(), Fail> {
-        let alloc = rt.alloc();
-        let mut set = TupleSet::new(alloc);
-        for (number, new) in [(1, true), (-5, true), (1, false)] {
-            assert_eq!(rt; set.insert(pair(alloc, number)?)?, new, "{number}");
-        }
-        let copied = set.copy(alloc)?;
-        assert!(rt; copied.at(0) == Some(&pair(alloc, -5)?));
-        assert!(rt; copied.contains(&pair(alloc, 1)?));
-        assert_eq!(rt; copied.len(), 2);
-        Ok(())
     }
 }

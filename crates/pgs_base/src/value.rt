@@ -1,5 +1,5 @@
-ghost use Rattle.std.specs.Prelude.{◌≡◌};
-ghost use Rattle.pgs_base.specs.Value.{kind_of};
+ghost use Rattle.std.specs.Prelude.{◌≡◌, true};
+ghost use Rattle.pgs_base.specs.Value.{kind_of, is_value};
 
 use crate::{Copyable, Day, Memory, Text};
 use std::alloc::Global;
@@ -33,6 +33,25 @@ impl Value {
             Value::Int(_) => Kind::Int,
             Value::Bool(_) => Kind::Bool,
             Value::Date(_) => Kind::Date,
+        }
+    }
+
+    /// What every value meets: a text is UTF-8 of at most 65,535 bytes, a number has 64 bits, a day is one of the
+    /// calendar. Nothing is done.
+    pub fn facts(&self)
+        ensures { is_value self.now ≡ true }
+    {
+        match self {
+            Value::Text(text) => {
+                let _text = text.text();
+            }
+            Value::Int(number) => {
+                let _number = *number;
+            }
+            Value::Bool(_) => {}
+            Value::Date(day) => {
+                let _day = day.day();
+            }
         }
     }
 }

@@ -9,9 +9,10 @@ use Rattle.pgs_base.specs.declared.element.EdgeId.{EdgeId}
 use Rattle.pgs_base.specs.declared.row.NodeRow.{NodeRow}
 use Rattle.pgs_base.specs.declared.row.EdgeRow.{EdgeRow}
 use Rattle.pgs_base.specs.declared.value.Value.{Value}
+use Rattle.pgs_base.specs.Day.{is_day}
 use Rattle.pgs_base.specs.Graph.{Graph, is_graph}
-use Rattle.pgs_base.specs.Name.{is_name}
 use Rattle.pgs_base.specs.Order.{ascends}
+use Rattle.pgs_base.specs.Name.{is_name}
 use Rattle.pgs_base.specs.Value.{is_value}
 use Rattle.pgs_graph.specs.declared.operation.Op.{Op}
 use Rattle.pgs_graph.specs.declared.operation.Op.TheVariants.{AddNode, AddEdge, RemoveNode, DetachNode, RemoveEdge, SetNode, UnsetNode, LabelNode, UnlabelNode, SetEdge, UnsetEdge, LabelEdge, UnlabelEdge}
@@ -21,9 +22,16 @@ use Rattle.pgs_codec.specs.Payload.{payload_of}
 
 -- ---- sizes, which a caller of `encode` answers for
 
--- whether a row has at most 64 labels and 256 properties
+-- whether there are at most 64 labels
+abbrev pub are_small_labels : List (List ℕ) → Bool
+are_small_labels labels = nat_le (length labels) 64
+
+-- whether there are at most 256 properties
+abbrev pub are_small_props : List (List ℕ × Value) → Bool
+are_small_props props = nat_le (length props) 256
+
 abbrev pub is_small : List (List ℕ) → List (List ℕ × Value) → Bool
-is_small labels props = nat_le (length labels) 64 && nat_le (length props) 256
+is_small labels props = are_small_labels labels && are_small_props props
 
 -- whether an operation adds a small row, or adds none
 abbrev pub adds_small : Op → Bool
@@ -43,7 +51,7 @@ snapshot_graph nodes edges = record { nodes = nodes; edges = edges }
 
 -- whether a command has the sizes of a payload: small rows and fewer than 2 ^ 32 operations. The rows of a snapshot are a graph:
 -- the numbers of both lists ascend strictly, and both ends of each edge are among the nodes
-unfoldable pub is_sized : Command → Bool
+abbrev pub is_sized : Command → Bool
 is_sized (commands.Schema text) = true
 is_sized (commands.Snapshot commits nodes edges) =
     list_all (λ (node : NodeId × NodeRow). is_small_node node.1) nodes && list_all (λ (edge : EdgeId × EdgeRow). is_small_edge edge.1) edges
@@ -55,6 +63,9 @@ is_sized (commands.Txn txn) = nat_lt (length txn.ops) (2 ^ 32) && list_all adds_
 -- at most 64 names that ascend strictly
 abbrev pub is_labels : List (List ℕ) → Bool
 is_labels labels = nat_le (length labels) 64 && list_all is_name labels && ascends (slice_cmp nat_cmp) labels
+
+abbrev pub is_date : ℕ × ℕ × ℕ → Bool
+is_date day = is_day day.0 day.1 day.2
 
 -- a name and a value
 abbrev pub is_property : List ℕ × Value → Bool
@@ -104,12 +115,16 @@ is_op (UnlabelEdge id label) = is_edge_id id && is_name label
 
 -- ---- commands
 
+-- the commits, the nodes and the edges of a snapshot, each of which fits its bytes
+abbrev pub are_parts : ℕ → List (NodeId × NodeRow) → List (EdgeId × EdgeRow) → Bool
+are_parts commits nodes edges =
+    is_wide commits && (nat_lt (length nodes) (2 ^ 64) && list_all is_node nodes && (nat_lt (length edges) (2 ^ 64) && list_all is_edge edges))
+
 -- whether a command has a payload
 unfoldable pub is_encodable : Command → Bool
 is_encodable (commands.Schema text) = true
 is_encodable (commands.Snapshot commits nodes edges) =
-    is_wide commits && (nat_lt (length nodes) (2 ^ 64) && list_all is_node nodes) && (nat_lt (length edges) (2 ^ 64) && list_all is_edge edges)
-    && is_graph (snapshot_graph nodes edges)
+    are_parts commits nodes edges && is_graph (snapshot_graph nodes edges)
 is_encodable (commands.Txn txn) = nat_lt (length txn.ops) (2 ^ 32) && list_all is_op txn.ops
 
 -- the bytes are the payload of the command

@@ -26,13 +26,21 @@ abbrev pub truth_byte : Bool → ℕ
 truth_byte true = 1
 truth_byte false = 0
 
--- a byte for the kind, and then two bytes of length and the text; a number in two's complement; a byte that is 1 where it is
--- true and else 0; or two bytes of year, one of month and one of day
+-- two bytes of length, and the bytes
+abbrev pub text_field : List ℕ → List ℕ
+text_field text = to_be_bytes w16 (length text) ++ text
+
+-- two bytes of year, one of month and one of day
+abbrev pub day_field : ℕ × ℕ × ℕ → List ℕ
+day_field day = to_be_bytes w16 day.0 ++ day.1 ∷ day.2 ∷ []
+
+-- a byte for the kind, and then the text; eight bytes of a number in two's complement; a byte that is 1 where it is true and
+-- else 0; or the day
 abbrev pub value_field : Value → List ℕ
-value_field (values.Text text) = 1 ∷ (to_be_bytes w16 (length text) ++ text)
+value_field (values.Text text) = 1 ∷ text_field text
 value_field (values.Int number) = 2 ∷ to_be_bytes w64 (cast_unsigned w64 number)
 value_field (values.Bool truth) = 3 ∷ truth_byte truth ∷ []
-value_field (values.Date day) = 4 ∷ (to_be_bytes w16 day.0 ++ day.1 ∷ day.2 ∷ [])
+value_field (values.Date day) = 4 ∷ day_field day
 
 -- a name and its value
 abbrev pub property_field : List ℕ × Value → List ℕ
@@ -92,14 +100,21 @@ abbrev pub ops_field : List Op → List ℕ
 ops_field ops = to_be_bytes w32 (length ops) ++ flat_map op_field ops
 
 -- eight bytes of count, and the rows
+abbrev pub rows_field : {A : Type 0} → (A → List ℕ) → List A → List ℕ
+rows_field row rows = to_be_bytes w64 (length rows) ++ flat_map row rows
+
 abbrev pub nodes_field : List (NodeId × NodeRow) → List ℕ
-nodes_field nodes = to_be_bytes w64 (length nodes) ++ flat_map node_field nodes
+nodes_field = rows_field node_field
 
 abbrev pub edges_field : List (EdgeId × EdgeRow) → List ℕ
-edges_field edges = to_be_bytes w64 (length edges) ++ flat_map edge_field edges
+edges_field = rows_field edge_field
+
+-- the commits, the nodes and the edges
+abbrev pub snapshot_field : ℕ → List (NodeId × NodeRow) → List (EdgeId × EdgeRow) → List ℕ
+snapshot_field commits nodes edges = to_be_bytes w64 commits ++ (nodes_field nodes ++ edges_field edges)
 
 -- the one payload of a command
 unfoldable pub payload_of : Command → List ℕ
 payload_of (commands.Schema text) = 1 ∷ text
-payload_of (commands.Snapshot commits nodes edges) = 2 ∷ (to_be_bytes w64 commits ++ (nodes_field nodes ++ edges_field edges))
+payload_of (commands.Snapshot commits nodes edges) = 2 ∷ snapshot_field commits nodes edges
 payload_of (commands.Txn txn) = 3 ∷ ops_field txn.ops

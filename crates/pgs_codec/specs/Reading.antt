@@ -1,27 +1,25 @@
 -- Reading a payload from left to right. A field is a value and the bytes after it.
-use Rattle.std.specs.Prelude.{ℕ, zero, suc, ◌^◌, Bool, true, ◌&&◌, List, [], ◌∷◌, length, take, drop, Option, Some, None, nat_le, nat_lt, ◌==◌, if◌then◌else◌}
+use Rattle.std.specs.Prelude.{ℕ, zero, suc, ◌^◌, Bool, List, [], ◌∷◌, length, take, drop, Option, Some, None, nat_le, nat_lt, ◌==◌, if◌then◌else◌}
 use Rattle.std.specs.Int.{Width, w16, w32, w64, byte_len, from_be_bytes, cast_signed}
 use Rattle.std.specs.Ordering.{nat_cmp}
 use Rattle.std.specs.Cmp.Lexicographic.{slice_cmp}
 use Rattle.std.specs.Map.{keys_of}
-use Rattle.std.specs.Str.{is_utf8}
 use Rattle.pgs_base.specs.declared.element.NodeId.{NodeId}
 use Rattle.pgs_base.specs.declared.element.EdgeId.{EdgeId}
 use Rattle.pgs_base.specs.declared.row.NodeRow.{NodeRow}
 use Rattle.pgs_base.specs.declared.row.EdgeRow.{EdgeRow}
 use Rattle.pgs_base.specs.declared.value.Value.{Value}
 use Rattle.pgs_base.specs.declared.value.Value.TheVariants as values
-use Rattle.pgs_base.specs.Day.{is_day}
 use Rattle.pgs_base.specs.Graph.{is_graph}
+use Rattle.pgs_base.specs.Order.{ascends}
 use Rattle.pgs_base.specs.Name.{is_name}
 use Rattle.pgs_base.specs.Options.{◌>>=◌}
-use Rattle.pgs_base.specs.Order.{ascends}
+use Rattle.pgs_base.specs.Value.{is_text}
 use Rattle.pgs_graph.specs.declared.operation.Op.{Op}
 use Rattle.pgs_graph.specs.declared.operation.Op.TheVariants.{AddNode, AddEdge, RemoveNode, DetachNode, RemoveEdge, SetNode, UnsetNode, LabelNode, UnlabelNode, SetEdge, UnsetEdge, LabelEdge, UnlabelEdge}
-use Rattle.pgs_graph.specs.declared.operation.Txn.{Txn}
 use Rattle.pgs_codec.specs.declared.command.Command.{Command}
 use Rattle.pgs_codec.specs.declared.command.Command.TheVariants as commands
-use Rattle.pgs_codec.specs.Encodable.{snapshot_graph}
+use Rattle.pgs_codec.specs.Encodable.{is_date, snapshot_graph}
 
 abbrev pub Reading : Type 0 → Type 0
 Reading A = List ℕ → Option (A × List ℕ)
@@ -88,21 +86,17 @@ unfoldable pub text_bytes_at : Reading (List ℕ)
 text_bytes_at bytes = number_at w16 bytes >>= λ n. bytes_at n.0 n.1
 
 unfoldable pub text_at : Reading (List ℕ)
-text_at = tested_at is_utf8 text_bytes_at
+text_at = tested_at is_text text_bytes_at
 
 -- 0 or 1
 unfoldable pub truth_at : Reading ℕ
 truth_at = tested_at (λ b. nat_le b 1) byte_at
 
 unfoldable pub day_parts_at : Reading (ℕ × ℕ × ℕ)
-day_parts_at bytes = do
-  year ← number_at w16 bytes
-  month ← byte_at year.1
-  day ← byte_at month.1
-  Some ((year.0, month.0, day.0), day.1)
+day_parts_at = named_at (λ d. (d.0, d.1.0, d.1.1)) (pair_at (number_at w16) (pair_at byte_at byte_at))
 
 unfoldable pub day_at : Reading (ℕ × ℕ × ℕ)
-day_at = tested_at (λ d. is_day d.0 d.1 d.2) day_parts_at
+day_at = tested_at is_date day_parts_at
 
 abbrev pub value_kinds : List (ℕ × Reading Value)
 value_kinds =

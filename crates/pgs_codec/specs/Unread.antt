@@ -12,3 +12,8 @@ Fails unread.Unfit read = read ≡ None
 abbrev pub Reads : {X Y : Type 0} → (X → Y) → Result X Unread → List ℕ → Option (Y × List ℕ) → Type 0
 Reads view (Ok x) rest read = read ≡ Some (view x, rest)
 Reads view (Err e) rest read = Fails e read
+
+-- the same of all bytes, with none left
+abbrev pub Gives : {X : Type 0} → Result X Unread → Option X → Type 0
+Gives (Ok x) read = read ≡ Some x
+Gives (Err e) read = Fails e read

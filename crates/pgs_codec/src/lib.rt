@@ -6,8 +6,19 @@
 #![tactic(auto)]
 
 mod command;
+mod decoding;
+mod encoding;
 mod field;
+mod framing;
+pub mod laws;
+mod operation;
+mod order;
 mod reader;
+mod row;
 mod unread;
+mod value;
 
 pub use command::Command;
+pub use decoding::decode;
+pub use encoding::encode;
+pub use framing::frame;

@@ -1,4 +1,4 @@
-ghost use Rattle.std.specs.Prelude.{ℕ};
+ghost use Rattle.std.specs.Prelude.{◌≡◌, ◌==◌, [], length};
 ghost use Rattle.std.specs.Int.{w16, w32, w64};
 ghost use Rattle.pgs_codec.specs.Reading.{bytes_at, byte_at, number_at};
 ghost use Rattle.pgs_codec.specs.Unread.{Reads};
@@ -6,11 +6,35 @@ ghost use Rattle.pgs_codec.specs.Unread.{Reads};
 use crate::unread::Unread;
 
 /// The bytes of a payload that are still to be read. After an error it isn't used again.
+#[derive(Drop)]
 pub(crate) struct Reader<'a> {
     rest: &'a [u8],
 }
 
 impl<'a> Reader<'a> {
+    pub(crate) fn new(payload: &'a [u8]) -> Reader<'a>
+        ensures { result.rest.now ≡ payload.now }
+    {
+        Reader { rest: payload }
+    }
+
+    /// Whether no byte is left.
+    pub(crate) fn is_empty(&self) -> bool
+        ensures { result ≡ (length self.now.rest.now == 0) }
+    {
+        self.rest.is_empty()
+    }
+
+    /// All bytes that are left.
+    pub(crate) fn rest(&mut self) -> &'a [u8]
+        ensures all { result.now ≡ self.old.rest.now }
+        ensures none_left { self.new.rest.now ≡ [] }
+    {
+        let (all, rest) = self.rest.split_at(self.rest.len());
+        self.rest = rest;
+        all
+    }
+
     /// The next bytes, so many of them.
     #[tactic(auto, unfolding(crate::specs::Reading::bytes_at))]
     pub(crate) fn bytes(&mut self, count: usize) -> Result<&'a [u8], Unread>

@@ -1,3 +1,9 @@
+ghost use Rattle.std.specs.Prelude.{◌≡◌};
+ghost use Rattle.pgs_codec.specs.declared.unread.Unread.TheVariants.{Memory as OutOfMemory};
+
+use pgs_base::Memory;
+use std::alloc::AllocFailed;
+
 /// Why nothing was read.
 #[derive(Clone, Copy, Debug, PartialEq, Eq)]
 pub(crate) enum Unread {
@@ -7,13 +13,18 @@ pub(crate) enum Unread {
     Unfit,
 }
 
-impl From<pgs_base::Memory> for Unread {
-    ghost use Rattle.std.specs.Prelude.{◌≡◌};
-    ghost use Rattle.pgs_codec.specs.declared.unread.Unread.TheVariants.{Memory as OutOfMemory};
-
+impl From<Memory> for Unread {
     ghost from_gives = { λ _ e. e ≡ OutOfMemory };
 
-    fn from(_: pgs_base::Memory) -> Unread {
+    fn from(_: Memory) -> Unread {
+        Unread::Memory
+    }
+}
+
+impl<T: Drop> From<AllocFailed<T>> for Unread {
+    ghost from_gives = { λ _ e. e ≡ OutOfMemory };
+
+    fn from(_: AllocFailed<T>) -> Unread {
         Unread::Memory
     }
 }

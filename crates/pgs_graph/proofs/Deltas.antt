@@ -10,6 +10,7 @@ use Rattle.std.proofs.lemmas.Map.Lookups.{CmpEqualImpliesEq, exact_unsigned}
 use Rattle.pgs_base.specs.declared.element.NodeId.{NodeId}
 use Rattle.pgs_base.specs.declared.element.EdgeId.{EdgeId}
 use Rattle.pgs_base.specs.Graph.{Graph, node_cmp, edge_cmp, node_at, edge_at, is_graph}
+use Rattle.pgs_base.proofs.Graphs.{graph_parts}
 use Rattle.pgs_base.proofs.Ascending.{ascending-insert_entry, ascending-remove_entry, ascends_decides}
 use Rattle.pgs_base.proofs.Lookups.{lookup-insert_entry, lookup-remove_key, same_entries}
 use Rattle.pgs_graph.specs.declared.delta.Delta.{Delta}
@@ -80,10 +81,10 @@ module _ {K V : Type 0} {cmp : K → K → Ordering} (total : IsTotalOrder cmp) 
 -- ---- graphs
 
 pub ascending_nodes : (g : Graph) → is_graph g ≡ true → IsStrictlySortedBy node_cmp (keys_of g.nodes)
-ascending_nodes g graph = (ascends_decides node_cmp (keys_of g.nodes)).0 (and_parts _ _ (and_parts _ _ graph).0).0
+ascending_nodes g graph = (ascends_decides node_cmp (keys_of g.nodes)).0 (graph_parts g graph).node_order
 
 pub ascending_edges : (g : Graph) → is_graph g ≡ true → IsStrictlySortedBy edge_cmp (keys_of g.edges)
-ascending_edges g graph = (ascends_decides edge_cmp (keys_of g.edges)).0 (and_parts _ _ (and_parts _ _ graph).0).1
+ascending_edges g graph = (ascends_decides edge_cmp (keys_of g.edges)).0 (graph_parts g graph).edge_order
 
 -- graphs that have the same rows are equal
 pub same_graph : (g h : Graph) → is_graph g ≡ true → is_graph h ≡ true → ((id : NodeId) → node_at g id ≡ node_at h id) → ((id : EdgeId) → edge_at g id ≡ edge_at h id) → g ≡ h

@@ -1,4 +1,4 @@
 pub mod Changed
 pub mod Merging
+pub mod Operations
 pub mod Reads
-pub mod Samples

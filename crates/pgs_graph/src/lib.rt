@@ -12,8 +12,6 @@ mod merging;
 mod operation;
 mod read;
 mod scan;
-#[cfg(test)]
-mod tests;
 
 pub use delta::Delta;
 pub use graph::Graph;

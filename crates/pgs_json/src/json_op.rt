@@ -343,7 +343,10 @@ pub fn put_last(ops: &mut List<Op>, op: Op) -> Result<(), Unread>
 {
     match ops.push(op) {
         Ok(()) => Ok(()),
-        Err(_) => Err(Unread::Memory),
+        Err(refused) => {
+            drop(refused);
+            Err(Unread::Memory)
+        }
     }
 }
 

@@ -26,6 +26,3 @@ pub use samples::{
     canonical_texts, labels_in_another_order, lines_that_add, lines_that_change, lines_with_values,
     other_lines, texts_of_changes, written_and_read,
 };
-
-#[cfg(test)]
-mod tests;

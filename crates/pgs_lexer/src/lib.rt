@@ -18,8 +18,6 @@ mod quoted;
 mod sign;
 mod space;
 mod string_item;
-#[cfg(test)]
-mod tests;
 mod token;
 mod word;
 

@@ -1,5 +1,5 @@
 -- How keys are read from tokens. Each reader answers for the production of its name in `Keys`.
-use Rattle.std.specs.Prelude.{ℕ, Bool, true, false, ◌||◌, List, [], ◌∷◌, length, Option, Some, None, if◌then◌else◌, nat_le, codes}
+use Rattle.std.specs.Prelude.{ℕ, Bool, true, false, ◌||◌, List, [], ◌∷◌, length, Option, Some, None, if◌then◌else◌, nat_le, codes, bytes_eq, ℤ}
 use Rattle.std.specs.Str.Parse.{signed_digits_value}
 use Rattle.pgs_base.specs.DayForm.{day_in}
 use Rattle.pgs_base.specs.Options.{◌>>=◌}
@@ -16,7 +16,7 @@ use Rattle.pgs_syntax.specs.declared.raw.RawPath.{RawPath}
 use Rattle.pgs_syntax.specs.declared.raw.RawExpr.{RawExpr}
 use Rattle.pgs_syntax.specs.declared.raw.RawKey.{RawKey}
 use Rattle.pgs_syntax.specs.Valid.{are_distinct}
-use Rattle.pgs_parser.specs.Reader.{Reader, a_keyword, the_keyword, the_sign, next, sign_at, keyword_at, name_at, maybe_at, comma_unless, listed_at, each_at}
+use Rattle.pgs_parser.specs.Reader.{Reader, a_name, a_keyword, the_keyword, the_sign, next, sign_at, keyword_at, name_at, maybe_at, comma_unless, listed_at, each_at}
 use Rattle.pgs_parser.specs.Literal.{text_in}
 use Rattle.pgs_parser.specs.Keys.{all_asked, is_same_kind, asked_by}
 use Rattle.pgs_parser.specs.declared.qualifier.Qualifier.{Qualifier}
@@ -24,13 +24,24 @@ use Rattle.pgs_parser.specs.declared.qualifier.Qualifier.TheVariants.{Exclusive,
 
 -- ---- literals
 
+-- the value that a text is, a number, a keyword
+abbrev pub text_value : List ℕ → Option Value
+text_value text = if nat_le (length text) 65535 then Some (values.Text text) else None
+
+abbrev pub number_value : ℤ → Option Value
+number_value number = if is_number number then Some (values.Int number) else None
+
+abbrev pub keyword_value : List ℕ → Option Value
+keyword_value bytes =
+    if bytes_eq bytes (codes "TRUE") then Some (values.Bool true)
+    else (if bytes_eq bytes (codes "FALSE") then Some (values.Bool false) else None)
+
 -- the value that one token is
 abbrev pub value_of : TokenKind → List ℕ → Option Value
-value_of tokens.Text bytes = if nat_le (length (text_in bytes)) 65535 then Some (values.Text (text_in bytes)) else None
-value_of tokens.Number bytes = if is_number (signed_digits_value 10 bytes) then Some (values.Int (signed_digits_value 10 bytes)) else None
-value_of kind bytes =
-    if the_keyword (codes "TRUE") kind bytes then Some (values.Bool true)
-    else (if the_keyword (codes "FALSE") kind bytes then Some (values.Bool false) else None)
+value_of tokens.Text bytes = text_value (text_in bytes)
+value_of tokens.Number bytes = number_value (signed_digits_value 10 bytes)
+value_of tokens.Keyword bytes = keyword_value bytes
+value_of _ bytes = None
 
 abbrev pub value_at : Reader Value
 value_at [] = None
@@ -76,7 +87,12 @@ tests_at tokens = elim (sign_at "{" tokens) [
 
 -- a name, where one stands
 unfoldable pub name_if_at : Reader (Option (List ℕ))
-name_if_at tokens = elim (name_at tokens) [ Some name ↦ Some (Some name.0, name.1) | None ↦ Some (None, tokens) ]
+name_if_at tokens =
+    if next a_name tokens
+    then (do
+      name ← name_at tokens
+      Some (Some name.0, name.1))
+    else Some (None, tokens)
 
 unfoldable pub place_at : Reader RawPlace
 place_at tokens = do
@@ -131,7 +147,7 @@ path_at tokens = do
 
 -- no path begins with FOR: after a comma it begins a further key
 abbrev pub paths_at : Reader (List RawPath)
-paths_at = listed_at (comma_unless "FOR") path_at
+paths_at = listed_at (comma_unless (codes "FOR")) path_at
 
 -- ---- keys
 
@@ -168,7 +184,7 @@ expr_at tokens = do
   Some (record { var = var.0; key = key.0 }, key.1)
 
 abbrev pub exprs_at : Reader (List RawExpr)
-exprs_at = listed_at (comma_unless "FOR") expr_at
+exprs_at = listed_at (comma_unless (codes "FOR")) expr_at
 
 -- a key, which has this number
 unfoldable pub key_at : ℕ → Reader RawKey

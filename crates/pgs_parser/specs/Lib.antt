@@ -4,7 +4,9 @@ pub mod Gives
 pub mod KeyReaders
 pub mod Keys
 pub mod Literal
+pub mod Parsed
 pub mod Production
+pub mod Progress
 pub mod Reader
 pub mod Reading
 pub mod Rules

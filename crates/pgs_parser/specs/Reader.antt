@@ -38,6 +38,11 @@ abbrev pub next : Test → List Lexeme → Bool
 next test [] = false
 next test (token ∷ rest) = test token.kind token.bytes
 
+-- whether the token after the next one passes
+abbrev pub second : Test → List Lexeme → Bool
+second test [] = false
+second test (token ∷ rest) = next test rest
+
 -- the tokens after one that passes
 abbrev pub after : Test → List Lexeme → Option (List Lexeme)
 after test [] = None
@@ -56,8 +61,8 @@ name_at (token ∷ rest) = if a_name token.kind token.bytes then Some (name_in t
 -- ---- what may be left out
 
 -- whether the keyword is there
-unfoldable pub keyword_if_at : String → Reader Bool
-keyword_if_at text tokens = elim (keyword_at text tokens) [ Some rest ↦ Some (true, rest) | None ↦ Some (false, tokens) ]
+unfoldable pub keyword_if_at : List ℕ → Reader Bool
+keyword_if_at text tokens = elim (after (the_keyword text) tokens) [ Some rest ↦ Some (true, rest) | None ↦ Some (false, tokens) ]
 
 -- an item, where it has begun
 unfoldable pub maybe_at : {A : Type 0} → (List Lexeme → Option (List Lexeme)) → Reader A → Reader (Option A)
@@ -71,10 +76,8 @@ maybe_at begin item tokens = elim (begin tokens) [
 -- ---- lists
 
 -- the tokens after a comma, where this keyword does not follow it
-abbrev pub comma_unless : String → List Lexeme → Option (List Lexeme)
-comma_unless text tokens = do
-  rest ← sign_at "," tokens
-  if next (the_keyword (codes text)) rest then None else Some rest
+abbrev pub comma_unless : List ℕ → List Lexeme → Option (List Lexeme)
+comma_unless text tokens = if second (the_keyword text) tokens then None else sign_at "," tokens
 
 -- the numbers of the declarations of a tree that has none
 abbrev pub none_declared : {A : Type 0} → A → List ℕ

@@ -8,17 +8,12 @@ use Rattle.pgs_syntax.specs.declared.script.Member.TheVariants as members
 use Rattle.pgs_syntax.specs.declared.script.Script.{Script}
 use Rattle.pgs_syntax.specs.declared.script.Statement.{Statement}
 use Rattle.pgs_syntax.specs.declared.script.Statement.TheVariants.{Node, Edge, Graph}
-use Rattle.pgs_parser.specs.Reader.{Reader, Test, a_name, the_keyword, the_sign, next, sign_at, keyword_at, name_at, keyword_if_at, comma_unless, listed_at, numbered}
+use Rattle.pgs_parser.specs.Reader.{Reader, Test, a_name, the_keyword, the_sign, next, second, sign_at, keyword_at, name_at, keyword_if_at, comma_unless, listed_at, numbered}
 use Rattle.pgs_parser.specs.TypeReaders.{node_type_at, edge_type_at}
 use Rattle.pgs_parser.specs.KeyReaders.{key_at}
 use Rattle.pgs_parser.specs.Statements.{place_of_member, places_in, pieces_of}
 
 -- ---- members
-
--- whether the token after the next one passes
-abbrev pub second : Test → List Lexeme → Bool
-second test [] = false
-second test (token ∷ rest) = next test rest
 
 -- an element type, which has this number: a node type has its name right after the parenthesis
 unfoldable pub element_type_at : Bool → ℕ → Reader Member
@@ -32,15 +27,17 @@ element_type_at hidden place tokens =
       Some (members.Edge type.0, type.1))
 
 unfoldable pub element_at : ℕ → Reader Member
-element_at place tokens = elim (name_at tokens) [
-  | Some named ↦ Some (members.Named named.0, named.1)
-  | None ↦ do
-    hidden ← keyword_if_at "ABSTRACT" tokens
-    element_type_at hidden.0 place hidden.1
-]
+element_at place tokens =
+    if next a_name tokens
+    then (do
+      named ← name_at tokens
+      Some (members.Named named.0, named.1))
+    else (do
+      hidden ← keyword_if_at (codes "ABSTRACT") tokens
+      element_type_at hidden.0 place hidden.1)
 
 abbrev pub elements_at : ℕ → Reader (List Member)
-elements_at = numbered (comma_unless "FOR") element_at place_of_member
+elements_at = numbered (comma_unless (codes "FOR")) element_at place_of_member
 
 -- the number of a key
 abbrev pub place_of_key : RawKey → List ℕ
@@ -56,10 +53,18 @@ no_element tokens = next (the_keyword (codes "FOR")) tokens || next (the_sign (c
 unfoldable pub elements_if_at : ℕ → Reader (List Member)
 elements_if_at place tokens = if no_element tokens then Some ([], tokens) else elements_at place tokens
 
+-- keys where no element stands before them
+abbrev pub only_keys_at : ℕ → Reader (List RawKey)
+only_keys_at place tokens = if next (the_keyword (codes "FOR")) tokens then keys_at place tokens else Some ([], tokens)
+
+-- keys after elements, where a comma stands
+abbrev pub further_keys_at : ℕ → Reader (List RawKey)
+further_keys_at place tokens = elim (sign_at "," tokens) [ Some rest ↦ keys_at place rest | None ↦ Some ([], tokens) ]
+
 -- the keys after these elements
 unfoldable pub keys_if_at : List Member → ℕ → Reader (List RawKey)
-keys_if_at [] place tokens = if next (the_keyword (codes "FOR")) tokens then keys_at place tokens else Some ([], tokens)
-keys_if_at (m ∷ ms) place tokens = elim (sign_at "," tokens) [ Some rest ↦ keys_at place rest | None ↦ Some ([], tokens) ]
+keys_if_at [] place tokens = only_keys_at place tokens
+keys_if_at (m ∷ ms) place tokens = further_keys_at place tokens
 
 -- ---- statements
 
@@ -107,7 +112,7 @@ graph_type_at place tokens = do
 unfoldable pub hidden_at : Bool → Reader Bool
 hidden_at earlier tokens = do
   rest ← keyword_at "TYPE" tokens
-  if earlier then Some (true, rest) else keyword_if_at "ABSTRACT" rest
+  if earlier then Some (true, rest) else keyword_if_at (codes "ABSTRACT") rest
 
 -- a node type after CREATE [ABSTRACT] NODE, an edge type after CREATE [ABSTRACT] EDGE
 unfoldable pub declared_node_at : Bool → ℕ → Reader Statement
@@ -137,7 +142,7 @@ declared_at earlier place tokens = elim (keyword_at "NODE" tokens) [
 unfoldable pub statement_at : ℕ → Reader Statement
 statement_at place tokens = do
   rest ← keyword_at "CREATE" tokens
-  earlier ← keyword_if_at "ABSTRACT" rest
+  earlier ← keyword_if_at (codes "ABSTRACT") rest
   declared ← declared_at earlier.0 place earlier.1
   rest ← sign_at ";" declared.1
   Some (declared.0, rest)

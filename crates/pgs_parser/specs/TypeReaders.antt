@@ -8,16 +8,16 @@ use Rattle.pgs_syntax.specs.declared.element_type.NodeType.{NodeType}
 use Rattle.pgs_syntax.specs.declared.element_type.EdgeType.{EdgeType}
 use Rattle.pgs_syntax.specs.declared.specification.Braces.{Braces}
 use Rattle.pgs_syntax.specs.declared.specification.Property.{Property}
-use Rattle.pgs_syntax.specs.declared.specification.Spec.{Word, And, Or, Opt}
+use Rattle.pgs_syntax.specs.declared.specification.Spec.{Word, Or, Opt}
 use Rattle.pgs_parser.specs.Reader.{Reader, a_name, the_keyword, next, sign_at, keyword_at, name_at, keyword_if_at, maybe_at, comma_unless, listed_at}
 use Rattle.pgs_parser.specs.Types.{Written, parts, together}
 
 -- ---- labels
 
--- one is itself, several are joined
-abbrev pub several : (List Written → Written) → List Written → Written
-several join (one ∷ []) = one
-several join many = join many
+-- one is itself, and several are alternatives
+abbrev pub alternatives : List Written → Written
+alternatives (one ∷ []) = one
+alternatives many = Or many
 
 -- Labels, given what may stand in parentheses.
 unfoldable pub parenthesised_at : Reader Written → Reader Written
@@ -28,7 +28,12 @@ parenthesised_at inner tokens = do
   Some (spec.0, rest)
 
 unfoldable pub atom_at : Reader Written → Reader Written
-atom_at inner tokens = elim (name_at tokens) [ Some named ↦ Some (Word named.0, named.1) | None ↦ parenthesised_at inner tokens ]
+atom_at inner tokens =
+    if next a_name tokens
+    then (do
+      named ← name_at tokens
+      Some (Word named.0, named.1))
+    else parenthesised_at inner tokens
 
 unfoldable pub unit_at : Reader Written → Reader Written
 unit_at inner tokens = do
@@ -38,12 +43,12 @@ unit_at inner tokens = do
 unfoldable pub conj_at : Reader Written → Reader Written
 conj_at inner tokens = do
   units ← listed_at (sign_at "&") (unit_at inner) tokens
-  Some (several And units.0, units.1)
+  Some (together units.0, units.1)
 
 unfoldable pub level_at : Reader Written → Reader Written
 level_at inner tokens = do
   conjs ← listed_at (sign_at "|") (conj_at inner) tokens
-  Some (several Or conjs.0, conjs.1)
+  Some (alternatives conjs.0, conjs.1)
 
 -- what stands in parentheses, where so many may be open at once
 unfoldable pub inner_at : ℕ → Reader Written
@@ -71,7 +76,7 @@ kind_at tokens = elim (keyword_at "STRING" tokens) [
 
 unfoldable pub property_at : Reader Property
 property_at tokens = do
-  optional ← keyword_if_at "OPTIONAL" tokens
+  optional ← keyword_if_at (codes "OPTIONAL") tokens
   key ← name_at optional.1
   kind ← kind_at key.1
   Some (record { key = key.0; kind = kind.0; optional = optional.0 }, kind.1)
@@ -80,17 +85,21 @@ abbrev pub begins_property : List Lexeme → Bool
 begins_property tokens = next a_name tokens || next (the_keyword (codes "OPTIONAL")) tokens
 
 unfoldable pub properties_at : Reader (List Property)
-properties_at tokens = if begins_property tokens then listed_at (comma_unless "OPEN") property_at tokens else Some ([], tokens)
+properties_at tokens = if begins_property tokens then listed_at (comma_unless (codes "OPEN")) property_at tokens else Some ([], tokens)
 
--- OPEN, which follows a comma where properties stand before it
-unfoldable pub open_at : List Property → Reader Bool
-open_at [] tokens = keyword_if_at "OPEN" tokens
-open_at (p ∷ ps) tokens = elim (sign_at "," tokens) [
+-- OPEN after a comma, where a comma stands
+abbrev pub open_after_comma_at : Reader Bool
+open_after_comma_at tokens = elim (sign_at "," tokens) [
   | None ↦ Some (false, tokens)
   | Some rest ↦ do
     rest ← keyword_at "OPEN" rest
     Some (true, rest)
 ]
+
+-- OPEN, which follows a comma where properties stand before it
+unfoldable pub open_at : List Property → Reader Bool
+open_at [] tokens = keyword_if_at (codes "OPEN") tokens
+open_at (p ∷ ps) tokens = open_after_comma_at tokens
 
 -- braces after {
 unfoldable pub braces_rest_at : Reader Braces
@@ -105,7 +114,7 @@ braces_rest_at tokens = do
 unfoldable pub body_at : Reader Written
 body_at tokens = do
   labels ← maybe_at (sign_at ":") labels_at tokens
-  is_open ← keyword_if_at "OPEN" labels.1
+  is_open ← keyword_if_at (codes "OPEN") labels.1
   braces ← maybe_at (sign_at "{") braces_rest_at is_open.1
   Some (together (parts labels.0 is_open.0 braces.0), braces.1)
 

@@ -10,19 +10,25 @@
 #![tactic(auto)]
 
 mod cut;
+mod fault;
 mod first_schema;
 mod form;
+mod key_productions;
 pub mod laws;
+mod literal;
+mod parser;
+mod parsing;
 mod qualifier;
 mod reading;
 mod rules;
 pub mod samples;
+mod statement_productions;
 mod token;
 mod tree;
+mod type_productions;
 mod unread;
 
+pub use fault::ParseFault;
 pub use first_schema::{FirstSchema, FirstType, parse_first};
 pub use form::first_form;
-
-#[cfg(test)]
-mod tests;
+pub use parsing::parse;

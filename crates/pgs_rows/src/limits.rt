@@ -14,33 +14,7 @@ const UNTYPED: &str = "1 refused 25 node n1 fits no type\n";
 
 const COMMITTED: &str = "1 committed 1\n";
 
-/// A text with a piece repeated in its middle.
-#[derive(Drop)]
-struct Repeated {
-    before: &'static str,
-    piece: &'static str,
-    count: u32,
-    after: &'static str,
-}
-
-impl Repeated {
-    fn new(before: &'static str, piece: &'static str, count: u32, after: &'static str) -> Repeated {
-        Repeated {
-            before,
-            piece,
-            count,
-            after,
-        }
-    }
-
-    fn push_to(&self, input: &mut String) -> Result<(), AllocError> {
-        input.push_str(self.before)?;
-        for _ in 0..self.count {
-            input.push_str(self.piece)?;
-        }
-        input.push_str(self.after)
-    }
-}
+const SCHEMA_REFUSED: &str = "schema refused 40 not built yet\n";
 
 /// What a run with `try` prints, by reads of so many bytes.
 fn printed_in(alloc: Global, input: &str, piece: usize) -> Result<String, Fail> {
@@ -53,67 +27,90 @@ fn printed(alloc: Global, input: &str) -> Result<String, Fail> {
     printed_in(alloc, input, 65_536)
 }
 
+/// A text with a piece repeated in its middle: what comes before, the piece, how often, and what comes after.
+type Repeated = (&'static str, &'static str, u32, &'static str);
+
+fn push_repeated(input: &mut String, text: Repeated) -> Result<(), AllocError> {
+    let (before, piece, count, after) = text;
+    input.push_str(before)?;
+    for _ in 0..count {
+        input.push_str(piece)?;
+    }
+    input.push_str(after)
+}
+
+/// What is printed where the text stands behind a head.
+fn printed_behind(alloc: Global, head: &str, text: Repeated) -> Result<String, Fail> {
+    let mut input = String::from_str(alloc, head)?;
+    push_repeated(&mut input, text)?;
+    printed(alloc, input.as_str())
+}
+
+const LABELS: &str = "{\"ops\":[{\"add_node\":1,\"labels\":[\"A\"";
+
+const LABEL: &str = "{\"ops\":[{\"add_node\":1,\"labels\":[\"A";
+
+const KEY: &str = "{\"ops\":[{\"add_node\":1,\"props\":{\"k";
+
+const TEXT: &str = "{\"ops\":[{\"add_node\":1,\"props\":{\"k\":\"";
+
+const LINES: &[(Repeated, &str)] = &[
+    ((LABELS, ",\"A\"", 63, "]}]}\n"), COMMITTED),
+    ((LABELS, ",\"A\"", 64, "]}]}\n"), NOT_BUILT),
+    ((LABEL, "a", 63, "\"]}]}\n"), UNTYPED),
+    ((LABEL, "a", 64, "\"]}]}\n"), NOT_BUILT),
+    ((KEY, "k", 63, "\":\"\"}}]}\n"), UNTYPED),
+    ((KEY, "k", 64, "\":\"\"}}]}\n"), NOT_BUILT),
+    ((TEXT, "x", 65_535, "\"}}]}\n"), COMMITTED),
+    ((TEXT, "x", 65_536, "\"}}]}\n"), NOT_BUILT),
+    (("", " ", 1_048_576, "\n"), ""),
+    (("", " ", 1_048_577, "\n"), NOT_BUILT),
+];
+
 #[test]
 fn repeated_in_a_line(rt: HostRuntime) -> Result<(), Fail> {
-    let labels = "{\"ops\":[{\"add_node\":1,\"labels\":[\"A\"";
-    let label = "{\"ops\":[{\"add_node\":1,\"labels\":[\"A";
-    let key = "{\"ops\":[{\"add_node\":1,\"props\":{\"k";
-    let text = "{\"ops\":[{\"add_node\":1,\"props\":{\"k\":\"";
-    for (line, want) in [
-        (Repeated::new(labels, ",\"A\"", 63, "]}]}\n"), COMMITTED),
-        (Repeated::new(labels, ",\"A\"", 64, "]}]}\n"), NOT_BUILT),
-        (Repeated::new(label, "a", 63, "\"]}]}\n"), UNTYPED),
-        (Repeated::new(label, "a", 64, "\"]}]}\n"), NOT_BUILT),
-        (Repeated::new(key, "k", 63, "\":\"\"}}]}\n"), UNTYPED),
-        (Repeated::new(key, "k", 64, "\":\"\"}}]}\n"), NOT_BUILT),
-        (Repeated::new(text, "x", 65_535, "\"}}]}\n"), COMMITTED),
-        (Repeated::new(text, "x", 65_536, "\"}}]}\n"), NOT_BUILT),
-        (Repeated::new("", " ", 1_048_576, "\n"), ""),
-        (Repeated::new("", " ", 1_048_577, "\n"), NOT_BUILT),
-    ] {
-        let mut input = String::from_str(rt.alloc(), SCHEMA)?;
-        line.push_to(&mut input)?;
-        let found = printed(rt.alloc(), input.as_str())?;
-        assert_eq!(rt; found.as_str(), want, "{0} of {1}", line.count, line.piece);
+    for (line, want) in LINES {
+        let found = printed_behind(rt.alloc(), SCHEMA, *line)?;
+        assert_eq!(rt; found.as_str(), *want, "{0} of {1}", line.2, line.1);
     }
     Ok(())
 }
 
+const NUMBERS: &[(&str, &str)] = &[
+    ("{\"ops\":[{\"add_node\":18446744073709551615}]}", COMMITTED),
+    ("{\"ops\":[{\"add_node\":18446744073709551616}]}", NOT_BUILT),
+    ("{\"ops\":[{\"add_node\":01}]}", NOT_BUILT),
+    (
+        "{\"ops\":[{\"add_node\":1,\"props\":{\"i\":9223372036854775807}}]}",
+        COMMITTED,
+    ),
+    (
+        "{\"ops\":[{\"add_node\":1,\"props\":{\"i\":9223372036854775808}}]}",
+        NOT_BUILT,
+    ),
+    (
+        "{\"ops\":[{\"add_node\":1,\"props\":{\"i\":-9223372036854775808}}]}",
+        COMMITTED,
+    ),
+    (
+        "{\"ops\":[{\"add_node\":1,\"props\":{\"i\":-9223372036854775809}}]}",
+        NOT_BUILT,
+    ),
+    (
+        "{\"ops\":[{\"add_node\":1,\"props\":{\"i\":1,\"i\":1}}]}",
+        NOT_BUILT,
+    ),
+    (
+        "{\"ops\":[{\"add_node\":1,\"labels\":[\"NODE\"]}]}",
+        UNTYPED,
+    ),
+];
+
 #[test]
 fn numbers_of_a_line(rt: HostRuntime) -> Result<(), Fail> {
-    for (line, want) in [
-        ("{\"ops\":[{\"add_node\":18446744073709551615}]}", COMMITTED),
-        ("{\"ops\":[{\"add_node\":18446744073709551616}]}", NOT_BUILT),
-        ("{\"ops\":[{\"add_node\":01}]}", NOT_BUILT),
-        (
-            "{\"ops\":[{\"add_node\":1,\"props\":{\"i\":9223372036854775807}}]}",
-            COMMITTED,
-        ),
-        (
-            "{\"ops\":[{\"add_node\":1,\"props\":{\"i\":9223372036854775808}}]}",
-            NOT_BUILT,
-        ),
-        (
-            "{\"ops\":[{\"add_node\":1,\"props\":{\"i\":-9223372036854775808}}]}",
-            COMMITTED,
-        ),
-        (
-            "{\"ops\":[{\"add_node\":1,\"props\":{\"i\":-9223372036854775809}}]}",
-            NOT_BUILT,
-        ),
-        (
-            "{\"ops\":[{\"add_node\":1,\"props\":{\"i\":1,\"i\":1}}]}",
-            NOT_BUILT,
-        ),
-        (
-            "{\"ops\":[{\"add_node\":1,\"labels\":[\"NODE\"]}]}",
-            UNTYPED,
-        ),
-    ] {
-        let mut input = String::from_str(rt.alloc(), SCHEMA)?;
-        input.push_str(line)?;
-        let found = printed(rt.alloc(), input.as_str())?;
-        assert_eq!(rt; found.as_str(), want, "{line}");
+    for (line, want) in NUMBERS {
+        let found = printed_behind(rt.alloc(), SCHEMA, (*line, "", 0, ""))?;
+        assert_eq!(rt; found.as_str(), *want, "{line}");
     }
     Ok(())
 }
@@ -130,12 +127,16 @@ fn push_pairs(alloc: Global, input: &mut String, count: u32) -> Result<(), Alloc
     input.push_str("}}]}\n")
 }
 
+fn printed_pairs(alloc: Global, count: u32) -> Result<String, Fail> {
+    let mut input = String::from_str(alloc, SCHEMA)?;
+    push_pairs(alloc, &mut input, count)?;
+    printed(alloc, input.as_str())
+}
+
 #[test]
 fn pairs_of_an_operation(rt: HostRuntime) -> Result<(), Fail> {
     for (count, want) in [(256, UNTYPED), (257, NOT_BUILT)] {
-        let mut input = String::from_str(rt.alloc(), SCHEMA)?;
-        push_pairs(rt.alloc(), &mut input, count)?;
-        let found = printed(rt.alloc(), input.as_str())?;
+        let found = printed_pairs(rt.alloc(), count)?;
         assert_eq!(rt; found.as_str(), want, "{count}");
     }
     Ok(())
@@ -154,12 +155,16 @@ fn push_nodes(alloc: Global, input: &mut String, first: u32, count: u32) -> Resu
     input.push_str("]}\n")
 }
 
+fn printed_nodes(alloc: Global, count: u32) -> Result<String, Fail> {
+    let mut input = String::from_str(alloc, SCHEMA)?;
+    push_nodes(alloc, &mut input, 1, count)?;
+    printed(alloc, input.as_str())
+}
+
 #[test]
 fn operations_of_a_line(rt: HostRuntime) -> Result<(), Fail> {
     for (count, want) in [(10_000, COMMITTED), (10_001, NOT_BUILT)] {
-        let mut input = String::from_str(rt.alloc(), SCHEMA)?;
-        push_nodes(rt.alloc(), &mut input, 1, count)?;
-        let found = printed(rt.alloc(), input.as_str())?;
+        let found = printed_nodes(rt.alloc(), count)?;
         assert_eq!(rt; found.as_str(), want, "{count}");
     }
     Ok(())
@@ -172,7 +177,7 @@ fn push_line_with_len(alloc: Global, input: &mut String, len: usize) -> Result<(
         let digits = place.to_string(alloc)?;
         line.push_str("\"k")?;
         line.push_str(digits.as_str())?;
-        Repeated::new("\":\"", "x", 65_000, "\",").push_to(&mut line)?;
+        push_repeated(&mut line, ("\":\"", "x", 65_000, "\","))?;
     }
     line.push_str("\"last\":\"")?;
     for _ in line.len()..len.saturating_sub(5) {
@@ -182,88 +187,88 @@ fn push_line_with_len(alloc: Global, input: &mut String, len: usize) -> Result<(
     input.push_str(line.as_str())
 }
 
+/// The first size of reads with which a line of so many bytes isn't printed so.
+fn wrong_of_len(alloc: Global, len: usize, want: &str) -> Result<Option<usize>, Fail> {
+    let mut input = String::from_str(alloc, SCHEMA)?;
+    push_line_with_len(alloc, &mut input, len)?;
+    if input.len().saturating_sub(SCHEMA.len()) != len {
+        return Err(Fail::new("a line of another length"));
+    }
+    for piece in PIECES {
+        if printed_in(alloc, input.as_str(), piece)?.as_str() != want {
+            return Ok(Some(piece));
+        }
+    }
+    Ok(None)
+}
+
 #[test]
 fn bytes_of_a_line(rt: HostRuntime) -> Result<(), Fail> {
     for (len, want) in [(1_048_576, UNTYPED), (1_048_577, NOT_BUILT)] {
-        let mut input = String::from_str(rt.alloc(), SCHEMA)?;
-        push_line_with_len(rt.alloc(), &mut input, len)?;
-        assert_eq!(rt; input.len(), SCHEMA.len() + len);
-        for piece in PIECES {
-            let found = printed_in(rt.alloc(), input.as_str(), piece)?;
-            assert_eq!(rt; found.as_str(), want, "{len} in reads of {piece}");
-        }
+        assert_eq!(rt; wrong_of_len(rt.alloc(), len, want)?, None, "{len}");
     }
     Ok(())
 }
 
+const SCHEMAS: &[(Repeated, &str)] = &[
+    (("CREATE GRAPH TYPE g", "g", 63, " STRICT {};"), ""),
+    (
+        ("CREATE GRAPH TYPE g", "g", 64, " STRICT {};"),
+        SCHEMA_REFUSED,
+    ),
+    (("CREATE GRAPH TYPE g STRICT {(t", "t", 63, ")};"), ""),
+    (
+        ("CREATE GRAPH TYPE g STRICT {(t", "t", 64, ")};"),
+        SCHEMA_REFUSED,
+    ),
+    (("CREATE GRAPH TYPE g STRICT {(t: L", "l", 63, ")};"), ""),
+    (
+        ("CREATE GRAPH TYPE g STRICT {(t: L", "l", 64, ")};"),
+        SCHEMA_REFUSED,
+    ),
+    (
+        ("CREATE GRAPH TYPE g STRICT {(t {k", "k", 63, " INT})};"),
+        "",
+    ),
+    (
+        ("CREATE GRAPH TYPE g STRICT {(t {k", "k", 64, " INT})};"),
+        SCHEMA_REFUSED,
+    ),
+    (("CREATE GRAPH TYPE g STRICT {};", " ", 1_048_546, ""), ""),
+    (
+        ("CREATE GRAPH TYPE g STRICT {};", " ", 1_048_547, ""),
+        SCHEMA_REFUSED,
+    ),
+    (("CREATE GRAPH TYPE g STRICT {(t: STRIC", "T", 0, ")};"), ""),
+    (
+        ("CREATE GRAPH TYPE g STRICT {(t: STRIC", "T", 1, ")};"),
+        SCHEMA_REFUSED,
+    ),
+];
+
 #[test]
 fn limits_of_a_schema(rt: HostRuntime) -> Result<(), Fail> {
-    let refused = "schema refused 40 not built yet\n";
-    let graph = "CREATE GRAPH TYPE g STRICT {(t";
-    for (text, want) in [
-        (
-            Repeated::new("CREATE GRAPH TYPE g", "g", 63, " STRICT {};"),
-            "",
-        ),
-        (
-            Repeated::new("CREATE GRAPH TYPE g", "g", 64, " STRICT {};"),
-            refused,
-        ),
-        (Repeated::new(graph, "t", 63, ")};"), ""),
-        (Repeated::new(graph, "t", 64, ")};"), refused),
-        (
-            Repeated::new("CREATE GRAPH TYPE g STRICT {(t: L", "l", 63, ")};"),
-            "",
-        ),
-        (
-            Repeated::new("CREATE GRAPH TYPE g STRICT {(t: L", "l", 64, ")};"),
-            refused,
-        ),
-        (
-            Repeated::new("CREATE GRAPH TYPE g STRICT {(t {k", "k", 63, " INT})};"),
-            "",
-        ),
-        (
-            Repeated::new("CREATE GRAPH TYPE g STRICT {(t {k", "k", 64, " INT})};"),
-            refused,
-        ),
-        (
-            Repeated::new("CREATE GRAPH TYPE g STRICT {};", " ", 1_048_546, ""),
-            "",
-        ),
-        (
-            Repeated::new("CREATE GRAPH TYPE g STRICT {};", " ", 1_048_547, ""),
-            refused,
-        ),
-        (
-            Repeated::new("CREATE GRAPH TYPE g STRICT {(t: STRIC", "T", 0, ")};"),
-            "",
-        ),
-        (
-            Repeated::new("CREATE GRAPH TYPE g STRICT {(t: STRIC", "T", 1, ")};"),
-            refused,
-        ),
-    ] {
-        let mut input = String::new(rt.alloc());
-        text.push_to(&mut input)?;
-        let found = printed(rt.alloc(), input.as_str())?;
-        assert_eq!(rt; found.as_str(), want, "{0} of {1}", text.count, text.piece);
+    for (text, want) in SCHEMAS {
+        let found = printed_behind(rt.alloc(), "", *text)?;
+        assert_eq!(rt; found.as_str(), *want, "{0} of {1}", text.2, text.1);
     }
     Ok(())
+}
+
+/// What is printed of a hundred lines of 10,000 nodes each, and one node more.
+fn printed_of_a_full_graph(alloc: Global) -> Result<String, Fail> {
+    let mut input = String::from_str(alloc, SCHEMA)?;
+    for line in 0..100u32 {
+        push_nodes(alloc, &mut input, line.saturating_mul(10_000), 10_000)?;
+    }
+    push_nodes(alloc, &mut input, 1_000_000, 1)?;
+    printed(alloc, input.as_str())
 }
 
 #[test]
 fn elements_of_a_graph(rt: HostRuntime) -> Result<(), Fail> {
-    let mut input = String::from_str(rt.alloc(), SCHEMA)?;
-    for line in 0..100u32 {
-        push_nodes(rt.alloc(), &mut input, line.saturating_mul(10_000), 10_000)?;
-    }
-    push_nodes(rt.alloc(), &mut input, 1_000_000, 1)?;
-    let found = printed(rt.alloc(), input.as_str())?;
-    assert!(rt;
-        found.as_str().ends_with(
-            "100 committed 100\n101 refused 24 1000001 elements, at most 1000000\n"
-        )
-    );
+    let found = printed_of_a_full_graph(rt.alloc())?;
+    let want = "100 committed 100\n101 refused 24 1000001 elements, at most 1000000\n";
+    assert!(rt; found.as_str().ends_with(want));
     Ok(())
 }

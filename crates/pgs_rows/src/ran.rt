@@ -76,3 +76,26 @@ pub fn run_with(
     let output = Vec::from_slice(alloc, world.output())?;
     Ok(Ran { output, status })
 }
+
+/// The first size of reads with which the words don't print this over the input, or end with another status.
+pub fn wrong_piece(
+    alloc: Global,
+    words: &str,
+    input: &str,
+    setting: Setting,
+    want: (&str, u8),
+) -> Result<Option<usize>, Memory> {
+    let words = words_of(alloc, words)?;
+    for piece in PIECES {
+        let ran = run_with(
+            alloc,
+            &words,
+            input.as_bytes(),
+            Setting { piece, ..setting },
+        )?;
+        if ran.text() != want.0 || ran.status.number() != want.1 {
+            return Ok(Some(piece));
+        }
+    }
+    Ok(None)
+}

@@ -7,7 +7,7 @@ use std::test::Fail;
 /// The size of the reads of which one fails.
 const PIECE: usize = 7;
 
-const INPUTS: [&str; 3] = [
+const INPUTS: &[&str] = &[
     "CREATE GRAPH TYPE g LOOSE {};\n---\n{\"ops\":[]}\n",
     "CREATE GRAPH TYPE g STRICT {(t)};\r\n---\r\n\n{\"ops\":[{\"add_node\":1}]}\n \t\r\n{\"ops\":[{\"add_node\":1}]}\n{}\n",
     "CREATE GRAPH TYPE g STRICT\n{(t: A)};\n---\n{\"ops\":[]}\n\n{\"ops\":[{\"add_node\":7,\"labels\":[\"A\"]}]}",
@@ -46,58 +46,88 @@ fn told_before(alloc: Global, words: &Words, input: &[u8], put: usize) -> Result
     front_of(alloc, &report, put.saturating_sub(1), Status::PutFault)
 }
 
+/// Whether a run prints what is told, and ends with its status.
+fn is_told(
+    alloc: Global,
+    words: &Words,
+    input: &str,
+    setting: Setting,
+    told: &Ran,
+) -> Result<bool, Memory> {
+    let found = run_with(alloc, words, input.as_bytes(), setting)?;
+    Ok(found.text() == told.text() && found.status == told.status)
+}
+
+/// The first size of reads with which a run within the budget isn't what is told.
+fn wrong_within(alloc: Global, input: &str, budget: u64) -> Result<Option<usize>, Memory> {
+    let words = words_of(alloc, "try,")?;
+    let told = told_within(alloc, &words, input.as_bytes(), budget)?;
+    for piece in PIECES {
+        let setting = Setting {
+            budget,
+            ..quiet(piece)
+        };
+        if !is_told(alloc, &words, input, setting, &told)? {
+            return Ok(Some(piece));
+        }
+    }
+    Ok(None)
+}
+
 #[test]
 fn every_budget(rt: HostRuntime) -> Result<(), Fail> {
-    let words = words_of(rt.alloc(), "try,")?;
     for input in INPUTS {
         for budget in 1..=input.len() as u64 + 1 {
-            let told = told_within(rt.alloc(), &words, input.as_bytes(), budget)?;
-            for piece in PIECES {
-                let setting = Setting {
-                    budget,
-                    ..quiet(piece)
-                };
-                let found = run_with(rt.alloc(), &words, input.as_bytes(), setting)?;
-                assert_eq!(rt; found.text(), told.text(), "{input} {setting:?}");
-                assert_eq!(rt; found.status, told.status, "{input} {setting:?}");
-            }
+            let wrong = wrong_within(rt.alloc(), input, budget)?;
+            assert_eq!(rt; wrong, None, "{input} within {budget}");
         }
     }
     Ok(())
+}
+
+/// Whether a run of which a read fails, counted from 1, is what is told.
+fn is_told_until(alloc: Global, input: &str, read: usize) -> Result<bool, Memory> {
+    let words = words_of(alloc, "try,")?;
+    let given = read
+        .saturating_sub(1)
+        .saturating_mul(PIECE)
+        .min(input.len());
+    let told = told_until(alloc, &words, input.as_bytes(), given)?;
+    let setting = Setting {
+        failing_read: read as u64,
+        ..quiet(PIECE)
+    };
+    is_told(alloc, &words, input, setting, &told)
 }
 
 #[test]
 fn every_failing_read(rt: HostRuntime) -> Result<(), Fail> {
-    let words = words_of(rt.alloc(), "try,")?;
     for input in INPUTS {
         for read in 1..=input.len().div_ceil(PIECE) + 1 {
-            let given = ((read - 1) * PIECE).min(input.len());
-            let told = told_until(rt.alloc(), &words, input.as_bytes(), given)?;
-            let setting = Setting {
-                failing_read: read as u64,
-                ..quiet(PIECE)
-            };
-            let found = run_with(rt.alloc(), &words, input.as_bytes(), setting)?;
-            assert_eq!(rt; found.text(), told.text(), "{input} {setting:?}");
-            assert_eq!(rt; found.status, told.status, "{input} {setting:?}");
+            let is_told = is_told_until(rt.alloc(), input, read)?;
+            assert!(rt; is_told, "{input} where read {read} fails");
         }
     }
     Ok(())
 }
 
+/// Whether a run of which a put fails, counted from 1, is what is told.
+fn is_told_before(alloc: Global, input: &str, put: usize) -> Result<bool, Memory> {
+    let words = words_of(alloc, "try,")?;
+    let told = told_before(alloc, &words, input.as_bytes(), put)?;
+    let setting = Setting {
+        failing_put: put as u64,
+        ..quiet(PIECE)
+    };
+    is_told(alloc, &words, input, setting, &told)
+}
+
 #[test]
 fn every_failing_put(rt: HostRuntime) -> Result<(), Fail> {
-    let words = words_of(rt.alloc(), "try,")?;
     for input in INPUTS {
         for put in 1..=6 {
-            let told = told_before(rt.alloc(), &words, input.as_bytes(), put)?;
-            let setting = Setting {
-                failing_put: put as u64,
-                ..quiet(PIECE)
-            };
-            let found = run_with(rt.alloc(), &words, input.as_bytes(), setting)?;
-            assert_eq!(rt; found.text(), told.text(), "{input} {setting:?}");
-            assert_eq!(rt; found.status, told.status, "{input} {setting:?}");
+            let is_told = is_told_before(rt.alloc(), input, put)?;
+            assert!(rt; is_told, "{input} where put {put} fails");
         }
     }
     Ok(())

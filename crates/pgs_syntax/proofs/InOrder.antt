@@ -17,6 +17,7 @@ use Rattle.pgs_base.specs.declared.row.EdgeRow.{EdgeRow}
 use Rattle.pgs_base.specs.Graph.{Graph, node_cmp, edge_cmp, is_graph}
 use Rattle.pgs_base.specs.Order.{ascends, elem_cmp, tuple_cmp}
 use Rattle.pgs_base.specs.OrderLaws.{tuple_cmp_total}
+use Rattle.pgs_base.proofs.Graphs.{graph_parts}
 use Rattle.pgs_base.proofs.Ascending.{ascends_decides, ascending-insert_key, ascending_none}
 use Rattle.pgs_syntax.specs.declared.key.Key.{Key}
 use Rattle.pgs_syntax.specs.declared.resolved.Resolved.{Resolved}
@@ -55,10 +56,10 @@ nodes_before (node ∷ nodes) edges = and_from _ _ (edges_after node.0 edges) (n
 
 module _ (g : Graph) (graph : is_graph g ≡ true) where
   pub nodes_ascend : ascends elem_cmp (map (λ (node : NodeId × NodeRow). Node node.0) g.nodes) ≡ true
-  nodes_ascend = rows_ascend node_cmp Node (λ a b. refl) g.nodes (and_parts _ _ (and_parts _ _ graph).0).0
+  nodes_ascend = rows_ascend node_cmp Node (λ a b. refl) g.nodes (graph_parts g graph).node_order
 
   pub edges_ascend : ascends elem_cmp (map (λ (edge : EdgeId × EdgeRow). Edge edge.0) g.edges) ≡ true
-  edges_ascend = rows_ascend edge_cmp Edge (λ a b. refl) g.edges (and_parts _ _ (and_parts _ _ graph).0).1
+  edges_ascend = rows_ascend edge_cmp Edge (λ a b. refl) g.edges (graph_parts g graph).edge_order
 
   pub scope_ascends : (resolved : Resolved) (key : Key) → ascends elem_cmp (scope_of resolved g key) ≡ true
   scope_ascends resolved key =

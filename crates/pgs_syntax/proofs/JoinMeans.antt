@@ -212,10 +212,10 @@ values_split l r entries left right whole together =
 -- ---- joins
 
 labels_ascend : (p : NodeRow) → is_pair p ≡ true → ascends (slice_cmp nat_cmp) p.labels ≡ true
-labels_ascend p pair = (and_parts _ _ (and_parts _ _ (and_parts _ _ pair).0).0).0
+labels_ascend p pair = (and_parts _ _ (and_parts _ _ pair).0).0
 
 keys_ascend : (p : NodeRow) → is_pair p ≡ true → ascends (slice_cmp nat_cmp) (keys_of p.props) ≡ true
-keys_ascend p pair = (and_parts _ _ (and_parts _ _ (and_parts _ _ pair).0).1).0
+keys_ascend p pair = (and_parts _ _ (and_parts _ _ (and_parts _ _ pair).1).0).0
 
 split_names : (l r names : Names) → IsSplit l r names → are_names names ≡ true → (are_names l ≡ true) × (are_names r ≡ true)
 split_names l r names split h =
@@ -230,15 +230,15 @@ halves_found c p pair h =
     let labels = split_from_any _ p.labels (sym (any_halves c p) ∙ h) in
     let props = split_from_any _ p.props labels.3 in
     let parts = and_parts _ _ pair in
-    let names = and_parts _ _ parts.0 in
-    let by_label = split_names labels.0 labels.1 p.labels labels.2 names.0 in
+    let values = and_parts _ _ parts.1 in
+    let by_label = split_names labels.0 labels.1 p.labels labels.2 parts.0 in
     let by_key = split_names (keys_of props.0) (keys_of props.1) (keys_of p.props)
-    (split_map (λ (e : List ℕ × Value). e.0) props.0 props.1 p.props props.2) names.1 in
-    let by_value = split_all (λ (e : List ℕ × Value). is_value e.1) props.0 props.1 p.props props.2 parts.1 in (
+    (split_map (λ (e : List ℕ × Value). e.0) props.0 props.1 p.props props.2) values.0 in
+    let by_value = split_all (λ (e : List ℕ × Value). is_value e.1) props.0 props.1 p.props props.2 values.1 in (
       pair_of labels.0 props.0,
       pair_of labels.1 props.1,
-      and_from _ _ (and_from _ _ by_label.0 by_key.0) by_value.0,
-      and_from _ _ (and_from _ _ by_label.1 by_key.1) by_value.1,
+      and_from _ _ by_label.0 (and_from _ _ by_key.0 by_value.0),
+      and_from _ _ by_label.1 (and_from _ _ by_key.1 by_value.1),
       record {
         labels = λ label. split_any (same_name label) labels.0 labels.1 p.labels labels.2;
         values = λ key. split_values key props.0 props.1 p.props props.2 (keys_ascend p pair);

@@ -1,7 +1,7 @@
 pub mod AnyOrder
 pub mod Assigned
+pub mod Carried
 pub mod Closed
-pub mod Computed
 pub mod Connected
 pub mod Edges
 pub mod Halves

@@ -121,6 +121,17 @@ module _ {X : Type 0} {cmp : X → X → Ordering} (total : IsTotalOrder cmp) wh
       (λ less. ⊎_elim (λ same. same) (λ more. absurd (never_both x y less more)) (other.others_after x one.is))
       (one.others_after y other.is)
 
+  -- the first of a list is its least
+  pub first_least : (x : X) (xs : List X) → ascends cmp (x ∷ xs) ≡ true → IsLeast cmp (Contains (x ∷ xs)) x
+  first_least x xs order = record {
+    is = contains_first x xs;
+    others_after = λ y h. ⊎_elim (λ own. inl (sym own)) (λ later. inr (all_above x xs y (and_parts _ _ order).0 later)) (contains_cases x xs y h);
+  }
+
+  pub least_first : (xs : List X) (x : X) → ascends cmp xs ≡ true → IsLeast cmp (Contains xs) x → slice_get xs 0 ≡ Some x
+  least_first [] x order least = absurd (contains_none x least.is)
+  least_first (y ∷ ys) x order least = ap Some (one_least y x (first_least y ys order) least)
+
   -- the first of a list that passes a test is the least of those that do
   module _ (test : X → Bool) where
     pub found_least : (xs : List X) (x : X) → ascends cmp xs ≡ true → find test xs ≡ Some x → IsLeast cmp (λ y. Contains xs y × (test y ≡ true)) x

@@ -5,6 +5,7 @@ pub mod KeySamples
 pub mod KeyValues
 pub mod Least
 pub mod Linked
+pub mod MatchSamples
 pub mod Matches
 pub mod Meaning
 pub mod Numbered

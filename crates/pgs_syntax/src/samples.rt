@@ -1,18 +1,20 @@
-//! What the definitions say of small schemas and graphs, which stand in `specs/Samples.antt` and
-//! `specs/KeySamples.antt`. The functions do nothing; their contracts are the statements.
+//! What the definitions say of small schemas and graphs, which stand in `specs/Samples.antt`,
+//! `specs/KeySamples.antt` and `specs/MatchSamples.antt`. The functions do nothing; their contracts are the statements.
 
 ghost use Rattle.std.specs.Prelude.{◌≡◌, true, false, pos, negsuc, [], ◌∷◌, codes};
-ghost use Rattle.pgs_base.specs.declared.element.Elem.TheVariants as elems;
 ghost use Rattle.pgs_base.specs.declared.part.Part.TheVariants as parts;
 ghost use Rattle.pgs_base.specs.declared.value.Value.TheVariants.{Text, Int, Date};
 ghost use Rattle.pgs_base.specs.Pair.{pair_of, is_pair};
+ghost use Rattle.pgs_syntax.specs.declared.pattern.Atom.TheVariants.{Equals, FitsNode, FitsEdge};
 ghost use Rattle.pgs_syntax.specs.declared.resolved.TypeNo.TheVariants.{Node};
 ghost use Rattle.pgs_syntax.specs.declared.specification.Leaf.TheVariants.{Named};
 ghost use Rattle.pgs_syntax.specs.declared.specification.Spec.{Word};
 ghost use Rattle.pgs_syntax.specs.Closed.{is_closed, names_key};
 ghost use Rattle.pgs_syntax.specs.KeySamples.{the_node, one_text, mail_key, mails, two_persons, holder, held_post};
 ghost use Rattle.pgs_syntax.specs.KeyValues.{scope_of, key_values};
-ghost use Rattle.pgs_syntax.specs.Samples.{staff, ann, shared_key, labelled, with, open_type, either_type, open_labels, bare_type, abstract_types, acquaintance, acquainted, tied, ties, social, cyd, bob, two_steps, steps_to, moderator, forum, by_n4, by_n5, keyed, edge, two_apart, names_later, names_twice};
+ghost use Rattle.pgs_syntax.specs.Matches.{matches};
+ghost use Rattle.pgs_syntax.specs.MatchSamples.{the_edge, one_node, one_edge, one_step, next_node, edge_key, self_loop, parallel_edges, valued_edges, valued_nodes, both_ways};
+ghost use Rattle.pgs_syntax.specs.Samples.{staff, ann, shared_key, labelled, with, open_type, either_type, open_labels, bare_type, abstract_types, acquaintance, acquainted, tied, ties, social, cyd, bob, two_steps, steps_to, moderator, forum, by_n4, by_n5, keyed, edge, qualifiers, two_apart, names_later, names_twice};
 ghost use Rattle.pgs_syntax.specs.Typed.{is_typed_node, is_typed_edge};
 ghost use Rattle.pgs_syntax.specs.Valid.{is_connected, is_valid, is_valid_key, is_valid_pattern};
 
@@ -94,20 +96,20 @@ pub fn social_types()
 
 /// A key value read at the end of two steps, and its absence.
 pub fn values_at_a_distance()
-    ensures steps_scope { scope_of (keyed (two_steps ∷ [])) (steps_to []) two_steps ≡ elems.Node (record { 0 = 3 }) ∷ [] }
-    ensures steps_value { key_values (keyed (two_steps ∷ [])) (steps_to ((codes "v", Int (pos 1)) ∷ [])) two_steps (elems.Node (record { 0 = 3 }))
+    ensures steps_scope { scope_of (keyed (two_steps ∷ [])) (steps_to []) two_steps ≡ the_node 3 ∷ [] }
+    ensures steps_value { key_values (keyed (two_steps ∷ [])) (steps_to ((codes "v", Int (pos 1)) ∷ [])) two_steps (the_node 3)
         ≡ (parts.Value (Int (pos 1)) ∷ []) ∷ [] }
-    ensures steps_absent { key_values (keyed (two_steps ∷ [])) (steps_to []) two_steps (elems.Node (record { 0 = 3 })) ≡ [] }
+    ensures steps_absent { key_values (keyed (two_steps ∷ [])) (steps_to []) two_steps (the_node 3) ≡ [] }
 {}
 
 /// A key value of a property and an element: one for each moderator of a forum.
 pub fn values_of_parts()
-    ensures forum_scope { scope_of (keyed (moderator ∷ [])) (forum (by_n4 ∷ [])) moderator ≡ elems.Node (record { 0 = 1 }) ∷ [] }
-    ensures one_moderator { key_values (keyed (moderator ∷ [])) (forum (by_n4 ∷ [])) moderator (elems.Node (record { 0 = 1 }))
-        ≡ (parts.Value (Text (codes "db")) ∷ parts.Elem (elems.Node (record { 0 = 4 })) ∷ []) ∷ [] }
-    ensures two_moderators { key_values (keyed (moderator ∷ [])) (forum (by_n4 ∷ by_n5 ∷ [])) moderator (elems.Node (record { 0 = 1 }))
-        ≡ (parts.Value (Text (codes "db")) ∷ parts.Elem (elems.Node (record { 0 = 4 })) ∷ [])
-        ∷ (parts.Value (Text (codes "db")) ∷ parts.Elem (elems.Node (record { 0 = 5 })) ∷ []) ∷ [] }
+    ensures forum_scope { scope_of (keyed (moderator ∷ [])) (forum (by_n4 ∷ [])) moderator ≡ the_node 1 ∷ [] }
+    ensures one_moderator { key_values (keyed (moderator ∷ [])) (forum (by_n4 ∷ [])) moderator (the_node 1)
+        ≡ (parts.Value (Text (codes "db")) ∷ parts.Elem (the_node 4) ∷ []) ∷ [] }
+    ensures two_moderators { key_values (keyed (moderator ∷ [])) (forum (by_n4 ∷ by_n5 ∷ [])) moderator (the_node 1)
+        ≡ (parts.Value (Text (codes "db")) ∷ parts.Elem (the_node 4) ∷ [])
+        ∷ (parts.Value (Text (codes "db")) ∷ parts.Elem (the_node 5) ∷ []) ∷ [] }
 {}
 
 /// The scope of a key that says which type its elements fit, and a key value.
@@ -120,6 +122,46 @@ pub fn values_of_mails()
 pub fn values_of_holders()
     ensures post_scope { scope_of (keyed (holder ∷ [])) held_post holder ≡ the_node 20 ∷ [] }
     ensures post_holder { key_values (keyed (holder ∷ [])) held_post holder (the_node 20) ≡ (parts.Elem (the_node 10) ∷ []) ∷ [] }
+{}
+
+/// Two variables may take one element: both ends of an edge from a node to itself.
+pub fn one_element_twice()
+    ensures { matches (keyed []) self_loop (one_step (codes "r")) ≡ (the_node 1 ∷ the_edge 1 ∷ the_node 1 ∷ []) ∷ [] }
+{}
+
+/// Parallel edges are two matches, which give one key value.
+pub fn matches_of_parallel_edges()
+    ensures two_matches { matches (keyed []) parallel_edges (one_step (codes "r"))
+        ≡ (the_node 1 ∷ the_edge 1 ∷ the_node 2 ∷ []) ∷ (the_node 1 ∷ the_edge 2 ∷ the_node 2 ∷ []) ∷ [] }
+    ensures one_value { key_values (keyed []) parallel_edges (next_node (qualifiers true true true) (codes "r")) (the_node 1)
+        ≡ (parts.Elem (the_node 2) ∷ []) ∷ [] }
+{}
+
+/// Edges as elements of a scope, with a key value and without.
+pub fn edges_in_a_scope()
+    ensures edge_scope { scope_of (keyed []) valued_edges (edge_key (qualifiers true true true))
+        ≡ the_edge 1 ∷ the_edge 2 ∷ the_edge 3 ∷ [] }
+    ensures edge_value { key_values (keyed []) valued_edges (edge_key (qualifiers true true true)) (the_edge 2)
+        ≡ (parts.Value (Int (pos 5)) ∷ []) ∷ [] }
+    ensures edge_without { key_values (keyed []) valued_edges (edge_key (qualifiers true true true)) (the_edge 3) ≡ [] }
+    ensures valid_edge_key { is_valid_key (edge_key (qualifiers true true true)) ≡ true }
+{}
+
+/// A property is present with a value: not with another one, not with one of another kind, and not absent.
+pub fn values_in_patterns()
+    ensures number { matches (keyed []) valued_nodes (one_node (Equals 0 (codes "k") (Int (pos 5)) ∷ [])) ≡ (the_node 1 ∷ []) ∷ [] }
+    ensures text { matches (keyed []) valued_nodes (one_node (Equals 0 (codes "k") (Text (codes "5")) ∷ [])) ≡ (the_node 3 ∷ []) ∷ [] }
+    ensures other_key { matches (keyed []) valued_nodes (one_node (Equals 0 (codes "j") (Int (pos 5)) ∷ [])) ≡ [] }
+    ensures of_edges { matches (keyed []) valued_edges (one_edge (Equals 0 (codes "k") (Int (pos 5)) ∷ []))
+        ≡ (the_edge 1 ∷ []) ∷ (the_edge 2 ∷ []) ∷ [] }
+{}
+
+/// The edges that fit an edge type, whose source has to fit too. No node fits an edge type, and no edge a node type.
+pub fn types_in_patterns()
+    ensures fitting_edges { matches acquaintance both_ways (one_edge (FitsEdge 0 0 ∷ [])) ≡ (the_edge 1 ∷ []) ∷ [] }
+    ensures fitting_nodes { matches acquaintance both_ways (one_node (FitsNode 0 1 ∷ [])) ≡ (the_node 1 ∷ []) ∷ [] }
+    ensures nodes_for_edges { matches acquaintance both_ways (one_node (FitsEdge 0 0 ∷ [])) ≡ [] }
+    ensures edges_for_nodes { matches acquaintance both_ways (one_edge (FitsNode 0 0 ∷ [])) ≡ [] }
 {}
 
 /// Which specifications are closed, and which keys they name, in braces of their own or of the types that they name.

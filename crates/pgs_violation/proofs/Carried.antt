@@ -1,5 +1,5 @@
 -- What each violation in the list says, and that each that is so stands in it.
-use Rattle.std.proofs.Common.{◌≡◌, ℕ, Bool, true, false, cond, ⊎_elim, inl, inr, List, [], ◌∷◌, Option, Some, None, is_some, refl, sym, ◌∙◌, ap, subst, true≢false, arith, Ordering, Less, is_lt}
+use Rattle.std.proofs.Common.{◌≡◌, ℕ, Bool, true, false, cond, ⊎_elim, List, [], ◌∷◌, Option, Some, None, is_some, refl, sym, ◌∙◌, ap, subst, true≢false, arith, Ordering, Less, is_lt}
 use Rattle.std.specs.Prelude.{Contains, find, option_map, option_and_then, if◌then◌else◌}
 use Rattle.std.specs.BTreeMap.{is_at}
 use Rattle.std.specs.List.{list_any}
@@ -20,7 +20,7 @@ use Rattle.pgs_syntax.specs.KeyValues.{scope_of, key_values}
 use Rattle.pgs_syntax.specs.Least.{IsLeast}
 use Rattle.pgs_syntax.specs.Typed.{is_typed_node, is_typed_edge}
 use Rattle.pgs_syntax.proofs.InOrder.{scope_ascends, values_ascend}
-use Rattle.pgs_syntax.proofs.Members.{contains_first, contains_later, contains_cases, contains_none, kept_found, kept_given, first_given, is_less, all_above, never_itself, one_least, found_least, least_found, among, is_among}
+use Rattle.pgs_syntax.proofs.Members.{contains_first, contains_later, contains_cases, contains_none, kept_found, kept_given, first_given, is_less, never_itself, one_least, first_least, found_least, least_found, among, is_among}
 use Rattle.pgs_violation.specs.declared.violation.Violation.{Violation}
 use Rattle.pgs_violation.specs.declared.violation.Violation.TheVariants.{UntypedNode, UntypedEdge, Mandatory, Singleton, Exclusive}
 use Rattle.pgs_violation.specs.Meaning.{IsUntypedNode, IsUntypedEdge, IsKeyOf, LacksValue, IsLaterValue, HasTwoLeast, IsShared, IsLaterSharer, SharesLeast}
@@ -70,19 +70,12 @@ least_same x there back least = record { is = there x least.is; others_after = �
 abbrev After : List (List Part) → List Part → List Part → Type 0
 After tuples first tuple = Contains tuples tuple × (tuple_cmp first tuple ≡ Less)
 
-first_least : (a : List Part) (rest : List (List Part)) → ascends tuple_cmp (a ∷ rest) ≡ true → IsLeast tuple_cmp (Contains (a ∷ rest)) a
-first_least a rest order = record {
-  is = contains_first a rest;
-  others_after = λ y h.
-      ⊎_elim (λ own. inl (sym own)) (λ later. inr (all_above tuple_cmp_total a rest y (and_parts _ _ order).0 later)) (contains_cases a rest y h);
-}
-
 second_least : (a b : List Part) (rest : List (List Part)) → ascends tuple_cmp (a ∷ b ∷ rest) ≡ true → IsLeast tuple_cmp (After (a ∷ b ∷ rest) a) b
 second_least a b rest order = record {
   is = (contains_later a (b ∷ rest) b (contains_first b rest), is_less _ (and_parts _ _ (and_parts _ _ order).0).0);
   others_after = λ y h.
       ⊎_elim (λ own. absurd (never_itself tuple_cmp_total a (subst (λ z. tuple_cmp a z ≡ Less) (sym own) h.1)))
-      (λ later. (first_least b rest (and_parts _ _ order).1).others_after y later) (contains_cases a (b ∷ rest) y h.0);
+      (λ later. (first_least tuple_cmp_total b rest (and_parts _ _ order).1).others_after y later) (contains_cases a (b ∷ rest) y h.0);
 }
 
 module _ (n : ℕ) (e : Elem) where
@@ -96,7 +89,7 @@ module _ (n : ℕ) (e : Elem) where
       let other : b ≡ second = cc in (
         cc,
         cc,
-        subst (IsLeast tuple_cmp (Contains (a ∷ b ∷ rest))) one (first_least a (b ∷ rest) order),
+        subst (IsLeast tuple_cmp (Contains (a ∷ b ∷ rest))) one (first_least tuple_cmp_total a (b ∷ rest) order),
         subst (λ x. IsLeast tuple_cmp (After (a ∷ b ∷ rest) x) second) one
             (subst (IsLeast tuple_cmp (After (a ∷ b ∷ rest) a)) other (second_least a b rest order)),
       )
@@ -108,7 +101,7 @@ module _ (n : ℕ) (e : Elem) where
       let only : (y : List Part) → Contains (a ∷ []) y → a ≡ y = λ y h. ⊎_elim (λ own. own) (λ none. absurd (contains_none y none)) (contains_cases a [] y h) in
       absurd (never_itself tuple_cmp_total first (subst (λ z. tuple_cmp first z ≡ Less) (sym (only second later.is.0) ∙ only first least.is) later.is.1))
   two_given (a ∷ b ∷ rest) order first second least later =
-      let one : a ≡ first = one_least tuple_cmp_total a first (first_least a (b ∷ rest) order) least in
+      let one : a ≡ first = one_least tuple_cmp_total a first (first_least tuple_cmp_total a (b ∷ rest) order) least in
       let other : b ≡ second =
       one_least tuple_cmp_total b second (subst (λ x. IsLeast tuple_cmp (After (a ∷ b ∷ rest) x) b) one (second_least a b rest order)) later in
       λ i. Some (Singleton n e (one i) (other i))

@@ -1,5 +1,4 @@
 pub mod Carried
-pub mod Computed
 pub mod FirstOf
 pub mod InOrder
 pub mod Origins

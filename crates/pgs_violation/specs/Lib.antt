@@ -1,7 +1,9 @@
 pub mod Decision
+pub mod KeySamples
 pub mod Meaning
 pub mod Samples
 pub mod Staging
+pub mod StagingSamples
 pub mod Standing
 pub mod StandingLaws
 pub mod Violations

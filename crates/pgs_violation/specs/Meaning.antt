@@ -51,7 +51,8 @@ IsShared resolved g key first second tuple =
 -- an element of the scope comes after another one and shares some key value with it
 abbrev pub IsLaterSharer : Resolved → Graph → Key → Elem → Elem → Type 0
 IsLaterSharer resolved g key first second =
-    Contains (scope_of resolved g key) second × (elem_cmp first second ≡ Less) × ((tuple : List Part) × IsShared resolved g key first second tuple)
+    Contains (scope_of resolved g key) second × (elem_cmp first second ≡ Less)
+    × ((tuple : List Part) × IsShared resolved g key first second tuple)
 
 -- 29: the first element is in an exclusive key's scope, the second is the least later one that shares a key value with it, and
 -- the tuple is the least that the two share

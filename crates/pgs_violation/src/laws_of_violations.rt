@@ -8,9 +8,13 @@ ghost use Rattle.pgs_base.specs.declared.element.Elem.{Elem};
 ghost use Rattle.pgs_base.specs.declared.part.Part.{Part};
 ghost use Rattle.pgs_base.specs.Graph.{Graph, is_graph};
 ghost use Rattle.pgs_syntax.specs.declared.resolved.Resolved.{Resolved};
+ghost use Rattle.pgs_syntax.specs.Least.{IsLeast};
+ghost use Rattle.pgs_violation.specs.declared.violation.Verdict.TheVariants.{Refused};
+ghost use Rattle.pgs_violation.specs.declared.violation.Violation.{Violation};
 ghost use Rattle.pgs_violation.specs.declared.violation.Violation.TheVariants.{UntypedNode, UntypedEdge, Mandatory, Singleton, Exclusive};
 ghost use Rattle.pgs_violation.specs.Meaning.{IsUntypedNode, IsUntypedEdge, LacksValue, HasTwoLeast, SharesLeast};
-ghost use Rattle.pgs_violation.specs.Violations.{violations};
+ghost use Rattle.pgs_violation.specs.Standing.{violation_cmp};
+ghost use Rattle.pgs_violation.specs.Violations.{violations, verdict};
 
 /// A 25 stands for exactly the nodes that aren't typed, and a 26 for exactly the edges that aren't, where the guard is strict.
 pub fn untyped_elements_are_listed()
@@ -38,4 +42,10 @@ pub fn two_least_values_are_listed()
 pub fn least_sharers_are_listed()
     ensures { (resolved : Resolved) (g : Graph) (number : ℕ) (first second : Elem) (tuple : List Part) → is_graph g ≡ true →
         Contains (violations resolved g) (Exclusive number first second tuple) ↔ SharesLeast resolved g number first second tuple }
+{}
+
+/// The verdict on a graph names the least of its violations.
+pub fn the_verdict_names_the_least_violation()
+    ensures { (resolved : Resolved) (g : Graph) (violation : Violation) → is_graph g ≡ true →
+        (verdict resolved g ≡ Refused violation) ↔ IsLeast violation_cmp (Contains (violations resolved g)) violation }
 {}

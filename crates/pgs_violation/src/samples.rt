@@ -1,20 +1,23 @@
-//! What the definitions say of small graphs and transactions, which stand in `specs/Samples.antt`. The functions do nothing;
-//! their contracts are the statements.
+//! What the definitions say of small graphs and transactions, which stand in `specs/Samples.antt`,
+//! `specs/StagingSamples.antt` and `specs/KeySamples.antt`. The functions do nothing; their contracts are the statements.
 
-ghost use Rattle.std.specs.Prelude.{◌≡◌, [], ◌∷◌, Ok, Err, pos, codes};
+ghost use Rattle.std.specs.Prelude.{◌≡◌, true, false, [], ◌∷◌, Ok, Err, pos, codes};
 ghost use Rattle.pgs_base.specs.declared.part.Part.TheVariants as parts;
 ghost use Rattle.pgs_base.specs.declared.value.Value.TheVariants.{Text, Int};
 ghost use Rattle.pgs_base.specs.Graph.{empty_graph};
 ghost use Rattle.pgs_syntax.specs.KeySamples.{the_node, one_text, mails, mail, two_persons};
-ghost use Rattle.pgs_syntax.specs.Samples.{acquaintance, acquainted, two_steps, steps_to, moderator, forum, by_n4, by_n5, keyed};
+ghost use Rattle.pgs_syntax.specs.MatchSamples.{the_edge, next_node, edge_key, valued_edges};
+ghost use Rattle.pgs_syntax.specs.Samples.{qualifiers, acquaintance, acquainted, two_steps, steps_to, moderator, forum, by_n4, by_n5, keyed};
 ghost use Rattle.pgs_violation.specs.declared.rejection.Rejection.TheVariants as rejections;
-ghost use Rattle.pgs_violation.specs.declared.structural.Cause.TheVariants.{NoNode, NoEdge, HasEdges};
+ghost use Rattle.pgs_violation.specs.declared.structural.Cause.TheVariants.{AlreadyThere, NoNode, NoEdge, HasEdges};
 ghost use Rattle.pgs_violation.specs.declared.structural.Structural.TheVariants.{TooManyOps, BadOp, ElementTooLarge, TooManyElements};
 ghost use Rattle.pgs_violation.specs.declared.violation.Verdict.TheVariants.{Conforms};
 ghost use Rattle.pgs_violation.specs.declared.violation.Violation.TheVariants.{UntypedNode, UntypedEdge, Mandatory, Singleton, Exclusive};
 ghost use Rattle.pgs_violation.specs.Decision.{decisions};
+ghost use Rattle.pgs_violation.specs.KeySamples.{three_with, three_values, later_sharer, each_kind, each_kind_twice};
 ghost use Rattle.pgs_violation.specs.Samples.{limits, tight, txn, add_node, add_edge, remove_node, detach_node, remove_edge, set_mail, unset, add_two_persons, one_mail, lone, looped, many_labels};
 ghost use Rattle.pgs_violation.specs.Staging.{staged};
+ghost use Rattle.pgs_violation.specs.StagingSamples.{many_props, add_node_with, add_edge_with, set_node, set_edge, label_node, label_edge, loop_with, two_ways};
 ghost use Rattle.pgs_violation.specs.Violations.{violations, verdict};
 
 /// Only the graph after all operations is judged: one change of a mail is refused, since it makes two equal, and the
@@ -57,7 +60,8 @@ pub fn shared_value()
 /// A node is added with an edge at it. It is then not removed by itself, but with its edge.
 pub fn nodes_with_edges()
     ensures added { staged limits empty_graph (txn (add_node 1 [] ∷ add_edge 1 1 1 (codes "knows") ∷ [])) ≡ Ok looped }
-    ensures removal_refused { staged limits looped (txn (remove_node 1 ∷ [])) ≡ Err (BadOp 1 (HasEdges (record { 0 = 1 }) (record { 0 = 1 }))) }
+    ensures removal_refused { staged limits looped (txn (remove_node 1 ∷ []))
+        ≡ Err (BadOp 1 (HasEdges (record { 0 = 1 }) (record { 0 = 1 }))) }
     ensures detachment { staged limits looped (txn (detach_node 1 ∷ [])) ≡ Ok empty_graph }
 {}
 
@@ -71,7 +75,8 @@ pub fn limits_of_transactions()
 
 /// Elements that aren't there.
 pub fn absent_elements()
-    ensures edge_without_node { staged limits empty_graph (txn (add_edge 1 1 1 (codes "knows") ∷ [])) ≡ Err (BadOp 1 (NoNode (record { 0 = 1 }))) }
+    ensures edge_without_node { staged limits empty_graph (txn (add_edge 1 1 1 (codes "knows") ∷ []))
+        ≡ Err (BadOp 1 (NoNode (record { 0 = 1 }))) }
     ensures absent_edge { staged limits empty_graph (txn (remove_edge 7 ∷ [])) ≡ Err (BadOp 1 (NoEdge (record { 0 = 7 }))) }
 {}
 
@@ -79,5 +84,92 @@ pub fn absent_elements()
 pub fn one_after_another()
     ensures added_again { staged limits empty_graph (txn (add_node 1 (codes "A" ∷ []) ∷ remove_node 1 ∷ add_node 1 (codes "B" ∷ []) ∷ []))
         ≡ Ok (lone (codes "B" ∷ []) []) }
-    ensures set_and_unset { staged limits (lone [] []) (txn (set_mail 1 (codes "a") ∷ unset 1 (codes "name") ∷ [])) ≡ Ok (lone [] (mail (codes "a"))) }
+    ensures set_and_unset { staged limits (lone [] []) (txn (set_mail 1 (codes "a") ∷ unset 1 (codes "name") ∷ []))
+        ≡ Ok (lone [] (mail (codes "a"))) }
+{}
+
+/// An element that is there isn't added again.
+pub fn elements_that_are_there()
+    ensures node { staged limits looped (txn (add_node 1 [] ∷ [])) ≡ Err (BadOp 1 (AlreadyThere (the_node 1))) }
+    ensures edge { staged limits looped (txn (add_node 2 [] ∷ add_edge 1 1 2 (codes "knows") ∷ []))
+        ≡ Err (BadOp 2 (AlreadyThere (the_edge 1))) }
+{}
+
+/// Adding an edge tests the edge's own number first, then the source, then the target.
+pub fn order_of_an_edges_tests()
+    ensures number { staged limits looped (txn (add_edge 1 8 9 (codes "knows") ∷ [])) ≡ Err (BadOp 1 (AlreadyThere (the_edge 1))) }
+    ensures source { staged limits looped (txn (add_edge 2 8 9 (codes "knows") ∷ [])) ≡ Err (BadOp 1 (NoNode (record { 0 = 8 }))) }
+    ensures target { staged limits looped (txn (add_edge 2 1 9 (codes "knows") ∷ [])) ≡ Err (BadOp 1 (NoNode (record { 0 = 9 }))) }
+{}
+
+/// In one operation what can't be done goes before what would be too large. Of several operations the first at fault counts.
+pub fn causes_before_sizes()
+    ensures node_there { staged limits looped (txn (add_node 1 (many_labels 65) ∷ [])) ≡ Err (BadOp 1 (AlreadyThere (the_node 1))) }
+    ensures no_source { staged limits looped (txn (add_edge_with 2 8 1 (many_labels 65) ∷ [])) ≡ Err (BadOp 1 (NoNode (record { 0 = 8 }))) }
+    ensures no_target { staged limits looped (txn (add_edge_with 2 1 9 (many_labels 65) ∷ [])) ≡ Err (BadOp 1 (NoNode (record { 0 = 9 }))) }
+    ensures size_first { staged limits looped (txn (add_node 2 (many_labels 65) ∷ remove_edge 7 ∷ [])) ≡ Err (ElementTooLarge 1) }
+{}
+
+/// An element with as many labels as it may have, and one label more or one that is there.
+pub fn sizes_by_labelling()
+    ensures new_label { staged limits (lone (many_labels 64) []) (txn (label_node 1 (codes "M") ∷ [])) ≡ Err (ElementTooLarge 1) }
+    ensures same_label { staged limits (lone (many_labels 64) []) (txn (label_node 1 (codes "L63") ∷ [])) ≡ Ok (lone (many_labels 64) []) }
+    ensures of_edge { staged limits (loop_with (many_labels 64) []) (txn (label_edge 1 (codes "M") ∷ [])) ≡ Err (ElementTooLarge 1) }
+{}
+
+/// An element with as many properties as it may have, and one property more or one that is there.
+pub fn sizes_by_setting()
+    ensures new_key { staged limits (lone [] (many_props 256)) (txn (set_node 1 (codes "m") ∷ [])) ≡ Err (ElementTooLarge 1) }
+    ensures same_key { staged limits (lone [] (many_props 256)) (txn (set_node 1 (codes "kaa") ∷ [])) ≡ Ok (lone [] (many_props 256)) }
+    ensures of_edge { staged limits (loop_with [] (many_props 256)) (txn (set_edge 1 (codes "m") ∷ [])) ≡ Err (ElementTooLarge 1) }
+{}
+
+/// A node is added with as many properties as it may have, and not with one more.
+pub fn limits_of_properties()
+    ensures most { staged limits empty_graph (txn (add_node_with 1 (many_props 256) ∷ [])) ≡ Ok (lone [] (many_props 256)) }
+    ensures one_more { staged limits empty_graph (txn (add_node_with 1 (many_props 257) ∷ [])) ≡ Err (ElementTooLarge 1) }
+{}
+
+/// Of the edges that are in the way of a removal the least is named, whether the node is its source or its target.
+pub fn edges_in_the_way()
+    ensures least { staged limits two_ways (txn (remove_node 1 ∷ [])) ≡ Err (BadOp 1 (HasEdges (record { 0 = 1 }) (record { 0 = 2 }))) }
+    ensures next { staged limits two_ways (txn (remove_edge 2 ∷ remove_node 1 ∷ []))
+        ≡ Err (BadOp 2 (HasEdges (record { 0 = 1 }) (record { 0 = 5 }))) }
+{}
+
+/// An element with three key values: the two least are named.
+pub fn three_values_of_one()
+    ensures { violations (keyed (next_node (qualifiers false true false) (codes "r") ∷ [])) (three_with three_values)
+        ≡ Singleton 1 (the_node 1) (parts.Elem (the_node 7) ∷ []) (parts.Elem (the_node 8) ∷ []) ∷ [] }
+{}
+
+/// Two elements share two tuples, and the first of them shares none with the element between: the later one is named, with the
+/// least tuple.
+pub fn a_later_sharer()
+    ensures { violations (keyed (next_node (qualifiers false false true) (codes "r") ∷ [])) (three_with later_sharer)
+        ≡ Exclusive 1 (the_node 1) (the_node 3) (parts.Elem (the_node 8) ∷ []) ∷ [] }
+{}
+
+/// The violations of one key go by their numbers.
+pub fn violations_of_one_key()
+    ensures { violations (keyed (next_node (qualifiers true true true) (codes "r") ∷ [])) (three_with each_kind)
+        ≡ Mandatory 1 (the_node 1) ∷ Singleton 1 (the_node 2) (parts.Elem (the_node 7) ∷ []) (parts.Elem (the_node 8) ∷ [])
+        ∷ Exclusive 1 (the_node 2) (the_node 3) (parts.Elem (the_node 8) ∷ []) ∷ [] }
+{}
+
+/// All violations of the first key go before those of the second.
+pub fn violations_of_two_keys()
+    ensures { violations
+        (keyed (next_node (qualifiers true true true) (codes "r") ∷ next_node (qualifiers true true true) (codes "s") ∷ []))
+        (three_with each_kind_twice)
+        ≡ Mandatory 1 (the_node 1) ∷ Singleton 1 (the_node 2) (parts.Elem (the_node 7) ∷ []) (parts.Elem (the_node 8) ∷ [])
+        ∷ Exclusive 1 (the_node 2) (the_node 3) (parts.Elem (the_node 8) ∷ [])
+        ∷ Mandatory 2 (the_node 1) ∷ Singleton 2 (the_node 2) (parts.Elem (the_node 7) ∷ []) (parts.Elem (the_node 8) ∷ [])
+        ∷ Exclusive 2 (the_node 2) (the_node 3) (parts.Elem (the_node 8) ∷ []) ∷ [] }
+{}
+
+/// Edges as the elements of a key.
+pub fn violations_of_edges()
+    ensures { violations (keyed (edge_key (qualifiers true true true) ∷ [])) valued_edges
+        ≡ Mandatory 1 (the_edge 3) ∷ Exclusive 1 (the_edge 1) (the_edge 2) (parts.Value (Int (pos 5)) ∷ []) ∷ [] }
 {}

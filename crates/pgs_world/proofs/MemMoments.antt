@@ -1,49 +1,42 @@
 -- What a world in memory says of stops, from one state to the next.
-use Rattle.std.proofs.Common.{◌≡◌, ◌⊎◌, inl, inr, ⊎_elim, ℕ, zero, suc, ◌≤◌, List, [], ◌∷◌, ◌++◌, length, drop, refl, sym, subst, arith, length-append}
+use Rattle.std.proofs.Common.{◌≡◌, ◌⊎◌, inl, inr, ⊎_elim, ℕ, ◌≤◌, ◌<◌, List, [], ◌∷◌, ◌++◌, length, refl, sym, subst, arith}
 use Rattle.std.proofs.lemmas.List.{append-nil}
 use Rattle.pgs_world.specs.declared.area.Area.{Area}
 use Rattle.pgs_world.specs.declared.area.Area.TheVariants.{A, B}
 use Rattle.pgs_world.specs.declared.meter.Meter.{Meter}
+use Rattle.pgs_world.specs.Count.{Rose, raised}
 use Rattle.pgs_world.specs.World.{Triple, part}
 use Rattle.pgs_world.specs.Disk.{IsTorn, IsCutShort, IsSameBeside, Writes, Cuts, Puts}
 use Rattle.pgs_world.specs.Moment.{Passes, StopsBy, IsQuiet, ShowsOne, IsSynced}
 use Rattle.pgs_world.specs.Held.{Held, IsImage, after_write, after_cut, on_disk}
-use Rattle.pgs_world.specs.MemWorld.{State, Kept, Leaves, HadLeft, IsWellState, view_of, area_of, with_area, with_output, shown_of, timed_kept, unchanged, changed}
+use Rattle.pgs_world.specs.MemWorld.{State, Past, Kept, Leaves, HadLeft, Since, after_all, IsWellState, view_of, area_of, with_area, with_output, shown_of, timed_kept, unchanged, changed}
+use Rattle.pgs_world.proofs.Pushes.{after_all-push}
 use Rattle.pgs_world.proofs.Images.{torn_from, short_from, only_image, well-on_disk, well-after_write, well-after_cut}
 
-had_push : (past : List State) (s : State) (c : Triple) → HadLeft past c → HadLeft (past ++ s ∷ []) c
-had_push [] s c had = absurd had
-had_push (p ∷ past) s c (inl here) = inl here
-had_push (p ∷ past) s c (inr there) = inr (had_push past s c there)
+had_push : (t : ℕ) (past : List Past) (p : Past) (c : Triple) → HadLeft t past c → HadLeft t (past ++ p ∷ []) c
+had_push t [] p c had = absurd had
+had_push t (q ∷ past) p c (inl here) = inl here
+had_push t (q ∷ past) p c (inr there) = inr (had_push t past p c there)
 
-had_newest : (past : List State) (s : State) (c : Triple) → Leaves s c → HadLeft (past ++ s ∷ []) c
-had_newest [] s c here = inl here
-had_newest (p ∷ past) s c here = inr (had_newest past s c here)
+had_newest : (t : ℕ) (past : List Past) (p : Past) (c : Triple) → t ≤ p.moment → Leaves p.state c → HadLeft t (past ++ p ∷ []) c
+had_newest t [] p c le here = inl (le, here)
+had_newest t (q ∷ past) p c le here = inr (had_newest t past p c le here)
 
-had_adds : (past : List State) (s : State) (c : Triple) → HadLeft (past ++ s ∷ []) c → HadLeft past c ⊎ Leaves s c
-had_adds [] s c (inl here) = inr here
-had_adds [] s c (inr none) = absurd none
-had_adds (p ∷ past) s c (inl here) = inl (inl here)
-had_adds (p ∷ past) s c (inr there) = ⊎_elim (λ had. inl (inr had)) (λ new. inr new) (had_adds past s c there)
+had_adds : (t : ℕ) (past : List Past) (p : Past) (c : Triple) → HadLeft t (past ++ p ∷ []) c → HadLeft t past c ⊎ Leaves p.state c
+had_adds t [] p c (inl here) = inr here.1
+had_adds t [] p c (inr none) = absurd none
+had_adds t (q ∷ past) p c (inl here) = inl (inl here)
+had_adds t (q ∷ past) p c (inr there) = ⊎_elim (λ had. inl (inr had)) (λ new. inr new) (had_adds t past p c there)
 
-drop_push : (t : ℕ) (past : List State) (s : State) → t ≤ length past → drop t (past ++ s ∷ []) ≡ drop t past ++ s ∷ []
-drop_push zero past s le = refl
-drop_push (suc t) [] s le = absurd (omega arith)
-drop_push (suc t) (p ∷ past) s le = drop_push t past s (omega arith)
+-- what a stop since some moment may have left, in the changed state or before it
+pub since_push : (past : List Past) (was : Past) (s : State) (t : ℕ) (c : Triple) → Since s (past ++ was ∷ []) t c → Since was.state past t c ⊎ Leaves s c
+since_push past was s t c (inl here) = inr here
+since_push past was s t c (inr had) = inl (⊎_elim (λ was. inr was) (λ new. inl new) (had_adds t past was c had))
 
-abbrev Since : State → List State → ℕ → Triple → Type 0
-Since now past t c = Leaves now c ⊎ HadLeft (drop t past) c
+pub past_push : (past : List Past) (was : Past) (s : State) (t : ℕ) (c : Triple) → t ≤ was.moment → Since was.state past t c → Since s (past ++ was ∷ []) t c
+past_push past was s t c le left = inr (⊎_elim (had_newest t past was c le) (had_push t past was c) left)
 
-pub since_push : (past : List State) (now s : State) (t : ℕ) (c : Triple) → t ≤ length past → Since s (past ++ now ∷ []) t c → Since now past t c ⊎ Leaves s c
-since_push past now s t c le (inl here) = inr here
-since_push past now s t c le (inr had) =
-    inl (⊎_elim (λ was. inr was) (λ new. inl new) (had_adds (drop t past) now c (subst (λ (l : List State). HadLeft l c) (drop_push t past now le) had)))
-
-past_push : (past : List State) (now s : State) (t : ℕ) (c : Triple) → t ≤ length past → Since now past t c → Since s (past ++ now ∷ []) t c
-past_push past now s t c le left =
-    inr (subst (λ (l : List State). HadLeft l c) (sym (drop_push t past now le)) (⊎_elim (had_newest (drop t past) now c) (had_push (drop t past) now c) left))
-
-module _ (world : Kept) (meter : Meter) (area : world.meter.area_faults ≤ meter.area_faults) (put : world.meter.put_faults ≤ meter.put_faults) where
+module _ (world : Kept) (meter : Meter) (area : world.meter.area_faults ≤ meter.area_faults) (put : world.meter.put_faults ≤ meter.put_faults) (puts : world.meter.puts ≤ meter.puts) (calls : world.meter.calls ≤ meter.calls) where
   pub quiet-unchanged : IsQuiet (view_of world) (view_of (unchanged world meter))
   quiet-unchanged =
       record {
@@ -54,6 +47,7 @@ module _ (world : Kept) (meter : Meter) (area : world.meter.area_faults ≤ mete
           later = omega arith;
           area_faults = area;
           put_faults = put;
+          puts = puts;
           since = λ t c le left. inl left;
           past = λ t c le left. left;
           timed = timed_kept (unchanged world meter);
@@ -62,25 +56,33 @@ module _ (world : Kept) (meter : Meter) (area : world.meter.area_faults ≤ mete
         stops = λ honest c left. (timed_kept world).only_now c left;
       }
 
-  pub passes-changed : (state : State) → Passes (view_of world) (view_of (changed world meter state))
-  passes-changed state =
+  pub passes-changed : (state : State) → after_all world.past ≤ world.meter.calls → world.meter.calls < meter.calls → Passes (view_of world) (view_of (changed world meter state))
+  passes-changed state last next =
       record {
         honest = refl;
         tells_bytes = refl;
         tells_output = refl;
-        later = omega (arith, length-append world.past (world.now ∷ []));
+        later = omega (arith, after_all-push world.past (record { moment = world.meter.calls; state = world.now }), last, next);
         area_faults = area;
         put_faults = put;
-        since = λ t c le left. ⊎_elim (λ was. inl was) (λ new. inr (inl new)) (since_push world.past world.now state t c le left);
-        past = λ t c le left. past_push world.past world.now state t c le left;
+        puts = puts;
+        since = λ t c le left. ⊎_elim (λ was. inl was) (λ new. inr (inl new)) (since_push world.past (record { moment = world.meter.calls; state = world.now }) state t c left);
+        past = λ t c le left. past_push world.past (record { moment = world.meter.calls; state = world.now }) state t c (omega (arith, le, last)) left;
         timed = timed_kept (changed world meter state);
       }
+
+-- a call that is counted comes to a later moment
+pub rises-unchanged : (world : Kept) (meter : Meter) → after_all world.past ≤ world.meter.calls → meter.calls ≡ raised world.meter.calls → Rose (view_of world).moment (view_of (unchanged world meter)).moment
+rises-unchanged world meter last is = omega (arith, last, is)
+
+pub rises-changed : (world : Kept) (meter : Meter) (state : State) → after_all world.past ≤ world.meter.calls → world.meter.calls < meter.calls → Rose (view_of world).moment (view_of (changed world meter state)).moment
+rises-changed world meter state last next = omega (arith, last, next)
 
 -- each triple since the change comes by the step from one before it
 pub stops-changed : (world : Kept) (meter : Meter) (state : State) (step : Triple → Triple → Type 0) → ((c : Triple) → step c c) → ((c : Triple) → Leaves state c → (d : Triple) × Leaves world.now d × step d c)
     → StopsBy step (view_of world) (view_of (changed world meter state))
 stops-changed world meter state step same from honest c left =
-    ⊎_elim (λ was. (c, (timed_kept world).only_now c was, same c)) (from c) (since_push world.past world.now state (length world.past) c (omega arith) left)
+    ⊎_elim (λ was. (c, (timed_kept world).only_now c was, same c)) (from c) (since_push world.past (record { moment = world.meter.calls; state = world.now }) state (view_of world).moment c left)
 
 -- what was only read is a step that does nothing
 pub stops-unchanged : (world : Kept) (meter : Meter) (step : Triple → Triple → Type 0) → ((c : Triple) → step c c) → StopsBy step (view_of world) (view_of (unchanged world meter))

@@ -3,7 +3,7 @@ use Rattle.std.proofs.Common.{◌≡◌, ◌⊎◌, inl, inr, ⊎_elim, ℕ, ◌
 use Rattle.std.specs.Option.{option_map}
 use Rattle.pgs_world.specs.declared.area.Area.{Area}
 use Rattle.pgs_world.specs.declared.area.Area.TheVariants.{A, B}
-use Rattle.pgs_world.specs.World.{Triple, View, part, output_of, Adds}
+use Rattle.pgs_world.specs.World.{Triple, View, part, other, output_of, Adds}
 use Rattle.pgs_world.specs.Disk.{IsSameBeside, Puts}
 use Rattle.pgs_world.specs.Moment.{IsTimed, Passes, StopsBy, EachSince, IsQuiet, IsSynced, IsSettled}
 
@@ -17,6 +17,7 @@ passes_none view timed =
       later = omega arith;
       area_faults = omega arith;
       put_faults = omega arith;
+      puts = omega arith;
       since = λ t c le left. inl left;
       past = λ t c le left. left;
       timed = timed;
@@ -32,6 +33,7 @@ passes_on old mid new p q =
       later = omega (arith, p.later, q.later);
       area_faults = omega (arith, p.area_faults, q.area_faults);
       put_faults = omega (arith, p.put_faults, q.put_faults);
+      puts = omega (arith, p.puts, q.puts);
       since = λ t c le left. ⊎_elim (earlier t c le) (λ now. inr (q.timed.earlier old.moment mid.moment c p.later now)) (q.since t c (omega (arith, le, p.later)) left);
       past = λ t c le left. q.past t c (omega (arith, le, p.later)) (p.past t c le left);
       timed = q.timed;
@@ -56,11 +58,11 @@ each_weaker old new P Q follows each c left = follows c (each c left)
 pub each_now : (old new : View) (P : Triple → Type 0) → Passes old new → EachSince P old new → (c : Triple) → new.may_leave c → P c
 each_now old new P p each c left = each c (p.timed.now old.moment c p.later left)
 
--- a call on a settled world does its step to what was shown
-pub each_settled : (old new : View) (step : Triple → Triple → Type 0) → IsSettled old → StopsBy step old new → EachSince (step old.shown) old new
+-- a call on a settled world does its step to a triple whose areas are the shown ones
+pub each_settled : (old new : View) (step : Triple → Triple → Type 0) → IsSettled old → StopsBy step old new → EachSince (λ c. (d : Triple) × (d.a ≡ old.shown.a) × (d.b ≡ old.shown.b) × step d c) old new
 each_settled old new step settled stops c left =
     let from = stops settled.honest c left in
-    subst (λ d. step d c) (settled.only from.0 from.1) from.2
+    (from.0, settled.a from.0 from.1, settled.b from.0 from.1, from.2)
 
 -- a call does its step to one of the triples with P that a stop could leave at its start
 pub each_step : (old new : View) (step : Triple → Triple → Type 0) (P Q : Triple → Type 0) → IsTrue old.honest → ((d : Triple) → old.may_leave d → P d) → ((d c : Triple) → P d → step d c → Q c) → StopsBy step old new → EachSince Q old new
@@ -99,14 +101,18 @@ quiet_stops old mid new step same quiet p stops honest c left =
         let from = stops (quiet.passes.honest ∙ honest) c now in
         (from.0, quiet.stops honest from.0 (quiet.passes.timed.now old.moment from.0 quiet.passes.later from.1), from.2)
 
+-- what a stop may leave after a call that only reads, it could leave before
+pub quiet_now : (old new : View) → IsQuiet old new → IsTrue old.honest → (c : Triple) → new.may_leave c → old.may_leave c
+quiet_now old new quiet honest c left = quiet.stops honest c (quiet.passes.timed.now old.moment c quiet.passes.later left)
+
 -- a settled world stays settled where it is only read
 pub settled_quiet : (old new : View) → IsSettled old → IsQuiet old new → IsSettled new
 settled_quiet old new s quiet =
     record {
       honest = quiet.passes.honest ∙ s.honest;
       tells_bytes = quiet.passes.tells_bytes ∙ s.tells_bytes;
-      tells_output = quiet.passes.tells_output ∙ s.tells_output;
-      only = λ c left. s.only c (quiet.stops s.honest c (quiet.passes.timed.now old.moment c quiet.passes.later left)) ∙ sym quiet.shown;
+      a = λ c left. s.a c (quiet_now old new quiet s.honest c left) ∙ ap (λ (t : Triple). t.a) (sym quiet.shown);
+      b = λ c left. s.b c (quiet_now old new quiet s.honest c left) ∙ ap (λ (t : Triple). t.b) (sym quiet.shown);
     }
 
 -- triples with the same parts are the same
@@ -117,20 +123,19 @@ pub same_triple : (c d : Triple) → c.a ≡ d.a → c.b ≡ d.b → c.output �
 same_triple c d a b output =
     ap (λ x. triple_of x c.b c.output) a ∙ ap (λ y. triple_of d.a y c.output) b ∙ ap (λ z. triple_of d.a d.b z) output
 
--- what beside an area is the same in one triple and another, and the area too, makes them the same
-pub same_with_area : (area : Area) (c d : Triple) → part area c ≡ part area d → IsSameBeside area d c → c ≡ d
-same_with_area A c d is same = same_triple c d is same.beside same.output
-same_with_area B c d is same = same_triple c d same.beside is same.output
-
 -- both areas synced
-pub settled_synced : (view : View) → IsTimed view → IsTrue view.honest → IsTrue view.tells_bytes → IsTrue view.tells_output → IsSynced A view → IsSynced B view → IsSettled view
-settled_synced view timed honest bytes output a b =
-    record {
-      honest = honest;
-      tells_bytes = bytes;
-      tells_output = output;
-      only = λ c left. same_triple c view.shown (a honest bytes c left) (b honest bytes c left) (timed.output honest output c left);
-    }
+pub settled_synced : (view : View) → IsTrue view.honest → IsTrue view.tells_bytes → IsSynced A view → IsSynced B view → IsSettled view
+settled_synced view honest bytes a b = record { honest = honest; tells_bytes = bytes; a = a honest bytes; b = b honest bytes }
+
+-- on a settled world each area is synced
+pub synced_settled : (area : Area) (view : View) → IsSettled view → IsSynced area view
+synced_settled A view s honest bytes = s.a
+synced_settled B view s honest bytes = s.b
+
+-- where one area and the other are synced, nothing is pending
+pub settled_of : (area : Area) (view : View) → IsTrue view.honest → IsTrue view.tells_bytes → IsSynced area view → IsSynced (other area) view → IsSettled view
+settled_of A view honest bytes one two = settled_synced view honest bytes one two
+settled_of B view honest bytes one two = settled_synced view honest bytes two one
 
 -- an area that was synced stays so where the world is only read
 pub synced_quiet : (area : Area) (old new : View) → IsQuiet old new → IsSynced area old → IsSynced area new
@@ -141,24 +146,12 @@ synced_quiet area old new quiet synced honest bytes c left =
 -- a step of one area from a settled world, and then a sync of that area
 pub settled_step : (area : Area) (old mid new : View) (step : Triple → Triple → Type 0) → ((d c : Triple) → step d c → IsSameBeside area d c) → IsSettled old → Passes old mid → StopsBy step old mid → IsSameBeside area old.shown mid.shown → IsQuiet mid new → IsSynced area new → IsSettled new
 settled_step area old mid new step same s p stops beside quiet synced =
-    record {
-      honest = honest;
-      tells_bytes = bytes;
-      tells_output = quiet.passes.tells_output ∙ (p.tells_output ∙ s.tells_output);
-      only = λ c left. same_with_area area c new.shown (synced honest bytes c left) (side c left);
-    }
+    settled_of area new (quiet.passes.honest ∙ (p.honest ∙ s.honest)) (quiet.passes.tells_bytes ∙ (p.tells_bytes ∙ s.tells_bytes)) synced (λ _ _ c left. side c left)
   where
-    honest : IsTrue new.honest
-    honest = quiet.passes.honest ∙ (p.honest ∙ s.honest)
-
-    bytes : IsTrue new.tells_bytes
-    bytes = quiet.passes.tells_bytes ∙ (p.tells_bytes ∙ s.tells_bytes)
-
-    side : (c : Triple) → new.may_leave c → IsSameBeside area new.shown c
+    side : (c : Triple) → new.may_leave c → part (other area) c ≡ part (other area) new.shown
     side c left =
         let was = stops_quiet old mid new step p stops quiet s.honest c (q.timed.now old.moment c q.later left) in
-        let first = subst (λ d. IsSameBeside area d c) (s.only was.0 was.1) (same was.0 c was.2) in
-        subst (λ t. IsSameBeside area t c) (sym quiet.shown) (record { beside = first.beside ∙ sym beside.beside; output = first.output ∙ sym beside.output })
+        (same was.0 c was.2).beside ∙ synced_settled (other area) old s s.honest s.tells_bytes was.0 was.1 ∙ sym beside.beside ∙ ap (λ t. part (other area) t) (sym quiet.shown)
       where
         q : Passes old new
         q = passes_on old mid new p quiet.passes
@@ -179,19 +172,11 @@ shown_added old new bytes tells still added =
 pub settled_put : (old new : View) (piece : List ℕ) → IsSettled old → Passes old new → StopsBy (Puts piece) old new → new.shown.a ≡ old.shown.a → new.shown.b ≡ old.shown.b → IsSettled new
 settled_put old new piece s p stops a b =
     record {
-      honest = honest;
+      honest = p.honest ∙ s.honest;
       tells_bytes = p.tells_bytes ∙ s.tells_bytes;
-      tells_output = output;
-      only = λ c left. only c left (stops s.honest c (p.timed.now old.moment c p.later left));
+      a = λ c left. let was = from c left in was.2.a ∙ s.a was.0 was.1 ∙ sym a;
+      b = λ c left. let was = from c left in was.2.b ∙ s.b was.0 was.1 ∙ sym b;
     }
   where
-    honest : IsTrue new.honest
-    honest = p.honest ∙ s.honest
-
-    output : IsTrue new.tells_output
-    output = p.tells_output ∙ s.tells_output
-
-    only : (c : Triple) → new.may_leave c → (d : Triple) × old.may_leave d × Puts piece d c → c ≡ new.shown
-    only c left from =
-        let was = s.only from.0 from.1 in
-        same_triple c new.shown (from.2.a ∙ ap (λ (d : Triple). d.a) was ∙ sym a) (from.2.b ∙ ap (λ (d : Triple). d.b) was ∙ sym b) (p.timed.output honest output c left)
+    from : (c : Triple) → new.may_leave c → (d : Triple) × old.may_leave d × Puts piece d c
+    from c left = stops s.honest c (p.timed.now old.moment c p.later left)

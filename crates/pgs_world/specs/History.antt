@@ -1,9 +1,10 @@
 -- The states of a world in memory, from its first contents and the calls that changed it.
 use Rattle.std.specs.Prelude.{ℕ, ◌+◌, List, [], ◌∷◌, ◌++◌, take, drop}
 use Rattle.pgs_world.specs.declared.mem_contents.Note.{Note}
+use Rattle.pgs_world.specs.declared.mem_contents.Noted.{Noted}
 use Rattle.pgs_world.specs.declared.mem_contents.Note.TheVariants.{Write, Cut, Sync, Put}
 use Rattle.pgs_world.specs.Held.{after_write, after_cut, on_disk}
-use Rattle.pgs_world.specs.MemWorld.{State, area_of, with_area, with_output}
+use Rattle.pgs_world.specs.MemWorld.{State, Past, area_of, with_area, with_output}
 
 -- how many bytes the call was handed
 abbrev pub taken_by : Note → ℕ
@@ -20,16 +21,17 @@ after_note (Sync area) piece state = with_area area (on_disk (area_of area state
 after_note (Put count) piece state = with_output (state.output ++ piece) state
 
 -- how many bytes the calls were handed
-abbrev pub all_taken : List Note → ℕ
+abbrev pub all_taken : List Noted → ℕ
 all_taken [] = 0
-all_taken (note ∷ notes) = taken_by note + all_taken notes
+all_taken (n ∷ notes) = taken_by n.note + all_taken notes
 
 -- the state after these calls, which were handed these bytes
-abbrev pub outcome : State → List Note → List ℕ → State
+abbrev pub outcome : State → List Noted → List ℕ → State
 outcome state [] pieces = state
-outcome state (note ∷ notes) pieces = outcome (after_note note (take (taken_by note) pieces) state) notes (drop (taken_by note) pieces)
+outcome state (n ∷ notes) pieces = outcome (after_note n.note (take (taken_by n.note) pieces) state) notes (drop (taken_by n.note) pieces)
 
 -- the states before each of them
-abbrev pub history : State → List Note → List ℕ → List State
+abbrev pub history : State → List Noted → List ℕ → List Past
 history state [] pieces = []
-history state (note ∷ notes) pieces = state ∷ history (after_note note (take (taken_by note) pieces) state) notes (drop (taken_by note) pieces)
+history state (n ∷ notes) pieces =
+    (record { moment = n.before; state = state }) ∷ history (after_note n.note (take (taken_by n.note) pieces) state) notes (drop (taken_by n.note) pieces)

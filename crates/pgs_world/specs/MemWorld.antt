@@ -1,5 +1,5 @@
 -- A world in memory: what it holds, what it held before each call that changed it, and its counts.
-use Rattle.std.specs.Prelude.{◌≡◌, ◌⊎◌, ℕ, suc, zero, Bool, true, ◌||◌, List, [], ◌∷◌, ◌++◌, length, drop, ◌+◌, ◌-◌, ◌^◌, ◌<◌, ◌≤◌, min, nat_lt, if◌then◌else◌}
+use Rattle.std.specs.Prelude.{◌≡◌, ◌⊎◌, ℕ, Bool, true, ◌||◌, List, [], ◌∷◌, ◌++◌, length, ◌+◌, ◌-◌, ◌^◌, ◌<◌, ◌≤◌, min, max, nat_lt, if◌then◌else◌}
 use Rattle.std.proofs.Common.{inl, inr, arith}
 use Rattle.pgs_world.specs.Count.{raised, is_listed}
 use Rattle.pgs_world.specs.Held.{Held, IsImage, IsWell, after_write, after_cut, on_disk}
@@ -35,14 +35,24 @@ pub record Leaves (state : State) (triple : Triple) : Type 0 where
   pub b : IsImage state.b triple.b
   pub output : triple.output ≡ state.output
 
--- what a stop in one of these states may have left
-abbrev pub HadLeft : List State → Triple → Type 0
-HadLeft [] triple = ⊥
-HadLeft (state ∷ past) triple = Leaves state triple ⊎ HadLeft past triple
+-- a state that is past, and the moment at which the call that changed it began
+pub record Past : Type 0 where
+  pub moment : ℕ
+  pub state : State
+
+-- what a stop since that moment may have left, in one of these states
+abbrev pub HadLeft : ℕ → List Past → Triple → Type 0
+HadLeft t [] triple = ⊥
+HadLeft t (was ∷ past) triple = ((t ≤ was.moment) × Leaves was.state triple) ⊎ HadLeft t past triple
+
+-- the first moment after all of them
+abbrev pub after_all : List Past → ℕ
+after_all [] = 0
+after_all (was ∷ past) = max (was.moment + 1) (after_all past)
 
 pub record Kept : Type 0 where
   -- the states before each call that changed it, in order
-  pub past : List State
+  pub past : List Past
   pub now : State
   pub meter : Meter
 
@@ -53,33 +63,32 @@ view_of world =
       tells_bytes = true;
       tells_output = true;
       shown = shown_of world.now;
-      moment = length world.past;
+      moment = max world.meter.calls (after_all world.past);
       area_faults = world.meter.area_faults;
       put_faults = world.meter.put_faults;
+      puts = world.meter.puts;
       may_leave = Leaves world.now;
-      left_since = λ t triple. Leaves world.now triple ⊎ HadLeft (drop t world.past) triple;
+      left_since = λ t triple. Leaves world.now triple ⊎ HadLeft t world.past triple;
     }
 
-none_left : (past : List State) (c : Triple) → HadLeft (drop (length past) past) c → ⊥
-none_left [] c had = had
-none_left (s ∷ past) c had = none_left past c had
+none_left : (t : ℕ) (past : List Past) (c : Triple) → after_all past ≤ t → HadLeft t past c → ⊥
+none_left t [] c after had = had
+none_left t (was ∷ past) c after (inl here) = absurd (omega (arith, here.0))
+none_left t (was ∷ past) c after (inr there) = none_left t past c (omega arith) there
 
-had_in_front : (t : ℕ) (past : List State) (c : Triple) → HadLeft (drop t past) c → HadLeft past c
-had_in_front zero past c had = had
-had_in_front (suc t) [] c had = had
-had_in_front (suc t) (s ∷ past) c had = inr (had_in_front t past c had)
+had_earlier : (t u : ℕ) (past : List Past) (c : Triple) → t ≤ u → HadLeft u past c → HadLeft t past c
+had_earlier t u [] c le had = had
+had_earlier t u (was ∷ past) c le (inl here) = inl (omega (arith, here.0), here.1)
+had_earlier t u (was ∷ past) c le (inr there) = inr (had_earlier t u past c le there)
 
-had_earlier : (t u : ℕ) (past : List State) (c : Triple) → t ≤ u → HadLeft (drop u past) c → HadLeft (drop t past) c
-had_earlier zero u past c le had = had_in_front u past c had
-had_earlier (suc t) zero past c le had = absurd (omega arith)
-had_earlier (suc t) (suc u) [] c le had = had
-had_earlier (suc t) (suc u) (s ∷ past) c le had = had_earlier t u past c (omega arith) had
+abbrev pub Since : State → List Past → ℕ → Triple → Type 0
+Since now past t c = Leaves now c ⊎ HadLeft t past c
 
-only_now : (world : Kept) (c : Triple) → Leaves world.now c ⊎ HadLeft (drop (length world.past) world.past) c → Leaves world.now c
+only_now : (world : Kept) (c : Triple) → Since world.now world.past (max world.meter.calls (after_all world.past)) c → Leaves world.now c
 only_now world c (inl now) = now
-only_now world c (inr had) = absurd (none_left world.past c had)
+only_now world c (inr had) = absurd (none_left (max world.meter.calls (after_all world.past)) world.past c (omega arith) had)
 
-earlier_now : (world : Kept) (t u : ℕ) (c : Triple) → t ≤ u → Leaves world.now c ⊎ HadLeft (drop u world.past) c → Leaves world.now c ⊎ HadLeft (drop t world.past) c
+earlier_now : (world : Kept) (t u : ℕ) (c : Triple) → t ≤ u → Since world.now world.past u c → Since world.now world.past t c
 earlier_now world t u c le (inl now) = inl now
 earlier_now world t u c le (inr had) = inr (had_earlier t u world.past c le had)
 
@@ -102,6 +111,10 @@ pub record IsKnown (world : Kept) : Type 0 where
   pub well : IsWellState world.now
   pub area_count : world.meter.area_faults < 2 ^ 64
   pub put_count : world.meter.put_faults < 2 ^ 64
+  pub call_count : world.meter.calls < 2 ^ 64
+  -- no call that changed it began later
+  pub last : after_all world.past ≤ world.meter.calls
+  pub most : world.meter.most ≤ 2 ^ 32
 
 -- the bytes handed in so far, with so many more
 abbrev pub handed_with : ℕ → ℕ → ℕ
@@ -126,6 +139,7 @@ counted meter =
       handed = meter.handed;
       area_faults = meter.area_faults;
       put_faults = meter.put_faults;
+      puts = meter.puts;
     }
 
 -- and its piece too
@@ -139,6 +153,7 @@ handed_in meter more =
       handed = handed_with meter.handed more;
       area_faults = meter.area_faults;
       put_faults = meter.put_faults;
+      puts = meter.puts;
     }
 
 abbrev pub area_failed : Meter → Meter
@@ -151,6 +166,7 @@ area_failed meter =
       handed = meter.handed;
       area_faults = raised meter.area_faults;
       put_faults = meter.put_faults;
+      puts = meter.puts;
     }
 
 abbrev pub put_failed : Meter → Meter
@@ -163,6 +179,21 @@ put_failed meter =
       handed = meter.handed;
       area_faults = meter.area_faults;
       put_faults = raised meter.put_faults;
+      puts = meter.puts;
+    }
+
+-- after a put that succeeds
+abbrev pub put_done : Meter → Meter
+put_done meter =
+    record {
+      room = meter.room;
+      most = meter.most;
+      fail = meter.fail;
+      calls = meter.calls;
+      handed = meter.handed;
+      area_faults = meter.area_faults;
+      put_faults = meter.put_faults;
+      puts = meter.puts + 1;
     }
 
 -- the same state under other counts
@@ -171,7 +202,7 @@ unchanged world meter = record { past = world.past; now = world.now; meter = met
 
 -- a new state, and the old one is past
 abbrev pub changed : Kept → Meter → State → Kept
-changed world meter state = record { past = world.past ++ world.now ∷ []; now = state; meter = meter }
+changed world meter state = record { past = world.past ++ (record { moment = world.meter.calls; state = world.now }) ∷ []; now = state; meter = meter }
 
 -- an area of more bytes than this, or a write past it, is a fault
 abbrev pub most_bytes : ℕ
@@ -209,7 +240,7 @@ abbrev pub after_put : Kept → List ℕ → Kept
 after_put world piece =
     if refuses world.meter (length piece)
     then unchanged world (put_failed (handed_in world.meter (length piece)))
-    else changed world (handed_in world.meter (length piece)) (with_output (world.now.output ++ piece) world.now)
+    else changed world (put_done (handed_in world.meter (length piece))) (with_output (world.now.output ++ piece) world.now)
 
 -- a world with these areas, all of them on the disk, and no output
 abbrev pub begun : List ℕ → List ℕ → ℕ → ℕ → List ℕ → Kept
@@ -217,5 +248,5 @@ begun a b room most fail =
     record {
       past = [];
       now = record { a = on_disk a; b = on_disk b; output = [] };
-      meter = record { room = room; most = most; fail = fail; calls = 0; handed = 0; area_faults = 0; put_faults = 0 };
+      meter = record { room = room; most = most; fail = fail; calls = 0; handed = 0; area_faults = 0; put_faults = 0; puts = 0 };
     }

@@ -22,6 +22,7 @@ pub record Passes (old new : View) : Type 0 where
   pub later : old.moment ≤ new.moment
   pub area_faults : old.area_faults ≤ new.area_faults
   pub put_faults : old.put_faults ≤ new.put_faults
+  pub puts : old.puts ≤ new.puts
   -- what a stop since an earlier moment may have left was told so before, or was left since then
   pub since : (t : ℕ) (c : Triple) → t ≤ old.moment → new.left_since t c → old.left_since t c ⊎ new.left_since old.moment c
   -- and nothing of the past is forgotten
@@ -55,9 +56,14 @@ ShowsOne view = IsTrue view.honest → (c : Triple) × view.may_leave c × Shows
 abbrev pub IsSynced : Area → View → Type 0
 IsSynced area view = IsTrue view.honest → IsTrue view.tells_bytes → (c : Triple) → view.may_leave c → part area c ≡ part area view.shown
 
--- an honest world that tells all, on which nothing is pending: a stop leaves what is shown and nothing else
+-- an honest world that tells its bytes, on which nothing is pending: a stop leaves of both areas what reads give
 pub record IsSettled (view : View) : Type 0 where
   pub honest : IsTrue view.honest
   pub tells_bytes : IsTrue view.tells_bytes
-  pub tells_output : IsTrue view.tells_output
-  pub only : (c : Triple) → view.may_leave c → c ≡ view.shown
+  pub a : (c : Triple) → view.may_leave c → c.a ≡ view.shown.a
+  pub b : (c : Triple) → view.may_leave c → c.b ≡ view.shown.b
+
+-- no put was made: the counts of puts are as before
+pub record MakesNoPut (old new : View) : Type 0 where
+  pub puts : new.puts ≡ old.puts
+  pub put_faults : new.put_faults ≡ old.put_faults

@@ -1,5 +1,5 @@
 -- A world that tells nothing, and fails as listed.
-use Rattle.std.specs.Prelude.{ℕ, Bool, not, ◌||◌, List, nat_eq, if◌then◌else◌}
+use Rattle.std.specs.Prelude.{ℕ, ◌+◌, ◌-◌, ◌^◌, Bool, not, ◌||◌, List, nat_eq, nat_lt, if◌then◌else◌}
 use Rattle.pgs_world.specs.Count.{raised, is_listed}
 use Rattle.pgs_world.specs.Untold.{untold}
 use Rattle.pgs_world.specs.World.{View}
@@ -10,13 +10,18 @@ pub record Silent : Type 0 where
   pub calls : ℕ
   pub area_faults : ℕ
   pub put_faults : ℕ
+  pub puts : ℕ
 
 abbrev pub silent_view : Silent → View
-silent_view world = untold world.area_faults world.put_faults
+silent_view world = untold (record { calls = world.calls; area_faults = world.area_faults; put_faults = world.put_faults; puts = world.puts })
 
 -- the next call is listed
 abbrev pub fails_next : Silent → Bool
 fails_next world = is_listed world.fail (raised world.calls)
+
+-- a put fails where it is listed, and where no more puts can be counted
+abbrev pub put_fails : Silent → Bool
+put_fails world = fails_next world || nat_eq world.puts (2 ^ 64 - 1)
 
 -- the next call on an area fails, where it is refused or listed
 abbrev pub area_fails : Silent → Bool → Bool
@@ -33,6 +38,7 @@ after_area_call world fails =
       calls = raised world.calls;
       area_faults = if fails then raised world.area_faults else world.area_faults;
       put_faults = world.put_faults;
+      puts = world.puts;
     }
 
 abbrev pub after_put : Silent → Silent
@@ -41,5 +47,6 @@ after_put world =
       fail = world.fail;
       calls = raised world.calls;
       area_faults = world.area_faults;
-      put_faults = if fails_next world then raised world.put_faults else world.put_faults;
+      put_faults = if put_fails world then raised world.put_faults else world.put_faults;
+      puts = if put_fails world then world.puts else world.puts + 1;
     }

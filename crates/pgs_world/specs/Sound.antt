@@ -5,7 +5,7 @@ use Rattle.pgs_world.specs.declared.mem_world.MemWorld.TheInside.{Inside}
 use Rattle.pgs_world.specs.Held.{IsWell, on_disk}
 use Rattle.pgs_world.specs.History.{all_taken, outcome, history}
 use Rattle.pgs_world.specs.MemArea.{held_of, area_in, state_of, size_in, HasRoom}
-use Rattle.pgs_world.specs.MemWorld.{State, Kept}
+use Rattle.pgs_world.specs.MemWorld.{State, Kept, after_all}
 
 -- the state that it began with
 abbrev pub first_of : Inside → State
@@ -37,8 +37,13 @@ pub record IsSound (world : Inside) : Type 0 where
   pub pieces_room_left : length world.pieces.items ≤ world.meter.room
   pub pieces_room : world.meter.room ≤ vec_capacity world.pieces
   pub notes_fit : length world.notes.items ≤ world.meter.calls
+  -- no more puts succeeded than calls changed it
+  pub puts_fit : world.meter.puts ≤ length world.notes.items
   pub notes_room : world.meter.room ≤ vec_capacity world.notes
+  -- no call that changed it began later
+  pub last : after_all (history (first_of world) world.notes.items world.pieces.items) ≤ world.meter.calls
   -- counts are u64
+  pub call_count : world.meter.calls < 2 ^ 64
   pub area_count : world.meter.area_faults < 2 ^ 64
   pub put_count : world.meter.put_faults < 2 ^ 64
   pub most : world.meter.most ≤ world.meter.room

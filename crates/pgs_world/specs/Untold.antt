@@ -1,26 +1,42 @@
 -- A world that tells nothing, as real files do: no more is known of it than its counts.
 use Rattle.std.specs.Prelude.{ℕ, ◌≤◌, false, [], refl}
-use Rattle.std.proofs.Common.{inl, arith}
+use Rattle.std.proofs.Common.{inl}
 use Rattle.std.proofs.lemmas.Bool.{false≢true}
 use Rattle.pgs_world.specs.World.{View}
 use Rattle.pgs_world.specs.Moment.{IsTimed, Passes, IsQuiet, ShowsOne}
 
-abbrev pub untold : ℕ → ℕ → View
-untold area_faults put_faults =
+pub record Counts : Type 0 where
+  -- the calls of all kinds, which are its moments
+  pub calls : ℕ
+  pub area_faults : ℕ
+  pub put_faults : ℕ
+  -- the puts that answered Ok
+  pub puts : ℕ
+
+abbrev pub untold : Counts → View
+untold counts =
     record {
       honest = false;
       tells_bytes = false;
       tells_output = false;
       shown = record { a = []; b = []; output = [] };
-      moment = 0;
-      area_faults = area_faults;
-      put_faults = put_faults;
+      moment = counts.calls;
+      area_faults = counts.area_faults;
+      put_faults = counts.put_faults;
+      puts = counts.puts;
       may_leave = λ _. ⊥;
       left_since = λ _ _. ⊥;
     }
 
-pub timed_untold : (area_faults put_faults : ℕ) → IsTimed (untold area_faults put_faults)
-timed_untold area_faults put_faults =
+-- no count fell
+pub record NoneFell (old new : Counts) : Type 0 where
+  pub calls : old.calls ≤ new.calls
+  pub area_faults : old.area_faults ≤ new.area_faults
+  pub put_faults : old.put_faults ≤ new.put_faults
+  pub puts : old.puts ≤ new.puts
+
+pub timed_untold : (counts : Counts) → IsTimed (untold counts)
+timed_untold counts =
     record {
       now = λ t c le left. left;
       only_now = λ c left. left;
@@ -28,27 +44,28 @@ timed_untold area_faults put_faults =
       output = λ honest _ c left. absurd left;
     }
 
-pub passes_untold : (a p more_a more_p : ℕ) → a ≤ more_a → p ≤ more_p → Passes (untold a p) (untold more_a more_p)
-passes_untold a p more_a more_p area put =
+pub passes_untold : (old new : Counts) → NoneFell old new → Passes (untold old) (untold new)
+passes_untold old new none =
     record {
       honest = refl;
       tells_bytes = refl;
       tells_output = refl;
-      later = omega arith;
-      area_faults = area;
-      put_faults = put;
+      later = none.calls;
+      area_faults = none.area_faults;
+      put_faults = none.put_faults;
+      puts = none.puts;
       since = λ t c le left. inl left;
       past = λ t c le left. left;
-      timed = timed_untold more_a more_p;
+      timed = timed_untold new;
     }
 
-pub quiet_untold : (a p more_a more_p : ℕ) → a ≤ more_a → p ≤ more_p → IsQuiet (untold a p) (untold more_a more_p)
-quiet_untold a p more_a more_p area put =
+pub quiet_untold : (old new : Counts) → NoneFell old new → IsQuiet (untold old) (untold new)
+quiet_untold old new none =
     record {
-      passes = passes_untold a p more_a more_p area put;
+      passes = passes_untold old new none;
       shown = refl;
       stops = λ honest c left. left;
     }
 
-pub image_untold : (a p : ℕ) → ShowsOne (untold a p)
-image_untold a p honest = absurd (false≢true honest)
+pub image_untold : (counts : Counts) → ShowsOne (untold counts)
+image_untold counts honest = absurd (false≢true honest)

@@ -17,10 +17,13 @@ pub record View : Type 1 where
   pub tells_bytes : Bool
   pub tells_output : Bool
   pub shown : Triple
-  -- a number that doesn't fall
+  -- a number that rises with each call, up to the end of a u64
   pub moment : ℕ
+  -- how many calls on an area, and how many puts, failed
   pub area_faults : ℕ
   pub put_faults : ℕ
+  -- how many puts answered Ok
+  pub puts : ℕ
   -- what a stop now may leave
   pub may_leave : Triple → Type 0
   -- what a stop at some moment since that one may have left

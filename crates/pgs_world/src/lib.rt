@@ -23,6 +23,7 @@ mod synced;
 mod world;
 
 pub use area::Area;
+pub use area_limit::passes_limit;
 pub use fault::{AreaFault, PutFault, SourceFault};
 pub use leave::Leave;
 pub use mem_source::MemSource;
@@ -33,6 +34,3 @@ pub use silent_world::SilentWorld;
 pub use source::Source;
 pub use synced::{cut_synced, sync_both, write_synced};
 pub use world::World;
-
-#[cfg(test)]
-mod tests;

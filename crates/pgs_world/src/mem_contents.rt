@@ -18,6 +18,13 @@ pub(crate) enum Note {
     Put(u64),
 }
 
+/// The same, with the number of calls before it.
+#[derive(Clone, Copy, Debug)]
+pub(crate) struct Noted {
+    pub(crate) before: u64,
+    pub(crate) note: Note,
+}
+
 /// The two areas of a world in memory, and all that was put.
 #[derive(Debug, Drop)]
 pub(crate) struct Contents {
@@ -99,7 +106,7 @@ impl Contents {
 }
 
 /// Adds a call and its piece to those that changed the world.
-pub(crate) fn add_note(notes: &mut Vec<Note>, pieces: &mut Vec<u8>, call: Note, piece: &[u8])
+pub(crate) fn add_note(notes: &mut Vec<Noted>, pieces: &mut Vec<u8>, call: Noted, piece: &[u8])
     requires notes { vec_len notes.old + 1 ≤ vec_capacity notes.old }
     requires pieces { vec_len pieces.old + length piece.now ≤ vec_capacity pieces.old }
     ensures notes { notes.new.items ≡ notes.old.items ++ call ∷ [] }

@@ -3,11 +3,11 @@ ghost use Rattle.pgs_world.specs.Count.{Rose};
 ghost use Rattle.pgs_world.specs.Disk.{written_over, IsSameBeside, Writes, Cuts, Puts};
 ghost use Rattle.pgs_world.specs.Left.{left_of};
 ghost use Rattle.pgs_world.specs.MemWorld.{IsKnown, view_of, area_of, begun, fails_next, refuses, len_fails, write_fails, after_read, after_write_at, after_cut_to, after_sync, after_put};
-ghost use Rattle.pgs_world.specs.Moment.{Passes, StopsBy, IsQuiet, ShowsOne, IsSynced, IsSettled};
+ghost use Rattle.pgs_world.specs.Moment.{Passes, StopsBy, IsQuiet, ShowsOne, IsSynced, IsSettled, MakesNoPut};
 ghost use Rattle.pgs_world.specs.World.{output_of, part, Adds, AddsFront};
 
 use crate::area_limit::passes_limit;
-use crate::mem_contents::{Contents, Note, add_note};
+use crate::mem_contents::{Contents, Note, Noted, add_note};
 use crate::meter::Meter;
 use crate::{Area, AreaFault, Leave, PutFault, World};
 use pgs_base::{Bytes, List, Memory};
@@ -23,7 +23,7 @@ pub struct MemWorld {
     first_b: Bytes,
     contents: Contents,
     /// The calls that changed it, and the bytes that they were handed.
-    notes: Vec<Note>,
+    notes: Vec<Noted>,
     pieces: Vec<u8>,
     meter: Meter,
 }
@@ -142,13 +142,15 @@ impl MemWorld {
         ensures after { self.new ≡ after_write_at self.old area at bytes.now }
         ensures known { IsKnown self.old }
     {
+        let before = self.meter.calls;
         let admits = self.meter.admits_piece(bytes);
         if !admits || passes_limit(at, bytes.len() as u64) {
             self.meter.count_area_fault();
             return false;
         }
         self.contents.write(area, at as usize, bytes);
-        let call = Note::Write(area, at, bytes.len() as u64);
+        let note = Note::Write(area, at, bytes.len() as u64);
+        let call = Noted { before, note };
         add_note(&mut self.notes, &mut self.pieces, call, bytes);
         true
     }
@@ -159,12 +161,15 @@ impl MemWorld {
         ensures after { self.new ≡ after_cut_to self.old area len }
         ensures known { IsKnown self.old }
     {
+        let before = self.meter.calls;
         if !self.meter.admits() {
             self.meter.count_area_fault();
             return false;
         }
         self.contents.cut(area, len as usize);
-        add_note(&mut self.notes, &mut self.pieces, Note::Cut(area, len), &[]);
+        let note = Note::Cut(area, len);
+        let call = Noted { before, note };
+        add_note(&mut self.notes, &mut self.pieces, call, &[]);
         true
     }
 
@@ -174,12 +179,15 @@ impl MemWorld {
         ensures after { self.new ≡ after_sync self.old area }
         ensures known { IsKnown self.old }
     {
+        let before = self.meter.calls;
         if !self.meter.admits() {
             self.meter.count_area_fault();
             return false;
         }
         self.contents.sync(area);
-        add_note(&mut self.notes, &mut self.pieces, Note::Sync(area), &[]);
+        let note = Note::Sync(area);
+        let call = Noted { before, note };
+        add_note(&mut self.notes, &mut self.pieces, call, &[]);
         true
     }
 
@@ -189,12 +197,15 @@ impl MemWorld {
         ensures after { self.new ≡ after_put self.old piece.now }
         ensures known { IsKnown self.old }
     {
+        let before = self.meter.calls;
         if !self.meter.admits_piece(piece) {
             self.meter.count_put_fault();
             return false;
         }
+        self.meter.count_put();
         self.contents.put(piece);
-        let call = Note::Put(piece.len() as u64);
+        let note = Note::Put(piece.len() as u64);
+        let call = Noted { before, note };
         add_note(&mut self.notes, &mut self.pieces, call, piece);
         true
     }
@@ -249,10 +260,11 @@ impl World for MemWorld {
         ensures length { IfOk result (λ count. IsTrue (view_of self.old).tells_bytes → count ≡ length (part area (view_of self.old).shown)) }
         ensures limit { IfOk result (λ count. count ≤ 2 ^ 40) }
         ensures quiet { IsQuiet (view_of self.old) (view_of self.new) }
+        ensures moment { Rose (view_of self.old).moment (view_of self.new).moment }
         ensures image { ShowsOne (view_of self.new) }
         ensures cause { OnErr result (Rose (view_of self.old).area_faults (view_of self.new).area_faults) }
         ensures no_cause { OnOk result ((view_of self.new).area_faults ≡ (view_of self.old).area_faults) }
-        ensures no_put { (view_of self.new).put_faults ≡ (view_of self.old).put_faults }
+        ensures no_put { MakesNoPut (view_of self.old) (view_of self.new) }
     {
         self.len_exact(area).ok_or(AreaFault)
     }
@@ -266,10 +278,11 @@ impl World for MemWorld {
         // What every world says.
         ensures bytes { OnOk result (IsTrue (view_of self.old).tells_bytes → buf.new ≡ take (length buf.old) (drop at (part area (view_of self.old).shown))) }
         ensures quiet { IsQuiet (view_of self.old) (view_of self.new) }
+        ensures moment { Rose (view_of self.old).moment (view_of self.new).moment }
         ensures image { ShowsOne (view_of self.new) }
         ensures cause { OnErr result (Rose (view_of self.old).area_faults (view_of self.new).area_faults) }
         ensures no_cause { OnOk result ((view_of self.new).area_faults ≡ (view_of self.old).area_faults) }
-        ensures no_put { (view_of self.new).put_faults ≡ (view_of self.old).put_faults }
+        ensures no_put { MakesNoPut (view_of self.old) (view_of self.new) }
     {
         area_answer(self.read_exact(area, at, buf))
     }
@@ -286,10 +299,11 @@ impl World for MemWorld {
         ensures beside { IsSameBeside area (view_of self.old).shown (view_of self.new).shown }
         ensures stops { StopsBy (Writes area at (length bytes.now)) (view_of self.old) (view_of self.new) }
         ensures passes { Passes (view_of self.old) (view_of self.new) }
+        ensures moment { Rose (view_of self.old).moment (view_of self.new).moment }
         ensures image { ShowsOne (view_of self.new) }
         ensures cause { OnErr result (Rose (view_of self.old).area_faults (view_of self.new).area_faults) }
         ensures no_cause { OnOk result ((view_of self.new).area_faults ≡ (view_of self.old).area_faults) }
-        ensures no_put { (view_of self.new).put_faults ≡ (view_of self.old).put_faults }
+        ensures no_put { MakesNoPut (view_of self.old) (view_of self.new) }
     {
         area_answer(self.write_exact(area, at, bytes))
     }
@@ -305,10 +319,11 @@ impl World for MemWorld {
         ensures beside { IsSameBeside area (view_of self.old).shown (view_of self.new).shown }
         ensures stops { StopsBy (Cuts area len) (view_of self.old) (view_of self.new) }
         ensures passes { Passes (view_of self.old) (view_of self.new) }
+        ensures moment { Rose (view_of self.old).moment (view_of self.new).moment }
         ensures image { ShowsOne (view_of self.new) }
         ensures cause { OnErr result (Rose (view_of self.old).area_faults (view_of self.new).area_faults) }
         ensures no_cause { OnOk result ((view_of self.new).area_faults ≡ (view_of self.old).area_faults) }
-        ensures no_put { (view_of self.new).put_faults ≡ (view_of self.old).put_faults }
+        ensures no_put { MakesNoPut (view_of self.old) (view_of self.new) }
     {
         area_answer(self.cut_exact(area, len))
     }
@@ -321,10 +336,11 @@ impl World for MemWorld {
         // What every world says.
         ensures synced { OnOk result (IsSynced area (view_of self.new)) }
         ensures quiet { IsQuiet (view_of self.old) (view_of self.new) }
+        ensures moment { Rose (view_of self.old).moment (view_of self.new).moment }
         ensures image { ShowsOne (view_of self.new) }
         ensures cause { OnErr result (Rose (view_of self.old).area_faults (view_of self.new).area_faults) }
         ensures no_cause { OnOk result ((view_of self.new).area_faults ≡ (view_of self.old).area_faults) }
-        ensures no_put { (view_of self.new).put_faults ≡ (view_of self.old).put_faults }
+        ensures no_put { MakesNoPut (view_of self.old) (view_of self.new) }
     {
         area_answer(self.sync_exact(area))
     }
@@ -343,7 +359,10 @@ impl World for MemWorld {
         ensures b { (view_of self.new).shown.b ≡ (view_of self.old).shown.b }
         ensures stops { StopsBy (Puts piece.now) (view_of self.old) (view_of self.new) }
         ensures passes { Passes (view_of self.old) (view_of self.new) }
+        ensures moment { Rose (view_of self.old).moment (view_of self.new).moment }
         ensures image { ShowsOne (view_of self.new) }
+        ensures counted { OnOk result ((view_of self.new).puts ≡ (view_of self.old).puts + 1) }
+        ensures not_counted { OnErr result ((view_of self.new).puts ≡ (view_of self.old).puts) }
         ensures no_cause { OnOk result ((view_of self.new).put_faults ≡ (view_of self.old).put_faults) }
         ensures no_area { (view_of self.new).area_faults ≡ (view_of self.old).area_faults }
     {

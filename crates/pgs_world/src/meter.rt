@@ -1,5 +1,5 @@
-ghost use Rattle.std.specs.Prelude.{◌≡◌, not, length};
-ghost use Rattle.pgs_world.specs.MemWorld.{fails_next, refuses, counted, handed_in, area_failed, put_failed};
+ghost use Rattle.std.specs.Prelude.{◌≡◌, ◌+◌, ◌<◌, ◌^◌, not, length};
+ghost use Rattle.pgs_world.specs.MemWorld.{fails_next, refuses, counted, handed_in, area_failed, put_failed, put_done};
 
 use pgs_base::List;
 
@@ -17,11 +17,13 @@ pub(crate) struct Meter {
     pub(crate) handed: u64,
     pub(crate) area_faults: u64,
     pub(crate) put_faults: u64,
+    /// The puts that succeeded.
+    pub(crate) puts: u64,
 }
 
 impl Meter {
     pub(crate) fn new(room: u64, most: u64, fail: List<u64>) -> Meter
-        ensures { result ≡ record { room = room; most = most; fail = fail; calls = 0; handed = 0; area_faults = 0; put_faults = 0 } }
+        ensures { result ≡ record { room = room; most = most; fail = fail; calls = 0; handed = 0; area_faults = 0; put_faults = 0; puts = 0 } }
     {
         Meter {
             room,
@@ -31,6 +33,7 @@ impl Meter {
             handed: 0,
             area_faults: 0,
             put_faults: 0,
+            puts: 0,
         }
     }
 
@@ -63,5 +66,12 @@ impl Meter {
         ensures { self.new ≡ put_failed self.old }
     {
         self.put_faults = self.put_faults.saturating_add(1);
+    }
+
+    pub(crate) fn count_put(&mut self)
+        requires { self.old.puts + 1 < 2 ^ 64 }
+        ensures { self.new ≡ put_done self.old }
+    {
+        self.puts += 1;
     }
 }

@@ -1,8 +1,8 @@
 ghost use Rattle.std.specs.Prelude.{◌≡◌, ◌+◌, ◌≤◌, ◌^◌, false, length, take, drop, is_err, IsTrue, IfOk, OnOk, OnErr};
 ghost use Rattle.pgs_world.specs.Count.{Rose};
 ghost use Rattle.pgs_world.specs.Disk.{written_over, IsSameBeside, Writes, Cuts, Puts};
-ghost use Rattle.pgs_world.specs.Moment.{Passes, StopsBy, IsQuiet, ShowsOne, IsSynced};
-ghost use Rattle.pgs_world.specs.Silent.{silent_view, fails_next, area_fails, is_outside, after_area_call, after_put};
+ghost use Rattle.pgs_world.specs.Moment.{Passes, StopsBy, IsQuiet, ShowsOne, IsSynced, MakesNoPut};
+ghost use Rattle.pgs_world.specs.Silent.{silent_view, put_fails, area_fails, is_outside, after_area_call, after_put};
 ghost use Rattle.pgs_world.specs.World.{output_of, part, Adds, AddsFront};
 
 use crate::{Area, AreaFault, PutFault, World};
@@ -18,6 +18,7 @@ pub struct SilentWorld {
     calls: u64,
     area_faults: u64,
     put_faults: u64,
+    puts: u64,
 }
 
 impl Model for SilentWorld {
@@ -25,19 +26,20 @@ impl Model for SilentWorld {
 
     ghost Value = { Silent };
 
-    ghost view = { λ w. record { fail = w.fail; calls = w.calls; area_faults = w.area_faults; put_faults = w.put_faults } };
+    ghost view = { λ w. record { fail = w.fail; calls = w.calls; area_faults = w.area_faults; put_faults = w.put_faults; puts = w.puts } };
 }
 
 impl SilentWorld {
     /// A world that fails at the listed calls, counted from 1 over all kinds of calls.
     pub fn new(fail: List<u64>) -> SilentWorld
-        ensures { result ≡ record { fail = fail; calls = 0; area_faults = 0; put_faults = 0 } }
+        ensures { result ≡ record { fail = fail; calls = 0; area_faults = 0; put_faults = 0; puts = 0 } }
     {
         SilentWorld {
             fail,
             calls: 0,
             area_faults: 0,
             put_faults: 0,
+            puts: 0,
         }
     }
 
@@ -48,6 +50,8 @@ impl SilentWorld {
         ensures cause { OnErr result (Rose self.old.area_faults self.new.area_faults) }
         ensures no_cause { OnOk result (self.new.area_faults ≡ self.old.area_faults) }
         ensures stays { self.old.area_faults ≤ self.new.area_faults }
+        ensures calls { self.old.calls ≤ self.new.calls }
+        ensures moment { Rose self.old.calls self.new.calls }
     {
         self.calls = self.calls.saturating_add(1);
         if refused || self.fail.as_slice().contains(&self.calls) {
@@ -64,7 +68,7 @@ impl World for SilentWorld {
 
     ghost view = { silent_view };
 
-    ghost timed = { λ w. timed_untold w.area_faults w.put_faults };
+    ghost timed = { λ w. timed_untold (record { calls = w.calls; area_faults = w.area_faults; put_faults = w.put_faults; puts = w.puts }) };
 
     /// 0, unless the call is listed.
     fn len(&mut self, area: Area) -> Result<u64, AreaFault>
@@ -76,10 +80,11 @@ impl World for SilentWorld {
         ensures length { IfOk result (λ count. IsTrue (silent_view self.old).tells_bytes → count ≡ length (part area (silent_view self.old).shown)) }
         ensures limit { IfOk result (λ count. count ≤ 2 ^ 40) }
         ensures quiet { IsQuiet (silent_view self.old) (silent_view self.new) }
+        ensures moment { Rose (silent_view self.old).moment (silent_view self.new).moment }
         ensures image { ShowsOne (silent_view self.new) }
         ensures cause { OnErr result (Rose (silent_view self.old).area_faults (silent_view self.new).area_faults) }
         ensures no_cause { OnOk result ((silent_view self.new).area_faults ≡ (silent_view self.old).area_faults) }
-        ensures no_put { (silent_view self.new).put_faults ≡ (silent_view self.old).put_faults }
+        ensures no_put { MakesNoPut (silent_view self.old) (silent_view self.new) }
     {
         self.area_call(false)?;
         Ok(0)
@@ -95,10 +100,11 @@ impl World for SilentWorld {
         // What every world says.
         ensures bytes { OnOk result (IsTrue (silent_view self.old).tells_bytes → buf.new ≡ take (length buf.old) (drop at (part area (silent_view self.old).shown))) }
         ensures quiet { IsQuiet (silent_view self.old) (silent_view self.new) }
+        ensures moment { Rose (silent_view self.old).moment (silent_view self.new).moment }
         ensures image { ShowsOne (silent_view self.new) }
         ensures cause { OnErr result (Rose (silent_view self.old).area_faults (silent_view self.new).area_faults) }
         ensures no_cause { OnOk result ((silent_view self.new).area_faults ≡ (silent_view self.old).area_faults) }
-        ensures no_put { (silent_view self.new).put_faults ≡ (silent_view self.old).put_faults }
+        ensures no_put { MakesNoPut (silent_view self.old) (silent_view self.new) }
     {
         self.area_call(at != 0 || !buf.is_empty())
     }
@@ -115,10 +121,11 @@ impl World for SilentWorld {
         ensures beside { IsSameBeside area (silent_view self.old).shown (silent_view self.new).shown }
         ensures stops { StopsBy (Writes area at (length bytes.now)) (silent_view self.old) (silent_view self.new) }
         ensures passes { Passes (silent_view self.old) (silent_view self.new) }
+        ensures moment { Rose (silent_view self.old).moment (silent_view self.new).moment }
         ensures image { ShowsOne (silent_view self.new) }
         ensures cause { OnErr result (Rose (silent_view self.old).area_faults (silent_view self.new).area_faults) }
         ensures no_cause { OnOk result ((silent_view self.new).area_faults ≡ (silent_view self.old).area_faults) }
-        ensures no_put { (silent_view self.new).put_faults ≡ (silent_view self.old).put_faults }
+        ensures no_put { MakesNoPut (silent_view self.old) (silent_view self.new) }
     {
         self.area_call(at != 0 || !bytes.is_empty())
     }
@@ -134,10 +141,11 @@ impl World for SilentWorld {
         ensures beside { IsSameBeside area (silent_view self.old).shown (silent_view self.new).shown }
         ensures stops { StopsBy (Cuts area len) (silent_view self.old) (silent_view self.new) }
         ensures passes { Passes (silent_view self.old) (silent_view self.new) }
+        ensures moment { Rose (silent_view self.old).moment (silent_view self.new).moment }
         ensures image { ShowsOne (silent_view self.new) }
         ensures cause { OnErr result (Rose (silent_view self.old).area_faults (silent_view self.new).area_faults) }
         ensures no_cause { OnOk result ((silent_view self.new).area_faults ≡ (silent_view self.old).area_faults) }
-        ensures no_put { (silent_view self.new).put_faults ≡ (silent_view self.old).put_faults }
+        ensures no_put { MakesNoPut (silent_view self.old) (silent_view self.new) }
     {
         self.area_call(len != 0)
     }
@@ -150,17 +158,18 @@ impl World for SilentWorld {
         // What every world says.
         ensures synced { OnOk result (IsSynced area (silent_view self.new)) }
         ensures quiet { IsQuiet (silent_view self.old) (silent_view self.new) }
+        ensures moment { Rose (silent_view self.old).moment (silent_view self.new).moment }
         ensures image { ShowsOne (silent_view self.new) }
         ensures cause { OnErr result (Rose (silent_view self.old).area_faults (silent_view self.new).area_faults) }
         ensures no_cause { OnOk result ((silent_view self.new).area_faults ≡ (silent_view self.old).area_faults) }
-        ensures no_put { (silent_view self.new).put_faults ≡ (silent_view self.old).put_faults }
+        ensures no_put { MakesNoPut (silent_view self.old) (silent_view self.new) }
     {
         self.area_call(false)
     }
 
-    /// Fails where the call is listed.
+    /// Fails where the call is listed, and after 2^64 - 1 puts that didn't, since no more can be counted.
     fn put(&mut self, piece: &[u8]) -> Result<(), PutFault>
-        ensures fails { is_err result ≡ fails_next self.old }
+        ensures fails { is_err result ≡ put_fails self.old }
         ensures after { self.new ≡ after_put self.old }
 
         // What every world says.
@@ -172,15 +181,19 @@ impl World for SilentWorld {
         ensures b { (silent_view self.new).shown.b ≡ (silent_view self.old).shown.b }
         ensures stops { StopsBy (Puts piece.now) (silent_view self.old) (silent_view self.new) }
         ensures passes { Passes (silent_view self.old) (silent_view self.new) }
+        ensures moment { Rose (silent_view self.old).moment (silent_view self.new).moment }
         ensures image { ShowsOne (silent_view self.new) }
+        ensures counted { OnOk result ((silent_view self.new).puts ≡ (silent_view self.old).puts + 1) }
+        ensures not_counted { OnErr result ((silent_view self.new).puts ≡ (silent_view self.old).puts) }
         ensures no_cause { OnOk result ((silent_view self.new).put_faults ≡ (silent_view self.old).put_faults) }
         ensures no_area { (silent_view self.new).area_faults ≡ (silent_view self.old).area_faults }
     {
         self.calls = self.calls.saturating_add(1);
-        if self.fail.as_slice().contains(&self.calls) {
+        if self.fail.as_slice().contains(&self.calls) || self.puts == u64::MAX {
             self.put_faults = self.put_faults.saturating_add(1);
             return Err(PutFault);
         }
+        self.puts += 1;
         Ok(())
     }
 }

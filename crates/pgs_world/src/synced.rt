@@ -1,7 +1,7 @@
 ghost use Rattle.std.specs.Prelude.{◌≡◌, ◌+◌, ◌≤◌, ◌^◌, length, take, IsTrue, OnOk, OnErr};
 ghost use Rattle.pgs_world.specs.Count.{Rose};
 ghost use Rattle.pgs_world.specs.Disk.{written_over, IsSameBeside, Writes, Cuts};
-ghost use Rattle.pgs_world.specs.Moment.{Passes, StopsBy, IsQuiet, ShowsOne, IsSynced, IsSettled};
+ghost use Rattle.pgs_world.specs.Moment.{Passes, StopsBy, IsQuiet, ShowsOne, IsSynced, IsSettled, MakesNoPut};
 ghost use Rattle.pgs_world.specs.World.{part};
 
 use crate::{Area, AreaFault, World};
@@ -25,7 +25,7 @@ pub fn write_synced<W: World>(
     ensures image { ShowsOne (W.view world.new) }
     ensures cause { OnErr result (Rose (W.view world.old).area_faults (W.view world.new).area_faults) }
     ensures no_cause { OnOk result ((W.view world.new).area_faults ≡ (W.view world.old).area_faults) }
-    ensures no_put { (W.view world.new).put_faults ≡ (W.view world.old).put_faults }
+    ensures no_put { MakesNoPut (W.view world.old) (W.view world.new) }
 {
     world.write_at(area, at, bytes)?;
     world.sync(area)
@@ -44,7 +44,7 @@ pub fn cut_synced<W: World>(world: &mut W, area: Area, len: u64) -> Result<(), A
     ensures image { ShowsOne (W.view world.new) }
     ensures cause { OnErr result (Rose (W.view world.old).area_faults (W.view world.new).area_faults) }
     ensures no_cause { OnOk result ((W.view world.new).area_faults ≡ (W.view world.old).area_faults) }
-    ensures no_put { (W.view world.new).put_faults ≡ (W.view world.old).put_faults }
+    ensures no_put { MakesNoPut (W.view world.old) (W.view world.new) }
 {
     world.cut(area, len)?;
     world.sync(area)
@@ -52,12 +52,12 @@ pub fn cut_synced<W: World>(world: &mut W, area: Area, len: u64) -> Result<(), A
 
 /// Syncs both areas. After `Ok` nothing is pending, and at every moment both areas are as they were.
 pub fn sync_both<W: World>(world: &mut W) -> Result<(), AreaFault>
-    ensures settled { OnOk result (IsTrue (W.view world.old).honest → IsTrue (W.view world.old).tells_bytes → IsTrue (W.view world.old).tells_output → IsSettled (W.view world.new)) }
+    ensures settled { OnOk result (IsTrue (W.view world.old).honest → IsTrue (W.view world.old).tells_bytes → IsSettled (W.view world.new)) }
     ensures quiet { IsQuiet (W.view world.old) (W.view world.new) }
     ensures image { ShowsOne (W.view world.new) }
     ensures cause { OnErr result (Rose (W.view world.old).area_faults (W.view world.new).area_faults) }
     ensures no_cause { OnOk result ((W.view world.new).area_faults ≡ (W.view world.old).area_faults) }
-    ensures no_put { (W.view world.new).put_faults ≡ (W.view world.old).put_faults }
+    ensures no_put { MakesNoPut (W.view world.old) (W.view world.new) }
 {
     world.sync(Area::A)?;
     world.sync(Area::B)

@@ -1,7 +1,7 @@
 ghost use Rattle.std.specs.Prelude.{◌≡◌, ◌+◌, ◌^◌, ◌≤◌, length, take, drop, IsTrue, IfOk, OnOk, OnErr};
 ghost use Rattle.pgs_world.specs.Count.{Rose};
 ghost use Rattle.pgs_world.specs.Disk.{written_over, IsSameBeside, Writes, Cuts, Puts};
-ghost use Rattle.pgs_world.specs.Moment.{IsTimed, Passes, StopsBy, IsQuiet, ShowsOne, IsSynced};
+ghost use Rattle.pgs_world.specs.Moment.{IsTimed, Passes, StopsBy, IsQuiet, ShowsOne, IsSynced, MakesNoPut};
 ghost use Rattle.pgs_world.specs.World.{View, output_of, part, Adds, AddsFront};
 
 use crate::{Area, AreaFault, PutFault};
@@ -19,10 +19,11 @@ pub trait World {
         ensures length { IfOk result (λ count. IsTrue (view self.old).tells_bytes → count ≡ length (part area (view self.old).shown)) }
         ensures limit { IfOk result (λ count. count ≤ 2 ^ 40) }
         ensures quiet { IsQuiet (view self.old) (view self.new) }
+        ensures moment { Rose (view self.old).moment (view self.new).moment }
         ensures image { ShowsOne (view self.new) }
         ensures cause { OnErr result (Rose (view self.old).area_faults (view self.new).area_faults) }
         ensures no_cause { OnOk result ((view self.new).area_faults ≡ (view self.old).area_faults) }
-        ensures no_put { (view self.new).put_faults ≡ (view self.old).put_faults };
+        ensures no_put { MakesNoPut (view self.old) (view self.new) };
 
     /// Fills the buffer with the bytes of an area from a place on. Where the length is told, no caller may ask
     /// for a range outside the area; where it isn't, an implementation should make such a range a fault.
@@ -30,10 +31,11 @@ pub trait World {
         requires { IsTrue (view self.old).tells_bytes → at + length buf.old ≤ length (part area (view self.old).shown) }
         ensures bytes { OnOk result (IsTrue (view self.old).tells_bytes → buf.new ≡ take (length buf.old) (drop at (part area (view self.old).shown))) }
         ensures quiet { IsQuiet (view self.old) (view self.new) }
+        ensures moment { Rose (view self.old).moment (view self.new).moment }
         ensures image { ShowsOne (view self.new) }
         ensures cause { OnErr result (Rose (view self.old).area_faults (view self.new).area_faults) }
         ensures no_cause { OnOk result ((view self.new).area_faults ≡ (view self.old).area_faults) }
-        ensures no_put { (view self.new).put_faults ≡ (view self.old).put_faults };
+        ensures no_put { MakesNoPut (view self.old) (view self.new) };
 
     /// Writes over what is there, and past the end. Until a sync of the area, a stop may leave any bytes in
     /// the range and any length between the old and the new one. A write past 2^40 bytes is a fault. After
@@ -45,10 +47,11 @@ pub trait World {
         ensures beside { IsSameBeside area (view self.old).shown (view self.new).shown }
         ensures stops { StopsBy (Writes area at (length bytes.now)) (view self.old) (view self.new) }
         ensures passes { Passes (view self.old) (view self.new) }
+        ensures moment { Rose (view self.old).moment (view self.new).moment }
         ensures image { ShowsOne (view self.new) }
         ensures cause { OnErr result (Rose (view self.old).area_faults (view self.new).area_faults) }
         ensures no_cause { OnOk result ((view self.new).area_faults ≡ (view self.old).area_faults) }
-        ensures no_put { (view self.new).put_faults ≡ (view self.old).put_faults };
+        ensures no_put { MakesNoPut (view self.old) (view self.new) };
 
     /// Cuts an area to a length. Until a sync of the area, a stop may leave any bytes behind the cut, up to
     /// the old length. After a fault the bytes are as if part of it had been done.
@@ -58,22 +61,25 @@ pub trait World {
         ensures beside { IsSameBeside area (view self.old).shown (view self.new).shown }
         ensures stops { StopsBy (Cuts area len) (view self.old) (view self.new) }
         ensures passes { Passes (view self.old) (view self.new) }
+        ensures moment { Rose (view self.old).moment (view self.new).moment }
         ensures image { ShowsOne (view self.new) }
         ensures cause { OnErr result (Rose (view self.old).area_faults (view self.new).area_faults) }
         ensures no_cause { OnOk result ((view self.new).area_faults ≡ (view self.old).area_faults) }
-        ensures no_put { (view self.new).put_faults ≡ (view self.old).put_faults };
+        ensures no_put { MakesNoPut (view self.old) (view self.new) };
 
     /// After it, a stop leaves of the area what a read gives.
     fn sync(&mut self, area: Area) -> Result<(), AreaFault>
         ensures synced { OnOk result (IsSynced area (view self.new)) }
         ensures quiet { IsQuiet (view self.old) (view self.new) }
+        ensures moment { Rose (view self.old).moment (view self.new).moment }
         ensures image { ShowsOne (view self.new) }
         ensures cause { OnErr result (Rose (view self.old).area_faults (view self.new).area_faults) }
         ensures no_cause { OnOk result ((view self.new).area_faults ≡ (view self.old).area_faults) }
-        ensures no_put { (view self.new).put_faults ≡ (view self.old).put_faults };
+        ensures no_put { MakesNoPut (view self.old) (view self.new) };
 
-    /// Puts the piece at the end of the output. After `PutFault` some front of it may have been put, and
-    /// the count of put faults rose. A stop during the call leaves some front of it.
+    /// Puts the piece at the end of the output; the count of puts is then one more. After `PutFault` some front
+    /// of the piece may have been put, the count of put faults rose, and the count of puts is as it was. A stop
+    /// during the call leaves some front of the piece.
     fn put(&mut self, piece: &[u8]) -> Result<(), PutFault>
         ensures whole { OnOk result (Adds (output_of (view self.old)) (output_of (view self.new)) piece.now) }
         ensures front { OnErr result (AddsFront (output_of (view self.old)) (output_of (view self.new)) piece.now) }
@@ -84,7 +90,10 @@ pub trait World {
         ensures b { (view self.new).shown.b ≡ (view self.old).shown.b }
         ensures stops { StopsBy (Puts piece.now) (view self.old) (view self.new) }
         ensures passes { Passes (view self.old) (view self.new) }
+        ensures moment { Rose (view self.old).moment (view self.new).moment }
         ensures image { ShowsOne (view self.new) }
+        ensures counted { OnOk result ((view self.new).puts ≡ (view self.old).puts + 1) }
+        ensures not_counted { OnErr result ((view self.new).puts ≡ (view self.old).puts) }
         ensures no_cause { OnOk result ((view self.new).put_faults ≡ (view self.old).put_faults) }
         ensures no_area { (view self.new).area_faults ≡ (view self.old).area_faults };
 

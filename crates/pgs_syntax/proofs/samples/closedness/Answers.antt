@@ -1,17 +1,20 @@
-use Rattle.pgs_syntax.proofs.Computed as samples
+use Rattle.std.proofs.Common.{refl}
+use denote.Hole.Carrier.{hidden}
+use Rattle.pgs_syntax.specs.declared.specification.Spec.TheBlock as block
 use Rattle.pgs_syntax.proofs.samples.closedness.Goals as goal
 
 pub returns-clause-employee_closed : goal.returns-clause-employee_closed
-returns-clause-employee_closed c = samples.employee_closed
+unfolding block.hidden-the_row-Spec-0 hidden
+returns-clause-employee_closed c = refl
 
 pub returns-clause-own_key : goal.returns-clause-own_key
-returns-clause-own_key c = samples.own_key
+unfolding block.hidden-the_row-Spec-0 hidden
+returns-clause-own_key c = refl
 
 pub returns-clause-parents_key : goal.returns-clause-parents_key
-returns-clause-parents_key c = samples.parents_key
+unfolding block.hidden-the_row-Spec-0 hidden
+returns-clause-parents_key c = refl
 
 pub returns-clause-other_key : goal.returns-clause-other_key
-returns-clause-other_key c = samples.other_key
-
-pub returns-clause-open_not_closed : goal.returns-clause-open_not_closed
-returns-clause-open_not_closed c = samples.open_not_closed
+unfolding block.hidden-the_row-Spec-0 hidden
+returns-clause-other_key c = refl

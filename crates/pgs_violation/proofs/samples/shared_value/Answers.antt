@@ -1,5 +1,8 @@
-use Rattle.pgs_violation.proofs.Computed as computed
+use Rattle.std.proofs.Common.{refl}
+use denote.Hole.Carrier.{hidden}
+use Rattle.pgs_syntax.specs.declared.specification.Spec.TheBlock as block
 use Rattle.pgs_violation.proofs.samples.shared_value.Goals as goal
 
 pub returns : goal.returns
-returns c = computed.shared_mail
+unfolding block.hidden-the_row-Spec-0 hidden
+returns c = refl

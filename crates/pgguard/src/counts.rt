@@ -1,0 +1,65 @@
+ghost use Rattle.std.specs.Prelude.{◌≡◌, ◌+◌, ◌<◌, ◌≤◌, ◌^◌};
+ghost use Rattle.pgs_world.specs.Count.{Rose};
+
+/// How often the world was called, how often a call on an area and a put failed, and how often a put didn't. A
+/// count of calls or faults stops at the end of a u64.
+#[derive(Clone, Copy, Debug, PartialEq, Eq)]
+pub struct Counts {
+    pub calls: u64,
+    pub area_faults: u64,
+    pub put_faults: u64,
+    pub puts: u64,
+}
+
+impl Counts {
+    /// No call so far.
+    pub fn none() -> Counts
+        ensures { result ≡ record { calls = 0; area_faults = 0; put_faults = 0; puts = 0 } }
+    {
+        Counts {
+            calls: 0,
+            area_faults: 0,
+            put_faults: 0,
+            puts: 0,
+        }
+    }
+
+    /// Counts a call on an area that failed.
+    pub fn fail_area(&mut self)
+        ensures rose { Rose self.old.area_faults self.new.area_faults }
+        ensures later { self.old.area_faults ≤ self.new.area_faults }
+        ensures calls { self.old.calls ≤ self.new.calls }
+        ensures moment { Rose self.old.calls self.new.calls }
+        ensures put_faults { self.new.put_faults ≡ self.old.put_faults }
+        ensures puts { self.new.puts ≡ self.old.puts }
+    {
+        self.calls = self.calls.saturating_add(1);
+        self.area_faults = self.area_faults.saturating_add(1);
+    }
+
+    /// Counts a put that failed.
+    pub fn fail_put(&mut self)
+        ensures rose { Rose self.old.put_faults self.new.put_faults }
+        ensures later { self.old.put_faults ≤ self.new.put_faults }
+        ensures calls { self.old.calls ≤ self.new.calls }
+        ensures moment { Rose self.old.calls self.new.calls }
+        ensures area_faults { self.new.area_faults ≡ self.old.area_faults }
+        ensures puts { self.new.puts ≡ self.old.puts }
+    {
+        self.calls = self.calls.saturating_add(1);
+        self.put_faults = self.put_faults.saturating_add(1);
+    }
+
+    /// Counts a put.
+    pub fn put(&mut self)
+        requires { self.old.puts + 1 < 2 ^ 64 }
+        ensures puts { self.new.puts ≡ self.old.puts + 1 }
+        ensures calls { self.old.calls ≤ self.new.calls }
+        ensures moment { Rose self.old.calls self.new.calls }
+        ensures area_faults { self.new.area_faults ≡ self.old.area_faults }
+        ensures put_faults { self.new.put_faults ≡ self.old.put_faults }
+    {
+        self.calls = self.calls.saturating_add(1);
+        self.puts += 1;
+    }
+}

@@ -1,4 +1,0 @@
-use Rattle.pgs_graph.proofs.tests.edges_are_listed_at_both_ends.Given as goal
-
-abbrev pub ghosts-edges_at : goal.ghosts-edges_at
-ghosts-edges_at g a = record { name = a.blank.name; parts = a.blank.parts }

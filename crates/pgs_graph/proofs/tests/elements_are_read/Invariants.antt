@@ -1,4 +1,0 @@
-use Rattle.pgs_graph.proofs.tests.elements_are_read.Given as goal
-
-abbrev pub ghosts-carried : goal.ghosts-carried
-ghosts-carried g a = record { name = a.blank.name; parts = a.blank.parts }

@@ -1,0 +1,42 @@
+-- How the records of an area are read from its first gate on.
+use Rattle.std.specs.Prelude.{ℕ, zero, suc, ◌+◌, Bool, true, false, List, [], ◌∷◌, length, take, drop, nat_lt, if◌then◌else◌}
+use Rattle.byteorder.specs.Endian.{big_number}
+use Rattle.pgs_journal.specs.declared.records.Found.{Found}
+use Rattle.pgs_journal.specs.Format.{Format, is_open}
+
+-- what stands at a gate
+pub data Next : Type 0 where
+  -- it is closed
+  Closed : Next
+  -- an open record that isn't whole
+  Torn : Next
+  -- a whole record, and what begins at the gate behind it
+  Whole : (payload rest : List ℕ) → Next
+
+-- the record behind an open gate: whole where the gate behind it is inside too
+abbrev pub record_of : Format → ℕ → List ℕ → Next
+record_of First number bytes =
+    let size = big_number 8 bytes in
+    if nat_lt (8 + size) (length bytes) then Whole (take size (drop 8 bytes)) (drop (8 + size) bytes) else Torn
+
+abbrev pub next_of : Format → ℕ → List ℕ → Next
+next_of format number [] = Closed
+next_of format number (gate ∷ bytes) = if is_open gate then record_of format number bytes else Closed
+
+-- the same with one payload before them
+abbrev pub after_one : List ℕ → Found → Found
+after_one payload found = record { payloads = payload ∷ found.payloads; ended = found.ended }
+
+abbrev pub found_at : Next → (List ℕ → Found) → Found
+found_at Closed go = record { payloads = []; ended = true }
+found_at Torn go = record { payloads = []; ended = false }
+found_at (Whole payload rest) go = after_one payload (go rest)
+
+-- at most so many records, the first of them of this number
+abbrev pub records_within : Format → ℕ → ℕ → List ℕ → Found
+records_within format zero number bytes = record { payloads = []; ended = false }
+records_within format (suc most) number bytes = found_at (next_of format number bytes) (λ rest. records_within format most (suc number) rest)
+
+-- all of them: each takes some bytes
+abbrev pub records_in : Format → List ℕ → Found
+records_in format bytes = records_within format (suc (length bytes)) 1 bytes

@@ -1,0 +1,113 @@
+ghost use Rattle.std.specs.Prelude.{◌≡◌, ◌+◌, ◌<◌, ◌^◌, ◌++◌, ◌∷◌, [], List, ℕ, length, IsTrue, IfOk, OnOk, OnErr};
+ghost use Rattle.pgs_codec.specs.Frame.{framed};
+ghost use Rattle.pgs_journal.specs.Format.{First, is_epoch, Holds, IsFrames};
+ghost use Rattle.pgs_journal.specs.Stops.{Turns, Appends, Creates};
+ghost use Rattle.pgs_world.specs.Count.{Rose};
+ghost use Rattle.pgs_world.specs.Disk.{IsSameBeside};
+ghost use Rattle.pgs_world.specs.Moment.{Passes, StopsBy, ShowsOne, IsSynced, IsSettled, MakesNoPut};
+ghost use Rattle.pgs_world.specs.World.{part};
+
+use crate::steps::{close_gate, write_store};
+use pgs_world::{Area, AreaFault, World, cut_synced, write_synced};
+
+/// The byte of an open gate.
+pub(crate) const OPEN: u8 = 1;
+
+/// The journal of a store in one area.
+#[derive(Debug, Drop)]
+pub struct Journal {
+    pub area: Area,
+    pub epoch: u64,
+    /// The place of the closed gate behind the last record.
+    pub end: u64,
+}
+
+impl Journal {
+    /// Makes a store of this epoch in an area, whose records are those of the frames, one after the other, and whose journal
+    /// ends behind them. A stop during the call leaves of the area what it was, no store, or the new store, also where the
+    /// call fails. It takes no memory.
+    ///
+    /// `AreaFault` comes only where the count of area faults rose.
+    pub fn create<W: World>(
+        world: &mut W,
+        area: Area,
+        epoch: u64,
+        first: &[u8],
+    ) -> Result<Journal, AreaFault>
+        requires epoch { IsTrue (is_epoch epoch) }
+        requires frames { (payloads : List (List ℕ)) × IsFrames First payloads first.now }
+
+        // After Ok the area is the new store, and it is on the disk.
+        ensures holds { (payloads : List (List ℕ)) → IsFrames First payloads first.now
+            → IfOk result (λ journal. IsTrue (W.view world.old).tells_bytes
+            → Holds First epoch payloads journal.end (part area (W.view world.new).shown)) }
+        ensures synced { OnOk result (IsSynced area (W.view world.new)) }
+        ensures settled { OnOk result (IsSettled (W.view world.old) → IsSettled (W.view world.new)) }
+        ensures journal { IfOk result (λ journal. journal ≡ record { area = area; epoch = epoch; end = 16 + length first.now }) }
+        ensures within { IfOk result (λ journal. journal.end < 2 ^ 40) }
+
+        // What a stop leaves at any moment of the call, where the area was synced.
+        ensures stops { (payloads : List (List ℕ)) → IsFrames First payloads first.now
+            → IsTrue (W.view world.old).tells_bytes → IsSynced area (W.view world.old)
+            → StopsBy (Turns area (Creates First epoch payloads (16 + length first.now))) (W.view world.old) (W.view world.new) }
+        ensures stops_beside { StopsBy (IsSameBeside area) (W.view world.old) (W.view world.new) }
+        ensures beside { IsSameBeside area (W.view world.old).shown (W.view world.new).shown }
+
+        ensures passes { Passes (W.view world.old) (W.view world.new) }
+        ensures image { ShowsOne (W.view world.new) }
+        ensures cause { OnErr result (Rose (W.view world.old).area_faults (W.view world.new).area_faults) }
+        ensures no_cause { OnOk result ((W.view world.new).area_faults ≡ (W.view world.old).area_faults) }
+        ensures no_put { MakesNoPut (W.view world.old) (W.view world.new) }
+    {
+        close_gate(world, area)?;
+        cut_synced(world, area, 1)?;
+        write_store(world, area, epoch, first)?;
+        write_synced(world, area, 0, &[OPEN])?;
+        Ok(Journal {
+            area,
+            epoch,
+            end: 16 + first.len() as u64,
+        })
+    }
+
+    /// Appends a record, framed: at `Ok` it is on the disk, and the journal ends behind it. A stop during the call leaves
+    /// the records from before it, with the new one or without, also where the call fails. It takes no memory.
+    ///
+    /// `AreaFault` comes only where the count of area faults rose. The value isn't used again after it.
+    pub fn append<W: World>(&mut self, world: &mut W, frame: &[u8]) -> Result<(), AreaFault>
+        requires framed { (payload : List ℕ) × (frame.now ≡ framed payload) }
+        requires within { self.old.end < 2 ^ 40 }
+        requires holds { IsTrue (W.view world.old).tells_bytes
+            → (payloads : List (List ℕ)) × Holds First self.old.epoch payloads self.old.end (part self.old.area (W.view world.old).shown) }
+
+        // After Ok the area holds the new record, and it is on the disk.
+        ensures holds { (payload : List ℕ) (payloads : List (List ℕ)) → frame.now ≡ framed payload
+            → Holds First self.old.epoch payloads self.old.end (part self.old.area (W.view world.old).shown)
+            → OnOk result (IsTrue (W.view world.old).tells_bytes
+            → Holds First self.new.epoch (payloads ++ payload ∷ []) self.new.end (part self.new.area (W.view world.new).shown)) }
+        ensures synced { OnOk result (IsSynced self.old.area (W.view world.new)) }
+        ensures settled { OnOk result (IsSettled (W.view world.old) → IsSettled (W.view world.new)) }
+        ensures area { self.new.area ≡ self.old.area }
+        ensures epoch { self.new.epoch ≡ self.old.epoch }
+        ensures end { OnOk result (self.new.end ≡ self.old.end + length frame.now) }
+        ensures within { OnOk result (self.new.end < 2 ^ 40) }
+        ensures kept { OnErr result (self.new ≡ self.old) }
+
+        // What a stop leaves at any moment of the call.
+        ensures stops { (payload : List ℕ) → frame.now ≡ framed payload → IsTrue (W.view world.old).tells_bytes
+            → StopsBy (Turns self.old.area (Appends First self.old.epoch self.old.end payload)) (W.view world.old) (W.view world.new) }
+        ensures stops_beside { StopsBy (IsSameBeside self.old.area) (W.view world.old) (W.view world.new) }
+        ensures beside { IsSameBeside self.old.area (W.view world.old).shown (W.view world.new).shown }
+
+        ensures passes { Passes (W.view world.old) (W.view world.new) }
+        ensures image { ShowsOne (W.view world.new) }
+        ensures cause { OnErr result (Rose (W.view world.old).area_faults (W.view world.new).area_faults) }
+        ensures no_cause { OnOk result ((W.view world.new).area_faults ≡ (W.view world.old).area_faults) }
+        ensures no_put { MakesNoPut (W.view world.old) (W.view world.new) }
+    {
+        write_synced(world, self.area, self.end + 1, frame)?;
+        write_synced(world, self.area, self.end, &[OPEN])?;
+        self.end += frame.len() as u64;
+        Ok(())
+    }
+}

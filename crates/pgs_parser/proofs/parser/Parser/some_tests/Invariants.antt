@@ -1,0 +1,13 @@
+use Rattle.std.proofs.Common.{◌≡◌, length}
+use Rattle.pgs_parser.specs.Reader.{more, none_declared}
+use Rattle.pgs_parser.proofs.Items.{ahead}
+use Rattle.pgs_parser.specs.Reader.{listed_at, sign_at}
+use Rattle.pgs_parser.specs.KeyReaders.{test_at}
+use Rattle.pgs_parser.proofs.parser.Parser.some_tests.Given as goal
+
+abbrev pub invariant-loop-self : goal.invariant-loop-self
+invariant-loop-self l =
+    ahead l.tests.items (more (sign_at ",") (λ place. test_at) none_declared (length l.self) 0 l.self) ≡ listed_at (sign_at ",") test_at l.fn.self
+
+abbrev pub decreases-loop-self : goal.decreases-loop-self
+decreases-loop-self l = length l.self

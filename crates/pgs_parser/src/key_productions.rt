@@ -1,0 +1,375 @@
+//! The productions of keys, each named as in the grammar.
+
+ghost use Rattle.std.specs.Prelude.{◌≡◌, ◌∷◌, codes, IsTrue, ◌↔◌, true};
+ghost use Rattle.std.specs.List.{list_any};
+ghost use Rattle.pgs_syntax.specs.Valid.{are_distinct};
+ghost use Rattle.pgs_parser.specs.Keys.{all_asked, asked_by, is_same_kind};
+ghost use Rattle.pgs_parser.specs.Reader.{listed_at, each_at, sign_at, keyword_at, comma_unless, after, the_sign, name_at, maybe_at};
+ghost use Rattle.pgs_parser.specs.KeyReaders.{literal_at, test_at, names_at, tests_at, name_if_at, place_at, node_at, edge_at, arrow_at, step_at, step_begins, path_at, paths_at, qualifier_at, qualifier_begins, qualifier_list_at, qualifiers_at, expr_at, exprs_at, key_at};
+ghost use Rattle.pgs_parser.specs.Progress.{Reads, Moves};
+
+use crate::parser::Parser;
+use crate::qualifier::Qualifier;
+use crate::unread::Unread;
+use pgs_base::{List, Name, Value};
+use pgs_syntax::{Qualifiers, RawExpr, RawFilter, RawKey, RawPath, RawPlace, RawStep};
+
+impl Parser<'_> {
+    #[tactic(auto, unfolding(crate::specs::KeyReaders::literal_at))]
+    fn literal(&mut self) -> Result<Value, Unread>
+        ensures { Reads result self.new (literal_at self.old) }
+    {
+        if self.passes_keyword(b"DATE") {
+            self.day()
+        } else {
+            self.value()
+        }
+    }
+
+    #[tactic(auto, unfolding(crate::specs::KeyReaders::test_at))]
+    fn test(&mut self) -> Result<(Name, Value), Unread>
+        ensures { Reads result self.new (test_at self.old) }
+    {
+        let key = self.name()?;
+        self.sign(b":")?;
+        let value = self.literal()?;
+        Ok((key, value))
+    }
+
+    /// A name and further ones, with this sign between them.
+    pub fn some_names(&mut self, separator: &[u8]) -> Result<List<Name>, Unread>
+        ensures { Reads result self.new (listed_at (after (the_sign separator.now)) name_at self.old) }
+    {
+        let first = self.name()?;
+        let mut names = Vec::new(self.alloc);
+        names.push(first)?;
+        while self.passes_sign(separator) {
+            let name = self.name()?;
+            names.push(name)?;
+        }
+        Ok(List::from_vec(names))
+    }
+
+    /// Names after a colon, where one stands.
+    #[tactic(auto, unfolding(crate::specs::KeyReaders::names_at))]
+    fn names(&mut self) -> Result<List<Name>, Unread>
+        ensures { Reads result self.new (names_at self.old) }
+    {
+        if self.passes_sign(b":") {
+            self.some_names(b"&")
+        } else {
+            Ok(List::new(self.alloc))
+        }
+    }
+
+    /// A test and further ones.
+    fn some_tests(&mut self) -> Result<List<(Name, Value)>, Unread>
+        ensures { Reads result self.new (listed_at (sign_at ",") test_at self.old) }
+    {
+        let first = self.test()?;
+        let mut tests = Vec::new(self.alloc);
+        tests.push(first)?;
+        while self.passes_sign(b",") {
+            let test = self.test()?;
+            tests.push(test)?;
+        }
+        Ok(List::from_vec(tests))
+    }
+
+    /// Tests in braces, where they begin.
+    #[tactic(auto, unfolding(crate::specs::KeyReaders::tests_at))]
+    fn tests(&mut self) -> Result<List<(Name, Value)>, Unread>
+        ensures { Reads result self.new (tests_at self.old) }
+    {
+        if self.passes_sign(b"{") {
+            let tests = self.some_tests()?;
+            self.sign(b"}")?;
+            Ok(tests)
+        } else {
+            Ok(List::new(self.alloc))
+        }
+    }
+
+    /// A name, where one stands.
+    #[tactic(auto, unfolding(crate::specs::KeyReaders::name_if_at))]
+    fn name_if(&mut self) -> Result<Option<Name>, Unread>
+        ensures { Reads result self.new (name_if_at self.old) }
+    {
+        if self.is_at_name() {
+            let name = self.name()?;
+            Ok(Some(name))
+        } else {
+            Ok(None)
+        }
+    }
+
+    #[tactic(auto, unfolding(crate::specs::KeyReaders::place_at))]
+    fn place(&mut self) -> Result<RawPlace, Unread>
+        ensures { Reads result self.new (place_at self.old) }
+    {
+        let var = self.name_if()?;
+        let names = self.names()?;
+        let tests = self.tests()?;
+        let filter = RawFilter { names, tests };
+        Ok(RawPlace { var, filter })
+    }
+
+    #[tactic(auto, unfolding(crate::specs::KeyReaders::node_at))]
+    fn node(&mut self) -> Result<RawPlace, Unread>
+        ensures { Reads result self.new (node_at self.old) }
+    {
+        self.sign(b"(")?;
+        let place = self.place()?;
+        self.sign(b")")?;
+        Ok(place)
+    }
+
+    /// The place of an edge, in its brackets.
+    #[tactic(auto, unfolding(crate::specs::KeyReaders::edge_at))]
+    fn edge(&mut self) -> Result<RawPlace, Unread>
+        ensures { Reads result self.new (edge_at self.old) }
+    {
+        self.sign(b"[")?;
+        let place = self.place()?;
+        self.sign(b"]")?;
+        Ok(place)
+    }
+
+    /// The edge of a step, and whether its arrow leads forward.
+    #[tactic(auto, unfolding(crate::specs::KeyReaders::arrow_at))]
+    fn arrow(&mut self) -> Result<(bool, RawPlace), Unread>
+        ensures { Reads result self.new (arrow_at self.old) }
+    {
+        if self.passes_sign(b"-") {
+            let edge = self.edge()?;
+            self.sign(b"->")?;
+            Ok((true, edge))
+        } else {
+            self.sign(b"<-")?;
+            let edge = self.edge()?;
+            self.sign(b"-")?;
+            Ok((false, edge))
+        }
+    }
+
+    #[tactic(auto, unfolding(crate::specs::KeyReaders::step_at))]
+    fn step(&mut self) -> Result<RawStep, Unread>
+        ensures { Reads result self.new (step_at self.old) }
+    {
+        let (forward, edge) = self.arrow()?;
+        let node = self.node()?;
+        Ok(RawStep {
+            edge,
+            forward,
+            node,
+        })
+    }
+
+    fn is_at_step(&self) -> bool
+        ensures { Moves result self.now self.now (step_begins self.now) }
+    {
+        self.is_at_sign(b"-") || self.is_at_sign(b"<-")
+    }
+
+    fn steps(&mut self) -> Result<List<RawStep>, Unread>
+        ensures { Reads result self.new (each_at step_begins step_at self.old) }
+    {
+        let mut steps = Vec::new(self.alloc);
+        while self.is_at_step() {
+            let step = self.step()?;
+            steps.push(step)?;
+        }
+        Ok(List::from_vec(steps))
+    }
+
+    #[tactic(auto, unfolding(crate::specs::KeyReaders::path_at))]
+    fn path(&mut self) -> Result<RawPath, Unread>
+        ensures { Reads result self.new (path_at self.old) }
+    {
+        let start = self.node()?;
+        let steps = self.steps()?;
+        Ok(RawPath { start, steps })
+    }
+
+    /// A path and further ones, up to a comma before a key.
+    fn paths(&mut self) -> Result<List<RawPath>, Unread>
+        ensures { Reads result self.new (paths_at self.old) }
+    {
+        let first = self.path()?;
+        let mut paths = Vec::new(self.alloc);
+        paths.push(first)?;
+        while self.passes_comma_unless(b"FOR") {
+            let path = self.path()?;
+            paths.push(path)?;
+        }
+        Ok(List::from_vec(paths))
+    }
+
+    #[tactic(auto, unfolding(crate::specs::KeyReaders::qualifier_at))]
+    fn qualifier(&mut self) -> Result<Qualifier, Unread>
+        ensures { Reads result self.new (qualifier_at self.old) }
+    {
+        if self.passes_keyword(b"EXCLUSIVE") {
+            return Ok(Qualifier::Exclusive);
+        }
+        if self.passes_keyword(b"MANDATORY") {
+            return Ok(Qualifier::Mandatory);
+        }
+        self.keyword(b"SINGLETON")?;
+        Ok(Qualifier::Singleton)
+    }
+
+    /// Whether a qualifier has to follow, by a comma or a keyword; goes past the comma.
+    fn passes_to_qualifier(&mut self) -> bool
+        ensures { Moves result self.old self.new (qualifier_begins self.old) }
+    {
+        self.passes_sign(b",") || self.is_at_any_keyword()
+    }
+
+    /// A qualifier and further ones, with or without commas.
+    fn written_qualifiers(&mut self) -> Result<List<Qualifier>, Unread>
+        ensures { Reads result self.new (listed_at qualifier_begins qualifier_at self.old) }
+    {
+        let first = self.qualifier()?;
+        let mut written = Vec::new(self.alloc);
+        written.push(first)?;
+        while self.passes_to_qualifier() {
+            let qualifier = self.qualifier()?;
+            written.push(qualifier)?;
+        }
+        Ok(List::from_vec(written))
+    }
+
+    /// Qualifiers, each kind at most once.
+    #[tactic(auto, unfolding(crate::specs::KeyReaders::qualifier_list_at))]
+    fn qualifier_list(&mut self) -> Result<Qualifiers, Unread>
+        ensures { Reads result self.new (qualifier_list_at self.old) }
+    {
+        let written = self.written_qualifiers()?;
+        if each_kind_once(written.as_slice()) {
+            Ok(asked_by(written.as_slice()))
+        } else {
+            Err(Unread::OtherForm)
+        }
+    }
+
+    #[tactic(auto, unfolding(crate::specs::KeyReaders::qualifiers_at))]
+    fn qualifiers(&mut self) -> Result<Qualifiers, Unread>
+        ensures { Reads result self.new (qualifiers_at self.old) }
+    {
+        if self.passes_keyword(b"IDENTIFIER") {
+            Ok(Qualifiers {
+                mandatory: true,
+                singleton: true,
+                exclusive: true,
+            })
+        } else {
+            self.qualifier_list()
+        }
+    }
+
+    /// A property's key after a dot, where one stands.
+    #[tactic(auto, unfolding(crate::specs::Reader::maybe_at))]
+    fn key_if(&mut self) -> Result<Option<Name>, Unread>
+        ensures { Reads result self.new (maybe_at (sign_at ".") name_at self.old) }
+    {
+        if self.passes_sign(b".") {
+            let key = self.name()?;
+            Ok(Some(key))
+        } else {
+            Ok(None)
+        }
+    }
+
+    #[tactic(auto, unfolding(crate::specs::KeyReaders::expr_at))]
+    fn expr(&mut self) -> Result<RawExpr, Unread>
+        ensures { Reads result self.new (expr_at self.old) }
+    {
+        let var = self.name()?;
+        let key = self.key_if()?;
+        Ok(RawExpr { var, key })
+    }
+
+    /// An expression and further ones, up to a comma before a key.
+    fn exprs(&mut self) -> Result<List<RawExpr>, Unread>
+        ensures { Reads result self.new (exprs_at self.old) }
+    {
+        let first = self.expr()?;
+        let mut exprs = Vec::new(self.alloc);
+        exprs.push(first)?;
+        while self.passes_comma_unless(b"FOR") {
+            let expr = self.expr()?;
+            exprs.push(expr)?;
+        }
+        Ok(List::from_vec(exprs))
+    }
+
+    /// The descriptor after WITHIN, where it stands.
+    #[tactic(auto, unfolding(crate::specs::Reader::maybe_at))]
+    fn within(&mut self) -> Result<Option<List<RawPath>>, Unread>
+        ensures { Reads result self.new (maybe_at (keyword_at "WITHIN") paths_at self.old) }
+    {
+        if self.passes_keyword(b"WITHIN") {
+            let paths = self.paths()?;
+            Ok(Some(paths))
+        } else {
+            Ok(None)
+        }
+    }
+
+    /// A key, which has this number among the declarations.
+    #[tactic(auto, unfolding(crate::specs::KeyReaders::key_at))]
+    pub fn key(&mut self, place: u32) -> Result<RawKey, Unread>
+        ensures { Reads result self.new (key_at place self.old) }
+    {
+        self.keyword(b"FOR")?;
+        let scope = self.paths()?;
+        let qualifiers = self.qualifiers()?;
+        let exprs = self.exprs()?;
+        let within = self.within()?;
+        Ok(RawKey {
+            place,
+            qualifiers,
+            scope,
+            exprs,
+            within,
+        })
+    }
+}
+
+fn is_same_kind(one: Qualifier, other: Qualifier) -> bool
+    ensures { result ≡ is_same_kind one other }
+{
+    match (one, other) {
+        (Qualifier::Exclusive, Qualifier::Exclusive) => true,
+        (Qualifier::Mandatory, Qualifier::Mandatory) => true,
+        (Qualifier::Singleton, Qualifier::Singleton) => true,
+        _ => false,
+    }
+}
+
+fn has_kind(kind: Qualifier, written: &[Qualifier]) -> bool
+    ensures { result ≡ list_any (is_same_kind kind) written.now }
+{
+    written.iter().any(|other| is_same_kind(kind, *other))
+}
+
+/// Whether no kind stands twice. As there are three kinds, this is at most four calls deep.
+fn each_kind_once(written: &[Qualifier]) -> bool
+    ensures { result ≡ are_distinct is_same_kind written.now }
+{
+    match written {
+        [] => true,
+        [first, others @ ..] => !has_kind(*first, others) && each_kind_once(others),
+    }
+}
+
+fn asked_by(written: &[Qualifier]) -> Qualifiers
+    ensures { result ≡ asked_by written.now }
+{
+    Qualifiers {
+        mandatory: has_kind(Qualifier::Mandatory, written),
+        singleton: has_kind(Qualifier::Singleton, written),
+        exclusive: has_kind(Qualifier::Exclusive, written),
+    }
+}
