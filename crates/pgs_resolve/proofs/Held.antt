@@ -17,7 +17,7 @@ pub known : (variables : List (Variable × Bool)) (v : Variable × Bool) (table 
     Holds variables table → Holds (with_variable variables v) table
 known variables v table there holds =
     let e : with_variable variables v ≡ variables =
-        ap (λ b. cond b variables (variables ++ v ∷ [])) (sym (some_place (is_same v.0) variables) ∙ there) in
+    ap (λ b. cond b variables (variables ++ v ∷ [])) (sym (some_place (is_same v.0) variables) ∙ there) in
     let P : List (Variable × Bool) → Type 0 = λ vs. Holds vs table in
     subst P (sym e) holds
 

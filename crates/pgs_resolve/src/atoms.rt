@@ -8,7 +8,13 @@ use pgs_syntax::{Atom, RawFilter};
 use std::alloc::Global;
 
 // What a name in a place asks.
-fn name_atom(alloc: Global, numbering: &Numbering, is_edge: bool, var: u32, name: &Name) -> Result<Atom, Memory>
+fn name_atom(
+    alloc: Global,
+    numbering: &Numbering,
+    is_edge: bool,
+    var: u32,
+    name: &Name,
+) -> Result<Atom, Memory>
     ensures { IfOk result (λ atom. atom ≡ name_atom numbering.now is_edge var name.now) }
 {
     let number = if is_edge {
@@ -31,7 +37,14 @@ fn name_atom(alloc: Global, numbering: &Numbering, is_edge: bool, var: u32, name
     }
 }
 
-fn push_names(alloc: Global, numbering: &Numbering, is_edge: bool, var: u32, names: &[Name], atoms: &mut Vec<Atom>) -> Result<(), Memory>
+fn push_names(
+    alloc: Global,
+    numbering: &Numbering,
+    is_edge: bool,
+    var: u32,
+    names: &[Name],
+    atoms: &mut Vec<Atom>,
+) -> Result<(), Memory>
     ensures { OnOk result (atoms.new.items ≡ atoms.old.items ++ map (name_atom numbering.now is_edge var) names.now) }
 {
     for name in names {
@@ -40,7 +53,12 @@ fn push_names(alloc: Global, numbering: &Numbering, is_edge: bool, var: u32, nam
     Ok(())
 }
 
-fn push_tests(alloc: Global, var: u32, tests: &[(Name, Value)], atoms: &mut Vec<Atom>) -> Result<(), Memory>
+fn push_tests(
+    alloc: Global,
+    var: u32,
+    tests: &[(Name, Value)],
+    atoms: &mut Vec<Atom>,
+) -> Result<(), Memory>
     ensures { OnOk result (atoms.new.items ≡ atoms.old.items ++ map (λ test. Equals var test.0 test.1) tests.now) }
 {
     for test in tests {
@@ -52,10 +70,24 @@ fn push_tests(alloc: Global, var: u32, tests: &[(Name, Value)], atoms: &mut Vec<
 }
 
 /// Puts the atoms of a place last: its names, and then its tests.
-pub fn push_place(alloc: Global, numbering: &Numbering, is_edge: bool, var: u32, filter: &RawFilter, atoms: &mut Vec<Atom>) -> Result<(), Memory>
+pub fn push_place(
+    alloc: Global,
+    numbering: &Numbering,
+    is_edge: bool,
+    var: u32,
+    filter: &RawFilter,
+    atoms: &mut Vec<Atom>,
+) -> Result<(), Memory>
     ensures { OnOk result (atoms.new.items ≡ atoms.old.items ++ place_atoms numbering.now is_edge var filter.now) }
 {
-    push_names(alloc, numbering, is_edge, var, filter.names.as_slice(), atoms)?;
+    push_names(
+        alloc,
+        numbering,
+        is_edge,
+        var,
+        filter.names.as_slice(),
+        atoms,
+    )?;
     push_tests(alloc, var, filter.tests.as_slice(), atoms)
 }
 

@@ -69,7 +69,15 @@ fn push_path(
 {
     let node = variables.number(place, &path.start);
     push_place(alloc, numbering, false, node, &path.start.filter, atoms)?;
-    push_steps(alloc, numbering, variables, node, place + 1, path.steps.as_slice(), atoms)?;
+    push_steps(
+        alloc,
+        numbering,
+        variables,
+        node,
+        place + 1,
+        path.steps.as_slice(),
+        atoms,
+    )?;
     Ok(())
 }
 
@@ -94,7 +102,12 @@ fn push_paths(
 }
 
 /// The pattern of paths, with x as the first of its variables.
-pub fn pattern_of(alloc: Global, numbering: &Numbering, x: &Name, paths: &[RawPath]) -> Result<Pattern, Memory>
+pub fn pattern_of(
+    alloc: Global,
+    numbering: &Numbering,
+    x: &Name,
+    paths: &[RawPath],
+) -> Result<Pattern, Memory>
     ensures { IfOk result (λ pattern. pattern ≡ pattern_of numbering.now x.now paths.now) }
 {
     let places = places_of(alloc, paths)?;

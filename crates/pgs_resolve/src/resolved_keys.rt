@@ -52,7 +52,11 @@ fn resolve_expr(alloc: Global, variables: &Variables, expr: &RawExpr) -> Result<
     }
 }
 
-fn resolve_exprs(alloc: Global, variables: &Variables, exprs: &[RawExpr]) -> Result<List<Expr>, Memory>
+fn resolve_exprs(
+    alloc: Global,
+    variables: &Variables,
+    exprs: &[RawExpr],
+) -> Result<List<Expr>, Memory>
     ensures { IfOk result (λ resolved. (held : Items (Variable × Bool)) → Holds held variables.now → resolved ≡ map (resolved_expr held) exprs.now) }
 {
     let mut resolved = Vec::new(alloc);
@@ -62,7 +66,13 @@ fn resolve_exprs(alloc: Global, variables: &Variables, exprs: &[RawExpr]) -> Res
     Ok(List::from_vec(resolved))
 }
 
-fn resolve_descriptor(alloc: Global, numbering: &Numbering, x: &Name, scope: &Pattern, key: &RawKey) -> Result<Pattern, Memory>
+fn resolve_descriptor(
+    alloc: Global,
+    numbering: &Numbering,
+    x: &Name,
+    scope: &Pattern,
+    key: &RawKey,
+) -> Result<Pattern, Memory>
     ensures { IfOk result (λ pattern. pattern ≡ option_map_or (pattern_of numbering.now x.now) key.now.within (x_alone scope.now)) }
 {
     match &key.within {
@@ -72,7 +82,12 @@ fn resolve_descriptor(alloc: Global, numbering: &Numbering, x: &Name, scope: &Pa
 }
 
 /// A key with its names resolved, where x is the first variable that its scope names.
-pub fn resolve_key(alloc: Global, numbering: &Numbering, x: &Name, key: &RawKey) -> Result<Key, Memory>
+pub fn resolve_key(
+    alloc: Global,
+    numbering: &Numbering,
+    x: &Name,
+    key: &RawKey,
+) -> Result<Key, Memory>
     requires { x_of key.now ≡ Some x.now }
     ensures { IfOk result (λ resolved. resolved ≡ resolved_key numbering.now key.now) }
 {
