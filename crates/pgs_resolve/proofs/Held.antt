@@ -1,7 +1,7 @@
 -- One more variable in a table.
 use Rattle.std.proofs.Common.{◌≡◌, ℕ, ◌==◌, Bool, true, false, cond, List, [], ◌∷◌, ◌++◌, length, map, Option, Some, None, refl, sym, ◌∙◌, ap, subst, arith}
 use Rattle.std.specs.Option.{is_some}
-use Rattle.std.specs.List.{position, list_any}
+use Rattle.std.specs.List.{position}
 use Rattle.std.specs.Ordering.{nat_cmp, is_eq}
 use Rattle.std.specs.Cmp.Lexicographic.{slice_cmp}
 use Rattle.std.specs.BTreeMap.{get}
@@ -9,7 +9,7 @@ use Rattle.std.proofs.lemmas.Bool.Decides.{nat_tests}
 use Rattle.std.proofs.lemmas.List.{map-append, length-map}
 use Rattle.pgs_base.specs.Pair.{same_name}
 use Rattle.pgs_resolve.specs.declared.variables.Variables.{Variables}
-use Rattle.pgs_resolve.specs.Patterns.{Variable, called, nameless, same_variable, is_same, with_variable}
+use Rattle.pgs_resolve.specs.Patterns.{Variable, called, nameless, is_same, with_variable}
 use Rattle.pgs_resolve.specs.VariableTable.{Holds}
 use Rattle.pgs_resolve.proofs.Same.{some_place, place_after, in_turn, one_name}
 

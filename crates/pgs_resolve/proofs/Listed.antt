@@ -1,8 +1,8 @@
 -- The variables of places, a place at a time.
-use Rattle.std.proofs.Common.{◌≡◌, ℕ, suc, ◌+◌, ◌<◌, ◌≤◌, Bool, true, false, cond, List, [], ◌∷◌, ◌++◌, length, map, take, drop, get_or, Option, Some, None, refl, sym, ◌∙◌, ap, arith, true≢false, add-zero, add-one}
+use Rattle.std.proofs.Common.{◌≡◌, ℕ, suc, ◌+◌, ◌<◌, Bool, true, false, cond, List, [], ◌∷◌, ◌++◌, length, map, take, drop, get_or, Option, Some, None, refl, sym, ◌∙◌, ap, arith, add-one}
 use Rattle.std.specs.List.{find, fold}
 use Rattle.std.specs.Option.{option_to_list, option_map}
-use Rattle.std.proofs.lemmas.List.{map-append, length-map, take_all}
+use Rattle.std.proofs.lemmas.List.{map-append, length-map}
 use Rattle.std.proofs.Math.Seq.{drop-cons}
 use Rattle.pgs_resolve.specs.declared.places.PlaceRef.{PlaceRef}
 use Rattle.pgs_resolve.specs.Patterns.{Place, Variable, called, nameless, same_variable, is_same, variable_at, variables_at, with_variable}

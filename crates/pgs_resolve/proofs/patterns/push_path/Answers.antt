@@ -1,4 +1,4 @@
-use Rattle.std.proofs.Common.{◌≡◌, ℕ, ◌+◌, false, ◌++◌, List, ◌∙◌, ap}
+use Rattle.std.proofs.Common.{ℕ, ◌+◌, false, ◌++◌, List, ◌∙◌, ap}
 use Rattle.pgs_syntax.specs.declared.raw.RawStep.{RawStep}
 use Rattle.pgs_resolve.specs.Patterns.{variable_at, number_of, place_atoms, step_atoms}
 use Rattle.pgs_resolve.proofs.Stepped.{two_more}

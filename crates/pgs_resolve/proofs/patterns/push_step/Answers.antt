@@ -1,4 +1,4 @@
-use Rattle.std.proofs.Common.{◌≡◌, ℕ, ◌+◌, true, false, ◌++◌, ◌∷◌, [], List, ◌∙◌, ap}
+use Rattle.std.proofs.Common.{ℕ, true, false, ◌++◌, ◌∷◌, [], ◌∙◌, ap}
 use Rattle.pgs_syntax.specs.declared.pattern.Atom.{Atom}
 use Rattle.pgs_resolve.specs.Patterns.{variable_at, number_of, place_atoms, ends}
 use Rattle.pgs_resolve.proofs.Stepped.{three_more}

@@ -1,4 +1,4 @@
-use Rattle.std.proofs.Common.{◌≡◌, ℕ, Bool, List, [], map, Some, sym, subst}
+use Rattle.std.proofs.Common.{Bool, List, [], map, Some, subst}
 use Rattle.pgs_resolve.specs.Patterns.{Variable, variables_at}
 use Rattle.pgs_resolve.specs.Placed.{placed}
 use Rattle.pgs_resolve.specs.VariableTable.{Holds}

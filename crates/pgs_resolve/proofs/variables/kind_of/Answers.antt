@@ -1,4 +1,4 @@
-use Rattle.std.proofs.Common.{◌≡◌, Bool, sym, ◌∙◌, ap, arith}
+use Rattle.std.proofs.Common.{Bool, sym, ◌∙◌, ap, arith}
 use Rattle.std.specs.Option.{option_map}
 use Rattle.pgs_resolve.specs.Patterns.{Variable}
 use Rattle.pgs_resolve.proofs.Listed.{kind_later, kind_here}

@@ -1,4 +1,4 @@
-use Rattle.std.proofs.Common.{◌≡◌, ℕ, Bool, List, sym, subst, arith}
+use Rattle.std.proofs.Common.{Bool, List, sym, subst, arith}
 use Rattle.std.proofs.lemmas.List.{length-take-le}
 use Rattle.pgs_resolve.specs.Patterns.{Variable}
 use Rattle.pgs_resolve.specs.VariableTable.{Holds}
