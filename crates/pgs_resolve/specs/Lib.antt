@@ -10,4 +10,5 @@ pub mod Resolution
 pub mod Samples
 pub mod SchemaOf
 pub mod Tables
+pub mod VariableTable
 pub mod Width

@@ -1,8 +1,8 @@
 -- Keys resolved: their paths as patterns over numbered variables. The variable x, the first that the scope names, has number
 -- 0 in both patterns, and the others go by their first places. A place without a name is a variable of its own.
-use Rattle.std.specs.Prelude.{ℕ, ◌+◌, ◌*◌, ◌==◌, Bool, true, false, not, List, [], ◌∷◌, ◌++◌, length, take, Option, map, filter, filter_map, flat_map, unwrap_or, slice_get}
-use Rattle.std.specs.List.{enumerate_from, position}
-use Rattle.std.specs.Option.{option_map_or}
+use Rattle.std.specs.Prelude.{ℕ, ◌+◌, ◌*◌, ◌==◌, Bool, true, false, List, [], ◌∷◌, ◌++◌, length, take, Option, if◌then◌else◌, map, filter_map, flat_map, unwrap_or, slice_get}
+use Rattle.std.specs.List.{position, find, fold, list_any}
+use Rattle.std.specs.Option.{option_map_or, option_to_list}
 use Rattle.pgs_base.specs.declared.value.Value.{Value}
 use Rattle.pgs_syntax.specs.declared.key.Key.{Key}
 use Rattle.pgs_syntax.specs.declared.pattern.Atom.{Atom}
@@ -58,20 +58,27 @@ same_variable _ _ = false
 abbrev pub variable_at : ℕ → RawPlace → Variable
 variable_at number place = option_map_or called place.var (nameless number)
 
--- variables, each with whether it is an edge, without those that stand before
-abbrev pub first_places : List (Variable × Bool) → List (Variable × Bool)
-first_places [] = []
-first_places (v ∷ vs) = v ∷ filter (λ (w : Variable × Bool). not (same_variable v.0 w.0)) (first_places vs)
+-- the variables of places in order, the first of which has this number, each with whether it is an edge
+abbrev pub variables_at : ℕ → List Place → List (Variable × Bool)
+variables_at number [] = []
+variables_at number (place ∷ places) = (variable_at number place.at, place.is_edge) ∷ variables_at (number + 1) places
 
--- the variables of paths in order, with x before the others
+-- whether a variable is among variables, and these with it
+abbrev pub is_same : Variable → Variable × Bool → Bool
+is_same variable other = same_variable variable other.0
+
+abbrev pub with_variable : List (Variable × Bool) → Variable × Bool → List (Variable × Bool)
+with_variable variables variable = if list_any (is_same variable.0) variables then variables else variables ++ variable ∷ []
+
+-- the variables of paths: x, where it is named, and then the others by their first places
 abbrev pub variables_of : List ℕ → List RawPath → List (Variable × Bool)
 variables_of x paths =
-    let all = first_places (map (λ (p : ℕ × Place). (variable_at p.0 p.1.at, p.1.is_edge)) (enumerate_from 0 (places_of paths))) in
-    filter (λ (v : Variable × Bool). same_variable (called x) v.0) all ++ filter (λ (v : Variable × Bool). not (same_variable (called x) v.0)) all
+    let all = variables_at 0 (places_of paths) in
+    fold with_variable (option_to_list (find (is_same (called x)) all)) all
 
 -- the number of a variable among them
 abbrev pub number_of : List (Variable × Bool) → Variable → ℕ
-number_of variables variable = unwrap_or (position (λ (v : Variable × Bool). same_variable variable v.0) variables) 0
+number_of variables variable = unwrap_or (position (is_same variable) variables) 0
 
 -- ---- atoms
 

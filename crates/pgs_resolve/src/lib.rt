@@ -4,6 +4,7 @@
 //! are computed in `specs/Resolution.antt`. `specs/SchemaOf.antt` says what a text is, from its bytes to its schema.
 #![tactic(auto)]
 
+mod atoms;
 mod declarations;
 mod duplicates;
 mod fault;
@@ -14,11 +15,14 @@ mod kinds;
 pub mod laws;
 mod names;
 mod order;
+mod patterns;
 mod pieces;
 mod places;
+mod resolved_keys;
 mod resolved_types;
 pub mod samples;
 mod specifications;
 mod unknown;
+mod variables;
 
 pub use fault::{KeyCause, ResolveFault};

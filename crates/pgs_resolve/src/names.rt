@@ -30,8 +30,8 @@ impl Model for Names {
     ghost invariant = { λ names. (name : List ℕ) → get (slice_cmp nat_cmp) names.places name ≡ position (same_name name) names.items.items };
 }
 
-// The number of a new name after so many. Numbers have 32 bits: there is no memory for more names.
-fn next_number(len: usize) -> Result<u32, Memory>
+/// The number of a new name after so many. Numbers have 32 bits: there is no memory for more names.
+pub fn next_number(len: usize) -> Result<u32, Memory>
     ensures { IfOk result (λ number. number ≡ len) }
 {
     match u32::try_from(len) {
