@@ -1,0 +1,183 @@
+ghost use Rattle.std.specs.Prelude.{◌≡◌, ◌<◌, ◌+◌, ◌^◌, ◌↔◌, [], fold, length, slice_get, IfOk, IsTrue, MatchResult};
+ghost use Rattle.pgs_base.specs.Graph.{edge_cmp};
+ghost use Rattle.std.specs.List.{list_any};
+ghost use Rattle.std.specs.List.Sorted.{IsStrictlySortedBy};
+ghost use Rattle.std.specs.BTreeMap.{is_at};
+ghost use Rattle.std.specs.BTreeSet.{insert_key};
+ghost use Rattle.std.specs.Set.{remove_key};
+ghost use Rattle.pgs_base.specs.Places.{IsKeyAt, IsKeyGap};
+
+use crate::Chunks;
+use pgs_base::{EdgeId, Memory};
+use std::alloc::Global;
+use std::marker::Model;
+
+/// Ids that ascend strictly. Contracts see the list of them. A list with one more or one fewer is a new
+/// list, which shares with this one all that it does not touch.
+#[derive(Drop)]
+pub struct EdgeList {
+    ids: Chunks,
+}
+
+impl Model for EdgeList {
+    ghost use Rattle.std.specs.Prelude.{List};
+    ghost use Rattle.pgs_base.specs.declared.element.EdgeId.{EdgeId};
+    ghost use Rattle.pgs_base.specs.Graph.{edge_cmp};
+    ghost use Rattle.std.specs.List.Sorted.{IsStrictlySortedBy};
+
+    ghost Value = { List EdgeId };
+
+    ghost view = { λ list. list.ids };
+
+    ghost invariant = { λ list. IsStrictlySortedBy edge_cmp list.ids };
+}
+
+impl EdgeList {
+    /// No ids. It takes no memory.
+    pub fn new(alloc: Global) -> EdgeList
+        ensures { result ≡ [] }
+    {
+        EdgeList {
+            ids: Chunks::new(alloc),
+        }
+    }
+
+    /// The list of ids that ascend. `Memory` where there was none left.
+    pub fn from_slice(alloc: Global, ids: &[EdgeId]) -> Result<EdgeList, Memory>
+        requires { IsStrictlySortedBy edge_cmp ids.now }
+        ensures { IfOk result (λ list. list ≡ ids.now) }
+    {
+        let ids = Chunks::from_slice(alloc, ids)?;
+        Ok(EdgeList { ids })
+    }
+
+    /// How many ids there are.
+    pub fn len(&self) -> usize
+        ensures value { result ≡ length self.now }
+        ensures ascending { IsStrictlySortedBy edge_cmp self.now }
+    {
+        self.ids.len()
+    }
+
+    /// Whether there is no id.
+    pub fn is_empty(&self) -> bool
+        ensures { IsTrue result ↔ (self.now ≡ []) }
+    {
+        self.ids.len() == 0
+    }
+
+    /// The id at a place, from 0. `None` exactly past the last.
+    pub fn at(&self, place: usize) -> Option<EdgeId>
+        ensures { result ≡ slice_get self.now place }
+    {
+        self.ids.at(place)
+    }
+
+    /// Where the id stands, or where it would go.
+    pub fn place(&self, id: EdgeId) -> Result<usize, usize>
+        ensures there { MatchResult result (IsKeyAt edge_cmp id self.now) (IsKeyGap edge_cmp id self.now) }
+        ensures small { IfOk result (λ place. place + 1 < 2 ^ 64) }
+    {
+        self.ids.search(id)
+    }
+
+    /// Whether the id is there.
+    pub fn contains(&self, id: EdgeId) -> bool
+        ensures { result ≡ list_any (is_at (edge_cmp id)) self.now }
+    {
+        self.place(id).is_ok()
+    }
+
+    /// An equal list. `Memory` where there was none left.
+    pub fn copy(&self, alloc: Global) -> Result<EdgeList, Memory>
+        ensures { IfOk result (λ list. list ≡ self.now) }
+    {
+        let ids = self
+            .ids
+            .spliced(alloc, self.ids.len(), self.ids.len(), &[])?;
+        Ok(EdgeList { ids })
+    }
+
+    /// The list with an id put in; where it is there already, an equal list. `Memory` where there was none left.
+    pub fn with(&self, alloc: Global, id: EdgeId) -> Result<EdgeList, Memory>
+        ensures { IfOk result (λ list. list ≡ insert_key edge_cmp self.now id) }
+    {
+        match self.place(id) {
+            Ok(_) => self.copy(alloc),
+            Err(place) => {
+                let ids = self.ids.spliced(alloc, place, place, &[id])?;
+                Ok(EdgeList { ids })
+            }
+        }
+    }
+
+    /// The list with an id taken out; where it is not there, an equal list. `Memory` where there was none left.
+    pub fn without(&self, alloc: Global, id: EdgeId) -> Result<EdgeList, Memory>
+        ensures { IfOk result (λ list. list ≡ remove_key (is_at (edge_cmp id)) self.now) }
+    {
+        match self.place(id) {
+            Ok(place) => {
+                let ids = self.ids.spliced(alloc, place, place + 1, &[])?;
+                Ok(EdgeList { ids })
+            }
+            Err(_) => self.copy(alloc),
+        }
+    }
+
+    /// The list with ids put in that ascend. `Memory` where there was none left.
+    pub fn with_all(&self, alloc: Global, ids: &[EdgeId]) -> Result<EdgeList, Memory>
+        requires { IsStrictlySortedBy edge_cmp ids.now }
+        ensures { IfOk result (λ list. list ≡ fold (insert_key edge_cmp) self.now ids.now) }
+    {
+        let mut built = self.ids.emptied(alloc)?;
+        let mut done = 0;
+        for id in ids {
+            match self.ids.search(*id) {
+                Ok(_) => {}
+                Err(place) => {
+                    built.append_range(alloc, &self.ids, done, place)?;
+                    built.append(alloc, &[*id])?;
+                    done = place;
+                }
+            }
+        }
+        built.append_range(alloc, &self.ids, done, self.ids.len())?;
+        Ok(EdgeList { ids: built })
+    }
+
+    /// The list with ids taken out that ascend. `Memory` where there was none left.
+    pub fn without_all(&self, alloc: Global, ids: &[EdgeId]) -> Result<EdgeList, Memory>
+        requires { IsStrictlySortedBy edge_cmp ids.now }
+        ensures { IfOk result (λ list. list ≡ fold (λ left id. remove_key (is_at (edge_cmp id)) left) self.now ids.now) }
+    {
+        let mut built = self.ids.emptied(alloc)?;
+        let mut done = 0;
+        for id in ids {
+            match self.ids.search(*id) {
+                Ok(place) => {
+                    built.append_range(alloc, &self.ids, done, place)?;
+                    done = place + 1;
+                }
+                Err(_) => {}
+            }
+        }
+        built.append_range(alloc, &self.ids, done, self.ids.len())?;
+        Ok(EdgeList { ids: built })
+    }
+
+    /// The list with ids taken out and then others put in. Both ascend. `Memory` where there was none left.
+    pub fn changed(&self, alloc: Global, added: &[EdgeId], removed: &[EdgeId]) -> Result<EdgeList, Memory>
+        requires added_ascend { IsStrictlySortedBy edge_cmp added.now }
+        requires removed_ascend { IsStrictlySortedBy edge_cmp removed.now }
+        ensures { IfOk result (λ list. list ≡ fold (insert_key edge_cmp) (fold (λ left id. remove_key (is_at (edge_cmp id)) left) self.now removed.now) added.now) }
+    {
+        if removed.is_empty() {
+            return self.with_all(alloc, added);
+        }
+        let left = self.without_all(alloc, removed)?;
+        if added.is_empty() {
+            return Ok(left);
+        }
+        left.with_all(alloc, added)
+    }
+}
