@@ -16,7 +16,7 @@ use Rattle.pgs_base.proofs.Places.{key_searched}
 pub numbers_same : {a b : EdgeId} → a ≡ b → a.0 ≡ b.0
 numbers_same e = ap (λ (id : EdgeId). id.0) e
 
-edge_cmp_total : IsTotalOrder edge_cmp
+pub edge_cmp_total : IsTotalOrder edge_cmp
 edge_cmp_total = on_total (λ (id : EdgeId). id.0) nat_cmp_total
 
 -- which item stands past the last doesn't matter at the others

@@ -263,6 +263,18 @@ impl Chunks {
         Ok(chunks)
     }
 
+    /// The ids in one block, which has room for no more.
+    pub fn to_block(&self, alloc: Global) -> Result<Vec<EdgeId>, Memory>
+        ensures { IfOk result (λ block. block.items ≡ self.now) }
+    {
+        let mut block = Vec::with_capacity(alloc, self.len())?;
+        let parts = self.parts.as_slice();
+        for part in parts {
+            block.extend_from_slice(part.ids.as_slice())?;
+        }
+        Ok(block)
+    }
+
     /// No ids, and memory for about as many chunks as there are here.
     pub fn emptied(&self, alloc: Global) -> Result<Chunks, Memory>
         ensures { IfOk result (λ chunks. chunks ≡ []) }

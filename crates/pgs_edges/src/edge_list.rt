@@ -7,8 +7,8 @@ ghost use Rattle.std.specs.BTreeSet.{insert_key};
 ghost use Rattle.std.specs.Set.{remove_key};
 ghost use Rattle.pgs_base.specs.Places.{IsKeyAt, IsKeyGap};
 
-use crate::Chunks;
-use pgs_base::{EdgeId, Memory};
+use crate::Ids;
+use pgs_base::{Copyable, EdgeId, Memory};
 use std::alloc::Global;
 use std::marker::Model;
 
@@ -16,7 +16,7 @@ use std::marker::Model;
 /// list, which shares with this one all that it does not touch.
 #[derive(Drop)]
 pub struct EdgeList {
-    ids: Chunks,
+    ids: Ids,
 }
 
 impl Model for EdgeList {
@@ -38,7 +38,7 @@ impl EdgeList {
         ensures { result ≡ [] }
     {
         EdgeList {
-            ids: Chunks::new(alloc),
+            ids: Ids::new(alloc),
         }
     }
 
@@ -47,7 +47,7 @@ impl EdgeList {
         requires { IsStrictlySortedBy edge_cmp ids.now }
         ensures { IfOk result (λ list. list ≡ ids.now) }
     {
-        let ids = Chunks::from_slice(alloc, ids)?;
+        let ids = Ids::from_slice(alloc, ids)?;
         Ok(EdgeList { ids })
     }
 
@@ -88,16 +88,6 @@ impl EdgeList {
         self.place(id).is_ok()
     }
 
-    /// An equal list. `Memory` where there was none left.
-    pub fn copy(&self, alloc: Global) -> Result<EdgeList, Memory>
-        ensures { IfOk result (λ list. list ≡ self.now) }
-    {
-        let ids = self
-            .ids
-            .spliced(alloc, self.ids.len(), self.ids.len(), &[])?;
-        Ok(EdgeList { ids })
-    }
-
     /// The list with an id put in; where it is there already, an equal list. `Memory` where there was none left.
     pub fn with(&self, alloc: Global, id: EdgeId) -> Result<EdgeList, Memory>
         ensures { IfOk result (λ list. list ≡ insert_key edge_cmp self.now id) }
@@ -129,20 +119,8 @@ impl EdgeList {
         requires { IsStrictlySortedBy edge_cmp ids.now }
         ensures { IfOk result (λ list. list ≡ fold (insert_key edge_cmp) self.now ids.now) }
     {
-        let mut built = self.ids.emptied(alloc)?;
-        let mut done = 0;
-        for id in ids {
-            match self.ids.search(*id) {
-                Ok(_) => {}
-                Err(place) => {
-                    built.append_range(alloc, &self.ids, done, place)?;
-                    built.append(alloc, &[*id])?;
-                    done = place;
-                }
-            }
-        }
-        built.append_range(alloc, &self.ids, done, self.ids.len())?;
-        Ok(EdgeList { ids: built })
+        let ids = self.ids.with_all(alloc, ids)?;
+        Ok(EdgeList { ids })
     }
 
     /// The list with ids taken out that ascend. `Memory` where there was none left.
@@ -150,19 +128,8 @@ impl EdgeList {
         requires { IsStrictlySortedBy edge_cmp ids.now }
         ensures { IfOk result (λ list. list ≡ fold (λ left id. remove_key (is_at (edge_cmp id)) left) self.now ids.now) }
     {
-        let mut built = self.ids.emptied(alloc)?;
-        let mut done = 0;
-        for id in ids {
-            match self.ids.search(*id) {
-                Ok(place) => {
-                    built.append_range(alloc, &self.ids, done, place)?;
-                    done = place + 1;
-                }
-                Err(_) => {}
-            }
-        }
-        built.append_range(alloc, &self.ids, done, self.ids.len())?;
-        Ok(EdgeList { ids: built })
+        let ids = self.ids.without_all(alloc, ids)?;
+        Ok(EdgeList { ids })
     }
 
     /// The list with ids taken out and then others put in. Both ascend. `Memory` where there was none left.
@@ -179,5 +146,13 @@ impl EdgeList {
             return Ok(left);
         }
         left.with_all(alloc, added)
+    }
+}
+
+impl Copyable for EdgeList {
+    fn copy(&self, alloc: Global) -> Result<EdgeList, Memory> {
+        let last = self.ids.len();
+        let ids = self.ids.spliced(alloc, last, last, &[])?;
+        Ok(EdgeList { ids })
     }
 }

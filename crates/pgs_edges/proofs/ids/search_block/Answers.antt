@@ -1,0 +1,6 @@
+use Rattle.pgs_base.proofs.Places.{key_searched}
+use Rattle.pgs_edges.proofs.Searched.{edge_cmp_total}
+use Rattle.pgs_edges.proofs.ids.search_block.Goals as goal
+
+pub returns-clause-there : goal.returns-clause-there
+returns-clause-there c = key_searched edge_cmp_total c.args.id c.args.block.now c.requires c.binary_search.result c.binary_search.ensures.bound c.binary_search.ensures.position
