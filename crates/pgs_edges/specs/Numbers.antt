@@ -2,6 +2,7 @@
 use Rattle.std.specs.Prelude.{ℕ, ◌<◌, ◌≤◌, List, length, get_or}
 use Rattle.pgs_base.specs.declared.element.EdgeId.{EdgeId}
 
+-- the edge of a number
 abbrev pub numbered : ℕ → EdgeId
 numbered n = record { 0 = n }
 

@@ -9,7 +9,7 @@ use crate::Chunks;
 use pgs_base::{EdgeId, Memory};
 use std::alloc::Global;
 
-/// A list that ascends, with ids put in that ascend. `Memory` where there was none left.
+/// A list that ascends, with ids put in that ascend, in one pass. `Memory` where none was left.
 pub fn with_each(alloc: Global, list: &Chunks, ids: &[EdgeId]) -> Result<Chunks, Memory>
     requires ascends { IsStrictlySortedBy edge_cmp list.now }
     requires ids_ascend { IsStrictlySortedBy edge_cmp ids.now }
@@ -31,7 +31,7 @@ pub fn with_each(alloc: Global, list: &Chunks, ids: &[EdgeId]) -> Result<Chunks,
     Ok(built)
 }
 
-/// A list that ascends, with ids taken out that ascend. `Memory` where there was none left.
+/// A list that ascends, with ids taken out that ascend, in one pass. `Memory` where none was left.
 pub fn without_each(alloc: Global, list: &Chunks, ids: &[EdgeId]) -> Result<Chunks, Memory>
     requires ascends { IsStrictlySortedBy edge_cmp list.now }
     requires ids_ascend { IsStrictlySortedBy edge_cmp ids.now }

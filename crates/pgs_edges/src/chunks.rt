@@ -11,7 +11,7 @@ use pgs_base::{EdgeId, Memory};
 use std::alloc::Global;
 use std::marker::Model;
 
-/// Ids are joined into one chunk up to so many.
+// Ids are joined into one chunk up to so many. A larger chunk makes an edit copy more, and a smaller one makes it count more owners.
 const MOST: usize = 1024;
 
 /// A chunk, its first id, and how many ids come before it.

@@ -12,8 +12,8 @@ use pgs_base::{Copyable, EdgeId, Memory};
 use std::alloc::Global;
 use std::marker::Model;
 
-/// Ids that ascend strictly. Contracts see the list of them. A list with one more or one fewer is a new
-/// list, which shares with this one all that it does not touch.
+/// Edge numbers that ascend strictly. Contracts see the list of them. An edit gives a new list, which shares with this one the
+/// chunks that it does not touch, and leaves this one as it is, also after `Memory`, which says that no memory was left.
 #[derive(Drop)]
 pub struct EdgeList {
     ids: Ids,
@@ -33,7 +33,7 @@ impl Model for EdgeList {
 }
 
 impl EdgeList {
-    /// No ids. It takes no memory.
+    /// No numbers. It takes no memory.
     pub fn new(alloc: Global) -> EdgeList
         ensures { result ≡ [] }
     {
@@ -42,7 +42,7 @@ impl EdgeList {
         }
     }
 
-    /// The list of ids that ascend. `Memory` where there was none left.
+    /// The list of numbers that ascend strictly. `Memory` where none was left.
     pub fn from_slice(alloc: Global, ids: &[EdgeId]) -> Result<EdgeList, Memory>
         requires { IsStrictlySortedBy edge_cmp ids.now }
         ensures { IfOk result (λ list. list ≡ ids.now) }
@@ -51,7 +51,7 @@ impl EdgeList {
         Ok(EdgeList { ids })
     }
 
-    /// How many ids there are.
+    /// How many numbers there are, and that they ascend strictly.
     pub fn len(&self) -> usize
         ensures value { result ≡ length self.now }
         ensures ascending { IsStrictlySortedBy edge_cmp self.now }
@@ -59,21 +59,21 @@ impl EdgeList {
         self.ids.len()
     }
 
-    /// Whether there is no id.
+    /// Whether there is no number.
     pub fn is_empty(&self) -> bool
         ensures { IsTrue result ↔ (self.now ≡ []) }
     {
         self.ids.len() == 0
     }
 
-    /// The id at a place, from 0. `None` exactly past the last.
+    /// The number at a place, from 0. `None` exactly past the last.
     pub fn at(&self, place: usize) -> Option<EdgeId>
         ensures { result ≡ slice_get self.now place }
     {
         self.ids.at(place)
     }
 
-    /// Where the id stands, or where it would go.
+    /// The place of a number, from 0: `Ok` where it stands, and `Err` where it would go. Its cost is two searches by halving.
     pub fn place(&self, id: EdgeId) -> Result<usize, usize>
         ensures there { MatchResult result (IsKeyAt edge_cmp id self.now) (IsKeyGap edge_cmp id self.now) }
         ensures small { IfOk result (λ place. place + 1 < 2 ^ 64) }
@@ -81,14 +81,14 @@ impl EdgeList {
         self.ids.search(id)
     }
 
-    /// Whether the id is there.
+    /// Whether the number is there.
     pub fn contains(&self, id: EdgeId) -> bool
         ensures { result ≡ list_any (is_at (edge_cmp id)) self.now }
     {
         self.place(id).is_ok()
     }
 
-    /// The list with an id put in; where it is there already, an equal list. `Memory` where there was none left.
+    /// The list with a number put in; where it is there already, an equal list. `Memory` where none was left.
     pub fn with(&self, alloc: Global, id: EdgeId) -> Result<EdgeList, Memory>
         ensures { IfOk result (λ list. list ≡ insert_key edge_cmp self.now id) }
     {
@@ -101,7 +101,7 @@ impl EdgeList {
         }
     }
 
-    /// The list with an id taken out; where it is not there, an equal list. `Memory` where there was none left.
+    /// The list with a number taken out; where it is not there, an equal list. `Memory` where none was left.
     pub fn without(&self, alloc: Global, id: EdgeId) -> Result<EdgeList, Memory>
         ensures { IfOk result (λ list. list ≡ remove_key (is_at (edge_cmp id)) self.now) }
     {
@@ -114,7 +114,7 @@ impl EdgeList {
         }
     }
 
-    /// The list with ids put in that ascend. `Memory` where there was none left.
+    /// The list with numbers put in that ascend strictly, in one pass. `Memory` where none was left.
     pub fn with_all(&self, alloc: Global, ids: &[EdgeId]) -> Result<EdgeList, Memory>
         requires { IsStrictlySortedBy edge_cmp ids.now }
         ensures { IfOk result (λ list. list ≡ fold (insert_key edge_cmp) self.now ids.now) }
@@ -123,7 +123,7 @@ impl EdgeList {
         Ok(EdgeList { ids })
     }
 
-    /// The list with ids taken out that ascend. `Memory` where there was none left.
+    /// The list with numbers taken out that ascend strictly, in one pass. `Memory` where none was left.
     pub fn without_all(&self, alloc: Global, ids: &[EdgeId]) -> Result<EdgeList, Memory>
         requires { IsStrictlySortedBy edge_cmp ids.now }
         ensures { IfOk result (λ list. list ≡ fold (λ left id. remove_key (is_at (edge_cmp id)) left) self.now ids.now) }
@@ -132,8 +132,14 @@ impl EdgeList {
         Ok(EdgeList { ids })
     }
 
-    /// The list with ids taken out and then others put in. Both ascend. `Memory` where there was none left.
-    pub fn changed(&self, alloc: Global, added: &[EdgeId], removed: &[EdgeId]) -> Result<EdgeList, Memory>
+    /// The list with numbers taken out and then others put in, so that one that is in both is there. Both ascend strictly. `Memory` where
+    /// none was left.
+    pub fn changed(
+        &self,
+        alloc: Global,
+        added: &[EdgeId],
+        removed: &[EdgeId],
+    ) -> Result<EdgeList, Memory>
         requires added_ascend { IsStrictlySortedBy edge_cmp added.now }
         requires removed_ascend { IsStrictlySortedBy edge_cmp removed.now }
         ensures { IfOk result (λ list. list ≡ fold (insert_key edge_cmp) (fold (λ left id. remove_key (is_at (edge_cmp id)) left) self.now removed.now) added.now) }

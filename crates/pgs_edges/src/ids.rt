@@ -7,13 +7,13 @@ ghost use Rattle.pgs_base.specs.Graph.{edge_cmp};
 ghost use Rattle.pgs_base.specs.Places.{IsKeyAt, IsKeyGap};
 
 use crate::Chunks;
-use crate::bulk::{without_each, with_each};
+use crate::bulk::{with_each, without_each};
 use pgs_base::{EdgeId, Memory};
 use std::alloc::Global;
 use std::marker::Model;
 
-/// So many ids at most stand in one block.
-const FEW: usize = 8;
+// Up to so many ids stand in one block: to copy it costs no more than to share a chunk, and it is smaller.
+const FEW: usize = 64;
 
 /// Few ids in a block of their own, and many in chunks.
 #[derive(Drop)]
@@ -50,12 +50,24 @@ fn spliced_block(
 {
     let before = &block[..from.min(block.len())];
     let after = &block[to.min(block.len())..];
-    let count = before.len().saturating_add(ids.len()).saturating_add(after.len());
+    let count = before
+        .len()
+        .saturating_add(ids.len())
+        .saturating_add(after.len());
     let mut spliced = Vec::with_capacity(alloc, count)?;
     spliced.extend_from_slice(before)?;
     spliced.extend_from_slice(ids)?;
     spliced.extend_from_slice(after)?;
     Ok(spliced)
+}
+
+// Where the id stands in a block that ascends, or where it would go.
+fn search_block(block: &[EdgeId], id: EdgeId) -> Result<usize, usize>
+    requires { IsStrictlySortedBy edge_cmp block.now }
+    ensures there { MatchResult result (IsKeyAt edge_cmp id block.now) (IsKeyGap edge_cmp id block.now) }
+    ensures small { IfOk result (λ place. place + 1 < 2 ^ 64) }
+{
+    block.binary_search(&id)
 }
 
 impl Ids {
@@ -189,13 +201,4 @@ impl Ids {
         };
         Ids::from_chunks(alloc, edited)
     }
-}
-
-// Where the id stands in a block that ascends, or where it would go.
-fn search_block(block: &[EdgeId], id: EdgeId) -> Result<usize, usize>
-    requires { IsStrictlySortedBy edge_cmp block.now }
-    ensures there { MatchResult result (IsKeyAt edge_cmp id block.now) (IsKeyGap edge_cmp id block.now) }
-    ensures small { IfOk result (λ place. place + 1 < 2 ^ 64) }
-{
-    block.binary_search(&id)
 }

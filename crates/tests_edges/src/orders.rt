@@ -84,3 +84,10 @@ fn put_in_mixed_and_taken_out(rt: HostRuntime) -> Result<(), Fail> {
     assert_eq!(rt; found, (1_000, 1_000));
     Ok(())
 }
+
+#[test]
+fn taken_out_but_for_few(rt: HostRuntime) -> Result<(), Fail> {
+    let found = compared(rt.alloc(), Order::Falling, 2_990)?;
+    assert_eq!(rt; found, (10, 10));
+    Ok(())
+}
