@@ -1,6 +1,7 @@
 use pgs_base::{EdgeId, Memory};
 use pgs_edges::EdgeList;
 use std::alloc::Global;
+use std::mem::size_of;
 use std::test::Fail;
 
 const COUNT: u64 = 3_000;
@@ -89,5 +90,12 @@ fn put_in_mixed_and_taken_out(rt: HostRuntime) -> Result<(), Fail> {
 fn taken_out_but_for_few(rt: HostRuntime) -> Result<(), Fail> {
     let found = compared(rt.alloc(), Order::Falling, 2_990)?;
     assert_eq!(rt; found, (10, 10));
+    Ok(())
+}
+
+/// A node has two lists, and most nodes have few edges or none.
+#[test]
+fn a_list_is_small(rt: HostRuntime) -> Result<(), Fail> {
+    assert!(rt; size_of::<EdgeList>() <= 40);
     Ok(())
 }

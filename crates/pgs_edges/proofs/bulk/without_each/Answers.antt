@@ -1,4 +1,4 @@
-use Rattle.std.proofs.Common.{ℕ, ◌+◌, List, get_or, drop}
+use Rattle.std.proofs.Common.{◌+◌, List, get_or, drop}
 use Rattle.pgs_base.specs.declared.element.EdgeId.{EdgeId}
 use Rattle.pgs_base.specs.Graph.{edge_cmp}
 use Rattle.std.specs.BTreeMap.{is_at}

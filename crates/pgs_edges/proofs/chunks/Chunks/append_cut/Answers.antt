@@ -1,4 +1,4 @@
-use Rattle.std.proofs.Common.{◌≡◌, ◌++◌, OnOk, subst, ap, arith}
+use Rattle.std.proofs.Common.{arith}
 use Rattle.pgs_edges.proofs.Joined.{range_from}
 use Rattle.pgs_edges.proofs.chunks.Chunks.append_cut.Goals as goal
 
