@@ -12,7 +12,7 @@ trap 'rm -rf "$work"' EXIT
 mkdir -p "$work/crates"
 cp "$top/HANDLES" "$work/"
 : >"$work/crates.txt"
-for crate in pgs_base pgs_text pgs_world pgs_lines pgs_syntax pgs_lexer pgs_graph pgs_violation pgs_parser pgs_json pgs_run pgguard; do
+for crate in pgs_base pgs_text pgs_world pgs_lines pgs_syntax pgs_lexer pgs_graph pgs_violation pgs_parser pgs_resolve pgs_json pgs_answer pgs_run pgguard; do
   cp -r "$top/crates/$crate" "$work/crates/"
   grep -E "^$crate:" "$top/crates.txt" >>"$work/crates.txt"
 done

@@ -7,3 +7,4 @@ pub mod States
 pub mod Written
 pub mod ReadingOn
 pub mod Fits
+pub mod Held

@@ -7,17 +7,17 @@ use Rattle.pgs_journal.specs.declared.records.Found.{Found}
 use Rattle.pgs_journal.specs.Format.{First, is_open, open_records}
 use Rattle.pgs_journal.specs.Reading.{Next, Closed, Torn, Whole, record_of, next_of, after_one, found_at, records_within}
 
-payload_in : Next → List ℕ
+unfoldable pub payload_in : Next → List ℕ
 payload_in Closed = []
 payload_in Torn = []
 payload_in (Whole payload rest) = payload
 
-rest_in : Next → List ℕ
+unfoldable pub rest_in : Next → List ℕ
 rest_in Closed = []
 rest_in Torn = []
 rest_in (Whole payload rest) = rest
 
-is_whole : Next → Bool
+unfoldable pub is_whole : Next → Bool
 is_whole Closed = false
 is_whole Torn = false
 is_whole (Whole payload rest) = true

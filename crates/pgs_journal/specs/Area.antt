@@ -4,7 +4,7 @@ use Rattle.byteorder.specs.Endian.{big_number}
 use Rattle.pgs_codec.specs.Places.{is_payload_of, is_schema, is_txn, is_snapshot_within}
 use Rattle.pgs_journal.specs.declared.area_state.AreaState.{AreaState}
 use Rattle.pgs_journal.specs.declared.area_state.AreaState.TheVariants.{NoStore, Foreign, Damaged, Store}
-use Rattle.pgs_journal.specs.Format.{Format, is_open, is_epoch, magic, opened}
+use Rattle.pgs_journal.specs.Format.{Format, is_open, is_epoch, magic, opened, Holds}
 use Rattle.pgs_journal.specs.declared.records.Found.{Found}
 use Rattle.pgs_journal.specs.Reading.{records_in}
 
@@ -65,3 +65,10 @@ abbrev pub area_state : Format → List ℕ → AreaState
 area_state format image =
     if is_no_store image then NoStore
     else (if has_head format image then state_within format (epoch_of image) (records_in format (drop 16 image)) else Foreign)
+
+-- where an area is a store, its bytes hold the records
+abbrev pub HoldsStore : Format → AreaState → List ℕ → Type 0
+HoldsStore format NoStore image = Unit {0}
+HoldsStore format Foreign image = Unit {0}
+HoldsStore format (Damaged epoch number) image = Unit {0}
+HoldsStore format (Store epoch end payloads) image = Holds format epoch payloads end image

@@ -2,7 +2,7 @@
 use Rattle.std.specs.Prelude.{ℕ, zero, suc, ◌+◌, true, false, List, [], ◌∷◌, length, take, drop, nat_lt, if◌then◌else◌}
 use Rattle.byteorder.specs.Endian.{big_number}
 use Rattle.pgs_journal.specs.declared.records.Found.{Found}
-use Rattle.pgs_journal.specs.Format.{Format, is_open}
+use Rattle.pgs_journal.specs.Format.{Format, First, is_open}
 
 -- what stands at a gate
 pub data Next : Type 0 where

@@ -1,5 +1,5 @@
 ghost use Rattle.std.specs.Prelude.{◌≡◌, ◌≤◌, ◌^◌, List, ℕ, length, IsTrue, Err, IfOk};
-ghost use Rattle.pgs_journal.specs.Area.{area_state};
+ghost use Rattle.pgs_journal.specs.Area.{area_state, HoldsStore};
 ghost use Rattle.pgs_journal.specs.Bounds.{IsBounded};
 ghost use Rattle.pgs_journal.specs.Format.{First};
 ghost use Rattle.pgs_world.specs.Count.{Rose};
@@ -43,6 +43,8 @@ pub fn scan<W: World>(alloc: Global, world: &mut W, area: Area) -> Result<AreaSt
     // It is what the area is, where the world tells its bytes, and on every world what some bytes are, within bounds.
     ensures state { IfOk result (λ state. IsTrue (W.view world.old).tells_bytes → state ≡ area_state First (part area (W.view world.old).shown)) }
     ensures found { IfOk result (λ state. (image : List ℕ) × (length image ≤ 2 ^ 40) × (state ≡ area_state First image)) }
+    // Where it is a store, the area holds the records, as `Journal::append` asks it of this epoch and this end.
+    ensures holds { IfOk result (λ state. IsTrue (W.view world.new).tells_bytes → HoldsStore First state (part area (W.view world.new).shown)) }
     ensures bounds { IfOk result IsBounded }
     ensures quiet { IsQuiet (W.view world.old) (W.view world.new) }
     ensures image { ShowsOne (W.view world.new) }

@@ -1,5 +1,5 @@
 ghost use Rattle.std.specs.Prelude.{◌≡◌, ◌+◌, ◌≤◌, ◌<◌, ◌^◌, length, Some, None, IsTrue, IfOk, if◌then◌else◌};
-ghost use Rattle.pgs_journal.specs.Area.{area_state, state_within, first_unfit, has_head, epoch_of, is_fit};
+ghost use Rattle.pgs_journal.specs.Area.{area_state, HoldsStore, state_within, first_unfit, has_head, epoch_of, is_fit};
 ghost use Rattle.pgs_journal.specs.Format.{First, is_epoch, open_records};
 
 use crate::AreaState;
@@ -80,7 +80,8 @@ fn judged(alloc: Global, epoch: u64, found: Found, size: usize) -> Result<AreaSt
 /// What an area of these bytes is.
 pub(crate) fn state_of(alloc: Global, image: &[u8]) -> Result<AreaState, Memory>
     requires { length image.now ≤ 2 ^ 40 }
-    ensures { IfOk result (λ state. state ≡ area_state First image.now) }
+    ensures state { IfOk result (λ state. state ≡ area_state First image.now) }
+    ensures holds { IfOk result (λ state. HoldsStore First state image.now) }
 {
     if image.len() < 17 || image[0] != OPEN {
         return Ok(AreaState::NoStore);

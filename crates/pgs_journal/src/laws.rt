@@ -1,7 +1,7 @@
-//! What the definitions of bytes and of areas have to do with each other. The function does nothing; its contract is the
-//! statement.
+//! What the definitions of bytes and of areas have to do with each other. The functions do nothing; their contracts are the
+//! statements.
 
-ghost use Rattle.std.specs.Prelude.{◌≡◌, ◌≤◌, ◌^◌, ℕ, List, true, None, length};
+ghost use Rattle.std.specs.Prelude.{◌≡◌, ◌≤◌, ◌<◌, ◌^◌, ℕ, List, true, None, length, slice_index};
 ghost use Rattle.pgs_journal.specs.Area.{area_state, first_unfit, has_some};
 ghost use Rattle.pgs_journal.specs.Format.{First, Holds};
 ghost use Rattle.pgs_journal.specs.declared.area_state.AreaState.TheVariants as areas;
@@ -10,4 +10,12 @@ ghost use Rattle.pgs_journal.specs.declared.area_state.AreaState.TheVariants as 
 pub fn held_records_are_read()
     ensures { (epoch end : ℕ) (payloads : List (List ℕ)) (image : List ℕ) → Holds First epoch payloads end image → length image ≤ 2 ^ 40
         → has_some payloads ≡ true → first_unfit epoch 1 payloads ≡ None → area_state First image ≡ areas.Store epoch end payloads }
+{}
+
+/// The other way round: an area of bytes that is read as a store holds its records, and each is fit for its place.
+pub fn read_records_are_held()
+    ensures held { (epoch end : ℕ) (payloads : List (List ℕ)) (image : List ℕ) → ((i : ℕ) → slice_index image i < 256)
+        → area_state First image ≡ areas.Store epoch end payloads → Holds First epoch payloads end image }
+    ensures fit { (epoch end : ℕ) (payloads : List (List ℕ)) (image : List ℕ) → ((i : ℕ) → slice_index image i < 256)
+        → area_state First image ≡ areas.Store epoch end payloads → (has_some payloads ≡ true) × (first_unfit epoch 1 payloads ≡ None) }
 {}

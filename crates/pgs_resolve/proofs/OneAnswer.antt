@@ -1,65 +1,52 @@
--- A text has one answer.
-use Rattle.std.proofs.Common.{◌≡◌, ℕ, List, refl}
-use Rattle.pgs_parser.specs.Text.{Found, too_long, no_item, no_statement, script, IsFound}
-use Rattle.pgs_parser.proofs.Findings.{one_finding}
-use Rattle.pgs_resolve.specs.SchemaOf.{Answer, IsSchemaOf, of_length, of_items, of_statements, of_refusal, of_width, of_script}
+-- A text has one answer, and it is the computed one.
+use Rattle.std.proofs.Common.{◌≡◌, ◌↔◌, ℕ, List, Option, Some, None, Result, Ok, Err, refl, sym, ap, ◌∙◌, subst}
+use Rattle.std.specs.Option.{option_map_or}
+use Rattle.pgs_syntax.specs.declared.resolved.Resolved.{Resolved}
+use Rattle.pgs_syntax.specs.declared.script.Script.{Script}
+use Rattle.pgs_parser.specs.Text.{Found, IsFound, found, too_long, no_item, no_statement, script}
+use Rattle.pgs_parser.proofs.Findings.{is_found, findings}
+use Rattle.pgs_resolve.specs.declared.fault.ResolveFault.{ResolveFault}
+use Rattle.pgs_resolve.specs.Resolution.{resolution}
+use Rattle.pgs_resolve.specs.SchemaOf.{Answer, IsSchemaOf, has_wide_type, schema, of_length, of_items, of_statements, of_refusal, of_width, of_script, answer_of_script, answer_of_finding, schema_of}
+use Rattle.pgs_resolve.specs.Width.{first_too_wide}
 
--- what a text is found to be
-abbrev found_of : {text : List ℕ} {answer : Answer} → IsSchemaOf text answer → Found
-found_of (of_length f) = too_long
-found_of (of_items {line = line} f) = no_item line
-found_of (of_statements {n = n} f) = no_statement n
-found_of (of_refusal {tree = tree} f r) = script tree
-found_of (of_width {tree = tree} f r w) = script tree
-found_of (of_script {tree = tree} f r w) = script tree
+-- ---- the computed answer is one
 
--- and that it is
-is_found : {text : List ℕ} {answer : Answer} (h : IsSchemaOf text answer) → IsFound text (found_of h)
-is_found (of_length f) = f
-is_found (of_items f) = f
-is_found (of_statements f) = f
-is_found (of_refusal f r) = f
-is_found (of_width f r w) = f
-is_found (of_script f r w) = f
+of_its_width : (text : List ℕ) (tree : Script) (resolved : Resolved) (wide : Option (List ℕ)) → IsFound text (script tree) → resolution tree ≡ Ok resolved →
+    first_too_wide resolved ≡ wide → IsSchemaOf text (option_map_or has_wide_type wide (schema resolved))
+of_its_width text tree resolved None f r w = of_script f r w
+of_its_width text tree resolved (Some name) f r w = of_width f r w
 
--- answers of one finding are one
-same_answer : {text : List ℕ} {one other : Answer} (h : IsSchemaOf text one) (k : IsSchemaOf text other) → found_of h ≡ found_of k → one ≡ other
-same_answer (of_length f) (of_length g) e = refl
-same_answer (of_length f) (of_items g) e = cc
-same_answer (of_length f) (of_statements g) e = cc
-same_answer (of_length f) (of_refusal g q) e = cc
-same_answer (of_length f) (of_width g q v) e = cc
-same_answer (of_length f) (of_script g q v) e = cc
-same_answer (of_items f) (of_length g) e = cc
-same_answer (of_items f) (of_items g) e = cc
-same_answer (of_items f) (of_statements g) e = cc
-same_answer (of_items f) (of_refusal g q) e = cc
-same_answer (of_items f) (of_width g q v) e = cc
-same_answer (of_items f) (of_script g q v) e = cc
-same_answer (of_statements f) (of_length g) e = cc
-same_answer (of_statements f) (of_items g) e = cc
-same_answer (of_statements f) (of_statements g) e = cc
-same_answer (of_statements f) (of_refusal g q) e = cc
-same_answer (of_statements f) (of_width g q v) e = cc
-same_answer (of_statements f) (of_script g q v) e = cc
-same_answer (of_refusal f r) (of_length g) e = cc
-same_answer (of_refusal f r) (of_items g) e = cc
-same_answer (of_refusal f r) (of_statements g) e = cc
-same_answer (of_refusal f r) (of_refusal g q) e = cc
-same_answer (of_refusal f r) (of_width g q v) e = cc
-same_answer (of_refusal f r) (of_script g q v) e = cc
-same_answer (of_width f r w) (of_length g) e = cc
-same_answer (of_width f r w) (of_items g) e = cc
-same_answer (of_width f r w) (of_statements g) e = cc
-same_answer (of_width f r w) (of_refusal g q) e = cc
-same_answer (of_width f r w) (of_width g q v) e = cc
-same_answer (of_width f r w) (of_script g q v) e = cc
-same_answer (of_script f r w) (of_length g) e = cc
-same_answer (of_script f r w) (of_items g) e = cc
-same_answer (of_script f r w) (of_statements g) e = cc
-same_answer (of_script f r w) (of_refusal g q) e = cc
-same_answer (of_script f r w) (of_width g q v) e = cc
-same_answer (of_script f r w) (of_script g q v) e = cc
+of_its_script : (text : List ℕ) (tree : Script) (result : Result Resolved ResolveFault) → IsFound text (script tree) → resolution tree ≡ result →
+    IsSchemaOf text (answer_of_script result)
+of_its_script text tree (Ok resolved) f r = of_its_width text tree resolved (first_too_wide resolved) f r refl
+of_its_script text tree (Err fault) f r = of_refusal f r
+
+of_its_finding : (text : List ℕ) (finding : Found) → IsFound text finding → IsSchemaOf text (answer_of_finding finding)
+of_its_finding text too_long f = of_length f
+of_its_finding text (no_item line) f = of_items f
+of_its_finding text (no_statement n) f = of_statements f
+of_its_finding text (script tree) f = of_its_script text tree (resolution tree) f refl
+
+pub has_answer : (text : List ℕ) → IsSchemaOf text (schema_of text)
+unfolding schema_of
+has_answer text = of_its_finding text (found text) (is_found text)
+
+-- ---- and each answer is the computed one
+
+pub is_computed : (text : List ℕ) (answer : Answer) → IsSchemaOf text answer → schema_of text ≡ answer
+unfolding schema_of
+is_computed text answer (of_length f) = ap answer_of_finding ((findings text too_long).1 f)
+is_computed text answer (of_items {line = line} f) = ap answer_of_finding ((findings text (no_item line)).1 f)
+is_computed text answer (of_statements {n = n} f) = ap answer_of_finding ((findings text (no_statement n)).1 f)
+is_computed text answer (of_refusal {tree = tree} f r) = ap answer_of_finding ((findings text (script tree)).1 f) ∙ ap answer_of_script r
+is_computed text answer (of_width {tree = tree} {resolved = resolved} f r w) =
+    ap answer_of_finding ((findings text (script tree)).1 f) ∙ ap answer_of_script r ∙ ap (λ wide. option_map_or has_wide_type wide (schema resolved)) w
+is_computed text answer (of_script {tree = tree} {resolved = resolved} f r w) =
+    ap answer_of_finding ((findings text (script tree)).1 f) ∙ ap answer_of_script r ∙ ap (λ wide. option_map_or has_wide_type wide (schema resolved)) w
+
+pub computed_answers : (text : List ℕ) (answer : Answer) → (schema_of text ≡ answer) ↔ IsSchemaOf text answer
+computed_answers text answer = (λ e. subst (IsSchemaOf text) e (has_answer text), is_computed text answer)
 
 pub one_answer : (text : List ℕ) (one other : Answer) → IsSchemaOf text one → IsSchemaOf text other → one ≡ other
-one_answer text one other h k = same_answer h k (one_finding text (found_of h) (found_of k) (is_found h) (is_found k))
+one_answer text one other h k = sym (is_computed text one h) ∙ is_computed text other k

@@ -1,8 +1,9 @@
 -- The schema of a text: why it has none, or the one resolved schema.
-use Rattle.std.specs.Prelude.{◌≡◌, ℕ, List, Ok, Err, Some, None}
+use Rattle.std.specs.Prelude.{◌≡◌, ℕ, List, Result, Ok, Err, Some, None}
+use Rattle.std.specs.Option.{option_map_or}
 use Rattle.pgs_syntax.specs.declared.resolved.Resolved.{Resolved}
 use Rattle.pgs_syntax.specs.declared.script.Script.{Script}
-use Rattle.pgs_parser.specs.Text.{IsFound, too_long, no_item, no_statement, script}
+use Rattle.pgs_parser.specs.Text.{Found, IsFound, found, too_long, no_item, no_statement, script}
 use Rattle.pgs_resolve.specs.declared.fault.ResolveFault.{ResolveFault}
 use Rattle.pgs_resolve.specs.Resolution.{resolution}
 use Rattle.pgs_resolve.specs.Width.{first_too_wide}
@@ -28,3 +29,21 @@ pub data IsSchemaOf (text : List ℕ) : Answer → Type 0 where
       → first_too_wide resolved ≡ Some name → IsSchemaOf text (has_wide_type name)
   of_script : {tree : Script} {resolved : Resolved} → IsFound text (script tree) → resolution tree ≡ Ok resolved
       → first_too_wide resolved ≡ None → IsSchemaOf text (schema resolved)
+
+-- the same as functions: of a resolved schema, of a script, and of what a text is found to be
+abbrev pub answer_of_schema : Resolved → Answer
+answer_of_schema resolved = option_map_or has_wide_type (first_too_wide resolved) (schema resolved)
+
+abbrev pub answer_of_script : Result Resolved ResolveFault → Answer
+answer_of_script (Ok resolved) = answer_of_schema resolved
+answer_of_script (Err fault) = refused fault
+
+abbrev pub answer_of_finding : Found → Answer
+answer_of_finding too_long = longer_than_allowed
+answer_of_finding (no_item line) = begins_no_item line
+answer_of_finding (no_statement n) = is_no_statement n
+answer_of_finding (script tree) = answer_of_script (resolution tree)
+
+-- and of a text
+unfoldable pub schema_of : List ℕ → Answer
+schema_of text = answer_of_finding (found text)

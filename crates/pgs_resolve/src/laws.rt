@@ -1,9 +1,14 @@
 //! Laws of the resolution. The functions do nothing; their contracts are the statements.
 
-ghost use Rattle.std.specs.Prelude.{◌≡◌, ℕ, List};
-ghost use Rattle.pgs_resolve.specs.SchemaOf.{Answer, IsSchemaOf};
+ghost use Rattle.std.specs.Prelude.{◌≡◌, ◌↔◌, ℕ, List};
+ghost use Rattle.pgs_resolve.specs.SchemaOf.{Answer, IsSchemaOf, schema_of};
 
 /// A text has one answer: one reason why it is no schema, or one resolved schema.
 pub fn one_answer()
     ensures { (text : List ℕ) (one other : Answer) → IsSchemaOf text one → IsSchemaOf text other → one ≡ other }
+{}
+
+/// The function `schema_of` gives the answer to a text.
+pub fn computed_answers()
+    ensures { (text : List ℕ) (answer : Answer) → (schema_of text ≡ answer) ↔ IsSchemaOf text answer }
 {}

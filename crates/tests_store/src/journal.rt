@@ -38,6 +38,21 @@ fn make<W: World>(world: &mut W, first: &[u8], frame: &[u8]) -> bool
     }
 }
 
+/// Reads the store of area A, and appends a record to what was read.
+fn append_to_read<W: World>(alloc: Global, world: &mut W, frame: &[u8]) -> Result<bool, ScanFault>
+    requires { frame.now ≡ framed txn_payload }
+{
+    let AreaState::Store { epoch, end, .. } = scan(alloc, world, Area::A)? else {
+        return Ok(false);
+    };
+    let mut journal = Journal {
+        area: Area::A,
+        epoch,
+        end,
+    };
+    Ok(journal.append(world, frame).is_ok())
+}
+
 /// What is read of area A once the world stopped after so many calls and left its bytes so.
 fn left_after(alloc: Global, calls: u64, how: Leave) -> Result<u64, Memory> {
     let mut world = MemWorld::stopping(alloc, List::new(alloc), List::new(alloc), 256, calls)?;
@@ -132,4 +147,19 @@ fn other_areas_are_no_store_or_foreign(rt: HostRuntime) -> Result<(), Fail> {
         assert_eq!(rt; read_of(rt.alloc(), bytes.as_bytes())?, want, "{bytes:?}");
     }
     Ok(())
+}
+
+/// What is read of a store that was made, read, and then takes one record more.
+fn read_after_append(alloc: Global) -> Result<u64, ScanFault> {
+    let empty = List::new(alloc);
+    let mut world = MemWorld::new(alloc, List::new(alloc), List::new(alloc), 256, empty)?;
+    if !make(&mut world, SCHEMA, TXN) || !append_to_read(alloc, &mut world, TXN)? {
+        return Ok(98);
+    }
+    Ok(number_of(&scan(alloc, &mut world, Area::A)?))
+}
+
+#[test]
+fn a_store_that_was_read_takes_a_record(rt: HostRuntime) {
+    assert_eq!(rt; read_after_append(rt.alloc()), Ok(3));
 }

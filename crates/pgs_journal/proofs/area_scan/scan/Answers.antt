@@ -5,4 +5,4 @@ use Rattle.pgs_journal.proofs.area_scan.scan.Goals as goal
 
 pub returns-clause-bounds : goal.returns-clause-bounds
 returns-clause-bounds g c =
-    subst IsBounded (sym c.in_ok-state_of.ensures) (bounded c.deref.result.now (omega (arith, ap length c.deref.ensures.value, c.in_ok-image.ensures.limit)))
+    subst IsBounded (sym c.in_ok-state_of.ensures.state) (bounded c.deref.result.now (omega (arith, ap length c.deref.ensures.value, c.in_ok-image.ensures.limit)))
