@@ -1,11 +1,12 @@
 -- Where a number stands among numbers that ascend.
-use Rattle.std.proofs.Common.{◌≡◌, ℕ, zero, suc, ◌+◌, ◌<◌, ◌≤◌, List, [], ◌∷◌, length, get_or, Ok, Err, Less, Equal, Greater, sym, ap, ◌∙◌, inl, inr, arith, tests}
+use Rattle.std.proofs.Common.{◌≡◌, ℕ, zero, suc, ◌+◌, ◌<◌, ◌≤◌, List, [], ◌∷◌, length, get_or, slice_get, Some, Result, Ok, Err, IfOk, Less, Equal, Greater, sym, ap, ◌∙◌, inl, inr, arith, tests}
 use Rattle.std.specs.Ordering.{nat_cmp, ordering_index}
 use Rattle.std.specs.List.{AllByRecursion}
 use Rattle.std.specs.List.Sorted.{IsStrictlySortedBy, IsBinarySearchResult, IsPartitionPoint}
 use Rattle.std.proofs.lemmas.Bool.{cases_lt}
 use Rattle.std.proofs.lemmas.Cmp.{ranked}
 use Rattle.std.proofs.lemmas.List.{get_or_default, get_or_past}
+use Rattle.std.proofs.lemmas.Option.{slice_get-get_or}
 use Rattle.std.specs.Cmp.{IsTotalOrder, nat_cmp_is, nat_cmp_total, on_total}
 use Rattle.pgs_base.specs.declared.element.EdgeId.{EdgeId}
 use Rattle.pgs_base.specs.Graph.{edge_cmp}
@@ -72,6 +73,13 @@ searched_found xs id i h = (within, equal (numbered 0))
           | inl lt ↦ lt
           | inr past ↦ absurd (omega (arith, equal (numbered (id.0 + 1)), numbers_same (get_or_past xs i (numbered (id.0 + 1)) past)))
         ]
+
+-- the edge that one found
+pub block_found : (xs : List EdgeId) (id : EdgeId) (r : Result ℕ ℕ) → IsBinarySearchResult (λ y. edge_cmp y id) xs r → IfOk r (λ place. slice_get xs place ≡ Some id)
+block_found xs id (Ok i) h =
+    let found = searched_found xs id i h in
+    slice_get-get_or xs i (numbered 0) found.0 ∙ ap (λ n. Some (numbered n)) found.1
+block_found xs id (Err i) h = tt
 
 -- what one says that didn't, where the numbers rise
 pub searched_missed : (xs : List EdgeId) (id : EdgeId) (i : ℕ) → IsBinarySearchResult (λ y. edge_cmp y id) xs (Err i) →

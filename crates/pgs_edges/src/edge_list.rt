@@ -76,6 +76,7 @@ impl EdgeList {
     /// The place of a number, from 0: `Ok` where it stands, and `Err` where it would go. Its cost is two searches by halving.
     pub fn place(&self, id: EdgeId) -> Result<usize, usize>
         ensures there { MatchResult result (IsKeyAt edge_cmp id self.now) (IsKeyGap edge_cmp id self.now) }
+        ensures found { IfOk result (λ place. slice_get self.now place ≡ Some id) }
         ensures small { IfOk result (λ place. place + 1 < 2 ^ 64) }
     {
         self.ids.search(id)

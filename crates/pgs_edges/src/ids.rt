@@ -65,6 +65,7 @@ fn spliced_block(
 fn search_block(block: &[EdgeId], id: EdgeId) -> Result<usize, usize>
     requires { IsStrictlySortedBy edge_cmp block.now }
     ensures there { MatchResult result (IsKeyAt edge_cmp id block.now) (IsKeyGap edge_cmp id block.now) }
+    ensures found { IfOk result (λ place. slice_get block.now place ≡ Some id) }
     ensures small { IfOk result (λ place. place + 1 < 2 ^ 64) }
 {
     block.binary_search(&id)
@@ -140,6 +141,7 @@ impl Ids {
     pub fn search(&self, id: EdgeId) -> Result<usize, usize>
         requires { IsStrictlySortedBy edge_cmp self.now }
         ensures there { MatchResult result (IsKeyAt edge_cmp id self.now) (IsKeyGap edge_cmp id self.now) }
+        ensures found { IfOk result (λ place. slice_get self.now place ≡ Some id) }
         ensures small { IfOk result (λ place. place + 1 < 2 ^ 64) }
     {
         match &self.form {
