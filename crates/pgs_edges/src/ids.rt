@@ -12,7 +12,7 @@ use pgs_base::{EdgeId, Memory};
 use std::alloc::Global;
 use std::marker::Model;
 
-// Up to so many ids stand in one block: to copy it costs no more than to share a chunk, and it is smaller.
+// Up to so many ids stand in one block, which is smaller than chunks and quick to copy.
 const FEW: usize = 64;
 
 /// Few ids in a block of their own, and many in chunks.

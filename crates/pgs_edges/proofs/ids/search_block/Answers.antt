@@ -1,7 +1,4 @@
-use Rattle.std.proofs.Common.{Some, OnOk, ap, ◌∙◌}
-use Rattle.std.proofs.lemmas.Option.{slice_get-get_or}
 use Rattle.pgs_base.proofs.Places.{key_searched}
-use Rattle.pgs_edges.specs.Numbers.{numbered}
 use Rattle.pgs_edges.proofs.Searched.{edge_cmp_total, block_found}
 use Rattle.pgs_edges.proofs.ids.search_block.Goals as goal
 
