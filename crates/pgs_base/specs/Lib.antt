@@ -9,5 +9,6 @@ pub mod OrderLaws
 pub mod Pair
 pub mod Places
 pub mod Properties
+pub mod Seed
 pub mod Value
 pub mod formers

@@ -73,7 +73,9 @@ value_as_sum (values.Date a) (values.Date b) = refl
 value_as_sum x y = refl
 
 pub value_cmp_total : IsTotalOrder value_cmp
-value_cmp_total = read_total value_sum value_as_sum (sum_total nat_list_cmp_total (sum_total int_cmp_total (sum_total bool_cmp_total day_cmp_total)))
+value_cmp_total =
+    read_total value_sum value_as_sum
+    (sum_total nat_list_cmp_total (sum_total int_cmp_total (sum_total bool_cmp_total day_cmp_total)))
 
 abbrev elem_sum : Elem → ℕ ⊎ ℕ
 elem_sum (Node a) = inl a.0

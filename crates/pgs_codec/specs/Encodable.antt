@@ -118,7 +118,8 @@ is_op (UnlabelEdge id label) = is_edge_id id && is_name label
 -- the commits, the nodes and the edges of a snapshot, each of which fits its bytes
 abbrev pub are_parts : ℕ → List (NodeId × NodeRow) → List (EdgeId × EdgeRow) → Bool
 are_parts commits nodes edges =
-    is_wide commits && (nat_lt (length nodes) (2 ^ 64) && list_all is_node nodes && (nat_lt (length edges) (2 ^ 64) && list_all is_edge edges))
+    is_wide commits
+    && (nat_lt (length nodes) (2 ^ 64) && list_all is_node nodes && (nat_lt (length edges) (2 ^ 64) && list_all is_edge edges))
 
 -- whether a command has a payload
 unfoldable pub is_encodable : Command → Bool

@@ -1,5 +1,5 @@
 -- What the reads of a graph answer.
-use Rattle.std.specs.Prelude.{ℕ, ◌==◌, Bool, List}
+use Rattle.std.specs.Prelude.{ℕ, ◌+◌, ◌==◌, Bool, List, length}
 use Rattle.std.specs.List.{filter}
 use Rattle.std.specs.Map.{keys_of}
 use Rattle.pgs_base.specs.declared.element.NodeId.{NodeId}
@@ -34,3 +34,7 @@ out_edges_of g id = edges_with Source id g.edges
 -- the edges that come in at a node, by ascending number
 abbrev pub in_edges_of : Graph → NodeId → List EdgeId
 in_edges_of g id = edges_with Target id g.edges
+
+-- the in-degree plus the out-degree of a node: how many edges go out of it and come in at it, a loop twice
+abbrev pub degree_of : Graph → NodeId → ℕ
+degree_of g id = length (out_edges_of g id) + length (in_edges_of g id)

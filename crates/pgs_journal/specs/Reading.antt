@@ -35,7 +35,8 @@ found_at (Whole payload rest) go = after_one payload (go rest)
 -- at most so many records, the first of them of this number
 abbrev pub records_within : Format → ℕ → ℕ → List ℕ → Found
 records_within format zero number bytes = record { payloads = []; ended = false }
-records_within format (suc most) number bytes = found_at (next_of format number bytes) (λ rest. records_within format most (suc number) rest)
+records_within format (suc most) number bytes =
+    found_at (next_of format number bytes) (λ rest. records_within format most (suc number) rest)
 
 -- all of them: each takes some bytes
 abbrev pub records_in : Format → List ℕ → Found

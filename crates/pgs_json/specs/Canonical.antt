@@ -51,11 +51,13 @@ op_text (AddEdge id source target labels props) =
 op_text (RemoveNode id) = object_text ((codes "remove_node", decimal id.0) ∷ [])
 op_text (DetachNode id) = object_text ((codes "detach_node", decimal id.0) ∷ [])
 op_text (RemoveEdge id) = object_text ((codes "remove_edge", decimal id.0) ∷ [])
-op_text (SetNode id key value) = object_text ((codes "key", quoted key) ∷ (codes "set_node", decimal id.0) ∷ (codes "value", value_text value) ∷ [])
+op_text (SetNode id key value) =
+    object_text ((codes "key", quoted key) ∷ (codes "set_node", decimal id.0) ∷ (codes "value", value_text value) ∷ [])
 op_text (UnsetNode id key) = object_text ((codes "key", quoted key) ∷ (codes "unset_node", decimal id.0) ∷ [])
 op_text (LabelNode id label) = object_text ((codes "label", quoted label) ∷ (codes "label_node", decimal id.0) ∷ [])
 op_text (UnlabelNode id label) = object_text ((codes "label", quoted label) ∷ (codes "unlabel_node", decimal id.0) ∷ [])
-op_text (SetEdge id key value) = object_text ((codes "key", quoted key) ∷ (codes "set_edge", decimal id.0) ∷ (codes "value", value_text value) ∷ [])
+op_text (SetEdge id key value) =
+    object_text ((codes "key", quoted key) ∷ (codes "set_edge", decimal id.0) ∷ (codes "value", value_text value) ∷ [])
 op_text (UnsetEdge id key) = object_text ((codes "key", quoted key) ∷ (codes "unset_edge", decimal id.0) ∷ [])
 op_text (LabelEdge id label) = object_text ((codes "label", quoted label) ∷ (codes "label_edge", decimal id.0) ∷ [])
 op_text (UnlabelEdge id label) = object_text ((codes "label", quoted label) ∷ (codes "unlabel_edge", decimal id.0) ∷ [])

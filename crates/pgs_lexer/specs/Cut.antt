@@ -65,7 +65,8 @@ AreTokensOf text tokens = (items : List Item) × IsCut text items [] × (tokens 
 
 -- The cut of the text ends at a byte that begins no item, on this line.
 abbrev pub HasBadByteOn : List ℕ → ℕ → Type 0
-HasBadByteOn text line = (items : List Item) × (rest : List ℕ) × IsCut text items rest × (0 < length rest) × (line ≡ line_at text (length text - length rest))
+HasBadByteOn text line = (items : List Item) × (rest : List ℕ) × IsCut text items rest × (0 < length rest)
+    × (line ≡ line_at text (length text - length rest))
 
 -- What a call gave is what the text has, unless there was no memory.
 abbrev pub Refuses : LexFault → Result (List Lexeme) ℕ → Type 0

@@ -17,12 +17,18 @@ pub record KeepsAreas (old new : View) : Type 0 where
 -- before the first call
 pub keeps_none : (view : View) → IsTimed view → KeepsAreas view view
 keeps_none view timed =
-    record { a = refl; b = refl; passes = passes_none view timed; area_faults = refl; images = λ honest c left. (c, timed.only_now c left, refl, refl) }
+    record {
+      a = refl; b = refl; passes = passes_none view timed; area_faults = refl;
+      images = λ honest c left. (c, timed.only_now c left, refl, refl);
+    }
 
 -- one call, and then another
 pub keeps_on : (old mid new : View) → KeepsAreas old mid → KeepsAreas mid new → KeepsAreas old new
 keeps_on old mid new p q =
-    record { a = q.a ∙ p.a; b = q.b ∙ p.b; passes = passes_on old mid new p.passes q.passes; area_faults = q.area_faults ∙ p.area_faults; images = images }
+    record {
+      a = q.a ∙ p.a; b = q.b ∙ p.b; passes = passes_on old mid new p.passes q.passes;
+      area_faults = q.area_faults ∙ p.area_faults; images = images;
+    }
   where
     later : IsTrue old.honest → (c : Triple) → new.left_since mid.moment c → (d : Triple) × old.may_leave d × (c.a ≡ d.a) × (c.b ≡ d.b)
     later honest c now =

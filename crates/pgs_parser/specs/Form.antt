@@ -49,7 +49,8 @@ braces_tokens (Some properties) = braced property_tokens properties
 
 -- "(" name [":" name {"&" name}] [braces] ")"
 abbrev pub type_tokens : WrittenType → List Token
-type_tokens type = Sign left_parenthesis ∷ Name type.name ∷ labels_tokens type.labels ++ braces_tokens type.braces ++ Sign right_parenthesis ∷ []
+type_tokens type =
+    Sign left_parenthesis ∷ Name type.name ∷ labels_tokens type.labels ++ braces_tokens type.braces ++ Sign right_parenthesis ∷ []
 
 -- CREATE GRAPH TYPE name STRICT "{" [type {"," type}] "}" ";"
 abbrev pub script_tokens : Script → List Token

@@ -1,5 +1,5 @@
 -- Schema texts, and the scripts that they are.
-use Rattle.std.specs.Prelude.{ℕ, Bool, true, false, List, [], ◌∷◌, Option, Some, None, negsuc, replicate, codes}
+use Rattle.std.specs.Prelude.{ℕ, Bool, true, false, List, [], ◌∷◌, ◌++◌, Option, Some, None, negsuc, replicate, codes}
 use Rattle.pgs_base.specs.declared.value.Kind.TheVariants as kinds
 use Rattle.pgs_base.specs.declared.value.Value.TheVariants as values
 use Rattle.pgs_syntax.specs.declared.element_type.NodeType.{NodeType}
@@ -42,7 +42,10 @@ least_script = script (graph (codes "g") true 1 [] [] [] ∷ [])
 
 -- persons, and employees, who are persons
 abbrev pub staff_text : List ℕ
-staff_text = codes "CREATE NODE TYPE (personType: Person {name STRING}); CREATE NODE TYPE (employeeType: personType & Employee {salary INT}); CREATE GRAPH TYPE g STRICT {personType, employeeType};"
+staff_text =
+    codes "CREATE NODE TYPE (personType: Person {name STRING}); "
+    ++ codes "CREATE NODE TYPE (employeeType: personType & Employee {salary INT}); "
+    ++ codes "CREATE GRAPH TYPE g STRICT {personType, employeeType};"
 
 abbrev pub staff_script : Script
 staff_script = script (
@@ -151,7 +154,8 @@ two_steps_written = record {
 
 -- a key of forums: their names and their moderators
 abbrev pub moderator_text : List ℕ
-moderator_text = codes "CREATE GRAPH TYPE g LOOSE {FOR (f:Forum)<-[:joined]-(:Person) IDENTIFIER f.name, p WITHIN (f)<-[:moderates]-(p:Person)};"
+moderator_text =
+    codes "CREATE GRAPH TYPE g LOOSE {FOR (f:Forum)<-[:joined]-(:Person) IDENTIFIER f.name, p WITHIN (f)<-[:moderates]-(p:Person)};"
 
 abbrev pub moderator_written : RawKey
 moderator_written = record {
@@ -261,7 +265,10 @@ mail_script = script (
 -- a text of many forms: ABSTRACT behind TYPE, parentheses, a quoted name, an arrow to the left, tests, qualifiers with
 -- a comma and without
 abbrev pub forms_text : List ℕ
-forms_text = codes "CREATE NODE TYPE ABSTRACT (t: (A | B)? & `NODE` OPEN {OPTIONAL k DATE, OPEN}); CREATE GRAPH TYPE h LOOSE IMPORTS g {(:t)<-[e]-(OPEN), FOR (x:t {k: DATE '2024-02-29', s: 'it''s', n: -5}) EXCLUSIVE, MANDATORY SINGLETON x.k, x};"
+forms_text =
+    codes "CREATE NODE TYPE ABSTRACT (t: (A | B)? & `NODE` OPEN {OPTIONAL k DATE, OPEN}); "
+    ++ codes "CREATE GRAPH TYPE h LOOSE IMPORTS g {(:t)<-[e]-(OPEN), "
+    ++ codes "FOR (x:t {k: DATE '2024-02-29', s: 'it''s', n: -5}) EXCLUSIVE, MANDATORY SINGLETON x.k, x};"
 
 abbrev pub forms_body : Spec (List ℕ)
 forms_body = And (

@@ -13,7 +13,7 @@ use Rattle.pgs_parser.specs.Samples as texts
 use Rattle.pgs_parser.specs.Text.{is_script}
 use Rattle.pgs_parser.proofs.NoMode.{no_mode_found}
 use Rattle.pgs_parser.proofs.Texts as found
-use Rattle.pgs_resolve.specs.declared.fault.KeyCause.TheVariants.{NoX, TwoKinds, Shared, Disconnected, UnknownVariable, TooLarge}
+use Rattle.pgs_syntax.specs.declared.key_cause.KeyCause.TheVariants.{NoX, TwoKinds, Shared, Disconnected, UnknownVariable, TooLarge}
 use Rattle.pgs_resolve.specs.declared.fault.ResolveFault.TheVariants as faults
 use Rattle.pgs_resolve.specs.KeyFaults.{cause_of}
 use Rattle.pgs_resolve.specs.Order.{numbering_of}

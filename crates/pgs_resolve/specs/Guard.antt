@@ -31,7 +31,8 @@ walked script (suc depth) before name =
 -- the graph types whose members count, in order
 abbrev pub walked_graphs : Script → List GraphType
 walked_graphs script =
-    let names = option_map_or (λ (type : GraphType). walked script (length (graphs_of script)) [] type.name) (last_of (graphs_of script)) [] in
+    let names =
+        option_map_or (λ (type : GraphType). walked script (length (graphs_of script)) [] type.name) (last_of (graphs_of script)) [] in
     filter_map (graph_named script) names
 
 -- the name of a member

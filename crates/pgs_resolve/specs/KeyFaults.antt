@@ -7,8 +7,8 @@ use Rattle.pgs_syntax.specs.declared.raw.RawKey.{RawKey}
 use Rattle.pgs_syntax.specs.declared.raw.RawPath.{RawPath}
 use Rattle.pgs_base.specs.Pair.{same_name, has_name}
 use Rattle.pgs_syntax.specs.Valid.{is_connected}
-use Rattle.pgs_resolve.specs.declared.fault.KeyCause.{KeyCause}
-use Rattle.pgs_resolve.specs.declared.fault.KeyCause.TheVariants.{NoX, TwoKinds, Shared, Disconnected, UnknownVariable, TooLarge}
+use Rattle.pgs_syntax.specs.declared.key_cause.KeyCause.{KeyCause}
+use Rattle.pgs_syntax.specs.declared.key_cause.KeyCause.TheVariants.{NoX, TwoKinds, Shared, Disconnected, UnknownVariable, TooLarge}
 use Rattle.pgs_resolve.specs.Patterns.{Place, places_of, named_in, x_of, pattern_of}
 
 -- the paths of a written descriptor

@@ -25,4 +25,5 @@ mod specifications;
 mod unknown;
 mod variables;
 
-pub use fault::{KeyCause, ResolveFault};
+pub use fault::ResolveFault;
+pub use pgs_syntax::KeyCause;

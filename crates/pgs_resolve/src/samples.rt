@@ -6,7 +6,7 @@ ghost use Rattle.pgs_syntax.specs.declared.pattern.Atom.TheVariants.{Ends, HasLa
 ghost use Rattle.pgs_syntax.specs.declared.resolved.TypeNo.TheVariants as numbers;
 ghost use Rattle.pgs_syntax.specs.Samples.{staff, keyed, two_steps, moderator, pattern};
 ghost use Rattle.pgs_syntax.specs.Valid.{is_valid};
-ghost use Rattle.pgs_resolve.specs.declared.fault.KeyCause.TheVariants.{NoX, TwoKinds, Shared, Disconnected, UnknownVariable, TooLarge};
+ghost use Rattle.pgs_syntax.specs.declared.key_cause.KeyCause.TheVariants.{NoX, TwoKinds, Shared, Disconnected, UnknownVariable, TooLarge};
 ghost use Rattle.pgs_resolve.specs.declared.fault.ResolveFault.TheVariants as faults;
 ghost use Rattle.pgs_resolve.specs.KeyFaults.{cause_of};
 ghost use Rattle.pgs_resolve.specs.Order.{numbering_of};

@@ -1,20 +1,18 @@
 -- The judgement of a graph by a schema of the first form: closed node types, and STRICT.
-use Rattle.std.specs.Prelude.{ℕ, Bool, true, false, ◌&&◌, not, List, [], ◌∷◌, ◌++◌, Option, Some, None, map}
+use Rattle.std.specs.Prelude.{ℕ, Bool, false, ◌&&◌, not, List, [], ◌∷◌, ◌++◌, map}
 use Rattle.std.specs.List.{list_all, list_any, filter}
-use Rattle.std.specs.Ordering.{nat_cmp}
-use Rattle.std.specs.Cmp.Lexicographic.{pointwise, slice_cmp}
+use Rattle.std.specs.Cmp.Lexicographic.{pointwise}
 use Rattle.std.specs.Bool.{◌==◌}
-use Rattle.std.specs.BTreeMap.{is_at}
-use Rattle.std.specs.Map.{lookup}
+use Rattle.std.specs.Option.{option_map_or}
 use Rattle.pgs_base.specs.declared.element.NodeId.{NodeId}
 use Rattle.pgs_base.specs.declared.element.EdgeId.{EdgeId}
 use Rattle.pgs_base.specs.declared.row.NodeRow.{NodeRow}
 use Rattle.pgs_base.specs.declared.row.EdgeRow.{EdgeRow}
 use Rattle.pgs_base.specs.declared.value.Kind.{Kind}
-use Rattle.pgs_base.specs.declared.value.Kind.TheVariants as kinds
 use Rattle.pgs_base.specs.declared.value.Value.{Value}
-use Rattle.pgs_base.specs.declared.value.Value.TheVariants as values
 use Rattle.pgs_base.specs.Graph.{Graph}
+use Rattle.pgs_base.specs.Pair.{value_at}
+use Rattle.pgs_base.specs.Value.{is_of_kind}
 use Rattle.pgs_parser.specs.declared.first_schema.FirstType.{FirstType}
 use Rattle.pgs_parser.specs.declared.first_schema.FirstSchema.{FirstSchema}
 use Rattle.pgs_violation.specs.declared.violation.Violation.{Violation}
@@ -22,22 +20,9 @@ use Rattle.pgs_violation.specs.declared.violation.Violation.TheVariants.{Untyped
 use Rattle.pgs_violation.specs.declared.violation.Verdict.{Verdict}
 use Rattle.pgs_violation.specs.declared.violation.Verdict.TheVariants.{Conforms, Refused}
 
--- whether a value is of a kind
-abbrev pub is_of_kind : Kind → Value → Bool
-is_of_kind kinds.Text (values.Text text) = true
-is_of_kind kinds.Int (values.Int number) = true
-is_of_kind kinds.Bool (values.Bool truth) = true
-is_of_kind kinds.Date (values.Date day) = true
-is_of_kind kind value = false
-
--- whether there is a value, and it is of a kind
-abbrev pub is_some_of_kind : Kind → Option Value → Bool
-is_some_of_kind kind None = false
-is_some_of_kind kind (Some value) = is_of_kind kind value
-
 -- whether a key is present with a value of its kind
 abbrev pub has_key : List (List ℕ × Value) → List ℕ × Kind → Bool
-has_key props key = is_some_of_kind key.1 (lookup (is_at (slice_cmp nat_cmp key.0)) props)
+has_key props key = option_map_or (is_of_kind key.1) (value_at key.0 props) false
 
 -- whether a property's name is one of the keys
 abbrev pub is_key : List (List ℕ × Kind) → List ℕ × Value → Bool

@@ -1,7 +1,8 @@
 ghost use Rattle.std.specs.Prelude.{◌≡◌};
 ghost use Rattle.std.specs.List.{list_all, find};
 ghost use Rattle.std.specs.Option.{option_map};
-ghost use Rattle.pgs_run.specs.FirstVerdict.{is_of_kind, has_key, is_key, fits_first, is_typed, is_untyped, first_verdict};
+ghost use Rattle.pgs_base.specs.Value.{is_of_kind};
+ghost use Rattle.pgs_run.specs.FirstVerdict.{has_key, is_key, fits_first, is_typed, is_untyped, first_verdict};
 
 use crate::plain_graph::PlainGraph;
 use pgs_base::{Kind, Name, NodeId, NodeRow, Props, Value};

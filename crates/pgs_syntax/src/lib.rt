@@ -6,6 +6,7 @@
 
 mod element_type;
 mod key;
+mod key_cause;
 pub mod laws;
 pub mod laws_of_joins;
 pub mod laws_of_keys;
@@ -18,6 +19,7 @@ mod specification;
 
 pub use element_type::{EdgeType, NodeType};
 pub use key::{Key, Qualifiers};
+pub use key_cause::KeyCause;
 pub use pattern::{Atom, Expr, Pattern};
 pub use raw::{RawExpr, RawFilter, RawKey, RawPath, RawPlace, RawStep};
 pub use resolved::{Guarding, Resolved, TypeNo};

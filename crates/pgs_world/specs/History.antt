@@ -34,4 +34,5 @@ outcome state (n ∷ notes) pieces = outcome (after_note n.note (take (taken_by 
 abbrev pub history : State → List Noted → List ℕ → List Past
 history state [] pieces = []
 history state (n ∷ notes) pieces =
-    (record { moment = n.before; state = state }) ∷ history (after_note n.note (take (taken_by n.note) pieces) state) notes (drop (taken_by n.note) pieces)
+    (record { moment = n.before; state = state })
+    ∷ history (after_note n.note (take (taken_by n.note) pieces) state) notes (drop (taken_by n.note) pieces)

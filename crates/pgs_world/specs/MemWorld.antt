@@ -202,7 +202,8 @@ unchanged world meter = record { past = world.past; now = world.now; meter = met
 
 -- a new state, and the old one is past
 abbrev pub changed : Kept → Meter → State → Kept
-changed world meter state = record { past = world.past ++ (record { moment = world.meter.calls; state = world.now }) ∷ []; now = state; meter = meter }
+changed world meter state =
+    record { past = world.past ++ (record { moment = world.meter.calls; state = world.now }) ∷ []; now = state; meter = meter }
 
 -- an area of more bytes than this, or a write past it, is a fault
 abbrev pub most_bytes : ℕ

@@ -13,7 +13,8 @@ pub record Silent : Type 0 where
   pub puts : ℕ
 
 abbrev pub silent_view : Silent → View
-silent_view world = untold (record { calls = world.calls; area_faults = world.area_faults; put_faults = world.put_faults; puts = world.puts })
+silent_view world =
+    untold (record { calls = world.calls; area_faults = world.area_faults; put_faults = world.put_faults; puts = world.puts })
 
 -- the next call is listed
 abbrev pub fails_next : Silent → Bool

@@ -5,6 +5,7 @@ ghost use Rattle.pgs_world.specs.Moment.{IsTimed, Passes, StopsBy, IsQuiet, Show
 ghost use Rattle.pgs_world.specs.World.{View, output_of, part, Adds, AddsFront};
 
 use crate::{Area, AreaFault, PutFault};
+use pgs_base::Seed;
 
 /// Two areas of bytes and an output.
 ///
@@ -96,6 +97,11 @@ pub trait World {
         ensures not_counted { OnErr result ((view self.new).puts ≡ (view self.old).puts) }
         ensures no_cause { OnOk result ((view self.new).put_faults ≡ (view self.old).put_faults) }
         ensures no_area { (view self.new).area_faults ≡ (view self.old).area_faults };
+
+    /// How the tables of a graph that is kept with this world hash. No contract depends on it.
+    fn seed(&self) -> Seed {
+        Seed::Fixed
+    }
 
     /// What a stop may leave now, and since each moment, belong together.
     ghost timed: { (world : Self) → IsTimed (view world) };
