@@ -21,7 +21,7 @@ use Rattle.pgs_resolve.specs.Patterns.{resolved_key}
 use Rattle.pgs_resolve.specs.Resolution.{resolution, resolved}
 use Rattle.pgs_resolve.specs.Samples.{acquaintance_schema, mail_schema, no_names, of_nodes, of_options, widest, narrow}
 use Rattle.pgs_resolve.specs.SchemaOf.{IsSchemaOf, refused, schema, begins_no_item, is_no_statement, of_items, of_statements, of_refusal, of_script}
-use Rattle.pgs_resolve.specs.Width.{first_too_wide}
+use Rattle.pgs_syntax.specs.Width.{first_too_wide}
 
 pub staff_resolved : resolution texts.staff_script ≡ Ok (staff (numbers.Node 0 ∷ numbers.Node 1 ∷ []))
 unfolding resolution block.hidden-the_row-Spec-0 hidden

@@ -8,7 +8,7 @@ use Rattle.pgs_parser.proofs.Findings.{is_found, findings}
 use Rattle.pgs_resolve.specs.declared.fault.ResolveFault.{ResolveFault}
 use Rattle.pgs_resolve.specs.Resolution.{resolution}
 use Rattle.pgs_resolve.specs.SchemaOf.{Answer, IsSchemaOf, has_wide_type, schema, of_length, of_items, of_statements, of_refusal, of_width, of_script, answer_of_script, answer_of_finding, schema_of}
-use Rattle.pgs_resolve.specs.Width.{first_too_wide}
+use Rattle.pgs_syntax.specs.Width.{first_too_wide}
 
 -- ---- the computed answer is one
 

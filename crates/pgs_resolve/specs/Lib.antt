@@ -11,4 +11,3 @@ pub mod Samples
 pub mod SchemaOf
 pub mod Tables
 pub mod VariableTable
-pub mod Width

@@ -6,7 +6,7 @@ use Rattle.pgs_syntax.specs.declared.script.Script.{Script}
 use Rattle.pgs_parser.specs.Text.{Found, IsFound, found, too_long, no_item, no_statement, script}
 use Rattle.pgs_resolve.specs.declared.fault.ResolveFault.{ResolveFault}
 use Rattle.pgs_resolve.specs.Resolution.{resolution}
-use Rattle.pgs_resolve.specs.Width.{first_too_wide}
+use Rattle.pgs_syntax.specs.Width.{first_too_wide}
 
 -- what is said of a schema text
 pub data Answer : Type 0 where

@@ -14,7 +14,7 @@ ghost use Rattle.pgs_resolve.specs.Patterns.{resolved_key};
 ghost use Rattle.pgs_resolve.specs.Resolution.{resolution, resolved};
 ghost use Rattle.pgs_resolve.specs.Samples.{acquaintance_schema, mail_schema, no_names, of_nodes, of_options, widest, narrow};
 ghost use Rattle.pgs_resolve.specs.SchemaOf.{IsSchemaOf, refused, schema, begins_no_item, is_no_statement};
-ghost use Rattle.pgs_resolve.specs.Width.{first_too_wide};
+ghost use Rattle.pgs_syntax.specs.Width.{first_too_wide};
 ghost use Rattle.pgs_parser.specs.Samples as texts;
 
 /// Schemas of types alone.

@@ -13,3 +13,4 @@ pub mod Samples
 pub mod Triples
 pub mod Typed
 pub mod Valid
+pub mod Width
