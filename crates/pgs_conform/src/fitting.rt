@@ -4,7 +4,6 @@ ghost use Rattle.std.specs.Prelude.{◌≡◌, ◌<◌, true, length};
 ghost use Rattle.pgs_base.specs.Pair.{pair_of};
 ghost use Rattle.pgs_syntax.specs.Fitting.{fits_node, fits_edge};
 ghost use Rattle.pgs_syntax.specs.Typed.{is_typed_node, is_typed_triple, types_node, types_edge};
-ghost use Rattle.pgs_syntax.specs.Valid.{is_type};
 ghost use Rattle.pgs_conform.specs.Shapes.{in_shape, in_some, in_triple, in_some_triple, triple_of};
 
 use crate::meeting::{labels_fit, props_fit};
@@ -55,6 +54,7 @@ pub fn node_fits(compiled: &Compiled, number: u32, labels: &Labels, props: &Prop
     ensures { result ≡ fits_node compiled.now number (pair_of labels.now props.now) }
 {
     let own = Pair { labels, props };
+    own.facts();
     is_in_some(compiled.shapes_of_node(number).as_slice(), &own)
 }
 
@@ -70,39 +70,44 @@ pub fn edge_fits(
     requires { number < length compiled.now.edges }
     ensures { result ≡ fits_edge compiled.now number (triple_of source.now middle.now target.now) }
 {
+    source.facts();
+    middle.facts();
+    target.facts();
     let triples = compiled.shapes_of_edge(number).as_slice();
     is_in_some_triple(triples, source, middle, target)
 }
 
+// Whether a type makes a node of this pair typed.
 fn types_node(compiled: &Compiled, type_no: TypeNo, own: &Pair<'_>) -> bool
-    requires { is_type compiled.now type_no ≡ true }
     ensures { result ≡ types_node compiled.now own.now type_no }
 {
-    match type_no {
-        TypeNo::Node(number) => {
-            !compiled.resolved().nodes.as_slice()[number as usize].hidden
-                && node_fits(compiled, number, own.labels, own.props)
+    let TypeNo::Node(number) = type_no else {
+        return false;
+    };
+    match compiled.resolved().nodes.at(number as usize) {
+        Some(node_type) => {
+            !node_type.hidden && node_fits(compiled, number, own.labels, own.props)
         }
-        TypeNo::Edge(_) => false,
+        None => false,
     }
 }
 
+// Whether a type makes an edge of these pairs typed.
 fn types_edge(
     compiled: &Compiled,
     type_no: TypeNo,
     source: &Pair<'_>,
-    own: &Pair<'_>,
+    middle: &Pair<'_>,
     target: &Pair<'_>,
 ) -> bool
-    requires { is_type compiled.now type_no ≡ true }
-    ensures { result ≡ types_edge compiled.now (triple_of source.now own.now target.now) type_no }
+    ensures { result ≡ types_edge compiled.now (triple_of source.now middle.now target.now) type_no }
 {
-    match type_no {
-        TypeNo::Node(_) => false,
-        TypeNo::Edge(number) => {
-            !compiled.resolved().edges.as_slice()[number as usize].hidden
-                && edge_fits(compiled, number, source, own, target)
-        }
+    let TypeNo::Edge(number) = type_no else {
+        return false;
+    };
+    match compiled.resolved().edges.at(number as usize) {
+        Some(edge_type) => !edge_type.hidden && edge_fits(compiled, number, source, middle, target),
+        None => false,
     }
 }
 
@@ -111,12 +116,10 @@ fn types_edge(
 pub fn node_typed(compiled: &Compiled, own: &Pair<'_>) -> bool
     ensures { result ≡ is_typed_node compiled.now own.now }
 {
-    for type_no in compiled.resolved().guard.types.as_slice() {
-        if types_node(compiled, *type_no, own) {
-            return true;
-        }
-    }
-    false
+    let types = compiled.resolved().guard.types.as_slice();
+    types
+        .iter()
+        .any(|type_no| types_node(compiled, *type_no, own))
 }
 
 /// Whether an edge is typed, by the pairs of its source, of itself and of its target: they fit a type of the guard that isn't
@@ -129,10 +132,6 @@ pub fn edge_typed(
 ) -> bool
     ensures { result ≡ is_typed_triple compiled.now (triple_of source.now middle.now target.now) }
 {
-    for type_no in compiled.resolved().guard.types.as_slice() {
-        if types_edge(compiled, *type_no, source, middle, target) {
-            return true;
-        }
-    }
-    false
+    let types = compiled.resolved().guard.types.as_slice();
+    types.iter().any(|type_no| types_edge(compiled, *type_no, source, middle, target))
 }
