@@ -79,18 +79,7 @@ module _ (keys : List (List ℕ × Options)) (more : Bool) (props : List (List �
         same = absent_at k e ks es less left ∙ ap (λ b. b && props_meet ks more (e ∷ es)) own;
       })
 
-  -- it is present, with a value that its options don't admit
-  pub unfit : (xs : List (List ℕ × Options)) (ys : List (List ℕ × Value)) (x : List ℕ × Options) (y : List ℕ × Value) →
-      Firsts xs ys x y Equal → admits_kind x.1 (kind_of y.1) ≡ false → Left xs ys → false ≡ props_meet keys more props
-  unfit [] ys x y firsts other left = absurd (omega (arith, firsts.some_keys))
-  unfit (k ∷ ks) [] x y firsts other left = absurd (omega (arith, firsts.some_props))
-  unfit (k ∷ ks) (e ∷ es) x y firsts other left =
-      let equal = subst (λ (z : List ℕ × Value). order k.0 z.0 ≡ Equal) firsts.entry (subst (λ (z : List ℕ × Options). order z.0 y.0 ≡ Equal) firsts.key firsts.compared) in
-      let own = subst (λ (z : List ℕ × Value). admits_kind k.1 (kind_of z.1) ≡ false) firsts.entry
-      (subst (λ (z : List ℕ × Options). admits_kind z.1 (kind_of y.1) ≡ false) firsts.key other) in
-      sym (present_at k e ks es equal left ∙ ap (λ b. b && props_meet ks more es) own)
-
-  -- with one that they admit
+  -- it is present, with a value that its options admit
   pub met : (xs : List (List ℕ × Options)) (ys : List (List ℕ × Value)) (x : List ℕ × Options) (y : List ℕ × Value) →
       Firsts xs ys x y Equal → admits_kind x.1 (kind_of y.1) ≡ true → Left xs ys → Left (later xs) (later ys)
   met [] ys x y firsts fit left = absurd (omega (arith, firsts.some_keys))

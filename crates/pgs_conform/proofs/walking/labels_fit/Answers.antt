@@ -1,5 +1,5 @@
 use Rattle.std.proofs.Common.{◌≡◌, ◌==◌, length, sym, ap, ◌∙◌, ◌||◌}
-use Rattle.pgs_conform.proofs.meeting.labels_fit.Goals as goal
+use Rattle.pgs_conform.proofs.walking.labels_fit.Goals as goal
 use Rattle.pgs_conform.proofs.LabelWalk.{missing, met, passed, refused, ended}
 
 pub returns-in-Less : goal.returns-in-Less
