@@ -1,8 +1,11 @@
 pub mod Adds
+pub mod Days
 pub mod Digits
 pub mod Fronts
 pub mod Gathered
 pub mod Items
+pub mod Joined
+pub mod ToldKinds
 pub mod Lines
 pub mod Lists
 pub mod Numbers

@@ -1,15 +1,16 @@
 //! Lines as JSON values.
 
 use pgs_base::Memory;
-use pgs_json::read_txn;
+use pgs_json::{LineFault, read_txn};
 use std::alloc::Global;
 use std::test::Fail;
 
 /// How many operations a line has. `None` where it is none of a transaction.
 fn operations(alloc: Global, line: &[u8]) -> Result<Option<usize>, Memory> {
-    match read_txn(alloc, line)? {
-        Some(txn) => Ok(Some(txn.ops.len())),
-        None => Ok(None),
+    match read_txn(alloc, line) {
+        Ok(txn) => Ok(Some(txn.ops.len())),
+        Err(LineFault::Memory) => Err(Memory),
+        Err(LineFault::Unreadable | LineFault::LineTooLong) => Ok(None),
     }
 }
 
