@@ -12,5 +12,8 @@ pub mod Numbers
 pub mod Texts
 pub mod Values
 mod LabelOrder
+mod Spelt
+mod Parts
+mod WrittenRead
 mod FormParts
 mod FormLoops
