@@ -15,5 +15,6 @@ mod LabelOrder
 mod Spelt
 mod Parts
 mod WrittenRead
+mod FirstRead
 mod FormParts
 mod FormLoops

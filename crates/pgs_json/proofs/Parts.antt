@@ -159,7 +159,7 @@ keys-append : (a b : List (List ℕ × Value)) → keys_of (a ++ b) ≡ keys_of 
 keys-append [] b = refl
 keys-append (p ∷ ps) b = ap (λ (ks : List (List ℕ)). p.0 ∷ ks) (keys-append ps b)
 
-abbrev put_pair : List (List ℕ × Value) → List ℕ × Value → List (List ℕ × Value)
+abbrev pub put_pair : List (List ℕ × Value) → List ℕ × Value → List (List ℕ × Value)
 put_pair props p = insert_entry (slice_cmp nat_cmp) props p.0 p.1
 
 map_onto : (done more : List (List ℕ × Value)) → IsStrictlySortedBy (slice_cmp nat_cmp) (keys_of (done ++ more)) → fold put_pair done more ≡ done ++ more

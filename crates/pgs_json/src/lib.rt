@@ -25,7 +25,7 @@ mod value;
 
 pub use canonical::{push_txn, txn_room, write_txn};
 pub use first_line::{first_form_is_exact, read_first};
-pub use laws::written_is_read;
+pub use laws::{first_form_is_json, written_is_read};
 pub use line::read_txn;
 pub use line_fault::LineFault;
 pub use samples::{
