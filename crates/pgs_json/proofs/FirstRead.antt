@@ -18,6 +18,7 @@ use Rattle.pgs_base.specs.declared.value.Value.TheVariants as values
 use Rattle.pgs_base.specs.Name.{is_name, is_name_start, is_name_byte}
 use Rattle.pgs_base.specs.Value.{is_value}
 use Rattle.pgs_text.specs.Text.{escaped, quoted}
+use Rattle.pgs_text.proofs.Plain.{plain_by_range}
 use Rattle.pgs_graph.specs.declared.operation.Op.{Op}
 use Rattle.pgs_graph.specs.declared.operation.Txn.{Txn}
 use Rattle.pgs_json.specs.Sets.{label_set, pair_map}
@@ -39,20 +40,15 @@ use Rattle.pgs_json.proofs.Lines.{first_txn_takes}
 
 -- ---- no byte of a name or of a text of the first form is escaped
 
-plain_byte : (b : ℕ) → 32 ≤ b → (b ≡ 34 → ⊥) → (b ≡ 92 → ⊥) → escaped b ≡ b ∷ []
-plain_byte b low quote backslash =
-    rw (ne_eqb b 34 quote, ne_eqb b 92 backslash, ne_eqb b 8 (λ e. omega arith), ne_eqb b 9 (λ e. omega arith), ne_eqb b 10 (λ e. omega arith),
-    ne_eqb b 12 (λ e. omega arith), ne_eqb b 13 (λ e. omega arith), le-ltb b 32 low) refl
-
 text_byte : (b : ℕ) → is_text_byte b ≡ true → escaped b ≡ b ∷ []
 text_byte b h =
-    plain_byte b (grind (arith, nat_tests)) (λ e. grind (arith, nat_tests)) (λ e. grind (arith, nat_tests))
+    plain_by_range b (grind (arith, nat_tests)) (λ e. grind (arith, nat_tests)) (λ e. grind (arith, nat_tests))
 
 name_byte : (b : ℕ) → is_name_byte b ≡ true → escaped b ≡ b ∷ []
-name_byte b h = plain_byte b (grind (arith, nat_tests)) (λ e. grind (arith, nat_tests)) (λ e. grind (arith, nat_tests))
+name_byte b h = plain_by_range b (grind (arith, nat_tests)) (λ e. grind (arith, nat_tests)) (λ e. grind (arith, nat_tests))
 
 name_start : (b : ℕ) → is_name_start b ≡ true → escaped b ≡ b ∷ []
-name_start b h = plain_byte b (grind (arith, nat_tests)) (λ e. grind (arith, nat_tests)) (λ e. grind (arith, nat_tests))
+name_start b h = plain_by_range b (grind (arith, nat_tests)) (λ e. grind (arith, nat_tests)) (λ e. grind (arith, nat_tests))
 
 plain_bytes : (test : ℕ → Bool) → ((b : ℕ) → test b ≡ true → escaped b ≡ b ∷ []) → (bs : List ℕ) → list_all test bs ≡ true → flat_map escaped bs ≡ bs
 plain_bytes test plain [] h = refl
