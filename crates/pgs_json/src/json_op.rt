@@ -1,6 +1,9 @@
 //! Labels, properties, lists of operations and transactions, each of a JSON value.
 
-ghost use Rattle.std.specs.Prelude.{◌≡◌, [], ◌∷◌, ◌++◌, option_map, option_and_then, Some, Err, OnOk, OnErr};
+ghost use Rattle.std.specs.Prelude.{◌≡◌, [], ◌∷◌, ◌++◌, option_map, option_and_then, Some, Err, IfOk, OnOk, OnErr};
+ghost use Rattle.std.specs.Ordering.{nat_cmp};
+ghost use Rattle.std.specs.Cmp.Lexicographic.{slice_cmp};
+ghost use Rattle.std.specs.BTreeSet.{insert_key};
 ghost use Rattle.serde_json.specs.View.{view, items_view, members_view};
 ghost use Rattle.pgs_json.specs.Sets.{label_set, pair_map};
 ghost use Rattle.pgs_json.specs.Form.{form_or_empty, each_item, each_member, pair_of, name_of, labels_of, props_of, op_of, ops_of, form};
@@ -13,13 +16,20 @@ use crate::json_part::{has_only, name, value};
 use crate::kind::kind_in;
 use crate::op_of_kind::op_as;
 use crate::unread::Unread;
-use pgs_base::{Labels, List, Name, Props, Value};
+use pgs_base::{Labels, List, Memory, Name, Props, Value};
 use pgs_graph::{Op, Txn};
 use serde_json::Value as Json;
 use std::alloc::Global;
-use std::collections::BTreeMap;
+use std::collections::{BTreeMap, BTreeSet};
 
-fn some_labels(alloc: Global, items: &[Json]) -> Result<Labels, Unread>
+/// How many labels are put in one after the other: as many as an element may have.
+const FEW_LABELS: usize = 64;
+
+/// For so many operations room is taken at once: as many as a transaction may have.
+const MOST_ROOM: usize = 10_000;
+
+/// Labels that are put in one after the other.
+fn few_labels(alloc: Global, items: &[Json]) -> Result<Labels, Unread>
     ensures { Gives (λ x. x) result (option_and_then (λ names. Some (label_set names)) (each_item name_of (items_view items.now))) }
 {
     let mut labels = Labels::new(alloc);
@@ -28,6 +38,56 @@ fn some_labels(alloc: Global, items: &[Json]) -> Result<Labels, Unread>
         labels.insert(name)?;
     }
     Ok(labels)
+}
+
+fn put_name(names: &mut BTreeSet<Name>, name: Name) -> Result<(), Unread>
+    ensures ok { OnOk result (names.new.keys ≡ insert_key (slice_cmp nat_cmp) names.old.keys name) }
+    ensures err { OnErr result (result ≡ Err OutOfMemory) }
+{
+    match names.insert(name) {
+        Ok(_) => Ok(()),
+        Err(refused) => {
+            drop(refused);
+            Err(Unread::Memory)
+        }
+    }
+}
+
+fn label_names(alloc: Global, items: &[Json]) -> Result<BTreeSet<Name>, Unread>
+    ensures { Gives (λ names. names.keys) result (option_and_then (λ names. Some (label_set names)) (each_item name_of (items_view items.now))) }
+{
+    let mut names = BTreeSet::new(alloc);
+    for item in items {
+        let name = name(alloc, item)?;
+        put_name(&mut names, name)?;
+    }
+    Ok(names)
+}
+
+/// Labels that are sorted first, since each one put in moves those behind it.
+fn many_labels(alloc: Global, items: &[Json]) -> Result<Labels, Unread>
+    ensures { Gives (λ x. x) result (option_and_then (λ names. Some (label_set names)) (each_item name_of (items_view items.now))) }
+{
+    let names = label_names(alloc, items)?;
+    let labels = sorted_labels(alloc, names)?;
+    Ok(labels)
+}
+
+fn sorted_labels(alloc: Global, names: BTreeSet<Name>) -> Result<Labels, Memory>
+    ensures { IfOk result (λ labels. labels ≡ names.keys) }
+{
+    let names = names.into_iter().collect(alloc)?;
+    Ok(Labels::from_vec(names))
+}
+
+fn some_labels(alloc: Global, items: &[Json]) -> Result<Labels, Unread>
+    ensures { Gives (λ x. x) result (option_and_then (λ names. Some (label_set names)) (each_item name_of (items_view items.now))) }
+{
+    if items.len() <= FEW_LABELS {
+        few_labels(alloc, items)
+    } else {
+        many_labels(alloc, items)
+    }
 }
 
 #[tactic(auto, unfolding(crate::specs::Form::labels_of))]
@@ -123,10 +183,17 @@ pub fn put_last(ops: &mut List<Op>, op: Op) -> Result<(), Unread>
     }
 }
 
+fn room_for(alloc: Global, count: usize) -> Result<List<Op>, Memory>
+    ensures { IfOk result (λ ops. ops ≡ []) }
+{
+    let ops = Vec::with_capacity(alloc, count.min(MOST_ROOM))?;
+    Ok(List::from_vec(ops))
+}
+
 fn some_ops(alloc: Global, items: &[Json]) -> Result<List<Op>, Unread>
     ensures { Gives (λ x. x) result (each_item op_of (items_view items.now)) }
 {
-    let mut ops = List::new(alloc);
+    let mut ops = room_for(alloc, items.len())?;
     for item in items {
         let op = op(alloc, item)?;
         put_last(&mut ops, op)?;
