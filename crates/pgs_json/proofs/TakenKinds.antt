@@ -1,17 +1,14 @@
 -- An operation of a kind is what its members are, each taken in the order of the names.
-use Rattle.std.proofs.Common.{◌≡◌, ℕ, Bool, true, false, List, [], ◌∷◌, Option, Some, None, option_and_then, refl, sym, ap, ◌∙◌, Ordering, Less}
+use Rattle.std.proofs.Common.{◌≡◌, ℕ, true, false, List, [], ◌∷◌, Option, None, option_and_then, refl, ap, Less}
 use Rattle.std.specs.Prelude.{codes}
 use Rattle.std.specs.Ordering.{nat_cmp}
 use Rattle.std.specs.Cmp.Lexicographic.{slice_cmp}
 use Rattle.std.specs.List.Sorted.{IsStrictlySortedBy}
 use Rattle.serde_json.specs.Data.{Data, object, Members}
-use Rattle.serde_json.specs.Find.{get_member}
-use Rattle.pgs_base.specs.declared.value.Value.{Value}
-use Rattle.pgs_graph.specs.declared.operation.Op.{Op}
 use Rattle.pgs_json.specs.Ahead.{first_at, after_first, are_over, Ascend}
-use Rattle.pgs_json.specs.Form.{names_in, are_among, id_of, add_node, add_edge, with_id, with_name, with_value}
+use Rattle.pgs_json.specs.Form.{id_of, add_node, add_edge, with_id, with_name, with_value}
 use Rattle.pgs_json.specs.Kinds.{node_of, edge_of, named_of, valued_of}
-use Rattle.pgs_json.proofs.Taking.{Took, took_none, took_more, took_all, took_some, all_at}
+use Rattle.pgs_json.proofs.Taking.{Took, took_none, took_more, took_all, took_some}
 
 pub took_one : (n : List ℕ) (m o : Members) (a : Option Data) → a ≡ first_at n m → o ≡ after_first n m → Took (n ∷ []) m (a ∷ []) o
 took_one n m o a e f = took_more [] m [] m n a o (took_none m) e f

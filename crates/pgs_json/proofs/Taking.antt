@@ -3,7 +3,7 @@ use Rattle.std.proofs.Common.{◌≡◌, ℕ, Bool, true, false, cond, ◌&&◌,
 use Rattle.std.specs.List.{AllByRecursion, list_any}
 use Rattle.std.specs.List.Sorted.{IsStrictlySortedBy}
 use Rattle.std.specs.Map.{keys_of}
-use Rattle.std.specs.Ordering.{nat_cmp, is_eq, match_ordering, ordering_reverse}
+use Rattle.std.specs.Ordering.{nat_cmp, is_eq, ordering_reverse}
 use Rattle.std.specs.Cmp.Lexicographic.{slice_cmp}
 use Rattle.std.proofs.lemmas.Bool.{true≢false}
 use Rattle.std.proofs.lemmas.Cmp.{nat_list_cmp_total, tied_itself}
@@ -98,8 +98,8 @@ same_at n l ns d ms is h k t =
     record {
       over = rw here (t.over ∙ sym (skips_name n ns ms under));
       all = λ among.
-        let rest : are_among ns (names_in ms) ≡ true = sym (skips_name n ns ms under) ∙ rw here at among in
-        rw (here, tied) (ap (λ (os : List (Option Data)). Some d ∷ os) (t.all rest ∙ rw is at (gets_later n d ms ns h)));
+          let rest : are_among ns (names_in ms) ≡ true = sym (skips_name n ns ms under) ∙ rw here at among in
+          rw (here, tied) (ap (λ (os : List (Option Data)). Some d ∷ os) (t.all rest ∙ rw is at (gets_later n d ms ns h)));
     }
 
 before_at : (n l : List ℕ) (ns : List (List ℕ)) (d : Data) (ms : Members) → slice_cmp nat_cmp n l ≡ Less → Below l (names_in ms)
@@ -111,7 +111,7 @@ before_at n l ns d ms is k t =
     record {
       over = ap (λ (b : Bool). are_over (left ns (cond b ms (member l d ms)))) other ∙ (t.over ∙ sym same);
       all = λ among.
-        rw other (ap₂ (λ (a : Option Data) (os : List (Option Data)). a ∷ os) (sym (no_member n (member l d ms) under)) (t.all (sym same ∙ among)));
+          rw other (ap₂ (λ (a : Option Data) (os : List (Option Data)). a ∷ os) (sym (no_member n (member l d ms) under)) (t.all (sym same ∙ among)));
     }
 
 after_at : (n l : List ℕ) (ns : List (List ℕ)) (d : Data) (ms : Members) → slice_cmp nat_cmp n l ≡ Greater → Below n ns
@@ -161,7 +161,7 @@ pub took_more : (these : List (List ℕ)) (ms : Members) (got : List (Option Dat
     → Took these ms got rest → part ≡ first_at n rest → more ≡ after_first n rest → Took (these ++ n ∷ []) ms (got ++ part ∷ []) more
 took_more these ms got rest n part more t e f = record {
   got_are =
-    ap₂ (λ (os : List (Option Data)) (o : Option Data). os ++ o ∷ []) t.got_are (e ∙ ap (first_at n) t.rest_is) ∙ sym (taken-push these ms n);
+      ap₂ (λ (os : List (Option Data)) (o : Option Data). os ++ o ∷ []) t.got_are (e ∙ ap (first_at n) t.rest_is) ∙ sym (taken-push these ms n);
   rest_is = f ∙ ap (after_first n) t.rest_is ∙ sym (left-push these ms n);
 }
 

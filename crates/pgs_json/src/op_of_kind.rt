@@ -108,11 +108,7 @@ fn with_id(members: &mut Ahead<'_>, kind: &str) -> Result<u64, Unread>
     }
 }
 
-fn named_of(
-    alloc: Global,
-    id: Option<&Json>,
-    name: Option<&Json>,
-) -> Result<(u64, Name), Unread>
+fn named_of(alloc: Global, id: Option<&Json>, name: Option<&Json>) -> Result<(u64, Name), Unread>
     ensures { Gives (λ x. x) result (named_of (option_map (λ part. view part.now) id.entry) (option_map (λ part. view part.now) name.entry)) }
 {
     let id = id_part(id)?;
