@@ -1,3 +1,5 @@
+pub mod AtomsOfPaths
+pub mod Causes
 pub mod Computed
 pub mod Firsts
 pub mod Held
@@ -11,4 +13,5 @@ pub mod Same
 pub mod Stepped
 pub mod Steps
 pub mod Trees
+pub mod Unions
 pub mod Walks

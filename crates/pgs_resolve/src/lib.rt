@@ -5,12 +5,16 @@
 #![tactic(auto)]
 
 mod atoms;
+mod connected;
 mod declarations;
 mod duplicates;
 mod fault;
 mod guard;
+mod guard_keys;
 mod imports;
+mod key_causes;
 mod key_faults;
+mod key_refusals;
 mod kinds;
 pub mod laws;
 mod names;
