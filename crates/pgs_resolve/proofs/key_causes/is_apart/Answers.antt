@@ -19,4 +19,4 @@ returns-in_ok-is_linked-in-Some c =
     sym (c.in_ok-is_linked.ensures ∙ ap (are_linked x) c.as_slice.ensures) ∙ c.if-not-branch.false in
     ap not (c.in_ok-is_linked-in-Some.ensures ∙ ap (are_linked x) c.as_slice-in-Some.ensures)
     ∙ sym (ap (λ o. apart_of (unwrap_or o []) key.scope key.within) c.requires ∙ ap (apart_of x key.scope) c.in-Some.is
-    ∙ ap (λ b. not b || not (are_linked x c.in-Some.paths.now)) scope)
+    ∙ ap (λ b. not b || not (are_linked x c.in-Some.paths)) scope)
