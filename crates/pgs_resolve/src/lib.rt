@@ -5,6 +5,7 @@
 #![tactic(auto)]
 
 mod atoms;
+mod cycles;
 mod declarations;
 mod duplicates;
 mod fault;
@@ -13,6 +14,7 @@ mod imports;
 mod key_faults;
 mod kinds;
 pub mod laws;
+mod listing;
 mod names;
 mod order;
 mod patterns;
