@@ -1,5 +1,4 @@
 pub mod AtomsOfPaths
-pub mod Causes
 pub mod Computed
 pub mod Firsts
 pub mod Held
