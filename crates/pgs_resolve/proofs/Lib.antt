@@ -1,5 +1,6 @@
 pub mod AtomsOfPaths
 pub mod Computed
+pub mod Each
 pub mod Firsts
 pub mod Held
 pub mod Listed

@@ -5,7 +5,7 @@ ghost use Rattle.pgs_syntax.specs.declared.script.GraphType.{GraphType};
 ghost use Rattle.pgs_syntax.specs.declared.script.Script.{Script};
 ghost use Rattle.pgs_resolve.specs.Declarations.{graphs_of};
 ghost use Rattle.pgs_resolve.specs.Guard.{name_of, each_once, type_no, last_of, guarding};
-ghost use Rattle.pgs_resolve.specs.Keyed.{EachNamesX};
+ghost use Rattle.pgs_resolve.specs.Keyed.{AreKeyed};
 ghost use Rattle.pgs_resolve.specs.Tables.{AreOf};
 
 use crate::declarations::Declarations;
@@ -121,8 +121,8 @@ pub fn guarding(
     declarations: &Declarations<'_>,
     numbering: &Numbering,
 ) -> Result<Guarding, Memory>
-    requires { EachNamesX (flat_map (λ graph. graph.now.keys) declarations.now.graphs.items) }
-    ensures { (script : Script) → AreOf script declarations.now → IfOk result (λ guarding. guarding ≡ guarding script numbering.now) }
+    requires { AreKeyed declarations.now }
+    ensures { (script : Script) → AreOf script declarations.now → IfOk result (λ guard. guard ≡ guarding script numbering.now) }
 {
     let graphs = guard_graphs(alloc, declarations)?;
     let types = listed_types(alloc, numbering, &graphs)?;

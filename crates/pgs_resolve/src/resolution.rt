@@ -1,8 +1,8 @@
-ghost use Rattle.std.specs.Prelude.{◌≡◌, slice_get, flat_map, IfOk, Ok, Err, MatchResult, ◌⊎◌};
+ghost use Rattle.std.specs.Prelude.{◌≡◌, slice_get, IfOk, Ok, Err, MatchResult, ◌⊎◌};
 ghost use Rattle.pgs_syntax.specs.declared.script.Script.{Script};
 ghost use Rattle.pgs_resolve.specs.declared.fault.ResolveFault.TheVariants as faults;
 ghost use Rattle.pgs_resolve.specs.Resolution.{refusals, resolved, resolution};
-ghost use Rattle.pgs_resolve.specs.Keyed.{EachNamesX};
+ghost use Rattle.pgs_resolve.specs.Keyed.{AreKeyed};
 ghost use Rattle.pgs_resolve.specs.Tables.{AreOf};
 
 use crate::ResolveFault;
@@ -49,7 +49,7 @@ fn first_refusal(
 
 // The schema of a script, the scope of each of whose keys names a variable.
 fn resolved(alloc: Global, declarations: &Declarations<'_>) -> Result<Resolved, Memory>
-    requires { EachNamesX (flat_map (λ graph. graph.now.keys) declarations.now.graphs.items) }
+    requires { AreKeyed declarations.now }
     ensures { (script : Script) → AreOf script declarations.now → IfOk result (λ schema. schema ≡ resolved script) }
 {
     let numbering = numbering(alloc, declarations)?;
