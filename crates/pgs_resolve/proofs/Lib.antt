@@ -1,6 +1,7 @@
 pub mod AtomsOfPaths
 pub mod Computed
 pub mod Each
+pub mod FirstBad
 pub mod Firsts
 pub mod Held
 pub mod Listed
@@ -8,6 +9,7 @@ pub mod Members
 pub mod Once
 mod OneAnswer
 pub mod Parts
+pub mod Refusing
 pub mod Repeats
 pub mod Same
 pub mod Stepped
