@@ -4,11 +4,13 @@ pub mod Each
 pub mod FirstBad
 pub mod Firsts
 pub mod Held
+pub mod Kept
 pub mod Listed
 pub mod Members
 pub mod Once
 mod OneAnswer
 pub mod Parts
+pub mod Queues
 pub mod Refusing
 pub mod Repeats
 pub mod Same

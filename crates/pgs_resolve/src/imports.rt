@@ -31,7 +31,8 @@ fn imports_of<'a>(declarations: &Declarations<'a>, name: &Name) -> &'a [Name]
     }
 }
 
-fn split(names: &[Name]) -> Option<(&Name, &[Name])>
+/// The first name and those behind it. `None` exactly where there is none.
+pub fn split(names: &[Name]) -> Option<(&Name, &[Name])>
     ensures { MatchOption result (names.now ≡ []) (λ next. names.now ≡ next.0.now ∷ next.1.now) }
 {
     match names {
