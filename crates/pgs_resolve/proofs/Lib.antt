@@ -3,7 +3,9 @@ pub mod Computed
 pub mod Each
 pub mod FirstBad
 pub mod Firsts
+pub mod Fresh
 pub mod Held
+pub mod InOrder
 pub mod Kept
 pub mod Listed
 pub mod Members
@@ -18,4 +20,6 @@ pub mod Stepped
 pub mod Steps
 pub mod Trees
 pub mod Unions
+pub mod Valid
+pub mod ValidSpecs
 pub mod Walks
