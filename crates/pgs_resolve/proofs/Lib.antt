@@ -22,4 +22,7 @@ pub mod Trees
 pub mod Unions
 pub mod Valid
 pub mod ValidSpecs
+pub mod ValidTypes
+pub mod ValidPlaces
+pub mod ValidGuard
 pub mod Walks

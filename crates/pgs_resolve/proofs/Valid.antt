@@ -6,7 +6,9 @@ use Rattle.pgs_syntax.specs.declared.resolved.Resolved.{Resolved}
 use Rattle.pgs_syntax.specs.declared.script.Script.{Script}
 use Rattle.pgs_syntax.specs.Valid.{is_valid}
 use Rattle.pgs_resolve.specs.Resolution.{resolution}
-use Rattle.pgs_resolve.proofs.Fresh.{types_fresh, node_found}
+use Rattle.pgs_resolve.proofs.ValidGuard.{types_there}
+use Rattle.pgs_resolve.proofs.ValidPlaces.{places_distinct}
+use Rattle.pgs_resolve.proofs.ValidTypes.{nodes_valid, edges_valid}
 use Rattle.pgs_resolve.proofs.InOrder.{all_in_order}
 use Rattle.pgs_resolve.proofs.ValidSpecs.{spec_valid, words_below}
 
