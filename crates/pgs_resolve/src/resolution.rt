@@ -1,5 +1,8 @@
-ghost use Rattle.std.specs.Prelude.{◌≡◌, slice_get, IfOk, Ok, Err, MatchResult, ◌⊎◌};
+ghost use Rattle.std.specs.Prelude.{◌≡◌, slice_get, IfOk, IfErr, Ok, Err, ◌⊎◌, true, List};
+ghost use Rattle.pgs_lexer.specs.Token.{Lexeme};
+ghost use Rattle.pgs_parser.specs.Statements.{IsScript};
 ghost use Rattle.pgs_syntax.specs.declared.script.Script.{Script};
+ghost use Rattle.pgs_syntax.specs.Valid.{is_valid};
 ghost use Rattle.pgs_resolve.specs.declared.fault.ResolveFault.TheVariants as faults;
 ghost use Rattle.pgs_resolve.specs.Resolution.{refusals, resolved, resolution};
 ghost use Rattle.pgs_resolve.specs.Keyed.{AreKeyed};
@@ -63,16 +66,17 @@ fn resolved(alloc: Global, declarations: &Declarations<'_>) -> Result<Resolved, 
     })
 }
 
-/// The schema of a script, or the first of its refusals. Both are computed by `resolution` of `specs/Resolution.antt`.
-/// `Memory` says that there was none, and nothing of the script.
+/// The schema of a script, or the first of its refusals, in the order of the variants of [`ResolveFault`]; both are
+/// computed by `resolution` of `specs/Resolution.antt`. A schema is valid where the script is that of tokens. `Memory`
+/// says nothing of the script. Names are shared with the script, not copied byte by byte.
 pub fn resolve(alloc: Global, script: &Script) -> Result<Resolved, ResolveFault>
-    ensures { MatchResult result (λ schema. resolution script.now ≡ Ok schema)
-        (λ fault. (fault ≡ faults.Memory) ⊎ (resolution script.now ≡ Err fault)) }
+    ensures schema { IfOk result (λ schema. resolution script.now ≡ Ok schema) }
+    ensures refusal { IfErr result (λ fault. (fault ≡ faults.Memory) ⊎ (resolution script.now ≡ Err fault)) }
+    ensures valid { IfOk result (λ schema. (tokens : List Lexeme) → IsScript script.now tokens → is_valid schema ≡ true) }
 {
     let declarations = Declarations::new(alloc, script)?;
     if let Some(fault) = first_refusal(alloc, script, &declarations)? {
         return Err(fault);
     }
-    let schema = resolved(alloc, &declarations)?;
-    Ok(schema)
+    Ok(resolved(alloc, &declarations)?)
 }
