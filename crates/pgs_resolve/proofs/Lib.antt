@@ -1,7 +1,11 @@
+pub mod Backs
 pub mod Computed
 pub mod Firsts
 pub mod Held
 pub mod Kept
+pub mod Leading
+pub mod Leasts
+pub mod Linked
 pub mod Listed
 pub mod Members
 pub mod Once

@@ -2,6 +2,7 @@ pub mod Declarations
 pub mod Guard
 pub mod KeyFaults
 pub mod KeyNames
+pub mod Links
 pub mod Listing
 pub mod Order
 pub mod Patterns

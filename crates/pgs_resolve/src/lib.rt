@@ -5,6 +5,7 @@
 #![tactic(auto)]
 
 mod atoms;
+mod components;
 mod cycles;
 mod declarations;
 mod duplicates;
@@ -14,6 +15,7 @@ mod imports;
 mod key_faults;
 mod kinds;
 pub mod laws;
+mod links;
 mod listing;
 mod names;
 mod order;
