@@ -1,7 +1,12 @@
+pub mod AtomsOfPaths
 pub mod Backs
 pub mod Computed
+pub mod Each
+pub mod FirstBad
 pub mod Firsts
+pub mod Fresh
 pub mod Held
+pub mod InOrder
 pub mod Kept
 pub mod Leading
 pub mod Leasts
@@ -12,9 +17,13 @@ pub mod Once
 mod OneAnswer
 pub mod Parts
 pub mod Queues
+pub mod Refusing
 pub mod Repeats
 pub mod Same
 pub mod Stepped
 pub mod Steps
 pub mod Trees
+pub mod Unions
+pub mod Valid
+pub mod ValidSpecs
 pub mod Walks

@@ -1,6 +1,8 @@
 pub mod Declarations
+pub mod Groups
 pub mod Guard
 pub mod KeyFaults
+pub mod Keyed
 pub mod KeyNames
 pub mod Links
 pub mod Listing

@@ -86,8 +86,8 @@ pub fn walk<'a>(
     Ok(names)
 }
 
-// The last graph type.
-fn last_graph<'a>(declarations: &Declarations<'a>) -> Option<&'a GraphType>
+/// The last graph type. `None` exactly where there is none.
+pub fn last_graph<'a>(declarations: &Declarations<'a>) -> Option<&'a GraphType>
     ensures { (script : Script) → AreOf script declarations.now → option_copied result ≡ last_of (graphs_of script) }
 {
     let count = declarations.graphs.len();
