@@ -25,5 +25,11 @@ pub mod Steps
 pub mod Trees
 pub mod Unions
 pub mod Valid
+pub mod ValidPatterns
 pub mod ValidSpecs
+pub mod ValidTypes
+pub mod ValidPlaces
+pub mod ValidGuard
+pub mod ValidKeys
+pub mod VariablesOfPaths
 pub mod Walks
