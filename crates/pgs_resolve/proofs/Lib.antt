@@ -1,4 +1,5 @@
 pub mod AtomsOfPaths
+pub mod Backs
 pub mod Computed
 pub mod Each
 pub mod FirstBad
@@ -7,6 +8,9 @@ pub mod Fresh
 pub mod Held
 pub mod InOrder
 pub mod Kept
+pub mod Leading
+pub mod Leasts
+pub mod Linked
 pub mod Listed
 pub mod Members
 pub mod Once

@@ -4,6 +4,7 @@ pub mod Guard
 pub mod KeyFaults
 pub mod Keyed
 pub mod KeyNames
+pub mod Links
 pub mod Listing
 pub mod Order
 pub mod Patterns

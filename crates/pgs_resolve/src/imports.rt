@@ -21,7 +21,9 @@ struct Frame<'a> {
     depth: usize,
 }
 
-fn imports_of<'a>(declarations: &Declarations<'a>, name: &Name) -> &'a [Name]
+/// The names that the graph type of a name imports: none where there is no such graph type. They are no more than all
+/// graph types together import.
+pub fn imports_of<'a>(declarations: &Declarations<'a>, name: &Name) -> &'a [Name]
     ensures value { (script : Script) → AreOf script declarations.now → result.now ≡ imported_by script name.now }
     ensures within { length result.now ≤ sum_by (λ type. length type.now.imports) declarations.now.graphs.items }
 {

@@ -6,6 +6,7 @@
 #![tactic(auto)]
 
 mod atoms;
+mod components;
 mod connected;
 mod cycles;
 mod declarations;
@@ -19,6 +20,7 @@ mod key_faults;
 mod key_refusals;
 mod kinds;
 pub mod laws;
+mod links;
 mod listing;
 mod names;
 mod order;
