@@ -1,5 +1,6 @@
 pub mod AtomsOfPaths
 pub mod Backs
+pub mod Causes
 pub mod Computed
 pub mod Each
 pub mod FirstBad
