@@ -1,5 +1,5 @@
 -- What holds of each item of a list, and of each that is found in it.
-use Rattle.std.proofs.Common.{◌≡◌, ℕ, zero, suc, ◌+◌, ◌<◌, Bool, true, false, cond, ◌&&◌, List, [], ◌∷◌, ◌++◌, length, take, map, get_or, Option, Some, None, refl, sym, ◌∙◌, ap, arith}
+use Rattle.std.proofs.Common.{◌≡◌, ℕ, zero, suc, ◌+◌, ◌<◌, Bool, true, false, cond, List, [], ◌∷◌, ◌++◌, length, take, map, get_or, Option, Some, None, refl, sym, ◌∙◌, ap, arith}
 use Rattle.std.specs.List.{list_all, flat_map, filter_map, cons_option, find}
 use Rattle.std.specs.Option.{option_map_or}
 use Rattle.std.proofs.lemmas.Bool.{and_from, and_parts}
@@ -9,7 +9,7 @@ use Rattle.pgs_base.specs.Pair.{same_name}
 use Rattle.pgs_syntax.specs.declared.raw.RawKey.{RawKey}
 use Rattle.pgs_syntax.specs.declared.script.GraphType.{GraphType}
 use Rattle.pgs_syntax.specs.declared.script.Script.{Script}
-use Rattle.pgs_resolve.specs.Declarations.{graphs_of, graph_named, keys_of}
+use Rattle.pgs_resolve.specs.Declarations.{graphs_of, keys_of}
 use Rattle.pgs_resolve.specs.Guard.{walked, last_of, walked_graphs}
 use Rattle.pgs_resolve.proofs.Walks.{one_more}
 
@@ -67,7 +67,7 @@ pub of_guard : (p : RawKey → Bool) (script : Script) → list_all p (keys_of s
 of_guard p script h =
     let each : GraphType → Bool = λ type. list_all p (keys_in type) in
     let names : List (List ℕ) =
-        option_map_or (λ (type : GraphType). walked script (length (graphs_of script)) [] type.name) (last_of (graphs_of script)) [] in
+    option_map_or (λ (type : GraphType). walked script (length (graphs_of script)) [] type.name) (last_of (graphs_of script)) [] in
     flat_to p keys_in (walked_graphs script)
     (kept_pass each (λ (name : List ℕ) (type : GraphType). same_name name type.name) (graphs_of script) (flat_from p keys_in (graphs_of script) h) names)
 

@@ -1,7 +1,7 @@
 -- Names that stand once among others, and the types that a script declares once.
-use Rattle.std.proofs.Common.{◌≡◌, ℕ, ◌+◌, ◌<◌, Bool, true, false, not, cond, ◌&&◌, ◌||◌, ◌⊎◌, inl, inr, List, [], ◌∷◌, ◌++◌, length, map, filter, Option, Some, None, refl, sym, ◌∙◌, ap, subst, arith}
-use Rattle.std.specs.List.{list_all, list_any, flat_map, filter_map, cons_option, find}
-use Rattle.std.proofs.lemmas.Bool.{and_from, and_parts, or_parts, or_from, both_ways}
+use Rattle.std.proofs.Common.{◌≡◌, ℕ, Bool, true, false, cond, ◌⊎◌, inl, inr, List, [], ◌∷◌, ◌++◌, map, filter, Some, refl, sym, ◌∙◌, ap, subst}
+use Rattle.std.specs.List.{list_all, list_any, flat_map, filter_map, find}
+use Rattle.std.proofs.lemmas.Bool.{and_from, and_parts, or_parts, or_from}
 use Rattle.std.proofs.lemmas.List.{append_assoc}
 use Rattle.std.proofs.lemmas.List.Elements.{filter_map-append}
 use Rattle.pgs_base.specs.Pair.{same_name, has_name}
@@ -17,8 +17,8 @@ use Rattle.pgs_resolve.specs.declared.duplicates.Mark.{Mark}
 use Rattle.pgs_resolve.specs.declared.duplicates.Mark.TheVariants as marks
 use Rattle.pgs_resolve.specs.Declarations.{braces_of, declared_in, is_declared, types_of, nodes_of, edges_of, node_in, edge_in}
 use Rattle.pgs_resolve.specs.Guard.{name_of}
-use Rattle.pgs_resolve.specs.Refused.{marked, element_in, marks_in, marks_of_member, marks_of, is_second, repeated_after, seconds_after}
-use Rattle.pgs_resolve.proofs.Each.{all_parts, all_joined, flat_to, flat_from}
+use Rattle.pgs_resolve.specs.Refused.{element_in, marks_in, marks_of_member, marks_of, is_second, repeated_after, seconds_after}
+use Rattle.pgs_resolve.proofs.Each.{all_parts, all_joined, flat_from}
 use Rattle.pgs_resolve.proofs.Repeats.{elements_marked}
 use Rattle.pgs_resolve.proofs.Same.{in_turn, itself}
 

@@ -1,8 +1,7 @@
 -- Types in their order: each is one of the script's, is listed once, and names only types before it.
-use Rattle.std.proofs.Common.{◌≡◌, ℕ, zero, suc, ◌+◌, ◌<◌, ◌≤◌, Bool, true, false, not, cond, ◌&&◌, ◌||◌, ◌⊎◌, inl, inr, List, [], ◌∷◌, ◌++◌, length, take, map, filter, get_or, Option, Some, None, refl, sym, ◌∙◌, ap, subst, arith, leb, length-append}
-use Rattle.std.specs.List.{list_all, list_any}
+use Rattle.std.proofs.Common.{◌≡◌, ℕ, zero, suc, ◌<◌, Bool, true, false, not, cond, ◌⊎◌, inl, inr, List, [], ◌∷◌, ◌++◌, length, take, filter, get_or, Option, Some, None, refl, sym, ◌∙◌, ap, subst, arith, leb, length-append}
 use Rattle.std.specs.Option.{option_map_or}
-use Rattle.std.proofs.lemmas.Bool.{and_from, and_parts, or_parts, or_from, cases_lt, not-true}
+use Rattle.std.proofs.lemmas.Bool.{or_from, cases_lt, not-true}
 use Rattle.std.proofs.lemmas.List.{get_or_append_left, get_or_at, take-append-le, take_at}
 use Rattle.std.proofs.lemmas.List.Folds.{list_any-append}
 use Rattle.pgs_base.specs.Pair.{same_name, has_name}
@@ -95,10 +94,10 @@ in_order entries (suc further) listed left order among new =
         next entry (order_push entries listed entry order (among entry mine.0) mine.1 (new entry mine.0))
         (λ other i. among other (kept_in (λ (x : Entry). not (same_name entry.name x.name)) left other i).0)
         (λ other i.
-            let its = kept_in (λ (x : Entry). not (same_name entry.name x.name)) left other i in
-            list_any-append (same_name other.name) listed (entry.name ∷ [])
-            ∙ or_from _ _ (new other its.0)
-            (or_from _ _ (in_turn other.name entry.name ∙ not-true (same_name entry.name other.name) its.1) refl))
+        let its = kept_in (λ (x : Entry). not (same_name entry.name x.name)) left other i in
+        list_any-append (same_name other.name) listed (entry.name ∷ [])
+        ∙ or_from _ _ (new other its.0)
+        (or_from _ _ (in_turn other.name entry.name ∙ not-true (same_name entry.name other.name) its.1) refl))
 
 pub all_in_order : (entries : List Entry) → InOrder entries (listing (length entries) [] entries)
 all_in_order entries = in_order entries (length entries) [] entries (λ k h. absurd (omega (arith, h))) (λ entry i. i) (λ entry i. refl)

@@ -1,14 +1,13 @@
 -- What the guard lists: types that are there, and each graph type's keys once.
-use Rattle.std.proofs.Common.{◌≡◌, ℕ, zero, suc, ◌+◌, ◌-◌, ◌<◌, ◌≤◌, Bool, true, false, not, cond, ◌&&◌, ◌||◌, ◌⊎◌, inl, inr, List, [], ◌∷◌, ◌++◌, length, map, filter, Option, Some, None, refl, sym, ◌∙◌, ap, subst, arith, ltb, leb, length-append}
+use Rattle.std.proofs.Common.{◌≡◌, ℕ, zero, suc, ◌+◌, ◌-◌, ◌<◌, ◌≤◌, Bool, true, false, cond, ◌||◌, ◌⊎◌, inl, inr, List, [], ◌∷◌, ◌++◌, length, map, filter, Option, Some, None, refl, sym, ◌∙◌, ap, arith, ltb, leb, length-append}
 use Rattle.std.specs.List.{list_all, list_any, flat_map, filter_map, cons_option, find, fold}
 use Rattle.std.specs.Option.{option_map, option_map_or}
-use Rattle.std.proofs.lemmas.Bool.{and_from, or_parts, or_from, or_cases, or_left, or_right, both_ways, lt-ltb, ltb-false, le-leb, cases_Bool, false_from_ne_true}
+use Rattle.std.proofs.lemmas.Bool.{and_from, or_parts, or_from, or_cases, or_left, or_right, both_ways, lt-ltb, ltb-false, le-leb, false_from_ne_true}
 use Rattle.std.proofs.lemmas.List.{length-map}
 use Rattle.std.proofs.lemmas.List.Folds.{list_any-append}
 use Rattle.pgs_base.specs.Pair.{same_name, has_name}
 use Rattle.pgs_syntax.specs.declared.raw.RawKey.{RawKey}
 use Rattle.pgs_syntax.specs.declared.resolved.Resolved.{Resolved}
-use Rattle.pgs_syntax.specs.declared.resolved.TypeNo.{TypeNo}
 use Rattle.pgs_syntax.specs.declared.resolved.TypeNo.TheVariants.{Node, Edge}
 use Rattle.pgs_syntax.specs.declared.script.GraphType.{GraphType}
 use Rattle.pgs_syntax.specs.declared.script.Script.{Script}
@@ -17,11 +16,11 @@ use Rattle.pgs_resolve.specs.Declarations.{graphs_of, graph_named, keys_of}
 use Rattle.pgs_resolve.specs.Guard.{walked, last_of, walked_graphs, type_no}
 use Rattle.pgs_resolve.specs.KeyFaults.{are_too_large, within_of}
 use Rattle.pgs_resolve.specs.Order.{Numbering, number_in}
-use Rattle.pgs_resolve.specs.Refused.{imported_by, leads, cyclic, least, lesser}
+use Rattle.pgs_resolve.specs.Refused.{imported_by, leads, cyclic, least}
 use Rattle.pgs_resolve.proofs.Each.{keys_in}
 use Rattle.pgs_resolve.proofs.FirstBad.{AllSound, is_sound}
-use Rattle.pgs_resolve.proofs.Fresh.{Fresh, In, in_map, fresh_none}
-use Rattle.pgs_resolve.proofs.Same.{one_name, itself, in_turn}
+use Rattle.pgs_resolve.proofs.Fresh.{Fresh, In, fresh_none}
+use Rattle.pgs_resolve.proofs.Same.{one_name, in_turn}
 use Rattle.pgs_resolve.proofs.ValidSpecs.{number_within}
 
 -- ---- the types that are listed
@@ -215,12 +214,12 @@ module _ (script : Script) where
       by None e = nowhere depth name name (ap (λ o. option_map_or (λ (type : GraphType). type.imports) o []) e)
       by (Some type) e = false_from_ne_true (leads next depth name name)
           (λ led.
-              let all : length graph_names ≡ length (graphs_of script) = length-map (graphs_of script) (λ (t : GraphType). t.name) in
-              let most : (length graph_names - depth) + depth ≡ length graph_names = omega (arith, low, all) in
-              both_ways (leads next (length graph_names) name name)
-              (filter_none (λ n. leads next (length graph_names) n n) graph_names name (back_none names (cyclic next graph_names) (no_least _ none))
-              (found_in name (graphs_of script) type e))
-              (sym (ap (λ n. leads next n name name) most) ∙ more_steps (length graph_names - depth) depth name name led))
+          let all : length graph_names ≡ length (graphs_of script) = length-map (graphs_of script) (λ (t : GraphType). t.name) in
+          let most : (length graph_names - depth) + depth ≡ length graph_names = omega (arith, low, all) in
+          both_ways (leads next (length graph_names) name name)
+          (filter_none (λ n. leads next (length graph_names) n n) graph_names name (back_none names (cyclic next graph_names) (no_least _ none))
+          (found_in name (graphs_of script) type e))
+          (sym (ap (λ n. leads next n name name) most) ∙ more_steps (length graph_names - depth) depth name name led))
 
 -- ---- keys
 
@@ -246,7 +245,7 @@ no_hit type types [] h = refl
 no_hit type types (name ∷ names) h =
     let parts = or_parts (same_name type.name name) (has_name type.name names) h in
     let miss : keys_at (type ∷ types) name ≡ keys_at types name =
-        ap (λ b. cond b (Some type) (keys_at types name)) (in_turn name type.name ∙ parts.0) in
+    ap (λ b. cond b (Some type) (keys_at types name)) (in_turn name type.name ∙ parts.0) in
     let rest = no_hit type types names parts.1 in
     let a = one_count (keys_at (type ∷ types) name) (filter_map (keys_at (type ∷ types)) names) in
     let b = one_count (keys_at types name) (filter_map (keys_at types) names) in

@@ -1,14 +1,12 @@
 -- Keys without a fault, resolved: valid, and naming types that are there.
-use Rattle.std.proofs.Common.{true≢false, ◌≡◌, ℕ, zero, suc, ◌+◌, ◌<◌, ◌≤◌, Bool, true, false, not, cond, ◌&&◌, ◌||◌, ◌⊎◌, inl, inr, List, [], ◌∷◌, ◌++◌, length, take, map, get_or, Option, Some, None, refl, sym, ◌∙◌, ap, subst, arith, eqb, ltb, leb}
+use Rattle.std.proofs.Common.{◌≡◌, ℕ, ◌+◌, ◌<◌, Bool, true, false, not, cond, ◌||◌, inl, inr, List, [], ◌∷◌, ◌++◌, length, take, map, Option, Some, None, refl, sym, ◌∙◌, ap, subst, arith, ltb}
 use Rattle.std.specs.List.{list_all, find, fold, cons_option, slice_get}
 use Rattle.std.specs.Option.{option_map, option_map_or, option_to_list, unwrap_or, is_some}
 use Rattle.std.proofs.lemmas.Bool.{and_from, or_parts, or_left, lt-ltb, ltb-false, le-leb, not-false}
 use Rattle.std.proofs.lemmas.List.{length-map}
 use Rattle.std.proofs.lemmas.Option.{slice_get-map, slice_get_within}
-use Rattle.pgs_base.specs.declared.value.Value.{Value}
 use Rattle.pgs_base.specs.Pair.{same_name, has_name}
-use Rattle.pgs_syntax.specs.declared.pattern.Atom.{Atom}
-use Rattle.pgs_syntax.specs.declared.pattern.Atom.TheVariants.{Ends, Equals, HasLabel, FitsNode, FitsEdge}
+use Rattle.pgs_syntax.specs.declared.pattern.Atom.TheVariants.{HasLabel, FitsNode, FitsEdge}
 use Rattle.pgs_syntax.specs.declared.pattern.Expr.{Expr}
 use Rattle.pgs_syntax.specs.declared.pattern.Expr.TheVariants.{Element, Property}
 use Rattle.pgs_syntax.specs.declared.pattern.Pattern.{Pattern}
@@ -16,11 +14,11 @@ use Rattle.pgs_syntax.specs.declared.raw.RawExpr.{RawExpr}
 use Rattle.pgs_syntax.specs.declared.raw.RawKey.{RawKey}
 use Rattle.pgs_syntax.specs.declared.raw.RawPath.{RawPath}
 use Rattle.pgs_syntax.specs.declared.resolved.Resolved.{Resolved}
-use Rattle.pgs_syntax.specs.Valid.{is_valid_pattern, is_valid_key, is_valid_key_of, is_connected, are_one_kind, is_edge_var, read_var, names_types}
-use Rattle.pgs_resolve.specs.KeyFaults.{within_of, descriptor_names, has_no_x, has_two_kinds, edge_places, node_places, are_too_large}
+use Rattle.pgs_syntax.specs.Valid.{is_valid_pattern, is_valid_key_of, is_connected, are_one_kind, is_edge_var, read_var, names_types}
+use Rattle.pgs_resolve.specs.KeyFaults.{within_of, descriptor_names, are_too_large}
 use Rattle.pgs_resolve.specs.Order.{Numbering, number_in}
-use Rattle.pgs_resolve.specs.Patterns.{Variable, called, nameless, is_same, variables_at, variables_of, number_of, with_variable, name_atom, path_atoms, named_in, places_of, pattern_of, x_of, x_alone, descriptor_variables, resolved_expr, resolved_key}
-use Rattle.pgs_resolve.proofs.AtomsOfPaths.{AllGood, paths_ok, some_variable, number_below}
+use Rattle.pgs_resolve.specs.Patterns.{Variable, called, nameless, is_same, variables_at, variables_of, number_of, with_variable, name_atom, named_in, places_of, pattern_of, x_of, x_alone, descriptor_variables, resolved_expr, resolved_key}
+use Rattle.pgs_resolve.proofs.AtomsOfPaths.{AllGood, paths_ok, number_below}
 use Rattle.pgs_resolve.proofs.FirstBad.{IsSound}
 use Rattle.pgs_resolve.proofs.Fresh.{In}
 use Rattle.pgs_resolve.proofs.Same.{itself}
@@ -203,7 +201,7 @@ module _ (number : ℕ) (key : RawKey) (sound : IsSound number key) where
     }
     described (Some paths) e =
         let named : has_name x (named_in (places_of paths)) ≡ true =
-            sym (ap (λ o. has_name x (option_map_or (λ ps. named_in (places_of ps)) o (x ∷ []))) e) ∙ x_named.1 in
+        sym (ap (λ o. has_name x (option_map_or (λ ps. named_in (places_of ps)) o (x ∷ []))) e) ∙ x_named.1 in
         let P : List RawPath → Type 0 = λ ps. OneKind (places_of key.scope ++ places_of ps) in
         let both : OneKind (places_of key.scope ++ places_of paths) = subst P (ap (λ o. unwrap_or o []) e) one in
         let first : FirstIs x paths = first_is x paths named in

@@ -1,5 +1,5 @@
 -- Patterns of paths: within the limits, of sound kinds, with all ends, and connected where the paths are.
-use Rattle.std.proofs.Common.{true≢false, ◌≡◌, ℕ, zero, suc, ◌+◌, ◌*◌, ◌<◌, ◌≤◌, Bool, true, false, not, cond, ◌&&◌, ◌||◌, ◌⊎◌, inl, inr, List, [], ◌∷◌, ◌++◌, length, take, map, filter, get_or, Option, Some, None, refl, sym, ◌∙◌, ap, subst, arith, eqb, ltb, leb, length-append}
+use Rattle.std.proofs.Common.{true≢false, ◌≡◌, ℕ, suc, ◌+◌, ◌*◌, ◌<◌, Bool, true, false, not, cond, ◌||◌, ◌⊎◌, inl, inr, List, [], ◌∷◌, ◌++◌, length, map, filter, get_or, Option, Some, None, refl, sym, ◌∙◌, ap, subst, arith, eqb, ltb, length-append}
 use Rattle.std.specs.List.{list_all, list_any, flat_map, enumerate_from, slice_get}
 use Rattle.std.specs.Option.{option_map, option_map_or}
 use Rattle.std.proofs.lemmas.Bool.{and_from, or_parts, or_left, or_right, lt-ltb, ltb-false, le-leb, eq-eqb}
@@ -7,18 +7,16 @@ use Rattle.std.proofs.lemmas.List.{length-map}
 use Rattle.std.proofs.lemmas.List.Folds.{list_any-append}
 use Rattle.std.proofs.lemmas.Option.{slice_get-map, slice_get-get_or, slice_get_within, get_or_from_slice_get}
 use Rattle.pgs_base.specs.declared.value.Value.{Value}
-use Rattle.pgs_base.specs.Pair.{has_name}
 use Rattle.pgs_syntax.specs.declared.pattern.Atom.{Atom}
 use Rattle.pgs_syntax.specs.declared.pattern.Atom.TheVariants.{Ends, Equals, HasLabel, FitsNode, FitsEdge}
-use Rattle.pgs_syntax.specs.declared.pattern.Pattern.{Pattern}
 use Rattle.pgs_syntax.specs.declared.raw.RawFilter.{RawFilter}
 use Rattle.pgs_syntax.specs.declared.raw.RawPath.{RawPath}
 use Rattle.pgs_syntax.specs.declared.raw.RawStep.{RawStep}
 use Rattle.pgs_syntax.specs.Valid.{speaks_of, gives_ends, has_all_ends, groups_after, together, is_connected, edge_count, is_valid_pattern}
 use Rattle.pgs_resolve.specs.KeyFaults.{edge_places, are_too_large}
 use Rattle.pgs_resolve.specs.Order.{Numbering, number_in}
-use Rattle.pgs_resolve.specs.Patterns.{Place, Variable, variable_at, variables_at, variables_of, number_of, name_atom, place_atoms, ends, step_atoms, path_atoms, named_in, places_of, places_of_path, places_of_step, pattern_of}
-use Rattle.pgs_resolve.proofs.AtomsOfPaths.{AllGood, paths_ok, some_variable}
+use Rattle.pgs_resolve.specs.Patterns.{Place, Variable, variable_at, variables_at, variables_of, number_of, name_atom, place_atoms, ends, step_atoms, path_atoms, places_of, places_of_path, places_of_step, pattern_of}
+use Rattle.pgs_resolve.proofs.AtomsOfPaths.{AllGood, paths_ok}
 use Rattle.pgs_resolve.proofs.Fresh.{In}
 use Rattle.pgs_resolve.proofs.Stepped.{step_places}
 use Rattle.pgs_resolve.proofs.VariablesOfPaths.{Kinded, OneKind, in_at, in_either, total, total_variables, variable_from, variable_there, variables_once, same_kind, number_at, own_number}
@@ -271,9 +269,10 @@ module _ (numbering : Numbering) (x : List ℕ) (paths : List RawPath) (sound : 
 
   all_good : (number : ℕ) (places : List Place) → ((v : Kinded) → In v (variables_at number places) → In v all) → AllGood (number_of variables) good number places
   all_good number [] h = tt
-  all_good number (place ∷ places) h =
-      (kind_at (variable_at number place.at) place.is_edge (h (variable_at number place.at, place.is_edge) (inl refl)),
-      all_good (number + 1) places (λ v i. h v (inr i)))
+  all_good number (place ∷ places) h = (
+    kind_at (variable_at number place.at) place.is_edge (h (variable_at number place.at, place.is_edge) (inl refl)),
+    all_good (number + 1) places (λ v i. h v (inr i)),
+  )
 
   within : (is_edge : Bool) (v : ℕ) → good is_edge v → ltb v (length kinds) ≡ true
   within is_edge v g = lt-ltb v (length kinds) (slice_get_within kinds v is_edge g)

@@ -1,6 +1,6 @@
 -- The places of resolved types: no two are one.
-use Rattle.std.proofs.Common.{◌≡◌, ℕ, zero, suc, ◌+◌, ◌-◌, ◌<◌, ◌≤◌, Bool, true, false, not, cond, ◌&&◌, ◌||◌, ◌⊎◌, inl, inr, List, [], ◌∷◌, ◌++◌, length, take, map, filter, get_or, Option, Some, None, refl, sym, ◌∙◌, ap, subst, arith, eqb, length-append}
-use Rattle.std.specs.List.{list_all, list_any, flat_map, filter_map, cons_option}
+use Rattle.std.proofs.Common.{◌≡◌, ℕ, zero, suc, ◌+◌, ◌-◌, ◌<◌, ◌≤◌, true, false, not, ◌⊎◌, inl, inr, List, [], ◌∷◌, ◌++◌, length, take, map, filter, get_or, Option, Some, refl, sym, ◌∙◌, ap, subst, arith, eqb, length-append}
+use Rattle.std.specs.List.{list_any, flat_map, filter_map, cons_option}
 use Rattle.std.specs.Option.{option_map}
 use Rattle.std.proofs.lemmas.Bool.{and_from, and_parts, or_from, both_ways, cases_lt, eqb-true, ne_eqb}
 use Rattle.std.proofs.lemmas.List.{length-map, length-take-le, get_or-take, get_or_append_left, get_or-append_right, append_assoc}
@@ -22,7 +22,7 @@ use Rattle.pgs_resolve.specs.Order.{Numbering, Entry, numbering_of, resolved_nod
 use Rattle.pgs_resolve.specs.Refused.{marks_of, seconds_after}
 use Rattle.pgs_resolve.proofs.Fresh.{In, nodes_among, edges_among}
 use Rattle.pgs_resolve.proofs.Same.{itself}
-use Rattle.pgs_resolve.proofs.ValidTypes.{TypeAt, resolved_of, NodeAt, EdgeAt, node_at, edge_at, node_count, edge_count}
+use Rattle.pgs_resolve.proofs.ValidTypes.{TypeAt, resolved_of, node_at, edge_at, node_count, edge_count}
 
 -- numbers that ascend from one on
 abbrev pub Ascend : ℕ → List ℕ → Type 0
@@ -246,17 +246,17 @@ module _ (script : Script) (once : seconds_after [] (flat_map marks_of script.st
   places_distinct =
       distinct_at (node_places ++ edge_places)
       (λ j k less lt e.
-          let all = length-append node_places edge_places in
-          let n = nodes_many in
-          let m = edges_many in
-          elim (cases_lt k (length node_places)) [
-            | inl hk ↦ two_nodes j k less (omega (arith, hk, n)) (sym (in_front j (omega (arith, less, hk))) ∙ e ∙ in_front k hk)
-            | inr hk ↦ elim (cases_lt j (length node_places)) [
-              | inl hj ↦
-                  node_and_edge j (k - length node_places) (omega (arith, hj, n)) (omega (arith, hk, lt, all, m))
-                  (sym (in_front j hj) ∙ e ∙ behind k hk)
-              | inr hj ↦
-                  two_edges (j - length node_places) (k - length node_places) (omega (arith, less, hj)) (omega (arith, hk, lt, all, m))
-                  (sym (behind j hj) ∙ e ∙ behind k hk)
-            ]
-          ])
+      let all = length-append node_places edge_places in
+      let n = nodes_many in
+      let m = edges_many in
+      elim (cases_lt k (length node_places)) [
+        | inl hk ↦ two_nodes j k less (omega (arith, hk, n)) (sym (in_front j (omega (arith, less, hk))) ∙ e ∙ in_front k hk)
+        | inr hk ↦ elim (cases_lt j (length node_places)) [
+          | inl hj ↦
+              node_and_edge j (k - length node_places) (omega (arith, hj, n)) (omega (arith, hk, lt, all, m))
+              (sym (in_front j hj) ∙ e ∙ behind k hk)
+          | inr hj ↦
+              two_edges (j - length node_places) (k - length node_places) (omega (arith, less, hj)) (omega (arith, hk, lt, all, m))
+              (sym (behind j hj) ∙ e ∙ behind k hk)
+        ]
+      ])

@@ -1,11 +1,10 @@
 -- Specifications resolved: valid where what they name is listed early enough and no braces name a key twice.
-use Rattle.std.proofs.Common.{◌≡◌, ℕ, zero, suc, ◌+◌, ◌<◌, ◌≤◌, Bool, true, false, not, cond, ◌&&◌, ◌||◌, ◌⊎◌, inl, inr, List, [], ◌∷◌, ◌++◌, length, map, filter, Option, Some, None, refl, sym, ◌∙◌, ap, subst, arith, ltb, eqb, length-append}
-use Rattle.std.specs.List.{list_all, list_any, flat_map, position, position_or_len}
+use Rattle.std.proofs.Common.{◌≡◌, ℕ, suc, ◌+◌, ◌<◌, Bool, true, false, not, cond, ◌||◌, inl, List, [], ◌∷◌, ◌++◌, length, map, filter, Option, Some, None, refl, ◌∙◌, ap, arith, ltb, length-append}
+use Rattle.std.specs.List.{list_all, list_any, flat_map, position_or_len}
 use Rattle.std.specs.Option.{option_map_or, is_some}
-use Rattle.std.proofs.lemmas.Bool.{and_from, and_parts, or_parts, or_from, or_cases, both_ways, lt-ltb, le-ltb, ltb-true, cases_lt}
+use Rattle.std.proofs.lemmas.Bool.{and_from, and_parts, both_ways, lt-ltb}
 use Rattle.std.proofs.lemmas.List.Quantifiers.{position-Some}
 use Rattle.pgs_base.specs.Pair.{same_name, has_name}
-use Rattle.pgs_syntax.specs.declared.specification.Leaf.{Leaf}
 use Rattle.pgs_syntax.specs.declared.specification.Leaf.TheVariants.{Label, Named}
 use Rattle.pgs_syntax.specs.declared.specification.Property.{Property}
 use Rattle.pgs_syntax.specs.declared.specification.Spec as specs
@@ -13,11 +12,11 @@ use Rattle.pgs_syntax.specs.declared.specification.Spec.{Spec, Empty, Word, Open
 use Rattle.pgs_syntax.specs.Valid.{are_distinct, is_valid_spec, are_valid_specs}
 use Rattle.pgs_resolve.specs.declared.duplicates.Mark.TheVariants as marks
 use Rattle.pgs_resolve.specs.Declarations.{pieces_of, pieces_of_each, words_of, word_in, braces_of, keys_in}
-use Rattle.pgs_resolve.specs.Order.{number_in, leaf_in, resolved_spec, resolved_specs}
+use Rattle.pgs_resolve.specs.Order.{number_in, resolved_spec, resolved_specs}
 use Rattle.pgs_resolve.specs.Refused.{repeated_after, marks_in}
 use Rattle.pgs_resolve.proofs.Each.{all_parts}
-use Rattle.pgs_resolve.proofs.Fresh.{Fresh, In, fresh_none, is_single}
-use Rattle.pgs_resolve.proofs.Same.{some_place, one_name}
+use Rattle.pgs_resolve.proofs.Fresh.{Fresh, fresh_none, is_single}
+use Rattle.pgs_resolve.proofs.Same.{some_place}
 
 abbrev same_key : Property → Property → Bool
 same_key a b = same_name a.key b.key

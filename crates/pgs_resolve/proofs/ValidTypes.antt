@@ -1,9 +1,9 @@
 -- Types resolved in their order: valid, and as many as their names.
-use Rattle.std.proofs.Common.{◌≡◌, ℕ, zero, suc, ◌+◌, ◌<◌, ◌≤◌, Bool, true, false, not, cond, ◌&&◌, ◌||◌, ◌⊎◌, inl, inr, List, [], ◌∷◌, ◌++◌, length, take, drop, map, filter, get_or, Option, Some, None, refl, sym, ◌∙◌, ap, subst, arith}
-use Rattle.std.specs.List.{list_all, list_any, flat_map, filter_map, cons_option}
+use Rattle.std.proofs.Common.{◌≡◌, ℕ, suc, ◌+◌, ◌<◌, Bool, true, false, ◌&&◌, inl, inr, List, [], ◌∷◌, ◌++◌, length, take, drop, map, filter, get_or, Option, Some, refl, sym, ◌∙◌, ap, arith}
+use Rattle.std.specs.List.{list_all, flat_map, filter_map, cons_option}
 use Rattle.std.specs.Option.{option_map, is_some}
-use Rattle.std.proofs.lemmas.Bool.{and_from, and_parts, or_cases}
-use Rattle.std.proofs.lemmas.List.{length-map, length-take-le, take-append-drop}
+use Rattle.std.proofs.lemmas.Bool.{and_from, or_cases}
+use Rattle.std.proofs.lemmas.List.{length-take-le, take-append-drop}
 use Rattle.pgs_base.specs.Pair.{same_name, has_name}
 use Rattle.pgs_syntax.specs.declared.element_type.NodeType.{NodeType}
 use Rattle.pgs_syntax.specs.declared.element_type.EdgeType.{EdgeType}
@@ -13,11 +13,11 @@ use Rattle.pgs_syntax.specs.declared.specification.Leaf.{Leaf}
 use Rattle.pgs_syntax.specs.declared.specification.Spec.{Spec}
 use Rattle.pgs_syntax.specs.Valid.{is_valid_spec, are_valid_nodes, are_valid_edges}
 use Rattle.pgs_resolve.specs.Declarations.{words_of, types_of, nodes_of, edges_of, node_named, edge_named, is_node_type, is_edge_type}
-use Rattle.pgs_resolve.specs.Order.{Numbering, Entry, is_ready, listing, node_entry, edge_entry, numbering_of, resolved_spec, resolved_node, resolved_edge, resolved_nodes, resolved_edges}
+use Rattle.pgs_resolve.specs.Order.{Numbering, Entry, is_ready, node_entry, edge_entry, numbering_of, resolved_spec, resolved_node, resolved_edge, resolved_nodes, resolved_edges}
 use Rattle.pgs_resolve.specs.Refused.{marks_in, marks_of, seconds_after}
 use Rattle.pgs_resolve.proofs.Each.{all_parts}
 use Rattle.pgs_resolve.proofs.Fresh.{In, in_all, is_single, member_single, types_fresh, types_single, all_single, node_found, edge_found, nodes_among, edges_among}
-use Rattle.pgs_resolve.proofs.InOrder.{EntryAt, InOrder, in_order}
+use Rattle.pgs_resolve.proofs.InOrder.{EntryAt, in_order}
 use Rattle.pgs_resolve.proofs.Same.{one_name}
 use Rattle.pgs_resolve.proofs.ValidSpecs.{is_below, spec_valid, words_below, each_below}
 
@@ -77,9 +77,9 @@ module _ {T R : Type 0} (lookup : List ℕ → Option T) (resolve : T → R) whe
         ∙ and_from _ _ (ap (λ n. valid n (resolve first.0)) same ∙ first.2)
         (valid_from (k + 1) names
         (λ j lt.
-            let later = h (suc j) (omega (arith, lt)) in
-            let shift : k + 1 + j ≡ k + suc j = omega arith in
-            (later.0, later.1, ap (λ n. valid n (resolve later.0)) shift ∙ later.2)))
+        let later = h (suc j) (omega (arith, lt)) in
+        let shift : k + 1 + j ≡ k + suc j = omega arith in
+        (later.0, later.1, ap (λ n. valid n (resolve later.0)) shift ∙ later.2)))
 
 -- each name among others is a type's
 known : (is_type : List ℕ → Bool) (names : List (List ℕ)) → ((j : ℕ) → j < length names → is_type (get_or names j []) ≡ true) →
@@ -149,9 +149,9 @@ module _ (script : Script) (once : seconds_after [] (flat_map marks_of script.st
       valid_from (node_named script) (resolved_node numbering) (λ k (type : NodeType Leaf). is_valid_spec k type.spec) are_valid_nodes (λ k. refl)
       (λ k r rs. refl) 0 numbering.nodes
       (λ j lt.
-          let at = node_at j lt in
-          let same : 0 + j ≡ j = omega arith in
-          (at.type, at.found, ap (λ n. is_valid_spec n (resolved_spec numbering.nodes at.type.spec)) same ∙ node_valid j lt at))
+      let at = node_at j lt in
+      let same : 0 + j ≡ j = omega arith in
+      (at.type, at.found, ap (λ n. is_valid_spec n (resolved_spec numbering.nodes at.type.spec)) same ∙ node_valid j lt at))
 
   end_valid : (spec : Spec (List ℕ)) → list_all is_single (marks_in spec) ≡ true →
       is_valid_spec (length (resolved_nodes script numbering)) (resolved_spec numbering.nodes spec) ≡ true
@@ -181,8 +181,10 @@ module _ (script : Script) (once : seconds_after [] (flat_map marks_of script.st
       (λ k (type : EdgeType Leaf). is_valid_spec nodes type.source && is_valid_spec k type.middle && is_valid_spec nodes type.target)
       (are_valid_edges nodes) (λ k. refl) (λ k r rs. refl) 0 numbering.edges
       (λ j lt.
-          let at = edge_at j lt in
-          let same : 0 + j ≡ j = omega arith in
-          (at.type, at.found,
-          ap (λ n. is_valid_spec nodes (resolved_spec numbering.nodes at.type.source) && is_valid_spec n (resolved_spec numbering.edges at.type.middle)
-          && is_valid_spec nodes (resolved_spec numbering.nodes at.type.target)) same ∙ edge_valid j lt at))
+      let at = edge_at j lt in
+      let same : 0 + j ≡ j = omega arith in (
+        at.type,
+        at.found,
+        ap (λ n. is_valid_spec nodes (resolved_spec numbering.nodes at.type.source) && is_valid_spec n (resolved_spec numbering.edges at.type.middle)
+            && is_valid_spec nodes (resolved_spec numbering.nodes at.type.target)) same ∙ edge_valid j lt at,
+      ))

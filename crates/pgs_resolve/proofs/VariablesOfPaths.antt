@@ -1,8 +1,8 @@
 -- The variables of paths: each is at a place, stands once, has its places' kind, and there are no more than places.
-use Rattle.std.proofs.Common.{true≢false, ◌≡◌, ℕ, zero, suc, ◌+◌, ◌*◌, ◌<◌, ◌≤◌, Bool, true, false, not, cond, ◌&&◌, ◌||◌, ◌⊎◌, inl, inr, List, [], ◌∷◌, ◌++◌, length, take, map, filter, get_or, Option, Some, None, refl, sym, ◌∙◌, ap, subst, arith, eqb, ltb, length-append}
-use Rattle.std.specs.List.{list_all, list_any, flat_map, filter_map, cons_option, find, fold, position, position_or_len, slice_get}
+use Rattle.std.proofs.Common.{true≢false, ◌≡◌, ℕ, zero, suc, ◌+◌, ◌<◌, ◌≤◌, Bool, true, false, not, cond, ◌⊎◌, inl, inr, List, [], ◌∷◌, ◌++◌, length, take, get_or, Option, Some, None, refl, sym, ◌∙◌, ap, subst, arith, length-append}
+use Rattle.std.specs.List.{list_any, cons_option, find, fold, position, slice_get}
 use Rattle.std.specs.Option.{option_map_or, option_to_list, unwrap_or, is_some}
-use Rattle.std.proofs.lemmas.Bool.{and_from, or_parts, or_from, or_cases, or_left, or_right, both_ways, cases_lt, cases_order, eqb-true, eq-eqb}
+use Rattle.std.proofs.lemmas.Bool.{or_left, or_right, both_ways, cases_lt, cases_order, eqb-true, eq-eqb}
 use Rattle.std.proofs.lemmas.List.{length-take-le, get_or-take, get_or_append_left, get_or_at, take-append-le, take_at}
 use Rattle.std.proofs.lemmas.List.Elements.{filter_map-append, filter-append}
 use Rattle.std.proofs.lemmas.List.Folds.{list_any-append, list_any_at}
@@ -10,10 +10,8 @@ use Rattle.std.proofs.lemmas.List.Quantifiers.{position-Some}
 use Rattle.pgs_base.specs.Pair.{same_name, has_name}
 use Rattle.pgs_syntax.specs.declared.raw.RawPath.{RawPath}
 use Rattle.pgs_syntax.specs.declared.raw.RawPlace.{RawPlace}
-use Rattle.pgs_syntax.specs.declared.raw.RawStep.{RawStep}
-use Rattle.pgs_syntax.specs.Valid.{edge_count}
 use Rattle.pgs_resolve.specs.KeyFaults.{edge_places, node_places}
-use Rattle.pgs_resolve.specs.Patterns.{Place, Variable, called, nameless, same_variable, is_same, variable_at, variables_at, with_variable, variables_of, number_of, named_in, places_of, places_of_path, places_of_step}
+use Rattle.pgs_resolve.specs.Patterns.{Place, Variable, called, nameless, same_variable, is_same, variable_at, variables_at, with_variable, variables_of, number_of, named_in, places_of}
 use Rattle.pgs_resolve.proofs.Fresh.{In, in_none}
 use Rattle.pgs_resolve.proofs.Same.{one_name, itself, some_place}
 
@@ -253,7 +251,7 @@ in_parts : (name : List ℕ) (a b : List Place) → (part : List Place → List 
     (In name (named_in (part a)) ⊎ In name (named_in (part b))) → In name (named_in (part (a ++ b)))
 in_parts name a b part both i =
     let e : named_in (part (a ++ b)) ≡ named_in (part a) ++ named_in (part b) =
-        ap named_in (both a b) ∙ filter_map-append (λ (place : Place). place.at.var) (part a) (part b) in
+    ap named_in (both a b) ∙ filter_map-append (λ (place : Place). place.at.var) (part a) (part b) in
     let P : List (List ℕ) → Type 0 = λ names. In name names in
     subst P (sym e) (elim i [ inl j ↦ in_left name (named_in (part a)) (named_in (part b)) j | inr j ↦ in_right name (named_in (part a)) (named_in (part b)) j ])
 
@@ -264,9 +262,10 @@ nodes_of_both : (xs ys : List Place) → node_places (xs ++ ys) ≡ node_places 
 nodes_of_both xs ys = filter-append (λ (place : Place). not place.is_edge) xs ys
 
 pub one_kind_parts : (a b : List Place) → OneKind (a ++ b) → OneKind a × OneKind b
-one_kind_parts a b one =
-    (λ name i j. one name (in_parts name a b edge_places edges_of_both (inl i)) (in_parts name a b node_places nodes_of_both (inl j)),
-    λ name i j. one name (in_parts name a b edge_places edges_of_both (inr i)) (in_parts name a b node_places nodes_of_both (inr j)))
+one_kind_parts a b one = (
+  λ name i j. one name (in_parts name a b edge_places edges_of_both (inl i)) (in_parts name a b node_places nodes_of_both (inl j)),
+  λ name i j. one name (in_parts name a b edge_places edges_of_both (inr i)) (in_parts name a b node_places nodes_of_both (inr j)),
+)
 
 -- also where they stand in two lists of places
 pub one_kind_across : (a b : List Place) → OneKind (a ++ b) → (name : List ℕ) → In name (named_in (edge_places a)) ⊎ In name (named_in (edge_places b)) →
@@ -368,9 +367,10 @@ number_at variables v there =
     by : (o : Option ℕ) → position (is_same v) variables ≡ o → is_some o ≡ true →
         (unwrap_or o 0 < length variables) × ((d : Kinded) → (get_or variables (unwrap_or o 0) d).0 ≡ v)
     by None e h = cc
-    by (Some n) e h =
-        ((position-Some (is_same v) variables n (v, true) e).0,
-        λ d. sym (one_variable v (get_or variables n d).0 (position-Some (is_same v) variables n d e).1))
+    by (Some n) e h = (
+      (position-Some (is_same v) variables n (v, true) e).0,
+      λ d. sym (one_variable v (get_or variables n d).0 (position-Some (is_same v) variables n d e).1),
+    )
 
 -- the number of the variable at a number is that number
 pub own_number : (variables : List Kinded) (k : ℕ) (d : Kinded) → Once variables → k < length variables → number_of variables (get_or variables k d).0 ≡ k

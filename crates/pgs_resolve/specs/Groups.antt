@@ -1,10 +1,8 @@
 -- Groups of variables kept as parents: each variable has a parent that isn't above it, and one that is its own parent stands for
 -- its group.
 use Rattle.std.specs.Prelude.{◌≡◌, ℕ, ◌<◌, ◌≤◌, Bool, true, ◌&&◌, List, length, nat_lt, slice_index}
-use Rattle.std.specs.List.{list_all}
 use Rattle.pgs_syntax.specs.declared.pattern.Atom.{Atom}
 use Rattle.pgs_syntax.specs.declared.pattern.Atom.TheVariants.{Ends}
-use Rattle.pgs_syntax.specs.declared.pattern.Pattern.{Pattern}
 
 -- whether no parent is above its variable
 abbrev pub AreParents : List ℕ → Type 0

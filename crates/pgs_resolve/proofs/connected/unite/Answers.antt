@@ -1,4 +1,4 @@
-use Rattle.std.proofs.Common.{sym, ◌∙◌, inl, inr, arith}
+use Rattle.std.proofs.Common.{inl, inr, arith}
 use Rattle.pgs_resolve.proofs.Unions.{united}
 use Rattle.pgs_resolve.proofs.connected.unite.Goals as goal
 

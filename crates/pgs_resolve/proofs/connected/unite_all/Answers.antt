@@ -1,4 +1,4 @@
-use Rattle.std.proofs.Common.{ℕ, List, [], ◌∷◌, take, sym, ◌∙◌, ap, subst, arith}
+use Rattle.std.proofs.Common.{ℕ, List, take, sym, ◌∙◌, ap, subst, arith}
 use Rattle.pgs_syntax.specs.Valid.{groups_after}
 use Rattle.pgs_resolve.specs.Groups.{Keep}
 use Rattle.pgs_resolve.proofs.Unions.{groups_push}

@@ -1,7 +1,6 @@
 use Rattle.std.proofs.Common.{◌∙◌, ap, arith}
 use denote.Bor.{Bor}
 use Rattle.std.specs.List.{list_all}
-use Rattle.pgs_syntax.specs.declared.raw.RawKey.{RawKey}
 use Rattle.pgs_syntax.specs.declared.script.GraphType.{GraphType}
 use Rattle.pgs_resolve.specs.Keyed.{names_x}
 use Rattle.pgs_resolve.proofs.Each.{each_at, flat_from}

@@ -1,6 +1,6 @@
 use Rattle.std.proofs.Common.{◌≡◌, ℕ, List, [], ◌∷◌, map, Option, IfOk, length, sym, ◌∙◌, ap, subst, arith}
 use denote.Bor.{Bor}
-use Rattle.std.specs.List.{slice_get, enumerate_from, filter_map}
+use Rattle.std.specs.List.{enumerate_from, filter_map}
 use Rattle.std.specs.Option.{option_map_or, option_copied}
 use Rattle.std.proofs.lemmas.Bool.Decides.{nat_tests}
 use Rattle.std.proofs.lemmas.List.{length-map}

@@ -26,6 +26,6 @@ pub returns-clause-valid : goal.returns-clause-valid
 returns-clause-valid c tokens tree =
     let script = c.args.script.now in
     let answer : resolution script ≡ Ok c.in_ok-resolved.field-0 =
-        is_resolved script (sym c.in_default.is ∙ c.in_ok-fault.ensures)
-        ∙ ap Ok (sym (c.in_ok-resolved.ensures script c.in_ok-declarations.ensures)) in
+    is_resolved script (sym c.in_default.is ∙ c.in_ok-fault.ensures)
+    ∙ ap Ok (sym (c.in_ok-resolved.ensures script c.in_ok-declarations.ensures)) in
     schema_valid script c.in_ok-resolved.field-0 tree.places answer
