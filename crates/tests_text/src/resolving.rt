@@ -92,8 +92,11 @@ fn put_fault(out: &mut String, fault: &ResolveFault) -> Put {
     }
 }
 
-/// The schema of a text, or its refusal, as a text. `-` where it is no script.
+/// The schema of a text, or its refusal, as a text. `-` where it is no script, and `19` where it is too long for one.
 fn told(alloc: Global, text: &[u8]) -> Result<String, Memory> {
+    if text.len() > 1_048_576 {
+        return Ok(String::from_str(alloc, "19")?);
+    }
     let mut out = String::new(alloc);
     let tokens = match lex(alloc, text) {
         Ok(tokens) => tokens,
@@ -154,7 +157,10 @@ const PLACES: &[(&str, &str)] = &[
         "16 a",
     ),
     ("CREATE GRAPH TYPE g LOOSE IMPORTS g {};", "16 g"),
-    ("CREATE GRAPH TYPE g LOOSE {(a {k INT, j INT, k DATE})};", "13 k"),
+    (
+        "CREATE GRAPH TYPE g LOOSE {(a {k INT, j INT, k DATE})};",
+        "13 k",
+    ),
     ("CREATE GRAPH TYPE g LOOSE IMPORTS z {a};", "14 z"),
     (
         "CREATE GRAPH TYPE h LOOSE {FOR (x) EXCLUSIVE x}; CREATE GRAPH TYPE g LOOSE {FOR (y) EXCLUSIVE z};",
@@ -172,14 +178,8 @@ fn places(rt: HostRuntime) -> Result<(), Fail> {
 // Each text has the refusal told and the one after it.
 const NEIGHBOURS: &[(&str, &str)] = &[
     ("CREATE NODE TYPE (a); CREATE NODE TYPE (a);", "12"),
-    (
-        "CREATE GRAPH TYPE g LOOSE {b, (a), (a)};",
-        "13 a",
-    ),
-    (
-        "CREATE GRAPH TYPE g LOOSE {(a), ()-[e: a]->(), b};",
-        "14 b",
-    ),
+    ("CREATE GRAPH TYPE g LOOSE {b, (a), (a)};", "13 a"),
+    ("CREATE GRAPH TYPE g LOOSE {(a), ()-[e: a]->(), b};", "14 b"),
     (
         "CREATE NODE TYPE (b: a); CREATE NODE TYPE (a: b); CREATE GRAPH TYPE g LOOSE {(t), ()-[e: t]->()};",
         "15 t",
