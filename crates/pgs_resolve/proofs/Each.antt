@@ -67,7 +67,7 @@ pub of_guard : (p : RawKey → Bool) (script : Script) → list_all p (keys_of s
 of_guard p script h =
     let each : GraphType → Bool = λ type. list_all p (keys_in type) in
     let names : List (List ℕ) =
-        option_map_or (λ (type : GraphType). walked script (length (graphs_of script)) [] type.name) (last_of (graphs_of script)) [] in
+    option_map_or (λ (type : GraphType). walked script (length (graphs_of script)) [] type.name) (last_of (graphs_of script)) [] in
     flat_to p keys_in (walked_graphs script)
     (kept_pass each (λ (name : List ℕ) (type : GraphType). same_name name type.name) (graphs_of script) (flat_from p keys_in (graphs_of script) h) names)
 

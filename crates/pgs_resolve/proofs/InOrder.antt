@@ -95,10 +95,10 @@ in_order entries (suc further) listed left order among new =
         next entry (order_push entries listed entry order (among entry mine.0) mine.1 (new entry mine.0))
         (λ other i. among other (kept_in (λ (x : Entry). not (same_name entry.name x.name)) left other i).0)
         (λ other i.
-            let its = kept_in (λ (x : Entry). not (same_name entry.name x.name)) left other i in
-            list_any-append (same_name other.name) listed (entry.name ∷ [])
-            ∙ or_from _ _ (new other its.0)
-            (or_from _ _ (in_turn other.name entry.name ∙ not-true (same_name entry.name other.name) its.1) refl))
+        let its = kept_in (λ (x : Entry). not (same_name entry.name x.name)) left other i in
+        list_any-append (same_name other.name) listed (entry.name ∷ [])
+        ∙ or_from _ _ (new other its.0)
+        (or_from _ _ (in_turn other.name entry.name ∙ not-true (same_name entry.name other.name) its.1) refl))
 
 pub all_in_order : (entries : List Entry) → InOrder entries (listing (length entries) [] entries)
 all_in_order entries = in_order entries (length entries) [] entries (λ k h. absurd (omega (arith, h))) (λ entry i. i) (λ entry i. refl)

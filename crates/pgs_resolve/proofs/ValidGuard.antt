@@ -215,12 +215,12 @@ module _ (script : Script) where
       by None e = nowhere depth name name (ap (λ o. option_map_or (λ (type : GraphType). type.imports) o []) e)
       by (Some type) e = false_from_ne_true (leads next depth name name)
           (λ led.
-              let all : length graph_names ≡ length (graphs_of script) = length-map (graphs_of script) (λ (t : GraphType). t.name) in
-              let most : (length graph_names - depth) + depth ≡ length graph_names = omega (arith, low, all) in
-              both_ways (leads next (length graph_names) name name)
-              (filter_none (λ n. leads next (length graph_names) n n) graph_names name (back_none names (cyclic next graph_names) (no_least _ none))
-              (found_in name (graphs_of script) type e))
-              (sym (ap (λ n. leads next n name name) most) ∙ more_steps (length graph_names - depth) depth name name led))
+          let all : length graph_names ≡ length (graphs_of script) = length-map (graphs_of script) (λ (t : GraphType). t.name) in
+          let most : (length graph_names - depth) + depth ≡ length graph_names = omega (arith, low, all) in
+          both_ways (leads next (length graph_names) name name)
+          (filter_none (λ n. leads next (length graph_names) n n) graph_names name (back_none names (cyclic next graph_names) (no_least _ none))
+          (found_in name (graphs_of script) type e))
+          (sym (ap (λ n. leads next n name name) most) ∙ more_steps (length graph_names - depth) depth name name led))
 
 -- ---- keys
 
@@ -246,7 +246,7 @@ no_hit type types [] h = refl
 no_hit type types (name ∷ names) h =
     let parts = or_parts (same_name type.name name) (has_name type.name names) h in
     let miss : keys_at (type ∷ types) name ≡ keys_at types name =
-        ap (λ b. cond b (Some type) (keys_at types name)) (in_turn name type.name ∙ parts.0) in
+    ap (λ b. cond b (Some type) (keys_at types name)) (in_turn name type.name ∙ parts.0) in
     let rest = no_hit type types names parts.1 in
     let a = one_count (keys_at (type ∷ types) name) (filter_map (keys_at (type ∷ types)) names) in
     let b = one_count (keys_at types name) (filter_map (keys_at types) names) in

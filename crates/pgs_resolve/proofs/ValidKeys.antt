@@ -203,7 +203,7 @@ module _ (number : ℕ) (key : RawKey) (sound : IsSound number key) where
     }
     described (Some paths) e =
         let named : has_name x (named_in (places_of paths)) ≡ true =
-            sym (ap (λ o. has_name x (option_map_or (λ ps. named_in (places_of ps)) o (x ∷ []))) e) ∙ x_named.1 in
+        sym (ap (λ o. has_name x (option_map_or (λ ps. named_in (places_of ps)) o (x ∷ []))) e) ∙ x_named.1 in
         let P : List RawPath → Type 0 = λ ps. OneKind (places_of key.scope ++ places_of ps) in
         let both : OneKind (places_of key.scope ++ places_of paths) = subst P (ap (λ o. unwrap_or o []) e) one in
         let first : FirstIs x paths = first_is x paths named in

@@ -271,9 +271,10 @@ module _ (numbering : Numbering) (x : List ℕ) (paths : List RawPath) (sound : 
 
   all_good : (number : ℕ) (places : List Place) → ((v : Kinded) → In v (variables_at number places) → In v all) → AllGood (number_of variables) good number places
   all_good number [] h = tt
-  all_good number (place ∷ places) h =
-      (kind_at (variable_at number place.at) place.is_edge (h (variable_at number place.at, place.is_edge) (inl refl)),
-      all_good (number + 1) places (λ v i. h v (inr i)))
+  all_good number (place ∷ places) h = (
+    kind_at (variable_at number place.at) place.is_edge (h (variable_at number place.at, place.is_edge) (inl refl)),
+    all_good (number + 1) places (λ v i. h v (inr i)),
+  )
 
   within : (is_edge : Bool) (v : ℕ) → good is_edge v → ltb v (length kinds) ≡ true
   within is_edge v g = lt-ltb v (length kinds) (slice_get_within kinds v is_edge g)

@@ -246,17 +246,17 @@ module _ (script : Script) (once : seconds_after [] (flat_map marks_of script.st
   places_distinct =
       distinct_at (node_places ++ edge_places)
       (λ j k less lt e.
-          let all = length-append node_places edge_places in
-          let n = nodes_many in
-          let m = edges_many in
-          elim (cases_lt k (length node_places)) [
-            | inl hk ↦ two_nodes j k less (omega (arith, hk, n)) (sym (in_front j (omega (arith, less, hk))) ∙ e ∙ in_front k hk)
-            | inr hk ↦ elim (cases_lt j (length node_places)) [
-              | inl hj ↦
-                  node_and_edge j (k - length node_places) (omega (arith, hj, n)) (omega (arith, hk, lt, all, m))
-                  (sym (in_front j hj) ∙ e ∙ behind k hk)
-              | inr hj ↦
-                  two_edges (j - length node_places) (k - length node_places) (omega (arith, less, hj)) (omega (arith, hk, lt, all, m))
-                  (sym (behind j hj) ∙ e ∙ behind k hk)
-            ]
-          ])
+      let all = length-append node_places edge_places in
+      let n = nodes_many in
+      let m = edges_many in
+      elim (cases_lt k (length node_places)) [
+        | inl hk ↦ two_nodes j k less (omega (arith, hk, n)) (sym (in_front j (omega (arith, less, hk))) ∙ e ∙ in_front k hk)
+        | inr hk ↦ elim (cases_lt j (length node_places)) [
+          | inl hj ↦
+              node_and_edge j (k - length node_places) (omega (arith, hj, n)) (omega (arith, hk, lt, all, m))
+              (sym (in_front j hj) ∙ e ∙ behind k hk)
+          | inr hj ↦
+              two_edges (j - length node_places) (k - length node_places) (omega (arith, less, hj)) (omega (arith, hk, lt, all, m))
+              (sym (behind j hj) ∙ e ∙ behind k hk)
+        ]
+      ])

@@ -77,9 +77,9 @@ module _ {T R : Type 0} (lookup : List ℕ → Option T) (resolve : T → R) whe
         ∙ and_from _ _ (ap (λ n. valid n (resolve first.0)) same ∙ first.2)
         (valid_from (k + 1) names
         (λ j lt.
-            let later = h (suc j) (omega (arith, lt)) in
-            let shift : k + 1 + j ≡ k + suc j = omega arith in
-            (later.0, later.1, ap (λ n. valid n (resolve later.0)) shift ∙ later.2)))
+        let later = h (suc j) (omega (arith, lt)) in
+        let shift : k + 1 + j ≡ k + suc j = omega arith in
+        (later.0, later.1, ap (λ n. valid n (resolve later.0)) shift ∙ later.2)))
 
 -- each name among others is a type's
 known : (is_type : List ℕ → Bool) (names : List (List ℕ)) → ((j : ℕ) → j < length names → is_type (get_or names j []) ≡ true) →
@@ -149,9 +149,9 @@ module _ (script : Script) (once : seconds_after [] (flat_map marks_of script.st
       valid_from (node_named script) (resolved_node numbering) (λ k (type : NodeType Leaf). is_valid_spec k type.spec) are_valid_nodes (λ k. refl)
       (λ k r rs. refl) 0 numbering.nodes
       (λ j lt.
-          let at = node_at j lt in
-          let same : 0 + j ≡ j = omega arith in
-          (at.type, at.found, ap (λ n. is_valid_spec n (resolved_spec numbering.nodes at.type.spec)) same ∙ node_valid j lt at))
+      let at = node_at j lt in
+      let same : 0 + j ≡ j = omega arith in
+      (at.type, at.found, ap (λ n. is_valid_spec n (resolved_spec numbering.nodes at.type.spec)) same ∙ node_valid j lt at))
 
   end_valid : (spec : Spec (List ℕ)) → list_all is_single (marks_in spec) ≡ true →
       is_valid_spec (length (resolved_nodes script numbering)) (resolved_spec numbering.nodes spec) ≡ true
@@ -181,8 +181,10 @@ module _ (script : Script) (once : seconds_after [] (flat_map marks_of script.st
       (λ k (type : EdgeType Leaf). is_valid_spec nodes type.source && is_valid_spec k type.middle && is_valid_spec nodes type.target)
       (are_valid_edges nodes) (λ k. refl) (λ k r rs. refl) 0 numbering.edges
       (λ j lt.
-          let at = edge_at j lt in
-          let same : 0 + j ≡ j = omega arith in
-          (at.type, at.found,
-          ap (λ n. is_valid_spec nodes (resolved_spec numbering.nodes at.type.source) && is_valid_spec n (resolved_spec numbering.edges at.type.middle)
-          && is_valid_spec nodes (resolved_spec numbering.nodes at.type.target)) same ∙ edge_valid j lt at))
+      let at = edge_at j lt in
+      let same : 0 + j ≡ j = omega arith in (
+        at.type,
+        at.found,
+        ap (λ n. is_valid_spec nodes (resolved_spec numbering.nodes at.type.source) && is_valid_spec n (resolved_spec numbering.edges at.type.middle)
+            && is_valid_spec nodes (resolved_spec numbering.nodes at.type.target)) same ∙ edge_valid j lt at,
+      ))

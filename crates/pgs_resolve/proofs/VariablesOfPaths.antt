@@ -253,7 +253,7 @@ in_parts : (name : List ℕ) (a b : List Place) → (part : List Place → List 
     (In name (named_in (part a)) ⊎ In name (named_in (part b))) → In name (named_in (part (a ++ b)))
 in_parts name a b part both i =
     let e : named_in (part (a ++ b)) ≡ named_in (part a) ++ named_in (part b) =
-        ap named_in (both a b) ∙ filter_map-append (λ (place : Place). place.at.var) (part a) (part b) in
+    ap named_in (both a b) ∙ filter_map-append (λ (place : Place). place.at.var) (part a) (part b) in
     let P : List (List ℕ) → Type 0 = λ names. In name names in
     subst P (sym e) (elim i [ inl j ↦ in_left name (named_in (part a)) (named_in (part b)) j | inr j ↦ in_right name (named_in (part a)) (named_in (part b)) j ])
 
@@ -264,9 +264,10 @@ nodes_of_both : (xs ys : List Place) → node_places (xs ++ ys) ≡ node_places 
 nodes_of_both xs ys = filter-append (λ (place : Place). not place.is_edge) xs ys
 
 pub one_kind_parts : (a b : List Place) → OneKind (a ++ b) → OneKind a × OneKind b
-one_kind_parts a b one =
-    (λ name i j. one name (in_parts name a b edge_places edges_of_both (inl i)) (in_parts name a b node_places nodes_of_both (inl j)),
-    λ name i j. one name (in_parts name a b edge_places edges_of_both (inr i)) (in_parts name a b node_places nodes_of_both (inr j)))
+one_kind_parts a b one = (
+  λ name i j. one name (in_parts name a b edge_places edges_of_both (inl i)) (in_parts name a b node_places nodes_of_both (inl j)),
+  λ name i j. one name (in_parts name a b edge_places edges_of_both (inr i)) (in_parts name a b node_places nodes_of_both (inr j)),
+)
 
 -- also where they stand in two lists of places
 pub one_kind_across : (a b : List Place) → OneKind (a ++ b) → (name : List ℕ) → In name (named_in (edge_places a)) ⊎ In name (named_in (edge_places b)) →
@@ -368,9 +369,10 @@ number_at variables v there =
     by : (o : Option ℕ) → position (is_same v) variables ≡ o → is_some o ≡ true →
         (unwrap_or o 0 < length variables) × ((d : Kinded) → (get_or variables (unwrap_or o 0) d).0 ≡ v)
     by None e h = cc
-    by (Some n) e h =
-        ((position-Some (is_same v) variables n (v, true) e).0,
-        λ d. sym (one_variable v (get_or variables n d).0 (position-Some (is_same v) variables n d e).1))
+    by (Some n) e h = (
+      (position-Some (is_same v) variables n (v, true) e).0,
+      λ d. sym (one_variable v (get_or variables n d).0 (position-Some (is_same v) variables n d e).1),
+    )
 
 -- the number of the variable at a number is that number
 pub own_number : (variables : List Kinded) (k : ℕ) (d : Kinded) → Once variables → k < length variables → number_of variables (get_or variables k d).0 ≡ k
