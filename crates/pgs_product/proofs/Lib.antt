@@ -1,0 +1,5 @@
+pub mod Asked
+pub mod Ends
+pub mod Exact
+pub mod Keyed
+pub mod United
