@@ -8,10 +8,10 @@
 
 mod compiled;
 mod fitting;
-mod meeting;
 mod options;
 mod pair;
 mod shape;
+mod walking;
 
 pub use compiled::Compiled;
 pub use fitting::{edge_fits, edge_typed, node_fits, node_typed};

@@ -1,4 +1,7 @@
-use pgs_base::{Labels, Props};
+ghost use Rattle.std.specs.Prelude.{◌≡◌, true};
+ghost use Rattle.pgs_base.specs.Pair.{is_pair};
+
+use pgs_base::{Labels, Props, pair_facts};
 use std::marker::Model;
 
 /// What an element carries, lent. Contracts see it as the pair of the definitions.
@@ -15,4 +18,13 @@ impl<'a> Model for Pair<'a> {
     ghost Value = { NodeRow };
 
     ghost view = { λ pair. pair_of pair.labels.now pair.props.now };
+}
+
+impl<'a> Pair<'a> {
+    /// What each meets: it is a pair, its names and values are those that an element can carry. Nothing is done.
+    pub fn facts(&self)
+        ensures { is_pair self.now ≡ true }
+    {
+        pair_facts(self.labels, self.props);
+    }
 }

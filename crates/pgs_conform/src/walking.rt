@@ -22,15 +22,22 @@ pub(crate) fn labels_fit(asked: &[Name], more: bool, labels: &[Name]) -> bool
 {
     let mut asked_left = asked;
     let mut left = labels;
-    while let ([first, later_asked @ ..], [label, later @ ..]) = (asked_left, left) {
-        if first == label {
-            asked_left = later_asked;
-        } else if !more {
+    while let [first, later_asked @ ..] = asked_left {
+        let [label, later @ ..] = left else {
             return false;
+        };
+        match first.cmp(label) {
+            Ordering::Less => return false,
+            Ordering::Equal => asked_left = later_asked,
+            Ordering::Greater => {
+                if !more {
+                    return false;
+                }
+            }
         }
         left = later;
     }
-    asked_left.is_empty() && (more || left.is_empty())
+    more || left.is_empty()
 }
 
 fn are_optional(keys: &[(Name, Options)]) -> bool
@@ -47,7 +54,10 @@ pub(crate) fn props_fit(keys: &[(Name, Options)], more: bool, props: &[(Name, Va
 {
     let mut keys_left = keys;
     let mut left = props;
-    while let ([key, later_keys @ ..], [entry, later @ ..]) = (keys_left, left) {
+    while let [key, later_keys @ ..] = keys_left {
+        let [entry, later @ ..] = left else {
+            return are_optional(keys_left);
+        };
         match key.0.cmp(&entry.0) {
             Ordering::Less => {
                 if !key.1.absent {
@@ -70,5 +80,5 @@ pub(crate) fn props_fit(keys: &[(Name, Options)], more: bool, props: &[(Name, Va
             }
         }
     }
-    are_optional(keys_left) && (more || left.is_empty())
+    more || left.is_empty()
 }
