@@ -1,7 +1,7 @@
 -- The product of two shapes is exact: the pairs in it are the joins of a pair in the one with a pair in the other.
 use Rattle.std.proofs.Common.{◌≡◌, ℕ, Bool, true, false, ◌&&◌, ◌||◌, cond, List, [], ◌∷◌, filter, Option, Some, None, refl, sym, ◌∙◌, ap, true≢false, ⊎_elim}
-use Rattle.std.specs.List.{list_any, list_all}
-use Rattle.std.specs.Map.{keys_of, lookup}
+use Rattle.std.specs.List.{list_all}
+use Rattle.std.specs.Map.{keys_of}
 use Rattle.std.proofs.lemmas.Bool.{and_parts, and_from, or_cases}
 use Rattle.std.proofs.lemmas.Map.Views.{any-filter_same}
 use Rattle.pgs_base.specs.declared.row.NodeRow.{NodeRow}
@@ -11,7 +11,7 @@ use Rattle.pgs_base.specs.declared.value.Value.{Value}
 use Rattle.pgs_base.specs.Order.{ascends}
 use Rattle.pgs_base.specs.Pair.{same_name, has_name, value_at, pair_of, is_pair}
 use Rattle.pgs_base.specs.Value.{kind_of}
-use Rattle.pgs_syntax.specs.Join.{halves, of_pairs, joined}
+use Rattle.pgs_syntax.specs.Join.{of_pairs, joined}
 use Rattle.pgs_syntax.specs.Meaning.{IsUnionAt, IsJoin}
 use Rattle.pgs_syntax.proofs.Halves.{joined_any, any_halves}
 use Rattle.pgs_syntax.proofs.JoinMeans.{means}
@@ -215,7 +215,7 @@ module _ (a b : Shape) where
       let other = and_parts _ _ m.6 in
       and_from _ _ (labels_meet_from labels (a.more_labels || b.more_labels) p.labels (λ l.
       let met = label_joined (has_name l a.labels) (has_name l b.labels) a.more_labels b.more_labels (has_name l first.labels) (has_name l second.labels)
-          (labels_met a.labels a.more_labels first.labels one.0 l) (labels_met b.labels b.more_labels second.labels other.0 l) in (
+      (labels_met a.labels a.more_labels first.labels one.0 l) (labels_met b.labels b.more_labels second.labels other.0 l) in (
         λ e. join.labels l ∙ met.0 (sym (has_united l a.labels b.labels) ∙ e),
         λ e. ap (λ t. (a.more_labels || b.more_labels) || t) (has_united l a.labels b.labels) ∙ met.1 (sym (join.labels l) ∙ e),
       )))

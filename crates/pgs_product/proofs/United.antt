@@ -1,9 +1,8 @@
 -- Two lists of names as one: it has the names of both, and ascends where they do.
-use Rattle.std.proofs.Common.{◌≡◌, ℕ, Bool, true, false, ◌||◌, List, [], ◌∷◌, refl, sym, ◌∙◌, ap, subst, true≢false, Ordering, Less, Equal, Greater, is_lt, is_eq}
+use Rattle.std.proofs.Common.{◌≡◌, ℕ, Bool, true, false, ◌||◌, List, [], ◌∷◌, refl, sym, ◌∙◌, ap, true≢false, Ordering, Less, Equal, Greater, is_lt, is_eq}
 use Rattle.std.specs.Ordering.{nat_cmp, match_ordering, ordering_reverse}
 use Rattle.std.specs.Cmp.Lexicographic.{slice_cmp, nat_list_cmp_total}
 use Rattle.std.specs.List.{list_all}
-use Rattle.std.proofs.Math.Bool.{or-false}
 use Rattle.std.proofs.lemmas.Bool.{and_parts, and_from}
 use Rattle.pgs_base.specs.Order.{ascends}
 use Rattle.pgs_base.specs.Pair.{same_name, has_name}
@@ -95,7 +94,7 @@ ascends_with x xs (y ∷ ys) first h second = by (name_cmp x y) refl (ascends_wi
         and_from _ _ (all_united (λ z. is_lt (name_cmp x z)) xs (y ∷ ys) (and_parts _ _ first).0 below) (h (y ∷ ys) second)
     by Equal e later =
         let below : list_all (λ z. is_lt (name_cmp x z)) ys ≡ true =
-            ap (λ k. list_all (λ z. is_lt (name_cmp k z)) ys) (same_of x y e) ∙ (and_parts _ _ second).0 in
+        ap (λ k. list_all (λ z. is_lt (name_cmp k z)) ys) (same_of x y e) ∙ (and_parts _ _ second).0 in
         and_from _ _ (all_united (λ z. is_lt (name_cmp x z)) xs ys (and_parts _ _ first).0 below) (h ys (and_parts _ _ second).1)
     by Greater e later =
         let own = after x y e in
