@@ -178,7 +178,7 @@ kept_at t k (e ∷ es) up = by (same_name k e.0) refl (t e.0 e.1) refl (kept_at 
 keys_up : (p : NodeRow) → is_pair p ≡ true → ascends name_cmp (keys_of p.props) ≡ true
 keys_up p pair = (and_parts _ _ (and_parts _ _ (and_parts _ _ pair).1).0).0
 
-same_answer : (a b : Bool) → (a ≡ true → b ≡ true) → (b ≡ true → a ≡ true) → a ≡ b
+pub same_answer : (a b : Bool) → (a ≡ true → b ≡ true) → (b ≡ true → a ≡ true) → a ≡ b
 same_answer true b there back = sym (there refl)
 same_answer false true there back = back refl
 same_answer false false there back = refl
