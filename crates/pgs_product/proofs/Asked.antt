@@ -82,17 +82,29 @@ entries_found t (x ∷ xs) all k v e = by (same_name k x.0) refl e (entries_foun
         ap (λ w. t (k, w)) (sym value) ∙ ap (λ key. t (key, x.1)) (one_name k x.0 same) ∙ (and_parts _ _ all).0
     by false other is rest = rest is
 
-pub found_entries : {V : Type 0} (t : List ℕ × V → Bool) (entries : List (List ℕ × V)) → ascends name_cmp (keys_of entries) ≡ true →
+-- no key stands twice
+abbrev pub AreApart : {V : Type 0} → List (List ℕ × V) → Type 0
+AreApart [] = Unit {0}
+AreApart (x ∷ xs) = (lookup (same_name x.0) xs ≡ None) × AreApart xs
+
+pub apart_ascending : {V : Type 0} (entries : List (List ℕ × V)) → ascends name_cmp (keys_of entries) ≡ true → AreApart entries
+apart_ascending [] up = tt
+apart_ascending (x ∷ xs) up = (absent_below x.0 xs (and_parts _ _ up).0, apart_ascending xs (and_parts _ _ up).1)
+
+pub found_apart : {V : Type 0} (t : List ℕ × V → Bool) (entries : List (List ℕ × V)) → AreApart entries →
     ((k : List ℕ) (v : V) → lookup (same_name k) entries ≡ Some v → t (k, v) ≡ true) → list_all t entries ≡ true
-found_entries t [] up h = refl
-found_entries {V} t (x ∷ xs) up h =
+found_apart t [] apart h = refl
+found_apart {V} t (x ∷ xs) apart h =
     and_from _ _ (h x.0 x.1 (ap (λ s. cond s (Some x.1) (found_at x.0 xs)) (own_name x.0)))
-    (found_entries t xs (and_parts _ _ up).1 (λ k v is. h k v (by k v (same_name k x.0) refl is)))
+    (found_apart t xs apart.1 (λ k v is. h k v (by k v (same_name k x.0) refl is)))
   where
     by : (k : List ℕ) (v : V) (s : Bool) → same_name k x.0 ≡ s → found_at k xs ≡ Some v → cond s (Some x.1) (found_at k xs) ≡ Some v
-    by k v true same is =
-        let none : found_at k xs ≡ None = ap (λ key. found_at key xs) (one_name k x.0 same) ∙ absent_below x.0 xs (and_parts _ _ up).0 in cc
+    by k v true same is = let none : found_at k xs ≡ None = ap (λ key. found_at key xs) (one_name k x.0 same) ∙ apart.0 in cc
     by k v false other is = is
+
+pub found_entries : {V : Type 0} (t : List ℕ × V → Bool) (entries : List (List ℕ × V)) → ascends name_cmp (keys_of entries) ≡ true →
+    ((k : List ℕ) (v : V) → lookup (same_name k) entries ≡ Some v → t (k, v) ≡ true) → list_all t entries ≡ true
+found_entries t entries up h = found_apart t entries (apart_ascending entries up) h
 
 -- ---- keys
 
@@ -130,10 +142,10 @@ props_met keys more props h k = by (lookup (same_name k) keys) refl (value_at k 
         only true e = refl
         only false e = e
 
-pub props_meet_from : (keys : Keys) (more : Bool) (props : Props) → ascends name_cmp (keys_of keys) ≡ true → ascends name_cmp (keys_of props) ≡ true →
+pub props_meet_apart : (keys : Keys) (more : Bool) (props : Props) → AreApart keys → ascends name_cmp (keys_of props) ≡ true →
     ((k : List ℕ) → admits (options_at keys more k) (value_at k props) ≡ true) → props_meet keys more props ≡ true
-props_meet_from keys more props up there h =
-    and_from _ _ (found_entries (λ (key : List ℕ × Options). admits key.1 (value_at key.0 props)) keys up
+props_meet_apart keys more props apart there h =
+    and_from _ _ (found_apart (λ (key : List ℕ × Options). admits key.1 (value_at key.0 props)) keys apart
     (λ k x is. ap (λ o. admits (unwrap_or o (free_options more)) (value_at k props)) (sym is) ∙ h k))
     (found_entries (λ (entry : List ℕ × Value). more || has_name entry.0 (keys_of keys)) props there (λ k v is. free k v is (lookup (same_name k) keys) refl))
   where
@@ -142,3 +154,13 @@ props_meet_from keys more props up there h =
     free k v is None e =
         or_first more _ (sym (free_admits more v) ∙ ap (admits (free_options more)) (sym is)
         ∙ ap (λ o. admits (unwrap_or o (free_options more)) (value_at k props)) (sym e) ∙ h k)
+
+pub props_meet_from : (keys : Keys) (more : Bool) (props : Props) → ascends name_cmp (keys_of keys) ≡ true → ascends name_cmp (keys_of props) ≡ true →
+    ((k : List ℕ) → admits (options_at keys more k) (value_at k props) ≡ true) → props_meet keys more props ≡ true
+props_meet_from keys more props up there h = props_meet_apart keys more props (apart_ascending keys up) there h
+
+-- keys that say the same of each key are met by the same properties
+pub props_meet_same : (keys others : Keys) (more : Bool) (props : Props) → AreApart others → ascends name_cmp (keys_of props) ≡ true →
+    ((k : List ℕ) → lookup (same_name k) others ≡ lookup (same_name k) keys) → props_meet keys more props ≡ true → props_meet others more props ≡ true
+props_meet_same keys others more props apart there same h =
+    props_meet_apart others more props apart there (λ k. ap (λ o. admits (unwrap_or o (free_options more)) (value_at k props)) (same k) ∙ props_met keys more props h k)

@@ -1,0 +1,3 @@
+pub mod Braced
+pub mod Forms
+pub mod Leaves
