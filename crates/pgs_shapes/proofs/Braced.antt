@@ -17,7 +17,6 @@ use Rattle.pgs_syntax.specs.declared.specification.Braces.{Braces}
 use Rattle.pgs_syntax.specs.declared.specification.Property.{Property}
 use Rattle.pgs_syntax.specs.Fitting.{is_met, is_named_by, is_braced}
 use Rattle.pgs_syntax.specs.Join.{is_empty}
-use Rattle.pgs_syntax.specs.Valid.{are_distinct}
 use Rattle.pgs_syntax.proofs.Parts.{one_name}
 use Rattle.pgs_conform.specs.declared.options.Options.{Options}
 use Rattle.pgs_conform.specs.Shapes.{admits, admits_kind, labels_meet, props_meet}
@@ -181,8 +180,8 @@ pub braces_meet : (braces : Braces) (labels : List (List ℕ)) (keys : Keys) →
 braces_meet braces labels keys none up apart same p pair =
     let there : ascends name_cmp (keys_of p.props) ≡ true = (and_parts _ _ (and_parts _ _ (and_parts _ _ pair).1).0).0 in
     let sorted : props_meet keys braces.more p.props ≡ props_meet (keyed braces.properties) braces.more p.props = same_answer _ _
-        (props_meet_same keys (keyed braces.properties) braces.more p.props (apart_keys braces.properties apart) there (λ k. sym (same k)))
-        (props_meet_same (keyed braces.properties) keys braces.more p.props (apart_ascending keys up) there same) in
+    (props_meet_same keys (keyed braces.properties) braces.more p.props (apart_keys braces.properties apart) there (λ k. sym (same k)))
+    (props_meet_same (keyed braces.properties) keys braces.more p.props (apart_ascending keys up) there same) in
     ap (λ ls. labels_meet ls false p.labels && props_meet keys braces.more p.props) none
     ∙ ap (λ b. b && props_meet keys braces.more p.props) (no_labels p.labels)
     ∙ ap (λ b. is_empty p.labels && b) (sorted ∙ unsorted braces.properties braces.more p.props)

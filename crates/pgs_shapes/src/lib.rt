@@ -7,9 +7,13 @@
 #![tactic(auto)]
 
 mod braces;
+mod compiling;
+mod edges;
 mod fault;
 mod leaf;
+mod middle;
+mod nodes;
 mod specification;
 
+pub use compiling::compile;
 pub use fault::CompileFault;
-pub use specification::shapes_of;

@@ -1,9 +1,7 @@
-use Rattle.std.proofs.Common.{◌≡◌, ℕ, List, ◌++◌, sym, ◌∙◌, ap}
+use Rattle.std.proofs.Common.{◌∙◌, ap}
 use Rattle.std.specs.Map.{keys_of, lookup}
 use Rattle.pgs_base.specs.Order.{ascends}
 use Rattle.pgs_base.specs.Pair.{same_name}
-use Rattle.pgs_conform.specs.declared.options.Options.{Options}
-use Rattle.pgs_product.specs.JoinedOptions.{free_options}
 use Rattle.pgs_product.specs.Merged.{merged}
 use Rattle.pgs_product.proofs.Keyed.{ascends_merged}
 use Rattle.pgs_product.proofs.United.{name_cmp}
@@ -16,7 +14,7 @@ returns-in_ok-whole-in_default-clause-ascending t c =
     let first = c.in_ok-first-in_default.first.items in
     let second = c.in_ok-second-in_default.second.items in
     let is = c.in_ok-whole-in_default.ensures ∙ ap (λ keys. merged closed closed keys c.deref-in_default.result.now) c.deref.ensures.value
-        ∙ ap (merged closed closed first) c.deref-in_default.ensures.value in
+    ∙ ap (merged closed closed first) c.deref-in_default.ensures.value in
     ap (λ keys. ascends name_cmp (keys_of keys)) is
     ∙ ascends_merged closed closed first second c.in_ok-first-in_default.ensures.ascending c.in_ok-second-in_default.ensures.ascending
 
@@ -29,7 +27,7 @@ returns-in_ok-whole-in_default-clause-same t c = λ apart k.
     let front = c.split_at.result.0.now in
     let back = c.split_at.result.1.now in
     let is = c.in_ok-whole-in_default.ensures ∙ ap (λ keys. merged closed closed keys c.deref-in_default.result.now) c.deref.ensures.value
-        ∙ ap (merged closed closed first) c.deref-in_default.ensures.value ∙ ap (λ free. merged free free first second) c.free_options-closed.ensures in
+    ∙ ap (merged closed closed first) c.deref-in_default.ensures.value ∙ ap (λ free. merged free free first second) c.free_options-closed.ensures in
     let whole = cut_whole _ properties front back c.split_at.ensures.front c.split_at.ensures.back in
     ap (lookup (same_name k)) is
     ∙ halves_same properties front back first second whole c.in_ok-first-in_default.ensures.ascending c.in_ok-second-in_default.ensures.ascending

@@ -1,4 +1,4 @@
-use Rattle.std.proofs.Common.{◌≡◌, sym, ◌∙◌, ap, map}
+use Rattle.std.proofs.Common.{◌∙◌, ap, map}
 use Rattle.std.specs.Map.{keys_of, lookup}
 use Rattle.pgs_base.specs.Order.{ascends}
 use Rattle.pgs_base.specs.Pair.{same_name}

@@ -1,6 +1,5 @@
-use Rattle.std.proofs.Common.{◌≡◌, ◌++◌, ◌∷◌, [], length, map, sym, ◌∙◌, ap, subst}
+use Rattle.std.proofs.Common.{◌++◌, ◌∷◌, [], length, map, sym, ◌∙◌, ap, subst}
 use Rattle.std.specs.List.{list_all}
-use Rattle.pgs_base.specs.declared.row.NodeRow.{NodeRow}
 use Rattle.pgs_syntax.specs.Fitting.{suits}
 use Rattle.pgs_syntax.specs.Join.{of_pairs, joined_all}
 use Rattle.pgs_syntax.specs.Valid.{is_valid_spec}
