@@ -1,5 +1,5 @@
 -- One step of a walk over what is asked for and what is there, both ascending: the first of each decide, and the rest is left.
-use Rattle.std.proofs.Common.{◌≡◌, ℕ, ◌-◌, ◌==◌, arith, length, take, drop, take_all, Bool, true, false, ◌&&◌, ◌||◌, cond, List, [], ◌∷◌, Option, Some, None, refl, sym, ap, subst, ◌∙◌, true≢false, Ordering, Less, Equal, Greater, is_lt, is_eq}
+use Rattle.std.proofs.Common.{◌≡◌, ℕ, ◌-◌, ◌==◌, arith, length, take, drop, take_all, Bool, true, false, ◌&&◌, ◌||◌, cond, List, [], ◌∷◌, Some, None, refl, sym, ap, subst, ◌∙◌, Ordering, Less, Equal, Greater, is_lt, is_eq}
 use Rattle.std.specs.Ordering.{nat_cmp, ordering_reverse}
 use Rattle.std.specs.BTreeMap.{is_at}
 use Rattle.std.specs.Cmp.{IsTotalOrder, tied_itself}
@@ -7,10 +7,7 @@ use Rattle.std.specs.Cmp.Lexicographic.{slice_cmp, nat_list_cmp_total}
 use Rattle.std.specs.List.{list_any, list_all}
 use Rattle.std.specs.Map.{keys_of, lookup}
 use Rattle.std.proofs.lemmas.Bool.{and_parts, and_right, ne_eqb}
-use Rattle.std.proofs.lemmas.List.Folds.{list_all-map}
 use Rattle.pgs_base.specs.declared.value.Value.{Value}
-use Rattle.pgs_base.specs.Order.{ascends}
-use Rattle.pgs_base.specs.OrderLaws.{exact_name}
 use Rattle.pgs_base.specs.Pair.{has_name, value_at}
 use Rattle.pgs_base.specs.Value.{kind_of}
 use Rattle.pgs_conform.specs.declared.options.Options.{Options}

@@ -1,4 +1,4 @@
-use Rattle.std.proofs.Common.{◌≡◌, ◌==◌, length, sym, ap, ◌∙◌, ◌||◌}
+use Rattle.std.proofs.Common.{◌==◌, length, sym, ap, ◌∙◌, ◌||◌}
 use Rattle.pgs_conform.proofs.walking.labels_fit.Goals as goal
 use Rattle.pgs_conform.proofs.LabelWalk.{missing, met, passed, refused, ended}
 

@@ -1,4 +1,4 @@
-use Rattle.std.proofs.Common.{◌≡◌, ◌==◌, length, sym, ap, ◌∙◌, ◌||◌}
+use Rattle.std.proofs.Common.{◌==◌, length, sym, ap, ◌∙◌, ◌||◌}
 use Rattle.pgs_conform.proofs.walking.props_fit.Goals as goal
 use Rattle.pgs_conform.specs.Shapes.{admits_kind}
 use Rattle.pgs_conform.proofs.PropWalk.{required, left_out, met, refused, passed, ended}
