@@ -50,6 +50,44 @@ fn push_second(
     Ok(())
 }
 
+// Puts the keys that either names last, in order.
+fn push_joined(
+    alloc: Global,
+    first: &[(Name, Options)],
+    first_free: Options,
+    second: &[(Name, Options)],
+    second_free: Options,
+    keys: &mut Vec<(Name, Options)>,
+) -> Result<(), Memory>
+    ensures { OnOk result (keys.new.items ≡ keys.old.items ++ merged first_free second_free first.now second.now) }
+{
+    let mut left = first;
+    let mut right = second;
+    loop {
+        let [x, xs @ ..] = left else {
+            return push_second(alloc, first_free, right, keys);
+        };
+        let [y, ys @ ..] = right else {
+            return push_first(alloc, left, second_free, keys);
+        };
+        match x.0.cmp(&y.0) {
+            Ordering::Less => {
+                push_key(alloc, &x.0, join_options(x.1, second_free), keys)?;
+                left = xs;
+            }
+            Ordering::Equal => {
+                push_key(alloc, &x.0, join_options(x.1, y.1), keys)?;
+                left = xs;
+                right = ys;
+            }
+            Ordering::Greater => {
+                push_key(alloc, &y.0, join_options(first_free, y.1), keys)?;
+                right = ys;
+            }
+        }
+    }
+}
+
 /// The keys that either names, with what may stand at each in a join. What may stand at a key that the first doesn't name is
 /// `first_free`, and so for the second. Both ascend strictly, and so does the result.
 pub fn join_keys(
@@ -62,31 +100,6 @@ pub fn join_keys(
     ensures { IfOk result (λ keys. keys.items ≡ merged first_free second_free first.now second.now) }
 {
     let mut keys = Vec::with_capacity(alloc, first.len().saturating_add(second.len()))?;
-    let mut left = first;
-    let mut right = second;
-    loop {
-        let [x, xs @ ..] = left else {
-            push_second(alloc, first_free, right, &mut keys)?;
-            return Ok(keys);
-        };
-        let [y, ys @ ..] = right else {
-            push_first(alloc, left, second_free, &mut keys)?;
-            return Ok(keys);
-        };
-        match x.0.cmp(&y.0) {
-            Ordering::Less => {
-                push_key(alloc, &x.0, join_options(x.1, second_free), &mut keys)?;
-                left = xs;
-            }
-            Ordering::Equal => {
-                push_key(alloc, &x.0, join_options(x.1, y.1), &mut keys)?;
-                left = xs;
-                right = ys;
-            }
-            Ordering::Greater => {
-                push_key(alloc, &y.0, join_options(first_free, y.1), &mut keys)?;
-                right = ys;
-            }
-        }
-    }
+    push_joined(alloc, first, first_free, second, second_free, &mut keys)?;
+    Ok(keys)
 }
