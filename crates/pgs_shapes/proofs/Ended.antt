@@ -32,15 +32,20 @@ some_source sources own last p =
     any_same _ _ (λ source. and_rotated (in_shape source p) own last) sources ∙ any_and (own && last) (λ source. in_shape source p) sources
     ∙ sym (and_rotated (in_some sources p) own last)
 
--- an edge type's triples, by the lists of its ends and of its middle
-pub edge_denotes : (resolved : Resolved) (test : ℕ → Triple → Bool) (edge : EdgeType Leaf) (sources targets : List Shape) (ends middles triples : List ShapeTriple) →
+-- the triples of the ends, by the lists of both
+pub ends_denote : (resolved : Resolved) (edge : EdgeType Leaf) (sources targets : List Shape) (ends : List ShapeTriple) →
     Denotes sources (fits resolved edge.source) → Denotes targets (fits resolved edge.target) →
     ((t : Triple) → in_some_triple ends t ≡ (in_some sources t.source && is_empty_pair t.own && in_some targets t.target)) →
-    DenotesTriples middles (suits of_triples test edge.middle) →
+    DenotesTriples ends (has_ends_of resolved edge)
+ends_denote resolved edge sources targets ends source target both t pairs =
+    let outer = and_parts _ _ pairs in
+    let inner = and_parts _ _ outer.0 in
+    both t ∙ ap (λ b. b && is_empty_pair t.own && in_some targets t.target) (source t.source inner.0)
+    ∙ ap (λ b. fits resolved edge.source t.source && is_empty_pair t.own && b) (target t.target outer.1)
+
+-- an edge type's triples, by the lists of its ends and of its middle
+pub edge_denotes : (resolved : Resolved) (test : ℕ → Triple → Bool) (edge : EdgeType Leaf) (ends middles triples : List ShapeTriple) →
+    DenotesTriples ends (has_ends_of resolved edge) → DenotesTriples middles (suits of_triples test edge.middle) →
     DenotesTriples triples (joined of_triples (in_some_triple ends) (in_some_triple middles)) → DenotesTriples triples (fits_edge_type resolved test edge)
-edge_denotes resolved test edge sources targets ends middles triples source target both middle product t pairs =
-    product t pairs ∙ triples_lawful.alike (in_some_triple ends) (in_some_triple middles) (has_ends_of resolved edge) (suits of_triples test edge.middle)
-    (λ u good. let outer = and_parts _ _ good in let inner = and_parts _ _ outer.0 in
-    both u ∙ ap (λ b. b && is_empty_pair u.own && in_some targets u.target) (source u.source inner.0)
-    ∙ ap (λ b. fits resolved edge.source u.source && is_empty_pair u.own && b) (target u.target outer.1))
-    middle t pairs
+edge_denotes resolved test edge ends middles triples both middle product t pairs =
+    product t pairs ∙ triples_lawful.alike (in_some_triple ends) (in_some_triple middles) (has_ends_of resolved edge) (suits of_triples test edge.middle) both middle t pairs

@@ -1,6 +1,6 @@
 ghost use Rattle.std.specs.Prelude.{◌≡◌, ℕ, Bool, ◌&&◌, ◌||◌, true, length, IfOk, OnOk};
 ghost use Rattle.pgs_syntax.specs.declared.resolved.Resolved.{Resolved};
-ghost use Rattle.pgs_syntax.specs.Fitting.{fits_node, fits_edge, fits_edge_type};
+ghost use Rattle.pgs_syntax.specs.Fitting.{fits_node, fits_edge, fits_edge_type, has_ends_of};
 ghost use Rattle.pgs_syntax.specs.Join.{is_empty_pair, Triple as Pairs};
 ghost use Rattle.pgs_syntax.specs.Valid.{is_valid, is_valid_spec};
 ghost use Rattle.pgs_conform.specs.Shapes.{in_shape, in_some, in_some_triple, DenotesTriples};
@@ -48,6 +48,22 @@ fn ends_of(alloc: Global, sources: &[Shape], targets: &[Shape]) -> Result<List<T
     Ok(List::from_vec(ends))
 }
 
+// The triples with the source and the target of an edge type, where the shapes of the node types that it may name are given.
+fn ends_of_edge(
+    alloc: Global,
+    nodes: &[List<Shape>],
+    edge: &EdgeType<Leaf>,
+) -> Result<List<Triple>, Memory>
+    ensures { IfOk result (λ ends. is_valid_spec (length nodes.now) edge.now.source ≡ true →
+        is_valid_spec (length nodes.now) edge.now.target ≡ true → (resolved : Resolved) → EachDenotes nodes.now (fits_node resolved) →
+        DenotesTriples ends (has_ends_of resolved edge.now)) }
+{
+    let sources = shapes_of(alloc, nodes, &edge.source)?;
+    let targets = shapes_of(alloc, nodes, &edge.target)?;
+    let ends = ends_of(alloc, sources.as_slice(), targets.as_slice())?;
+    Ok(ends)
+}
+
 // The triples of shapes of an edge type, where those of the node types and of the edge types that it may name are given.
 fn triples_of_edge(
     alloc: Global,
@@ -60,9 +76,7 @@ fn triples_of_edge(
         (resolved : Resolved) → EachDenotes nodes.now (fits_node resolved) → (test : ℕ → Pairs → Bool) →
         EachDenotesTriples named.now test → DenotesTriples triples (fits_edge_type resolved test edge.now)) }
 {
-    let sources = shapes_of(alloc, nodes, &edge.source)?;
-    let targets = shapes_of(alloc, nodes, &edge.target)?;
-    let ends = ends_of(alloc, sources.as_slice(), targets.as_slice())?;
+    let ends = ends_of_edge(alloc, nodes, edge)?;
     let middles = triples_of(alloc, named, &edge.middle)?;
     let triples = triple_products(alloc, ends.as_slice(), middles.as_slice())?;
     Ok(triples)
