@@ -2,7 +2,6 @@
 -- lists of the parts denote what the parts ask.
 use Rattle.std.proofs.Common.{◌≡◌, ℕ, ◌+◌, ◌<◌, Bool, true, false, ◌&&◌, ◌||◌, List, [], ◌∷◌, ◌++◌, length, take, map, get_or, refl, sym, ◌∙◌, ap, subst}
 use Rattle.std.specs.List.{list_any, list_all, flat_map, AllZip}
-use Rattle.std.proofs.Math.Bool.{or-false}
 use Rattle.std.proofs.lemmas.Bool.{and_parts}
 use Rattle.std.proofs.lemmas.List.{take_more}
 use Rattle.std.proofs.lemmas.List.Folds.{list_any-append}
@@ -104,9 +103,7 @@ module _ {P : Type 0} (joins : Joins P) (Good : P → Type 0) (laws : AreLawful 
   or_denotes parts lists whole each w p good =
       ap (λ list. some list p) w ∙ some_of_all lists p ∙ some_part parts lists each p good ∙ sym (suits_or joins test parts p)
 
-  pub opt_denotes : (part : Spec Leaf) (list whole : List S) (empty : S) → PartDenotes part list →
-      ((p : P) → has empty p ≡ joins.asks is_empty_pair p) → whole ≡ list ++ empty ∷ [] → PartDenotes (Opt part) whole
-  opt_denotes part list whole empty denotes none w p good =
-      ap (λ items. some items p) w ∙ list_any-append (λ item. has item p) list (empty ∷ [])
-      ∙ ap (λ b. some list p || b) (or-false (has empty p) ∙ none p) ∙ or_comm (some list p) (joins.asks is_empty_pair p)
-      ∙ ap (λ b. joins.asks is_empty_pair p || b) (denotes p good) ∙ sym (suits_opt joins test part p)
+  pub opt_denotes : (part : Spec Leaf) (list whole : List S) → PartDenotes part list →
+      ((p : P) → some whole p ≡ (some list p || joins.asks is_empty_pair p)) → PartDenotes (Opt part) whole
+  opt_denotes part list whole denotes w p good =
+      w p ∙ or_comm (some list p) (joins.asks is_empty_pair p) ∙ ap (λ b. joins.asks is_empty_pair p || b) (denotes p good) ∙ sym (suits_opt joins test part p)

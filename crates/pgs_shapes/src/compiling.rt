@@ -19,11 +19,7 @@ fn compile_types(alloc: Global, resolved: Resolved) -> Result<Compiled, Memory>
 {
     let nodes = node_shapes(alloc, &resolved)?;
     let edges = edge_triples(alloc, &nodes, &resolved)?;
-    Ok(Compiled::new(
-        resolved,
-        List::from_vec(nodes),
-        List::from_vec(edges),
-    ))
+    Ok(Compiled::new(resolved, List::from_vec(nodes), List::from_vec(edges)))
 }
 
 /// The compiled form of a valid schema, which keeps the schema: each type gets the list of its shapes. `TooWide` exactly where a

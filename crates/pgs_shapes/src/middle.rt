@@ -1,10 +1,10 @@
-ghost use Rattle.std.specs.Prelude.{◌≡◌, ℕ, Bool, true, length, IfOk};
+ghost use Rattle.std.specs.Prelude.{◌≡◌, ℕ, Bool, ◌||◌, true, length, IfOk};
 ghost use Rattle.std.specs.List.{list_all};
 ghost use Rattle.pgs_syntax.specs.declared.specification.Spec.{Word};
 ghost use Rattle.pgs_syntax.specs.Fitting.{suits};
-ghost use Rattle.pgs_syntax.specs.Join.{of_triples, Triple as Pairs};
+ghost use Rattle.pgs_syntax.specs.Join.{of_triples, is_empty_pair, Triple as Pairs};
 ghost use Rattle.pgs_syntax.specs.Valid.{is_valid_spec};
-ghost use Rattle.pgs_conform.specs.Shapes.{DenotesTriples};
+ghost use Rattle.pgs_conform.specs.Shapes.{in_some_triple, DenotesTriples};
 ghost use Rattle.pgs_conform.specs.Standing.{EachDenotesTriples};
 ghost use Rattle.pgs_shapes.specs.Parts.{PartsDenoteTriples};
 
@@ -16,6 +16,15 @@ use pgs_conform::Triple;
 use pgs_product::{copy_triples, empty_shape, middle_triple, triple_product_of_all};
 use pgs_syntax::{Leaf, Spec};
 use std::alloc::Global;
+
+// Triples of shapes, and that of the empty pairs.
+fn with_empty(alloc: Global, triples: List<Triple>) -> Result<List<Triple>, Memory>
+    ensures { IfOk result (λ whole. (t : Pairs) → in_some_triple whole t ≡ (in_some_triple triples t || of_triples.asks is_empty_pair t)) }
+{
+    let mut items = triples.into_vec();
+    items.push(middle_triple(alloc, empty_shape(alloc)))?;
+    Ok(List::from_vec(items))
+}
 
 fn leaf_triples(alloc: Global, named: &[List<Triple>], leaf: &Leaf) -> Result<List<Triple>, Memory>
     ensures { IfOk result (λ triples. is_valid_spec (length named.now) (Word leaf.now) ≡ true → (test : ℕ → Pairs → Bool) →
@@ -77,9 +86,9 @@ pub fn triples_of(
             Ok(triples)
         }
         Spec::Opt(part) => {
-            let mut triples = triples_of(alloc, named, part.get())?.into_vec();
-            triples.push(middle_triple(alloc, empty_shape(alloc)))?;
-            Ok(List::from_vec(triples))
+            let triples = triples_of(alloc, named, part.get())?;
+            let whole = with_empty(alloc, triples)?;
+            Ok(whole)
         }
     }
 }

@@ -1,11 +1,11 @@
-ghost use Rattle.std.specs.Prelude.{◌≡◌, ℕ, Bool, true, length, flat_map, IfOk};
+ghost use Rattle.std.specs.Prelude.{◌≡◌, ℕ, Bool, ◌||◌, true, length, flat_map, IfOk};
 ghost use Rattle.std.specs.List.{list_all};
 ghost use Rattle.pgs_base.specs.declared.row.NodeRow.{NodeRow};
 ghost use Rattle.pgs_syntax.specs.declared.specification.Spec.{Word};
 ghost use Rattle.pgs_syntax.specs.Fitting.{suits};
-ghost use Rattle.pgs_syntax.specs.Join.{of_pairs};
+ghost use Rattle.pgs_syntax.specs.Join.{of_pairs, is_empty_pair};
 ghost use Rattle.pgs_syntax.specs.Valid.{is_valid_spec};
-ghost use Rattle.pgs_conform.specs.Shapes.{Denotes};
+ghost use Rattle.pgs_conform.specs.Shapes.{in_some, Denotes};
 ghost use Rattle.pgs_conform.specs.Standing.{EachDenotes};
 ghost use Rattle.pgs_shapes.specs.Parts.{PartsDenote};
 
@@ -27,6 +27,15 @@ pub fn concat<T: Drop>(alloc: Global, lists: Vec<List<T>>) -> Result<List<T>, Me
         whole.append(&mut items)?;
     }
     Ok(List::from_vec(whole))
+}
+
+// Shapes, and the shape of the empty pair.
+fn with_empty(alloc: Global, shapes: List<Shape>) -> Result<List<Shape>, Memory>
+    ensures { IfOk result (λ whole. (p : NodeRow) → in_some whole p ≡ (in_some shapes p || is_empty_pair p)) }
+{
+    let mut items = shapes.into_vec();
+    items.push(empty_shape(alloc))?;
+    Ok(List::from_vec(items))
 }
 
 fn leaf_shapes(alloc: Global, named: &[List<Shape>], leaf: &Leaf) -> Result<List<Shape>, Memory>
@@ -89,9 +98,9 @@ pub fn shapes_of(
             Ok(shapes)
         }
         Spec::Opt(part) => {
-            let mut shapes = shapes_of(alloc, named, part.get())?.into_vec();
-            shapes.push(empty_shape(alloc))?;
-            Ok(List::from_vec(shapes))
+            let shapes = shapes_of(alloc, named, part.get())?;
+            let whole = with_empty(alloc, shapes)?;
+            Ok(whole)
         }
     }
 }

@@ -1,4 +1,4 @@
-use Rattle.std.proofs.Common.{◌≡◌, ◌&&◌, ◌∙◌, ap}
+use Rattle.std.proofs.Common.{◌&&◌, ◌∙◌, ap}
 use Rattle.pgs_syntax.specs.Fitting.{fits_node}
 use Rattle.pgs_syntax.specs.Join.{is_empty_pair}
 use Rattle.pgs_conform.specs.Shapes.{in_some}

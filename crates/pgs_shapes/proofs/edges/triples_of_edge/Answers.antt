@@ -1,4 +1,4 @@
-use Rattle.std.proofs.Common.{◌≡◌, ◌∙◌, ap}
+use Rattle.std.proofs.Common.{◌∙◌, ap}
 use Rattle.pgs_syntax.specs.Join.{of_triples, joined}
 use Rattle.pgs_conform.specs.Shapes.{in_some_triple}
 use Rattle.pgs_shapes.proofs.Ended.{edge_denotes}

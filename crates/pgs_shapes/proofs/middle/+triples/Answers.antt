@@ -1,8 +1,8 @@
-use Rattle.std.proofs.Common.{◌&&◌, ◌++◌, ◌∷◌, [], length, map, sym, ◌∙◌, ap, subst}
+use Rattle.std.proofs.Common.{length, map, sym, ◌∙◌, ap, subst}
 use Rattle.std.specs.List.{list_all}
 use Rattle.std.proofs.lemmas.Bool.{and_parts}
 use Rattle.pgs_syntax.specs.Fitting.{suits, is_braced}
-use Rattle.pgs_syntax.specs.Join.{of_triples, joined_all, is_empty_pair}
+use Rattle.pgs_syntax.specs.Join.{of_triples, joined_all}
 use Rattle.pgs_syntax.specs.Valid.{is_valid_spec}
 use Rattle.pgs_conform.specs.Shapes.{in_triple, in_some_triple, DenotesTriples}
 use Rattle.pgs_product.proofs.Joins.{IsGoodTriple, triples_lawful}
@@ -42,16 +42,14 @@ triples_of-returns-in_ok-triples-in-Or t c = λ valid test each t' pairs.
     or_denotes of_triples IsGoodTriple triples_lawful in_triple test parts lists c.in_ok-triples-in-Or.triples denote c.in_ok-triples-in-Or.ensures t' pairs
     ∙ ap (λ spec. suits of_triples test spec t') (sym c.in-Or.is)
 
-pub triples_of-returns-in_ok-push-in-Opt : goal.triples_of-returns-in_ok-push-in-Opt
-triples_of-returns-in_ok-push-in-Opt t c = λ valid test each t' pairs.
+pub triples_of-returns-in_ok-whole-in-Opt : goal.triples_of-returns-in_ok-whole-in-Opt
+triples_of-returns-in_ok-whole-in-Opt t c = λ valid test each t' pairs.
     let bound = length c.args.named.now in
     let part = c.in-Opt.part in
-    let shapes = c.in_ok-triples_of-in-Opt.field-0 in
+    let triples = c.in_ok-triples-in-Opt.triples in
     let part_valid = ap (is_valid_spec bound) c.get.ensures ∙ valid_opt bound part (ap (is_valid_spec bound) (sym c.in-Opt.is) ∙ valid) in
-    let denote = subst (λ s. DenotesTriples shapes (suits of_triples test s)) c.get.ensures (c.in_ok-triples_of-in-Opt.ensures part_valid test each) in
-    opt_denotes of_triples IsGoodTriple triples_lawful in_triple test part shapes c.from_vec.result c.middle_triple-in-Opt.result denote
-    (λ u. c.middle_triple-in-Opt.ensures u ∙ ap (λ own. is_empty_pair u.source && own && is_empty_pair u.target) (c.empty_shape-in-Opt.ensures u.own))
-    (c.from_vec.ensures ∙ c.in_ok-push-in-Opt.ensures.items ∙ ap (λ ss. ss ++ c.middle_triple-in-Opt.result ∷ []) c.into_vec-triples.ensures.items) t' pairs
+    let denote = subst (λ s. DenotesTriples triples (suits of_triples test s)) c.get.ensures (c.in_ok-triples-in-Opt.ensures part_valid test each) in
+    opt_denotes of_triples IsGoodTriple triples_lawful in_triple test part triples c.in_ok-whole-in-Opt.whole denote c.in_ok-whole-in-Opt.ensures t' pairs
     ∙ ap (λ spec. suits of_triples test spec t') (sym c.in-Opt.is)
 
 pub triples_of_each-loop-part-preserved : goal.triples_of_each-loop-part-preserved

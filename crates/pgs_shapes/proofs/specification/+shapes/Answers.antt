@@ -1,4 +1,4 @@
-use Rattle.std.proofs.Common.{◌++◌, ◌∷◌, [], length, map, sym, ◌∙◌, ap, subst}
+use Rattle.std.proofs.Common.{length, map, sym, ◌∙◌, ap, subst}
 use Rattle.std.specs.List.{list_all}
 use Rattle.pgs_syntax.specs.Fitting.{suits}
 use Rattle.pgs_syntax.specs.Join.{of_pairs, joined_all}
@@ -30,15 +30,14 @@ shapes_of-returns-in_ok-shapes-in-Or t c = λ valid test each p pair.
     or_denotes of_pairs IsGood pairs_lawful in_shape test parts lists c.in_ok-shapes-in-Or.shapes denote c.in_ok-shapes-in-Or.ensures p pair
     ∙ ap (λ spec. suits of_pairs test spec p) (sym c.in-Or.is)
 
-pub shapes_of-returns-in_ok-push-in-Opt : goal.shapes_of-returns-in_ok-push-in-Opt
-shapes_of-returns-in_ok-push-in-Opt t c = λ valid test each p pair.
+pub shapes_of-returns-in_ok-whole-in-Opt : goal.shapes_of-returns-in_ok-whole-in-Opt
+shapes_of-returns-in_ok-whole-in-Opt t c = λ valid test each p pair.
     let bound = length c.args.named.now in
     let part = c.in-Opt.part in
-    let shapes = c.in_ok-shapes_of-in-Opt.field-0 in
+    let shapes = c.in_ok-shapes-in-Opt.shapes in
     let part_valid = ap (is_valid_spec bound) c.get.ensures ∙ valid_opt bound part (ap (is_valid_spec bound) (sym c.in-Opt.is) ∙ valid) in
-    let denote = subst (λ s. Denotes shapes (suits of_pairs test s)) c.get.ensures (c.in_ok-shapes_of-in-Opt.ensures part_valid test each) in
-    opt_denotes of_pairs IsGood pairs_lawful in_shape test part shapes c.from_vec.result c.empty_shape-in-Opt.result denote c.empty_shape-in-Opt.ensures
-    (c.from_vec.ensures ∙ c.in_ok-push-in-Opt.ensures.items ∙ ap (λ ss. ss ++ c.empty_shape-in-Opt.result ∷ []) c.into_vec-shapes.ensures.items) p pair
+    let denote = subst (λ s. Denotes shapes (suits of_pairs test s)) c.get.ensures (c.in_ok-shapes-in-Opt.ensures part_valid test each) in
+    opt_denotes of_pairs IsGood pairs_lawful in_shape test part shapes c.in_ok-whole-in-Opt.whole denote c.in_ok-whole-in-Opt.ensures p pair
     ∙ ap (λ spec. suits of_pairs test spec p) (sym c.in-Opt.is)
 
 pub shapes_of_each-loop-part-preserved : goal.shapes_of_each-loop-part-preserved
