@@ -11,6 +11,11 @@ abbrev pub is_node_below : ℕ → TypeNo → Bool
 is_node_below bound (Node number) = nat_lt number bound
 is_node_below bound (Edge number) = false
 
+-- two node types of places 1 and 2, each of which names only types before itself
+abbrev pub AreTwo : List (NodeType Leaf) → Type 0
+AreTwo (a ∷ b ∷ []) = (a.place ≡ 1) × (b.place ≡ 2) × (is_valid_spec 0 a.spec ≡ true) × (is_valid_spec 1 b.spec ≡ true)
+AreTwo _ = ⊥
+
 -- three node types of places 1 to 3, each of which names only types before itself
 abbrev pub AreThree : List (NodeType Leaf) → Type 0
 AreThree (a ∷ b ∷ c ∷ []) =

@@ -1,12 +1,14 @@
 //! Compiled edge types and the plain program, on triples of small pairs.
 
-ghost use Rattle.std.specs.Prelude.{◌≡◌, length};
+ghost use Rattle.std.specs.Prelude.{◌≡◌, true, length, IfOk};
+ghost use Rattle.pgs_syntax.specs.Valid.{is_valid_spec};
 
 use crate::generated::{Dice, generated};
 use crate::plain::{PAIRS, Small, Table, has, labels_of, props_of, table_of};
 use crate::schemas::edge_compiled;
 use pgs_base::{Labels, Props};
 use pgs_conform::{Compiled, Pair, edge_fits};
+use pgs_syntax::{Leaf, Spec};
 use std::alloc::Global;
 use std::test::Fail;
 
@@ -37,13 +39,26 @@ fn fits_carried(compiled: &Compiled, source: &Carried, own: &Carried, target: &C
     edge_fits(compiled, 0, &source, &own, &target)
 }
 
+// With the pair of the source made, the other two are made one after the other.
+fn fits_from(
+    alloc: Global,
+    compiled: &Compiled,
+    source: &Carried,
+    numbers: [usize; 2],
+) -> Result<bool, Fail>
+    requires { length compiled.now.edges ≡ 1 }
+{
+    let own = carried(alloc, numbers[0])?;
+    let target = carried(alloc, numbers[1])?;
+    Ok(fits_carried(compiled, source, &own, &target))
+}
+
 fn fits(alloc: Global, compiled: &Compiled, numbers: [usize; 3]) -> Result<bool, Fail>
     requires { length compiled.now.edges ≡ 1 }
 {
-    let source = carried(alloc, numbers[0])?;
-    let own = carried(alloc, numbers[1])?;
-    let target = carried(alloc, numbers[2])?;
-    Ok(fits_carried(compiled, &source, &own, &target))
+    let [source, own, target] = numbers;
+    let source = carried(alloc, source)?;
+    fits_from(alloc, compiled, &source, [own, target])
 }
 
 // A pair that is in the table or isn't, as wanted, where there is one.
@@ -101,15 +116,48 @@ fn counted(
     Ok((inside, alike))
 }
 
-fn compared(alloc: Global, dice: &mut Dice) -> Result<(u32, u32), Fail> {
+/// What the source, the middle and the target of an edge type ask.
+#[derive(Drop)]
+struct Parts {
+    source: Spec<Leaf>,
+    middle: Spec<Leaf>,
+    target: Spec<Leaf>,
+}
+
+fn generated_parts(alloc: Global, dice: &mut Dice) -> Result<Parts, Fail>
+    ensures source { IfOk result (λ parts. is_valid_spec 0 parts.source ≡ true) }
+    ensures middle { IfOk result (λ parts. is_valid_spec 0 parts.middle ≡ true) }
+    ensures target { IfOk result (λ parts. is_valid_spec 0 parts.target ≡ true) }
+{
     let source = generated(alloc, dice, 2)?;
     let middle = generated(alloc, dice, 2)?;
     let target = generated(alloc, dice, 2)?;
-    let tables = Tables {
-        source: table_of(alloc, &source)?,
-        middle: table_of(alloc, &middle)?,
-        target: table_of(alloc, &target)?,
-    };
+    Ok(Parts {
+        source,
+        middle,
+        target,
+    })
+}
+
+fn tables_of(alloc: Global, parts: &Parts) -> Result<Tables, Fail> {
+    let source = table_of(alloc, &parts.source)?;
+    let middle = table_of(alloc, &parts.middle)?;
+    let target = table_of(alloc, &parts.target)?;
+    Ok(Tables {
+        source,
+        middle,
+        target,
+    })
+}
+
+fn compared(alloc: Global, dice: &mut Dice) -> Result<(u32, u32), Fail> {
+    let parts = generated_parts(alloc, dice)?;
+    let tables = tables_of(alloc, &parts)?;
+    let Parts {
+        source,
+        middle,
+        target,
+    } = parts;
     let compiled = edge_compiled(alloc, source, middle, target)?;
     counted(alloc, &compiled, &tables, dice)
 }

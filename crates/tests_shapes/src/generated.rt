@@ -65,17 +65,20 @@ pub fn generated(alloc: Global, dice: &mut Dice, levels: u32) -> Result<Spec<Lea
         0 => generated_leaf(alloc, dice),
         1 => {
             let part = generated(alloc, dice, levels - 1)?;
-            maybe(alloc, part)
+            let spec = maybe(alloc, part)?;
+            Ok(spec)
         }
         2 => {
             let first = generated(alloc, dice, levels - 1)?;
             let second = generated(alloc, dice, levels - 1)?;
-            either(alloc, first, second)
+            let spec = either(alloc, first, second)?;
+            Ok(spec)
         }
         _ => {
             let first = generated(alloc, dice, levels - 1)?;
             let second = generated(alloc, dice, levels - 1)?;
-            both(alloc, first, second)
+            let spec = both(alloc, first, second)?;
+            Ok(spec)
         }
     }
 }

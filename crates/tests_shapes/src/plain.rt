@@ -238,13 +238,19 @@ fn value(alloc: Global, number: usize) -> Result<Option<Value>, Fail> {
     }
 }
 
+fn set(alloc: Global, key: &str, number: usize, props: &mut Props) -> Result<(), Fail> {
+    if let Some(value) = value(alloc, number)? {
+        props.set(name(alloc, key)?, value)?;
+    }
+    Ok(())
+}
+
 /// The properties of a small pair.
 pub fn props_of(alloc: Global, pair: Small) -> Result<Props, Fail> {
+    let [k, l, m] = pair.keys;
     let mut props = Props::new(alloc);
-    for (key, number) in ["k", "l", "m"].iter().zip(pair.keys.iter()) {
-        if let Some(value) = value(alloc, *number)? {
-            props.set(name(alloc, key)?, value)?;
-        }
-    }
+    set(alloc, "k", k, &mut props)?;
+    set(alloc, "l", l, &mut props)?;
+    set(alloc, "m", m, &mut props)?;
     Ok(props)
 }

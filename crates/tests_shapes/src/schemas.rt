@@ -3,7 +3,7 @@
 ghost use Rattle.std.specs.Prelude.{◌≡◌, true, length, nat_lt, IfOk};
 ghost use Rattle.std.specs.List.{list_all};
 ghost use Rattle.pgs_syntax.specs.Valid.{is_valid, is_valid_spec};
-ghost use Rattle.tests_shapes.specs.Schemas.{is_node_below, AreThree};
+ghost use Rattle.tests_shapes.specs.Schemas.{is_node_below, AreTwo, AreThree};
 
 use crate::sample::name;
 use pgs_base::List;
@@ -69,6 +69,23 @@ pub fn compiled(alloc: Global, spec: Spec<Leaf>) -> Result<Compiled, Fail>
     Ok(compiled)
 }
 
+// Two node types of places 1 and 2.
+fn two_nodes(
+    alloc: Global,
+    hidden: bool,
+    first: Spec<Leaf>,
+    second: Spec<Leaf>,
+) -> Result<Vec<NodeType<Leaf>>, Fail>
+    requires first { is_valid_spec 0 first ≡ true }
+    requires second { is_valid_spec 1 second ≡ true }
+    ensures { IfOk result (λ nodes. AreTwo nodes.items) }
+{
+    let first = node(alloc, "a", 1, hidden, first)?;
+    let second = node(alloc, "b", 2, hidden, second)?;
+    let nodes = vec![in alloc; first, second]?;
+    Ok(nodes)
+}
+
 // Three node types of places 1 to 3.
 fn three_nodes(
     alloc: Global,
@@ -82,10 +99,9 @@ fn three_nodes(
     requires third { is_valid_spec 2 third ≡ true }
     ensures { IfOk result AreThree }
 {
-    let first = node(alloc, "a", 1, hidden, first)?;
-    let second = node(alloc, "b", 2, hidden, second)?;
+    let mut nodes = two_nodes(alloc, hidden, first, second)?;
     let third = node(alloc, "c", 3, hidden, third)?;
-    let nodes = vec![in alloc; first, second, third]?;
+    nodes.push(third)?;
     Ok(List::from_vec(nodes))
 }
 
