@@ -10,6 +10,7 @@ mod compiled;
 mod fitting;
 mod options;
 mod pair;
+pub mod samples;
 mod shape;
 mod walking;
 

@@ -5,6 +5,10 @@ use Rattle.std.specs.Cmp.Lexicographic.{slice_cmp}
 use Rattle.pgs_conform.specs.declared.options.Options.{Options}
 use Rattle.pgs_product.specs.JoinedOptions.{joined_options}
 
+-- keys with what may stand at each
+abbrev pub Keys : Type 0
+Keys = List (List ℕ × Options)
+
 -- a name before others that follow, each in its place among names
 abbrev pub united_with : List ℕ → (List (List ℕ) → List (List ℕ)) → List (List ℕ) → List (List ℕ)
 united_with x rest [] = x ∷ rest []
@@ -28,12 +32,12 @@ of_both x y = (x.0, joined_options x.1 y.1)
 
 -- the keys of a join
 module _ (first_free second_free : Options) where
-  abbrev pub merged_with : List ℕ × Options → (List (List ℕ × Options) → List (List ℕ × Options)) → List (List ℕ × Options) → List (List ℕ × Options)
+  abbrev pub merged_with : List ℕ × Options → (Keys → Keys) → Keys → Keys
   merged_with x rest [] = of_first second_free x ∷ rest []
   merged_with x rest (y ∷ ys) =
       match_ordering (slice_cmp nat_cmp x.0 y.0) (of_first second_free x ∷ rest (y ∷ ys)) (of_both x y ∷ rest ys)
       (of_second first_free y ∷ merged_with x rest ys)
 
-  abbrev pub merged : List (List ℕ × Options) → List (List ℕ × Options) → List (List ℕ × Options)
+  abbrev pub merged : Keys → Keys → Keys
   merged [] ys = map (of_second first_free) ys
   merged (x ∷ xs) ys = merged_with x (merged xs) ys

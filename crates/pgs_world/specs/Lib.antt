@@ -5,6 +5,7 @@ pub mod Held
 pub mod History
 pub mod Left
 pub mod MemArea
+pub mod MemFeed
 pub mod MemSource
 pub mod MemWorld
 pub mod Moment

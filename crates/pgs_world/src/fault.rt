@@ -14,3 +14,8 @@ pub struct AreaFault;
 #[derive(Clone, Copy, Debug, PartialEq, Eq, Error)]
 #[error("the output failed")]
 pub struct PutFault;
+
+/// A put of a feed failed. It comes only where the feed's count of faults rose.
+#[derive(Clone, Copy, Debug, PartialEq, Eq, Error)]
+#[error("the feed failed")]
+pub struct FeedFault;

@@ -19,5 +19,6 @@ AreTwo _ = ⊥
 -- three node types of places 1 to 3, each of which names only types before itself
 abbrev pub AreThree : List (NodeType Leaf) → Type 0
 AreThree (a ∷ b ∷ c ∷ []) =
-    (a.place ≡ 1) × (b.place ≡ 2) × (c.place ≡ 3) × (is_valid_spec 0 a.spec ≡ true) × (is_valid_spec 1 b.spec ≡ true) × (is_valid_spec 2 c.spec ≡ true)
+    (a.place ≡ 1) × (b.place ≡ 2) × (c.place ≡ 3)
+    × (is_valid_spec 0 a.spec ≡ true) × (is_valid_spec 1 b.spec ≡ true) × (is_valid_spec 2 c.spec ≡ true)
 AreThree _ = ⊥

@@ -1,0 +1,22 @@
+use pgs_base::Elem;
+
+/// A command of the program, with what its words say beside names of files.
+#[derive(Clone, Copy, Debug, PartialEq, Eq)]
+pub enum Command {
+    /// `try`: a schema and lines of transactions, decided one after another; nothing is stored.
+    Try,
+    /// `validate`: a schema and lines of transactions, judged as a whole; nothing is stored.
+    Validate,
+    /// `load NAME`: a new store of a schema.
+    Load,
+    /// `apply NAME FEED*`: lines of transactions, decided on a store.
+    Apply,
+    /// `recover NAME`: a store as text.
+    Recover,
+    /// `explain NAME ELEM`: the types and the key values of an element of a store.
+    Explain { elem: Elem },
+    /// `gen START COUNT`: so many transactions made from a number.
+    Gen { start: u64, count: u64 },
+    /// `checkpoint NAME`: a store written whole into its other area.
+    Checkpoint,
+}
