@@ -22,7 +22,10 @@ impl Dice {
 
     /// A number below the count, which isn't 0, or 0.
     pub fn roll(&mut self, count: u32) -> u32 {
-        self.state = self.state.wrapping_mul(1_664_525).wrapping_add(1_013_904_223);
+        self.state = self
+            .state
+            .wrapping_mul(1_664_525)
+            .wrapping_add(1_013_904_223);
         let high = self.state >> 16;
         if count == 0 { 0 } else { high % count }
     }

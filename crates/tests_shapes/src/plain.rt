@@ -2,12 +2,11 @@
 //! number, and the keys `l` and `m` with nothing or a text. It makes for a specification the table of the pairs that fit it; a join
 //! is every pair that two pairs make together.
 
+use crate::sample::name;
 use pgs_base::{Kind, Labels, Name, Props, Text, Value};
 use pgs_syntax::{Braces, Leaf, Property, Spec};
 use std::alloc::{AllocError, Global};
 use std::test::Fail;
-
-use crate::sample::name;
 
 /// How many small pairs there are.
 pub const PAIRS: usize = 96;
@@ -30,7 +29,9 @@ impl Small {
 
     fn number(self) -> usize {
         let [k, l, m] = self.keys;
-        let keys = k.saturating_add(l.saturating_mul(3)).saturating_add(m.saturating_mul(6));
+        let keys = k
+            .saturating_add(l.saturating_mul(3))
+            .saturating_add(m.saturating_mul(6));
         self.labels.saturating_add(keys.saturating_mul(8))
     }
 

@@ -265,7 +265,10 @@ fn an_abstract_type_types_no_node(rt: HostRuntime) -> Result<(), Fail> {
 
 #[test]
 fn open_beside_a_label_frees_the_labels(rt: HostRuntime) -> Result<(), Fail> {
-    assert_eq!(rt; wrong_of(rt.alloc(), Schema::OpenLabels, LABELS_OPEN)?, None);
+    assert_eq!(rt;
+        wrong_of(rt.alloc(), Schema::OpenLabels, LABELS_OPEN)?,
+        None
+    );
     Ok(())
 }
 

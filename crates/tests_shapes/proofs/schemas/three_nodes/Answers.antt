@@ -1,4 +1,4 @@
-use Rattle.std.proofs.Common.{◌≡◌, true, ◌∙◌, ap}
+use Rattle.std.proofs.Common.{◌∙◌, ap}
 use Rattle.pgs_syntax.specs.Valid.{is_valid_spec}
 use Rattle.tests_shapes.proofs.Nodes.{three_from_two}
 use Rattle.tests_shapes.proofs.schemas.three_nodes.Goals as goal
