@@ -1,0 +1,4 @@
+pub mod Adjacency
+pub mod Commits
+pub mod Relists
+pub mod Standing
