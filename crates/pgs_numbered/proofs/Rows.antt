@@ -1,5 +1,5 @@
 -- How the slots of a table and its rows by number relate.
-use Rattle.std.proofs.Common.{◌≡◌, ℕ, ◌+◌, ◌≤◌, get_or, drop, Bool, true, false, cond, ◌||◌, List, [], ◌∷◌, ◌++◌, length, Option, Some, None, IsSome, is_some, refl, sym, ap, subst, ◌∙◌, true≢false, arith, Ordering, Less, Equal, is_eq}
+use Rattle.std.proofs.Common.{◌≡◌, ◌+◌, ◌≤◌, get_or, drop, Bool, true, false, cond, ◌||◌, List, [], ◌∷◌, ◌++◌, length, Option, Some, None, IsSome, is_some, refl, sym, ap, subst, ◌∙◌, true≢false, arith, Ordering, is_eq}
 use Rattle.std.specs.Ordering.{eq_by_cmp}
 use Rattle.std.specs.Option.{option_flatten}
 use Rattle.std.specs.Cmp.{IsTotalOrder, IsEquivalence, eq_by_cmp_equiv, tied_itself}
@@ -178,11 +178,11 @@ module _ {K V : Type 0} {cmp : K → K → Ordering} (total : IsTotalOrder cmp) 
   length-by_key [] distinct = refl
   length-by_key (e ∷ es) distinct =
       let absent : lookup (is_at (cmp e.0)) (by_key cmp es) ≡ None =
-          lookup-by_key e.0 es ∙ absent_apart {W = V} (eq_by_cmp_equiv total) e.0 e.0 es ((eq_by_cmp_equiv total).refl e.0) (IsDistinct-head (eq_by_cmp cmp) e.0 (keys_of es) distinct) in
+      lookup-by_key e.0 es ∙ absent_apart {W = V} (eq_by_cmp_equiv total) e.0 e.0 es ((eq_by_cmp_equiv total).refl e.0) (IsDistinct-head (eq_by_cmp cmp) e.0 (keys_of es) distinct) in
       let rest = length-by_key es (IsDistinct-tail (eq_by_cmp cmp) e.0 (keys_of es) distinct) in
       let one = length-insert_entry total e.0 (by_key cmp es) (ascending-by_key es) e.1 in
       let more : length (insert_entry cmp (by_key cmp es) e.0 e.1) ≡ length (by_key cmp es) + 1 =
-          one ∙ ap (λ o. cond (is_some o) (length (by_key cmp es)) (length (by_key cmp es) + 1)) absent in
+      one ∙ ap (λ o. cond (is_some o) (length (by_key cmp es)) (length (by_key cmp es) + 1)) absent in
       omega arith
 
   pub lookup-changed : (q k : K) (w : Option V) (es : List (K × V)) → IsStrictlySortedBy cmp (keys_of es) →

@@ -76,6 +76,7 @@ impl<K: Number, V: Drop> Numbered<K, V> {
         ensures rows { self.new.rows ≡ remove_entry (is_at (K.cmp id)) self.old.rows }
         ensures numbers { self.new.numbers ≡ self.old.numbers }
         ensures there { OnSome result (has_slot K.cmp self.new id ≡ true) }
+        ensures ascending { IsStrictlySortedBy K.cmp (keys_of self.old.rows) }
     {
         let old = replace(&mut self.slots, id, None);
         self.live -= count_row(&old);

@@ -1,5 +1,5 @@
 -- What becomes of a row of the tables while a delta is put in.
-use Rattle.std.specs.Prelude.{cond, Option, Some, None, unwrap_or}
+use Rattle.std.specs.Prelude.{cond, List, fold, Option, Some, None}
 use Rattle.std.specs.Option.{option_map}
 use Rattle.std.specs.BTreeMap.{is_at}
 use Rattle.pgs_base.specs.declared.element.NodeId.{NodeId}
@@ -29,3 +29,10 @@ relinked edges old = option_map (λ (table : NodeTable). record table { edges = 
 -- what stands at a node `q` after the edges of a node are put in
 abbrev pub edges_put : NodeId → Option NodeTable → NodeId × NodeEdges → Option NodeTable
 edges_put q old list = cond (is_at (node_cmp list.0) q) (relinked list.1 old) old
+
+-- what stands at a node after changes, and after lists
+abbrev pub rows_put : NodeId → Option NodeTable → List (NodeId × Option NodeRow) → Option NodeTable
+rows_put q old changes = fold (row_put q) old changes
+
+abbrev pub lists_put : NodeId → Option NodeTable → List (NodeId × NodeEdges) → Option NodeTable
+lists_put q old lists = fold (edges_put q) old lists

@@ -60,3 +60,7 @@ abbrev pub kept_at : Graph → NodeId → Option (Option NodeRow) → Option Nod
 kept_at g q None made = made
 kept_at g q (Some None) made = made
 kept_at g q (Some (Some row)) made = Some (unwrap_or made (node_edges g q))
+
+-- the same at a node `id` that is put in
+abbrev pub kept_here : Graph → NodeId → NodeId → Option NodeEdges → Option NodeEdges
+kept_here g q id made = cond (is_at (node_cmp id) q) (Some (unwrap_or made (node_edges g q))) made

@@ -51,12 +51,7 @@ impl NodeEdges {
     }
 }
 
-fn edited_list(
-    alloc: Global,
-    list: &EdgeList,
-    adds: bool,
-    edge: EdgeId,
-) -> Result<EdgeList, Memory>
+fn edited_list(alloc: Global, list: &EdgeList, adds: bool, edge: EdgeId) -> Result<EdgeList, Memory>
     ensures { IfOk result (λ edited. edited ≡ list_edited adds edge list.now) }
 {
     if adds {

@@ -1,4 +1,4 @@
-use Rattle.std.proofs.Common.{◌≡◌, ◌∙◌, Bool, Option, is_some, length, sym, ap, rules}
+use Rattle.std.proofs.Common.{◌∙◌, Option, is_some, length, sym, ap, rules}
 use Rattle.std.proofs.lemmas.Map.Made.{filter_same_pairs}
 use Rattle.pgs_numbered.specs.Slots.{by_key, present}
 use Rattle.pgs_numbered.proofs.Rows.{present-filter}

@@ -1,4 +1,4 @@
-use Rattle.std.proofs.Common.{◌≡◌, ℕ, ◌+◌, ◌<◌, ◌≤◌, ◌∙◌, suc, List, [], ◌∷◌, ◌++◌, Option, Some, None, is_some, drop, drop-cons, add-one, get_or, length, sym, ap, subst, refl, append_assoc, append-nil, true≢false, unwrap_or}
+use Rattle.std.proofs.Common.{◌≡◌, ℕ, ◌+◌, ◌<◌, ◌∙◌, suc, List, [], ◌∷◌, ◌++◌, is_some, drop, drop-cons, add-one, get_or, length, sym, ap, subst, refl, append_assoc, append-nil, true≢false, unwrap_or}
 use Rattle.std.proofs.lemmas.List.{drop_all}
 use Rattle.std.specs.Map.{keys_of}
 use Rattle.std.specs.List.Sorted.{IsStrictlySortedBy}

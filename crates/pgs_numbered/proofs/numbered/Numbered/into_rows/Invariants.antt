@@ -1,6 +1,5 @@
 use Rattle.std.proofs.Common.{◌≡◌, ◌++◌, drop}
 use Rattle.std.specs.Map.{keys_of}
-use Rattle.std.specs.List.Sorted.{IsStrictlySortedBy}
 use Rattle.pgs_numbered.proofs.numbered.Numbered.into_rows.Given as goal
 
 abbrev pub invariant-loop-id : goal.invariant-loop-id

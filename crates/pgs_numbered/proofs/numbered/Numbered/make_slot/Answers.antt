@@ -1,10 +1,9 @@
-use Rattle.std.proofs.Common.{◌≡◌, ◌∙◌, true, false, ◌||◌, length, Bool, List, cond, ◌++◌, ◌∷◌, [], Option, Some, None, true≢false, is_some, is_eq, sym, ap, subst, refl}
+use Rattle.std.proofs.Common.{◌≡◌, ◌∙◌, true, false, ◌||◌, length, Bool, List, ◌++◌, ◌∷◌, [], Option, Some, None, true≢false, is_some, is_eq, sym, ap, refl}
 use Rattle.std.specs.List.{list_any}
-use Rattle.std.specs.Map.{keys_of, lookup}
+use Rattle.std.specs.Map.{keys_of}
 use Rattle.std.specs.BTreeMap.{is_at}
 use Rattle.std.specs.Cmp.{tied_itself}
 use Rattle.std.proofs.Math.Bool.{or-true}
-use Rattle.std.proofs.lemmas.Map.Made.{is_some-lookup}
 use Rattle.indexmap.proofs.CallerLemmas.{insert_entry-new}
 use Rattle.pgs_numbered.specs.Slots.{by_key, present}
 use Rattle.pgs_numbered.proofs.Rows.{slot-found, present-push, keys-push, any-push}

@@ -1,11 +1,11 @@
-use Rattle.std.proofs.Common.{◌≡◌, ◌≤◌, ◌+◌, ◌∙◌, ℕ, Option, Some, None, IsSome, is_some, length, sym, ap, subst, arith, refl}
-use Rattle.std.specs.Map.{keys_of, lookup, set_value}
+use Rattle.std.proofs.Common.{◌≡◌, ◌∙◌, Some, IsSome, length, sym, ap, subst, arith}
+use Rattle.std.specs.Map.{keys_of, lookup}
 use Rattle.std.proofs.lemmas.Map.{keys-set_value}
 use Rattle.std.specs.BTreeMap.{is_at}
 use Rattle.std.specs.List.{list_any, IsDistinct}
 use Rattle.std.specs.Option.{option_flatten}
-use Rattle.pgs_numbered.specs.Slots.{by_key, present, row_count}
-use Rattle.pgs_numbered.proofs.Rows.{slot-found, row-found, rows-taken, rows-put, count-taken, count-put, count-present}
+use Rattle.pgs_numbered.specs.Slots.{present, row_count}
+use Rattle.pgs_numbered.proofs.Rows.{slot-found, rows-put, count-taken, count-put, count-present}
 use Rattle.pgs_numbered.proofs.numbered.Numbered.put.Goals as goal
 
 pub overflow_sub-self : goal.overflow_sub-self
@@ -25,7 +25,7 @@ invariant_of-self g c =
     let test = g.K.PartialEq.eq c.args.id in
     let slots = c.self.inside.slots.entries in
     let there : IsSome (lookup test slots) =
-        sym (slot-found g.met.K.Ord.total g.met.K.Ord.matches_eq c.args.id slots) ∙ ap (λ s. list_any (is_at (g.K.Ord.cmp c.args.id)) s.numbers) c.self.view_is ∙ c.requires in
+    sym (slot-found g.met.K.Ord.total g.met.K.Ord.matches_eq c.args.id slots) ∙ ap (λ s. list_any (is_at (g.K.Ord.cmp c.args.id)) s.numbers) c.self.view_is ∙ c.requires in
     let counted = count-put test slots c.args.row there in
     let before = count-taken test slots in
     let one : c.count_row.result ≡ row_count (option_flatten (lookup test slots)) = c.count_row.ensures ∙ ap row_count c.replace-old.ensures.old in
@@ -39,7 +39,7 @@ pub returns-clause-rows : goal.returns-clause-rows
 returns-clause-rows g c =
     let slots = c.self.inside.slots.entries in
     let there : IsSome (lookup (g.K.PartialEq.eq c.args.id) slots) =
-        sym (slot-found g.met.K.Ord.total g.met.K.Ord.matches_eq c.args.id slots) ∙ ap (λ s. list_any (is_at (g.K.Ord.cmp c.args.id)) s.numbers) c.self.view_is ∙ c.requires in
+    sym (slot-found g.met.K.Ord.total g.met.K.Ord.matches_eq c.args.id slots) ∙ ap (λ s. list_any (is_at (g.K.Ord.cmp c.args.id)) s.numbers) c.self.view_is ∙ c.requires in
     rw (c.replace-old.ensures.entries, ← c.self.view_is) (rows-put g.met.K.Ord.total g.met.K.Ord.matches_eq g.met.K.Number.exact c.args.id c.args.row slots c.self.invariant.distinct there)
 
 pub returns-clause-numbers : goal.returns-clause-numbers

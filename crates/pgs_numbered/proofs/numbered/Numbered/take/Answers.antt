@@ -1,11 +1,12 @@
-use Rattle.std.proofs.Common.{◌≡◌, ◌≤◌, ◌+◌, ◌∙◌, ℕ, Option, Some, None, IsSome, OnSome, true, is_some, length, sym, ap, subst, arith, refl}
-use Rattle.std.specs.Map.{keys_of, lookup, set_value}
+use Rattle.std.proofs.Common.{◌≡◌, ◌∙◌, Option, Some, None, OnSome, true, is_some, length, sym, ap, subst, arith, refl}
+use Rattle.std.specs.Map.{keys_of, lookup}
 use Rattle.std.proofs.lemmas.Map.{keys-set_value}
 use Rattle.std.specs.BTreeMap.{is_at}
 use Rattle.std.specs.List.{list_any, IsDistinct}
 use Rattle.std.specs.Option.{option_flatten}
-use Rattle.pgs_numbered.specs.Slots.{by_key, present, row_count}
-use Rattle.pgs_numbered.proofs.Rows.{slot-found, row-found, rows-taken, rows-put, count-taken, count-set_value, count-present}
+use Rattle.std.specs.List.Sorted.{IsStrictlySortedBy}
+use Rattle.pgs_numbered.specs.Slots.{present, row_count}
+use Rattle.pgs_numbered.proofs.Rows.{slot-found, row-found, rows-taken, count-taken, ascending-rows}
 use Rattle.pgs_numbered.proofs.numbered.Numbered.take.Goals as goal
 
 pub overflow_sub-self : goal.overflow_sub-self
@@ -49,7 +50,11 @@ returns-clause-there g c =
     let test = g.K.PartialEq.eq c.args.id in
     let slots = c.self.inside.slots.entries in
     let has : list_any (is_at (g.K.Ord.cmp c.args.id)) (keys_of c.replace-old.new.slots.entries) ≡ is_some (lookup test slots) =
-        ap (λ l. list_any (is_at (g.K.Ord.cmp c.args.id)) (keys_of l)) c.replace-old.ensures.entries
-        ∙ ap (list_any (is_at (g.K.Ord.cmp c.args.id))) (keys-set_value test slots None)
-        ∙ slot-found g.met.K.Ord.total g.met.K.Ord.matches_eq c.args.id slots in
+    ap (λ l. list_any (is_at (g.K.Ord.cmp c.args.id)) (keys_of l)) c.replace-old.ensures.entries
+    ∙ ap (list_any (is_at (g.K.Ord.cmp c.args.id))) (keys-set_value test slots None)
+    ∙ slot-found g.met.K.Ord.total g.met.K.Ord.matches_eq c.args.id slots in
     rw (c.replace-old.ensures.old, has) (slot_there (lookup test slots))
+
+pub returns-clause-ascending : goal.returns-clause-ascending
+returns-clause-ascending g c =
+    subst (λ s. IsStrictlySortedBy g.K.Ord.cmp (keys_of s.rows)) c.self.view_is (ascending-rows g.met.K.Ord.total g.met.K.Ord.matches_eq c.self.inside.slots.entries)
