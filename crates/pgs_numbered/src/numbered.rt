@@ -64,10 +64,8 @@ impl<K: Number, V: Drop> Numbered<K, V> {
         if self.slots.contains_key(&id) {
             return Ok(());
         }
-        match self.slots.insert(id, None) {
-            Ok(_) => Ok(()),
-            Err(_) => Err(Memory),
-        }
+        self.slots.insert(id, None)?;
+        Ok(())
     }
 
     /// Takes out the row of a number, where there is one. Its slot stays.
@@ -120,15 +118,24 @@ impl<K: Number, V: Drop> Numbered<K, V> {
     {
         let _rows = self.len();
         let ids = self.ids(alloc)?;
-        let mut left = self;
+        let mut table = self;
+        let rows = table.take_all(alloc, ids.as_slice())?;
+        Ok(List::from_vec(rows))
+    }
+
+    // Takes out the rows of the numbers that have one.
+    fn take_all(&mut self, alloc: Global, ids: &[K]) -> Result<Vec<(K, V)>, Memory>
+        requires { keys_of self.old.rows ≡ ids.now }
+        ensures { IfOk result (λ rows. rows.items ≡ self.old.rows) }
+    {
         let mut rows = Vec::with_capacity(alloc, ids.len())?;
-        for id in ids.as_slice() {
-            match left.take(*id) {
+        for id in ids {
+            match self.take(*id) {
                 Some(row) => rows.push((*id, row))?,
                 None => {}
             }
         }
-        Ok(List::from_vec(rows))
+        Ok(rows)
     }
 
     /// Takes out the slots without a row, where they are more than half of all.

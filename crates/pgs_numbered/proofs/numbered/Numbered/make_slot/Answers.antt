@@ -32,30 +32,30 @@ none_there : {V : Type 0} (o : Option V) → is_some o ≡ false → o ≡ None
 none_there None empty = refl
 none_there (Some v) empty = absurd (true≢false empty)
 
-pub invariant_of-self : goal.invariant_of-self
-invariant_of-self g c =
+pub invariant_of-self-2 : goal.invariant_of-self-2
+invariant_of-self-2 g c =
     let absent = none_there _ (sym c.contains_key.ensures ∙ c.if-contains_key.false) in
-    let pushed = c.in-Ok.ensures.entries ∙ insert_entry-new g.K.PartialEq.eq c.self.inside.slots c.args.id None absent in
+    let pushed = c.in_ok-insert.ensures.entries ∙ insert_entry-new g.K.PartialEq.eq c.self.inside.slots c.args.id None absent in
     record {
-      distinct = c.in-Ok.ensures.unique;
+      distinct = c.in_ok-insert.ensures.unique;
       counted = c.self.invariant.counted ∙ sym (ap length (same_rows (g.K.PartialEq.eq c.args.id) c.args.id c.self.inside.slots.entries c.insert.new.self.entries pushed));
     }
 
-pub returns-in-Ok-clause-rows : goal.returns-in-Ok-clause-rows
-returns-in-Ok-clause-rows g c =
+pub returns-clause-rows : goal.returns-clause-rows
+returns-clause-rows g c =
     let absent = none_there _ (sym c.contains_key.ensures ∙ c.if-contains_key.false) in
-    let pushed = c.in-Ok.ensures.entries ∙ insert_entry-new g.K.PartialEq.eq c.self.inside.slots c.args.id None absent in
+    let pushed = c.in_ok-insert.ensures.entries ∙ insert_entry-new g.K.PartialEq.eq c.self.inside.slots c.args.id None absent in
     ap (by_key g.K.Ord.cmp) (same_rows (g.K.PartialEq.eq c.args.id) c.args.id c.self.inside.slots.entries c.insert.new.self.entries pushed) ∙ ap (λ s. s.rows) c.self.view_is
 
-pub returns-in-Ok-clause-there : goal.returns-in-Ok-clause-there
-returns-in-Ok-clause-there g c =
+pub returns-clause-there : goal.returns-clause-there
+returns-clause-there g c =
     let absent = none_there _ (sym c.contains_key.ensures ∙ c.if-contains_key.false) in
-    let pushed = c.in-Ok.ensures.entries ∙ insert_entry-new g.K.PartialEq.eq c.self.inside.slots c.args.id None absent in
+    let pushed = c.in_ok-insert.ensures.entries ∙ insert_entry-new g.K.PartialEq.eq c.self.inside.slots c.args.id None absent in
     now_there (is_at (g.K.Ord.cmp c.args.id)) c.args.id c.self.inside.slots.entries c.insert.new.self.entries pushed (ap is_eq (tied_itself g.met.K.Ord.total c.args.id))
 
-pub returns-in-Ok-clause-kept : goal.returns-in-Ok-clause-kept
-returns-in-Ok-clause-kept g c other there =
+pub returns-clause-kept : goal.returns-clause-kept
+returns-clause-kept g c other there =
     let absent = none_there _ (sym c.contains_key.ensures ∙ c.if-contains_key.false) in
-    let pushed = c.in-Ok.ensures.entries ∙ insert_entry-new g.K.PartialEq.eq c.self.inside.slots c.args.id None absent in
+    let pushed = c.in_ok-insert.ensures.entries ∙ insert_entry-new g.K.PartialEq.eq c.self.inside.slots c.args.id None absent in
     still_there (is_at (g.K.Ord.cmp other)) c.args.id c.self.inside.slots.entries c.insert.new.self.entries pushed
     (ap (λ s. list_any (is_at (g.K.Ord.cmp other)) s.numbers) c.self.view_is ∙ there)
