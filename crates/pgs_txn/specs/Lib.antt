@@ -1,0 +1,5 @@
+pub mod Answers
+pub mod Edits
+pub mod Looks
+pub mod Rows
+pub mod Working
