@@ -1,5 +1,5 @@
 -- The ends of the edges that were put in stay exactly those, and the least of them at a node.
-use Rattle.std.proofs.Common.{◌≡◌, ℕ, ◌<◌, ◌≤◌, Bool, true, false, cond, ◌&&◌, ◌||◌, ◌==◌, List, [], ◌∷◌, slice_get, Option, Some, None, IfSome, IsTrue, refl, sym, ◌∙◌, ap, subst, true≢false, arith, Ordering, Less, Equal, Greater, is_eq, is_gt, ◌⊎◌, ⊎_elim}
+use Rattle.std.proofs.Common.{◌≡◌, ℕ, ◌+◌, ◌<◌, ◌≤◌, Bool, true, false, cond, ◌&&◌, ◌||◌, ◌==◌, List, [], ◌∷◌, slice_get, length, Option, Some, None, IfSome, IsTrue, refl, sym, ◌∙◌, ap, subst, true≢false, arith, Ordering, Less, Equal, Greater, is_eq, is_gt, ◌⊎◌, ⊎_elim}
 use Rattle.std.specs.Cmp.{IsTotalOrder, ranks, tied_then, nat_cmp_total, on_total, then_total, tied_itself, Equal-is}
 use Rattle.std.specs.Ordering.{nat_cmp, ordering_then, MatchOrdering}
 use Rattle.std.specs.List.{list_any}
@@ -9,13 +9,13 @@ use Rattle.std.specs.Set.{remove_key}
 use Rattle.std.specs.BTreeMap.{is_at, insert_entry}
 use Rattle.std.specs.BTreeSet.{insert_key, IsKeyInRange, IsKeyRangeOf}
 use Rattle.std.specs.declared.ops.Bound.TheVariants.{Included, Unbounded}
-use Rattle.std.proofs.lemmas.Bool.{and_parts, eqb-true, eqb-false, eq-eqb, ne_eqb, false_from_ne_true}
+use Rattle.std.proofs.lemmas.Bool.{and_parts, eqb-true, eqb-false, eq-eqb, ne_eqb, or_left, false_from_ne_true}
 use Rattle.pgs_base.specs.declared.element.NodeId.{NodeId}
 use Rattle.pgs_base.specs.declared.element.EdgeId.{EdgeId}
 use Rattle.pgs_base.specs.declared.row.EdgeRow.{EdgeRow}
 use Rattle.pgs_base.specs.Graph.{node_cmp, edge_cmp, is_end}
 use Rattle.pgs_base.proofs.Ascending.{ascending-insert_key, ascending-remove_key, ascending-insert_entry}
-use Rattle.pgs_base.proofs.Lookups.{lookup-insert_entry, any-insert_key, any-remove_key}
+use Rattle.pgs_base.proofs.Lookups.{lookup-insert_entry, any-insert_key, any-remove_key, length-remove_key}
 use Rattle.pgs_graph.proofs.Deltas.{edge_cmp_total}
 use Rattle.pgs_txn.specs.declared.changed_rows.EdgeEnd.{EdgeEnd}
 use Rattle.pgs_txn.specs.declared.changed_rows.ChangedRows.{ChangedRows}
@@ -233,3 +233,27 @@ module _ (rows : ChangedRows) (indexed : IsIndexed rows) (id : NodeId) where
 
       pub first_past_range : (found.node.0 ≡ id.0 → ⊥) → IsLeast is_put_at None
       first_past_range other = none_before found in_range.1 least_of in_range.0.0 other
+
+-- ---- how many ends there are
+
+pub ends_fewer : (rows : ChangedRows) → IsIndexed rows → (id : EdgeId) (change : Option (Option EdgeRow)) → change ≡ edge_change rows id → was_put change ≡ true →
+    length (ends_left id change rows.ends.keys) < length rows.ends.keys
+ends_fewer rows indexed id None is put = absurd (true≢false (sym put))
+ends_fewer rows indexed id (Some None) is put = absurd (true≢false (sym put))
+ends_fewer rows indexed id (Some (Some row)) is put =
+    let source = source_end id row in
+    let target = target_end id row in
+    let there : list_any (is_at (end_cmp source)) rows.ends.keys ≡ true =
+        indexed.ends source ∙ ap (was_put_at row.source) (sym is) ∙ or_left (row.source.0 == row.source.0) (row.target.0 == row.source.0) (eq-eqb row.source.0 row.source.0 refl) in
+    let first = length-remove_key end_cmp_total source rows.ends.keys indexed.ends_ascend in
+    let second = length-remove_key end_cmp_total target (remove_key (is_at (end_cmp source)) rows.ends.keys)
+        (ascending-remove_key end_cmp_total (is_at (end_cmp source)) rows.ends.keys indexed.ends_ascend) in
+    let one = subst (λ b. length (remove_key (is_at (end_cmp source)) rows.ends.keys) + cond b 1 0 ≡ length rows.ends.keys) there first in
+    by (list_any (is_at (end_cmp target)) (remove_key (is_at (end_cmp source)) rows.ends.keys)) second one
+  where
+    by : (b : Bool) → length (remove_key (is_at (end_cmp (target_end id row))) (remove_key (is_at (end_cmp (source_end id row))) rows.ends.keys)) + cond b 1 0
+        ≡ length (remove_key (is_at (end_cmp (source_end id row))) rows.ends.keys) →
+        length (remove_key (is_at (end_cmp (source_end id row))) rows.ends.keys) + 1 ≡ length rows.ends.keys →
+        length (remove_key (is_at (end_cmp (target_end id row))) (remove_key (is_at (end_cmp (source_end id row))) rows.ends.keys)) < length rows.ends.keys
+    by true second one = omega arith
+    by false second one = omega arith

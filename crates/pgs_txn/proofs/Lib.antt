@@ -1,2 +1,5 @@
+pub mod Edges
 pub mod Ends
+pub mod Looking
+pub mod Removed
 pub mod Standing

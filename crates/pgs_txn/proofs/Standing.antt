@@ -111,7 +111,7 @@ module _ (g : Graph) (w : Working) (stands : StandsOn g w) where
   pub edge_unchanged : (id : EdgeId) → edge_change w.rows id ≡ None → edge_at (graph_now g w) id ≡ edge_at g id
   edge_unchanged id is = edge_now id ∙ ap (λ o. after_changes o (edge_at g id)) is
 
-  nodes_now_ascend : IsStrictlySortedBy node_cmp (keys_of (graph_now g w).nodes)
+  pub nodes_now_ascend : IsStrictlySortedBy node_cmp (keys_of (graph_now g w).nodes)
   nodes_now_ascend = ascending-entries_changed node_cmp_total g.nodes w.rows.nodes.entries (ascending_nodes g stands.base)
 
   pub edges_now_ascend : IsStrictlySortedBy edge_cmp (keys_of (graph_now g w).edges)

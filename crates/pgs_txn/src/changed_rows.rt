@@ -1,6 +1,6 @@
 //! The rows that a transaction has changed so far, by element, and at which nodes the edges among them stand.
 
-ghost use Rattle.std.specs.Prelude.{◌≡◌, [], IfOk, OnOk, Some, None, false};
+ghost use Rattle.std.specs.Prelude.{◌≡◌, ◌<◌, [], IfOk, OnOk, Some, None, false, true, length};
 ghost use Rattle.std.specs.BTreeMap.{is_at, insert_entry};
 ghost use Rattle.std.specs.List.Sorted.{IsStrictlySortedBy};
 ghost use Rattle.std.specs.Map.{lookup};
@@ -105,6 +105,7 @@ impl ChangedRows {
         ensures edges { OnOk result (self.new.edges.entries ≡ insert_entry edge_cmp self.old.edges.entries id None) }
         ensures nodes { self.new.nodes ≡ self.old.nodes }
         ensures indexed { OnOk result (IsIndexed self.new) }
+        ensures fewer { OnOk result (was_put (edge_change self.old id) ≡ true → length self.new.ends.keys < length self.old.ends.keys) }
     {
         let earlier = self.edges.insert(id, None)?;
         remove_ends(&mut self.ends, id, &earlier);

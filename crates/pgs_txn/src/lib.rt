@@ -9,4 +9,5 @@ mod changed_rows;
 mod edges_at_node;
 mod edit;
 mod faults;
+mod removing;
 mod working;
