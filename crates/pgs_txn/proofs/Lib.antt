@@ -1,3 +1,4 @@
+pub mod Added
 pub mod Edges
 pub mod Ends
 pub mod Looking

@@ -1,5 +1,6 @@
 pub mod Answers
 pub mod Edits
+pub mod Listing
 pub mod Looks
 pub mod Removing
 pub mod Rows

@@ -5,6 +5,7 @@
 //! (`pgs_violation/specs/Staging.antt`); what a delta lists and what a stage may look up stand in `specs/`.
 #![tactic(auto)]
 
+mod adding;
 mod changed_rows;
 mod edges_at_node;
 mod edit;
