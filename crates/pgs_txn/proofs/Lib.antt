@@ -3,4 +3,5 @@ pub mod Edges
 pub mod Ends
 pub mod Looking
 pub mod Removed
+pub mod Staged
 pub mod Standing

@@ -9,6 +9,7 @@ use Rattle.pgs_graph.specs.declared.delta.Delta.{Delta}
 use Rattle.pgs_graph.specs.declared.operation.Op.{Op}
 use Rattle.pgs_graph.specs.declared.operation.Op.TheVariants.{AddNode, AddEdge, RemoveNode, DetachNode, RemoveEdge, SetNode, UnsetNode, LabelNode, UnlabelNode, SetEdge, UnsetEdge, LabelEdge, UnlabelEdge}
 use Rattle.pgs_graph.specs.Reads.{degree_of}
+use Rattle.pgs_txn.specs.Looks.{is_at_node}
 use Rattle.pgs_txn.specs.Rows.{has_end}
 
 -- whether a node is the element of an operation
@@ -93,6 +94,16 @@ has_degrees_upto g most ops = list_all (λ op. nat_le (element_degree g op) most
 
 -- tests pass what one operation may list
 abbrev pub MayList : Graph → Op → (NodeId → Bool) → (EdgeId → Bool) → Type 0
-MayList g op nodes edges =
-    ((id : NodeId) → names_node id op ≡ true → nodes id ≡ true)
-    × ((id : EdgeId) → (names_edge id op || detaches_edge g id op) ≡ true → edges id ≡ true)
+MayList g (AddNode id labels props) nodes edges = nodes id ≡ true
+MayList g (RemoveNode id) nodes edges = nodes id ≡ true
+MayList g (DetachNode id) nodes edges = (nodes id ≡ true) × ((edge : EdgeId) → is_at_node id g edge ≡ true → edges edge ≡ true)
+MayList g (SetNode id key value) nodes edges = nodes id ≡ true
+MayList g (UnsetNode id key) nodes edges = nodes id ≡ true
+MayList g (LabelNode id label) nodes edges = nodes id ≡ true
+MayList g (UnlabelNode id label) nodes edges = nodes id ≡ true
+MayList g (AddEdge id source target labels props) nodes edges = edges id ≡ true
+MayList g (RemoveEdge id) nodes edges = edges id ≡ true
+MayList g (SetEdge id key value) nodes edges = edges id ≡ true
+MayList g (UnsetEdge id key) nodes edges = edges id ≡ true
+MayList g (LabelEdge id label) nodes edges = edges id ≡ true
+MayList g (UnlabelEdge id label) nodes edges = edges id ≡ true

@@ -5,6 +5,7 @@ use pgs_base::{Copyable, Labels, Memory, Name, Props, Value};
 use std::alloc::Global;
 
 /// One change of what an element carries.
+#[derive(Clone, Copy)]
 pub(crate) enum Edit<'a> {
     Set { key: &'a Name, value: &'a Value },
     Unset { key: &'a Name },

@@ -1,3 +1,6 @@
+ghost use Rattle.std.specs.Prelude.{◌≡◌};
+ghost use Rattle.pgs_txn.specs.Answers.{fault_at};
+
 use pgs_base::Memory;
 use pgs_violation::{Cause, Structural};
 
@@ -29,5 +32,29 @@ impl From<Memory> for OpFault {
 
     fn from(_: Memory) -> OpFault {
         OpFault::Memory
+    }
+}
+
+impl From<Memory> for StageFault {
+    ghost use Rattle.std.specs.Prelude.{◌≡◌};
+    ghost use Rattle.pgs_txn.specs.declared.faults.StageFault.TheVariants as faults;
+
+    ghost from_gives = { λ _ e. e ≡ faults.Memory };
+
+    fn from(_: Memory) -> StageFault {
+        StageFault::Memory
+    }
+}
+
+impl OpFault {
+    /// The fault of the operation at a place, from 1, as that of its transaction.
+    pub fn at(self, place: u64) -> StageFault
+        ensures { result ≡ fault_at place self }
+    {
+        match self {
+            OpFault::Memory => StageFault::Memory,
+            OpFault::Unable(cause) => StageFault::Refused(Structural::BadOp { op: place, cause }),
+            OpFault::TooLarge => StageFault::Refused(Structural::ElementTooLarge { op: place }),
+        }
     }
 }

@@ -11,4 +11,8 @@ mod edges_at_node;
 mod edit;
 mod faults;
 mod removing;
+mod staging;
 mod working;
+
+pub use faults::StageFault;
+pub use staging::stage;

@@ -181,8 +181,9 @@ impl Working {
         requires { StandsOn (G.meaning graph.now) self.old }
         ensures step { Makes result (graph_now (G.meaning graph.now) self.new) (step (graph_now (G.meaning graph.now) self.old) (DetachNode id)) }
         ensures stands { OnOk result (StandsOn (G.meaning graph.now) self.new) }
-        ensures lists { OnOk result ((nodes : NodeId → Bool) (edges : EdgeId → Bool) → nodes id ≡ true →
-            ((edge : EdgeId) → is_at_node id (G.meaning graph.now) edge ≡ true → edges edge ≡ true) → Lists nodes edges self.old.rows → Lists nodes edges self.new.rows) }
+        ensures lists { OnOk result ((nodes : NodeId → Bool) (edges : EdgeId → Bool) →
+            (nodes id ≡ true) × ((edge : EdgeId) → is_at_node id (G.meaning graph.now) edge ≡ true → edges edge ≡ true) →
+            Lists nodes edges self.old.rows → Lists nodes edges self.new.rows) }
         ensures no_step_back { steps.old ≤ steps.new }
         ensures looks { steps.new ≤ steps.old + degree_of (G.meaning graph.now) id + 3 }
     {

@@ -38,7 +38,7 @@ returns-clause-stands g c =
     (ap is_some (same_node m id c.args.self.now bare both) ∙ sym c.has_node.ensures.value ∙ c.if-not-has_node.false)
 
 pub returns-clause-lists : goal.returns-clause-lists
-returns-clause-lists g c nodes edges own start all =
+returns-clause-lists g c nodes edges may all =
     let m = g.G.GraphRead.meaning c.args.graph.now in
     let id = c.args.id in
     let bare = c.drop_put_edges.new.self in
@@ -49,4 +49,4 @@ returns-clause-lists g c nodes edges own start all =
     let none = least_put_now m bare both.stands id covered None c.in_ok-drop_put_edges.ensures.none in
     let done = c.in_ok-drop_node.ensures in
     lone_lists m bare c.drop_node.new.self both.stands id done.nodes c.drop_node.ensures.edges done.cleared done.count done.indexed none
-    nodes edges own (both.lists nodes edges start all)
+    nodes edges may.0 (both.lists nodes edges may.1 all)
