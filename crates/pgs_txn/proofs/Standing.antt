@@ -1,17 +1,17 @@
 -- What an edit of changed rows does to the graph that they mean.
-use Rattle.std.proofs.Common.{◌≡◌, ℕ, ◌+◌, Bool, true, false, cond, List, [], ◌∷◌, length, Option, Some, None, is_some, Result, Ok, Err, refl, sym, ◌∙◌, ap, subst, arith, Ordering}
+use Rattle.std.proofs.Common.{◌≡◌, ◌+◌, Bool, true, false, cond, List, length, Option, Some, None, is_some, Result, Ok, Err, refl, sym, ◌∙◌, ap, subst, arith, Ordering}
 use Rattle.std.specs.Prelude.{if◌then◌else◌}
 use Rattle.std.specs.Cmp.{IsTotalOrder}
 use Rattle.std.specs.List.{list_any, list_all}
 use Rattle.std.specs.List.Sorted.{IsStrictlySortedBy}
-use Rattle.std.specs.Map.{keys_of, lookup, remove_entry}
+use Rattle.std.specs.Map.{keys_of, lookup}
 use Rattle.std.specs.BTreeMap.{is_at, insert_entry}
 use Rattle.std.proofs.lemmas.Map.Lookups.{CmpEqualImpliesEq}
 use Rattle.pgs_base.specs.declared.element.NodeId.{NodeId}
 use Rattle.pgs_base.specs.declared.element.EdgeId.{EdgeId}
 use Rattle.pgs_base.specs.declared.row.NodeRow.{NodeRow}
 use Rattle.pgs_base.specs.declared.row.EdgeRow.{EdgeRow}
-use Rattle.pgs_base.specs.Graph.{Graph, node_cmp, edge_cmp, node_at, edge_at, with_node, with_edge, without_node, without_edge, element_count}
+use Rattle.pgs_base.specs.Graph.{Graph, node_cmp, edge_cmp, node_at, edge_at, with_node, with_edge, element_count}
 use Rattle.pgs_base.proofs.Ascending.{ascending-insert_entry, keys-insert_entry}
 use Rattle.pgs_base.proofs.Lookups.{lookup-insert_entry, lookup-insert_entry_same, lookup-remove_key, same_entries, length-insert_entry, length-remove_entry}
 use Rattle.pgs_base.proofs.Pairs.{all_with_key}
@@ -19,15 +19,16 @@ use Rattle.pgs_graph.specs.Changed.{entry_changed, entries_changed, after_change
 use Rattle.pgs_graph.proofs.Deltas.{node_cmp_total, edge_cmp_total, exact_node, exact_edge, ascending-entry_changed, ascending-entries_changed, lookup-entries_changed, ascending_nodes, ascending_edges}
 use Rattle.pgs_violation.specs.declared.structural.Cause.{Cause}
 use Rattle.pgs_violation.specs.declared.structural.Cause.TheVariants.{NoNode, NoEdge}
-use Rattle.pgs_violation.specs.Staging.{◌>>=◌, StepFault, TooLarge, found_or, node_or_fault, edge_or_fault, is_small, put_node, put_edge}
+use Rattle.pgs_violation.specs.Staging.{◌>>=◌, StepFault, Unable, TooLarge, found_or, node_or_fault, edge_or_fault, is_small, put_node, put_edge}
 use Rattle.pgs_txn.specs.declared.changed_rows.ChangedRows.{ChangedRows}
 use Rattle.pgs_txn.specs.declared.working.Working.{Working}
 use Rattle.pgs_txn.specs.declared.edit.Edit.{Edit}
 use Rattle.pgs_txn.specs.declared.faults.OpFault.{OpFault}
-use Rattle.pgs_txn.specs.Answers.{Gives}
-use Rattle.pgs_txn.specs.Edits.{edited_node, edited_edge, with_edited_node, with_edited_edge}
-use Rattle.pgs_txn.specs.Rows.{edge_change, is_changed, has_end, IsIndexed}
-use Rattle.pgs_txn.specs.Working.{graph_now, IsCovered, StandsOn, Lists}
+use Rattle.pgs_txn.specs.declared.faults.OpFault.TheVariants as faults
+use Rattle.pgs_txn.specs.Answers.{Gives, IsFault}
+use Rattle.pgs_txn.specs.Edits.{edited_node, edited_edge, small_node, small_edge, with_edited_node, with_edited_edge}
+use Rattle.pgs_txn.specs.Rows.{edge_change, is_changed, IsIndexed}
+use Rattle.pgs_txn.specs.Working.{graph_now, StandsOn, Lists}
 
 -- ---- entries
 
@@ -134,10 +135,10 @@ module _ (g : Graph) (w : Working) (stands : StandsOn g w) where
         cleared = λ other marked edge at. ap (λ es. is_some (lookup (is_at (edge_cmp edge)) es.entries)) edges
             ∙ stands.cleared other (ap (λ s. list_any (is_at (node_cmp other)) s.keys) (sym cleared) ∙ marked) edge at;
         count =
-          let counted = length-entry_changed node_cmp_total exact_node id row (graph_now g w).nodes nodes_now_ascend in
-          let before = stands.count in
-          let after = ap element_count graph_after_node in
-          omega arith;
+            let counted = length-entry_changed node_cmp_total exact_node id row (graph_now g w).nodes nodes_now_ascend in
+            let before = stands.count in
+            let after = ap element_count graph_after_node in
+            omega arith;
       }
 
       pub lists_after_node : (test : NodeId → Bool) (other : EdgeId → Bool) → test id ≡ true → Lists test other w.rows → Lists test other next.rows
@@ -166,10 +167,10 @@ module _ (g : Graph) (w : Working) (stands : StandsOn g w) where
         cleared = λ other marked edge at.
             stays_changed edge (stands.cleared other (ap (λ s. list_any (is_at (node_cmp other)) s.keys) (sym cleared) ∙ marked) edge at);
         count =
-          let counted = length-entry_changed edge_cmp_total exact_edge id row (graph_now g w).edges edges_now_ascend in
-          let before = stands.count in
-          let after = ap element_count graph_after_edge in
-          omega arith;
+            let counted = length-entry_changed edge_cmp_total exact_edge id row (graph_now g w).edges edges_now_ascend in
+            let before = stands.count in
+            let after = ap element_count graph_after_edge in
+            omega arith;
       }
 
       pub lists_after_edge : (other : NodeId → Bool) (test : EdgeId → Bool) → test id ≡ true → Lists other test w.rows → Lists other test next.rows
@@ -190,18 +191,48 @@ given_node r g id o is gives = subst (λ o. Gives r (found_or (NoNode id) o)) (s
 pub given_edge : (r : Result EdgeRow OpFault) (g : Graph) (id : EdgeId) (o : Option EdgeRow) → edge_at g id ≡ o → Gives r (found_or (NoEdge id) o) → Gives r (edge_or_fault g id)
 given_edge r g id o is gives = subst (λ o. Gives r (found_or (NoEdge id) o)) (sym is) gives
 
-module _ (edit : Edit) (g : Graph) where
-  pub edited_node_is : (id : NodeId) (row new : NodeRow) → node_or_fault g id ≡ Ok row → new ≡ edited_node edit row → is_small new.labels new.props ≡ true →
-      with_edited_node edit g id ≡ Ok (with_node g id new)
-  edited_node_is id row new there is small =
-      ap (λ r. r >>= λ row. put_node g id (edited_node edit row)) there ∙ ap (put_node g id) (sym is)
-      ∙ ap (λ b. if b then Ok (with_node g id new) else Err TooLarge) small
+-- a row that isn't too large is put
+pub small_node_put : (g : Graph) (id : NodeId) (row new : NodeRow) → small_node row ≡ Ok new → put_node g id row ≡ Ok (with_node g id new)
+small_node_put g id row new small = by (is_small row.labels row.props) small
+  where
+    by : (b : Bool) → (if b then Ok row else Err TooLarge) ≡ Ok new → (if b then Ok (with_node g id row) else Err TooLarge) ≡ Ok (with_node g id new)
+    by true e = let same : row ≡ new = cc in ap (λ r. Ok (with_node g id r)) same
+    by false e = cc
 
-  pub edited_edge_is : (id : EdgeId) (row new : EdgeRow) → edge_or_fault g id ≡ Ok row → new ≡ edited_edge edit row → is_small new.labels new.props ≡ true →
-      with_edited_edge edit g id ≡ Ok (with_edge g id new)
-  edited_edge_is id row new there is small =
-      ap (λ r. r >>= λ row. put_edge g id (edited_edge edit row)) there ∙ ap (put_edge g id) (sym is)
-      ∙ ap (λ b. if b then Ok (with_edge g id new) else Err TooLarge) small
+pub small_edge_put : (g : Graph) (id : EdgeId) (row new : EdgeRow) → small_edge row ≡ Ok new → put_edge g id row ≡ Ok (with_edge g id new)
+small_edge_put g id row new small = by (is_small row.labels row.props) small
+  where
+    by : (b : Bool) → (if b then Ok row else Err TooLarge) ≡ Ok new → (if b then Ok (with_edge g id row) else Err TooLarge) ≡ Ok (with_edge g id new)
+    by true e = let same : row ≡ new = cc in ap (λ r. Ok (with_edge g id r)) same
+    by false e = cc
+
+pub large_edge_put : (g : Graph) (id : EdgeId) (row : EdgeRow) → small_edge row ≡ Err TooLarge → put_edge g id row ≡ Err TooLarge
+large_edge_put g id row large = by (is_small row.labels row.props) large
+  where
+    by : (b : Bool) → (if b then Ok row else Err TooLarge) ≡ Err TooLarge → (if b then Ok (with_edge g id row) else Err TooLarge) ≡ Err TooLarge
+    by true e = cc
+    by false e = refl
+
+-- a fault of a row is the fault of putting it
+pub fault_of_edge : (fault : OpFault) (g : Graph) (id : EdgeId) (row : EdgeRow) → IsFault fault (small_edge row) → IsFault fault (put_edge g id row)
+fault_of_edge faults.Memory g id row h = tt
+fault_of_edge (faults.Unable cause) g id row h = by (is_small row.labels row.props) h
+  where
+    by : (b : Bool) → (if b then Ok row else Err TooLarge) ≡ Err (Unable cause) → (if b then Ok (with_edge g id row) else Err TooLarge) ≡ Err (Unable cause)
+    by true e = cc
+    by false e = cc
+fault_of_edge faults.TooLarge g id row h = large_edge_put g id row h
+
+-- the fault of a result that is known
+pub fault_along : {A : Type 0} (fault : OpFault) (r s : Result A StepFault) → r ≡ s → IsFault fault s → IsFault fault r
+fault_along fault r s same h = subst (IsFault fault) (sym same) h
+
+module _ (edit : Edit) (g : Graph) where
+  pub edited_node_from : (id : NodeId) (row : NodeRow) → node_or_fault g id ≡ Ok row → with_edited_node edit g id ≡ put_node g id (edited_node edit row)
+  edited_node_from id row there = ap (λ r. r >>= λ row. put_node g id (edited_node edit row)) there
+
+  pub edited_edge_from : (id : EdgeId) (row : EdgeRow) → edge_or_fault g id ≡ Ok row → with_edited_edge edit g id ≡ put_edge g id (edited_edge edit row)
+  edited_edge_from id row there = ap (λ r. r >>= λ row. put_edge g id (edited_edge edit row)) there
 
 module _ (g : Graph) (w : Working) (stands : StandsOn g w) where
   pub node_put_back : (id : NodeId) (row : NodeRow) (mid : List (NodeId × Option NodeRow)) (after : List (NodeId × Option NodeRow)) →
