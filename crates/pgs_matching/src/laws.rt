@@ -1,0 +1,1 @@
+//! Laws on searches along plans. The functions do nothing; their contracts are the statements.
