@@ -66,10 +66,10 @@ module _ (resolved : Resolved) (g : Graph) (elems : List Elem) where
     node_passes_from atoms all = all_from (holds resolved g elems) (node_meets resolved var own) node_meets_from atoms all
 
   module _ (var : ℕ) (id : EdgeId) (row : EdgeRow) (at : slice_get elems var ≡ Some (Edge id)) (row_at : edge_at g id ≡ Some row) where
-    edge_carries : carried g (Edge id) ≡ Some (pair_of row.labels row.props)
+    pub edge_carries : carried g (Edge id) ≡ Some (pair_of row.labels row.props)
     edge_carries = ap (option_map (λ (r : EdgeRow). pair_of r.labels r.props)) row_at
 
-    edge_type_at : (of number : ℕ) → slice_get elems of ≡ Some (Edge id) →
+    pub edge_type_at : (of number : ℕ) → slice_get elems of ≡ Some (Edge id) →
         option_map_or (is_edge_of_type resolved g number) (slice_get elems of) false ≡ option_map_or (fits_edge resolved number) (triple_at g row) false
     edge_type_at of number here =
         ap (λ o. option_map_or (is_edge_of_type resolved g number) o false) here

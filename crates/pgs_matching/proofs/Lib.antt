@@ -1,3 +1,4 @@
+pub mod Agreeing
 pub mod Asked
 pub mod Standing
 pub mod There
