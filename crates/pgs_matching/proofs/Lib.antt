@@ -1,4 +1,6 @@
 pub mod Agreeing
 pub mod Asked
+pub mod Completed
+pub mod Listed
 pub mod Standing
 pub mod There
