@@ -3,7 +3,7 @@ use Rattle.std.proofs.Common.{◌≡◌, ℕ, zero, suc, ◌+◌, ◌<◌, ◌�
 use Rattle.std.specs.Prelude.{option_and_then}
 use Rattle.std.specs.Option.{option_map_or}
 use Rattle.std.specs.List.{list_any, list_all, flat_map}
-use Rattle.std.proofs.lemmas.Bool.{and_parts, and_from, or_cases, or_left, eqb-true}
+use Rattle.std.proofs.lemmas.Bool.{and_parts, and_from, or_cases, or_left, eqb-true, eq-eqb}
 use Rattle.pgs_base.specs.declared.element.NodeId.{NodeId}
 use Rattle.pgs_base.specs.declared.element.EdgeId.{EdgeId}
 use Rattle.pgs_base.specs.declared.element.Elem.{Elem}
@@ -20,7 +20,7 @@ use Rattle.pgs_syntax.proofs.Halves.{any_flat_map}
 use Rattle.pgs_plan.specs.declared.step.Step.{Step}
 use Rattle.pgs_plan.specs.declared.step.Step.TheVariants.{Along, End}
 use Rattle.pgs_plan.specs.Plans.{bound_by, is_known, and_known, has_end, is_step, are_steps, known_after, covers, completes}
-use Rattle.pgs_plan.proofs.Known.{valid_speaks, valid_most, ends_kinds, step_bounds, covers_at}
+use Rattle.pgs_plan.proofs.Known.{edge_below, node_below, valid_speaks, valid_most, ends_kinds, step_bounds, covers_at}
 use Rattle.pgs_matching.specs.declared.bindings.Bound.{Bound}
 use Rattle.pgs_matching.specs.declared.bindings.Bound.TheVariants as bounds
 use Rattle.pgs_matching.specs.Bounds.{elem_of, bound_at, with_bound, end_at}
@@ -204,4 +204,88 @@ module _ (resolved : Resolved) (g : Graph) (pattern : Pattern) (valid : is_valid
     module _ (b : List (Option Bound)) (good : (var : ℕ) (x : Bound) → bound_at b var ≡ Some x → IsGood resolved g pattern var x) (agree : Agrees b elems) (full : IsFull resolved g pattern b) where
       ends_agree : (edge source target : ℕ) → speaks_of pattern.edge_vars (Ends edge source target) ≡ true → holds resolved g elems (Ends edge source target) ≡ true →
           agrees b (Ends edge source target) ≡ true
-      ends_agree edge source target speaks hold = ?
+      ends_agree edge source target speaks hold =
+          let kinds = and_parts (is_edge_var pattern.edge_vars edge && is_node_var pattern.edge_vars source) (is_node_var pattern.edge_vars target) speaks in
+          let inner = and_parts (is_edge_var pattern.edge_vars edge) (is_node_var pattern.edge_vars source) kinds.0 in
+          let at_edge = full edge (edge_below pattern.edge_vars edge inner.0) in
+          let at_source = full source (node_below pattern.edge_vars source inner.1) in
+          let at_target = full target (node_below pattern.edge_vars target kinds.1) in
+          let e = edge_form resolved g pattern edge at_edge.0 inner.0 (good edge at_edge.0 at_edge.1) in
+          let s = node_form resolved g pattern source at_source.0 inner.1 (good source at_source.0 at_source.1) in
+          let t = node_form resolved g pattern target at_target.0 kinds.1 (good target at_target.0 at_target.1) in
+          let is_led = led (slice_get elems edge) (slice_get elems source) (slice_get elems target) hold in
+          let number : is_led.0 ≡ e.0 = (let f : Some (Edge is_led.0) ≡ Some (elem_of at_edge.0) = sym is_led.2 ∙ agree edge at_edge.0 at_edge.1 in
+          let h : Some (Edge is_led.0) ≡ Some (Edge e.0) = f ∙ ap (λ x. Some (elem_of x)) e.4 in cc) in
+          let rows : is_led.1 ≡ e.3 = (let f : Some is_led.1 ≡ Some e.3 = sym is_led.3 ∙ ap (edge_at g) number ∙ e.5 in cc) in
+          let first : is_led.1.source ≡ s.0 = (let f : Some (Node is_led.1.source) ≡ Some (Node s.0) = sym is_led.4 ∙ agree source at_source.0 at_source.1 ∙ ap (λ x. Some (elem_of x)) s.1 in cc) in
+          let second : is_led.1.target ≡ t.0 = (let f : Some (Node is_led.1.target) ≡ Some (Node t.0) = sym is_led.5 ∙ agree target at_target.0 at_target.1 ∙ ap (λ x. Some (elem_of x)) t.1 in cc) in
+          let one : e.1 ≡ s.0 = sym e.6 ∙ ap (λ (r : EdgeRow). r.source) (sym rows) ∙ first in
+          let other : e.2 ≡ t.0 = sym e.7 ∙ ap (λ (r : EdgeRow). r.target) (sym rows) ∙ second in
+          ap (λ x. are_ends x (bound_at b source) (bound_at b target)) (at_edge.1 ∙ ap Some e.4)
+          ∙ ap (λ x. are_ends (Some (bounds.Edge e.0 e.1 e.2)) x (bound_at b target)) (at_source.1 ∙ ap Some s.1)
+          ∙ ap (λ x. are_ends (Some (bounds.Edge e.0 e.1 e.2)) (Some (bounds.Node s.0)) x) (at_target.1 ∙ ap Some t.1)
+          ∙ and_from _ _ (eq-eqb e.1.0 s.0.0 (ap (λ (n : NodeId). n.0) one)) (eq-eqb e.2.0 t.0.0 (ap (λ (n : NodeId). n.0) other))
+
+      all_agree : (atoms : List Atom) → list_all (speaks_of pattern.edge_vars) atoms ≡ true → list_all (holds resolved g elems) atoms ≡ true → list_all (agrees b) atoms ≡ true
+      all_agree [] speaks hold = refl
+      all_agree (Ends edge source target ∷ atoms) speaks hold =
+          let s = and_parts (speaks_of pattern.edge_vars (Ends edge source target)) _ speaks in
+          let h = and_parts (holds resolved g elems (Ends edge source target)) _ hold in
+          and_from _ _ (ends_agree edge source target s.0 h.0) (all_agree atoms s.1 h.1)
+      all_agree (HasLabel var label ∷ atoms) speaks hold =
+          all_agree atoms (and_parts (speaks_of pattern.edge_vars (HasLabel var label)) _ speaks).1 (and_parts (holds resolved g elems (HasLabel var label)) _ hold).1
+      all_agree (FitsNode var number ∷ atoms) speaks hold =
+          all_agree atoms (and_parts (speaks_of pattern.edge_vars (FitsNode var number)) _ speaks).1 (and_parts (holds resolved g elems (FitsNode var number)) _ hold).1
+      all_agree (FitsEdge var number ∷ atoms) speaks hold =
+          all_agree atoms (and_parts (speaks_of pattern.edge_vars (FitsEdge var number)) _ speaks).1 (and_parts (holds resolved g elems (FitsEdge var number)) _ hold).1
+      all_agree (Equals var key value ∷ atoms) speaks hold =
+          all_agree atoms (and_parts (speaks_of pattern.edge_vars (Equals var key value)) _ speaks).1 (and_parts (holds resolved g elems (Equals var key value)) _ hold).1
+
+    module _ (test : List (Option Bound) → Bool) (passes : (final : List (Option Bound)) → Agrees final elems → IsFull resolved g pattern final → test final ≡ true) where
+      pub given : (plan : List Step) (known : List Bool) (b : List (Option Bound)) → completes pattern known plan ≡ true → IsState resolved g pattern known b → Agrees b elems →
+          list_any test (completions resolved g pattern.atoms plan b) ≡ true
+      given [] known b whole state agree =
+          let full = full_where_covered known b state (and_parts true _ whole).1 in
+          ap (λ t. list_any test (cond t (b ∷ []) [])) (all_agree b state.good agree full pattern.atoms (valid_speaks pattern valid) all_hold)
+          ∙ or_left (test b) false (passes b agree full)
+      given (Along edge node forward ∷ plan) known b whole state agree =
+          let parts = completes_more pattern known (Along edge node forward) plan whole in
+          let facts = along_facts known edge node forward parts.0 in
+          let step = step_facts known (Along edge node forward) parts.0 in
+          let at_node = is_bound resolved g pattern known b state node facts.0 in
+          let form = node_form resolved g pattern node at_node.0 facts.3 (state.good node at_node.0 at_node.1) in
+          let place = placed edge node forward pattern.atoms facts.1 all_hold in
+          let id = place.0 in
+          let row = place.1 in
+          let bound = bounds.Edge id row.source row.target in
+          let end_is : cond forward row.source row.target ≡ form.0 = (let e : Some (Node (cond forward row.source row.target)) ≡ Some (Node form.0) =
+          sym place.4 ∙ agree node at_node.0 at_node.1 ∙ ap (λ x. Some (elem_of x)) form.1 in cc) in
+          let admits = edge_of_match edge id row place.2 place.3 in
+          let good = admitted_edge_good resolved g pattern edge id bound facts.2 admits in
+          let rest = given plan (and_known known edge) (with_bound b edge bound) parts.1 (state_more resolved g pattern known b state edge bound step.0 good)
+          (agrees_more b edge bound (omega (arith, state.size, step.0)) agree place.2) in
+          any_flat_map test (λ other. option_map_or (λ x. completions resolved g pattern.atoms plan (with_bound b edge x)) (admitted_edge resolved g pattern.atoms edge other) []) (edges_along g forward (bound_at b node))
+          ∙ ap (λ o. list_any (λ other. list_any test (option_map_or (λ x. completions resolved g pattern.atoms plan (with_bound b edge x)) (admitted_edge resolved g pattern.atoms edge other) [])) (edges_along g forward o))
+          (at_node.1 ∙ ap Some form.1)
+          ∙ any_along g id row place.3 (λ other. list_any test (option_map_or (λ x. completions resolved g pattern.atoms plan (with_bound b edge x)) (admitted_edge resolved g pattern.atoms edge other) []))
+          (ap (λ o. list_any test (option_map_or (λ x. completions resolved g pattern.atoms plan (with_bound b edge x)) o [])) admits ∙ rest) forward form.0 end_is
+      given (End edge node source ∷ plan) known b whole state agree =
+          let parts = completes_more pattern known (End edge node source) plan whole in
+          let facts = end_facts known edge node source parts.0 in
+          let step = step_facts known (End edge node source) parts.0 in
+          let at_edge = is_bound resolved g pattern known b state edge facts.0 in
+          let form = edge_form resolved g pattern edge at_edge.0 facts.2 (state.good edge at_edge.0 at_edge.1) in
+          let place = placed edge node source pattern.atoms facts.1 all_hold in
+          let number : place.0 ≡ form.0 = (let e : Some (Edge place.0) ≡ Some (Edge form.0) = sym place.2 ∙ agree edge at_edge.0 at_edge.1 ∙ ap (λ x. Some (elem_of x)) form.4 in cc) in
+          let rows : place.1 ≡ form.3 = (let e : Some place.1 ≡ Some form.3 = sym place.3 ∙ ap (edge_at g) number ∙ form.5 in cc) in
+          let end_is : cond source place.1.source place.1.target ≡ cond source form.1 form.2 =
+          ap (λ (r : EdgeRow). cond source r.source r.target) rows ∙ ap (λ n. cond source n form.3.target) form.6 ∙ ap (λ n. cond source form.1 n) form.7 in
+          let id = cond source form.1 form.2 in
+          let at_elem : slice_get elems node ≡ Some (Node id) = place.4 ∙ ap (λ n. Some (Node n)) end_is in
+          let admits = node_of_match node id facts.3 at_elem in
+          let good = admitted_node_good resolved g pattern node id (bounds.Node id) facts.3 admits in
+          let rest = given plan (and_known known node) (with_bound b node (bounds.Node id)) parts.1 (state_more resolved g pattern known b state node (bounds.Node id) step.0 good)
+          (agrees_more b node (bounds.Node id) (omega (arith, state.size, step.0)) agree at_elem) in
+          ap (λ o. list_any test (option_map_or (λ x. completions resolved g pattern.atoms plan (with_bound b node x)) (option_and_then (admitted_node resolved g pattern.atoms node) (end_at source o)) []))
+          (at_edge.1 ∙ ap Some form.4)
+          ∙ ap (λ o. list_any test (option_map_or (λ x. completions resolved g pattern.atoms plan (with_bound b node x)) o [])) admits ∙ rest
