@@ -45,7 +45,7 @@ pub then_gives : {X Y : Type 0} (f : X → Option Y) (o : Option X) (y : Y) → 
 then_gives f None y h = cc
 then_gives f (Some x) y h = (x, refl, h)
 
-any_option : {X Y : Type 0} (test : Y → Bool) (f : X → List Y) (o : Option X) → list_any test (option_map_or f o []) ≡ true → (x : X) × (o ≡ Some x) × (list_any test (f x) ≡ true)
+pub any_option : {X Y : Type 0} (test : Y → Bool) (f : X → List Y) (o : Option X) → list_any test (option_map_or f o []) ≡ true → (x : X) × (o ≡ Some x) × (list_any test (f x) ≡ true)
 any_option test f None h = absurd (true≢false (sym h))
 any_option test f (Some x) h = (x, refl, h)
 

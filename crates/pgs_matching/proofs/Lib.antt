@@ -1,6 +1,9 @@
 pub mod Agreeing
 pub mod Asked
 pub mod Completed
+pub mod Gathered
 pub mod Listed
 pub mod Standing
+pub mod Started
 pub mod There
+pub mod Values

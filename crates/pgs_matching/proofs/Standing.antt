@@ -6,6 +6,7 @@ use Rattle.std.proofs.lemmas.Bool.{and_parts}
 use Rattle.std.proofs.lemmas.List.{length-set}
 use Rattle.pgs_base.specs.declared.element.NodeId.{NodeId}
 use Rattle.pgs_base.specs.declared.element.EdgeId.{EdgeId}
+use Rattle.pgs_base.specs.declared.element.Elem.TheVariants.{Node, Edge}
 use Rattle.pgs_base.specs.declared.row.NodeRow.{NodeRow}
 use Rattle.pgs_base.specs.declared.row.EdgeRow.{EdgeRow}
 use Rattle.pgs_base.specs.Graph.{Graph, node_at, edge_at}
@@ -16,7 +17,7 @@ use Rattle.pgs_plan.specs.Plans.{is_known, and_known}
 use Rattle.pgs_plan.proofs.Known.{known_now, known_still}
 use Rattle.pgs_matching.specs.declared.bindings.Bound.{Bound}
 use Rattle.pgs_matching.specs.declared.bindings.Bound.TheVariants as bounds
-use Rattle.pgs_matching.specs.Bounds.{bound_at, with_bound}
+use Rattle.pgs_matching.specs.Bounds.{elem_of, bound_at, with_bound}
 use Rattle.pgs_matching.specs.Tests.{node_passes, edge_passes, admitted_node, admitted_edge}
 
 -- ---- one variable more is bound
@@ -57,6 +58,30 @@ module _ (resolved : Resolved) (g : Graph) (pattern : Pattern) where
   IsGood var (bounds.Edge id source target) =
       (is_edge_var pattern.edge_vars var ≡ true)
       × ((row : EdgeRow) × (edge_at g id ≡ Some row) × (row.source ≡ source) × (row.target ≡ target) × (edge_passes resolved g pattern.atoms var row ≡ true))
+
+  -- what is admitted is the element
+  pub node_elem : (var : ℕ) (id : NodeId) (x : Bound) → admitted_node resolved g pattern.atoms var id ≡ Some x → elem_of x ≡ Node id
+  node_elem var id x h = by (node_at g id) h
+    where
+      inner : (b : Bool) → cond b (Some (bounds.Node id)) None ≡ Some x → elem_of x ≡ Node id
+      inner true found = let same : bounds.Node id ≡ x = cc in ap elem_of (sym same)
+      inner false found = cc
+
+      by : (o : Option NodeRow) → option_and_then (λ (own : NodeRow). cond (node_passes resolved pattern.atoms var own) (Some (bounds.Node id)) None) o ≡ Some x → elem_of x ≡ Node id
+      by None found = cc
+      by (Some own) found = inner (node_passes resolved pattern.atoms var own) found
+
+  pub edge_elem : (var : ℕ) (id : EdgeId) (x : Bound) → admitted_edge resolved g pattern.atoms var id ≡ Some x → elem_of x ≡ Edge id
+  edge_elem var id x h = by (edge_at g id) h
+    where
+      inner : (row : EdgeRow) (b : Bool) → cond b (Some (bounds.Edge id row.source row.target)) None ≡ Some x → elem_of x ≡ Edge id
+      inner row true found = let same : bounds.Edge id row.source row.target ≡ x = cc in ap elem_of (sym same)
+      inner row false found = cc
+
+      by : (o : Option EdgeRow) →
+          option_and_then (λ (row : EdgeRow). cond (edge_passes resolved g pattern.atoms var row) (Some (bounds.Edge id row.source row.target)) None) o ≡ Some x → elem_of x ≡ Edge id
+      by None found = cc
+      by (Some row) found = inner row (edge_passes resolved g pattern.atoms var row) found
 
   pub admitted_node_good : (var : ℕ) (id : NodeId) (x : Bound) → is_node_var pattern.edge_vars var ≡ true → admitted_node resolved g pattern.atoms var id ≡ Some x → IsGood var x
   admitted_node_good var id x kind h = by (node_at g id) refl h

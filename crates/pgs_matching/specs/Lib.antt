@@ -1,3 +1,4 @@
 pub mod Bounds
+pub mod Reached
 pub mod Search
 pub mod Tests
