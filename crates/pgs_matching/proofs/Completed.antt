@@ -34,7 +34,7 @@ use Rattle.pgs_matching.proofs.There.{there_at, node_kind}
 
 -- ---- small steps
 
-any_gives : {X : Type 0} (p : X → Bool) (xs : List X) → list_any p xs ≡ true → (x : X) × (p x ≡ true)
+pub any_gives : {X : Type 0} (p : X → Bool) (xs : List X) → list_any p xs ≡ true → (x : X) × (p x ≡ true)
 any_gives p [] h = absurd (true≢false (sym h))
 any_gives p (x ∷ xs) h = ⊎_elim (λ here. (x, here)) (any_gives p xs) (or_cases (p x) _ h)
 
