@@ -27,6 +27,7 @@ impl Bound {
 }
 
 /// To what each variable of a pattern is bound, as far as it is. Contracts see a list of 20 options.
+#[derive(Drop)]
 pub struct Bindings {
     bounds: [Option<Bound>; MOST_VARIABLES],
 }

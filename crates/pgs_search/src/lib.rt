@@ -5,9 +5,9 @@
 //! [`Search::can_complete`] takes no memory; [`Search::gather`] adds the tuples of expressions.
 #![tactic(auto)]
 
-
+mod admission;
 mod asked;
+mod completion;
+mod search;
 
-
-
-
+pub use search::Search;
