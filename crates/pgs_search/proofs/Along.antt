@@ -3,6 +3,7 @@ use Rattle.std.proofs.Common.{◌≡◌, ℕ, zero, suc, ◌+◌, ◌<◌, ◌�
 use Rattle.std.specs.Option.{option_map_or}
 use Rattle.std.specs.List.{list_any, sum_by}
 use Rattle.std.proofs.lemmas.List.Folds.{list_any_more, list_any_at}
+use Rattle.std.proofs.lemmas.List.Sums.{sum_by_more, sum_by-take-le}
 use Rattle.pgs_base.specs.declared.element.EdgeId.{EdgeId}
 use Rattle.pgs_base.specs.Graph.{Graph}
 use Rattle.pgs_syntax.specs.declared.pattern.Atom.{Atom}
@@ -48,3 +49,20 @@ module _ {X : Type 0} (p : X → Bool) (xs : List X) (i : ℕ) where
 
   pub none_at_all : length xs ≤ i → list_any p (take i xs) ≡ false → list_any p xs ≡ false
   none_at_all end before = ap (list_any p) (sym (take_whole xs i end)) ∙ before
+
+module _ {X : Type 0} (f : X → ℕ) (xs : List X) (i : ℕ) (x : X) (at : slice_get xs i ≡ Some x) (start now after : ℕ)
+    (before : now ≤ start + (i + sum_by f (take i xs))) (step : after ≤ now + 1 + f x) where
+  pub cost_more : after ≤ start + ((i + 1) + sum_by f (take (i + 1) xs))
+  cost_more =
+      let place = at_place xs i x at in
+      let more = sum_by_more f xs i x place.0 in
+      let same : f (get_or xs i x) ≡ f x = ap f place.1 in
+      omega arith
+
+  pub cost_all : after ≤ start + (length xs + 1 + sum_by f xs)
+  cost_all =
+      let place = at_place xs i x at in
+      let below : i < length xs = place.0 in
+      let part = sum_by-take-le f xs (i + 1) in
+      let more = cost_more in
+      omega arith
