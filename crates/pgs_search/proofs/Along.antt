@@ -5,13 +5,15 @@ use Rattle.std.specs.List.{list_any, sum_by}
 use Rattle.std.proofs.lemmas.List.Folds.{list_any_more, list_any_at}
 use Rattle.std.proofs.lemmas.List.Sums.{sum_by_more, sum_by-take-le}
 use Rattle.pgs_base.specs.declared.element.EdgeId.{EdgeId}
+use Rattle.pgs_base.specs.declared.part.Part.{Part}
 use Rattle.pgs_base.specs.Graph.{Graph}
 use Rattle.pgs_syntax.specs.declared.pattern.Atom.{Atom}
+use Rattle.pgs_syntax.specs.declared.pattern.Expr.{Expr}
 use Rattle.pgs_syntax.specs.declared.resolved.Resolved.{Resolved}
 use Rattle.pgs_plan.specs.declared.step.Step.{Step}
 use Rattle.pgs_matching.specs.declared.bindings.Bound.{Bound}
 use Rattle.pgs_matching.specs.Bounds.{with_bound}
-use Rattle.pgs_matching.specs.Search.{can_complete, most_steps}
+use Rattle.pgs_matching.specs.Search.{can_complete, gathered, most_steps}
 use Rattle.pgs_matching.specs.Tests.{admitted_edge}
 
 module _ (resolved : Resolved) (g : Graph) (atoms : List Atom) (plan : List Step) (b : List (Option Bound)) (var : ℕ) where
@@ -21,6 +23,11 @@ module _ (resolved : Resolved) (g : Graph) (atoms : List Atom) (plan : List Step
 
   abbrev pub steps_with : ℕ → EdgeId → ℕ
   steps_with last id = 3 + option_map_or (λ bound. most_steps resolved g atoms last plan (with_bound b var bound)) (admitted_edge resolved g atoms var id) 0
+
+  -- tuples with those that are gathered with an edge
+  abbrev pub gathered_with : List Expr → List (List Part) → EdgeId → List (List Part)
+  gathered_with exprs so_far id =
+      option_map_or (λ bound. gathered resolved g atoms exprs plan (with_bound b var bound) so_far) (admitted_edge resolved g atoms var id) so_far
 
 pub at_place : {X : Type 0} (xs : List X) (i : ℕ) (x : X) → slice_get xs i ≡ Some x → (i < length xs) × (get_or xs i x ≡ x)
 at_place [] i x h = cc
