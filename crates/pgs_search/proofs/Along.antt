@@ -1,9 +1,9 @@
 -- A loop over the edges of a node: what is so of those before a place, of one more, and of all.
-use Rattle.std.proofs.Common.{◌≡◌, ℕ, zero, suc, ◌+◌, ◌<◌, ◌≤◌, Bool, true, false, ◌||◌, List, [], ◌∷◌, length, take, get_or, slice_get, Option, Some, None, refl, sym, ap, ◌∙◌, subst, arith}
+use Rattle.std.proofs.Common.{◌≡◌, ℕ, zero, suc, ◌+◌, ◌<◌, ◌≤◌, Bool, true, false, ◌||◌, List, [], ◌∷◌, length, fold, take, get_or, slice_get, Option, Some, None, refl, sym, ap, ◌∙◌, subst, arith}
 use Rattle.std.specs.Option.{option_map_or}
 use Rattle.std.specs.List.{list_any, sum_by}
 use Rattle.std.proofs.lemmas.List.Folds.{list_any_more, list_any_at}
-use Rattle.std.proofs.lemmas.List.Sums.{sum_by_more, sum_by-take-le}
+use Rattle.std.proofs.lemmas.List.Sums.{fold_more, sum_by_more, sum_by-take-le}
 use Rattle.pgs_base.specs.declared.element.EdgeId.{EdgeId}
 use Rattle.pgs_base.specs.declared.part.Part.{Part}
 use Rattle.pgs_base.specs.Graph.{Graph}
@@ -73,3 +73,13 @@ module _ {X : Type 0} (f : X → ℕ) (xs : List X) (i : ℕ) (x : X) (at : slic
       let part = sum_by-take-le f xs (i + 1) in
       let more = cost_more in
       omega arith
+
+-- what a fold makes of one more, and of all
+module _ {X S : Type 0} (f : S → X → S) (start : S) (xs : List X) (i : ℕ) where
+  pub fold_one_more : (x : X) → slice_get xs i ≡ Some x → f (fold f start (take i xs)) x ≡ fold f start (take (i + 1) xs)
+  fold_one_more x at =
+      let place = at_place xs i x at in
+      sym (fold_more f start xs i x place.0 ∙ ap (f (fold f start (take i xs))) place.1)
+
+  pub fold_all : length xs ≤ i → fold f start (take i xs) ≡ fold f start xs
+  fold_all end = ap (fold f start) (take_whole xs i end)
