@@ -3,6 +3,7 @@ pub mod Asked
 pub mod Completed
 pub mod Gathered
 pub mod Listed
+pub mod Nearby
 pub mod Reaching
 pub mod Standing
 pub mod Started
