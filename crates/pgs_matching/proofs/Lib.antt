@@ -1,6 +1,8 @@
 pub mod Agreeing
 pub mod Asked
+pub mod Bounded
 pub mod Completed
+pub mod Costs
 pub mod Gathered
 pub mod Listed
 pub mod Nearby

@@ -23,7 +23,7 @@ use Rattle.pgs_matching.specs.declared.bindings.Bound.TheVariants as bounds
 use Rattle.pgs_matching.specs.Bounds.{elem_of, bound_at, with_bound, nothing_bound, end_at}
 use Rattle.pgs_matching.specs.Near.{is_within, IsSparse}
 use Rattle.pgs_matching.specs.Search.{edges_along}
-use Rattle.pgs_matching.proofs.Standing.{IsGood, bound_now, bound_other, one_or_other}
+use Rattle.pgs_matching.proofs.Standing.{IsGood, bound_other, one_or_other}
 use Rattle.pgs_matching.proofs.Started.{nothing_at}
 
 any_value : {K V : Type 0} (test : K → Bool) (passes : V → Bool) (es : List (K × V)) (v : V) → lookup test es ≡ Some v → passes v ≡ true → list_any (λ (e : K × V). passes e.1) es ≡ true
@@ -34,6 +34,12 @@ any_value {K} {V} test passes (e ∷ es) v found h = by (test e.0) found (λ lat
         (passes e.1 || list_any (λ (x : K × V). passes x.1) es) ≡ true
     by true here rest = or_left _ _ (let same : e.1 ≡ v = cc in ap passes same ∙ h)
     by false later rest = or_right _ _ (rest later)
+
+-- to what a variable is bound after it was bound
+bound_is : (b : List (Option Bound)) (var : ℕ) (x y : Bound) → bound_at (with_bound b var x) var ≡ Some y → x ≡ y
+bound_is [] var x y h = cc
+bound_is (o ∷ os) zero x y h = cc
+bound_is (o ∷ os) (suc var) x y h = bound_is os var x y h
 
 module _ (g : Graph) (elem : Elem) where
   pub within_more : (near more : ℕ) (id : NodeId) → is_within g near elem id ≡ true → is_within g (more + near) elem id ≡ true
@@ -66,10 +72,9 @@ module _ (g : Graph) (elem : Elem) where
   further near (bounds.Node id) h = or_left (is_within g near elem id) _ h
   further near (bounds.Edge id source target) h = (or_left (is_within g near elem source) _ h.0, or_left (is_within g near elem target) _ h.1)
 
-  pub near_more : (near : ℕ) (b : List (Option Bound)) (var : ℕ) (x : Bound) → var < length b → AreNear near b → IsNear near x → AreNear near (with_bound b var x)
-  near_more near b var x below all here other y at =
-      ⊎_elim
-      (λ is. let same : x ≡ y = (let e : Some x ≡ Some y = sym (bound_now b var x below) ∙ subst (λ v. bound_at (with_bound b var x) v ≡ Some y) is at in cc) in subst (IsNear near) same here)
+  pub near_more : (near : ℕ) (b : List (Option Bound)) (var : ℕ) (x : Bound) → AreNear near b → IsNear near x → AreNear near (with_bound b var x)
+  near_more near b var x all here other y at =
+      ⊎_elim (λ is. subst (IsNear near) (bound_is b var x y (subst (λ v. bound_at (with_bound b var x) v ≡ Some y) is at)) here)
       (λ apart. all other y (sym (bound_other b var other x apart) ∙ at)) (one_or_other other var)
 
   -- an edge that is listed at a near node
@@ -117,6 +122,6 @@ module _ (resolved : Resolved) (g : Graph) (pattern : Pattern) where
       (ap (λ o. option_map_or (is_end source) o false) good.1.1 ∙ or_left _ _ (eq-eqb row.source.0 source.0 (ap (λ (n : NodeId). n.0) good.1.2)),
         ap (λ o. option_map_or (is_end target) o false) good.1.1 ∙ or_right _ _ (eq-eqb row.target.0 target.0 (ap (λ (n : NodeId). n.0) good.1.3)))
 
-  pub near_alone : (var : ℕ) (x : Bound) → var < 20 → IsGood resolved g pattern var x → AreNear g (elem_of x) 0 (with_bound nothing_bound var x)
-  near_alone var x below good =
-      near_more g (elem_of x) 0 nothing_bound var x below (λ v y at. let e : None ≡ Some y = sym (nothing_at 20 v) ∙ at in cc) (near_itself var x good)
+  pub near_alone : (var : ℕ) (x : Bound) → IsGood resolved g pattern var x → AreNear g (elem_of x) 0 (with_bound nothing_bound var x)
+  near_alone var x good =
+      near_more g (elem_of x) 0 nothing_bound var x (λ v y at. let e : None ≡ Some y = sym (nothing_at 20 v) ∙ at in cc) (near_itself var x good)

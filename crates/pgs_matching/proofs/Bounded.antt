@@ -1,0 +1,105 @@
+-- How many look-ups a search from one variable takes at most, and how many completions it comes to.
+use Rattle.std.proofs.Common.{◌≡◌, ◌≢◌, ◌⊎◌, inl, inr, ℕ, zero, suc, ◌+◌, ◌*◌, ◌^◌, ◌<◌, ◌≤◌, Bool, true, false, ◌&&◌, cond, not, ⊎_elim, List, [], ◌∷◌, length, slice_get, replicate, set, Option, Some, None, refl, sym, ◌∙◌, ap, subst, true≢false, arith}
+use Rattle.std.specs.List.{list_all}
+use Rattle.std.proofs.Math.Nat.{pow-zero, pow-succ', mul-le-mul, mul-le-mul_left, mul-le-mul_right}
+use Rattle.std.proofs.lemmas.Bool.{and_parts}
+use Rattle.std.proofs.lemmas.List.{length-set}
+use Rattle.pgs_base.specs.declared.element.Elem.{Elem}
+use Rattle.pgs_base.specs.Graph.{Graph, is_graph}
+use Rattle.pgs_syntax.specs.declared.pattern.Atom.{Atom}
+use Rattle.pgs_syntax.specs.declared.pattern.Pattern.{Pattern}
+use Rattle.pgs_syntax.specs.declared.resolved.Resolved.{Resolved}
+use Rattle.pgs_syntax.specs.Valid.{edge_count, is_edge_var, is_node_var, is_valid_pattern}
+use Rattle.pgs_plan.specs.declared.step.Step.{Step}
+use Rattle.pgs_plan.specs.declared.step.Step.TheVariants.{Along, End}
+use Rattle.pgs_plan.specs.Plans.{bound_by, is_known, and_known, known_alone, is_step, are_steps, completes, is_plan}
+use Rattle.pgs_plan.proofs.Counts.{left, left_less}
+use Rattle.pgs_plan.proofs.Known.{valid_most}
+use Rattle.pgs_matching.specs.declared.bindings.Bound.{Bound}
+use Rattle.pgs_matching.specs.Bounds.{elem_of, with_bound, nothing_bound}
+use Rattle.pgs_matching.specs.Near.{IsSparse}
+use Rattle.pgs_matching.specs.Search.{completions, most_steps}
+use Rattle.pgs_matching.proofs.Completed.{step_facts, along_facts, end_facts}
+use Rattle.pgs_matching.proofs.Costs.{alongs, ends, one_at_least, bound_of, along_most, few_steps, few_completions}
+use Rattle.pgs_matching.proofs.Nearby.{AreNear, near_alone}
+use Rattle.pgs_matching.proofs.Standing.{IsGood, known_other, one_or_other}
+use Rattle.pgs_matching.proofs.Started.{none_known}
+use Rattle.pgs_matching.proofs.There.{edge_kind, node_kind, no_two_kinds}
+
+-- ---- powers
+
+power_more : (d a w : ℕ) → a ≤ w → (d + 2) ^ a ≤ (d + 2) ^ w
+power_more d a zero less = let same : a ≡ 0 = omega arith in rw same (omega arith)
+power_more d a (suc w) less = by (one_or_other a (suc w)) (λ below. power_more d a w below)
+  where
+    by : (a ≡ suc w) ⊎ (a ≢ suc w) → (a ≤ w → (d + 2) ^ a ≤ (d + 2) ^ w) → (d + 2) ^ a ≤ (d + 2) ^ suc w
+    by (inl same) rest = rw same (omega arith)
+    by (inr apart) rest =
+        let before = rest (omega arith) in
+        let more = pow-succ' (d + 2) w in
+        let least : 1 * (d + 2) ^ w ≤ (d + 2) * (d + 2) ^ w = mul-le-mul_right ((d + 2) ^ w) (omega arith) in
+        omega arith
+
+-- ---- how long a plan is
+
+-- an edge weighs 1
+abbrev pub edge_weight : Bool → ℕ
+edge_weight kind = cond kind 1 0
+
+all_left : (edge_vars : List Bool) (n : ℕ) → (left edge_weight edge_vars (replicate n false) ≡ edge_count edge_vars) × (left (λ kind. 1) edge_vars (replicate n false) ≡ length edge_vars)
+all_left [] n = (refl, refl)
+all_left (k ∷ ks) zero = let rest = all_left ks 0 in (omega (arith, rest.0), omega (arith, rest.1))
+all_left (k ∷ ks) (suc n) = let rest = all_left ks n in (omega (arith, rest.0), omega (arith, rest.1))
+
+module _ (resolved : Resolved) (g : Graph) (pattern : Pattern) (valid : is_valid_pattern pattern ≡ true) where
+  -- no more steps than variables are left, and no more edges than edge variables
+  few_left : (plan : List Step) (known : List Bool) → length known ≡ 20 → are_steps pattern.atoms known plan ≡ true →
+      (alongs plan ≤ left edge_weight pattern.edge_vars known) × (alongs plan + ends plan ≤ left (λ kind. 1) pattern.edge_vars known)
+  few_left [] known size steps = (omega arith, omega arith)
+  few_left (Along edge node forward ∷ plan) known size steps =
+      let parts = and_parts (is_step pattern.atoms known (Along edge node forward)) _ steps in
+      let facts = along_facts resolved g pattern valid known edge node forward parts.0 in
+      let step = step_facts resolved g pattern valid known (Along edge node forward) parts.0 in
+      let below : edge < length known = omega (arith, size, step.0) in
+      let rest = few_left plan (and_known known edge) (length-set known edge true ∙ size) parts.1 in
+      let one = left_less edge_weight pattern.edge_vars known edge true (edge_kind pattern.edge_vars edge facts.2) step.1 below in
+      let other = left_less (λ kind. 1) pattern.edge_vars known edge true (edge_kind pattern.edge_vars edge facts.2) step.1 below in
+      (omega (arith, rest.0, one), omega (arith, rest.1, other))
+  few_left (End edge node source ∷ plan) known size steps =
+      let parts = and_parts (is_step pattern.atoms known (End edge node source)) _ steps in
+      let facts = end_facts resolved g pattern valid known edge node source parts.0 in
+      let step = step_facts resolved g pattern valid known (End edge node source) parts.0 in
+      let below : node < length known = omega (arith, size, step.0) in
+      let rest = few_left plan (and_known known node) (length-set known node true ∙ size) parts.1 in
+      let one = left_less edge_weight pattern.edge_vars known node false (node_kind pattern.edge_vars node facts.3) step.1 below in
+      let other = left_less (λ kind. 1) pattern.edge_vars known node false (node_kind pattern.edge_vars node facts.3) step.1 below in
+      (omega (arith, rest.0, one), omega (arith, rest.1, other))
+
+  module _ (var : ℕ) (below : var < length pattern.edge_vars) (kind : Bool) (is : slice_get pattern.edge_vars var ≡ Some kind) (plan : List Step) (plans : is_plan pattern var plan ≡ true) where
+    pub plan_size : (alongs plan + edge_weight kind ≤ edge_count pattern.edge_vars) × (alongs plan + ends plan + 1 ≤ 20)
+    plan_size =
+        let most = valid_most pattern valid in
+        let unknown = none_known 20 var in
+        let there : var < length (replicate 20 false) = omega arith in
+        let all = all_left pattern.edge_vars 20 in
+        let few = few_left plan (known_alone var) (length-set (replicate 20 false) var true) (and_parts _ _ plans).0 in
+        let one = left_less edge_weight pattern.edge_vars (replicate 20 false) var kind is unknown there in
+        let other = left_less (λ kind. 1) pattern.edge_vars (replicate 20 false) var kind is unknown there in
+        (omega (arith, few.0, one, all.0), omega (arith, few.1, other, all.1))
+
+    -- ---- the bound of the whole search
+
+    module _ (graph : is_graph g ≡ true) (elem : Elem) (x : Bound) (good : IsGood resolved g pattern var x) (same : elem_of x ≡ elem) (w d : ℕ)
+        (within : edge_count pattern.edge_vars ≤ w) (sparse : IsSparse g w elem d) where
+      alone : AreNear g elem 0 (with_bound nothing_bound var x)
+      alone = subst (λ e. AreNear g e 0 (with_bound nothing_bound var x)) same (near_alone resolved g pattern var x good)
+
+      abbrev begun : List (Option Bound)
+      begun = with_bound nothing_bound var x
+
+      pub completions_most : length (completions resolved g pattern.atoms plan begun) ≤ (d + 2) ^ w
+      completions_most =
+          let size = plan_size in
+          let some = few_completions resolved g graph pattern.atoms elem w d sparse plan begun 0 (omega (arith, size.0)) alone in
+          let power = power_more d (alongs plan) w (omega (arith, size.0)) in
+          omega arith
