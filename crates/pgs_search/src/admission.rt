@@ -2,6 +2,7 @@
 
 ghost use Rattle.std.specs.Prelude.{◌≡◌, ◌+◌, ◌≤◌, true};
 ghost use Rattle.std.specs.List.{list_all};
+ghost use Rattle.pgs_base.specs.Graph.{is_graph};
 ghost use Rattle.pgs_syntax.specs.Typed.{triple_at};
 ghost use Rattle.pgs_syntax.specs.Valid.{names_types};
 ghost use Rattle.pgs_graph.specs.Reads.{edge_row};
@@ -17,7 +18,7 @@ use std::sync::ledger::Ledger;
 
 impl<'a, G: GraphRead> Search<'a, G> {
     /// What the variable is bound to by a node, if it is there and passes. One look-up.
-    pub(crate) fn admit_node<L: Ledger>(
+    pub fn admit_node<L: Ledger>(
         &self,
         var: u32,
         id: NodeId,
@@ -26,6 +27,7 @@ impl<'a, G: GraphRead> Search<'a, G> {
         requires { list_all (names_types self.now.compiled.now) self.now.atoms.now ≡ true }
         ensures value { result ≡ admitted_node self.now.compiled.now (G.meaning self.now.graph.now) self.now.atoms.now var id }
         ensures tick { steps.new ≡ steps.old + 1 }
+        ensures graph { is_graph (G.meaning self.now.graph.now) ≡ true }
     {
         match self.graph.node(id, steps) {
             Some(row) if node_passes(self.compiled, self.atoms, var, row.labels, row.props) => {
@@ -36,7 +38,7 @@ impl<'a, G: GraphRead> Search<'a, G> {
     }
 
     /// What the variable is bound to by an edge, if it is there and passes. At most three look-ups.
-    pub(crate) fn admit_edge<L: Ledger>(
+    pub fn admit_edge<L: Ledger>(
         &self,
         var: u32,
         id: EdgeId,
@@ -46,6 +48,7 @@ impl<'a, G: GraphRead> Search<'a, G> {
         ensures value { result ≡ admitted_edge self.now.compiled.now (G.meaning self.now.graph.now) self.now.atoms.now var id }
         ensures no_step_back { steps.old ≤ steps.new }
         ensures at_most { steps.new ≤ steps.old + 3 }
+        ensures graph { is_graph (G.meaning self.now.graph.now) ≡ true }
     {
         match self.graph.edge(id, steps) {
             Some(row) => {
