@@ -27,6 +27,12 @@ pub struct Gathering<'a, G: GraphRead> {
     pub alloc: Global,
 }
 
+impl<'a, G: GraphRead> Drop for Gathering<'a, G> {
+    fn drop(self) {
+        let Gathering { search: _, exprs: _, alloc: _ } = self;
+    }
+}
+
 impl<'a, G: GraphRead> Gathering<'a, G> {
     /// Adds the tuple of the expressions under each completion of the bindings by the plan. After `Memory` some of them may be
     /// there.

@@ -8,3 +8,9 @@ pub struct Search<'a, G: GraphRead> {
     pub compiled: &'a Compiled,
     pub atoms: &'a [Atom],
 }
+
+impl<'a, G: GraphRead> Drop for Search<'a, G> {
+    fn drop(self) {
+        let Search { graph: _, compiled: _, atoms: _ } = self;
+    }
+}
