@@ -5,11 +5,12 @@
 //! What a plan is, how the search goes and why it is right stand in `pgs_plan`, `pgs_search` and `pgs_matching`.
 #![tactic(auto)]
 
-
+mod calls;
 mod copies;
 mod planned;
 mod searching;
 
 
 
-pub use planned::{PlannedKey, plan_key};
+pub use calls::{each_x, in_scope, key_values, reach};
+pub use planned::{PlannedKey, Side, plan_key};

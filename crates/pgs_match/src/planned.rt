@@ -1,6 +1,7 @@
-ghost use Rattle.std.specs.Prelude.{◌≡◌, true, IfOk};
+ghost use Rattle.std.specs.Prelude.{◌≡◌, ◌<◌, true, length, IfOk};
 ghost use Rattle.pgs_syntax.specs.Valid.{is_valid_pattern, is_valid_key};
-ghost use Rattle.pgs_match.specs.Planned.{are_plans};
+ghost use Rattle.pgs_plan.specs.Plans.{is_plan};
+ghost use Rattle.pgs_match.specs.Planned.{are_plans, pattern_of};
 
 use crate::copies::copy_key;
 use pgs_base::{List, Memory};
@@ -8,6 +9,13 @@ use pgs_plan::{Step, plan_from};
 use pgs_syntax::{Key, Pattern};
 use std::alloc::Global;
 use std::marker::Model;
+
+/// One of the two patterns of a key.
+#[derive(Clone, Copy, Debug, PartialEq, Eq)]
+pub enum Side {
+    Scope,
+    Descriptor,
+}
 
 /// A valid key, and for each variable of each of its patterns a plan of that pattern from the variable. Contracts see the key.
 #[derive(Drop)]
@@ -57,11 +65,42 @@ fn plan_pattern(alloc: Global, pattern: &Pattern) -> Result<List<List<Step>>, Me
     Ok(List::from_vec(plans))
 }
 
+// The plan from a variable.
+fn plan_at<'a>(plans: &'a [List<Step>], pattern: &Pattern, var: u32) -> &'a [Step]
+    requires plans { are_plans pattern.now plans.now ≡ true }
+    requires in_range { var < length pattern.now.edge_vars }
+    ensures { is_plan pattern.now var result.now ≡ true }
+{
+    plans[var as usize].as_slice()
+}
+
 impl PlannedKey {
     /// The key.
     pub fn key(&self) -> &Key
         ensures { result.now ≡ self.now }
     {
         &self.key
+    }
+
+    /// A pattern of the key, which is valid.
+    pub(crate) fn pattern(&self, side: Side) -> &Pattern
+        ensures pattern { result.now ≡ pattern_of side self.now }
+        ensures valid { is_valid_key self.now ≡ true }
+    {
+        match side {
+            Side::Scope => &self.key.scope,
+            Side::Descriptor => &self.key.descriptor,
+        }
+    }
+
+    /// The plan of a pattern from a variable.
+    pub(crate) fn plan(&self, side: Side, var: u32) -> &[Step]
+        requires { var < length (pattern_of side self.now).edge_vars }
+        ensures { is_plan (pattern_of side self.now) var result.now ≡ true }
+    {
+        match side {
+            Side::Scope => plan_at(self.scope.as_slice(), &self.key.scope, var),
+            Side::Descriptor => plan_at(self.descriptor.as_slice(), &self.key.descriptor, var),
+        }
     }
 }

@@ -1,4 +1,4 @@
-use Rattle.std.proofs.Common.{◌≡◌, true, [], ◌∷◌, ◌++◌, length, sym, subst, length-append, arith}
+use Rattle.std.proofs.Common.{◌≡◌, ◌+◌, true, [], ◌∷◌, ◌++◌, length, sym, subst, length-append, arith}
 use Rattle.pgs_match.specs.Planned.{are_plans_from}
 use Rattle.pgs_match.proofs.Plans.{one_plan_more}
 use Rattle.pgs_match.proofs.planned.plan_pattern.Goals as goal
