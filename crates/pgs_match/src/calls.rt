@@ -140,9 +140,10 @@ pub fn each_x<G: GraphRead, L: Ledger>(
     ensures scope { IfOk result (λ elems. elems ≡ scope_of compiled.now (G.meaning graph.now) key.now) }
     ensures no_step_back { steps.old ≤ steps.new }
 {
-    match key.pattern(Side::Scope).edge_vars.at(0) {
-        Some(true) => each_edge(alloc, graph, compiled, key, steps),
-        _ => each_node(alloc, graph, compiled, key, steps),
+    if key.is_of_edges() {
+        each_edge(alloc, graph, compiled, key, steps)
+    } else {
+        each_node(alloc, graph, compiled, key, steps)
     }
 }
 

@@ -1,5 +1,5 @@
 ghost use Rattle.std.specs.Prelude.{◌≡◌, ◌<◌, true, length, IfOk};
-ghost use Rattle.pgs_syntax.specs.Valid.{is_valid_pattern, is_valid_key};
+ghost use Rattle.pgs_syntax.specs.Valid.{is_edge_var, is_valid_pattern, is_valid_key};
 ghost use Rattle.pgs_plan.specs.Plans.{is_plan};
 ghost use Rattle.pgs_match.specs.Planned.{are_plans, pattern_of};
 
@@ -90,6 +90,16 @@ impl PlannedKey {
         match side {
             Side::Scope => &self.key.scope,
             Side::Descriptor => &self.key.descriptor,
+        }
+    }
+
+    /// Whether x is an edge.
+    pub(crate) fn is_of_edges(&self) -> bool
+        ensures { result ≡ is_edge_var self.now.scope.edge_vars 0 }
+    {
+        match self.key.scope.edge_vars.at(0) {
+            Some(is_edge) => *is_edge,
+            None => false,
         }
     }
 

@@ -114,6 +114,8 @@ impl<'a, G: GraphRead> Place<'a, G> {
         ensures value { IfOk result (λ tuples. tuples ≡ option_map_or (λ bound. gathered self.now.compiled.now (G.meaning self.now.graph.now)
             self.now.pattern.now.atoms exprs.now plan.now (with_bound nothing_bound var bound) [])
             (admitted self.now.compiled.now (G.meaning self.now.graph.now) self.now.pattern.now var elem) []) }
+        ensures graph { OnSome (admitted self.now.compiled.now (G.meaning self.now.graph.now) self.now.pattern.now var elem)
+            (is_graph (G.meaning self.now.graph.now) ≡ true) }
         ensures no_step_back { steps.old ≤ steps.new }
         ensures cost { (w most : ℕ) → edge_count self.now.pattern.now.edge_vars ≤ w → IsSparse (G.meaning self.now.graph.now) w elem most →
             steps.new ≤ steps.old + 16 * (most + 2) ^ (w + 1) }

@@ -92,7 +92,7 @@ any_at test x [] there h = there
 any_at test x (y ∷ ys) there h =
     ⊎_elim (λ here. or_left (test y) _ (ap test (sym (exact_elem x y ((Equal-is (elem_cmp x y)).0 here))) ∙ h)) (λ later. or_right (test y) _ (any_at test x ys later h)) (or_cases _ _ there)
 
-module _ (resolved : Resolved) (g : Graph) (graph : is_graph g ≡ true) (pattern : Pattern) (valid : is_valid_pattern pattern ≡ true) (var : ℕ) (below : var < length pattern.edge_vars)
+module _ (resolved : Resolved) (g : Graph) (pattern : Pattern) (valid : is_valid_pattern pattern ≡ true) (var : ℕ) (below : var < length pattern.edge_vars)
     (plan : List Step) (plans : is_plan pattern var plan ≡ true) (elem : Elem) where
   some : 0 < length pattern.edge_vars
   some = omega arith
@@ -152,12 +152,18 @@ module _ (resolved : Resolved) (g : Graph) (graph : is_graph g ≡ true) (patter
       by None first at same = absurd (true≢false (sym at))
       by (Some other) first at same = subst (λ e. is_at (tuple_cmp tuple) (one_elem e) ≡ true) (exact_elem first other ((Equal-is (elem_cmp first other)).0 at)) same
 
-  pub gathered_are_reached : option_map_or (λ x. gathered resolved g pattern.atoms (Element 0 ∷ []) plan (with_bound nothing_bound var x) []) (admitted resolved g pattern var elem) []
+  -- a tuple is gathered exactly where its element is reached
+  pub has_all : (tuple : List Part) →
+      list_any (is_at (tuple_cmp tuple)) (option_map_or (λ x. gathered resolved g pattern.atoms (Element 0 ∷ []) plan (with_bound nothing_bound var x) []) (admitted resolved g pattern var elem) [])
+      ≡ list_any (is_at (tuple_cmp tuple)) (map one_elem (reached resolved g pattern var elem))
+  has_all tuple = has_from resolved g pattern valid var below plan plans elem (Element 0 ∷ []) inside tuple ∙ same_truth _ _ (there tuple) (back tuple) ∙ sym (has_reached tuple)
+
+  pub gathered_are_reached : is_graph g ≡ true → option_map_or (λ x. gathered resolved g pattern.atoms (Element 0 ∷ []) plan (with_bound nothing_bound var x) []) (admitted resolved g pattern var elem) []
       ≡ map one_elem (reached resolved g pattern var elem)
-  gathered_are_reached =
+  gathered_are_reached graph =
       same_keys tuple_cmp_total exact_tuple _ _ (from_ascends resolved g pattern valid var below plan plans elem (Element 0 ∷ []) inside)
       ((ascends_decides tuple_cmp (map one_elem (reached resolved g pattern var elem))).0 (ascends_same (reached resolved g pattern var elem) ∙ reached_ascends))
-      (λ tuple. has_from resolved g pattern valid var below plan plans elem (Element 0 ∷ []) inside tuple ∙ same_truth _ _ (there tuple) (back tuple) ∙ sym (has_reached tuple))
+      has_all
     where
       reached_ascends : ascends elem_cmp (reached resolved g pattern var elem) ≡ true
       reached_ascends =
