@@ -1,5 +1,5 @@
 -- The scope of a key has elements of one kind alone.
-use Rattle.std.proofs.Common.{◌≡◌, ℕ, ◌+◌, ◌<◌, ◌≤◌, Bool, true, false, not, cond, List, [], ◌∷◌, ◌++◌, map, filter, take, length, slice_get, append-nil, Option, Some, None, Result, IfOk, refl, sym, ap, ◌∙◌, subst, true≢false, arith}
+use Rattle.std.proofs.Common.{◌≡◌, ℕ, ◌+◌, ◌<◌, ◌≤◌, Bool, true, false, not, cond, List, [], ◌∷◌, ◌++◌, map, filter, take, length, slice_get, append-nil, Option, Some, None, Result, Ok, Err, IfOk, refl, sym, ap, ◌∙◌, subst, true≢false, arith}
 use Rattle.std.specs.Option.{option_map_or}
 use Rattle.std.specs.List.{list_all}
 use Rattle.std.specs.Map.{keys_of}
@@ -21,14 +21,14 @@ use Rattle.pgs_syntax.specs.declared.pattern.Pattern.{Pattern}
 use Rattle.pgs_syntax.specs.declared.resolved.Resolved.{Resolved}
 use Rattle.pgs_syntax.specs.KeyValues.{starts_at, is_in_scope, scope_of}
 use Rattle.pgs_syntax.specs.Matches.{same_elem, elements}
-use Rattle.pgs_syntax.specs.Valid.{is_edge_var, is_node_var, is_valid_pattern, is_valid_key}
+use Rattle.pgs_syntax.specs.Valid.{edge_count, is_edge_var, is_node_var, is_valid_pattern, is_valid_key}
 use Rattle.pgs_syntax.proofs.Assigned.{match_found}
 use Rattle.pgs_matching.specs.Tests.{admitted, admitted_node, admitted_edge}
 use Rattle.pgs_matching.proofs.Started.{admitted_of_match}
 use Rattle.pgs_matching.proofs.Values.{scope_valid, descriptor_valid}
 use Rattle.pgs_match.specs.declared.planned.Side.{Side}
 use Rattle.pgs_match.specs.declared.planned.Side.TheVariants.{Scope, Descriptor}
-use Rattle.pgs_match.specs.Planned.{pattern_of}
+use Rattle.pgs_match.specs.Planned.{pattern_of, most_edges}
 
 pub side_valid : (side : Side) (key : Key) → is_valid_key key ≡ true → is_valid_pattern (pattern_of side key) ≡ true
 side_valid Scope key valid = scope_valid key valid
@@ -106,3 +106,13 @@ module _ (resolved : Resolved) (g : Graph) (key : Key) (valid : is_valid_key key
 -- an answer that is one thing is one that is the same thing
 pub ok_same : {X E : Type 0} (r : Result X E) (x y : X) → x ≡ y → IfOk r (λ given. given ≡ x) → IfOk r (λ given. given ≡ y)
 ok_same r x y same h = subst (λ z. IfOk r (λ given. given ≡ z)) same h
+
+-- so is one that is no longer than such a list
+pub ok_fewer : {X E : Type 0} (r : Result (List X) E) (xs : List X) (most : ℕ) → length xs ≤ most → IfOk r (λ given. given ≡ xs) → IfOk r (λ given. length given ≤ most)
+ok_fewer (Ok ys) xs most few h = subst (λ zs. length zs ≤ most) (sym h) few
+ok_fewer (Err e) xs most few h = h
+
+-- a pattern of a key has no more edge variables than the greater number
+pub side_edges : (side : Side) (key : Key) → edge_count (pattern_of side key).edge_vars ≤ most_edges key
+side_edges Scope key = omega arith
+side_edges Descriptor key = omega arith
