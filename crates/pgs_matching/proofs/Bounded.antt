@@ -1,18 +1,16 @@
 -- How many look-ups a search from one variable takes at most, and how many completions it comes to.
-use Rattle.std.proofs.Common.{◌≡◌, ◌≢◌, ◌⊎◌, inl, inr, ℕ, zero, suc, ◌+◌, ◌*◌, ◌^◌, ◌<◌, ◌≤◌, Bool, true, false, ◌&&◌, cond, not, ⊎_elim, List, [], ◌∷◌, length, slice_get, replicate, set, Option, Some, None, refl, sym, ◌∙◌, ap, subst, true≢false, arith}
-use Rattle.std.specs.List.{list_all}
-use Rattle.std.proofs.Math.Nat.{pow-zero, pow-succ', mul-le-mul, mul-le-mul_left, mul-le-mul_right}
+use Rattle.std.proofs.Common.{◌≡◌, ◌≢◌, ◌⊎◌, inl, inr, ℕ, zero, suc, ◌+◌, ◌*◌, ◌^◌, ◌<◌, ◌≤◌, Bool, true, false, cond, List, [], ◌∷◌, length, slice_get, replicate, Option, Some, refl, sym, ◌∙◌, ap, subst, true≢false, arith}
+use Rattle.std.proofs.Math.Nat.{pow-succ', mul-le-mul_left, mul-le-mul_right}
 use Rattle.std.proofs.lemmas.Bool.{and_parts}
 use Rattle.std.proofs.lemmas.List.{length-set}
 use Rattle.pgs_base.specs.declared.element.Elem.{Elem}
 use Rattle.pgs_base.specs.Graph.{Graph, is_graph}
-use Rattle.pgs_syntax.specs.declared.pattern.Atom.{Atom}
 use Rattle.pgs_syntax.specs.declared.pattern.Pattern.{Pattern}
 use Rattle.pgs_syntax.specs.declared.resolved.Resolved.{Resolved}
-use Rattle.pgs_syntax.specs.Valid.{edge_count, is_edge_var, is_node_var, is_valid_pattern}
+use Rattle.pgs_syntax.specs.Valid.{edge_count, is_valid_pattern}
 use Rattle.pgs_plan.specs.declared.step.Step.{Step}
 use Rattle.pgs_plan.specs.declared.step.Step.TheVariants.{Along, End}
-use Rattle.pgs_plan.specs.Plans.{bound_by, is_known, and_known, known_alone, is_step, are_steps, completes, is_plan}
+use Rattle.pgs_plan.specs.Plans.{is_known, and_known, known_alone, is_step, are_steps, is_plan}
 use Rattle.pgs_plan.proofs.Counts.{left, left_less}
 use Rattle.pgs_plan.proofs.Known.{valid_most}
 use Rattle.pgs_matching.specs.declared.bindings.Bound.{Bound}
@@ -24,7 +22,7 @@ use Rattle.pgs_matching.proofs.Costs.{alongs, ends, one_at_least, along_most, fe
 use Rattle.pgs_matching.proofs.Nearby.{AreNear, near_alone}
 use Rattle.pgs_matching.proofs.Standing.{IsGood, known_other, one_or_other}
 use Rattle.pgs_matching.proofs.Started.{none_known}
-use Rattle.pgs_matching.proofs.There.{edge_kind, node_kind, no_two_kinds}
+use Rattle.pgs_matching.proofs.There.{edge_kind, node_kind}
 
 -- ---- powers
 

@@ -1,5 +1,5 @@
 -- The bindings to which a plan completes bindings are the matches that agree with them.
-use Rattle.std.proofs.Common.{◌≡◌, ℕ, zero, suc, ◌+◌, ◌<◌, ◌≤◌, Bool, true, false, ◌&&◌, ◌||◌, ◌==◌, cond, not, ⊎_elim, List, [], ◌∷◌, length, slice_get, Option, Some, None, refl, sym, ◌∙◌, ap, subst, true≢false, arith}
+use Rattle.std.proofs.Common.{◌≡◌, ℕ, ◌<◌, Bool, true, false, ◌&&◌, ◌||◌, ◌==◌, cond, not, ⊎_elim, List, [], ◌∷◌, length, slice_get, Option, Some, None, refl, sym, ◌∙◌, ap, subst, true≢false, arith}
 use Rattle.std.specs.Prelude.{option_and_then}
 use Rattle.std.specs.Option.{option_map_or}
 use Rattle.std.specs.List.{list_any, list_all, flat_map}
@@ -19,8 +19,8 @@ use Rattle.pgs_syntax.specs.Valid.{is_edge_var, is_node_var, speaks_of, is_valid
 use Rattle.pgs_syntax.proofs.Halves.{any_flat_map}
 use Rattle.pgs_plan.specs.declared.step.Step.{Step}
 use Rattle.pgs_plan.specs.declared.step.Step.TheVariants.{Along, End}
-use Rattle.pgs_plan.specs.Plans.{bound_by, is_known, and_known, has_end, is_step, are_steps, known_after, covers, completes}
-use Rattle.pgs_plan.proofs.Known.{edge_below, node_below, valid_speaks, valid_most, ends_kinds, step_bounds, covers_at}
+use Rattle.pgs_plan.specs.Plans.{bound_by, is_known, and_known, has_end, is_step, are_steps, covers, completes}
+use Rattle.pgs_plan.proofs.Known.{edge_below, node_below, valid_speaks, ends_kinds, step_bounds, covers_at}
 use Rattle.pgs_matching.specs.declared.bindings.Bound.{Bound}
 use Rattle.pgs_matching.specs.declared.bindings.Bound.TheVariants as bounds
 use Rattle.pgs_matching.specs.Bounds.{elem_of, bound_at, with_bound, end_at}
@@ -101,10 +101,15 @@ module _ (resolved : Resolved) (g : Graph) (pattern : Pattern) (valid : is_valid
         by true agree_all passes =
             let full = full_where_covered known b state (and_parts true _ whole).1 in
             let elems = elems_of resolved g pattern known b state full in
-            let agree = elems_agree resolved g pattern known b state full in
-            (b, elems, alone (test b) passes,
-              match_from resolved g pattern known b state full elems agree (valid_speaks pattern valid) agree_all (elems_there resolved g pattern known b state full), agree, full,
-              λ var x at. at)
+            let agree = elems_agree resolved g pattern known b state full in (
+              b,
+              elems,
+              alone (test b) passes,
+              match_from resolved g pattern known b state full elems agree (valid_speaks pattern valid) agree_all (elems_there resolved g pattern known b state full),
+              agree,
+              full,
+              λ var x at. at,
+            )
           where
             alone : (t : Bool) → (t || false) ≡ true → t ≡ true
             alone true h = refl

@@ -1,9 +1,9 @@
 -- How many look-ups a search takes at most, and how many completions there are, by the degrees near the element.
-use Rattle.std.proofs.Common.{◌≡◌, ℕ, zero, suc, ◌+◌, ◌*◌, ◌^◌, ◌<◌, ◌≤◌, Bool, true, false, ◌&&◌, cond, not, ⊎_elim, List, [], ◌∷◌, length, slice_get, replicate, Option, Some, None, refl, sym, ◌∙◌, ap, subst, true≢false, arith}
+use Rattle.std.proofs.Common.{◌≡◌, ℕ, zero, suc, ◌+◌, ◌*◌, ◌^◌, ◌≤◌, Bool, true, false, cond, List, [], ◌∷◌, length, slice_get, Option, Some, None, refl, sym, subst, arith}
 use Rattle.std.specs.Prelude.{option_and_then}
 use Rattle.std.specs.Option.{option_map_or}
-use Rattle.std.specs.List.{list_all, flat_map, sum_by}
-use Rattle.std.proofs.Math.Nat.{pow-zero, pow-succ', mul-le-mul, mul-le-mul_left, mul-le-mul_right}
+use Rattle.std.specs.List.{list_all, sum_by}
+use Rattle.std.proofs.Math.Nat.{pow-zero, pow-succ', mul-le-mul, mul-le-mul_right}
 use Rattle.std.proofs.lemmas.List.Sums.{sum_by-cons}
 use Rattle.std.proofs.lemmas.List.Concat.{length-flat_map}
 use Rattle.pgs_base.specs.declared.element.NodeId.{NodeId}
@@ -13,9 +13,8 @@ use Rattle.pgs_base.specs.declared.row.NodeRow.{NodeRow}
 use Rattle.pgs_base.specs.declared.row.EdgeRow.{EdgeRow}
 use Rattle.pgs_base.specs.Graph.{Graph, node_at, edge_at, is_graph}
 use Rattle.pgs_syntax.specs.declared.pattern.Atom.{Atom}
-use Rattle.pgs_syntax.specs.declared.pattern.Pattern.{Pattern}
 use Rattle.pgs_syntax.specs.declared.resolved.Resolved.{Resolved}
-use Rattle.pgs_graph.specs.Reads.{degree_of, out_edges_of, in_edges_of}
+use Rattle.pgs_graph.specs.Reads.{out_edges_of, in_edges_of}
 use Rattle.pgs_plan.specs.declared.step.Step.{Step}
 use Rattle.pgs_plan.specs.declared.step.Step.TheVariants.{Along, End}
 use Rattle.pgs_matching.specs.declared.bindings.Bound.{Bound}

@@ -1,15 +1,14 @@
 -- What a search binds lies near the element from which it began.
-use Rattle.std.proofs.Common.{◌≡◌, ℕ, zero, suc, ◌+◌, ◌-◌, zero-add, ◌<◌, ◌≤◌, Bool, true, false, ◌&&◌, ◌||◌, ◌==◌, cond, ⊎_elim, List, [], ◌∷◌, length, slice_get, Option, Some, None, IfSome, refl, sym, ◌∙◌, ap, subst, true≢false, arith}
-use Rattle.std.specs.Prelude.{option_and_then, option_map}
+use Rattle.std.proofs.Common.{◌≡◌, ℕ, zero, suc, ◌+◌, ◌-◌, zero-add, ◌≤◌, Bool, true, false, ◌&&◌, ◌||◌, cond, ⊎_elim, List, [], ◌∷◌, length, slice_get, Option, Some, None, IfSome, refl, sym, ◌∙◌, ap, subst, arith}
+use Rattle.std.specs.Prelude.{option_map}
 use Rattle.std.specs.Option.{option_map_or}
 use Rattle.std.specs.List.{list_any}
-use Rattle.std.specs.Map.{keys_of, lookup}
+use Rattle.std.specs.Map.{lookup}
 use Rattle.std.specs.BTreeMap.{is_at}
 use Rattle.std.proofs.lemmas.Bool.{and_from, or_left, or_right, eq-eqb}
 use Rattle.pgs_base.specs.declared.element.NodeId.{NodeId}
 use Rattle.pgs_base.specs.declared.element.EdgeId.{EdgeId}
 use Rattle.pgs_base.specs.declared.element.Elem.{Elem}
-use Rattle.pgs_base.specs.declared.element.Elem.TheVariants.{Node, Edge}
 use Rattle.pgs_base.specs.declared.row.EdgeRow.{EdgeRow}
 use Rattle.pgs_base.specs.Graph.{Graph, edge_cmp, edge_at, is_end, is_graph}
 use Rattle.pgs_syntax.specs.declared.pattern.Pattern.{Pattern}
@@ -21,8 +20,7 @@ use Rattle.pgs_graph.proofs.EdgesWith.{listed_end}
 use Rattle.pgs_matching.specs.declared.bindings.Bound.{Bound}
 use Rattle.pgs_matching.specs.declared.bindings.Bound.TheVariants as bounds
 use Rattle.pgs_matching.specs.Bounds.{elem_of, bound_at, with_bound, nothing_bound, end_at}
-use Rattle.pgs_matching.specs.Near.{is_within, IsSparse}
-use Rattle.pgs_matching.specs.Search.{edges_along}
+use Rattle.pgs_matching.specs.Near.{is_within}
 use Rattle.pgs_matching.proofs.Standing.{IsGood, bound_other, one_or_other}
 use Rattle.pgs_matching.proofs.Started.{nothing_at}
 
@@ -85,9 +83,10 @@ module _ (g : Graph) (elem : Elem) where
         let ends = listed_end end from g graph i in
         let here : option_map (end_of end) (edge_at g id) ≡ Some from = subst (λ o. IfSome o (λ edge. option_map (end_of end) (edge_at g edge) ≡ Some from)) at ends in
         let is : end_of end row ≡ from = (let e : Some (end_of end row) ≡ Some from = sym (ap (option_map (end_of end)) row_at) ∙ here in cc) in
-        let some = by end is in
-        (within_by near id row row.source row_at (or_left _ _ (eq-eqb row.source.0 row.source.0 refl)) some,
-          within_by near id row row.target row_at (or_right _ _ (eq-eqb row.target.0 row.target.0 refl)) some)
+        let some = by end is in (
+          within_by near id row row.source row_at (or_left _ _ (eq-eqb row.source.0 row.source.0 refl)) some,
+          within_by near id row row.target row_at (or_right _ _ (eq-eqb row.target.0 row.target.0 refl)) some,
+        )
       where
         by : (end : End) → end_of end row ≡ from → (is_within g near elem row.source || is_within g near elem row.target) ≡ true
         by Source is = or_left _ _ (subst (λ n. is_within g near elem n ≡ true) (sym is) within)
@@ -118,9 +117,10 @@ module _ (resolved : Resolved) (g : Graph) (pattern : Pattern) where
   pub near_itself : (var : ℕ) (x : Bound) → IsGood resolved g pattern var x → IsNear g (elem_of x) 0 x
   near_itself var (bounds.Node id) good = eq-eqb id.0 id.0 refl
   near_itself var (bounds.Edge id source target) good =
-      let row = good.1.0 in
-      (ap (λ o. option_map_or (is_end source) o false) good.1.1 ∙ or_left _ _ (eq-eqb row.source.0 source.0 (ap (λ (n : NodeId). n.0) good.1.2)),
-        ap (λ o. option_map_or (is_end target) o false) good.1.1 ∙ or_right _ _ (eq-eqb row.target.0 target.0 (ap (λ (n : NodeId). n.0) good.1.3)))
+      let row = good.1.0 in (
+        ap (λ o. option_map_or (is_end source) o false) good.1.1 ∙ or_left _ _ (eq-eqb row.source.0 source.0 (ap (λ (n : NodeId). n.0) good.1.2)),
+        ap (λ o. option_map_or (is_end target) o false) good.1.1 ∙ or_right _ _ (eq-eqb row.target.0 target.0 (ap (λ (n : NodeId). n.0) good.1.3)),
+      )
 
   pub near_alone : (var : ℕ) (x : Bound) → IsGood resolved g pattern var x → AreNear g (elem_of x) 0 (with_bound nothing_bound var x)
   near_alone var x good =

@@ -1,8 +1,6 @@
 -- Bindings as a search has them: which variables are bound is known, and each is bound to an element of the graph that passes.
-use Rattle.std.proofs.Common.{◌≡◌, ◌≢◌, ℕ, zero, suc, ◌+◌, ◌<◌, Bool, true, false, ◌&&◌, cond, List, [], ◌∷◌, length, slice_get, set, Option, Some, None, is_some, refl, sym, ◌∙◌, ap, subst, true≢false, arith, ◌⊎◌, inl, inr, ⊎_elim}
+use Rattle.std.proofs.Common.{◌≡◌, ◌≢◌, ℕ, zero, suc, ◌<◌, Bool, true, false, cond, List, [], ◌∷◌, length, Option, Some, None, is_some, refl, sym, ◌∙◌, ap, subst, true≢false, arith, ◌⊎◌, inl, inr, ⊎_elim}
 use Rattle.std.specs.Prelude.{option_and_then}
-use Rattle.std.specs.List.{list_all}
-use Rattle.std.proofs.lemmas.Bool.{and_parts}
 use Rattle.std.proofs.lemmas.List.{length-set}
 use Rattle.pgs_base.specs.declared.element.NodeId.{NodeId}
 use Rattle.pgs_base.specs.declared.element.EdgeId.{EdgeId}
@@ -14,7 +12,7 @@ use Rattle.pgs_syntax.specs.declared.pattern.Pattern.{Pattern}
 use Rattle.pgs_syntax.specs.declared.resolved.Resolved.{Resolved}
 use Rattle.pgs_syntax.specs.Valid.{is_edge_var, is_node_var}
 use Rattle.pgs_plan.specs.Plans.{is_known, and_known}
-use Rattle.pgs_plan.proofs.Known.{known_now, known_still}
+use Rattle.pgs_plan.proofs.Known.{known_now}
 use Rattle.pgs_matching.specs.declared.bindings.Bound.{Bound}
 use Rattle.pgs_matching.specs.declared.bindings.Bound.TheVariants as bounds
 use Rattle.pgs_matching.specs.Bounds.{elem_of, bound_at, with_bound}

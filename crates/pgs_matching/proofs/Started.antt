@@ -1,13 +1,10 @@
 -- A search from one variable and its element comes to the matches that have the element at the variable.
-use Rattle.std.proofs.Common.{◌≡◌, ℕ, zero, suc, ◌<◌, ◌≤◌, Bool, true, false, ◌&&◌, ◌||◌, cond, not, List, [], ◌∷◌, length, slice_get, replicate, Option, Some, None, is_some, refl, sym, ◌∙◌, ap, subst, true≢false, arith}
-use Rattle.std.specs.Prelude.{option_and_then}
+use Rattle.std.proofs.Common.{◌≡◌, ℕ, zero, suc, ◌<◌, Bool, true, false, ◌&&◌, cond, not, List, [], length, slice_get, replicate, Option, Some, None, is_some, refl, sym, ◌∙◌, ap, subst, true≢false, arith}
 use Rattle.std.specs.Option.{option_map_or}
 use Rattle.std.specs.Ordering.{is_eq}
-use Rattle.std.specs.List.{list_any, list_all}
+use Rattle.std.specs.List.{list_any}
 use Rattle.std.specs.Cmp.{tied_itself, Equal-is}
 use Rattle.std.proofs.lemmas.Bool.{and_parts, and_from}
-use Rattle.pgs_base.specs.declared.element.NodeId.{NodeId}
-use Rattle.pgs_base.specs.declared.element.EdgeId.{EdgeId}
 use Rattle.pgs_base.specs.declared.element.Elem.{Elem}
 use Rattle.pgs_base.specs.declared.element.Elem.TheVariants.{Node, Edge}
 use Rattle.pgs_base.specs.Graph.{Graph, edge_at}
@@ -19,7 +16,7 @@ use Rattle.pgs_syntax.specs.Matches.{same_elem, is_match, matches}
 use Rattle.pgs_syntax.specs.Valid.{is_edge_var, is_node_var, is_valid_pattern}
 use Rattle.pgs_syntax.proofs.Assigned.{match_found, match_given}
 use Rattle.pgs_plan.specs.declared.step.Step.{Step}
-use Rattle.pgs_plan.specs.Plans.{is_known, known_alone, completes, is_plan}
+use Rattle.pgs_plan.specs.Plans.{is_known, known_alone, is_plan}
 use Rattle.pgs_plan.proofs.Counts.{some_at}
 use Rattle.pgs_plan.proofs.Known.{valid_most}
 use Rattle.pgs_matching.specs.declared.bindings.Bound.{Bound}
@@ -86,9 +83,11 @@ module _ (resolved : Resolved) (g : Graph) (pattern : Pattern) where
         by true (Edge id) kind here form =
             let is : is_edge_var pattern.edge_vars var ≡ true = ap (λ (o : Option Bool). option_map_or (λ is_edge. is_edge) o false) kind in
             let number : form.0 ≡ id = (let e : Edge id ≡ Edge form.0 = form.2 in cc) in
-            let row_at = subst (λ n. edge_at g n ≡ Some form.1) number form.3 in
-            (bounds.Edge id form.1.source form.1.target,
-              ap (λ b. cond b (admitted_edge resolved g pattern.atoms var id) None) is ∙ edge_of_match resolved g pattern valid elems match var id form.1 here row_at, refl)
+            let row_at = subst (λ n. edge_at g n ≡ Some form.1) number form.3 in (
+              bounds.Edge id form.1.source form.1.target,
+              ap (λ b. cond b (admitted_edge resolved g pattern.atoms var id) None) is ∙ edge_of_match resolved g pattern valid elems match var id form.1 here row_at,
+              refl,
+            )
         by true (Node id) kind here form = let e : Node id ≡ Edge form.0 = form.2 in cc
         by false (Node id) kind here form =
             let is : is_node_var pattern.edge_vars var ≡ true = ap (λ (o : Option Bool). option_map_or not o false) kind in
@@ -96,7 +95,7 @@ module _ (resolved : Resolved) (g : Graph) (pattern : Pattern) where
         by false (Edge id) kind here form = let e : Edge id ≡ Node form.0 = form.2 in cc
 
   module _ (valid : is_valid_pattern pattern ≡ true) (var : ℕ) (below : var < length pattern.edge_vars) (plan : List Step) (plans : is_plan pattern var plan ≡ true) (elem : Elem)
-    (test : List (Option Bound) → Bool) (of_elems : List Elem → Bool) (same_test : (final : List (Option Bound)) (elems : List Elem) → Agrees final elems → IsFull resolved g pattern final → test final ≡ of_elems elems) where
+      (test : List (Option Bound) → Bool) (of_elems : List Elem → Bool) (same_test : (final : List (Option Bound)) (elems : List Elem) → Agrees final elems → IsFull resolved g pattern final → test final ≡ of_elems elems) where
     -- what the search has of the element comes to
     abbrev pub started : List (List (Option Bound))
     started = option_map_or (λ x. completions resolved g pattern.atoms plan (with_bound nothing_bound var x)) (admitted resolved g pattern var elem) []

@@ -1,6 +1,6 @@
 -- What a search gathers are the key values of an element, and the elements that are reached.
-use Rattle.std.proofs.Common.{◌≡◌, ℕ, ◌<◌, ◌≤◌, Bool, true, false, ◌&&◌, ◌||◌, cond, List, [], ◌∷◌, ◌++◌, map, filter, length, nat_lt, slice_get, Option, Some, None, refl, sym, ◌∙◌, ap, subst, true≢false, Ordering}
-use Rattle.std.specs.Prelude.{option_and_then, option_map, Contains}
+use Rattle.std.proofs.Common.{◌≡◌, ℕ, ◌<◌, Bool, true, false, ◌&&◌, List, [], ◌∷◌, length, nat_lt, Option, Some, None, refl, sym, ◌∙◌, ap, true≢false}
+use Rattle.std.specs.Prelude.{option_and_then, option_map}
 use Rattle.std.specs.Option.{option_map_or}
 use Rattle.std.specs.Ordering.{is_eq}
 use Rattle.std.specs.List.{list_any, list_all}
@@ -13,7 +13,7 @@ use Rattle.pgs_base.specs.declared.part.Part.{Part}
 use Rattle.pgs_base.specs.declared.part.Part.TheVariants as parts
 use Rattle.pgs_base.specs.declared.row.NodeRow.{NodeRow}
 use Rattle.pgs_base.specs.Graph.{Graph}
-use Rattle.pgs_base.specs.Order.{ascends, tuple_cmp}
+use Rattle.pgs_base.specs.Order.{tuple_cmp}
 use Rattle.pgs_base.specs.OrderLaws.{tuple_cmp_total, exact_tuple}
 use Rattle.pgs_base.specs.Pair.{value_at}
 use Rattle.pgs_base.proofs.Ascending.{ascends_decides, ascending_none}
@@ -23,8 +23,8 @@ use Rattle.pgs_syntax.specs.declared.pattern.Expr.{Expr}
 use Rattle.pgs_syntax.specs.declared.pattern.Expr.TheVariants.{Element, Property}
 use Rattle.pgs_syntax.specs.declared.pattern.Pattern.{Pattern}
 use Rattle.pgs_syntax.specs.declared.resolved.Resolved.{Resolved}
-use Rattle.pgs_syntax.specs.KeyValues.{starts_at, is_in_scope, part_of, tuple_of, key_values}
-use Rattle.pgs_syntax.specs.Matches.{carried, is_match, matches}
+use Rattle.pgs_syntax.specs.KeyValues.{starts_at, part_of, tuple_of, key_values}
+use Rattle.pgs_syntax.specs.Matches.{carried, matches}
 use Rattle.pgs_syntax.specs.Valid.{read_var, is_valid_pattern, is_valid_key}
 use Rattle.pgs_syntax.proofs.Assigned.{match_found, match_given, value_found, value_given}
 use Rattle.pgs_syntax.proofs.Halves.{any_same}
@@ -32,12 +32,12 @@ use Rattle.pgs_syntax.proofs.InOrder.{values_ascend}
 use Rattle.pgs_plan.specs.declared.step.Step.{Step}
 use Rattle.pgs_plan.specs.Plans.{is_plan}
 use Rattle.pgs_matching.specs.declared.bindings.Bound.{Bound}
-use Rattle.pgs_matching.specs.Bounds.{elem_of, bound_at, with_bound, nothing_bound, stands_at}
+use Rattle.pgs_matching.specs.Bounds.{elem_of, with_bound, nothing_bound, stands_at}
 use Rattle.pgs_matching.specs.Search.{part_at, tuple_at, completions, can_complete, gathered}
 use Rattle.pgs_matching.specs.Tests.{admitted}
 use Rattle.pgs_matching.proofs.Agreeing.{Agrees, IsFull}
 use Rattle.pgs_matching.proofs.Gathered.{can_is_any, through, gathered_ascends, has_gathered, gives, option_keeps, option_any}
-use Rattle.pgs_matching.proofs.Started.{started, started_are_matches, same_truth}
+use Rattle.pgs_matching.proofs.Started.{started_are_matches, same_truth}
 
 -- ---- expressions under bindings are those under the elements
 

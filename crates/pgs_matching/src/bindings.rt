@@ -11,7 +11,11 @@ pub const MOST_VARIABLES: usize = 20;
 #[derive(Clone, Copy, Debug)]
 pub enum Bound {
     Node(NodeId),
-    Edge { id: EdgeId, source: NodeId, target: NodeId },
+    Edge {
+        id: EdgeId,
+        source: NodeId,
+        target: NodeId,
+    },
 }
 
 impl Bound {

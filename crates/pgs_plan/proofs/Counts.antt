@@ -1,5 +1,5 @@
 -- How many variables aren't known, each with its weight: one less after each step. So how long a plan is, and along how many edges it goes.
-use Rattle.std.proofs.Common.{◌≡◌, ℕ, zero, suc, ◌+◌, ◌<◌, ◌≤◌, Bool, true, false, cond, List, [], ◌∷◌, length, slice_get, Some, refl, sym, ap, ◌∙◌, true≢false, arith}
+use Rattle.std.proofs.Common.{◌≡◌, ℕ, zero, suc, ◌+◌, ◌<◌, Bool, true, false, cond, List, [], ◌∷◌, length, slice_get, Some, refl, ap, true≢false, arith}
 use Rattle.pgs_plan.specs.Plans.{is_known, and_known}
 
 -- the weights of the variables that aren't known

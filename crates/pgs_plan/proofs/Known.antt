@@ -1,5 +1,5 @@
 -- What is known after steps, and that where no step is possible all variables of a connected pattern are.
-use Rattle.std.proofs.Common.{◌≡◌, ℕ, zero, suc, ◌<◌, ◌≤◌, Bool, true, false, ◌&&◌, ◌||◌, ◌==◌, not, cond, ⊎_elim, List, [], ◌∷◌, ◌++◌, length, get_or, set, take, ◌+◌, Option, Some, None, MatchOption, refl, sym, ◌∙◌, ap, subst, true≢false, arith}
+use Rattle.std.proofs.Common.{◌≡◌, ℕ, zero, suc, ◌<◌, ◌≤◌, Bool, true, false, ◌&&◌, ◌||◌, ◌==◌, not, cond, ⊎_elim, List, [], ◌∷◌, ◌++◌, length, get_or, take, ◌+◌, Option, Some, None, MatchOption, refl, sym, ◌∙◌, ap, subst, true≢false, arith}
 use Rattle.std.specs.List.{list_any, list_all}
 use Rattle.std.proofs.lemmas.Bool.{and_parts, and_from, or_cases, or_left, or_right, eqb-true, not-true, leb-true}
 use Rattle.std.proofs.lemmas.List.Folds.{list_any_at, list_all_more}
