@@ -21,7 +21,8 @@ abbrev pub is_within : Graph → ℕ → Elem → NodeId → Bool
 is_within g zero elem id = is_at_element g elem id
 is_within g (suc edges) elem id =
     is_within g edges elem id
-    || list_any (λ (edge : EdgeId × EdgeRow). is_end id edge.1 && (is_within g edges elem edge.1.source || is_within g edges elem edge.1.target)) g.edges
+    || list_any (λ (edge : EdgeId × EdgeRow).
+    is_end id edge.1 && (is_within g edges elem edge.1.source || is_within g edges elem edge.1.target)) g.edges
 
 -- no node within so many edges of an element has a greater in-degree plus out-degree
 abbrev pub IsSparse : Graph → ℕ → Elem → ℕ → Type 0

@@ -34,7 +34,8 @@ abbrev pub part_at : Graph → List (Option Bound) → Expr → Option Part
 part_at g bindings (Element var) = option_map (λ bound. parts.Elem (elem_of bound)) (bound_at bindings var)
 part_at g bindings (Property var key) =
     option_map parts.Value
-    (option_and_then (λ (own : NodeRow). value_at key own.props) (option_and_then (λ bound. carried g (elem_of bound)) (bound_at bindings var)))
+    (option_and_then (λ (own : NodeRow). value_at key own.props)
+    (option_and_then (λ bound. carried g (elem_of bound)) (bound_at bindings var)))
 
 abbrev pub tuple_at : Graph → List Expr → List (Option Bound) → Option (List Part)
 tuple_at g [] bindings = Some []
@@ -46,7 +47,8 @@ module _ (resolved : Resolved) (g : Graph) (atoms : List Atom) where
   abbrev pub completions : List Step → List (Option Bound) → List (List (Option Bound))
   completions [] bindings = cond (list_all (agrees bindings) atoms) (bindings ∷ []) []
   completions (Along edge node forward ∷ plan) bindings =
-      flat_map (λ id. option_map_or (λ bound. completions plan (with_bound bindings edge bound)) (admitted_edge resolved g atoms edge id) [])
+      flat_map (λ id.
+      option_map_or (λ bound. completions plan (with_bound bindings edge bound)) (admitted_edge resolved g atoms edge id) [])
       (edges_along g forward (bound_at bindings node))
   completions (End edge node source ∷ plan) bindings =
       option_map_or (λ bound. completions plan (with_bound bindings node bound))
@@ -56,7 +58,8 @@ module _ (resolved : Resolved) (g : Graph) (atoms : List Atom) where
   abbrev pub can_complete : List Step → List (Option Bound) → Bool
   can_complete [] bindings = list_all (agrees bindings) atoms
   can_complete (Along edge node forward ∷ plan) bindings =
-      list_any (λ id. option_map_or (λ bound. can_complete plan (with_bound bindings edge bound)) (admitted_edge resolved g atoms edge id) false)
+      list_any (λ id.
+      option_map_or (λ bound. can_complete plan (with_bound bindings edge bound)) (admitted_edge resolved g atoms edge id) false)
       (edges_along g forward (bound_at bindings node))
   can_complete (End edge node source ∷ plan) bindings =
       option_map_or (λ bound. can_complete plan (with_bound bindings node bound))
@@ -78,7 +81,8 @@ module _ (resolved : Resolved) (g : Graph) (atoms : List Atom) where
   most_steps last [] bindings = last
   most_steps last (Along edge node forward ∷ plan) bindings =
       length (edges_along g forward (bound_at bindings node)) + 1
-      + sum_by (λ id. 3 + option_map_or (λ bound. most_steps last plan (with_bound bindings edge bound)) (admitted_edge resolved g atoms edge id) 0)
+      + sum_by (λ id.
+      3 + option_map_or (λ bound. most_steps last plan (with_bound bindings edge bound)) (admitted_edge resolved g atoms edge id) 0)
       (edges_along g forward (bound_at bindings node))
   most_steps last (End edge node source ∷ plan) bindings =
       1 + option_map_or (λ bound. most_steps last plan (with_bound bindings node bound))

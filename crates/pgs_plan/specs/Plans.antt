@@ -32,8 +32,10 @@ has_end edge node source _ = false
 
 -- whether a step binds a variable that isn't known from one that is, by an edge place of the pattern
 abbrev pub is_step : List Atom → List Bool → Step → Bool
-is_step atoms known (Along edge node forward) = is_known known node && not (is_known known edge) && list_any (has_end edge node forward) atoms
-is_step atoms known (End edge node source) = is_known known edge && not (is_known known node) && list_any (has_end edge node source) atoms
+is_step atoms known (Along edge node forward) =
+    is_known known node && not (is_known known edge) && list_any (has_end edge node forward) atoms
+is_step atoms known (End edge node source) =
+    is_known known edge && not (is_known known node) && list_any (has_end edge node source) atoms
 
 -- whether no step is possible at an edge place: of its edge and of its ends all are known, or none is
 abbrev pub is_closed_at : List Bool → Atom → Bool
