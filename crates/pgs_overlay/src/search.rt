@@ -29,8 +29,8 @@ fn is_below<B: GraphRead, L: Ledger>(
     }
 }
 
-// A number that is at least the length of each list of edges.
-fn limit<B: GraphRead>(base: &B) -> usize
+/// A number that is at least the length of each list of edges.
+pub fn limit<B: GraphRead>(base: &B) -> usize
     ensures { (side : Side) (id : NodeId) → length (edges_at side id (B.meaning base.now).edges) ≤ result }
 {
     base.count() as usize
