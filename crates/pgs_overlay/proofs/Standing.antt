@@ -84,7 +84,7 @@ pub in_part : (xs : List EdgeId) (list : EditedList) (parts : List Placed) → p
 in_part xs list parts e stands place within i found =
     let s : StartFrom start_of (first_item xs) (items xs) 0 parts = rw e stands.placed.starts in
     let all : place < length (flat_map (items xs) parts) =
-        omega (arith, stands.placed.counted, ap (λ l. length (flat_map (items xs) l)) e) in
+    omega (arith, stands.placed.counted, ap (λ l. length (flat_map (items xs) l)) e) in
     let at = found xs s all in
     let stands_there = stands_in xs parts s i unread at.0 place at.1 at.2 in
     record {

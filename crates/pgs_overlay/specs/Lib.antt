@@ -1,3 +1,4 @@
+pub mod Edited
 pub mod Found
 pub mod Parts
 pub mod Sides
