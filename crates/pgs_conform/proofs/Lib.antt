@@ -1,0 +1,3 @@
+pub mod LabelWalk
+pub mod PropWalk
+pub mod Walks

@@ -1,0 +1,21 @@
+//! The compiled form of types, and the tests on it: does an element fit a type, and is it typed?
+//!
+//! Each type has a list of shapes, or of triples of shapes for an edge type. A shape says which labels and keys a pair may have,
+//! and is tested by one walk over both; nothing is split, copied or allocated. What a shape means stands in `specs/Shapes.antt`.
+//! A `Compiled` keeps the schema and its lists, and that each list denotes exactly what the definitions of fitting say of its type.
+//! Contracts see it as the schema.
+#![tactic(auto)]
+
+mod compiled;
+mod fitting;
+mod options;
+mod pair;
+pub mod samples;
+mod shape;
+mod walking;
+
+pub use compiled::Compiled;
+pub use fitting::{edge_fits, edge_typed, node_fits, node_typed};
+pub use options::Options;
+pub use pair::Pair;
+pub use shape::{Shape, Triple};
