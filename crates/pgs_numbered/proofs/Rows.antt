@@ -1,5 +1,5 @@
 -- How the slots of a table and its rows by number relate.
-use Rattle.std.proofs.Common.{◌≡◌, ◌+◌, ◌≤◌, get_or, drop, Bool, true, false, cond, ◌||◌, List, [], ◌∷◌, ◌++◌, length, Option, Some, None, IsSome, is_some, refl, sym, ap, subst, ◌∙◌, true≢false, arith, Ordering, is_eq}
+use Rattle.std.proofs.Common.{◌≡◌, ℕ, ◌+◌, ◌<◌, ◌≤◌, suc, add-one, get_or, drop, drop-cons, Bool, true, false, cond, ◌||◌, List, [], ◌∷◌, ◌++◌, length, Option, Some, None, IsSome, is_some, refl, sym, ap, subst, ◌∙◌, true≢false, arith, Ordering, is_eq}
 use Rattle.std.specs.Ordering.{eq_by_cmp}
 use Rattle.std.specs.Option.{option_flatten}
 use Rattle.std.specs.Cmp.{IsTotalOrder, IsEquivalence, eq_by_cmp_equiv, tied_itself}
@@ -276,3 +276,7 @@ first_taken {cmp = cmp} total (r ∷ rs) id ids keys =
     let tail : keys_of rs ≡ ids = ap (drop 1) keys in
     let tie : is_at (cmp id) r.0 ≡ true = ap (λ k. is_at (cmp id) k) head ∙ ap is_eq (tied_itself total id) in
     (r.1, rw tie refl, rw tie (ap (λ k. (k, r.1) ∷ rs) head), rw tie tail)
+
+-- the first of what is left of a list that a loop goes over
+pub first_of_rest : {X : Type 0} (items : List X) (i : ℕ) (x : X) → i < length items → x ≡ get_or items i x → drop i items ≡ x ∷ drop (i + 1) items
+first_of_rest items i x within is = rw (add-one, drop-cons items i x) (ap (λ l. l ∷ drop (suc i) items) (sym is))

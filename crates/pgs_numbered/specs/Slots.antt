@@ -13,7 +13,8 @@ pub record Slots (K V : Type 0) : Type 0 where
 
 abbrev pub code_slots : {K V : Type 0} → Coded K → Coded V → Coded (Slots K V)
 code_slots {K} {V} k v =
-    code_by (List (K × V) × List K) (coded× (coded_list (coded× k v)) (coded_list k)) (λ s. (s.rows, s.numbers)) (λ p. record { rows = p.0; numbers = p.1 }) (λ _. refl)
+    code_by (List (K × V) × List K) (coded× (coded_list (coded× k v)) (coded_list k))
+    (λ s. (s.rows, s.numbers)) (λ p. record { rows = p.0; numbers = p.1 }) (λ _. refl)
 
 -- whether a number has a slot
 abbrev pub has_slot : {K V : Type 0} → (K → K → Ordering) → Slots K V → K → Bool

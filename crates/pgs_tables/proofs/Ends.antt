@@ -1,17 +1,20 @@
 -- The ends of a graph's edges are there, so that a node that isn't there has no edges.
 use Rattle.std.proofs.Common.{◌≡◌, ◌==◌, Bool, true, false, cond, ◌||◌, List, [], ◌∷◌, Option, Some, None, is_some, refl, sym, ap, ◌∙◌, true≢false}
+use Rattle.std.specs.Option.{option_map}
 use Rattle.std.specs.List.{filter, list_all}
 use Rattle.std.specs.Map.{keys_of}
 use Rattle.std.specs.BTreeMap.{is_at}
 use Rattle.std.proofs.lemmas.Bool.{eqb-true, and_parts}
 use Rattle.pgs_base.specs.declared.element.NodeId.{NodeId}
 use Rattle.pgs_base.specs.declared.element.EdgeId.{EdgeId}
+use Rattle.pgs_base.specs.declared.row.NodeRow.{NodeRow}
 use Rattle.pgs_base.specs.declared.row.EdgeRow.{EdgeRow}
 use Rattle.pgs_base.specs.Graph.{Graph, edge_cmp, node_at, edge_at, is_end, has_ends, is_graph}
 use Rattle.pgs_base.proofs.Graphs.{graph_parts}
 use Rattle.pgs_graph.specs.declared.scan.End.{End}
 use Rattle.pgs_graph.specs.declared.scan.End.TheVariants.{Source, Target}
 use Rattle.pgs_graph.specs.Reads.{end_of, ends_at, edges_with}
+use Rattle.pgs_tables.specs.declared.node_edges.NodeEdges.{NodeEdges}
 use Rattle.pgs_tables.specs.Adjacency.{no_edges, node_edges, is_end_of}
 use Rattle.pgs_tables.proofs.Folded.{passes_found}
 
@@ -53,3 +56,8 @@ module _ (h : Graph) (q : NodeId) where
     absent_node absent =
         let all = (graph_parts h graph).ends in
         λ i. record { outgoing = none_with Source absent h.edges all i; incoming = none_with Target absent h.edges all i }
+
+-- a node that gives no edges isn't there
+pub no_node : (o : Option NodeRow) (edges : NodeEdges) → None ≡ option_map (λ (row : NodeRow). edges) o → o ≡ None
+no_node None edges none = refl
+no_node (Some row) edges none = absurd (true≢false (sym (ap is_some none)))

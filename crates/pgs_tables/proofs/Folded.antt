@@ -1,5 +1,5 @@
 -- What changes of ascending keys make of what stands at one key, and which entries a filter keeps.
-use Rattle.std.proofs.Common.{◌≡◌, ℕ, ◌+◌, ◌<◌, suc, add-one, get_or, drop, drop-cons, length, Bool, true, false, cond, List, [], ◌∷◌, Option, Some, None, refl, sym, ap, ◌∙◌, Ordering, Less, is_eq, fold, map}
+use Rattle.std.proofs.Common.{◌≡◌, Bool, true, false, cond, List, [], ◌∷◌, Option, Some, None, refl, sym, ap, ◌∙◌, Ordering, Less, is_eq, fold, map}
 use Rattle.std.specs.Option.{option_map, option_map_or}
 use Rattle.std.specs.Cmp.{IsTotalOrder, eq_by_cmp_equiv, tied_itself, Equal-is}
 use Rattle.std.specs.Ordering.{ordering_reverse}
@@ -111,7 +111,3 @@ module _ {K V W : Type 0} {cmp : K → K → Ordering} (exact : CmpEqualImpliesE
           rest ∙ rw fails refl
       by rest false true tie is = rw tie rest
       by rest false false tie is = rest
-
--- the first of what is left of a list that a loop goes over
-pub first_of_rest : {X : Type 0} (items : List X) (i : ℕ) (x : X) → i < length items → x ≡ get_or items i x → drop i items ≡ x ∷ drop (i + 1) items
-first_of_rest items i x within is = rw (add-one, drop-cons items i x) (ap (λ l. l ∷ drop (suc i) items) (sym is))

@@ -26,7 +26,7 @@ all_same : {K B : Type 0} (f : K → B) (ks : List K) → AllByRecursion (λ k. 
 all_same f [] = tt
 all_same f (k ∷ ks) = (refl, all_same f ks)
 
-none_of : {A : Type 0} (o : Option A) → is_some o ≡ false → o ≡ None
+pub none_of : {A : Type 0} (o : Option A) → is_some o ≡ false → o ≡ None
 none_of None empty = refl
 none_of (Some a) empty = absurd (true≢false empty)
 

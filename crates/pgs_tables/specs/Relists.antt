@@ -38,7 +38,7 @@ abbrev pub stays : List (NodeId × Option NodeRow) → NodeId → Bool
 stays changes id = leaves_row (lookup (is_at (node_cmp id)) changes)
 
 module _ (base : NodeEdges) (left : Bool) (q : NodeId) where
-  -- an edit of the edges at a node `id`: of those that are made already, and else of those that it had
+  -- an edit of the edges at a node `id`, which are those that are made already, and else those that it had
   abbrev pub relisted : NodeId → Side → Bool → EdgeId → Option NodeEdges → Option NodeEdges
   relisted id side adds edge made = cond (is_at (node_cmp id) q && left) (Some (side_edited side adds edge (unwrap_or made base))) made
 
@@ -52,7 +52,8 @@ module _ (base : NodeEdges) (left : Bool) (q : NodeId) where
   relisted_change old made change = relisted_ends true change.0 change.1 (relisted_ends false change.0 (old change.0) made)
 
 -- the new edges at a node, after the changes of edges
-abbrev pub relisted_all : Graph → List (NodeId × Option NodeRow) → NodeId → List (EdgeId × Option EdgeRow) → Option NodeEdges → Option NodeEdges
+abbrev pub relisted_all : Graph → List (NodeId × Option NodeRow) → NodeId → List (EdgeId × Option EdgeRow) → Option NodeEdges →
+    Option NodeEdges
 relisted_all g nodes q changes made = fold (relisted_change (node_edges g q) (stays nodes q) q (edge_at g)) made changes
 
 -- the edges at a node that a delta puts in: those that are made already, and else those that it had

@@ -1,13 +1,9 @@
-use Rattle.std.proofs.Common.{◌≡◌, ℕ, ◌+◌, ◌<◌, ◌∙◌, suc, List, [], ◌∷◌, ◌++◌, is_some, drop, drop-cons, add-one, get_or, length, sym, ap, subst, refl, append_assoc, append-nil, true≢false, unwrap_or}
+use Rattle.std.proofs.Common.{◌≡◌, ◌+◌, ◌∙◌, List, [], ◌∷◌, ◌++◌, is_some, drop, sym, ap, refl, append_assoc, append-nil, true≢false, unwrap_or}
 use Rattle.std.proofs.lemmas.List.{drop_all}
 use Rattle.std.specs.Map.{keys_of}
-use Rattle.std.specs.List.Sorted.{IsStrictlySortedBy}
-use Rattle.pgs_numbered.proofs.Rows.{first_taken}
+use Rattle.pgs_numbered.proofs.Rows.{first_of_rest, first_taken}
 use Rattle.pgs_numbered.proofs.numbered.Numbered.take_all.Goals.{in-Some+in_ok-push-in-Some, in-None}
 use Rattle.pgs_numbered.proofs.numbered.Numbered.take_all.Goals as goal
-
-first_of_rest : {K : Type 0} (items : List K) (i : ℕ) (k : K) → i < length items → k ≡ get_or items i k → drop i items ≡ k ∷ drop (i + 1) items
-first_of_rest items i k within is = rw (add-one, drop-cons items i k) (ap (λ l. l ∷ drop (suc i) items) (sym is))
 
 -- a row that is moved from the front of what is left to the end of what is done
 moved_one : {X : Type 0} (done moved left rest all : List X) (x : X) → moved ≡ done ++ x ∷ [] → left ≡ x ∷ rest → done ++ left ≡ all → moved ++ rest ≡ all

@@ -1,18 +1,12 @@
-use Rattle.std.proofs.Common.{◌≡◌, ◌∙◌, true, Option, Some, None, IfOk, is_some, unwrap_or, sym, ap, subst, refl, true≢false}
-use Rattle.std.specs.Option.{option_map, option_copied}
+use Rattle.std.proofs.Common.{◌≡◌, ◌∙◌, true, None, IfOk, unwrap_or, sym, ap, subst}
+use Rattle.std.specs.Option.{option_copied}
 use Rattle.std.specs.Map.{lookup}
 use Rattle.std.specs.BTreeMap.{is_at}
-use Rattle.pgs_base.specs.declared.row.NodeRow.{NodeRow}
 use Rattle.pgs_base.specs.Graph.{node_cmp, node_at, is_graph}
-use Rattle.pgs_tables.specs.declared.node_edges.NodeEdges.{NodeEdges}
 use Rattle.pgs_tables.specs.Adjacency.{node_edges}
 use Rattle.pgs_tables.specs.Relists.{edges_edited}
-use Rattle.pgs_tables.proofs.Ends.{absent_node}
+use Rattle.pgs_tables.proofs.Ends.{absent_node, no_node}
 use Rattle.pgs_tables.proofs.tables.Tables.edited.Goals as goal
-
-no_node : (o : Option NodeRow) (edges : NodeEdges) → None ≡ option_map (λ (row : NodeRow). edges) o → o ≡ None
-no_node None edges none = refl
-no_node (Some row) edges none = absurd (true≢false (sym (ap is_some none)))
 
 pub returns-in-None : goal.returns-in-None
 returns-in-None c =

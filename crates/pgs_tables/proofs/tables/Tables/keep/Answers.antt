@@ -11,7 +11,8 @@ use Rattle.pgs_graph.proofs.Deltas.{node_cmp_total, exact_node}
 use Rattle.pgs_tables.specs.declared.node_edges.NodeEdges.{NodeEdges}
 use Rattle.pgs_tables.specs.Adjacency.{node_edges}
 use Rattle.std.proofs.Common.{Bor}
-use Rattle.pgs_tables.proofs.Ends.{absent_node}
+use Rattle.pgs_tables.proofs.Ends.{absent_node, no_node}
+use Rattle.pgs_tables.proofs.Touched.{none_of}
 use Rattle.pgs_tables.proofs.tables.Tables.keep.Goals.{in-Some+in_ok-edges-in-Some, in-None}
 use Rattle.pgs_tables.proofs.tables.Tables.keep.Goals as goal
 
@@ -23,17 +24,9 @@ kept_in id q was base none edges is true tie =
     rw empty (ap Some (is ∙ ap base same))
 kept_in id q was base none edges is false apart = refl
 
-none_from : {A : Type 0} (o : Option A) → is_some o ≡ false → o ≡ None
-none_from None empty = refl
-none_from (Some a) empty = absurd (true≢false empty)
-
 some_copied : (o : Option (Bor NodeEdges)) → is_some (option_copied o) ≡ is_some o
 some_copied None = refl
 some_copied (Some x) = refl
-
-no_node : (o : Option NodeRow) (edges : NodeEdges) → None ≡ option_map (λ (row : NodeRow). edges) o → o ≡ None
-no_node None edges none = refl
-no_node (Some row) edges none = absurd (true≢false (sym (ap is_some none)))
 
 same_edges : (o : Option NodeRow) (edges had : NodeEdges) → Some had ≡ option_map (λ (row : NodeRow). edges) o → had ≡ edges
 same_edges None edges had some = absurd (true≢false (ap is_some some))
@@ -45,7 +38,7 @@ returns c q =
     let graph = c.args.self.now.graph in
     let was = λ (n : NodeId). lookup (is_at (node_cmp n)) rows in
     let base = λ (n : NodeId). node_edges graph n in
-    let none : was c.args.id ≡ None = none_from (was c.args.id) (ap is_some (sym c.get.ensures) ∙ some_copied c.get.result ∙ sym c.is_some.ensures ∙ c.if-is_some.false) in
+    let none : was c.args.id ≡ None = none_of (was c.args.id) (ap is_some (sym c.get.ensures) ∙ some_copied c.get.result ∙ sym c.is_some.ensures ∙ c.if-is_some.false) in
     let graph_is : is_graph graph ≡ true = ap (λ s. is_graph s.graph) (sym c.self.view_is) ∙ c.self.invariant.graph in
     let edges : c.match-edges_at.edges ≡ base c.args.id =
     elim c.match-edges_at.branch [
