@@ -1,3 +1,4 @@
+pub mod Edits
 pub mod Lists
 pub mod Searching
 pub mod Standing
