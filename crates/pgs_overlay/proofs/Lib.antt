@@ -1,4 +1,6 @@
 pub mod Edits
 pub mod Lists
+pub mod Passing
 pub mod Searching
 pub mod Standing
+pub mod Taking

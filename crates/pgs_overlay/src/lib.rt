@@ -9,3 +9,4 @@ mod edited_list;
 mod part;
 mod search;
 mod side;
+mod side_lists;
