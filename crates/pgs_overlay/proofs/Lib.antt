@@ -1,5 +1,6 @@
 pub mod Edits
 pub mod Lists
+pub mod Looping
 pub mod Passing
 pub mod Searching
 pub mod Standing

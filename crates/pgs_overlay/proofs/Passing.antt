@@ -20,8 +20,9 @@ use Rattle.pgs_tables.proofs.EdgeLists.{has_end, edited_with, edited-changed, an
 use Rattle.pgs_overlay.specs.declared.side.Side.{Side}
 use Rattle.pgs_overlay.specs.declared.edited_list.EditedList.{EditedList}
 use Rattle.pgs_overlay.specs.Edited.{IsEdited, IsEditedAt, IsReadyFor}
-use Rattle.pgs_overlay.specs.Passed.{list_at, is_here, list_changed, FollowsChange, IsEditAt, IsReadyAt, AreReady, ArePassed}
+use Rattle.pgs_overlay.specs.Passed.{list_at, is_here, list_changed, FollowsChange, IsEditAt, IsReadyAt, AreReady, ArePassed, AllFollow, end_on}
 use Rattle.pgs_overlay.specs.Sides.{end_at, edges_at}
+use Rattle.pgs_overlay.proofs.Lists.{ascending_list}
 use Rattle.pgs_overlay.proofs.Taking.{itself}
 
 -- an edge that changes nothing in a list
@@ -52,7 +53,7 @@ follows_both xs edge false false apart old between new first second = rw (second
 
 -- a node has an edge in its list exactly where it is its end
 module _ (side : Side) (g : Graph) (graph : is_graph g ≡ true) (edge : EdgeId) where
-  ends_here : (q : NodeId) (row : Option EdgeRow) → has_end (end_at side) q row ≡ is_here q (option_map (end_of (end_at side)) row)
+  pub ends_here : (q : NodeId) (row : Option EdgeRow) → has_end (end_at side) q row ≡ is_here q (option_map (end_of (end_at side)) row)
   ends_here q None = refl
   ends_here q (Some row) = refl
 
@@ -128,3 +129,44 @@ edges_changed end q es edge new sorted = by (has_end end q (lookup (is_at (edge_
     by false false h n = kept (h ∙ sym n)
     by true false h n = sym (edited-changed end q es edge sorted new) ∙ rw (h, n) refl
     by false true h n = sym (edited-changed end q es edge sorted new) ∙ rw (h, n) refl
+
+entries_push : (es : List (EdgeId × EdgeRow)) (changes : List (EdgeId × Option EdgeRow)) (change : EdgeId × Option EdgeRow)
+    → entries_changed edge_cmp es (changes ++ change ∷ []) ≡ entry_changed edge_cmp (entries_changed edge_cmp es changes) change.0 change.1
+entries_push es [] change = refl
+entries_push es (c ∷ cs) change = entries_push (entry_changed edge_cmp es c.0 c.1) cs change
+
+module _ (side : Side) (g : Graph) (graph : is_graph g ≡ true) where
+  -- before the first change
+  pub passed_none : (later : List EdgeId) → ArePassed side g [] later []
+  passed_none later q = copied_none (edges_at side q g.edges) later (ascending_list side q g graph)
+
+  module _ (changes : List (EdgeId × Option EdgeRow)) (change : EdgeId × Option EdgeRow) (later : List EdgeId) (lists new : List (NodeId × EditedList)) (passed : ArePassed side g changes (change.0 ∷ later) lists) where
+    -- the lists are ready for the next edge
+    pub passed_ready : AreReady change.0 side g lists
+    passed_ready q = by (list_at lists q) (passed q)
+      where
+        by : (kept : Option EditedList) → IsEditedAt (edges_at side q g.edges) (edges_at side q (entries_changed edge_cmp g.edges changes)) (change.0 ∷ later) kept
+            → IsReadyAt change.0 (edges_at side q g.edges) kept
+        by None was = tt
+        by (Some list) was = record { stands = was.stands; lower = λ k low. was.copied.done_below k 0 low (omega arith) }
+
+    -- and after it, it is among those that were passed
+    pub passed_more : AllFollow side g change lists new → lookup (is_at (edge_cmp change.0)) changes ≡ None → IsStrictlySortedBy edge_cmp (keys_of changes)
+        → IsStrictlySortedBy edge_cmp (change.0 ∷ later) → ArePassed side g (changes ++ change ∷ []) later new
+    passed_more follows fresh sorted rising q =
+        rw whole (follows q (edges_at side q es) later (passed q) rising)
+      where
+        es : List (EdgeId × EdgeRow)
+        es = entries_changed edge_cmp g.edges changes
+
+        before : lookup (is_at (edge_cmp change.0)) es ≡ edge_at g change.0
+        before = lookup-entries_changed edge_cmp_total change.0 g.edges changes (ascending_edges g graph) sorted ∙ ap (λ o. after_changes o (edge_at g change.0)) fresh
+
+        whole : edges_at side q (entries_changed edge_cmp g.edges (changes ++ change ∷ []))
+            ≡ list_changed (is_here q (end_on side (edge_at g change.0))) (is_here q (end_on side change.1)) change.0 (edges_at side q es)
+        whole =
+            ap (edges_at side q) (entries_push g.edges changes change)
+            ∙ edges_changed (end_at side) q es change.0 change.1 (ascending-entries_changed edge_cmp_total g.edges changes (ascending_edges g graph))
+            ∙ ap (λ o. list_changed (has_end (end_at side) q o) (has_end (end_at side) q change.1) change.0 (edges_at side q es)) before
+            ∙ ap (λ b. list_changed b (has_end (end_at side) q change.1) change.0 (edges_at side q es)) (ends_here side g graph change.0 q (edge_at g change.0))
+            ∙ ap (λ b. list_changed (is_here q (end_on side (edge_at g change.0))) b change.0 (edges_at side q es)) (ends_here side g graph change.0 q change.1)

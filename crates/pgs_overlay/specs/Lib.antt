@@ -3,3 +3,4 @@ pub mod Found
 pub mod Parts
 pub mod Passed
 pub mod Sides
+pub mod Standing

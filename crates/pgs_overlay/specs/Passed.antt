@@ -1,5 +1,6 @@
 -- The lists of the nodes of one side while a delta's edges are gone through, one by one.
 use Rattle.std.specs.Prelude.{◌≡◌, ℕ, ◌≤◌, ◌==◌, Bool, true, false, List, [], ◌∷◌, length, Option, Some, None}
+use Rattle.std.specs.Option.{option_map}
 use Rattle.std.specs.List.Sorted.{IsStrictlySortedBy}
 use Rattle.std.specs.Map.{lookup}
 use Rattle.std.specs.BTreeMap.{is_at}
@@ -8,14 +9,15 @@ use Rattle.std.specs.Set.{remove_key}
 use Rattle.pgs_base.specs.declared.element.NodeId.{NodeId}
 use Rattle.pgs_base.specs.declared.element.EdgeId.{EdgeId}
 use Rattle.pgs_base.specs.declared.row.EdgeRow.{EdgeRow}
-use Rattle.pgs_base.specs.Graph.{Graph, node_cmp, edge_cmp}
+use Rattle.pgs_base.specs.Graph.{Graph, node_cmp, edge_cmp, edge_at}
+use Rattle.pgs_graph.specs.Reads.{end_of}
 use Rattle.pgs_graph.specs.Changed.{entries_changed}
 use Rattle.pgs_overlay.specs.declared.side.Side.{Side}
 use Rattle.pgs_overlay.specs.declared.side.Side.TheVariants.{Out, In}
 use Rattle.pgs_overlay.specs.declared.edited_list.EditedList.{EditedList}
 use Rattle.pgs_overlay.specs.Edited.{IsEditedAt, IsReadyFor}
 use Rattle.pgs_overlay.specs.Parts.{StandsOn}
-use Rattle.pgs_overlay.specs.Sides.{edges_at}
+use Rattle.pgs_overlay.specs.Sides.{end_at, edges_at}
 
 -- the list that is kept for a node, where one is
 abbrev pub list_at : List (NodeId × EditedList) → NodeId → Option EditedList
@@ -66,3 +68,12 @@ ArePassed side g changes later lists = (id : NodeId) →
 pub record HasFew (g : Graph) (most : ℕ) (id : NodeId) : Type 0 where
   pub outgoing : length (edges_at Out id g.edges) ≤ most
   pub incoming : length (edges_at In id g.edges) ≤ most
+
+-- a row's node at which a side lists it, where there is a row
+abbrev pub end_on : Side → Option EdgeRow → Option NodeId
+end_on side row = option_map (end_of (end_at side)) row
+
+-- all lists of a side follow a change of an edge of a graph
+abbrev pub AllFollow : Side → Graph → EdgeId × Option EdgeRow → List (NodeId × EditedList) → List (NodeId × EditedList) → Type 0
+AllFollow side g change old new = (id : NodeId) → FollowsChange (edges_at side id g.edges) change.0
+    (is_here id (end_on side (edge_at g change.0))) (is_here id (end_on side change.1)) (list_at old id) (list_at new id)

@@ -4,9 +4,15 @@
 //! edges that the delta touches is kept as ranges of the base's list and edges that are put in (`specs/Parts.antt`); nothing is copied.
 #![tactic(auto)]
 
+mod changes;
+mod counting;
 mod edit;
 mod edited_list;
+mod node_lists;
+mod overlay;
 mod part;
 mod search;
 mod side;
 mod side_lists;
+
+pub use overlay::Overlay;
