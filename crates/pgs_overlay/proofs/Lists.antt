@@ -24,7 +24,7 @@ filtered test (x ∷ xs) = by (test x) (filtered test xs)
     by true le = omega arith
     by false le = omega arith
 
-keys_counted : {K V : Type 0} (es : List (K × V)) → length (keys_of es) ≡ length es
+pub keys_counted : {K V : Type 0} (es : List (K × V)) → length (keys_of es) ≡ length es
 keys_counted [] = refl
 keys_counted (e ∷ es) = ap suc (keys_counted es)
 

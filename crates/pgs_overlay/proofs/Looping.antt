@@ -5,7 +5,6 @@ use Rattle.std.specs.List.{AllByRecursion, list_any}
 use Rattle.std.specs.List.Sorted.{IsStrictlySortedBy}
 use Rattle.std.specs.Map.{keys_of, lookup}
 use Rattle.std.specs.BTreeMap.{is_at}
-use Rattle.std.proofs.lemmas.List.{take_more}
 use Rattle.std.proofs.Math.Nat.{mul-le-mul_left}
 use Rattle.pgs_base.specs.declared.element.NodeId.{NodeId}
 use Rattle.pgs_base.specs.declared.element.EdgeId.{EdgeId}
@@ -18,43 +17,12 @@ use Rattle.pgs_overlay.specs.declared.side.Side.TheVariants.{Out, In}
 use Rattle.pgs_overlay.specs.declared.edited_list.EditedList.{EditedList}
 use Rattle.pgs_overlay.specs.Passed.{list_at, is_here, FollowsChange, AreReady, ArePassed, AllFollow, HasFew, end_on}
 use Rattle.pgs_overlay.specs.Sides.{edges_at}
+use Rattle.pgs_overlay.proofs.Before.{first_of_rest, last_of_front, ascending_before, ascending_from, fresh_at}
 use Rattle.pgs_overlay.proofs.Passing.{passed_ready, passed_more}
 use Rattle.pgs_overlay.proofs.Taking.{itself}
 
 abbrev Change : Type 0
 Change = EdgeId × Option EdgeRow
-
-first_of_rest : (cs : List Change) (i : ℕ) (c : Change) → i < length cs → c ≡ get_or cs i c → drop i cs ≡ c ∷ drop (i + 1) cs
-first_of_rest cs i c within is = rw (add-one, drop-cons cs i c) (ap (λ l. l ∷ drop (suc i) cs) (sym is))
-
-all_before : (P : EdgeId → Type 0) (i : ℕ) (cs : List Change) → AllByRecursion P (keys_of cs) → AllByRecursion P (keys_of (take i cs))
-all_before P zero cs all = tt
-all_before P (suc i) [] all = tt
-all_before P (suc i) (c ∷ cs) all = (all.0, all_before P i cs all.1)
-
-pub ascending_before : (i : ℕ) (cs : List Change) → IsStrictlySortedBy edge_cmp (keys_of cs) → IsStrictlySortedBy edge_cmp (keys_of (take i cs))
-unfolding IsStrictlySortedBy
-ascending_before zero cs s = tt
-ascending_before (suc i) [] s = tt
-ascending_before (suc i) (c ∷ cs) s = (all_before _ i cs s.0, ascending_before i cs s.1)
-
-ascending_from : (i : ℕ) (cs : List Change) → IsStrictlySortedBy edge_cmp (keys_of cs) → IsStrictlySortedBy edge_cmp (keys_of (drop i cs))
-unfolding IsStrictlySortedBy
-ascending_from zero cs s = s
-ascending_from (suc i) [] s = tt
-ascending_from (suc i) (c ∷ cs) s = ascending_from i cs s.1
-
--- a change's edge isn't among those before it
-fresh_at : (cs : List Change) (i : ℕ) (d : Change) → IsStrictlySortedBy edge_cmp (keys_of cs) → i < length cs → lookup (is_at (edge_cmp (get_or cs i d).0)) (take i cs) ≡ None
-unfolding IsStrictlySortedBy
-fresh_at [] i d s lt = absurd (omega arith)
-fresh_at (c ∷ cs) zero d s lt = refl
-fresh_at (c ∷ cs) (suc i) d s lt = rw (later cs s.0 i (omega arith)) (fresh_at cs i d s.1 (omega arith))
-  where
-    later : (fs : List Change) → AllByRecursion (λ y. edge_cmp c.0 y ≡ Less) (keys_of fs) → (j : ℕ) → j < length fs → edge_cmp (get_or fs j d).0 c.0 ≡ Greater
-    later [] a j lt = absurd (omega arith)
-    later (f ∷ fs) a zero lt = edge_cmp_total.antisymm f.0 c.0 ∙ ap ordering_reverse a.0
-    later (f ∷ fs) a (suc j) lt = later fs a.1 j (omega arith)
 
 module _ (side : Side) (g : Graph) (graph : is_graph g ≡ true) (cs : List Change) (i : ℕ) (c : Change) (s : IsStrictlySortedBy edge_cmp (keys_of cs)) (within : i < length cs) (is : c ≡ get_or cs i c) (lists : List (NodeId × EditedList)) (passed : ArePassed side g (take i cs) (keys_of (drop i cs)) lists) where
   passed_here : ArePassed side g (take i cs) (c.0 ∷ keys_of (drop (i + 1) cs)) lists
@@ -66,11 +34,11 @@ module _ (side : Side) (g : Graph) (graph : is_graph g ≡ true) (cs : List Chan
   pub passed_next : (new : List (NodeId × EditedList)) → AllFollow side g c lists new → ArePassed side g (take (i + 1) cs) (keys_of (drop (i + 1) cs)) new
   passed_next new follows =
       let rising : IsStrictlySortedBy edge_cmp (c.0 ∷ keys_of (drop (i + 1) cs)) =
-          subst (λ l. IsStrictlySortedBy edge_cmp (keys_of l)) (first_of_rest cs i c within is) (ascending_from i cs s) in
+          subst (λ l. IsStrictlySortedBy edge_cmp (keys_of l)) (first_of_rest cs i c within is) (ascending_from edge_cmp i cs s) in
       let fresh : lookup (is_at (edge_cmp c.0)) (take i cs) ≡ None =
-          subst (λ x. lookup (is_at (edge_cmp x.0)) (take i cs) ≡ None) (sym is) (fresh_at cs i c s within) in
-      subst (λ l. ArePassed side g l (keys_of (drop (i + 1) cs)) new) (sym (take_more cs i c within ∙ ap (λ x. take i cs ++ x ∷ []) (sym is)))
-      (passed_more side g graph (take i cs) c (keys_of (drop (i + 1) cs)) lists new passed_here follows fresh (ascending_before i cs s) rising)
+          subst (λ x. lookup (is_at (edge_cmp x.0)) (take i cs) ≡ None) (sym is) (fresh_at edge_cmp edge_cmp_total cs i c s within) in
+      subst (λ l. ArePassed side g l (keys_of (drop (i + 1) cs)) new) (sym (last_of_front cs i c within is))
+      (passed_more side g graph (take i cs) c (keys_of (drop (i + 1) cs)) lists new passed_here follows fresh (ascending_before edge_cmp i cs s) rising)
 
 -- what is edited at two ends follows the change
 pub all_follow : (side : Side) (g : Graph) (c : Change) (first second : Option NodeId) (old new : List (NodeId × EditedList))
@@ -86,7 +54,7 @@ or_left : (a b : Bool) → a ≡ true → (a || b) ≡ true
 or_left true b e = refl
 or_left false b e = absurd (cc)
 
-or_right : (a b : Bool) → b ≡ true → (a || b) ≡ true
+pub or_right : (a b : Bool) → b ≡ true → (a || b) ≡ true
 or_right true b e = refl
 or_right false b e = e
 

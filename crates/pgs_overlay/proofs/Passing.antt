@@ -22,6 +22,7 @@ use Rattle.pgs_overlay.specs.declared.edited_list.EditedList.{EditedList}
 use Rattle.pgs_overlay.specs.Edited.{IsEdited, IsEditedAt, IsReadyFor}
 use Rattle.pgs_overlay.specs.Passed.{list_at, is_here, list_changed, FollowsChange, IsEditAt, IsReadyAt, AreReady, ArePassed, AllFollow, end_on}
 use Rattle.pgs_overlay.specs.Sides.{end_at, edges_at}
+use Rattle.pgs_overlay.proofs.Before.{entries_push}
 use Rattle.pgs_overlay.proofs.Lists.{ascending_list}
 use Rattle.pgs_overlay.proofs.Taking.{itself}
 
@@ -130,11 +131,6 @@ edges_changed end q es edge new sorted = by (has_end end q (lookup (is_at (edge_
     by true false h n = sym (edited-changed end q es edge sorted new) ∙ rw (h, n) refl
     by false true h n = sym (edited-changed end q es edge sorted new) ∙ rw (h, n) refl
 
-entries_push : (es : List (EdgeId × EdgeRow)) (changes : List (EdgeId × Option EdgeRow)) (change : EdgeId × Option EdgeRow)
-    → entries_changed edge_cmp es (changes ++ change ∷ []) ≡ entry_changed edge_cmp (entries_changed edge_cmp es changes) change.0 change.1
-entries_push es [] change = refl
-entries_push es (c ∷ cs) change = entries_push (entry_changed edge_cmp es c.0 c.1) cs change
-
 module _ (side : Side) (g : Graph) (graph : is_graph g ≡ true) where
   -- before the first change
   pub passed_none : (later : List EdgeId) → ArePassed side g [] later []
@@ -165,7 +161,7 @@ module _ (side : Side) (g : Graph) (graph : is_graph g ≡ true) where
         whole : edges_at side q (entries_changed edge_cmp g.edges (changes ++ change ∷ []))
             ≡ list_changed (is_here q (end_on side (edge_at g change.0))) (is_here q (end_on side change.1)) change.0 (edges_at side q es)
         whole =
-            ap (edges_at side q) (entries_push g.edges changes change)
+            ap (edges_at side q) (entries_push edge_cmp g.edges changes change)
             ∙ edges_changed (end_at side) q es change.0 change.1 (ascending-entries_changed edge_cmp_total g.edges changes (ascending_edges g graph))
             ∙ ap (λ o. list_changed (has_end (end_at side) q o) (has_end (end_at side) q change.1) change.0 (edges_at side q es)) before
             ∙ ap (λ b. list_changed b (has_end (end_at side) q change.1) change.0 (edges_at side q es)) (ends_here side g graph change.0 q (edge_at g change.0))

@@ -1,12 +1,13 @@
 //! What the changes of a delta say of one number, of all numbers, and of how many there are.
 
-ghost use Rattle.std.specs.Prelude.{◌≡◌, ◌+◌, ◌<◌, ◌≤◌, Bool, true, cond, length, option_map, IfOk, OnOk, MatchResult};
+ghost use Rattle.std.specs.Prelude.{◌≡◌, ◌+◌, length, List, IfOk, OnOk, OnErr, MatchResult};
 ghost use Rattle.std.specs.Option.{option_copied};
 ghost use Rattle.std.specs.List.Sorted.{IsStrictlySortedBy};
 ghost use Rattle.std.specs.Map.{keys_of, lookup};
 ghost use Rattle.std.specs.BTreeMap.{is_at};
 ghost use Rattle.pgs_base.specs.Places.{IsEntryAt, IsEntryGap};
 ghost use Rattle.pgs_graph.specs.Changed.{entries_changed};
+ghost use Rattle.pgs_overlay.specs.Keys.{key_changed};
 
 use pgs_base::{List, Memory, Steps};
 use std::alloc::Global;
@@ -40,7 +41,41 @@ pub(crate) fn change_of<'a, K: Ord, V>(
     }
 }
 
-/// The keys after changes, ascending, of the keys before them.
+// Puts a changed key in, or takes it out.
+fn change_key<K: Ord + Copy + Drop, V>(
+    keys: &mut BTreeSet<K>,
+    change: &(K, Option<V>),
+) -> Result<(), Memory>
+    ensures { OnOk result (keys.new.keys ≡ key_changed K.cmp keys.old.keys change.now.0 change.now.1) }
+{
+    if change.1.is_some() {
+        keys.insert(change.0)?;
+    } else {
+        keys.remove(&change.0);
+    }
+    Ok(())
+}
+
+// The keys before changes, in order, as a set.
+fn key_set<K: Ord + Copy + Drop>(alloc: Global, before: &[K]) -> Result<BTreeSet<K>, Memory>
+    requires { IsStrictlySortedBy K.cmp before.now }
+    ensures { IfOk result (λ keys. keys.keys ≡ before.now) }
+{
+    let mut keys = BTreeSet::new(alloc);
+    for key in before {
+        keys.insert(*key)?;
+    }
+    Ok(keys)
+}
+
+fn key_list<K: Ord + Drop>(alloc: Global, keys: BTreeSet<K>) -> Result<List<K>, Memory>
+    ensures { IfOk result (λ list. list ≡ keys.keys) }
+{
+    let list = keys.into_iter().collect::<Vec<_>>(alloc)?;
+    Ok(List::from_vec(list))
+}
+
+/// The keys after changes, ascending, of the keys before them, with a tick for each. After `Memory` there was no tick.
 pub(crate) fn changed_keys<K: Ord + Copy + Drop, V, L: Ledger>(
     alloc: Global,
     before: &[K],
@@ -51,26 +86,13 @@ pub(crate) fn changed_keys<K: Ord + Copy + Drop, V, L: Ledger>(
     ensures keys { (entries : List (K × V)) → keys_of entries ≡ before.now →
         IfOk result (λ keys. keys ≡ keys_of (entries_changed K.cmp entries changes.now)) }
     ensures each_ticks { IfOk result (λ keys. steps.new ≡ steps.old + length keys) }
-    ensures never_back { steps.old ≤ steps.new }
-    ensures at_most { (entries : List (K × V)) → keys_of entries ≡ before.now →
-        steps.new ≤ steps.old + length (entries_changed K.cmp entries changes.now) }
+    ensures err { OnErr result (steps.new ≡ steps.old) }
 {
-    let mut keys = BTreeSet::new(alloc);
-    'before: for key in before {
-        keys.insert(*key)?;
+    let mut keys = key_set(alloc, before)?;
+    for change in changes {
+        change_key(&mut keys, change)?;
     }
-    'changes: for change in changes {
-        match &change.1 {
-            Some(_) => {
-                keys.insert(change.0)?;
-            }
-            None => {
-                keys.remove(&change.0);
-            }
-        }
-    }
-    let keys = keys.into_iter().collect::<Vec<_>>(alloc)?;
-    let keys = List::from_vec(keys);
+    let keys = key_list(alloc, keys)?;
     tick_each(steps, keys.len());
     Ok(keys)
 }

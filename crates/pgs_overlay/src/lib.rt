@@ -11,6 +11,7 @@ mod edited_list;
 mod node_lists;
 mod overlay;
 mod part;
+mod read;
 mod search;
 mod side;
 mod side_lists;
