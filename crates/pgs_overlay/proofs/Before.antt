@@ -1,12 +1,12 @@
 -- Changes of ascending keys: what comes before one of them, and what becomes of the entries and the keys by one more.
-use Rattle.std.proofs.Common.{◌≡◌, ◌∙◌, ℕ, zero, suc, add-one, drop-cons, ◌+◌, ◌<◌, ◌≤◌, Bool, true, false, cond, List, [], ◌∷◌, ◌++◌, length, take, drop, get_or, Option, Some, None, is_some, refl, sym, ap, subst, arith, Ordering, Less, Greater}
+use Rattle.std.proofs.Common.{◌≡◌, ◌∙◌, ℕ, zero, suc, add-one, drop-cons, ◌+◌, ◌<◌, Bool, true, false, cond, List, [], ◌∷◌, ◌++◌, length, take, drop, get_or, Option, Some, None, is_some, refl, sym, ap, subst, arith, Ordering, Less, Greater}
 use Rattle.std.specs.Ordering.{ordering_reverse}
 use Rattle.std.specs.Cmp.{IsTotalOrder}
 use Rattle.std.specs.Option.{option_map}
 use Rattle.std.specs.List.{AllByRecursion}
 use Rattle.std.specs.List.Sorted.{IsStrictlySortedBy}
-use Rattle.std.specs.Map.{keys_of, lookup, remove_entry}
-use Rattle.std.specs.BTreeMap.{is_at, insert_entry}
+use Rattle.std.specs.Map.{keys_of, lookup}
+use Rattle.std.specs.BTreeMap.{is_at}
 use Rattle.std.specs.BTreeSet.{insert_key}
 use Rattle.std.proofs.lemmas.List.{take_more}
 use Rattle.pgs_base.proofs.Ascending.{keys-insert_entry, keys-remove_entry}
@@ -103,7 +103,7 @@ module _ {K : Type 0} (cmp : K → K → Ordering) where
         pub found_before : lookup (is_at (cmp c.0)) now ≡ lookup (is_at (cmp c.0)) es
         found_before =
             let fresh : lookup (is_at (cmp c.0)) (take i cs) ≡ None =
-                subst (λ x. lookup (is_at (cmp x.0)) (take i cs) ≡ None) (sym is) (fresh_at total cs i c ascending within) in
+            subst (λ x. lookup (is_at (cmp x.0)) (take i cs) ≡ None) (sym is) (fresh_at total cs i c ascending within) in
             lookup-entries_changed total c.0 es (take i cs) sorted (ascending_before i cs ascending) ∙ ap (λ o. after_changes o (lookup (is_at (cmp c.0)) es)) fresh
 
         sorted_now : IsStrictlySortedBy cmp (keys_of now)

@@ -1,5 +1,5 @@
 -- What one edit of a list that stands over the base's makes of it.
-use Rattle.std.proofs.Common.{◌≡◌, ◌∙◌, ℕ, ◌+◌, ◌<◌, ◌≤◌, append_assoc, Bool, true, false, List, [], ◌∷◌, ◌++◌, length, take, drop, Result, Ok, Err, OnOk, sym, subst, true≢false, arith, inl, inr}
+use Rattle.std.proofs.Common.{◌≡◌, ◌∙◌, ℕ, ◌+◌, ◌≤◌, append_assoc, true, false, List, [], ◌∷◌, ◌++◌, take, drop, Result, Ok, Err, OnOk, sym, true≢false, arith, inl, inr}
 use Rattle.std.specs.List.{list_any}
 use Rattle.std.specs.List.Sorted.{IsStrictlySortedBy}
 use Rattle.std.specs.BTreeMap.{is_at}
@@ -8,7 +8,6 @@ use Rattle.std.specs.Set.{remove_key}
 use Rattle.std.proofs.lemmas.Bool.{cases_lt}
 use Rattle.pgs_base.specs.declared.element.EdgeId.{EdgeId}
 use Rattle.pgs_base.specs.Graph.{edge_cmp}
-use Rattle.pgs_edges.specs.Numbers.{AllBelow}
 use Rattle.pgs_edges.proofs.Copied.{IsCopied, copied_without, copied_with}
 use Rattle.pgs_edges.proofs.Searched.{key_here, key_between}
 use Rattle.pgs_overlay.specs.declared.edited_list.EditedList.{EditedList}

@@ -1,7 +1,6 @@
 -- A loop over the changes of a delta: what comes before a change, and what after it.
-use Rattle.std.proofs.Common.{◌≡◌, ◌∙◌, ℕ, zero, suc, add-one, drop-cons, ◌+◌, ◌*◌, ◌<◌, ◌≤◌, ◌==◌, Bool, true, false, ◌||◌, List, [], ◌∷◌, ◌++◌, length, take, drop, get_or, Option, Some, None, IfSome, refl, sym, ap, subst, arith, Ordering, Less, Greater}
-use Rattle.std.specs.Ordering.{ordering_reverse}
-use Rattle.std.specs.List.{AllByRecursion, list_any}
+use Rattle.std.proofs.Common.{◌≡◌, ◌∙◌, ℕ, zero, suc, ◌+◌, ◌*◌, ◌<◌, ◌≤◌, ◌==◌, Bool, true, false, ◌||◌, List, [], ◌∷◌, length, take, drop, get_or, Option, Some, None, IfSome, refl, sym, ap, subst, arith}
+use Rattle.std.specs.List.{list_any}
 use Rattle.std.specs.List.Sorted.{IsStrictlySortedBy}
 use Rattle.std.specs.Map.{keys_of, lookup}
 use Rattle.std.specs.BTreeMap.{is_at}
@@ -34,9 +33,9 @@ module _ (side : Side) (g : Graph) (graph : is_graph g ≡ true) (cs : List Chan
   pub passed_next : (new : List (NodeId × EditedList)) → AllFollow side g c lists new → ArePassed side g (take (i + 1) cs) (keys_of (drop (i + 1) cs)) new
   passed_next new follows =
       let rising : IsStrictlySortedBy edge_cmp (c.0 ∷ keys_of (drop (i + 1) cs)) =
-          subst (λ l. IsStrictlySortedBy edge_cmp (keys_of l)) (first_of_rest cs i c within is) (ascending_from edge_cmp i cs s) in
+      subst (λ l. IsStrictlySortedBy edge_cmp (keys_of l)) (first_of_rest cs i c within is) (ascending_from edge_cmp i cs s) in
       let fresh : lookup (is_at (edge_cmp c.0)) (take i cs) ≡ None =
-          subst (λ x. lookup (is_at (edge_cmp x.0)) (take i cs) ≡ None) (sym is) (fresh_at edge_cmp edge_cmp_total cs i c s within) in
+      subst (λ x. lookup (is_at (edge_cmp x.0)) (take i cs) ≡ None) (sym is) (fresh_at edge_cmp edge_cmp_total cs i c s within) in
       subst (λ l. ArePassed side g l (keys_of (drop (i + 1) cs)) new) (sym (last_of_front cs i c within is))
       (passed_more side g graph (take i cs) c (keys_of (drop (i + 1) cs)) lists new passed_here follows fresh (ascending_before edge_cmp i cs s) rising)
 

@@ -1,5 +1,5 @@
 -- What an edge's change makes of the lists of a side.
-use Rattle.std.proofs.Common.{◌≡◌, ◌∙◌, ℕ, suc, ◌==◌, Bool, true, false, cond, ◌&&◌, List, [], ◌∷◌, ◌++◌, Option, Some, None, IfSome, refl, sym, ap, subst, true≢false, arith}
+use Rattle.std.proofs.Common.{◌≡◌, ◌∙◌, ℕ, suc, ◌==◌, Bool, true, false, cond, ◌&&◌, List, [], ◌∷◌, ◌++◌, Option, Some, None, IfSome, refl, sym, ap, true≢false, arith}
 use Rattle.std.specs.Cmp.{Equal-is}
 use Rattle.std.specs.Option.{option_map}
 use Rattle.std.specs.List.{list_any}
@@ -9,17 +9,17 @@ use Rattle.std.specs.BTreeMap.{is_at}
 use Rattle.pgs_base.specs.declared.element.NodeId.{NodeId}
 use Rattle.pgs_base.specs.declared.element.EdgeId.{EdgeId}
 use Rattle.pgs_base.specs.declared.row.EdgeRow.{EdgeRow}
-use Rattle.pgs_base.specs.Graph.{Graph, node_cmp, edge_cmp, edge_at, is_graph}
+use Rattle.pgs_base.specs.Graph.{Graph, edge_cmp, edge_at, is_graph}
 use Rattle.pgs_base.proofs.Lookups.{same_keys}
 use Rattle.pgs_edges.proofs.Copied.{IsCopied, copied_none}
 use Rattle.pgs_graph.specs.declared.scan.End.{End}
 use Rattle.pgs_graph.specs.Reads.{end_of, edges_with}
 use Rattle.pgs_graph.specs.Changed.{entry_changed, entries_changed, after_changes}
 use Rattle.pgs_graph.proofs.Deltas.{edge_cmp_total, exact_edge, ascending_edges, ascending-entry_changed, ascending-entries_changed, lookup-entries_changed}
-use Rattle.pgs_tables.proofs.EdgeLists.{has_end, edited_with, edited-changed, any-edges_with, ascending-edges_with}
+use Rattle.pgs_tables.proofs.EdgeLists.{has_end, edited-changed, any-edges_with, ascending-edges_with}
 use Rattle.pgs_overlay.specs.declared.side.Side.{Side}
 use Rattle.pgs_overlay.specs.declared.edited_list.EditedList.{EditedList}
-use Rattle.pgs_overlay.specs.Edited.{IsEdited, IsEditedAt, IsReadyFor}
+use Rattle.pgs_overlay.specs.Edited.{IsEditedAt}
 use Rattle.pgs_overlay.specs.Passed.{list_at, is_here, list_changed, FollowsChange, IsEditAt, IsReadyAt, AreReady, ArePassed, AllFollow, end_on}
 use Rattle.pgs_overlay.specs.Sides.{end_at, edges_at}
 use Rattle.pgs_overlay.proofs.Before.{entries_push}

@@ -1,5 +1,5 @@
 -- What the changed graph has, from what the base, the delta and the lists have.
-use Rattle.std.proofs.Common.{◌≡◌, ◌∙◌, ℕ, ◌+◌, ◌≤◌, true, List, [], length, Option, Some, None, IfSome, Result, Ok, Err, IfOk, OnOk, ap, sym, subst}
+use Rattle.std.proofs.Common.{◌≡◌, ◌∙◌, ℕ, ◌+◌, true, List, [], length, Option, Some, None, IfSome, Result, Ok, Err, IfOk, OnOk, ap, sym, subst}
 use Rattle.std.specs.Map.{keys_of, lookup}
 use Rattle.std.specs.Option.{option_map}
 use Rattle.std.specs.List.{slice_get}
@@ -11,7 +11,7 @@ use Rattle.pgs_base.specs.declared.row.EdgeRow.{EdgeRow}
 use Rattle.pgs_base.specs.Graph.{Graph, node_cmp, edge_cmp, node_at, edge_at, is_graph}
 use Rattle.pgs_graph.specs.declared.delta.Delta.{Delta}
 use Rattle.pgs_graph.specs.Changed.{changed, is_sound, after_changes}
-use Rattle.pgs_graph.specs.Reads.{end_of, edges_with}
+use Rattle.pgs_graph.specs.Reads.{end_of}
 use Rattle.pgs_graph.proofs.Deltas.{node_after, edge_after, changed_graph}
 use Rattle.pgs_graph.proofs.EdgesWith.{listed_end}
 use Rattle.pgs_overlay.specs.declared.edited_list.EditedList.{EditedList}
@@ -41,19 +41,19 @@ module _ (g : Graph) (delta : Delta) (graph : is_graph g ≡ true) (sound : is_s
     pub list_stands : (list : EditedList) → list_at lists id ≡ Some list → StandsOn (edges_at side id g.edges) list
     list_stands list at =
         let edited : IsEditedAt (edges_at side id g.edges) (edges_at side id (changed g delta).edges) [] (Some list) =
-            subst (IsEditedAt (edges_at side id g.edges) (edges_at side id (changed g delta).edges) []) at (passed id) in
+        subst (IsEditedAt (edges_at side id g.edges) (edges_at side id (changed g delta).edges) []) at (passed id) in
         edited.stands
 
     pub list_read : (list : EditedList) → list_at lists id ≡ Some list → listed (edges_at side id g.edges) list ≡ edges_at side id (changed g delta).edges
     list_read list at =
         let edited : IsEditedAt (edges_at side id g.edges) (edges_at side id (changed g delta).edges) [] (Some list) =
-            subst (IsEditedAt (edges_at side id g.edges) (edges_at side id (changed g delta).edges) []) at (passed id) in
+        subst (IsEditedAt (edges_at side id g.edges) (edges_at side id (changed g delta).edges) []) at (passed id) in
         sym edited.copied.edited_is
 
     pub base_read : list_at lists id ≡ None → edges_at side id g.edges ≡ edges_at side id (changed g delta).edges
     base_read at =
         let edited : IsEditedAt (edges_at side id g.edges) (edges_at side id (changed g delta).edges) [] None =
-            subst (IsEditedAt (edges_at side id g.edges) (edges_at side id (changed g delta).edges) []) at (passed id) in
+        subst (IsEditedAt (edges_at side id g.edges) (edges_at side id (changed g delta).edges) []) at (passed id) in
         sym edited.edited_is
 
     -- an edge in the list has the node as its end

@@ -1,19 +1,17 @@
 -- What becomes of the lists that are kept, when the list of one node is edited.
-use Rattle.std.proofs.Common.{◌≡◌, ◌∙◌, ℕ, ◌==◌, Bool, true, false, cond, List, [], ◌∷◌, Option, Some, None, refl, sym, ap, subst, true≢false, arith, rules, is_eq, Equal}
+use Rattle.std.proofs.Common.{◌≡◌, ◌∙◌, ℕ, ◌==◌, Bool, true, false, cond, List, ◌∷◌, Option, Some, None, refl, sym, ap, subst, true≢false, arith, rules, is_eq}
 use Rattle.std.specs.Cmp.{Equal-is}
 use Rattle.std.specs.Ordering.{nat_cmp}
 use Rattle.std.specs.List.Sorted.{IsStrictlySortedBy}
-use Rattle.std.specs.Map.{keys_of, lookup, remove_entry}
+use Rattle.std.specs.Map.{keys_of, remove_entry}
 use Rattle.std.specs.BTreeMap.{is_at, insert_entry}
 use Rattle.pgs_base.specs.declared.element.NodeId.{NodeId}
 use Rattle.pgs_base.specs.declared.element.EdgeId.{EdgeId}
 use Rattle.pgs_base.specs.Graph.{node_cmp, edge_cmp}
 use Rattle.pgs_base.proofs.Lookups.{lookup-insert_entry, lookup-remove_key}
-use Rattle.pgs_edges.proofs.Copied.{IsCopied}
 use Rattle.pgs_graph.proofs.Deltas.{node_cmp_total, exact_node}
 use Rattle.pgs_overlay.specs.declared.edited_list.EditedList.{EditedList}
 use Rattle.pgs_overlay.specs.Edited.{IsEdited, IsEditedAt, IsReadyFor}
-use Rattle.pgs_overlay.specs.Parts.{StandsOn, built}
 use Rattle.pgs_overlay.specs.Passed.{list_at, is_here, list_changed, FollowsChange, IsEditAt, IsListOf, IsReadyAt}
 
 nat_tied : (a b : ℕ) → is_eq (nat_cmp a b) ≡ (a == b)

@@ -1,5 +1,5 @@
 -- A node's list after the edges of a delta up to a place: what is built, and what is left of the base's list.
-use Rattle.std.specs.Prelude.{◌≡◌, ℕ, ◌≤◌, List, [], length, Option, Some, None}
+use Rattle.std.specs.Prelude.{List, [], Option, Some, None}
 use Rattle.pgs_base.specs.declared.element.EdgeId.{EdgeId}
 use Rattle.pgs_edges.specs.Numbers.{AllBelow}
 use Rattle.pgs_edges.proofs.Copied.{IsCopied}

@@ -74,8 +74,24 @@ impl NodeLists {
         let (edge, row) = change;
         let old = old_ends(base, *edge, steps);
         let new = new_ends(row);
-        edit_side(&mut self.outgoing, alloc, base, Side::Out, (old.0, new.0), *edge, steps)?;
-        edit_side(&mut self.incoming, alloc, base, Side::In, (old.1, new.1), *edge, steps)?;
+        edit_side(
+            &mut self.outgoing,
+            alloc,
+            base,
+            Side::Out,
+            (old.0, new.0),
+            *edge,
+            steps,
+        )?;
+        edit_side(
+            &mut self.incoming,
+            alloc,
+            base,
+            Side::In,
+            (old.1, new.1),
+            *edge,
+            steps,
+        )?;
         Ok(())
     }
 

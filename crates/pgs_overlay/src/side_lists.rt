@@ -21,11 +21,7 @@ use std::collections::BTreeMap;
 use std::sync::ledger::Ledger;
 
 // Takes the list of a node out of the map, to edit it: what is kept, and else the base's list as it is.
-fn take_list(
-    lists: &mut BTreeMap<NodeId, EditedList>,
-    alloc: Global,
-    id: NodeId,
-) -> EditedList
+fn take_list(lists: &mut BTreeMap<NodeId, EditedList>, alloc: Global, id: NodeId) -> EditedList
     ensures list { IsListOf (list_at lists.old.entries id) result }
     ensures entries { lists.new.entries ≡ remove_entry (is_at (node_cmp id)) lists.old.entries }
     ensures ascending { IsStrictlySortedBy node_cmp (keys_of lists.old.entries) }

@@ -1,4 +1,4 @@
-use Rattle.std.proofs.Common.{◌∙◌, length, take, sym, refl, arith}
+use Rattle.std.proofs.Common.{◌∙◌, length, take, sym, arith}
 use Rattle.pgs_base.specs.Graph.{edge_cmp}
 use Rattle.pgs_graph.specs.Changed.{entries_changed}
 use Rattle.pgs_graph.proofs.Deltas.{edge_cmp_total, ascending_edges}

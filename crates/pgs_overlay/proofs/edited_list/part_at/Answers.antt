@@ -1,8 +1,6 @@
-use Rattle.std.proofs.Common.{◌≡◌, ◌+◌, ◌-◌, ◌/◌, length, take, arith}
-use Rattle.std.specs.List.{flat_map}
+use Rattle.std.proofs.Common.{◌+◌, ◌-◌, ◌/◌, arith}
 use Rattle.pgs_overlay.specs.declared.part.Part.TheVariants.{Range}
 use Rattle.pgs_overlay.specs.declared.part.Placed.{Placed}
-use Rattle.pgs_overlay.specs.Parts.{items}
 use Rattle.pgs_overlay.proofs.Standing.{start_here}
 use Rattle.pgs_overlay.proofs.edited_list.part_at.Goals as goal
 

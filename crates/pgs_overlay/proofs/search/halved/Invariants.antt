@@ -1,5 +1,4 @@
-use Rattle.std.proofs.Common.{ℕ, ◌+◌, ◌-◌, ◌≤◌, length}
-use Rattle.pgs_base.specs.declared.element.EdgeId.{EdgeId}
+use Rattle.std.proofs.Common.{◌+◌, ◌-◌, ◌≤◌, length}
 use Rattle.pgs_edges.specs.Numbers.{AllBelow}
 use Rattle.pgs_overlay.specs.Found.{AllFrom}
 use Rattle.pgs_overlay.specs.Sides.{edges_at}

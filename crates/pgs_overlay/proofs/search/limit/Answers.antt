@@ -1,4 +1,4 @@
-use Rattle.std.proofs.Common.{◌≡◌, ◌≤◌, arith}
+use Rattle.std.proofs.Common.{arith}
 use Rattle.pgs_overlay.proofs.Lists.{list_within}
 use Rattle.pgs_overlay.proofs.search.limit.Goals as goal
 

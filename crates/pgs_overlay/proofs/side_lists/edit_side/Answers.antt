@@ -1,8 +1,7 @@
-use Rattle.std.proofs.Common.{◌≡◌, ◌∙◌, ◌&&◌, true, false, IfSome, sym, ap, arith}
-use Rattle.pgs_base.specs.declared.element.NodeId.{NodeId}
-use Rattle.pgs_overlay.specs.Passed.{list_at, is_here}
+use Rattle.std.proofs.Common.{arith}
+use Rattle.pgs_overlay.specs.Passed.{is_here}
 use Rattle.pgs_overlay.specs.Sides.{edges_at}
-use Rattle.pgs_overlay.proofs.Passing.{follows_none, follows_both, there_at, absent_at, ready_at, ready_after}
+use Rattle.pgs_overlay.proofs.Passing.{follows_none, follows_both, there_at, absent_at}
 use Rattle.pgs_overlay.proofs.side_lists.edit_side.Goals as goal
 
 pub returns-then-are_same-clause-edited : goal.returns-then-are_same-clause-edited

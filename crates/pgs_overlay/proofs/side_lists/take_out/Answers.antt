@@ -1,6 +1,4 @@
-use Rattle.std.proofs.Common.{◌∙◌, ap, true, false}
-use Rattle.std.specs.BTreeMap.{insert_entry}
-use Rattle.pgs_base.specs.Graph.{node_cmp}
+use Rattle.std.proofs.Common.{true, false}
 use Rattle.pgs_overlay.specs.Sides.{edges_at}
 use Rattle.pgs_overlay.specs.Passed.{list_at}
 use Rattle.pgs_overlay.proofs.Taking.{list_edited, edited_at}

@@ -1,4 +1,4 @@
-use Rattle.std.proofs.Common.{◌≡◌, ◌∙◌, ◌+◌, ◌-◌, min, get_or, ap, arith}
+use Rattle.std.proofs.Common.{◌∙◌, ◌+◌, ◌-◌, min, get_or, ap}
 use Rattle.std.specs.List.{slice_get}
 use Rattle.pgs_overlay.specs.Sides.{edges_at}
 use Rattle.pgs_overlay.proofs.Standing.{in_part, read_range, read_added, unread}

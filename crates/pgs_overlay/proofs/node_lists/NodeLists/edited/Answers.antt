@@ -1,4 +1,4 @@
-use Rattle.std.proofs.Common.{◌+◌, ◌*◌, length, take, arith}
+use Rattle.std.proofs.Common.{◌+◌, ◌*◌, length, arith}
 use Rattle.std.specs.Map.{keys_of}
 use Rattle.pgs_overlay.specs.declared.side.Side.TheVariants.{Out, In}
 use Rattle.pgs_overlay.proofs.Looping.{ready_next, passed_next, few_of_one, one_more, all_of_them}
@@ -30,13 +30,21 @@ loop-change-preserved g c = record {
   incoming = passed_next In (g.B.GraphRead.meaning c.args.base.now) c.requires.graph c.args.changes.now c.loop-change.change-index c.change-item.result
       c.requires.ascending c.loop-change-test.true c.change-item.is c.loop-change.lists.incoming.entries c.loop-change.invariant.incoming _ c.in_ok-edit_edge.ensures.incoming;
   never_back = omega (arith, c.loop-change.invariant.never_back, c.edit_edge.ensures.never_back);
-  cost = λ most few. omega (arith, c.loop-change.invariant.cost most few, one_more (8 * most + 13) c.loop-change.change-index,
-      c.edit_edge.ensures.cost most (few_of_one (g.B.GraphRead.meaning c.args.base.now) most c.args.changes.now c.loop-change.change-index c.change-item.result
-      c.loop-change-test.true c.change-item.is few));
+  cost = λ most few. omega (
+    arith,
+    c.loop-change.invariant.cost most few,
+    one_more (8 * most + 13) c.loop-change.change-index,
+    c.edit_edge.ensures.cost most (few_of_one (g.B.GraphRead.meaning c.args.base.now) most c.args.changes.now c.loop-change.change-index c.change-item.result
+        c.loop-change-test.true c.change-item.is few),
+  );
 }
 
 pub returns-in_err-edit_edge-clause-cost : goal.returns-in_err-edit_edge-clause-cost
 returns-in_err-edit_edge-clause-cost g c most few =
-    omega (arith, c.loop-change.invariant.cost most few, all_of_them (8 * most + 13) c.loop-change.change-index (length c.args.changes.now) c.loop-change-test.true,
-    c.edit_edge.ensures.cost most (few_of_one (g.B.GraphRead.meaning c.args.base.now) most c.args.changes.now c.loop-change.change-index c.change-item.result
-    c.loop-change-test.true c.change-item.is few))
+    omega (
+      arith,
+      c.loop-change.invariant.cost most few,
+      all_of_them (8 * most + 13) c.loop-change.change-index (length c.args.changes.now) c.loop-change-test.true,
+      c.edit_edge.ensures.cost most (few_of_one (g.B.GraphRead.meaning c.args.base.now) most c.args.changes.now c.loop-change.change-index c.change-item.result
+          c.loop-change-test.true c.change-item.is few),
+    )

@@ -19,29 +19,52 @@ pub returns-in_err-lists-clause-cost : goal.returns-in_err-lists-clause-cost
 returns-in_err-lists-clause-cost g c most within =
     let graph = g.B.GraphRead.meaning c.args.base.now in
     let delta = c.args.delta.now in
-    omega (arith, cost_bound most (length delta.nodes) (length delta.edges), ap (λ l. (8 * most + 13) * length l) c.as_slice.ensures,
-    c.edited.ensures.cost most (few_touched graph delta most within c.as_slice.result.now c.as_slice.ensures))
+    omega (
+      arith,
+      cost_bound most (length delta.nodes) (length delta.edges),
+      ap (λ l. (8 * most + 13) * length l) c.as_slice.ensures,
+      c.edited.ensures.cost most (few_touched graph delta most within c.as_slice.result.now c.as_slice.ensures),
+    )
 
 pub returns-in_err-nodes_counted-clause-cost : goal.returns-in_err-nodes_counted-clause-cost
 returns-in_err-nodes_counted-clause-cost g c most within =
     let graph = g.B.GraphRead.meaning c.args.base.now in
     let delta = c.args.delta.now in
-    omega (arith, cost_bound most (length delta.nodes) (length delta.edges), ap (λ l. (8 * most + 13) * length l) c.as_slice.ensures,
-    ap length c.as_slice-2.ensures, c.count_nodes.ensures.cost,
-    c.edited.ensures.cost most (few_touched graph delta most within c.as_slice.result.now c.as_slice.ensures))
+    omega (
+      arith,
+      cost_bound most (length delta.nodes) (length delta.edges),
+      ap (λ l. (8 * most + 13) * length l) c.as_slice.ensures,
+      ap length c.as_slice-2.ensures,
+      c.count_nodes.ensures.cost,
+      c.edited.ensures.cost most (few_touched graph delta most within c.as_slice.result.now c.as_slice.ensures),
+    )
 
 pub returns-in_err-count-clause-cost : goal.returns-in_err-count-clause-cost
 returns-in_err-count-clause-cost g c most within =
     let graph = g.B.GraphRead.meaning c.args.base.now in
     let delta = c.args.delta.now in
-    omega (arith, cost_bound most (length delta.nodes) (length delta.edges), ap (λ l. (8 * most + 13) * length l) c.as_slice.ensures,
-    ap length c.as_slice-2.ensures, c.count_nodes.ensures.cost, ap length c.as_slice-3.ensures, c.count_edges.ensures.cost,
-    c.edited.ensures.cost most (few_touched graph delta most within c.as_slice.result.now c.as_slice.ensures))
+    omega (
+      arith,
+      cost_bound most (length delta.nodes) (length delta.edges),
+      ap (λ l. (8 * most + 13) * length l) c.as_slice.ensures,
+      ap length c.as_slice-2.ensures,
+      c.count_nodes.ensures.cost,
+      ap length c.as_slice-3.ensures,
+      c.count_edges.ensures.cost,
+      c.edited.ensures.cost most (few_touched graph delta most within c.as_slice.result.now c.as_slice.ensures),
+    )
 
 pub returns-clause-cost : goal.returns-clause-cost
 returns-clause-cost g c most within =
     let graph = g.B.GraphRead.meaning c.args.base.now in
     let delta = c.args.delta.now in
-    omega (arith, cost_bound most (length delta.nodes) (length delta.edges), ap (λ l. (8 * most + 13) * length l) c.as_slice.ensures,
-    ap length c.as_slice-2.ensures, c.count_nodes.ensures.cost, ap length c.as_slice-3.ensures, c.count_edges.ensures.cost,
-    c.edited.ensures.cost most (few_touched graph delta most within c.as_slice.result.now c.as_slice.ensures))
+    omega (
+      arith,
+      cost_bound most (length delta.nodes) (length delta.edges),
+      ap (λ l. (8 * most + 13) * length l) c.as_slice.ensures,
+      ap length c.as_slice-2.ensures,
+      c.count_nodes.ensures.cost,
+      ap length c.as_slice-3.ensures,
+      c.count_edges.ensures.cost,
+      c.edited.ensures.cost most (few_touched graph delta most within c.as_slice.result.now c.as_slice.ensures),
+    )
