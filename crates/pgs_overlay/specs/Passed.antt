@@ -41,7 +41,7 @@ FollowsChange xs edge had has old new = (edited later : List EdgeId) → IsEdite
     IsStrictlySortedBy edge_cmp (edge ∷ later) → IsEditedAt xs (list_changed had has edge edited) later new
 
 -- what is kept follows such a change where the node is the end, and else stays
-pub record IsEditAt (xs : List EdgeId) (edge : EdgeId) (had has : Bool) (is_end : Bool) (old new : Option EditedList) : Type 0 where
+pub record IsEditAt (xs : List EdgeId) (edge : EdgeId) (had has is_end : Bool) (old new : Option EditedList) : Type 0 where
   pub here : is_end ≡ true → FollowsChange xs edge had has old new
   pub elsewhere : is_end ≡ false → new ≡ old
 

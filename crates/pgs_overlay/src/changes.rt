@@ -68,6 +68,20 @@ fn key_set<K: Ord + Copy + Drop>(alloc: Global, before: &[K]) -> Result<BTreeSet
     Ok(keys)
 }
 
+// Puts all changed keys in, or takes them out.
+fn change_keys<K: Ord + Copy + Drop, V>(
+    keys: &mut BTreeSet<K>,
+    changes: &[(K, Option<V>)],
+) -> Result<(), Memory>
+    ensures { (entries : List (K × V)) → keys_of entries ≡ keys.old.keys →
+        OnOk result (keys.new.keys ≡ keys_of (entries_changed K.cmp entries changes.now)) }
+{
+    for change in changes {
+        change_key(keys, change)?;
+    }
+    Ok(())
+}
+
 fn key_list<K: Ord + Drop>(alloc: Global, keys: BTreeSet<K>) -> Result<List<K>, Memory>
     ensures { IfOk result (λ list. list ≡ keys.keys) }
 {
@@ -89,9 +103,7 @@ pub(crate) fn changed_keys<K: Ord + Copy + Drop, V, L: Ledger>(
     ensures err { OnErr result (steps.new ≡ steps.old) }
 {
     let mut keys = key_set(alloc, before)?;
-    for change in changes {
-        change_key(&mut keys, change)?;
-    }
+    change_keys(&mut keys, changes)?;
     let keys = key_list(alloc, keys)?;
     tick_each(steps, keys.len());
     Ok(keys)

@@ -3,11 +3,12 @@
 ghost use Rattle.std.specs.Prelude.{◌≡◌, ◌+◌, ◌<◌, ◌≤◌, true, cond, length, IfOk};
 ghost use Rattle.std.specs.List.Sorted.{IsStrictlySortedBy};
 ghost use Rattle.std.specs.Map.{keys_of};
-ghost use Rattle.pgs_base.specs.Graph.{node_cmp, edge_cmp, is_graph};
-ghost use Rattle.pgs_graph.specs.Changed.{entries_changed};
+ghost use Rattle.pgs_base.specs.Graph.{node_cmp, edge_cmp, element_count, is_graph};
+ghost use Rattle.pgs_graph.specs.Changed.{changed, entries_changed, is_sound};
+ghost use Rattle.pgs_overlay.specs.Standing.{row_count};
 
 use pgs_base::{EdgeId, EdgeRow, Memory, NodeId, NodeRow, Steps};
-use pgs_graph::GraphRead;
+use pgs_graph::{Delta, GraphRead};
 use std::sync::ledger::Ledger;
 
 // How many there are after a change of one, by whether it was there and whether it is.
@@ -25,8 +26,8 @@ fn count_changed(count: u64, had: bool, has: bool) -> Result<u64, Memory>
     }
 }
 
-/// A count of elements after changes of nodes of ascending numbers. At most one look at the base for each.
-pub(crate) fn count_nodes<B: GraphRead, L: Ledger>(
+// A count of elements after changes of nodes of ascending numbers. At most one look at the base for each.
+fn count_nodes<B: GraphRead, L: Ledger>(
     base: &B,
     changes: &[(NodeId, Option<NodeRow>)],
     before: u64,
@@ -48,8 +49,8 @@ pub(crate) fn count_nodes<B: GraphRead, L: Ledger>(
     Ok(count)
 }
 
-/// The same of edges.
-pub(crate) fn count_edges<B: GraphRead, L: Ledger>(
+// The same of edges.
+fn count_edges<B: GraphRead, L: Ledger>(
     base: &B,
     changes: &[(EdgeId, Option<EdgeRow>)],
     before: u64,
@@ -69,4 +70,22 @@ pub(crate) fn count_edges<B: GraphRead, L: Ledger>(
         count = count_changed(count, had, change.1.is_some())?;
     }
     Ok(count)
+}
+
+/// How many nodes and edges there are after a sound delta. At most one look at the base for each row of the delta. `Memory` where the
+/// number is too great to be counted, which no memory holds.
+pub(crate) fn count_after<B: GraphRead, L: Ledger>(
+    base: &B,
+    delta: &Delta,
+    steps: &mut Steps<L>,
+) -> Result<u64, Memory>
+    requires { is_sound (B.meaning base.now) delta.now ≡ true }
+    ensures count { IfOk result (λ count. count ≡ element_count (changed (B.meaning base.now) delta.now)) }
+    ensures graph { is_graph (B.meaning base.now) ≡ true }
+    ensures never_back { steps.old ≤ steps.new }
+    ensures cost { steps.new ≤ steps.old + row_count delta.now }
+{
+    let before = base.count();
+    let nodes_counted = count_nodes(base, delta.nodes.as_slice(), before, steps)?;
+    count_edges(base, delta.edges.as_slice(), nodes_counted, steps)
 }
