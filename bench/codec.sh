@@ -21,7 +21,7 @@ ghost use Rattle.pgs_codec.specs.Encodable.{is_sized};
 
 use pgs_base::Memory;
 use pgs_codec::{Command, decode, encode};
-use pgs_json::read_txn;
+use pgs_json::{LineFault, read_txn};
 use std::alloc::{AllocError, Global};
 use std::env;
 use std::process::ExitCode;
@@ -87,8 +87,10 @@ fn decode_all(alloc: Global, payloads: &[Vec<u8>]) -> Result<u64, Memory> {
 fn read_all(alloc: Global, lines: &[String]) -> Result<u64, Memory> {
     let mut taken: u64 = 0;
     for line in lines {
-        if read_txn(alloc, line.as_bytes())?.is_some() {
-            taken = taken.saturating_add(1);
+        match read_txn(alloc, line.as_bytes()) {
+            Ok(_) => taken = taken.saturating_add(1),
+            Err(LineFault::Memory) => return Err(Memory),
+            Err(LineFault::Unreadable | LineFault::LineTooLong) => {}
         }
     }
     Ok(taken)

@@ -1,8 +1,10 @@
 -- The lines that a run puts, each with its line feed. A parameter `text` is the number and the words of a refusal or violation.
-use Rattle.std.specs.Prelude.{ℕ, Bool, true, false, List, ◌++◌, codes, decimal}
+use Rattle.std.specs.Prelude.{ℕ, Bool, true, false, List, ◌++◌, Some, None, codes, decimal}
 use Rattle.pgs_base.specs.declared.element.Elem.{Elem}
 use Rattle.pgs_base.specs.declared.part.Part.{Part}
 use Rattle.pgs_text.specs.Text.{elem_text, tuple_text}
+use Rattle.pgs_graph.specs.declared.operation.Txn.{Txn}
+use Rattle.pgs_json.specs.Canonical.{text_of_txn}
 
 unfoldable pub schema_refused_line : List ℕ → List ℕ
 schema_refused_line text = codes "schema refused " ++ (text ++ codes "\n")
@@ -27,6 +29,14 @@ loaded_line types keys = codes "loaded types=" ++ (decimal types ++ (codes " key
 
 abbrev pub feeds_lost_line : ℕ → List ℕ
 feeds_lost_line lost = codes "feeds lost=" ++ (decimal lost ++ codes "\n")
+
+-- a committed transaction as the feeds get it, with the number of its commit
+abbrev pub feed_line : Txn → ℕ → List ℕ
+feed_line txn commit = text_of_txn txn (Some commit) ++ codes "\n"
+
+-- a transaction as a dump has it
+abbrev pub txn_line : Txn → List ℕ
+txn_line txn = text_of_txn txn None ++ codes "\n"
 
 abbrev pub schema_line : List ℕ → List ℕ
 schema_line schema = schema ++ codes "\n"

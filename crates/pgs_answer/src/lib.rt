@@ -10,6 +10,7 @@ mod rejection_texts;
 mod run_lines;
 mod schema_texts;
 mod store_texts;
+mod txn_lines;
 
 pub use dump_lines::{
     absent_line, key_scope_line, key_value_line, schema_line, separator_line, type_line,
@@ -29,3 +30,4 @@ pub use store_texts::{
     already_store_text, bad_history_text, bad_record_text, epochs_spent_text, foreign_text,
     no_store_text,
 };
+pub use txn_lines::{feed_line, txn_line};

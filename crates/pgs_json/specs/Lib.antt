@@ -2,7 +2,9 @@ pub mod Canonical
 pub mod FirstLine
 pub mod Form
 pub mod Gathering
+pub mod Kinds
 pub mod Line
+pub mod Pieces
 pub mod Reading
 pub mod Sets
 pub mod Unread

@@ -4,11 +4,13 @@ ghost use Rattle.std.specs.Prelude.{◌≡◌, [], ◌∷◌, ◌++◌, codes, o
 ghost use Rattle.serde_json.specs.View.{view, items_view, members_view};
 ghost use Rattle.pgs_graph.specs.declared.operation.Op.TheVariants.{RemoveNode, DetachNode, RemoveEdge, SetNode, UnsetNode, LabelNode, UnlabelNode, SetEdge, UnsetEdge, LabelEdge, UnlabelEdge};
 ghost use Rattle.pgs_json.specs.Sets.{label_set, pair_map};
-ghost use Rattle.pgs_json.specs.Form.{has_only, part, part_or_empty, each_item, each_member, pair_of, id_of, name_of, value_of, labels_of, props_of, node, edge, add_node, add_edge, with_id, with_name, with_value, node_op, edge_op, op_of, ops_of, form};
+ghost use Rattle.pgs_json.specs.Form.{has_only, part, part_or_empty, each_item, each_member, pair_of, id_of, name_of, value_of, labels_of, props_of, node, edge, add_node, add_edge, with_id, with_name, with_value, op_of, ops_of, form};
+ghost use Rattle.pgs_json.specs.Kinds.{op_as, op_told};
 ghost use Rattle.pgs_json.specs.Unread.{Gives};
 ghost use Rattle.pgs_json.specs.declared.unread.Unread.TheVariants.{Memory as OutOfMemory};
 
 use crate::json_part::{has_only, id_part, name, name_part, value, value_part};
+use crate::kind::{Kind, kind_in};
 use crate::unread::Unread;
 use pgs_base::{EdgeId, Labels, List, Name, NodeId, Props, Value};
 use pgs_graph::{Op, Txn};
@@ -271,69 +273,40 @@ fn unlabel_edge(alloc: Global, object: &Json) -> Result<Op, Unread>
     })
 }
 
-#[tactic(auto, unfolding(crate::specs::Form::node_op))]
-fn node_op(alloc: Global, object: &Json) -> Result<Op, Unread>
-    ensures { Gives (λ x. x) result (node_op (view object.now)) }
+// An operation of a kind, by the members that this kind has.
+fn op_as(alloc: Global, kind: Kind, object: &Json) -> Result<Op, Unread>
+    ensures { Gives (λ x. x) result (op_as kind (view object.now)) }
 {
-    match add_node(alloc, object) {
-        Err(Unread::Unfit) => {}
-        read => return read,
-    }
-    match remove_node(object) {
-        Err(Unread::Unfit) => {}
-        read => return read,
-    }
-    match detach_node(object) {
-        Err(Unread::Unfit) => {}
-        read => return read,
-    }
-    match set_node(alloc, object) {
-        Err(Unread::Unfit) => {}
-        read => return read,
-    }
-    match unset_node(alloc, object) {
-        Err(Unread::Unfit) => {}
-        read => return read,
-    }
-    match label_node(alloc, object) {
-        Err(Unread::Unfit) => unlabel_node(alloc, object),
-        read => read,
+    match kind {
+        Kind::AddNode => add_node(alloc, object),
+        Kind::AddEdge => add_edge(alloc, object),
+        Kind::RemoveNode => remove_node(object),
+        Kind::DetachNode => detach_node(object),
+        Kind::RemoveEdge => remove_edge(object),
+        Kind::SetNode => set_node(alloc, object),
+        Kind::UnsetNode => unset_node(alloc, object),
+        Kind::LabelNode => label_node(alloc, object),
+        Kind::UnlabelNode => unlabel_node(alloc, object),
+        Kind::SetEdge => set_edge(alloc, object),
+        Kind::UnsetEdge => unset_edge(alloc, object),
+        Kind::LabelEdge => label_edge(alloc, object),
+        Kind::UnlabelEdge => unlabel_edge(alloc, object),
     }
 }
 
-#[tactic(auto, unfolding(crate::specs::Form::edge_op))]
-fn edge_op(alloc: Global, object: &Json) -> Result<Op, Unread>
-    ensures { Gives (λ x. x) result (edge_op (view object.now)) }
+fn told_op(alloc: Global, value: &Json) -> Result<Op, Unread>
+    ensures { Gives (λ x. x) result (op_told (view value.now)) }
 {
-    match add_edge(alloc, object) {
-        Err(Unread::Unfit) => {}
-        read => return read,
-    }
-    match remove_edge(object) {
-        Err(Unread::Unfit) => {}
-        read => return read,
-    }
-    match set_edge(alloc, object) {
-        Err(Unread::Unfit) => {}
-        read => return read,
-    }
-    match unset_edge(alloc, object) {
-        Err(Unread::Unfit) => {}
-        read => return read,
-    }
-    match label_edge(alloc, object) {
-        Err(Unread::Unfit) => unlabel_edge(alloc, object),
-        read => read,
-    }
+    let object = value.as_object().ok_or(Unread::Unfit)?;
+    let kind = kind_in(object).ok_or(Unread::Unfit)?;
+    op_as(alloc, kind, value)
 }
 
-fn op(alloc: Global, object: &Json) -> Result<Op, Unread>
-    ensures { Gives (λ x. x) result (op_of (view object.now)) }
+#[tactic(auto, using(crate::proofs::ToldKinds::op_of_told))]
+fn op(alloc: Global, value: &Json) -> Result<Op, Unread>
+    ensures { Gives (λ x. x) result (op_of (view value.now)) }
 {
-    match node_op(alloc, object) {
-        Err(Unread::Unfit) => edge_op(alloc, object),
-        read => read,
-    }
+    told_op(alloc, value)
 }
 
 /// Puts an operation last.

@@ -1,17 +1,20 @@
-//! Transactions from lines of JSON, in two forms. The run reads the first form, one exact spelling of operations that add
-//! nodes: `read_first`. Transactions as JSON values, over what `serde_json` reads, are read by `read_txn`; no run uses it yet.
+//! Transactions and lines of JSON, both ways: `read_txn` reads a line, `write_txn` writes the canonical text of a transaction.
 //!
-//! The one rule of both: a line is read exactly where it is of the form, and only want of memory keeps it from that.
-//! The spelling and the limits of the first form stand in `specs/FirstLine.antt`, apart from reading, which goes from left
-//! to right in `specs/Reading.antt`; `first_form_is_exact` says that both are one. The form of JSON values stands in
-//! `specs/Form.antt` and `specs/Line.antt`, the canonical text of a transaction in `specs/Canonical.antt`.
+//! The one rule: a line is read exactly where its JSON value is of the form of a transaction, and only want of memory keeps it from
+//! that. The form stands in `specs/Form.antt` and `specs/Line.antt`, the canonical text in `specs/Canonical.antt`, and a law says
+//! that what is written is read again. The run still reads the first form, one exact spelling of operations that add nodes, by
+//! `read_first`: `specs/FirstLine.antt` has its spelling and limits, and `first_form_is_exact` says that it is read exactly so.
 #![tactic(auto)]
 
+mod canonical;
 mod first_line;
 mod json_op;
 mod json_part;
+mod kind;
 mod labels;
+mod laws;
 mod line;
+mod line_fault;
 mod number;
 mod operation;
 mod piece;
@@ -20,8 +23,11 @@ mod samples;
 mod unread;
 mod value;
 
+pub use canonical::{push_txn, txn_room, write_txn};
 pub use first_line::{first_form_is_exact, read_first};
+pub use laws::{first_form_is_json, written_is_read};
 pub use line::read_txn;
+pub use line_fault::LineFault;
 pub use samples::{
     canonical_texts, labels_in_another_order, lines_that_add, lines_that_change, lines_with_values,
     other_lines, texts_of_changes, written_and_read,

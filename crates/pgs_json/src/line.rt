@@ -1,39 +1,43 @@
-ghost use Rattle.std.specs.Prelude.{◌≡◌, IfOk};
-ghost use Rattle.pgs_json.specs.Line.{txn_of};
-ghost use Rattle.pgs_json.specs.Form.{form};
-ghost use Rattle.serde_json.specs.View.{view};
+ghost use Rattle.std.specs.Prelude.{◌≡◌};
+ghost use Rattle.pgs_json.specs.Line.{txn_of, Reads};
+ghost use Rattle.pgs_json.specs.Unread.{Gives};
 
 use crate::json_op::txn;
+use crate::line_fault::LineFault;
 use crate::unread::Unread;
-use pgs_base::Memory;
 use pgs_graph::Txn;
 use serde_json::Value as Json;
 use std::alloc::Global;
 
-fn txn_in(alloc: Global, value: &Json) -> Result<Option<Txn>, Memory>
-    ensures { IfOk result (λ found. found ≡ form (view value.now)) }
-{
-    match txn(alloc, value) {
-        Ok(txn) => Ok(Some(txn)),
-        Err(Unread::Unfit) => Ok(None),
-        Err(Unread::Memory) => Err(Memory),
-    }
-}
+/// The most bytes of a line.
+const LONGEST: usize = 1_048_576;
 
-/// The transaction of a line, of whatever length. `None` exactly where the line is no JSON text or its value
-/// isn't of the form of a transaction, which `specs/Form.antt` states.
+/// The transaction of a line of whatever length.
 #[tactic(auto, using(crate::proofs::FormParts::line_value, crate::proofs::FormParts::line_none), unfolding(crate::specs::Line::txn_of))]
-pub fn read_txn(alloc: Global, line: &[u8]) -> Result<Option<Txn>, Memory>
-    ensures { IfOk result (λ found. found ≡ txn_of line.now) }
+fn line_txn(alloc: Global, line: &[u8]) -> Result<Txn, Unread>
+    ensures { Gives (λ txn. txn) result (txn_of line.now) }
 {
     match Json::from_slice(alloc, line) {
-        Ok(value) => txn_in(alloc, &value),
+        Ok(value) => txn(alloc, &value),
         Err(error) => {
             if error.is_memory() {
-                Err(Memory)
+                Err(Unread::Memory)
             } else {
-                Ok(None)
+                Err(Unread::Unfit)
             }
         }
     }
+}
+
+/// The transaction of a line, given without its line feed. `LineTooLong` exactly where it has over 1,048,576 bytes, else
+/// `Unreadable` exactly where it is no JSON text or its value isn't of the form of a transaction, which docs/FORMATS.md tells.
+#[tactic(auto, unfolding(crate::specs::Line::read_line))]
+pub fn read_txn(alloc: Global, line: &[u8]) -> Result<Txn, LineFault>
+    ensures { Reads result line.now }
+{
+    if line.len() > LONGEST {
+        return Err(LineFault::LineTooLong);
+    }
+    let txn = line_txn(alloc, line)?;
+    Ok(txn)
 }

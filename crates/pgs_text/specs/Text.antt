@@ -1,5 +1,5 @@
 -- How values are printed. Numbers are plain decimals.
-use Rattle.std.specs.Prelude.{ℕ, ◌/◌, ◌%◌, Bool, true, false, List, [], ◌∷◌, ◌++◌, flat_map, nat_lt, ◌==◌, if◌then◌else◌, codes, decimal}
+use Rattle.std.specs.Prelude.{ℕ, ◌/◌, ◌%◌, Bool, true, false, not, ◌&&◌, List, [], ◌∷◌, ◌++◌, flat_map, nat_le, nat_lt, ◌==◌, if◌then◌else◌, codes, decimal}
 use Rattle.std.specs.Char.{digit_char}
 use Rattle.std.specs.Fmt.{signed_decimal}
 use Rattle.pgs_base.specs.declared.element.Elem.{Elem}
@@ -20,6 +20,10 @@ escaped b =
     else (if b == 13 then codes "\\r"
     else (if nat_lt b 32 then codes "\\u00" ++ digit_char (b / 16) ∷ digit_char (b % 16) ∷ []
     else b ∷ [])))))))
+
+-- a byte that stands in a quoted text as it is
+abbrev pub is_plain : ℕ → Bool
+is_plain b = nat_le 32 b && (not (b == 34) && not (b == 92))
 
 -- a text as a JSON string
 unfoldable pub quoted : List ℕ → List ℕ

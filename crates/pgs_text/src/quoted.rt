@@ -1,9 +1,30 @@
 ghost use Rattle.std.specs.Prelude.{◌≡◌, ◌<◌, ◌++◌, flat_map, OnOk};
 ghost use Rattle.std.specs.Char.{digit_char};
-ghost use Rattle.pgs_text.specs.Text.{escaped, quoted};
+ghost use Rattle.std.specs.List.{list_all};
+ghost use Rattle.pgs_text.specs.Text.{is_plain, escaped, quoted};
 
 use crate::TextBuffer;
 use pgs_base::Memory;
+
+// How many bytes of a string are looked at together, since most are written as they are.
+const RUN: usize = 64;
+
+// Whether a byte is written as it is. Without branches, so that many are tested at once.
+fn is_plain(byte: u8) -> bool
+    ensures { result ≡ is_plain byte }
+{
+    (byte >= 32) & (byte != b'"') & (byte != b'\\')
+}
+
+fn are_plain(bytes: &[u8]) -> bool
+    ensures { result ≡ list_all is_plain bytes.now }
+{
+    let mut plain = true;
+    for byte in bytes {
+        plain &= is_plain(*byte);
+    }
+    plain
+}
 
 // A digit of a number below 16, in lower case.
 fn hex_digit(number: u8) -> u8
@@ -51,13 +72,37 @@ impl TextBuffer {
         Ok(())
     }
 
+    // Puts a few bytes of a string last: as they are where none of them is escaped.
+    #[tactic(auto, using(crate::proofs::Plain::plain_bytes))]
+    fn push_run(&mut self, run: &[u8]) -> Result<(), Memory>
+        ensures { OnOk result (self.new ≡ self.old ++ flat_map escaped run.now) }
+    {
+        if are_plain(run) {
+            self.push(run)
+        } else {
+            self.push_each_escaped(run)
+        }
+    }
+
+    fn push_runs(&mut self, text: &[u8]) -> Result<(), Memory>
+        ensures { OnOk result (self.new ≡ self.old ++ flat_map escaped text.now) }
+    {
+        let mut rest = text;
+        while rest.len() > RUN {
+            let (run, others) = rest.split_at(RUN);
+            self.push_run(run)?;
+            rest = others;
+        }
+        self.push_run(rest)
+    }
+
     /// Puts a text last, as a JSON string.
     #[tactic(auto, unfolding(crate::specs::Text::quoted))]
     pub fn push_quoted(&mut self, text: &[u8]) -> Result<(), Memory>
         ensures { OnOk result (self.new ≡ self.old ++ quoted text.now) }
     {
         self.push(b"\"")?;
-        self.push_each_escaped(text)?;
+        self.push_runs(text)?;
         self.push(b"\"")
     }
 }
