@@ -37,6 +37,12 @@ module _ {X A : Type 0} (f : X → Option A) where
       new ≡ old ++ filter_map f (take i xs) → new ≡ old ++ filter_map f ys
   all_kept old xs ys i new h same before = before ∙ ap (λ zs. old ++ filter_map f zs) (take_all i xs h ∙ same)
 
+  -- what is kept of two lists one after another
+  pub both_kept : (xs ys : List X) (old mid new : List A) → mid ≡ old ++ filter_map f xs → new ≡ mid ++ filter_map f ys → new ≡ old ++ filter_map f (xs ++ ys)
+  both_kept xs ys old mid new before after =
+      after ∙ ap (λ zs. zs ++ filter_map f ys) before ∙ append_assoc old (filter_map f xs) (filter_map f ys)
+      ∙ ap (λ zs. old ++ zs) (sym (filter_map-append f xs ys))
+
 -- what is kept of what each item gives
 module _ {X Y A : Type 0} (f : X → List Y) (h : Y → Option A) where
   pub more_kept_of : (xs : List X) (i : ℕ) (x : X) (mid new : List A) → i < length xs → x ≡ get_or xs i x →

@@ -32,7 +32,7 @@ walked script (suc depth) before name =
 abbrev pub walked_graphs : Script → List GraphType
 walked_graphs script =
     let names =
-        option_map_or (λ (type : GraphType). walked script (length (graphs_of script)) [] type.name) (last_of (graphs_of script)) [] in
+    option_map_or (λ (type : GraphType). walked script (length (graphs_of script)) [] type.name) (last_of (graphs_of script)) [] in
     filter_map (graph_named script) names
 
 -- the name of a member

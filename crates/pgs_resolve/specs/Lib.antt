@@ -1,7 +1,11 @@
 pub mod Declarations
+pub mod Groups
 pub mod Guard
 pub mod KeyFaults
+pub mod Keyed
 pub mod KeyNames
+pub mod Links
+pub mod Listing
 pub mod Order
 pub mod Patterns
 pub mod Placed

@@ -25,7 +25,7 @@ pub data IsSchemaOf (text : List ℕ) : Answer → Type 0 where
   of_items : {line : ℕ} → IsFound text (no_item line) → IsSchemaOf text (begins_no_item line)
   of_statements : {n : ℕ} → IsFound text (no_statement n) → IsSchemaOf text (is_no_statement n)
   of_refusal : {tree : Script} {fault : ResolveFault}
-    → IsFound text (script tree) → resolution tree ≡ Err fault → IsSchemaOf text (refused fault)
+      → IsFound text (script tree) → resolution tree ≡ Err fault → IsSchemaOf text (refused fault)
   of_width : {tree : Script} {resolved : Resolved} {name : List ℕ} → IsFound text (script tree) → resolution tree ≡ Ok resolved
       → first_too_wide resolved ≡ Some name → IsSchemaOf text (has_wide_type name)
   of_script : {tree : Script} {resolved : Resolved} → IsFound text (script tree) → resolution tree ≡ Ok resolved

@@ -1,4 +1,6 @@
-use pgs_base::Name;
+ghost use Rattle.std.specs.Prelude.{◌≡◌};
+
+use pgs_base::{Memory, Name};
 use pgs_syntax::KeyCause;
 
 /// Why a script is no schema. The refusals are tested in this order over the whole script, each by its first place in
@@ -19,4 +21,14 @@ pub enum ResolveFault {
     Cycle { name: Name },
     /// Refusal 18: the key of this number, from 1 in the order of the script, has a fault.
     BadKey { key: u64, cause: KeyCause },
+}
+
+impl From<Memory> for ResolveFault {
+    ghost use Rattle.pgs_resolve.specs.declared.fault.ResolveFault.TheVariants as faults;
+
+    ghost from_gives = { λ _ e. e ≡ faults.Memory };
+
+    fn from(_: Memory) -> ResolveFault {
+        ResolveFault::Memory
+    }
 }

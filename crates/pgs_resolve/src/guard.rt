@@ -1,12 +1,20 @@
-ghost use Rattle.std.specs.Prelude.{◌≡◌, ℕ, List, [], ◌∷◌, ◌++◌, filter_map, flat_map, if◌then◌else◌, IfOk, OnOk, map};
-ghost use Rattle.std.specs.Option.{option_to_list};
+ghost use Rattle.std.specs.Prelude.{◌≡◌, ℕ, false, List, [], ◌∷◌, ◌++◌, filter_map, flat_map, if◌then◌else◌, IfOk, OnOk, map};
+ghost use Rattle.std.specs.Option.{option_to_list, option_map_or};
 ghost use Rattle.pgs_base.specs.Pair.{has_name};
-ghost use Rattle.pgs_resolve.specs.Guard.{name_of, each_once, type_no};
+ghost use Rattle.pgs_syntax.specs.declared.script.GraphType.{GraphType};
+ghost use Rattle.pgs_syntax.specs.declared.script.Script.{Script};
+ghost use Rattle.pgs_resolve.specs.Declarations.{graphs_of};
+ghost use Rattle.pgs_resolve.specs.Guard.{name_of, each_once, type_no, last_of, guarding};
+ghost use Rattle.pgs_resolve.specs.Keyed.{AreKeyed};
+ghost use Rattle.pgs_resolve.specs.Tables.{AreOf};
 
+use crate::declarations::Declarations;
+use crate::guard_keys::resolve_keys;
+use crate::imports::{guard_graphs, last_graph};
 use crate::names::Names;
 use crate::order::Numbering;
-use pgs_base::{Copyable, Memory, Name};
-use pgs_syntax::{GraphType, Member, TypeNo};
+use pgs_base::{Copyable, List, Memory, Name};
+use pgs_syntax::{GraphType, Guarding, Member, TypeNo};
 use std::alloc::Global;
 
 fn name_of(member: &Member) -> &Name
@@ -83,8 +91,8 @@ fn numbered(alloc: Global, numbering: &Numbering, names: &[Name]) -> Result<Vec<
     Ok(types)
 }
 
-/// The numbers of the types that graph types list, each once, by their first places.
-pub fn listed_types(
+// The numbers of the types that graph types list, each once, by their first places.
+fn listed_types(
     alloc: Global,
     numbering: &Numbering,
     graphs: &[&GraphType],
@@ -94,4 +102,34 @@ pub fn listed_types(
 {
     let names = member_names(alloc, graphs)?;
     numbered(alloc, numbering, names.as_slice())
+}
+
+// The guard's own word STRICT, and false where there is no graph type.
+fn is_strict(declarations: &Declarations<'_>) -> bool
+    ensures { (script : Script) → AreOf script declarations.now →
+        result ≡ option_map_or (λ (type : GraphType). type.strict) (last_of (graphs_of script)) false }
+{
+    match last_graph(declarations) {
+        Some(last) => last.strict,
+        None => false,
+    }
+}
+
+/// What the guard asks: its own word, and the types and keys of the graph types that it imports and of itself.
+pub fn guarding(
+    alloc: Global,
+    declarations: &Declarations<'_>,
+    numbering: &Numbering,
+) -> Result<Guarding, Memory>
+    requires { AreKeyed declarations.now }
+    ensures { (script : Script) → AreOf script declarations.now → IfOk result (λ guard. guard ≡ guarding script numbering.now) }
+{
+    let graphs = guard_graphs(alloc, declarations)?;
+    let types = listed_types(alloc, numbering, &graphs)?;
+    let keys = resolve_keys(alloc, numbering, &graphs)?;
+    Ok(Guarding {
+        strict: is_strict(declarations),
+        types: List::from_vec(types),
+        keys: List::from_vec(keys),
+    })
 }

@@ -21,7 +21,9 @@ struct Frame<'a> {
     depth: usize,
 }
 
-fn imports_of<'a>(declarations: &Declarations<'a>, name: &Name) -> &'a [Name]
+/// The names that the graph type of a name imports: none where there is no such graph type. They are no more than all
+/// graph types together import.
+pub fn imports_of<'a>(declarations: &Declarations<'a>, name: &Name) -> &'a [Name]
     ensures value { (script : Script) → AreOf script declarations.now → result.now ≡ imported_by script name.now }
     ensures within { length result.now ≤ sum_by (λ type. length type.now.imports) declarations.now.graphs.items }
 {
@@ -31,7 +33,8 @@ fn imports_of<'a>(declarations: &Declarations<'a>, name: &Name) -> &'a [Name]
     }
 }
 
-fn split(names: &[Name]) -> Option<(&Name, &[Name])>
+/// The first name and those behind it. `None` exactly where there is none.
+pub fn split(names: &[Name]) -> Option<(&Name, &[Name])>
     ensures { MatchOption result (names.now ≡ []) (λ next. names.now ≡ next.0.now ∷ next.1.now) }
 {
     match names {
@@ -83,8 +86,8 @@ pub fn walk<'a>(
     Ok(names)
 }
 
-// The last graph type.
-fn last_graph<'a>(declarations: &Declarations<'a>) -> Option<&'a GraphType>
+/// The last graph type. `None` exactly where there is none.
+pub fn last_graph<'a>(declarations: &Declarations<'a>) -> Option<&'a GraphType>
     ensures { (script : Script) → AreOf script declarations.now → option_copied result ≡ last_of (graphs_of script) }
 {
     let count = declarations.graphs.len();

@@ -1,23 +1,33 @@
 //! What a schema means: the names of a script resolved, or the first reason why it is no schema.
 //!
 //! The one rule: the refusals of a script are a list in order, and where it is empty there is one resolved schema. Both
-//! are computed in `specs/Resolution.antt`. `specs/SchemaOf.antt` says what a text is, from its bytes to its schema.
+//! are computed in `specs/Resolution.antt`, and `resolve` gives exactly them. `specs/SchemaOf.antt` says what a text is,
+//! from its bytes to its schema.
 #![tactic(auto)]
 
 mod atoms;
+mod components;
+mod connected;
+mod cycles;
 mod declarations;
 mod duplicates;
 mod fault;
 mod guard;
+mod guard_keys;
 mod imports;
+mod key_causes;
 mod key_faults;
+mod key_refusals;
 mod kinds;
 pub mod laws;
+mod links;
+mod listing;
 mod names;
 mod order;
 mod patterns;
 mod pieces;
 mod places;
+mod resolution;
 mod resolved_keys;
 mod resolved_types;
 pub mod samples;
@@ -27,3 +37,4 @@ mod variables;
 
 pub use fault::ResolveFault;
 pub use pgs_syntax::KeyCause;
+pub use resolution::resolve;
