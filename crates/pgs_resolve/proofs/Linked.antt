@@ -55,13 +55,12 @@ module _ (script : Script) (declarations : Declarations) (are : AreOf script dec
     rows_are = those;
   }
 
-  pub cycle_is : (names : List (List ℕ)) (types graphs : Option (List ℕ)) → names ≡ declarations.node_names ++ declarations.edge_names →
-      types ≡ least (cyclic (named_by script) names) → graphs ≡ least (cyclic (imported_by script) declarations.graph_names) → lesser_of types graphs ≡ cycle script
-  cycle_is names types graphs these one two =
+  pub cycle_is : (types graphs : Option (List ℕ)) → types ≡ least (cyclic (named_by script) (declarations.node_names ++ declarations.edge_names)) →
+      graphs ≡ least (cyclic (imported_by script) declarations.graph_names) → lesser_of types graphs ≡ cycle script
+  cycle_is types graphs one two =
       ap (λ (o : Option (List ℕ)). lesser_of o graphs)
-      (one ∙ ap (λ (all : List (List ℕ)). least (cyclic (named_by script) all))
-      (these ∙ ap (λ (all : List (List ℕ)). all ++ declarations.edge_names) are.node_names
-      ∙ ap (λ (all : List (List ℕ)). map (λ (type : NodeType (List ℕ)). type.name) (nodes_of script) ++ all) are.edge_names))
+      (one ∙ ap (λ (all : List (List ℕ)). least (cyclic (named_by script) (all ++ declarations.edge_names))) are.node_names
+      ∙ ap (λ (all : List (List ℕ)). least (cyclic (named_by script) (map (λ (type : NodeType (List ℕ)). type.name) (nodes_of script) ++ all))) are.edge_names)
       ∙ ap (lesser_of (least (cyclic (named_by script) (map (λ (type : NodeType (List ℕ)). type.name) (nodes_of script) ++ map (λ (type : EdgeType (List ℕ)). type.name) (edges_of script)))))
       (two ∙ ap (λ (all : List (List ℕ)). least (cyclic (imported_by script) all)) are.graph_names)
       ∙ sym (least_of_two

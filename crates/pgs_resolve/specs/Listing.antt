@@ -27,7 +27,8 @@ next_of listed entries = soonest (filter (is_ready listed) (unlisted listed entr
 -- whether all of some names will be listed exactly where all of others will be, whatever is listed next
 abbrev pub AreAlike : List (List ℕ) → List (List ℕ) → List (List ℕ) → Type 0
 AreAlike listed names others =
-    (more : List (List ℕ)) → list_all (λ name. has_name name (listed ++ more)) names ≡ list_all (λ name. has_name name (listed ++ more)) others
+    (more : List (List ℕ)) →
+    list_all (λ name. has_name name (listed ++ more)) names ≡ list_all (λ name. has_name name (listed ++ more)) others
 
 -- the order of places, and of numbers where they are one
 abbrev pub key_cmp : ℕ × ℕ → ℕ × ℕ → Ordering

@@ -67,16 +67,13 @@ impl<'a> Search<'a> {
     fn close(&mut self, root: usize) {
         let mark = mark_of(&self.marks, root);
         for _ in 0..self.open.len() {
-            match self.open.pop() {
-                Some(number) => {
-                    if mark_of(&self.marks, number) < mark {
-                        let _ = self.open.push(number);
-                        break;
-                    }
-                    set_mark(&mut self.marks, number, self.rank);
+            match self.open.last() {
+                Some(number) if mark_of(&self.marks, *number) >= mark => {
+                    set_mark(&mut self.marks, *number, self.rank);
                 }
-                None => break,
+                _ => break,
             }
+            self.open.pop();
         }
         set_mark(&mut self.marks, root, self.rank);
         self.rank = self.rank.saturating_sub(1);

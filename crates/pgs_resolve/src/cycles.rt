@@ -1,10 +1,10 @@
-ghost use Rattle.std.specs.Prelude.{◌≡◌, ◌<◌, ◌≤◌, ◌==◌, ◌||◌, ◌&&◌, [], length, map, slice_get, true, false, Some, None, IsTrue, IfOk, IfSome, MatchOption, if◌then◌else◌, List, ℕ};
+ghost use Rattle.std.specs.Prelude.{◌≡◌, ◌<◌, ◌≤◌, ◌==◌, ◌||◌, ◌&&◌, ◌++◌, [], length, map, slice_get, true, false, Some, None, IsTrue, IfOk, IfSome, MatchOption, if◌then◌else◌, List, ℕ};
 ghost use Rattle.std.specs.Bool.{OnTrue};
 ghost use Rattle.std.specs.List.{list_any, list_all};
 ghost use Rattle.std.specs.Option.{option_copied};
 ghost use Rattle.pgs_syntax.specs.declared.script.Script.{Script};
 ghost use Rattle.pgs_resolve.specs.Links.{AreLinks, row_at, leads_in, leads_back, IsFirst, first_of, lesser_of, is_before, rank_of, never_falls, stays, is_set, IsLeastSet, IsLeastBack};
-ghost use Rattle.pgs_resolve.specs.Refused.{cyclic, least, cycle};
+ghost use Rattle.pgs_resolve.specs.Refused.{cyclic, least, cycle, named_by, imported_by};
 ghost use Rattle.pgs_resolve.specs.Tables.{AreOf};
 
 use crate::components::{parents, ranks};
@@ -267,12 +267,40 @@ fn least_name<'a>(
     }
 }
 
+fn copied(alloc: Global, name: Option<&Name>) -> Result<Option<Name>, Memory>
+    ensures { IfOk result (λ copy. copy ≡ option_copied name.entry) }
+{
+    match name {
+        Some(name) => Ok(Some(name.copy(alloc)?)),
+        None => Ok(None),
+    }
+}
+
+// The least name of all element types on a cycle of naming.
+fn least_type(alloc: Global, declarations: &Declarations<'_>) -> Result<Option<Name>, Memory>
+    ensures { (script : Script) → AreOf script declarations.now →
+        IfOk result (λ name. name ≡ least (cyclic (named_by script) (declarations.now.node_names ++ declarations.now.edge_names))) }
+{
+    let names = type_names(alloc, declarations)?;
+    let rows = type_rows(alloc, declarations, &names)?;
+    copied(alloc, least_name(alloc, &names, &rows)?)
+}
+
+// The least name of all graph types on a cycle of imports.
+fn least_graph(alloc: Global, declarations: &Declarations<'_>) -> Result<Option<Name>, Memory>
+    ensures { (script : Script) → AreOf script declarations.now →
+        IfOk result (λ name. name ≡ least (cyclic (imported_by script) declarations.now.graph_names)) }
+{
+    let rows = graph_rows(alloc, declarations)?;
+    copied(alloc, least_name(alloc, &declarations.graph_names, &rows)?)
+}
+
 // The lesser of two names, where there are two.
-fn lesser_name<'a>(a: Option<&'a Name>, b: Option<&'a Name>) -> Option<&'a Name>
-    ensures { option_copied result ≡ lesser_of (option_copied a.entry) (option_copied b.entry) }
+fn lesser_name(a: Option<Name>, b: Option<Name>) -> Option<Name>
+    ensures { result ≡ lesser_of a b }
 {
     match (a, b) {
-        (Some(a), Some(b)) => { if b.cmp(a).is_lt() { Some(b) } else { Some(a) } }
+        (Some(a), Some(b)) => { if b.cmp(&a).is_lt() { Some(b) } else { Some(a) } }
         (None, b) => b,
         (a, None) => a,
     }
@@ -286,13 +314,7 @@ pub fn least_on_cycle(
 ) -> Result<Option<Name>, Memory>
     ensures { (script : Script) → AreOf script declarations.now → IfOk result (λ found. found ≡ cycle script) }
 {
-    let names = type_names(alloc, declarations)?;
-    let rows = type_rows(alloc, declarations, &names)?;
-    let types = least_name(alloc, &names, &rows)?;
-    let rows = graph_rows(alloc, declarations)?;
-    let graphs = least_name(alloc, &declarations.graph_names, &rows)?;
-    match lesser_name(types, graphs) {
-        Some(name) => Ok(Some(name.copy(alloc)?)),
-        None => Ok(None),
-    }
+    let types = least_type(alloc, declarations)?;
+    let graphs = least_graph(alloc, declarations)?;
+    Ok(lesser_name(types, graphs))
 }

@@ -131,17 +131,23 @@ fn graph_row(
     Ok(List::from_vec(row))
 }
 
+// Puts copies of names last.
+fn push_names(alloc: Global, more: &[Name], names: &mut Names) -> Result<(), Memory>
+    ensures { OnOk result (names.new ≡ names.old ++ more.now) }
+{
+    for name in more {
+        names.push(alloc, name.copy(alloc)?)?;
+    }
+    Ok(())
+}
+
 /// The names of all node types, and then of all edge types.
 pub fn type_names(alloc: Global, declarations: &Declarations<'_>) -> Result<Names, Memory>
     ensures { IfOk result (λ names. names ≡ declarations.now.node_names ++ declarations.now.edge_names) }
 {
     let mut names = Names::new(alloc);
-    for name in declarations.node_names.as_slice() {
-        names.push(alloc, name.copy(alloc)?)?;
-    }
-    for name in declarations.edge_names.as_slice() {
-        names.push(alloc, name.copy(alloc)?)?;
-    }
+    push_names(alloc, declarations.node_names.as_slice(), &mut names)?;
+    push_names(alloc, declarations.edge_names.as_slice(), &mut names)?;
     Ok(names)
 }
 
