@@ -1,0 +1,7 @@
+use Rattle.std.proofs.Common.{◌≡◌, take}
+use Rattle.pgs_base.specs.declared.row.NodeRow.{NodeRow}
+use Rattle.pgs_conform.specs.Shapes.{in_some}
+use Rattle.pgs_product.proofs.copies.copy_shapes.Given as goal
+
+abbrev pub invariant-loop-shape : goal.invariant-loop-shape
+invariant-loop-shape l = (p : NodeRow) → in_some l.copies.items p ≡ in_some (take l.shape-index l.shapes) p

@@ -1,0 +1,6 @@
+use Rattle.std.proofs.Common.{◌≡◌, ◌++◌, map, take}
+use Rattle.pgs_product.specs.Merged.{of_second}
+use Rattle.pgs_product.proofs.keys.push_second.Given as goal
+
+abbrev pub invariant-loop-key : goal.invariant-loop-key
+invariant-loop-key l = l.keys.items ≡ l.fn.keys.items ++ map (of_second l.first_free) (take l.key-index l.second)

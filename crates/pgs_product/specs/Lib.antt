@@ -1,0 +1,2 @@
+pub mod JoinedOptions
+pub mod Merged

@@ -1,0 +1,22 @@
+use Rattle.std.proofs.Common.{◌+◌, length, ◌∷◌, [], sym, ◌∙◌, ap, subst, length-append}
+use Rattle.pgs_syntax.specs.Valid.{is_valid_spec}
+use Rattle.pgs_conform.specs.Standing.{EachDenotesTriples}
+use Rattle.pgs_shapes.proofs.Types.{edge_more}
+use Rattle.pgs_shapes.proofs.edges.edge_triples.Goals as goal
+
+pub loop-edge-preserved : goal.loop-edge-preserved
+loop-edge-preserved c =
+    let old = c.loop-edge.lists.items in
+    let triples = c.in_ok-triples.triples in
+    let longer = ap length c.in_ok-push.ensures.items ∙ length-append old (triples ∷ []) in
+    let count = c.loop-edge.invariant.count in
+    record {
+      count = longer ∙ ap (λ n. n + 1) count;
+      denote = λ valid node_count node_each.
+          edge_more c.args.resolved.now valid c.args.nodes.now c.as_slice-edges.result.now c.loop-edge.edge-index c.edge-item.result old _ triples
+          node_count node_each c.as_slice-edges.ensures c.loop-edge-test.true c.edge-item.is count
+          (c.loop-edge.invariant.denote valid node_count node_each)
+          (λ source middle target schema each test own. c.in_ok-triples.ensures source
+          (ap (λ lists. is_valid_spec (length lists) c.edge-item.result.middle) c.deref.ensures.value ∙ middle) target schema each test
+          (subst (λ lists. EachDenotesTriples lists test) (sym c.deref.ensures.value) own)) c.in_ok-push.ensures.items;
+    }

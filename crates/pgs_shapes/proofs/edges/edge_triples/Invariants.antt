@@ -1,0 +1,12 @@
+use Rattle.std.proofs.Common.{◌≡◌, true, length}
+use Rattle.pgs_syntax.specs.Fitting.{fits_node, fits_edge}
+use Rattle.pgs_syntax.specs.Valid.{is_valid}
+use Rattle.pgs_conform.specs.Standing.{EachDenotes, EachDenotesTriples}
+use Rattle.pgs_shapes.proofs.edges.edge_triples.Given as goal
+
+abbrev pub invariant-loop-edge : goal.invariant-loop-edge
+invariant-loop-edge l = record {
+  count : length l.lists.items ≡ l.edge-index;
+  denote : is_valid l.resolved ≡ true → length l.nodes ≡ length l.resolved.nodes → EachDenotes l.nodes (fits_node l.resolved) →
+      EachDenotesTriples l.lists.items (fits_edge l.resolved);
+}

@@ -1,0 +1,111 @@
+ghost use Rattle.std.specs.Prelude.{◌≡◌, ℕ, Bool, ◌||◌, true, length, IfOk};
+ghost use Rattle.std.specs.List.{list_all};
+ghost use Rattle.pgs_syntax.specs.declared.specification.Spec.{Word};
+ghost use Rattle.pgs_syntax.specs.Fitting.{suits};
+ghost use Rattle.pgs_syntax.specs.Join.{of_triples, is_empty_pair, Triple as Pairs};
+ghost use Rattle.pgs_syntax.specs.Valid.{is_valid_spec};
+ghost use Rattle.pgs_conform.specs.Shapes.{in_some_triple, DenotesTriples};
+ghost use Rattle.pgs_conform.specs.Standing.{EachDenotesTriples};
+ghost use Rattle.pgs_shapes.specs.Parts.{PartsDenoteTriples};
+
+use crate::braces::braces_shape;
+use crate::leaf::{at, label_shape, one, open_shape};
+use crate::specification::concat;
+use pgs_base::{List, Memory};
+use pgs_conform::Triple;
+use pgs_product::{copy_triples, empty_shape, middle_triple, triple_product_of_all};
+use pgs_syntax::{Leaf, Spec};
+use std::alloc::Global;
+
+// Triples of shapes, and that of the empty pairs.
+fn with_empty(alloc: Global, triples: List<Triple>) -> Result<List<Triple>, Memory>
+    ensures { IfOk result (λ whole. (t : Pairs) → in_some_triple whole t ≡ (in_some_triple triples t || of_triples.asks is_empty_pair t)) }
+{
+    let mut items = triples.into_vec();
+    items.push(middle_triple(alloc, empty_shape(alloc)))?;
+    Ok(List::from_vec(items))
+}
+
+fn leaf_triples(alloc: Global, named: &[List<Triple>], leaf: &Leaf) -> Result<List<Triple>, Memory>
+    ensures { IfOk result (λ triples. is_valid_spec (length named.now) (Word leaf.now) ≡ true → (test : ℕ → Pairs → Bool) →
+        EachDenotesTriples named.now test → DenotesTriples triples (suits of_triples test (Word leaf.now))) }
+{
+    match leaf {
+        Leaf::Label(label) => {
+            let shape = label_shape(alloc, label)?;
+            let triples = one(alloc, middle_triple(alloc, shape))?;
+            Ok(triples)
+        }
+        Leaf::Named(number) => match at(named, *number) {
+            Some(list) => {
+                let triples = copy_triples(alloc, list.as_slice())?;
+                Ok(triples)
+            }
+            None => Ok(List::new(alloc)),
+        },
+    }
+}
+
+/// The triples of shapes of a middle of edges, where those of the edge types that it may name are given: they denote what it asks,
+/// where the lists of these types do. A label, OPEN and braces ask nothing but empty pairs at the ends.
+#[cycle(triples)]
+pub fn triples_of(
+    alloc: Global,
+    named: &[List<Triple>],
+    spec: &Spec<Leaf>,
+) -> Result<List<Triple>, Memory>
+    ensures { IfOk result (λ triples. is_valid_spec (length named.now) spec.now ≡ true → (test : ℕ → Pairs → Bool) →
+        EachDenotesTriples named.now test → DenotesTriples triples (suits of_triples test spec.now)) }
+{
+    match spec {
+        Spec::Empty => {
+            let triples = one(alloc, middle_triple(alloc, empty_shape(alloc)))?;
+            Ok(triples)
+        }
+        Spec::Word(leaf) => {
+            let triples = leaf_triples(alloc, named, leaf)?;
+            Ok(triples)
+        }
+        Spec::OpenLabels => {
+            let triples = one(alloc, middle_triple(alloc, open_shape(alloc)))?;
+            Ok(triples)
+        }
+        Spec::Braces(braces) => {
+            let shape = braces_shape(alloc, braces)?;
+            let triples = one(alloc, middle_triple(alloc, shape))?;
+            Ok(triples)
+        }
+        Spec::And(parts) => {
+            let lists = triples_of_each(alloc, named, parts.as_slice())?;
+            let triples = triple_product_of_all(alloc, &lists)?;
+            Ok(triples)
+        }
+        Spec::Or(parts) => {
+            let lists = triples_of_each(alloc, named, parts.as_slice())?;
+            let triples = concat(alloc, lists)?;
+            Ok(triples)
+        }
+        Spec::Opt(part) => {
+            let triples = triples_of(alloc, named, part.get())?;
+            let whole = with_empty(alloc, triples)?;
+            Ok(whole)
+        }
+    }
+}
+
+#[cycle(triples)]
+fn triples_of_each(
+    alloc: Global,
+    named: &[List<Triple>],
+    parts: &[Spec<Leaf>],
+) -> Result<Vec<List<Triple>>, Memory>
+    ensures { IfOk result (λ lists. list_all (is_valid_spec (length named.now)) parts.now ≡ true → (test : ℕ → Pairs → Bool) →
+        EachDenotesTriples named.now test → PartsDenoteTriples test parts.now lists.items) }
+{
+    let mut lists = Vec::with_capacity(alloc, parts.len())?;
+    for part in parts {
+        let triples = triples_of(alloc, named, part)?;
+        lists.push(triples)?;
+    }
+    Ok(lists)
+}

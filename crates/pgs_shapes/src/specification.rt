@@ -1,0 +1,123 @@
+ghost use Rattle.std.specs.Prelude.{◌≡◌, ℕ, Bool, ◌||◌, true, length, flat_map, IfOk};
+ghost use Rattle.std.specs.List.{list_all};
+ghost use Rattle.pgs_base.specs.declared.row.NodeRow.{NodeRow};
+ghost use Rattle.pgs_syntax.specs.declared.specification.Spec.{Word};
+ghost use Rattle.pgs_syntax.specs.Fitting.{suits};
+ghost use Rattle.pgs_syntax.specs.Join.{of_pairs, is_empty_pair};
+ghost use Rattle.pgs_syntax.specs.Valid.{is_valid_spec};
+ghost use Rattle.pgs_conform.specs.Shapes.{in_some, Denotes};
+ghost use Rattle.pgs_conform.specs.Standing.{EachDenotes};
+ghost use Rattle.pgs_shapes.specs.Parts.{PartsDenote};
+
+use crate::braces::braces_shape;
+use crate::leaf::{at, label_shape, one, open_shape};
+use pgs_base::{List, Memory};
+use pgs_conform::Shape;
+use pgs_product::{copy_shapes, empty_shape, product_of_all};
+use pgs_syntax::{Leaf, Spec};
+use std::alloc::Global;
+
+/// Lists one after another, as one.
+pub fn concat<T: Drop>(alloc: Global, lists: Vec<List<T>>) -> Result<List<T>, Memory>
+    ensures { IfOk result (λ whole. whole ≡ flat_map (λ list. list) lists.items) }
+{
+    let mut whole = Vec::new(alloc);
+    for list in lists {
+        let mut items = list.into_vec();
+        whole.append(&mut items)?;
+    }
+    Ok(List::from_vec(whole))
+}
+
+// Shapes, and the shape of the empty pair.
+fn with_empty(alloc: Global, shapes: List<Shape>) -> Result<List<Shape>, Memory>
+    ensures { IfOk result (λ whole. (p : NodeRow) → in_some whole p ≡ (in_some shapes p || is_empty_pair p)) }
+{
+    let mut items = shapes.into_vec();
+    items.push(empty_shape(alloc))?;
+    Ok(List::from_vec(items))
+}
+
+fn leaf_shapes(alloc: Global, named: &[List<Shape>], leaf: &Leaf) -> Result<List<Shape>, Memory>
+    ensures { IfOk result (λ shapes. is_valid_spec (length named.now) (Word leaf.now) ≡ true → (test : ℕ → NodeRow → Bool) →
+        EachDenotes named.now test → Denotes shapes (suits of_pairs test (Word leaf.now))) }
+{
+    match leaf {
+        Leaf::Label(label) => {
+            let shape = label_shape(alloc, label)?;
+            let shapes = one(alloc, shape)?;
+            Ok(shapes)
+        }
+        Leaf::Named(number) => match at(named, *number) {
+            Some(list) => {
+                let shapes = copy_shapes(alloc, list.as_slice())?;
+                Ok(shapes)
+            }
+            None => Ok(List::new(alloc)),
+        },
+    }
+}
+
+/// The shapes of a specification of nodes, where those of the types that it may name are given: they denote what it asks, where
+/// the lists of these types do.
+#[cycle(shapes)]
+pub fn shapes_of(
+    alloc: Global,
+    named: &[List<Shape>],
+    spec: &Spec<Leaf>,
+) -> Result<List<Shape>, Memory>
+    ensures { IfOk result (λ shapes. is_valid_spec (length named.now) spec.now ≡ true → (test : ℕ → NodeRow → Bool) →
+        EachDenotes named.now test → Denotes shapes (suits of_pairs test spec.now)) }
+{
+    match spec {
+        Spec::Empty => {
+            let shapes = one(alloc, empty_shape(alloc))?;
+            Ok(shapes)
+        }
+        Spec::Word(leaf) => {
+            let shapes = leaf_shapes(alloc, named, leaf)?;
+            Ok(shapes)
+        }
+        Spec::OpenLabels => {
+            let shapes = one(alloc, open_shape(alloc))?;
+            Ok(shapes)
+        }
+        Spec::Braces(braces) => {
+            let shape = braces_shape(alloc, braces)?;
+            let shapes = one(alloc, shape)?;
+            Ok(shapes)
+        }
+        Spec::And(parts) => {
+            let lists = shapes_of_each(alloc, named, parts.as_slice())?;
+            let shapes = product_of_all(alloc, &lists)?;
+            Ok(shapes)
+        }
+        Spec::Or(parts) => {
+            let lists = shapes_of_each(alloc, named, parts.as_slice())?;
+            let shapes = concat(alloc, lists)?;
+            Ok(shapes)
+        }
+        Spec::Opt(part) => {
+            let shapes = shapes_of(alloc, named, part.get())?;
+            let whole = with_empty(alloc, shapes)?;
+            Ok(whole)
+        }
+    }
+}
+
+#[cycle(shapes)]
+fn shapes_of_each(
+    alloc: Global,
+    named: &[List<Shape>],
+    parts: &[Spec<Leaf>],
+) -> Result<Vec<List<Shape>>, Memory>
+    ensures { IfOk result (λ lists. list_all (is_valid_spec (length named.now)) parts.now ≡ true → (test : ℕ → NodeRow → Bool) →
+        EachDenotes named.now test → PartsDenote test parts.now lists.items) }
+{
+    let mut lists = Vec::with_capacity(alloc, parts.len())?;
+    for part in parts {
+        let shapes = shapes_of(alloc, named, part)?;
+        lists.push(shapes)?;
+    }
+    Ok(lists)
+}

@@ -1,0 +1,6 @@
+pub mod Caps
+pub mod Least
+pub mod Parts
+pub mod Places
+pub mod Sizes
+pub mod Totals

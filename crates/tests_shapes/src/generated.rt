@@ -1,0 +1,81 @@
+//! Specifications made from a number, valid by the way they are made.
+
+ghost use Rattle.std.specs.Prelude.{◌≡◌, ℕ, true, IfOk};
+ghost use Rattle.pgs_syntax.specs.Valid.{is_valid_spec};
+
+use crate::sample::{both, braces, either, empty, label, maybe, open_labels};
+use pgs_base::Kind;
+use pgs_syntax::{Leaf, Spec};
+use std::alloc::Global;
+use std::test::Fail;
+
+/// Numbers that follow one another without a pattern.
+#[derive(Drop)]
+pub struct Dice {
+    state: u32,
+}
+
+impl Dice {
+    pub fn new(seed: u32) -> Dice {
+        Dice { state: seed }
+    }
+
+    /// A number below the count, which isn't 0, or 0.
+    pub fn roll(&mut self, count: u32) -> u32 {
+        self.state = self.state.wrapping_mul(1_664_525).wrapping_add(1_013_904_223);
+        let high = self.state >> 16;
+        if count == 0 { 0 } else { high % count }
+    }
+}
+
+fn generated_braces(alloc: Global, dice: &mut Dice) -> Result<Spec<Leaf>, Fail>
+    ensures { IfOk result (λ spec. (bound : ℕ) → is_valid_spec bound spec ≡ true) }
+{
+    let kind = if dice.roll(2) == 0 {
+        Kind::Text
+    } else {
+        Kind::Int
+    };
+    let key = if dice.roll(3) == 0 { "l" } else { "k" };
+    let optional = dice.roll(2) == 0;
+    let more = dice.roll(4) == 0;
+    braces(alloc, key, kind, optional, more)
+}
+
+fn generated_leaf(alloc: Global, dice: &mut Dice) -> Result<Spec<Leaf>, Fail>
+    ensures { IfOk result (λ spec. (bound : ℕ) → is_valid_spec bound spec ≡ true) }
+{
+    match dice.roll(8) {
+        0 => Ok(empty()),
+        1 => Ok(open_labels()),
+        2 | 3 => label(alloc, "A"),
+        4 => label(alloc, "B"),
+        _ => generated_braces(alloc, dice),
+    }
+}
+
+/// A specification of at most so many levels of `&`, `|` and `?`.
+pub fn generated(alloc: Global, dice: &mut Dice, levels: u32) -> Result<Spec<Leaf>, Fail>
+    ensures { IfOk result (λ spec. (bound : ℕ) → is_valid_spec bound spec ≡ true) }
+{
+    if levels == 0 {
+        return generated_leaf(alloc, dice);
+    }
+    match dice.roll(5) {
+        0 => generated_leaf(alloc, dice),
+        1 => {
+            let part = generated(alloc, dice, levels - 1)?;
+            maybe(alloc, part)
+        }
+        2 => {
+            let first = generated(alloc, dice, levels - 1)?;
+            let second = generated(alloc, dice, levels - 1)?;
+            either(alloc, first, second)
+        }
+        _ => {
+            let first = generated(alloc, dice, levels - 1)?;
+            let second = generated(alloc, dice, levels - 1)?;
+            both(alloc, first, second)
+        }
+    }
+}
