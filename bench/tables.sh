@@ -1,0 +1,298 @@
+#!/usr/bin/env bash
+# Times 200,000 transactions on the tables, each of which is staged, prepared and committed, and adds one edge: between nodes that look
+# as if drawn, and all of them at one node. Beside them a version in Rust with the standard library's maps, which checks the same and
+# keeps the same rows and lists. Then one transaction that adds 200,000 edges at one node, and the most memory that 1,000,000 elements
+# with two properties each take. It makes small programs in a folder of its own, and builds them, proving what is below where no check
+# has kept it.
+# Usage: bench/tables.sh
+set -eu
+shopt -s inherit_errexit
+top=$(cd "$(dirname "$(readlink -f "${BASH_SOURCE[0]}")")/.." && pwd)
+work=$(mktemp -d)
+trap 'rm -rf "$work"' EXIT
+mkdir -p "$work/crates/tabling/src"
+cp "$top/HANDLES" "$work/"
+for crate in base graph syntax violation txn edges numbered tables; do
+  cp -r "$top/crates/pgs_$crate" "$work/crates/"
+done
+{
+  grep -E '^pgs_(base|graph|syntax|violation|txn|edges|numbered|tables):' "$top/crates.txt"
+  echo 'tabling: pgs_base pgs_graph pgs_violation pgs_txn pgs_tables'
+} >"$work/crates.txt"
+mkdir -p "$work/crates/tabling/proofs/run"
+cat >"$work/crates/tabling/proofs/run/Invariants.antt" <<'E'
+use Rattle.tabling.proofs.run.Given as goal
+
+abbrev pub ghosts-run_by : goal.ghosts-run_by
+ghosts-run_by a = record { name = a.blank.name; parts = a.blank.parts }
+E
+cat >"$work/crates/tabling/src/main.rt" <<'E'
+//! Does transactions on tables, of the kind that the word says.
+#![tactic(auto)]
+
+ghost use Rattle.std.specs.Prelude.{◌≡◌, ◌<◌};
+
+use pgs_base::{EdgeId, Labels, Limits, List, Memory, Name, NodeId, Props, Steps, Text, Value};
+use pgs_graph::{GraphRead, Op, Txn};
+use pgs_tables::Tables;
+use pgs_txn::stage;
+use std::alloc::Global;
+use std::env;
+use std::marker::Brand;
+use std::process::ExitCode;
+use std::sync::ledger::{Blank, Ledger};
+
+const MANY: u64 = 200_000;
+const TOGETHER: u64 = 10_000;
+
+/// Numbers that look as if drawn, each once.
+fn mixed(number: u64) -> u64 {
+    number.wrapping_mul(0x9E37_79B9_7F4A_7C15)
+}
+
+fn apply<L: Ledger>(alloc: Global, tables: &mut Tables, txn: &Txn, steps: &mut Steps<L>) -> Result<(), Memory> {
+    let limits = Limits { ops: 1_000_000, elements: 2_000_000 };
+    match stage(alloc, tables, &limits, txn, steps) {
+        Ok(delta) => {
+            let prepared = tables.prepare(delta)?;
+            tables.commit(prepared);
+            Ok(())
+        }
+        Err(_) => Err(Memory),
+    }
+}
+
+fn node(alloc: Global, number: u64, props: Props) -> Op {
+    Op::AddNode { id: NodeId(number), labels: Labels::new(alloc), props }
+}
+
+fn edge(alloc: Global, number: u64, source: u64, target: u64, props: Props) -> Op {
+    Op::AddEdge { id: EdgeId(number), source: NodeId(source), target: NodeId(target), labels: Labels::new(alloc), props }
+}
+
+/// Adds nodes without properties, many together.
+fn add_nodes<L: Ledger>(alloc: Global, tables: &mut Tables, steps: &mut Steps<L>) -> Result<(), Memory> {
+    for part in 0..MANY / TOGETHER {
+        let mut ops = Vec::new(alloc);
+        for place in 0..TOGETHER {
+            ops.push(node(alloc, part.wrapping_mul(TOGETHER).wrapping_add(place), Props::new(alloc)))?;
+        }
+        apply(alloc, tables, &Txn { ops: List::from_vec(ops) }, steps)?;
+    }
+    Ok(())
+}
+
+fn end(kind: &str, number: u64) -> u64 {
+    if kind == "hub" { 0 } else { mixed(number) % MANY }
+}
+
+/// Adds edges, each in a transaction of its own.
+fn add_edges<L: Ledger>(alloc: Global, tables: &mut Tables, kind: &str, steps: &mut Steps<L>) -> Result<(), Memory> {
+    for number in 0..MANY {
+        let mut ops = Vec::with_capacity(alloc, 1)?;
+        ops.push(edge(alloc, number, mixed(number.wrapping_add(MANY)) % MANY, end(kind, number), Props::new(alloc)))?;
+        apply(alloc, tables, &Txn { ops: List::from_vec(ops) }, steps)?;
+    }
+    Ok(())
+}
+
+/// Adds as many edges, in one transaction.
+fn add_together<L: Ledger>(alloc: Global, tables: &mut Tables, kind: &str, steps: &mut Steps<L>) -> Result<(), Memory> {
+    let mut ops = Vec::new(alloc);
+    for number in 0..MANY {
+        ops.push(edge(alloc, number, mixed(number.wrapping_add(MANY)) % MANY, end(kind, number), Props::new(alloc)))?;
+    }
+    apply(alloc, tables, &Txn { ops: List::from_vec(ops) }, steps)
+}
+
+fn name(alloc: Global, text: &str) -> Result<Name, Memory> {
+    match Name::new(alloc, text.as_bytes())? {
+        Some(name) => Ok(name),
+        None => Err(Memory),
+    }
+}
+
+fn two_properties(alloc: Global, number: u64) -> Result<Props, Memory> {
+    let mut props = Props::new(alloc);
+    let _ = props.set(name(alloc, "id")?, Value::Int((number % 1_000_000) as i64))?;
+    let mail = format!(in alloc; "u{number}@x.org")?;
+    match Text::new(alloc, mail.as_str())? {
+        Some(text) => {
+            let _ = props.set(name(alloc, "mail")?, Value::Text(text))?;
+        }
+        None => {}
+    }
+    Ok(props)
+}
+
+fn some_elements(alloc: Global, part: u64) -> Result<Txn, Memory> {
+    let mut ops = Vec::new(alloc);
+    for place in 0..1_000 {
+        let number = part.wrapping_mul(1_000).wrapping_add(place);
+        ops.push(node(alloc, number, two_properties(alloc, number)?))?;
+        let other = if number == 0 { 0 } else { mixed(number) % number };
+        ops.push(edge(alloc, number, number, other, two_properties(alloc, number)?))?;
+    }
+    Ok(Txn { ops: List::from_vec(ops) })
+}
+
+fn add_elements<L: Ledger>(alloc: Global, tables: &mut Tables, steps: &mut Steps<L>) -> Result<(), Memory> {
+    for part in 0..500 {
+        let txn = some_elements(alloc, part)?;
+        apply(alloc, tables, &txn, steps)?;
+    }
+    Ok(())
+}
+
+fn run_by<L: Ledger>(alloc: Global, kind: &str, blank: Blank) -> Result<u64, Memory>
+    requires name { blank.name ≡ L.name }
+    requires parts { blank.parts ≡ L.parts }
+    requires some { 0 < blank.parts }
+{
+    let mut steps: Steps<L> = Steps::begin(blank);
+    let mut tables = Tables::new(alloc);
+    if kind == "elements" {
+        add_elements(alloc, &mut tables, &mut steps)?;
+        return Ok(tables.count());
+    }
+    add_nodes(alloc, &mut tables, &mut steps)?;
+    if kind == "together" {
+        add_together(alloc, &mut tables, "hub", &mut steps)?;
+    } else if kind == "apart" {
+        add_together(alloc, &mut tables, "spread", &mut steps)?;
+    } else if kind != "nodes" {
+        add_edges(alloc, &mut tables, kind, &mut steps)?;
+    }
+    Ok(tables.count())
+}
+
+fn run(alloc: Global, kind: &str) -> Result<u64, Memory> {
+    run_by::<Brand>(alloc, kind, Blank::new(1))
+}
+
+fn main(rt: HostRuntime) -> ExitCode {
+    let alloc = rt.alloc();
+    let Ok(arguments) = env::args(&rt) else {
+        return ExitCode::from(2);
+    };
+    let mut kind = String::new(alloc);
+    for argument in arguments.skip(1) {
+        kind = argument;
+    }
+    match run(alloc, kind.as_str()) {
+        Ok(count) => if count >= MANY { ExitCode::from(0) } else { ExitCode::from(1) },
+        Err(_) => ExitCode::from(3),
+    }
+}
+E
+cat >"$work/bare.rs" <<'E'
+// The same rows and lists over the standard library's maps: a transaction is a list of operations, which are checked and staged as
+// changed rows first, and then put in.
+use std::collections::{BTreeMap, BTreeSet, HashMap, HashSet};
+
+#[derive(Clone)]
+enum Value { Int(i64), Text(String) }
+
+#[derive(Clone, Default)]
+struct Row { labels: BTreeSet<String>, props: BTreeMap<String, Value> }
+
+#[derive(Default)]
+struct Node { row: Row, outgoing: BTreeSet<u64>, incoming: BTreeSet<u64> }
+
+#[derive(Clone)]
+struct Edge { source: u64, target: u64, row: Row }
+
+enum Op { AddNode { id: u64, row: Row }, AddEdge { id: u64, source: u64, target: u64, row: Row } }
+
+#[derive(Default)]
+struct Delta { nodes: BTreeMap<u64, Row>, edges: BTreeMap<u64, Edge> }
+
+#[derive(Default)]
+struct Graph { nodes: HashMap<u64, Node>, edges: HashMap<u64, Edge> }
+
+impl Graph {
+    fn stage(&self, ops: Vec<Op>) -> Option<Delta> {
+        let mut delta = Delta::default();
+        for op in ops {
+            match op {
+                Op::AddNode { id, row } => {
+                    if self.nodes.contains_key(&id) || delta.nodes.contains_key(&id) { return None; }
+                    delta.nodes.insert(id, row);
+                }
+                Op::AddEdge { id, source, target, row } => {
+                    if self.edges.contains_key(&id) || delta.edges.contains_key(&id) { return None; }
+                    for end in [source, target] {
+                        if !self.nodes.contains_key(&end) && !delta.nodes.contains_key(&end) { return None; }
+                    }
+                    delta.edges.insert(id, Edge { source, target, row });
+                }
+            }
+        }
+        Some(delta)
+    }
+
+    fn commit(&mut self, delta: Delta) {
+        for (id, row) in delta.nodes { self.nodes.entry(id).or_default().row = row; }
+        for (id, edge) in delta.edges {
+            self.nodes.entry(edge.source).or_default().outgoing.insert(id);
+            self.nodes.entry(edge.target).or_default().incoming.insert(id);
+            self.edges.insert(id, edge);
+        }
+    }
+}
+
+const MANY: u64 = 200_000;
+const TOGETHER: u64 = 10_000;
+
+fn mixed(number: u64) -> u64 { number.wrapping_mul(0x9E37_79B9_7F4A_7C15) }
+
+fn main() {
+    let kind = std::env::args().nth(1).unwrap();
+    let mut graph = Graph::default();
+    for part in 0..MANY / TOGETHER {
+        let ops = (0..TOGETHER).map(|place| Op::AddNode { id: part * TOGETHER + place, row: Row::default() }).collect();
+        let delta = graph.stage(ops).unwrap();
+        graph.commit(delta);
+    }
+    if kind != "nodes" {
+        for number in 0..MANY {
+            let target = if kind == "hub" { 0 } else { mixed(number) % MANY };
+            let ops = vec![Op::AddEdge { id: number, source: mixed(number + MANY) % MANY, target, row: Row::default() }];
+            let delta = graph.stage(ops).unwrap();
+            graph.commit(delta);
+        }
+    }
+    let seen: HashSet<u64> = graph.nodes.values().map(|node| node.outgoing.len() as u64).collect();
+    std::process::exit(if graph.edges.len() + seen.len() > 0 { 0 } else { 1 });
+}
+E
+rustc -O -A warnings -o "$work/bare" "$work/bare.rs"
+cd "$work/crates/tabling"
+built="$work/crates/tabling/out/tabling"
+(rt all check --jobs 1 && rt run -- nodes) >"$work/log" 2>&1 </dev/null || [ -x "$built" ] || { tail -n 40 "$work/log" >&2; exit 1; }
+# The processor's time of the program itself, in milliseconds: the least of three, which other work on the machine changes least.
+milliseconds() {
+  local TIMEFORMAT='%U'
+  for _ in 1 2 3; do
+    { time "$@" || { echo "the program ended with $?" >&2; exit 1; }; } 2>&1
+  done | sort -n | awk 'NR == 1 { print $1 * 1000 }'
+}
+for program in "$built" "$work/bare"; do
+  nodes=$(milliseconds "$program" nodes)
+  for kind in spread hub; do
+    all=$(milliseconds "$program" "$kind")
+    awk -v program="$(basename "$program")" -v kind="$kind" -v all="$all" -v nodes="$nodes" \
+      'BEGIN { printf "%s, %s: %.0f ms, %.2f us a transaction\n", program, kind, all - nodes, (all - nodes) / 200 }'
+  done
+done
+nodes=$(milliseconds "$built" nodes)
+for kind in together apart; do
+  all=$(milliseconds "$built" "$kind")
+  awk -v kind="$kind" -v all="$all" -v nodes="$nodes" 'BEGIN { printf "200,000 edges in one transaction, %s: %.0f ms\n", kind, all - nodes }'
+done
+"$built" elements &
+pid=$!
+most=0
+while held=$(awk '/^VmHWM:/ { print $2 }' "/proc/$pid/status" 2>/dev/null) && [ -n "$held" ]; do most=$held; sleep 0.02; done
+wait "$pid"
+echo "1,000,000 elements with two properties each: $((most / 1024)) MB at most"

@@ -1,0 +1,41 @@
+-- What a table of numbered rows is seen as: the rows that are there by ascending number, and the numbers that have a slot.
+use Rattle.std.specs.Prelude.{◌≡◌, ℕ, Bool, List, length, [], ◌∷◌, ◌++◌, Option, Some, None, refl}
+use Rattle.std.specs.Coded.{Coded, code_by, coded_list, coded×}
+use Rattle.std.specs.declared.cmp.Ordering.{Ordering}
+use Rattle.std.specs.List.{list_any, IsDistinct}
+use Rattle.std.specs.Map.{keys_of}
+use Rattle.std.specs.BTreeMap.{is_at, insert_entry}
+use Rattle.pgs_graph.specs.Merging.{left_at}
+
+pub record Slots (K V : Type 0) : Type 0 where
+  pub rows : List (K × V)
+  pub numbers : List K
+
+abbrev pub code_slots : {K V : Type 0} → Coded K → Coded V → Coded (Slots K V)
+code_slots {K} {V} k v =
+    code_by (List (K × V) × List K) (coded× (coded_list (coded× k v)) (coded_list k))
+    (λ s. (s.rows, s.numbers)) (λ p. record { rows = p.0; numbers = p.1 }) (λ _. refl)
+
+-- whether a number has a slot
+abbrev pub has_slot : {K V : Type 0} → (K → K → Ordering) → Slots K V → K → Bool
+has_slot cmp slots id = list_any (is_at (cmp id)) slots.numbers
+
+-- entries by ascending key; of several with one key, the first
+abbrev pub by_key : {K V : Type 0} → (K → K → Ordering) → List (K × V) → List (K × V)
+by_key cmp [] = []
+by_key cmp (entry ∷ entries) = insert_entry cmp (by_key cmp entries) entry.0 entry.1
+
+-- the rows of the slots that have one
+abbrev pub present : {K V : Type 0} → List (K × Option V) → List (K × V)
+present [] = []
+present (slot ∷ slots) = left_at slot.0 slot.1 ++ present slots
+
+-- how many rows a slot has
+abbrev pub row_count : {V : Type 0} → Option V → ℕ
+row_count None = 0
+row_count (Some row) = 1
+
+-- no number has two slots, and so many rows are in them
+pub record AreSlots {K V : Type 0} (eq : K → K → Bool) (count : ℕ) (slots : List (K × Option V)) : Type 0 where
+  pub distinct : IsDistinct eq (keys_of slots)
+  pub counted : count ≡ length (present slots)

@@ -1,0 +1,190 @@
+ghost use Rattle.std.specs.Prelude.{◌≡◌, ◌+◌, ◌<◌, ◌≤◌, ◌^◌, true, [], length, is_some, OnOk, OnSome, IfOk, Some};
+ghost use Rattle.std.specs.Option.{option_copied, option_flatten};
+ghost use Rattle.std.specs.List.{list_any, IsDistinct};
+ghost use Rattle.std.specs.List.Sorted.{IsStrictlySortedBy};
+ghost use Rattle.std.specs.BTreeMap.{is_at, insert_entry};
+ghost use Rattle.std.specs.Map.{keys_of, lookup, remove_entry, set_value};
+ghost use Rattle.pgs_numbered.specs.Slots.{has_slot, present, row_count};
+
+use crate::Number;
+use indexmap::IndexMap;
+use pgs_base::{List, Memory, Seed};
+use std::alloc::Global;
+use std::marker::Model;
+use std::mem;
+
+/// Rows by number. Contracts see the rows that are there, and the numbers that have a slot.
+#[derive(Drop)]
+pub struct Numbered<K: Number, V> {
+    slots: IndexMap<K, Option<V>, Seed>,
+    live: usize,
+}
+
+impl<K: Number, V> Model for Numbered<K, V> {
+    ghost use Rattle.std.specs.Map.{keys_of};
+    ghost use Rattle.pgs_numbered.specs.Slots.{Slots, code_slots, by_key, present, AreSlots};
+
+    ghost Value = { Slots K V };
+
+    ghost coded = { code_slots K.code V.code };
+
+    ghost view = { λ table. record { rows = by_key K.cmp (present table.slots.entries); numbers = keys_of table.slots.entries } };
+
+    ghost invariant = { λ table. AreSlots K.eq table.live table.slots.entries };
+}
+
+impl<K: Number, V: Drop> Numbered<K, V> {
+    /// No rows and no slots, hashed by a seed. It takes no memory.
+    pub fn new(alloc: Global, seed: Seed) -> Numbered<K, V>
+        ensures rows { result.rows ≡ [] }
+        ensures numbers { result.numbers ≡ [] }
+    {
+        Numbered {
+            slots: IndexMap::with_hasher(alloc, seed),
+            live: 0,
+        }
+    }
+
+    /// The row of a number. `None` exactly where there is none.
+    pub fn get(&self, id: K) -> Option<&V>
+        ensures { option_copied result ≡ lookup (is_at (K.cmp id)) self.now.rows }
+    {
+        match self.slots.get(&id) {
+            Some(slot) => slot.as_ref(),
+            None => None,
+        }
+    }
+
+    /// Makes a slot for a number that has none. After `Memory` nothing is changed.
+    pub fn make_slot(&mut self, id: K) -> Result<(), Memory>
+        ensures rows { self.new.rows ≡ self.old.rows }
+        ensures there { OnOk result (has_slot K.cmp self.new id ≡ true) }
+        ensures kept { (other : K) → has_slot K.cmp self.old other ≡ true → has_slot K.cmp self.new other ≡ true }
+    {
+        if self.slots.contains_key(&id) {
+            return Ok(());
+        }
+        self.slots.insert(id, None)?;
+        Ok(())
+    }
+
+    /// Takes out the row of a number, where there is one. Its slot stays.
+    pub fn take(&mut self, id: K) -> Option<V>
+        ensures row { result ≡ lookup (is_at (K.cmp id)) self.old.rows }
+        ensures rows { self.new.rows ≡ remove_entry (is_at (K.cmp id)) self.old.rows }
+        ensures numbers { self.new.numbers ≡ self.old.numbers }
+        ensures there { OnSome result (has_slot K.cmp self.new id ≡ true) }
+        ensures ascending { IsStrictlySortedBy K.cmp (keys_of self.old.rows) }
+    {
+        let old = replace(&mut self.slots, id, None);
+        self.live -= count_row(&old);
+        old
+    }
+
+    /// Puts a row into the slot of a number, which has one. What was there is dropped.
+    pub fn put(&mut self, id: K, row: V)
+        requires { has_slot K.cmp self.old id ≡ true }
+        ensures rows { self.new.rows ≡ insert_entry K.cmp self.old.rows id row }
+        ensures numbers { self.new.numbers ≡ self.old.numbers }
+    {
+        let _slots = self.slots.len();
+        let old = replace(&mut self.slots, id, Some(row));
+        self.live = self.live - count_row(&old) + 1;
+    }
+
+    /// How many rows there are.
+    pub fn len(&self) -> usize
+        ensures value { result ≡ length self.now.rows }
+        ensures small { result < 2 ^ 63 }
+        ensures ascending { IsStrictlySortedBy K.cmp (keys_of self.now.rows) }
+    {
+        let _slots = self.slots.len();
+        self.live
+    }
+
+    /// The numbers of the rows, ascending. `Memory` where none was left.
+    pub fn ids(&self, alloc: Global) -> Result<List<K>, Memory>
+        ensures { IfOk result (λ ids. ids ≡ keys_of self.now.rows) }
+    {
+        let mut ids = listed(&self.slots, alloc)?;
+        ids.sort_unstable();
+        Ok(List::from_vec(ids))
+    }
+
+    /// The rows with their numbers, ascending. `Memory` where none was left.
+    pub fn into_rows(self, alloc: Global) -> Result<List<(K, V)>, Memory>
+        ensures rows { IfOk result (λ rows. rows ≡ self.rows) }
+        ensures ascending { IfOk result (λ rows. IsStrictlySortedBy K.cmp (keys_of rows)) }
+    {
+        let _rows = self.len();
+        let ids = self.ids(alloc)?;
+        let mut table = self;
+        let rows = table.take_all(alloc, ids.as_slice())?;
+        Ok(List::from_vec(rows))
+    }
+
+    // Takes out the rows of the numbers that have one.
+    fn take_all(&mut self, alloc: Global, ids: &[K]) -> Result<Vec<(K, V)>, Memory>
+        requires { keys_of self.old.rows ≡ ids.now }
+        ensures { IfOk result (λ rows. rows.items ≡ self.old.rows) }
+    {
+        let mut rows = Vec::with_capacity(alloc, ids.len())?;
+        for id in ids {
+            match self.take(*id) {
+                Some(row) => rows.push((*id, row))?,
+                None => {}
+            }
+        }
+        Ok(rows)
+    }
+
+    /// Takes out the slots without a row, where they are more than half of all.
+    pub fn clear_slots(&mut self)
+        ensures { self.new.rows ≡ self.old.rows }
+    {
+        if self.live < self.slots.len() / 2 {
+            self.slots.retain(|_, row| row.is_some());
+        }
+    }
+}
+
+// The numbers of the rows, in the order in which they got their slots.
+fn listed<K: Number, V: Drop>(
+    slots: &IndexMap<K, Option<V>, Seed>,
+    alloc: Global,
+) -> Result<Vec<K>, Memory>
+    ensures { IfOk result (λ ids. ids.items ≡ keys_of (present slots.now.entries)) }
+{
+    let mut ids = Vec::new(alloc);
+    for (id, slot) in slots.iter() {
+        if slot.is_some() {
+            ids.push(*id)?;
+        }
+    }
+    Ok(ids)
+}
+
+// Puts a row, or none, into the slot of a number, and answers what was there. Where there is no slot, nothing happens.
+fn replace<K: Number, V: Drop>(
+    slots: &mut IndexMap<K, Option<V>, Seed>,
+    id: K,
+    row: Option<V>,
+) -> Option<V>
+    ensures entries { slots.new.entries ≡ set_value (K.eq id) slots.old.entries row }
+    ensures old { result ≡ option_flatten (lookup (K.eq id) slots.old.entries) }
+    ensures unique { IsDistinct K.eq (keys_of slots.old.entries) }
+{
+    match slots.get_mut(&id) {
+        Some(slot) => mem::replace(slot, row),
+        None => None,
+    }
+}
+
+fn count_row<V>(row: &Option<V>) -> usize
+    ensures { result ≡ row_count row.now }
+{
+    match row {
+        Some(_) => 1,
+        None => 0,
+    }
+}

@@ -1,0 +1,5 @@
+pub mod Adjacency
+pub mod Commits
+pub mod Ready
+pub mod Relists
+pub mod Standing

@@ -1,0 +1,18 @@
+//! The graph in hashed tables: rows by number, and with each node the lists of its edges.
+//!
+//! Contracts see the graph that the tables mean and the delta that they are ready for (`specs/Standing.antt`). `prepare` takes all
+//! memory that a sound delta needs and leaves the graph; `commit` puts the delta in, takes none and can't be refused. What `prepare`
+//! hands over is said in `specs/Adjacency.antt`. A layer above reads by `GraphRead`.
+#![tactic(auto)]
+
+mod commit;
+mod edit;
+mod node_edges;
+mod prepared;
+mod read;
+mod relist;
+mod tables;
+
+pub use node_edges::NodeEdges;
+pub use prepared::Prepared;
+pub use tables::Tables;

@@ -1,0 +1,14 @@
+use Rattle.std.proofs.Common.{◌≡◌, ◌+◌, ◌≤◌, length, take, true}
+use Rattle.std.specs.List.{list_all}
+use Rattle.pgs_txn.specs.Looks.{edges_of}
+use Rattle.pgs_txn.specs.Removing.{OnlyEdgesAt}
+use Rattle.pgs_txn.specs.Rows.{is_changed}
+use Rattle.pgs_txn.proofs.working.Working.drop_direction.Given as goal
+
+abbrev pub invariant-loop-nth : goal.invariant-loop-nth
+invariant-loop-nth g l = record {
+  looks : l.steps ≡ l.initial.steps + l.nth;
+  within : l.nth ≤ length (edges_of l.direction (g.G.GraphRead.meaning l.graph) l.id);
+  only : OnlyEdgesAt (g.G.GraphRead.meaning l.graph) l.id l.initial.self l.self;
+  changed : list_all (is_changed l.self.rows) (take l.nth (edges_of l.direction (g.G.GraphRead.meaning l.graph) l.id)) ≡ true;
+}

@@ -1,0 +1,7 @@
+pub mod Answers
+pub mod Edits
+pub mod Listing
+pub mod Looks
+pub mod Removing
+pub mod Rows
+pub mod Working

@@ -1,0 +1,18 @@
+//! Staging: the operations of a transaction on a graph, as a delta.
+//!
+//! `stage` does the operations one after another on rows that are copied once, when an operation first changes them, and gives what
+//! they leave as a delta. The graph after each operation is the one that the definition of staging has
+//! (`pgs_violation/specs/Staging.antt`); what a delta lists and what a stage may look up stand in `specs/`.
+#![tactic(auto)]
+
+mod adding;
+mod changed_rows;
+mod edges_at_node;
+mod edit;
+mod faults;
+mod removing;
+mod staging;
+mod working;
+
+pub use faults::StageFault;
+pub use staging::stage;
