@@ -6,24 +6,16 @@ use Rattle.pgs_base.specs.declared.element.EdgeId.{EdgeId}
 use Rattle.pgs_base.specs.declared.element.Elem.TheVariants.{Node}
 use Rattle.pgs_base.specs.declared.row.NodeRow.{NodeRow}
 use Rattle.pgs_base.specs.declared.row.EdgeRow.{EdgeRow}
-use Rattle.pgs_base.specs.Graph.{Graph, node_at, edge_at, with_node, with_edge}
+use Rattle.pgs_base.specs.Graph.{Graph, node_at, edge_at}
 use Rattle.pgs_violation.specs.declared.structural.Cause.TheVariants.{AlreadyThere}
-use Rattle.pgs_violation.specs.Staging.{StepFault, Unable, TooLarge, is_small, put_node, put_edge, added_node}
+use Rattle.pgs_violation.specs.Staging.{StepFault, Unable, put_node, added_node}
 use Rattle.pgs_txn.specs.declared.working.Working.{Working}
 use Rattle.pgs_txn.specs.Rows.{edge_change, was_put}
 use Rattle.pgs_txn.specs.Working.{graph_now, StandsOn}
 use Rattle.pgs_txn.proofs.Standing.{edge_of_change}
 
-pub added_node_is : (g : Graph) (id : NodeId) (row : NodeRow) → is_some (node_at g id) ≡ false → is_small row.labels row.props ≡ true →
-    added_node g id row ≡ Ok (with_node g id row)
-added_node_is g id row absent small =
-    ap (λ b. if b then Err (Unable (AlreadyThere (Node id))) else put_node g id row) absent ∙ ap (λ b. if b then Ok (with_node g id row) else Err TooLarge) small
-
-pub put_edge_is : (g : Graph) (id : EdgeId) (row : EdgeRow) → is_small row.labels row.props ≡ true → put_edge g id row ≡ Ok (with_edge g id row)
-put_edge_is g id row small = ap (λ b. if b then Ok (with_edge g id row) else Err TooLarge) small
-
-pub put_edge_large : (g : Graph) (id : EdgeId) (row : EdgeRow) → is_small row.labels row.props ≡ false → put_edge g id row ≡ Err TooLarge
-put_edge_large g id row large = ap (λ b. if b then Ok (with_edge g id row) else Err TooLarge) large
+pub added_node_from : (g : Graph) (id : NodeId) (row : NodeRow) → is_some (node_at g id) ≡ false → added_node g id row ≡ put_node g id row
+added_node_from g id row absent = ap (λ b. if b then Err (Unable (AlreadyThere (Node id))) else put_node g id row) absent
 
 -- an edge that isn't there was not put in
 pub absent_not_put : (g : Graph) (w : Working) → StandsOn g w → (id : EdgeId) → edge_at (graph_now g w) id ≡ None → was_put (edge_change w.rows id) ≡ false

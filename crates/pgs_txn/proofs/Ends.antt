@@ -19,7 +19,7 @@ use Rattle.pgs_base.proofs.Lookups.{lookup-insert_entry, any-insert_key, any-rem
 use Rattle.pgs_graph.proofs.Deltas.{edge_cmp_total}
 use Rattle.pgs_txn.specs.declared.changed_rows.EdgeEnd.{EdgeEnd}
 use Rattle.pgs_txn.specs.declared.changed_rows.ChangedRows.{ChangedRows}
-use Rattle.pgs_txn.specs.Rows.{end_cmp, has_end, was_put_at, was_put, edge_change, ends_left, IsIndexed, IsLeast}
+use Rattle.pgs_txn.specs.Rows.{end_cmp, has_end, was_put_at, was_put, edge_change, ends_with, ends_left, IsIndexed, IsLeast}
 
 pub end_cmp_total : IsTotalOrder end_cmp
 end_cmp_total = then_total (on_total (λ (end : EdgeEnd). end.node.0) nat_cmp_total) (on_total (λ (end : EdgeEnd). end.edge.0) nat_cmp_total)
@@ -58,7 +58,7 @@ module _ (id : EdgeId) (row : EdgeRow) where
   module _ (rows : ChangedRows) (indexed : IsIndexed rows) where
     -- the ends after an edge is put in
     pub ends_put : was_put (edge_change rows id) ≡ false → (at : EdgeEnd) →
-        list_any (is_at (end_cmp at)) (insert_key end_cmp (insert_key end_cmp rows.ends.keys source_end) target_end)
+        list_any (is_at (end_cmp at)) (ends_with id row rows.ends.keys)
         ≡ was_put_at at.node (lookup (is_at (edge_cmp at.edge)) (insert_entry edge_cmp rows.edges.entries id (Some row)))
     ends_put absent at =
         any-insert_key end_cmp_total at target_end (insert_key end_cmp rows.ends.keys source_end)

@@ -19,13 +19,14 @@ use Rattle.pgs_graph.specs.Changed.{entry_changed, entries_changed, after_change
 use Rattle.pgs_graph.proofs.Deltas.{node_cmp_total, edge_cmp_total, exact_node, exact_edge, ascending-entry_changed, ascending-entries_changed, lookup-entries_changed, ascending_nodes, ascending_edges}
 use Rattle.pgs_violation.specs.declared.structural.Cause.{Cause}
 use Rattle.pgs_violation.specs.declared.structural.Cause.TheVariants.{NoNode, NoEdge}
-use Rattle.pgs_violation.specs.Staging.{◌>>=◌, StepFault, TooLarge, found_or, node_or_fault, edge_or_fault, is_small, put_node, put_edge}
+use Rattle.pgs_violation.specs.Staging.{◌>>=◌, StepFault, Unable, TooLarge, found_or, node_or_fault, edge_or_fault, is_small, put_node, put_edge}
 use Rattle.pgs_txn.specs.declared.changed_rows.ChangedRows.{ChangedRows}
 use Rattle.pgs_txn.specs.declared.working.Working.{Working}
 use Rattle.pgs_txn.specs.declared.edit.Edit.{Edit}
 use Rattle.pgs_txn.specs.declared.faults.OpFault.{OpFault}
-use Rattle.pgs_txn.specs.Answers.{Gives}
-use Rattle.pgs_txn.specs.Edits.{edited_node, edited_edge, with_edited_node, with_edited_edge}
+use Rattle.pgs_txn.specs.declared.faults.OpFault.TheVariants as faults
+use Rattle.pgs_txn.specs.Answers.{Gives, IsFault}
+use Rattle.pgs_txn.specs.Edits.{edited_node, edited_edge, small_node, small_edge, with_edited_node, with_edited_edge}
 use Rattle.pgs_txn.specs.Rows.{edge_change, is_changed, has_end, IsIndexed}
 use Rattle.pgs_txn.specs.Working.{graph_now, IsCovered, StandsOn, Lists}
 
@@ -190,18 +191,48 @@ given_node r g id o is gives = subst (λ o. Gives r (found_or (NoNode id) o)) (s
 pub given_edge : (r : Result EdgeRow OpFault) (g : Graph) (id : EdgeId) (o : Option EdgeRow) → edge_at g id ≡ o → Gives r (found_or (NoEdge id) o) → Gives r (edge_or_fault g id)
 given_edge r g id o is gives = subst (λ o. Gives r (found_or (NoEdge id) o)) (sym is) gives
 
-module _ (edit : Edit) (g : Graph) where
-  pub edited_node_is : (id : NodeId) (row new : NodeRow) → node_or_fault g id ≡ Ok row → new ≡ edited_node edit row → is_small new.labels new.props ≡ true →
-      with_edited_node edit g id ≡ Ok (with_node g id new)
-  edited_node_is id row new there is small =
-      ap (λ r. r >>= λ row. put_node g id (edited_node edit row)) there ∙ ap (put_node g id) (sym is)
-      ∙ ap (λ b. if b then Ok (with_node g id new) else Err TooLarge) small
+-- a row that isn't too large is put
+pub small_node_put : (g : Graph) (id : NodeId) (row new : NodeRow) → small_node row ≡ Ok new → put_node g id row ≡ Ok (with_node g id new)
+small_node_put g id row new small = by (is_small row.labels row.props) small
+  where
+    by : (b : Bool) → (if b then Ok row else Err TooLarge) ≡ Ok new → (if b then Ok (with_node g id row) else Err TooLarge) ≡ Ok (with_node g id new)
+    by true e = let same : row ≡ new = cc in ap (λ r. Ok (with_node g id r)) same
+    by false e = cc
 
-  pub edited_edge_is : (id : EdgeId) (row new : EdgeRow) → edge_or_fault g id ≡ Ok row → new ≡ edited_edge edit row → is_small new.labels new.props ≡ true →
-      with_edited_edge edit g id ≡ Ok (with_edge g id new)
-  edited_edge_is id row new there is small =
-      ap (λ r. r >>= λ row. put_edge g id (edited_edge edit row)) there ∙ ap (put_edge g id) (sym is)
-      ∙ ap (λ b. if b then Ok (with_edge g id new) else Err TooLarge) small
+pub small_edge_put : (g : Graph) (id : EdgeId) (row new : EdgeRow) → small_edge row ≡ Ok new → put_edge g id row ≡ Ok (with_edge g id new)
+small_edge_put g id row new small = by (is_small row.labels row.props) small
+  where
+    by : (b : Bool) → (if b then Ok row else Err TooLarge) ≡ Ok new → (if b then Ok (with_edge g id row) else Err TooLarge) ≡ Ok (with_edge g id new)
+    by true e = let same : row ≡ new = cc in ap (λ r. Ok (with_edge g id r)) same
+    by false e = cc
+
+pub large_edge_put : (g : Graph) (id : EdgeId) (row : EdgeRow) → small_edge row ≡ Err TooLarge → put_edge g id row ≡ Err TooLarge
+large_edge_put g id row large = by (is_small row.labels row.props) large
+  where
+    by : (b : Bool) → (if b then Ok row else Err TooLarge) ≡ Err TooLarge → (if b then Ok (with_edge g id row) else Err TooLarge) ≡ Err TooLarge
+    by true e = cc
+    by false e = refl
+
+-- a fault of a row is the fault of putting it
+pub fault_of_edge : (fault : OpFault) (g : Graph) (id : EdgeId) (row : EdgeRow) → IsFault fault (small_edge row) → IsFault fault (put_edge g id row)
+fault_of_edge faults.Memory g id row h = tt
+fault_of_edge (faults.Unable cause) g id row h = by (is_small row.labels row.props) h
+  where
+    by : (b : Bool) → (if b then Ok row else Err TooLarge) ≡ Err (Unable cause) → (if b then Ok (with_edge g id row) else Err TooLarge) ≡ Err (Unable cause)
+    by true e = cc
+    by false e = cc
+fault_of_edge faults.TooLarge g id row h = large_edge_put g id row h
+
+-- the fault of a result that is known
+pub fault_along : {A : Type 0} (fault : OpFault) (r s : Result A StepFault) → r ≡ s → IsFault fault s → IsFault fault r
+fault_along fault r s same h = subst (IsFault fault) (sym same) h
+
+module _ (edit : Edit) (g : Graph) where
+  pub edited_node_from : (id : NodeId) (row : NodeRow) → node_or_fault g id ≡ Ok row → with_edited_node edit g id ≡ put_node g id (edited_node edit row)
+  edited_node_from id row there = ap (λ r. r >>= λ row. put_node g id (edited_node edit row)) there
+
+  pub edited_edge_from : (id : EdgeId) (row : EdgeRow) → edge_or_fault g id ≡ Ok row → with_edited_edge edit g id ≡ put_edge g id (edited_edge edit row)
+  edited_edge_from id row there = ap (λ r. r >>= λ row. put_edge g id (edited_edge edit row)) there
 
 module _ (g : Graph) (w : Working) (stands : StandsOn g w) where
   pub node_put_back : (id : NodeId) (row : NodeRow) (mid : List (NodeId × Option NodeRow)) (after : List (NodeId × Option NodeRow)) →

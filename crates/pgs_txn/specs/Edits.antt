@@ -1,5 +1,5 @@
 -- What one change makes of labels and of properties.
-use Rattle.std.specs.Prelude.{ℕ, List, Result}
+use Rattle.std.specs.Prelude.{ℕ, List, Result, Ok, Err, if◌then◌else◌}
 use Rattle.pgs_base.specs.declared.element.NodeId.{NodeId}
 use Rattle.pgs_base.specs.declared.element.EdgeId.{EdgeId}
 use Rattle.pgs_base.specs.declared.row.NodeRow.{NodeRow}
@@ -7,7 +7,7 @@ use Rattle.pgs_base.specs.declared.row.EdgeRow.{EdgeRow}
 use Rattle.pgs_base.specs.declared.value.Value.{Value}
 use Rattle.pgs_base.specs.Graph.{Graph}
 use Rattle.pgs_base.specs.Pair.{put_value, take_value, put_name, take_name}
-use Rattle.pgs_violation.specs.Staging.{◌>>=◌, StepFault, node_or_fault, edge_or_fault, put_node, put_edge}
+use Rattle.pgs_violation.specs.Staging.{◌>>=◌, StepFault, TooLarge, is_small, node_or_fault, edge_or_fault, put_node, put_edge}
 use Rattle.pgs_txn.specs.declared.edit.Edit.{Edit}
 use Rattle.pgs_txn.specs.declared.edit.Edit.TheVariants.{Set, Unset, Label, Unlabel}
 
@@ -29,6 +29,13 @@ edited_node edit row = record row { labels = edited_labels edit row.labels; prop
 
 abbrev pub edited_edge : Edit → EdgeRow → EdgeRow
 edited_edge edit row = record row { labels = edited_labels edit row.labels; props = edited_props edit row.props }
+
+-- a row, where it isn't too large
+abbrev pub small_node : NodeRow → Result NodeRow StepFault
+small_node row = if is_small row.labels row.props then Ok row else Err TooLarge
+
+abbrev pub small_edge : EdgeRow → Result EdgeRow StepFault
+small_edge row = if is_small row.labels row.props then Ok row else Err TooLarge
 
 -- the graph after a change of a node that is there, and of an edge that is
 abbrev pub with_edited_node : Edit → Graph → NodeId → Result Graph StepFault

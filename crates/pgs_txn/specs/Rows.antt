@@ -6,6 +6,7 @@ use Rattle.std.specs.BTreeMap.{is_at}
 use Rattle.std.specs.List.{list_any}
 use Rattle.std.specs.List.Sorted.{IsStrictlySortedBy}
 use Rattle.std.specs.Map.{keys_of, lookup}
+use Rattle.std.specs.BTreeSet.{insert_key}
 use Rattle.std.specs.Set.{remove_key}
 use Rattle.pgs_base.specs.declared.element.NodeId.{NodeId}
 use Rattle.pgs_base.specs.declared.element.EdgeId.{EdgeId}
@@ -45,6 +46,11 @@ was_put (Some row) = is_some row
 -- whether an edge was changed
 abbrev pub is_changed : ChangedRows → EdgeId → Bool
 is_changed rows id = is_some (edge_change rows id)
+
+-- the ends after those of an edge are put in
+abbrev pub ends_with : EdgeId → EdgeRow → List EdgeEnd → List EdgeEnd
+ends_with id row ends =
+    insert_key end_cmp (insert_key end_cmp ends (record { node = row.source; edge = id })) (record { node = row.target; edge = id })
 
 -- the ends that are left when those of a changed edge are taken out
 abbrev pub ends_left : EdgeId → Option (Option EdgeRow) → List EdgeEnd → List EdgeEnd

@@ -13,9 +13,10 @@ ghost use Rattle.pgs_txn.specs.Answers.{Makes};
 ghost use Rattle.pgs_txn.specs.Rows.{IsIndexed, edge_change, was_put};
 ghost use Rattle.pgs_txn.specs.Working.{StandsOn, graph_now, Lists};
 
+use crate::edit::{new_edge, new_node};
 use crate::faults::OpFault;
-use crate::working::{Working, is_small};
-use pgs_base::{Copyable, EdgeId, EdgeRow, Elem, Labels, Memory, NodeId, NodeRow, Props, Steps};
+use crate::working::Working;
+use pgs_base::{EdgeId, EdgeRow, Elem, Labels, Memory, NodeId, Props, Steps};
 use pgs_graph::GraphRead;
 use pgs_violation::Cause;
 use std::alloc::Global;
@@ -53,12 +54,8 @@ impl Working {
         if self.has_node(graph, id, steps) {
             return Err(OpFault::Unable(Cause::AlreadyThere(Elem::Node(id))));
         }
-        if !is_small(labels, props) {
-            return Err(OpFault::TooLarge);
-        }
-        let labels = labels.copy(alloc)?;
-        let props = props.copy(alloc)?;
-        self.rows.put_node(id, Some(NodeRow { labels, props }))?;
+        let row = new_node(alloc, labels, props)?;
+        self.rows.put_node(id, Some(row))?;
         self.count = one_more(self.count)?;
         Ok(())
     }
@@ -129,21 +126,8 @@ impl Working {
         if let Err(cause) = self.test_edge(graph, id, ends, steps) {
             return Err(OpFault::Unable(cause));
         }
-        if !is_small(labels, props) {
-            return Err(OpFault::TooLarge);
-        }
-        let labels = labels.copy(alloc)?;
-        let props = props.copy(alloc)?;
-        let (source, target) = ends;
-        self.put_new_edge(
-            id,
-            EdgeRow {
-                source,
-                target,
-                labels,
-                props,
-            },
-        )?;
+        let row = new_edge(alloc, ends, labels, props)?;
+        self.put_new_edge(id, row)?;
         Ok(())
     }
 }

@@ -5,7 +5,7 @@ ghost use Rattle.std.specs.BTreeMap.{is_at, insert_entry};
 ghost use Rattle.std.specs.List.Sorted.{IsStrictlySortedBy};
 ghost use Rattle.std.specs.Map.{lookup};
 ghost use Rattle.pgs_base.specs.Graph.{node_cmp, edge_cmp};
-ghost use Rattle.pgs_txn.specs.Rows.{IsIndexed, IsLeast, delta_of, edge_change, end_cmp, ends_left, was_put, was_put_at};
+ghost use Rattle.pgs_txn.specs.Rows.{IsIndexed, IsLeast, delta_of, edge_change, end_cmp, ends_left, ends_with, was_put, was_put_at};
 
 use pgs_base::{EdgeId, EdgeRow, List, Memory, NodeId, NodeRow};
 use pgs_graph::Delta;
@@ -25,6 +25,22 @@ pub(crate) struct ChangedRows {
     pub nodes: BTreeMap<NodeId, Option<NodeRow>>,
     pub edges: BTreeMap<EdgeId, Option<EdgeRow>>,
     pub ends: BTreeSet<EdgeEnd>,
+}
+
+// Puts the ends of an edge in.
+fn put_ends(ends: &mut BTreeSet<EdgeEnd>, id: EdgeId, row: &EdgeRow) -> Result<(), Memory>
+    ensures ends { OnOk result (ends.new.keys ≡ ends_with id row.now ends.old.keys) }
+    ensures ascending { OnOk result (IsStrictlySortedBy end_cmp ends.new.keys) }
+{
+    ends.insert(EdgeEnd {
+        node: row.source,
+        edge: id,
+    })?;
+    ends.insert(EdgeEnd {
+        node: row.target,
+        edge: id,
+    })?;
+    Ok(())
 }
 
 // Takes the ends of an edge out, where it was put in.
@@ -86,14 +102,7 @@ impl ChangedRows {
         ensures nodes { self.new.nodes ≡ self.old.nodes }
         ensures indexed { OnOk result (IsIndexed self.new) }
     {
-        self.ends.insert(EdgeEnd {
-            node: row.source,
-            edge: id,
-        })?;
-        self.ends.insert(EdgeEnd {
-            node: row.target,
-            edge: id,
-        })?;
+        put_ends(&mut self.ends, id, &row)?;
         self.edges.insert(id, Some(row))?;
         Ok(())
     }

@@ -7,7 +7,7 @@ ghost use Rattle.pgs_base.specs.declared.element.EdgeId.{EdgeId};
 ghost use Rattle.pgs_base.specs.Graph.{node_cmp, edge_cmp, node_at, edge_at};
 ghost use Rattle.pgs_base.specs.Pair.{pair_of};
 ghost use Rattle.pgs_graph.specs.Reads.{edge_row};
-ghost use Rattle.pgs_violation.specs.Staging.{found_or, node_or_fault, edge_or_fault, is_small};
+ghost use Rattle.pgs_violation.specs.Staging.{found_or, node_or_fault, edge_or_fault};
 ghost use Rattle.pgs_txn.specs.Answers.{Gives, Makes};
 ghost use Rattle.pgs_txn.specs.Edits.{with_edited_node, with_edited_edge};
 ghost use Rattle.pgs_txn.specs.Rows.{delta_of, IsIndexed};
@@ -16,7 +16,7 @@ ghost use Rattle.pgs_txn.specs.Working.{StandsOn, graph_now, Lists};
 use crate::changed_rows::ChangedRows;
 use crate::edit::Edit;
 use crate::faults::OpFault;
-use pgs_base::{Copyable, EdgeId, EdgeRow, Labels, Memory, NodeId, NodeRow, Props, Steps};
+use pgs_base::{Copyable, EdgeId, EdgeRow, Memory, NodeId, NodeRow, Steps};
 use pgs_graph::{EdgeRef, GraphRead, NodeRef};
 use pgs_violation::Cause;
 use std::alloc::Global;
@@ -32,13 +32,6 @@ pub(crate) struct Working {
     pub cleared: BTreeSet<NodeId>,
     /// How many nodes and edges there are so far.
     pub count: u64,
-}
-
-/// Whether an element with these isn't too large.
-pub(crate) fn is_small(labels: &Labels, props: &Props) -> bool
-    ensures { result ≡ is_small labels.now props.now }
-{
-    labels.len() <= 64 && props.len() <= 256
 }
 
 // A row that is there, or the cause that it isn't.
@@ -203,12 +196,9 @@ impl Working {
         ensures no_step_back { steps.old ≤ steps.new }
         ensures one_look { steps.new ≤ steps.old + 1 }
     {
-        let mut row = self.take_node(alloc, graph, id, steps)?;
-        edit.apply(alloc, &mut row.labels, &mut row.props)?;
-        if !is_small(&row.labels, &row.props) {
-            return Err(OpFault::TooLarge);
-        }
-        self.rows.put_node(id, Some(row))?;
+        let row = self.take_node(alloc, graph, id, steps)?;
+        let edited = edit.node(alloc, row)?;
+        self.rows.put_node(id, Some(edited))?;
         Ok(())
     }
 
@@ -228,12 +218,9 @@ impl Working {
         ensures no_step_back { steps.old ≤ steps.new }
         ensures one_look { steps.new ≤ steps.old + 1 }
     {
-        let mut row = self.take_edge(alloc, graph, id, steps)?;
-        edit.apply(alloc, &mut row.labels, &mut row.props)?;
-        if !is_small(&row.labels, &row.props) {
-            return Err(OpFault::TooLarge);
-        }
-        self.rows.put_edge(id, row)?;
+        let row = self.take_edge(alloc, graph, id, steps)?;
+        let edited = edit.edge(alloc, row)?;
+        self.rows.put_edge(id, edited)?;
         Ok(())
     }
 }

@@ -1,22 +1,26 @@
-use Rattle.std.proofs.Common.{◌≡◌, ◌+◌, ◌∙◌, ap, sym, refl, Ok, Some, ℕ, cond, is_some, arith}
-use Rattle.pgs_base.specs.declared.row.EdgeRow.{EdgeRow}
+use Rattle.std.proofs.Common.{◌≡◌, ◌∙◌, ap, sym, refl, Ok, Some, ℕ, cond, is_some, arith}
+use Rattle.std.proofs.lemmas.Result.{err_from_is_err_and}
 use Rattle.pgs_base.specs.Graph.{edge_at}
 use Rattle.pgs_graph.specs.Reads.{edge_row}
-use Rattle.pgs_violation.specs.Staging.{added_edge, is_small}
+use Rattle.pgs_violation.specs.Staging.{added_edge, put_edge}
 use Rattle.pgs_txn.specs.Working.{graph_now}
-use Rattle.pgs_txn.proofs.Added.{put_edge_is, put_edge_large, absent_not_put}
-use Rattle.pgs_txn.proofs.Standing.{graph_after_edge, stands_after_edge, lists_after_edge}
+use Rattle.pgs_txn.proofs.Added.{absent_not_put}
+use Rattle.pgs_txn.proofs.Standing.{small_edge_put, fault_of_edge, fault_along, graph_after_edge, stands_after_edge, lists_after_edge}
 use Rattle.pgs_txn.proofs.working.Working.add_edge.Goals as goal
 
 pub returns-in-Err-clause-step : goal.returns-in-Err-clause-step
 returns-in-Err-clause-step g c =
     c.in-Err.ensures.fits (edge_row c.args.ends.0 c.args.ends.1 c.args.carried.0.now c.args.carried.1.now) refl refl
 
-pub returns-then-not-is_small-clause-step : goal.returns-then-not-is_small-clause-step
-returns-then-not-is_small-clause-step g c =
-    let row = edge_row c.args.ends.0 c.args.ends.1 c.args.carried.0.now c.args.carried.1.now in
-    c.in_default.ensures.fits row refl refl
-    ∙ put_edge_large (graph_now (g.G.GraphRead.meaning c.args.graph.now) c.args.self.now) c.args.id row (sym c.is_small.ensures ∙ c.if-not-is_small.true)
+pub returns-in_err-row-clause-step : goal.returns-in_err-row-clause-step
+returns-in_err-row-clause-step g c =
+    let now = graph_now (g.G.GraphRead.meaning c.args.graph.now) c.args.self.now in
+    let id = c.args.id in
+    let wanted = edge_row c.args.ends.0 c.args.ends.1 c.args.carried.0.now c.args.carried.1.now in
+    let fault = c.in_err-row.field-0.0 in
+    let p = err_from_is_err_and c.from_residual.result c.from_residual.ensures.1 in
+    rw (p.1, p.2) (fault_along fault (added_edge now id wanted) (put_edge now id wanted) (c.in_default.ensures.fits wanted refl refl)
+    (fault_of_edge fault now id wanted c.in_err-row.ensures))
 
 pub put_new_edge-requires-clause-absent : goal.put_new_edge-requires-clause-absent
 put_new_edge-requires-clause-absent g c =
@@ -28,15 +32,11 @@ returns-clause-step g c =
     let w = c.args.self.now in
     let id = c.args.id in
     let next = c.put_new_edge.new.self in
-    let row : EdgeRow = record { source = c.args.ends.0; target = c.args.ends.1; labels = c.in_ok-labels.labels; props = c.in_ok-props.props } in
+    let row = c.in_ok-row.row in
     let put = c.in_ok-put_new_edge.ensures in
-    let labels = c.in_ok-labels.ensures in
-    let props = c.in_ok-props.ensures in
-    let same : row ≡ edge_row c.args.ends.0 c.args.ends.1 c.args.carried.0.now c.args.carried.1.now =
-        λ i. record { source = c.args.ends.0; target = c.args.ends.1; labels = labels i; props = props i } in
-    ap (added_edge (graph_now m w) id) (sym same)
-    ∙ c.in_default.ensures.fits row refl refl
-    ∙ put_edge_is (graph_now m w) id row (ap (λ (r : EdgeRow). is_small r.labels r.props) same ∙ sym c.is_small.ensures ∙ c.if-not-is_small.false)
+    let wanted = edge_row c.args.ends.0 c.args.ends.1 c.args.carried.0.now c.args.carried.1.now in
+    c.in_default.ensures.fits wanted refl refl
+    ∙ small_edge_put (graph_now m w) id wanted row c.in_ok-row.ensures
     ∙ ap Ok (sym (graph_after_edge m w c.requires next put.indexed c.put_new_edge.ensures.cleared id (Some row) put.edges c.put_new_edge.ensures.nodes))
 
 pub returns-clause-stands : goal.returns-clause-stands
@@ -45,7 +45,7 @@ returns-clause-stands g c =
     let w = c.args.self.now in
     let id = c.args.id in
     let next = c.put_new_edge.new.self in
-    let row : EdgeRow = record { source = c.args.ends.0; target = c.args.ends.1; labels = c.in_ok-labels.labels; props = c.in_ok-props.props } in
+    let row = c.in_ok-row.row in
     let put = c.in_ok-put_new_edge.ensures in
     let none : cond {A = ℕ} (is_some (edge_at (graph_now m w) id)) 1 0 ≡ 0 = ap (λ o. cond {A = ℕ} (is_some o) 1 0) c.in_default.ensures.new in
     let count = put.count in
@@ -57,6 +57,6 @@ returns-clause-lists g c nodes edges own all =
     let w = c.args.self.now in
     let id = c.args.id in
     let next = c.put_new_edge.new.self in
-    let row : EdgeRow = record { source = c.args.ends.0; target = c.args.ends.1; labels = c.in_ok-labels.labels; props = c.in_ok-props.props } in
+    let row = c.in_ok-row.row in
     let put = c.in_ok-put_new_edge.ensures in
     lists_after_edge m w c.requires next put.indexed c.put_new_edge.ensures.cleared id (Some row) put.edges c.put_new_edge.ensures.nodes nodes edges own all
