@@ -1,0 +1,4 @@
+pub mod Firsts
+pub mod Plans
+pub mod Scopes
+pub mod Searched

@@ -1,0 +1,25 @@
+use Rattle.std.proofs.Common.{[], sym, ap, ◌∙◌, subst, ◌<◌, length, arith}
+use Rattle.std.specs.Option.{option_map_or}
+use Rattle.std.proofs.lemmas.Bool.{and_parts}
+use Rattle.pgs_syntax.specs.KeyValues.{key_values}
+use Rattle.pgs_matching.specs.Bounds.{with_bound, nothing_bound}
+use Rattle.pgs_matching.specs.Search.{gathered}
+use Rattle.pgs_matching.specs.Tests.{admitted}
+use Rattle.pgs_matching.proofs.Values.{gathered_are_values}
+use Rattle.pgs_match.proofs.Scopes.{ok_same, some_variable}
+use Rattle.pgs_match.proofs.calls.key_values.Goals as goal
+
+pub returns-clause-values : goal.returns-clause-values
+returns-clause-values g c =
+    let graph = g.G.GraphRead.meaning c.args.graph.now in
+    let resolved = c.args.compiled.now in
+    let key = c.args.key.now in
+    let plan = c.plan.result.now in
+    let valid = (and_parts _ _ (and_parts _ _ c.requires).0).0 in
+    ok_same c.tuples.result _ (key_values resolved graph key c.args.elem)
+    (ap (λ pattern. option_map_or (λ x. gathered resolved graph pattern.atoms c.as_slice-exprs.result.now plan (with_bound nothing_bound 0 x) []) (admitted resolved graph pattern 0 c.args.elem) [])
+    c.pattern.ensures.pattern
+    ∙ ap (λ exprs. option_map_or (λ x. gathered resolved graph key.descriptor.atoms exprs plan (with_bound nothing_bound 0 x) []) (admitted resolved graph key.descriptor 0 c.args.elem) [])
+    (c.as_slice-exprs.ensures ∙ ap (λ k. k.exprs) c.key.ensures)
+    ∙ gathered_are_values resolved graph key valid (some_variable key valid) plan c.plan.ensures c.args.elem)
+    c.tuples.ensures.value

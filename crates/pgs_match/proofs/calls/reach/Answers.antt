@@ -1,0 +1,37 @@
+use Rattle.std.proofs.Common.{◌≡◌, ◌+◌, ◌^◌, ◌<◌, ◌≤◌, true, length, sym, ap, ◌∙◌, subst, arith}
+use Rattle.std.specs.Prelude.{filter_map}
+use Rattle.pgs_syntax.specs.Valid.{edge_count, is_valid_pattern}
+use Rattle.pgs_plan.specs.Plans.{is_plan}
+use Rattle.pgs_matching.specs.Reached.{reached}
+use Rattle.pgs_match.specs.Planned.{pattern_of, most_edges, first_elem}
+use Rattle.pgs_match.proofs.Firsts.{firsts_are_reached, firsts_few}
+use Rattle.pgs_match.proofs.Scopes.{ok_same, ok_fewer, side_edges, side_valid}
+use Rattle.pgs_match.proofs.calls.reach.Goals as goal
+
+pub tuples-requires-clause-valid : goal.tuples-requires-clause-valid
+tuples-requires-clause-valid g c = subst (λ pattern. is_valid_pattern pattern ≡ true) (sym c.pattern.ensures.pattern) (side_valid c.args.side c.args.key.now c.pattern.ensures.valid)
+
+pub returns-clause-elems : goal.returns-clause-elems
+returns-clause-elems g c =
+    let graph = g.G.GraphRead.meaning c.args.graph.now in
+    let resolved = c.args.compiled.now in
+    let pattern = c.pattern.result.now in
+    let plan = c.plan.result.now in
+    let var = c.args.var in
+    let same = c.pattern.ensures.pattern in
+    ok_same c.first_elems.result _ (reached resolved graph (pattern_of c.args.side c.args.key.now) var c.args.elem)
+    (ap (filter_map first_elem) c.as_slice.ensures.value
+    ∙ firsts_are_reached resolved graph pattern (subst (λ p. is_valid_pattern p ≡ true) (sym same) (side_valid c.args.side c.args.key.now c.pattern.ensures.valid)) var
+    (subst (λ p. var < length p.edge_vars) (sym same) c.requires.in_range) plan (subst (λ p. is_plan p var plan ≡ true) (sym same) c.plan.ensures) c.args.elem c.in_ok-tuples.ensures.graph
+    c.in_ok-tuples.tuples c.in_ok-tuples.ensures.value
+    ∙ ap (λ p. reached resolved graph p var c.args.elem) same)
+    c.first_elems.ensures
+
+pub returns-clause-few : goal.returns-clause-few
+returns-clause-few g c = λ most sparse.
+    let key = c.args.key.now in
+    let edges = subst (λ p. edge_count p.edge_vars ≤ most_edges key) (sym c.pattern.ensures.pattern) (side_edges c.args.side key) in
+    let few = c.in_ok-tuples.ensures.few (most_edges key) most edges sparse in
+    let firsts = firsts_few c.in_ok-tuples.tuples in
+    let slice = ap (λ tuples. length (filter_map first_elem tuples)) c.as_slice.ensures.value in
+    ok_fewer c.first_elems.result (filter_map first_elem c.as_slice.result.now) ((most + 2) ^ most_edges key) (omega (arith, few, firsts, slice)) c.first_elems.ensures

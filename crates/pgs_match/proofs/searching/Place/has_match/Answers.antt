@@ -1,0 +1,43 @@
+use Rattle.std.proofs.Common.{ap, ◌∙◌, arith}
+use Rattle.pgs_matching.specs.Search.{can_complete, most_steps}
+use Rattle.pgs_match.proofs.Searched.{IsSame, found_with, found_without, cost_with, cost_without}
+use Rattle.pgs_match.proofs.searching.Place.has_match.Goals as goal
+
+pub returns-in-Some-clause-found : goal.returns-in-Some-clause-found
+returns-in-Some-clause-found g c =
+    let place = c.args.self.now in
+    let graph = g.G.GraphRead.meaning place.graph.now in
+    let search = c.search-search.result in
+    let other = g.G.GraphRead.meaning search.graph.now in
+    found_with place.compiled.now graph place.pattern.now c.requires.valid c.args.var c.requires.in_range c.args.plan.now c.requires.plan c.args.elem c.in-Some.bound c.in-Some.ensures.value
+    search.compiled.now other search.atoms.now
+    (record {
+      schemas = ap (λ r. r.now) c.search-search.ensures.compiled;
+      graphs = ap (λ r. g.G.GraphRead.meaning r.now) c.search-search.ensures.graph;
+      lists = c.search-search.ensures.atoms;
+    })
+    c.can_complete.result (c.can_complete.ensures.found ∙ ap (can_complete search.compiled.now other search.atoms.now c.args.plan.now) c.alone.ensures)
+
+pub returns-in-Some-clause-cost : goal.returns-in-Some-clause-cost
+returns-in-Some-clause-cost g c =
+    let place = c.args.self.now in
+    let graph = g.G.GraphRead.meaning place.graph.now in
+    let search = c.search-search.result in
+    let other = g.G.GraphRead.meaning search.graph.now in
+    cost_with place.compiled.now graph place.pattern.now c.requires.valid c.args.var c.requires.in_range c.args.plan.now c.requires.plan c.args.elem c.in-Some.bound c.in-Some.ensures.value
+    search.compiled.now other search.atoms.now
+    (record {
+      schemas = ap (λ r. r.now) c.search-search.ensures.compiled;
+      graphs = ap (λ r. g.G.GraphRead.meaning r.now) c.search-search.ensures.graph;
+      lists = c.search-search.ensures.atoms;
+    })
+    c.in-Some.ensures.graph 0 c.args.steps.now c.begin.new.steps c.can_complete.new.steps (omega arith) c.begin.ensures.at_most
+    (let same = ap (most_steps search.compiled.now other search.atoms.now 0 c.args.plan.now) c.alone.ensures in omega (arith, c.can_complete.ensures.cost, same))
+
+pub returns-clause-found : goal.returns-clause-found
+returns-clause-found g c =
+    let place = c.args.self.now in
+    found_without place.compiled.now (g.G.GraphRead.meaning place.graph.now) place.pattern.now c.requires.valid c.args.var c.requires.in_range c.args.plan.now c.requires.plan c.args.elem c.in-None.ensures.value
+
+pub returns-clause-cost : goal.returns-clause-cost
+returns-clause-cost g c = λ w most few sparse. cost_without c.args.steps.now c.begin.new.steps c.begin.ensures.at_most w most

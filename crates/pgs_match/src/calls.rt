@@ -1,0 +1,196 @@
+//! The calls on a planned key.
+
+ghost use Rattle.std.specs.Prelude.{◌≡◌, ◌+◌, ◌*◌, ◌^◌, ◌<◌, ◌≤◌, ℕ, true, false, length, filter, filter_map, IfOk};
+ghost use Rattle.pgs_syntax.specs.KeyValues.{is_in_scope, scope_of, key_values};
+ghost use Rattle.pgs_syntax.specs.Matches.{elements};
+ghost use Rattle.pgs_syntax.specs.Valid.{is_valid_key_of};
+ghost use Rattle.pgs_matching.specs.Near.{IsSparse};
+ghost use Rattle.pgs_matching.specs.Reached.{reached};
+ghost use Rattle.pgs_match.specs.Planned.{most_edges, pattern_of, first_elem};
+
+use crate::searching::Place;
+use crate::{PlannedKey, Side};
+use pgs_base::{Elem, List, Memory, Part, Steps, Tuple, TupleSet};
+use pgs_conform::Compiled;
+use pgs_graph::GraphRead;
+use pgs_syntax::Expr;
+use std::alloc::Global;
+use std::sync::ledger::Ledger;
+
+/// Whether an element is in the scope of a key, whose types are those of the schema. It takes no memory. The rule is `is_in_scope` of
+/// `pgs_syntax`.
+///
+/// It takes at most 16 * (d + 2)^(w + 1) look-ups, where w is the greater number of edge variables of the key's two patterns, and no
+/// node within w edges of the element has an in-degree plus out-degree over d.
+pub fn in_scope<G: GraphRead, L: Ledger>(
+    graph: &G,
+    compiled: &Compiled,
+    key: &PlannedKey,
+    elem: Elem,
+    steps: &mut Steps<L>,
+) -> bool
+    requires { is_valid_key_of compiled.now key.now ≡ true }
+    ensures found { result ≡ is_in_scope compiled.now (G.meaning graph.now) key.now elem }
+    ensures no_step_back { steps.old ≤ steps.new }
+    ensures cost { (most : ℕ) → IsSparse (G.meaning graph.now) (most_edges key.now) elem most →
+        steps.new ≤ steps.old + 16 * (most + 2) ^ (most_edges key.now + 1) }
+{
+    let place = Place {
+        graph,
+        compiled,
+        pattern: key.pattern(Side::Scope),
+    };
+    place.has_match(key.plan(Side::Scope, 0), 0, elem, steps)
+}
+
+/// The key values of an element, for a key whose types are those of the schema. The rule is `key_values` of `pgs_syntax`.
+///
+/// At every exit it has taken at most as many look-ups as [`in_scope`], and it gives at most (d + 2)^w tuples.
+pub fn key_values<G: GraphRead, L: Ledger>(
+    alloc: Global,
+    graph: &G,
+    compiled: &Compiled,
+    key: &PlannedKey,
+    elem: Elem,
+    steps: &mut Steps<L>,
+) -> Result<TupleSet, Memory>
+    requires { is_valid_key_of compiled.now key.now ≡ true }
+    ensures values { IfOk result (λ tuples. tuples ≡ key_values compiled.now (G.meaning graph.now) key.now elem) }
+    ensures no_step_back { steps.old ≤ steps.new }
+    ensures cost { (most : ℕ) → IsSparse (G.meaning graph.now) (most_edges key.now) elem most →
+        steps.new ≤ steps.old + 16 * (most + 2) ^ (most_edges key.now + 1) }
+    ensures few { (most : ℕ) → IsSparse (G.meaning graph.now) (most_edges key.now) elem most →
+        IfOk result (λ tuples. length tuples ≤ (most + 2) ^ most_edges key.now) }
+{
+    let place = Place {
+        graph,
+        compiled,
+        pattern: key.pattern(Side::Descriptor),
+    };
+    let exprs = key.key().exprs.as_slice();
+    place.tuples(alloc, exprs, key.plan(Side::Descriptor, 0), 0, elem, steps)
+}
+
+/// The elements that x takes in the matches of a pattern of the key in which the variable takes the element, ascending and each once.
+/// The variable is in range, and the key's types are those of the schema. The rule is `reached` in `specs/Reached.antt` of `pgs_matching`.
+///
+/// At every exit it has taken at most as many look-ups as [`in_scope`], and it gives at most (d + 2)^w elements.
+pub fn reach<G: GraphRead, L: Ledger>(
+    alloc: Global,
+    graph: &G,
+    compiled: &Compiled,
+    key: &PlannedKey,
+    side: Side,
+    var: u32,
+    elem: Elem,
+    steps: &mut Steps<L>,
+) -> Result<List<Elem>, Memory>
+    requires typed { is_valid_key_of compiled.now key.now ≡ true }
+    requires in_range { var < length (pattern_of side key.now).edge_vars }
+    ensures elems { IfOk result (λ elems. elems ≡ reached compiled.now (G.meaning graph.now) (pattern_of side key.now) var elem) }
+    ensures no_step_back { steps.old ≤ steps.new }
+    ensures cost { (most : ℕ) → IsSparse (G.meaning graph.now) (most_edges key.now) elem most →
+        steps.new ≤ steps.old + 16 * (most + 2) ^ (most_edges key.now + 1) }
+    ensures few { (most : ℕ) → IsSparse (G.meaning graph.now) (most_edges key.now) elem most →
+        IfOk result (λ elems. length elems ≤ (most + 2) ^ most_edges key.now) }
+{
+    let place = Place {
+        graph,
+        compiled,
+        pattern: key.pattern(side),
+    };
+    let exprs = [Expr::Element(0)];
+    let tuples = place.tuples(alloc, &exprs, key.plan(side, var), var, elem, steps)?;
+    first_elems(alloc, tuples.as_slice())
+}
+
+// The element that a tuple begins with.
+fn first_elem(tuple: &Tuple) -> Option<Elem>
+    ensures { result ≡ first_elem tuple.now }
+{
+    match tuple.parts().as_slice().first() {
+        Some(Part::Elem(elem)) => Some(*elem),
+        _ => None,
+    }
+}
+
+// The elements that tuples begin with.
+fn first_elems(alloc: Global, tuples: &[Tuple]) -> Result<List<Elem>, Memory>
+    ensures { IfOk result (λ elems. elems ≡ filter_map first_elem tuples.now) }
+{
+    let mut elems = Vec::with_capacity(alloc, tuples.len())?;
+    for tuple in tuples {
+        if let Some(elem) = first_elem(tuple) {
+            elems.push(elem)?;
+        }
+    }
+    Ok(List::from_vec(elems))
+}
+
+/// The scope of a key, ascending, for a key whose types are those of the schema. The rule is `scope_of` of `pgs_syntax`. It asks
+/// [`in_scope`] once for each element of the kind of x.
+pub fn each_x<G: GraphRead, L: Ledger>(
+    alloc: Global,
+    graph: &G,
+    compiled: &Compiled,
+    key: &PlannedKey,
+    steps: &mut Steps<L>,
+) -> Result<List<Elem>, Memory>
+    requires { is_valid_key_of compiled.now key.now ≡ true }
+    ensures scope { IfOk result (λ elems. elems ≡ scope_of compiled.now (G.meaning graph.now) key.now) }
+    ensures no_step_back { steps.old ≤ steps.new }
+{
+    if key.is_of_edges() {
+        each_edge(alloc, graph, compiled, key, steps)
+    } else {
+        each_node(alloc, graph, compiled, key, steps)
+    }
+}
+
+// The nodes that are in the scope of a key.
+fn each_node<G: GraphRead, L: Ledger>(
+    alloc: Global,
+    graph: &G,
+    compiled: &Compiled,
+    key: &PlannedKey,
+    steps: &mut Steps<L>,
+) -> Result<List<Elem>, Memory>
+    requires { is_valid_key_of compiled.now key.now ≡ true }
+    ensures scope { IfOk result (λ elems. elems ≡ filter (is_in_scope compiled.now (G.meaning graph.now) key.now) (elements (G.meaning graph.now) false)) }
+    ensures no_step_back { steps.old ≤ steps.new }
+{
+    let ids = graph.node_ids(alloc, steps)?;
+    let mut elems = Vec::new(alloc);
+    let nodes = ids.as_slice();
+    for id in nodes {
+        let elem = Elem::Node(*id);
+        if in_scope(graph, compiled, key, elem, steps) {
+            elems.push(elem)?;
+        }
+    }
+    Ok(List::from_vec(elems))
+}
+
+// The edges that are in the scope of a key.
+fn each_edge<G: GraphRead, L: Ledger>(
+    alloc: Global,
+    graph: &G,
+    compiled: &Compiled,
+    key: &PlannedKey,
+    steps: &mut Steps<L>,
+) -> Result<List<Elem>, Memory>
+    requires { is_valid_key_of compiled.now key.now ≡ true }
+    ensures scope { IfOk result (λ elems. elems ≡ filter (is_in_scope compiled.now (G.meaning graph.now) key.now) (elements (G.meaning graph.now) true)) }
+    ensures no_step_back { steps.old ≤ steps.new }
+{
+    let ids = graph.edge_ids(alloc, steps)?;
+    let mut elems = Vec::new(alloc);
+    let edges = ids.as_slice();
+    for id in edges {
+        let elem = Elem::Edge(*id);
+        if in_scope(graph, compiled, key, elem, steps) {
+            elems.push(elem)?;
+        }
+    }
+    Ok(List::from_vec(elems))
+}

@@ -1,0 +1,136 @@
+//! Searches from one variable of a pattern and an element.
+
+ghost use Rattle.std.specs.Prelude.{◌≡◌, ◌+◌, ◌*◌, ◌^◌, ◌<◌, ◌≤◌, ℕ, true, false, [], length, IfOk, OnSome};
+ghost use Rattle.std.specs.Option.{option_map_or};
+ghost use Rattle.std.specs.List.{list_any, list_all};
+ghost use Rattle.pgs_base.specs.Graph.{is_graph};
+ghost use Rattle.pgs_syntax.specs.Matches.{matches};
+ghost use Rattle.pgs_syntax.specs.Valid.{edge_count, is_valid_pattern, names_types};
+ghost use Rattle.pgs_plan.specs.Plans.{is_plan};
+ghost use Rattle.pgs_matching.specs.Bounds.{with_bound, nothing_bound, stands_at};
+ghost use Rattle.pgs_matching.specs.Near.{IsSparse};
+ghost use Rattle.pgs_matching.specs.Search.{gathered};
+ghost use Rattle.pgs_matching.specs.Tests.{admitted};
+
+use pgs_base::{Elem, Memory, Steps, TupleSet};
+use pgs_conform::Compiled;
+use pgs_graph::GraphRead;
+use pgs_matching::{Bindings, Bound};
+use pgs_plan::Step;
+use pgs_search::{Gathering, Search};
+use pgs_syntax::{Expr, Pattern};
+use std::alloc::Global;
+use std::sync::ledger::Ledger;
+
+/// A pattern whose types are those of a schema, in a graph.
+pub(crate) struct Place<'a, G: GraphRead> {
+    pub graph: &'a G,
+    pub compiled: &'a Compiled,
+    pub pattern: &'a Pattern,
+}
+
+impl<'a, G: GraphRead> Drop for Place<'a, G> {
+    fn drop(self) {
+        let Place { graph: _, compiled: _, pattern: _ } = self;
+    }
+}
+
+impl<'a, G: GraphRead> Place<'a, G> {
+    fn search(&self) -> Search<'a, G>
+        ensures graph { result.graph ≡ self.now.graph }
+        ensures compiled { result.compiled ≡ self.now.compiled }
+        ensures atoms { result.atoms.now ≡ self.now.pattern.now.atoms }
+    {
+        Search {
+            graph: self.graph,
+            compiled: self.compiled,
+            atoms: self.pattern.atoms.as_slice(),
+        }
+    }
+
+    // To what the element binds the variable, if it is of its kind, is there and passes. At most three look-ups.
+    fn begin<L: Ledger>(
+        &self,
+        search: &Search<'a, G>,
+        var: u32,
+        elem: Elem,
+        steps: &mut Steps<L>,
+    ) -> Option<Bound>
+        requires graph { search.now.graph ≡ self.now.graph }
+        requires compiled { search.now.compiled ≡ self.now.compiled }
+        requires atoms { search.now.atoms.now ≡ self.now.pattern.now.atoms }
+        requires names { list_all (names_types self.now.compiled.now) self.now.pattern.now.atoms ≡ true }
+        ensures value { result ≡ admitted self.now.compiled.now (G.meaning self.now.graph.now) self.now.pattern.now var elem }
+        ensures no_step_back { steps.old ≤ steps.new }
+        ensures at_most { steps.new ≤ steps.old + 3 }
+        ensures graph { OnSome result (is_graph (G.meaning self.now.graph.now) ≡ true) }
+    {
+        match (elem, self.pattern.edge_vars.at(var as usize)) {
+            (Elem::Node(id), Some(false)) => search.admit_node(var, id, steps),
+            (Elem::Edge(id), Some(true)) => search.admit_edge(var, id, steps),
+            _ => None,
+        }
+    }
+
+    /// Whether some match has the element at the variable, by a plan from there.
+    pub(crate) fn has_match<L: Ledger>(
+        &self,
+        plan: &[Step],
+        var: u32,
+        elem: Elem,
+        steps: &mut Steps<L>,
+    ) -> bool
+        requires valid { is_valid_pattern self.now.pattern.now ≡ true }
+        requires names { list_all (names_types self.now.compiled.now) self.now.pattern.now.atoms ≡ true }
+        requires in_range { var < length self.now.pattern.now.edge_vars }
+        requires plan { is_plan self.now.pattern.now var plan.now ≡ true }
+        ensures found { result ≡ list_any (stands_at var elem) (matches self.now.compiled.now (G.meaning self.now.graph.now) self.now.pattern.now) }
+        ensures no_step_back { steps.old ≤ steps.new }
+        ensures cost { (w most : ℕ) → edge_count self.now.pattern.now.edge_vars ≤ w → IsSparse (G.meaning self.now.graph.now) w elem most →
+            steps.new ≤ steps.old + 16 * (most + 2) ^ (w + 1) }
+    {
+        let search = self.search();
+        match self.begin(&search, var, elem, steps) {
+            Some(bound) => search.can_complete(plan, &Bindings::alone(var, bound), steps),
+            None => false,
+        }
+    }
+
+    /// The tuples of expressions under the matches that have the element at the variable, by a plan from there.
+    pub(crate) fn tuples<L: Ledger>(
+        &self,
+        alloc: Global,
+        exprs: &[Expr],
+        plan: &[Step],
+        var: u32,
+        elem: Elem,
+        steps: &mut Steps<L>,
+    ) -> Result<TupleSet, Memory>
+        requires valid { is_valid_pattern self.now.pattern.now ≡ true }
+        requires names { list_all (names_types self.now.compiled.now) self.now.pattern.now.atoms ≡ true }
+        requires in_range { var < length self.now.pattern.now.edge_vars }
+        requires plan { is_plan self.now.pattern.now var plan.now ≡ true }
+        requires few_exprs { length exprs.now ≤ 16 }
+        ensures value { IfOk result (λ tuples. tuples ≡ option_map_or (λ bound. gathered self.now.compiled.now (G.meaning self.now.graph.now)
+            self.now.pattern.now.atoms exprs.now plan.now (with_bound nothing_bound var bound) [])
+            (admitted self.now.compiled.now (G.meaning self.now.graph.now) self.now.pattern.now var elem) []) }
+        ensures graph { OnSome (admitted self.now.compiled.now (G.meaning self.now.graph.now) self.now.pattern.now var elem)
+            (is_graph (G.meaning self.now.graph.now) ≡ true) }
+        ensures no_step_back { steps.old ≤ steps.new }
+        ensures cost { (w most : ℕ) → edge_count self.now.pattern.now.edge_vars ≤ w → IsSparse (G.meaning self.now.graph.now) w elem most →
+            steps.new ≤ steps.old + 16 * (most + 2) ^ (w + 1) }
+        ensures few { (w most : ℕ) → edge_count self.now.pattern.now.edge_vars ≤ w → IsSparse (G.meaning self.now.graph.now) w elem most →
+            IfOk result (λ tuples. length tuples ≤ (most + 2) ^ w) }
+    {
+        let search = self.search();
+        let mut tuples = TupleSet::new(alloc);
+        match self.begin(&search, var, elem, steps) {
+            Some(bound) => {
+                let gathering = Gathering { search, exprs, alloc };
+                gathering.gather(plan, &Bindings::alone(var, bound), &mut tuples, steps)?;
+                Ok(tuples)
+            }
+            None => Ok(tuples),
+        }
+    }
+}

@@ -1,0 +1,13 @@
+pub mod Agreeing
+pub mod Asked
+pub mod Bounded
+pub mod Completed
+pub mod Costs
+pub mod Gathered
+pub mod Listed
+pub mod Nearby
+pub mod Reaching
+pub mod Standing
+pub mod Started
+pub mod There
+pub mod Values

@@ -1,0 +1,5 @@
+pub mod Bounds
+pub mod Near
+pub mod Reached
+pub mod Search
+pub mod Tests

@@ -1,0 +1,3 @@
+pub mod Along
+pub mod EdgeTypes
+pub mod Few
