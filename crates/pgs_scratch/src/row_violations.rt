@@ -14,8 +14,8 @@ use pgs_syntax::Qualifiers;
 use pgs_violation::Violation;
 use std::alloc::Global;
 
-// 27 for a row without a key value.
-fn missing_value(number: u32, row: &KeyRow) -> Option<Violation>
+/// 27 for a row without a key value.
+pub(crate) fn missing_value(number: u32, row: &KeyRow) -> Option<Violation>
     ensures { result ≡ missing_value number row.now }
 {
     if row.tuples.is_empty() {
@@ -28,8 +28,12 @@ fn missing_value(number: u32, row: &KeyRow) -> Option<Violation>
     }
 }
 
-// 28 for a row with several key values, with the two least.
-fn several_values(alloc: Global, number: u32, row: &KeyRow) -> Result<Option<Violation>, Memory>
+/// 28 for a row with several key values, with the two least.
+pub(crate) fn several_values(
+    alloc: Global,
+    number: u32,
+    row: &KeyRow,
+) -> Result<Option<Violation>, Memory>
     ensures { IfOk result (λ found. found ≡ several_values number row.now) }
 {
     match row.tuples.as_slice() {
