@@ -1,0 +1,9 @@
+pub mod ByNumber
+pub mod Entered
+pub mod FirstLater
+pub mod Found
+pub mod KeyList
+pub mod KeyRows
+pub mod Listed
+pub mod Ordered
+pub mod Sharers

@@ -1,0 +1,11 @@
+use Rattle.std.proofs.Common.{◌≡◌, ◌≤◌, [], take}
+use Rattle.std.specs.Prelude.{filter_map}
+use Rattle.pgs_syntax.specs.KeyValues.{key_values}
+use Rattle.pgs_scratch.specs.Confirmed.{sharing_if_later}
+use Rattle.pgs_scratch.proofs.confirming.first_sharer.Given as goal
+
+abbrev pub invariant-loop-other : goal.invariant-loop-other
+invariant-loop-other g l = record {
+  none_so_far : [] ≡ filter_map (sharing_if_later l.number (key_values l.compiled (g.G.GraphRead.meaning l.graph) l.key) l.row.elem) (take l.other-index l.elems);
+  no_step_back : l.fn.steps ≤ l.steps;
+}

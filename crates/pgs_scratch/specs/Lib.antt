@@ -1,0 +1,4 @@
+pub mod Confirmed
+pub mod Owners
+pub mod Rows
+pub mod Untyped

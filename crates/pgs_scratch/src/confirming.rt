@@ -1,0 +1,296 @@
+//! Whether a violation stands in the list, by what it names alone.
+
+ghost use Rattle.std.specs.Prelude.{◌≡◌, ◌↔◌, ◌≤◌, true, IsTrue, IfOk, Contains};
+ghost use Rattle.std.specs.Option.{option_copied};
+ghost use Rattle.std.specs.Ordering.{is_lt};
+ghost use Rattle.pgs_base.specs.Order.{elem_cmp};
+ghost use Rattle.pgs_syntax.specs.KeyValues.{scope_of, key_values};
+ghost use Rattle.pgs_syntax.specs.Valid.{is_valid_key_of};
+ghost use Rattle.pgs_violation.specs.Standing.{key_of};
+ghost use Rattle.pgs_violation.specs.Violations.{exclusive_violation, shared_tuple, violations};
+ghost use Rattle.pgs_scratch.specs.Confirmed.{key_numbered, missing_at, several_at, shared_at, key_violation_at, violation_at, sharing_if_later};
+ghost use Rattle.pgs_scratch.specs.Rows.{row_of, shared_value};
+
+use crate::key_row::KeyRow;
+use crate::row_violations::{missing_value, several_values};
+use crate::untyped::{untyped_edge, untyped_node};
+use pgs_base::{Copyable, Elem, List, Memory, Steps, Tuple, TupleSet};
+use pgs_conform::Compiled;
+use pgs_graph::GraphRead;
+use pgs_match::{PlannedKey, each_x, in_scope, key_values};
+use pgs_violation::Violation;
+use std::alloc::Global;
+use std::sync::ledger::Ledger;
+
+// The key of a number. Keys are numbered from 1.
+fn key_numbered(keys: &[PlannedKey], number: u32) -> Option<&PlannedKey>
+    ensures { option_copied result ≡ key_numbered keys.now number }
+{
+    if number == 0 {
+        return None;
+    }
+    keys.get(number as usize - 1)
+}
+
+// The least tuple that two sets share.
+fn shared_tuple<'a>(first: &'a TupleSet, second: &TupleSet) -> Option<&'a Tuple>
+    ensures { option_copied result ≡ shared_tuple first.now second.now }
+{
+    first.as_slice().iter().find(|tuple| second.contains(tuple))
+}
+
+// The violation that two rows make that share a key value.
+fn shared_value(
+    alloc: Global,
+    number: u32,
+    row: &KeyRow,
+    later: &KeyRow,
+) -> Result<Option<Violation>, Memory>
+    ensures { IfOk result (λ found. found ≡ shared_value number row.now later.now) }
+{
+    match shared_tuple(&row.tuples, &later.tuples) {
+        Some(tuple) => {
+            let tuple = tuple.copy(alloc)?;
+            Ok(Some(Violation::Exclusive {
+                key: number,
+                first: row.elem,
+                second: later.elem,
+                tuple,
+            }))
+        }
+        None => Ok(None),
+    }
+}
+
+// 27 for an element, where the key asks for it and the element is in its scope.
+fn missing_at<G: GraphRead, L: Ledger>(
+    alloc: Global,
+    graph: &G,
+    compiled: &Compiled,
+    number: u32,
+    key: &PlannedKey,
+    elem: Elem,
+    steps: &mut Steps<L>,
+) -> Result<Option<Violation>, Memory>
+    requires { is_valid_key_of compiled.now key.now ≡ true }
+    ensures found { IfOk result (λ found. found ≡ missing_at compiled.now (G.meaning graph.now) number elem key.now) }
+    ensures no_step_back { steps.old ≤ steps.new }
+{
+    if !key.key().qualifiers.mandatory {
+        return Ok(None);
+    }
+    if !in_scope(graph, compiled, key, elem, steps) {
+        return Ok(None);
+    }
+    let tuples = key_values(alloc, graph, compiled, key, elem, steps)?;
+    Ok(missing_value(number, &KeyRow { elem, tuples }))
+}
+
+// 28 for an element, where the key asks for it and the element is in its scope.
+fn several_at<G: GraphRead, L: Ledger>(
+    alloc: Global,
+    graph: &G,
+    compiled: &Compiled,
+    number: u32,
+    key: &PlannedKey,
+    elem: Elem,
+    steps: &mut Steps<L>,
+) -> Result<Option<Violation>, Memory>
+    requires { is_valid_key_of compiled.now key.now ≡ true }
+    ensures found { IfOk result (λ found. found ≡ several_at compiled.now (G.meaning graph.now) number elem key.now) }
+    ensures no_step_back { steps.old ≤ steps.new }
+{
+    if !key.key().qualifiers.singleton {
+        return Ok(None);
+    }
+    if !in_scope(graph, compiled, key, elem, steps) {
+        return Ok(None);
+    }
+    let tuples = key_values(alloc, graph, compiled, key, elem, steps)?;
+    several_values(alloc, number, &KeyRow { elem, tuples })
+}
+
+// The violation that a row makes with an element, where the element comes later and shares a key value.
+fn sharing_if_later<G: GraphRead, L: Ledger>(
+    alloc: Global,
+    graph: &G,
+    compiled: &Compiled,
+    number: u32,
+    key: &PlannedKey,
+    row: &KeyRow,
+    other: Elem,
+    steps: &mut Steps<L>,
+) -> Result<Option<Violation>, Memory>
+    requires typed { is_valid_key_of compiled.now key.now ≡ true }
+    requires values { row.now.tuples ≡ key_values compiled.now (G.meaning graph.now) key.now row.now.elem }
+    ensures found { IfOk result (λ found.
+        found ≡ sharing_if_later number (key_values compiled.now (G.meaning graph.now) key.now) row.now.elem other) }
+    ensures no_step_back { steps.old ≤ steps.new }
+{
+    if row.elem < other {
+        let tuples = key_values(alloc, graph, compiled, key, other, steps)?;
+        let later = KeyRow {
+            elem: other,
+            tuples,
+        };
+        shared_value(alloc, number, row, &later)
+    } else {
+        Ok(None)
+    }
+}
+
+// 29 for a row of a key, by the first later element of the scope that shares a key value with it.
+fn first_sharer<G: GraphRead, L: Ledger>(
+    alloc: Global,
+    graph: &G,
+    compiled: &Compiled,
+    number: u32,
+    key: &PlannedKey,
+    row: &KeyRow,
+    steps: &mut Steps<L>,
+) -> Result<Option<Violation>, Memory>
+    requires typed { is_valid_key_of compiled.now key.now ≡ true }
+    requires values { row.now.tuples ≡ key_values compiled.now (G.meaning graph.now) key.now row.now.elem }
+    ensures found { IfOk result (λ found. found ≡ exclusive_violation number
+        (scope_of compiled.now (G.meaning graph.now) key.now) (key_values compiled.now (G.meaning graph.now) key.now) row.now.elem) }
+    ensures no_step_back { steps.old ≤ steps.new }
+{
+    let scope = each_x(alloc, graph, compiled, key, steps)?;
+    let elems = scope.as_slice();
+    for other in elems {
+        let found = sharing_if_later(alloc, graph, compiled, number, key, row, *other, steps)?;
+        if let Some(found) = found {
+            return Ok(Some(found));
+        }
+    }
+    Ok(None)
+}
+
+// 29 for an element, where the key asks for it and the element is in its scope.
+fn shared_at<G: GraphRead, L: Ledger>(
+    alloc: Global,
+    graph: &G,
+    compiled: &Compiled,
+    number: u32,
+    key: &PlannedKey,
+    elem: Elem,
+    steps: &mut Steps<L>,
+) -> Result<Option<Violation>, Memory>
+    requires { is_valid_key_of compiled.now key.now ≡ true }
+    ensures found { IfOk result (λ found. found ≡ shared_at compiled.now (G.meaning graph.now) number elem key.now) }
+    ensures no_step_back { steps.old ≤ steps.new }
+{
+    if !key.key().qualifiers.exclusive {
+        return Ok(None);
+    }
+    if !in_scope(graph, compiled, key, elem, steps) {
+        return Ok(None);
+    }
+    let tuples = key_values(alloc, graph, compiled, key, elem, steps)?;
+    let row = KeyRow { elem, tuples };
+    first_sharer(alloc, graph, compiled, number, key, &row, steps)
+}
+
+// The violation of a key that is of the same number and least element as a violation of it.
+fn key_violation_at<G: GraphRead, L: Ledger>(
+    alloc: Global,
+    graph: &G,
+    compiled: &Compiled,
+    key: &PlannedKey,
+    violation: &Violation,
+    steps: &mut Steps<L>,
+) -> Result<Option<Violation>, Memory>
+    requires { is_valid_key_of compiled.now key.now ≡ true }
+    ensures found { IfOk result (λ found. found ≡ key_violation_at compiled.now (G.meaning graph.now) violation.now key.now) }
+    ensures no_step_back { steps.old ≤ steps.new }
+{
+    match violation {
+        Violation::Mandatory { key: number, elem } => {
+            missing_at(alloc, graph, compiled, *number, key, *elem, steps)
+        }
+        Violation::Singleton {
+            key: number,
+            elem,
+            ..
+        } => several_at(alloc, graph, compiled, *number, key, *elem, steps),
+        Violation::Exclusive {
+            key: number,
+            first,
+            ..
+        } => shared_at(alloc, graph, compiled, *number, key, *first, steps),
+        _ => Ok(None),
+    }
+}
+
+// The number of the key that is violated, or 0.
+fn key_of(violation: &Violation) -> u32
+    ensures { result ≡ key_of violation.now }
+{
+    match violation {
+        Violation::UntypedNode { .. } | Violation::UntypedEdge { .. } => 0,
+        Violation::Mandatory { key, .. }
+        | Violation::Singleton { key, .. }
+        | Violation::Exclusive { key, .. } => *key,
+    }
+}
+
+// The violation in the list that is of the same key, number and least element.
+fn violation_at<G: GraphRead, L: Ledger>(
+    alloc: Global,
+    graph: &G,
+    compiled: &Compiled,
+    keys: &[PlannedKey],
+    violation: &Violation,
+    steps: &mut Steps<L>,
+) -> Result<Option<Violation>, Memory>
+    requires { keys.now ≡ compiled.now.guard.keys }
+    ensures found { IfOk result (λ found. found ≡ violation_at compiled.now (G.meaning graph.now) violation.now) }
+    ensures no_step_back { steps.old ≤ steps.new }
+{
+    let strict = compiled.resolved().guard.strict;
+    match violation {
+        Violation::UntypedNode { node } => {
+            if strict {
+                Ok(untyped_node(graph, compiled, *node, steps))
+            } else {
+                Ok(None)
+            }
+        }
+        Violation::UntypedEdge { edge } => {
+            if strict {
+                Ok(untyped_edge(graph, compiled, *edge, steps))
+            } else {
+                Ok(None)
+            }
+        }
+        _ => match key_numbered(keys, key_of(violation)) {
+            Some(key) => key_violation_at(alloc, graph, compiled, key, violation, steps),
+            None => Ok(None),
+        },
+    }
+}
+
+/// Whether a violation stands in the list of a graph's violations. `keys` are the plans of all keys of the guard, in order. The rule
+/// is `violations` of `pgs_violation`.
+///
+/// It looks at what the violation names, and doesn't make the list: at the node or the edge, or at the key values of the element. For
+/// a 29 it looks at those of the later elements of the scope, up to the first that shares one.
+pub fn confirms<G: GraphRead, L: Ledger>(
+    alloc: Global,
+    graph: &G,
+    compiled: &Compiled,
+    keys: &List<PlannedKey>,
+    violation: &Violation,
+    steps: &mut Steps<L>,
+) -> Result<bool, Memory>
+    requires { keys.now ≡ compiled.now.guard.keys }
+    ensures listed { IfOk result (λ confirmed. IsTrue confirmed ↔ Contains (violations compiled.now (G.meaning graph.now)) violation.now) }
+    ensures no_step_back { steps.old ≤ steps.new }
+{
+    graph.count();
+    let found = violation_at(alloc, graph, compiled, keys.as_slice(), violation, steps)?;
+    match found {
+        Some(found) => Ok(found == *violation),
+        None => Ok(false),
+    }
+}
