@@ -58,12 +58,12 @@ fn agreed(alloc: Global, key: &Key, graphs: u32) -> Result<u32, Memory>
 
 fn agreed_on_two_steps(alloc: Global) -> Result<u32, Memory> {
     let key = two_steps(alloc)?;
-    agreed(alloc, &key, 20)
+    agreed(alloc, &key, 200)
 }
 
 #[test]
 fn a_path_is_found(rt: HostRuntime) -> Result<(), Fail> {
-    assert_eq!(rt; agreed_on_two_steps(rt.alloc())?, 20);
+    assert_eq!(rt; agreed_on_two_steps(rt.alloc())?, 200);
     Ok(())
 }
 
