@@ -9,7 +9,8 @@ use crate::graphs::Draw;
 use crate::keys::no_types;
 use crate::worked::{edge_x, literals, one_edge_twice, there_and_back, two_edges, two_steps};
 use pgs_base::{Memory, Steps};
-use pgs_match::plan_key;
+use pgs_conform::Compiled;
+use pgs_match::{PlannedKey, plan_key};
 use pgs_syntax::Key;
 use std::alloc::Global;
 use std::marker::Brand;
@@ -17,6 +18,26 @@ use std::sync::ledger::{Blank, Ledger};
 use std::test::Fail;
 
 // Over how many of so many drawn graphs all calls answer as the plain program.
+fn agreed_over<L: Ledger>(
+    alloc: Global,
+    compiled: &Compiled,
+    key: &PlannedKey,
+    graphs: u32,
+    steps: &mut Steps<L>,
+) -> Result<u32, Memory>
+    requires { is_valid_key_of compiled.now key.now ≡ true }
+{
+    let mut draw = Draw { state: 7 };
+    let mut agreed = 0u32;
+    for _ in 0..graphs {
+        let graph = draw.graph(alloc)?;
+        if agree(alloc, &graph, compiled, key, steps)? {
+            agreed = agreed.saturating_add(1);
+        }
+    }
+    Ok(agreed)
+}
+
 fn agreed_by<L: Ledger>(alloc: Global, key: &Key, graphs: u32, blank: Blank) -> Result<u32, Memory>
     requires name { blank.name ≡ L.name }
     requires parts { blank.parts ≡ L.parts }
@@ -24,17 +45,9 @@ fn agreed_by<L: Ledger>(alloc: Global, key: &Key, graphs: u32, blank: Blank) -> 
     requires key { is_valid_key_of no_types key.now ≡ true }
 {
     let mut steps: Steps<L> = Steps::begin(blank);
-    let mut draw = Draw { state: 7 };
     let planned = plan_key(alloc, key)?;
     let compiled = no_types(alloc);
-    let mut agreed = 0u32;
-    for _ in 0..graphs {
-        let graph = draw.graph(alloc)?;
-        if agree(alloc, &graph, &compiled, &planned, &mut steps)? {
-            agreed = agreed.saturating_add(1);
-        }
-    }
-    Ok(agreed)
+    agreed_over(alloc, &compiled, &planned, graphs, &mut steps)
 }
 
 fn agreed(alloc: Global, key: &Key, graphs: u32) -> Result<u32, Memory>
@@ -45,12 +58,12 @@ fn agreed(alloc: Global, key: &Key, graphs: u32) -> Result<u32, Memory>
 
 fn agreed_on_two_steps(alloc: Global) -> Result<u32, Memory> {
     let key = two_steps(alloc)?;
-    agreed(alloc, &key, 20)
+    agreed(alloc, &key, 200)
 }
 
 #[test]
 fn a_path_is_found(rt: HostRuntime) -> Result<(), Fail> {
-    assert_eq!(rt; agreed_on_two_steps(rt.alloc())?, 20);
+    assert_eq!(rt; agreed_on_two_steps(rt.alloc())?, 200);
     Ok(())
 }
 

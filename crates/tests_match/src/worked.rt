@@ -149,3 +149,34 @@ pub fn two_edges(alloc: Global) -> Result<Key, Memory>
         &[PlainExpr::Element(1), PlainExpr::Element(3)],
     )
 }
+
+/// `FOR (f:F)<-[:j]-(:P) f.k, p WITHIN (f)<-[:m]-(p:P)`: the moderators of a forum that someone joined.
+pub fn moderators(alloc: Global) -> Result<Key, Memory>
+    ensures { IfOk result (λ key. is_valid_key_of no_types key ≡ true) }
+{
+    let scope = pattern(
+        alloc,
+        &[false, true, false],
+        &[
+            PlainAtom::Label(0, b'F'),
+            PlainAtom::Label(1, b'j'),
+            PlainAtom::Ends(1, 2, 0),
+            PlainAtom::Label(2, b'P'),
+        ],
+    )?;
+    let descriptor = pattern(
+        alloc,
+        &[false, true, false],
+        &[
+            PlainAtom::Label(1, b'm'),
+            PlainAtom::Ends(1, 2, 0),
+            PlainAtom::Label(2, b'P'),
+        ],
+    )?;
+    key(
+        alloc,
+        scope,
+        descriptor,
+        &[PlainExpr::Property(0, b'k'), PlainExpr::Element(2)],
+    )
+}
