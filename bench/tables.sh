@@ -1,6 +1,6 @@
 #!/usr/bin/env bash
-# Times 200,000 transactions on the tables, each of which is staged, prepared and committed, and adds one edge: between nodes that look
-# as if drawn, and all of them at one node. Beside them a version in Rust with the standard library's maps, which checks the same and
+# Times 200,000 transactions on the tables, each of which is staged, seen through an overlay, prepared and committed, and adds one edge:
+# between nodes that look as if drawn, and all of them at one node. Beside them a version in Rust with the standard library's maps, which checks the same and
 # keeps the same rows and lists. Then one transaction that adds 200,000 edges at one node, and the most memory that 1,000,000 elements
 # with two properties each take. It makes small programs in a folder of its own, and builds them, proving what is below where no check
 # has kept it.
@@ -12,12 +12,12 @@ work=$(mktemp -d)
 trap 'rm -rf "$work"' EXIT
 mkdir -p "$work/crates/tabling/src"
 cp "$top/HANDLES" "$work/"
-for crate in base graph syntax violation txn edges numbered tables; do
+for crate in base graph syntax violation txn edges numbered tables overlay; do
   cp -r "$top/crates/pgs_$crate" "$work/crates/"
 done
 {
-  grep -E '^pgs_(base|graph|syntax|violation|txn|edges|numbered|tables):' "$top/crates.txt"
-  echo 'tabling: pgs_base pgs_graph pgs_violation pgs_txn pgs_tables'
+  grep -E '^pgs_(base|graph|syntax|violation|txn|edges|numbered|tables|overlay):' "$top/crates.txt"
+  echo 'tabling: pgs_base pgs_graph pgs_violation pgs_txn pgs_tables pgs_overlay'
 } >"$work/crates.txt"
 mkdir -p "$work/crates/tabling/proofs/done"
 cat >"$work/crates/tabling/proofs/done/Invariants.antt" <<'E'
@@ -30,10 +30,12 @@ cat >"$work/crates/tabling/src/main.rt" <<'E'
 //! Does transactions on tables, of the kind that the word says.
 #![tactic(auto)]
 
-ghost use Rattle.std.specs.Prelude.{◌≡◌, ◌<◌};
+ghost use Rattle.std.specs.Prelude.{◌≡◌, ◌<◌, true};
+ghost use Rattle.pgs_graph.specs.Changed.{is_sound};
 
 use pgs_base::{EdgeId, Labels, Limits, List, Memory, Name, NodeId, Props, Steps, Text, Value};
-use pgs_graph::{GraphRead, Op, Txn};
+use pgs_graph::{Delta, GraphRead, Op, Txn};
+use pgs_overlay::Overlay;
 use pgs_tables::Tables;
 use pgs_txn::stage;
 use std::alloc::Global;
@@ -72,10 +74,19 @@ fn mixed(number: u64) -> u64 {
     number.wrapping_mul(0x9E37_79B9_7F4A_7C15)
 }
 
+/// How many elements there would be, by an overlay.
+fn seen<L: Ledger>(alloc: Global, tables: &Tables, delta: &Delta, steps: &mut Steps<L>) -> Result<u64, Memory>
+    requires { is_sound tables.now.graph delta.now ≡ true }
+{
+    let overlay = Overlay::new(alloc, tables, delta, steps)?;
+    Ok(overlay.count())
+}
+
 fn apply<L: Ledger>(alloc: Global, tables: &mut Tables, txn: &Txn, steps: &mut Steps<L>) -> Result<(), Memory> {
     let limits = Limits { ops: 1_000_000, elements: 2_000_000 };
     match stage(alloc, tables, &limits, txn, steps) {
         Ok(delta) => {
+            let _ = seen(alloc, tables, &delta, steps)?;
             let prepared = tables.prepare(delta)?;
             tables.commit(prepared);
             Ok(())

@@ -1,0 +1,98 @@
+ghost use Rattle.std.specs.Prelude.{◌≡◌, true};
+ghost use Rattle.pgs_graph.specs.Changed.{is_sound};
+
+use crate::listing::listing;
+use pgs_base::{Limits, List, Memory, Seed, Steps};
+use pgs_graph::{Delta, Graph, GraphRead, Txn};
+use pgs_overlay::Overlay;
+use pgs_tables::Tables;
+use pgs_txn::{StageFault, stage};
+use std::alloc::Global;
+use std::sync::ledger::Ledger;
+
+/// The plain graph and the tables, to which the same is done, each seen through an overlay before.
+#[derive(Drop)]
+pub struct Three {
+    pub graph: Graph,
+    pub tables: Tables,
+}
+
+/// What is read of an overlay.
+fn seen<B: GraphRead, L: Ledger>(
+    alloc: Global,
+    base: &B,
+    delta: &Delta,
+    steps: &mut Steps<L>,
+) -> Result<List<u64>, Memory>
+    requires { is_sound (B.meaning base.now) delta.now ≡ true }
+{
+    let overlay = Overlay::new(alloc, base, delta, steps)?;
+    listing(&overlay, alloc, steps)
+}
+
+/// What is read of the plain graph through an overlay, where a transaction was staged on it. Then it was put in.
+fn change<L: Ledger>(
+    alloc: Global,
+    graph: &mut Graph,
+    txn: &Txn,
+    steps: &mut Steps<L>,
+) -> Result<Option<List<u64>>, Memory> {
+    match stage(alloc, graph, &Limits::standard(), txn, steps) {
+        Ok(delta) => {
+            let seen = seen(alloc, graph, &delta, steps)?;
+            graph.change(delta)?;
+            Ok(Some(seen))
+        }
+        Err(StageFault::Refused(_)) => Ok(None),
+        Err(StageFault::Memory) => Err(Memory),
+    }
+}
+
+/// The same of the tables.
+fn commit<L: Ledger>(
+    alloc: Global,
+    tables: &mut Tables,
+    txn: &Txn,
+    steps: &mut Steps<L>,
+) -> Result<Option<List<u64>>, Memory> {
+    match stage(alloc, tables, &Limits::standard(), txn, steps) {
+        Ok(delta) => {
+            let seen = seen(alloc, tables, &delta, steps)?;
+            let prepared = tables.prepare(delta)?;
+            tables.commit(prepared);
+            Ok(Some(seen))
+        }
+        Err(StageFault::Refused(_)) => Ok(None),
+        Err(StageFault::Memory) => Err(Memory),
+    }
+}
+
+impl Three {
+    pub fn new(alloc: Global) -> Three {
+        Three {
+            graph: Graph::new(alloc),
+            tables: Tables::with_seed(alloc, Seed::Fixed),
+        }
+    }
+
+    /// What is read after a transaction, or nothing where it was refused. `None` where the two, or one and what was seen before, are
+    /// read apart.
+    pub fn apply<L: Ledger>(
+        &mut self,
+        alloc: Global,
+        txn: &Txn,
+        steps: &mut Steps<L>,
+    ) -> Result<Option<List<u64>>, Memory> {
+        let over_graph = change(alloc, &mut self.graph, txn, steps)?;
+        let over_tables = commit(alloc, &mut self.tables, txn, steps)?;
+        match (over_graph, over_tables) {
+            (Some(first), Some(second)) => {
+                let after = listing(&self.graph, alloc, steps)?;
+                let alike = first.as_slice() == after.as_slice() && second.as_slice() == after.as_slice();
+                Ok(alike.then_some(after))
+            }
+            (None, None) => Ok(Some(List::new(alloc))),
+            _ => Ok(None),
+        }
+    }
+}
