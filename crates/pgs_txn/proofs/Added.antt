@@ -1,5 +1,5 @@
 -- When an element is added.
-use Rattle.std.proofs.Common.{◌≡◌, Bool, true, false, List, Option, Some, None, is_some, Result, Ok, Err, refl, sym, ◌∙◌, ap, true≢false}
+use Rattle.std.proofs.Common.{◌≡◌, false, Option, Some, None, is_some, Err, refl, sym, ◌∙◌, ap, true≢false}
 use Rattle.std.specs.Prelude.{if◌then◌else◌}
 use Rattle.pgs_base.specs.declared.element.NodeId.{NodeId}
 use Rattle.pgs_base.specs.declared.element.EdgeId.{EdgeId}
@@ -8,7 +8,7 @@ use Rattle.pgs_base.specs.declared.row.NodeRow.{NodeRow}
 use Rattle.pgs_base.specs.declared.row.EdgeRow.{EdgeRow}
 use Rattle.pgs_base.specs.Graph.{Graph, node_at, edge_at}
 use Rattle.pgs_violation.specs.declared.structural.Cause.TheVariants.{AlreadyThere}
-use Rattle.pgs_violation.specs.Staging.{StepFault, Unable, put_node, added_node}
+use Rattle.pgs_violation.specs.Staging.{Unable, put_node, added_node}
 use Rattle.pgs_txn.specs.declared.working.Working.{Working}
 use Rattle.pgs_txn.specs.Rows.{edge_change, was_put}
 use Rattle.pgs_txn.specs.Working.{graph_now, StandsOn}

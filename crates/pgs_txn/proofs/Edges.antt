@@ -1,12 +1,12 @@
 -- Lists of edges by ascending numbers: those at a node, and the least of them.
-use Rattle.std.proofs.Common.{◌≡◌, ℕ, zero, suc, ◌+◌, ◌<◌, ◌≤◌, Bool, true, false, cond, ◌&&◌, ◌||◌, ◌==◌, not, List, [], ◌∷◌, length, take, get_or, slice_get, Option, Some, None, is_some, Result, Ok, Err, refl, sym, ◌∙◌, ap, subst, true≢false, arith, Ordering, Less, Equal, Greater, is_eq, filter}
+use Rattle.std.proofs.Common.{◌≡◌, ℕ, zero, suc, ◌+◌, ◌<◌, ◌≤◌, Bool, true, false, cond, ◌||◌, ◌==◌, not, List, [], ◌∷◌, length, take, get_or, slice_get, Option, Some, None, is_some, Ok, Err, refl, sym, ◌∙◌, ap, subst, true≢false, arith, Less, is_eq, filter}
 use Rattle.std.specs.Cmp.{ranks, tied_itself, Equal-is}
-use Rattle.std.specs.Ordering.{nat_cmp, MatchOrdering}
+use Rattle.std.specs.Ordering.{MatchOrdering}
 use Rattle.std.specs.List.{AllByRecursion, list_any, list_all}
 use Rattle.std.specs.List.Sorted.{IsStrictlySortedBy}
 use Rattle.std.specs.Map.{keys_of, lookup, remove_entry}
 use Rattle.std.specs.BTreeMap.{is_at}
-use Rattle.std.proofs.lemmas.Bool.{and_parts, and_from, or_left, or_right, or_cases}
+use Rattle.std.proofs.lemmas.Bool.{and_parts, and_from, or_left, or_right}
 use Rattle.std.proofs.lemmas.List.Folds.{list_all_more}
 use Rattle.std.proofs.lemmas.Option.{slice_get_within}
 use Rattle.pgs_base.specs.declared.element.NodeId.{NodeId}
@@ -17,7 +17,7 @@ use Rattle.pgs_graph.specs.declared.scan.End.{End}
 use Rattle.pgs_graph.specs.Reads.{end_of, ends_at, edges_with}
 use Rattle.pgs_graph.proofs.Deltas.{edge_cmp_total, exact_edge, absent_below}
 use Rattle.pgs_violation.specs.declared.structural.Cause.TheVariants.{HasEdges}
-use Rattle.pgs_violation.specs.Staging.{StepFault, Unable, lone_node_removed}
+use Rattle.pgs_violation.specs.Staging.{Unable, lone_node_removed}
 use Rattle.pgs_txn.specs.Looks.{first_number}
 use Rattle.pgs_txn.specs.Rows.{has_end, IsLeast}
 

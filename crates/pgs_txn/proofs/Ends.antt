@@ -1,25 +1,24 @@
 -- The ends of the edges that were put in stay exactly those, and the least of them at a node.
-use Rattle.std.proofs.Common.{◌≡◌, ℕ, ◌+◌, ◌<◌, ◌≤◌, Bool, true, false, cond, ◌&&◌, ◌||◌, ◌==◌, List, [], ◌∷◌, slice_get, length, Option, Some, None, IfSome, IsTrue, refl, sym, ◌∙◌, ap, subst, true≢false, arith, Ordering, Less, Equal, Greater, is_eq, is_gt, ◌⊎◌, ⊎_elim}
-use Rattle.std.specs.Cmp.{IsTotalOrder, ranks, tied_then, nat_cmp_total, on_total, then_total, tied_itself, Equal-is}
+use Rattle.std.proofs.Common.{◌≡◌, ℕ, ◌+◌, ◌<◌, ◌≤◌, Bool, true, false, cond, ◌&&◌, ◌||◌, ◌==◌, List, [], ◌∷◌, slice_get, length, Option, Some, None, IfSome, refl, sym, ◌∙◌, ap, subst, true≢false, arith, Ordering, Less, Equal, Greater, is_eq, is_gt}
+use Rattle.std.specs.Cmp.{IsTotalOrder, ranks, tied_then, nat_cmp_total, on_total, then_total}
 use Rattle.std.specs.Ordering.{nat_cmp, ordering_then, MatchOrdering}
 use Rattle.std.specs.List.{list_any}
-use Rattle.std.specs.List.Sorted.{IsStrictlySortedBy}
-use Rattle.std.specs.Map.{keys_of, lookup}
+use Rattle.std.specs.Map.{lookup}
 use Rattle.std.specs.Set.{remove_key}
 use Rattle.std.specs.BTreeMap.{is_at, insert_entry}
 use Rattle.std.specs.BTreeSet.{insert_key, IsKeyInRange, IsKeyRangeOf}
 use Rattle.std.specs.declared.ops.Bound.TheVariants.{Included, Unbounded}
-use Rattle.std.proofs.lemmas.Bool.{and_parts, eqb-true, eqb-false, eq-eqb, ne_eqb, or_left, false_from_ne_true}
+use Rattle.std.proofs.lemmas.Bool.{eqb-true, eq-eqb, ne_eqb, or_left, false_from_ne_true}
 use Rattle.pgs_base.specs.declared.element.NodeId.{NodeId}
 use Rattle.pgs_base.specs.declared.element.EdgeId.{EdgeId}
 use Rattle.pgs_base.specs.declared.row.EdgeRow.{EdgeRow}
-use Rattle.pgs_base.specs.Graph.{node_cmp, edge_cmp, is_end}
-use Rattle.pgs_base.proofs.Ascending.{ascending-insert_key, ascending-remove_key, ascending-insert_entry}
+use Rattle.pgs_base.specs.Graph.{edge_cmp}
+use Rattle.pgs_base.proofs.Ascending.{ascending-remove_key}
 use Rattle.pgs_base.proofs.Lookups.{lookup-insert_entry, any-insert_key, any-remove_key, length-remove_key}
 use Rattle.pgs_graph.proofs.Deltas.{edge_cmp_total}
 use Rattle.pgs_txn.specs.declared.changed_rows.EdgeEnd.{EdgeEnd}
 use Rattle.pgs_txn.specs.declared.changed_rows.ChangedRows.{ChangedRows}
-use Rattle.pgs_txn.specs.Rows.{end_cmp, has_end, was_put_at, was_put, edge_change, ends_with, ends_left, IsIndexed, IsLeast}
+use Rattle.pgs_txn.specs.Rows.{end_cmp, was_put_at, was_put, edge_change, ends_with, ends_left, IsIndexed, IsLeast}
 
 pub end_cmp_total : IsTotalOrder end_cmp
 end_cmp_total = then_total (on_total (λ (end : EdgeEnd). end.node.0) nat_cmp_total) (on_total (λ (end : EdgeEnd). end.edge.0) nat_cmp_total)
@@ -97,7 +96,7 @@ module _ (id : EdgeId) (row : EdgeRow) where
         ≡ was_put_at at.node (lookup (is_at (edge_cmp at.edge)) (insert_entry edge_cmp rows.edges.entries id None))
     ends_taken there at =
         any-remove_key end_cmp_total at target_end (remove_key (is_at (end_cmp source_end)) rows.ends.keys)
-            (ascending-remove_key end_cmp_total (is_at (end_cmp source_end)) rows.ends.keys indexed.ends_ascend)
+        (ascending-remove_key end_cmp_total (is_at (end_cmp source_end)) rows.ends.keys indexed.ends_ascend)
         ∙ ap (cond (is_at (end_cmp target_end) at) false) (any-remove_key end_cmp_total at source_end rows.ends.keys indexed.ends_ascend)
         ∙ ap (λ b. cond b false (cond (is_at (end_cmp source_end) at) false (list_any (is_at (end_cmp at)) rows.ends.keys))) (same_end target_end at)
         ∙ ap (λ b. cond ((row.target.0 == at.node.0) && is_at (edge_cmp id) at.edge) false (cond b false (list_any (is_at (end_cmp at)) rows.ends.keys))) (same_end source_end at)
@@ -122,7 +121,7 @@ module _ (id : EdgeId) (row : EdgeRow) where
             ≡ was_put_at at.node (cond b (Some None) (edge_change rows at.edge))
         by true e =
             ap (λ change. cond ((row.target.0 == at.node.0) && true) false (cond ((row.source.0 == at.node.0) && true) false (was_put_at at.node change)))
-                (same_change rows id at.edge e ∙ there)
+            (same_change rows id at.edge e ∙ there)
             ∙ gone (row.source.0 == at.node.0) (row.target.0 == at.node.0)
         by false e = neither (row.source.0 == at.node.0) (row.target.0 == at.node.0) (was_put_at at.node (edge_change rows at.edge))
 
@@ -194,14 +193,14 @@ module _ (rows : ChangedRows) (indexed : IsIndexed rows) (id : NodeId) where
 
   module _ (found : EdgeEnd) (listed : list_any (is_at (end_cmp found)) rows.ends.keys ≡ true)
       (least : (end : EdgeEnd) → is_gt (end_cmp (first_end id (record { 0 = 0 })) end) ≡ false → list_any (is_at (end_cmp end)) rows.ends.keys ≡ true →
-          is_gt (end_cmp found end) ≡ false) where
+      is_gt (end_cmp found end) ≡ false) where
     first_listed : (edge : EdgeId) → is_put_at edge ≡ true → is_gt (end_cmp found (first_end id edge)) ≡ false
     first_listed edge there = least (first_end id edge) (from_start id edge) (indexed.ends (first_end id edge) ∙ there)
 
     pub least_put_at : found.node.0 ≡ id.0 → IsLeast is_put_at (Some found.edge)
     least_put_at same = (
       let node : found.node ≡ id = ap (λ n. record { 0 = n }) same in
-      ap (λ n. was_put_at n (edge_change rows found.edge)) (sym node) ∙ sym (indexed.ends found) ∙ listed,
+          ap (λ n. was_put_at n (edge_change rows found.edge)) (sym node) ∙ sym (indexed.ends found) ∙ listed,
       λ other there. edge_order found (first_end id other) same (first_listed other there),
     )
 
@@ -244,10 +243,10 @@ ends_fewer rows indexed id (Some (Some row)) is put =
     let source = source_end id row in
     let target = target_end id row in
     let there : list_any (is_at (end_cmp source)) rows.ends.keys ≡ true =
-        indexed.ends source ∙ ap (was_put_at row.source) (sym is) ∙ or_left (row.source.0 == row.source.0) (row.target.0 == row.source.0) (eq-eqb row.source.0 row.source.0 refl) in
+    indexed.ends source ∙ ap (was_put_at row.source) (sym is) ∙ or_left (row.source.0 == row.source.0) (row.target.0 == row.source.0) (eq-eqb row.source.0 row.source.0 refl) in
     let first = length-remove_key end_cmp_total source rows.ends.keys indexed.ends_ascend in
     let second = length-remove_key end_cmp_total target (remove_key (is_at (end_cmp source)) rows.ends.keys)
-        (ascending-remove_key end_cmp_total (is_at (end_cmp source)) rows.ends.keys indexed.ends_ascend) in
+    (ascending-remove_key end_cmp_total (is_at (end_cmp source)) rows.ends.keys indexed.ends_ascend) in
     let one = subst (λ b. length (remove_key (is_at (end_cmp source)) rows.ends.keys) + cond b 1 0 ≡ length rows.ends.keys) there first in
     by (list_any (is_at (end_cmp target)) (remove_key (is_at (end_cmp source)) rows.ends.keys)) second one
   where

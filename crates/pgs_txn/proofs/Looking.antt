@@ -1,17 +1,14 @@
 -- What the walks over the edges at a node find.
-use Rattle.std.proofs.Common.{◌≡◌, ℕ, zero, suc, ◌+◌, ◌<◌, ◌≤◌, Bool, true, false, cond, ◌&&◌, ◌||◌, ◌==◌, not, List, [], ◌∷◌, length, take, slice_get, Option, Some, None, IfSome, is_some, refl, sym, ◌∙◌, ap, subst, true≢false, arith}
+use Rattle.std.proofs.Common.{◌≡◌, ℕ, zero, suc, ◌≤◌, Bool, true, false, ◌&&◌, ◌||◌, ◌==◌, not, List, [], ◌∷◌, length, take, slice_get, Option, Some, None, is_some, refl, sym, ◌∙◌, ap, true≢false, arith}
 use Rattle.std.specs.List.{list_any, list_all}
-use Rattle.std.specs.List.Sorted.{IsStrictlySortedBy}
-use Rattle.std.specs.Map.{keys_of, lookup}
 use Rattle.std.specs.BTreeMap.{is_at}
 use Rattle.std.proofs.lemmas.Bool.{and_parts, and_from, not-true, not_from_false, or_left, or_right}
 use Rattle.std.proofs.lemmas.List.{take_all}
 use Rattle.pgs_base.specs.declared.element.NodeId.{NodeId}
 use Rattle.pgs_base.specs.declared.element.EdgeId.{EdgeId}
 use Rattle.pgs_base.specs.declared.row.EdgeRow.{EdgeRow}
-use Rattle.pgs_base.specs.Graph.{Graph, node_cmp, edge_cmp, edge_at, is_end, is_graph, element_count}
+use Rattle.pgs_base.specs.Graph.{Graph, edge_cmp, edge_at, is_graph, element_count}
 use Rattle.pgs_graph.specs.Changed.{after_changes}
-use Rattle.pgs_graph.specs.Reads.{end_of, edges_with}
 use Rattle.pgs_graph.proofs.Deltas.{ascending_edges}
 use Rattle.pgs_txn.specs.declared.changed_rows.ChangedRows.{ChangedRows}
 use Rattle.pgs_txn.specs.declared.edges_at_node.Direction.{Direction}
@@ -44,8 +41,8 @@ module _ (direction : Direction) (id : NodeId) (g : Graph) where
     least_unchanged graph nth edge at all there own = (
       and_from (has_direction direction id (edge_at g edge)) (not (is_changed rows edge)) there (not_from_false (is_changed rows edge) own),
       λ other h. let parts = and_parts (has_direction direction id (edge_at g other)) (not (is_changed rows other)) h in
-      none_less (is_changed rows) (edges_of direction g id) (ascending_with (end_for direction) id g.edges (ascending_edges g graph)) nth edge at all other
-      (among other parts.0) (not-true (is_changed rows other) parts.1),
+          none_less (is_changed rows) (edges_of direction g id) (ascending_with (end_for direction) id g.edges (ascending_edges g graph)) nth edge at all other
+          (among other parts.0) (not-true (is_changed rows other) parts.1),
     )
 
     pub all_changed : list_all (is_changed rows) (edges_of direction g id) ≡ true → (edge : EdgeId) → has_direction direction id (edge_at g edge) ≡ true → is_changed rows edge ≡ true

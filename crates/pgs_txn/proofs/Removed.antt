@@ -1,9 +1,8 @@
 -- What is left of a graph when edges at a node are removed, and then the node.
-use Rattle.std.proofs.Common.{◌≡◌, ℕ, ◌+◌, ◌-◌, ◌≤◌, Bool, true, false, cond, ◌&&◌, ◌||◌, not, List, [], ◌∷◌, length, Option, Some, None, is_some, Result, Ok, Err, refl, sym, ◌∙◌, ap, subst, true≢false, arith, filter, ◌⊎◌, inl, inr}
+use Rattle.std.proofs.Common.{◌≡◌, ℕ, ◌-◌, Bool, true, false, cond, List, [], ◌∷◌, Option, Some, None, is_some, Result, Err, refl, sym, ◌∙◌, ap, subst, true≢false, arith, ◌⊎◌, inl, inr}
 use Rattle.std.specs.Cmp.{Equal-is}
 use Rattle.std.specs.List.{list_any, list_all}
-use Rattle.std.specs.List.Sorted.{IsStrictlySortedBy}
-use Rattle.std.specs.Map.{keys_of, lookup, remove_entry}
+use Rattle.std.specs.Map.{keys_of, lookup}
 use Rattle.std.specs.BTreeMap.{is_at, insert_entry}
 use Rattle.std.specs.BTreeSet.{insert_key}
 use Rattle.std.proofs.lemmas.Bool.{and_parts, or_cases}
@@ -16,7 +15,6 @@ use Rattle.pgs_graph.specs.Changed.{after_changes, entries_changed}
 use Rattle.pgs_graph.proofs.Deltas.{node_cmp_total, edge_cmp_total, exact_node, exact_edge}
 use Rattle.pgs_violation.specs.declared.structural.Cause.{Cause}
 use Rattle.pgs_violation.specs.Staging.{◌>>=◌, StepFault, Unable, found_or, detached}
-use Rattle.pgs_txn.specs.declared.changed_rows.ChangedRows.{ChangedRows}
 use Rattle.pgs_txn.specs.declared.working.Working.{Working}
 use Rattle.pgs_txn.specs.Looks.{is_at_node}
 use Rattle.pgs_txn.specs.Removing.{OnlyEdgesAt}

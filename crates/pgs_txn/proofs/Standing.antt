@@ -1,17 +1,17 @@
 -- What an edit of changed rows does to the graph that they mean.
-use Rattle.std.proofs.Common.{◌≡◌, ℕ, ◌+◌, Bool, true, false, cond, List, [], ◌∷◌, length, Option, Some, None, is_some, Result, Ok, Err, refl, sym, ◌∙◌, ap, subst, arith, Ordering}
+use Rattle.std.proofs.Common.{◌≡◌, ◌+◌, Bool, true, false, cond, List, length, Option, Some, None, is_some, Result, Ok, Err, refl, sym, ◌∙◌, ap, subst, arith, Ordering}
 use Rattle.std.specs.Prelude.{if◌then◌else◌}
 use Rattle.std.specs.Cmp.{IsTotalOrder}
 use Rattle.std.specs.List.{list_any, list_all}
 use Rattle.std.specs.List.Sorted.{IsStrictlySortedBy}
-use Rattle.std.specs.Map.{keys_of, lookup, remove_entry}
+use Rattle.std.specs.Map.{keys_of, lookup}
 use Rattle.std.specs.BTreeMap.{is_at, insert_entry}
 use Rattle.std.proofs.lemmas.Map.Lookups.{CmpEqualImpliesEq}
 use Rattle.pgs_base.specs.declared.element.NodeId.{NodeId}
 use Rattle.pgs_base.specs.declared.element.EdgeId.{EdgeId}
 use Rattle.pgs_base.specs.declared.row.NodeRow.{NodeRow}
 use Rattle.pgs_base.specs.declared.row.EdgeRow.{EdgeRow}
-use Rattle.pgs_base.specs.Graph.{Graph, node_cmp, edge_cmp, node_at, edge_at, with_node, with_edge, without_node, without_edge, element_count}
+use Rattle.pgs_base.specs.Graph.{Graph, node_cmp, edge_cmp, node_at, edge_at, with_node, with_edge, element_count}
 use Rattle.pgs_base.proofs.Ascending.{ascending-insert_entry, keys-insert_entry}
 use Rattle.pgs_base.proofs.Lookups.{lookup-insert_entry, lookup-insert_entry_same, lookup-remove_key, same_entries, length-insert_entry, length-remove_entry}
 use Rattle.pgs_base.proofs.Pairs.{all_with_key}
@@ -27,8 +27,8 @@ use Rattle.pgs_txn.specs.declared.faults.OpFault.{OpFault}
 use Rattle.pgs_txn.specs.declared.faults.OpFault.TheVariants as faults
 use Rattle.pgs_txn.specs.Answers.{Gives, IsFault}
 use Rattle.pgs_txn.specs.Edits.{edited_node, edited_edge, small_node, small_edge, with_edited_node, with_edited_edge}
-use Rattle.pgs_txn.specs.Rows.{edge_change, is_changed, has_end, IsIndexed}
-use Rattle.pgs_txn.specs.Working.{graph_now, IsCovered, StandsOn, Lists}
+use Rattle.pgs_txn.specs.Rows.{edge_change, is_changed, IsIndexed}
+use Rattle.pgs_txn.specs.Working.{graph_now, StandsOn, Lists}
 
 -- ---- entries
 
@@ -135,10 +135,10 @@ module _ (g : Graph) (w : Working) (stands : StandsOn g w) where
         cleared = λ other marked edge at. ap (λ es. is_some (lookup (is_at (edge_cmp edge)) es.entries)) edges
             ∙ stands.cleared other (ap (λ s. list_any (is_at (node_cmp other)) s.keys) (sym cleared) ∙ marked) edge at;
         count =
-          let counted = length-entry_changed node_cmp_total exact_node id row (graph_now g w).nodes nodes_now_ascend in
-          let before = stands.count in
-          let after = ap element_count graph_after_node in
-          omega arith;
+            let counted = length-entry_changed node_cmp_total exact_node id row (graph_now g w).nodes nodes_now_ascend in
+            let before = stands.count in
+            let after = ap element_count graph_after_node in
+            omega arith;
       }
 
       pub lists_after_node : (test : NodeId → Bool) (other : EdgeId → Bool) → test id ≡ true → Lists test other w.rows → Lists test other next.rows
@@ -167,10 +167,10 @@ module _ (g : Graph) (w : Working) (stands : StandsOn g w) where
         cleared = λ other marked edge at.
             stays_changed edge (stands.cleared other (ap (λ s. list_any (is_at (node_cmp other)) s.keys) (sym cleared) ∙ marked) edge at);
         count =
-          let counted = length-entry_changed edge_cmp_total exact_edge id row (graph_now g w).edges edges_now_ascend in
-          let before = stands.count in
-          let after = ap element_count graph_after_edge in
-          omega arith;
+            let counted = length-entry_changed edge_cmp_total exact_edge id row (graph_now g w).edges edges_now_ascend in
+            let before = stands.count in
+            let after = ap element_count graph_after_edge in
+            omega arith;
       }
 
       pub lists_after_edge : (other : NodeId → Bool) (test : EdgeId → Bool) → test id ≡ true → Lists other test w.rows → Lists other test next.rows

@@ -4,4 +4,5 @@ pub mod Listing
 pub mod Looks
 pub mod Removing
 pub mod Rows
+pub mod Samples
 pub mod Working

@@ -58,7 +58,7 @@ ends_left id None ends = ends
 ends_left id (Some None) ends = ends
 ends_left id (Some (Some row)) ends =
     remove_key (is_at (end_cmp (record { node = row.target; edge = id })))
-        (remove_key (is_at (end_cmp (record { node = row.source; edge = id }))) ends)
+    (remove_key (is_at (end_cmp (record { node = row.source; edge = id }))) ends)
 
 -- rows by ascending numbers, and with the ends of exactly the edges that were put in
 pub record IsIndexed (rows : ChangedRows) : Type 0 where

@@ -1,5 +1,5 @@
 -- A graph in the middle of a transaction: a graph, and the rows that were changed since.
-use Rattle.std.specs.Prelude.{◌≡◌, Bool, true, List, Option}
+use Rattle.std.specs.Prelude.{◌≡◌, Bool, true}
 use Rattle.std.specs.BTreeMap.{is_at}
 use Rattle.std.specs.List.{list_any, list_all}
 use Rattle.std.specs.Map.{keys_of}

@@ -140,7 +140,11 @@ impl ChangedRows {
     pub fn into_delta(self, alloc: Global) -> Result<Delta, Memory>
         ensures { IfOk result (λ delta. delta ≡ delta_of self) }
     {
-        let ChangedRows { nodes, edges, ends: _ } = self;
+        let ChangedRows {
+            nodes,
+            edges,
+            ends: _,
+        } = self;
         let nodes = nodes.into_iter().collect::<Vec<_>>(alloc)?;
         let edges = edges.into_iter().collect::<Vec<_>>(alloc)?;
         Ok(Delta {

@@ -2,7 +2,8 @@
 //!
 //! `stage` does the operations one after another on rows that are copied once, when an operation first changes them, and gives what
 //! they leave as a delta. The graph after each operation is the one that the definition of staging has
-//! (`pgs_violation/specs/Staging.antt`); what a delta lists and what a stage may look up stand in `specs/`.
+//! (`pgs_violation/specs/Staging.antt`); what a delta lists and what a stage may look up stand in `specs/Listing.antt`, and `samples`
+//! tries that on a small graph. What a layer above needs is `stage` and its fault.
 #![tactic(auto)]
 
 mod adding;
@@ -11,6 +12,7 @@ mod edges_at_node;
 mod edit;
 mod faults;
 mod removing;
+pub mod samples;
 mod staging;
 mod working;
 

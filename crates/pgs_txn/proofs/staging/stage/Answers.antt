@@ -1,4 +1,4 @@
-use Rattle.std.proofs.Common.{◌≡◌, ◌≤◌, ◌∙◌, ap, sym, arith, length}
+use Rattle.std.proofs.Common.{◌≤◌, ◌∙◌, ap, sym, arith, length}
 use Rattle.pgs_base.specs.Graph.{element_count}
 use Rattle.pgs_graph.specs.Changed.{is_sound}
 use Rattle.pgs_violation.specs.Staging.{after_ops}

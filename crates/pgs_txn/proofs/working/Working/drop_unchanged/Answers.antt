@@ -1,4 +1,4 @@
-use Rattle.std.proofs.Common.{◌∙◌, ap, sym, is_some, Some, None}
+use Rattle.std.proofs.Common.{◌∙◌, ap, sym, is_some, None}
 use Rattle.std.specs.Map.{lookup}
 use Rattle.std.specs.BTreeMap.{is_at}
 use Rattle.pgs_base.specs.Graph.{edge_cmp}
