@@ -118,13 +118,13 @@ fn first_elem(tuple: &Tuple) -> Option<Elem>
 fn first_elems(alloc: Global, tuples: &[Tuple]) -> Result<List<Elem>, Memory>
     ensures { IfOk result (λ elems. elems ≡ filter_map first_elem tuples.now) }
 {
-    let mut elems = Vec::with_capacity(alloc, tuples.len())?;
+    let mut firsts = Vec::with_capacity(alloc, tuples.len())?;
     for tuple in tuples {
         if let Some(elem) = first_elem(tuple) {
-            elems.push(elem)?;
+            firsts.push(elem)?;
         }
     }
-    Ok(List::from_vec(elems))
+    Ok(List::from_vec(firsts))
 }
 
 /// The scope of a key, ascending, for a key whose types are those of the schema. The rule is `scope_of` of `pgs_syntax`. It asks

@@ -10,7 +10,11 @@ fn copy_atom(alloc: Global, atom: &Atom) -> Result<Atom, Memory>
     ensures { IfOk result (λ copy. copy ≡ atom.now) }
 {
     match atom {
-        Atom::Ends { edge, source, target } => Ok(Atom::Ends {
+        Atom::Ends {
+            edge,
+            source,
+            target,
+        } => Ok(Atom::Ends {
             edge: *edge,
             source: *source,
             target: *target,
@@ -30,7 +34,11 @@ fn copy_atom(alloc: Global, atom: &Atom) -> Result<Atom, Memory>
         Atom::Equals { var, key, value } => {
             let key = key.copy(alloc)?;
             let value = value.copy(alloc)?;
-            Ok(Atom::Equals { var: *var, key, value })
+            Ok(Atom::Equals {
+                var: *var,
+                key,
+                value,
+            })
         }
     }
 }

@@ -10,7 +10,5 @@ mod copies;
 mod planned;
 mod searching;
 
-
-
 pub use calls::{each_x, in_scope, key_values, reach};
 pub use planned::{PlannedKey, Side, plan_key};

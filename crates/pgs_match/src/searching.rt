@@ -31,7 +31,11 @@ pub(crate) struct Place<'a, G: GraphRead> {
 
 impl<'a, G: GraphRead> Drop for Place<'a, G> {
     fn drop(self) {
-        let Place { graph: _, compiled: _, pattern: _ } = self;
+        let Place {
+            graph: _,
+            compiled: _,
+            pattern: _,
+        } = self;
     }
 }
 
@@ -126,7 +130,11 @@ impl<'a, G: GraphRead> Place<'a, G> {
         let mut tuples = TupleSet::new(alloc);
         match self.begin(&search, var, elem, steps) {
             Some(bound) => {
-                let gathering = Gathering { search, exprs, alloc };
+                let gathering = Gathering {
+                    search,
+                    exprs,
+                    alloc,
+                };
                 gathering.gather(plan, &Bindings::alone(var, bound), &mut tuples, steps)?;
                 Ok(tuples)
             }

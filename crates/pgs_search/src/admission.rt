@@ -18,12 +18,7 @@ use std::sync::ledger::Ledger;
 
 impl<'a, G: GraphRead> Search<'a, G> {
     /// What the variable is bound to by a node, if it is there and passes. One look-up.
-    pub fn admit_node<L: Ledger>(
-        &self,
-        var: u32,
-        id: NodeId,
-        steps: &mut Steps<L>,
-    ) -> Option<Bound>
+    pub fn admit_node<L: Ledger>(&self, var: u32, id: NodeId, steps: &mut Steps<L>) -> Option<Bound>
         requires { list_all (names_types self.now.compiled.now) self.now.atoms.now ≡ true }
         ensures value { result ≡ admitted_node self.now.compiled.now (G.meaning self.now.graph.now) self.now.atoms.now var id }
         ensures tick { steps.new ≡ steps.old + 1 }
@@ -38,12 +33,7 @@ impl<'a, G: GraphRead> Search<'a, G> {
     }
 
     /// What the variable is bound to by an edge, if it is there and passes. At most three look-ups.
-    pub fn admit_edge<L: Ledger>(
-        &self,
-        var: u32,
-        id: EdgeId,
-        steps: &mut Steps<L>,
-    ) -> Option<Bound>
+    pub fn admit_edge<L: Ledger>(&self, var: u32, id: EdgeId, steps: &mut Steps<L>) -> Option<Bound>
         requires { list_all (names_types self.now.compiled.now) self.now.atoms.now ≡ true }
         ensures value { result ≡ admitted_edge self.now.compiled.now (G.meaning self.now.graph.now) self.now.atoms.now var id }
         ensures no_step_back { steps.old ≤ steps.new }
@@ -55,7 +45,11 @@ impl<'a, G: GraphRead> Search<'a, G> {
                 if pair_passes(self.atoms, var, row.labels, row.props)
                     && self.ends_pass(var, &row, steps)
                 {
-                    Some(Bound::Edge { id, source: row.source, target: row.target })
+                    Some(Bound::Edge {
+                        id,
+                        source: row.source,
+                        target: row.target,
+                    })
                 } else {
                     None
                 }
@@ -85,9 +79,18 @@ impl<'a, G: GraphRead> Search<'a, G> {
             self.compiled,
             self.atoms,
             var,
-            &Pair { labels: source.labels, props: source.props },
-            &Pair { labels: row.labels, props: row.props },
-            &Pair { labels: target.labels, props: target.props },
+            &Pair {
+                labels: source.labels,
+                props: source.props,
+            },
+            &Pair {
+                labels: row.labels,
+                props: row.props,
+            },
+            &Pair {
+                labels: target.labels,
+                props: target.props,
+            },
         )
     }
 }

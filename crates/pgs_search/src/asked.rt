@@ -30,7 +30,11 @@ fn pair_meets(atom: &Atom, var: u32, labels: &Labels, props: &Props) -> bool
 {
     match atom {
         Atom::HasLabel { var: of, label } => *of != var || labels.contains(label),
-        Atom::Equals { var: of, key, value } => *of != var || has_value(props, key, value),
+        Atom::Equals {
+            var: of,
+            key,
+            value,
+        } => *of != var || has_value(props, key, value),
         Atom::Ends { .. } | Atom::FitsNode { .. } | Atom::FitsEdge { .. } => true,
     }
 }

@@ -22,7 +22,13 @@ fn are_ends(edge: Option<Bound>, source: Option<Bound>, target: Option<Bound>) -
 {
     match (edge, source, target) {
         (
-            Some(Bound::Edge { source: first, target: second, .. }),
+            Some(
+                Bound::Edge {
+                    source: first,
+                    target: second,
+                    ..
+                },
+            ),
             Some(Bound::Node(source)),
             Some(Bound::Node(target)),
         ) => first == source && second == target,
@@ -35,8 +41,16 @@ fn agrees(atom: &Atom, bindings: &Bindings) -> bool
     ensures { result ≡ agrees bindings.now atom.now }
 {
     match atom {
-        Atom::Ends { edge, source, target } => {
-            are_ends(bindings.at(*edge), bindings.at(*source), bindings.at(*target))
+        Atom::Ends {
+            edge,
+            source,
+            target,
+        } => {
+            are_ends(
+                bindings.at(*edge),
+                bindings.at(*source),
+                bindings.at(*target),
+            )
         }
         _ => true,
     }
@@ -59,9 +73,13 @@ pub(crate) fn end_of(edge: Option<Bound>, source: bool) -> Option<NodeId>
     ensures { result ≡ end_at source edge }
 {
     match edge {
-        Some(Bound::Edge { source: first, target: second, .. }) => {
-            Some(if source { first } else { second })
-        }
+        Some(
+            Bound::Edge {
+                source: first,
+                target: second,
+                ..
+            },
+        ) => { Some(if source { first } else { second }) }
         _ => None,
     }
 }
@@ -112,7 +130,16 @@ impl<'a, G: GraphRead> Search<'a, G> {
     {
         match first(plan) {
             None => all_agree(self.atoms, bindings),
-            Some((Step::Along { edge, node, forward }, rest)) => match bindings.at(node) {
+            Some(
+                (
+                    Step::Along {
+                        edge,
+                        node,
+                        forward,
+                    },
+                    rest,
+                ),
+            ) => match bindings.at(node) {
                 Some(Bound::Node(from)) => {
                     self.can_complete_along(edge, from, forward, rest, bindings, steps)
                 }

@@ -29,7 +29,11 @@ pub struct Gathering<'a, G: GraphRead> {
 
 impl<'a, G: GraphRead> Drop for Gathering<'a, G> {
     fn drop(self) {
-        let Gathering { search: _, exprs: _, alloc: _ } = self;
+        let Gathering {
+            search: _,
+            exprs: _,
+            alloc: _,
+        } = self;
     }
 }
 
@@ -53,7 +57,16 @@ impl<'a, G: GraphRead> Gathering<'a, G> {
     {
         match first(plan) {
             None => self.gather_one(bindings, tuples, steps),
-            Some((Step::Along { edge, node, forward }, rest)) => match bindings.at(node) {
+            Some(
+                (
+                    Step::Along {
+                        edge,
+                        node,
+                        forward,
+                    },
+                    rest,
+                ),
+            ) => match bindings.at(node) {
                 Some(Bound::Node(from)) => {
                     self.gather_along(edge, from, forward, rest, bindings, tuples, steps)
                 }

@@ -11,6 +11,10 @@ pub struct Search<'a, G: GraphRead> {
 
 impl<'a, G: GraphRead> Drop for Search<'a, G> {
     fn drop(self) {
-        let Search { graph: _, compiled: _, atoms: _ } = self;
+        let Search {
+            graph: _,
+            compiled: _,
+            atoms: _,
+        } = self;
     }
 }

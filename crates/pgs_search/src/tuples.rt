@@ -19,13 +19,11 @@ use std::sync::ledger::Ledger;
 fn value_of(alloc: Global, props: &Props, key: &Name) -> Result<Option<Part>, Memory>
     ensures { IfOk result (λ part. part ≡ option_map (λ value. Part.Value value) (value_at key.now props.now)) }
 {
-    match props.get(key) {
-        Some(value) => {
-            let value = value.copy(alloc)?;
-            Ok(Some(Part::Value(value)))
-        }
-        None => Ok(None),
-    }
+    let Some(value) = props.get(key) else {
+        return Ok(None);
+    };
+    let value = value.copy(alloc)?;
+    Ok(Some(Part::Value(value)))
 }
 
 impl<'a, G: GraphRead> Search<'a, G> {

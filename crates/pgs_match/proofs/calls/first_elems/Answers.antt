@@ -11,9 +11,9 @@ loop-tuple-preserved c =
     let item = c.tuple-item.result in
     let is = c.first_elem.ensures ∙ ap first_elem c.tuple-item.is in
     elim c.match-first_elem.branch [
-      in-Some+in_ok-push w ↦
-          ap (λ v. v.items) w.elems-is ∙ w.in_ok-push.ensures.items ∙ ap (λ items. items ++ w.in-Some.elem ∷ []) c.loop-tuple.invariant
+      | in-Some+in_ok-push w ↦
+          ap (λ v. v.items) w.firsts-is ∙ w.in_ok-push.ensures.items ∙ ap (λ items. items ++ w.in-Some.elem ∷ []) c.loop-tuple.invariant
           ∙ sym (first_more tuples i item c.loop-tuple-test.true w.in-Some.elem (sym w.in-Some.is ∙ is))
-    | in_default w ↦
-          ap (λ v. v.items) w.elems-is ∙ c.loop-tuple.invariant ∙ sym (no_first_more tuples i item c.loop-tuple-test.true (sym w.in_default.is ∙ is))
+      | in_default w ↦
+          ap (λ v. v.items) w.firsts-is ∙ c.loop-tuple.invariant ∙ sym (no_first_more tuples i item c.loop-tuple-test.true (sym w.in_default.is ∙ is))
     ]

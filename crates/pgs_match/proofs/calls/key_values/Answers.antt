@@ -1,4 +1,4 @@
-use Rattle.std.proofs.Common.{[], sym, ap, ◌∙◌, subst, ◌<◌, length, arith}
+use Rattle.std.proofs.Common.{[], ap, ◌∙◌}
 use Rattle.std.specs.Option.{option_map_or}
 use Rattle.std.proofs.lemmas.Bool.{and_parts}
 use Rattle.pgs_syntax.specs.KeyValues.{key_values}

@@ -1,7 +1,6 @@
-use Rattle.std.proofs.Common.{◌≡◌, true, take, Some}
+use Rattle.std.proofs.Common.{◌≡◌, true, take}
 use Rattle.std.specs.List.{list_all}
 use Rattle.pgs_base.specs.Pair.{pair_of}
-use Rattle.pgs_conform.specs.Shapes.{triple_of}
 use Rattle.pgs_matching.specs.Tests.{pair_meets}
 use Rattle.pgs_search.proofs.asked.pair_passes.Given as goal
 

@@ -1,4 +1,4 @@
-use Rattle.std.proofs.Common.{◌≡◌, ◌+◌, Some, length, sym, ap, ◌∙◌, arith}
+use Rattle.std.proofs.Common.{◌+◌, Some, length, sym, ap, ◌∙◌, arith}
 use Rattle.pgs_matching.specs.declared.bindings.Bound.TheVariants as bounds
 use Rattle.pgs_matching.specs.Search.{edges_along}
 use Rattle.pgs_search.proofs.Along.{gathered_with, steps_with, fold_one_more, fold_all, past_end, at_place, cost_more, cost_all}

@@ -1,4 +1,4 @@
-use Rattle.std.proofs.Common.{◌≡◌, ◌+◌, Some, sym, ◌∙◌, arith}
+use Rattle.std.proofs.Common.{◌+◌, Some, sym, ◌∙◌, arith}
 use Rattle.pgs_matching.specs.declared.bindings.Bound.TheVariants as bounds
 use Rattle.pgs_matching.specs.Search.{edges_along}
 use Rattle.pgs_search.proofs.Along.{can_with, steps_with, none_more, one_found, none_at_all, past_end, at_place, cost_more, cost_all}

@@ -1,6 +1,4 @@
 use Rattle.std.proofs.Common.{sym, ◌∙◌}
-use Rattle.pgs_base.specs.Graph.{node_at}
-use Rattle.pgs_syntax.specs.Typed.{triple_at}
 use Rattle.pgs_graph.specs.Reads.{edge_row}
 use Rattle.pgs_search.proofs.EdgeTypes.{unasked, without_source, without_target}
 use Rattle.pgs_search.proofs.search.Search.ends_pass.Goals as goal
