@@ -1,10 +1,10 @@
 -- Days as texts: no byte of one is escaped, and such a text is read as the same day.
-use Rattle.std.proofs.Common.{◌≡◌, ℕ, zero, suc, ◌/◌, ◌%◌, ◌*◌, ◌+◌, ◌<◌, ◌≤◌, lit≤, Bool, true, false, cond, ltb, List, [], ◌∷◌, ◌++◌, flat_map, Some, None, IsUtf8, refl, sym, ap, ap₂, ◌∙◌, arith}
+use Rattle.std.proofs.Common.{◌≡◌, ℕ, zero, suc, ◌/◌, ◌%◌, ◌*◌, ◌+◌, ◌<◌, true, List, [], ◌∷◌, ◌++◌, flat_map, Some, IsUtf8, refl, sym, ap, ap₂, ◌∙◌, arith}
 use Rattle.std.specs.Prelude.{codes}
 use Rattle.std.specs.Char.{digit_char, digit_value}
 use Rattle.std.specs.Str.Parse.{digits_value}
 use Rattle.std.proofs.lemmas.Str.{digit_value-digit_char, IsUtf8-append}
-use Rattle.std.proofs.lemmas.Bool.{lt-ltb, le-leb, and_from}
+use Rattle.std.proofs.lemmas.Bool.{lt-ltb, and_from}
 use Rattle.json.proofs.Printed.Utf8.{IsUtf8-are_ascii}
 use Rattle.std.proofs.lemmas.Bool.Decides.{nat_tests}
 use Rattle.pgs_base.specs.Day.{is_day}

@@ -1,13 +1,12 @@
 -- A line of the first form is JSON, and names the same transaction as a JSON value.
-use Rattle.std.proofs.Common.{◌≡◌, ℕ, ◌^◌, ◌<◌, ◌≤◌, ℤ, pos, negsuc, Bool, true, false, cond, ◌&&◌, leb, ltb, List, [], ◌∷◌, ◌++◌, map, flat_map, fold, length, Option, Some, None, Ok, decimal, IsUtf8, refl, sym, ap, ap₂, ◌∙◌, subst, arith, append_assoc, Ordering, Less, Equal, Greater}
-use Rattle.std.specs.Prelude.{codes, nat_le}
+use Rattle.std.proofs.Common.{◌≡◌, ℕ, ◌^◌, ◌<◌, ◌≤◌, pos, negsuc, Bool, true, ◌&&◌, leb, ltb, List, [], ◌∷◌, ◌++◌, map, flat_map, fold, length, Option, Some, None, Ok, decimal, IsUtf8, refl, sym, ap, ap₂, ◌∙◌, arith, append_assoc, Ordering, Less, Equal, Greater}
+use Rattle.std.specs.Prelude.{codes}
 use Rattle.std.specs.Ordering.{nat_cmp, match_ordering}
 use Rattle.std.specs.Cmp.Lexicographic.{slice_cmp}
 use Rattle.std.specs.List.{list_all}
 use Rattle.std.specs.List.Sorted.{IsStrictlySortedBy}
 use Rattle.std.specs.Map.{keys_of}
-use Rattle.std.specs.BTreeMap.{insert_entry}
-use Rattle.std.proofs.lemmas.Bool.{true≢false, and_parts, and_from, leb-true, ltb-true, le-ltb, ne_eqb, eqb-false, not-true}
+use Rattle.std.proofs.lemmas.Bool.{true≢false, and_parts, and_from, leb-true, ltb-true, le-ltb}
 use Rattle.std.proofs.lemmas.Bool.Decides.{nat_tests}
 use Rattle.std.proofs.lemmas.Str.{is_utf8-from_IsUtf8}
 use Rattle.json.proofs.Printed.Utf8.{are_ascii, IsUtf8-are_ascii}
@@ -21,11 +20,11 @@ use Rattle.pgs_text.specs.Text.{escaped, quoted}
 use Rattle.pgs_text.proofs.Plain.{plain_by_range}
 use Rattle.pgs_graph.specs.declared.operation.Op.{Op}
 use Rattle.pgs_graph.specs.declared.operation.Txn.{Txn}
-use Rattle.pgs_json.specs.Sets.{label_set, pair_map}
+use Rattle.pgs_json.specs.Sets.{pair_map}
 use Rattle.pgs_json.specs.FirstLine as first
 use Rattle.pgs_json.specs.FirstLine.{RawOp, is_text_byte, is_first_value, is_first_pair, is_first_op, is_first_line, are_first_labels, are_first_pairs, are_distinct, spelling, named_txn}
 use Rattle.pgs_json.specs.Reading.{first_txn}
-use Rattle.pgs_json.specs.Form.{each_item, labels_of, props_of, op_of, ops_of, form, add_node}
+use Rattle.pgs_json.specs.Form.{each_item, props_of, op_of, ops_of, form, add_node}
 use Rattle.pgs_json.specs.Kinds.{kind_named, op_told}
 use Rattle.pgs_json.specs.Line.{txn_of, read_line}
 use Rattle.pgs_json.specs.Canonical.{value_text, labels_text, props_text, list_text, object_text}
@@ -220,9 +219,10 @@ spelt_by id (Some names) (Some pairs) small h k =
     let d = and_parts (list_all is_first_pair pairs) (are_distinct (keys_of pairs)) b.1 in
     respelt _ _ _ _ (text_of_both id names pairs a.1 d.0)
     (spelt_parts 2
-    ((codes "add_node", decimal id, id_data id) ∷ (codes "labels", labels_text names, labels_data names) ∷ (codes "props", props_text pairs, props_data (pair_map pairs)) ∷ [])
-    ((ascii (codes "add_node") refl, spelt_id 2 id small),
-    ((ascii (codes "labels") refl, deeper _ _ 1 2 (spelt_labels names a.1) (omega arith)), ((ascii (codes "props") refl, spelt_props pairs (all_pairs pairs d.0)), tt))))
+    ((codes "add_node", decimal id, id_data id) ∷ (codes "labels", labels_text names, labels_data names) ∷ (codes "props", props_text pairs, props_data (pair_map pairs)) ∷ []) (
+      (ascii (codes "add_node") refl, spelt_id 2 id small),
+      ((ascii (codes "labels") refl, deeper _ _ 1 2 (spelt_labels names a.1) (omega arith)), ((ascii (codes "props") refl, spelt_props pairs (all_pairs pairs d.0)), tt)),
+    ))
 
 abbrev op_by : ℕ → Option (List (List ℕ)) → Option (List (List ℕ × Value)) → Op
 op_by id labels props = first.op_of (record { id = id; labels = labels; props = props })

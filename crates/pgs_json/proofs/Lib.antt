@@ -12,6 +12,8 @@ pub mod Numbers
 pub mod Texts
 pub mod Values
 mod LabelOrder
+mod Taking
+mod TakenKinds
 mod Spelt
 mod Parts
 mod WrittenRead

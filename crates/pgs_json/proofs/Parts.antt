@@ -1,5 +1,5 @@
 -- The JSON data that a transaction's canonical text spells, and that the form makes the transaction of it.
-use Rattle.std.proofs.Common.{◌≡◌, ℕ, suc, ◌^◌, ◌<◌, ◌≤◌, ℤ, pos, negsuc, Bool, true, false, cond, ◌&&◌, leb, ltb, List, [], ◌∷◌, ◌++◌, map, fold, length, Option, Some, None, option_map, option_and_then, decimal, IsUtf8, refl, sym, ap, ap₂, ◌∙◌, subst, arith, Ordering, Less, Equal, Greater, append_assoc, append-nil}
+use Rattle.std.proofs.Common.{◌≡◌, ℕ, suc, ◌^◌, ◌<◌, ℤ, pos, negsuc, Bool, true, ◌&&◌, leb, List, [], ◌∷◌, ◌++◌, map, fold, length, Some, IsUtf8, refl, sym, ap, ◌∙◌, subst, arith, Ordering, Less, Equal, Greater, append_assoc, append-nil}
 use Rattle.std.specs.Prelude.{codes}
 use Rattle.std.specs.Ordering.{nat_cmp, match_ordering}
 use Rattle.std.specs.Cmp.Lexicographic.{slice_cmp}
@@ -8,37 +8,26 @@ use Rattle.std.specs.List.Sorted.{IsStrictlySortedBy}
 use Rattle.std.specs.Map.{keys_of}
 use Rattle.std.specs.BTreeMap.{insert_entry}
 use Rattle.std.specs.BTreeSet.{insert_key}
-use Rattle.std.proofs.lemmas.Bool.{true≢false, and_parts, and_from, leb-true, ltb-true, lt-ltb}
+use Rattle.std.proofs.lemmas.Bool.{true≢false, and_parts, and_from, leb-true, lt-ltb}
 use Rattle.std.proofs.lemmas.Bool.Decides.{nat_tests}
 use Rattle.std.proofs.lemmas.Cmp.{nat_list_cmp_total}
 use Rattle.std.proofs.lemmas.Str.{IsUtf8-append, IsUtf8-nil, IsUtf8-from_is_utf8}
 use Rattle.json.proofs.Printed.Utf8.{are_ascii, IsUtf8-are_ascii}
-use Rattle.serde_json.specs.Data.{Data, unsigned, negative, boolean, number, string, array, object, Items, no_items, item, Members, no_members, member, put}
+use Rattle.serde_json.specs.Data.{Data, boolean, number, string, array, object, Members, no_members, member, put}
 use Rattle.serde_json.specs.Find.{of_integer}
 use Rattle.serde_json.specs.View.{items_of}
-use Rattle.pgs_base.specs.Graph.{is_element_number}
 use Rattle.pgs_base.specs.declared.value.Value.{Value}
 use Rattle.pgs_base.specs.declared.value.Value.TheVariants as values
 use Rattle.pgs_base.specs.Name.{is_name, is_name_start, is_name_byte}
-use Rattle.pgs_base.specs.Names.{are_names}
-use Rattle.pgs_base.specs.Properties.{are_props, has_value}
-use Rattle.pgs_base.specs.Pair.{is_pair, pair_of as pair}
-use Rattle.pgs_base.specs.Options.{◌>>=◌}
-use Rattle.pgs_base.specs.Value.{is_value, is_text, is_number}
-use Rattle.pgs_base.proofs.Ascending.{ascends_decides, ascending-insert_entry, ascending-insert_key}
+use Rattle.pgs_base.specs.Value.{is_value, is_number}
+use Rattle.pgs_base.proofs.Ascending.{ascending-insert_entry}
 use Rattle.pgs_base.proofs.Lookups.{insert_entry_last, insert_key_last}
 use Rattle.pgs_text.specs.Text.{quoted, day_text}
-use Rattle.pgs_graph.specs.declared.operation.Op.{Op}
-use Rattle.pgs_graph.specs.declared.operation.Op.TheVariants.{AddNode, AddEdge, RemoveNode, DetachNode, RemoveEdge, SetNode, UnsetNode, LabelNode, UnlabelNode, SetEdge, UnsetEdge, LabelEdge, UnlabelEdge}
-use Rattle.pgs_graph.specs.declared.operation.Txn.{Txn}
-use Rattle.pgs_graph.specs.Operations.{is_well_formed_op, is_well_formed_txn}
 use Rattle.pgs_json.specs.Sets.{label_set, pair_map}
-use Rattle.pgs_json.specs.Form.{name_of, pair_of, value_of, each_item, each_member, labels_of, props_of, op_of, ops_of, form, add_node, add_edge, with_id, with_name, with_value}
-use Rattle.pgs_json.specs.Kinds.{kind_named, op_told}
-use Rattle.pgs_json.specs.Canonical.{value_text, labels_text, props_text, op_text, ops_text, list_text, object_text, text_of_txn}
+use Rattle.pgs_json.specs.Form.{name_of, pair_of, value_of, each_item, each_member, labels_of, props_of}
+use Rattle.pgs_json.specs.Canonical.{value_text, labels_text, props_text, object_text}
 use Rattle.pgs_json.proofs.Days.{short_day, day_utf8, day_in_text}
 use Rattle.pgs_json.proofs.Spelt.{Spelt, deeper, spelt_string, spelt_number, spelt_negative, spelt_truth, spelt_list, spelt_object, AllSpelt, AllSpeltAt, put_each}
-use Rattle.pgs_json.proofs.ToldKinds.{op_of_told}
 
 -- ---- names
 

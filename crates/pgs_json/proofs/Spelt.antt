@@ -1,7 +1,7 @@
 -- A text that spells JSON data: the crate reads it as this data. Lists and objects are spelt by their parts.
-use Rattle.std.proofs.Common.{◌≡◌, ℕ, zero, suc, ◌^◌, ◌<◌, ◌≤◌, ℤ, pos, negsuc, Bool, true, false, cond, ◌&&◌, eqb, ltb, List, [], ◌∷◌, ◌++◌, map, flat_map, Option, Some, None, option_map, option_and_then, decimal, IsUtf8, inl, inr, ◌⊎◌, refl, sym, ap, ap₂, ◌∙◌, subst, arith, append_assoc, append-nil}
+use Rattle.std.proofs.Common.{◌≡◌, ℕ, suc, ◌^◌, ◌<◌, ◌≤◌, negsuc, Bool, true, false, ◌&&◌, List, [], ◌∷◌, ◌++◌, map, flat_map, Option, Some, option_map, option_and_then, decimal, IsUtf8, inl, inr, refl, sym, ap, ap₂, ◌∙◌, subst, arith, append_assoc, append-nil}
 use Rattle.std.specs.Prelude.{codes}
-use Rattle.std.specs.Fmt.{signed_decimal, sign_text}
+use Rattle.std.specs.Fmt.{signed_decimal}
 use Rattle.std.specs.List.{join_with_byte}
 use Rattle.std.specs.Str.Parse.{AllDigits}
 use Rattle.std.specs.Char.{digit_value}
@@ -21,15 +21,14 @@ use Rattle.json.proofs.Printed.Tokens.{tokens-print}
 use Rattle.json.proofs.Printed.Trees.{value-json_tokens, ArePrintable-json_tokens}
 use Rattle.json.proofs.Printed.Utf8.{IsUtf8-are_ascii, IsUtf8-quoted}
 use Rattle.serde_json.specs.Data.{Data, unsigned, negative, boolean, number, string, array, object, Items, no_items, item, Members, no_members, member, put}
-use Rattle.serde_json.specs.Find.{of_integer}
-use Rattle.serde_json.specs.Read.{number_of, of_json, of_items, of_members, read, max_depth}
+use Rattle.serde_json.specs.Read.{of_json, of_items, of_members, read, max_depth}
 use Rattle.serde_json.specs.View.{items_of}
-use Rattle.serde_json.specs.Written.{outline, items_outline, members_outline, comma_if, compact_text, items_text, members_text}
+use Rattle.serde_json.specs.Written.{outline, items_outline, members_outline, compact_text, items_text, members_text}
 use Rattle.serde_json.proofs.Numbers.{number_of-decimal, number_of-negative}
 use Rattle.serde_json.proofs.Texts.{print-outline}
 use Rattle.pgs_text.specs.Text.{escaped, quoted, truth_text}
 use Rattle.pgs_json.specs.Canonical.{list_text, object_text, member_text}
-use Rattle.pgs_json.specs.Pieces.{further, listed}
+use Rattle.pgs_json.specs.Pieces.{further}
 use Rattle.pgs_json.proofs.Joined.{joined}
 
 -- the text is that of a tree, which nests so deep at most and is read as the data
@@ -170,7 +169,7 @@ module _ {A : Type 0} (text : A → List ℕ) (data_of : A → Data) (levels : �
       record {
         items_of_it = item first.tree_of rest.items_of_it;
         written =
-          ap (λ (l : List ℕ). 44 ∷ l) (append_assoc (text x) (flat_map (further text) xs) (93 ∷ []) ∙ ap₂ (λ (a b : List ℕ). a ++ b) first.written rest.written);
+            ap (λ (l : List ℕ). 44 ∷ l) (append_assoc (text x) (flat_map (further text) xs) (93 ∷ []) ∙ ap₂ (λ (a b : List ℕ). a ++ b) first.written rest.written);
         numbers = (first.numbers, rest.numbers);
         shallow = omega (arith, first.shallow, rest.shallow);
         made = item_made first.tree_of rest.items_of_it _ _ first.made rest.made;
@@ -194,8 +193,8 @@ module _ {A : Type 0} (text : A → List ℕ) (data_of : A → Data) (levels : �
       record {
         tree_of = array (item first.tree_of rest.items_of_it);
         written =
-          listed_text
-          ∙ ap (λ (l : List ℕ). 91 ∷ l) (append_assoc (text x) (flat_map (further text) xs) (93 ∷ []) ∙ ap₂ (λ (a b : List ℕ). a ++ b) first.written rest.written);
+            listed_text
+            ∙ ap (λ (l : List ℕ). 91 ∷ l) (append_assoc (text x) (flat_map (further text) xs) (93 ∷ []) ∙ ap₂ (λ (a b : List ℕ). a ++ b) first.written rest.written);
         numbers = (first.numbers, rest.numbers);
         shallow = omega (arith, first.shallow, rest.shallow);
         made = ap (option_map array) (item_made first.tree_of rest.items_of_it _ _ first.made rest.made);

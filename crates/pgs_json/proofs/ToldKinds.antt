@@ -1,7 +1,7 @@
 -- An operation is what its kind says, and the first member with a kind's name tells the kind.
 use Rattle.std.proofs.Common.{◌≡◌, ℕ, Bool, true, false, cond, ◌&&◌, List, [], ◌∷◌, Option, Some, None, option_map, option_and_then, inl, inr, ◌⊎◌, refl, sym, ap, ◌∙◌, subst, Ordering, Less, Equal, Greater}
 use Rattle.std.specs.Prelude.{codes, bytes_eq}
-use Rattle.std.specs.List.{list_all, list_any}
+use Rattle.std.specs.List.{list_any}
 use Rattle.std.specs.Option.{option_or}
 use Rattle.std.specs.Ordering.{nat_cmp, is_eq, match_ordering}
 use Rattle.std.specs.Cmp.Lexicographic.{slice_cmp}
@@ -91,18 +91,18 @@ none_still f o (inr t) = inr t
 told : (k : Kind) (ms : Members) → (op_as k (object ms) ≡ None) ⊎ (kind_in ms ≡ Some k)
 unfolding kind_named add_node add_edge with_id with_name with_value
 told AddNode ms = gated_more (codes "add_node") AddNode (codes "add_node" ∷ codes "labels" ∷ codes "props" ∷ []) (inl refl, (inr (refl, refl), (inr (refl, refl), tt))) id_of _ ms
+told AddEdge ms = gated_more (codes "add_edge") AddEdge (codes "add_edge" ∷ codes "from" ∷ codes "labels" ∷ codes "props" ∷ codes "to" ∷ []) (inl refl, (inr (refl, refl), (inr (refl, refl), (inr (refl, refl), (inr (refl, refl), tt))))) id_of _ ms
 told RemoveNode ms = none_still _ _ (gated (codes "remove_node") RemoveNode (codes "remove_node" ∷ []) (inl refl, tt) id_of ms)
 told DetachNode ms = none_still _ _ (gated (codes "detach_node") DetachNode (codes "detach_node" ∷ []) (inl refl, tt) id_of ms)
-told SetNode ms = none_still _ _ (gated_more (codes "set_node") SetNode (codes "set_node" ∷ codes "key" ∷ codes "value" ∷ []) (inl refl, (inr (refl, refl), (inr (refl, refl), tt))) id_of _ ms)
-told UnsetNode ms = none_still _ _ (gated_more (codes "unset_node") UnsetNode (codes "unset_node" ∷ codes "key" ∷ []) (inl refl, (inr (refl, refl), tt)) id_of _ ms)
-told LabelNode ms = none_still _ _ (gated_more (codes "label_node") LabelNode (codes "label_node" ∷ codes "label" ∷ []) (inl refl, (inr (refl, refl), tt)) id_of _ ms)
-told UnlabelNode ms = none_still _ _ (gated_more (codes "unlabel_node") UnlabelNode (codes "unlabel_node" ∷ codes "label" ∷ []) (inl refl, (inr (refl, refl), tt)) id_of _ ms)
-told AddEdge ms = gated_more (codes "add_edge") AddEdge (codes "add_edge" ∷ codes "from" ∷ codes "to" ∷ codes "labels" ∷ codes "props" ∷ []) (inl refl, (inr (refl, refl), (inr (refl, refl), (inr (refl, refl), (inr (refl, refl), tt))))) id_of _ ms
 told RemoveEdge ms = none_still _ _ (gated (codes "remove_edge") RemoveEdge (codes "remove_edge" ∷ []) (inl refl, tt) id_of ms)
-told SetEdge ms = none_still _ _ (gated_more (codes "set_edge") SetEdge (codes "set_edge" ∷ codes "key" ∷ codes "value" ∷ []) (inl refl, (inr (refl, refl), (inr (refl, refl), tt))) id_of _ ms)
-told UnsetEdge ms = none_still _ _ (gated_more (codes "unset_edge") UnsetEdge (codes "unset_edge" ∷ codes "key" ∷ []) (inl refl, (inr (refl, refl), tt)) id_of _ ms)
-told LabelEdge ms = none_still _ _ (gated_more (codes "label_edge") LabelEdge (codes "label_edge" ∷ codes "label" ∷ []) (inl refl, (inr (refl, refl), tt)) id_of _ ms)
-told UnlabelEdge ms = none_still _ _ (gated_more (codes "unlabel_edge") UnlabelEdge (codes "unlabel_edge" ∷ codes "label" ∷ []) (inl refl, (inr (refl, refl), tt)) id_of _ ms)
+told SetNode ms = none_still _ _ (gated_more (codes "set_node") SetNode (codes "key" ∷ codes "set_node" ∷ codes "value" ∷ []) (inr (refl, refl), (inl refl, (inr (refl, refl), tt))) id_of _ ms)
+told UnsetNode ms = none_still _ _ (gated_more (codes "unset_node") UnsetNode (codes "key" ∷ codes "unset_node" ∷ []) (inr (refl, refl), (inl refl, tt)) id_of _ ms)
+told LabelNode ms = none_still _ _ (gated_more (codes "label_node") LabelNode (codes "label" ∷ codes "label_node" ∷ []) (inr (refl, refl), (inl refl, tt)) id_of _ ms)
+told UnlabelNode ms = none_still _ _ (gated_more (codes "unlabel_node") UnlabelNode (codes "label" ∷ codes "unlabel_node" ∷ []) (inr (refl, refl), (inl refl, tt)) id_of _ ms)
+told SetEdge ms = none_still _ _ (gated_more (codes "set_edge") SetEdge (codes "key" ∷ codes "set_edge" ∷ codes "value" ∷ []) (inr (refl, refl), (inl refl, (inr (refl, refl), tt))) id_of _ ms)
+told UnsetEdge ms = none_still _ _ (gated_more (codes "unset_edge") UnsetEdge (codes "key" ∷ codes "unset_edge" ∷ []) (inr (refl, refl), (inl refl, tt)) id_of _ ms)
+told LabelEdge ms = none_still _ _ (gated_more (codes "label_edge") LabelEdge (codes "label" ∷ codes "label_edge" ∷ []) (inr (refl, refl), (inl refl, tt)) id_of _ ms)
+told UnlabelEdge ms = none_still _ _ (gated_more (codes "unlabel_edge") UnlabelEdge (codes "label" ∷ codes "unlabel_edge" ∷ []) (inr (refl, refl), (inl refl, tt)) id_of _ ms)
 
 -- ---- the first of all kinds
 

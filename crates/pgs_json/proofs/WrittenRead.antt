@@ -1,17 +1,15 @@
 -- The canonical text of a well-formed transaction is read as this transaction.
-use Rattle.std.proofs.Common.{◌≡◌, ℕ, ◌^◌, ◌<◌, ◌≤◌, Bool, true, false, ◌&&◌, List, [], ◌∷◌, map, length, Option, Some, None, Ok, option_and_then, decimal, IsUtf8, refl, sym, ap, ◌∙◌, subst, arith}
+use Rattle.std.proofs.Common.{◌≡◌, ℕ, ◌^◌, ◌<◌, ◌≤◌, true, ◌&&◌, List, [], ◌∷◌, map, length, Some, None, Ok, decimal, IsUtf8, refl, ap, ◌∙◌, subst, arith}
 use Rattle.std.specs.Prelude.{codes}
 use Rattle.std.specs.Ordering.{nat_cmp}
 use Rattle.std.specs.Cmp.Lexicographic.{slice_cmp}
 use Rattle.std.specs.List.{list_all}
 use Rattle.std.specs.List.Sorted.{IsStrictlySortedBy}
 use Rattle.std.specs.Map.{keys_of}
-use Rattle.std.specs.Str.{is_utf8}
 use Rattle.std.proofs.lemmas.Bool.{and_parts, and_from, ltb-true, le-ltb}
 use Rattle.std.proofs.lemmas.Str.{is_utf8-from_IsUtf8}
 use Rattle.json.proofs.Printed.Utf8.{are_ascii, IsUtf8-are_ascii}
-use Rattle.serde_json.specs.Data.{Data, unsigned, number, string, array, object, Items, no_members, member}
-use Rattle.serde_json.specs.Read.{read}
+use Rattle.serde_json.specs.Data.{Data, unsigned, number, string, array, object, no_members, member}
 use Rattle.serde_json.specs.View.{items_of}
 use Rattle.pgs_base.specs.Graph.{is_element_number}
 use Rattle.pgs_base.specs.declared.value.Value.{Value}
@@ -26,7 +24,6 @@ use Rattle.pgs_graph.specs.declared.operation.Op.{Op}
 use Rattle.pgs_graph.specs.declared.operation.Op.TheVariants.{AddNode, AddEdge, RemoveNode, DetachNode, RemoveEdge, SetNode, UnsetNode, LabelNode, UnlabelNode, SetEdge, UnsetEdge, LabelEdge, UnlabelEdge}
 use Rattle.pgs_graph.specs.declared.operation.Txn.{Txn}
 use Rattle.pgs_graph.specs.Operations.{is_well_formed_op, is_well_formed_txn}
-use Rattle.pgs_json.specs.Sets.{label_set, pair_map}
 use Rattle.pgs_json.specs.Form.{each_item, labels_of, props_of, op_of, ops_of, form, add_node, add_edge, with_id, with_name, with_value}
 use Rattle.pgs_json.specs.Kinds.{kind_named, op_told}
 use Rattle.pgs_json.specs.Line.{txn_of, read_line}
@@ -108,9 +105,10 @@ spelt_op (AddNode id labels props) h =
     let a = and_parts (is_element_number id.0) (is_pair (pair_of labels props)) h in
     let p = pair_from labels props a.1 in
     spelt_parts 2
-    ((codes "add_node", decimal id.0, id_data id.0) ∷ (codes "labels", labels_text labels, labels_data labels) ∷ (codes "props", props_text props, props_data props) ∷ [])
-    ((ascii (codes "add_node") refl, spelt_id 2 id.0 (ltb-true id.0 (2 ^ 64) a.0)),
-    ((ascii (codes "labels") refl, p.labels_spelt), ((ascii (codes "props") refl, p.props_spelt), tt)))
+    ((codes "add_node", decimal id.0, id_data id.0) ∷ (codes "labels", labels_text labels, labels_data labels) ∷ (codes "props", props_text props, props_data props) ∷ []) (
+      (ascii (codes "add_node") refl, spelt_id 2 id.0 (ltb-true id.0 (2 ^ 64) a.0)),
+      ((ascii (codes "labels") refl, p.labels_spelt), ((ascii (codes "props") refl, p.props_spelt), tt)),
+    )
 spelt_op (AddEdge id source target labels props) h =
     let a = and_parts (is_element_number id.0 && is_element_number source.0 && is_element_number target.0) (is_pair (pair_of labels props)) h in
     let b = and_parts (is_element_number id.0 && is_element_number source.0) (is_element_number target.0) a.0 in
@@ -119,11 +117,19 @@ spelt_op (AddEdge id source target labels props) h =
     spelt_parts 2
     ((codes "add_edge", decimal id.0, id_data id.0) ∷ (codes "from", decimal source.0, id_data source.0)
     ∷ (codes "labels", labels_text labels, labels_data labels) ∷ (codes "props", props_text props, props_data props)
-    ∷ (codes "to", decimal target.0, id_data target.0) ∷ [])
-    ((ascii (codes "add_edge") refl, spelt_id 2 id.0 (ltb-true id.0 (2 ^ 64) d.0)),
-    ((ascii (codes "from") refl, spelt_id 2 source.0 (ltb-true source.0 (2 ^ 64) d.1)),
-    ((ascii (codes "labels") refl, p.labels_spelt), ((ascii (codes "props") refl, p.props_spelt),
-    ((ascii (codes "to") refl, spelt_id 2 target.0 (ltb-true target.0 (2 ^ 64) b.1)), tt)))))
+    ∷ (codes "to", decimal target.0, id_data target.0) ∷ []) (
+      (ascii (codes "add_edge") refl, spelt_id 2 id.0 (ltb-true id.0 (2 ^ 64) d.0)),
+      (
+        (ascii (codes "from") refl, spelt_id 2 source.0 (ltb-true source.0 (2 ^ 64) d.1)),
+        (
+          (ascii (codes "labels") refl, p.labels_spelt),
+          (
+            (ascii (codes "props") refl, p.props_spelt),
+            ((ascii (codes "to") refl, spelt_id 2 target.0 (ltb-true target.0 (2 ^ 64) b.1)), tt),
+          ),
+        ),
+      ),
+    )
 spelt_op (RemoveNode id) h =
     spelt_parts 2 ((codes "remove_node", decimal id.0, id_data id.0) ∷ []) ((ascii (codes "remove_node") refl, spelt_id 2 id.0 (ltb-true id.0 (2 ^ 64) h)), tt)
 spelt_op (DetachNode id) h =
@@ -134,16 +140,24 @@ spelt_op (SetNode id key value) h =
     let a = and_parts (is_element_number id.0 && is_name key) (is_value value) h in
     let b = and_parts (is_element_number id.0) (is_name key) a.0 in
     spelt_parts 2
-    ((codes "key", quoted key, string key) ∷ (codes "set_node", decimal id.0, id_data id.0) ∷ (codes "value", value_text value, value_data value) ∷ [])
-    ((ascii (codes "key") refl, spelt_name 2 key b.1), ((ascii (codes "set_node") refl, spelt_id 2 id.0 (ltb-true id.0 (2 ^ 64) b.0)),
-    ((ascii (codes "value") refl, deeper _ _ 1 2 (spelt_value value a.1) (omega arith)), tt)))
+    ((codes "key", quoted key, string key) ∷ (codes "set_node", decimal id.0, id_data id.0) ∷ (codes "value", value_text value, value_data value) ∷ []) (
+      (ascii (codes "key") refl, spelt_name 2 key b.1),
+      (
+        (ascii (codes "set_node") refl, spelt_id 2 id.0 (ltb-true id.0 (2 ^ 64) b.0)),
+        ((ascii (codes "value") refl, deeper _ _ 1 2 (spelt_value value a.1) (omega arith)), tt),
+      ),
+    )
 spelt_op (SetEdge id key value) h =
     let a = and_parts (is_element_number id.0 && is_name key) (is_value value) h in
     let b = and_parts (is_element_number id.0) (is_name key) a.0 in
     spelt_parts 2
-    ((codes "key", quoted key, string key) ∷ (codes "set_edge", decimal id.0, id_data id.0) ∷ (codes "value", value_text value, value_data value) ∷ [])
-    ((ascii (codes "key") refl, spelt_name 2 key b.1), ((ascii (codes "set_edge") refl, spelt_id 2 id.0 (ltb-true id.0 (2 ^ 64) b.0)),
-    ((ascii (codes "value") refl, deeper _ _ 1 2 (spelt_value value a.1) (omega arith)), tt)))
+    ((codes "key", quoted key, string key) ∷ (codes "set_edge", decimal id.0, id_data id.0) ∷ (codes "value", value_text value, value_data value) ∷ []) (
+      (ascii (codes "key") refl, spelt_name 2 key b.1),
+      (
+        (ascii (codes "set_edge") refl, spelt_id 2 id.0 (ltb-true id.0 (2 ^ 64) b.0)),
+        ((ascii (codes "value") refl, deeper _ _ 1 2 (spelt_value value a.1) (omega arith)), tt),
+      ),
+    )
 spelt_op (UnsetNode id key) h =
     let a = and_parts (is_element_number id.0) (is_name key) h in
     spelt_parts 2 ((codes "key", quoted key, string key) ∷ (codes "unset_node", decimal id.0, id_data id.0) ∷ [])

@@ -1,6 +1,5 @@
 -- The canonical text of a transaction: no spaces, and the members of each object in the byte order of their names.
-use Rattle.std.specs.Prelude.{ℕ, ◌/◌, ◌%◌, Bool, true, false, List, [], ◌∷◌, ◌++◌, map, flat_map, Option, Some, None, nat_lt, ◌==◌, if◌then◌else◌, codes, decimal}
-use Rattle.std.specs.Char.{digit_char}
+use Rattle.std.specs.Prelude.{ℕ, List, [], ◌∷◌, ◌++◌, map, Option, Some, None, codes, decimal}
 use Rattle.std.specs.Fmt.{signed_decimal}
 use Rattle.std.specs.List.{join_with_byte}
 use Rattle.pgs_base.specs.declared.value.Value.{Value}

@@ -100,7 +100,7 @@ pair_of name d = name_in name >>= λ key. value_of d >>= λ value. Some (key, va
 unfoldable pub props_of : Data → Option (List (List ℕ × Value))
 props_of d = as_object d >>= each_member pair_of >>= λ pairs. Some (pair_map pairs)
 
--- ---- operations, each by its members
+-- ---- operations, each by its members, which stand here in the order of their names
 
 abbrev pub node : ℕ → NodeId
 node n = record { 0 = n }
@@ -121,7 +121,7 @@ add_node d =
 -- `add_edge`, `from` and `to`, and maybe `labels` and `props`
 unfoldable pub add_edge : Data → Option Op
 add_edge d =
-    if has_only (codes "add_edge" ∷ codes "from" ∷ codes "to" ∷ codes "labels" ∷ codes "props" ∷ []) d
+    if has_only (codes "add_edge" ∷ codes "from" ∷ codes "labels" ∷ codes "props" ∷ codes "to" ∷ []) d
     then (part id_of (codes "add_edge") d >>= λ id.
     part id_of (codes "from") d >>= λ source.
     part id_of (codes "to") d >>= λ target.
@@ -137,14 +137,14 @@ with_id kind d = if has_only (kind ∷ []) d then part id_of kind d else None
 -- an object with this kind and one more member, a name
 unfoldable pub with_name : List ℕ → List ℕ → Data → Option (ℕ × List ℕ)
 with_name kind second d =
-    if has_only (kind ∷ second ∷ []) d
+    if has_only (second ∷ kind ∷ []) d
     then (part id_of kind d >>= λ id. part name_of second d >>= λ name. Some (id, name))
     else None
 
 -- an object with this kind, a key and a value
 unfoldable pub with_value : List ℕ → Data → Option (ℕ × List ℕ × Value)
 with_value kind d =
-    if has_only (kind ∷ codes "key" ∷ codes "value" ∷ []) d
+    if has_only (codes "key" ∷ kind ∷ codes "value" ∷ []) d
     then (part id_of kind d >>= λ id. part name_of (codes "key") d >>= λ key.
     part value_of (codes "value") d >>= λ value. Some (id, key, value))
     else None

@@ -1,9 +1,8 @@
 -- Pieces of the canonical text, as they are written one after the other.
-use Rattle.std.specs.Prelude.{ℕ, List, [], ◌∷◌, ◌++◌, map, flat_map, Option, Some, None, codes, decimal}
+use Rattle.std.specs.Prelude.{ℕ, List, [], ◌∷◌, ◌++◌, flat_map, Option, Some, None, codes, decimal}
 use Rattle.pgs_base.specs.declared.value.Value.{Value}
 use Rattle.pgs_text.specs.Text.{quoted}
-use Rattle.pgs_graph.specs.declared.operation.Op.{Op}
-use Rattle.pgs_json.specs.Canonical.{value_text, labels_text, props_text, op_text}
+use Rattle.pgs_json.specs.Canonical.{value_text, labels_text, props_text}
 
 -- an item that follows another
 abbrev pub further : {A : Type 0} → (A → List ℕ) → A → List ℕ

@@ -170,12 +170,7 @@ fn push_add_edge(
     Ok(())
 }
 
-fn push_set_node(
-    text: &mut TextBuffer,
-    id: NodeId,
-    key: &Name,
-    value: &Value,
-) -> Result<(), Memory>
+fn push_set_node(text: &mut TextBuffer, id: NodeId, key: &Name, value: &Value) -> Result<(), Memory>
     ensures { OnOk result (text.new ≡ text.old ++ op_text (SetNode id key.now value.now)) }
 {
     push_named(text, b"{\"key\":", key, b",\"set_node\":", id.0)?;
@@ -185,12 +180,7 @@ fn push_set_node(
     Ok(())
 }
 
-fn push_set_edge(
-    text: &mut TextBuffer,
-    id: EdgeId,
-    key: &Name,
-    value: &Value,
-) -> Result<(), Memory>
+fn push_set_edge(text: &mut TextBuffer, id: EdgeId, key: &Name, value: &Value) -> Result<(), Memory>
     ensures { OnOk result (text.new ≡ text.old ++ op_text (SetEdge id key.now value.now)) }
 {
     push_named(text, b"{\"key\":", key, b",\"set_edge\":", id.0)?;

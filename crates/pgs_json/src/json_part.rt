@@ -1,6 +1,6 @@
 //! Parts of a transaction's JSON value: the members of an object, ids, names, days and values.
 
-ghost use Rattle.std.specs.Prelude.{◌≡◌, ◌≤◌, ◌<◌, ◌^◌, IfSome, map, length, codes, option_map};
+ghost use Rattle.std.specs.Prelude.{◌≡◌, ◌≤◌, ◌<◌, ◌^◌, IfSome, map, length, codes, option_map, option_and_then};
 ghost use Rattle.std.specs.List.{list_any, list_all};
 ghost use Rattle.std.specs.Str.{bytes_eq};
 ghost use Rattle.serde_json.specs.View.{view, members_view};
@@ -47,11 +47,11 @@ pub fn has_only(value: &Json, names: &[&str]) -> bool
     }
 }
 
-/// The id that a member is.
-pub fn id_part(value: &Json, name: &str) -> Option<u64>
-    ensures { result ≡ part id_of name.now (view value.now) }
+/// The id that a member is, which has to be there.
+pub fn id_part(part: Option<&Json>) -> Result<u64, Unread>
+    ensures { Gives (λ x. x) result (option_and_then id_of (option_map (λ value. view value.now) part.entry)) }
 {
-    value.get(name).and_then(Json::as_u64)
+    part.and_then(Json::as_u64).ok_or(Unread::Unfit)
 }
 
 /// The name that a JSON text is.
@@ -65,12 +65,12 @@ pub fn name(alloc: Global, value: &Json) -> Result<Name, Unread>
     }
 }
 
-/// The name that a member is.
-pub fn name_part(alloc: Global, value: &Json, member: &str) -> Result<Name, Unread>
-    ensures { Gives (λ x. x) result (part name_of member.now (view value.now)) }
+/// The name that a member is, which has to be there.
+pub fn name_part(alloc: Global, part: Option<&Json>) -> Result<Name, Unread>
+    ensures { Gives (λ x. x) result (option_and_then name_of (option_map (λ value. view value.now) part.entry)) }
 {
-    match value.get(member) {
-        Some(part) => name(alloc, part),
+    match part {
+        Some(value) => name(alloc, value),
         None => Err(Unread::Unfit),
     }
 }
@@ -156,12 +156,12 @@ pub fn value(alloc: Global, value: &Json) -> Result<Value, Unread>
     }
 }
 
-/// The property value that a member is.
-pub fn value_part(alloc: Global, object: &Json, member: &str) -> Result<Value, Unread>
-    ensures { Gives (λ x. x) result (part value_of member.now (view object.now)) }
+/// The property value that a member is, which has to be there.
+pub fn value_part(alloc: Global, part: Option<&Json>) -> Result<Value, Unread>
+    ensures { Gives (λ x. x) result (option_and_then value_of (option_map (λ value. view value.now) part.entry)) }
 {
-    match object.get(member) {
-        Some(part) => value(alloc, part),
+    match part {
+        Some(found) => value(alloc, found),
         None => Err(Unread::Unfit),
     }
 }

@@ -6,6 +6,7 @@
 //! `read_first`: `specs/FirstLine.antt` has its spelling and limits, and `first_form_is_exact` says that it is read exactly so.
 #![tactic(auto)]
 
+mod ahead;
 mod canonical;
 mod first_line;
 mod json_op;
@@ -16,6 +17,7 @@ mod laws;
 mod line;
 mod line_fault;
 mod number;
+mod op_of_kind;
 mod operation;
 mod piece;
 mod props;

@@ -1,5 +1,5 @@
 -- Bytes that stand in a quoted text as they are.
-use Rattle.std.proofs.Common.{◌≡◌, ℕ, ◌≤◌, Bool, true, false, ◌&&◌, List, [], ◌∷◌, ◌++◌, flat_map, refl, ap₂, arith}
+use Rattle.std.proofs.Common.{◌≡◌, ℕ, ◌≤◌, true, List, [], ◌∷◌, ◌++◌, flat_map, refl, ap₂, arith}
 use Rattle.std.specs.List.{list_all}
 use Rattle.std.proofs.lemmas.Bool.{and_parts, ne_eqb, le-ltb}
 use Rattle.std.proofs.lemmas.Bool.Decides.{nat_tests}
@@ -7,8 +7,16 @@ use Rattle.pgs_text.specs.Text.{is_plain, escaped}
 
 pub plain_by_range : (b : ℕ) → 32 ≤ b → (b ≡ 34 → ⊥) → (b ≡ 92 → ⊥) → escaped b ≡ b ∷ []
 plain_by_range b low quote backslash =
-    rw (ne_eqb b 34 quote, ne_eqb b 92 backslash, ne_eqb b 8 (λ e. omega arith), ne_eqb b 9 (λ e. omega arith), ne_eqb b 10 (λ e. omega arith),
-    ne_eqb b 12 (λ e. omega arith), ne_eqb b 13 (λ e. omega arith), le-ltb b 32 low) refl
+    rw (
+      ne_eqb b 34 quote,
+      ne_eqb b 92 backslash,
+      ne_eqb b 8 (λ e. omega arith),
+      ne_eqb b 9 (λ e. omega arith),
+      ne_eqb b 10 (λ e. omega arith),
+      ne_eqb b 12 (λ e. omega arith),
+      ne_eqb b 13 (λ e. omega arith),
+      le-ltb b 32 low,
+    ) refl
 
 pub plain_byte : (b : ℕ) → is_plain b ≡ true → escaped b ≡ b ∷ []
 plain_byte b h = plain_by_range b (grind (arith, nat_tests)) (λ e. grind (arith, nat_tests)) (λ e. grind (arith, nat_tests))

@@ -24,15 +24,16 @@ fn add_keys(alloc: Global, out: &mut String) -> Result<(), Fail> {
 // Members of the line in another order than in the text.
 const ADDED: &str = r#"{"ops":[{"to":10,"from":3,"add_edge":3,"labels":["moderates"]}]}"#;
 
+fn add_dump(alloc: Global, out: &mut String) -> Result<(), Fail> {
+    add_line(out, schema_line(alloc, b"CREATE GRAPH TYPE g LOOSE {};"))?;
+    add_line(out, separator_line(alloc))?;
+    let added = txn(alloc, ADDED)?;
+    add_line(out, txn_line(alloc, &added))
+}
+
 fn lines(alloc: Global) -> Result<String, Fail> {
     let mut out = String::new(alloc);
-    add_line(
-        &mut out,
-        schema_line(alloc, b"CREATE GRAPH TYPE g LOOSE {};"),
-    )?;
-    add_line(&mut out, separator_line(alloc))?;
-    let added = txn(alloc, ADDED)?;
-    add_line(&mut out, txn_line(alloc, &added))?;
+    add_dump(alloc, &mut out)?;
     add_types(alloc, &mut out)?;
     add_keys(alloc, &mut out)?;
     Ok(out)

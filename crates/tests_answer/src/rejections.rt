@@ -36,16 +36,19 @@ const STRUCTURAL: [Structural; 7] = [
     Structural::ElementTooLarge { op: 5 },
 ];
 
+/// Puts the text of a structural refusal last, and that of the rejection that it is.
+fn add_structural(alloc: Global, out: &mut String, structural: Structural) -> Result<(), Fail> {
+    add_text(out, structural_text(alloc, &structural, &LIMITS))?;
+    let rejection = Rejection::Structural(structural);
+    add_text(out, rejection_text(alloc, &rejection, &LIMITS))
+}
+
 fn structural_texts(alloc: Global) -> Result<String, Fail> {
     let mut out = String::new(alloc);
     add_text(&mut out, unreadable_text(alloc))?;
     add_text(&mut out, line_too_long_text(alloc))?;
     for structural in &STRUCTURAL {
-        add_text(&mut out, structural_text(alloc, structural, &LIMITS))?;
-        add_text(
-            &mut out,
-            rejection_text(alloc, &Rejection::Structural(*structural), &LIMITS),
-        )?;
+        add_structural(alloc, &mut out, *structural)?;
     }
     Ok(out)
 }
@@ -102,15 +105,19 @@ fn add_violation(alloc: Global, out: &mut String, violation: Violation) -> Resul
     add_text(out, rejection_text(alloc, &rejection, &LIMITS))
 }
 
-fn violation_texts(alloc: Global) -> Result<String, Fail> {
-    let mut out = String::new(alloc);
-    add_violation(alloc, &mut out, Violation::UntypedNode { node: NodeId(1) })?;
-    add_violation(alloc, &mut out, Violation::UntypedEdge { edge: EdgeId(1) })?;
+fn add_without_values(alloc: Global, out: &mut String) -> Result<(), Fail> {
+    add_violation(alloc, out, Violation::UntypedNode { node: NodeId(1) })?;
+    add_violation(alloc, out, Violation::UntypedEdge { edge: EdgeId(1) })?;
     let mandatory = Violation::Mandatory {
         key: 2,
         elem: Elem::Edge(EdgeId(10)),
     };
-    add_violation(alloc, &mut out, mandatory)?;
+    add_violation(alloc, out, mandatory)
+}
+
+fn violation_texts(alloc: Global) -> Result<String, Fail> {
+    let mut out = String::new(alloc);
+    add_without_values(alloc, &mut out)?;
     add_violation(alloc, &mut out, several_values(alloc)?)?;
     add_violation(alloc, &mut out, shared_value(alloc)?)?;
     Ok(out)

@@ -31,7 +31,10 @@ pub fn tuple(alloc: Global, part: &str) -> Result<Tuple, Fail> {
 /// The tuple of a text and a node.
 pub fn tuple_with_node(alloc: Global, part: &str, node: u64) -> Result<Tuple, Fail> {
     let text = text(alloc, part)?;
-    let parts = vec![in alloc; Part::Value(Value::Text(text)), Part::Elem(Elem::Node(NodeId(node)))]?;
+    let parts = vec![in alloc;
+        Part::Value(Value::Text(text)),
+        Part::Elem(Elem::Node(NodeId(node))),
+    ]?;
     Ok(Tuple::new(List::from_vec(parts)))
 }
 

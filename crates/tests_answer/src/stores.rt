@@ -10,17 +10,21 @@ use pgs_violation::{Rejection, Violation};
 use std::alloc::Global;
 use std::test::Fail;
 
+fn add_history(alloc: Global, out: &mut String) -> Result<(), Fail> {
+    let rejection = Rejection::Violation(Violation::UntypedNode { node: NodeId(1) });
+    add_text(
+        out,
+        bad_history_text(alloc, 2, &rejection, &Limits::standard()),
+    )
+}
+
 fn texts(alloc: Global) -> Result<String, Fail> {
     let mut out = String::new(alloc);
     add_text(&mut out, no_store_text(alloc))?;
     add_text(&mut out, already_store_text(alloc))?;
     add_text(&mut out, foreign_text(alloc))?;
     add_text(&mut out, bad_record_text(alloc, 2))?;
-    let rejection = Rejection::Violation(Violation::UntypedNode { node: NodeId(1) });
-    add_text(
-        &mut out,
-        bad_history_text(alloc, 2, &rejection, &Limits::standard()),
-    )?;
+    add_history(alloc, &mut out)?;
     add_text(&mut out, epochs_spent_text(alloc))?;
     Ok(out)
 }

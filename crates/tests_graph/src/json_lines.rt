@@ -7,7 +7,10 @@ use std::alloc::{AllocError, Global};
 use std::test::Fail;
 
 fn characters(alloc: Global, bytes: &Bytes) -> Result<String, AllocError> {
-    String::from_str(alloc, str::from_utf8(bytes.as_slice()).unwrap_or("no UTF-8"))
+    String::from_str(
+        alloc,
+        str::from_utf8(bytes.as_slice()).unwrap_or("no UTF-8"),
+    )
 }
 
 fn text_of(alloc: Global, txn: &Txn) -> Result<String, Fail> {
@@ -100,12 +103,29 @@ const READ: &[(&[u8], &str)] = &[
     (b"{\"ops\":[{}],\"\\u006fps\":[]}", "{\"ops\":[]}"),
 ];
 
+/// Whether a line is shown so, or as it is where this is `=`.
+fn is_shown(alloc: Global, line: &[u8], want: &str) -> Result<bool, Fail> {
+    let text = shown(alloc, line)?;
+    if want == "=" {
+        Ok(text.as_bytes() == line)
+    } else {
+        Ok(text.as_str() == want)
+    }
+}
+
+/// The place of the first row that isn't so.
+fn first_wrong(alloc: Global, rows: &[(&[u8], &str)]) -> Result<Option<usize>, Fail> {
+    for (place, (line, want)) in rows.iter().enumerate() {
+        if !is_shown(alloc, line, want)? {
+            return Ok(Some(place));
+        }
+    }
+    Ok(None)
+}
+
 #[test]
 fn lines_are_read(rt: HostRuntime) -> Result<(), Fail> {
-    for (place, (line, want)) in READ.iter().enumerate() {
-        let want = if *want == "=" { str::from_utf8(line).unwrap_or("no UTF-8") } else { *want };
-        assert_eq!(rt; shown(rt.alloc(), line)?.as_str(), want, "case {place}");
-    }
+    assert_eq!(rt; first_wrong(rt.alloc(), READ)?, None);
     Ok(())
 }
 
@@ -171,18 +191,26 @@ const REFUSED: &[&[u8]] = &[
     b"{\"ops\":[{\"set_node\":1,\"key\":\"k\",\"value\":\"\\x\"}]}",
 ];
 
+/// The place of the first line that is read.
+fn first_read(alloc: Global, lines: &[&[u8]]) -> Result<Option<usize>, Fail> {
+    for (place, line) in lines.iter().enumerate() {
+        if !is_shown(alloc, line, "unreadable")? {
+            return Ok(Some(place));
+        }
+    }
+    Ok(None)
+}
+
 #[test]
 fn other_lines_are_unreadable(rt: HostRuntime) -> Result<(), Fail> {
-    for (place, line) in REFUSED.iter().enumerate() {
-        assert_eq!(rt; shown(rt.alloc(), line)?.as_str(), "unreadable", "case {place}");
-    }
+    assert_eq!(rt; first_read(rt.alloc(), REFUSED)?, None);
     Ok(())
 }
 
 /// A front, and then one byte again and again up to a length.
 fn filled(alloc: Global, front: &str, byte: u8, len: usize) -> Result<Vec<u8>, AllocError> {
     let mut line = Vec::from_slice(alloc, front.as_bytes())?;
-    while line.len() < len {
+    for _ in front.len()..len {
         match line.push(byte) {
             Ok(()) => {}
             Err(_) => return Err(AllocError),
@@ -197,21 +225,45 @@ const LONG: &[(&str, u8, usize, &str)] = &[
     ("{\"ops\":[]}", b' ', 1_048_577, "too long"),
     ("", b'[', 1_048_576, "unreadable"),
     ("", b'[', 1_048_577, "too long"),
-    ("{\"ops\":[{\"set_node\":1,\"key\":\"k\",\"value\":", b'[', 200, "unreadable"),
+    (
+        "{\"ops\":[{\"set_node\":1,\"key\":\"k\",\"value\":",
+        b'[',
+        200,
+        "unreadable",
+    ),
 ];
+
+fn is_filled_shown(alloc: Global, row: &(&str, u8, usize, &str)) -> Result<bool, Fail> {
+    let (front, byte, len, want) = row;
+    let line = filled(alloc, front, *byte, *len)?;
+    is_shown(alloc, line.as_slice(), want)
+}
+
+/// The place of the first row that isn't so.
+fn first_wrong_long(
+    alloc: Global,
+    rows: &[(&str, u8, usize, &str)],
+) -> Result<Option<usize>, Fail> {
+    for (place, row) in rows.iter().enumerate() {
+        if !is_filled_shown(alloc, row)? {
+            return Ok(Some(place));
+        }
+    }
+    Ok(None)
+}
 
 #[test]
 fn long_lines_are_told_apart(rt: HostRuntime) -> Result<(), Fail> {
-    for (front, byte, len, want) in LONG {
-        let line = filled(rt.alloc(), front, *byte, *len)?;
-        assert_eq!(rt; shown(rt.alloc(), line.as_slice())?.as_str(), *want, "{len} bytes");
-    }
+    assert_eq!(rt; first_wrong_long(rt.alloc(), LONG)?, None);
     Ok(())
 }
 
 /// Reads a line whose value is a text of so many bytes.
 fn with_text(alloc: Global, len: usize) -> Result<bool, Fail> {
-    let mut line = String::from_str(alloc, "{\"ops\":[{\"set_node\":1,\"key\":\"k\",\"value\":\"")?;
+    let mut line = String::from_str(
+        alloc,
+        "{\"ops\":[{\"set_node\":1,\"key\":\"k\",\"value\":\"",
+    )?;
     for _ in 0..len {
         line.push('t')?;
     }
@@ -221,7 +273,10 @@ fn with_text(alloc: Global, len: usize) -> Result<bool, Fail> {
 
 #[test]
 fn a_text_has_at_most_65535_bytes(rt: HostRuntime) -> Result<(), Fail> {
-    let read = (with_text(rt.alloc(), 65_535)?, with_text(rt.alloc(), 65_536)?);
+    let read = (
+        with_text(rt.alloc(), 65_535)?,
+        with_text(rt.alloc(), 65_536)?,
+    );
     assert_eq!(rt; read, (true, false));
     Ok(())
 }

@@ -1,4 +1,4 @@
-use Rattle.std.proofs.Common.{◌≡◌, ◌++◌, sym, ap, ◌∙◌}
+use Rattle.std.proofs.Common.{◌++◌, ap, ◌∙◌}
 use Rattle.pgs_json.proofs.Joined.{five_pieces, add_edge_text}
 use Rattle.pgs_json.proofs.canonical.push_add_edge.Goals as goal
 

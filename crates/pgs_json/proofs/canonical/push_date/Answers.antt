@@ -1,4 +1,4 @@
-use Rattle.std.proofs.Common.{◌≡◌, ◌++◌, ap, ◌∙◌}
+use Rattle.std.proofs.Common.{◌++◌, ap, ◌∙◌}
 use Rattle.pgs_json.proofs.Joined.{three_pieces}
 use Rattle.pgs_json.proofs.Days.{short_day, date_text}
 use Rattle.pgs_json.proofs.canonical.push_date.Goals as goal

@@ -1,4 +1,4 @@
-use Rattle.std.proofs.Common.{◌≡◌, ◌++◌, sym, ap, ◌∙◌}
+use Rattle.std.proofs.Common.{◌++◌, sym, ap, ◌∙◌}
 use Rattle.std.specs.Prelude.{codes}
 use Rattle.pgs_json.specs.Pieces.{listed, prop_text}
 use Rattle.pgs_json.proofs.Joined.{three_pieces, props_listed}

@@ -1,4 +1,4 @@
-use Rattle.std.proofs.Common.{◌≡◌, ◌++◌, sym, ap, ◌∙◌}
+use Rattle.std.proofs.Common.{◌++◌, ap, ◌∙◌}
 use Rattle.pgs_json.proofs.Joined.{four_pieces, set_edge_text}
 use Rattle.pgs_json.proofs.canonical.push_set_edge.Goals as goal
 

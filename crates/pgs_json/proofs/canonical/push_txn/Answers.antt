@@ -1,4 +1,4 @@
-use Rattle.std.proofs.Common.{◌≡◌, ◌++◌, sym, ap, ◌∙◌}
+use Rattle.std.proofs.Common.{◌++◌, ap, ◌∙◌}
 use Rattle.pgs_json.proofs.Joined.{three_pieces, txn_text}
 use Rattle.pgs_json.proofs.canonical.push_txn.Goals as goal
 

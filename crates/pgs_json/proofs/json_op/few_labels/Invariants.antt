@@ -5,7 +5,7 @@ use Rattle.std.specs.BTreeSet.{insert_key}
 use Rattle.serde_json.specs.View.{items_view}
 use Rattle.pgs_json.specs.Form.{name_of}
 use Rattle.pgs_json.proofs.FormLoops.{after_items}
-use Rattle.pgs_json.proofs.json_op.some_labels.Given as goal
+use Rattle.pgs_json.proofs.json_op.few_labels.Given as goal
 
 abbrev pub put : List (List ℕ) → List ℕ → List (List ℕ)
 put labels name = insert_key (slice_cmp nat_cmp) labels name
