@@ -1,6 +1,5 @@
 pub mod AtomsOfPaths
 pub mod Backs
-pub mod Causes
 pub mod Computed
 pub mod Each
 pub mod FirstBad
