@@ -97,7 +97,6 @@ fn compiled(alloc: Global, resolved: Resolved) -> Result<Compiled, SchemaUnread>
 
 /// The schema of a text, with its types compiled. `Schema` exactly where `schema_of` of `pgs_resolve` refuses the text, with that
 /// refusal, the first in the order in which they are tested: 19, 10 to 16, 18, 17. `Memory` where there was none left.
-#[tactic(auto, unfolding(Rattle::pgs_resolve::specs::SchemaOf::schema_of, Rattle::pgs_parser::specs::Text::found))]
 pub fn read_schema(alloc: Global, text: &[u8]) -> Result<Compiled, SchemaUnread>
     ensures schema { IfOk result (λ compiled. schema_of text.now ≡ schema compiled) }
     ensures valid { IfOk result (λ compiled. is_valid compiled ≡ true) }
