@@ -1,0 +1,46 @@
+//! The rows of a key: the elements of its scope, each with its key values.
+
+ghost use Rattle.std.specs.Prelude.{◌≡◌, ◌≤◌, true, map, take, IfOk};
+ghost use Rattle.pgs_syntax.specs.KeyValues.{scope_of, key_values};
+ghost use Rattle.pgs_syntax.specs.Valid.{is_valid_key_of};
+ghost use Rattle.pgs_scratch.specs.Rows.{row_of};
+
+use pgs_base::{Elem, Memory, Steps, TupleSet};
+use pgs_conform::Compiled;
+use pgs_graph::GraphRead;
+use pgs_match::{PlannedKey, each_x, key_values};
+use std::alloc::Global;
+use std::sync::ledger::Ledger;
+
+/// An element of a key's scope with its key values.
+#[derive(Drop)]
+pub struct KeyRow {
+    pub elem: Elem,
+    pub tuples: TupleSet,
+}
+
+/// The rows of a key, by ascending element. The key values of each element are searched once.
+pub(crate) fn key_rows<G: GraphRead, L: Ledger>(
+    alloc: Global,
+    graph: &G,
+    compiled: &Compiled,
+    key: &PlannedKey,
+    steps: &mut Steps<L>,
+) -> Result<Vec<KeyRow>, Memory>
+    requires { is_valid_key_of compiled.now key.now ≡ true }
+    ensures rows { IfOk result (λ rows. rows.items
+        ≡ map (row_of (key_values compiled.now (G.meaning graph.now) key.now)) (scope_of compiled.now (G.meaning graph.now) key.now)) }
+    ensures no_step_back { steps.old ≤ steps.new }
+{
+    let scope = each_x(alloc, graph, compiled, key, steps)?;
+    let mut rows = Vec::with_capacity(alloc, scope.len())?;
+    let elems = scope.as_slice();
+    for elem in elems {
+        let tuples = key_values(alloc, graph, compiled, key, *elem, steps)?;
+        rows.push(KeyRow {
+            elem: *elem,
+            tuples,
+        })?;
+    }
+    Ok(rows)
+}

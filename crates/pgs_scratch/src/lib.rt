@@ -1,0 +1,14 @@
+//! The violations of a graph under a schema, found from scratch, over any graph that is read by `GraphRead`.
+//!
+//! [`violations`] gives the whole list, as it is defined in `pgs_violation`; `specs/Rows.antt` says how the part of one key comes from the rows of its scope, and `specs/Owners.antt` how
+//! elements that share a key value are found by one table from tuples to elements.
+#![tactic(auto)]
+
+mod finding;
+mod key_row;
+mod listing;
+mod owners;
+mod row_violations;
+mod untyped;
+
+pub use listing::violations;

@@ -1,0 +1,109 @@
+//! Rows that share a key value, by one table from each tuple to the first of the later rows that has it.
+
+ghost use Rattle.std.specs.Prelude.{◌≡◌, ◌++◌, true, [], Some, None, List as Items, map, reverse, option_map, cond, IfOk, OnOk};
+ghost use Rattle.std.specs.BTreeMap as tree;
+ghost use Rattle.std.specs.List.{list_any};
+ghost use Rattle.pgs_base.specs.declared.part.Part.{Part};
+ghost use Rattle.pgs_base.specs.Order.{ascends, elem_cmp, tuple_cmp};
+ghost use Rattle.pgs_violation.specs.declared.violation.Violation.TheVariants.{Exclusive};
+ghost use Rattle.pgs_scratch.specs.declared.key_row.KeyRow.{KeyRow as Row};
+ghost use Rattle.pgs_scratch.specs.Owners.{nearer, nearest, with_tuple};
+ghost use Rattle.pgs_scratch.specs.Rows.{shared_values};
+
+use crate::finding::add;
+use crate::key_row::KeyRow;
+use pgs_base::{Copyable, Elem, Memory, Tuple};
+use pgs_violation::Violation;
+use std::alloc::Global;
+use std::collections::BTreeMap;
+
+// Of what was found, an element with a tuple, and the owner of a further tuple, the one with the lesser element.
+fn nearer<'a>(
+    found: Option<(Elem, &'a Tuple)>,
+    owner: Option<Elem>,
+    tuple: &'a Tuple,
+) -> Option<(Elem, &'a Tuple)>
+    ensures { option_map with_tuple result ≡ nearer (option_map with_tuple found.entry) owner tuple.now }
+{
+    let Some(elem) = owner else {
+        return found;
+    };
+    match found {
+        Some(sharer) => {
+            if elem < sharer.0 {
+                Some((elem, tuple))
+            } else {
+                Some(sharer)
+            }
+        }
+        None => Some((elem, tuple)),
+    }
+}
+
+// The nearest owner of some of the tuples, with the first tuple that it has.
+fn nearest<'a>(table: &BTreeMap<&'a Tuple, Elem>, tuples: &'a [Tuple]) -> Option<(Elem, &'a Tuple)>
+    ensures { option_map with_tuple result ≡ nearest (λ q. tree.get_by (λ k. tuple_cmp q k.now) table.now) None tuples.now }
+{
+    let mut found = None;
+    for tuple in tuples {
+        let owner = table.get(&tuple).copied();
+        found = nearer(found, owner, tuple);
+    }
+    found
+}
+
+// 29 for a row, by the table of the rows after it.
+fn first_sharer<'a>(
+    alloc: Global,
+    number: u32,
+    row: &'a KeyRow,
+    table: &BTreeMap<&'a Tuple, Elem>,
+) -> Result<Option<Violation>, Memory>
+    ensures { IfOk result (λ found. found ≡ option_map (λ sharer. Exclusive number row.now.elem sharer.0 sharer.1)
+        (nearest (λ q. tree.get_by (λ k. tuple_cmp q k.now) table.now) None row.now.tuples)) }
+{
+    match nearest(table, row.tuples.as_slice()) {
+        Some((second, tuple)) => {
+            let tuple = tuple.copy(alloc)?;
+            Ok(Some(Violation::Exclusive {
+                key: number,
+                first: row.elem,
+                second,
+                tuple,
+            }))
+        }
+        None => Ok(None),
+    }
+}
+
+// Makes a row the owner of each of its tuples.
+fn enter<'a>(table: &mut BTreeMap<&'a Tuple, Elem>, row: &'a KeyRow) -> Result<(), Memory>
+    ensures { OnOk result ((q : Items Part) → tree.get_by (λ k. tuple_cmp q k.now) table.new
+        ≡ cond (list_any (tree.is_at (tuple_cmp q)) row.now.tuples) (Some row.now.elem) (tree.get_by (λ k. tuple_cmp q k.now) table.old)) }
+{
+    for tuple in row.tuples.as_slice() {
+        table.insert(tuple, row.elem)?;
+    }
+    Ok(())
+}
+
+/// 29 for each row that shares a key value with a later one, the last first. The rows ascend. One table serves all rows: it is gone
+/// through from the last row, and has the owners among the rows after.
+pub(crate) fn shared_values(
+    alloc: Global,
+    number: u32,
+    rows: &[KeyRow],
+) -> Result<Vec<Violation>, Memory>
+    requires { ascends elem_cmp (map (λ (row : Row). row.elem) rows.now) ≡ true }
+    ensures { IfOk result (λ found. reverse found.items ≡ shared_values number rows.now) }
+{
+    let mut table = BTreeMap::new(alloc);
+    let mut found = Vec::new(alloc);
+    for place in (0..rows.len()).rev() {
+        let row = &rows[place];
+        let violation = first_sharer(alloc, number, row, &table)?;
+        add(&mut found, violation)?;
+        enter(&mut table, row)?;
+    }
+    Ok(found)
+}
