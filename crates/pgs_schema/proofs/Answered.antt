@@ -4,7 +4,7 @@ use Rattle.std.proofs.lemmas.Bool.{le-leb, lt-leb}
 use Rattle.pgs_lexer.specs.Cut.{tokens_of}
 use Rattle.pgs_lexer.specs.Token.{Lexeme}
 use Rattle.pgs_parser.specs.StatementReaders.{script_of}
-use Rattle.pgs_parser.specs.Text.{found_in, found, too_long}
+use Rattle.pgs_parser.specs.Text.{found_in, found, too_long, no_statement, script as found_script}
 use Rattle.pgs_resolve.specs.Resolution.{resolution}
 use Rattle.pgs_resolve.specs.SchemaOf.{Answer, answer_of_finding, answer_of_script, answer_of_schema, schema_of, longer_than_allowed, schema}
 use Rattle.pgs_syntax.specs.declared.resolved.Resolved.{Resolved}
@@ -25,7 +25,7 @@ of_tokens text tokens short e = of_short text short ∙ ap (λ found. answer_of_
 
 pub of_script : (text : List ℕ) (tokens : List Lexeme) (script : Script) → length text ≤ 1048576 → tokens_of text ≡ Ok tokens
     → script_of tokens ≡ Ok script → schema_of text ≡ answer_of_script (resolution script)
-of_script text tokens script short e read = of_tokens text tokens short e ∙ rw read refl
+of_script text tokens script short e read = of_tokens text tokens short e ∙ ap (λ read. answer_of_finding (elim read [ Ok tree ↦ found_script tree | Err n ↦ no_statement n ])) read
 
 pub of_resolved : (text : List ℕ) (tokens : List Lexeme) (script : Script) (resolved : Resolved) → length text ≤ 1048576
     → tokens_of text ≡ Ok tokens → script_of tokens ≡ Ok script → resolution script ≡ Ok resolved

@@ -1,5 +1,6 @@
-use Rattle.std.proofs.Common.{rules, ◌≡◌, ◌≤◌, List, length, arith, refl, sym, ◌∙◌, ap, subst}
-use Rattle.std.proofs.lemmas.Result.{err_from_is_err_and}
+use Rattle.std.proofs.Common.{rules, ◌≡◌, ◌≤◌, List, length, arith, true, ◌∙◌, ap}
+use Rattle.std.proofs.lemmas.Result.{IfOk-weaker}
+use Rattle.pgs_syntax.specs.Valid.{is_valid}
 use Rattle.pgs_resolve.specs.SchemaOf.{Answer}
 use Rattle.pgs_schema.specs.Told.{IsRefused}
 use Rattle.pgs_schema.proofs.Answered.{of_long, of_short, of_tokens, of_script, of_resolved, of_narrow}
@@ -26,7 +27,9 @@ returns-clause-schema c =
     (search (rules, of_narrow))
 
 pub returns-clause-valid : goal.returns-clause-valid
-returns-clause-valid c = search (rules, c.in_ok-resolved.ensures.valid _ c.in_ok-script.ensures.script)
+returns-clause-valid c =
+    let valid = c.in_ok-resolved.ensures.valid _ c.in_ok-script.ensures.script in
+    IfOk-weaker c.compiled.result (λ compiled. compiled ≡ c.in_ok-resolved.resolved) (λ compiled. is_valid compiled ≡ true) (λ compiled kept. ap is_valid kept ∙ valid) c.compiled.ensures.kept
 
 pub returns-clause-refused : goal.returns-clause-refused
 returns-clause-refused c =
