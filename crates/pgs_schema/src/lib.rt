@@ -6,6 +6,8 @@
 
 mod fault;
 mod reading;
+mod schema;
 
 pub use fault::{SchemaFault, SchemaUnread};
 pub use reading::read_schema;
+pub use schema::Schema;
