@@ -1,0 +1,32 @@
+-- What the making of an overlay costs at most.
+use Rattle.std.proofs.Common.{◌≡◌, ℕ, ◌+◌, ◌*◌, ◌≤◌, Bool, true, false, ◌||◌, List, Option, ap, subst, refl, sym, ◌∙◌, arith, length}
+use Rattle.std.specs.List.{list_any}
+use Rattle.std.specs.Map.{keys_of}
+use Rattle.std.specs.BTreeMap.{is_at}
+use Rattle.std.proofs.Math.Nat.{mul-le-mul_right}
+use Rattle.pgs_base.specs.declared.element.NodeId.{NodeId}
+use Rattle.pgs_base.specs.declared.element.EdgeId.{EdgeId}
+use Rattle.pgs_base.specs.declared.row.EdgeRow.{EdgeRow}
+use Rattle.pgs_base.specs.Graph.{Graph, node_cmp}
+use Rattle.pgs_graph.specs.declared.delta.Delta.{Delta}
+use Rattle.pgs_tables.specs.Adjacency.{ends_here}
+use Rattle.pgs_overlay.specs.Passed.{HasFew}
+use Rattle.pgs_overlay.specs.Standing.{HasDegreesWithin}
+use Rattle.pgs_overlay.proofs.Looping.{or_right}
+
+pub cost_bound : (most nodes edges : ℕ) → (8 * most + 13) * edges + nodes + edges ≤ 16 * (nodes + edges + 1) * (most + 2)
+cost_bound most nodes edges =
+    let whole : 16 * (nodes + edges + 1) * (most + 2) ≡ (16 * most + 32) * nodes + (16 * most + 32) * edges + (16 * most + 32) = grind arith in
+    let split : (8 * most + 14) * edges ≡ (8 * most + 13) * edges + edges = grind arith in
+    let one : 1 * nodes ≡ nodes = omega arith in
+    let for_edges : (8 * most + 14) * edges ≤ (16 * most + 32) * edges = mul-le-mul_right edges (omega arith) in
+    let for_nodes : 1 * nodes ≤ (16 * most + 32) * nodes = mul-le-mul_right nodes (omega arith) in
+    omega (arith, whole, split, one, for_edges, for_nodes)
+
+-- a node that has few edges has few on each side
+pub few_touched : (g : Graph) (delta : Delta) (most : ℕ) → HasDegreesWithin g delta most → (edges : List (EdgeId × Option EdgeRow)) → edges ≡ delta.edges
+    → (id : NodeId) → list_any (ends_here g id) edges ≡ true → HasFew g most id
+few_touched g delta most within edges is id here =
+    let le = within id (or_right (list_any (is_at (node_cmp id)) (keys_of delta.nodes)) (list_any (ends_here g id) delta.edges)
+    (ap (list_any (ends_here g id)) (sym is) ∙ here)) in
+    record { outgoing = omega (arith, le); incoming = omega (arith, le) }

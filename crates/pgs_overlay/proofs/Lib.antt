@@ -1,0 +1,10 @@
+pub mod Before
+pub mod Costs
+pub mod Edits
+pub mod Lists
+pub mod Looping
+pub mod Passing
+pub mod Reading
+pub mod Searching
+pub mod Standing
+pub mod Taking

@@ -1,0 +1,11 @@
+use Rattle.std.proofs.Common.{◌≡◌, ◌+◌, ◌≤◌, length, take}
+use Rattle.pgs_base.specs.Graph.{node_cmp}
+use Rattle.pgs_graph.specs.Changed.{entries_changed}
+use Rattle.pgs_overlay.proofs.counting.count_nodes.Given as goal
+
+abbrev pub invariant-loop-change : goal.invariant-loop-change
+invariant-loop-change g l = record {
+  count : l.count + length (g.B.GraphRead.meaning l.base).nodes ≡ l.initial.count + length (entries_changed node_cmp (g.B.GraphRead.meaning l.base).nodes (take l.change-index l.changes));
+  never_back : l.initial.steps ≤ l.steps;
+  cost : l.steps ≤ l.initial.steps + l.change-index;
+}

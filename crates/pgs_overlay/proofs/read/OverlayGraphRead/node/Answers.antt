@@ -1,0 +1,32 @@
+use Rattle.std.proofs.Common.{◌∙◌, sym, ap}
+use Rattle.std.specs.Map.{lookup}
+use Rattle.std.specs.BTreeMap.{is_at}
+use Rattle.pgs_base.specs.Graph.{node_cmp, node_at}
+use Rattle.pgs_graph.proofs.Deltas.{ascending_changed_nodes}
+use Rattle.pgs_overlay.proofs.Reading.{node_kept, node_put}
+use Rattle.pgs_overlay.proofs.read.OverlayGraphRead.node.Goals as goal
+
+pub change_of-requires : goal.change_of-requires
+change_of-requires g c =
+    rw c.as_slice.ensures (ascending_changed_nodes (g.B.GraphRead.meaning c.self.inside.base.now) c.self.inside.delta.now c.self.invariant.sound)
+
+pub returns-in_default-clause-value : goal.returns-in_default-clause-value
+returns-in_default-clause-value g c =
+    c.node.ensures.value
+    ∙ node_kept (g.B.GraphRead.meaning c.self.inside.base.now) c.self.inside.delta.now c.self.invariant.graph c.self.invariant.sound
+    c.args.id (ap (lookup (is_at (node_cmp c.args.id))) (sym c.as_slice.ensures) ∙ sym c.in_default.ensures)
+    ∙ ap (λ h. node_at h c.args.id) c.self.view_is
+
+pub returns-in-Some-change-clause-value : goal.returns-in-Some-change-clause-value
+returns-in-Some-change-clause-value g c =
+    sym c.in-Some-change.is
+    ∙ node_put (g.B.GraphRead.meaning c.self.inside.base.now) c.self.inside.delta.now c.self.invariant.graph c.self.invariant.sound
+    c.args.id c.in-Some.change.now (ap (lookup (is_at (node_cmp c.args.id))) (sym c.as_slice.ensures) ∙ sym c.in-Some.ensures)
+    ∙ ap (λ h. node_at h c.args.id) c.self.view_is
+
+pub returns-in-None-clause-value : goal.returns-in-None-clause-value
+returns-in-None-clause-value g c =
+    sym c.in-None.is
+    ∙ node_put (g.B.GraphRead.meaning c.self.inside.base.now) c.self.inside.delta.now c.self.invariant.graph c.self.invariant.sound
+    c.args.id c.in-Some.change.now (ap (lookup (is_at (node_cmp c.args.id))) (sym c.as_slice.ensures) ∙ sym c.in-Some.ensures)
+    ∙ ap (λ h. node_at h c.args.id) c.self.view_is

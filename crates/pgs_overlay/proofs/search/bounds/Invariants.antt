@@ -1,0 +1,19 @@
+use Rattle.std.proofs.Common.{ℕ, ◌+◌, ◌-◌, ◌≤◌, length}
+use Rattle.pgs_base.specs.declared.element.EdgeId.{EdgeId}
+use Rattle.pgs_edges.specs.Numbers.{AllBelow}
+use Rattle.pgs_overlay.specs.Sides.{edges_at}
+use Rattle.pgs_overlay.proofs.search.bounds.Given as goal
+
+abbrev pub invariant-loop-side : goal.invariant-loop-side
+invariant-loop-side g l = record {
+  in_range : l.low ≤ length (edges_at l.side l.id (g.B.GraphRead.meaning l.base).edges);
+  lower : AllBelow l.edge (edges_at l.side l.id (g.B.GraphRead.meaning l.base).edges) l.low;
+  forward : l.from ≤ l.low;
+  some : 1 ≤ l.step;
+  step : l.step + l.from ≤ l.low + 1;
+  never_back : l.initial.steps ≤ l.steps;
+  cost : l.steps + l.from ≤ l.initial.steps + l.low;
+}
+
+abbrev pub decreases-loop-side : goal.decreases-loop-side
+decreases-loop-side g l = l.limit - l.low

@@ -1,0 +1,19 @@
+use Rattle.std.proofs.Common.{ℕ, ◌+◌, ◌-◌, ◌≤◌, length}
+use Rattle.pgs_base.specs.declared.element.EdgeId.{EdgeId}
+use Rattle.pgs_edges.specs.Numbers.{AllBelow}
+use Rattle.pgs_overlay.specs.Found.{AllFrom}
+use Rattle.pgs_overlay.specs.Sides.{edges_at}
+use Rattle.pgs_overlay.proofs.search.halved.Given as goal
+
+abbrev pub invariant-loop-low : goal.invariant-loop-low
+invariant-loop-low g l = record {
+  in_range : l.low ≤ length (edges_at l.side l.id (g.B.GraphRead.meaning l.base).edges);
+  order : l.low ≤ l.high;
+  lower : AllBelow l.edge (edges_at l.side l.id (g.B.GraphRead.meaning l.base).edges) l.low;
+  upper : AllFrom l.edge (edges_at l.side l.id (g.B.GraphRead.meaning l.base).edges) l.high;
+  never_back : l.initial.steps ≤ l.steps;
+  cost : l.steps + l.initial.low + l.high ≤ l.initial.steps + l.initial.high + l.low;
+}
+
+abbrev pub decreases-loop-low : goal.decreases-loop-low
+decreases-loop-low g l = l.high - l.low

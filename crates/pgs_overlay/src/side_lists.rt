@@ -1,0 +1,131 @@
+//! The lists of one side of the nodes at which a delta's edges stand, edited edge by edge.
+
+ghost use Rattle.std.specs.Prelude.{◌≡◌, ◌+◌, ◌*◌, ◌≤◌, ℕ, true, false, ◌&&◌, length, option_map, OnOk, IfSome};
+ghost use Rattle.std.specs.List.{list_any};
+ghost use Rattle.std.specs.List.Sorted.{IsStrictlySortedBy};
+ghost use Rattle.std.specs.Map.{keys_of, remove_entry};
+ghost use Rattle.std.specs.BTreeMap.{is_at};
+ghost use Rattle.pgs_base.specs.declared.element.NodeId.{NodeId};
+ghost use Rattle.pgs_base.specs.Graph.{Graph, node_cmp, edge_cmp, edge_at, is_graph};
+ghost use Rattle.pgs_graph.specs.Reads.{end_of};
+ghost use Rattle.pgs_overlay.specs.Passed.{list_at, is_here, AreReady, FollowsChange, IsEditAt, IsListOf, IsReadyAt};
+ghost use Rattle.pgs_overlay.specs.Sides.{end_at, edges_at};
+
+use crate::edit::{put_edge_in, take_edge_out};
+use crate::edited_list::EditedList;
+use crate::side::Side;
+use pgs_base::{EdgeId, Memory, NodeId, Steps};
+use pgs_graph::GraphRead;
+use std::alloc::Global;
+use std::collections::BTreeMap;
+use std::sync::ledger::Ledger;
+
+// Takes the list of a node out of the map, to edit it: what is kept, and else the base's list as it is.
+fn take_list(
+    lists: &mut BTreeMap<NodeId, EditedList>,
+    alloc: Global,
+    id: NodeId,
+) -> EditedList
+    ensures list { IsListOf (list_at lists.old.entries id) result }
+    ensures entries { lists.new.entries ≡ remove_entry (is_at (node_cmp id)) lists.old.entries }
+    ensures ascending { IsStrictlySortedBy node_cmp (keys_of lists.old.entries) }
+{
+    let _ascending = lists.len();
+    match lists.remove(&id) {
+        Some(list) => list,
+        None => EditedList::new(alloc),
+    }
+}
+
+// Takes an edge out of the list of its old end, where it had one.
+fn take_out<B: GraphRead, L: Ledger>(
+    lists: &mut BTreeMap<NodeId, EditedList>,
+    alloc: Global,
+    base: &B,
+    side: Side,
+    end: Option<NodeId>,
+    edge: EdgeId,
+    steps: &mut Steps<L>,
+) -> Result<(), Memory>
+    requires ready { IfSome end (λ id. IsReadyAt edge (edges_at side id (B.meaning base.now).edges) (list_at lists.old.entries id)) }
+    requires there { IfSome end (λ id. list_any (is_at (edge_cmp edge)) (edges_at side id (B.meaning base.now).edges) ≡ true) }
+    ensures taken { OnOk result ((id : NodeId) → IsEditAt (edges_at side id (B.meaning base.now).edges) edge true false (is_here id end)
+        (list_at lists.old.entries id) (list_at lists.new.entries id)) }
+    ensures never_back { steps.old ≤ steps.new }
+    ensures cost { (most : ℕ) → IfSome end (λ id. length (edges_at side id (B.meaning base.now).edges) ≤ most) →
+        steps.new ≤ steps.old + 2 * most + 3 }
+{
+    let Some(id) = end else {
+        return Ok(());
+    };
+    let mut list = take_list(lists, alloc, id);
+    take_edge_out(&mut list, base, side, id, edge, steps)?;
+    lists.insert(id, list)?;
+    Ok(())
+}
+
+// Puts an edge into the list of its new end, where it has one.
+fn put_in<B: GraphRead, L: Ledger>(
+    lists: &mut BTreeMap<NodeId, EditedList>,
+    alloc: Global,
+    base: &B,
+    side: Side,
+    end: Option<NodeId>,
+    edge: EdgeId,
+    steps: &mut Steps<L>,
+) -> Result<(), Memory>
+    requires ready { IfSome end (λ id. IsReadyAt edge (edges_at side id (B.meaning base.now).edges) (list_at lists.old.entries id)) }
+    requires absent { IfSome end (λ id. list_any (is_at (edge_cmp edge)) (edges_at side id (B.meaning base.now).edges) ≡ false) }
+    ensures put { OnOk result ((id : NodeId) → IsEditAt (edges_at side id (B.meaning base.now).edges) edge false true (is_here id end)
+        (list_at lists.old.entries id) (list_at lists.new.entries id)) }
+    ensures never_back { steps.old ≤ steps.new }
+    ensures cost { (most : ℕ) → IfSome end (λ id. length (edges_at side id (B.meaning base.now).edges) ≤ most) →
+        steps.new ≤ steps.old + 2 * most + 3 }
+{
+    let Some(id) = end else {
+        return Ok(());
+    };
+    let mut list = take_list(lists, alloc, id);
+    put_edge_in(&mut list, base, side, id, edge, steps)?;
+    lists.insert(id, list)?;
+    Ok(())
+}
+
+// Whether two ends are one node.
+fn are_same(first: Option<NodeId>, second: Option<NodeId>) -> bool
+    ensures same { result ≡ true → first ≡ second }
+    ensures apart { result ≡ false → (id : NodeId) → (is_here id first && is_here id second) ≡ false }
+{
+    match (first, second) {
+        (Some(first), Some(second)) => first.0 == second.0,
+        _ => false,
+    }
+}
+
+/// Edits the lists of one side for an edge that the delta changes: it is taken out at its old end, and put in at its new one.
+pub(crate) fn edit_side<B: GraphRead, L: Ledger>(
+    lists: &mut BTreeMap<NodeId, EditedList>,
+    alloc: Global,
+    base: &B,
+    side: Side,
+    ends: (Option<NodeId>, Option<NodeId>),
+    edge: EdgeId,
+    steps: &mut Steps<L>,
+) -> Result<(), Memory>
+    requires graph { is_graph (B.meaning base.now) ≡ true }
+    requires ready { AreReady edge side (B.meaning base.now) lists.old.entries }
+    requires old_end { ends.0 ≡ option_map (end_of (end_at side)) (edge_at (B.meaning base.now) edge) }
+    ensures edited { OnOk result ((id : NodeId) → FollowsChange (edges_at side id (B.meaning base.now).edges) edge
+        (is_here id ends.0) (is_here id ends.1) (list_at lists.old.entries id) (list_at lists.new.entries id)) }
+    ensures never_back { steps.old ≤ steps.new }
+    ensures cost { (most : ℕ) → IfSome ends.0 (λ id. length (edges_at side id (B.meaning base.now).edges) ≤ most) →
+        IfSome ends.1 (λ id. length (edges_at side id (B.meaning base.now).edges) ≤ most) → steps.new ≤ steps.old + 4 * most + 6 }
+{
+    let (old, new) = ends;
+    if are_same(old, new) {
+        return Ok(());
+    }
+    take_out(lists, alloc, base, side, old, edge, steps)?;
+    put_in(lists, alloc, base, side, new, edge, steps)?;
+    Ok(())
+}
