@@ -20,9 +20,13 @@ pub struct Schema {
 }
 
 impl Model for Schema {
+    ghost use Rattle.std.specs.Coded.{codes};
+    ghost use Rattle.pgs_syntax.specs.contracts.resolved.Resolved as schemas;
     ghost use Rattle.pgs_schema.specs.State.{SchemaState, IsSchema};
 
     ghost Value = { SchemaState };
+
+    ghost coded = { Prim.hlevel (codes, schemas.the_row.coded) };
 
     ghost view = { λ schema. record { text = schema.text; resolved = schema.compiled } };
 
