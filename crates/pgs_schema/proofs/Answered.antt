@@ -1,12 +1,12 @@
 -- The answer to a text, step by step as it is read.
-use Rattle.std.proofs.Common.{◌≡◌, ℕ, ◌<◌, ◌≤◌, List, length, Result, Ok, Err, refl, sym, ◌∙◌, ap, Bool, true, false, cond, Option, Some, None}
+use Rattle.std.proofs.Common.{◌≡◌, ℕ, ◌<◌, ◌≤◌, List, length, Ok, Err, refl, ◌∙◌, ap, cond, None}
 use Rattle.std.proofs.lemmas.Bool.{le-leb, lt-leb}
 use Rattle.pgs_lexer.specs.Cut.{tokens_of}
 use Rattle.pgs_lexer.specs.Token.{Lexeme}
 use Rattle.pgs_parser.specs.StatementReaders.{script_of}
 use Rattle.pgs_parser.specs.Text.{found_in, found, too_long, no_statement, script as found_script}
 use Rattle.pgs_resolve.specs.Resolution.{resolution}
-use Rattle.pgs_resolve.specs.SchemaOf.{Answer, answer_of_finding, answer_of_script, answer_of_schema, schema_of, longer_than_allowed, schema}
+use Rattle.pgs_resolve.specs.SchemaOf.{answer_of_finding, answer_of_script, answer_of_schema, schema_of, longer_than_allowed, schema}
 use Rattle.pgs_syntax.specs.declared.resolved.Resolved.{Resolved}
 use Rattle.pgs_syntax.specs.declared.script.Script.{Script}
 use Rattle.pgs_syntax.specs.Width.{first_too_wide}

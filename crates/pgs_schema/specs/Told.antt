@@ -1,9 +1,8 @@
 -- What a refusal of a schema text says of it.
-use Rattle.std.specs.Prelude.{◌≡◌, List, ℕ}
-use Rattle.pgs_parser.specs.Text.{Found, found, too_long, no_item, no_statement}
+use Rattle.std.specs.Prelude.{◌≡◌}
 use Rattle.pgs_resolve.specs.declared.fault.ResolveFault.{ResolveFault}
 use Rattle.pgs_resolve.specs.declared.fault.ResolveFault.TheVariants as faults
-use Rattle.pgs_resolve.specs.SchemaOf.{Answer, longer_than_allowed, begins_no_item, is_no_statement, refused, has_wide_type, schema_of}
+use Rattle.pgs_resolve.specs.SchemaOf.{Answer, longer_than_allowed, begins_no_item, is_no_statement, refused, has_wide_type}
 use Rattle.pgs_schema.specs.declared.fault.SchemaFault.{SchemaFault}
 use Rattle.pgs_schema.specs.declared.fault.SchemaFault.TheVariants as schema_faults
 use Rattle.pgs_schema.specs.declared.fault.SchemaUnread.{SchemaUnread}

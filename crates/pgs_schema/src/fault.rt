@@ -36,6 +36,11 @@ pub enum SchemaUnread {
 }
 
 impl From<Memory> for SchemaUnread {
+    ghost use Rattle.std.specs.Prelude.{◌≡◌};
+    ghost use Rattle.pgs_schema.specs.declared.fault.SchemaUnread.TheVariants as faults;
+
+    ghost from_gives = { λ _ e. e ≡ faults.Memory };
+
     fn from(_: Memory) -> SchemaUnread {
         SchemaUnread::Memory
     }

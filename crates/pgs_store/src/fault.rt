@@ -15,6 +15,11 @@ pub enum GuardRefusal {
 }
 
 impl From<Memory> for GuardRefusal {
+    ghost use Rattle.std.specs.Prelude.{◌≡◌};
+    ghost use Rattle.pgs_store.specs.declared.fault.GuardRefusal.TheVariants as faults;
+
+    ghost from_gives = { λ _ e. e ≡ faults.Memory };
+
     fn from(_: Memory) -> GuardRefusal {
         GuardRefusal::Memory
     }

@@ -1,8 +1,6 @@
-use Rattle.std.proofs.Common.{rules, ◌≡◌, ◌≤◌, List, length, arith, true, ◌∙◌, ap}
+use Rattle.std.proofs.Common.{rules, ◌≡◌, arith, true, ◌∙◌, ap}
 use Rattle.std.proofs.lemmas.Result.{IfOk-weaker}
 use Rattle.pgs_syntax.specs.Valid.{is_valid}
-use Rattle.pgs_resolve.specs.SchemaOf.{Answer}
-use Rattle.pgs_schema.specs.Told.{IsRefused}
 use Rattle.pgs_schema.proofs.Answered.{of_long, of_short, of_tokens, of_script, of_resolved, of_narrow}
 use Rattle.pgs_schema.proofs.reading.read_schema.Goals as goal
 
