@@ -1,3 +1,1 @@
-pub mod Decided
-pub mod Firsts
 pub mod Opened

@@ -18,7 +18,10 @@ none_last true = refl
 none_last false = refl
 
 no_key_violated : (resolved : Resolved) (number : ℕ) (key : Key) → key_violations resolved empty_graph number key ≡ []
-no_key_violated resolved number key = none_asked key.qualifiers.mandatory _ ∙ none_asked key.qualifiers.singleton _ ∙ none_last key.qualifiers.exclusive
+no_key_violated resolved number key =
+    ap (λ found. found ++ where_asked key.qualifiers.exclusive [])
+    (none_asked key.qualifiers.mandatory (where_asked key.qualifiers.singleton []) ∙ none_last key.qualifiers.singleton)
+    ∙ none_last key.qualifiers.exclusive
 
 no_keys_violated : (resolved : Resolved) (number : ℕ) (keys : List Key) → keys_violations resolved empty_graph number keys ≡ []
 no_keys_violated resolved number [] = refl
