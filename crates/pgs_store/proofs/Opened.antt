@@ -6,7 +6,7 @@ use Rattle.pgs_syntax.specs.declared.key.Key.{Key}
 use Rattle.pgs_syntax.specs.declared.resolved.Resolved.{Resolved}
 use Rattle.pgs_violation.specs.declared.violation.Verdict.TheVariants.{Conforms}
 use Rattle.pgs_violation.specs.declared.violation.Violation.{Violation}
-use Rattle.pgs_violation.specs.Violations.{where_asked, key_violations, keys_violations, violations, first_of, verdict}
+use Rattle.pgs_violation.specs.Violations.{where_asked, key_violations, keys_violations, first_of, verdict}
 use Rattle.pgs_store.specs.State.{IsGuarded}
 
 none_asked : (asked : Bool) (rest : List Violation) → where_asked asked [] ++ rest ≡ rest
