@@ -1,0 +1,11 @@
+-- What a refusal of a transaction says of the decision on it.
+use Rattle.std.specs.Prelude.{◌≡◌, Result, Err}
+use Rattle.pgs_base.specs.Graph.{Graph}
+use Rattle.pgs_violation.specs.declared.rejection.Rejection.{Rejection}
+use Rattle.pgs_store.specs.declared.fault.GuardRefusal.{GuardRefusal}
+use Rattle.pgs_store.specs.declared.fault.GuardRefusal.TheVariants.{Memory, Rejected}
+
+-- a transaction is rejected as it is decided; want of memory says nothing of it
+abbrev pub IsRejected : Result Graph Rejection → GuardRefusal → Type 0
+IsRejected decision Memory = Unit {0}
+IsRejected decision (Rejected rejection) = decision ≡ Err rejection

@@ -1,0 +1,20 @@
+-- What contracts see of a guard, and what holds of every guard.
+use Rattle.std.specs.Prelude.{◌≡◌, ◌≤◌, ℕ, List}
+use Rattle.pgs_base.specs.declared.limits.Limits.{Limits}
+use Rattle.pgs_base.specs.Graph.{Graph, element_count}
+use Rattle.pgs_syntax.specs.declared.resolved.Resolved.{Resolved}
+use Rattle.pgs_violation.specs.declared.violation.Verdict.TheVariants.{Conforms}
+use Rattle.pgs_violation.specs.Violations.{verdict}
+
+-- the schema's text and the schema, the limits, the graph, and how many transactions were accepted
+pub record GuardState : Type 0 where
+  pub text : List ℕ
+  pub schema : Resolved
+  pub limits : Limits
+  pub graph : Graph
+  pub commits : ℕ
+
+-- the graph conforms to the schema and is within the limits
+pub record IsGuarded (schema : Resolved) (limits : Limits) (graph : Graph) : Type 0 where
+  pub conforms : verdict schema graph ≡ Conforms
+  pub within : element_count graph ≤ limits.elements

@@ -1,0 +1,169 @@
+ghost use Rattle.std.specs.Prelude.{◌≡◌, ◌+◌, ◌<◌, ◌≤◌, true, Ok, IfOk, IfErr, OnOk, OnErr};
+ghost use Rattle.pgs_base.specs.Graph.{empty_graph};
+ghost use Rattle.pgs_graph.specs.Changed.{changed, is_sound};
+ghost use Rattle.pgs_resolve.specs.SchemaOf.{schema, schema_of};
+ghost use Rattle.pgs_schema.specs.Told.{IsRefused};
+ghost use Rattle.pgs_violation.specs.Decision.{decide};
+ghost use Rattle.pgs_violation.specs.Violations.{verdict};
+ghost use Rattle.pgs_store.specs.Refused.{IsRejected};
+ghost use Rattle.pgs_store.specs.State.{IsGuarded};
+
+use crate::judging::judge;
+use crate::{GuardFault, GuardRefusal};
+use pgs_base::{Limits, Seed, Steps};
+use pgs_conform::Compiled;
+use pgs_graph::{Delta, Txn};
+use pgs_schema::Schema;
+use pgs_tables::Tables;
+use pgs_txn::{StageFault, stage};
+use pgs_violation::Rejection;
+use std::alloc::Global;
+use std::marker::Model;
+use std::sync::ledger::Ledger;
+
+/// A graph under a schema and limits, which it never breaks: transactions change it, and each that would break them is rejected.
+/// Contracts see the schema's text, the schema, the limits, the graph, and how many transactions were accepted.
+#[derive(Drop)]
+pub struct Guard {
+    alloc: Global,
+    schema: Schema,
+    limits: Limits,
+    graph: Tables,
+    commits: u64,
+}
+
+impl Model for Guard {
+    ghost use Rattle.std.specs.Coded.{codes};
+    ghost use Rattle.pgs_syntax.specs.contracts.resolved.Resolved as schemas;
+    ghost use Rattle.pgs_store.specs.State.{GuardState, IsGuarded};
+
+    ghost Value = { GuardState };
+
+    ghost coded = { Prim.hlevel (codes, schemas.the_row.coded) };
+
+    ghost view = { λ guard. record {
+        text = guard.schema.text;
+        schema = guard.schema.resolved;
+        limits = guard.limits;
+        graph = guard.graph.graph;
+        commits = guard.commits;
+    } };
+
+    ghost invariant = { λ guard. IsGuarded guard.schema.resolved guard.limits guard.graph.graph };
+}
+
+impl Guard {
+    /// The guard of an empty graph under the schema of a text. Where the text is no schema it is refused as by
+    /// `pgs_schema::read_schema`: 19 first, then 10 to 16, 18 and 17. `Memory` where there was none left.
+    pub fn new(alloc: Global, text: &[u8], limits: Limits) -> Result<Guard, GuardFault>
+        ensures text { IfOk result (λ guard. guard.text ≡ text.now) }
+        ensures schema { IfOk result (λ guard. schema_of text.now ≡ schema guard.schema) }
+        ensures limits { IfOk result (λ guard. guard.limits ≡ limits) }
+        ensures empty { IfOk result (λ guard. guard.graph ≡ empty_graph) }
+        ensures commits { IfOk result (λ guard. guard.commits ≡ 0) }
+        ensures refused { IfErr result (IsRefused (schema_of text.now)) }
+    {
+        Guard::with_seed(alloc, text, limits, Seed::Fixed)
+    }
+
+    /// The same, its tables hashed by a seed of one's own.
+    pub fn with_seed(
+        alloc: Global,
+        text: &[u8],
+        limits: Limits,
+        seed: Seed,
+    ) -> Result<Guard, GuardFault>
+        ensures text { IfOk result (λ guard. guard.text ≡ text.now) }
+        ensures schema { IfOk result (λ guard. schema_of text.now ≡ schema guard.schema) }
+        ensures limits { IfOk result (λ guard. guard.limits ≡ limits) }
+        ensures empty { IfOk result (λ guard. guard.graph ≡ empty_graph) }
+        ensures commits { IfOk result (λ guard. guard.commits ≡ 0) }
+        ensures refused { IfErr result (IsRefused (schema_of text.now)) }
+    {
+        let schema = Schema::read(alloc, text)?;
+        Ok(Guard {
+            alloc,
+            schema,
+            limits,
+            graph: Tables::with_seed(alloc, seed),
+            commits: 0,
+        })
+    }
+
+    // Decides a transaction: the delta that it makes of the graph, or why it is rejected.
+    fn decided<L: Ledger>(
+        &self,
+        txn: &Txn,
+        steps: &mut Steps<L>,
+    ) -> Result<Delta, GuardRefusal>
+        ensures sound { IfOk result (λ delta. is_sound self.now.graph delta ≡ true) }
+        ensures guarded { IfOk result (λ delta. IsGuarded self.now.schema self.now.limits (changed self.now.graph delta)) }
+        ensures accepted { IfOk result (λ delta. decide self.now.limits (verdict self.now.schema) self.now.graph txn.now
+            ≡ Ok (changed self.now.graph delta)) }
+        ensures rejected { IfErr result (IsRejected (decide self.now.limits (verdict self.now.schema) self.now.graph txn.now)) }
+        ensures no_step_back { steps.old ≤ steps.new }
+    {
+        match stage(self.alloc, &self.graph, &self.limits, txn, steps) {
+            Ok(delta) => {
+                judge(self.alloc, &self.graph, &self.schema, &delta, steps)?;
+                Ok(delta)
+            }
+            Err(StageFault::Memory) => Err(GuardRefusal::Memory),
+            Err(StageFault::Refused(structural)) => {
+                Err(GuardRefusal::Rejected(Rejection::Structural(structural)))
+            }
+        }
+    }
+
+    /// Decides a transaction on the graph, and does it where it is accepted: the commit number, from 1. Where it is rejected or there
+    /// is no memory, the guard stays as it was. The rule is `decide` of `pgs_violation`, with the schema's verdict.
+    pub fn apply<L: Ledger>(
+        &mut self,
+        txn: &Txn,
+        steps: &mut Steps<L>,
+    ) -> Result<u64, GuardRefusal>
+        requires { self.old.commits < 18446744073709551615 }
+        ensures number { IfOk result (λ number. number ≡ self.old.commits + 1) }
+        ensures accepted { OnOk result (decide self.old.limits (verdict self.old.schema) self.old.graph txn.now ≡ Ok self.new.graph) }
+        ensures rejected { IfErr result (IsRejected (decide self.old.limits (verdict self.old.schema) self.old.graph txn.now)) }
+        ensures kept { OnOk result (self.new ≡ record self.old { graph = self.new.graph; commits = self.old.commits + 1 }) }
+        ensures unchanged { OnErr result (self.new ≡ self.old) }
+        ensures no_step_back { steps.old ≤ steps.new }
+    {
+        let delta = self.decided(txn, steps)?;
+        let prepared = self.graph.prepare(delta)?;
+        self.graph.commit(prepared);
+        self.commits += 1;
+        Ok(self.commits)
+    }
+
+    /// How many transactions were accepted.
+    pub fn commits(&self) -> u64
+        ensures { result ≡ self.now.commits }
+    {
+        self.commits
+    }
+
+    /// The schema's text.
+    pub fn schema_text(&self) -> &[u8]
+        ensures text { result.now ≡ self.now.text }
+        ensures schema { schema_of self.now.text ≡ schema self.now.schema }
+    {
+        self.schema.text()
+    }
+
+    /// The schema, with its types compiled.
+    pub fn compiled(&self) -> &Compiled
+        ensures { result.now ≡ self.now.schema }
+    {
+        self.schema.compiled()
+    }
+
+    /// The graph, which conforms to the schema and is within the limits.
+    pub fn graph(&self) -> &Tables
+        ensures graph { result.now.graph ≡ self.now.graph }
+        ensures guarded { IsGuarded self.now.schema self.now.limits self.now.graph }
+    {
+        &self.graph
+    }
+}

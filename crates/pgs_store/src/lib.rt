@@ -1,0 +1,13 @@
+//! Deciding transactions on a graph under a schema, without a disk.
+//!
+//! The one rule: a [`Guard`] takes exactly the transactions that `decide` of `pgs_violation` accepts, and after each answer its graph
+//! conforms to its schema and is within its limits (`specs/State.antt`). How a change is judged is one function, in `judging`. A layer
+//! above puts a journal beside the guard, or prints its answers.
+#![tactic(auto)]
+
+mod fault;
+mod guard;
+mod judging;
+
+pub use fault::{GuardFault, GuardRefusal};
+pub use guard::Guard;
