@@ -13,4 +13,6 @@ mod limits;
 #[cfg(test)]
 mod refused_schemas;
 #[cfg(test)]
+mod specifications;
+#[cfg(test)]
 mod typing;
