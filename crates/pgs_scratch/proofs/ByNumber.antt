@@ -1,5 +1,5 @@
 -- What each row gives, found by its key.
-use Rattle.std.proofs.Common.{◌≡◌, true, List, [], ◌∷◌, Option, Some, None, refl, sym, ap, ◌∙◌, subst, Ordering}
+use Rattle.std.proofs.Common.{◌≡◌, true, List, [], ◌∷◌, Option, Some, refl, ap, ◌∙◌, subst, Ordering}
 use Rattle.std.specs.Prelude.{Contains, option_and_then, filter_map}
 use Rattle.std.specs.BTreeMap.{is_at}
 use Rattle.std.specs.Cmp.{IsTotalOrder, nat_cmp_total, on_total}

@@ -1,5 +1,5 @@
 -- The first later element of a scope that shares a key value, by going over the scope.
-use Rattle.std.proofs.Common.{◌≡◌, ℕ, zero, suc, ◌+◌, ◌<◌, ◌≤◌, Bool, true, false, cond, List, [], ◌∷◌, take, get_or, length, slice_get, Option, Some, None, refl, sym, ap, ◌∙◌, arith, is_lt}
+use Rattle.std.proofs.Common.{◌≡◌, ℕ, zero, suc, ◌<◌, ◌≤◌, Bool, true, false, cond, List, [], ◌∷◌, take, get_or, length, slice_get, Option, Some, None, refl, sym, ap, ◌∙◌, arith, is_lt}
 use Rattle.std.specs.Prelude.{filter, filter_map, if◌then◌else◌}
 use Rattle.std.specs.List.{cons_option}
 use Rattle.pgs_base.specs.declared.element.Elem.{Elem}

@@ -1,5 +1,5 @@
 -- The violations of a key from its rows are those of its scope and its key values.
-use Rattle.std.proofs.Common.{◌≡◌, ℕ, true, List, [], ◌∷◌, ◌++◌, map, append_assoc, refl, sym, ap, ◌∙◌, subst}
+use Rattle.std.proofs.Common.{◌≡◌, ℕ, true, List, [], ◌∷◌, ◌++◌, map, append_assoc, refl, sym, ap, ◌∙◌}
 use Rattle.std.specs.Prelude.{filter_map, slice_get}
 use Rattle.std.specs.List.{cons_option}
 use Rattle.pgs_base.specs.declared.element.Elem.{Elem}
@@ -10,7 +10,7 @@ use Rattle.pgs_syntax.specs.declared.key.Key.{Key}
 use Rattle.pgs_syntax.specs.declared.resolved.Resolved.{Resolved}
 use Rattle.pgs_syntax.specs.KeyValues.{scope_of, key_values}
 use Rattle.pgs_syntax.proofs.InOrder.{scope_ascends}
-use Rattle.pgs_violation.specs.Violations.{mandatory_violation, singleton_violation, sharing, exclusive_violation, later_than, where_asked, key_violations}
+use Rattle.pgs_violation.specs.Violations.{mandatory_violation, singleton_violation, sharing, exclusive_violation, where_asked, key_violations}
 use Rattle.pgs_scratch.specs.declared.key_row.KeyRow.{KeyRow}
 use Rattle.pgs_scratch.specs.Rows.{row_of, missing_value, several_values, shared_value, shared_values, rows_violations}
 use Rattle.pgs_scratch.proofs.Ordered.{later_are_after}

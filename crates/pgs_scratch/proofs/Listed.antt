@@ -1,5 +1,5 @@
 -- A violation stands in the list exactly where it is the one of its key, number and least element.
-use Rattle.std.proofs.Common.{◌≡◌, ◌↔◌, ℕ, zero, suc, ◌+◌, Bool, true, false, cond, IsTrue, List, [], ◌∷◌, Option, Some, None, slice_get, refl, sym, ap, ◌∙◌, subst, true≢false, arith}
+use Rattle.std.proofs.Common.{◌≡◌, ◌↔◌, ℕ, zero, suc, Bool, true, false, IsTrue, List, [], ◌∷◌, Option, Some, None, slice_get, refl, sym, ap, ◌∙◌, subst, true≢false, arith}
 use Rattle.std.specs.Prelude.{Contains, ◌&&◌, option_map, option_and_then, filter_map, if◌then◌else◌}
 use Rattle.std.specs.BTreeMap.{is_at}
 use Rattle.std.specs.Cmp.{Equal-is, nat_cmp_total, on_total}
@@ -21,16 +21,15 @@ use Rattle.pgs_syntax.specs.declared.key.Key.{Key}
 use Rattle.pgs_syntax.specs.declared.resolved.Resolved.{Resolved}
 use Rattle.pgs_syntax.specs.Join.{is_empty}
 use Rattle.pgs_syntax.specs.KeyValues.{starts_at, is_in_scope, scope_of, key_values}
-use Rattle.pgs_syntax.specs.Matches.{elements}
 use Rattle.pgs_syntax.specs.Typed.{is_typed_node, is_typed_edge}
 use Rattle.pgs_syntax.proofs.Assigned.{match_found}
 use Rattle.pgs_syntax.proofs.Members.{kept_found, in_scope_given}
 use Rattle.pgs_violation.specs.declared.violation.Violation.{Violation}
 use Rattle.pgs_violation.specs.declared.violation.Violation.TheVariants.{UntypedNode, UntypedEdge, Mandatory, Singleton, Exclusive}
-use Rattle.pgs_violation.specs.Violations.{mandatory_violation, two_least, shared_tuple, sharing, exclusive_violation, later_than, violations}
+use Rattle.pgs_violation.specs.Violations.{two_least, shared_tuple, sharing, later_than, violations}
 use Rattle.pgs_violation.specs.Meaning.{IsKeyOf}
 use Rattle.pgs_violation.proofs.Origins.{Origin, of_node, of_edge, missing, several, shared, origin, listed}
-use Rattle.pgs_scratch.specs.Confirmed.{key_numbered, missing_at, several_at, shared_at, key_violation_at, violation_at}
+use Rattle.pgs_scratch.specs.Confirmed.{key_numbered, missing_at, several_at, shared_at, violation_at}
 use Rattle.pgs_scratch.specs.Untyped.{untyped_node_at, untyped_edge_at}
 use Rattle.pgs_scratch.proofs.ByNumber.{found_row}
 

@@ -23,11 +23,13 @@ key_numbered keys (suc place) = slice_get keys place
 -- 27, 28 and 29 for an element, where the key asks for it and the element is in its scope
 abbrev pub missing_at : Resolved → Graph → ℕ → Elem → Key → Option Violation
 missing_at resolved g number elem key =
-    if key.qualifiers.mandatory && is_in_scope resolved g key elem then mandatory_violation number (key_values resolved g key) elem else None
+    if key.qualifiers.mandatory && is_in_scope resolved g key elem
+    then mandatory_violation number (key_values resolved g key) elem else None
 
 abbrev pub several_at : Resolved → Graph → ℕ → Elem → Key → Option Violation
 several_at resolved g number elem key =
-    if key.qualifiers.singleton && is_in_scope resolved g key elem then singleton_violation number (key_values resolved g key) elem else None
+    if key.qualifiers.singleton && is_in_scope resolved g key elem
+    then singleton_violation number (key_values resolved g key) elem else None
 
 abbrev pub shared_at : Resolved → Graph → ℕ → Elem → Key → Option Violation
 shared_at resolved g number elem key =

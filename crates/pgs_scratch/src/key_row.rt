@@ -19,6 +19,23 @@ pub struct KeyRow {
     pub tuples: TupleSet,
 }
 
+// The row of an element.
+fn key_row<G: GraphRead, L: Ledger>(
+    alloc: Global,
+    graph: &G,
+    compiled: &Compiled,
+    key: &PlannedKey,
+    elem: Elem,
+    steps: &mut Steps<L>,
+) -> Result<KeyRow, Memory>
+    requires { is_valid_key_of compiled.now key.now ≡ true }
+    ensures row { IfOk result (λ row. row ≡ row_of (key_values compiled.now (G.meaning graph.now) key.now) elem) }
+    ensures no_step_back { steps.old ≤ steps.new }
+{
+    let tuples = key_values(alloc, graph, compiled, key, elem, steps)?;
+    Ok(KeyRow { elem, tuples })
+}
+
 /// The rows of a key, by ascending element. The key values of each element are searched once.
 pub(crate) fn key_rows<G: GraphRead, L: Ledger>(
     alloc: Global,
@@ -36,11 +53,8 @@ pub(crate) fn key_rows<G: GraphRead, L: Ledger>(
     let mut rows = Vec::with_capacity(alloc, scope.len())?;
     let elems = scope.as_slice();
     for elem in elems {
-        let tuples = key_values(alloc, graph, compiled, key, *elem, steps)?;
-        rows.push(KeyRow {
-            elem: *elem,
-            tuples,
-        })?;
+        let row = key_row(alloc, graph, compiled, key, *elem, steps)?;
+        rows.push(row)?;
     }
     Ok(rows)
 }

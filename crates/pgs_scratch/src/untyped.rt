@@ -1,16 +1,29 @@
 //! 25 and 26: nodes and edges that fit no type.
 
 ghost use Rattle.std.specs.Prelude.{◌≡◌, ◌++◌, ◌≤◌, filter_map, OnOk};
+ghost use Rattle.pgs_base.specs.Pair.{pair_of};
+ghost use Rattle.pgs_graph.specs.Reads.{edge_row};
+ghost use Rattle.pgs_syntax.specs.Typed.{is_typed_edge};
 ghost use Rattle.pgs_violation.specs.Violations.{untyped_node, untyped_edge};
 ghost use Rattle.pgs_scratch.specs.Untyped.{untyped_node_at, untyped_edge_at};
 
 use crate::finding::add;
 use pgs_base::{EdgeId, Memory, NodeId, Steps};
 use pgs_conform::{Compiled, Pair, edge_typed, node_typed};
-use pgs_graph::GraphRead;
+use pgs_graph::{EdgeRef, GraphRead, NodeRef};
 use pgs_violation::Violation;
 use std::alloc::Global;
 use std::sync::ledger::Ledger;
+
+// What a node carries, as a pair.
+fn pair_of(node: NodeRef<'_>) -> Pair<'_>
+    ensures { result ≡ pair_of node.entry.labels.now node.entry.props.now }
+{
+    Pair {
+        labels: node.labels,
+        props: node.props,
+    }
+}
 
 /// 25 for a node that is there and isn't typed. It takes no memory.
 pub(crate) fn untyped_node<G: GraphRead, L: Ledger>(
@@ -34,6 +47,30 @@ pub(crate) fn untyped_node<G: GraphRead, L: Ledger>(
     }
 }
 
+// Whether an edge is typed, by the pairs of its ends in the graph and its own.
+fn is_edge_typed<G: GraphRead, L: Ledger>(
+    graph: &G,
+    compiled: &Compiled,
+    edge: EdgeRef<'_>,
+    steps: &mut Steps<L>,
+) -> bool
+    ensures typed { result ≡ is_typed_edge compiled.now (G.meaning graph.now)
+        (edge_row edge.entry.source edge.entry.target edge.entry.labels.now edge.entry.props.now) }
+    ensures no_step_back { steps.old ≤ steps.new }
+{
+    let Some(source) = graph.node(edge.source, steps) else {
+        return false;
+    };
+    let Some(target) = graph.node(edge.target, steps) else {
+        return false;
+    };
+    let own = Pair {
+        labels: edge.labels,
+        props: edge.props,
+    };
+    edge_typed(compiled, &pair_of(source), &own, &pair_of(target))
+}
+
 /// 26 for an edge that is there and isn't typed. It takes no memory.
 pub(crate) fn untyped_edge<G: GraphRead, L: Ledger>(
     graph: &G,
@@ -45,29 +82,10 @@ pub(crate) fn untyped_edge<G: GraphRead, L: Ledger>(
     ensures no_step_back { steps.old ≤ steps.new }
 {
     let edge = graph.edge(id, steps)?;
-    let untyped = Some(Violation::UntypedEdge { edge: id });
-    let Some(source) = graph.node(edge.source, steps) else {
-        return untyped;
-    };
-    let Some(target) = graph.node(edge.target, steps) else {
-        return untyped;
-    };
-    let source = Pair {
-        labels: source.labels,
-        props: source.props,
-    };
-    let own = Pair {
-        labels: edge.labels,
-        props: edge.props,
-    };
-    let target = Pair {
-        labels: target.labels,
-        props: target.props,
-    };
-    if edge_typed(compiled, &source, &own, &target) {
+    if is_edge_typed(graph, compiled, edge, steps) {
         None
     } else {
-        untyped
+        Some(Violation::UntypedEdge { edge: id })
     }
 }
 
