@@ -1,5 +1,5 @@
 -- Keys by plain tables: names are single letters, and values numbers.
-use Rattle.std.specs.Prelude.{ℕ, ℤ, Bool, false, List, [], ◌∷◌, map}
+use Rattle.std.specs.Prelude.{Bool, false, List, [], ◌∷◌, map}
 use Rattle.pgs_base.specs.declared.value.Value.TheVariants.{Int}
 use Rattle.pgs_syntax.specs.declared.key.Key.{Key}
 use Rattle.pgs_syntax.specs.declared.pattern.Atom.{Atom}

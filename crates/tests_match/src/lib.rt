@@ -10,8 +10,8 @@ mod agreement;
 mod drawn;
 #[cfg(test)]
 mod graphs;
-#[cfg(test)]
-mod keys;
+/// Keys by plain tables.
+pub mod keys;
 #[cfg(test)]
 mod listing;
 #[cfg(test)]
