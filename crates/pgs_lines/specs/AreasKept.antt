@@ -18,7 +18,10 @@ pub record KeepsAreas (old new : View) : Type 0 where
 pub keeps_none : (view : View) → IsTimed view → KeepsAreas view view
 keeps_none view timed =
     record {
-      a = refl; b = refl; passes = passes_none view timed; area_faults = refl;
+      a = refl;
+      b = refl;
+      passes = passes_none view timed;
+      area_faults = refl;
       images = λ honest c left. (c, timed.only_now c left, refl, refl);
     }
 
@@ -26,8 +29,11 @@ keeps_none view timed =
 pub keeps_on : (old mid new : View) → KeepsAreas old mid → KeepsAreas mid new → KeepsAreas old new
 keeps_on old mid new p q =
     record {
-      a = q.a ∙ p.a; b = q.b ∙ p.b; passes = passes_on old mid new p.passes q.passes;
-      area_faults = q.area_faults ∙ p.area_faults; images = images;
+      a = q.a ∙ p.a;
+      b = q.b ∙ p.b;
+      passes = passes_on old mid new p.passes q.passes;
+      area_faults = q.area_faults ∙ p.area_faults;
+      images = images;
     }
   where
     later : IsTrue old.honest → (c : Triple) → new.left_since mid.moment c → (d : Triple) × old.may_leave d × (c.a ≡ d.a) × (c.b ≡ d.b)

@@ -42,11 +42,11 @@ impl Model for Guard {
     ghost coded = { Prim.hlevel (codes, schemas.the_row.coded) };
 
     ghost view = { λ guard. record {
-        text = guard.schema.text;
-        schema = guard.schema.resolved;
-        limits = guard.limits;
-        graph = guard.graph.graph;
-        commits = guard.commits;
+      text = guard.schema.text;
+      schema = guard.schema.resolved;
+      limits = guard.limits;
+      graph = guard.graph.graph;
+      commits = guard.commits;
     } };
 
     ghost invariant = { λ guard. IsGuarded guard.schema.resolved guard.limits guard.graph.graph };
@@ -91,11 +91,7 @@ impl Guard {
     }
 
     // Decides a transaction: the delta that it makes of the graph, or why it is rejected.
-    fn decided<L: Ledger>(
-        &self,
-        txn: &Txn,
-        steps: &mut Steps<L>,
-    ) -> Result<Delta, GuardRefusal>
+    fn decided<L: Ledger>(&self, txn: &Txn, steps: &mut Steps<L>) -> Result<Delta, GuardRefusal>
         ensures sound { IfOk result (λ delta. is_sound self.now.graph delta ≡ true) }
         ensures guarded { IfOk result (λ delta. IsGuarded self.now.schema self.now.limits (changed self.now.graph delta)) }
         ensures accepted { IfOk result (λ delta. decide self.now.limits (verdict self.now.schema) self.now.graph txn.now
@@ -117,11 +113,7 @@ impl Guard {
 
     /// Decides a transaction on the graph, and does it where it is accepted: the commit number, from 1. Where it is rejected or there
     /// is no memory, the guard stays as it was. The rule is `decide` of `pgs_violation`, with the schema's verdict.
-    pub fn apply<L: Ledger>(
-        &mut self,
-        txn: &Txn,
-        steps: &mut Steps<L>,
-    ) -> Result<u64, GuardRefusal>
+    pub fn apply<L: Ledger>(&mut self, txn: &Txn, steps: &mut Steps<L>) -> Result<u64, GuardRefusal>
         requires { self.old.commits < 18446744073709551615 }
         ensures number { IfOk result (λ number. number ≡ self.old.commits + 1) }
         ensures accepted { OnOk result (decide self.old.limits (verdict self.old.schema) self.old.graph txn.now ≡ Ok self.new.graph) }

@@ -17,7 +17,8 @@ const LINES: &[&str] = &[
     r#"{"ops":[{"add_node":2}]}"#,
 ];
 
-const ANSWERS: &str = "1 refused 22 2 operations, at most 1\n2 committed 1\n3 refused 24 2 elements, at most 1\n";
+const ANSWERS: &str =
+    "1 refused 22 2 operations, at most 1\n2 committed 1\n3 refused 24 2 elements, at most 1\n";
 
 #[test]
 fn the_limits_are_kept(rt: HostRuntime) -> Result<(), Fail> {

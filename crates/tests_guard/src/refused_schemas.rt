@@ -35,16 +35,31 @@ const TEXTS: &[(&str, u8)] = &[
     ("", 12),
     ("CREATE GRAPH TYPE g LOOSE {#};", 10),
     ("CREATE GRAPH TYPE g {};", 11),
-    ("CREATE NODE TYPE (a); CREATE NODE TYPE (a); CREATE GRAPH TYPE g LOOSE {};", 13),
+    (
+        "CREATE NODE TYPE (a); CREATE NODE TYPE (a); CREATE GRAPH TYPE g LOOSE {};",
+        13,
+    ),
     ("CREATE GRAPH TYPE g LOOSE {a};", 14),
-    ("CREATE NODE TYPE (a: A); CREATE GRAPH TYPE g LOOSE {()-[e: a]->()};", 15),
+    (
+        "CREATE NODE TYPE (a: A); CREATE GRAPH TYPE g LOOSE {()-[e: a]->()};",
+        15,
+    ),
 ];
 
 const MORE_TEXTS: &[(&str, u8)] = &[
-    ("CREATE NODE TYPE (b: a); CREATE NODE TYPE (a: b); CREATE GRAPH TYPE g LOOSE {};", 16),
+    (
+        "CREATE NODE TYPE (b: a); CREATE NODE TYPE (a: b); CREATE GRAPH TYPE g LOOSE {};",
+        16,
+    ),
     ("CREATE GRAPH TYPE g LOOSE IMPORTS g {};", 16),
-    ("CREATE NODE TYPE (t: a? & b? & c? & d? & e? & f? & g? & h? & i? & j? & k? & l? & m?); CREATE GRAPH TYPE z LOOSE {};", 17),
-    ("CREATE NODE TYPE (t: a? & b? & c? & d? & e? & f? & g? & h? & i? & j? & k? & l?); CREATE GRAPH TYPE z LOOSE {};", 0),
+    (
+        "CREATE NODE TYPE (t: a? & b? & c? & d? & e? & f? & g? & h? & i? & j? & k? & l? & m?); CREATE GRAPH TYPE z LOOSE {};",
+        17,
+    ),
+    (
+        "CREATE NODE TYPE (t: a? & b? & c? & d? & e? & f? & g? & h? & i? & j? & k? & l?); CREATE GRAPH TYPE z LOOSE {};",
+        0,
+    ),
     ("CREATE GRAPH TYPE g LOOSE {FOR (x) EXCLUSIVE y.k};", 18),
 ];
 

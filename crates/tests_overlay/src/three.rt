@@ -88,7 +88,8 @@ impl Three {
         match (over_graph, over_tables) {
             (Some(first), Some(second)) => {
                 let after = listing(&self.graph, alloc, steps)?;
-                let alike = first.as_slice() == after.as_slice() && second.as_slice() == after.as_slice();
+                let alike = first.as_slice() == after.as_slice()
+                    && second.as_slice() == after.as_slice();
                 Ok(alike.then_some(after))
             }
             (None, None) => Ok(Some(List::new(alloc))),
