@@ -58,10 +58,13 @@ key_value_line key tuple = codes "key " ++ (decimal key ++ (codes " value " ++ (
 abbrev pub absent_line : Elem → List ℕ
 absent_line elem = elem_text elem ++ codes " is not in the graph\n"
 
+-- how many nodes and edges there are, and how many edges come in at node 1
+abbrev pub graph_counts : ℕ → ℕ → ℕ → List ℕ
+graph_counts nodes edges in1 = codes " nodes=" ++ (decimal nodes ++ (codes " edges=" ++ (decimal edges ++ (codes " in1=" ++ decimal in1))))
+
 abbrev pub gen_line : ℕ → ℕ → ℕ → ℕ → ℕ → List ℕ
 gen_line committed refused nodes edges in1 =
-    codes "gen committed=" ++ (decimal committed ++ (codes " refused=" ++ (decimal refused ++ (codes " nodes=" ++ (decimal nodes
-    ++ (codes " edges=" ++ (decimal edges ++ (codes " in1=" ++ (decimal in1 ++ codes "\n")))))))))
+    codes "gen committed=" ++ (decimal committed ++ (codes " refused=" ++ (decimal refused ++ (graph_counts nodes edges in1 ++ codes "\n"))))
 
 abbrev pub checkpoint_line : ℕ → ℕ → List ℕ
 checkpoint_line epoch commits = codes "checkpoint epoch=" ++ (decimal epoch ++ (codes " commits=" ++ (decimal commits ++ codes "\n")))

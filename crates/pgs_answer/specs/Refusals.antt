@@ -68,12 +68,18 @@ cause_words (NoNode node) = codes "no node " ++ elem_text (Node node)
 cause_words (NoEdge edge) = codes "no edge " ++ elem_text (Edge edge)
 cause_words (HasEdges node edge) = elem_text (Node node) ++ (codes " still has edge " ++ elem_text (Edge edge))
 
+abbrev pub bad_op_text : ℕ → Cause → List ℕ
+bad_op_text op cause = codes "23 op " ++ (decimal op ++ (codes ": " ++ cause_words cause))
+
+abbrev pub too_large_text : ℕ → List ℕ
+too_large_text op = codes "38 op " ++ (decimal op ++ codes ": more than 64 labels or 256 properties")
+
 abbrev pub structural_text : Structural → Limits → List ℕ
 structural_text (TooManyOps count) limits = codes "22 " ++ (decimal count ++ (codes " operations, at most " ++ decimal limits.ops))
-structural_text (BadOp op cause) limits = codes "23 op " ++ (decimal op ++ (codes ": " ++ cause_words cause))
+structural_text (BadOp op cause) limits = bad_op_text op cause
 structural_text (TooManyElements count) limits =
     codes "24 " ++ (decimal count ++ (codes " elements, at most " ++ decimal limits.elements))
-structural_text (ElementTooLarge op) limits = codes "38 op " ++ (decimal op ++ codes ": more than 64 labels or 256 properties")
+structural_text (ElementTooLarge op) limits = too_large_text op
 
 -- ---- of a graph
 

@@ -1,6 +1,6 @@
 ghost use Rattle.std.specs.Prelude.{◌≡◌, ◌++◌, codes, decimal, IfOk, OnOk};
 ghost use Rattle.pgs_text.specs.Text.{elem_text, tuple_text};
-ghost use Rattle.pgs_answer.specs.Refusals.{unreadable_text, line_too_long_text, cause_words, structural_text, violation_text, rejection_text};
+ghost use Rattle.pgs_answer.specs.Refusals.{unreadable_text, line_too_long_text, cause_words, bad_op_text, too_large_text, structural_text, violation_text, rejection_text};
 
 use pgs_base::{Bytes, Elem, Limits, Memory, Tuple};
 use pgs_text::TextBuffer;
@@ -48,6 +48,39 @@ fn push_cause(text: &mut TextBuffer, cause: Cause) -> Result<(), Memory>
     }
 }
 
+// That there are more of something than the limit.
+fn push_past_limit(
+    text: &mut TextBuffer,
+    number: &[u8],
+    count: u64,
+    what: &[u8],
+    limit: u64,
+) -> Result<(), Memory>
+    ensures { OnOk result (text.new ≡ text.old ++ (number.now ++ (decimal count ++ (what.now ++ decimal limit)))) }
+{
+    text.push(number)?;
+    text.push_number(count)?;
+    text.push(what)?;
+    text.push_number(limit)
+}
+
+fn push_bad_op(text: &mut TextBuffer, op: u64, cause: Cause) -> Result<(), Memory>
+    ensures { OnOk result (text.new ≡ text.old ++ bad_op_text op cause) }
+{
+    text.push(b"23 op ")?;
+    text.push_number(op)?;
+    text.push(b": ")?;
+    push_cause(text, cause)
+}
+
+fn push_too_large(text: &mut TextBuffer, op: u64) -> Result<(), Memory>
+    ensures { OnOk result (text.new ≡ text.old ++ too_large_text op) }
+{
+    text.push(b"38 op ")?;
+    text.push_number(op)?;
+    text.push(b": more than 64 labels or 256 properties")
+}
+
 fn push_structural(
     text: &mut TextBuffer,
     structural: Structural,
@@ -56,31 +89,22 @@ fn push_structural(
     ensures { OnOk result (text.new ≡ text.old ++ structural_text structural limits.now) }
 {
     match structural {
-        Structural::TooManyOps { count } => {
-            text.push(b"22 ")?;
-            text.push_number(count)?;
-            text.push(b" operations, at most ")?;
-            text.push_number(limits.ops as u64)?;
-            Ok(())
-        }
-        Structural::BadOp { op, cause } => {
-            text.push(b"23 op ")?;
-            text.push_number(op)?;
-            text.push(b": ")?;
-            push_cause(text, cause)
-        }
-        Structural::TooManyElements { count } => {
-            text.push(b"24 ")?;
-            text.push_number(count)?;
-            text.push(b" elements, at most ")?;
-            text.push_number(limits.elements)
-        }
-        Structural::ElementTooLarge { op } => {
-            text.push(b"38 op ")?;
-            text.push_number(op)?;
-            text.push(b": more than 64 labels or 256 properties")?;
-            Ok(())
-        }
+        Structural::TooManyOps { count } => push_past_limit(
+            text,
+            b"22 ",
+            count,
+            b" operations, at most ",
+            limits.ops as u64,
+        ),
+        Structural::BadOp { op, cause } => push_bad_op(text, op, cause),
+        Structural::TooManyElements { count } => push_past_limit(
+            text,
+            b"24 ",
+            count,
+            b" elements, at most ",
+            limits.elements,
+        ),
+        Structural::ElementTooLarge { op } => push_too_large(text, op),
     }
 }
 

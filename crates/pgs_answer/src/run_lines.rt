@@ -1,5 +1,5 @@
 ghost use Rattle.std.specs.Prelude.{◌≡◌, ◌++◌, codes, decimal, IfOk, OnOk};
-ghost use Rattle.pgs_answer.specs.Lines.{schema_refused_line, store_refused_line, words_refused_line, committed_line, refused_line, violation_line, loaded_line, feeds_lost_line, gen_line, checkpoint_line};
+ghost use Rattle.pgs_answer.specs.Lines.{schema_refused_line, store_refused_line, words_refused_line, committed_line, refused_line, violation_line, loaded_line, feeds_lost_line, graph_counts, gen_line, checkpoint_line};
 
 use pgs_base::{Bytes, Memory};
 use pgs_text::TextBuffer;
@@ -108,6 +108,15 @@ fn push_count(line: &mut TextBuffer, name: &[u8], count: u64) -> Result<(), Memo
     line.push_number(count)
 }
 
+// Puts the counts of a graph last: how many nodes and edges there are, and how many edges come in at node 1.
+fn push_graph_counts(line: &mut TextBuffer, nodes: u64, edges: u64, in1: u64) -> Result<(), Memory>
+    ensures { OnOk result (line.new ≡ line.old ++ graph_counts nodes edges in1) }
+{
+    push_count(line, b" nodes=", nodes)?;
+    push_count(line, b" edges=", edges)?;
+    push_count(line, b" in1=", in1)
+}
+
 /// The line of a generated workload: how many transactions were committed and refused, how many nodes and edges there are, and how
 /// many edges come in at node 1.
 pub fn gen_line(
@@ -123,9 +132,7 @@ pub fn gen_line(
     let mut line = TextBuffer::with_room(alloc, 160)?;
     push_count(&mut line, b"gen committed=", committed)?;
     push_count(&mut line, b" refused=", refused)?;
-    push_count(&mut line, b" nodes=", nodes)?;
-    push_count(&mut line, b" edges=", edges)?;
-    push_count(&mut line, b" in1=", in1)?;
+    push_graph_counts(&mut line, nodes, edges, in1)?;
     line.push(b"\n")?;
     Ok(line.into_bytes())
 }

@@ -44,12 +44,21 @@ fn label(alloc: Global, bytes: &[u8]) -> Result<Labels, Memory>
     Ok(labels)
 }
 
+// The number under `id`, and no other property.
+fn with_id(alloc: Global, number: u64) -> Result<Props, Memory>
+    requires { number < 1000000 }
+    ensures { IfOk result (λ props. props ≡ (codes "id", values.Int (pos number)) ∷ []) }
+{
+    let mut props = Props::new(alloc);
+    props.set(name(alloc, b"id")?, Value::Int(number as i64))?;
+    Ok(props)
+}
+
 fn person_props(alloc: Global, number: u64) -> Result<Props, Memory>
     requires { number < 1000000 }
     ensures { IfOk result (λ props. props ≡ (codes "id", values.Int (pos number)) ∷ (codes "mail", values.Text (address number)) ∷ []) }
 {
-    let mut props = Props::new(alloc);
-    props.set(name(alloc, b"id")?, Value::Int(number as i64))?;
+    let mut props = with_id(alloc, number)?;
     props.set(name(alloc, b"mail")?, Value::Text(address(alloc, number)?))?;
     Ok(props)
 }

@@ -1,5 +1,5 @@
 -- The one violation in the list of a graph's violations that has the key, the number and the least element of a given violation.
-use Rattle.std.specs.Prelude.{ℕ, ◌&&◌, List, Option, None, slice_get, option_and_then, if◌then◌else◌}
+use Rattle.std.specs.Prelude.{ℕ, Bool, ◌&&◌, List, Option, Some, None, slice_get, option_and_then, if◌then◌else◌}
 use Prim.Native.Nat.{zero, suc}
 use Rattle.std.specs.Ordering.{is_lt}
 use Rattle.pgs_base.specs.declared.element.Elem.{Elem}
@@ -13,12 +13,19 @@ use Rattle.pgs_violation.specs.declared.violation.Violation.{Violation}
 use Rattle.pgs_violation.specs.declared.violation.Violation.TheVariants.{UntypedNode, UntypedEdge, Mandatory, Singleton, Exclusive}
 use Rattle.pgs_violation.specs.Violations.{mandatory_violation, singleton_violation, exclusive_violation, sharing}
 use Rattle.pgs_violation.specs.Standing.{key_of}
+use Rattle.pgs_scratch.specs.declared.key_row.KeyRow.{KeyRow}
+use Rattle.pgs_scratch.specs.Rows.{row_of}
 use Rattle.pgs_scratch.specs.Untyped.{untyped_node_at, untyped_edge_at}
 
 -- the key of a number: keys are numbered from 1
 abbrev pub key_numbered : List Key → ℕ → Option Key
 key_numbered keys zero = None
 key_numbered keys (suc place) = slice_get keys place
+
+-- the row of an element, where the key asks for it and the element is in its scope
+abbrev pub row_in_scope : Resolved → Graph → Bool → Elem → Key → Option KeyRow
+row_in_scope resolved g asked elem key =
+    if asked && is_in_scope resolved g key elem then Some (row_of (key_values resolved g key) elem) else None
 
 -- 27, 28 and 29 for an element, where the key asks for it and the element is in its scope
 abbrev pub missing_at : Resolved → Graph → ℕ → Elem → Key → Option Violation

@@ -8,7 +8,7 @@ ghost use Rattle.pgs_syntax.specs.KeyValues.{scope_of, key_values};
 ghost use Rattle.pgs_syntax.specs.Valid.{is_valid_key_of};
 ghost use Rattle.pgs_violation.specs.Standing.{key_of};
 ghost use Rattle.pgs_violation.specs.Violations.{exclusive_violation, shared_tuple, violations};
-ghost use Rattle.pgs_scratch.specs.Confirmed.{key_numbered, missing_at, several_at, shared_at, key_violation_at, violation_at, sharing_if_later};
+ghost use Rattle.pgs_scratch.specs.Confirmed.{key_numbered, row_in_scope, missing_at, several_at, shared_at, key_violation_at, violation_at, sharing_if_later};
 ghost use Rattle.pgs_scratch.specs.Rows.{row_of, shared_value};
 
 use crate::key_row::KeyRow;
@@ -62,6 +62,30 @@ fn shared_value(
     }
 }
 
+// The row of an element, where the key asks for it and the element is in its scope.
+fn row_in_scope<G: GraphRead, L: Ledger>(
+    alloc: Global,
+    graph: &G,
+    compiled: &Compiled,
+    asked: bool,
+    key: &PlannedKey,
+    elem: Elem,
+    steps: &mut Steps<L>,
+) -> Result<Option<KeyRow>, Memory>
+    requires { is_valid_key_of compiled.now key.now ≡ true }
+    ensures row { IfOk result (λ row. row ≡ row_in_scope compiled.now (G.meaning graph.now) asked elem key.now) }
+    ensures no_step_back { steps.old ≤ steps.new }
+{
+    if !asked {
+        return Ok(None);
+    }
+    if !in_scope(graph, compiled, key, elem, steps) {
+        return Ok(None);
+    }
+    let tuples = key_values(alloc, graph, compiled, key, elem, steps)?;
+    Ok(Some(KeyRow { elem, tuples }))
+}
+
 // 27 for an element, where the key asks for it and the element is in its scope.
 fn missing_at<G: GraphRead, L: Ledger>(
     alloc: Global,
@@ -76,14 +100,11 @@ fn missing_at<G: GraphRead, L: Ledger>(
     ensures found { IfOk result (λ found. found ≡ missing_at compiled.now (G.meaning graph.now) number elem key.now) }
     ensures no_step_back { steps.old ≤ steps.new }
 {
-    if !key.key().qualifiers.mandatory {
-        return Ok(None);
+    let asked = key.key().qualifiers.mandatory;
+    match row_in_scope(alloc, graph, compiled, asked, key, elem, steps)? {
+        Some(row) => Ok(missing_value(number, &row)),
+        None => Ok(None),
     }
-    if !in_scope(graph, compiled, key, elem, steps) {
-        return Ok(None);
-    }
-    let tuples = key_values(alloc, graph, compiled, key, elem, steps)?;
-    Ok(missing_value(number, &KeyRow { elem, tuples }))
 }
 
 // 28 for an element, where the key asks for it and the element is in its scope.
@@ -100,14 +121,11 @@ fn several_at<G: GraphRead, L: Ledger>(
     ensures found { IfOk result (λ found. found ≡ several_at compiled.now (G.meaning graph.now) number elem key.now) }
     ensures no_step_back { steps.old ≤ steps.new }
 {
-    if !key.key().qualifiers.singleton {
-        return Ok(None);
+    let asked = key.key().qualifiers.singleton;
+    match row_in_scope(alloc, graph, compiled, asked, key, elem, steps)? {
+        Some(row) => several_values(alloc, number, &row),
+        None => Ok(None),
     }
-    if !in_scope(graph, compiled, key, elem, steps) {
-        return Ok(None);
-    }
-    let tuples = key_values(alloc, graph, compiled, key, elem, steps)?;
-    several_values(alloc, number, &KeyRow { elem, tuples })
 }
 
 // The violation that a row makes with an element, where the element comes later and shares a key value.
@@ -180,15 +198,11 @@ fn shared_at<G: GraphRead, L: Ledger>(
     ensures found { IfOk result (λ found. found ≡ shared_at compiled.now (G.meaning graph.now) number elem key.now) }
     ensures no_step_back { steps.old ≤ steps.new }
 {
-    if !key.key().qualifiers.exclusive {
-        return Ok(None);
+    let asked = key.key().qualifiers.exclusive;
+    match row_in_scope(alloc, graph, compiled, asked, key, elem, steps)? {
+        Some(row) => first_sharer(alloc, graph, compiled, number, key, &row, steps),
+        None => Ok(None),
     }
-    if !in_scope(graph, compiled, key, elem, steps) {
-        return Ok(None);
-    }
-    let tuples = key_values(alloc, graph, compiled, key, elem, steps)?;
-    let row = KeyRow { elem, tuples };
-    first_sharer(alloc, graph, compiled, number, key, &row, steps)
 }
 
 // The violation of a key that is of the same number and least element as a violation of it.
@@ -287,6 +301,7 @@ pub fn confirms<G: GraphRead, L: Ledger>(
     ensures listed { IfOk result (λ confirmed. IsTrue confirmed ↔ Contains (violations compiled.now (G.meaning graph.now)) violation.now) }
     ensures no_step_back { steps.old ≤ steps.new }
 {
+    // The count's clause says that what is read is a graph.
     graph.count();
     let found = violation_at(alloc, graph, compiled, keys.as_slice(), violation, steps)?;
     match found {

@@ -68,6 +68,7 @@ fn add_keys_violations<G: GraphRead, L: Ledger>(
     ensures keys { OnOk result (found.new.items ≡ found.old.items ++ keys_violations compiled.now (G.meaning graph.now) 1 compiled.now.guard.keys) }
     ensures no_step_back { steps.old ≤ steps.new }
 {
+    // The schema's clause says that its keys are valid.
     compiled.resolved();
     for (place, key) in keys.iter().enumerate() {
         let number = place as u32 + 1;
@@ -92,6 +93,7 @@ pub fn violations<G: GraphRead, L: Ledger>(
     ensures list { IfOk result (λ found. found ≡ violations compiled.now (G.meaning graph.now)) }
     ensures no_step_back { steps.old ≤ steps.new }
 {
+    // The count's clause says that what is read is a graph.
     graph.count();
     let mut found = Vec::new(alloc);
     add_untyped(alloc, graph, compiled, &mut found, steps)?;

@@ -2,8 +2,7 @@
 
 ghost use Rattle.std.specs.Prelude.{◌≡◌, ◌<◌};
 
-use crate::both::Both;
-use crate::listing::listing;
+use crate::three::Three;
 use pgs_base::{EdgeId, Labels, List, Memory, NodeId, Props, Steps};
 use pgs_graph::{Op, Txn};
 use std::alloc::Global;
@@ -43,34 +42,25 @@ fn txn(alloc: Global, steps: &[Step]) -> Result<Txn, Memory> {
     })
 }
 
-/// Whether all transactions were done to both.
-fn apply_all<L: Ledger>(
-    both: &mut Both,
-    alloc: Global,
-    txns: &[&[Step]],
-    steps: &mut Steps<L>,
-) -> Result<bool, Memory> {
-    for ops in txns {
-        let txn = txn(alloc, ops)?;
-        if both.apply(alloc, &txn, steps)? != Some(true) {
-            return Ok(false);
-        }
-    }
-    Ok(true)
-}
-
-/// What is read of the tables after transactions. Empty where one was refused, or the plain graph is read otherwise.
-fn read_both<L: Ledger>(
-    both: &mut Both,
+/// What is read of the change of the last transaction. Empty where one was refused, or something was read apart.
+fn read_last<L: Ledger>(
+    three: &mut Three,
     alloc: Global,
     txns: &[&[Step]],
     steps: &mut Steps<L>,
 ) -> Result<List<u64>, Memory> {
-    if apply_all(both, alloc, txns, steps)? && both.are_alike(alloc, steps)? {
-        listing(&both.tables, alloc, steps)
-    } else {
-        Ok(List::new(alloc))
+    let mut last = List::new(alloc);
+    for ops in txns {
+        let txn = txn(alloc, ops)?;
+        last = match three.apply(alloc, &txn, steps)? {
+            Some(read) => read,
+            None => List::new(alloc),
+        };
+        if last.is_empty() {
+            break;
+        }
     }
+    Ok(last)
 }
 
 fn read_by<L: Ledger>(alloc: Global, txns: &[&[Step]], blank: Blank) -> Result<List<u64>, Memory>
@@ -79,8 +69,8 @@ fn read_by<L: Ledger>(alloc: Global, txns: &[&[Step]], blank: Blank) -> Result<L
     requires some { 0 < blank.parts }
 {
     let mut steps: Steps<L> = Steps::begin(blank);
-    let mut both = Both::new(alloc);
-    read_both(&mut both, alloc, txns, &mut steps)
+    let mut three = Three::new(alloc);
+    read_last(&mut three, alloc, txns, &mut steps)
 }
 
 fn read(alloc: Global, txns: &[&[Step]]) -> Result<List<u64>, Memory> {

@@ -67,6 +67,13 @@ fn commit<L: Ledger>(
     }
 }
 
+// Whether each of these is as the one.
+fn are_alike(others: &[&List<u64>], one: &List<u64>) -> bool {
+    others
+        .iter()
+        .all(|other| other.as_slice() == one.as_slice())
+}
+
 impl Three {
     pub fn new(alloc: Global) -> Three {
         Three {
@@ -75,8 +82,8 @@ impl Three {
         }
     }
 
-    /// What is read after a transaction, or nothing where it was refused. `None` where the two, or one and what was seen before, are
-    /// read apart.
+    /// What is read after a transaction, or nothing where both refused it. `None` where one alone refused it, or where the plain graph,
+    /// the tables and what was seen of either before are not read alike.
     pub fn apply<L: Ledger>(
         &mut self,
         alloc: Global,
@@ -86,14 +93,23 @@ impl Three {
         let over_graph = change(alloc, &mut self.graph, txn, steps)?;
         let over_tables = commit(alloc, &mut self.tables, txn, steps)?;
         match (over_graph, over_tables) {
-            (Some(first), Some(second)) => {
-                let after = listing(&self.graph, alloc, steps)?;
-                let alike = first.as_slice() == after.as_slice()
-                    && second.as_slice() == after.as_slice();
-                Ok(alike.then_some(after))
-            }
+            (Some(first), Some(second)) => self.read_as(alloc, &first, &second, steps),
             (None, None) => Ok(Some(List::new(alloc))),
             _ => Ok(None),
         }
+    }
+
+    // What is read of the plain graph, where the tables and what was seen before are read so too.
+    fn read_as<L: Ledger>(
+        &self,
+        alloc: Global,
+        first: &List<u64>,
+        second: &List<u64>,
+        steps: &mut Steps<L>,
+    ) -> Result<Option<List<u64>>, Memory> {
+        let graph = listing(&self.graph, alloc, steps)?;
+        let tables = listing(&self.tables, alloc, steps)?;
+        let alike = are_alike(&[first, second, &tables], &graph);
+        Ok(alike.then_some(graph))
     }
 }
