@@ -29,6 +29,21 @@ module _ (resolved : Resolved) (g : Graph) (atoms : List Atom) (plan : List Step
   gathered_with exprs so_far id =
       option_map_or (λ bound. gathered resolved g atoms exprs plan (with_bound b var bound) so_far) (admitted_edge resolved g atoms var id) so_far
 
+  -- the same by what was admitted
+  pub can_by : (id : EdgeId) (admitted : Option Bound) → admitted ≡ admitted_edge resolved g atoms var id →
+      option_map_or (λ bound. can_complete resolved g atoms plan (with_bound b var bound)) admitted false ≡ can_with id
+  can_by id admitted same = ap (λ o. option_map_or (λ bound. can_complete resolved g atoms plan (with_bound b var bound)) o false) same
+
+  pub steps_by : (last : ℕ) (id : EdgeId) (admitted : Option Bound) → admitted ≡ admitted_edge resolved g atoms var id → (now mid after : ℕ) →
+      mid ≤ now + 3 → after ≤ mid + option_map_or (λ bound. most_steps resolved g atoms last plan (with_bound b var bound)) admitted 0 → after ≤ now + steps_with last id
+  steps_by last id admitted same now mid after few more =
+      let here = ap (λ o. option_map_or (λ bound. most_steps resolved g atoms last plan (with_bound b var bound)) o 0) same in
+      omega arith
+
+  pub gathered_by : (exprs : List Expr) (so_far : List (List Part)) (id : EdgeId) (admitted : Option Bound) → admitted ≡ admitted_edge resolved g atoms var id →
+      option_map_or (λ bound. gathered resolved g atoms exprs plan (with_bound b var bound) so_far) admitted so_far ≡ gathered_with exprs so_far id
+  gathered_by exprs so_far id admitted same = ap (λ o. option_map_or (λ bound. gathered resolved g atoms exprs plan (with_bound b var bound) so_far) o so_far) same
+
 pub at_place : {X : Type 0} (xs : List X) (i : ℕ) (x : X) → slice_get xs i ≡ Some x → (i < length xs) × (get_or xs i x ≡ x)
 at_place [] i x h = cc
 at_place (y ∷ ys) zero x h = (omega arith, let e : y ≡ x = cc in e)

@@ -147,7 +147,10 @@ impl<'a, G: GraphRead> Search<'a, G> {
             },
             Some((Step::End { edge, node, source }, rest)) => {
                 match end_of(bindings.at(edge), source) {
-                    Some(id) => self.can_complete_by_node(node, id, rest, bindings, steps),
+                    Some(id) => {
+                        let admitted = self.admit_node(node, id, steps);
+                        self.can_complete_with(node, admitted, rest, bindings, steps)
+                    }
                     None => false,
                 }
             }
@@ -180,7 +183,8 @@ impl<'a, G: GraphRead> Search<'a, G> {
         for nth in 0..=usize::MAX {
             match self.edge_along(from, forward, nth, steps) {
                 Some(id) => {
-                    if self.can_complete_by_edge(var, id, plan, bindings, steps) {
+                    let admitted = self.admit_edge(var, id, steps);
+                    if self.can_complete_with(var, admitted, plan, bindings, steps) {
                         return true;
                     }
                 }
@@ -190,12 +194,12 @@ impl<'a, G: GraphRead> Search<'a, G> {
         false
     }
 
-    // Whether it can with the variable bound to an edge.
+    // Whether it can with the variable bound to what was admitted, where something was.
     #[cycle(complete)]
-    fn can_complete_by_edge<L: Ledger>(
+    fn can_complete_with<L: Ledger>(
         &self,
         var: u32,
-        id: EdgeId,
+        admitted: Option<Bound>,
         plan: &[Step],
         bindings: &Bindings,
         steps: &mut Steps<L>,
@@ -203,38 +207,13 @@ impl<'a, G: GraphRead> Search<'a, G> {
         requires { list_all (names_types self.now.compiled.now) self.now.atoms.now ≡ true }
         ensures found { result ≡ option_map_or
             (λ bound. can_complete self.now.compiled.now (G.meaning self.now.graph.now) self.now.atoms.now plan.now (with_bound bindings.now var bound))
-            (admitted_edge self.now.compiled.now (G.meaning self.now.graph.now) self.now.atoms.now var id) false }
+            admitted false }
         ensures no_step_back { steps.old ≤ steps.new }
-        ensures cost { steps.new ≤ steps.old + (3 + option_map_or
+        ensures cost { steps.new ≤ steps.old + option_map_or
             (λ bound. most_steps self.now.compiled.now (G.meaning self.now.graph.now) self.now.atoms.now 0 plan.now (with_bound bindings.now var bound))
-            (admitted_edge self.now.compiled.now (G.meaning self.now.graph.now) self.now.atoms.now var id) 0) }
+            admitted 0 }
     {
-        match self.admit_edge(var, id, steps) {
-            Some(bound) => self.can_complete(plan, &bindings.with(var, bound), steps),
-            None => false,
-        }
-    }
-
-    // Whether it can with the variable bound to a node.
-    #[cycle(complete)]
-    fn can_complete_by_node<L: Ledger>(
-        &self,
-        var: u32,
-        id: NodeId,
-        plan: &[Step],
-        bindings: &Bindings,
-        steps: &mut Steps<L>,
-    ) -> bool
-        requires { list_all (names_types self.now.compiled.now) self.now.atoms.now ≡ true }
-        ensures found { result ≡ option_map_or
-            (λ bound. can_complete self.now.compiled.now (G.meaning self.now.graph.now) self.now.atoms.now plan.now (with_bound bindings.now var bound))
-            (admitted_node self.now.compiled.now (G.meaning self.now.graph.now) self.now.atoms.now var id) false }
-        ensures no_step_back { steps.old ≤ steps.new }
-        ensures cost { steps.new ≤ steps.old + (1 + option_map_or
-            (λ bound. most_steps self.now.compiled.now (G.meaning self.now.graph.now) self.now.atoms.now 0 plan.now (with_bound bindings.now var bound))
-            (admitted_node self.now.compiled.now (G.meaning self.now.graph.now) self.now.atoms.now var id) 0) }
-    {
-        match self.admit_node(var, id, steps) {
+        match admitted {
             Some(bound) => self.can_complete(plan, &bindings.with(var, bound), steps),
             None => false,
         }

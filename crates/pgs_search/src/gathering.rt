@@ -74,7 +74,10 @@ impl<'a, G: GraphRead> Gathering<'a, G> {
             },
             Some((Step::End { edge, node, source }, rest)) => {
                 match end_of(bindings.at(edge), source) {
-                    Some(id) => self.gather_by_node(node, id, rest, bindings, tuples, steps),
+                    Some(id) => {
+                        let admitted = self.search.admit_node(node, id, steps);
+                        self.gather_with(node, admitted, rest, bindings, tuples, steps)
+                    }
                     None => Ok(()),
                 }
             }
@@ -135,19 +138,22 @@ impl<'a, G: GraphRead> Gathering<'a, G> {
     {
         for nth in 0..=usize::MAX {
             match self.search.edge_along(from, forward, nth, steps) {
-                Some(id) => self.gather_by_edge(var, id, plan, bindings, tuples, steps)?,
+                Some(id) => {
+                    let admitted = self.search.admit_edge(var, id, steps);
+                    self.gather_with(var, admitted, plan, bindings, tuples, steps)?;
+                }
                 None => return Ok(()),
             }
         }
         Ok(())
     }
 
-    // Adds them with the variable bound to an edge.
+    // Adds them with the variable bound to what was admitted, where something was.
     #[cycle(gather)]
-    fn gather_by_edge<L: Ledger>(
+    fn gather_with<L: Ledger>(
         &self,
         var: u32,
-        id: EdgeId,
+        admitted: Option<Bound>,
         plan: &[Step],
         bindings: &Bindings,
         tuples: &mut TupleSet,
@@ -156,43 +162,13 @@ impl<'a, G: GraphRead> Gathering<'a, G> {
         requires { list_all (names_types self.now.search.compiled.now) self.now.search.atoms.now ≡ true }
         ensures ok { OnOk result (tuples.new ≡ option_map_or
             (λ bound. gathered self.now.search.compiled.now (G.meaning self.now.search.graph.now) self.now.search.atoms.now
-            self.now.exprs.now plan.now (with_bound bindings.now var bound) tuples.old)
-            (admitted_edge self.now.search.compiled.now (G.meaning self.now.search.graph.now) self.now.search.atoms.now var id) tuples.old) }
+            self.now.exprs.now plan.now (with_bound bindings.now var bound) tuples.old) admitted tuples.old) }
         ensures no_step_back { steps.old ≤ steps.new }
-        ensures cost { steps.new ≤ steps.old + (3 + option_map_or
+        ensures cost { steps.new ≤ steps.old + option_map_or
             (λ bound. most_steps self.now.search.compiled.now (G.meaning self.now.search.graph.now) self.now.search.atoms.now
-            (length self.now.exprs.now) plan.now (with_bound bindings.now var bound))
-            (admitted_edge self.now.search.compiled.now (G.meaning self.now.search.graph.now) self.now.search.atoms.now var id) 0) }
+            (length self.now.exprs.now) plan.now (with_bound bindings.now var bound)) admitted 0 }
     {
-        match self.search.admit_edge(var, id, steps) {
-            Some(bound) => self.gather(plan, &bindings.with(var, bound), tuples, steps),
-            None => Ok(()),
-        }
-    }
-
-    // Adds them with the variable bound to a node.
-    #[cycle(gather)]
-    fn gather_by_node<L: Ledger>(
-        &self,
-        var: u32,
-        id: NodeId,
-        plan: &[Step],
-        bindings: &Bindings,
-        tuples: &mut TupleSet,
-        steps: &mut Steps<L>,
-    ) -> Result<(), Memory>
-        requires { list_all (names_types self.now.search.compiled.now) self.now.search.atoms.now ≡ true }
-        ensures ok { OnOk result (tuples.new ≡ option_map_or
-            (λ bound. gathered self.now.search.compiled.now (G.meaning self.now.search.graph.now) self.now.search.atoms.now
-            self.now.exprs.now plan.now (with_bound bindings.now var bound) tuples.old)
-            (admitted_node self.now.search.compiled.now (G.meaning self.now.search.graph.now) self.now.search.atoms.now var id) tuples.old) }
-        ensures no_step_back { steps.old ≤ steps.new }
-        ensures cost { steps.new ≤ steps.old + (1 + option_map_or
-            (λ bound. most_steps self.now.search.compiled.now (G.meaning self.now.search.graph.now) self.now.search.atoms.now
-            (length self.now.exprs.now) plan.now (with_bound bindings.now var bound))
-            (admitted_node self.now.search.compiled.now (G.meaning self.now.search.graph.now) self.now.search.atoms.now var id) 0) }
-    {
-        match self.search.admit_node(var, id, steps) {
+        match admitted {
             Some(bound) => self.gather(plan, &bindings.with(var, bound), tuples, steps),
             None => Ok(()),
         }

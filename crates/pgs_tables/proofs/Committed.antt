@@ -116,3 +116,13 @@ module _ (nodes new_nodes : List (NodeId × NodeTable)) (edges new_edges : List 
 
   pub committed_is_graph : is_graph (graph_of new_nodes new_edges) ≡ true
   committed_is_graph = ap is_graph committed_graph ∙ changed_graph old delta sound
+
+-- what stands at each node once rows and lists are put in one after the other
+pub each_put : (old : Graph) (nodes put new_nodes : List (NodeId × NodeTable)) (delta : Delta) (changes : List (NodeId × Option NodeRow)) (lists : List (NodeId × NodeEdges)) →
+    changes ≡ delta.nodes → lists ≡ touched_edges old delta →
+    ((q : NodeId) → lookup (is_at (node_cmp q)) put ≡ rows_put q (lookup (is_at (node_cmp q)) nodes) changes) →
+    ((q : NodeId) → lookup (is_at (node_cmp q)) new_nodes ≡ lists_put q (lookup (is_at (node_cmp q)) put) lists) →
+    (q : NodeId) → lookup (is_at (node_cmp q)) new_nodes ≡ lists_put q (rows_put q (lookup (is_at (node_cmp q)) nodes) delta.nodes) (touched_edges old delta)
+each_put old nodes put new_nodes delta changes lists of_delta touched rows linked q =
+    linked q ∙ ap (lists_put q (lookup (is_at (node_cmp q)) put)) touched
+    ∙ ap (λ o. lists_put q o (touched_edges old delta)) (rows q ∙ ap (rows_put q (lookup (is_at (node_cmp q)) nodes)) of_delta)

@@ -11,11 +11,8 @@ decreases-gather g l = 3 * length l.plan.now
 abbrev pub decreases-gather_along : goal.decreases-gather_along
 decreases-gather_along g l = 3 * length l.plan.now + 2
 
-abbrev pub decreases-gather_by_edge : goal.decreases-gather_by_edge
-decreases-gather_by_edge g l = 3 * length l.plan.now + 1
-
-abbrev pub decreases-gather_by_node : goal.decreases-gather_by_node
-decreases-gather_by_node g l = 3 * length l.plan.now + 1
+abbrev pub decreases-gather_with : goal.decreases-gather_with
+decreases-gather_with g l = 3 * length l.plan.now + 1
 
 abbrev pub invariant-gather_along-loop-nth : goal.invariant-gather_along-loop-nth
 invariant-gather_along-loop-nth g l =

@@ -11,11 +11,8 @@ decreases-can_complete g l = 3 * length l.plan.now
 abbrev pub decreases-can_complete_along : goal.decreases-can_complete_along
 decreases-can_complete_along g l = 3 * length l.plan.now + 2
 
-abbrev pub decreases-can_complete_by_edge : goal.decreases-can_complete_by_edge
-decreases-can_complete_by_edge g l = 3 * length l.plan.now + 1
-
-abbrev pub decreases-can_complete_by_node : goal.decreases-can_complete_by_node
-decreases-can_complete_by_node g l = 3 * length l.plan.now + 1
+abbrev pub decreases-can_complete_with : goal.decreases-can_complete_with
+decreases-can_complete_with g l = 3 * length l.plan.now + 1
 
 abbrev pub invariant-can_complete_along-loop-nth : goal.invariant-can_complete_along-loop-nth
 invariant-can_complete_along-loop-nth g l =
