@@ -1,25 +1,12 @@
 #!/usr/bin/env bash
 # Times the reading of lines by the program: `try` over 50 million empty lines, and over a gigabyte of lines of 100 spaces, both
-# behind a schema and its separator. It says how long each takes, in seconds, and the most memory that the program held, in kilobytes,
-# beside that of a run over 1,000 such lines: a run takes no more memory for more lines. It builds the program in a folder of its
-# own, proving what no check has kept.
+# behind a schema and its separator. It says how long each takes and how much of it the program had of a processor, in seconds, and the
+# most memory that it held, in kilobytes, beside that of a run over 1,000 such lines: a run takes no more memory for more lines. It builds
+# the program in a folder of its own, proving what no check has kept.
 # Usage: bench/reading.sh
-set -eu
-shopt -s inherit_errexit
-top=$(cd "$(dirname "$(readlink -f "${BASH_SOURCE[0]}")")/.." && pwd)
-work=$(mktemp -d)
-trap 'rm -rf "$work"' EXIT
-mkdir -p "$work/crates"
-cp "$top/HANDLES" "$work/"
-: >"$work/crates.txt"
-for crate in pgs_base pgs_text pgs_world pgs_lines pgs_syntax pgs_lexer pgs_graph pgs_violation pgs_parser pgs_resolve pgs_json pgs_answer pgs_run pgguard; do
-  cp -r "$top/crates/$crate" "$work/crates/"
-  grep -E "^$crate:" "$top/crates.txt" >>"$work/crates.txt"
-done
-cd "$work/crates/pgguard"
-built="$work/crates/pgguard/out/pgguard"
-rm -f "$built"
-(rt all check && rt run -- try) >"$work/log" 2>&1 </dev/null || [ -x "$built" ] || { tail -n 20 "$work/log" >&2; exit 1; }
+source "$(dirname "$(readlink -f "${BASH_SOURCE[0]}")")/common.bash"
+take pgguard
+build pgguard try
 schema() {
   printf 'CREATE GRAPH TYPE g STRICT {};\n---\n'
 }
@@ -28,9 +15,9 @@ spaces=$(printf '%100s' '')
 lines() {
   yes "$1" | head -n "$2"
 }
-# reads TEXT COUNT: the seconds that a run over these lines takes, and the most memory that it held
+# reads TEXT COUNT: the seconds that a run over these lines takes, those of the processor in it, and the most memory that it held
 reads() {
-  local start now most=0 held pid status
+  local start now most=0 held pid status ticks=0 seen
   mkfifo "$work/input"
   "$built" try <"$work/input" >"$work/output" &
   pid=$!
@@ -38,6 +25,7 @@ reads() {
   { schema; lines "$1" "$2"; } >"$work/input" &
   while held=$(awk '/^VmHWM:/ { print $2 }' "/proc/$pid/status" 2>/dev/null) && [ -n "$held" ]; do
     [ "$held" -le "$most" ] || most=$held
+    seen=$(awk '{ print $14 + $15 }' "/proc/$pid/stat" 2>/dev/null) && [ -n "$seen" ] && ticks=$seen
     sleep 0.02
   done
   status=0
@@ -45,13 +33,13 @@ reads() {
   now=$(date +%s%N)
   rm "$work/input"
   [ "$status" -eq 0 ] || { echo "the program ended with $status" >&2; cat "$work/output" >&2; exit 1; }
-  echo "$(awk "BEGIN { print ($now - $start) / 1000000000 }") $most"
+  awk -v ns=$((now - start)) -v ticks="$ticks" -v hertz="$(getconf CLK_TCK)" -v most="$most" 'BEGIN { printf "%.2f %.2f %d\n", ns / 1e9, ticks / hertz, most }'
 }
 report() {
   local few all
-  few=$(reads "$2" 1000)
-  all=$(reads "$2" "$3")
-  echo "$1: ${all% *} s, ${all#* } kB held (over 1,000 lines ${few#* } kB)"
+  read -r -a few <<<"$(reads "$2" 1000)"
+  read -r -a all <<<"$(reads "$2" "$3")"
+  echo "$1: ${all[0]} s, of the processor ${all[1]} s; ${all[2]} kB held (over 1,000 lines ${few[2]} kB)"
 }
 report '50,000,000 empty lines' '' 50000000
 report '9,900,000 lines of 100 spaces' "$spaces" 9900000

@@ -8,6 +8,14 @@ use std::alloc::Global;
 // Room for the words of a line and two numbers.
 const ROOM: usize = 64;
 
+// Puts a name with its count last.
+fn push_count(line: &mut TextBuffer, name: &[u8], count: u64) -> Result<(), Memory>
+    ensures { OnOk result (line.new ≡ line.old ++ (name.now ++ decimal count)) }
+{
+    line.push(name)?;
+    line.push_number(count)
+}
+
 /// The line of a refused schema.
 #[tactic(auto, unfolding(crate::specs::Lines::schema_refused_line))]
 pub fn schema_refused_line(alloc: Global, text: &[u8]) -> Result<Bytes, Memory>
@@ -81,10 +89,8 @@ pub fn loaded_line(alloc: Global, types: u64, keys: u64) -> Result<Bytes, Memory
     ensures { IfOk result (λ line. line ≡ loaded_line types keys) }
 {
     let mut line = TextBuffer::with_room(alloc, ROOM)?;
-    line.push(b"loaded types=")?;
-    line.push_number(types)?;
-    line.push(b" keys=")?;
-    line.push_number(keys)?;
+    push_count(&mut line, b"loaded types=", types)?;
+    push_count(&mut line, b" keys=", keys)?;
     line.push(b"\n")?;
     Ok(line.into_bytes())
 }
@@ -94,18 +100,9 @@ pub fn feeds_lost_line(alloc: Global, lost: u64) -> Result<Bytes, Memory>
     ensures { IfOk result (λ line. line ≡ feeds_lost_line lost) }
 {
     let mut line = TextBuffer::with_room(alloc, ROOM)?;
-    line.push(b"feeds lost=")?;
-    line.push_number(lost)?;
+    push_count(&mut line, b"feeds lost=", lost)?;
     line.push(b"\n")?;
     Ok(line.into_bytes())
-}
-
-// Puts a name with its count last.
-fn push_count(line: &mut TextBuffer, name: &[u8], count: u64) -> Result<(), Memory>
-    ensures { OnOk result (line.new ≡ line.old ++ (name.now ++ decimal count)) }
-{
-    line.push(name)?;
-    line.push_number(count)
 }
 
 // Puts the counts of a graph last: how many nodes and edges there are, and how many edges come in at node 1.
@@ -142,10 +139,8 @@ pub fn checkpoint_line(alloc: Global, epoch: u64, commits: u64) -> Result<Bytes,
     ensures { IfOk result (λ line. line ≡ checkpoint_line epoch commits) }
 {
     let mut line = TextBuffer::with_room(alloc, ROOM)?;
-    line.push(b"checkpoint epoch=")?;
-    line.push_number(epoch)?;
-    line.push(b" commits=")?;
-    line.push_number(commits)?;
+    push_count(&mut line, b"checkpoint epoch=", epoch)?;
+    push_count(&mut line, b" commits=", commits)?;
     line.push(b"\n")?;
     Ok(line.into_bytes())
 }

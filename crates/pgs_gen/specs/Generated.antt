@@ -1,7 +1,5 @@
 -- The workload of a start: its schema, and the transaction of each number.
 use Rattle.std.specs.Prelude.{ℕ, ◌+◌, ◌-◌, ◌*◌, ◌%◌, List, [], ◌∷◌, ◌++◌, pos, nat_lt, codes, decimal, if◌then◌else◌}
-use Rattle.pgs_base.specs.declared.element.NodeId.{NodeId}
-use Rattle.pgs_base.specs.declared.element.EdgeId.{EdgeId}
 use Rattle.pgs_base.specs.declared.value.Value.TheVariants.{Text, Int}
 use Rattle.pgs_graph.specs.declared.operation.Op.{Op}
 use Rattle.pgs_graph.specs.declared.operation.Op.TheVariants.{AddNode, AddEdge}
