@@ -1,26 +1,29 @@
 #!/usr/bin/env bash
-# Times the test of one pair (a label and 8 properties) against shapes of a label and 8 keys: the last shape has the pair, and each
-# one before it differs at the last key alone, so that every shape is walked to its end. With 1, 16 and 4,096 shapes. It makes a small
-# program over pgs_conform in a folder of its own, and builds it, proving what is below where no check has kept it.
+# Times compiled types. First the test of one pair (a label and 8 properties) against shapes of a label and 8 keys: the last shape has
+# the pair, and each one before it differs at the last key alone, so that every shape is walked to its end; with 1, 16 and 4,096 shapes.
+# Then the reading of schema texts whose types are compiled at their limit, 4,096 shapes of 1,024 parts each, which are labels or keys;
+# of one shape with as many labels as a text has room for; and of a text that would make 2^64 shapes, which is refused. The program
+# itself takes the times of reading; beside them stands the most memory that it held. It makes a small program over pgs_conform and
+# pgs_schema in a folder of its own, and builds it, proving what is below where no check has kept it.
 # Usage: bench/fitting.sh
-set -eu
-shopt -s inherit_errexit
-top=$(cd "$(dirname "$(readlink -f "${BASH_SOURCE[0]}")")/.." && pwd)
-work=$(mktemp -d)
-trap 'rm -rf "$work"' EXIT
+source "$(dirname "$(readlink -f "${BASH_SOURCE[0]}")")/common.bash"
+take pgs_conform pgs_schema
 mkdir -p "$work/crates/fitting/src" "$work/crates/fitting/proofs/shape"
-cp "$top/HANDLES" "$work/"
-cp -r "$top"/crates/pgs_{base,syntax,conform} "$work/crates/"
-{ grep -E '^pgs_(base|syntax|conform):' "$top/crates.txt"; echo 'fitting: pgs_base pgs_conform'; } >"$work/crates.txt"
+echo 'fitting: pgs_base pgs_conform pgs_schema' >>"$work/crates.txt"
 cat >"$work/crates/fitting/src/main.rt" <<'E'
-//! Tests a pair against as many shapes as its first word says, 4,096 of them a turn, as many turns as it has further words.
+//! With the word `fit`, a number and further words: tests a pair against as many shapes as the number says, 4,096 times for each further
+//! word. With the word `read` and four numbers: reads a text whose type has so many optional labels, labels and keys, as often as the
+//! fourth says, and tells the time of one reading. It ends with 0 where the pair fits, or the text is read, and with 1 where not.
 #![tactic(auto)]
 
 use pgs_base::{Labels, List, Memory, Name, Props, Rows, Text, Value};
 use pgs_conform::{Options, Pair, Shape};
-use std::alloc::Global;
+use pgs_schema::{SchemaFault, SchemaUnread, read_schema};
+use std::alloc::{AllocError, Global};
 use std::env;
+use std::io;
 use std::process::ExitCode;
+use std::time::Instant;
 
 const KEYS: [&str; 8] = [
     "born", "city", "country", "mail", "name", "phone", "salary", "street",
@@ -101,25 +104,128 @@ fn turns(alloc: Global, count: usize, walks: usize) -> Result<bool, Memory> {
     Ok(all)
 }
 
-fn main(rt: HostRuntime) -> ExitCode {
-    let alloc = rt.alloc();
-    let Ok(arguments) = env::args(&rt) else {
-        return ExitCode::from(2);
+// Names of one letter and their places, each with an end.
+fn push_names(
+    alloc: Global,
+    text: &mut String,
+    letter: &str,
+    count: u64,
+    between: &str,
+    end: &str,
+) -> Result<(), AllocError> {
+    for place in 0..count {
+        let name = format!(in alloc; "{letter}{place}{end}")?;
+        if place > 0 {
+            text.push_str(between)?;
+        }
+        text.push_str(name.as_str())?;
+    }
+    Ok(())
+}
+
+// A schema of one type `o0? & .. & r0 & .. {k0 INT, ..}`.
+fn schema_text(
+    alloc: Global,
+    optional: u64,
+    labels: u64,
+    keys: u64,
+) -> Result<String, AllocError> {
+    let mut text = String::from_str(alloc, "CREATE GRAPH TYPE g STRICT {(t: ")?;
+    push_names(alloc, &mut text, "o", optional, "&", "?")?;
+    if optional > 0 && labels > 0 {
+        text.push_str("&")?;
+    }
+    push_names(alloc, &mut text, "r", labels, "&", "")?;
+    text.push_str(" {")?;
+    push_names(alloc, &mut text, "k", keys, ",", " INT")?;
+    text.push_str("})};")?;
+    Ok(text)
+}
+
+// Whether a text is read, and not refused as too wide. `None` where it is refused otherwise, or there was no memory.
+fn is_read(alloc: Global, text: &[u8]) -> Option<bool> {
+    match read_schema(alloc, text) {
+        Ok(_) => Some(true),
+        Err(SchemaUnread::Schema(SchemaFault::TooWide { .. })) => Some(false),
+        Err(_) => None,
+    }
+}
+
+fn readings(alloc: Global, text: &[u8], count: u64) -> Option<bool> {
+    let mut all = Some(true);
+    for _ in 0..count {
+        all = is_read(alloc, text);
+    }
+    all
+}
+
+// Reads the text so often, tells the time of one reading, and gives the program's status.
+fn read(rt: &HostRuntime, text: &[u8], count: u64) -> io::Result<u8> {
+    let start = Instant::now(rt)?;
+    let answer = readings(rt.alloc(), text, count);
+    let time = start.elapsed(rt)?;
+    let micros = time.as_secs().saturating_mul(1_000_000).saturating_add(time.subsec_micros() as u64);
+    println!(rt; "read in {} us", micros / count.max(1))?;
+    Ok(match answer {
+        Some(true) => 0,
+        Some(false) => 1,
+        None => 3,
+    })
+}
+
+fn number_of(words: &[String], place: usize) -> u64 {
+    match words.get(place) {
+        Some(word) => word.as_str().parse().unwrap_or(0),
+        None => 0,
+    }
+}
+
+fn run_fits(alloc: Global, words: &[String]) -> u8 {
+    let count = number_of(words, 1) as usize;
+    match turns(alloc, count, words.len().saturating_sub(2)) {
+        Ok(true) => 0,
+        Ok(false) => 1,
+        Err(Memory) => 3,
+    }
+}
+
+fn run_reads(rt: &HostRuntime, words: &[String]) -> u8 {
+    let text = schema_text(rt.alloc(), number_of(words, 1), number_of(words, 2), number_of(words, 3));
+    let Ok(text) = text else {
+        return 3;
     };
-    let mut count: usize = 0;
-    let mut walks: usize = 0;
-    for argument in arguments.skip(1) {
-        if count == 0 {
-            count = argument.as_str().parse().unwrap_or(1);
-        } else {
-            walks = walks.saturating_add(1);
+    match read(rt, text.as_bytes(), number_of(words, 4)) {
+        Ok(status) => status,
+        Err(_) => 4,
+    }
+}
+
+fn words_of(rt: &HostRuntime) -> Result<Vec<String>, AllocError> {
+    let mut words = Vec::new(rt.alloc());
+    if let Ok(arguments) = env::args(rt) {
+        for argument in arguments.skip(1) {
+            match words.push(argument) {
+                Ok(()) => {}
+                Err(_) => return Err(AllocError),
+            }
         }
     }
-    match turns(alloc, count, walks) {
-        Ok(true) => ExitCode::from(0),
-        Ok(false) => ExitCode::from(1),
-        Err(_) => ExitCode::from(3),
-    }
+    Ok(words)
+}
+
+fn main(rt: HostRuntime) -> ExitCode {
+    let Ok(words) = words_of(&rt) else {
+        return ExitCode::from(3);
+    };
+    let reads = match words.first() {
+        Some(word) => word.as_str() == "read",
+        None => false,
+    };
+    ExitCode::from(if reads {
+        run_reads(&rt, words.as_slice())
+    } else {
+        run_fits(rt.alloc(), words.as_slice())
+    })
 }
 E
 cat >"$work/crates/fitting/proofs/shape/Answers.antt" <<'E'
@@ -131,18 +237,21 @@ invariant_of-result c = record {
   ascending = rw (c.from_vec.ensures, c.into_vec-keys.ensures.items) ((ascends_decides _ _).1 c.into_vec-keys.ensures.ascending);
 }
 E
-cd "$work/crates/fitting"
-built="$work/crates/fitting/out/fitting"
-(rt all check && rt run) >"$work/log" 2>&1 </dev/null || [ -x "$built" ] || { tail -n 20 "$work/log" >&2; exit 1; }
-# The processor's time of the program itself, which other work on the machine changes least.
-milliseconds() {
-  local TIMEFORMAT='%U'
-  { time "$built" "$@" || { echo "the program ended with $?" >&2; exit 1; }; } 2>&1 | awk '{ print $1 * 1000 }'
-}
+build fitting fit 1
 for count in 1 16 4096; do
   turns=$((count < 1024 ? 1024 / count + 200 : 8))
-  base=$(milliseconds "$count")
+  base=$(milliseconds "$built" fit "$count")
   mapfile -t words < <(seq "$turns")
-  all=$(milliseconds "$count" "${words[@]}")
-  awk "BEGIN { ms = $all - $base; printf \"$count shapes: %.3f us a test, %.3f us a shape\n\", ms * 1000 / ($turns * 4096), ms * 1000 / ($turns * 4096 * $count) }"
+  all=$(milliseconds "$built" fit "$count" "${words[@]}")
+  awk "BEGIN { ms = $all - $base; printf \"%d shapes: %.3f us a test, %.3f us a shape\n\", $count, ms * 1000 / ($turns * 4096), ms * 1000 / ($turns * 4096 * $count) }"
 done
+# reads WHAT STATUS OPTIONAL LABELS KEYS TIMES
+reads() {
+  local what=$1 wanted=$2
+  shift 2
+  held "$what" "$wanted" "$built" read "$@"
+}
+reads '4,096 shapes of 1,024 labels' 0 12 1012 0 1
+reads '4,096 shapes of up to 12 labels and 1,012 keys' 0 12 0 1012 1
+reads 'one shape of 120,000 labels' 0 0 120000 0 1
+reads '2^64 shapes, refused' 1 64 0 0 10000

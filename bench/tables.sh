@@ -5,21 +5,10 @@
 # with two properties each take. It makes small programs in a folder of its own, and builds them, proving what is below where no check
 # has kept it.
 # Usage: bench/tables.sh
-set -eu
-shopt -s inherit_errexit
-top=$(cd "$(dirname "$(readlink -f "${BASH_SOURCE[0]}")")/.." && pwd)
-work=$(mktemp -d)
-trap 'rm -rf "$work"' EXIT
-mkdir -p "$work/crates/tabling/src"
-cp "$top/HANDLES" "$work/"
-for crate in base graph syntax violation txn edges numbered tables overlay; do
-  cp -r "$top/crates/pgs_$crate" "$work/crates/"
-done
-{
-  grep -E '^pgs_(base|graph|syntax|violation|txn|edges|numbered|tables|overlay):' "$top/crates.txt"
-  echo 'tabling: pgs_base pgs_graph pgs_violation pgs_txn pgs_tables pgs_overlay'
-} >"$work/crates.txt"
-mkdir -p "$work/crates/tabling/proofs/done"
+source "$(dirname "$(readlink -f "${BASH_SOURCE[0]}")")/common.bash"
+take pgs_txn pgs_overlay
+echo 'tabling: pgs_base pgs_graph pgs_violation pgs_txn pgs_tables pgs_overlay' >>"$work/crates.txt"
+mkdir -p "$work/crates/tabling/src" "$work/crates/tabling/proofs/done"
 cat >"$work/crates/tabling/proofs/done/Invariants.antt" <<'E'
 use Rattle.tabling.proofs.done.Given as goal
 
@@ -303,32 +292,23 @@ fn main() {
 }
 E
 rustc -O -A warnings -o "$work/bare" "$work/bare.rs"
-cd "$work/crates/tabling"
-built="$work/crates/tabling/out/tabling"
-(rt all check && rt run -- nodes) >"$work/log" 2>&1 </dev/null || [ -x "$built" ] || { tail -n 40 "$work/log" >&2; exit 1; }
-# The processor's time of the program itself, in milliseconds: the least of three, which other work on the machine changes least.
-milliseconds() {
-  local TIMEFORMAT='%U'
-  for _ in 1 2 3; do
-    { time "$@" || { echo "the program ended with $?" >&2; exit 1; }; } 2>&1
-  done | sort -n | awk 'NR == 1 { print $1 * 1000 }'
+build tabling nodes
+# single PROGRAM KIND: the milliseconds of 200,000 transactions, less those of making the nodes
+single() {
+  local all nodes
+  all=$(milliseconds "$1" "$2")
+  nodes=$(milliseconds "$1" nodes)
+  echo $((all - nodes))
 }
-for program in "$built" "$work/bare"; do
-  nodes=$(milliseconds "$program" nodes)
-  for kind in spread hub; do
-    all=$(milliseconds "$program" "$kind")
-    awk -v program="$(basename "$program")" -v kind="$kind" -v all="$all" -v nodes="$nodes" \
-      'BEGIN { printf "%s, %s: %.0f ms, %.2f us a transaction\n", program, kind, all - nodes, (all - nodes) / 200 }'
-  done
-done
-nodes=$(milliseconds "$built" nodes)
+spread=$(single "$built" spread)
+hub=$(single "$built" hub)
+bare_spread=$(single "$work/bare" spread)
+bare_hub=$(single "$work/bare" hub)
+awk -v spread="$spread" -v hub="$hub" -v bare_spread="$bare_spread" -v bare_hub="$bare_hub" 'BEGIN {
+  printf "200,000 transactions, spread: %d ms, %.2f us each; bare Rust %d ms, so %.2f times\n", spread, spread / 200, bare_spread, spread / bare_spread
+  printf "200,000 transactions, at one node: %d ms, %.2f us each; bare Rust %d ms, so %.2f times\n", hub, hub / 200, bare_hub, hub / bare_hub
+  printf "at one node over spread: %.2f times\n", hub / spread }'
 for kind in together apart; do
-  all=$(milliseconds "$built" "$kind")
-  awk -v kind="$kind" -v all="$all" -v nodes="$nodes" 'BEGIN { printf "200,000 edges in one transaction, %s: %.0f ms\n", kind, all - nodes }'
+  echo "200,000 edges in one transaction, $kind: $(single "$built" "$kind") ms"
 done
-"$built" elements &
-pid=$!
-most=0
-while held=$(awk '/^VmHWM:/ { print $2 }' "/proc/$pid/status" 2>/dev/null) && [ -n "$held" ]; do most=$held; sleep 0.02; done
-wait "$pid"
-echo "1,000,000 elements with two properties each: $((most / 1024)) MB at most"
+held '1,000,000 elements with two properties each' 0 "$built" elements
