@@ -102,6 +102,27 @@ fn choose(a: AreaState, b: AreaState) -> Result<Chosen, ChooseFault>
     }
 }
 
+/// The store of two areas, each read once, with no sync.
+fn read_chosen<W: World>(alloc: Global, world: &mut W) -> Result<Chosen, ChooseFault>
+    ensures chosen { IfOk result (λ it. IsTrue (W.view world.old).tells_bytes
+        → choice_of (W.view world.old).shown.a (W.view world.old).shown.b ≡ choices.chosen it.area it.epoch it.end it.payloads) }
+    ensures refused { IfErr result (λ fault. IsTrue (W.view world.old).tells_bytes
+        → Refuses fault (choice_of (W.view world.old).shown.a (W.view world.old).shown.b)) }
+    ensures stands { IfOk result (λ it. IsTrue (W.view world.new).tells_bytes
+        → HasStore it.area it.epoch it.end it.payloads (W.view world.new).shown) }
+    ensures bounds { IfOk result (λ it. IsBoundedStore it.epoch it.end it.payloads) }
+    ensures quiet { IsQuiet (W.view world.old) (W.view world.new) }
+    ensures image { ShowsOne (W.view world.new) }
+    ensures cause { result ≡ Err ChooseFault.DiskFault → Rose (W.view world.old).area_faults (W.view world.new).area_faults }
+    ensures no_cause { (result ≡ Err ChooseFault.DiskFault → ⊥)
+        → (W.view world.new).area_faults ≡ (W.view world.old).area_faults }
+    ensures no_put { MakesNoPut (W.view world.old) (W.view world.new) }
+{
+    let a = scan(alloc, world, Area::A)?;
+    let b = scan(alloc, world, Area::B)?;
+    choose(a, b)
+}
+
 /// The store of two areas, by the definition of which one is chosen. Both areas are synced first, and then each is read once, by
 /// one call for its length and one read of all its bytes. Nothing is written: both areas and the output are what they were at
 /// every moment, and after an answer that speaks of the areas nothing is pending. What it gives is within its bounds on every
@@ -110,6 +131,7 @@ fn choose(a: AreaState, b: AreaState) -> Result<Chosen, ChooseFault>
 /// `NoStore` where no area is a store and none is foreign, `Foreign` where no area is a store and one is foreign, `BadRecord`
 /// where the chosen store is damaged at that record, each exactly where the world tells its bytes. `DiskFault` comes only where
 /// the count of area faults rose. `Memory` may come wherever there is none. Whether the records lead anywhere isn't judged.
+#[tactic(auto, using(pgs_world::proofs::Moments::settled_quiet))]
 pub fn choose_area<W: World>(alloc: Global, world: &mut W) -> Result<Chosen, ChooseFault>
     // It is what the definition says of both areas, where the world tells its bytes.
     ensures chosen { IfOk result (λ it. IsTrue (W.view world.old).tells_bytes
@@ -125,11 +147,10 @@ pub fn choose_area<W: World>(alloc: Global, world: &mut W) -> Result<Chosen, Cho
     ensures quiet { IsQuiet (W.view world.old) (W.view world.new) }
     ensures image { ShowsOne (W.view world.new) }
     ensures cause { result ≡ Err ChooseFault.DiskFault → Rose (W.view world.old).area_faults (W.view world.new).area_faults }
-    ensures no_cause { (result ≡ Err ChooseFault.DiskFault → ⊥) → (W.view world.new).area_faults ≡ (W.view world.old).area_faults }
+    ensures no_cause { (result ≡ Err ChooseFault.DiskFault → ⊥)
+        → (W.view world.new).area_faults ≡ (W.view world.old).area_faults }
     ensures no_put { MakesNoPut (W.view world.old) (W.view world.new) }
 {
     sync_both(world)?;
-    let a = scan(alloc, world, Area::A)?;
-    let b = scan(alloc, world, Area::B)?;
-    choose(a, b)
+    read_chosen(alloc, world)
 }
