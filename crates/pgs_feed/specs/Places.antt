@@ -15,6 +15,10 @@ pub data Place : Type 0 where
   Lost : FeedState → Place
   Dropped : (failed : Bool) → Place
 
+-- the place of a feed that took these bytes, where it tells them, and whose count of faults this is
+abbrev pub fed : Option (List ℕ) → ℕ → Place
+fed taken faults = Fed (record { taken = taken; faults = faults })
+
 -- the place by its feed, if it wasn't dropped, and by whether the feed failed
 abbrev pub place_of : Option FeedState → Bool → Place
 place_of None failed = Dropped failed

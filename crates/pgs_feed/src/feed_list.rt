@@ -1,7 +1,7 @@
 ghost use Rattle.std.specs.Prelude.{◌≡◌, [], ◌∷◌, ◌++◌, List, length, slice_get, IfOk, IfErr, OnOk, OnErr, option_and_then};
 ghost use Rattle.std.specs.List.{AllZip};
 ghost use Rattle.std.specs.Option.{option_map};
-ghost use Rattle.pgs_feed.specs.Places.{Place, Fed, Delivers, RaisesLost, lost_count, is_there, taken_at, without};
+ghost use Rattle.pgs_feed.specs.Places.{Place, Delivers, RaisesLost, fed, lost_count, is_there, taken_at, without};
 ghost use Rattle.pgs_feed.specs.Slots.{places_seen};
 
 use crate::{BoxedFeed, Slot, slots};
@@ -22,7 +22,10 @@ pub struct FeedList {
 }
 
 impl Seen for FeedList {
-    ghost places = { λ list. places_seen (λ boxed. (Feed-box boxed.feed).taken boxed.feed.value) (λ boxed. (Feed-box boxed.feed).faults boxed.feed.value) list.slots.items };
+    ghost places = { λ list. places_seen
+      (λ boxed. (Feed-box boxed.feed).taken boxed.feed.value)
+      (λ boxed. (Feed-box boxed.feed).faults boxed.feed.value)
+      list.slots.items };
 }
 
 impl FeedList {
@@ -39,7 +42,7 @@ impl FeedList {
     /// are as they were, and the feed is handed back.
     pub fn subscribe(&mut self, feed: Box<dyn Feed>) -> Result<usize, (Box<dyn Feed>, Memory)>
         ensures place { IfOk result (λ place. place ≡ length (⟦<FeedList as Seen>⟧.places self.old)) }
-        ensures subscribed { OnOk result (⟦<FeedList as Seen>⟧.places self.new ≡ ⟦<FeedList as Seen>⟧.places self.old ++ Fed (record { taken = taken feed; faults = faults feed }) ∷ []) }
+        ensures subscribed { let places = ⟦<FeedList as Seen>⟧.places in OnOk result (places self.new ≡ places self.old ++ fed (taken feed) (faults feed) ∷ []) }
         ensures unchanged { OnErr result (⟦<FeedList as Seen>⟧.places self.new ≡ ⟦<FeedList as Seen>⟧.places self.old) }
         ensures handed_back { IfErr result (λ refused. refused.0 ≡ feed) }
     {
@@ -47,7 +50,7 @@ impl FeedList {
             return Err((feed, Memory));
         }
         let place = self.slots.len();
-        let _ = self.slots.push(Slot::new(BoxedFeed { feed }));
+        self.slots.push(Slot::new(BoxedFeed { feed })).unwrap();
         Ok(place)
     }
 
