@@ -1,7 +1,7 @@
 ghost use Rattle.std.specs.Prelude.{◌≡◌, Some, false};
 ghost use Rattle.std.specs.Option.{option_map};
 ghost use Rattle.pgs_feed.specs.Places.{Delivers, dropped, has_feed, taken_at};
-ghost use Rattle.pgs_feed.specs.Slots.{place_seen};
+ghost use Rattle.pgs_feed.specs.Seen.{place_seen};
 
 use pgs_world::Feed;
 

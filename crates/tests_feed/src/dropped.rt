@@ -57,7 +57,7 @@ fn steady(alloc: Global) -> Result<MemFeed, Memory> {
 }
 
 /// Delivers a line, drops the feed at place 1, tries to drop it again, and delivers another line.
-fn drop_between(feeds: &mut FeedList) -> [bool; 2] {
+fn drop_between<F: Feed>(feeds: &mut FeedList<F>) -> [bool; 2] {
     feeds.deliver(b"x\n");
     let answers = [feeds.unsubscribe(1), feeds.unsubscribe(1)];
     feeds.deliver(b"y\n");
@@ -78,7 +78,7 @@ fn three_feeds(alloc: Global) -> Result<Seen, Memory> {
         feed: steady(alloc)?,
         report: report.clone()?,
     };
-    let mut feeds = FeedList::new(alloc);
+    let mut feeds: FeedList<Box<dyn Feed>> = FeedList::new(alloc);
     let places = [
         subscribe(&mut feeds, Box::new(alloc, steady(alloc)?)?)?,
         subscribe(&mut feeds, Box::new(alloc, second)?)?,

@@ -3,7 +3,7 @@ use pgs_feed::FeedList;
 use pgs_world::Feed;
 
 /// Subscribes the feed, and gives its place.
-pub fn subscribe(feeds: &mut FeedList, feed: Box<dyn Feed>) -> Result<usize, Memory> {
+pub fn subscribe<F: Feed>(feeds: &mut FeedList<F>, feed: F) -> Result<usize, Memory> {
     match feeds.subscribe(feed) {
         Ok(place) => Ok(place),
         Err((_feed, memory)) => Err(memory),
@@ -11,7 +11,7 @@ pub fn subscribe(feeds: &mut FeedList, feed: Box<dyn Feed>) -> Result<usize, Mem
 }
 
 /// Whether the feeds at the places 0, 1 and 2 show these bytes.
-pub fn shows(feeds: &FeedList, want: [Option<&[u8]>; 3]) -> [bool; 3] {
+pub fn shows<F: Feed>(feeds: &FeedList<F>, want: [Option<&[u8]>; 3]) -> [bool; 3] {
     let [first, second, third] = want;
     [
         feeds.shown(0) == first,
