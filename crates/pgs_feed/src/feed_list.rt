@@ -29,7 +29,7 @@ impl<F: Feed> FeedList<F> {
     /// are as they were, and the feed is handed back.
     pub fn subscribe(&mut self, feed: F) -> Result<usize, (F, Memory)>
         ensures place { IfOk result (λ place. place ≡ length (places F.taken F.faults self.old)) }
-        ensures subscribed { OnOk result (places F.taken F.faults self.new ≡ places F.taken F.faults self.old ++ fed (F.taken feed) (F.faults feed) ∷ []) }
+        ensures subscribed { let seen = places F.taken F.faults in OnOk result (seen self.new ≡ seen self.old ++ fed (F.taken feed) (F.faults feed) ∷ []) }
         ensures unchanged { OnErr result (places F.taken F.faults self.new ≡ places F.taken F.faults self.old) }
         ensures handed_back { IfErr result (λ refused. refused.0 ≡ feed) }
     {
