@@ -8,6 +8,7 @@
 
 mod area;
 mod area_limit;
+mod boxed_feed;
 mod fault;
 mod feed;
 mod leave;

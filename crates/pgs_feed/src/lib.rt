@@ -1,0 +1,11 @@
+//! A list of feeds: each line is put into each feed that hasn't failed, and a feed that fails is lost and given no more.
+//!
+//! A list keeps feeds of one kind, which may be `Box<dyn Feed>`. Contracts see it by `places` of `specs/Seen.antt`: the places that it
+//! gave, in order, each by what its feed took and by the feed's count of faults. `specs/Places.antt` says what each call does to them.
+#![tactic(auto)]
+
+mod feed_list;
+mod slot;
+
+pub use feed_list::FeedList;
+use slot::Slot;
