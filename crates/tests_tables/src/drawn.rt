@@ -57,6 +57,20 @@ fn txn(alloc: Global, start: u64) -> Result<(Txn, u64), Memory> {
     ))
 }
 
+/// Whether the next transaction was done, and the number that it ends with. `None` where something was read apart.
+fn next_done<L: Ledger>(
+    three: &mut Three,
+    alloc: Global,
+    number: u64,
+    steps: &mut Steps<L>,
+) -> Result<Option<(bool, u64)>, Memory> {
+    let (txn, after) = txn(alloc, next(number))?;
+    match three.apply(alloc, &txn, steps)? {
+        Some(read) => Ok(Some((!read.is_empty(), after))),
+        None => Ok(None),
+    }
+}
+
 /// How many of so many transactions were done. `None` where something was read apart.
 fn count_done<L: Ledger>(
     three: &mut Three,
@@ -67,15 +81,22 @@ fn count_done<L: Ledger>(
     let mut number = 1;
     let mut count: u64 = 0;
     for _ in 0..times {
-        let (txn, after) = txn(alloc, next(number))?;
+        let Some((is_done, after)) = next_done(three, alloc, number, steps)? else {
+            return Ok(None);
+        };
         number = after;
-        match three.apply(alloc, &txn, steps)? {
-            Some(read) if read.is_empty() => {}
-            Some(_) => count = count.saturating_add(1),
-            None => return Ok(None),
-        }
+        count = count.saturating_add(u64::from(is_done));
     }
     Ok(Some(count))
+}
+
+fn count_new<L: Ledger>(
+    alloc: Global,
+    times: u64,
+    steps: &mut Steps<L>,
+) -> Result<Option<u64>, Memory> {
+    let mut three = Three::new(alloc);
+    count_done(&mut three, alloc, times, steps)
 }
 
 fn done<L: Ledger>(alloc: Global, times: u64, blank: Blank) -> Result<Option<u64>, Memory>
@@ -84,8 +105,7 @@ fn done<L: Ledger>(alloc: Global, times: u64, blank: Blank) -> Result<Option<u64
     requires some { 0 < blank.parts }
 {
     let mut steps: Steps<L> = Steps::begin(blank);
-    let mut three = Three::new(alloc);
-    count_done(&mut three, alloc, times, &mut steps)
+    count_new(alloc, times, &mut steps)
 }
 
 /// Whether at least 500 were done, with all read alike after each.

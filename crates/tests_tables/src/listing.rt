@@ -1,4 +1,4 @@
-use pgs_base::{List, Memory, NodeId, Steps};
+use pgs_base::{EdgeId, List, Memory, NodeId, Steps};
 use pgs_graph::GraphRead;
 use std::alloc::Global;
 use std::sync::ledger::Ledger;
@@ -45,7 +45,18 @@ fn list_in<G: GraphRead, L: Ledger>(
     Ok(())
 }
 
-/// Each node with its edges.
+/// A node with its edges.
+fn list_node<G: GraphRead, L: Ledger>(
+    graph: &G,
+    id: NodeId,
+    all: &mut Vec<u64>,
+    steps: &mut Steps<L>,
+) -> Result<(), Memory> {
+    all.push(id.0)?;
+    list_out(graph, id, all, steps)?;
+    list_in(graph, id, all, steps)
+}
+
 fn list_nodes<G: GraphRead, L: Ledger>(
     graph: &G,
     alloc: Global,
@@ -53,26 +64,34 @@ fn list_nodes<G: GraphRead, L: Ledger>(
     steps: &mut Steps<L>,
 ) -> Result<(), Memory> {
     for id in graph.node_ids(alloc, steps)?.as_slice() {
-        all.push(id.0)?;
-        list_out(graph, *id, all, steps)?;
-        list_in(graph, *id, all, steps)?;
+        list_node(graph, *id, all, steps)?;
     }
     Ok(())
 }
 
-/// Each edge with its ends.
-fn list_ends<G: GraphRead, L: Ledger>(
+/// An edge with its ends.
+fn list_edge<G: GraphRead, L: Ledger>(
+    graph: &G,
+    id: EdgeId,
+    all: &mut Vec<u64>,
+    steps: &mut Steps<L>,
+) -> Result<(), Memory> {
+    all.push(id.0)?;
+    if let Some(edge) = graph.edge(id, steps) {
+        all.push(edge.source.0)?;
+        all.push(edge.target.0)?;
+    }
+    Ok(())
+}
+
+fn list_edges<G: GraphRead, L: Ledger>(
     graph: &G,
     alloc: Global,
     all: &mut Vec<u64>,
     steps: &mut Steps<L>,
 ) -> Result<(), Memory> {
     for id in graph.edge_ids(alloc, steps)?.as_slice() {
-        all.push(id.0)?;
-        if let Some(edge) = graph.edge(*id, steps) {
-            all.push(edge.source.0)?;
-            all.push(edge.target.0)?;
-        }
+        list_edge(graph, *id, all, steps)?;
     }
     Ok(())
 }
@@ -85,7 +104,7 @@ pub fn listing<G: GraphRead, L: Ledger>(
 ) -> Result<List<u64>, Memory> {
     let mut all = Vec::new(alloc);
     list_nodes(graph, alloc, &mut all, steps)?;
-    list_ends(graph, alloc, &mut all, steps)?;
+    list_edges(graph, alloc, &mut all, steps)?;
     all.push(graph.count())?;
     Ok(List::from_vec(all))
 }

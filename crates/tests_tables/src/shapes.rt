@@ -2,6 +2,7 @@
 
 ghost use Rattle.std.specs.Prelude.{◌≡◌, ◌<◌};
 
+use crate::listing::listing;
 use crate::three::Three;
 use pgs_base::{EdgeId, Labels, List, Memory, NodeId, Props, Steps};
 use pgs_graph::{Op, Txn};
@@ -42,39 +43,75 @@ fn txn(alloc: Global, steps: &[Step]) -> Result<Txn, Memory> {
     })
 }
 
-/// What is read of the change of the last transaction. Empty where one was refused, or something was read apart.
-fn read_last<L: Ledger>(
+/// Whether a transaction was done, with all read alike.
+fn is_done<L: Ledger>(
+    three: &mut Three,
+    alloc: Global,
+    ops: &[Step],
+    steps: &mut Steps<L>,
+) -> Result<bool, Memory> {
+    let txn = txn(alloc, ops)?;
+    match three.apply(alloc, &txn, steps)? {
+        Some(read) => Ok(!read.is_empty()),
+        None => Ok(false),
+    }
+}
+
+/// Whether all transactions were done, one after another.
+fn are_done<L: Ledger>(
     three: &mut Three,
     alloc: Global,
     txns: &[&[Step]],
     steps: &mut Steps<L>,
-) -> Result<List<u64>, Memory> {
-    let mut last = List::new(alloc);
+) -> Result<bool, Memory> {
     for ops in txns {
-        let txn = txn(alloc, ops)?;
-        last = match three.apply(alloc, &txn, steps)? {
-            Some(read) => read,
-            None => List::new(alloc),
-        };
-        if last.is_empty() {
-            break;
+        if !is_done(three, alloc, ops, steps)? {
+            return Ok(false);
         }
     }
-    Ok(last)
+    Ok(true)
 }
 
-fn read_by<L: Ledger>(alloc: Global, txns: &[&[Step]], blank: Blank) -> Result<List<u64>, Memory>
+/// What is read after all transactions. `None` where one was refused, or something was read apart.
+fn read_all<L: Ledger>(
+    three: &mut Three,
+    alloc: Global,
+    txns: &[&[Step]],
+    steps: &mut Steps<L>,
+) -> Result<Option<List<u64>>, Memory> {
+    if are_done(three, alloc, txns, steps)? {
+        Ok(Some(listing(&three.graph, alloc, steps)?))
+    } else {
+        Ok(None)
+    }
+}
+
+fn read_new<L: Ledger>(
+    alloc: Global,
+    txns: &[&[Step]],
+    steps: &mut Steps<L>,
+) -> Result<Option<List<u64>>, Memory> {
+    let mut three = Three::new(alloc);
+    read_all(&mut three, alloc, txns, steps)
+}
+
+fn read_by<L: Ledger>(
+    alloc: Global,
+    txns: &[&[Step]],
+    blank: Blank,
+) -> Result<Option<List<u64>>, Memory>
     requires name { blank.name ≡ L.name }
     requires parts { blank.parts ≡ L.parts }
     requires some { 0 < blank.parts }
 {
     let mut steps: Steps<L> = Steps::begin(blank);
-    let mut three = Three::new(alloc);
-    read_last(&mut three, alloc, txns, &mut steps)
+    read_new(alloc, txns, &mut steps)
 }
 
-fn read(alloc: Global, txns: &[&[Step]]) -> Result<List<u64>, Memory> {
-    read_by::<Brand>(alloc, txns, Blank::new(1))
+// Whether this is read after all transactions, each of which is done.
+fn reads(alloc: Global, txns: &[&[Step]], want: &[u64]) -> Result<bool, Memory> {
+    let read = read_by::<Brand>(alloc, txns, Blank::new(1))?;
+    Ok(read.is_some_and(|read| read.as_slice() == want))
 }
 
 const OUT: u64 = 1_000_001;
@@ -132,7 +169,7 @@ const SHAPES: &[(&str, &[&[Step]], &[u64])] = &[
 #[test]
 fn edges_are_listed_after_each_shape(rt: HostRuntime) -> Result<(), Fail> {
     for (name, txns, want) in SHAPES {
-        assert!(rt; read(rt.alloc(), txns)?.as_slice() == *want, "{name}");
+        assert!(rt; reads(rt.alloc(), txns, want)?, "{name}");
     }
     Ok(())
 }

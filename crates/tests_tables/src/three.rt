@@ -48,7 +48,22 @@ fn change<L: Ledger>(
     }
 }
 
-/// The same of the tables.
+/// What is read of the tables through an overlay. Then the delta was put in.
+fn put_in<L: Ledger>(
+    alloc: Global,
+    tables: &mut Tables,
+    delta: Delta,
+    steps: &mut Steps<L>,
+) -> Result<List<u64>, Memory>
+    requires { is_sound tables.old.graph delta ≡ true }
+{
+    let seen = seen(alloc, tables, &delta, steps)?;
+    let prepared = tables.prepare(delta)?;
+    tables.commit(prepared);
+    Ok(seen)
+}
+
+/// What is read of the tables through an overlay, where a transaction was staged on them. Then it was put in.
 fn commit<L: Ledger>(
     alloc: Global,
     tables: &mut Tables,
@@ -56,12 +71,7 @@ fn commit<L: Ledger>(
     steps: &mut Steps<L>,
 ) -> Result<Option<List<u64>>, Memory> {
     match stage(alloc, tables, &Limits::standard(), txn, steps) {
-        Ok(delta) => {
-            let seen = seen(alloc, tables, &delta, steps)?;
-            let prepared = tables.prepare(delta)?;
-            tables.commit(prepared);
-            Ok(Some(seen))
-        }
+        Ok(delta) => Ok(Some(put_in(alloc, tables, delta, steps)?)),
         Err(StageFault::Refused(_)) => Ok(None),
         Err(StageFault::Memory) => Err(Memory),
     }
@@ -92,6 +102,17 @@ impl Three {
     ) -> Result<Option<List<u64>>, Memory> {
         let over_graph = change(alloc, &mut self.graph, txn, steps)?;
         let over_tables = commit(alloc, &mut self.tables, txn, steps)?;
+        self.read_where_alike(alloc, over_graph, over_tables, steps)
+    }
+
+    // The same by what was seen of either before.
+    fn read_where_alike<L: Ledger>(
+        &self,
+        alloc: Global,
+        over_graph: Option<List<u64>>,
+        over_tables: Option<List<u64>>,
+        steps: &mut Steps<L>,
+    ) -> Result<Option<List<u64>>, Memory> {
         match (over_graph, over_tables) {
             (Some(first), Some(second)) => self.read_as(alloc, &first, &second, steps),
             (None, None) => Ok(Some(List::new(alloc))),
