@@ -111,7 +111,7 @@ stands_end judging lines line (Lines s) st = (
   ap (λ ls. schema_answer (join_with_byte 10 ls)) (before-append lines (line ∷ []) st.1) ∙ st.2,
   after_front (verdict_by s.judging s.schema) s.standing line ∙ ap (λ t. after_line (verdict_by s.judging s.schema) t line) st.3
       ∙ sym (ap (after_lines (verdict_by s.judging s.schema) start) (after-append lines (line ∷ []) st.1)
-          ∙ after_lines-append (verdict_by s.judging s.schema) start (after_separator lines) (line ∷ [])),
+      ∙ after_lines-append (verdict_by s.judging s.schema) start (after_separator lines) (line ∷ [])),
 )
 stands_end judging lines line Refused st =
     (one_more lines (line ∷ []) st.0, (st.1.0, ap (λ ls. schema_answer (join_with_byte 10 ls)) (before-append lines (line ∷ []) st.0) ∙ st.1.1))
@@ -142,7 +142,7 @@ pieces_lines lines line s st =
     ∙ pieces_of_lines-append telling verdict start (after_separator lines) (line ∷ [])
     ∙ ap (λ pieces. pieces_of_lines telling verdict start (after_separator lines) ++ pieces)
     (pieces_of_one telling verdict (after_lines verdict start (after_separator lines)) line ∙ ap (λ t. pieces_of_line telling verdict t line) (sym st.3)
-        ∙ sym (pieces_of_front telling verdict s.standing line))
+    ∙ sym (pieces_of_front telling verdict s.standing line))
     ∙ ap (λ pieces. pieces ++ pieces_of_line telling verdict s.standing (text_front line)) (sym (pieces_so_far s.judging lines s.schema st.1 st.2))
 
 -- what is told behind a refused schema

@@ -5,7 +5,7 @@
 //! `validate` does the transactions on plain tables, answers refused lines alone, and lists the violations of the graph at the end.
 #![tactic(auto)]
 
-mod ground;
+mod decider;
 mod judging;
 mod listing;
 mod phase;

@@ -8,7 +8,7 @@ ghost use Rattle.pgs_run_try.specs.State.{session_after, session_pieces};
 ghost use Rattle.pgs_run_try.specs.Told.{start};
 
 use crate::Judging;
-use crate::ground::{Ground, apply, open_ground};
+use crate::decider::{Decider, apply, open_decider};
 use pgs_answer::{committed_line, refused_line, rejection_text};
 use pgs_base::{Bytes, Limits, List, Memory, Seed};
 use pgs_graph::Txn;
@@ -22,7 +22,7 @@ use std::marker::Model;
 /// Where a run stands between two transaction lines. Contracts see how it judges, its schema and its standing.
 #[derive(Drop)]
 pub struct Session {
-    ground: Ground,
+    decider: Decider,
     number: u64,
     refused: bool,
 }
@@ -30,15 +30,15 @@ pub struct Session {
 impl Model for Session {
     ghost use Rattle.std.specs.Coded.{codes};
     ghost use Rattle.pgs_syntax.specs.contracts.resolved.Resolved as schemas;
-    ghost use Rattle.pgs_run_try.specs.State.{SessionState, HasStandardLimits, state_on, graph_on, commits_on};
+    ghost use Rattle.pgs_run_try.specs.State.{SessionState, HasStandardLimits, state_in, graph_in, commits_in};
 
     ghost Value = { SessionState };
 
     ghost coded = { Prim.hlevel (codes, schemas.the_row.coded) };
 
-    ghost view = { λ s. state_on s.ground (record { number = s.number; commits = commits_on s.ground; refused = s.refused; graph = graph_on s.ground }) };
+    ghost view = { λ s. state_in s.decider (record { number = s.number; commits = commits_in s.decider; refused = s.refused; graph = graph_in s.decider }) };
 
-    ghost invariant = { λ s. HasStandardLimits s.ground };
+    ghost invariant = { λ s. HasStandardLimits s.decider };
 }
 
 impl Session {
@@ -54,9 +54,9 @@ impl Session {
         ensures standing { IfOk result (λ answer. IfOk answer (λ session. session.standing ≡ start)) }
         ensures refused { IfOk result (λ answer. IfErr answer (λ refusal. schema_answer text.now ≡ Err refusal)) }
     {
-        match open_ground(alloc, judging, text, seed)? {
-            Ok(ground) => Ok(Ok(Session {
-                ground,
+        match open_decider(alloc, judging, text, seed)? {
+            Ok(decider) => Ok(Ok(Session {
+                decider,
                 number: 0,
                 refused: false,
             })),
@@ -75,9 +75,9 @@ impl Session {
     pub fn listed(&self, alloc: Global) -> Result<List<Violation>, Memory>
         ensures { IfOk result (λ found. found ≡ listed self.now.judging self.now.schema self.now.standing.graph) }
     {
-        match &self.ground {
-            Ground::Guarded(_) => Ok(List::new(alloc)),
-            Ground::Unjudged(staged) => staged.violations(alloc),
+        match &self.decider {
+            Decider::Guarded(_) => Ok(List::new(alloc)),
+            Decider::Unjudged(staged) => staged.violations(alloc),
         }
     }
 
@@ -87,12 +87,12 @@ impl Session {
         ensures { (old : Standing) (g : Graph) → old.number ≡ self.now.standing.number → commit ≡ old.commits + 1
             → IfOk result (λ piece. pieces_in piece ≡ telling_by self.now.judging old (Ok g)) }
     {
-        match self.ground {
-            Ground::Guarded(_) => {
+        match self.decider {
+            Decider::Guarded(_) => {
                 let line = committed_line(alloc, self.number + 1, commit)?;
                 Ok(Some(line))
             }
-            Ground::Unjudged(_) => Ok(None),
+            Decider::Unjudged(_) => Ok(None),
         }
     }
 
@@ -122,12 +122,14 @@ impl Session {
     fn take_txn(&mut self, alloc: Global, txn: &Txn) -> Result<Option<Bytes>, Memory>
         requires lines { self.old.standing.number < 2 ^ 64 - 1 }
         requires commits { self.old.standing.commits < 2 ^ 64 - 1 }
-        ensures session { OnOk result (self.new ≡ record self.old { standing = after_answer self.old.standing
-            (answer_to_txn (verdict_by self.old.judging self.old.schema) self.old.standing.graph (Ok txn.now)) }) }
+        ensures session { OnOk result (self.new ≡ record self.old {
+          standing = after_answer self.old.standing
+              (answer_to_txn (verdict_by self.old.judging self.old.schema) self.old.standing.graph (Ok txn.now));
+        }) }
         ensures piece { IfOk result (λ piece. pieces_in piece ≡ telling_by self.old.judging self.old.standing
             (answer_to_txn (verdict_by self.old.judging self.old.schema) self.old.standing.graph (Ok txn.now))) }
     {
-        match apply(alloc, &mut self.ground, txn) {
+        match apply(alloc, &mut self.decider, txn) {
             Ok(commit) => {
                 let piece = self.committed(alloc, commit)?;
                 self.number += 1;
@@ -143,8 +145,10 @@ impl Session {
     fn answer(&mut self, alloc: Global, line: &[u8]) -> Result<Option<Bytes>, Memory>
         requires lines { self.old.standing.number < 2 ^ 64 - 1 }
         requires commits { self.old.standing.commits < 2 ^ 64 - 1 }
-        ensures session { OnOk result (self.new ≡ record self.old { standing = after_answer self.old.standing
-            (answer_to (verdict_by self.old.judging self.old.schema) self.old.standing.graph line.now) }) }
+        ensures session { OnOk result (self.new ≡ record self.old {
+          standing = after_answer self.old.standing
+              (answer_to (verdict_by self.old.judging self.old.schema) self.old.standing.graph line.now);
+        }) }
         ensures piece { IfOk result (λ piece. pieces_in piece ≡ telling_by self.old.judging self.old.standing
             (answer_to (verdict_by self.old.judging self.old.schema) self.old.standing.graph line.now)) }
     {

@@ -7,7 +7,7 @@ ghost use Rattle.pgs_violation.specs.Decision.{decide};
 ghost use Rattle.pgs_violation.specs.Violations.{verdict};
 ghost use Rattle.pgs_run_try.specs.declared.judging.Judging.TheVariants.{EachLine};
 ghost use Rattle.pgs_run_try.specs.Judging.{verdict_by};
-ghost use Rattle.pgs_run_try.specs.State.{judging_on, schema_on, graph_on, commits_on, HasStandardLimits};
+ghost use Rattle.pgs_run_try.specs.State.{judging_in, schema_in, graph_in, commits_in, HasStandardLimits};
 
 use crate::Judging;
 use crate::staged::Staged;
@@ -22,25 +22,25 @@ use std::sync::ledger::{Blank, Ledger};
 
 /// What transactions are decided on.
 #[derive(Drop)]
-pub enum Ground {
+pub enum Decider {
     /// A guard judges the graph of each transaction.
     Guarded(Guard),
     /// The graph isn't judged before the end.
     Unjudged(Staged),
 }
 
-// The ground of a schema text with a guard, or the text of the schema's refusal.
+// A guard of a schema text, or the text of the schema's refusal.
 #[tactic(auto, unfolding(pgs_run_base::specs::Answers::schema_answer))]
-fn guarded(alloc: Global, text: &[u8], seed: Seed) -> Result<Result<Ground, Bytes>, Memory>
-    ensures schema { IfOk result (λ answer. IfOk answer (λ ground. schema_answer text.now ≡ Ok (schema_on ground))) }
-    ensures judging { IfOk result (λ answer. IfOk answer (λ ground. judging_on ground ≡ Judging.EachLine)) }
-    ensures empty { IfOk result (λ answer. IfOk answer (λ ground. graph_on ground ≡ empty_graph)) }
-    ensures commits { IfOk result (λ answer. IfOk answer (λ ground. commits_on ground ≡ 0)) }
+fn guarded(alloc: Global, text: &[u8], seed: Seed) -> Result<Result<Decider, Bytes>, Memory>
+    ensures schema { IfOk result (λ answer. IfOk answer (λ decider. schema_answer text.now ≡ Ok (schema_in decider))) }
+    ensures judging { IfOk result (λ answer. IfOk answer (λ decider. judging_in decider ≡ Judging.EachLine)) }
+    ensures empty { IfOk result (λ answer. IfOk answer (λ decider. graph_in decider ≡ empty_graph)) }
+    ensures commits { IfOk result (λ answer. IfOk answer (λ decider. commits_in decider ≡ 0)) }
     ensures limits { IfOk result (λ answer. IfOk answer HasStandardLimits) }
     ensures refused { IfOk result (λ answer. IfErr answer (λ refusal. schema_answer text.now ≡ Err refusal)) }
 {
     match Guard::with_seed(alloc, text, Limits::standard(), seed) {
-        Ok(guard) => Ok(Ok(Ground::Guarded(guard))),
+        Ok(guard) => Ok(Ok(Decider::Guarded(guard))),
         Err(unread) => {
             let refusal = refusal_of(alloc, unread)?;
             Ok(Err(refusal))
@@ -48,17 +48,17 @@ fn guarded(alloc: Global, text: &[u8], seed: Seed) -> Result<Result<Ground, Byte
     }
 }
 
-// The ground of a schema text without a guard.
-fn unjudged(alloc: Global, text: &[u8], seed: Seed) -> Result<Result<Ground, Bytes>, Memory>
-    ensures schema { IfOk result (λ answer. IfOk answer (λ ground. schema_answer text.now ≡ Ok (schema_on ground))) }
-    ensures judging { IfOk result (λ answer. IfOk answer (λ ground. judging_on ground ≡ Judging.AtEnd)) }
-    ensures empty { IfOk result (λ answer. IfOk answer (λ ground. graph_on ground ≡ empty_graph)) }
-    ensures commits { IfOk result (λ answer. IfOk answer (λ ground. commits_on ground ≡ 0)) }
+// The same without a guard.
+fn unjudged(alloc: Global, text: &[u8], seed: Seed) -> Result<Result<Decider, Bytes>, Memory>
+    ensures schema { IfOk result (λ answer. IfOk answer (λ decider. schema_answer text.now ≡ Ok (schema_in decider))) }
+    ensures judging { IfOk result (λ answer. IfOk answer (λ decider. judging_in decider ≡ Judging.AtEnd)) }
+    ensures empty { IfOk result (λ answer. IfOk answer (λ decider. graph_in decider ≡ empty_graph)) }
+    ensures commits { IfOk result (λ answer. IfOk answer (λ decider. commits_in decider ≡ 0)) }
     ensures limits { IfOk result (λ answer. IfOk answer HasStandardLimits) }
     ensures refused { IfOk result (λ answer. IfErr answer (λ refusal. schema_answer text.now ≡ Err refusal)) }
 {
     match schema_of(alloc, text)? {
-        Ok(schema) => Ok(Ok(Ground::Unjudged(Staged {
+        Ok(schema) => Ok(Ok(Decider::Unjudged(Staged {
             schema,
             graph: Tables::with_seed(alloc, seed),
             commits: 0,
@@ -67,17 +67,17 @@ fn unjudged(alloc: Global, text: &[u8], seed: Seed) -> Result<Result<Ground, Byt
     }
 }
 
-/// The ground of a schema text, with an empty graph, or the text of the schema's refusal.
-pub fn open_ground(
+/// What decides under a schema text, with an empty graph, or the text of the schema's refusal.
+pub fn open_decider(
     alloc: Global,
     judging: Judging,
     text: &[u8],
     seed: Seed,
-) -> Result<Result<Ground, Bytes>, Memory>
-    ensures schema { IfOk result (λ answer. IfOk answer (λ ground. schema_answer text.now ≡ Ok (schema_on ground))) }
-    ensures judging { IfOk result (λ answer. IfOk answer (λ ground. judging_on ground ≡ judging)) }
-    ensures empty { IfOk result (λ answer. IfOk answer (λ ground. graph_on ground ≡ empty_graph)) }
-    ensures commits { IfOk result (λ answer. IfOk answer (λ ground. commits_on ground ≡ 0)) }
+) -> Result<Result<Decider, Bytes>, Memory>
+    ensures schema { IfOk result (λ answer. IfOk answer (λ decider. schema_answer text.now ≡ Ok (schema_in decider))) }
+    ensures judging { IfOk result (λ answer. IfOk answer (λ decider. judging_in decider ≡ judging)) }
+    ensures empty { IfOk result (λ answer. IfOk answer (λ decider. graph_in decider ≡ empty_graph)) }
+    ensures commits { IfOk result (λ answer. IfOk answer (λ decider. commits_in decider ≡ 0)) }
     ensures limits { IfOk result (λ answer. IfOk answer HasStandardLimits) }
     ensures refused { IfOk result (λ answer. IfErr answer (λ refusal. schema_answer text.now ≡ Err refusal)) }
 {
@@ -88,11 +88,7 @@ pub fn open_ground(
 }
 
 // No one asks for the steps of a decision.
-fn apply_counted<L: Ledger>(
-    guard: &mut Guard,
-    txn: &Txn,
-    blank: Blank,
-) -> Result<u64, GuardRefusal>
+fn apply_counted<L: Ledger>(guard: &mut Guard, txn: &Txn, blank: Blank) -> Result<u64, GuardRefusal>
     requires name { blank.name ≡ L.name }
     requires parts { blank.parts ≡ L.parts }
     requires some { 0 < blank.parts }
@@ -123,22 +119,22 @@ fn apply_guarded(guard: &mut Guard, txn: &Txn) -> Result<u64, GuardRefusal>
     apply_counted::<Brand>(guard, txn, Blank::new(1))
 }
 
-/// Decides a transaction on a ground, and does it where it is accepted: the number of transactions done. Where it is rejected, the
+/// Decides a transaction, and does it where it is accepted: the number of transactions done. Where it is rejected, the
 /// graph stays as it was.
-pub fn apply(alloc: Global, ground: &mut Ground, txn: &Txn) -> Result<u64, GuardRefusal>
-    requires limits { HasStandardLimits ground.old }
-    requires commits { commits_on ground.old < 18446744073709551615 }
-    ensures number { IfOk result (λ number. number ≡ commits_on ground.old + 1) }
-    ensures accepted { OnOk result (decision_on (verdict_by (judging_on ground.old) (schema_on ground.old)) (graph_on ground.old) txn.now ≡ Ok (graph_on ground.new)) }
-    ensures rejected { IfErr result (IsRejected (decision_on (verdict_by (judging_on ground.old) (schema_on ground.old)) (graph_on ground.old) txn.now)) }
-    ensures judging { judging_on ground.new ≡ judging_on ground.old }
-    ensures schema { schema_on ground.new ≡ schema_on ground.old }
-    ensures limits { HasStandardLimits ground.new }
-    ensures commits { OnOk result (commits_on ground.new ≡ commits_on ground.old + 1) }
-    ensures unchanged { OnErr result ((graph_on ground.new ≡ graph_on ground.old) × (commits_on ground.new ≡ commits_on ground.old)) }
+pub fn apply(alloc: Global, decider: &mut Decider, txn: &Txn) -> Result<u64, GuardRefusal>
+    requires limits { HasStandardLimits decider.old }
+    requires commits { commits_in decider.old < 18446744073709551615 }
+    ensures number { IfOk result (λ number. number ≡ commits_in decider.old + 1) }
+    ensures accepted { OnOk result (decision_on (verdict_by (judging_in decider.old) (schema_in decider.old)) (graph_in decider.old) txn.now ≡ Ok (graph_in decider.new)) }
+    ensures rejected { IfErr result (IsRejected (decision_on (verdict_by (judging_in decider.old) (schema_in decider.old)) (graph_in decider.old) txn.now)) }
+    ensures judging { judging_in decider.new ≡ judging_in decider.old }
+    ensures schema { schema_in decider.new ≡ schema_in decider.old }
+    ensures limits { HasStandardLimits decider.new }
+    ensures commits { OnOk result (commits_in decider.new ≡ commits_in decider.old + 1) }
+    ensures unchanged { OnErr result ((graph_in decider.new ≡ graph_in decider.old) × (commits_in decider.new ≡ commits_in decider.old)) }
 {
-    match ground {
-        Ground::Guarded(guard) => apply_guarded(guard, txn),
-        Ground::Unjudged(staged) => staged.apply(alloc, txn),
+    match decider {
+        Decider::Guarded(guard) => apply_guarded(guard, txn),
+        Decider::Unjudged(staged) => staged.apply(alloc, txn),
     }
 }
