@@ -1,4 +1,5 @@
-pub mod Listing
+pub mod Judged
+pub mod Listed
 pub mod Machine
 pub mod Room
 pub mod Telling

@@ -1,8 +1,8 @@
-ghost use Rattle.std.specs.Prelude.{◌≡◌, ◌+◌, ◌-◌, ◌<◌, ◌^◌, Ok, Err, IfOk, IfErr, OnOk};
-ghost use Rattle.pgs_base.specs.Graph.{Graph};
+ghost use Rattle.std.specs.Prelude.{◌≡◌, ◌+◌, ◌-◌, ◌<◌, ◌^◌, ◌∷◌, [], Ok, Err, IfOk, IfErr, OnOk};
+ghost use Rattle.pgs_answer.specs.Lines.{committed_line};
 ghost use Rattle.pgs_run_base.specs.Answers.{schema_answer};
 ghost use Rattle.pgs_run_base.specs.Pieces.{pieces_in};
-ghost use Rattle.pgs_run_base.specs.Session.{Standing, with_text, answer_to, answer_to_txn, decision_on, after_answer, after_refusal, after_line, pieces_of_line};
+ghost use Rattle.pgs_run_base.specs.Session.{with_text, answer_to, answer_to_txn, after_answer, after_refusal};
 ghost use Rattle.pgs_run_try.specs.Judging.{verdict_by, telling_by, listed};
 ghost use Rattle.pgs_run_try.specs.State.{session_after, session_pieces};
 ghost use Rattle.pgs_run_try.specs.Told.{start};
@@ -72,6 +72,7 @@ impl Session {
     }
 
     /// The violations that are listed at the end of the input, in order.
+    #[tactic(auto, unfolding(crate::specs::Judging::listed))]
     pub fn listed(&self, alloc: Global) -> Result<List<Violation>, Memory>
         ensures { IfOk result (λ found. found ≡ listed self.now.judging self.now.schema self.now.standing.graph) }
     {
@@ -81,13 +82,13 @@ impl Session {
         }
     }
 
-    // The piece of a committed line.
+    // The piece of a committed line, whose number the line has behind those so far.
     fn committed(&self, alloc: Global, commit: u64) -> Result<Option<Bytes>, Memory>
         requires lines { self.now.standing.number < 2 ^ 64 - 1 }
-        ensures { (old : Standing) (g : Graph) → old.number ≡ self.now.standing.number → commit ≡ old.commits + 1
-            → IfOk result (λ piece. pieces_in piece ≡ telling_by self.now.judging old (Ok g)) }
+        ensures each_line { self.now.judging ≡ Judging.EachLine → IfOk result (λ piece. pieces_in piece ≡ committed_line (self.now.standing.number + 1) commit ∷ []) }
+        ensures at_end { self.now.judging ≡ Judging.AtEnd → IfOk result (λ piece. pieces_in piece ≡ []) }
     {
-        match self.decider {
+        match &self.decider {
             Decider::Guarded(_) => {
                 let line = committed_line(alloc, self.number + 1, commit)?;
                 Ok(Some(line))
@@ -97,6 +98,7 @@ impl Session {
     }
 
     // Counts a refused line, and gives its piece.
+    #[tactic(auto, using(crate::proofs::Judged::refusal_told))]
     fn refuse(&mut self, alloc: Global, text: &[u8]) -> Result<Option<Bytes>, Memory>
         requires { self.old.standing.number < 2 ^ 64 - 1 }
         ensures session { OnOk result (self.new ≡ record self.old { standing = after_refusal self.old.standing }) }
