@@ -10,8 +10,8 @@ gather_along-returns-in_err-gather_with-in-Some-clause-cost g t c =
     let graph = g.G.GraphRead.meaning search.graph.now in
     let many = length c.args.self.now.exprs.now in
     let by = steps_by search.compiled.now graph search.atoms.now c.args.plan.now c.args.bindings.now c.args.var many c.in-Some.id c.admit_edge-admitted.result
-        c.admit_edge-admitted.ensures.value c.edge_along.new.steps c.admit_edge-admitted.new.steps c.gather_with.new.steps
-        c.admit_edge-admitted.ensures.at_most c.gather_with.ensures.cost in
+    c.admit_edge-admitted.ensures.value c.edge_along.new.steps c.admit_edge-admitted.new.steps c.gather_with.new.steps
+    c.admit_edge-admitted.ensures.at_most c.gather_with.ensures.cost in
     cost_all (steps_with search.compiled.now graph search.atoms.now c.args.plan.now c.args.bindings.now c.args.var many)
     (edges_along graph c.args.forward (Some (bounds.Node c.args.from))) c.loop-nth.nth c.in-Some.id (sym c.in-Some.ensures.value)
     c.args.steps.now c.loop-nth.steps c.gather_with.new.steps c.loop-nth.invariant.cost (omega (arith, c.edge_along.ensures.tick, by))
@@ -45,7 +45,7 @@ gather_along-loop-nth-preserved g t c =
       no_step_back = omega (arith, tick, admitted.no_step_back, with.no_step_back, before.no_step_back);
       cost =
           let by = steps_by search.compiled.now graph search.atoms.now c.args.plan.now c.args.bindings.now c.args.var (length exprs) c.in-Some.id c.admit_edge-admitted.result
-              admitted.value c.edge_along.new.steps c.admit_edge-admitted.new.steps c.gather_with.new.steps admitted.at_most with.cost in
+          admitted.value c.edge_along.new.steps c.admit_edge-admitted.new.steps c.gather_with.new.steps admitted.at_most with.cost in
           cost_more (steps_with search.compiled.now graph search.atoms.now c.args.plan.now c.args.bindings.now c.args.var (length exprs)) ids c.loop-nth.nth c.in-Some.id
           (sym c.in-Some.ensures.value) c.args.steps.now c.loop-nth.steps c.gather_with.new.steps before.cost (omega (arith, tick, by));
     }
@@ -69,8 +69,8 @@ gather_along-returns-in_ok-gather_with-in-Some-clause-cost g t c =
     let graph = g.G.GraphRead.meaning search.graph.now in
     let many = length c.args.self.now.exprs.now in
     let by = steps_by search.compiled.now graph search.atoms.now c.args.plan.now c.args.bindings.now c.args.var many c.in-Some.id c.admit_edge-admitted.result
-        c.admit_edge-admitted.ensures.value c.edge_along.new.steps c.admit_edge-admitted.new.steps c.gather_with.new.steps
-        c.admit_edge-admitted.ensures.at_most c.gather_with.ensures.cost in
+    c.admit_edge-admitted.ensures.value c.edge_along.new.steps c.admit_edge-admitted.new.steps c.gather_with.new.steps
+    c.admit_edge-admitted.ensures.at_most c.gather_with.ensures.cost in
     cost_all (steps_with search.compiled.now graph search.atoms.now c.args.plan.now c.args.bindings.now c.args.var many)
     (edges_along graph c.args.forward (Some (bounds.Node c.args.from))) c.loop-nth.nth c.in-Some.id (sym c.in-Some.ensures.value)
     c.args.steps.now c.loop-nth.steps c.gather_with.new.steps c.loop-nth.invariant.cost (omega (arith, c.edge_along.ensures.tick, by))

@@ -15,8 +15,8 @@ pub can_complete_along-returns-then-can_complete_with-clause-cost : goal.can_com
 can_complete_along-returns-then-can_complete_with-clause-cost g t c =
     let graph = g.G.GraphRead.meaning c.args.self.now.graph.now in
     let by = steps_by c.args.self.now.compiled.now graph c.args.self.now.atoms.now c.args.plan.now c.args.bindings.now c.args.var 0 c.in-Some.id c.admit_edge-admitted.result
-        c.admit_edge-admitted.ensures.value c.edge_along.new.steps c.admit_edge-admitted.new.steps c.can_complete_with.new.steps
-        c.admit_edge-admitted.ensures.at_most c.can_complete_with.ensures.cost in
+    c.admit_edge-admitted.ensures.value c.edge_along.new.steps c.admit_edge-admitted.new.steps c.can_complete_with.new.steps
+    c.admit_edge-admitted.ensures.at_most c.can_complete_with.ensures.cost in
     cost_all (steps_with c.args.self.now.compiled.now graph c.args.self.now.atoms.now c.args.plan.now c.args.bindings.now c.args.var 0)
     (edges_along graph c.args.forward (Some (bounds.Node c.args.from))) c.loop-nth.nth c.in-Some.id (sym c.in-Some.ensures.value)
     c.args.steps.now c.loop-nth.steps c.can_complete_with.new.steps c.loop-nth.invariant.cost (omega (arith, c.edge_along.ensures.tick, by))
@@ -36,8 +36,8 @@ can_complete_along-loop-nth-preserved g t c =
     let tick = c.edge_along.ensures.tick in
     let with = c.can_complete_with.ensures in
     let by = steps_by c.args.self.now.compiled.now graph c.args.self.now.atoms.now c.args.plan.now c.args.bindings.now c.args.var 0 c.in-Some.id c.admit_edge-admitted.result
-        c.admit_edge-admitted.ensures.value c.edge_along.new.steps c.admit_edge-admitted.new.steps c.can_complete_with.new.steps
-        c.admit_edge-admitted.ensures.at_most c.can_complete_with.ensures.cost in
+    c.admit_edge-admitted.ensures.value c.edge_along.new.steps c.admit_edge-admitted.new.steps c.can_complete_with.new.steps
+    c.admit_edge-admitted.ensures.at_most c.can_complete_with.ensures.cost in
     record {
       none =
           none_more (can_with c.args.self.now.compiled.now graph c.args.self.now.atoms.now c.args.plan.now c.args.bindings.now c.args.var) ids c.loop-nth.nth c.in-Some.id
@@ -61,8 +61,8 @@ pub can_complete_along-returns-else-can_complete_with-clause-cost : goal.can_com
 can_complete_along-returns-else-can_complete_with-clause-cost g t c =
     let graph = g.G.GraphRead.meaning c.args.self.now.graph.now in
     let by = steps_by c.args.self.now.compiled.now graph c.args.self.now.atoms.now c.args.plan.now c.args.bindings.now c.args.var 0 c.in-Some.id c.admit_edge-admitted.result
-        c.admit_edge-admitted.ensures.value c.edge_along.new.steps c.admit_edge-admitted.new.steps c.can_complete_with.new.steps
-        c.admit_edge-admitted.ensures.at_most c.can_complete_with.ensures.cost in
+    c.admit_edge-admitted.ensures.value c.edge_along.new.steps c.admit_edge-admitted.new.steps c.can_complete_with.new.steps
+    c.admit_edge-admitted.ensures.at_most c.can_complete_with.ensures.cost in
     cost_all (steps_with c.args.self.now.compiled.now graph c.args.self.now.atoms.now c.args.plan.now c.args.bindings.now c.args.var 0)
     (edges_along graph c.args.forward (Some (bounds.Node c.args.from))) c.loop-nth.nth c.in-Some.id (sym c.in-Some.ensures.value)
     c.args.steps.now c.loop-nth.steps c.can_complete_with.new.steps c.loop-nth.invariant.cost (omega (arith, c.edge_along.ensures.tick, by))

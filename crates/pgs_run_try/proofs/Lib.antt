@@ -1,0 +1,6 @@
+pub mod Judged
+pub mod Listed
+pub mod Machine
+pub mod Room
+pub mod Telling
+pub mod TryEnds
