@@ -9,35 +9,9 @@ use std::alloc::Global;
 const TYPES: &str =
     "(t: A {k INT}), ABSTRACT (u: B OPEN {OPEN}), (:t)-[e: r {OPTIONAL k INT}]->(:t), ABSTRACT (:u)-[f OPEN {OPEN}]->(OPEN {OPEN})";
 
-const NODE_TESTS: [&str; 12] = [
-    "",
-    "",
-    "",
-    "",
-    "",
-    "",
-    ":A",
-    ":B",
-    ":t",
-    ":u",
-    " {k: 4}",
-    ":A {k: 5}",
-];
+const NODE_TESTS: [&str; 6] = [":A", ":B", ":t", ":u", " {k: 4}", ":A {k: 5}"];
 
-const EDGE_TESTS: [&str; 12] = [
-    "",
-    "",
-    "",
-    "",
-    "",
-    "",
-    ":r",
-    ":s",
-    ":e",
-    ":f",
-    " {k: 4}",
-    ":r {k: 5}",
-];
+const EDGE_TESTS: [&str; 6] = [":r", ":s", ":e", ":f", " {k: 4}", ":r {k: 5}"];
 
 const QUALIFIERS: [&str; 6] = [
     " IDENTIFIER ",
@@ -89,11 +63,19 @@ const DESCRIPTOR_OF_EDGES: Names = Names {
     nodes: ["", "w", "u", "v"],
 };
 
+// Writes one of the tests, or mostly none.
+fn push_test(draw: &mut Draw, out: &mut String, tests: &[&'static str]) -> Result<(), Memory> {
+    if draw.below(3) == 0 {
+        out.push_str(draw.word(tests))?;
+    }
+    Ok(())
+}
+
 // Writes a node with this name.
 fn push_node(draw: &mut Draw, out: &mut String, name: &str) -> Result<(), Memory> {
     out.push_str("(")?;
     out.push_str(name)?;
-    out.push_str(draw.word(&NODE_TESTS))?;
+    push_test(draw, out, &NODE_TESTS)?;
     out.push_str(")")?;
     Ok(())
 }
@@ -103,7 +85,7 @@ fn push_edge(draw: &mut Draw, out: &mut String, name: &str) -> Result<(), Memory
     let is_forward = draw.below(2) == 0;
     out.push_str(if is_forward { "-[" } else { "<-[" })?;
     out.push_str(name)?;
-    out.push_str(draw.word(&EDGE_TESTS))?;
+    push_test(draw, out, &EDGE_TESTS)?;
     out.push_str(if is_forward { "]->" } else { "]-" })?;
     Ok(())
 }
