@@ -6,7 +6,7 @@ ghost use Rattle.pgs_syntax.specs.Valid.{is_valid_key_of};
 use crate::agreement::{descriptors_agree, scopes_agree};
 use crate::drawn_graph::{Drawn, drawn_graphs};
 use crate::drawn_schema::drawn_schemas;
-use crate::plain_list::plain_list;
+use crate::plain_list::add_plain_list;
 use pgs_base::{Memory, Steps};
 use pgs_schema::Schema;
 use pgs_scratch::{confirms, violations};
@@ -115,7 +115,8 @@ fn lists_agreeing<L: Ledger>(
     let mut before = Vec::new(alloc);
     let mut count = 0u32;
     for drawn in graphs {
-        let list = plain_list(alloc, schema.compiled(), drawn)?;
+        let mut list = Vec::new(alloc);
+        add_plain_list(alloc, schema.compiled(), drawn, &mut list)?;
         let all = list.as_slice();
         if list_agrees(alloc, schema, drawn, all, steps)?
             && confirmed_alike(alloc, schema, drawn, all, all, steps)?
@@ -158,29 +159,33 @@ fn lists_are_those_of_the_plain_program(rt: HostRuntime) -> Result<(), Fail> {
     Ok(())
 }
 
-// How many of the five kinds of violations stand in the lists of the plain program.
-fn kinds_over_graphs(alloc: Global) -> Result<u32, Memory> {
+// The lists of the plain program, one after another.
+fn plain_lists(alloc: Global) -> Result<Vec<Violation>, Memory> {
     let schemas = drawn_schemas(alloc, 10, 4)?;
     let graphs = drawn_graphs(alloc, 5)?;
-    let mut seen = [false; 5];
+    let mut all = Vec::new(alloc);
     for schema in schemas.as_slice() {
         for drawn in graphs.as_slice() {
-            for violation in plain_list(alloc, schema.compiled(), drawn)?.as_slice() {
-                if let Some(kind) = seen.get_mut(violation.number().wrapping_sub(25) as usize) {
-                    *kind = true;
-                }
-            }
+            add_plain_list(alloc, schema.compiled(), drawn, &mut all)?;
         }
     }
+    Ok(all)
+}
+
+// How many of the five kinds stand among violations.
+fn kind_count(list: &[Violation]) -> u32 {
     let mut count = 0u32;
-    for kind in seen {
-        count = count.saturating_add(kind as u32);
+    for number in 25..30 {
+        if list.iter().any(|violation| violation.number() == number) {
+            count = count.saturating_add(1);
+        }
     }
-    Ok(count)
+    count
 }
 
 #[test]
 fn each_kind_of_violation_is_drawn(rt: HostRuntime) -> Result<(), Fail> {
-    assert_eq!(rt; kinds_over_graphs(rt.alloc())?, 5);
+    let lists = plain_lists(rt.alloc())?;
+    assert_eq!(rt; kind_count(lists.as_slice()), 5);
     Ok(())
 }

@@ -62,6 +62,11 @@ fn pair(row: &Row) -> Pair<'_> {
     }
 }
 
+// Whether an edge has these ends.
+fn leads(edge: &Row, source: &Row, target: &Row) -> bool {
+    source.elem == Elem::Node(edge.source) && target.elem == Elem::Node(edge.target)
+}
+
 impl Listing<'_> {
     /// Lists the matches of a pattern.
     pub fn new<'a>(
@@ -125,10 +130,11 @@ impl Listing<'_> {
                 source,
                 target,
             } => {
-                let row = self.row(number, *edge)?;
-                let is_source = self.row(number, *source)?.elem == Elem::Node(row.source);
-                let is_target = self.row(number, *target)?.elem == Elem::Node(row.target);
-                Some(is_source && is_target)
+                Some(leads(
+                    self.row(number, *edge)?,
+                    self.row(number, *source)?,
+                    self.row(number, *target)?,
+                ))
             }
             Atom::HasLabel { var, label } => Some(self.row(number, *var)?.labels.contains(label)),
             Atom::FitsNode {

@@ -23,25 +23,19 @@ fn pair(row: &Row) -> Pair<'_> {
     }
 }
 
+fn is_typed_edge(compiled: &Compiled, rows: &[Row], row: &Row) -> Option<bool> {
+    let source = rows.get(row.source.0 as usize)?;
+    let target = rows.get(row.target.0 as usize)?;
+    Some(edge_typed(compiled, &pair(source), &pair(row), &pair(target)))
+}
+
 // The violation of an element that fits no type.
 fn untyped(compiled: &Compiled, rows: &[Row], row: &Row) -> Option<Violation> {
     match row.elem {
-        Elem::Node(node) => {
-            if node_typed(compiled, &pair(row)) {
-                None
-            } else {
-                Some(Violation::UntypedNode { node })
-            }
-        }
-        Elem::Edge(edge) => {
-            let source = pair(rows.get(row.source.0 as usize)?);
-            let target = pair(rows.get(row.target.0 as usize)?);
-            if edge_typed(compiled, &source, &pair(row), &target) {
-                None
-            } else {
-                Some(Violation::UntypedEdge { edge })
-            }
-        }
+        Elem::Node(_) if node_typed(compiled, &pair(row)) => None,
+        Elem::Node(node) => Some(Violation::UntypedNode { node }),
+        Elem::Edge(_) if is_typed_edge(compiled, rows, row)? => None,
+        Elem::Edge(edge) => Some(Violation::UntypedEdge { edge }),
     }
 }
 
@@ -110,8 +104,8 @@ fn put(list: &mut Vec<Violation>, violation: Option<Violation>) -> Result<(), Me
     Ok(())
 }
 
-/// Adds the violations of elements that fit no type.
-pub fn add_untyped(
+// Adds the violations of elements that fit no type.
+fn add_untyped(
     compiled: &Compiled,
     drawn: &Drawn,
     list: &mut Vec<Violation>,
@@ -180,8 +174,8 @@ fn add_shared(
     Ok(())
 }
 
-/// Adds the violations of a key of this number.
-pub fn add_key(
+// Adds the violations of a key of this number.
+fn add_key(
     alloc: Global,
     compiled: &Compiled,
     drawn: &Drawn,
@@ -202,18 +196,18 @@ pub fn add_key(
     Ok(())
 }
 
-/// The list of violations by the plain program.
-pub fn plain_list(
+/// Adds the list of violations by the plain program.
+pub fn add_plain_list(
     alloc: Global,
     compiled: &Compiled,
     drawn: &Drawn,
-) -> Result<Vec<Violation>, Memory> {
-    let mut list = Vec::new(alloc);
-    add_untyped(compiled, drawn, &mut list)?;
+    list: &mut Vec<Violation>,
+) -> Result<(), Memory> {
+    add_untyped(compiled, drawn, list)?;
     let mut number = 1u32;
     for key in compiled.resolved().guard.keys.as_slice() {
-        add_key(alloc, compiled, drawn, number, key, &mut list)?;
+        add_key(alloc, compiled, drawn, number, key, list)?;
         number = number.saturating_add(1);
     }
-    Ok(list)
+    Ok(())
 }
