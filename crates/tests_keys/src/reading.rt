@@ -1,4 +1,4 @@
-//! Graphs that transactions make of nothing.
+//! Schemas by their texts, and graphs by lines that make them of nothing.
 
 ghost use Rattle.std.specs.Prelude.{◌≡◌, ◌<◌, IfOk, true};
 ghost use Rattle.pgs_graph.specs.Changed.{is_sound};
@@ -6,10 +6,19 @@ ghost use Rattle.pgs_graph.specs.Changed.{is_sound};
 use pgs_base::{Limits, Memory, Steps};
 use pgs_graph::{Delta, Graph, Txn};
 use pgs_json::read_txn;
+use pgs_schema::Schema;
 use pgs_txn::{StageFault, stage};
 use std::alloc::Global;
 use std::marker::Brand;
 use std::sync::ledger::{Blank, Ledger};
+
+/// The schema of a text. A refusal is told as want of memory, which no text here meets.
+pub fn schema_of(alloc: Global, text: &str) -> Result<Schema, Memory> {
+    match Schema::read(alloc, text.as_bytes()) {
+        Ok(schema) => Ok(schema),
+        Err(_) => Err(Memory),
+    }
+}
 
 fn staged_by<L: Ledger>(
     alloc: Global,
@@ -23,10 +32,7 @@ fn staged_by<L: Ledger>(
     ensures { IfOk result (λ delta. is_sound graph.now delta ≡ true) }
 {
     let mut steps: Steps<L> = Steps::begin(blank);
-    match stage(alloc, graph, &Limits::standard(), txn, &mut steps) {
-        Ok(delta) => Ok(delta),
-        Err(fault) => Err(fault),
-    }
+    stage(alloc, graph, &Limits::standard(), txn, &mut steps)
 }
 
 fn staged(alloc: Global, graph: &Graph, txn: &Txn) -> Result<Delta, StageFault>
@@ -35,8 +41,7 @@ fn staged(alloc: Global, graph: &Graph, txn: &Txn) -> Result<Delta, StageFault>
     staged_by::<Brand>(alloc, graph, txn, Blank::new(1))
 }
 
-/// The graph that a transaction makes of nothing. A refusal is told as want of memory, which no transaction here meets.
-pub fn made(alloc: Global, txn: &Txn) -> Result<Graph, Memory> {
+fn made(alloc: Global, txn: &Txn) -> Result<Graph, Memory> {
     let mut graph = Graph::new(alloc);
     match staged(alloc, &graph, txn) {
         Ok(delta) => {
