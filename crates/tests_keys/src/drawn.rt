@@ -1,0 +1,249 @@
+//! Drawn schemas over drawn graphs: all calls answer as the plain program.
+
+ghost use Rattle.std.specs.Prelude.{◌≡◌, ◌<◌, true};
+ghost use Rattle.pgs_syntax.specs.Valid.{is_valid_key_of};
+
+use crate::agreement::{descriptors_agree, scopes_agree};
+use crate::draw::Draw;
+use crate::list_agreement::{Valued, after_key, after_untyped};
+use crate::listing::Rows;
+use crate::reading::{graph_of, schema_of};
+use pgs_base::{List, Memory, Steps};
+use pgs_conform::Compiled;
+use pgs_graph::Graph;
+use pgs_match::{PlannedKey, each_x, key_values};
+use pgs_schema::Schema;
+use pgs_scratch::{confirms, violations};
+use pgs_violation::Violation;
+use std::alloc::Global;
+use std::marker::Brand;
+use std::sync::ledger::{Blank, Ledger};
+use std::test::Fail;
+
+fn drawn_schema(alloc: Global, number: u64) -> Result<Schema, Memory> {
+    let mut draw = Draw::new(alloc, number);
+    draw.put_schema(4);
+    schema_of(alloc, draw.text()?)
+}
+
+// Ten schemas of four keys each.
+fn drawn_schemas(alloc: Global) -> Result<Vec<Schema>, Memory> {
+    let mut schemas = Vec::new(alloc);
+    for number in 0..10 {
+        schemas.push(drawn_schema(alloc, number)?)?;
+    }
+    Ok(schemas)
+}
+
+fn drawn_graph(alloc: Global, number: u64) -> Result<Graph, Memory> {
+    let mut draw = Draw::new(alloc, number);
+    let nodes = draw.below(7).saturating_add(1);
+    let edges = draw.below(10);
+    draw.put_line(nodes, edges);
+    graph_of(alloc, draw.text()?)
+}
+
+fn drawn_graphs(alloc: Global, count: u64) -> Result<Vec<Graph>, Memory> {
+    let mut graphs = Vec::new(alloc);
+    for number in 0..count {
+        graphs.push(drawn_graph(alloc, number)?)?;
+    }
+    Ok(graphs)
+}
+
+// Of how many keys all calls answer as the plain program over a graph.
+fn keys_agreeing<L: Ledger>(
+    alloc: Global,
+    graph: &Graph,
+    schema: &Schema,
+    rows: &Rows<'_>,
+    steps: &mut Steps<L>,
+) -> Result<u32, Memory> {
+    let compiled = schema.compiled();
+    let mut count = 0u32;
+    for key in schema.keys().as_slice() {
+        if scopes_agree(alloc, graph, compiled, key, rows, steps)?
+            && descriptors_agree(alloc, graph, compiled, key, rows, steps)?
+        {
+            count = count.saturating_add(1);
+        }
+    }
+    Ok(count)
+}
+
+fn graph_agreeing<L: Ledger>(
+    alloc: Global,
+    graph: &Graph,
+    schema: &Schema,
+    steps: &mut Steps<L>,
+) -> Result<u32, Memory> {
+    let rows = Rows::new(alloc, graph, steps)?;
+    keys_agreeing(alloc, graph, schema, &rows, steps)
+}
+
+fn keys_agreeing_by<L: Ledger>(
+    alloc: Global,
+    schemas: &[Schema],
+    graphs: &[Graph],
+    blank: Blank,
+) -> Result<u32, Memory>
+    requires name { blank.name ≡ L.name }
+    requires parts { blank.parts ≡ L.parts }
+    requires some { 0 < blank.parts }
+{
+    let mut steps: Steps<L> = Steps::begin(blank);
+    let mut count = 0u32;
+    for schema in schemas {
+        for graph in graphs {
+            count = count.saturating_add(graph_agreeing(alloc, graph, schema, &mut steps)?);
+        }
+    }
+    Ok(count)
+}
+
+fn keys_over_graphs(alloc: Global) -> Result<u32, Memory> {
+    let schemas = drawn_schemas(alloc)?;
+    let graphs = drawn_graphs(alloc, 200)?;
+    keys_agreeing_by::<Brand>(alloc, schemas.as_slice(), graphs.as_slice(), Blank::new(1))
+}
+
+#[test]
+fn scopes_and_key_values_are_those_of_all_matches(rt: HostRuntime) -> Result<(), Fail> {
+    assert_eq!(rt; keys_over_graphs(rt.alloc())?, 40 * 200);
+    Ok(())
+}
+
+// The elements of a key's scope with their key values.
+fn valued_scope<L: Ledger>(
+    alloc: Global,
+    graph: &Graph,
+    compiled: &Compiled,
+    key: &PlannedKey,
+    steps: &mut Steps<L>,
+) -> Result<Vec<Valued>, Memory>
+    requires { is_valid_key_of compiled.now key.now ≡ true }
+{
+    let mut rows = Vec::new(alloc);
+    for elem in each_x(alloc, graph, compiled, key, steps)?.as_slice() {
+        let tuples = key_values(alloc, graph, compiled, key, *elem, steps)?;
+        rows.push(Valued {
+            elem: *elem,
+            tuples,
+        })?;
+    }
+    Ok(rows)
+}
+
+// Whether a list is the plain program's: it ends behind the violations of the last key.
+fn is_plain_list<L: Ledger>(
+    alloc: Global,
+    graph: &Graph,
+    schema: &Schema,
+    list: &[Violation],
+    steps: &mut Steps<L>,
+) -> Result<bool, Memory> {
+    let compiled = schema.compiled();
+    let mut place = after_untyped(compiled, &Rows::new(alloc, graph, steps)?, list);
+    let mut number = 0u32;
+    for key in schema.keys().as_slice() {
+        let rows = valued_scope(alloc, graph, compiled, key, steps)?;
+        number = number.saturating_add(1);
+        if let Some(from) = place {
+            place = after_key(number, key.key().qualifiers, rows.as_slice(), list, from);
+        }
+    }
+    Ok(place == Some(list.len()))
+}
+
+// How many of some violations are confirmed.
+fn confirmed_count<L: Ledger>(
+    alloc: Global,
+    graph: &Graph,
+    schema: &Schema,
+    asked: &[Violation],
+    steps: &mut Steps<L>,
+) -> Result<usize, Memory> {
+    let mut count = 0usize;
+    for violation in asked {
+        let compiled = schema.compiled();
+        if confirms(alloc, graph, compiled, schema.keys(), violation, steps)? {
+            count = count.saturating_add(1);
+        }
+    }
+    Ok(count)
+}
+
+// How many of some violations stand in a list.
+fn common_count(asked: &[Violation], list: &[Violation]) -> usize {
+    let mut count = 0usize;
+    for violation in asked {
+        if list.contains(violation) {
+            count = count.saturating_add(1);
+        }
+    }
+    count
+}
+
+// The list, where it is the plain program's, and exactly those of it and of another list are confirmed that stand in it.
+fn agreeing_list<L: Ledger>(
+    alloc: Global,
+    graph: &Graph,
+    schema: &Schema,
+    asked: &[Violation],
+    steps: &mut Steps<L>,
+) -> Result<Option<List<Violation>>, Memory> {
+    let list = violations(alloc, graph, schema.compiled(), schema.keys(), steps)?;
+    let all = list.as_slice();
+    let agrees = is_plain_list(alloc, graph, schema, all, steps)?
+        && confirmed_count(alloc, graph, schema, all, steps)? == all.len()
+        && confirmed_count(alloc, graph, schema, asked, steps)? == common_count(asked, all);
+    Ok(if agrees { Some(list) } else { None })
+}
+
+// Over how many graphs the list is the plain program's, with those of the graph before asked for too.
+fn lists_agreeing<L: Ledger>(
+    alloc: Global,
+    schema: &Schema,
+    graphs: &[Graph],
+    steps: &mut Steps<L>,
+) -> Result<u32, Memory> {
+    let mut before = List::new(alloc);
+    let mut count = 0u32;
+    for graph in graphs {
+        if let Some(list) = agreeing_list(alloc, graph, schema, before.as_slice(), steps)? {
+            count = count.saturating_add(1);
+            before = list;
+        }
+    }
+    Ok(count)
+}
+
+fn lists_agreeing_by<L: Ledger>(
+    alloc: Global,
+    schemas: &[Schema],
+    graphs: &[Graph],
+    blank: Blank,
+) -> Result<u32, Memory>
+    requires name { blank.name ≡ L.name }
+    requires parts { blank.parts ≡ L.parts }
+    requires some { 0 < blank.parts }
+{
+    let mut steps: Steps<L> = Steps::begin(blank);
+    let mut count = 0u32;
+    for schema in schemas {
+        count = count.saturating_add(lists_agreeing(alloc, schema, graphs, &mut steps)?);
+    }
+    Ok(count)
+}
+
+fn lists_over_graphs(alloc: Global) -> Result<u32, Memory> {
+    let schemas = drawn_schemas(alloc)?;
+    let graphs = drawn_graphs(alloc, 50)?;
+    lists_agreeing_by::<Brand>(alloc, schemas.as_slice(), graphs.as_slice(), Blank::new(1))
+}
+
+#[test]
+fn lists_are_those_of_the_plain_program(rt: HostRuntime) -> Result<(), Fail> {
+    assert_eq!(rt; lists_over_graphs(rt.alloc())?, 10 * 50);
+    Ok(())
+}
