@@ -6,11 +6,13 @@ use pgs_world::{Area, MemWorld};
 use std::alloc::Global;
 use std::test::Fail;
 
-/// An open record of a schema, and then its gate's byte, an open record of a transaction, and a record that isn't whole.
+/// What stands behind a head: the record of a schema and a closed gate.
 const SCHEMA: &str = "\x01\0\0\0\0\0\0\0\x1e\x01CREATE GRAPH TYPE g LOOSE {};\0";
 
+/// A schema, and an open record that isn't whole.
 const SCHEMA_TORN: &str = "\x01\0\0\0\0\0\0\0\x1e\x01CREATE GRAPH TYPE g LOOSE {};\x01\0\0";
 
+/// A schema, a transaction of no operations, and an open record that isn't whole.
 const TWO_TORN: &str =
     "\x01\0\0\0\0\0\0\0\x1e\x01CREATE GRAPH TYPE g LOOSE {};\x01\0\0\0\0\0\0\0\x05\x03\0\0\0\0\x01\0\0";
 
