@@ -1,5 +1,5 @@
 -- One more transaction of a workload, decided after those before it.
-use Rattle.std.proofs.Common.{◌≡◌, ℕ, ◌+◌, ◌≤◌, Bool, not, cond, List, [], ◌∷◌, ◌++◌, length, map, Result, refl, sym, ap, ◌∙◌, subst, arith}
+use Rattle.std.proofs.Common.{◌≡◌, ℕ, suc, ◌+◌, ◌≤◌, Bool, not, cond, List, [], ◌∷◌, ◌++◌, length, map, Result, refl, sym, ap, ◌∙◌, subst, arith}
 use Rattle.std.specs.Prelude.{count_by, fold}
 use Rattle.std.specs.List.{range_with_len}
 use Rattle.std.specs.Result.{is_ok}
@@ -22,7 +22,7 @@ decisions_more limits v g (first ∷ txns) txn =
 
 length-decisions : (limits : Limits) (v : Graph → Verdict) (g : Graph) (txns : List Txn) → length (decisions limits v g txns) ≡ length txns
 length-decisions limits v g [] = refl
-length-decisions limits v g (first ∷ txns) = ap (λ n. n + 1) (length-decisions limits v (graph_after g (decide limits v g first)) txns)
+length-decisions limits v g (first ∷ txns) = ap suc (length-decisions limits v (graph_after g (decide limits v g first)) txns)
 
 count_more : {X : Type 0} (p : X → Bool) (xs : List X) (x : X) → count_by p (xs ++ x ∷ []) ≡ count_by p xs + cond (p x) 1 0
 count_more p xs x = sum_by-append (λ y. cond (p y) 1 0) xs (x ∷ []) ∙ ap (λ n. count_by p xs + n) (sum_by-cons (λ y. cond (p y) 1 0) x [] ∙ omega arith)

@@ -1,6 +1,6 @@
 //! The line that sums a workload up.
 
-ghost use Rattle.std.specs.Prelude.{◌≡◌, length, IfOk};
+ghost use Rattle.std.specs.Prelude.{◌≡◌, ◌≤◌, length, IfOk};
 ghost use Rattle.pgs_graph.specs.Reads.{in_edges_of};
 ghost use Rattle.pgs_run_gen.specs.Told.{summary};
 

@@ -1,5 +1,5 @@
 -- The types that an element fits, by the pair of a node and by the triple of an edge.
-use Rattle.std.proofs.Common.{◌≡◌, ℕ, zero, suc, ◌<◌, Bool, true, false, cond, List, [], ◌∷◌, filter, get_or, length, Option, Some, None, refl, ◌∙◌, ap, ap₂, arith}
+use Rattle.std.proofs.Common.{◌≡◌, ℕ, zero, suc, ◌<◌, Bool, true, false, cond, List, [], ◌∷◌, filter, get_or, length, Option, Some, None, Result, IfOk, refl, ◌∙◌, ap, ap₂, subst, arith}
 use Rattle.std.specs.Prelude.{option_and_then}
 use Rattle.std.specs.List.{list_all}
 use Rattle.std.specs.Option.{option_map_or}
@@ -10,6 +10,8 @@ use Rattle.pgs_base.specs.declared.element.Elem.TheVariants as elems
 use Rattle.pgs_base.specs.declared.row.NodeRow.{NodeRow}
 use Rattle.pgs_base.specs.declared.row.EdgeRow.{EdgeRow}
 use Rattle.pgs_base.specs.Graph.{Graph, node_at, edge_at}
+use Rattle.pgs_base.specs.Pair.{pair_of}
+use Rattle.pgs_conform.specs.Shapes.{triple_of}
 use Rattle.pgs_syntax.specs.declared.key.Key.{Key}
 use Rattle.pgs_syntax.specs.declared.resolved.Resolved.{Resolved}
 use Rattle.pgs_syntax.specs.declared.resolved.TypeNo.{TypeNo}
@@ -19,6 +21,10 @@ use Rattle.pgs_syntax.specs.Typed.{triple_at}
 use Rattle.pgs_syntax.specs.Valid.{is_type, is_valid, is_valid_key_of}
 use Rattle.pgs_store.specs.Explained.{fits_type, types_of}
 use Rattle.pgs_store.specs.Fits.{fits_as_node, fits_as_edge, edge_types_of}
+
+-- an answer that is one thing is one that is the same thing
+pub ok_same : {X E : Type 0} (r : Result X E) (x y : X) → x ≡ y → IfOk r (λ given. given ≡ x) → IfOk r (λ given. given ≡ y)
+ok_same r x y same h = subst (λ z. IfOk r (λ given. given ≡ z)) same h
 
 each_passes : {X : Type 0} (test : X → Bool) (xs : List X) (i : ℕ) (d : X) → list_all test xs ≡ true → i < length xs → test (get_or xs i d) ≡ true
 each_passes test [] i d all below = absurd (omega arith)
@@ -64,6 +70,10 @@ module _ (resolved : Resolved) (g : Graph) where
 
   pub types_of_node : (id : NodeId) → types_of resolved g (elems.Node id) ≡ option_map_or (λ p. filter (fits_as_node resolved p) resolved.guard.types) (node_at g id) []
   types_of_node id = there_pass (fits_as_node resolved) (fits_type resolved g (elems.Node id)) (node_at g id) resolved.guard.types (as_node id)
+
+  pub of_ends : (row : EdgeRow) (source target : NodeRow) → node_at g row.source ≡ Some source → node_at g row.target ≡ Some target
+      → filter (fits_as_edge resolved (triple_of source (pair_of row.labels row.props) target)) resolved.guard.types ≡ edge_types_of resolved g row
+  of_ends row source target from to = rw (from, to) refl
 
   as_edge : (id : EdgeId) (type_no : TypeNo)
       → fits_type resolved g (elems.Edge id) type_no ≡ option_map_or (λ t. fits_as_edge resolved t type_no) (option_and_then (triple_at g) (edge_at g id)) false
