@@ -1,5 +1,5 @@
 -- One more transaction of a workload, decided after those before it.
-use Rattle.std.proofs.Common.{◌≡◌, ℕ, suc, ◌+◌, ◌≤◌, Bool, not, cond, List, [], ◌∷◌, ◌++◌, length, map, Result, refl, sym, ap, ◌∙◌, subst, arith}
+use Rattle.std.proofs.Common.{◌≡◌, ℕ, suc, ◌+◌, ◌≤◌, Bool, true, false, not, cond, List, [], ◌∷◌, ◌++◌, length, map, Result, refl, sym, ap, ap₂, ◌∙◌, subst, arith}
 use Rattle.std.specs.Prelude.{count_by, fold}
 use Rattle.std.specs.List.{range_with_len}
 use Rattle.std.specs.Result.{is_ok}
@@ -26,6 +26,10 @@ length-decisions limits v g (first ∷ txns) = ap suc (length-decisions limits v
 
 count_more : {X : Type 0} (p : X → Bool) (xs : List X) (x : X) → count_by p (xs ++ x ∷ []) ≡ count_by p xs + cond (p x) 1 0
 count_more p xs x = sum_by-append (λ y. cond (p y) 1 0) xs (x ∷ []) ∙ ap (λ n. count_by p xs + n) (sum_by-cons (λ y. cond (p y) 1 0) x [] ∙ omega arith)
+
+one_if : (b : Bool) (n : ℕ) → cond b (n + 1) n ≡ n + cond b 1 0
+one_if true n = refl
+one_if false n = omega arith
 
 module _ (limits : Limits) (v : Graph → Verdict) (start : ℕ) where
   pub decided_none : decided limits v start 0 ≡ []
@@ -65,3 +69,12 @@ module _ (limits : Limits) (v : Graph → Verdict) (start : ℕ) where
 
       pub rejected_more : rejected_of (decided limits v start (n + 1)) ≡ rejected_of (decided limits v start n) + cond (not (is_ok (decide limits v g txn))) 1 0
       rejected_more = ap rejected_of more_by ∙ count_more (λ decision. not (is_ok decision)) (decided limits v start n) (decide limits v g txn)
+
+      -- and by whether it accepts
+      module _ (taken : Bool) (is : taken ≡ is_ok (decide limits v g txn)) where
+        pub accepted_after : (accepted : ℕ) → accepted ≡ accepted_of (decided limits v start n) → cond taken (accepted + 1) accepted ≡ accepted_of (decided limits v start (n + 1))
+        accepted_after accepted so_far =
+            one_if taken accepted ∙ ap₂ (λ m b. m + cond b 1 0) so_far is ∙ sym accepted_more
+
+        pub rejected_after : (found : Bool) (rejected : ℕ) → taken ≡ found → rejected ≡ rejected_of (decided limits v start n) → rejected + cond (not found) 1 0 ≡ rejected_of (decided limits v start (n + 1))
+        rejected_after found rejected on so_far = ap₂ (λ m b. m + cond (not b) 1 0) so_far (sym on ∙ is) ∙ sym rejected_more

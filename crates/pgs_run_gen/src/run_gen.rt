@@ -6,7 +6,7 @@ ghost use Rattle.pgs_lines.specs.Pieces.{shown_of};
 ghost use Rattle.pgs_violation.specs.Violations.{verdict};
 ghost use Rattle.pgs_run_base.specs.Ending.{Ends};
 ghost use Rattle.pgs_run_base.specs.Run.{HasCommandCause};
-ghost use Rattle.pgs_run_gen.specs.Answer.{IsAnswer};
+ghost use Rattle.pgs_run_gen.specs.Answer.{IsAnswer, IsTold};
 ghost use Rattle.pgs_run_gen.specs.Told.{told_gen, told_of, status_of};
 ghost use Rattle.pgs_run_gen.specs.Workload.{decided};
 
@@ -32,7 +32,8 @@ struct Outcome {
 
 // The status of a run in which so many transactions were rejected.
 fn status_of(rejected: u64) -> Status
-    ensures { result ≡ status_of rejected }
+    ensures status { result ≡ status_of rejected }
+    ensures own { IsTold result }
 {
     if rejected == 0 {
         Status::Accepted
@@ -59,6 +60,7 @@ fn decided_by<L: Ledger>(
         (told_of (decided guard.old.limits (verdict guard.old.schema) start count)).pieces ≡ outcome.line ∷ []) }
     ensures status { IfOk result (λ outcome.
         (told_of (decided guard.old.limits (verdict guard.old.schema) start count)).status ≡ outcome.status) }
+    ensures own { IfOk result (λ outcome. IsTold outcome.status) }
 {
     let mut steps: Steps<L> = Steps::begin(blank);
     let rejected = decide_workload(alloc, guard, start, count, &mut steps)?;
@@ -74,6 +76,7 @@ fn outcome_of(alloc: Global, seed: Seed, start: u64, count: u64) -> Result<Outco
     requires { count ≤ 500000 }
     ensures line { IfOk result (λ outcome. (told_gen start count).pieces ≡ outcome.line ∷ []) }
     ensures status { IfOk result (λ outcome. (told_gen start count).status ≡ outcome.status) }
+    ensures own { IfOk result (λ outcome. IsTold outcome.status) }
 {
     let text = schema(alloc)?;
     match Guard::with_seed(alloc, text.as_slice(), Limits::standard(), seed) {
