@@ -1,3 +1,3 @@
 pub mod Decided
-pub mod Ended
 pub mod Incoming
+pub mod Telling

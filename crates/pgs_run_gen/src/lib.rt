@@ -7,7 +7,7 @@
 #![tactic(auto)]
 
 mod deciding;
-mod run_gen;
+mod running;
 mod summary;
 
-pub use run_gen::run_gen;
+pub use running::run_gen;
