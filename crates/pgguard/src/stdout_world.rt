@@ -7,7 +7,9 @@ ghost use Rattle.pgs_world.specs.World.{output_of, part, Adds, AddsFront};
 ghost use Rattle.pgguard.specs.Counted.{view_of};
 
 use crate::counts::Counts;
+use pgs_base::Seed;
 use pgs_world::{Area, AreaFault, PutFault, World};
+use std::collections::hash_map::RandomState;
 use std::io::Write;
 
 /// A writer as a world. It tells nothing of the output and has no areas yet, and counts its calls and faults.
@@ -174,6 +176,11 @@ impl<W: Write> World for StdoutWorld<W> {
                 Err(PutFault)
             }
         }
+    }
+
+    /// Keys that no one else knows: whoever chooses the numbers of a graph can't make them collide.
+    fn seed(&self) -> Seed {
+        Seed::Random(RandomState::new())
     }
 }
 

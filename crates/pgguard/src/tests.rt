@@ -28,14 +28,15 @@ fn runs(rt: HostRuntime) -> Result<(), Fail> {
         (
             "try",
             PERSONS,
-            "1 committed 1\n2 refused 23 op 1: n1 is already there\n3 refused 25 node n2 fits no type\n4 refused 40 not built yet\n",
+            "1 committed 1\n2 refused 23 op 1: n1 is already there\n3 refused 25 node n2 fits no type\n4 committed 2\n",
             1,
         ),
+        ("try", "", "schema refused 12 no graph type\n", 3),
         (
-            "try",
-            "CREATE GRAPH TYPE g LOOSE {};",
-            "schema refused 40 not built yet\n",
-            3,
+            "validate",
+            "CREATE GRAPH TYPE g STRICT {};\n---\n{\"ops\":[{\"add_node\":1}]}\n",
+            "violation 25 node n1 fits no type\n",
+            1,
         ),
         ("tri", "", "words refused 35\n", 2),
     ] {

@@ -1,15 +1,22 @@
-//! Worked runs: the very output and status of inputs of the first form, whatever the cut into reads, the
-//! faults and the budget. The expected texts are written by hand.
-//! Nothing but tests stands here.
+//! Worked runs: the very output and status of words and inputs, whatever the cut into reads, the faults and the budget. The expected
+//! texts are written by hand. Nothing but tests stands here.
 #![tactic(auto)]
 
 #[cfg(test)]
-mod examples;
+mod budgets;
 #[cfg(test)]
-mod limits;
+mod keys;
+#[cfg(test)]
+mod lengths;
+#[cfg(test)]
+mod lines;
 #[cfg(test)]
 mod ran;
 #[cfg(test)]
-mod told;
+mod refusals;
 #[cfg(test)]
-mod worked;
+mod social;
+#[cfg(test)]
+mod types;
+#[cfg(test)]
+mod words;

@@ -7,7 +7,7 @@ use std::alloc::Global;
 const ROOM: u64 = 65_536;
 
 /// The sizes of the reads that each row is tried with.
-pub const PIECES: [usize; 4] = [1, 2, 7, 65_536];
+pub const PIECES: [usize; 3] = [1, 7, 65_536];
 
 /// How a run is disturbed. The reads and the puts that fail are counted from 1; 0 is none.
 #[derive(Clone, Copy, Debug)]
@@ -77,24 +77,26 @@ pub fn run_with(
     Ok(Ran { output, status })
 }
 
-/// The first size of reads with which the words don't print this over the input, or end with another status.
-pub fn wrong_piece(
-    alloc: Global,
-    words: &str,
-    input: &str,
-    setting: Setting,
-    want: (&str, u8),
-) -> Result<Option<usize>, Memory> {
-    let words = words_of(alloc, words)?;
+/// The words with a comma after each, an input, what is printed, and the status.
+pub type Row = (&'static str, &'static str, &'static str, u8);
+
+// The first size of reads with which a row isn't printed so, or ends with another status.
+fn wrong_piece(alloc: Global, row: &Row) -> Result<Option<usize>, Memory> {
+    let words = words_of(alloc, row.0)?;
     for piece in PIECES {
-        let ran = run_with(
-            alloc,
-            &words,
-            input.as_bytes(),
-            Setting { piece, ..setting },
-        )?;
-        if ran.text() != want.0 || ran.status.number() != want.1 {
+        let ran = run_with(alloc, &words, row.1.as_bytes(), quiet(piece))?;
+        if ran.text() != row.2 || ran.status.number() != row.3 {
             return Ok(Some(piece));
+        }
+    }
+    Ok(None)
+}
+
+/// The first row that isn't printed so with reads of some size, or ends with another status: its place and the size.
+pub fn wrong_row(alloc: Global, rows: &[Row]) -> Result<Option<(usize, usize)>, Memory> {
+    for (place, row) in rows.iter().enumerate() {
+        if let Some(piece) = wrong_piece(alloc, row)? {
+            return Ok(Some((place, piece)));
         }
     }
     Ok(None)

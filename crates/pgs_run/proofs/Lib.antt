@@ -1,12 +1,1 @@
-pub mod FirstFound
-pub mod Following
-pub mod Listing
-pub mod Machine
-pub mod OneWord
-pub mod Reporting
-pub mod Room
 pub mod RunWords
-pub mod SameFronts
-pub mod Separating
-pub mod Telling
-pub mod TryEnds

@@ -1,29 +1,35 @@
--- The commands, and what each does with its source and with the areas.
-use Rattle.std.specs.Prelude.{◌≡◌, ℕ, Bool, true, false, List, [], ◌∷◌, ◌==◌, Option, Some, None, IsTrue, codes, if◌then◌else◌}
-use Rattle.std.specs.Cmp.Lexicographic.{pointwise}
+-- The commands that are built, and what each does with its source and with the areas.
+use Rattle.std.specs.Prelude.{◌≡◌, ℕ, Bool, true, false, List, Option, Some, None, IsTrue, option_and_then}
+use Rattle.pgs_words.specs.declared.command.Command.{Command}
+use Rattle.pgs_words.specs.declared.command.Command.TheVariants as words
+use Rattle.pgs_words.specs.Words as reading
 use Rattle.pgs_world.specs.World.{View}
-use Rattle.pgs_run.specs.declared.command.Command.{Command}
-use Rattle.pgs_run.specs.declared.command.Command.TheVariants.{Try}
+use Rattle.pgs_run.specs.declared.command.BuiltCommand.{BuiltCommand}
+use Rattle.pgs_run.specs.declared.command.BuiltCommand.TheVariants.{Try, Validate}
 
--- whether the words are this one word
-abbrev pub is_word : List (List ℕ) → List ℕ → Bool
-is_word words word = pointwise (pointwise ◌==◌) words (word ∷ [])
+-- a command, where it is built
+abbrev pub built : Command → Option BuiltCommand
+built words.Try = Some Try
+built words.Validate = Some Validate
+built command = None
 
--- the command of the words; other words are refused
-unfoldable pub command_of : List (List ℕ) → Option Command
-command_of words = if is_word words (codes "try") then Some Try else None
+-- the command of the words; other words, and those of commands that aren't built, are refused
+unfoldable pub command_of : List (List ℕ) → Option BuiltCommand
+command_of words = option_and_then built (reading.command_of words)
 
 -- whether it reads its source; refused words don't
-abbrev pub reads_source : Option Command → Bool
+abbrev pub reads_source : Option BuiltCommand → Bool
 reads_source None = false
 reads_source (Some Try) = true
+reads_source (Some Validate) = true
 
 -- whether it uses the areas
-abbrev pub uses_areas : Option Command → Bool
+abbrev pub uses_areas : Option BuiltCommand → Bool
 uses_areas None = false
 uses_areas (Some Try) = false
+uses_areas (Some Validate) = false
 
 -- The source tells this input, where the command reads it, and the world tells its bytes, where the command uses the areas.
-pub record IsTold (command : Option Command) (left : Option (List ℕ)) (view : View) (input : List ℕ) : Type 0 where
+pub record IsTold (command : Option BuiltCommand) (left : Option (List ℕ)) (view : View) (input : List ℕ) : Type 0 where
   pub source : reads_source command ≡ true → left ≡ Some input
   pub bytes : uses_areas command ≡ true → IsTrue view.tells_bytes

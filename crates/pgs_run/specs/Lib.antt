@@ -1,15 +1,3 @@
 pub mod Command
-pub mod Ending
-pub mod ExitStatus
-pub mod FirstVerdict
-pub mod Input
-pub mod LineList
-pub mod Part
-pub mod Pieces
-pub mod Report
 pub mod Run
-pub mod Session
-pub mod Stages
-pub mod Texts
 pub mod Told
-pub mod Trying

@@ -1,26 +1,16 @@
--- How a run ends, and the causes of its answers.
-use Rattle.std.specs.Prelude.{◌≡◌, ◌⊎◌, ℕ, ◌+◌, ◌-◌, ◌≤◌, true, List, length, Option, Some, None}
+-- The causes of a run's answers, by the command that its words name.
+use Rattle.std.specs.Prelude.{◌≡◌, ◌⊎◌, true, Option, None}
 use Rattle.pgs_lines.specs.Ending.{Faults, ReadsRose, AreasRose, PutsRose}
-use Rattle.pgs_lines.specs.Machine.{Told}
-use Rattle.pgs_lines.specs.Pieces.{Shown, ShowsAll}
 use Rattle.pgs_world.specs.Count.{Rose}
-use Rattle.pgs_world.specs.Source.{IsAtEnd}
-use Rattle.pgs_run.specs.declared.command.Command.{Command}
-use Rattle.pgs_run.specs.declared.status.Status.{Status}
-use Rattle.pgs_run.specs.declared.status.Status.TheVariants.{Accepted, Refused, BadWords, StoreRefused, DiskFault, ReadFault, PutFault, Memory, InputTooLong}
+use Rattle.pgs_run_base.specs.declared.status.Status.{Status}
+use Rattle.pgs_run_base.specs.declared.status.Status.TheVariants.{BadWords, StoreRefused, DiskFault, ReadFault, PutFault, Memory}
+use Rattle.pgs_run.specs.declared.command.BuiltCommand.{BuiltCommand}
 use Rattle.pgs_run.specs.Command.{reads_source, uses_areas}
-use Rattle.pgs_run.specs.Ending.{Ends}
-
--- Accepted and Refused come only where the source was read to its end
-abbrev pub IsRead : Option (List ℕ) → Status → Type 0
-IsRead left Accepted = IsAtEnd left
-IsRead left Refused = IsAtEnd left
-IsRead left status = Unit {0}
 
 -- A fault is answered only where its count rose, and then no other count rose; with any other answer each count is as before. A
 -- read fails only where the command reads its source. An area fails, and a store is refused, only where the command uses the
--- areas: `try` never ends so. Words are refused only where they are no command.
-abbrev pub HasRunCause : Option Command → Faults → Faults → Status → Type 0
+-- areas: `try` and `validate` never end so. Words are refused only where they are no command.
+abbrev pub HasRunCause : Option BuiltCommand → Faults → Faults → Status → Type 0
 HasRunCause command before now BadWords = (command ≡ None) × (now ≡ before)
 HasRunCause command before now StoreRefused = (uses_areas command ≡ true) × (now ≡ before)
 HasRunCause command before now DiskFault = (uses_areas command ≡ true) × AreasRose before now
@@ -28,31 +18,12 @@ HasRunCause command before now ReadFault = (reads_source command ≡ true) × Re
 HasRunCause command before now PutFault = PutsRose before now
 HasRunCause command before now status = now ≡ before
 
--- A run of which this is told by its budget ended so over this input, with this left of it.
-pub record EndsAs (tell : ℕ → Told Status) (start : Shown) (input : List ℕ) (budget : ℕ) (left : Option (List ℕ))
-    (status : Status) (now : Shown) : Type 0 where
-  pub shown : Ends start (tell budget) status now
-  -- after a fault of a read all is put that is told with the number of bytes that the reads gave in the budget's place
-  pub read_fault : (rest : List ℕ) → left ≡ Some rest → status ≡ ReadFault → ShowsAll start (tell (length input - length rest)).pieces now
-  -- never more than the budget is taken, and all of it where the input is too long
-  pub within : (rest : List ℕ) → left ≡ Some rest → length input ≤ budget + length rest
-  pub too_long : (rest : List ℕ) → left ≡ Some rest → status ≡ InputTooLong → length input ≡ budget + length rest
-
 -- the words are refused, and nothing else comes of them but a fault of the put and want of memory
 abbrev pub RefusesWords : Status → Type 0
 RefusesWords status = (status ≡ BadWords) ⊎ ((status ≡ PutFault) ⊎ (status ≡ Memory))
 
--- a fault or want of memory disturbed the run
-abbrev pub IsDisturbed : Status → Type 0
-IsDisturbed status = (status ≡ ReadFault) ⊎ ((status ≡ PutFault) ⊎ ((status ≡ Memory) ⊎ (status ≡ DiskFault)))
-
--- the run ended with 0 or 1 and all that is told, or for want of memory
-abbrev pub IsComplete : Shown → Told Status → Status → Shown → Type 0
-IsComplete start told status now =
-    (status ≡ Memory) ⊎ (((status ≡ Accepted) ⊎ (status ≡ Refused)) × ShowsAll start told.pieces now)
-
 -- no count rose of a fault that the command may meet
-pub record IsUndisturbed (command : Option Command) (before now : Faults) : Type 0 where
+pub record IsUndisturbed (command : Option BuiltCommand) (before now : Faults) : Type 0 where
   pub reads : reads_source command ≡ true → Rose before.reads now.reads → ⊥
   pub areas : uses_areas command ≡ true → Rose before.areas now.areas → ⊥
   pub puts : Rose before.puts now.puts → ⊥

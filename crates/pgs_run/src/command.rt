@@ -1,34 +1,37 @@
-ghost use Rattle.std.specs.Prelude.{◌≡◌, codes};
-ghost use Rattle.pgs_run.specs.Command.{is_word, command_of};
+ghost use Rattle.std.specs.Prelude.{◌≡◌, IfOk};
+ghost use Rattle.pgs_run.specs.Command.{built, command_of};
 
-use pgs_base::Words;
+use pgs_base::{Memory, Words};
+use pgs_words::Command;
+use std::alloc::Global;
 
-/// The commands of the program.
+/// The commands that are built.
 #[derive(Clone, Copy, Debug, PartialEq, Eq)]
-pub enum Command {
+pub enum BuiltCommand {
     /// A schema and lines of transactions, decided one after another; nothing is stored.
     Try,
+    /// A schema and lines of transactions, judged as a whole; nothing is stored.
+    Validate,
 }
 
-// Whether the words are those of the command `try`: that word alone.
-#[tactic(auto, using(crate::proofs::OneWord::is_word_none))]
-fn is_try(words: &Words) -> bool
-    ensures { result ≡ is_word words.now (codes "try") }
+// A command, where it is built.
+fn built(command: Command) -> Option<BuiltCommand>
+    ensures { result ≡ built command }
 {
-    match words.at(0) {
-        Some(word) => word == "try" && words.len() == 1,
-        None => false,
+    match command {
+        Command::Try => Some(BuiltCommand::Try),
+        Command::Validate => Some(BuiltCommand::Validate),
+        _ => None,
     }
 }
 
-/// The command that the words name. `None` is exactly where they are no command: the words are refused.
+/// The command that the words name. `None` is exactly where they are refused.
 #[tactic(auto, unfolding(crate::specs::Command::command_of))]
-pub fn command_of(words: &Words) -> Option<Command>
-    ensures { result ≡ command_of words.now }
+pub fn command_of(alloc: Global, words: &Words) -> Result<Option<BuiltCommand>, Memory>
+    ensures { IfOk result (λ command. command ≡ command_of words.now) }
 {
-    if is_try(words) {
-        Some(Command::Try)
-    } else {
-        None
+    match pgs_words::command_of(alloc, words)? {
+        Some(command) => Ok(built(command)),
+        None => Ok(None),
     }
 }

@@ -2,49 +2,46 @@ ghost use Rattle.std.specs.Prelude.{◌≡◌, ◌⊎◌, ◌+◌, ◌-◌, ◌<
 ghost use Rattle.pgs_lines.specs.AreasKept.{KeepsAreas};
 ghost use Rattle.pgs_lines.specs.Ending.{faults_of};
 ghost use Rattle.pgs_lines.specs.Pieces.{shown_of, ShowsAll};
+ghost use Rattle.pgs_run_base.specs.Areas.{areas_of};
+ghost use Rattle.pgs_run_base.specs.Ending.{Ends};
+ghost use Rattle.pgs_run_base.specs.Run.{IsRead, EndsAs, IsDisturbed, IsComplete};
 ghost use Rattle.pgs_run.specs.Command.{command_of, reads_source, IsTold};
-ghost use Rattle.pgs_run.specs.Ending.{Ends, status_at};
-ghost use Rattle.pgs_run.specs.Run.{IsRead, EndsAs, HasRunCause, RefusesWords, IsDisturbed, IsComplete, IsUndisturbed};
-ghost use Rattle.pgs_run.specs.Told.{told_try, told_of_words, told, areas_of};
+ghost use Rattle.pgs_run.specs.Run.{HasRunCause, RefusesWords, IsUndisturbed};
+ghost use Rattle.pgs_run.specs.Told.{told_of_words, told_command, told};
 
 use crate::Status;
-use crate::command::{Command, command_of};
-use crate::schema_part::TEXT_LIMIT;
-use crate::trying::Trying;
+use crate::command::{BuiltCommand, command_of};
 use pgs_answer::words_refused_line;
 use pgs_base::Words;
-use pgs_lines::{Stop, put_piece, run_lines};
+use pgs_lines::put_piece;
+use pgs_run_try::{Judging, run_judging};
 use pgs_world::{Source, World};
 use std::alloc::Global;
 
 /// The budget of a run of the program: 2^40 bytes.
 pub const BUDGET: u64 = 1 << 40;
 
-// The status of a run over lines.
-fn status_at(stop: Stop<Status>) -> Status
-    ensures { result ≡ status_at stop }
-{
-    match stop {
-        Stop::Ended(status) => status,
-        Stop::ReadFault => Status::ReadFault,
-        Stop::AreaFault => Status::DiskFault,
-        Stop::PutFault => Status::PutFault,
-        Stop::Memory => Status::Memory,
-    }
-}
-
-// Runs the command `try`.
-fn run_try<S: Source, W: World>(alloc: Global, source: &mut S, world: &mut W, budget: u64) -> Status
+// Runs a command.
+fn run_command<S: Source, W: World>(
+    alloc: Global,
+    command: BuiltCommand,
+    source: &mut S,
+    world: &mut W,
+    budget: u64,
+) -> Status
     requires { budget ≤ 2 ^ 40 }
     ensures ends { (input : List ℕ) → S.left source.old ≡ Some input
-        → EndsAs (told_try input) (shown_of (W.view world.old)) input budget (S.left source.new) result (shown_of (W.view world.new)) }
-    ensures read_to_end { IsRead (S.left source.new) result }
-    ensures cause { HasRunCause (Some Command.Try) (faults_of (S.faults source.old) (W.view world.old)) (faults_of (S.faults source.new) (W.view world.new)) result }
+        → EndsAs (λ bytes. told_command (Some command) input (areas_of (W.view world.old)) bytes 0) (shown_of (W.view world.old)) input budget (S.left source.new) result (shown_of (W.view world.new)) }
+    ensures unread { reads_source (Some command) ≡ false → S.left source.new ≡ S.left source.old }
+    ensures no_read_fault { reads_source (Some command) ≡ false → S.faults source.new ≡ S.faults source.old }
+    ensures read_to_end { reads_source (Some command) ≡ true → IsRead (S.left source.new) result }
+    ensures cause { HasRunCause (Some command) (faults_of (S.faults source.old) (W.view world.old)) (faults_of (S.faults source.new) (W.view world.new)) result }
     ensures areas { KeepsAreas (W.view world.old) (W.view world.new) }
 {
-    let mut trying = Trying::new(alloc);
-    let stop = run_lines(&mut trying, alloc, source, world, TEXT_LIMIT, budget);
-    status_at(stop)
+    match command {
+        BuiltCommand::Try => run_judging(alloc, Judging::EachLine, source, world, budget),
+        BuiltCommand::Validate => run_judging(alloc, Judging::AtEnd, source, world, budget),
+    }
 }
 
 // Refuses the words.
@@ -83,9 +80,10 @@ fn run_words<S: Source, W: World>(
     ensures cause { HasRunCause (command_of words.now) (faults_of (S.faults source.old) (W.view world.old)) (faults_of (S.faults source.new) (W.view world.new)) result }
     ensures areas { KeepsAreas (W.view world.old) (W.view world.new) }
 {
-    match command_of(words) {
-        Some(Command::Try) => run_try(alloc, source, world, budget),
-        None => refuse_words(alloc, world),
+    match command_of(alloc, words) {
+        Ok(Some(command)) => run_command(alloc, command, source, world, budget),
+        Ok(None) => refuse_words(alloc, world),
+        Err(_) => Status::Memory,
     }
 }
 

@@ -1,7 +1,8 @@
 use Rattle.std.proofs.Common.{refl}
 use Rattle.pgs_lines.specs.Pieces.{shown_of}
 use Rattle.pgs_run.specs.Command.{command_of}
-use Rattle.pgs_run.specs.Told.{areas_of, told}
+use Rattle.pgs_run_base.specs.Areas.{areas_of}
+use Rattle.pgs_run.specs.Told.{told}
 use Rattle.pgs_run.proofs.RunWords.{shown_told, exact_of, complete_of}
 use Rattle.pgs_run.proofs.top_call.run_within.Goals as goal
 
@@ -29,4 +30,4 @@ pub returns-clause-complete : goal.returns-clause-complete
 returns-clause-complete g c = λ input known named short wider store none.
     let view = g.W.World.view c.args.world.now in
     let shown = shown_told c.args.words.now (command_of c.args.words.now) (areas_of view) view (shown_of view) _ _ _ input c.args.budget c.run_words.result refl known c.run_words.ensures.refused (c.run_words.ensures.ends input) in
-    complete_of c.args.words.now (command_of c.args.words.now) (areas_of view) (shown_of view) (shown_of (g.W.World.view c.run_words.new.world)) input c.args.budget c.run_words.result _ _ refl named short wider none c.run_words.ensures.cause shown
+    complete_of c.args.words.now (command_of c.args.words.now) (areas_of view) (shown_of view) (shown_of (g.W.World.view c.run_words.new.world)) input c.args.budget c.run_words.result _ _ refl named short wider store none c.run_words.ensures.cause shown

@@ -1,0 +1,23 @@
+use crate::ran::{Row, wrong_row};
+use std::test::Fail;
+
+const ONE_NODE: &str = "CREATE GRAPH TYPE g STRICT {};\n---\n{\"ops\":[{\"add_node\":1}]}\n";
+
+const ROWS: &[Row] = &[
+    ("try,", ONE_NODE, "1 refused 25 node n1 fits no type\n", 1),
+    ("", ONE_NODE, "words refused 35\n", 2),
+    (",", ONE_NODE, "words refused 35\n", 2),
+    ("aply,s,", ONE_NODE, "words refused 35\n", 2),
+    ("apply,", ONE_NODE, "words refused 35\n", 2),
+    ("apply,-x,", ONE_NODE, "words refused 35\n", 2),
+    ("explain,s,x1,", ONE_NODE, "words refused 35\n", 2),
+    ("try,x,", ONE_NODE, "words refused 35\n", 2),
+    ("load,s,", ONE_NODE, "words refused 35\n", 2),
+    ("Validate,", ONE_NODE, "words refused 35\n", 2),
+];
+
+#[test]
+fn words_of_commands(rt: HostRuntime) -> Result<(), Fail> {
+    assert_eq!(rt; wrong_row(rt.alloc(), ROWS)?, None);
+    Ok(())
+}

@@ -1,0 +1,4 @@
+pub mod Following
+pub mod ReadLines
+pub mod SameFronts
+pub mod Separating

@@ -1,0 +1,9 @@
+pub mod Answers
+pub mod Areas
+pub mod Ending
+pub mod ExitStatus
+pub mod Input
+pub mod Part
+pub mod Pieces
+pub mod Run
+pub mod Session

@@ -1,0 +1,21 @@
+//! What the commands of the program share: the statuses, the schema part of an input, and what a schema text and the lines of
+//! transactions are answered.
+//!
+//! The one rule: `specs/Answers.antt` says what a text and a line give, `specs/Session.antt` what lines tell one after another, by
+//! the verdicts on graphs, and `specs/Ending.antt` and `specs/Run.antt` what a status says of a run. Each command is a crate above,
+//! which tells what it does in these words; `pgs_run` runs the words of a command line.
+#![tactic(auto)]
+
+mod lines;
+mod putting;
+mod schema_answer;
+mod schema_part;
+mod status;
+mod txn_answer;
+
+pub use lines::{TEXT_LIMIT, is_separator};
+pub use putting::put_any;
+pub use schema_answer::{refusal_of, schema_of};
+pub use schema_part::SchemaPart;
+pub use status::{Status, status_at};
+pub use txn_answer::txn_of;

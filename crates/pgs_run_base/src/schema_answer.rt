@@ -1,0 +1,56 @@
+ghost use Rattle.std.specs.Prelude.{◌≡◌, Ok, Err, IfOk, IfErr};
+ghost use Rattle.pgs_resolve.specs.SchemaOf.{Answer};
+ghost use Rattle.pgs_schema.specs.Told.{answer_of, IsRefused};
+ghost use Rattle.pgs_run_base.specs.Answers.{schema_or_text, schema_answer};
+
+use pgs_answer::{
+    bad_key_text, cycle_text, duplicate_text, kind_text, lex_text, no_graph_type_text, syntax_text,
+    too_long_text, too_wide_text, unknown_text,
+};
+use pgs_base::{Bytes, Memory};
+use pgs_schema::{Schema, SchemaFault, SchemaUnread};
+use std::alloc::Global;
+
+// The text of a refusal.
+fn fault_text(alloc: Global, fault: &SchemaFault) -> Result<Bytes, Memory>
+    ensures { IfOk result (λ text. schema_or_text (answer_of fault.now) ≡ Err text) }
+{
+    match fault {
+        SchemaFault::Lex { line } => lex_text(alloc, *line),
+        SchemaFault::Syntax { statement } => syntax_text(alloc, *statement),
+        SchemaFault::NoGraphType => no_graph_type_text(alloc),
+        SchemaFault::Duplicate { name } => duplicate_text(alloc, name),
+        SchemaFault::Unknown { name } => unknown_text(alloc, name),
+        SchemaFault::Kind { name } => kind_text(alloc, name),
+        SchemaFault::Cycle { name } => cycle_text(alloc, name),
+        SchemaFault::TooWide { name } => too_wide_text(alloc, name),
+        SchemaFault::BadKey { key, cause } => bad_key_text(alloc, *key, cause),
+        SchemaFault::TooLong => too_long_text(alloc),
+    }
+}
+
+/// The text of the refusal of a schema text that gave no schema. `Memory` where that was for want of memory, or where there is none.
+pub fn refusal_of(alloc: Global, unread: SchemaUnread) -> Result<Bytes, Memory>
+    ensures { (answer : Answer) → IsRefused answer unread → IfOk result (λ text. schema_or_text answer ≡ Err text) }
+{
+    match unread {
+        SchemaUnread::Memory => Err(Memory),
+        SchemaUnread::Schema(fault) => fault_text(alloc, &fault),
+    }
+}
+
+/// The schema of a text, or the text of its refusal.
+#[tactic(auto, unfolding(crate::specs::Answers::schema_answer))]
+pub fn schema_of(alloc: Global, text: &[u8]) -> Result<Result<Schema, Bytes>, Memory>
+    ensures schema { IfOk result (λ answer. IfOk answer (λ schema. schema_answer text.now ≡ Ok schema.resolved)) }
+    ensures text { IfOk result (λ answer. IfOk answer (λ schema. schema.text ≡ text.now)) }
+    ensures refused { IfOk result (λ answer. IfErr answer (λ refusal. schema_answer text.now ≡ Err refusal)) }
+{
+    match Schema::read(alloc, text) {
+        Ok(schema) => Ok(Ok(schema)),
+        Err(unread) => {
+            let refusal = refusal_of(alloc, unread)?;
+            Ok(Err(refusal))
+        }
+    }
+}

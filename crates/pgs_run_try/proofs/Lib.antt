@@ -1,0 +1,5 @@
+pub mod Listing
+pub mod Machine
+pub mod Room
+pub mod Telling
+pub mod TryEnds

@@ -1,0 +1,4 @@
+pub mod Judging
+pub mod State
+pub mod Told
+pub mod Trying

@@ -1,0 +1,105 @@
+-- The commands `try` and `validate` as one machine over lines.
+use Rattle.std.specs.Prelude.{◌≡◌, ◌<◌, ◌^◌, ℕ, ◌+◌, true, false, List, [], ◌∷◌, ◌++◌, Result, Ok, Err, not, if◌then◌else◌}
+use Rattle.std.specs.List.{list_any, join_with_byte}
+use Rattle.pgs_lines.specs.declared.stop.Stop.{Stop}
+use Rattle.pgs_lines.specs.declared.stop.Stop.TheVariants as stops
+use Rattle.pgs_lines.specs.Machine.{Machine, Standing as RunStanding, Told, Going, Ended}
+use Rattle.pgs_syntax.specs.declared.resolved.Resolved.{Resolved}
+use Rattle.pgs_answer.specs.Lines.{schema_refused_line}
+use Rattle.pgs_run_base.specs.declared.status.Status.{Status}
+use Rattle.pgs_run_base.specs.declared.status.Status.TheVariants as statuses
+use Rattle.pgs_run_base.specs.Answers.{schema_answer}
+use Rattle.pgs_run_base.specs.Input.{text_front, is_separator, schema_part, after_separator}
+use Rattle.pgs_run_base.specs.Part.{with_line, no_part, has_none}
+use Rattle.pgs_run_base.specs.Session.{after_lines}
+use Rattle.pgs_run_try.specs.declared.judging.Judging.{Judging}
+use Rattle.pgs_run_try.specs.declared.phase.Phase.{Phase}
+use Rattle.pgs_run_try.specs.declared.phase.Phase.TheVariants.{Schema, Lines, Refused}
+use Rattle.pgs_run_try.specs.Judging.{verdict_by}
+use Rattle.pgs_run_try.specs.State.{session_after, session_pieces}
+use Rattle.pgs_run_try.specs.Told.{start, told_end, told_schema}
+
+-- the phase after the judgement of a schema text, and what it tells
+abbrev pub after_schema : Judging → Result Resolved (List ℕ) → Phase
+after_schema judging (Ok schema) = Lines (record { judging = judging; schema = schema; standing = start })
+after_schema judging (Err text) = Refused
+
+abbrev pub pieces_of_schema : Result Resolved (List ℕ) → List (List ℕ)
+pieces_of_schema (Ok schema) = []
+pieces_of_schema (Err text) = schema_refused_line text ∷ []
+
+-- the phase after one more line, and what it tells
+abbrev pub after_end : Phase → List ℕ → Phase
+after_end (Schema judging part) line =
+    if is_separator line then after_schema judging (schema_answer part.text) else Schema judging (with_line part line)
+after_end (Lines s) line = Lines (session_after s line)
+after_end Refused line = Refused
+
+abbrev pub pieces_at_end : Phase → List ℕ → List (List ℕ)
+pieces_at_end (Schema judging part) line = if is_separator line then pieces_of_schema (schema_answer part.text) else []
+pieces_at_end (Lines s) line = session_pieces s line
+pieces_at_end Refused line = []
+
+-- a refused schema ends the run
+abbrev pub next_of : Phase → RunStanding Phase Status
+next_of (Schema judging part) = Going (Schema judging part)
+next_of (Lines s) = Going (Lines s)
+next_of Refused = Ended statuses.SchemaRefused
+
+-- what a phase tells after the last line: without a separator all is the schema text
+abbrev pub told_after : Phase → Told Status
+told_after (Schema judging part) = told_schema judging true (schema_answer part.text) []
+told_after (Lines s) = told_end s.judging s.schema s.standing
+told_after Refused = record { pieces = []; status = statuses.SchemaRefused }
+
+-- the last line has no line feed
+abbrev pub told_last : Phase → List ℕ → Told Status
+told_last phase line =
+    let after = told_after (after_end phase line) in
+    record { pieces = pieces_at_end phase line ++ after.pieces; status = after.status }
+
+-- it touches no area
+abbrev pub MayStop : Stop Status → Type 0
+MayStop (stops.Ended status) = Unit {0}
+MayStop stops.ReadFault = ⊥
+MayStop stops.AreaFault = ⊥
+MayStop stops.PutFault = Unit {0}
+MayStop stops.Memory = Unit {0}
+
+-- what may stop the putting of pieces that are made one by one
+abbrev pub StopsPutting : Stop Status → Type 0
+StopsPutting (stops.Ended status) = ⊥
+StopsPutting stops.ReadFault = ⊥
+StopsPutting stops.AreaFault = ⊥
+StopsPutting stops.PutFault = Unit {0}
+StopsPutting stops.Memory = Unit {0}
+
+-- lines and commits that can be counted so many further
+abbrev pub HasRoom : ℕ → Phase → Type 0
+HasRoom lines (Schema judging part) = lines < 2 ^ 64
+HasRoom lines (Lines s) = (s.standing.number + lines < 2 ^ 64) × (s.standing.commits + lines < 2 ^ 64)
+HasRoom lines Refused = Unit {0}
+
+abbrev pub trying : Machine Status
+trying = record {
+  State = Phase;
+  line = λ phase line. record { pieces = pieces_at_end phase line; next = next_of (after_end phase line) };
+  rest = told_last;
+  cut = λ phase. statuses.InputTooLong;
+  MayStop = MayStop;
+  HasRoom = HasRoom;
+}
+
+-- before the first line
+abbrev pub first_phase : Judging → Phase
+first_phase judging = Schema judging no_part
+
+-- the phase is where these ended lines lead, judged so
+abbrev pub Stands : Judging → List (List ℕ) → Phase → Type 0
+Stands judging lines (Schema j part) =
+    (j ≡ judging) × (list_any is_separator lines ≡ false) × (part.text ≡ text_front (join_with_byte 10 lines))
+    × (part.begun ≡ not (has_none lines))
+Stands judging lines (Lines s) =
+    (s.judging ≡ judging) × (list_any is_separator lines ≡ true) × (schema_answer (schema_part lines) ≡ Ok s.schema)
+    × (s.standing ≡ after_lines (verdict_by s.judging s.schema) start (after_separator lines))
+Stands judging lines Refused = (list_any is_separator lines ≡ true) × ((text : List ℕ) × (schema_answer (schema_part lines) ≡ Err text))

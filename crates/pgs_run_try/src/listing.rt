@@ -1,0 +1,92 @@
+ghost use Rattle.std.specs.Prelude.{◌≡◌, ◌∷◌, [], map, IfOk, IfErr};
+ghost use Rattle.pgs_lines.specs.AreasKept.{KeepsAreas};
+ghost use Rattle.pgs_lines.specs.Driving.{LineShows};
+ghost use Rattle.pgs_lines.specs.Ending.{Ends, HasCause, HasAnyCause, faults_of};
+ghost use Rattle.pgs_lines.specs.Pieces.{shown_of};
+ghost use Rattle.pgs_run_try.specs.Told.{listed_line, status_after, told_end};
+ghost use Rattle.pgs_run_try.specs.Trying.{MayStop, StopsPutting};
+
+use crate::session::Session;
+use pgs_answer::{violation_line, violation_text};
+use pgs_base::{Bytes, Memory};
+use pgs_lines::{Stop, put_piece};
+use pgs_run_base::Status;
+use pgs_violation::Violation;
+use pgs_world::World;
+use std::alloc::Global;
+
+// The line of a violation.
+#[tactic(auto, unfolding(crate::specs::Told::listed_line))]
+fn listed_line(alloc: Global, violation: &Violation) -> Result<Bytes, Memory>
+    ensures { IfOk result (λ line. line ≡ listed_line violation.now) }
+{
+    let text = violation_text(alloc, violation)?;
+    violation_line(alloc, text.as_slice())
+}
+
+// Puts the line of a violation.
+fn put_listed<W: World>(
+    alloc: Global,
+    world: &mut W,
+    violation: &Violation,
+) -> Result<(), Stop<Status>>
+    ensures shows { LineShows (shown_of (W.view world.old)) (listed_line violation.now ∷ []) result (shown_of (W.view world.new)) }
+    ensures stop { IfErr result StopsPutting }
+    ensures cause { HasAnyCause (faults_of 0 (W.view world.old)) (faults_of 0 (W.view world.new)) result }
+    ensures areas { KeepsAreas (W.view world.old) (W.view world.new) }
+{
+    let line = match listed_line(alloc, violation) {
+        Ok(line) => line,
+        Err(_) => return Err(Stop::Memory),
+    };
+    put_piece(world, line.as_slice())
+}
+
+// Puts the lines of violations, one after another.
+fn put_all_listed<W: World>(
+    alloc: Global,
+    world: &mut W,
+    found: &[Violation],
+) -> Result<(), Stop<Status>>
+    ensures shows { LineShows (shown_of (W.view world.old)) (map listed_line found.now) result (shown_of (W.view world.new)) }
+    ensures stop { IfErr result StopsPutting }
+    ensures cause { HasAnyCause (faults_of 0 (W.view world.old)) (faults_of 0 (W.view world.new)) result }
+    ensures areas { KeepsAreas (W.view world.old) (W.view world.new) }
+{
+    for violation in found {
+        match put_listed(alloc, world, violation) {
+            Ok(()) => {}
+            Err(stop) => return Err(stop),
+        }
+    }
+    Ok(())
+}
+
+// The status after a whole input.
+fn status_after(refused: bool, found: &[Violation]) -> Status
+    ensures { result ≡ status_after refused found.now }
+{
+    if refused || !found.is_empty() {
+        Status::Refused
+    } else {
+        Status::Accepted
+    }
+}
+
+/// Ends the run of a session, and puts what the end of the input tells.
+#[tactic(auto, unfolding(crate::specs::Told::told_end))]
+pub fn end_session<W: World>(session: &Session, alloc: Global, world: &mut W) -> Stop<Status>
+    ensures ends { Ends (shown_of (W.view world.old)) (told_end session.now.judging session.now.schema session.now.standing) result (shown_of (W.view world.new)) }
+    ensures cause { HasCause (faults_of 0 (W.view world.old)) (faults_of 0 (W.view world.new)) result }
+    ensures may { MayStop result }
+    ensures areas { KeepsAreas (W.view world.old) (W.view world.new) }
+{
+    let found = match session.listed(alloc) {
+        Ok(found) => found,
+        Err(_) => return Stop::Memory,
+    };
+    match put_all_listed(alloc, world, found.as_slice()) {
+        Ok(()) => Stop::Ended(status_after(session.is_refused(), found.as_slice())),
+        Err(stop) => stop,
+    }
+}

@@ -1,0 +1,175 @@
+ghost use Rattle.std.specs.Prelude.{◌≡◌, ◌+◌, ◌-◌, ◌<◌, ◌^◌, Ok, Err, IfOk, IfErr, OnOk};
+ghost use Rattle.pgs_base.specs.Graph.{Graph};
+ghost use Rattle.pgs_run_base.specs.Answers.{schema_answer};
+ghost use Rattle.pgs_run_base.specs.Pieces.{pieces_in};
+ghost use Rattle.pgs_run_base.specs.Session.{Standing, with_text, answer_to, answer_to_txn, decision_on, after_answer, after_refusal, after_line, pieces_of_line};
+ghost use Rattle.pgs_run_try.specs.Judging.{verdict_by, telling_by, listed};
+ghost use Rattle.pgs_run_try.specs.State.{session_after, session_pieces};
+ghost use Rattle.pgs_run_try.specs.Told.{start};
+
+use crate::Judging;
+use crate::decider::{Decider, apply, open_decider};
+use pgs_answer::{committed_line, refused_line, rejection_text};
+use pgs_base::{Bytes, Limits, List, Memory, Seed};
+use pgs_graph::Txn;
+use pgs_lines::is_blank;
+use pgs_run_base::{TEXT_LIMIT, txn_of};
+use pgs_store::GuardRefusal;
+use pgs_violation::{Rejection, Violation};
+use std::alloc::Global;
+use std::marker::Model;
+
+/// Where a run stands between two transaction lines. Contracts see how it judges, its schema and its standing.
+#[derive(Drop)]
+pub struct Session {
+    decider: Decider,
+    number: u64,
+    refused: bool,
+}
+
+impl Model for Session {
+    ghost use Rattle.std.specs.Coded.{codes};
+    ghost use Rattle.pgs_syntax.specs.contracts.resolved.Resolved as schemas;
+    ghost use Rattle.pgs_run_try.specs.State.{SessionState, HasStandardLimits, state_in, graph_in, commits_in};
+
+    ghost Value = { SessionState };
+
+    ghost coded = { Prim.hlevel (codes, schemas.the_row.coded) };
+
+    ghost view = { λ s. state_in s.decider (record { number = s.number; commits = commits_in s.decider; refused = s.refused; graph = graph_in s.decider }) };
+
+    ghost invariant = { λ s. HasStandardLimits s.decider };
+}
+
+impl Session {
+    /// Before the first line, under the schema of a text; or the text of the schema's refusal.
+    pub fn open(
+        alloc: Global,
+        judging: Judging,
+        text: &[u8],
+        seed: Seed,
+    ) -> Result<Result<Session, Bytes>, Memory>
+        ensures schema { IfOk result (λ answer. IfOk answer (λ session. schema_answer text.now ≡ Ok session.schema)) }
+        ensures judging { IfOk result (λ answer. IfOk answer (λ session. session.judging ≡ judging)) }
+        ensures standing { IfOk result (λ answer. IfOk answer (λ session. session.standing ≡ start)) }
+        ensures refused { IfOk result (λ answer. IfErr answer (λ refusal. schema_answer text.now ≡ Err refusal)) }
+    {
+        match open_decider(alloc, judging, text, seed)? {
+            Ok(decider) => Ok(Ok(Session {
+                decider,
+                number: 0,
+                refused: false,
+            })),
+            Err(refusal) => Ok(Err(refusal)),
+        }
+    }
+
+    /// Whether a line was refused so far.
+    pub fn is_refused(&self) -> bool
+        ensures { result ≡ self.now.standing.refused }
+    {
+        self.refused
+    }
+
+    /// The violations that are listed at the end of the input, in order.
+    pub fn listed(&self, alloc: Global) -> Result<List<Violation>, Memory>
+        ensures { IfOk result (λ found. found ≡ listed self.now.judging self.now.schema self.now.standing.graph) }
+    {
+        match &self.decider {
+            Decider::Guarded(_) => Ok(List::new(alloc)),
+            Decider::Unjudged(staged) => staged.violations(alloc),
+        }
+    }
+
+    // The piece of a committed line.
+    fn committed(&self, alloc: Global, commit: u64) -> Result<Option<Bytes>, Memory>
+        requires lines { self.now.standing.number < 2 ^ 64 - 1 }
+        ensures { (old : Standing) (g : Graph) → old.number ≡ self.now.standing.number → commit ≡ old.commits + 1
+            → IfOk result (λ piece. pieces_in piece ≡ telling_by self.now.judging old (Ok g)) }
+    {
+        match self.decider {
+            Decider::Guarded(_) => {
+                let line = committed_line(alloc, self.number + 1, commit)?;
+                Ok(Some(line))
+            }
+            Decider::Unjudged(_) => Ok(None),
+        }
+    }
+
+    // Counts a refused line, and gives its piece.
+    fn refuse(&mut self, alloc: Global, text: &[u8]) -> Result<Option<Bytes>, Memory>
+        requires { self.old.standing.number < 2 ^ 64 - 1 }
+        ensures session { OnOk result (self.new ≡ record self.old { standing = after_refusal self.old.standing }) }
+        ensures piece { IfOk result (λ piece. pieces_in piece ≡ telling_by self.old.judging self.old.standing (Err text.now)) }
+    {
+        let line = refused_line(alloc, self.number + 1, text)?;
+        self.number += 1;
+        self.refused = true;
+        Ok(Some(line))
+    }
+
+    // Counts a rejected transaction, and gives its piece.
+    fn reject(&mut self, alloc: Global, rejection: &Rejection) -> Result<Option<Bytes>, Memory>
+        requires { self.old.standing.number < 2 ^ 64 - 1 }
+        ensures session { OnOk result (self.new ≡ record self.old { standing = after_answer self.old.standing (with_text (Err rejection.now)) }) }
+        ensures piece { IfOk result (λ piece. pieces_in piece ≡ telling_by self.old.judging self.old.standing (with_text (Err rejection.now))) }
+    {
+        let text = rejection_text(alloc, rejection, &Limits::standard())?;
+        self.refuse(alloc, text.as_slice())
+    }
+
+    // Decides a transaction, and gives what is told of it.
+    fn take_txn(&mut self, alloc: Global, txn: &Txn) -> Result<Option<Bytes>, Memory>
+        requires lines { self.old.standing.number < 2 ^ 64 - 1 }
+        requires commits { self.old.standing.commits < 2 ^ 64 - 1 }
+        ensures session { OnOk result (self.new ≡ record self.old {
+          standing = after_answer self.old.standing
+              (answer_to_txn (verdict_by self.old.judging self.old.schema) self.old.standing.graph (Ok txn.now));
+        }) }
+        ensures piece { IfOk result (λ piece. pieces_in piece ≡ telling_by self.old.judging self.old.standing
+            (answer_to_txn (verdict_by self.old.judging self.old.schema) self.old.standing.graph (Ok txn.now))) }
+    {
+        match apply(alloc, &mut self.decider, txn) {
+            Ok(commit) => {
+                let piece = self.committed(alloc, commit)?;
+                self.number += 1;
+                Ok(piece)
+            }
+            Err(GuardRefusal::Memory) => Err(Memory),
+            Err(GuardRefusal::Rejected(rejection)) => self.reject(alloc, &rejection),
+        }
+    }
+
+    // Answers a line that isn't blank.
+    #[tactic(auto, unfolding(pgs_run_base::specs::Session::answer_to))]
+    fn answer(&mut self, alloc: Global, line: &[u8]) -> Result<Option<Bytes>, Memory>
+        requires lines { self.old.standing.number < 2 ^ 64 - 1 }
+        requires commits { self.old.standing.commits < 2 ^ 64 - 1 }
+        ensures session { OnOk result (self.new ≡ record self.old {
+          standing = after_answer self.old.standing
+              (answer_to (verdict_by self.old.judging self.old.schema) self.old.standing.graph line.now);
+        }) }
+        ensures piece { IfOk result (λ piece. pieces_in piece ≡ telling_by self.old.judging self.old.standing
+            (answer_to (verdict_by self.old.judging self.old.schema) self.old.standing.graph line.now)) }
+    {
+        match txn_of(alloc, line)? {
+            Ok(txn) => self.take_txn(alloc, &txn),
+            Err(text) => self.refuse(alloc, text.as_slice()),
+        }
+    }
+
+    /// Takes the next line, and gives what it tells, if anything. A blank line isn't numbered. After `Memory` the session isn't used any
+    /// more.
+    #[tactic(auto, unfolding(pgs_run_base::specs::Session::after_line, pgs_run_base::specs::Session::pieces_of_line))]
+    pub fn take_line(&mut self, alloc: Global, line: &[u8]) -> Result<Option<Bytes>, Memory>
+        requires lines { self.old.standing.number < 2 ^ 64 - 1 }
+        requires commits { self.old.standing.commits < 2 ^ 64 - 1 }
+        ensures session { OnOk result (self.new ≡ session_after self.old line.now) }
+        ensures piece { IfOk result (λ piece. pieces_in piece ≡ session_pieces self.old line.now) }
+    {
+        if is_blank(line, TEXT_LIMIT) {
+            return Ok(None);
+        }
+        self.answer(alloc, line)
+    }
+}

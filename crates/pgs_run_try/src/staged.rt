@@ -1,0 +1,106 @@
+ghost use Rattle.std.specs.Prelude.{◌≡◌, ◌+◌, ◌-◌, ◌<◌, ◌^◌, true, Ok, IfOk, IfErr, OnOk, OnErr};
+ghost use Rattle.pgs_syntax.specs.declared.resolved.Resolved.{Resolved};
+ghost use Rattle.pgs_graph.specs.Changed.{changed, is_sound};
+ghost use Rattle.pgs_violation.specs.Staging.{staged};
+ghost use Rattle.pgs_violation.specs.Violations.{violations};
+ghost use Rattle.pgs_store.specs.Refused.{IsRejected};
+ghost use Rattle.pgs_txn.specs.Answers.{IsRefusal};
+ghost use Rattle.pgs_run_base.specs.Session.{standard, decision_on};
+ghost use Rattle.pgs_run_try.specs.declared.judging.Judging.TheVariants.{AtEnd};
+ghost use Rattle.pgs_run_try.specs.Judging.{verdict_by};
+
+use pgs_base::{Limits, List, Memory, Steps};
+use pgs_graph::{Delta, Txn};
+use pgs_schema::Schema;
+use pgs_scratch::violations;
+use pgs_store::GuardRefusal;
+use pgs_tables::Tables;
+use pgs_txn::{StageFault, stage};
+use pgs_violation::{Rejection, Violation};
+use std::alloc::Global;
+use std::marker::Brand;
+use std::sync::ledger::{Blank, Ledger};
+
+/// A graph on which transactions are done without being judged, with the schema that it is judged by at the end.
+#[derive(Drop)]
+pub struct Staged {
+    pub schema: Schema,
+    pub graph: Tables,
+    pub commits: u64,
+}
+
+// The delta that a transaction makes of a graph. No one asks for its steps.
+fn delta_counted<L: Ledger>(
+    alloc: Global,
+    graph: &Tables,
+    txn: &Txn,
+    blank: Blank,
+) -> Result<Delta, StageFault>
+    requires name { blank.name ≡ L.name }
+    requires parts { blank.parts ≡ L.parts }
+    requires some { 0 < blank.parts }
+    ensures sound { IfOk result (λ delta. is_sound graph.now.graph delta ≡ true) }
+    ensures staged { IfOk result (λ delta. staged standard graph.now.graph txn.now ≡ Ok (changed graph.now.graph delta)) }
+    ensures refused { IfErr result (λ fault. IsRefusal fault (staged standard graph.now.graph txn.now)) }
+{
+    let mut steps: Steps<L> = Steps::begin(blank);
+    stage(alloc, graph, &Limits::standard(), txn, &mut steps)
+}
+
+// The delta of a transaction that can be done within the limits.
+fn decided(alloc: Global, graph: &Tables, txn: &Txn) -> Result<Delta, GuardRefusal>
+    ensures sound { IfOk result (λ delta. is_sound graph.now.graph delta ≡ true) }
+    ensures accepted { (schema : Resolved) → IfOk result (λ delta. decision_on (verdict_by AtEnd schema) graph.now.graph txn.now
+        ≡ Ok (changed graph.now.graph delta)) }
+    ensures rejected { (schema : Resolved) → IfErr result (IsRejected (decision_on (verdict_by AtEnd schema) graph.now.graph txn.now)) }
+{
+    match delta_counted::<Brand>(alloc, graph, txn, Blank::new(1)) {
+        Ok(delta) => Ok(delta),
+        Err(StageFault::Memory) => Err(GuardRefusal::Memory),
+        Err(StageFault::Refused(structural)) => {
+            Err(GuardRefusal::Rejected(Rejection::Structural(structural)))
+        }
+    }
+}
+
+fn violations_counted<L: Ledger>(
+    alloc: Global,
+    graph: &Tables,
+    schema: &Schema,
+    blank: Blank,
+) -> Result<List<Violation>, Memory>
+    requires name { blank.name ≡ L.name }
+    requires parts { blank.parts ≡ L.parts }
+    requires some { 0 < blank.parts }
+    ensures { IfOk result (λ found. found ≡ violations schema.now.resolved graph.now.graph) }
+{
+    let mut steps: Steps<L> = Steps::begin(blank);
+    violations(alloc, graph, schema.compiled(), schema.keys(), &mut steps)
+}
+
+impl Staged {
+    /// Does a transaction, where it can be done within the limits: the number of transactions done. Where it is rejected, the graph stays
+    /// as it was.
+    pub fn apply(&mut self, alloc: Global, txn: &Txn) -> Result<u64, GuardRefusal>
+        requires { self.old.commits < 2 ^ 64 - 1 }
+        ensures number { IfOk result (λ number. number ≡ self.old.commits + 1) }
+        ensures accepted { (schema : Resolved) → OnOk result (decision_on (verdict_by AtEnd schema) self.old.graph.graph txn.now ≡ Ok self.new.graph.graph) }
+        ensures rejected { (schema : Resolved) → IfErr result (IsRejected (decision_on (verdict_by AtEnd schema) self.old.graph.graph txn.now)) }
+        ensures schema { self.new.schema ≡ self.old.schema }
+        ensures commits { OnOk result (self.new.commits ≡ self.old.commits + 1) }
+        ensures unchanged { OnErr result ((self.new.graph.graph ≡ self.old.graph.graph) × (self.new.commits ≡ self.old.commits)) }
+    {
+        let delta = decided(alloc, &self.graph, txn)?;
+        let prepared = self.graph.prepare(delta)?;
+        self.graph.commit(prepared);
+        self.commits += 1;
+        Ok(self.commits)
+    }
+
+    /// The violations of the graph, in order.
+    pub fn violations(&self, alloc: Global) -> Result<List<Violation>, Memory>
+        ensures { IfOk result (λ found. found ≡ violations self.now.schema.resolved self.now.graph.graph) }
+    {
+        violations_counted::<Brand>(alloc, &self.graph, &self.schema, Blank::new(1))
+    }
+}
