@@ -1,2 +1,4 @@
+pub mod Explained
+pub mod Fits
 pub mod State
 pub mod Refused

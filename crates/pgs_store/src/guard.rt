@@ -1,19 +1,22 @@
-ghost use Rattle.std.specs.Prelude.{◌≡◌, ◌+◌, ◌<◌, ◌≤◌, true, Ok, IfOk, IfErr, OnOk, OnErr};
+ghost use Rattle.std.specs.Prelude.{◌≡◌, ◌+◌, ◌<◌, ◌≤◌, true, length, Ok, IfOk, IfErr, OnOk, OnErr};
 ghost use Rattle.pgs_base.specs.Graph.{empty_graph};
 ghost use Rattle.pgs_graph.specs.Changed.{changed, is_sound};
 ghost use Rattle.pgs_resolve.specs.SchemaOf.{schema, schema_of};
 ghost use Rattle.pgs_schema.specs.Told.{IsRefused};
 ghost use Rattle.pgs_violation.specs.Decision.{decide};
 ghost use Rattle.pgs_violation.specs.Violations.{verdict};
+ghost use Rattle.pgs_store.specs.Explained.{types_of, key_values_of};
 ghost use Rattle.pgs_store.specs.Refused.{IsRejected};
 ghost use Rattle.pgs_store.specs.State.{IsGuarded};
 
+use crate::explaining::{key_values, planned_key, types_of};
 use crate::judging::judge;
 use crate::{GuardFault, GuardRefusal};
-use pgs_base::{Limits, Seed, Steps};
+use pgs_base::{Elem, Limits, List, Memory, Seed, Steps, TupleSet};
 use pgs_conform::Compiled;
 use pgs_graph::{Delta, Txn};
 use pgs_schema::Schema;
+use pgs_syntax::TypeNo;
 use pgs_tables::Tables;
 use pgs_txn::{StageFault, stage};
 use pgs_violation::Rejection;
@@ -157,5 +160,29 @@ impl Guard {
         ensures guarded { IsGuarded self.now.schema self.now.limits self.now.graph }
     {
         &self.graph
+    }
+    /// The types of the schema's guard that an element fits, abstract ones too, in the guard's order; none where the element isn't in
+    /// the graph. The rule is `types_of` in `specs/Explained.antt`.
+    pub fn types_of(&self, elem: Elem) -> Result<List<TypeNo>, Memory>
+        ensures { IfOk result (λ types. types ≡ types_of self.now.schema self.now.graph elem) }
+    {
+        types_of(self.alloc, &self.graph, self.schema.compiled(), elem)
+    }
+
+    /// The values of an element under the key of a number, from 1. `None` exactly where the element isn't in the scope of the key. The
+    /// rule is `key_values_of` in `specs/Explained.antt`.
+    pub fn key_values<L: Ledger>(
+        &self,
+        key: u32,
+        elem: Elem,
+        steps: &mut Steps<L>,
+    ) -> Result<Option<TupleSet>, Memory>
+        requires from_one { 0 < key }
+        requires in_range { key ≤ length self.now.schema.guard.keys }
+        ensures values { IfOk result (λ values. values ≡ key_values_of self.now.schema self.now.graph key elem) }
+        ensures no_step_back { steps.old ≤ steps.new }
+    {
+        let planned = planned_key(&self.schema, key);
+        key_values(self.alloc, &self.graph, self.schema.compiled(), planned, elem, steps)
     }
 }

@@ -5,6 +5,7 @@
 //! above puts a journal beside the guard, or prints its answers.
 #![tactic(auto)]
 
+mod explaining;
 mod fault;
 mod guard;
 mod judging;

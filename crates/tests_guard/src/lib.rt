@@ -7,6 +7,8 @@
 #[cfg(test)]
 mod deciding;
 #[cfg(test)]
+mod explaining;
+#[cfg(test)]
 mod keys;
 #[cfg(test)]
 mod limits;

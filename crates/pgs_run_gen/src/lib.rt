@@ -1,0 +1,13 @@
+//! The run of the command `gen`: the transactions that `pgs_gen` makes from a number are decided by a guard, and a line says what came
+//! of them.
+//!
+//! The one rule: what is put and answered is what `told_gen` tells (`specs/Told.antt`): the decisions of `pgs_violation` on the
+//! transactions of `specs/Workload.antt`, under the schema of the workload's own text. Nothing is read, and no area is used. `pgs_run`
+//! calls `run_gen` where the words name the command.
+#![tactic(auto)]
+
+mod deciding;
+mod running;
+mod summary;
+
+pub use running::run_gen;

@@ -1,0 +1,112 @@
+ghost use Rattle.std.specs.Prelude.{◌≡◌, ◌<◌, ◌≤◌, ◌∷◌, [], ℕ, false, IfOk};
+ghost use Rattle.pgs_base.specs.Graph.{empty_graph};
+ghost use Rattle.pgs_lines.specs.AreasKept.{KeepsAreas};
+ghost use Rattle.pgs_lines.specs.Ending.{faults_of};
+ghost use Rattle.pgs_lines.specs.Pieces.{shown_of};
+ghost use Rattle.pgs_violation.specs.Violations.{verdict};
+ghost use Rattle.pgs_run_base.specs.Ending.{Ends};
+ghost use Rattle.pgs_run_base.specs.Run.{HasCommandCause};
+ghost use Rattle.pgs_run_gen.specs.Answer.{IsAnswer, IsTold};
+ghost use Rattle.pgs_run_gen.specs.Told.{told_gen, told_of, status_of};
+ghost use Rattle.pgs_run_gen.specs.Workload.{decided};
+
+use crate::deciding::decide_workload;
+use crate::summary::summary;
+use pgs_answer::schema_refused_line;
+use pgs_base::{Bytes, Limits, Memory, Seed, Steps};
+use pgs_gen::schema;
+use pgs_lines::put_piece;
+use pgs_run_base::{Status, refusal_of};
+use pgs_store::Guard;
+use pgs_world::World;
+use std::alloc::Global;
+use std::marker::Brand;
+use std::sync::ledger::{Blank, Ledger};
+
+/// The one piece of a run, and the status after it.
+#[derive(Drop)]
+struct Outcome {
+    line: Bytes,
+    status: Status,
+}
+
+// The status of a run in which so many transactions were rejected.
+fn status_of(rejected: u64) -> Status
+    ensures status { result ≡ status_of rejected }
+    ensures own { IsTold result }
+{
+    if rejected == 0 {
+        Status::Accepted
+    } else {
+        Status::Refused
+    }
+}
+
+// What comes of a workload by a new guard.
+fn decided_by<L: Ledger>(
+    alloc: Global,
+    guard: &mut Guard,
+    start: u64,
+    count: u64,
+    blank: Blank,
+) -> Result<Outcome, Memory>
+    requires name { blank.name ≡ L.name }
+    requires parts { blank.parts ≡ L.parts }
+    requires some { 0 < blank.parts }
+    requires few { count ≤ 500000 }
+    requires empty { guard.old.graph ≡ empty_graph }
+    requires new { guard.old.commits ≡ 0 }
+    ensures line { IfOk result (λ outcome.
+        (told_of (decided guard.old.limits (verdict guard.old.schema) start count)).pieces ≡ outcome.line ∷ []) }
+    ensures status { IfOk result (λ outcome.
+        (told_of (decided guard.old.limits (verdict guard.old.schema) start count)).status ≡ outcome.status) }
+    ensures own { IfOk result (λ outcome. IsTold outcome.status) }
+{
+    let mut steps: Steps<L> = Steps::begin(blank);
+    let rejected = decide_workload(alloc, guard, start, count, &mut steps)?;
+    let line = summary(alloc, guard.graph(), guard.commits(), rejected, &mut steps)?;
+    Ok(Outcome {
+        line,
+        status: status_of(rejected),
+    })
+}
+
+// What comes of a workload, by tables that are hashed by a seed.
+fn outcome_of(alloc: Global, seed: Seed, start: u64, count: u64) -> Result<Outcome, Memory>
+    requires { count ≤ 500000 }
+    ensures line { IfOk result (λ outcome. (told_gen start count).pieces ≡ outcome.line ∷ []) }
+    ensures status { IfOk result (λ outcome. (told_gen start count).status ≡ outcome.status) }
+    ensures own { IfOk result (λ outcome. IsTold outcome.status) }
+{
+    let text = schema(alloc)?;
+    match Guard::with_seed(alloc, text.as_slice(), Limits::standard(), seed) {
+        Ok(mut guard) => decided_by::<Brand>(alloc, &mut guard, start, count, Blank::new(1)),
+        Err(unread) => {
+            let refusal = refusal_of(alloc, unread)?;
+            let line = schema_refused_line(alloc, refusal.as_slice())?;
+            Ok(Outcome {
+                line,
+                status: Status::SchemaRefused,
+            })
+        }
+    }
+}
+
+/// Decides the transactions of a start with the numbers from 1 to a count, and puts one line that sums them up. What it puts and
+/// answers is what `told_gen` tells.
+pub fn run_gen<W: World>(alloc: Global, world: &mut W, start: u64, count: u64) -> Status
+    requires { count ≤ 500000 }
+    ensures shown { Ends (shown_of (W.view world.old)) (told_gen start count) result (shown_of (W.view world.new)) }
+    ensures answer { IsAnswer result }
+    ensures cause { (reads : ℕ) → HasCommandCause false false (faults_of reads (W.view world.old)) (faults_of reads (W.view world.new)) result }
+    ensures areas { KeepsAreas (W.view world.old) (W.view world.new) }
+{
+    let outcome = match outcome_of(alloc, world.seed(), start, count) {
+        Ok(outcome) => outcome,
+        Err(_) => return Status::Memory,
+    };
+    match put_piece::<Status, W>(world, outcome.line.as_slice()) {
+        Ok(()) => outcome.status,
+        Err(_) => Status::PutFault,
+    }
+}
