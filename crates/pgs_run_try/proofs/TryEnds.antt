@@ -26,7 +26,7 @@ use Rattle.pgs_run_base.specs.Answers.{schema_answer}
 use Rattle.pgs_run_base.specs.Session.{Standing, after_lines}
 use Rattle.pgs_run_try.specs.declared.judging.Judging.{Judging}
 use Rattle.pgs_run_try.specs.Judging.{verdict_by, listed}
-use Rattle.pgs_run_try.specs.Told.{start, status_after, told_end, told_schema, told_whole, told_judging}
+use Rattle.pgs_run_try.specs.Told.{start as first_standing, status_after, told_end, told_schema, told_whole, told_judging}
 use Rattle.pgs_run_try.specs.Trying.{trying, first_phase, next_of, after_end, told_after}
 use Rattle.pgs_run_try.proofs.Machine.{told_by_judging}
 
@@ -51,7 +51,7 @@ unfolding told_end
 done_end judging schema s = done_status s.refused (listed judging schema s.graph)
 
 pub done_schema : (judging : Judging) (schema : Result Resolved (List ℕ)) (lines : List (List ℕ)) → IsDone (told_schema judging true schema lines).status
-done_schema judging (Ok schema) lines = done_end judging schema (after_lines (verdict_by judging schema) start lines)
+done_schema judging (Ok schema) lines = done_end judging schema (after_lines (verdict_by judging schema) first_standing lines)
 done_schema judging (Err text) lines = inr (inr refl)
 
 done_after : (phase : Phase) → IsDone (told_after phase).status

@@ -10,10 +10,14 @@ use Rattle.pgs_run_base.specs.Session.{Telling, every_verdict, refusals_alone}
 use Rattle.pgs_run_try.specs.declared.judging.Judging.{Judging}
 use Rattle.pgs_run_try.specs.declared.judging.Judging.TheVariants.{EachLine, AtEnd}
 
+-- every graph is taken
+abbrev pub judges_nothing : Graph → Verdict
+judges_nothing g = Conforms
+
 -- the verdict on the graph of a transaction
 unfoldable pub verdict_by : Judging → Resolved → Graph → Verdict
 verdict_by EachLine schema = verdict schema
-verdict_by AtEnd schema = λ g. Conforms
+verdict_by AtEnd schema = judges_nothing
 
 -- what is told of the answer to a line
 unfoldable pub telling_by : Judging → Telling

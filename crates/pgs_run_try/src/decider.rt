@@ -121,6 +121,7 @@ fn apply_guarded(guard: &mut Guard, txn: &Txn) -> Result<u64, GuardRefusal>
 
 /// Decides a transaction, and does it where it is accepted: the number of transactions done. Where it is rejected, the
 /// graph stays as it was.
+#[tactic(auto, unfolding(crate::specs::Judging::verdict_by))]
 pub fn apply(alloc: Global, decider: &mut Decider, txn: &Txn) -> Result<u64, GuardRefusal>
     requires limits { HasStandardLimits decider.old }
     requires commits { commits_in decider.old < 18446744073709551615 }

@@ -1,13 +1,11 @@
 ghost use Rattle.std.specs.Prelude.{◌≡◌, ◌+◌, ◌-◌, ◌<◌, ◌^◌, true, Ok, IfOk, IfErr, OnOk, OnErr};
-ghost use Rattle.pgs_syntax.specs.declared.resolved.Resolved.{Resolved};
 ghost use Rattle.pgs_graph.specs.Changed.{changed, is_sound};
 ghost use Rattle.pgs_violation.specs.Staging.{staged};
 ghost use Rattle.pgs_violation.specs.Violations.{violations};
 ghost use Rattle.pgs_store.specs.Refused.{IsRejected};
 ghost use Rattle.pgs_txn.specs.Answers.{IsRefusal};
 ghost use Rattle.pgs_run_base.specs.Session.{standard, decision_on};
-ghost use Rattle.pgs_run_try.specs.declared.judging.Judging.TheVariants.{AtEnd};
-ghost use Rattle.pgs_run_try.specs.Judging.{verdict_by};
+ghost use Rattle.pgs_run_try.specs.Judging.{judges_nothing};
 
 use pgs_base::{Limits, List, Memory, Steps};
 use pgs_graph::{Delta, Txn};
@@ -50,9 +48,8 @@ fn delta_counted<L: Ledger>(
 // The delta of a transaction that can be done within the limits.
 fn decided(alloc: Global, graph: &Tables, txn: &Txn) -> Result<Delta, GuardRefusal>
     ensures sound { IfOk result (λ delta. is_sound graph.now.graph delta ≡ true) }
-    ensures accepted { (schema : Resolved) → IfOk result (λ delta. decision_on (verdict_by AtEnd schema) graph.now.graph txn.now
-        ≡ Ok (changed graph.now.graph delta)) }
-    ensures rejected { (schema : Resolved) → IfErr result (IsRejected (decision_on (verdict_by AtEnd schema) graph.now.graph txn.now)) }
+    ensures accepted { IfOk result (λ delta. decision_on judges_nothing graph.now.graph txn.now ≡ Ok (changed graph.now.graph delta)) }
+    ensures rejected { IfErr result (IsRejected (decision_on judges_nothing graph.now.graph txn.now)) }
 {
     match delta_counted::<Brand>(alloc, graph, txn, Blank::new(1)) {
         Ok(delta) => Ok(delta),
@@ -84,8 +81,8 @@ impl Staged {
     pub fn apply(&mut self, alloc: Global, txn: &Txn) -> Result<u64, GuardRefusal>
         requires { self.old.commits < 2 ^ 64 - 1 }
         ensures number { IfOk result (λ number. number ≡ self.old.commits + 1) }
-        ensures accepted { (schema : Resolved) → OnOk result (decision_on (verdict_by AtEnd schema) self.old.graph.graph txn.now ≡ Ok self.new.graph.graph) }
-        ensures rejected { (schema : Resolved) → IfErr result (IsRejected (decision_on (verdict_by AtEnd schema) self.old.graph.graph txn.now)) }
+        ensures accepted { OnOk result (decision_on judges_nothing self.old.graph.graph txn.now ≡ Ok self.new.graph.graph) }
+        ensures rejected { IfErr result (IsRejected (decision_on judges_nothing self.old.graph.graph txn.now)) }
         ensures schema { self.new.schema ≡ self.old.schema }
         ensures commits { OnOk result (self.new.commits ≡ self.old.commits + 1) }
         ensures unchanged { OnErr result ((self.new.graph.graph ≡ self.old.graph.graph) × (self.new.commits ≡ self.old.commits)) }

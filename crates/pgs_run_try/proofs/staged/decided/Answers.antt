@@ -1,0 +1,14 @@
+use Rattle.std.proofs.Common.{subst}
+use Rattle.pgs_txn.specs.Answers.{IsRefusal}
+use Rattle.pgs_violation.specs.Staging.{staged}
+use Rattle.pgs_run_base.specs.Session.{standard}
+use Rattle.pgs_run_try.proofs.Done.{done_accepted, undone_rejected}
+use Rattle.pgs_run_try.proofs.staged.decided.Goals as goal
+
+pub returns-in-Ok-clause-accepted : goal.returns-in-Ok-clause-accepted
+returns-in-Ok-clause-accepted c = done_accepted c.args.graph.now.graph _ c.args.txn.now c.in-Ok.ensures.staged
+
+pub returns-in-Err-Refused-clause-rejected : goal.returns-in-Err-Refused-clause-rejected
+returns-in-Err-Refused-clause-rejected c =
+    undone_rejected c.args.graph.now.graph c.args.txn.now c.in-Err-Refused.structural
+    (subst (λ fault. IsRefusal fault (staged standard c.args.graph.now.graph c.args.txn.now)) c.in-Err-Refused.field-0-is c.in-Err-Refused.ensures.refused)
