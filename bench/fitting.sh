@@ -136,9 +136,12 @@ fn schema_text(
         text.push_str("&")?;
     }
     push_names(alloc, &mut text, "r", labels, "&", "")?;
-    text.push_str(" {")?;
-    push_names(alloc, &mut text, "k", keys, ",", " INT")?;
-    text.push_str("})};")?;
+    if keys > 0 {
+        text.push_str(" {")?;
+        push_names(alloc, &mut text, "k", keys, ",", " INT")?;
+        text.push_str("}")?;
+    }
+    text.push_str(")};")?;
     Ok(text)
 }
 
@@ -252,6 +255,6 @@ reads() {
   held "$what" "$wanted" "$built" read "$@"
 }
 reads '4,096 shapes of 1,024 labels' 0 12 1012 0 1
-reads '4,096 shapes of up to 12 labels and 1,012 keys' 0 12 0 1012 1
+reads '4,096 shapes of up to 12 labels and 1,011 keys' 0 12 0 1011 1
 reads 'one shape of 120,000 labels' 0 0 120000 0 1
 reads '2^64 shapes, refused' 1 64 0 0 10000

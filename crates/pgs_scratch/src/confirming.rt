@@ -2,14 +2,12 @@
 
 ghost use Rattle.std.specs.Prelude.{◌≡◌, ◌↔◌, ◌≤◌, true, IsTrue, IfOk, Contains};
 ghost use Rattle.std.specs.Option.{option_copied};
-ghost use Rattle.std.specs.Ordering.{is_lt};
-ghost use Rattle.pgs_base.specs.Order.{elem_cmp};
 ghost use Rattle.pgs_syntax.specs.KeyValues.{scope_of, key_values};
 ghost use Rattle.pgs_syntax.specs.Valid.{is_valid_key_of};
 ghost use Rattle.pgs_violation.specs.Standing.{key_of};
 ghost use Rattle.pgs_violation.specs.Violations.{exclusive_violation, shared_tuple, violations};
 ghost use Rattle.pgs_scratch.specs.Confirmed.{key_numbered, row_in_scope, missing_at, several_at, shared_at, key_violation_at, violation_at, sharing_if_later};
-ghost use Rattle.pgs_scratch.specs.Rows.{row_of, shared_value};
+ghost use Rattle.pgs_scratch.specs.Rows.{shared_value};
 
 use crate::key_row::KeyRow;
 use crate::row_violations::{missing_value, several_values};

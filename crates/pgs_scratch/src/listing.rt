@@ -3,7 +3,7 @@
 ghost use Rattle.std.specs.Prelude.{◌≡◌, ◌++◌, ◌≤◌, true, IfOk, OnOk};
 ghost use Rattle.pgs_base.specs.Graph.{is_graph};
 ghost use Rattle.pgs_syntax.specs.Valid.{is_valid_key_of};
-ghost use Rattle.pgs_violation.specs.Violations.{violations, key_violations, keys_violations, where_asked, untyped_node, untyped_edge};
+ghost use Rattle.pgs_violation.specs.Violations.{violations, key_violations, keys_violations};
 ghost use Rattle.pgs_scratch.specs.Untyped.{untyped_violations};
 
 use crate::key_row::key_rows;

@@ -5,7 +5,7 @@ ghost use Rattle.std.specs.Option.{option_map_or};
 ghost use Rattle.std.specs.List.{list_any, list_all, sum_by};
 ghost use Rattle.pgs_syntax.specs.Valid.{names_types};
 ghost use Rattle.pgs_matching.specs.Bounds.{with_bound, end_at};
-ghost use Rattle.pgs_matching.specs.Tests.{admitted_node, admitted_edge, are_ends, agrees};
+ghost use Rattle.pgs_matching.specs.Tests.{admitted_edge, are_ends, agrees};
 ghost use Rattle.pgs_matching.specs.Search.{edges_along, can_complete, most_steps};
 
 use crate::Search;

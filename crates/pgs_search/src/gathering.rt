@@ -7,7 +7,7 @@ ghost use Rattle.std.specs.BTreeSet.{insert_key};
 ghost use Rattle.pgs_base.specs.Order.{tuple_cmp};
 ghost use Rattle.pgs_syntax.specs.Valid.{names_types};
 ghost use Rattle.pgs_matching.specs.Bounds.{with_bound};
-ghost use Rattle.pgs_matching.specs.Tests.{admitted_node, admitted_edge, agrees};
+ghost use Rattle.pgs_matching.specs.Tests.{admitted_edge, agrees};
 ghost use Rattle.pgs_matching.specs.Search.{edges_along, tuple_at, gathered, most_steps};
 
 use crate::Search;
