@@ -8,13 +8,13 @@ use Rattle.pgs_run_gen.proofs.running.outcome_of.Goals as goal
 pub returns-in-Ok-clause-line : goal.returns-in-Ok-clause-line
 returns-in-Ok-clause-line c =
     let same = told_decided c.in-Ok.guard.schema c.in-Ok.guard.limits c.args.start c.args.count
-        (rw c.in-Ok.is at c.in_ok-guard.ensures.schema) (rw c.in-Ok.is at c.in_ok-guard.ensures.limits) in
+    (rw c.in-Ok.is at c.in_ok-guard.ensures.schema) (rw c.in-Ok.is at c.in_ok-guard.ensures.limits) in
     subst (λ (told : Told Status). IfOk c.decided_by.result (λ outcome. told.pieces ≡ outcome.line ∷ [])) (sym same) c.decided_by.ensures.line
 
 pub returns-in-Ok-clause-status : goal.returns-in-Ok-clause-status
 returns-in-Ok-clause-status c =
     let same = told_decided c.in-Ok.guard.schema c.in-Ok.guard.limits c.args.start c.args.count
-        (rw c.in-Ok.is at c.in_ok-guard.ensures.schema) (rw c.in-Ok.is at c.in_ok-guard.ensures.limits) in
+    (rw c.in-Ok.is at c.in_ok-guard.ensures.schema) (rw c.in-Ok.is at c.in_ok-guard.ensures.limits) in
     subst (λ (told : Told Status). IfOk c.decided_by.result (λ outcome. told.status ≡ outcome.status)) (sym same) c.decided_by.ensures.status
 
 pub returns-in_ok-line-in-Err-clause-line : goal.returns-in_ok-line-in-Err-clause-line
