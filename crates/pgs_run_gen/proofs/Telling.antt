@@ -3,7 +3,7 @@ use Rattle.std.proofs.Common.{◌≡◌, ℕ, Bool, true, false, cond, List, Res
 use Rattle.std.specs.Prelude.{◌==◌}
 use Rattle.pgs_base.specs.declared.limits.Limits.{Limits}
 use Rattle.pgs_gen.specs.Generated.{schema_text}
-use Rattle.pgs_resolve.specs.SchemaOf.{schema, schema_of}
+use Rattle.pgs_resolve.specs.SchemaOf.{schema_of}
 use Rattle.pgs_syntax.specs.declared.resolved.Resolved.{Resolved}
 use Rattle.pgs_violation.specs.Violations.{verdict}
 use Rattle.pgs_run_base.specs.declared.status.Status.TheVariants.{Accepted, Refused, InputTooLong}
@@ -12,19 +12,20 @@ use Rattle.pgs_run_base.specs.Session.{standard}
 use Rattle.pgs_run_gen.specs.Told.{told_of, told_under, told_gen}
 use Rattle.pgs_run_gen.specs.Workload.{decided, rejected_of}
 
-pub told_decided : (text : List ℕ) (resolved : Resolved) (limits : Limits) (start count : ℕ) → text ≡ schema_text → schema_of text ≡ schema resolved
-    → limits ≡ standard → told_gen start count ≡ told_of (decided limits (verdict resolved) start count)
-unfolding told_gen schema_answer
-told_decided text resolved limits start count same is within =
-    ap (λ bytes. told_under (schema_or_text (schema_of bytes)) start count) (sym same)
-    ∙ ap (λ answer. told_under (schema_or_text answer) start count) is
-    ∙ ap (λ (l : Limits). told_of (decided l (verdict resolved) start count)) (sym within)
+pub told_decided : (resolved : Resolved) (limits : Limits) (start count : ℕ) → schema_answer schema_text ≡ Ok resolved → limits ≡ standard
+    → told_gen start count ≡ told_of (decided limits (verdict resolved) start count)
+unfolding told_gen
+told_decided resolved limits start count is within =
+    ap (λ answer. told_under answer start count) is ∙ ap (λ (l : Limits). told_of (decided l (verdict resolved) start count)) (sym within)
 
-pub told_refused : (text refusal : List ℕ) (start count : ℕ) → text ≡ schema_text → schema_or_text (schema_of text) ≡ Err refusal
-    → told_gen start count ≡ told_under (Err refusal) start count
-unfolding told_gen schema_answer
-told_refused text refusal start count same is =
-    ap (λ bytes. told_under (schema_or_text (schema_of bytes)) start count) (sym same) ∙ ap (λ answer. told_under answer start count) is
+pub told_refused : (refusal : List ℕ) (start count : ℕ) → schema_answer schema_text ≡ Err refusal → told_gen start count ≡ told_under (Err refusal) start count
+unfolding told_gen
+told_refused refusal start count is = ap (λ answer. told_under answer start count) is
+
+-- the answer to a text, by what is said of it
+pub answered : (text : List ℕ) (answer : Result Resolved (List ℕ)) → text ≡ schema_text → schema_or_text (schema_of text) ≡ answer → schema_answer schema_text ≡ answer
+unfolding schema_answer
+answered text answer same is = ap (λ bytes. schema_or_text (schema_of bytes)) (sym same) ∙ is
 
 pub standard_is : (limits : Limits) → limits.ops ≡ 10000 → limits.elements ≡ 1000000 → limits ≡ standard
 standard_is limits ops elements = ap₂ (λ o e. record { ops = o; elements = e }) ops elements

@@ -1,11 +1,14 @@
-ghost use Rattle.std.specs.Prelude.{◌≡◌, ◌<◌, ◌≤◌, ◌∷◌, [], ℕ, false, IfOk};
+ghost use Rattle.std.specs.Prelude.{◌≡◌, ◌<◌, ◌≤◌, ◌∷◌, [], ℕ, false, Ok, Err, IfOk, IfErr};
 ghost use Rattle.pgs_base.specs.Graph.{empty_graph};
 ghost use Rattle.pgs_lines.specs.AreasKept.{KeepsAreas};
 ghost use Rattle.pgs_lines.specs.Ending.{faults_of};
 ghost use Rattle.pgs_lines.specs.Pieces.{shown_of};
 ghost use Rattle.pgs_violation.specs.Violations.{verdict};
+ghost use Rattle.pgs_gen.specs.Generated.{schema_text};
+ghost use Rattle.pgs_run_base.specs.Answers.{schema_answer};
 ghost use Rattle.pgs_run_base.specs.Ending.{Ends};
 ghost use Rattle.pgs_run_base.specs.Run.{HasCommandCause};
+ghost use Rattle.pgs_run_base.specs.Session.{standard};
 ghost use Rattle.pgs_run_gen.specs.Answer.{IsAnswer, IsTold};
 ghost use Rattle.pgs_run_gen.specs.Told.{told_gen, told_of, status_of};
 ghost use Rattle.pgs_run_gen.specs.Workload.{decided};
@@ -71,6 +74,24 @@ fn decided_by<L: Ledger>(
     })
 }
 
+// The guard of an empty graph under the schema of workloads, or the text of the refusal of that schema.
+fn guard_of(alloc: Global, seed: Seed) -> Result<Result<Guard, Bytes>, Memory>
+    ensures schema { IfOk result (λ answer. IfOk answer (λ guard. schema_answer schema_text ≡ Ok guard.schema)) }
+    ensures limits { IfOk result (λ answer. IfOk answer (λ guard. guard.limits ≡ standard)) }
+    ensures empty { IfOk result (λ answer. IfOk answer (λ guard. guard.graph ≡ empty_graph)) }
+    ensures new { IfOk result (λ answer. IfOk answer (λ guard. guard.commits ≡ 0)) }
+    ensures refused { IfOk result (λ answer. IfErr answer (λ refusal. schema_answer schema_text ≡ Err refusal)) }
+{
+    let text = schema(alloc)?;
+    match Guard::with_seed(alloc, text.as_slice(), Limits::standard(), seed) {
+        Ok(guard) => Ok(Ok(guard)),
+        Err(unread) => {
+            let refusal = refusal_of(alloc, unread)?;
+            Ok(Err(refusal))
+        }
+    }
+}
+
 // What comes of a workload, by tables that are hashed by a seed.
 fn outcome_of(alloc: Global, seed: Seed, start: u64, count: u64) -> Result<Outcome, Memory>
     requires { count ≤ 500000 }
@@ -78,11 +99,9 @@ fn outcome_of(alloc: Global, seed: Seed, start: u64, count: u64) -> Result<Outco
     ensures status { IfOk result (λ outcome. (told_gen start count).status ≡ outcome.status) }
     ensures own { IfOk result (λ outcome. IsTold outcome.status) }
 {
-    let text = schema(alloc)?;
-    match Guard::with_seed(alloc, text.as_slice(), Limits::standard(), seed) {
+    match guard_of(alloc, seed)? {
         Ok(mut guard) => decided_by::<Brand>(alloc, &mut guard, start, count, Blank::new(1)),
-        Err(unread) => {
-            let refusal = refusal_of(alloc, unread)?;
+        Err(refusal) => {
             let line = schema_refused_line(alloc, refusal.as_slice())?;
             Ok(Outcome {
                 line,

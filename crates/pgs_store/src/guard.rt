@@ -183,6 +183,13 @@ impl Guard {
         ensures no_step_back { steps.old ≤ steps.new }
     {
         let planned = planned_key(&self.schema, key);
-        key_values(self.alloc, &self.graph, self.schema.compiled(), planned, elem, steps)
+        key_values(
+            self.alloc,
+            &self.graph,
+            self.schema.compiled(),
+            planned,
+            elem,
+            steps,
+        )
     }
 }

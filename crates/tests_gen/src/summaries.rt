@@ -14,12 +14,22 @@ const SUMMARIES: &[(u64, u64, &str)] = &[
     (5, 6, "gen committed=6 refused=0 nodes=6 edges=5 in1=4\n"),
     (5, 0, "gen committed=0 refused=0 nodes=0 edges=0 in1=0\n"),
     (0, 10, "gen committed=10 refused=0 nodes=10 edges=9 in1=2\n"),
-    (4_294_967_296, 10, "gen committed=10 refused=0 nodes=10 edges=9 in1=2\n"),
+    (
+        4_294_967_296,
+        10,
+        "gen committed=10 refused=0 nodes=10 edges=9 in1=2\n",
+    ),
 ];
 
 /// Whether a run of a workload puts this, and ends with 0.
 fn puts(alloc: Global, start: u64, count: u64, line: &str) -> Result<bool, Memory> {
-    let mut world = MemWorld::new(alloc, List::new(alloc), List::new(alloc), ROOM, List::new(alloc))?;
+    let mut world = MemWorld::new(
+        alloc,
+        List::new(alloc),
+        List::new(alloc),
+        ROOM,
+        List::new(alloc),
+    )?;
     let status = run_gen(alloc, &mut world, start, count);
     Ok(world.output() == line.as_bytes() && status.number() == 0)
 }

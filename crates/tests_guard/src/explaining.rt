@@ -75,12 +75,7 @@ fn add_keys_by<L: Ledger>(
     Ok(())
 }
 
-fn explained(
-    alloc: Global,
-    schema: &str,
-    lines: &[&str],
-    elems: &[Elem],
-) -> Result<String, Fail> {
+fn explained(alloc: Global, schema: &str, lines: &[&str], elems: &[Elem]) -> Result<String, Fail> {
     let guard = guard_after(alloc, schema, lines)?;
     let mut out = String::new(alloc);
     for elem in elems {
@@ -90,14 +85,16 @@ fn explained(
     Ok(out)
 }
 
-const SOCIAL: &str = "CREATE NODE TYPE ABSTRACT (namedType {name STRING}); CREATE NODE TYPE (personType: namedType & Person {mail STRING}); CREATE NODE TYPE (employeeType: personType & Employee {salary INT}); CREATE NODE TYPE (forumType: namedType & Forum {OPEN}); CREATE EDGE TYPE (:personType|employeeType)-[joinedType: joined]->(:forumType); CREATE EDGE TYPE (:personType|employeeType)-[moderatesType: moderates]->(:forumType); CREATE GRAPH TYPE socialGraph STRICT {namedType, personType, employeeType, forumType, joinedType, moderatesType, FOR (x:Person) IDENTIFIER x.mail, FOR (f:Forum)<-[:joined]-(:Person) IDENTIFIER f.name, p WITHIN (f)<-[:moderates]-(p:Person)};";
+const SOCIAL: &str =
+    "CREATE NODE TYPE ABSTRACT (namedType {name STRING}); CREATE NODE TYPE (personType: namedType & Person {mail STRING}); CREATE NODE TYPE (employeeType: personType & Employee {salary INT}); CREATE NODE TYPE (forumType: namedType & Forum {OPEN}); CREATE EDGE TYPE (:personType|employeeType)-[joinedType: joined]->(:forumType); CREATE EDGE TYPE (:personType|employeeType)-[moderatesType: moderates]->(:forumType); CREATE GRAPH TYPE socialGraph STRICT {namedType, personType, employeeType, forumType, joinedType, moderatesType, FOR (x:Person) IDENTIFIER x.mail, FOR (f:Forum)<-[:joined]-(:Person) IDENTIFIER f.name, p WITHIN (f)<-[:moderates]-(p:Person)};";
 
 const MEMBERS: &[&str] = &[
     r#"{"ops":[{"add_node":2,"labels":["Person","Employee"],"props":{"name":"Bob","mail":"bob@x.org","salary":4000}}]}"#,
     r#"{"ops":[{"add_node":10,"labels":["Forum"],"props":{"name":"db"}},{"add_edge":2,"from":2,"to":10,"labels":["joined"]},{"add_edge":3,"from":2,"to":10,"labels":["moderates"]}]}"#,
 ];
 
-const MEMBERS_EXPLAINED: &str = "type employeeType\nkey 1 scope\nkey 1 value (\"bob@x.org\")\ntype forumType\nkey 2 scope\nkey 2 value (\"db\", n2)\ntype joinedType\n";
+const MEMBERS_EXPLAINED: &str =
+    "type employeeType\nkey 1 scope\nkey 1 value (\"bob@x.org\")\ntype forumType\nkey 2 scope\nkey 2 value (\"db\", n2)\ntype joinedType\n";
 
 #[test]
 fn types_and_key_values_are_listed(rt: HostRuntime) -> Result<(), Fail> {
