@@ -1,5 +1,5 @@
 -- What was written as a store is read as it.
-use Rattle.std.proofs.Common.{◌≡◌, ℕ, zero, suc, ◌+◌, ◌≤◌, ◌<◌, ◌^◌, Bool, true, false, ◌||◌, nat_lt, IsTrue, List, [], ◌∷◌, ◌++◌, length, take, drop, None, refl, sym, ◌∙◌, ap, subst, arith, append_assoc, length-append, if◌then◌else◌}
+use Rattle.std.proofs.Common.{◌≡◌, ℕ, zero, suc, ◌+◌, ◌≤◌, ◌<◌, ◌^◌, Bool, true, false, ◌||◌, nat_lt, IsTrue, List, [], ◌∷◌, ◌++◌, length, take, drop, None, refl, sym, ◌∙◌, ap, arith, append_assoc, length-append, if◌then◌else◌}
 use Rattle.std.proofs.lemmas.Bool.Decides.{nat_tests}
 use Rattle.std.proofs.Math.Seq.{take-append_seam, drop-append_seam}
 use Rattle.byteorder.specs.Endian.{big_bytes, big_number}
@@ -65,7 +65,7 @@ abbrev written : ℕ → List (List ℕ) → ℕ → List ℕ → List ℕ
 written epoch payloads gate rest = opened First epoch payloads ++ gate ∷ rest
 
 -- a store that is written out is read as it
-store_back : (epoch : ℕ) (payloads : List (List ℕ)) (gate : ℕ) (rest : List ℕ) → is_open gate ≡ false → IsTrue (is_epoch epoch) → epoch < 256 ^ 8 → length (opened First epoch payloads ++ gate ∷ rest) < 256 ^ 8
+store_back : (epoch : ℕ) (payloads : List (List ℕ)) (gate : ℕ) (rest : List ℕ) → is_open gate ≡ false → IsTrue (is_epoch epoch) → epoch < 256 ^ 8 → length (opened First epoch payloads) < 256 ^ 8
     → has_some payloads ≡ true → first_unfit epoch 1 payloads ≡ None
     → area_state First (opened First epoch payloads ++ gate ∷ rest) ≡ Store epoch (length (opened First epoch payloads)) payloads
 store_back epoch payloads gate rest closed numbered small fits some fit =
@@ -74,7 +74,7 @@ store_back epoch payloads gate rest closed numbered small fits some fit =
     ∙ ap (λ e. if is_epoch e then state_within First e (records_in First (behind_head payloads gate rest)) else Foreign) read
     ∙ ap (λ (b : Bool). if b then state_within First epoch (records_in First (behind_head payloads gate rest)) else Foreign) numbered
     ∙ ap (λ f. state_within First epoch f)
-    (records_back (suc (length (behind_head payloads gate rest))) 1 payloads gate rest (small_in 1 payloads (omega (arith, fits, length-append (open_records First 1 payloads) (gate ∷ rest))))
+    (records_back (suc (length (behind_head payloads gate rest))) 1 payloads gate rest (small_in 1 payloads (omega (arith, fits)))
     (omega (arith, few_in 1 payloads, length-append (open_records First 1 payloads) (gate ∷ rest))) closed)
     ∙ ap (λ o. judged o epoch (store_of First epoch (record { payloads = payloads; ended = true }))) fit
     ∙ ap (λ (b : Bool). if b then Store epoch (length (opened First epoch payloads)) payloads else Damaged epoch (length payloads + 1)) some
@@ -83,6 +83,6 @@ store_back epoch payloads gate rest closed numbered small fits some fit =
     read = big_number-reads_back 8 epoch (behind_head payloads gate rest) small
 
 -- an area that holds fit records is read as a store of them
-pub holds-read : (epoch : ℕ) (payloads : List (List ℕ)) (end : ℕ) (image : List ℕ) → Holds First epoch payloads end image → length image < 256 ^ 8 → epoch < 256 ^ 8 → has_some payloads ≡ true → first_unfit epoch 1 payloads ≡ None → area_state First image ≡ Store epoch end payloads
+pub holds-read : (epoch : ℕ) (payloads : List (List ℕ)) (end : ℕ) (image : List ℕ) → Holds First epoch payloads end image → end < 256 ^ 8 → epoch < 256 ^ 8 → has_some payloads ≡ true → first_unfit epoch 1 payloads ≡ None → area_state First image ≡ Store epoch end payloads
 holds-read epoch payloads end image h fits small some fit =
-    ap (area_state First) h.bytes ∙ store_back epoch payloads h.gate h.rest h.closed h.numbered small (subst (λ (l : List ℕ). length l < 256 ^ 8) h.bytes fits) some fit ∙ ap (λ n. Store epoch n payloads) (sym h.place)
+    ap (area_state First) h.bytes ∙ store_back epoch payloads h.gate h.rest h.closed h.numbered small (omega (arith, fits, h.place)) some fit ∙ ap (λ n. Store epoch n payloads) (sym h.place)

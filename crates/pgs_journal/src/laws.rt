@@ -1,14 +1,14 @@
 //! What the definitions of bytes and of areas have to do with each other. The functions do nothing; their contracts are the
 //! statements.
 
-ghost use Rattle.std.specs.Prelude.{◌≡◌, ◌≤◌, ◌<◌, ◌^◌, ℕ, List, true, None, length, slice_index};
+ghost use Rattle.std.specs.Prelude.{◌≡◌, ◌<◌, ◌^◌, ℕ, List, true, None, slice_index};
 ghost use Rattle.pgs_journal.specs.Area.{area_state, first_unfit, has_some};
 ghost use Rattle.pgs_journal.specs.Format.{First, Holds};
 ghost use Rattle.pgs_journal.specs.declared.area_state.AreaState.TheVariants as areas;
 
-/// An area that holds records, each fit for its place, is read as a store of them.
+/// An area that holds records, each fit for its place, is read as a store of them, whatever stands behind its closed gate.
 pub fn held_records_are_read()
-    ensures { (epoch end : ℕ) (payloads : List (List ℕ)) (image : List ℕ) → Holds First epoch payloads end image → length image ≤ 2 ^ 40
+    ensures { (epoch end : ℕ) (payloads : List (List ℕ)) (image : List ℕ) → Holds First epoch payloads end image → end < 2 ^ 64
         → has_some payloads ≡ true → first_unfit epoch 1 payloads ≡ None → area_state First image ≡ areas.Store epoch end payloads }
 {}
 

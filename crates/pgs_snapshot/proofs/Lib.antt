@@ -1,0 +1,4 @@
+pub mod Choices
+pub mod Fitness
+pub mod Histories
+pub mod Stores

@@ -1,0 +1,4 @@
+pub mod Choice
+pub mod Faults
+pub mod Saved
+pub mod Standing

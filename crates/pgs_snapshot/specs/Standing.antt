@@ -1,0 +1,35 @@
+-- What a call on two areas finds, and what holds of the images then.
+use Rattle.std.specs.Prelude.{◌≡◌, ℕ, Bool, true, false, List, Result, Ok, Err}
+use Rattle.pgs_world.specs.declared.area.Area.{Area}
+use Rattle.pgs_world.specs.World.{Triple, part}
+use Rattle.pgs_journal.specs.Format.{First, Holds}
+use Rattle.pgs_snapshot.specs.Choice.{Choice, choice_of}
+use Rattle.pgs_snapshot.specs.Choice as choices
+use Rattle.pgs_snapshot.specs.declared.choosing.Chosen.{Chosen}
+use Rattle.pgs_snapshot.specs.declared.choose_fault.ChooseFault.{ChooseFault}
+use Rattle.pgs_snapshot.specs.declared.choose_fault.ChooseFault.TheVariants as faults
+
+-- of both images of a triple this store is chosen, and its area holds its records, as an append to it asks
+pub record HasStore (area : Area) (epoch end : ℕ) (payloads : List (List ℕ)) (triple : Triple) : Type 0 where
+  pub choice : choice_of triple.a triple.b ≡ choices.chosen area epoch end payloads
+  pub holds : Holds First epoch payloads end (part area triple)
+
+-- damaged at the record of this number
+abbrev pub IsDamagedAt : ℕ → Choice → Type 0
+IsDamagedAt number (choices.damaged area epoch at) = at ≡ number
+IsDamagedAt number choice = ⊥
+
+-- why no store is given, by what two areas are; want of memory and faults of an area say nothing of it
+abbrev pub Refuses : ChooseFault → Choice → Type 0
+Refuses faults.Memory choice = Unit {0}
+Refuses faults.DiskFault choice = Unit {0}
+Refuses faults.NoStore choice = choice ≡ choices.no_store
+Refuses faults.Foreign choice = choice ≡ choices.foreign
+Refuses (faults.BadRecord number) choice = IsDamagedAt number choice
+
+-- both areas were read: there was memory, and no call failed
+abbrev pub is_read : Result Chosen ChooseFault → Bool
+is_read (Ok chosen) = true
+is_read (Err faults.Memory) = false
+is_read (Err faults.DiskFault) = false
+is_read (Err fault) = true

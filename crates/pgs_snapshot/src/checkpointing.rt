@@ -1,0 +1,51 @@
+ghost use Rattle.std.specs.Prelude.{◌≡◌, ◌+◌, ◌<◌, ◌^◌, List, ℕ, length, IsTrue, IfOk, OnOk, OnErr};
+ghost use Rattle.pgs_journal.specs.Format.{First, is_epoch, Holds, IsFrames};
+ghost use Rattle.pgs_journal.specs.Stops.{Turns, Creates};
+ghost use Rattle.pgs_world.specs.Count.{Rose};
+ghost use Rattle.pgs_world.specs.Disk.{IsSameBeside};
+ghost use Rattle.pgs_world.specs.Moment.{Passes, StopsBy, ShowsOne, IsSynced, IsSettled, MakesNoPut};
+ghost use Rattle.pgs_world.specs.World.{Triple, part};
+
+use pgs_journal::Journal;
+use pgs_world::{Area, AreaFault, World};
+
+/// Writes a whole store of this epoch into an area, which is the one that isn't chosen: its records are those of the frames, one
+/// after the other. At every moment the other area and the output are what they were, and this area is what it was, no store, or
+/// the new store, also where the call fails; after `Ok` it is the new store in every image. It takes no memory.
+///
+/// `AreaFault` comes only where the count of area faults rose.
+pub fn checkpoint<W: World>(
+    world: &mut W,
+    area: Area,
+    epoch: u64,
+    first: &[u8],
+) -> Result<Journal, AreaFault>
+    requires epoch { IsTrue (is_epoch epoch) }
+    requires frames { (payloads : List (List ℕ)) × IsFrames First payloads first.now }
+
+    // After Ok the area is the new store, and so is each image that a stop leaves of it.
+    ensures holds { (payloads : List (List ℕ)) → IsFrames First payloads first.now
+        → IfOk result (λ journal. IsTrue (W.view world.old).tells_bytes
+        → Holds First epoch payloads journal.end (part area (W.view world.new).shown)) }
+    ensures every_image { (payloads : List (List ℕ)) → IsFrames First payloads first.now
+        → IfOk result (λ journal. IsTrue (W.view world.old).honest → IsTrue (W.view world.old).tells_bytes
+        → (triple : Triple) → (W.view world.new).may_leave triple → Holds First epoch payloads journal.end (part area triple)) }
+    ensures settled { OnOk result (IsSettled (W.view world.old) → IsSettled (W.view world.new)) }
+    ensures journal { IfOk result (λ journal. journal ≡ record { area = area; epoch = epoch; end = 16 + length first.now }) }
+    ensures within { IfOk result (λ journal. journal.end < 2 ^ 40) }
+
+    // What a stop leaves of both areas and of the output at any moment of the call, where the area was synced.
+    ensures stops { (payloads : List (List ℕ)) → IsFrames First payloads first.now
+        → IsTrue (W.view world.old).tells_bytes → IsSynced area (W.view world.old)
+        → StopsBy (Turns area (Creates First epoch payloads (16 + length first.now))) (W.view world.old) (W.view world.new) }
+    ensures stops_beside { StopsBy (IsSameBeside area) (W.view world.old) (W.view world.new) }
+    ensures beside { IsSameBeside area (W.view world.old).shown (W.view world.new).shown }
+
+    ensures passes { Passes (W.view world.old) (W.view world.new) }
+    ensures image { ShowsOne (W.view world.new) }
+    ensures cause { OnErr result (Rose (W.view world.old).area_faults (W.view world.new).area_faults) }
+    ensures no_cause { OnOk result ((W.view world.new).area_faults ≡ (W.view world.old).area_faults) }
+    ensures no_put { MakesNoPut (W.view world.old) (W.view world.new) }
+{
+    Journal::create(world, area, epoch, first)
+}

@@ -1,0 +1,135 @@
+ghost use Rattle.std.specs.Prelude.{◌≡◌, true, Err, IsTrue, IfOk, IfErr};
+ghost use Rattle.pgs_journal.specs.Bounds.{IsBounded, IsBoundedStore};
+ghost use Rattle.pgs_snapshot.specs.Choice.{choice, choice_of, greater, is_foreign, store_epoch, taken, without_store};
+ghost use Rattle.pgs_snapshot.specs.Choice as choices;
+ghost use Rattle.pgs_snapshot.specs.Standing.{HasStore, Refuses, is_read};
+ghost use Rattle.pgs_world.specs.Count.{Rose};
+ghost use Rattle.pgs_world.specs.Moment.{IsQuiet, ShowsOne, IsSettled, MakesNoPut};
+
+use crate::ChooseFault;
+use pgs_base::{Bytes, List};
+use pgs_journal::{AreaState, scan};
+use pgs_world::{Area, World, sync_both};
+use std::alloc::Global;
+
+/// The store of two areas: the chosen area, and what stands in it.
+#[derive(Debug, Drop)]
+pub struct Chosen {
+    pub area: Area,
+    pub epoch: u64,
+    /// The place of the closed gate behind the last record.
+    pub end: u64,
+    /// The payloads of the records, in order.
+    pub payloads: List<Bytes>,
+}
+
+/// The epoch of a store, whole or damaged.
+fn store_epoch(state: &AreaState) -> Option<u64>
+    ensures { result ≡ store_epoch state.now }
+{
+    match state {
+        AreaState::NoStore | AreaState::Foreign => None,
+        AreaState::Damaged { epoch, .. } | AreaState::Store { epoch, .. } => Some(*epoch),
+    }
+}
+
+/// The area whose store has the greater epoch, A where both are equal.
+fn greater(a: Option<u64>, b: Option<u64>) -> Option<Area>
+    ensures { result ≡ greater a b }
+{
+    match (a, b) {
+        (None, None) => None,
+        (None, Some(_)) => Some(Area::B),
+        (Some(_), None) => Some(Area::A),
+        (Some(a), Some(b)) => Some(if a < b { Area::B } else { Area::A }),
+    }
+}
+
+fn is_foreign(state: &AreaState) -> bool
+    ensures { result ≡ is_foreign state.now }
+{
+    matches!(state, AreaState::Foreign)
+}
+
+/// Why there is no store in two areas of these states, neither of which is one.
+fn no_store_of(a: &AreaState, b: &AreaState) -> ChooseFault
+    ensures refused { Refuses result (without_store a.now b.now) }
+    ensures read { is_read (Err result) ≡ true }
+{
+    if is_foreign(a) || is_foreign(b) {
+        ChooseFault::Foreign
+    } else {
+        ChooseFault::NoStore
+    }
+}
+
+/// The store of an area of this state.
+fn store_in(area: Area, state: AreaState) -> Result<Chosen, ChooseFault>
+    ensures chosen { IfOk result (λ it. taken area state ≡ choices.chosen it.area it.epoch it.end it.payloads) }
+    ensures refused { IfErr result (λ fault. Refuses fault (taken area state)) }
+    ensures read { is_read result ≡ true }
+{
+    match state {
+        AreaState::NoStore => Err(ChooseFault::NoStore),
+        AreaState::Foreign => Err(ChooseFault::Foreign),
+        AreaState::Damaged { number, .. } => Err(ChooseFault::BadRecord { number }),
+        AreaState::Store {
+            epoch,
+            end,
+            payloads,
+        } => Ok(Chosen {
+            area,
+            epoch,
+            end,
+            payloads,
+        }),
+    }
+}
+
+/// The store of two areas of these states.
+fn choose(a: AreaState, b: AreaState) -> Result<Chosen, ChooseFault>
+    requires a { IsBounded a }
+    requires b { IsBounded b }
+    ensures chosen { IfOk result (λ it. choice a b ≡ choices.chosen it.area it.epoch it.end it.payloads) }
+    ensures refused { IfErr result (λ fault. Refuses fault (choice a b)) }
+    ensures read { is_read result ≡ true }
+    ensures bounds { IfOk result (λ it. IsBoundedStore it.epoch it.end it.payloads) }
+{
+    match greater(store_epoch(&a), store_epoch(&b)) {
+        Some(Area::A) => store_in(Area::A, a),
+        Some(Area::B) => store_in(Area::B, b),
+        None => Err(no_store_of(&a, &b)),
+    }
+}
+
+/// The store of two areas, by the definition of which one is chosen. Both areas are synced first, and then each is read once, by
+/// one call for its length and one read of all its bytes. Nothing is written: both areas and the output are what they were at
+/// every moment, and after an answer that speaks of the areas nothing is pending. What it gives is within its bounds on every
+/// world.
+///
+/// `NoStore` where no area is a store and none is foreign, `Foreign` where no area is a store and one is foreign, `BadRecord`
+/// where the chosen store is damaged at that record, each exactly where the world tells its bytes. `DiskFault` comes only where
+/// the count of area faults rose. `Memory` may come wherever there is none. Whether the records lead anywhere isn't judged.
+pub fn choose_area<W: World>(alloc: Global, world: &mut W) -> Result<Chosen, ChooseFault>
+    // It is what the definition says of both areas, where the world tells its bytes.
+    ensures chosen { IfOk result (λ it. IsTrue (W.view world.old).tells_bytes
+        → choice_of (W.view world.old).shown.a (W.view world.old).shown.b ≡ choices.chosen it.area it.epoch it.end it.payloads) }
+    ensures refused { IfErr result (λ fault. IsTrue (W.view world.old).tells_bytes
+        → Refuses fault (choice_of (W.view world.old).shown.a (W.view world.old).shown.b)) }
+    // The areas are so now, and the chosen one holds the records, as `Journal::append` asks it of this epoch and this end.
+    ensures stands { IfOk result (λ it. IsTrue (W.view world.new).tells_bytes
+        → HasStore it.area it.epoch it.end it.payloads (W.view world.new).shown) }
+    ensures bounds { IfOk result (λ it. IsBoundedStore it.epoch it.end it.payloads) }
+    ensures settled { is_read result ≡ true → IsTrue (W.view world.old).honest → IsTrue (W.view world.old).tells_bytes
+        → IsSettled (W.view world.new) }
+    ensures quiet { IsQuiet (W.view world.old) (W.view world.new) }
+    ensures image { ShowsOne (W.view world.new) }
+    ensures cause { result ≡ Err ChooseFault.DiskFault → Rose (W.view world.old).area_faults (W.view world.new).area_faults }
+    ensures no_cause { (result ≡ Err ChooseFault.DiskFault → ⊥) → (W.view world.new).area_faults ≡ (W.view world.old).area_faults }
+    ensures no_put { MakesNoPut (W.view world.old) (W.view world.new) }
+{
+    sync_both(world)?;
+    let a = scan(alloc, world, Area::A)?;
+    let b = scan(alloc, world, Area::B)?;
+    choose(a, b)
+}
