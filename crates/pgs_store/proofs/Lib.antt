@@ -1,1 +1,4 @@
+pub mod Applied
+pub mod Bounds
+pub mod Decided
 pub mod Opened

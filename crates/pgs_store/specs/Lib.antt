@@ -1,2 +1,5 @@
-pub mod State
+pub mod Applies
 pub mod Refused
+pub mod State
+pub mod Stored
+pub mod World

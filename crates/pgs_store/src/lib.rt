@@ -5,9 +5,12 @@
 //! above puts a journal beside the guard, or prints its answers.
 #![tactic(auto)]
 
+mod applying;
 mod fault;
 mod guard;
 mod judging;
+mod store;
 
-pub use fault::{GuardFault, GuardRefusal};
+pub use fault::{ApplyFault, CheckpointFault, GuardFault, GuardRefusal, LoadFault, RecoverFault};
 pub use guard::Guard;
+pub use store::Store;
