@@ -97,3 +97,7 @@ same_journal j k area epoch end is =
 pub small_frame : (end : ℕ) (frame payload : List ℕ) (len cap : ℕ) → frame ≡ framed payload → len ≡ length frame → len ≤ cap
     → cap < 9223372036854775808 → end < 2 ^ 40 → end + length (framed payload) < 2 ^ 64
 small_frame end frame payload len cap is all within small below = let same = ap length is in omega (arith, same, all, within, small, below)
+
+-- the same of frames behind the head of a first store
+pub small_first : (first items : List ℕ) (len cap : ℕ) → first ≡ items → len ≡ length items → len ≤ cap → cap < 9223372036854775808 → 16 + length first < 2 ^ 64
+small_first first items len cap is all within small = let same = ap length is in omega (arith, same, all, within, small)

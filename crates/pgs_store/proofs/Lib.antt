@@ -1,4 +1,6 @@
 pub mod Applied
 pub mod Bounds
+pub mod Composed
 pub mod Decided
+pub mod Loaded
 pub mod Opened

@@ -109,3 +109,28 @@ impl From<GuardRefusal> for ApplyFault {
         }
     }
 }
+
+impl From<Memory> for LoadFault {
+    ghost use Rattle.std.specs.Prelude.{◌≡◌};
+    ghost use Rattle.pgs_store.specs.declared.fault.LoadFault.TheVariants as faults;
+
+    ghost from_gives = { λ _ e. e ≡ faults.Memory };
+
+    fn from(_: Memory) -> LoadFault {
+        LoadFault::Memory
+    }
+}
+
+impl From<SchemaUnread> for LoadFault {
+    ghost use Rattle.std.specs.Prelude.{◌≡◌};
+    ghost use Rattle.pgs_store.specs.Unread.{of_load};
+
+    ghost from_gives = { λ unread e. e ≡ of_load unread };
+
+    fn from(unread: SchemaUnread) -> LoadFault {
+        match unread {
+            SchemaUnread::Memory => LoadFault::Memory,
+            SchemaUnread::Schema(fault) => LoadFault::Schema(fault),
+        }
+    }
+}

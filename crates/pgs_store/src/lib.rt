@@ -9,6 +9,7 @@ mod applying;
 mod fault;
 mod guard;
 mod judging;
+mod loading;
 mod store;
 
 pub use fault::{ApplyFault, CheckpointFault, GuardFault, GuardRefusal, LoadFault, RecoverFault};
