@@ -32,4 +32,4 @@ pub empty_conforms : (resolved : Resolved) → verdict resolved empty_graph ≡ 
 empty_conforms resolved = ap first_of (none_asked resolved.guard.strict _ ∙ no_keys_violated resolved 1 resolved.guard.keys)
 
 pub opened : (resolved : Resolved) (limits : Limits) (g : Graph) → g ≡ empty_graph → IsGuarded resolved limits g
-opened resolved limits g e = rw e (record { conforms = empty_conforms resolved; within = omega arith })
+opened resolved limits g e = rw e (record { conforms = empty_conforms resolved; within = omega arith; small = refl })

@@ -1,4 +1,9 @@
+pub mod Applies
 pub mod Explained
 pub mod Fits
-pub mod State
+pub mod Loads
 pub mod Refused
+pub mod State
+pub mod Stored
+pub mod Unread
+pub mod World

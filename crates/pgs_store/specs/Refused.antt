@@ -2,6 +2,8 @@
 use Rattle.std.specs.Prelude.{◌≡◌, Result, Err}
 use Rattle.pgs_base.specs.Graph.{Graph}
 use Rattle.pgs_violation.specs.declared.rejection.Rejection.{Rejection}
+use Rattle.pgs_store.specs.declared.fault.ApplyFault.{ApplyFault}
+use Rattle.pgs_store.specs.declared.fault.ApplyFault.TheVariants as applies
 use Rattle.pgs_store.specs.declared.fault.GuardRefusal.{GuardRefusal}
 use Rattle.pgs_store.specs.declared.fault.GuardRefusal.TheVariants.{Memory, Rejected}
 
@@ -9,3 +11,8 @@ use Rattle.pgs_store.specs.declared.fault.GuardRefusal.TheVariants.{Memory, Reje
 abbrev pub IsRejected : Result Graph Rejection → GuardRefusal → Type 0
 IsRejected decision Memory = Unit {0}
 IsRejected decision (Rejected rejection) = decision ≡ Err rejection
+
+-- the same refusal of a store
+abbrev pub of_guard : GuardRefusal → ApplyFault
+of_guard Memory = applies.Memory
+of_guard (Rejected rejection) = applies.Rejected rejection

@@ -1,7 +1,8 @@
 -- What contracts see of a guard, and what holds of every guard.
-use Rattle.std.specs.Prelude.{◌≡◌, ◌≤◌, ℕ, List}
+use Rattle.std.specs.Prelude.{◌≡◌, ◌≤◌, ℕ, List, true}
 use Rattle.pgs_base.specs.declared.limits.Limits.{Limits}
 use Rattle.pgs_base.specs.Graph.{Graph, element_count}
+use Rattle.pgs_records.specs.Small.{has_small_rows}
 use Rattle.pgs_syntax.specs.declared.resolved.Resolved.{Resolved}
 use Rattle.pgs_violation.specs.declared.violation.Verdict.TheVariants.{Conforms}
 use Rattle.pgs_violation.specs.Violations.{verdict}
@@ -14,7 +15,8 @@ pub record GuardState : Type 0 where
   pub graph : Graph
   pub commits : ℕ
 
--- the graph conforms to the schema and is within the limits
+-- the graph conforms to the schema, is within the limits, and each of its rows has at most 64 labels and 256 properties
 pub record IsGuarded (schema : Resolved) (limits : Limits) (graph : Graph) : Type 0 where
   pub conforms : verdict schema graph ≡ Conforms
   pub within : element_count graph ≤ limits.elements
+  pub small : has_small_rows graph ≡ true

@@ -1,5 +1,5 @@
 use pgs_base::Memory;
-use pgs_schema::SchemaUnread;
+use pgs_schema::{SchemaFault, SchemaUnread};
 use pgs_violation::Rejection;
 
 /// Why there is no guard: there was no memory, or the text is no schema.
@@ -22,5 +22,115 @@ impl From<Memory> for GuardRefusal {
 
     fn from(_: Memory) -> GuardRefusal {
         GuardRefusal::Memory
+    }
+}
+
+/// Why no store was made.
+#[derive(Debug, Drop)]
+pub enum LoadFault {
+    /// There was no memory.
+    Memory,
+    /// A call on an area failed: the count of area faults rose.
+    DiskFault,
+    /// 31: an area is a store.
+    AlreadyStore,
+    /// 32: an area is another program's file, and none is a store.
+    Foreign,
+    /// 10 to 19: the text is no schema.
+    Schema(SchemaFault),
+}
+
+/// Why no store was recovered.
+#[derive(Debug, Drop)]
+pub enum RecoverFault {
+    /// There was no memory.
+    Memory,
+    /// A call on an area failed: the count of area faults rose.
+    DiskFault,
+    /// 30: no area is a store, and none is another program's file.
+    NoStore,
+    /// 32: an area is another program's file, and none is a store.
+    Foreign,
+    /// 33: the chosen store is damaged at this record.
+    BadRecord { number: u64 },
+    /// 34: this record is the first whose transaction, or whose snapshot's graph, is rejected.
+    BadHistory { number: u64, rejection: Rejection },
+    /// 10 to 19: the stored text is no schema.
+    Schema(SchemaFault),
+}
+
+/// Why a store didn't take a transaction.
+#[derive(Debug, Drop)]
+pub enum ApplyFault {
+    /// There was no memory. It comes before the first call on the world.
+    Memory,
+    /// 4: a call on an area failed: the count of area faults rose. The transaction may be in the areas or not.
+    DiskFault,
+    /// 5: an earlier call on this store answered `DiskFault`, so it has to be recovered.
+    NeedsReopen,
+    /// The transaction is rejected.
+    Rejected(Rejection),
+}
+
+/// Why a store made no checkpoint.
+#[derive(Debug, Drop)]
+pub enum CheckpointFault {
+    /// There was no memory. It comes before the first call on the world.
+    Memory,
+    /// A call on an area failed: the count of area faults rose.
+    DiskFault,
+    /// An earlier call on this store answered `DiskFault`, so it has to be recovered.
+    NeedsReopen,
+    /// 37: the store has the last epoch.
+    EpochsSpent,
+}
+
+impl From<Memory> for ApplyFault {
+    ghost use Rattle.std.specs.Prelude.{◌≡◌};
+    ghost use Rattle.pgs_store.specs.declared.fault.ApplyFault.TheVariants as faults;
+
+    ghost from_gives = { λ _ e. e ≡ faults.Memory };
+
+    fn from(_: Memory) -> ApplyFault {
+        ApplyFault::Memory
+    }
+}
+
+impl From<GuardRefusal> for ApplyFault {
+    ghost use Rattle.pgs_store.specs.Refused.{of_guard};
+    ghost use Rattle.std.specs.Prelude.{◌≡◌};
+
+    ghost from_gives = { λ refusal e. e ≡ of_guard refusal };
+
+    fn from(refusal: GuardRefusal) -> ApplyFault {
+        match refusal {
+            GuardRefusal::Memory => ApplyFault::Memory,
+            GuardRefusal::Rejected(rejection) => ApplyFault::Rejected(rejection),
+        }
+    }
+}
+
+impl From<Memory> for LoadFault {
+    ghost use Rattle.std.specs.Prelude.{◌≡◌};
+    ghost use Rattle.pgs_store.specs.declared.fault.LoadFault.TheVariants as faults;
+
+    ghost from_gives = { λ _ e. e ≡ faults.Memory };
+
+    fn from(_: Memory) -> LoadFault {
+        LoadFault::Memory
+    }
+}
+
+impl From<SchemaUnread> for LoadFault {
+    ghost use Rattle.std.specs.Prelude.{◌≡◌};
+    ghost use Rattle.pgs_store.specs.Unread.{of_load};
+
+    ghost from_gives = { λ unread e. e ≡ of_load unread };
+
+    fn from(unread: SchemaUnread) -> LoadFault {
+        match unread {
+            SchemaUnread::Memory => LoadFault::Memory,
+            SchemaUnread::Schema(fault) => LoadFault::Schema(fault),
+        }
     }
 }

@@ -1,5 +1,7 @@
-ghost use Rattle.std.specs.Prelude.{◌≡◌, ◌+◌, ◌<◌, ◌≤◌, true, length, Ok, IfOk, IfErr, OnOk, OnErr};
+ghost use Rattle.std.specs.Prelude.{◌≡◌, ◌+◌, ◌^◌, ◌<◌, ◌≤◌, true, length, Ok, IsTrue, IfOk, IfErr, OnOk, OnErr};
 ghost use Rattle.pgs_base.specs.Graph.{empty_graph};
+ghost use Rattle.pgs_codec.specs.declared.command.Command.TheVariants.{Txn as Transaction};
+ghost use Rattle.pgs_codec.specs.Encodable.{is_sized};
 ghost use Rattle.pgs_graph.specs.Changed.{changed, is_sound};
 ghost use Rattle.pgs_resolve.specs.SchemaOf.{schema, schema_of};
 ghost use Rattle.pgs_schema.specs.Told.{IsRefused};
@@ -28,11 +30,11 @@ use std::sync::ledger::Ledger;
 /// Contracts see the schema's text, the schema, the limits, the graph, and how many transactions were accepted.
 #[derive(Drop)]
 pub struct Guard {
-    alloc: Global,
-    schema: Schema,
-    limits: Limits,
-    graph: Tables,
-    commits: u64,
+    pub(crate) alloc: Global,
+    pub(crate) schema: Schema,
+    pub(crate) limits: Limits,
+    pub(crate) graph: Tables,
+    pub(crate) commits: u64,
 }
 
 impl Model for Guard {
@@ -93,15 +95,32 @@ impl Guard {
         })
     }
 
+    // What every guard meets. Nothing is done.
+    pub(crate) fn facts(&self)
+        ensures schema { schema_of self.now.text ≡ schema self.now.schema }
+        ensures guarded { IsGuarded self.now.schema self.now.limits self.now.graph }
+        ensures ops { self.now.limits.ops < 2 ^ 32 }
+    {
+        let _most = self.limits.ops;
+        let _text = self.schema.text();
+    }
+
     // Decides a transaction: the delta that it makes of the graph, or why it is rejected.
-    fn decided<L: Ledger>(&self, txn: &Txn, steps: &mut Steps<L>) -> Result<Delta, GuardRefusal>
+    pub(crate) fn decided<L: Ledger>(
+        &self,
+        txn: &Txn,
+        steps: &mut Steps<L>,
+    ) -> Result<Delta, GuardRefusal>
         ensures sound { IfOk result (λ delta. is_sound self.now.graph delta ≡ true) }
         ensures guarded { IfOk result (λ delta. IsGuarded self.now.schema self.now.limits (changed self.now.graph delta)) }
         ensures accepted { IfOk result (λ delta. decide self.now.limits (verdict self.now.schema) self.now.graph txn.now
             ≡ Ok (changed self.now.graph delta)) }
         ensures rejected { IfErr result (IsRejected (decide self.now.limits (verdict self.now.schema) self.now.graph txn.now)) }
+        // So it can be journaled.
+        ensures sized { OnOk result (IsTrue (is_sized (Transaction txn.now))) }
         ensures no_step_back { steps.old ≤ steps.new }
     {
+        self.facts();
         match stage(self.alloc, &self.graph, &self.limits, txn, steps) {
             Ok(delta) => {
                 judge(self.alloc, &self.graph, &self.schema, &delta, steps)?;

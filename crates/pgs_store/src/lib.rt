@@ -5,10 +5,14 @@
 //! above puts a journal beside the guard, or prints its answers.
 #![tactic(auto)]
 
+mod applying;
 mod explaining;
 mod fault;
 mod guard;
 mod judging;
+mod loading;
+mod store;
 
-pub use fault::{GuardFault, GuardRefusal};
+pub use fault::{ApplyFault, CheckpointFault, GuardFault, GuardRefusal, LoadFault, RecoverFault};
 pub use guard::Guard;
+pub use store::Store;

@@ -1,0 +1,97 @@
+-- What contracts see of a store, what holds of every store, and what it is to stand on a world.
+use Rattle.std.specs.Prelude.{◌≡◌, ◌⊎◌, ℕ, ◌+◌, ◌-◌, ◌*◌, ◌^◌, ◌≤◌, ◌<◌, Bool, IsTrue, List, [], ◌∷◌, Ok}
+use Rattle.pgs_base.specs.declared.limits.Limits.{Limits}
+use Rattle.pgs_base.specs.Graph.{Graph, empty_graph}
+use Rattle.pgs_codec.specs.declared.command.Command.{Command}
+use Rattle.pgs_codec.specs.declared.command.Command.TheVariants.{Schema, Snapshot}
+use Rattle.pgs_codec.specs.Payload.{payload_of}
+use Rattle.pgs_graph.specs.declared.operation.Txn.{Txn}
+use Rattle.pgs_journal.specs.declared.journal.Journal.{Journal}
+use Rattle.pgs_journal.specs.Format.{is_epoch}
+use Rattle.pgs_resolve.specs.SchemaOf.{schema, schema_of}
+use Rattle.pgs_snapshot.specs.Choice.{choice_of, no_store}
+use Rattle.pgs_snapshot.specs.Saved.{Replayed, saved_of, store}
+use Rattle.pgs_snapshot.specs.Standing.{HasStore}
+use Rattle.pgs_syntax.specs.declared.resolved.Resolved.{Resolved}
+use Rattle.pgs_violation.specs.Decision.{decide}
+use Rattle.pgs_violation.specs.Violations.{verdict}
+use Rattle.pgs_world.specs.declared.area.Area.TheVariants.{A}
+use Rattle.pgs_world.specs.Moment.{IsSettled}
+use Rattle.pgs_world.specs.World.{Triple, View, other}
+use Rattle.pgs_store.specs.State.{GuardState}
+
+-- the guard, the journal, and whether an earlier call answered `DiskFault`
+pub record StoreState : Type 0 where
+  pub guard : GuardState
+  pub journal : Journal
+  pub failed : Bool
+
+-- the epoch is one of those that there are, the journal ends inside an area, and there are no more commits than so many stores may have
+pub record IsBounded (journal : Journal) (commits : ℕ) : Type 0 where
+  pub epoch : IsTrue (is_epoch journal.epoch)
+  pub end : journal.end < 2 ^ 40
+  pub most : commits ≤ (journal.epoch - 1) * 2 ^ 40 + journal.end
+
+-- Of a triple's images the journal's area is chosen, with its epoch and end and these records, which lead to the guard's text,
+-- commits and graph.
+pub record IsSavedBy (guard : GuardState) (journal : Journal) (payloads : List (List ℕ)) (triple : Triple) : Type 0 where
+  pub has : HasStore journal.area journal.epoch journal.end payloads triple
+  pub saves : saved_of guard.limits payloads ≡ store guard.text guard.commits guard.graph
+
+-- the same with some records
+abbrev pub IsSavedIn : GuardState → Journal → Triple → Type 0
+IsSavedIn guard journal triple = (payloads : List (List ℕ)) × IsSavedBy guard journal payloads triple
+
+-- Where the world tells its bytes, they hold the store; where it is also honest, nothing is pending.
+pub record StandsOn (guard : GuardState) (journal : Journal) (view : View) : Type 0 where
+  pub saved : IsTrue view.tells_bytes → IsSavedIn guard journal view.shown
+  pub settled : IsTrue view.honest → IsTrue view.tells_bytes → IsSettled view
+
+-- a guard after one commit more
+abbrev pub committed : GuardState → Graph → GuardState
+committed guard graph = record guard { graph = graph; commits = guard.commits + 1 }
+
+-- a journal that ends elsewhere
+abbrev pub ending_at : Journal → ℕ → Journal
+ending_at journal end = record journal { end = end }
+
+-- what a stop during `apply` leaves: the store as it was, or with the transaction accepted, in the same area and of the same epoch
+abbrev pub IsAppliedIn : GuardState → Journal → Txn → Triple → Type 0
+IsAppliedIn guard journal txn triple =
+    IsSavedIn guard journal triple
+    ⊎ ((graph : Graph) × (end : ℕ) × (decide guard.limits (verdict guard.schema) guard.graph txn ≡ Ok graph)
+    × IsSavedIn (committed guard graph) (ending_at journal end) triple)
+
+-- a guard of a text's schema that was just made, and the journal of a first store
+abbrev pub opened : List ℕ → Resolved → Limits → GuardState
+opened text resolved limits = record { text = text; schema = resolved; limits = limits; graph = empty_graph; commits = 0 }
+
+abbrev pub first_journal : ℕ → Journal
+first_journal end = record { area = A; epoch = 1; end = end }
+
+-- what a stop during `load` leaves: no store, or the empty store of the text in area A, of epoch 1
+abbrev pub IsLoadedIn : Limits → List ℕ → Triple → Type 0
+IsLoadedIn limits text triple =
+    (choice_of triple.a triple.b ≡ no_store)
+    ⊎ ((resolved : Resolved) × (end : ℕ) × (schema_of text ≡ schema resolved)
+    × IsSavedIn (opened text resolved limits) (first_journal end) triple)
+
+-- the records with which a store begins anew: the schema and the snapshot alone
+abbrev pub snapshot_of : GuardState → Command
+snapshot_of guard = Snapshot guard.commits guard.graph.nodes guard.graph.edges
+
+abbrev pub renewed : GuardState → List (List ℕ)
+renewed guard = payload_of (Schema guard.text) ∷ payload_of (snapshot_of guard) ∷ []
+
+-- the journal in the other area, of the next epoch
+abbrev pub next_journal : Journal → ℕ → Journal
+next_journal journal end = record { area = other journal.area; epoch = journal.epoch + 1; end = end }
+
+-- what a stop during `checkpoint` leaves: the store as it was, or the same by the new records in the other area, of the next epoch
+abbrev pub IsRenewedIn : GuardState → Journal → Triple → Type 0
+IsRenewedIn guard journal triple =
+    IsSavedIn guard journal triple ⊎ ((end : ℕ) × IsSavedBy guard (next_journal journal end) (renewed guard) triple)
+
+-- where the replay of a store's records stands
+abbrev pub replayed_in : GuardState → Replayed
+replayed_in guard = record { commits = guard.commits; graph = guard.graph }

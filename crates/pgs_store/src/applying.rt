@@ -1,0 +1,108 @@
+ghost use Rattle.std.specs.Prelude.{◌≡◌, ◌≤◌, true, false, Ok, Some, IsTrue, IfOk, OnOk};
+ghost use Rattle.pgs_codec.specs.declared.command.Command.TheVariants.{Txn as Transaction};
+ghost use Rattle.pgs_codec.specs.Encodable.{is_sized};
+ghost use Rattle.pgs_codec.specs.Frame.{framed};
+ghost use Rattle.pgs_codec.specs.Payload.{payload_of};
+ghost use Rattle.pgs_codec.specs.Reading.{decoded as decoded_by};
+ghost use Rattle.pgs_graph.specs.Changed.{changed, is_sound};
+ghost use Rattle.pgs_store.specs.Applies.{Applies, Journals, decided, is_disk_fault as is_fault_of_area, is_early};
+ghost use Rattle.pgs_store.specs.State.{IsGuarded};
+ghost use Rattle.pgs_store.specs.Stored.{IsBounded, StandsOn, IsAppliedIn};
+ghost use Rattle.pgs_store.specs.World.{StaysBeside, CountsFault};
+ghost use Rattle.pgs_world.specs.Moment.{EachSince};
+
+use crate::{ApplyFault, Guard, Store};
+use pgs_base::{Bytes, Copyable, Memory, Steps};
+use pgs_codec::Command;
+use pgs_graph::{Delta, Txn};
+use pgs_journal::Journal;
+use pgs_records::record_frame;
+use pgs_world::World;
+use std::alloc::Global;
+use std::sync::ledger::Ledger;
+
+fn is_disk_fault(answer: &Result<u64, ApplyFault>) -> bool
+    ensures { result ≡ is_fault_of_area answer.now }
+{
+    matches!(answer, Err(ApplyFault::DiskFault))
+}
+
+// The frame of a transaction.
+fn txn_frame(alloc: Global, txn: &Txn) -> Result<Bytes, Memory>
+    requires { IsTrue (is_sized (Transaction txn.now)) }
+    ensures frame { IfOk result (λ frame. frame ≡ framed (payload_of (Transaction txn.now))) }
+    ensures decoded { OnOk result (decoded_by (payload_of (Transaction txn.now)) ≡ Some (Transaction txn.now)) }
+{
+    let copy = txn.copy(alloc)?;
+    record_frame(alloc, &Command::Txn(copy))
+}
+
+// Journals a transaction that is accepted, and then does it. All memory is taken before the first call on the world.
+fn journaled<W: World>(
+    guard: &mut Guard,
+    journal: &mut Journal,
+    world: &mut W,
+    txn: &Txn,
+    delta: Delta,
+) -> Result<u64, ApplyFault>
+    requires sound { is_sound guard.old.graph delta ≡ true }
+    requires guarded { IsGuarded guard.old.schema guard.old.limits (changed guard.old.graph delta) }
+    requires accepted { decided guard.old txn.now ≡ Ok (changed guard.old.graph delta) }
+    requires sized { IsTrue (is_sized (Transaction txn.now)) }
+    requires bounded { IsBounded journal.old guard.old.commits }
+    requires stands { StandsOn guard.old journal.old (W.view world.old) }
+    ensures answer { Journals result guard.old guard.new journal.old journal.new (changed guard.old.graph delta) (W.view world.new) }
+    ensures bounded { IsBounded journal.new guard.new.commits }
+    ensures early { is_early result ≡ true → world.new ≡ world.old }
+    ensures faults { CountsFault (is_fault_of_area result) (W.view world.old) (W.view world.new) }
+    ensures beside { StaysBeside journal.old.area (W.view world.old) (W.view world.new) }
+    ensures stops { IsTrue (W.view world.old).honest → IsTrue (W.view world.old).tells_bytes
+        → EachSince (IsAppliedIn guard.old journal.old txn.now) (W.view world.old) (W.view world.new) }
+{
+    guard.facts();
+    let frame = txn_frame(guard.alloc, txn)?;
+    let prepared = guard.graph.prepare(delta)?;
+    match journal.append(world, frame.as_slice()) {
+        Ok(()) => {
+            guard.graph.commit(prepared);
+            guard.commits += 1;
+            Ok(guard.commits)
+        }
+        Err(_) => Err(ApplyFault::DiskFault),
+    }
+}
+
+impl Store {
+    /// Decides a transaction on the graph, as `Guard::apply` does, and where it is accepted puts it on the disk and does it: the
+    /// commit number, from 1. At every moment of the call what is saved is the state before it, or with the transaction accepted;
+    /// after `Ok` it is the latter in every image.
+    ///
+    /// `NeedsReopen` exactly where an earlier call answered `DiskFault`. `Rejected` exactly with the decision's rejection. `Memory`
+    /// always comes before the first call on the world. After these the store and the world are as they were. `DiskFault` comes only
+    /// where the count of area faults rose; the readers then show the graph from before.
+    pub fn apply<W: World, L: Ledger>(
+        &mut self,
+        world: &mut W,
+        txn: &Txn,
+        steps: &mut Steps<L>,
+    ) -> Result<u64, ApplyFault>
+        requires stands { self.old.failed ≡ false → StandsOn self.old.guard self.old.journal (W.view world.old) }
+        // What it answers, and what becomes of the store.
+        ensures answer { Applies result self.old self.new txn.now (W.view world.new) }
+        ensures early { is_early result ≡ true → world.new ≡ world.old }
+        ensures faults { CountsFault (is_fault_of_area result) (W.view world.old) (W.view world.new) }
+        // What it leaves of the world, at every moment.
+        ensures stops { self.old.failed ≡ false → IsTrue (W.view world.old).honest → IsTrue (W.view world.old).tells_bytes
+            → EachSince (IsAppliedIn self.old.guard self.old.journal txn.now) (W.view world.old) (W.view world.new) }
+        ensures beside { StaysBeside self.old.journal.area (W.view world.old) (W.view world.new) }
+        ensures no_step_back { steps.old ≤ steps.new }
+    {
+        if self.failed {
+            return Err(ApplyFault::NeedsReopen);
+        }
+        let delta = self.guard.decided(txn, steps)?;
+        let answer = journaled(&mut self.guard, &mut self.journal, world, txn, delta);
+        self.failed = is_disk_fault(&answer);
+        answer
+    }
+}

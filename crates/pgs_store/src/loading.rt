@@ -1,0 +1,83 @@
+ghost use Rattle.std.specs.Prelude.{◌≡◌, ◌∷◌, [], true, Some, IsTrue, IfOk, IfErr, OnOk};
+ghost use Rattle.pgs_codec.specs.declared.command.Command.TheVariants.{Schema as SchemaCommand};
+ghost use Rattle.pgs_codec.specs.Payload.{payload_of};
+ghost use Rattle.pgs_codec.specs.Reading.{decoded};
+ghost use Rattle.pgs_journal.specs.Format.{First, IsFrames};
+ghost use Rattle.pgs_store.specs.Loads.{FindsNone, IsOccupied, Loads, is_disk_fault, is_refused};
+ghost use Rattle.pgs_store.specs.Stored.{IsLoadedIn};
+ghost use Rattle.pgs_store.specs.World.{StaysBeside, CountsFault};
+ghost use Rattle.pgs_world.specs.declared.area.Area.TheVariants.{A};
+ghost use Rattle.pgs_world.specs.Moment.{EachSince, IsQuiet, IsSettled, MakesNoPut};
+
+use crate::{Guard, LoadFault, Store};
+use pgs_base::{Bytes, Limits, List, Memory};
+use pgs_codec::Command;
+use pgs_journal::Journal;
+use pgs_records::record_frame;
+use pgs_snapshot::{ChooseFault, choose_area};
+use pgs_world::{Area, World};
+use std::alloc::Global;
+
+// The frame of a schema's text.
+fn schema_frame(alloc: Global, text: &[u8]) -> Result<Bytes, Memory>
+    ensures frames { IfOk result (λ frame. IsFrames First (payload_of (SchemaCommand text.now) ∷ []) frame) }
+    ensures decoded { OnOk result (decoded (payload_of (SchemaCommand text.now)) ≡ Some (SchemaCommand text.now)) }
+{
+    let text = List::from_slice(alloc, text)?;
+    record_frame(alloc, &Command::Schema(text))
+}
+
+// Refuses areas of which one is a store, or another program's file. Both are synced and read.
+fn refuse_occupied<W: World>(alloc: Global, world: &mut W) -> Result<(), LoadFault>
+    ensures free { OnOk result (FindsNone (W.view world.old)) }
+    ensures occupied { IfErr result (IsOccupied (W.view world.old)) }
+    ensures settled { OnOk result (IsTrue (W.view world.old).honest → IsTrue (W.view world.old).tells_bytes → IsSettled (W.view world.new)) }
+    ensures quiet { IsQuiet (W.view world.old) (W.view world.new) }
+    ensures faults { CountsFault (is_disk_fault result) (W.view world.old) (W.view world.new) }
+    ensures no_put { MakesNoPut (W.view world.old) (W.view world.new) }
+{
+    match choose_area(alloc, world) {
+        Err(ChooseFault::NoStore) => Ok(()),
+        Ok(_) | Err(ChooseFault::BadRecord { .. }) => Err(LoadFault::AlreadyStore),
+        Err(ChooseFault::Foreign) => Err(LoadFault::Foreign),
+        Err(ChooseFault::Memory) => Err(LoadFault::Memory),
+        Err(ChooseFault::DiskFault) => Err(LoadFault::DiskFault),
+    }
+}
+
+impl Store {
+    /// Makes the empty store of a schema's text in area A, with epoch 1. At every moment of the call the areas are no store, or that
+    /// store; after `Ok` they are it in every image.
+    ///
+    /// 10 to 19 `Schema` exactly where the text is no schema, before any call on the world. Then 31 `AlreadyStore` exactly where an
+    /// area is a store, and 32 `Foreign` exactly where none is and one is foreign; then nothing is written. `DiskFault` comes only
+    /// where the count of area faults rose; `Memory` may come wherever there is none.
+    pub fn load<W: World>(
+        alloc: Global,
+        text: &[u8],
+        limits: Limits,
+        world: &mut W,
+    ) -> Result<Store, LoadFault>
+        // What it answers, and the store that is made.
+        ensures answer { Loads result limits text.now (W.view world.old) (W.view world.new) }
+        ensures early { is_refused result ≡ true → world.new ≡ world.old }
+        ensures faults { CountsFault (is_disk_fault result) (W.view world.old) (W.view world.new) }
+        // What it leaves of the world, at every moment.
+        ensures kept { (FindsNone (W.view world.old) → ⊥) → IsQuiet (W.view world.old) (W.view world.new) }
+        ensures stops { FindsNone (W.view world.old) → IsSettled (W.view world.old)
+            → EachSince (IsLoadedIn limits text.now) (W.view world.old) (W.view world.new) }
+        ensures beside { StaysBeside A (W.view world.old) (W.view world.new) }
+    {
+        let guard = Guard::with_seed(alloc, text, limits, world.seed())?;
+        let frame = schema_frame(alloc, text)?;
+        refuse_occupied(alloc, world)?;
+        match Journal::create(world, Area::A, 1, frame.as_slice()) {
+            Ok(journal) => Ok(Store {
+                guard,
+                journal,
+                failed: false,
+            }),
+            Err(_) => Err(LoadFault::DiskFault),
+        }
+    }
+}

@@ -1,0 +1,74 @@
+ghost use Rattle.std.specs.Prelude.{◌≡◌, ◌+◌, ◌-◌, ◌*◌, ◌^◌, ◌≤◌, IsTrue};
+ghost use Rattle.pgs_journal.specs.Format.{is_epoch};
+ghost use Rattle.pgs_resolve.specs.SchemaOf.{schema, schema_of};
+ghost use Rattle.pgs_store.specs.State.{IsGuarded};
+
+use crate::Guard;
+use pgs_conform::Compiled;
+use pgs_journal::Journal;
+use pgs_tables::Tables;
+use std::marker::Model;
+
+/// A guard with a journal: each transaction that it takes is on the disk before it is answered. Contracts see the guard, the journal
+/// and whether an earlier call answered `DiskFault`.
+#[derive(Drop)]
+pub struct Store {
+    pub(crate) guard: Guard,
+    pub(crate) journal: Journal,
+    pub(crate) failed: bool,
+}
+
+impl Model for Store {
+    ghost use Rattle.std.specs.Coded.{codes};
+    ghost use Rattle.pgs_syntax.specs.contracts.resolved.Resolved as schemas;
+    ghost use Rattle.pgs_store.specs.Stored.{StoreState, IsBounded};
+
+    ghost Value = { StoreState };
+
+    ghost coded = { Prim.hlevel (codes, schemas.the_row.coded) };
+
+    ghost view = { λ store. record { guard = store.guard; journal = store.journal; failed = store.failed } };
+
+    ghost invariant = { λ store. IsBounded store.journal store.guard.commits };
+}
+
+impl Store {
+    /// How many transactions were committed.
+    pub fn commits(&self) -> u64
+        ensures commits { result ≡ self.now.guard.commits }
+        ensures bounded { self.now.guard.commits ≤ (self.now.journal.epoch - 1) * 2 ^ 40 + self.now.journal.end }
+    {
+        self.guard.commits()
+    }
+
+    /// The epoch of the store, from 1 to 16,777,215.
+    pub fn epoch(&self) -> u64
+        ensures epoch { result ≡ self.now.journal.epoch }
+        ensures numbered { IsTrue (is_epoch self.now.journal.epoch) }
+    {
+        self.journal.epoch
+    }
+
+    /// The schema's text.
+    pub fn schema_text(&self) -> &[u8]
+        ensures text { result.now ≡ self.now.guard.text }
+        ensures schema { schema_of self.now.guard.text ≡ schema self.now.guard.schema }
+    {
+        self.guard.schema_text()
+    }
+
+    /// The schema, with its types compiled.
+    pub fn compiled(&self) -> &Compiled
+        ensures { result.now ≡ self.now.guard.schema }
+    {
+        self.guard.compiled()
+    }
+
+    /// The graph of the last commit, which conforms to the schema and is within the limits.
+    pub fn graph(&self) -> &Tables
+        ensures graph { result.now.graph ≡ self.now.guard.graph }
+        ensures guarded { IsGuarded self.now.guard.schema self.now.guard.limits self.now.guard.graph }
+    {
+        self.guard.graph()
+    }
+}
