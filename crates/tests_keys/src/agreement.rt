@@ -12,20 +12,26 @@ use pgs_match::{PlannedKey, Side, each_x, in_scope, key_values, reach};
 use std::alloc::Global;
 use std::sync::ledger::Ledger;
 
+/// What is asked: a key of a schema, over a graph.
+#[derive(Clone, Copy)]
+pub struct Asked<'a> {
+    pub graph: &'a Graph,
+    pub compiled: &'a Compiled,
+    pub key: &'a PlannedKey,
+}
+
 // Whether each element is in the scope exactly where some match has it first.
 fn scope_agrees<L: Ledger>(
-    graph: &Graph,
-    compiled: &Compiled,
-    key: &PlannedKey,
+    asked: &Asked<'_>,
     rows: &[Row<'_>],
     firsts: u32,
     steps: &mut Steps<L>,
 ) -> bool
-    requires { is_valid_key_of compiled.now key.now ≡ true }
+    requires { is_valid_key_of asked.now.compiled.now asked.now.key.now ≡ true }
 {
     for row in rows {
         let is_first = bit(row.elem) & firsts != 0;
-        if in_scope(graph, compiled, key, row.elem, steps) != is_first {
+        if in_scope(asked.graph, asked.compiled, asked.key, row.elem, steps) != is_first {
             return false;
         }
     }
@@ -35,47 +41,41 @@ fn scope_agrees<L: Ledger>(
 // Whether the whole scope is that of the matches.
 fn whole_scope_agrees<L: Ledger>(
     alloc: Global,
-    graph: &Graph,
-    compiled: &Compiled,
-    key: &PlannedKey,
+    asked: &Asked<'_>,
     firsts: u32,
     steps: &mut Steps<L>,
 ) -> Result<bool, Memory>
-    requires { is_valid_key_of compiled.now key.now ≡ true }
+    requires { is_valid_key_of asked.now.compiled.now asked.now.key.now ≡ true }
 {
-    let scope = each_x(alloc, graph, compiled, key, steps)?;
+    let scope = each_x(alloc, asked.graph, asked.compiled, asked.key, steps)?;
     Ok(bits(scope.as_slice()) == Some(firsts))
 }
 
 // Whether the key values of an element are those of the matches.
 fn element_agrees<L: Ledger>(
     alloc: Global,
-    graph: &Graph,
-    compiled: &Compiled,
-    key: &PlannedKey,
+    asked: &Asked<'_>,
     plain: &Listing<'_>,
     elem: Elem,
     steps: &mut Steps<L>,
 ) -> Result<bool, Memory>
-    requires { is_valid_key_of compiled.now key.now ≡ true }
+    requires { is_valid_key_of asked.now.compiled.now asked.now.key.now ≡ true }
 {
-    let tuples = key_values(alloc, graph, compiled, key, elem, steps)?;
-    Ok(plain.are_values(key.key().exprs.as_slice(), elem, tuples.as_slice()))
+    let tuples = key_values(alloc, asked.graph, asked.compiled, asked.key, elem, steps)?;
+    Ok(plain.are_values(asked.key.key().exprs.as_slice(), elem, tuples.as_slice()))
 }
 
 fn values_agree<L: Ledger>(
     alloc: Global,
-    graph: &Graph,
-    compiled: &Compiled,
-    key: &PlannedKey,
+    asked: &Asked<'_>,
     rows: &[Row<'_>],
     plain: &Listing<'_>,
     steps: &mut Steps<L>,
 ) -> Result<bool, Memory>
-    requires { is_valid_key_of compiled.now key.now ≡ true }
+    requires { is_valid_key_of asked.now.compiled.now asked.now.key.now ≡ true }
 {
     for row in rows {
-        if !element_agrees(alloc, graph, compiled, key, plain, row.elem, steps)? {
+        if !element_agrees(alloc, asked, plain, row.elem, steps)? {
             return Ok(false);
         }
     }
@@ -85,38 +85,43 @@ fn values_agree<L: Ledger>(
 // The elements that are reached from an element at a variable of a pattern, as bits.
 fn reached<L: Ledger>(
     alloc: Global,
-    graph: &Graph,
-    compiled: &Compiled,
-    key: &PlannedKey,
+    asked: &Asked<'_>,
     side: Side,
     var: u32,
     elem: Elem,
     steps: &mut Steps<L>,
 ) -> Result<Option<u32>, Memory>
-    requires typed { is_valid_key_of compiled.now key.now ≡ true }
-    requires in_range { var < length (pattern_of side key.now).edge_vars }
+    requires typed { is_valid_key_of asked.now.compiled.now asked.now.key.now ≡ true }
+    requires in_range { var < length (pattern_of side asked.now.key.now).edge_vars }
 {
-    let elems = reach(alloc, graph, compiled, key, side, var, elem, steps)?;
+    let elems = reach(
+        alloc,
+        asked.graph,
+        asked.compiled,
+        asked.key,
+        side,
+        var,
+        elem,
+        steps,
+    )?;
     Ok(bits(elems.as_slice()))
 }
 
 // Whether the elements that are reached from a variable of a pattern are those of the matches.
 fn variable_agrees<L: Ledger>(
     alloc: Global,
-    graph: &Graph,
-    compiled: &Compiled,
-    key: &PlannedKey,
+    asked: &Asked<'_>,
     side: Side,
     var: u32,
     rows: &[Row<'_>],
     plain: &Listing<'_>,
     steps: &mut Steps<L>,
 ) -> Result<bool, Memory>
-    requires typed { is_valid_key_of compiled.now key.now ≡ true }
-    requires in_range { var < length (pattern_of side key.now).edge_vars }
+    requires typed { is_valid_key_of asked.now.compiled.now asked.now.key.now ≡ true }
+    requires in_range { var < length (pattern_of side asked.now.key.now).edge_vars }
 {
     for row in rows {
-        let found = reached(alloc, graph, compiled, key, side, var, row.elem, steps)?;
+        let found = reached(alloc, asked, side, var, row.elem, steps)?;
         if found != Some(plain.reached(var, row.elem)) {
             return Ok(false);
         }
@@ -136,79 +141,67 @@ fn variable_count(key: &PlannedKey, side: Side) -> usize
 
 fn reach_agrees<L: Ledger>(
     alloc: Global,
-    graph: &Graph,
-    compiled: &Compiled,
-    key: &PlannedKey,
+    asked: &Asked<'_>,
     side: Side,
     rows: &[Row<'_>],
     plain: &Listing<'_>,
     steps: &mut Steps<L>,
 ) -> Result<bool, Memory>
-    requires { is_valid_key_of compiled.now key.now ≡ true }
+    requires { is_valid_key_of asked.now.compiled.now asked.now.key.now ≡ true }
 {
-    for var in 0..variable_count(key, side) {
+    for var in 0..variable_count(asked.key, side) {
         let var = var as u32;
-        if !variable_agrees(alloc, graph, compiled, key, side, var, rows, plain, steps)? {
+        if !variable_agrees(alloc, asked, side, var, rows, plain, steps)? {
             return Ok(false);
         }
     }
     Ok(true)
 }
 
-/// Whether what is told of the scope is what the plain program tells.
-pub fn scopes_agree<L: Ledger>(
+// Whether what is told of the scope is what the plain program tells.
+fn scopes_agree<L: Ledger>(
     alloc: Global,
-    graph: &Graph,
-    compiled: &Compiled,
-    key: &PlannedKey,
+    asked: &Asked<'_>,
     rows: &Rows<'_>,
     steps: &mut Steps<L>,
 ) -> Result<bool, Memory>
-    requires { is_valid_key_of compiled.now key.now ≡ true }
+    requires { is_valid_key_of asked.now.compiled.now asked.now.key.now ≡ true }
 {
-    let plain = Listing::new(alloc, compiled, rows, &key.key().scope)?;
+    let plain = Listing::new(alloc, asked.compiled, rows, &asked.key.key().scope)?;
     let firsts = plain.firsts();
     let rows = rows.rows.as_slice();
     Ok(
-        scope_agrees(graph, compiled, key, rows, firsts, steps)
-            && whole_scope_agrees(alloc, graph, compiled, key, firsts, steps)?
-            && reach_agrees(
-                alloc,
-                graph,
-                compiled,
-                key,
-                Side::Scope,
-                rows,
-                &plain,
-                steps,
-            )?,
+        scope_agrees(asked, rows, firsts, steps)
+            && whole_scope_agrees(alloc, asked, firsts, steps)?
+            && reach_agrees(alloc, asked, Side::Scope, rows, &plain, steps)?,
     )
 }
 
-/// Whether what is told of the descriptor is what the plain program tells.
-pub fn descriptors_agree<L: Ledger>(
+// Whether what is told of the descriptor is what the plain program tells.
+fn descriptors_agree<L: Ledger>(
     alloc: Global,
-    graph: &Graph,
-    compiled: &Compiled,
-    key: &PlannedKey,
+    asked: &Asked<'_>,
     rows: &Rows<'_>,
     steps: &mut Steps<L>,
 ) -> Result<bool, Memory>
-    requires { is_valid_key_of compiled.now key.now ≡ true }
+    requires { is_valid_key_of asked.now.compiled.now asked.now.key.now ≡ true }
 {
-    let plain = Listing::new(alloc, compiled, rows, &key.key().descriptor)?;
+    let plain = Listing::new(alloc, asked.compiled, rows, &asked.key.key().descriptor)?;
     let rows = rows.rows.as_slice();
     Ok(
-        values_agree(alloc, graph, compiled, key, rows, &plain, steps)?
-            && reach_agrees(
-                alloc,
-                graph,
-                compiled,
-                key,
-                Side::Descriptor,
-                rows,
-                &plain,
-                steps,
-            )?,
+        values_agree(alloc, asked, rows, &plain, steps)?
+            && reach_agrees(alloc, asked, Side::Descriptor, rows, &plain, steps)?,
     )
+}
+
+/// Whether all calls answer as the plain program.
+pub fn agrees<L: Ledger>(
+    alloc: Global,
+    asked: &Asked<'_>,
+    rows: &Rows<'_>,
+    steps: &mut Steps<L>,
+) -> Result<bool, Memory>
+    requires { is_valid_key_of asked.now.compiled.now asked.now.key.now ≡ true }
+{
+    Ok(scopes_agree(alloc, asked, rows, steps)? && descriptors_agree(alloc, asked, rows, steps)?)
 }

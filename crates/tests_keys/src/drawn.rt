@@ -3,15 +3,14 @@
 ghost use Rattle.std.specs.Prelude.{◌≡◌, ◌<◌, true};
 ghost use Rattle.pgs_syntax.specs.Valid.{is_valid_key_of};
 
-use crate::agreement::{descriptors_agree, scopes_agree};
+use crate::agreement::{Asked, agrees};
 use crate::draw::Draw;
 use crate::list_agreement::{Valued, after_key, after_untyped};
 use crate::listing::Rows;
 use crate::reading::{graph_of, schema_of};
-use pgs_base::{List, Memory, Steps};
-use pgs_conform::Compiled;
+use pgs_base::{Elem, List, Memory, Steps};
 use pgs_graph::Graph;
-use pgs_match::{PlannedKey, each_x, key_values};
+use pgs_match::{each_x, key_values};
 use pgs_schema::Schema;
 use pgs_scratch::{confirms, violations};
 use pgs_violation::Violation;
@@ -43,9 +42,10 @@ fn drawn_graph(alloc: Global, number: u64) -> Result<Graph, Memory> {
     graph_of(alloc, draw.text()?)
 }
 
-fn drawn_graphs(alloc: Global, count: u64) -> Result<Vec<Graph>, Memory> {
+// Two hundred graphs.
+fn drawn_graphs(alloc: Global) -> Result<Vec<Graph>, Memory> {
     let mut graphs = Vec::new(alloc);
-    for number in 0..count {
+    for number in 0..200 {
         graphs.push(drawn_graph(alloc, number)?)?;
     }
     Ok(graphs)
@@ -62,9 +62,12 @@ fn keys_agreeing<L: Ledger>(
     let compiled = schema.compiled();
     let mut count = 0u32;
     for key in schema.keys().as_slice() {
-        if scopes_agree(alloc, graph, compiled, key, rows, steps)?
-            && descriptors_agree(alloc, graph, compiled, key, rows, steps)?
-        {
+        let asked = Asked {
+            graph,
+            compiled,
+            key,
+        };
+        if agrees(alloc, &asked, rows, steps)? {
             count = count.saturating_add(1);
         }
     }
@@ -103,7 +106,7 @@ fn keys_agreeing_by<L: Ledger>(
 
 fn keys_over_graphs(alloc: Global) -> Result<u32, Memory> {
     let schemas = drawn_schemas(alloc)?;
-    let graphs = drawn_graphs(alloc, 200)?;
+    let graphs = drawn_graphs(alloc)?;
     keys_agreeing_by::<Brand>(alloc, schemas.as_slice(), graphs.as_slice(), Blank::new(1))
 }
 
@@ -113,25 +116,76 @@ fn scopes_and_key_values_are_those_of_all_matches(rt: HostRuntime) -> Result<(),
     Ok(())
 }
 
+// Elements with their key values.
+fn valued<L: Ledger>(
+    alloc: Global,
+    asked: &Asked<'_>,
+    elems: &[Elem],
+    steps: &mut Steps<L>,
+) -> Result<Vec<Valued>, Memory>
+    requires { is_valid_key_of asked.now.compiled.now asked.now.key.now ≡ true }
+{
+    let mut rows = Vec::new(alloc);
+    for elem in elems {
+        let elem = *elem;
+        let tuples = key_values(alloc, asked.graph, asked.compiled, asked.key, elem, steps)?;
+        rows.push(Valued { elem, tuples })?;
+    }
+    Ok(rows)
+}
+
 // The elements of a key's scope with their key values.
 fn valued_scope<L: Ledger>(
     alloc: Global,
-    graph: &Graph,
-    compiled: &Compiled,
-    key: &PlannedKey,
+    asked: &Asked<'_>,
     steps: &mut Steps<L>,
 ) -> Result<Vec<Valued>, Memory>
-    requires { is_valid_key_of compiled.now key.now ≡ true }
+    requires { is_valid_key_of asked.now.compiled.now asked.now.key.now ≡ true }
 {
-    let mut rows = Vec::new(alloc);
-    for elem in each_x(alloc, graph, compiled, key, steps)?.as_slice() {
-        let tuples = key_values(alloc, graph, compiled, key, *elem, steps)?;
-        rows.push(Valued {
-            elem: *elem,
-            tuples,
-        })?;
+    let scope = each_x(alloc, asked.graph, asked.compiled, asked.key, steps)?;
+    valued(alloc, asked, scope.as_slice(), steps)
+}
+
+// The place behind the violations of a key in a list, by the plain program.
+fn after_asked<L: Ledger>(
+    alloc: Global,
+    asked: &Asked<'_>,
+    number: u32,
+    list: &[Violation],
+    from: usize,
+    steps: &mut Steps<L>,
+) -> Result<Option<usize>, Memory>
+    requires { is_valid_key_of asked.now.compiled.now asked.now.key.now ≡ true }
+{
+    let rows = valued_scope(alloc, asked, steps)?;
+    let qualifiers = asked.key.key().qualifiers;
+    Ok(after_key(number, qualifiers, rows.as_slice(), list, from))
+}
+
+// The place behind the violations of all keys in a list, by the plain program.
+fn after_keys<L: Ledger>(
+    alloc: Global,
+    graph: &Graph,
+    schema: &Schema,
+    list: &[Violation],
+    from: Option<usize>,
+    steps: &mut Steps<L>,
+) -> Result<Option<usize>, Memory> {
+    let compiled = schema.compiled();
+    let mut place = from;
+    let mut number = 0u32;
+    for key in schema.keys().as_slice() {
+        let asked = Asked {
+            graph,
+            compiled,
+            key,
+        };
+        number = number.saturating_add(1);
+        if let Some(from) = place {
+            place = after_asked(alloc, &asked, number, list, from, steps)?;
+        }
     }
-    Ok(rows)
+    Ok(place)
 }
 
 // Whether a list is the plain program's: it ends behind the violations of the last key.
@@ -142,17 +196,9 @@ fn is_plain_list<L: Ledger>(
     list: &[Violation],
     steps: &mut Steps<L>,
 ) -> Result<bool, Memory> {
-    let compiled = schema.compiled();
-    let mut place = after_untyped(compiled, &Rows::new(alloc, graph, steps)?, list);
-    let mut number = 0u32;
-    for key in schema.keys().as_slice() {
-        let rows = valued_scope(alloc, graph, compiled, key, steps)?;
-        number = number.saturating_add(1);
-        if let Some(from) = place {
-            place = after_key(number, key.key().qualifiers, rows.as_slice(), list, from);
-        }
-    }
-    Ok(place == Some(list.len()))
+    let rows = Rows::new(alloc, graph, steps)?;
+    let from = after_untyped(schema.compiled(), &rows, list);
+    Ok(after_keys(alloc, graph, schema, list, from, steps)? == Some(list.len()))
 }
 
 // How many of some violations are confirmed.
@@ -184,20 +230,20 @@ fn common_count(asked: &[Violation], list: &[Violation]) -> usize {
     count
 }
 
-// The list, where it is the plain program's, and exactly those of it and of another list are confirmed that stand in it.
-fn agreeing_list<L: Ledger>(
+// Whether a list is the plain program's, and exactly those of it and of another list are confirmed that stand in it.
+fn list_agrees<L: Ledger>(
     alloc: Global,
     graph: &Graph,
     schema: &Schema,
+    list: &[Violation],
     asked: &[Violation],
     steps: &mut Steps<L>,
-) -> Result<Option<List<Violation>>, Memory> {
-    let list = violations(alloc, graph, schema.compiled(), schema.keys(), steps)?;
-    let all = list.as_slice();
-    let agrees = is_plain_list(alloc, graph, schema, all, steps)?
-        && confirmed_count(alloc, graph, schema, all, steps)? == all.len()
-        && confirmed_count(alloc, graph, schema, asked, steps)? == common_count(asked, all);
-    Ok(if agrees { Some(list) } else { None })
+) -> Result<bool, Memory> {
+    Ok(
+        is_plain_list(alloc, graph, schema, list, steps)?
+            && confirmed_count(alloc, graph, schema, list, steps)? == list.len()
+            && confirmed_count(alloc, graph, schema, asked, steps)? == common_count(asked, list),
+    )
 }
 
 // Over how many graphs the list is the plain program's, with those of the graph before asked for too.
@@ -210,10 +256,18 @@ fn lists_agreeing<L: Ledger>(
     let mut before = List::new(alloc);
     let mut count = 0u32;
     for graph in graphs {
-        if let Some(list) = agreeing_list(alloc, graph, schema, before.as_slice(), steps)? {
+        let list = violations(alloc, graph, schema.compiled(), schema.keys(), steps)?;
+        if list_agrees(
+            alloc,
+            graph,
+            schema,
+            list.as_slice(),
+            before.as_slice(),
+            steps,
+        )? {
             count = count.saturating_add(1);
-            before = list;
         }
+        before = list;
     }
     Ok(count)
 }
@@ -238,12 +292,12 @@ fn lists_agreeing_by<L: Ledger>(
 
 fn lists_over_graphs(alloc: Global) -> Result<u32, Memory> {
     let schemas = drawn_schemas(alloc)?;
-    let graphs = drawn_graphs(alloc, 50)?;
+    let graphs = drawn_graphs(alloc)?;
     lists_agreeing_by::<Brand>(alloc, schemas.as_slice(), graphs.as_slice(), Blank::new(1))
 }
 
 #[test]
 fn lists_are_those_of_the_plain_program(rt: HostRuntime) -> Result<(), Fail> {
-    assert_eq!(rt; lists_over_graphs(rt.alloc())?, 10 * 50);
+    assert_eq!(rt; lists_over_graphs(rt.alloc())?, 10 * 200);
     Ok(())
 }

@@ -62,6 +62,27 @@ const DESCRIPTOR_OF_EDGES: Names = Names {
     nodes: ["(", "(w", "(u", "(v"],
 };
 
+/// The names in the patterns of a key, and its expressions.
+struct Form {
+    scope: Names,
+    descriptor: Names,
+    exprs: [&'static str; 6],
+}
+
+const OF_NODES: Form = Form {
+    scope: SCOPE_OF_NODES,
+    descriptor: DESCRIPTOR_OF_NODES,
+    exprs: ["x.k", "c", "v", "v.k", "c.k, v", "v.k, x.k"],
+};
+
+const OF_EDGES: Form = Form {
+    scope: SCOPE_OF_EDGES,
+    descriptor: DESCRIPTOR_OF_EDGES,
+    exprs: ["x.k", "u", "v.k", "u, v", "u.k, x.k", "v.k, x"],
+};
+
+const OF_X: [&str; 3] = ["x", "x.k", "x.k, x"];
+
 impl Draw {
     // Writes one of the tests, or mostly none.
     fn put_test(&mut self, tests: &[&'static str]) {
@@ -117,13 +138,13 @@ impl Draw {
         self.put_later(names);
     }
 
-    // Writes a key by the names in its patterns and its expressions.
-    fn put_key(&mut self, scope: &Names, descriptor: &Names, exprs: &[&'static str]) {
-        self.put_paths(scope);
+    // Writes a key of a form.
+    fn put_key(&mut self, form: &Form) {
+        self.put_paths(&form.scope);
         self.put_one(&QUALIFIERS);
-        self.put_one(exprs);
+        self.put_one(&form.exprs);
         self.put(" WITHIN ");
-        self.put_paths(descriptor);
+        self.put_paths(&form.descriptor);
     }
 
     // Writes a key whose descriptor is x alone.
@@ -131,23 +152,15 @@ impl Draw {
         self.put("(x");
         self.end_node();
         self.put_one(&QUALIFIERS);
-        self.put_one(&["x", "x.k", "x.k", "x.k, x"]);
+        self.put_one(&OF_X);
     }
 
     fn put_some_key(&mut self) {
         self.put(", FOR ");
         match self.below(5) {
             0 => self.put_small_key(),
-            1 | 2 => self.put_key(
-                &SCOPE_OF_EDGES,
-                &DESCRIPTOR_OF_EDGES,
-                &["x.k", "u", "v.k", "u, v", "u.k, x.k", "v.k, x"],
-            ),
-            _ => self.put_key(
-                &SCOPE_OF_NODES,
-                &DESCRIPTOR_OF_NODES,
-                &["x.k", "c", "v", "v.k", "c.k, v", "v.k, x.k"],
-            ),
+            1 | 2 => self.put_key(&OF_EDGES),
+            _ => self.put_key(&OF_NODES),
         }
     }
 

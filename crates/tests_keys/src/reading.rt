@@ -59,3 +59,17 @@ pub fn graph_of(alloc: Global, line: &str) -> Result<Graph, Memory> {
         Err(_) => Err(Memory),
     }
 }
+
+/// A schema and a graph.
+#[derive(Drop)]
+pub struct Case {
+    pub schema: Schema,
+    pub graph: Graph,
+}
+
+/// The schema of a text and the graph of a line.
+pub fn case_of(alloc: Global, schema: &str, line: &str) -> Result<Case, Memory> {
+    let graph = graph_of(alloc, line)?;
+    let schema = schema_of(alloc, schema)?;
+    Ok(Case { schema, graph })
+}

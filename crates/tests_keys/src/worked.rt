@@ -4,13 +4,12 @@
 ghost use Rattle.std.specs.Prelude.{◌≡◌, ◌<◌, true};
 ghost use Rattle.pgs_syntax.specs.Valid.{is_valid_key_of};
 
-use crate::reading::{graph_of, schema_of};
+use crate::reading::{Case, case_of};
 use pgs_answer::violation_text;
 use pgs_base::{Elem, List, Memory, NodeId, Part, Steps, Text, Tuple, Value};
 use pgs_conform::Compiled;
 use pgs_graph::Graph;
 use pgs_match::{PlannedKey, each_x, key_values};
-use pgs_schema::Schema;
 use pgs_scratch::{confirms, violations};
 use pgs_violation::Violation;
 use std::alloc::Global;
@@ -64,8 +63,7 @@ fn key_counts<L: Ledger>(
 // The same of the last key of a schema.
 fn counts_by<L: Ledger>(
     alloc: Global,
-    graph: &Graph,
-    schema: &Schema,
+    case: &Case,
     of: u64,
     blank: Blank,
 ) -> Result<(usize, usize), Memory>
@@ -74,52 +72,52 @@ fn counts_by<L: Ledger>(
     requires some { 0 < blank.parts }
 {
     let mut steps: Steps<L> = Steps::begin(blank);
-    let compiled = schema.compiled();
+    let compiled = case.schema.compiled();
     let mut counts = (0, 0);
-    for key in schema.keys().as_slice() {
-        counts = key_counts(alloc, graph, compiled, key, of, &mut steps)?;
+    for key in case.schema.keys().as_slice() {
+        counts = key_counts(alloc, &case.graph, compiled, key, of, &mut steps)?;
     }
     Ok(counts)
 }
 
 fn counts(alloc: Global, schema: &str, line: &str, of: u64) -> Result<(usize, usize), Memory> {
-    let schema = schema_of(alloc, schema)?;
-    let graph = graph_of(alloc, line)?;
-    counts_by::<Brand>(alloc, &graph, &schema, of, Blank::new(1))
+    let case = case_of(alloc, schema, line)?;
+    counts_by::<Brand>(alloc, &case, of, Blank::new(1))
 }
+
+const COUNTS: [(&str, &str, u64, (usize, usize)); 4] = [
+    (TWO_STEPS, WITH_VALUE, 3, (1, 1)),
+    (TWO_STEPS, WITHOUT_VALUE, 3, (1, 0)),
+    (MODERATORS, ONE_MODERATOR, 1, (1, 1)),
+    (MODERATORS, TWO_MODERATORS, 1, (1, 2)),
+];
 
 #[test]
 fn scopes_and_key_values(rt: HostRuntime) -> Result<(), Fail> {
-    let rows = [
-        (TWO_STEPS, WITH_VALUE, 3, (1, 1)),
-        (TWO_STEPS, WITHOUT_VALUE, 3, (1, 0)),
-        (MODERATORS, ONE_MODERATOR, 1, (1, 1)),
-        (MODERATORS, TWO_MODERATORS, 1, (1, 2)),
-    ];
-    for (schema, line, of, wanted) in rows {
-        assert_eq!(rt; counts(rt.alloc(), schema, line, of)?, wanted);
+    for (schema, line, of, wanted) in &COUNTS {
+        assert_eq!(rt; counts(rt.alloc(), schema, line, *of)?, *wanted);
     }
     Ok(())
 }
 
-fn listed_by<L: Ledger>(
-    alloc: Global,
-    graph: &Graph,
-    schema: &Schema,
-    blank: Blank,
-) -> Result<List<Violation>, Memory>
+fn listed_by<L: Ledger>(alloc: Global, case: &Case, blank: Blank) -> Result<List<Violation>, Memory>
     requires name { blank.name ≡ L.name }
     requires parts { blank.parts ≡ L.parts }
     requires some { 0 < blank.parts }
 {
     let mut steps: Steps<L> = Steps::begin(blank);
-    violations(alloc, graph, schema.compiled(), schema.keys(), &mut steps)
+    violations(
+        alloc,
+        &case.graph,
+        case.schema.compiled(),
+        case.schema.keys(),
+        &mut steps,
+    )
 }
 
 fn listed(alloc: Global, schema: &str, line: &str) -> Result<List<Violation>, Memory> {
-    let schema = schema_of(alloc, schema)?;
-    let graph = graph_of(alloc, line)?;
-    listed_by::<Brand>(alloc, &graph, &schema, Blank::new(1))
+    let case = case_of(alloc, schema, line)?;
+    listed_by::<Brand>(alloc, &case, Blank::new(1))
 }
 
 fn push_text(alloc: Global, texts: &mut String, violation: &Violation) -> Result<(), Memory> {
@@ -147,18 +145,19 @@ const SEVERAL: &str = "28 key 1: n1 has (\"db\", n4) and (\"db\", n5)\n";
 const UNTYPED_AND_SHARED: &str =
     "25 node n4 fits no type\n29 key 1: n1 and n2 share (\"a\")\n29 key 1: n2 and n3 share (\"a\")\n";
 
+const LISTS: [(&str, &str, &str); 6] = [
+    (UNIQUE_MAILS, TWO_OF_ONE_MAIL, SHARED),
+    (TWO_STEPS, WITH_VALUE, ""),
+    (TWO_STEPS, WITHOUT_VALUE, MISSING),
+    (MODERATORS, ONE_MODERATOR, ""),
+    (MODERATORS, TWO_MODERATORS, SEVERAL),
+    (UNIQUE_MAILS, THREE_OF_ONE_MAIL, UNTYPED_AND_SHARED),
+];
+
 #[test]
 fn lists(rt: HostRuntime) -> Result<(), Fail> {
-    let rows = [
-        (UNIQUE_MAILS, TWO_OF_ONE_MAIL, SHARED),
-        (TWO_STEPS, WITH_VALUE, ""),
-        (TWO_STEPS, WITHOUT_VALUE, MISSING),
-        (MODERATORS, ONE_MODERATOR, ""),
-        (MODERATORS, TWO_MODERATORS, SEVERAL),
-        (UNIQUE_MAILS, THREE_OF_ONE_MAIL, UNTYPED_AND_SHARED),
-    ];
-    for (schema, line, wanted) in rows {
-        assert_eq!(rt; texts(rt.alloc(), schema, line)?.as_str(), wanted);
+    for (schema, line, wanted) in &LISTS {
+        assert_eq!(rt; texts(rt.alloc(), schema, line)?.as_str(), *wanted);
     }
     Ok(())
 }
@@ -175,8 +174,7 @@ fn tuple(alloc: Global, text: &str) -> Result<Tuple, Memory> {
 
 fn confirmed_by<L: Ledger>(
     alloc: Global,
-    graph: &Graph,
-    schema: &Schema,
+    case: &Case,
     violation: &Violation,
     blank: Blank,
 ) -> Result<bool, Memory>
@@ -187,32 +185,45 @@ fn confirmed_by<L: Ledger>(
     let mut steps: Steps<L> = Steps::begin(blank);
     confirms(
         alloc,
-        graph,
-        schema.compiled(),
-        schema.keys(),
+        &case.graph,
+        case.schema.compiled(),
+        case.schema.keys(),
         violation,
         &mut steps,
     )
 }
 
-// Whether it is confirmed that two nodes share a mail, of the graph of n1 and n2 with the mail b.
-fn confirmed(alloc: Global, first: u64, second: u64, mail: &str) -> Result<bool, Memory> {
+// Whether it is confirmed that two nodes share a mail.
+fn confirmed(
+    alloc: Global,
+    case: &Case,
+    first: u64,
+    second: u64,
+    mail: &str,
+) -> Result<bool, Memory> {
     let violation = Violation::Exclusive {
         key: 1,
         first: Elem::Node(NodeId(first)),
         second: Elem::Node(NodeId(second)),
         tuple: tuple(alloc, mail)?,
     };
-    let schema = schema_of(alloc, UNIQUE_MAILS)?;
-    let graph = graph_of(alloc, TWO_OF_ONE_MAIL)?;
-    confirmed_by::<Brand>(alloc, &graph, &schema, &violation, Blank::new(1))
+    confirmed_by::<Brand>(alloc, case, &violation, Blank::new(1))
 }
+
+const CONFIRMED: [(u64, u64, &str, bool); 3] = [
+    (1, 2, "b", true),
+    (2, 1, "b", false),
+    (1, 2, "c", false),
+];
 
 #[test]
 fn only_what_is_listed_is_confirmed(rt: HostRuntime) -> Result<(), Fail> {
-    let rows = [(1, 2, "b", true), (2, 1, "b", false), (1, 2, "c", false)];
-    for (first, second, mail, wanted) in rows {
-        assert_eq!(rt; confirmed(rt.alloc(), first, second, mail)?, wanted);
+    let case = case_of(rt.alloc(), UNIQUE_MAILS, TWO_OF_ONE_MAIL)?;
+    for (first, second, mail, wanted) in &CONFIRMED {
+        assert_eq!(rt;
+            confirmed(rt.alloc(), &case, *first, *second, mail)?,
+            *wanted
+        );
     }
     Ok(())
 }

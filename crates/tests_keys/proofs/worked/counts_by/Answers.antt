@@ -6,5 +6,5 @@ use Rattle.tests_keys.proofs.worked.counts_by.Goals as goal
 pub key_counts-requires : goal.key_counts-requires
 key_counts-requires g c =
     subst (λ resolved. is_valid_key_of resolved c.key-item.result ≡ true) (sym c.compiled-compiled.ensures.schema)
-    (valid_key c.args.schema.now.resolved c.compiled-compiled.ensures.valid c.as_slice-key-items.result.now
+    (valid_key c.args.case.now.schema.resolved c.compiled-compiled.ensures.valid c.as_slice-key-items.result.now
     (c.as_slice-key-items.ensures ∙ c.keys.ensures) c.loop-key.key-index c.loop-key-test.true c.key-item.result c.key-item.is)
