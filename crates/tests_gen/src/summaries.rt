@@ -30,14 +30,14 @@ fn puts(alloc: Global, start: u64, count: u64, line: &str) -> Result<bool, Memor
         ROOM,
         List::new(alloc),
     )?;
-    let status = run_gen(alloc, &mut world, start, count);
+    let status = run_gen(alloc, &mut world, start, count.min(500_000));
     Ok(world.output() == line.as_bytes() && status.number() == 0)
 }
 
 /// The first start and count of which something else is put.
 fn wrong_summary(alloc: Global) -> Result<Option<(u64, u64)>, Memory> {
     for (start, count, line) in SUMMARIES {
-        if !puts(alloc, *start, (*count).min(500_000), line)? {
+        if !puts(alloc, *start, *count, line)? {
             return Ok(Some((*start, *count)));
         }
     }
