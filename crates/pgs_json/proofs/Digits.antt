@@ -7,7 +7,7 @@ use Rattle.std.proofs.lemmas.Bool.{le-ltb, lt-ltb, ltb-true, ltb-false}
 use Rattle.std.proofs.lemmas.Option.{cond_some}
 use Rattle.std.proofs.lemmas.List.{drop_all}
 use Rattle.std.proofs.lemmas.List.Sums.{take_while-cons}
-use Rattle.pgs_json.specs.Reading.{is_digit, digits_in, digits_at}
+use Rattle.pgs_json.specs.Digits.{is_digit, digits_in, digits_at}
 
 -- more digits make no number smaller
 pub le_digits_value_after : (n : ℕ) (ds : List ℕ) → n ≤ digits_value_after 10 n ds

@@ -13,7 +13,7 @@ use Rattle.std.proofs.lemmas.Int.Digits.{digits_value-lt}
 use Rattle.std.proofs.lemmas.Bool.{lt-ltb}
 use Rattle.std.proofs.lemmas.Bool.Decides.{nat_tests}
 use Rattle.std.proofs.lemmas.List.Sums.{take_while-cons}
-use Rattle.pgs_json.specs.Reading.{is_digit, digits_in, digits_at}
+use Rattle.pgs_json.specs.Digits.{is_digit, digits_in, digits_at}
 
 digit_small : (b : ℕ) → is_digit b ≡ true → digit_value b < 10
 digit_small b h = grind (arith, nat_tests)

@@ -1,11 +1,9 @@
 pub mod Ahead
 pub mod Canonical
-pub mod FirstLine
+pub mod Digits
 pub mod Form
-pub mod Gathering
 pub mod Kinds
 pub mod Line
 pub mod Pieces
-pub mod Reading
 pub mod Sets
 pub mod Unread

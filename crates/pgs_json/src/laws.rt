@@ -1,10 +1,9 @@
 //! Laws of the definitions. Each of these functions does nothing, and its contract is the law.
 
-ghost use Rattle.std.specs.Prelude.{◌≡◌, ◌≤◌, ℕ, List, length, true, Some, None, Ok};
+ghost use Rattle.std.specs.Prelude.{◌≡◌, ◌≤◌, length, true, Some, None, Ok};
 ghost use Rattle.pgs_graph.specs.declared.operation.Txn.{Txn};
 ghost use Rattle.pgs_graph.specs.Operations.{is_well_formed_txn};
 ghost use Rattle.pgs_json.specs.Line.{txn_of, read_line};
-ghost use Rattle.pgs_json.specs.Reading.{first_txn};
 ghost use Rattle.pgs_json.specs.Canonical.{text_of_txn};
 
 /// What is written without a commit number is read again as the same transaction, where it isn't too long for a line. Every
@@ -13,9 +12,4 @@ pub fn written_is_read()
     ensures names { (txn : Txn) → is_well_formed_txn txn ≡ true → txn_of (text_of_txn txn None) ≡ Some txn }
     ensures line { (txn : Txn) → is_well_formed_txn txn ≡ true → length (text_of_txn txn None) ≤ 1048576
         → read_line (text_of_txn txn None) ≡ Ok txn }
-{}
-
-/// A line of the first form names the same transaction as a JSON value: both readers read it alike.
-pub fn first_form_is_json()
-    ensures { (line : List ℕ) (txn : Txn) → first_txn line ≡ Some txn → read_line line ≡ Ok txn }
 {}

@@ -2,32 +2,24 @@
 //!
 //! The one rule: a line is read exactly where its JSON value is of the form of a transaction, and only want of memory keeps it from
 //! that. The form stands in `specs/Form.antt` and `specs/Line.antt`, the canonical text in `specs/Canonical.antt`, and a law says
-//! that what is written is read again. The run still reads the first form, one exact spelling of operations that add nodes, by
-//! `read_first`: `specs/FirstLine.antt` has its spelling and limits, and `first_form_is_exact` says that it is read exactly so.
+//! that what is written is read again.
 #![tactic(auto)]
 
 mod ahead;
 mod canonical;
-mod first_line;
 mod json_op;
 mod json_part;
 mod kind;
-mod labels;
 mod laws;
 mod line;
 mod line_fault;
 mod number;
 mod op_of_kind;
-mod operation;
-mod piece;
-mod props;
 mod samples;
 mod unread;
-mod value;
 
 pub use canonical::{push_txn, txn_room, write_txn};
-pub use first_line::{first_form_is_exact, read_first};
-pub use laws::{first_form_is_json, written_is_read};
+pub use laws::written_is_read;
 pub use line::read_txn;
 pub use line_fault::LineFault;
 pub use samples::{

@@ -1,13 +1,8 @@
 pub mod Chains
-pub mod Complete
-pub mod Cutting
-pub mod Differing
 pub mod Digits
 pub mod Findings
-pub mod FirstKinds
 pub mod FirstNones
 pub mod Items
-pub mod Listing
 pub mod NextToken
 pub mod NoMode
 pub mod OneToken
@@ -15,13 +10,10 @@ pub mod ParseAnswers
 pub mod Pieces
 pub mod Ranges
 pub mod Renumbering
-pub mod Ruled
 pub mod Script
-pub mod Sound
 pub mod SoundKeys
 pub mod SoundStatements
 pub mod SoundTypes
-pub mod Spelling
 pub mod Texts
 pub mod Whole
 pub mod WholeKeys

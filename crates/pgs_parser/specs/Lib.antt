@@ -1,5 +1,3 @@
-pub mod Cut
-pub mod Form
 pub mod Gives
 pub mod KeyReaders
 pub mod Keys
@@ -8,11 +6,7 @@ pub mod Parsed
 pub mod Production
 pub mod Progress
 pub mod Reader
-pub mod Reading
-pub mod Rules
 pub mod Samples
-pub mod Schema
-pub mod Signs
 pub mod StatementReaders
 pub mod Statements
 pub mod Text

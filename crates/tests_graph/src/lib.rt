@@ -10,8 +10,6 @@ mod codec;
 #[cfg(test)]
 mod copies;
 #[cfg(test)]
-mod first_lines;
-#[cfg(test)]
 mod json_lines;
 #[cfg(test)]
 mod reads;

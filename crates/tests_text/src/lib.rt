@@ -8,6 +8,4 @@ mod parsing;
 #[cfg(test)]
 mod resolving;
 #[cfg(test)]
-mod schema_texts;
-#[cfg(test)]
 mod tokens;

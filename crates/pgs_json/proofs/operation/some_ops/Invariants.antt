@@ -1,6 +1,0 @@
-use Rattle.std.proofs.Common.{◌≡◌, ◌-◌, []}
-use Rattle.pgs_json.specs.Gathering.{gathered_at, with_op, graph_op_at}
-use Rattle.pgs_json.proofs.operation.some_ops.Given as goal
-
-abbrev pub invariant-loop : goal.invariant-loop
-invariant-loop l = gathered_at with_op graph_op_at 93 (10000 - l.counter) l.ops l.rest ≡ gathered_at with_op graph_op_at 93 10000 [] l.bytes
