@@ -9,9 +9,10 @@ mod stdout_world;
 #[cfg(test)]
 mod tests;
 
-use pgs_base::{Memory, Words};
+use pgs_base::{Memory, Seed, Words};
 use pgs_run::{Status, run};
 use std::alloc::Global;
+use std::collections::hash_map::RandomState;
 use std::env::{self, Args};
 use std::io::{self, ErrorKind};
 use std::process::ExitCode;
@@ -36,11 +37,21 @@ fn words_of(alloc: Global, arguments: io::Result<Args>) -> Result<Words, Memory>
     }
 }
 
+// How the program's graphs hash: by keys that no one else knows, so that whoever chooses the numbers of nodes can't make them collide. Where
+// the system draws none, the fixed keys serve, since no answer depends on them.
+fn seed_of(drawn: io::Result<RandomState>) -> Seed {
+    match drawn {
+        Ok(keys) => Seed::Random(keys),
+        Err(_) => Seed::Fixed,
+    }
+}
+
 fn main(rt: HostRuntime) -> ExitCode {
     let status = match words_of(rt.alloc(), env::args(&rt)) {
         Ok(words) => {
+            let seed = seed_of(RandomState::new(&rt));
             let mut source = StdinSource::new(rt.stdin());
-            let mut world = StdoutWorld::new(rt.stdout());
+            let mut world = StdoutWorld::new(rt.stdout(), seed);
             run(rt.alloc(), &words, &mut source, &mut world)
         }
         Err(Memory) => Status::Memory,

@@ -9,7 +9,6 @@ ghost use Rattle.pgguard.specs.Counted.{view_of};
 use crate::counts::Counts;
 use pgs_base::Seed;
 use pgs_world::{Area, AreaFault, PutFault, World};
-use std::collections::hash_map::RandomState;
 use std::io::Write;
 
 /// A writer as a world. It tells nothing of the output and has no areas yet, and counts its calls and faults.
@@ -17,11 +16,12 @@ use std::io::Write;
 pub struct StdoutWorld<W: Write> {
     writer: W,
     counts: Counts,
+    seed: Seed,
 }
 
 impl<W: Write> StdoutWorld<W> {
-    /// The writer as a world without a fault.
-    pub fn new(writer: W) -> StdoutWorld<W>
+    /// The writer as a world without a fault, whose graphs hash by the seed.
+    pub fn new(writer: W, seed: Seed) -> StdoutWorld<W>
         ensures writer { result.writer ≡ writer }
         ensures area_faults { (⟦<StdoutWorld<W> as World>⟧.view result).area_faults ≡ 0 }
         ensures put_faults { (⟦<StdoutWorld<W> as World>⟧.view result).put_faults ≡ 0 }
@@ -30,6 +30,7 @@ impl<W: Write> StdoutWorld<W> {
         StdoutWorld {
             writer,
             counts: Counts::none(),
+            seed,
         }
     }
 
@@ -178,9 +179,8 @@ impl<W: Write> World for StdoutWorld<W> {
         }
     }
 
-    /// Keys that no one else knows: whoever chooses the numbers of a graph can't make them collide.
     fn seed(&self) -> Seed {
-        Seed::Random(RandomState::new())
+        self.seed
     }
 }
 
@@ -218,10 +218,11 @@ mod tests {
 
     #[test]
     fn pieces_are_put_whole_and_faults_counted(rt: HostRuntime) -> Result<(), Fail> {
-        let mut world = StdoutWorld::new(Slow {
+        let slow = Slow {
             kept: Vec::new(rt.alloc()),
             writes: 0,
-        });
+        };
+        let mut world = StdoutWorld::new(slow, Seed::Fixed);
         for (piece, want, faults, kept) in [
             ("ab", Ok(()), 0, "ab"),
             ("cd", Err(PutFault), 1, "abc"),
@@ -237,7 +238,7 @@ mod tests {
 
     #[test]
     fn each_call_on_an_area_is_a_counted_fault(rt: HostRuntime) -> Result<(), Fail> {
-        let mut world = StdoutWorld::new(io::sink());
+        let mut world = StdoutWorld::new(io::sink(), Seed::Fixed);
         assert!(rt; world.len(Area::A).is_err());
         assert!(rt; world.read_at(Area::B, 0, &mut []).is_err());
         assert!(rt; world.write_at(Area::A, 0, &[1]).is_err());

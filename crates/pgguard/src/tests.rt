@@ -3,7 +3,7 @@
 
 use crate::stdin_source::StdinSource;
 use crate::stdout_world::StdoutWorld;
-use pgs_base::Words;
+use pgs_base::{Seed, Words};
 use pgs_run::run;
 use std::test::Fail;
 
@@ -44,7 +44,7 @@ fn runs(rt: HostRuntime) -> Result<(), Fail> {
         words.push(word)?;
         let mut output = Vec::new(rt.alloc());
         let mut source = StdinSource::new(input.as_bytes());
-        let mut world = StdoutWorld::new(&mut output);
+        let mut world = StdoutWorld::new(&mut output, Seed::Fixed);
         let found = run(rt.alloc(), &words, &mut source, &mut world);
         assert_eq!(rt; found.number(), status, "{input}");
         assert_eq!(rt; output.as_slice(), want.as_bytes(), "{input}");

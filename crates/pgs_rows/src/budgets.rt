@@ -28,7 +28,12 @@ const CASES: &[Case] = &[
         &[
             (1, "", 0, 9),
             (45, "1 committed 1\n", 1, 9),
-            (49, "1 committed 1\n2 refused 20 line is not a transaction\n", 2, 1),
+            (
+                49,
+                "1 committed 1\n2 refused 20 line is not a transaction\n",
+                2,
+                1,
+            ),
         ],
     ),
     (

@@ -84,15 +84,30 @@ fn schemas_at_the_limit(rt: HostRuntime) -> Result<(), Fail> {
 
 const OPERATIONS: &[Row] = &[
     (
-        ("{\"ops\":[{\"add_node\":1}", ",{\"remove_node\":1},{\"add_node\":1}", 4_999, "]}\n"),
+        (
+            "{\"ops\":[{\"add_node\":1}",
+            ",{\"remove_node\":1},{\"add_node\":1}",
+            4_999,
+            "]}\n",
+        ),
         "1 committed 1\n",
     ),
     (
-        ("{\"ops\":[{\"add_node\":1}", ",{\"unset_node\":1,\"key\":\"k\"}", 10_000, "]}\n"),
+        (
+            "{\"ops\":[{\"add_node\":1}",
+            ",{\"unset_node\":1,\"key\":\"k\"}",
+            10_000,
+            "]}\n",
+        ),
         "1 refused 22 10001 operations, at most 10000\n",
     ),
     (
-        ("{\"ops\":[{\"add_node\":1,\"labels\":[\"A\"", ",\"A\"", 99, "]}]}\n"),
+        (
+            "{\"ops\":[{\"add_node\":1,\"labels\":[\"A\"",
+            ",\"A\"",
+            99,
+            "]}]}\n",
+        ),
         "1 committed 1\n",
     ),
 ];

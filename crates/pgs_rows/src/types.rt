@@ -51,12 +51,7 @@ const FIRST_ROWS: &[Row] = &[
         r#""#,
         0,
     ),
-    (
-        "try,",
-        r#"CREATE GRAPH TYPE g LOOSE {};"#,
-        r#""#,
-        0,
-    ),
+    ("try,", r#"CREATE GRAPH TYPE g LOOSE {};"#, r#""#, 0),
 ];
 
 #[test]
