@@ -4,3 +4,5 @@ pub mod Composed
 pub mod Decided
 pub mod Loaded
 pub mod Opened
+pub mod Renewed
+pub mod Replaying

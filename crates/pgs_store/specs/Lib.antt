@@ -1,5 +1,7 @@
 pub mod Applies
+pub mod Checkpoints
 pub mod Loads
+pub mod Recovers
 pub mod Refused
 pub mod State
 pub mod Stored

@@ -6,10 +6,12 @@
 #![tactic(auto)]
 
 mod applying;
+mod checkpointing;
 mod fault;
 mod guard;
 mod judging;
 mod loading;
+mod recovering;
 mod store;
 
 pub use fault::{ApplyFault, CheckpointFault, GuardFault, GuardRefusal, LoadFault, RecoverFault};
