@@ -5,3 +5,5 @@ pub mod Decided
 pub mod Fitting
 pub mod Loaded
 pub mod Opened
+pub mod Renewed
+pub mod Replaying

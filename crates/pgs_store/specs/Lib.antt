@@ -1,7 +1,9 @@
 pub mod Applies
+pub mod Checkpoints
 pub mod Explained
 pub mod Fits
 pub mod Loads
+pub mod Recovers
 pub mod Refused
 pub mod State
 pub mod Stored

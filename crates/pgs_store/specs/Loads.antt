@@ -20,7 +20,7 @@ is_of_area Foreign = false
 is_of_area (Schema fault) = false
 
 abbrev pub is_disk_fault : {T : Type 0} → Result T LoadFault → Bool
-is_disk_fault (Ok store) = false
+is_disk_fault (Ok done) = false
 is_disk_fault (Err fault) = is_of_area fault
 
 -- the text is refused
@@ -32,7 +32,7 @@ is_of_text Foreign = false
 is_of_text (Schema fault) = true
 
 abbrev pub is_refused : {T : Type 0} → Result T LoadFault → Bool
-is_refused (Ok store) = false
+is_refused (Ok done) = false
 is_refused (Err fault) = is_of_text fault
 
 -- both areas, as far as the world tells its bytes

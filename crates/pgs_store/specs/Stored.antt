@@ -10,7 +10,7 @@ use Rattle.pgs_journal.specs.declared.journal.Journal.{Journal}
 use Rattle.pgs_journal.specs.Format.{is_epoch}
 use Rattle.pgs_resolve.specs.SchemaOf.{schema, schema_of}
 use Rattle.pgs_snapshot.specs.Choice.{choice_of, no_store}
-use Rattle.pgs_snapshot.specs.Saved.{Replayed, saved_of, store}
+use Rattle.pgs_snapshot.specs.Saved.{saved_of, store}
 use Rattle.pgs_snapshot.specs.Standing.{HasStore}
 use Rattle.pgs_syntax.specs.declared.resolved.Resolved.{Resolved}
 use Rattle.pgs_violation.specs.Decision.{decide}
@@ -91,7 +91,3 @@ next_journal journal end = record { area = other journal.area; epoch = journal.e
 abbrev pub IsRenewedIn : GuardState → Journal → Triple → Type 0
 IsRenewedIn guard journal triple =
     IsSavedIn guard journal triple ⊎ ((end : ℕ) × IsSavedBy guard (next_journal journal end) (renewed guard) triple)
-
--- where the replay of a store's records stands
-abbrev pub replayed_in : GuardState → Replayed
-replayed_in guard = record { commits = guard.commits; graph = guard.graph }

@@ -1,6 +1,8 @@
--- The refusal of a schema text by a call on a store.
+-- Why a schema text has no schema, and why no store is chosen, as faults of the calls on a store.
 use Rattle.pgs_schema.specs.declared.fault.SchemaUnread.{SchemaUnread}
 use Rattle.pgs_schema.specs.declared.fault.SchemaUnread.TheVariants.{Memory, Schema}
+use Rattle.pgs_snapshot.specs.declared.choose_fault.ChooseFault.{ChooseFault}
+use Rattle.pgs_snapshot.specs.declared.choose_fault.ChooseFault.TheVariants as choosing
 use Rattle.pgs_store.specs.declared.fault.LoadFault.{LoadFault}
 use Rattle.pgs_store.specs.declared.fault.LoadFault.TheVariants as loads
 use Rattle.pgs_store.specs.declared.fault.RecoverFault.{RecoverFault}
@@ -13,3 +15,10 @@ of_load (Schema fault) = loads.Schema fault
 abbrev pub of_recover : SchemaUnread → RecoverFault
 of_recover Memory = recovers.Memory
 of_recover (Schema fault) = recovers.Schema fault
+
+abbrev pub of_choice : ChooseFault → RecoverFault
+of_choice choosing.Memory = recovers.Memory
+of_choice choosing.DiskFault = recovers.DiskFault
+of_choice choosing.NoStore = recovers.NoStore
+of_choice choosing.Foreign = recovers.Foreign
+of_choice (choosing.BadRecord number) = recovers.BadRecord number

@@ -1,5 +1,6 @@
 use pgs_base::Memory;
 use pgs_schema::{SchemaFault, SchemaUnread};
+use pgs_snapshot::ChooseFault;
 use pgs_violation::Rejection;
 
 /// Why there is no guard: there was no memory, or the text is no schema.
@@ -132,5 +133,58 @@ impl From<SchemaUnread> for LoadFault {
             SchemaUnread::Memory => LoadFault::Memory,
             SchemaUnread::Schema(fault) => LoadFault::Schema(fault),
         }
+    }
+}
+
+impl From<Memory> for RecoverFault {
+    ghost use Rattle.std.specs.Prelude.{◌≡◌};
+    ghost use Rattle.pgs_store.specs.declared.fault.RecoverFault.TheVariants as faults;
+
+    ghost from_gives = { λ _ e. e ≡ faults.Memory };
+
+    fn from(_: Memory) -> RecoverFault {
+        RecoverFault::Memory
+    }
+}
+
+impl From<SchemaUnread> for RecoverFault {
+    ghost use Rattle.std.specs.Prelude.{◌≡◌};
+    ghost use Rattle.pgs_store.specs.Unread.{of_recover};
+
+    ghost from_gives = { λ unread e. e ≡ of_recover unread };
+
+    fn from(unread: SchemaUnread) -> RecoverFault {
+        match unread {
+            SchemaUnread::Memory => RecoverFault::Memory,
+            SchemaUnread::Schema(fault) => RecoverFault::Schema(fault),
+        }
+    }
+}
+
+impl From<ChooseFault> for RecoverFault {
+    ghost use Rattle.std.specs.Prelude.{◌≡◌};
+    ghost use Rattle.pgs_store.specs.Unread.{of_choice};
+
+    ghost from_gives = { λ fault e. e ≡ of_choice fault };
+
+    fn from(fault: ChooseFault) -> RecoverFault {
+        match fault {
+            ChooseFault::Memory => RecoverFault::Memory,
+            ChooseFault::DiskFault => RecoverFault::DiskFault,
+            ChooseFault::NoStore => RecoverFault::NoStore,
+            ChooseFault::Foreign => RecoverFault::Foreign,
+            ChooseFault::BadRecord { number } => RecoverFault::BadRecord { number },
+        }
+    }
+}
+
+impl From<Memory> for CheckpointFault {
+    ghost use Rattle.std.specs.Prelude.{◌≡◌};
+    ghost use Rattle.pgs_store.specs.declared.fault.CheckpointFault.TheVariants as faults;
+
+    ghost from_gives = { λ _ e. e ≡ faults.Memory };
+
+    fn from(_: Memory) -> CheckpointFault {
+        CheckpointFault::Memory
     }
 }

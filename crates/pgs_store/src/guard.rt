@@ -1,5 +1,5 @@
 ghost use Rattle.std.specs.Prelude.{◌≡◌, ◌+◌, ◌^◌, ◌<◌, ◌≤◌, true, length, Ok, IsTrue, IfOk, IfErr, OnOk, OnErr};
-ghost use Rattle.pgs_base.specs.Graph.{empty_graph};
+ghost use Rattle.pgs_base.specs.Graph.{empty_graph, is_graph};
 ghost use Rattle.pgs_codec.specs.declared.command.Command.TheVariants.{Txn as Transaction};
 ghost use Rattle.pgs_codec.specs.Encodable.{is_sized};
 ghost use Rattle.pgs_graph.specs.Changed.{changed, is_sound};
@@ -16,7 +16,7 @@ use crate::judging::judge;
 use crate::{GuardFault, GuardRefusal};
 use pgs_base::{Elem, Limits, List, Memory, Seed, Steps, TupleSet};
 use pgs_conform::Compiled;
-use pgs_graph::{Delta, Txn};
+use pgs_graph::{Delta, GraphRead, Txn};
 use pgs_schema::Schema;
 use pgs_syntax::TypeNo;
 use pgs_tables::Tables;
@@ -99,9 +99,11 @@ impl Guard {
     pub(crate) fn facts(&self)
         ensures schema { schema_of self.now.text ≡ schema self.now.schema }
         ensures guarded { IsGuarded self.now.schema self.now.limits self.now.graph }
+        ensures graph { is_graph self.now.graph ≡ true }
         ensures ops { self.now.limits.ops < 2 ^ 32 }
     {
         let _most = self.limits.ops;
+        let _count = self.graph.count();
         let _text = self.schema.text();
     }
 

@@ -6,11 +6,13 @@
 #![tactic(auto)]
 
 mod applying;
+mod checkpointing;
 mod explaining;
 mod fault;
 mod guard;
 mod judging;
 mod loading;
+mod recovering;
 mod store;
 
 pub use fault::{ApplyFault, CheckpointFault, GuardFault, GuardRefusal, LoadFault, RecoverFault};

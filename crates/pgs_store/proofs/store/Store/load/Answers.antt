@@ -53,10 +53,10 @@ returns-in-Ok-clause-answer g c =
     let quiet = c.refuse_occupied.ensures.quiet in
     let guard = just_made c.in_ok-guard.guard c.args.text.now c.args.limits made.text made.limits made.empty made.commits in
     let journal : c.in-Ok.journal ≡ first_journal end =
-        same_journal (first_journal end) c.in-Ok.journal (ap (λ (j : Journal). j.area) c.in-Ok.ensures.journal) (ap (λ (j : Journal). j.epoch) c.in-Ok.ensures.journal) end refl in
+    same_journal (first_journal end) c.in-Ok.journal (ap (λ (j : Journal). j.area) c.in-Ok.ensures.journal) (ap (λ (j : Journal). j.epoch) c.in-Ok.ensures.journal) end refl in
     let stands = load_stands c.args.limits c.args.text.now c.in_ok-guard.guard.schema payload end made.schema c.in_ok-frame.ensures.decoded (omega (arith, c.in-Ok.ensures.within))
-        old (g.W.World.view c.refuse_occupied.new.world) new c.in_ok-refuse_occupied.ensures.free quiet c.create.ensures.passes
-        (c.in-Ok.ensures.holds (payload ∷ []) frames) c.create.ensures.beside c.in_ok-refuse_occupied.ensures.settled c.in-Ok.ensures.settled in
+    old (g.W.World.view c.refuse_occupied.new.world) new c.in_ok-refuse_occupied.ensures.free quiet c.create.ensures.passes
+    (c.in-Ok.ensures.holds (payload ∷ []) frames) c.create.ensures.beside c.in_ok-refuse_occupied.ensures.settled c.in-Ok.ensures.settled in
     record {
       resolved = c.in_ok-guard.guard.schema;
       of_text = made.schema;

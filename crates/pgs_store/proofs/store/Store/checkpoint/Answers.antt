@@ -1,0 +1,88 @@
+use Rattle.std.proofs.Common.{◌≡◌, ◌+◌, ℕ, List, false, IsTrue, length, refl, sym, ◌∙◌, ap, subst, arith}
+use Rattle.pgs_journal.specs.declared.journal.Journal.{Journal}
+use Rattle.pgs_journal.specs.Format.{First, Holds, IsFrames}
+use Rattle.pgs_journal.specs.Stops.{Turns, Creates}
+use Rattle.pgs_store.specs.Checkpoints.{IsRenewed}
+use Rattle.pgs_store.specs.Stored.{StoreState, StandsOn, IsSavedBy, IsRenewedIn, next_journal, renewed}
+use Rattle.pgs_world.specs.declared.area.Area.{Area}
+use Rattle.pgs_world.specs.Disk.{IsSameBeside}
+use Rattle.pgs_world.specs.Moment.{EachSince, IsSynced, StopsBy}
+use Rattle.pgs_world.specs.World.{part}
+use Rattle.pgs_store.proofs.Applied.{small_first, same_journal}
+use Rattle.pgs_store.proofs.Renewed.{few_before, stops_renewed, alone_renewed, stands_renewed}
+use Rattle.pgs_store.proofs.store.Store.checkpoint.Goals as goal
+
+pub checkpoint-requires-clause-frames : goal.checkpoint-requires-clause-frames
+checkpoint-requires-clause-frames g c = (renewed c.self.inside.guard, rw c.as_slice.ensures c.in_ok-first.ensures.frames)
+
+pub returns-in-Ok-clause-answer : goal.returns-in-Ok-clause-answer
+returns-in-Ok-clause-answer g c =
+    let guard = c.self.inside.guard in
+    let journal = c.self.inside.journal in
+    let first = c.as_slice.result.now in
+    let vec = c.first.inside.items in
+    let old = g.W.World.view c.args.world.now in
+    let new = g.W.World.view c.checkpoint.new.world in
+    let frames : IsFrames First (renewed guard) first = rw c.as_slice.ensures c.in_ok-first.ensures.frames in
+    let few = few_before journal.epoch journal.end guard.commits c.self.invariant.epoch c.self.invariant.end c.self.invariant.most in
+    let stands = subst (λ (s : StoreState). s.failed ≡ false → StandsOn s.guard s.journal old) (sym c.self.view_is) c.requires.stands c.if-self.false in
+    let end = c.in-Ok.journal.end in
+    let is = c.in-Ok.ensures.journal in
+    let after : c.in-Ok.journal ≡ next_journal journal end =
+    same_journal (next_journal journal end) c.in-Ok.journal (ap (λ (j : Journal). j.area) is ∙ c.other.ensures) (ap (λ (j : Journal). j.epoch) is) end refl in
+    let holds = λ (told : IsTrue old.tells_bytes).
+    subst (λ (a : Area). Holds First (journal.epoch + 1) (renewed guard) end (part a new.shown)) c.other.ensures (c.in-Ok.ensures.holds (renewed guard) frames told) in
+    let same = subst (λ (a : Area). IsSameBeside a old.shown new.shown) c.other.ensures c.checkpoint.ensures.beside in
+    subst (λ (s : StoreState). (s.failed ≡ false) × (c.self.inside.failed ≡ false) × (guard ≡ s.guard) × IsRenewed s.guard s.journal c.in-Ok.journal (journal.epoch + 1) new) c.self.view_is (
+      c.if-self.false,
+      c.if-self.false,
+      refl,
+      record {
+        numbered = refl;
+        journal = after;
+        alone = λ told.
+            subst (λ (j : Journal). IsSavedBy guard j (renewed guard) new.shown) (sym after)
+            (alone_renewed guard journal end c.facts.ensures.schema c.facts.ensures.guarded c.in_ok-first.ensures.schema c.in_ok-first.ensures.snapshot few (omega (arith, c.in-Ok.ensures.within))
+            old new stands c.checkpoint.ensures.passes holds same told);
+        stands =
+            subst (λ (j : Journal). StandsOn guard j new) (sym after)
+            (stands_renewed guard journal end c.facts.ensures.schema c.facts.ensures.guarded c.in_ok-first.ensures.schema c.in_ok-first.ensures.snapshot few (omega (arith, c.in-Ok.ensures.within))
+            old new stands c.checkpoint.ensures.passes holds same c.in-Ok.ensures.settled);
+      },
+    )
+
+pub returns-in-Ok-clause-stops : goal.returns-in-Ok-clause-stops
+returns-in-Ok-clause-stops g c =
+    let guard = c.self.inside.guard in
+    let journal = c.self.inside.journal in
+    let first = c.as_slice.result.now in
+    let vec = c.first.inside.items in
+    let old = g.W.World.view c.args.world.now in
+    let new = g.W.World.view c.checkpoint.new.world in
+    let frames : IsFrames First (renewed guard) first = rw c.as_slice.ensures c.in_ok-first.ensures.frames in
+    let few = few_before journal.epoch journal.end guard.commits c.self.invariant.epoch c.self.invariant.end c.self.invariant.most in
+    let stands = subst (λ (s : StoreState). s.failed ≡ false → StandsOn s.guard s.journal old) (sym c.self.view_is) c.requires.stands c.if-self.false in
+    subst (λ (s : StoreState). s.failed ≡ false → IsTrue old.honest → IsTrue old.tells_bytes → EachSince (IsRenewedIn s.guard s.journal) old new) c.self.view_is
+    (λ whole honest told.
+    stops_renewed guard journal (16 + length first) c.facts.ensures.schema c.facts.ensures.guarded c.in_ok-first.ensures.schema c.in_ok-first.ensures.snapshot few
+    (small_first first vec.items vec.len vec.cap (c.as_slice.ensures ∙ sym c.first.view_is) vec.ok.0 vec.ok.1 vec.small) old new stands honest told
+    (subst (λ (a : Area). IsTrue old.tells_bytes → IsSynced a old → StopsBy (Turns a (Creates First (journal.epoch + 1) (renewed guard) (16 + length first))) old new) c.other.ensures
+    (c.checkpoint.ensures.stops (renewed guard) frames)))
+
+pub returns-clause-stops : goal.returns-clause-stops
+returns-clause-stops g c =
+    let guard = c.self.inside.guard in
+    let journal = c.self.inside.journal in
+    let first = c.as_slice.result.now in
+    let vec = c.first.inside.items in
+    let old = g.W.World.view c.args.world.now in
+    let new = g.W.World.view c.checkpoint.new.world in
+    let frames : IsFrames First (renewed guard) first = rw c.as_slice.ensures c.in_ok-first.ensures.frames in
+    let few = few_before journal.epoch journal.end guard.commits c.self.invariant.epoch c.self.invariant.end c.self.invariant.most in
+    let stands = subst (λ (s : StoreState). s.failed ≡ false → StandsOn s.guard s.journal old) (sym c.self.view_is) c.requires.stands c.if-self.false in
+    subst (λ (s : StoreState). s.failed ≡ false → IsTrue old.honest → IsTrue old.tells_bytes → EachSince (IsRenewedIn s.guard s.journal) old new) c.self.view_is
+    (λ whole honest told.
+    stops_renewed guard journal (16 + length first) c.facts.ensures.schema c.facts.ensures.guarded c.in_ok-first.ensures.schema c.in_ok-first.ensures.snapshot few
+    (small_first first vec.items vec.len vec.cap (c.as_slice.ensures ∙ sym c.first.view_is) vec.ok.0 vec.ok.1 vec.small) old new stands honest told
+    (subst (λ (a : Area). IsTrue old.tells_bytes → IsSynced a old → StopsBy (Turns a (Creates First (journal.epoch + 1) (renewed guard) (16 + length first))) old new) c.other.ensures
+    (c.checkpoint.ensures.stops (renewed guard) frames)))
