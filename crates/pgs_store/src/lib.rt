@@ -1,8 +1,11 @@
-//! Deciding transactions on a graph under a schema, without a disk.
+//! Deciding transactions on a graph under a schema, without a disk and with one.
 //!
-//! The one rule: a [`Guard`] takes exactly the transactions that `decide` of `pgs_violation` accepts, and after each answer its graph
-//! conforms to its schema and is within its limits (`specs/State.antt`). How a change is judged is one function, in `judging`. A layer
-//! above puts a journal beside the guard, or prints its answers.
+//! The one rule of a [`Guard`]: it takes exactly the transactions that `decide` of `pgs_violation` accepts, and after each answer its
+//! graph conforms to its schema and is within its limits (`specs/State.antt`). How a change is judged is one function, in `judging`.
+//!
+//! A [`Store`] is a guard with a journal. The one rule: a transaction is on the disk before it is in the graph, and what is saved in
+//! both areas is always the guard's text, commits and graph (`specs/Stored.antt`). What its calls answer stands in `specs/Applies.antt`,
+//! `specs/Loads.antt`, `specs/Recovers.antt` and `specs/Checkpoints.antt`. A layer above prints the answers.
 #![tactic(auto)]
 
 mod applying;
@@ -11,10 +14,13 @@ mod explaining;
 mod fault;
 mod guard;
 mod judging;
+pub mod laws;
 mod loading;
 mod recovering;
 mod store;
 
-pub use fault::{ApplyFault, CheckpointFault, GuardFault, GuardRefusal, LoadFault, RecoverFault};
+pub use fault::{
+    ApplyFault, CheckpointFault, GuardFault, GuardRefusal, LoadFault, RecoverFault,
+};
 pub use guard::Guard;
 pub use store::Store;

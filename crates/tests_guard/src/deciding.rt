@@ -96,15 +96,6 @@ pub fn answers_within(
     answers_by::<Brand>(alloc, &mut guard, &limits, txns.as_slice(), Blank::new(1))
 }
 
-/// The guard of a schema after lines that it takes, under the limits of the program.
-pub fn guard_after(alloc: Global, schema: &str, lines: &[&str]) -> Result<Guard, Fail> {
-    let limits = Limits::standard();
-    let mut guard = guard(alloc, schema, limits)?;
-    let txns = txns(alloc, lines)?;
-    answers_by::<Brand>(alloc, &mut guard, &limits, txns.as_slice(), Blank::new(1))?;
-    Ok(guard)
-}
-
 /// The answers to lines by a guard of a schema, under the limits of the program.
 pub fn answers(alloc: Global, schema: &str, lines: &[&str]) -> Result<String, Fail> {
     answers_within(alloc, schema, Limits::standard(), lines)

@@ -7,8 +7,6 @@
 #[cfg(test)]
 mod deciding;
 #[cfg(test)]
-mod explaining;
-#[cfg(test)]
 mod keys;
 #[cfg(test)]
 mod limits;

@@ -51,7 +51,7 @@ returns-in-Ok-clause-answer g c =
     let old = g.W.World.view c.args.world.now in
     let new = g.W.World.view c.create.new.world in
     let quiet = c.refuse_occupied.ensures.quiet in
-    let guard = just_made c.in_ok-guard.guard c.args.text.now c.args.limits made.text made.limits made.empty made.commits in
+    let guard : c.in_ok-guard.guard ≡ opened c.args.text.now c.in_ok-guard.guard.schema c.args.limits = just_made c.in_ok-guard.guard c.args.text.now c.args.limits made.text made.limits made.empty made.commits in
     let journal : c.in-Ok.journal ≡ first_journal end =
     same_journal (first_journal end) c.in-Ok.journal (ap (λ (j : Journal). j.area) c.in-Ok.ensures.journal) (ap (λ (j : Journal). j.epoch) c.in-Ok.ensures.journal) end refl in
     let stands = load_stands c.args.limits c.args.text.now c.in_ok-guard.guard.schema payload end made.schema c.in_ok-frame.ensures.decoded (omega (arith, c.in-Ok.ensures.within))
