@@ -19,8 +19,6 @@ mod loading;
 mod recovering;
 mod store;
 
-pub use fault::{
-    ApplyFault, CheckpointFault, GuardFault, GuardRefusal, LoadFault, RecoverFault,
-};
+pub use fault::{ApplyFault, CheckpointFault, GuardFault, GuardRefusal, LoadFault, RecoverFault};
 pub use guard::Guard;
 pub use store::Store;
