@@ -134,7 +134,7 @@ fn every_failing_read(rt: HostRuntime) -> Result<(), Fail> {
 fn first_lines(text: &str, count: usize) -> &str {
     let mut end = 0;
     for line in text.split_inclusive('\n').take(count) {
-        end += line.len();
+        end = line.len().saturating_add(end);
     }
     text.get(..end).unwrap_or("")
 }
