@@ -123,6 +123,6 @@ pub each_put : (old : Graph) (nodes put new_nodes : List (NodeId × NodeTable)) 
     ((q : NodeId) → lookup (is_at (node_cmp q)) put ≡ rows_put q (lookup (is_at (node_cmp q)) nodes) changes) →
     ((q : NodeId) → lookup (is_at (node_cmp q)) new_nodes ≡ lists_put q (lookup (is_at (node_cmp q)) put) lists) →
     (q : NodeId) → lookup (is_at (node_cmp q)) new_nodes ≡ lists_put q (rows_put q (lookup (is_at (node_cmp q)) nodes) delta.nodes) (touched_edges old delta)
-each_put old nodes put new_nodes delta changes lists of_delta touched rows linked q =
+each_put old nodes put new_nodes delta changes new_lists of_delta touched rows linked q =
     linked q ∙ ap (lists_put q (lookup (is_at (node_cmp q)) put)) touched
     ∙ ap (λ o. lists_put q o (touched_edges old delta)) (rows q ∙ ap (rows_put q (lookup (is_at (node_cmp q)) nodes)) of_delta)
