@@ -2,6 +2,7 @@ pub mod Answers
 pub mod Areas
 pub mod Ending
 pub mod ExitStatus
+pub mod Images
 pub mod Input
 pub mod Part
 pub mod Pieces

@@ -1,0 +1,63 @@
+-- What the opening of a saved store answers, and which statuses a command has that needs one.
+use Rattle.std.specs.Prelude.{◌≡◌, ℕ, Bool, true, false, IsTrue, List, [], ◌∷◌, Result, Ok, Err}
+use Rattle.pgs_lines.specs.Machine.{Told}
+use Rattle.pgs_run_base.specs.declared.status.Status.{Status}
+use Rattle.pgs_run_base.specs.declared.status.Status.TheVariants.{BadWords, SchemaRefused, StoreRefused, DiskFault as AreaFailed, ReadFault, InputTooLong}
+use Rattle.pgs_run_base.specs.Answers.{schema_answer}
+use Rattle.pgs_run_base.specs.Areas.{areas_of}
+use Rattle.pgs_run_base.specs.Session.{standard}
+use Rattle.pgs_snapshot.specs.Saved.{saved, store}
+use Rattle.pgs_store.specs.Stored.{StoreState, StandsOn}
+use Rattle.pgs_world.specs.World.{View}
+use Rattle.pgs_run_saved.specs.declared.opening.Unopened.{Unopened}
+use Rattle.pgs_run_saved.specs.declared.opening.Unopened.TheVariants.{Refused, DiskFault, Memory}
+use Rattle.pgs_run_saved.specs.Refusing.{SavedStore, told_of_areas}
+
+abbrev pub is_disk_fault : {T : Type 0} → Result T Unopened → Bool
+is_disk_fault (Ok done) = false
+is_disk_fault (Err (Refused line status)) = false
+is_disk_fault (Err DiskFault) = true
+is_disk_fault (Err Memory) = false
+
+-- what a store is to the definitions of what is told
+abbrev pub saved_in : StoreState → SavedStore
+saved_in it = record { text = it.guard.text; schema = it.guard.schema; commits = it.guard.commits; graph = it.guard.graph }
+
+-- what is saved is opened, and stands on the world
+pub record IsOpened (it : StoreState) (old now : View) : Type 0 where
+  pub limits : it.guard.limits ≡ standard
+  pub whole : it.failed ≡ false
+  pub schema : schema_answer it.guard.text ≡ Ok it.guard.schema
+  pub saves : IsTrue old.tells_bytes → saved standard old.shown.a old.shown.b ≡ store it.guard.text it.guard.commits it.guard.graph
+  pub stands : StandsOn it.guard it.journal now
+
+-- the statuses of a refusal
+abbrev pub IsRefusal : Status → Type 0
+IsRefusal SchemaRefused = Unit {0}
+IsRefusal StoreRefused = Unit {0}
+IsRefusal status = ⊥
+
+-- whatever a command tells of a store, this is told of the two areas
+abbrev pub IsToldOf : View → List ℕ → Status → Type 0
+IsToldOf view line status = IsTrue view.tells_bytes → (go : SavedStore → Told Status)
+    → told_of_areas (areas_of view) go ≡ record { pieces = line ∷ []; status = status }
+
+abbrev pub Opens : Result StoreState Unopened → View → View → Type 0
+Opens (Ok it) old now = IsOpened it old now
+Opens (Err (Refused line status)) old now = IsRefusal status × IsToldOf old line status
+Opens (Err DiskFault) old now = Unit {0}
+Opens (Err Memory) old now = Unit {0}
+
+-- the statuses of a command that reads no input
+abbrev pub IsAnswer : Status → Type 0
+IsAnswer BadWords = ⊥
+IsAnswer ReadFault = ⊥
+IsAnswer InputTooLong = ⊥
+IsAnswer status = Unit {0}
+
+-- the statuses of a command that tells of an opened store
+abbrev pub IsTold : Status → Type 0
+IsTold SchemaRefused = ⊥
+IsTold StoreRefused = ⊥
+IsTold AreaFailed = ⊥
+IsTold status = IsAnswer status
