@@ -1,3 +1,4 @@
 pub mod Counts
 pub mod Drops
+pub mod Given
 pub mod Sweep
