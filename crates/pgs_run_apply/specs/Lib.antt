@@ -1,0 +1,6 @@
+pub mod Applying
+pub mod Committing
+pub mod Left
+pub mod Run
+pub mod State
+pub mod Told

@@ -1,0 +1,70 @@
+ghost use Rattle.std.specs.Prelude.{◌≡◌, ◌≤◌, ◌^◌, List, ℕ, Some, true, IsTrue};
+ghost use Rattle.pgs_feed.specs.Places.{lost_count};
+ghost use Rattle.pgs_feed.specs.Seen.{places};
+ghost use Rattle.pgs_lines.specs.Ending.{faults_of};
+ghost use Rattle.pgs_lines.specs.Pieces.{shown_of};
+ghost use Rattle.pgs_snapshot.specs.Saved.{saved, store};
+ghost use Rattle.pgs_world.specs.Moment.{EachSince, IsSettled, Passes};
+ghost use Rattle.pgs_run_base.specs.Areas.{areas_of};
+ghost use Rattle.pgs_run_base.specs.Images.{KeepsImages};
+ghost use Rattle.pgs_run_base.specs.Run.{IsRead, EndsAs, HasCommandCause};
+ghost use Rattle.pgs_run_base.specs.Session.{standard};
+ghost use Rattle.pgs_run_saved.specs.Refusing.{SavedStore};
+ghost use Rattle.pgs_run_apply.specs.Run.{Saves, IsAppliedAt, FeedsTook, IsEven};
+ghost use Rattle.pgs_run_apply.specs.Told.{told_apply};
+
+use crate::applying::Applying;
+use pgs_answer::feeds_lost_line;
+use pgs_feed::FeedList;
+use pgs_lines::{Stop, put_piece, run_lines};
+use pgs_run_base::{Status, TEXT_LIMIT, status_at};
+use pgs_run_saved::{end_unopened, open_store};
+use pgs_world::{Feed, Source, World};
+use std::alloc::Global;
+
+/// Runs `apply` over an input within a budget of bytes, at most 2^40, on the store that is saved in both areas, and answers the status.
+/// What it puts and answers is what `told_apply` tells, by the number of feeds that are lost after the last line. The areas are judged
+/// first; where they save no store nothing is read.
+pub fn run_apply<S: Source, W: World, F: Feed>(
+    alloc: Global,
+    source: &mut S,
+    world: &mut W,
+    feeds: &mut FeedList<F>,
+    budget: u64,
+) -> Status
+    requires { budget ≤ 2 ^ 40 }
+    ensures ends { IsTrue (W.view world.old).tells_bytes → (input : List ℕ) → S.left source.old ≡ Some input
+        → EndsAs (λ bytes. told_apply input (areas_of (W.view world.old)) bytes (lost_count (places F.taken F.faults feeds.new)))
+            (shown_of (W.view world.old)) input budget (S.left source.new) result (shown_of (W.view world.new)) }
+    ensures read_to_end { IsRead (S.left source.new) result }
+    ensures cause { HasCommandCause true true (faults_of (S.faults source.old) (W.view world.old)) (faults_of (S.faults source.new) (W.view world.new)) result }
+    ensures passes { Passes (W.view world.old) (W.view world.new) }
+    // What a stop during the run leaves.
+    ensures stops { (input : List ℕ) (it : SavedStore) → S.left source.old ≡ Some input → Saves it (W.view world.old).shown
+        → IsTrue (W.view world.old).tells_output → IsSettled (W.view world.old)
+        → EachSince (IsAppliedAt (W.view world.old).shown it input) (W.view world.old) (W.view world.new) }
+    // What the feeds took.
+    ensures fed { IsTrue (W.view world.old).tells_bytes → (input : List ℕ) (it : SavedStore) → S.left source.old ≡ Some input → Saves it (W.view world.old).shown
+        → FeedsTook it input (lost_count (places F.taken F.faults feeds.new)) (W.view world.old).puts (W.view world.new).puts
+            (places F.taken F.faults feeds.old) (places F.taken F.faults feeds.new) result }
+    // No want of memory comes between the journal and the verdict line.
+    ensures even { IsTrue (W.view world.old).tells_bytes → (input : List ℕ) (it : SavedStore) → S.left source.old ≡ Some input → Saves it (W.view world.old).shown
+        → result ≡ Status.Memory → IsEven it input (shown_of (W.view world.old)) (shown_of (W.view world.new)) (W.view world.new).shown }
+    // Where nothing is saved, nothing is written and no feed is given anything.
+    ensures unsaved { IsTrue (W.view world.old).tells_bytes
+        → ((it : SavedStore) → Saves it (W.view world.old).shown → ⊥)
+        → KeepsImages (W.view world.old) (W.view world.new) }
+    ensures unfed { IsTrue (W.view world.old).tells_bytes
+        → ((it : SavedStore) → Saves it (W.view world.old).shown → ⊥)
+        → places F.taken F.faults feeds.new ≡ places F.taken F.faults feeds.old }
+{
+    let store = match open_store(alloc, world) {
+        Ok(store) => store,
+        Err(unopened) => return end_unopened(world, unopened),
+    };
+    let given = mem::replace(feeds, FeedList::new(alloc));
+    let mut applying = Applying::new(store, given);
+    let stop = run_lines(&mut applying, alloc, source, world, TEXT_LIMIT, budget);
+    *feeds = applying.into_feeds();
+    end_run(alloc, world, stop, feeds.lost())
+}
