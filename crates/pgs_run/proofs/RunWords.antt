@@ -1,5 +1,5 @@
 -- The answers of a run, from those of the command that its words name.
-use Rattle.std.proofs.Common.{◌≡◌, ◌⊎◌, ℕ, ◌-◌, ◌<◌, true, List, [], length, Option, Some, None, refl, sym, ap, subst, inl, inr, ◌∙◌}
+use Rattle.std.proofs.Common.{◌≡◌, ◌⊎◌, ℕ, ◌-◌, ◌<◌, Bool, true, false, List, [], length, Option, Some, None, refl, sym, ap, subst, inl, inr, ◌∙◌}
 use Rattle.pgs_lines.specs.Ending.{Faults}
 use Rattle.pgs_lines.specs.Machine.{Told}
 use Rattle.pgs_lines.specs.Pieces.{Shown, ShowsAll, ShowsFirst}
@@ -11,10 +11,11 @@ use Rattle.pgs_run_base.specs.declared.status.Status.TheVariants.{Accepted, Refu
 use Rattle.pgs_run_base.specs.Areas.{Areas}
 use Rattle.pgs_run_base.specs.Ending.{Ends}
 use Rattle.pgs_run_base.specs.Run.{EndsAs, IsDisturbed, IsComplete, HasCommandCause}
+use Rattle.pgs_run_gen.proofs.Telling as workload
 use Rattle.pgs_run_try.specs.declared.judging.Judging.TheVariants.{EachLine, AtEnd}
 use Rattle.pgs_run_try.proofs.TryEnds.{never_cut}
 use Rattle.pgs_run.specs.declared.command.BuiltCommand.{BuiltCommand}
-use Rattle.pgs_run.specs.declared.command.BuiltCommand.TheVariants.{Try, Validate}
+use Rattle.pgs_run.specs.declared.command.BuiltCommand.TheVariants.{Try, Validate, Gen}
 use Rattle.pgs_run.specs.Command.{command_of, reads_source, uses_areas, IsTold}
 use Rattle.pgs_run.specs.Run.{RefusesWords, IsUndisturbed, HasRunCause}
 use Rattle.pgs_run.specs.Told.{told_of_words, told_command, told}
@@ -83,12 +84,18 @@ pub ends_memory : (tell : ℕ → Told Status) (start : Shown) (left : Option (L
 ends_memory tell start left input budget left_all =
     ends_unread tell start left start input budget Memory left_all (inr (inr refl)) (none_first start (tell budget).pieces)
 
+-- the words name a command that reads nothing, or are refused
+pub alone_told : (words : List (List ℕ)) (command : Option BuiltCommand) (areas : Areas) (start now : Shown) (input : List ℕ) (budget : ℕ) (status : Status) → command_of words ≡ command → Ends start (told_command command input areas budget 0) status now → Ends start (told words input areas budget 0) status now
+alone_told words command areas start now input budget status is ends =
+    subst (λ (t : Told Status). Ends start t status now) (sym (told_as words command input areas budget 0 is)) ends
+
 -- what is shown asks for the input only where it is read
-pub shown_told : (words : List (List ℕ)) (command : Option BuiltCommand) (areas : Areas) (view : View) (start : Shown) (before left : Option (List ℕ)) (now : Shown) (input : List ℕ) (budget : ℕ) (status : Status) → command_of words ≡ command → IsTold command before view input → (command ≡ None → Ends start told_of_words status now) → (before ≡ Some input → EndsAs (λ bytes. told words input areas bytes 0) start input budget left status now) → Ends start (told words input areas budget 0) status now
-shown_told words None areas view start before left now input budget status is known refused ends =
-    subst (λ (t : Told Status). Ends start t status now) (sym (told_as words None input areas budget 0 is)) (refused refl)
-shown_told words (Some Try) areas view start before left now input budget status is known refused ends = (ends (known.source refl)).shown
-shown_told words (Some Validate) areas view start before left now input budget status is known refused ends = (ends (known.source refl)).shown
+pub shown_told : (words : List (List ℕ)) (areas : Areas) (view : View) (start : Shown) (before left : Option (List ℕ)) (now : Shown) (input : List ℕ) (budget : ℕ) (status : Status) → IsTold (command_of words) before view input → (reads_source (command_of words) ≡ false → Ends start (told words input areas budget 0) status now) → (before ≡ Some input → EndsAs (λ bytes. told words input areas bytes 0) start input budget left status now) → Ends start (told words input areas budget 0) status now
+shown_told words areas view start before left now input budget status known alone ends = by (reads_source (command_of words)) refl
+  where
+    by : (reads : Bool) → reads_source (command_of words) ≡ reads → Ends start (told words input areas budget 0) status now
+    by true is = (ends (known.source is)).shown
+    by false is = alone is
 
 -- a run that nothing disturbed has the status told
 pub exact_of : (start now : Shown) (told : Told Status) (status : Status) → Ends start told status now → IsDisturbed status ⊎ (status ≡ told.status)
@@ -109,6 +116,7 @@ exact_of start now told DiskFault ends = inl (inr (inr (inr refl)))
 not_cut : (command : BuiltCommand) (input : List ℕ) (areas : Areas) (budget lost : ℕ) → (reads_source (Some command) ≡ true → length input < budget) → (told_command (Some command) input areas budget lost).status ≡ InputTooLong → ⊥
 not_cut Try input areas budget lost short = never_cut EachLine input budget (short refl)
 not_cut Validate input areas budget lost short = never_cut AtEnd input budget (short refl)
+not_cut (Gen start count) input areas budget lost short = workload.never_cut start count
 
 complete_by : (command : BuiltCommand) (start now : Shown) (told : Told Status) (status : Status) (old new : Faults) → (told.status ≡ InputTooLong → ⊥) → (told.status ≡ SchemaRefused → ⊥) → (told.status ≡ StoreRefused → ⊥) → IsUndisturbed (Some command) old new → HasRunCause (Some command) old new status → Ends start told status now → IsComplete start told status now
 complete_by command start now told Accepted old new cut schema store none cause ends = inr (inl refl, ends.0)

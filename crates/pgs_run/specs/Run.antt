@@ -9,7 +9,7 @@ use Rattle.pgs_run.specs.Command.{reads_source, uses_areas}
 
 -- A fault is answered only where its count rose, and then no other count rose; with any other answer each count is as before. A
 -- read fails only where the command reads its source. An area fails, and a store is refused, only where the command uses the
--- areas: `try` and `validate` never end so. Words are refused only where they are no command.
+-- areas: none of the commands of today ends so. Words are refused only where they are no command.
 abbrev pub HasRunCause : Option BuiltCommand → Faults → Faults → Status → Type 0
 HasRunCause command before now BadWords = (command ≡ None) × (now ≡ before)
 HasRunCause command before now StoreRefused = (uses_areas command ≡ true) × (now ≡ before)

@@ -5,9 +5,10 @@ use Rattle.pgs_lines.specs.Machine.{Told}
 use Rattle.pgs_run_base.specs.declared.status.Status.{Status}
 use Rattle.pgs_run_base.specs.declared.status.Status.TheVariants.{BadWords}
 use Rattle.pgs_run_base.specs.Areas.{Areas}
+use Rattle.pgs_run_gen.specs.Told.{told_gen}
 use Rattle.pgs_run_try.specs.Told.{told_try, told_validate}
 use Rattle.pgs_run.specs.declared.command.BuiltCommand.{BuiltCommand}
-use Rattle.pgs_run.specs.declared.command.BuiltCommand.TheVariants.{Try, Validate}
+use Rattle.pgs_run.specs.declared.command.BuiltCommand.TheVariants.{Try, Validate, Gen}
 use Rattle.pgs_run.specs.Command.{command_of}
 
 -- what a run tells of words that are refused
@@ -19,6 +20,7 @@ abbrev pub told_command : Option BuiltCommand → List ℕ → Areas → ℕ →
 told_command None input areas budget lost = told_of_words
 told_command (Some Try) input areas budget lost = told_try input budget
 told_command (Some Validate) input areas budget lost = told_validate input budget
+told_command (Some (Gen start count)) input areas budget lost = told_gen start count
 
 -- what a run tells of its words, its input, both areas, its budget and the number of feeds that are lost after its last line
 unfoldable pub told : List (List ℕ) → List ℕ → Areas → ℕ → ℕ → Told Status

@@ -1,5 +1,5 @@
-ghost use Rattle.std.specs.Prelude.{◌≡◌, IfOk};
-ghost use Rattle.pgs_run.specs.Command.{built, command_of};
+ghost use Rattle.std.specs.Prelude.{◌≡◌, IfOk, IfSome};
+ghost use Rattle.pgs_run.specs.Command.{IsInRange, built, command_of};
 
 use pgs_base::{Memory, Words};
 use pgs_words::Command;
@@ -12,6 +12,8 @@ pub enum BuiltCommand {
     Try,
     /// A schema and lines of transactions, judged as a whole; nothing is stored.
     Validate,
+    /// A workload that is made from a number, decided and summed up; nothing is read or stored.
+    Gen { start: u64, count: u64 },
 }
 
 // A command, where it is built.
@@ -21,6 +23,7 @@ fn built(command: Command) -> Option<BuiltCommand>
     match command {
         Command::Try => Some(BuiltCommand::Try),
         Command::Validate => Some(BuiltCommand::Validate),
+        Command::Gen { start, count } => Some(BuiltCommand::Gen { start, count }),
         _ => None,
     }
 }
@@ -28,7 +31,8 @@ fn built(command: Command) -> Option<BuiltCommand>
 /// The command that the words name. `None` is exactly where they are refused.
 #[tactic(auto, unfolding(crate::specs::Command::command_of))]
 pub fn command_of(alloc: Global, words: &Words) -> Result<Option<BuiltCommand>, Memory>
-    ensures { IfOk result (λ command. command ≡ command_of words.now) }
+    ensures command { IfOk result (λ command. command ≡ command_of words.now) }
+    ensures in_range { IfOk result (λ command. IfSome command IsInRange) }
 {
     match pgs_words::command_of(alloc, words)? {
         Some(command) => Ok(built(command)),

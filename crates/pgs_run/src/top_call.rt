@@ -5,7 +5,7 @@ ghost use Rattle.pgs_lines.specs.Pieces.{shown_of, ShowsAll};
 ghost use Rattle.pgs_run_base.specs.Areas.{areas_of};
 ghost use Rattle.pgs_run_base.specs.Ending.{Ends};
 ghost use Rattle.pgs_run_base.specs.Run.{IsRead, EndsAs, IsDisturbed, IsComplete};
-ghost use Rattle.pgs_run.specs.Command.{command_of, reads_source, IsTold};
+ghost use Rattle.pgs_run.specs.Command.{command_of, reads_source, IsInRange, IsTold};
 ghost use Rattle.pgs_run.specs.Run.{HasRunCause, RefusesWords, IsUndisturbed};
 ghost use Rattle.pgs_run.specs.Told.{told_of_words, told_command, told};
 
@@ -14,6 +14,7 @@ use crate::command::{BuiltCommand, command_of};
 use pgs_answer::words_refused_line;
 use pgs_base::Words;
 use pgs_lines::put_piece;
+use pgs_run_gen::run_gen;
 use pgs_run_try::{Judging, run_judging};
 use pgs_world::{Source, World};
 use std::alloc::Global;
@@ -29,9 +30,12 @@ fn run_command<S: Source, W: World>(
     world: &mut W,
     budget: u64,
 ) -> Status
-    requires { budget ≤ 2 ^ 40 }
+    requires within { budget ≤ 2 ^ 40 }
+    requires in_range { IsInRange command }
     ensures ends { (input : List ℕ) → S.left source.old ≡ Some input
         → EndsAs (λ bytes. told_command (Some command) input (areas_of (W.view world.old)) bytes 0) (shown_of (W.view world.old)) input budget (S.left source.new) result (shown_of (W.view world.new)) }
+    ensures alone { (input : List ℕ) → reads_source (Some command) ≡ false
+        → Ends (shown_of (W.view world.old)) (told_command (Some command) input (areas_of (W.view world.old)) budget 0) result (shown_of (W.view world.new)) }
     ensures unread { reads_source (Some command) ≡ false → S.left source.new ≡ S.left source.old }
     ensures no_read_fault { reads_source (Some command) ≡ false → S.faults source.new ≡ S.faults source.old }
     ensures read_to_end { reads_source (Some command) ≡ true → IsRead (S.left source.new) result }
@@ -41,6 +45,7 @@ fn run_command<S: Source, W: World>(
     match command {
         BuiltCommand::Try => run_judging(alloc, Judging::EachLine, source, world, budget),
         BuiltCommand::Validate => run_judging(alloc, Judging::AtEnd, source, world, budget),
+        BuiltCommand::Gen { start, count } => run_gen(alloc, world, start, count),
     }
 }
 
@@ -72,7 +77,8 @@ fn run_words<S: Source, W: World>(
     requires { budget ≤ 2 ^ 40 }
     ensures ends { (input : List ℕ) → S.left source.old ≡ Some input
         → EndsAs (λ bytes. told words.now input (areas_of (W.view world.old)) bytes 0) (shown_of (W.view world.old)) input budget (S.left source.new) result (shown_of (W.view world.new)) }
-    ensures refused { command_of words.now ≡ None → Ends (shown_of (W.view world.old)) told_of_words result (shown_of (W.view world.new)) }
+    ensures alone { (input : List ℕ) → reads_source (command_of words.now) ≡ false
+        → Ends (shown_of (W.view world.old)) (told words.now input (areas_of (W.view world.old)) budget 0) result (shown_of (W.view world.new)) }
     ensures words_alone { reads_source (command_of words.now) ≡ false → S.left source.new ≡ S.left source.old }
     ensures words_no_fault { reads_source (command_of words.now) ≡ false → S.faults source.new ≡ S.faults source.old }
     ensures words { command_of words.now ≡ None → RefusesWords result }
