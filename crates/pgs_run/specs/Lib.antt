@@ -1,3 +1,5 @@
 pub mod Command
+pub mod Leaving
 pub mod Run
+pub mod Runs
 pub mod Told

@@ -4,13 +4,13 @@ use Rattle.pgs_lines.specs.Ending.{Faults, ReadsRose, AreasRose, PutsRose}
 use Rattle.pgs_world.specs.Count.{Rose}
 use Rattle.pgs_run_base.specs.declared.status.Status.{Status}
 use Rattle.pgs_run_base.specs.declared.status.Status.TheVariants.{BadWords, StoreRefused, DiskFault, ReadFault, PutFault, Memory}
-use Rattle.pgs_run.specs.declared.command.BuiltCommand.{BuiltCommand}
+use Rattle.pgs_words.specs.declared.command.Command.{Command}
 use Rattle.pgs_run.specs.Command.{reads_source, uses_areas}
 
 -- A fault is answered only where its count rose, and then no other count rose; with any other answer each count is as before. A
 -- read fails only where the command reads its source. An area fails, and a store is refused, only where the command uses the
--- areas: none of the commands of today ends so. Words are refused only where they are no command.
-abbrev pub HasRunCause : Option BuiltCommand → Faults → Faults → Status → Type 0
+-- areas. Words are refused only where they are no command.
+abbrev pub HasRunCause : Option Command → Faults → Faults → Status → Type 0
 HasRunCause command before now BadWords = (command ≡ None) × (now ≡ before)
 HasRunCause command before now StoreRefused = (uses_areas command ≡ true) × (now ≡ before)
 HasRunCause command before now DiskFault = (uses_areas command ≡ true) × AreasRose before now
@@ -23,7 +23,7 @@ abbrev pub RefusesWords : Status → Type 0
 RefusesWords status = (status ≡ BadWords) ⊎ ((status ≡ PutFault) ⊎ (status ≡ Memory))
 
 -- no count rose of a fault that the command may meet
-pub record IsUndisturbed (command : Option BuiltCommand) (before now : Faults) : Type 0 where
+pub record IsUndisturbed (command : Option Command) (before now : Faults) : Type 0 where
   pub reads : reads_source command ≡ true → Rose before.reads now.reads → ⊥
   pub areas : uses_areas command ≡ true → Rose before.areas now.areas → ⊥
   pub puts : Rose before.puts now.puts → ⊥

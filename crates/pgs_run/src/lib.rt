@@ -1,11 +1,13 @@
-//! The run of a command over a source of bytes and a world: `run` is the call that the program makes.
+//! The run of a command over a source of bytes, a world and feeds: `run` is the call that the program makes.
 //!
-//! The words name a command (`specs/Command.antt`), and each command is a crate below. What the run puts and how it ends is what `told`
-//! tells of the words, the input, both areas and the budget (docs/DEFINITIONS.md, "What a run tells").
+//! The words name a command, and each command is a crate below. What the run puts and how it ends is what `told` tells of the words, the
+//! input, both areas, the budget and the feeds that are lost (docs/DEFINITIONS.md, "What a run tells"); what it leaves at every moment
+//! and what its feeds took stands in `specs/Leaving.antt`.
 #![tactic(auto)]
 
-mod command;
+mod commands;
 mod top_call;
+mod words;
 
 pub use pgs_run_base::Status;
 pub use top_call::{BUDGET, run, run_within};

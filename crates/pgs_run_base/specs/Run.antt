@@ -35,6 +35,11 @@ pub record EndsAs (tell : ℕ → Told Status) (start : Shown) (input : List ℕ
   pub within : (rest : List ℕ) → left ≡ Some rest → length input ≤ budget + length rest
   pub too_long : (rest : List ℕ) → left ≡ Some rest → status ≡ InputTooLong → length input ≡ budget + length rest
 
+-- Never more than the budget is taken, and all of it where the input is too long.
+pub record TakesWithin (input : List ℕ) (budget : ℕ) (rest : List ℕ) (status : Status) : Type 0 where
+  pub within : length input ≤ budget + length rest
+  pub too_long : status ≡ InputTooLong → length input ≡ budget + length rest
+
 -- a fault or want of memory disturbed the run
 abbrev pub IsDisturbed : Status → Type 0
 IsDisturbed status = (status ≡ ReadFault) ⊎ ((status ≡ PutFault) ⊎ ((status ≡ Memory) ⊎ (status ≡ DiskFault)))

@@ -1,0 +1,45 @@
+ghost use Rattle.std.specs.Prelude.{◌≤◌, ◌^◌, Some};
+ghost use Rattle.pgs_feed.specs.Seen.{places};
+ghost use Rattle.pgs_run.specs.Command.{IsInRange};
+ghost use Rattle.pgs_run.specs.Runs.{Runs, setting_of};
+
+use pgs_feed::FeedList;
+use pgs_run_apply::run_apply;
+use pgs_run_base::Status;
+use pgs_run_checkpoint::run_checkpoint;
+use pgs_run_explain::Explaining;
+use pgs_run_gen::run_gen;
+use pgs_run_load::run_load;
+use pgs_run_recover::Dump;
+use pgs_run_saved::run_reader;
+use pgs_run_try::{Judging, run_judging};
+use pgs_words::Command;
+use pgs_world::{Feed, Source, World};
+use std::alloc::Global;
+
+/// Runs a command.
+pub fn run_command<S: Source, W: World, F: Feed>(
+    alloc: Global,
+    command: Command,
+    source: &mut S,
+    world: &mut W,
+    feeds: &mut FeedList<F>,
+    budget: u64,
+) -> Status
+    requires within { budget ≤ 2 ^ 40 }
+    requires in_range { IsInRange command }
+    ensures { let seen = places F.taken F.faults in Runs (Some command) budget
+        (setting_of (S.left source.old) (S.faults source.old) (W.view world.old) (seen feeds.old))
+        (setting_of (S.left source.new) (S.faults source.new) (W.view world.new) (seen feeds.new)) result }
+{
+    match command {
+        Command::Try => run_judging(alloc, Judging::EachLine, source, world, budget),
+        Command::Validate => run_judging(alloc, Judging::AtEnd, source, world, budget),
+        Command::Load => run_load(alloc, source, world, budget),
+        Command::Apply => run_apply(alloc, source, world, feeds, budget),
+        Command::Recover => run_reader(alloc, world, &Dump),
+        Command::Explain { elem } => run_reader(alloc, world, &Explaining { elem }),
+        Command::Gen { start, count } => run_gen(alloc, world, start, count),
+        Command::Checkpoint => run_checkpoint(alloc, world),
+    }
+}
