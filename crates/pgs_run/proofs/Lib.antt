@@ -1,2 +1,4 @@
 pub mod InRange
+pub mod RunFacts
 pub mod RunWords
+pub mod Uncut

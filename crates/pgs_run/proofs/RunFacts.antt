@@ -1,0 +1,93 @@
+-- The facts of a run, from those of its command.
+use Rattle.std.proofs.Common.{◌≡◌, ◌⊎◌, ℕ, ◌-◌, Bool, true, false, List, [], length, Option, Some, None, refl, sym, ap, subst, inl, inr, ◌∙◌}
+use Rattle.pgs_feed.specs.Places.{Place, lost_count}
+use Rattle.pgs_lines.specs.Ending.{Faults, faults_of}
+use Rattle.pgs_lines.specs.Machine.{Told}
+use Rattle.pgs_lines.specs.Pieces.{Shown, ShowsAll, ShowsFirst, shown_of}
+use Rattle.pgs_lines.proofs.RunEnds.{within_unread}
+use Rattle.pgs_lines.proofs.Showing.{shows_none}
+use Rattle.pgs_words.specs.declared.command.Command.{Command}
+use Rattle.pgs_world.specs.World.{View}
+use Rattle.pgs_run_base.specs.declared.status.Status.{Status}
+use Rattle.pgs_run_base.specs.declared.status.Status.TheVariants.{Accepted, Refused, BadWords, SchemaRefused, StoreRefused, DiskFault, ReadFault, PutFault, Memory, InputTooLong}
+use Rattle.pgs_run_base.specs.Areas.{Areas, areas_of}
+use Rattle.pgs_run_base.specs.Ending.{Ends}
+use Rattle.pgs_run_base.specs.Run.{IsRead, EndsAs, HasCommandCause, TakesWithin}
+use Rattle.pgs_run.specs.Command.{reads_source, uses_areas, IsTold}
+use Rattle.pgs_run.specs.Leaving.{Leaves, Feeds}
+use Rattle.pgs_run.specs.Run.{HasRunCause}
+use Rattle.pgs_run.specs.Runs.{SourceState, Setting, Runs}
+use Rattle.pgs_run.specs.Told.{told_command}
+
+-- the cause that a command's own clause tells
+pub cause_of : (command : Command) (old new : Faults) (status : Status) → HasCommandCause (reads_source (Some command)) (uses_areas (Some command)) old new status → HasRunCause (Some command) old new status
+cause_of command old new Accepted cause = cause
+cause_of command old new Refused cause = cause
+cause_of command old new BadWords cause = absurd cause
+cause_of command old new SchemaRefused cause = cause
+cause_of command old new StoreRefused cause = cause
+cause_of command old new DiskFault cause = cause
+cause_of command old new ReadFault cause = cause
+cause_of command old new PutFault cause = cause
+cause_of command old new Memory cause = cause
+cause_of command old new InputTooLong cause = cause
+
+-- the statuses of a run that reads nothing
+abbrev pub IsUnread : Status → Type 0
+IsUnread status = (status ≡ ReadFault → ⊥) × (status ≡ InputTooLong → ⊥)
+
+-- an unread source
+pub ends_unread : (tell : ℕ → Told Status) (start : Shown) (left : Option (List ℕ)) (now : Shown) (input : List ℕ) (budget : ℕ) (status : Status) → left ≡ Some input → IsUnread status → Ends start (tell budget) status now → EndsAs tell start input budget left status now
+ends_unread tell start left now input budget status left_all unread ends = record {
+  shown = ends;
+  read_fault = λ rest left_is fault. absurd (unread.0 fault);
+  within = λ rest left_is. within_unread input rest budget left left_all left_is;
+  too_long = λ rest left_is cut. absurd (unread.1 cut);
+}
+
+takes_unread : (left : Option (List ℕ)) (input rest : List ℕ) (budget : ℕ) (status : Status) → left ≡ Some input → left ≡ Some rest → IsUnread status → TakesWithin input budget rest status
+takes_unread left input rest budget status left_all left_is unread = record {
+  within = within_unread input rest budget left left_all left_is;
+  too_long = λ cut. absurd (unread.1 cut);
+}
+
+-- a command that reads nothing, or refused words
+pub runs_alone : (command : Option Command) (budget : ℕ) (source : SourceState) (old new : View) (before after : List Place) (status : Status) → reads_source command ≡ false → IsUnread status
+    → ((input : List ℕ) → IsTold command source.left old input → Ends (shown_of old) (told_command command input (areas_of old) budget (lost_count after)) status (shown_of new))
+    → HasRunCause command (faults_of source.faults old) (faults_of source.faults new) status
+    → Leaves command source.left (lost_count after) old new → Feeds command source.left old new before after status
+    → Runs command budget (record { source = source; view = old; places = before }) (record { source = source; view = new; places = after }) status
+runs_alone command budget source old new before after status alone unread shown cause leaves fed = record {
+  ends = λ input known left_is. ends_unread (λ bytes. told_command command input (areas_of old) bytes (lost_count after)) (shown_of old) source.left (shown_of new) input budget status left_is unread (shown input known);
+  takes = λ input rest left_all left_is. takes_unread source.left input rest budget status left_all left_is unread;
+  alone = λ input known reads. shown input known;
+  unread = λ reads. refl;
+  read_to_end = λ reads. let no = sym alone ∙ reads in cc;
+  cause = cause;
+  leaves = leaves;
+  fed = fed;
+}
+
+-- a command that reads its source
+pub runs_reading : (command : Command) (budget : ℕ) (old new : Setting) (status : Status) → reads_source (Some command) ≡ true
+    → ((input : List ℕ) → IsTold (Some command) old.source.left old.view input → old.source.left ≡ Some input
+        → EndsAs (λ bytes. told_command (Some command) input (areas_of old.view) bytes (lost_count new.places)) (shown_of old.view) input budget new.source.left status (shown_of new.view))
+    → ((input rest : List ℕ) → old.source.left ≡ Some input → new.source.left ≡ Some rest → TakesWithin input budget rest status)
+    → IsRead new.source.left status
+    → HasCommandCause true (uses_areas (Some command)) (faults_of old.source.faults old.view) (faults_of new.source.faults new.view) status
+    → Leaves (Some command) old.source.left (lost_count new.places) old.view new.view → Feeds (Some command) old.source.left old.view new.view old.places new.places status
+    → Runs (Some command) budget old new status
+runs_reading command budget old new status reads ends takes read cause leaves fed = record {
+  ends = ends;
+  takes = takes;
+  alone = λ input known no. let e = sym reads ∙ no in cc;
+  unread = λ no. let e = sym reads ∙ no in cc;
+  read_to_end = λ r. read;
+  cause = cause_of command (faults_of old.source.faults old.view) (faults_of new.source.faults new.view) status (subst (λ (b : Bool). HasCommandCause b (uses_areas (Some command)) (faults_of old.source.faults old.view) (faults_of new.source.faults new.view) status) (sym reads) cause);
+  leaves = leaves;
+  fed = fed;
+}
+
+-- no piece was put
+pub none_first : (start : Shown) (pieces : List (List ℕ)) → ShowsFirst start pieces start
+none_first start pieces = record { first = []; later = pieces; parts = refl; shows = shows_none start }
