@@ -5,6 +5,8 @@
 #[cfg(test)]
 mod budgets;
 #[cfg(test)]
+mod feeds;
+#[cfg(test)]
 mod keys;
 #[cfg(test)]
 mod lengths;
@@ -16,6 +18,12 @@ mod ran;
 mod refusals;
 #[cfg(test)]
 mod social;
+#[cfg(test)]
+mod social_store;
+#[cfg(test)]
+mod store_runs;
+#[cfg(test)]
+mod stores;
 #[cfg(test)]
 mod types;
 #[cfg(test)]

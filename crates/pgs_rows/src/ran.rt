@@ -1,6 +1,7 @@
 use pgs_base::{List, Memory, Words};
+use pgs_feed::FeedList;
 use pgs_run::{BUDGET, Status, run, run_within};
-use pgs_world::{MemSource, MemWorld};
+use pgs_world::{MemFeed, MemSource, MemWorld};
 use std::alloc::Global;
 
 /// The bytes and the calls that the output of a test has room for.
@@ -67,11 +68,12 @@ pub fn run_with(
     let bytes = List::from_slice(alloc, input)?;
     let mut source = MemSource::new(bytes, setting.piece.max(1), reads);
     let mut world = MemWorld::new(alloc, List::new(alloc), List::new(alloc), ROOM, puts)?;
+    let mut feeds: FeedList<MemFeed> = FeedList::new(alloc);
     let budget = setting.budget.max(1).min(BUDGET);
     let status = if budget == BUDGET {
-        run(alloc, words, &mut source, &mut world)
+        run(alloc, words, &mut source, &mut world, &mut feeds)
     } else {
-        run_within(alloc, words, &mut source, &mut world, budget)
+        run_within(alloc, words, &mut source, &mut world, &mut feeds, budget)
     };
     let output = Vec::from_slice(alloc, world.output())?;
     Ok(Ran { output, status })

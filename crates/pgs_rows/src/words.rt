@@ -12,7 +12,20 @@ const ROWS: &[Row] = &[
     ("apply,-x,", ONE_NODE, "words refused 35\n", 2),
     ("explain,s,x1,", ONE_NODE, "words refused 35\n", 2),
     ("try,x,", ONE_NODE, "words refused 35\n", 2),
-    ("load,s,", ONE_NODE, "words refused 35\n", 2),
+    ("load,", ONE_NODE, "words refused 35\n", 2),
+    ("gen,7,500001,", "", "words refused 35\n", 2),
+    (
+        "gen,5,6,",
+        "",
+        "gen committed=6 refused=0 nodes=6 edges=5 in1=4\n",
+        0,
+    ),
+    (
+        "gen,5,0,",
+        "",
+        "gen committed=0 refused=0 nodes=0 edges=0 in1=0\n",
+        0,
+    ),
     ("Validate,", ONE_NODE, "words refused 35\n", 2),
 ];
 
