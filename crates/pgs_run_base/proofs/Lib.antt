@@ -1,5 +1,6 @@
 pub mod Following
 pub mod Images
+pub mod Joining
 pub mod ReadLines
 pub mod SameFronts
 pub mod Separating

@@ -1,12 +1,13 @@
 -- A line or a text and its front say the same, since what is too long is refused.
-use Rattle.std.proofs.Common.{◌≡◌, ℕ, ◌<◌, true, false, ◌==◌, nat_le, nat_lt, List, length, Err, codes, refl, arith}
+use Rattle.std.proofs.Common.{◌≡◌, ℕ, ◌<◌, Bool, true, false, ◌==◌, nat_le, nat_lt, List, length, Ok, Err, codes, refl, sym, ◌∙◌, arith}
 use Rattle.std.specs.Cmp.Lexicographic.{unequal}
 use Rattle.std.proofs.lemmas.Bool.Decides.{nat_tests}
 use Rattle.pgs_base.specs.Graph.{Graph}
 use Rattle.pgs_lines.specs.Input.{is_blank}
-use Rattle.pgs_lines.proofs.Fronts.{same_of_front}
+use Rattle.pgs_lines.proofs.Fronts.{front_whole, same_of_front}
 use Rattle.pgs_parser.specs.Text.{found}
 use Rattle.pgs_resolve.specs.SchemaOf.{schema_of}
+use Rattle.pgs_syntax.specs.declared.resolved.Resolved.{Resolved}
 use Rattle.pgs_violation.specs.declared.violation.Verdict.{Verdict}
 use Rattle.pgs_answer.specs.Refusals.{too_long_text, line_too_long_text}
 use Rattle.pgs_run_base.specs.Answers.{schema_answer, txn_answer}
@@ -30,6 +31,16 @@ long_schema text long = rw (is_long (length text) long).1 refl
 
 pub schema_of_front : (text : List ℕ) → schema_answer (text_front text) ≡ schema_answer text
 schema_of_front text = same_of_front text_limit schema_answer (Err too_long_text) text long_schema
+
+whole_within : (text : List ℕ) (schema : Resolved) (long : Bool) → nat_lt text_limit (length text) ≡ long → schema_answer text ≡ Ok schema → text_front text ≡ text
+whole_within text schema false e is = front_whole text_limit text (grind (arith, nat_tests))
+whole_within text schema true e is =
+    let h : text_limit < length text = grind (arith, nat_tests) in
+    let no : Ok schema ≡ Err too_long_text = sym is ∙ long_schema text h in cc
+
+-- a text whose front is a schema is no longer than its front
+pub whole_text : (text : List ℕ) (schema : Resolved) → schema_answer text ≡ Ok schema → text_front text ≡ text
+whole_text text schema is = whole_within text schema (nat_lt text_limit (length text)) refl is
 
 long_blank : (line : List ℕ) → text_limit < length line → is_skipped line ≡ false
 unfolding is_blank

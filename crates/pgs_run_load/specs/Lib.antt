@@ -1,3 +1,4 @@
 pub mod Collecting
 pub mod Loading
+pub mod Replying
 pub mod Told

@@ -1,11 +1,10 @@
 ghost use Rattle.std.specs.Prelude.{◌≡◌};
-ghost use Rattle.pgs_lines.specs.Areas.{keeps_areas};
 ghost use Rattle.pgs_run_base.specs.Part.{no_part};
-ghost use Rattle.pgs_run_load.specs.Collecting.{collecting};
+ghost use Rattle.pgs_run_load.specs.Collecting.{collecting, leaves_world, collected};
 
 use pgs_base::Bytes;
 use pgs_lines::{LineTaker, Stop};
-use pgs_run_base::SchemaPart;
+use pgs_run_base::{SchemaPart, Status};
 use pgs_world::World;
 use std::alloc::Global;
 
@@ -40,9 +39,11 @@ impl LineTaker for Collecting {
 
     ghost machine = { collecting };
 
-    ghost rule = { keeps_areas collecting };
+    ghost rule = { leaves_world };
 
     ghost stands = { λ taker. taker.part };
+
+    ghost kept = { λ taker. tt };
 
     fn end_line<W: World>(
         &mut self,
@@ -68,5 +69,19 @@ impl LineTaker for Collecting {
 
     fn end_budget(&self) -> Collected {
         Collected::Cut
+    }
+}
+
+/// The text that was collected, or the status of a run over lines that ended with none.
+pub fn text_of(stop: Stop<Collected>) -> Result<Bytes, Status>
+    ensures { result ≡ collected stop }
+{
+    match stop {
+        Stop::Ended(Collected::Text(text)) => Ok(text),
+        Stop::Ended(Collected::Cut) => Err(Status::InputTooLong),
+        Stop::ReadFault => Err(Status::ReadFault),
+        Stop::AreaFault => Err(Status::DiskFault),
+        Stop::PutFault => Err(Status::PutFault),
+        Stop::Memory => Err(Status::Memory),
     }
 }

@@ -6,6 +6,7 @@
 
 mod collecting;
 mod loading;
+mod replying;
 mod run;
 
 pub use run::run_load;

@@ -9,9 +9,9 @@ ghost use Rattle.pgs_run_base.specs.Run.{IsRead, EndsAs, HasCommandCause};
 ghost use Rattle.pgs_run_load.specs.Loading.{IsLoadingAt};
 ghost use Rattle.pgs_run_load.specs.Told.{told_load};
 
-use crate::collecting::{Collected, Collecting};
+use crate::collecting::{Collecting, text_of};
 use crate::loading::load_text;
-use pgs_lines::{Stop, run_lines};
+use pgs_lines::run_lines;
 use pgs_run_base::{Status, TEXT_LIMIT};
 use pgs_world::{Source, World};
 use std::alloc::Global;
@@ -38,12 +38,9 @@ pub fn run_load<S: Source, W: World>(
     ensures occupied { (FindsNone (W.view world.old) → ⊥) → KeepsImages (W.view world.old) (W.view world.new) }
 {
     let mut collecting = Collecting::new(alloc);
-    match run_lines(&mut collecting, alloc, source, world, TEXT_LIMIT, budget) {
-        Stop::Ended(Collected::Text(text)) => load_text(alloc, text.as_slice(), world),
-        Stop::Ended(Collected::Cut) => Status::InputTooLong,
-        Stop::ReadFault => Status::ReadFault,
-        Stop::AreaFault => Status::DiskFault,
-        Stop::PutFault => Status::PutFault,
-        Stop::Memory => Status::Memory,
+    let stop = run_lines(&mut collecting, alloc, source, world, TEXT_LIMIT, budget);
+    match text_of(stop) {
+        Ok(text) => load_text(alloc, text.as_slice(), world),
+        Err(status) => status,
     }
 }

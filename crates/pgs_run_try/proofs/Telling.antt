@@ -1,19 +1,19 @@
 -- What lines tell when one more line ends.
-use Rattle.std.proofs.Common.{◌≡◌, ℕ, Bool, true, false, not, cond, List, [], ◌∷◌, ◌++◌, Result, Ok, Err, refl, sym, ap, subst, ◌∙◌, append_assoc}
+use Rattle.std.proofs.Common.{◌≡◌, ℕ, Bool, true, false, not, cond, List, [], ◌∷◌, ◌++◌, Result, Ok, Err, refl, sym, ap, subst, ◌∙◌}
 use Rattle.std.specs.List.{list_any, join_with_byte}
 use Rattle.std.proofs.lemmas.List.{append-nil}
 use Rattle.pgs_lines.specs.Machine.{Told}
-use Rattle.pgs_lines.proofs.Fronts.{front_left, front_right, front_front}
 use Rattle.pgs_syntax.specs.declared.resolved.Resolved.{Resolved}
 use Rattle.pgs_run_base.specs.declared.status.Status.{Status}
 use Rattle.pgs_run_base.specs.declared.status.Status.TheVariants.{SchemaRefused}
 use Rattle.pgs_run_base.specs.Answers.{schema_answer}
-use Rattle.pgs_run_base.specs.Input.{text_limit, text_front, is_separator, schema_part, after_separator}
-use Rattle.pgs_run_base.specs.Part.{Part, with_line, has_none}
+use Rattle.pgs_run_base.specs.Input.{text_front, is_separator, schema_part, after_separator}
+use Rattle.pgs_run_base.specs.Part.{Part, with_line}
 use Rattle.pgs_run_base.specs.Session.{after_line, after_lines, pieces_of_line, pieces_of_lines}
 use Rattle.pgs_run_base.proofs.Following.{after_lines-append, pieces_of_lines-append, pieces_of_one}
+use Rattle.pgs_run_base.proofs.Joining.{has_some, begun_more, text_of_more}
 use Rattle.pgs_run_base.proofs.SameFronts.{separator_of_front, schema_of_front, after_front, pieces_of_front}
-use Rattle.pgs_run_base.proofs.Separating.{HasOne, HasNo, any-append, before-append, after-append, before-first, after-first, join_more}
+use Rattle.pgs_run_base.proofs.Separating.{HasOne, HasNo, any-append, before-append, after-append, before-first, after-first}
 use Rattle.pgs_run_try.specs.declared.judging.Judging.{Judging}
 use Rattle.pgs_run_try.specs.declared.phase.Phase.{Phase}
 use Rattle.pgs_run_try.specs.declared.phase.Phase.TheVariants.{Schema, Lines, Refused}
@@ -47,35 +47,6 @@ pub told_without : (judging : Judging) (lines : List (List ℕ)) → HasNo lines
 told_without judging lines none = rw none refl
 
 -- ---- the schema part goes on
-
-has_some : (lines : List (List ℕ)) (line : List ℕ) → has_none (lines ++ line ∷ []) ≡ false
-has_some [] line = refl
-has_some (x ∷ xs) line = refl
-
-text_more : (part : Part) (text line : List ℕ) → part.begun ≡ true → part.text ≡ text_front text → (with_line part (text_front line)).text ≡ text_front (text ++ 10 ∷ line)
-unfolding with_line
-text_more part text line begun is =
-    rw (begun, is)
-    (front_left text_limit (text_front text ++ 10 ∷ []) (text_front line)
-    ∙ ap text_front (append_assoc (text_front text) (10 ∷ []) (text_front line))
-    ∙ front_left text_limit text (10 ∷ text_front line)
-    ∙ ap text_front (sym (append_assoc text (10 ∷ []) (text_front line)))
-    ∙ front_right text_limit (text ++ 10 ∷ []) line
-    ∙ ap text_front (append_assoc text (10 ∷ []) line))
-
-text_first : (part : Part) (line : List ℕ) → part.begun ≡ false → part.text ≡ text_front [] → (with_line part (text_front line)).text ≡ text_front line
-unfolding with_line
-text_first part line begun is = rw (begun, is) (front_left text_limit [] (text_front line) ∙ front_front text_limit line)
-
-begun_more : (part : Part) (line : List ℕ) (begun : Bool) → part.begun ≡ begun → (with_line part line).begun ≡ true
-unfolding with_line
-begun_more part line true e = rw e refl
-begun_more part line false e = rw e refl
-
-text_of_more : (part : Part) (lines : List (List ℕ)) (line : List ℕ) → part.text ≡ text_front (join_with_byte 10 lines) → part.begun ≡ not (has_none lines) → (with_line part (text_front line)).text ≡ text_front (join_with_byte 10 (lines ++ line ∷ []))
-text_of_more part [] line text begun = text_first part line begun text
-text_of_more part (x ∷ xs) line text begun =
-    text_more part (join_with_byte 10 (x ∷ xs)) line begun text ∙ ap text_front (sym (join_more (x ∷ xs) line))
 
 -- the schema that the part has so far
 schema_so_far : (part : Part) (lines : List (List ℕ)) → part.text ≡ text_front (join_with_byte 10 lines) → schema_answer (join_with_byte 10 lines) ≡ schema_answer part.text

@@ -1,0 +1,4 @@
+pub mod LoadEnds
+pub mod Machine
+pub mod Replied
+pub mod Stops

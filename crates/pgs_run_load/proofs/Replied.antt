@@ -1,0 +1,242 @@
+-- What a reply to a load says of the text and of the areas, and how a run ends that puts it.
+use Rattle.std.proofs.Common.{◌≡◌, ◌⊎◌, inl, inr, ℕ, ◌≤◌, Bool, true, false, cond, IsTrue, IfOk, List, [], ◌∷◌, Some, None, Result, Ok, Err, refl, sym, ap, subst, ◌∙◌}
+use Rattle.pgs_base.specs.declared.limits.Limits.{Limits}
+use Rattle.pgs_base.specs.declared.memory.Memory.{Memory as NoMemory}
+use Rattle.pgs_lines.specs.Ending.{Faults, faults_of, PutsRose}
+use Rattle.pgs_lines.specs.Machine.{Told}
+use Rattle.pgs_lines.specs.Pieces.{Shown, shown_of, ShowsAll, ShowsTorn}
+use Rattle.pgs_lines.proofs.Causes.{world_same}
+use Rattle.pgs_lines.proofs.Showing.{shows_none, all_first}
+use Rattle.pgs_resolve.specs.SchemaOf.{schema, schema_of}
+use Rattle.pgs_schema.specs.Told.{answer_of}
+use Rattle.pgs_snapshot.specs.Choice.{Choice, choice_of}
+use Rattle.pgs_snapshot.specs.Choice as choices
+use Rattle.pgs_store.specs.declared.fault.LoadFault.{LoadFault}
+use Rattle.pgs_store.specs.declared.fault.LoadFault.TheVariants as faults
+use Rattle.pgs_store.specs.Loads.{Loads, IsLoaded, IsStore, HasSchema, is_disk_fault}
+use Rattle.pgs_store.specs.State.{GuardState}
+use Rattle.pgs_store.specs.Stored.{StoreState}
+use Rattle.pgs_store.specs.World.{CountsFault}
+use Rattle.pgs_syntax.specs.declared.resolved.Resolved.{Resolved}
+use Rattle.pgs_world.specs.Moment.{MakesNoPut}
+use Rattle.pgs_world.specs.World.{View}
+use Rattle.pgs_answer.specs.Lines.{schema_refused_line, store_refused_line}
+use Rattle.pgs_answer.specs.Refusals.{already_store_text, foreign_text}
+use Rattle.pgs_run_base.specs.declared.status.Status.{Status}
+use Rattle.pgs_run_base.specs.declared.status.Status.TheVariants.{Accepted, Refused, BadWords, SchemaRefused, StoreRefused, DiskFault, ReadFault, PutFault, Memory, InputTooLong}
+use Rattle.pgs_run_base.specs.Answers.{schema_or_text, schema_answer}
+use Rattle.pgs_run_base.specs.Areas.{Areas, areas_of}
+use Rattle.pgs_run_base.specs.Ending.{Ends}
+use Rattle.pgs_run_base.specs.Input.{text_front}
+use Rattle.pgs_run_base.specs.Run.{HasCommandCause}
+use Rattle.pgs_run_base.specs.Session.{standard}
+use Rattle.pgs_run_base.proofs.SameFronts.{schema_of_front}
+use Rattle.pgs_run_saved.specs.Opening.{IsAnswer}
+use Rattle.pgs_run_saved.specs.Refusing.{told_under, store_refused}
+use Rattle.pgs_run_load.specs.declared.replying.Reply.{Reply}
+use Rattle.pgs_run_load.specs.Replying.{Replies, EndsReply, IsSchemaLine, with_status}
+use Rattle.pgs_run_load.specs.Told.{line_of, told_choice, told_text}
+
+-- the limits of the program
+pub is_standard : (limits : Limits) → limits.ops ≡ 10000 → limits.elements ≡ 1000000 → limits ≡ standard
+is_standard limits ops elements = ap (λ n. both n limits.elements) ops ∙ ap (both 10000) elements
+  where
+    both : ℕ → ℕ → Limits
+    both ops elements = record { ops = ops; elements = elements }
+
+-- ---- the reply is made
+
+-- a line with its status is the reply where it is so of the line; want of memory is no fault of an area
+pub replies_with : (loaded : Result StoreState LoadFault) (status : Status) (P : List ℕ → Type 0) (line : Result (List ℕ) NoMemory) (result : Result Reply Status)
+    → is_disk_fault loaded ≡ false → ((l : List ℕ) → P l → Replies (Ok (record { line = l; status = status })) loaded) → IfOk line P → result ≡ with_status line status → Replies result loaded
+replies_with loaded status P (Ok line) result no_fault follows is made = subst (λ r. Replies r loaded) (sym made) (follows line is)
+replies_with loaded status P (Err none) result no_fault follows is made = subst (λ r. Replies r loaded) (sym made) (rw no_fault refl)
+
+-- ---- what is told
+
+-- one line, and a status
+abbrev pub told_line : List ℕ → Status → Told Status
+told_line line status = record { pieces = line ∷ []; status = status }
+
+-- the answer to a text, by that to its front
+pub answer_of_front : (text input : List ℕ) → text ≡ text_front input → schema_answer input ≡ schema_or_text (schema_of text)
+unfolding schema_answer
+answer_of_front text input front = sym (schema_of_front input) ∙ ap (λ t. schema_or_text (schema_of t)) (sym front)
+
+told_schema : (input : List ℕ) (areas : Areas) (resolved : Resolved) (choice : Choice) → schema_answer input ≡ Ok resolved → choice_of areas.a areas.b ≡ choice → told_text input areas ≡ told_choice resolved choice
+told_schema input areas resolved choice is found =
+    ap (λ answer. told_under answer (λ s. told_choice s (choice_of areas.a areas.b))) is ∙ ap (told_choice resolved) found
+
+told_refused : (input : List ℕ) (areas : Areas) (text : List ℕ) → schema_answer input ≡ Err text → told_text input areas ≡ told_line (schema_refused_line text) SchemaRefused
+told_refused input areas text is = ap (λ answer. told_under answer (λ s. told_choice s (choice_of areas.a areas.b))) is
+
+told_store : (resolved : Resolved) (choice : Choice) → IsStore choice → told_choice resolved choice ≡ store_refused already_store_text
+told_store resolved (choices.chosen area epoch end payloads) is = refl
+told_store resolved (choices.damaged area epoch number) is = refl
+told_store resolved choices.no_store is = absurd is
+told_store resolved choices.foreign is = absurd is
+
+same_line : (reply : Reply) (line : List ℕ) (status : Status) → reply.line ≡ line → reply.status ≡ status → told_line line status ≡ told_line reply.line reply.status
+same_line reply line status same is = ap (λ l. told_line l status) (sym same) ∙ ap (told_line reply.line) (sym is)
+
+-- a reply is what is told
+pub tells_reply : (text input : List ℕ) (loaded : Result StoreState LoadFault) (reply : Reply) (old now : View) → text ≡ text_front input → IsTrue old.tells_bytes
+    → Loads loaded standard text old now → Replies (Ok reply) loaded → told_text input (areas_of old) ≡ told_line reply.line reply.status
+tells_reply text input (Ok store) reply old now front told loads replies =
+    let is : schema_answer input ≡ Ok loads.resolved = answer_of_front text input front ∙ ap schema_or_text loads.of_text in
+    told_schema input (areas_of old) loads.resolved choices.no_store is (loads.free told)
+    ∙ ap (λ s. told_line (line_of s) Accepted) (sym (ap (λ (g : GuardState). g.schema) loads.guard))
+    ∙ same_line reply (line_of store.guard.schema) Accepted replies.0 replies.1
+tells_reply text input (Err faults.AlreadyStore) reply old now front told loads replies =
+    let is : schema_answer input ≡ Ok loads.0.0 = answer_of_front text input front ∙ ap schema_or_text loads.0.1 in
+    let found = choice_of old.shown.a old.shown.b in
+    told_schema input (areas_of old) loads.0.0 found is refl ∙ told_store loads.0.0 found (loads.1 told)
+    ∙ same_line reply (store_refused_line already_store_text) StoreRefused replies.0 replies.1
+tells_reply text input (Err faults.Foreign) reply old now front told loads replies =
+    let is : schema_answer input ≡ Ok loads.0.0 = answer_of_front text input front ∙ ap schema_or_text loads.0.1 in
+    told_schema input (areas_of old) loads.0.0 choices.foreign is (loads.1 told)
+    ∙ same_line reply (store_refused_line foreign_text) StoreRefused replies.0 replies.1
+tells_reply text input (Err (faults.Schema fault)) reply old now front told loads replies =
+    told_refused input (areas_of old) replies.0.text (answer_of_front text input front ∙ ap schema_or_text loads ∙ replies.0.refused)
+    ∙ same_line reply (schema_refused_line replies.0.text) SchemaRefused replies.0.is replies.1
+tells_reply text input (Err faults.Memory) reply old now front told loads replies = absurd replies
+tells_reply text input (Err faults.DiskFault) reply old now front told loads replies = absurd replies
+
+-- ---- the status
+
+-- the statuses of a reply
+abbrev pub IsReplied : Status → Type 0
+IsReplied Accepted = Unit {0}
+IsReplied SchemaRefused = Unit {0}
+IsReplied StoreRefused = Unit {0}
+IsReplied status = ⊥
+
+pub replied_status : (loaded : Result StoreState LoadFault) (reply : Reply) → Replies (Ok reply) loaded → IsReplied reply.status
+replied_status (Ok store) reply replies = subst IsReplied (sym replies.1) tt
+replied_status (Err faults.AlreadyStore) reply replies = subst IsReplied (sym replies.1) tt
+replied_status (Err faults.Foreign) reply replies = subst IsReplied (sym replies.1) tt
+replied_status (Err (faults.Schema fault)) reply replies = subst IsReplied (sym replies.1) tt
+replied_status (Err faults.Memory) reply replies = absurd replies
+replied_status (Err faults.DiskFault) reply replies = absurd replies
+
+replied_answer : (status : Status) → IsReplied status → IsAnswer status
+replied_answer Accepted is = tt
+replied_answer SchemaRefused is = tt
+replied_answer StoreRefused is = tt
+replied_answer Refused is = absurd is
+replied_answer BadWords is = absurd is
+replied_answer DiskFault is = absurd is
+replied_answer ReadFault is = absurd is
+replied_answer PutFault is = absurd is
+replied_answer Memory is = absurd is
+replied_answer InputTooLong is = absurd is
+
+pub answer_reply : (reply : Reply) (old now : View) (result : Status) → IsReplied reply.status → EndsReply reply old result now → IsAnswer result
+answer_reply reply old now result is (inl put) = subst IsAnswer (sym put.0) (replied_answer reply.status is)
+answer_reply reply old now result is (inr torn) = subst IsAnswer (sym torn.0) tt
+
+without_answer : (status : Status) (fault : Bool) → status ≡ cond fault DiskFault Memory → IsAnswer status
+without_answer status true is = subst IsAnswer (sym is) tt
+without_answer status false is = subst IsAnswer (sym is) tt
+
+pub answer_without : (loaded : Result StoreState LoadFault) (status : Status) → Replies (Err status) loaded → IsAnswer status
+answer_without loaded status is = without_answer status (is_disk_fault loaded) is
+
+-- ---- what is shown
+
+-- a call that puts nothing shows the same
+pub shown_same : (old new : View) → new.tells_output ≡ old.tells_output → new.shown.output ≡ old.shown.output → new.puts ≡ old.puts → shown_of new ≡ shown_of old
+shown_same old new tells output puts =
+    ap (λ b. shown_by b new.shown.output new.puts) tells ∙ ap (λ o. shown_by old.tells_output o new.puts) output
+    ∙ ap (shown_by old.tells_output old.shown.output) puts
+  where
+    shown_by : Bool → List ℕ → ℕ → Shown
+    shown_by tells output puts = record { output = cond tells (Some output) None; puts = puts }
+
+replied_ends : (start now : Shown) (line : List ℕ) (status : Status) → IsReplied status → ShowsAll start (line ∷ []) now → Ends start (told_line line status) status now
+replied_ends start now line Accepted is shows = (shows, refl)
+replied_ends start now line SchemaRefused is shows = (shows, refl)
+replied_ends start now line StoreRefused is shows = (shows, refl)
+replied_ends start now line Refused is shows = absurd is
+replied_ends start now line BadWords is shows = absurd is
+replied_ends start now line DiskFault is shows = absurd is
+replied_ends start now line ReadFault is shows = absurd is
+replied_ends start now line PutFault is shows = absurd is
+replied_ends start now line Memory is shows = absurd is
+replied_ends start now line InputTooLong is shows = absurd is
+
+line_ends : (reply : Reply) (old now : View) (result : Status) → IsReplied reply.status → EndsReply reply old result now → Ends (shown_of old) (told_line reply.line reply.status) result (shown_of now)
+line_ends reply old now result is (inl put) =
+    subst (λ s. Ends (shown_of old) (told_line reply.line reply.status) s (shown_of now)) (sym put.0) (replied_ends (shown_of old) (shown_of now) reply.line reply.status is put.1)
+line_ends reply old now result is (inr torn) =
+    subst (λ s. Ends (shown_of old) (told_line reply.line reply.status) s (shown_of now)) (sym torn.0) torn.1
+
+-- the line was put, behind a load that showed the same
+pub ends_reply : (told : Told Status) (start : Shown) (reply : Reply) (old now : View) (result : Status) → shown_of old ≡ start → told ≡ told_line reply.line reply.status
+    → IsReplied reply.status → EndsReply reply old result now → Ends start told result (shown_of now)
+ends_reply told start reply old now result same is status ends =
+    subst (λ s. Ends s told result (shown_of now)) same (subst (λ t. Ends (shown_of old) t result (shown_of now)) (sym is) (line_ends reply old now result status ends))
+
+without_ends : (told : Told Status) (start : Shown) (status : Status) (fault : Bool) → status ≡ cond fault DiskFault Memory → Ends start told status start
+without_ends told start status true is =
+    subst (λ s. Ends start told s start) (sym is) (all_first start start [] told.pieces (shows_none start))
+without_ends told start status false is =
+    subst (λ s. Ends start told s start) (sym is) (all_first start start [] told.pieces (shows_none start))
+
+-- nothing was put
+pub ends_without : (told : Told Status) (start now : Shown) (loaded : Result StoreState LoadFault) (status : Status) → now ≡ start → Replies (Err status) loaded → Ends start told status now
+ends_without told start now loaded status same is = subst (Ends start told status) (sym same) (without_ends told start status (is_disk_fault loaded) is)
+
+-- ---- causes
+
+pub same_faults : (reads : ℕ) (old new : View) → new.area_faults ≡ old.area_faults → new.put_faults ≡ old.put_faults → faults_of reads new ≡ faults_of reads old
+same_faults reads old new areas puts =
+    ap (λ n. faults reads n new.put_faults) areas ∙ ap (faults reads old.area_faults) puts
+  where
+    faults : ℕ → ℕ → ℕ → Faults
+    faults reads areas puts = record { reads = reads; areas = areas; puts = puts }
+
+replied_cause : (before now : Faults) (status : Status) → IsReplied status → now ≡ before → HasCommandCause false true before now status
+replied_cause before now Accepted is same = same
+replied_cause before now SchemaRefused is same = same
+replied_cause before now StoreRefused is same = (refl, same)
+replied_cause before now Refused is same = absurd is
+replied_cause before now BadWords is same = absurd is
+replied_cause before now DiskFault is same = absurd is
+replied_cause before now ReadFault is same = absurd is
+replied_cause before now PutFault is same = absurd is
+replied_cause before now Memory is same = absurd is
+replied_cause before now InputTooLong is same = absurd is
+
+line_cause : (reads : ℕ) (reply : Reply) (old now : View) (result : Status) → IsReplied reply.status → EndsReply reply old result now → HasCommandCause false true (faults_of reads old) (faults_of reads now) result
+line_cause reads reply old now result is (inl put) =
+    subst (HasCommandCause false true (faults_of reads old) (faults_of reads now)) (sym put.0)
+    (replied_cause (faults_of reads old) (faults_of reads now) reply.status is (world_same reads reads old now refl put.2))
+line_cause reads reply old now result is (inr torn) =
+    subst (HasCommandCause false true (faults_of reads old) (faults_of reads now)) (sym torn.0) (torn.2.0, refl, torn.2.2)
+
+no_fault : (loaded : Result StoreState LoadFault) (reply : Reply) → Replies (Ok reply) loaded → is_disk_fault loaded ≡ false
+no_fault (Ok store) reply replies = refl
+no_fault (Err faults.AlreadyStore) reply replies = refl
+no_fault (Err faults.Foreign) reply replies = refl
+no_fault (Err (faults.Schema fault)) reply replies = refl
+no_fault (Err faults.Memory) reply replies = absurd replies
+no_fault (Err faults.DiskFault) reply replies = absurd replies
+
+pub cause_reply : (reads : ℕ) (loaded : Result StoreState LoadFault) (reply : Reply) (old mid now : View) (result : Status) → CountsFault (is_disk_fault loaded) old mid → MakesNoPut old mid
+    → Replies (Ok reply) loaded → EndsReply reply mid result now → HasCommandCause false true (faults_of reads old) (faults_of reads now) result
+cause_reply reads loaded reply old mid now result counts none replies ends =
+    let areas : mid.area_faults ≡ old.area_faults = subst (λ b. CountsFault b old mid) (no_fault loaded reply replies) counts in
+    subst (λ before. HasCommandCause false true before (faults_of reads now) result) (same_faults reads old mid areas none.put_faults)
+    (line_cause reads reply mid now result (replied_status loaded reply replies) ends)
+
+without_cause : (reads : ℕ) (old now : View) (status : Status) (fault : Bool) → CountsFault fault old now → MakesNoPut old now → status ≡ cond fault DiskFault Memory
+    → HasCommandCause false true (faults_of reads old) (faults_of reads now) status
+without_cause reads old now status true counts none is =
+    subst (HasCommandCause false true (faults_of reads old) (faults_of reads now)) (sym is) (refl, (counts, refl, none.put_faults))
+without_cause reads old now status false counts none is =
+    subst (HasCommandCause false true (faults_of reads old) (faults_of reads now)) (sym is) (same_faults reads old now counts none.put_faults)
+
+pub cause_without : (reads : ℕ) (loaded : Result StoreState LoadFault) (old now : View) (status : Status) → CountsFault (is_disk_fault loaded) old now → MakesNoPut old now → Replies (Err status) loaded
+    → HasCommandCause false true (faults_of reads old) (faults_of reads now) status
+cause_without reads loaded old now status counts none is = without_cause reads old now status (is_disk_fault loaded) counts none is

@@ -1,0 +1,45 @@
+use Rattle.std.proofs.Common.{sym, ap, subst, ◌∙◌}
+use Rattle.pgs_lines.specs.Ending.{faults_of}
+use Rattle.pgs_lines.specs.Pieces.{shown_of}
+use Rattle.pgs_world.specs.World.{Triple}
+use Rattle.pgs_world.proofs.Moments.{settled_quiet}
+use Rattle.pgs_run_base.specs.Areas.{Areas, areas_of}
+use Rattle.pgs_run_base.specs.Ending.{Ends}
+use Rattle.pgs_run_load.specs.Told.{told_text}
+use Rattle.pgs_run_load.proofs.LoadEnds.{whole_at, ends_loaded, ends_without_text, cause_loaded, found_quiet, collects_at, stops_loaded}
+use Rattle.pgs_run_load.proofs.run.run_load.Goals as goal
+
+pub returns-in-Ok-clause-ends : goal.returns-in-Ok-clause-ends
+returns-in-Ok-clause-ends g c = λ told input is.
+    let start = shown_of (g.W.World.view c.args.world.now) in
+    let mid = shown_of (g.W.World.view c.run_lines-stop.new.world) in
+    let now = shown_of (g.W.World.view c.load_text.new.world) in
+    let quiet = c.run_lines-stop.ensures.allows.allowed in
+    let ends = c.run_lines-stop.ensures.ends input is in
+    let whole = whole_at input c.in-Ok.text c.args.budget _ c.new-collecting.result.part c.run_lines-stop.result start mid c.new-collecting.ensures (sym c.text_of.ensures ∙ c.in-Ok.is) ends in
+    ends_loaded input c.in-Ok.text (areas_of (g.W.World.view c.args.world.now)) c.args.budget _ c.load_text.result start mid now whole ends.within c.load_text.ensures.answer
+    (subst (λ areas. Ends mid (told_text input areas) c.load_text.result now)
+    (ap (λ (t : Triple). let areas : Areas = record { a = t.a; b = t.b } in areas) quiet.shown)
+    (c.load_text.ensures.ends (quiet.passes.tells_bytes ∙ told) input (c.as_slice.ensures ∙ whole.front)))
+
+pub returns-in-Ok-clause-cause : goal.returns-in-Ok-clause-cause
+returns-in-Ok-clause-cause g c =
+    let reads = g.S.Source.faults c.run_lines-stop.new.source in
+    cause_loaded _ (faults_of reads (g.W.World.view c.run_lines-stop.new.world)) _ c.run_lines-stop.result c.in-Ok.text c.load_text.result (sym c.text_of.ensures ∙ c.in-Ok.is) c.run_lines-stop.ensures.cause (c.load_text.ensures.cause reads)
+
+pub returns-in-Ok-clause-loads : goal.returns-in-Ok-clause-loads
+returns-in-Ok-clause-loads g c = λ input is free tells settled.
+    let old = g.W.World.view c.args.world.now in
+    let mid = g.W.World.view c.run_lines-stop.new.world in
+    let quiet = c.run_lines-stop.ensures.allows.allowed in
+    let whole = whole_at input c.in-Ok.text c.args.budget _ c.new-collecting.result.part c.run_lines-stop.result (shown_of old) (shown_of mid) c.new-collecting.ensures (sym c.text_of.ensures ∙ c.in-Ok.is) (c.run_lines-stop.ensures.ends input is) in
+    stops_loaded old mid (g.W.World.view c.load_text.new.world) input (g.met.W.World.timed c.args.world.now) free tells settled quiet c.load_text.ensures.passes
+    (c.load_text.ensures.loads input (c.as_slice.ensures ∙ whole.front) (found_quiet old mid quiet free) (quiet.passes.tells_output ∙ tells) (settled_quiet old mid settled quiet))
+
+pub returns-clause-ends : goal.returns-clause-ends
+returns-clause-ends g c = λ told input is.
+    ends_without_text input (areas_of (g.W.World.view c.args.world.now)) c.args.budget _ _ c.new-collecting.result.part c.run_lines-stop.result c.in-Err.status (shown_of (g.W.World.view c.args.world.now)) (shown_of (g.W.World.view c.run_lines-stop.new.world)) c.new-collecting.ensures is (sym c.text_of.ensures ∙ c.in-Err.is) c.run_lines-stop.ensures.by c.run_lines-stop.ensures.may (c.run_lines-stop.ensures.ends input is)
+
+pub returns-clause-loads : goal.returns-clause-loads
+returns-clause-loads g c = λ input is free tells settled.
+    collects_at (g.W.World.view c.args.world.now) (g.W.World.view c.run_lines-stop.new.world) input (g.met.W.World.timed c.args.world.now) free tells settled c.run_lines-stop.ensures.allows.allowed
