@@ -1,6 +1,9 @@
 -- What a call on an area in a file answers, by what its handle gave.
 use Rattle.std.specs.Prelude.{◌≡◌, ◌⊎◌, ℕ, ◌+◌, ◌^◌, ◌<◌, ◌≤◌, Bool, true, false, List, length, Option, Some, None, Result, Ok, Err}
 use Rattle.std.specs.declared.io.Error.{Error}
+use Rattle.pgs_world.specs.declared.area.Area.{Area}
+use Rattle.pgs_world.specs.declared.area.Area.TheVariants.{A, B}
+use Rattle.pgs_files.specs.declared.area_files.AreaFiles.{AreaFiles}
 use Rattle.pgs_files.specs.Given.{PlacedCall, HasRead, HasWritten, HasFailed}
 
 -- the length that was given, of at most 2^40 bytes; a fault where none was given, or a greater one
@@ -32,3 +35,8 @@ IfOpen gives (Some old) answer (Some new) = gives old answer new
 IfOpen gives (Some old) answer None = ⊥
 IfOpen gives None (Ok _) new = ⊥
 IfOpen gives None (Err _) new = new ≡ None
+
+-- the handle of this area
+abbrev pub handle_in : {H : Type 0} → Area → AreaFiles H → Option H
+handle_in A areas = areas.a.handle
+handle_in B areas = areas.b.handle

@@ -13,10 +13,19 @@ pub struct AreaFile<H: Handle> {
     handle: Option<H>,
 }
 
-/// Opens a file for reading and writing, and makes it empty where it is absent; takes its lock without waiting; and syncs its
-/// folder, so that the file itself outlasts a stop. The folder is synced also where the file was there: a run that
-/// was stopped may have made it.
-fn open_locked<R: Files<File = File>>(rt: &R, name: &str, folder: &str) -> io::Result<File> {
+// The folder that a file stands in.
+fn folder_of(name: &str) -> &str {
+    match name.rsplit_once('/') {
+        Some((folder, _)) if !folder.is_empty() => folder,
+        Some(_) => "/",
+        None => ".",
+    }
+}
+
+// Opens a file for reading and writing, and makes it empty where it is absent; takes its lock without waiting; and
+// syncs its folder, so that the file itself outlasts a stop. The folder is synced where the file was there too: a run
+// that was stopped may have made it.
+fn open_locked<R: Files<File = File>>(rt: &R, name: &str) -> io::Result<File> {
     let file = File::options()
         .read(true)
         .write(true)
@@ -24,16 +33,16 @@ fn open_locked<R: Files<File = File>>(rt: &R, name: &str, folder: &str) -> io::R
         .truncate(false)
         .open(rt, name)?;
     file.try_lock()?;
-    fs::open(rt, folder)?.sync_all()?;
+    fs::open(rt, folder_of(name))?.sync_all()?;
     Ok(file)
 }
 
 impl AreaFile<File> {
-    /// The file of that name in that folder. Where it can't be opened or made, another run has it locked, or the folder
-    /// can't be synced, every call is a fault.
-    pub fn open<R: Files<File = File>>(rt: &R, name: &str, folder: &str) -> AreaFile<File> {
+    /// The file of that name. Where it can't be opened or made, or is locked by another handle, or its folder can't be
+    /// synced, there is no file, and every call is a fault.
+    pub fn open<R: Files<File = File>>(rt: &R, name: &str) -> AreaFile<File> {
         AreaFile {
-            handle: open_locked(rt, name, folder).ok(),
+            handle: open_locked(rt, name).ok(),
         }
     }
 }

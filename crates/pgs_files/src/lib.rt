@@ -2,7 +2,16 @@
 #![tactic(auto)]
 
 mod area_file;
+mod area_files;
+mod counts;
+mod file_world;
 mod handle;
+mod steady;
+mod whole;
 
 pub use area_file::AreaFile;
+pub use area_files::AreaFiles;
+pub use counts::Counts;
+pub use file_world::FileWorld;
 pub use handle::Handle;
+pub use steady::{SteadyRead, SteadyWrite};

@@ -23,13 +23,13 @@ returns-then-ne g c =
 pub loop-preserved : goal.loop-preserved
 loop-preserved g c = elim c.match-read_once.branch [
   | in-Ok w ↦ record {
-      within = buffer_within_more _ _ _ _ _ w.done-is c.loop.invariant.within c.read_once.auto.buf w.in-Ok.ensures.bound.0;
-      given = read_more _ _ _ _ _ _ _ _ _ _ w.done-is c.loop.invariant.within w.in-Ok.ensures.bound.0 c.loop.invariant.given w.in-Ok.ensures.gives;
-      tried = tried_more _ _ _ _ c.loop.invariant.tried w.in-Ok.count-test.1 w.done-is;
-    }
+    within = buffer_within_more _ _ _ _ _ w.done-is c.loop.invariant.within c.read_once.auto.buf w.in-Ok.ensures.bound.0;
+    given = read_more _ _ _ _ _ _ _ _ _ _ w.done-is c.loop.invariant.within w.in-Ok.ensures.bound.0 c.loop.invariant.given w.in-Ok.ensures.gives;
+    tried = tried_more _ _ _ _ c.loop.invariant.tried w.in-Ok.count-test.1 w.done-is;
+  }
   | in-Err+else-ne w ↦ record {
-      within = buffer_within _ _ _ _ c.read_once.auto.buf (omega arith);
-      given = read_no_more _ _ _ _ _ _ _ _ _ _ w.done-is c.loop.invariant.within c.loop.invariant.given w.in-Err.ensures.gives;
-      tried = inr (failed_by_error _ _ _ _ _ _ w.in-Err.ensures.gives);
-    }
+    within = buffer_within _ _ _ _ c.read_once.auto.buf (omega arith);
+    given = read_no_more _ _ _ _ _ _ _ _ _ _ w.done-is c.loop.invariant.within c.loop.invariant.given w.in-Err.ensures.gives;
+    tried = inr (failed_by_error _ _ _ _ _ _ w.in-Err.ensures.gives);
+  }
 ]

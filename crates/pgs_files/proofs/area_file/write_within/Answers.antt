@@ -20,13 +20,13 @@ returns-then-ne g c =
 pub loop-preserved : goal.loop-preserved
 loop-preserved g c = elim c.match-write_once.branch [
   | in-Ok w ↦ record {
-      within = within_more _ _ _ _ w.done-is c.loop.invariant.within w.in-Ok.ensures.bound;
-      written = wrote_more _ _ _ _ _ _ _ _ _ w.done-is c.loop.invariant.written w.in-Ok.ensures.gives;
-      tried = tried_more _ _ _ _ c.loop.invariant.tried w.in-Ok.count-test.1 w.done-is;
-    }
+    within = within_more _ _ _ _ w.done-is c.loop.invariant.within w.in-Ok.ensures.bound;
+    written = wrote_more _ _ _ _ _ _ _ _ _ w.done-is c.loop.invariant.written w.in-Ok.ensures.gives;
+    tried = tried_more _ _ _ _ c.loop.invariant.tried w.in-Ok.count-test.1 w.done-is;
+  }
   | in-Err+else-ne w ↦ record {
-      within = omega arith;
-      written = wrote_no_more _ _ _ _ _ _ _ _ _ w.done-is c.loop.invariant.written w.in-Err.ensures.gives;
-      tried = inr (failed_by_error _ _ _ _ _ _ w.in-Err.ensures.gives);
-    }
+    within = omega arith;
+    written = wrote_no_more _ _ _ _ _ _ _ _ _ w.done-is c.loop.invariant.written w.in-Err.ensures.gives;
+    tried = inr (failed_by_error _ _ _ _ _ _ w.in-Err.ensures.gives);
+  }
 ]
