@@ -1,5 +1,5 @@
 -- The world over files and a writer, as contracts see it: it tells the output where the writer tells, nothing of its areas, and its counts.
-use Rattle.std.specs.Prelude.{ℕ, Bool, false, List, [], Option}
+use Rattle.std.specs.Prelude.{ℕ, Bool, false, List, [], Option, None}
 use Rattle.std.specs.Option.{unwrap_or}
 use Rattle.pgs_world.specs.Moment.{IsTimed}
 use Rattle.pgs_world.specs.World.{View}
@@ -28,3 +28,7 @@ timed_view tells contents counts =
       earlier = λ t u c le left. left;
       output = λ honest _ c left. absurd left;
     }
+
+-- the bytes of a feed into a file aren't told
+abbrev pub untold_bytes : Option (List ℕ)
+untold_bytes = None

@@ -11,6 +11,11 @@ pub record AppendsFront (old new : Option (List ℕ)) (piece : List ℕ) : Type 
   pub parts : piece ≡ front ++ back
   pub appends : Appends old new front
 
+-- known bytes grow by the whole piece; after a fault by some front of it
+abbrev pub HoldsPiece : {W A F : Type 0} → (W → Option (List ℕ)) → W → List ℕ → Result A F → W → Type 0
+HoldsPiece contents old piece (Ok _) new = Appends (contents old) (contents new) piece
+HoldsPiece contents old piece (Err _) new = AppendsFront (contents old) (contents new) piece
+
 -- writes that have no place
 abbrev pub placeless : {W : Type 0} → (W → List ℕ → Result ℕ Error → W → Type 0) → PlacedCall W
 placeless writes old at bytes answer new = writes old bytes answer new

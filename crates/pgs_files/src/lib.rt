@@ -4,6 +4,7 @@
 mod area_file;
 mod area_files;
 mod counts;
+mod file_feed;
 mod file_world;
 mod handle;
 mod steady;
@@ -12,6 +13,7 @@ mod whole;
 pub use area_file::AreaFile;
 pub use area_files::AreaFiles;
 pub use counts::Counts;
+pub use file_feed::FileFeed;
 pub use file_world::FileWorld;
 pub use handle::Handle;
 pub use steady::{SteadyRead, SteadyWrite};

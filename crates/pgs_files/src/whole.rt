@@ -1,14 +1,11 @@
-ghost use Rattle.std.specs.Prelude.{OnOk, OnErr};
-ghost use Rattle.std.specs.Io.KnownBytes.{Appends};
-ghost use Rattle.pgs_files.specs.Pieces.{AppendsFront, PieceIs};
+ghost use Rattle.pgs_files.specs.Pieces.{HoldsPiece, PieceIs};
 
 use crate::SteadyWrite;
 use std::io::{self, ErrorKind};
 
 /// Writes the whole piece and flushes it. After an error some front of it was written.
 pub(crate) fn write_whole<W: SteadyWrite>(writer: &mut W, piece: &[u8]) -> io::Result<()>
-    ensures whole { OnOk result (Appends (W.contents writer.old) (W.contents writer.new) piece.now) }
-    ensures front { OnErr result (AppendsFront (W.contents writer.old) (W.contents writer.new) piece.now) }
+    ensures holds { HoldsPiece W.contents writer.old piece.now result writer.new }
     ensures given { PieceIs W.write_gives W.flush_gives writer.old piece.now result writer.new }
 {
     let mut done = 0;

@@ -8,8 +8,8 @@ use Rattle.pgs_files.proofs.whole.write_whole.Goals.{in-Ok, in-Err+else-ne}
 pub loop-init : goal.loop-init
 loop-init g c = record { within = omega arith; known = appends_none (g.W.Write.contents c.args.writer.now); written = wrote_none; tried = inl (omega arith) }
 
-pub returns-in-Ok-eq0-clause-front : goal.returns-in-Ok-eq0-clause-front
-returns-in-Ok-eq0-clause-front g c =
+pub returns-in-Ok-eq0-clause-holds : goal.returns-in-Ok-eq0-clause-holds
+returns-in-Ok-eq0-clause-holds g c =
     let contents = g.W.Write.contents in
     let done = c.loop.done in
     front_here _ _ _ _ (appends_at (contents c.args.writer.now) (contents c.loop.writer) (contents c.write_once.new.self) _ done _ _ refl c.loop.invariant.known c.in-Ok-eq0.ensures.bytes)
@@ -19,8 +19,8 @@ returns-in-Ok-eq0-clause-given g c =
     let gave = c.in-Ok-eq0.ensures.gives in
     inr (failed_by_none _ _ 0 _ _ _ c.in-Ok-eq0.field-0-test gave, _, wrote_more _ _ _ _ _ _ _ _ _ refl c.loop.invariant.written gave)
 
-pub returns-then-ne-clause-front : goal.returns-then-ne-clause-front
-returns-then-ne-clause-front g c =
+pub returns-then-ne-clause-holds : goal.returns-then-ne-clause-holds
+returns-then-ne-clause-holds g c =
     let contents = g.W.Write.contents in
     front_kept (contents c.args.writer.now) (contents c.loop.writer) (contents c.write_once.new.self) _ _ c.loop.invariant.known c.in-Err.ensures.bytes
 
@@ -47,5 +47,5 @@ loop-preserved g c =
       }
     ]
 
-pub returns-clause-front : goal.returns-clause-front
-returns-clause-front g c = front_here (g.W.Write.contents c.args.writer.now) (g.W.Write.contents c.loop.writer) c.args.piece.now c.loop.done c.loop.invariant.known
+pub returns-clause-holds : goal.returns-clause-holds
+returns-clause-holds g c = front_here (g.W.Write.contents c.args.writer.now) (g.W.Write.contents c.loop.writer) c.args.piece.now c.loop.done c.loop.invariant.known
