@@ -1,9 +1,30 @@
 -- Bytes that are known of a reader and of a writer.
-use Rattle.std.proofs.Common.{◌≡◌, ◌≢◌, ℕ, ◌+◌, ◌-◌, ◌≤◌, List, [], ◌++◌, length, take, drop, Option, Some, None, sym, ap, ◌∙◌, subst, append_assoc, append-nil, length-drop, arith}
+use Rattle.std.proofs.Common.{◌≡◌, ℕ, ◌+◌, ◌-◌, Bool, List, [], ◌++◌, length, take, drop, Option, Some, None, sym, ap, ◌∙◌, subst, refl, append_assoc, append-nil}
 use Rattle.std.proofs.lemmas.List.{take-append-drop, take_rest}
 use Rattle.std.proofs.Math.Seq.{take-add}
-use Rattle.std.specs.Io.KnownBytes.{Keeps, Appends}
+use Rattle.std.proofs.lemmas.Bool.{false≢true}
+use Rattle.std.specs.Option.{is_some}
+use Rattle.std.specs.Io.KnownBytes.{Keeps, Appends, Consumes}
+use Rattle.std.specs.Io.KnownBytes.{IsAtEnd as IsEnd}
+use Rattle.pgs_world.specs.Source.{Takes, IsAtEnd}
 use Rattle.pgs_files.specs.Pieces.{AppendsFront}
+
+pub takes_known : (old new : Option (List ℕ)) (tells : Bool) (taken : List ℕ) → is_some old ≡ tells → is_some new ≡ tells → Consumes old new taken → Takes old new taken
+takes_known None None tells taken was is consumes = refl
+takes_known None (Some ys) tells taken was is consumes = absurd (false≢true (was ∙ sym is))
+takes_known (Some xs) None tells taken was is consumes = absurd consumes
+takes_known (Some xs) (Some ys) tells taken was is consumes = ap Some consumes
+
+pub kept_known : (old new : Option (List ℕ)) (tells : Bool) → is_some old ≡ tells → is_some new ≡ tells → Keeps old new → new ≡ old
+kept_known None None tells was is keeps = refl
+kept_known None (Some ys) tells was is keeps = absurd (false≢true (was ∙ sym is))
+kept_known (Some xs) None tells was is keeps = absurd keeps
+kept_known (Some xs) (Some ys) tells was is keeps = ap Some keeps
+
+pub end_known : (old new : Option (List ℕ)) → Consumes old new [] → IsEnd new → IsAtEnd old
+end_known None new consumes end = tt
+end_known (Some xs) None consumes end = absurd consumes
+end_known (Some xs) (Some ys) consumes end = consumes ∙ end
 
 -- a call that wrote nothing, after some bytes
 pub appends_kept : (old mid new : Option (List ℕ)) (done : List ℕ) → Appends old mid done → Keeps mid new → Appends old new done

@@ -1,10 +1,10 @@
 -- How the world over files and a writer goes on: no count falls, and what is known of the output is the writer's.
-use Rattle.std.proofs.Common.{◌≡◌, ℕ, ◌≤◌, Bool, true, false, List, [], ◌++◌, Option, Some, None, inl, refl, sym, ap, ◌∙◌, append-nil}
+use Rattle.std.proofs.Common.{◌≡◌, ℕ, ◌≤◌, Bool, true, false, List, Option, Some, None, inl, refl, sym, ap}
 use Rattle.std.proofs.lemmas.Bool.{false≢true}
 use Rattle.std.specs.Option.{is_some}
 use Rattle.std.specs.Io.KnownBytes.{Appends}
 use Rattle.pgs_world.specs.World.{Adds, AddsFront, output_of}
-use Rattle.pgs_world.specs.Moment.{Passes, IsQuiet, ShowsOne}
+use Rattle.pgs_world.specs.Moment.{Passes}
 use Rattle.pgs_files.specs.Counted.{view_of, timed_view}
 use Rattle.pgs_files.specs.Pieces.{AppendsFront}
 use Rattle.pgs_files.specs.declared.counts.Counts.{Counts}
@@ -28,14 +28,6 @@ pub adds_front_view : (tells : Bool) (old new : Option (List ℕ)) (was is : Cou
 adds_front_view tells old new was is piece a b appends =
     record { front = appends.front; back = appends.back; parts = appends.parts; added = adds_view tells old new was is appends.front a b appends.appends }
 
--- nothing was written
-pub no_front : (contents : Option (List ℕ)) (piece : List ℕ) → AppendsFront contents contents piece
-no_front contents piece = record { front = []; back = piece; parts = refl; appends = none contents }
-  where
-    none : (contents : Option (List ℕ)) → Appends contents contents []
-    none None = tt
-    none (Some xs) = sym (append-nil xs)
-
 pub passes_view : (tells : Bool) (old new : Option (List ℕ)) (was is : Counts) → was.calls ≤ is.calls → was.area_faults ≤ is.area_faults → was.put_faults ≤ is.put_faults → was.puts ≤ is.puts
     → Passes (view_of tells old was) (view_of tells new is)
 passes_view tells old new was is calls area_faults put_faults puts =
@@ -50,13 +42,4 @@ passes_view tells old new was is calls area_faults put_faults puts =
       since = λ t c le left. inl left;
       past = λ t c le left. left;
       timed = timed_view tells new is;
-    }
-
-pub quiet_view : (tells : Bool) (contents : Option (List ℕ)) (was is : Counts) → was.calls ≤ is.calls → was.area_faults ≤ is.area_faults → was.put_faults ≤ is.put_faults → was.puts ≤ is.puts
-    → IsQuiet (view_of tells contents was) (view_of tells contents is)
-quiet_view tells contents was is calls area_faults put_faults puts =
-    record {
-      passes = passes_view tells contents contents was is calls area_faults put_faults puts;
-      shown = refl;
-      stops = λ honest c left. left;
     }

@@ -33,3 +33,8 @@ pub record HasFailed {H : Type 0} (gives : PlacedCall H) : Type 0 where
   pub after : H
   pub gave : gives before at bytes answer after
   pub stops : (answer ≡ Ok 0) ⊎ ((error : Error) × (answer ≡ Err error))
+
+-- one read of a reader gave this answer; a fault is one that the reader gave
+abbrev pub ReadsOnce : {R F : Type 0} → (R → List ℕ → Result ℕ Error → R → Type 0) → R → List ℕ → Result ℕ F → R → Type 0
+ReadsOnce gives old buf (Ok count) new = gives old buf (Ok count) new
+ReadsOnce gives old buf (Err _) new = (error : Error) × gives old buf (Err error) new

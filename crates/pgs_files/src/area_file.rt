@@ -165,3 +165,30 @@ fn write_within<H: Handle>(handle: &mut H, at: u64, bytes: &[u8]) -> Result<(), 
     }
     Err(AreaFault)
 }
+
+#[cfg(test)]
+mod tests {
+    use super::*;
+    use std::test::Fail;
+
+    /// Which of the five calls fail.
+    fn failing(area: &mut AreaFile<File>) -> [bool; 5] {
+        [
+            area.cut(0).is_err(),
+            area.write_at(0, b"x").is_err(),
+            area.read_at(0, &mut [0]).is_err(),
+            area.len().is_err(),
+            area.sync().is_err(),
+        ]
+    }
+
+    #[test]
+    fn a_second_open_is_locked_out(rt: HostRuntime) -> Result<(), Fail> {
+        let mut first = AreaFile::open(&rt, "locked.a");
+        let mut second = AreaFile::open(&rt, "locked.a");
+        let seen = [failing(&mut first), failing(&mut second)];
+        fs::remove_file(&rt, "locked.a")?;
+        assert_eq!(rt; seen, [[false; 5], [true; 5]]);
+        Ok(())
+    }
+}

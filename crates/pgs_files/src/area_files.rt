@@ -1,15 +1,44 @@
-ghost use Rattle.std.specs.Prelude.{◌≡◌, None, IfOk};
+ghost use Rattle.std.specs.Prelude.{◌≡◌, ◌++◌, None, IfOk, string_bytes};
 ghost use Rattle.pgs_world.specs.World.{other};
 ghost use Rattle.pgs_files.specs.Handles.{LengthIs, ReadIs, WriteIs, CallIs, IfOpen, handle_in};
 
 use crate::{AreaFile, Handle};
+use pgs_base::Memory;
 use pgs_world::{Area, AreaFault};
+use std::alloc::Global;
+use std::fs::File;
+use std::rt::Files;
 
 /// The two areas of a store, each in a file.
 #[derive(Drop)]
 pub struct AreaFiles<H: Handle> {
     a: AreaFile<H>,
     b: AreaFile<H>,
+}
+
+// The name of a store, and then an ending.
+fn file_name(alloc: Global, store: &str, ending: &str) -> Result<String, Memory>
+    ensures { IfOk result (λ name. string_bytes name ≡ store.now ++ ending.now) }
+{
+    let mut name = String::from_str(alloc, store)?;
+    name.push_str(ending)?;
+    Ok(name)
+}
+
+impl AreaFiles<File> {
+    /// The files NAME.a and NAME.b, as areas A and B of the store NAME. Each stands for itself, as `AreaFile::open` says.
+    pub fn open<R: Files<File = File>>(
+        rt: &R,
+        alloc: Global,
+        store: &str,
+    ) -> Result<AreaFiles<File>, Memory> {
+        let a = file_name(alloc, store, ".a")?;
+        let b = file_name(alloc, store, ".b")?;
+        Ok(AreaFiles {
+            a: AreaFile::open(rt, a.as_str()),
+            b: AreaFile::open(rt, b.as_str()),
+        })
+    }
 }
 
 impl<H: Handle> AreaFiles<H> {

@@ -94,3 +94,33 @@ impl<W: SteadyWrite + Drop> Feed for FileFeed<W> {
         None
     }
 }
+
+#[cfg(test)]
+mod tests {
+    use super::*;
+    use std::fs;
+    use std::test::Fail;
+
+    /// Opens a feed, puts two lines, and says what that answered and how often a put failed.
+    fn put_two<R: Files<File = File>>(rt: &R, name: &str) -> ([Result<(), FeedFault>; 2], u64) {
+        let mut feed = FileFeed::open(rt, name);
+        ([feed.put(b"a\n"), feed.put(b"bc\n")], feed.faults)
+    }
+
+    #[test]
+    fn lines_stand_behind_those_of_an_earlier_run(rt: HostRuntime) -> Result<(), Fail> {
+        // A run of this test that was stopped may have left it.
+        let _absent = fs::remove_file(&rt, "feed.out");
+        let runs = [put_two(&rt, "feed.out"), put_two(&rt, "feed.out")];
+        let missing = put_two(&rt, "missing/feed.out");
+        let text = fs::read_to_string(&rt, "feed.out")?;
+        fs::remove_file(&rt, "feed.out")?;
+        let done = ([Ok(()); 2], 0);
+        let failed = ([Err(FeedFault); 2], 2);
+        assert_eq!(rt;
+            (runs, missing, text.as_str()),
+            ([done; 2], failed, "a\nbc\na\nbc\n")
+        );
+        Ok(())
+    }
+}

@@ -14,6 +14,9 @@ use crate::{AreaFiles, Handle, SteadyWrite};
 use pgs_base::Seed;
 use pgs_world::{Area, AreaFault, PutFault, World};
 
+#[cfg(test)]
+mod tests;
+
 /// A world over two files and a writer. It tells the output where the writer tells, and nothing of its areas; it counts its
 /// calls, its faults and its puts.
 ///

@@ -7,6 +7,7 @@ mod counts;
 mod file_feed;
 mod file_world;
 mod handle;
+mod stdin_source;
 mod steady;
 mod whole;
 
@@ -16,4 +17,5 @@ pub use counts::Counts;
 pub use file_feed::FileFeed;
 pub use file_world::FileWorld;
 pub use handle::Handle;
+pub use stdin_source::StdinSource;
 pub use steady::{SteadyRead, SteadyWrite};
