@@ -1,5 +1,5 @@
 -- One more turn of a loop of reads or of writes.
-use Rattle.std.proofs.Common.{◌≡◌, ◌≢◌, ◌⊎◌, inl, inr, ℕ, ◌+◌, ◌-◌, ◌≤◌, List, ◌++◌, length, take, drop, Ok, Err, Result, refl, sym, ap, ◌∙◌, subst, le_refl, drop_at, length-drop, length-take-le, take_all, arith}
+use Rattle.std.proofs.Common.{◌≡◌, ◌≢◌, ◌⊎◌, inl, inr, ℕ, ◌+◌, ◌-◌, ◌<◌, ◌≤◌, List, ◌++◌, length, take, drop, Ok, Err, Result, refl, sym, ap, ◌∙◌, subst, le_refl, drop_at, length-drop, length-take-le, take_all, arith}
 use Rattle.std.proofs.lemmas.List.{take_rest}
 use Rattle.std.proofs.lemmas.Slice.{take-put_mid_below}
 use Rattle.std.proofs.Math.Seq.{take-add, take-append-le}
@@ -13,9 +13,9 @@ pub failed_by_error : {H : Type 0} (gives : PlacedCall H) (before : H) (at : ℕ
 failed_by_error gives before at bytes error after gave =
     record { before = before; at = at; bytes = bytes; answer = Err error; after = after; gave = gave; stops = inr (error, refl) }
 
-pub failed_by_none : {H : Type 0} (gives : PlacedCall H) (before : H) (at : ℕ) (bytes : List ℕ) (count : ℕ) (after : H) → count ≡ 0 → gives before at bytes (Ok count) after → HasFailed gives
-failed_by_none gives before at bytes count after none gave =
-    record { before = before; at = at; bytes = bytes; answer = Ok 0; after = after; gave = subst (λ n. gives before at bytes (Ok n) after) none gave; stops = inl refl }
+pub failed_by_none : {H : Type 0} (gives : PlacedCall H) (before : H) (at : ℕ) (bytes : List ℕ) (count : ℕ) (after : H) → 0 < length bytes → count ≡ 0 → gives before at bytes (Ok count) after → HasFailed gives
+failed_by_none gives before at bytes count after left none gave =
+    record { before = before; at = at; bytes = bytes; answer = Ok 0; after = after; gave = subst (λ n. gives before at bytes (Ok n) after) none gave; stops = inl (left, refl) }
 
 -- each turn so far took a byte, or a call failed
 pub tried_more : {F : Type 0} (turns done count now : ℕ) → (turns ≤ done) ⊎ F → count ≢ 0 → now ≡ done + count → (turns + 1 ≤ now) ⊎ F
@@ -24,6 +24,12 @@ tried_more turns done count now (inr failed) some is = inr failed
 
 rest_is : (bytes : List ℕ) (done : ℕ) → take (length bytes - done) (drop done bytes) ≡ drop done bytes
 rest_is bytes done = take_rest bytes done
+
+pub some_left : (bytes : List ℕ) (done : ℕ) → done < length bytes → 0 < length (take (length bytes - done) (drop done bytes))
+some_left bytes done more =
+    let e : length (drop done bytes) ≡ length bytes - done = length-drop done bytes in
+    let left : 0 < length (drop done bytes) = omega arith in
+    subst (λ (xs : List ℕ). 0 < length xs) (sym (rest_is bytes done)) left
 
 pub within_more : (bytes : List ℕ) (done count now : ℕ) → now ≡ done + count → done ≤ length bytes → count ≤ length (take (length bytes - done) (drop done bytes)) → now ≤ length bytes
 within_more bytes done count now is within fits =

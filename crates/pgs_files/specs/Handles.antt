@@ -1,10 +1,11 @@
 -- What a call on an area in a file answers, by what its handle gave.
-use Rattle.std.specs.Prelude.{◌≡◌, ◌⊎◌, ℕ, ◌+◌, ◌^◌, ◌<◌, ◌≤◌, Bool, true, false, List, length, Option, Some, None, Result, Ok, Err}
+use Rattle.std.specs.Prelude.{◌≡◌, ◌⊎◌, ℕ, ◌+◌, ◌^◌, ◌<◌, ◌≤◌, true, false, List, length}
+use Rattle.std.specs.Prelude.{Option, Some, None, Result, Ok, Err}
 use Rattle.std.specs.declared.io.Error.{Error}
 use Rattle.pgs_world.specs.declared.area.Area.{Area}
 use Rattle.pgs_world.specs.declared.area.Area.TheVariants.{A, B}
 use Rattle.pgs_files.specs.declared.area_files.AreaFiles.{AreaFiles}
-use Rattle.pgs_files.specs.Given.{PlacedCall, HasRead, HasWritten, HasFailed}
+use Rattle.pgs_files.specs.Given.{PlacedCall, BareCall, HasRead, HasWritten, HasFailed}
 
 -- the length that was given, of at most 2^40 bytes; a fault where none was given, or a greater one
 abbrev pub LengthIs : {H F : Type 0} → (H → Result ℕ Error → H → Type 0) → H → Result ℕ F → H → Type 0
@@ -25,7 +26,7 @@ WriteIs gives old at bytes (Err _) new =
     ((2 ^ 40 < at + length bytes) × (new ≡ old)) ⊎ (HasFailed gives × (done : ℕ) × HasWritten gives old at bytes done new)
 
 -- one call, and its answer
-abbrev pub CallIs : {H A F : Type 0} → (H → Bool → H → Type 0) → H → Result A F → H → Type 0
+abbrev pub CallIs : {H A F : Type 0} → BareCall H → H → Result A F → H → Type 0
 CallIs gives old (Ok _) new = gives old true new
 CallIs gives old (Err _) new = gives old false new
 

@@ -1,6 +1,6 @@
-use Rattle.std.proofs.Common.{inl, inr, refl, arith}
+use Rattle.std.proofs.Common.{◌<◌, inl, inr, refl, sym, subst, arith}
 use Rattle.pgs_files.specs.Given.HasRead.{read_none}
-use Rattle.pgs_files.proofs.Loops.{failed_by_error, failed_by_none, tried_more, buffer_within, buffer_within_more, read_all, read_more, read_no_more}
+use Rattle.pgs_files.proofs.Loops.{failed_by_error, failed_by_none, some_left, tried_more, buffer_within, buffer_within_more, read_all, read_more, read_no_more}
 use Rattle.pgs_files.proofs.area_file.read_within.Goals as goal
 use Rattle.pgs_files.proofs.area_file.read_within.Goals.{in-Ok, in-Err+else-ne}
 
@@ -13,7 +13,7 @@ returns-then-done-buf g c = read_all _ _ _ _ _ _ c.if-done-buf.true c.loop.invar
 pub returns-in-Ok-eq0 : goal.returns-in-Ok-eq0
 returns-in-Ok-eq0 g c =
     let gave = c.in-Ok-eq0.ensures.gives in
-    inr (failed_by_none _ _ _ _ _ _ c.in-Ok-eq0.field-0-test gave, _, read_more _ _ _ _ _ _ _ _ _ _ refl c.loop.invariant.within c.in-Ok-eq0.ensures.bound.0 c.loop.invariant.given gave)
+    inr (failed_by_none _ _ _ _ _ _ (subst (λ n. 0 < n) (sym c.read_once.auto.buf) (some_left _ _ c.if-done-buf.false)) c.in-Ok-eq0.field-0-test gave, _, read_more _ _ _ _ _ _ _ _ _ _ refl c.loop.invariant.within c.in-Ok-eq0.ensures.bound.0 c.loop.invariant.given gave)
 
 pub returns-then-ne : goal.returns-then-ne
 returns-then-ne g c =

@@ -1,6 +1,6 @@
 use Rattle.std.proofs.Common.{inl, inr, refl, arith}
 use Rattle.pgs_files.specs.Given.HasWritten.{wrote_none}
-use Rattle.pgs_files.proofs.Loops.{failed_by_error, failed_by_none, tried_more, within_more, wrote_more, wrote_no_more}
+use Rattle.pgs_files.proofs.Loops.{failed_by_error, failed_by_none, some_left, tried_more, within_more, wrote_more, wrote_no_more}
 use Rattle.pgs_files.proofs.area_file.write_within.Goals as goal
 use Rattle.pgs_files.proofs.area_file.write_within.Goals.{in-Ok, in-Err+else-ne}
 
@@ -10,7 +10,7 @@ loop-init g c = record { within = omega arith; written = wrote_none; tried = inl
 pub returns-in-Ok-eq0 : goal.returns-in-Ok-eq0
 returns-in-Ok-eq0 g c =
     let gave = c.in-Ok-eq0.ensures.gives in
-    inr (failed_by_none _ _ _ _ _ _ c.in-Ok-eq0.field-0-test gave, _, wrote_more _ _ _ _ _ _ _ _ _ refl c.loop.invariant.written gave)
+    inr (failed_by_none _ _ _ _ _ _ (some_left _ _ c.if-done-bytes.false) c.in-Ok-eq0.field-0-test gave, _, wrote_more _ _ _ _ _ _ _ _ _ refl c.loop.invariant.written gave)
 
 pub returns-then-ne : goal.returns-then-ne
 returns-then-ne g c =

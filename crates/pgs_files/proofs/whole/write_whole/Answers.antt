@@ -1,7 +1,7 @@
 use Rattle.std.proofs.Common.{inl, inr, refl, arith}
 use Rattle.pgs_files.specs.Given.HasWritten.{wrote_none}
 use Rattle.pgs_files.proofs.Knowing.{appends_none, front_here, front_kept, appends_at, appends_same}
-use Rattle.pgs_files.proofs.Loops.{failed_by_error, failed_by_none, tried_more, within_more, wrote_more, wrote_no_more}
+use Rattle.pgs_files.proofs.Loops.{failed_by_error, failed_by_none, some_left, tried_more, within_more, wrote_more, wrote_no_more}
 use Rattle.pgs_files.proofs.whole.write_whole.Goals as goal
 use Rattle.pgs_files.proofs.whole.write_whole.Goals.{in-Ok, in-Err+else-ne}
 
@@ -17,7 +17,7 @@ returns-in-Ok-eq0-clause-holds g c =
 pub returns-in-Ok-eq0-clause-given : goal.returns-in-Ok-eq0-clause-given
 returns-in-Ok-eq0-clause-given g c =
     let gave = c.in-Ok-eq0.ensures.gives in
-    inr (failed_by_none _ _ 0 _ _ _ c.in-Ok-eq0.field-0-test gave, _, wrote_more _ _ _ _ _ _ _ _ _ refl c.loop.invariant.written gave)
+    inr (failed_by_none _ _ 0 _ _ _ (some_left _ _ c.if-done-piece.false) c.in-Ok-eq0.field-0-test gave, _, wrote_more _ _ _ _ _ _ _ _ _ refl c.loop.invariant.written gave)
 
 pub returns-then-ne-clause-holds : goal.returns-then-ne-clause-holds
 returns-then-ne-clause-holds g c =
