@@ -1,8 +1,7 @@
--- The source over a reader and the world over a writer, as contracts see them: they tell nothing but their counts.
-use Rattle.std.specs.Prelude.{ℕ, List, Option, None}
+-- The world over a writer, as contracts see it: it tells nothing but its counts.
 use Rattle.pgs_world.specs.Untold.{untold}
 use Rattle.pgs_world.specs.World.{View}
-use Rattle.pgguard.specs.declared.counts.Counts.{Counts}
+use Rattle.pgs_files.specs.declared.counts.Counts.{Counts}
 
 abbrev pub view_of : Counts → View
 view_of counts =
@@ -13,7 +12,3 @@ view_of counts =
       put_faults = counts.put_faults;
       puts = counts.puts;
     })
-
--- the bytes that are left aren't told
-abbrev pub left_untold : Option (List ℕ)
-left_untold = None

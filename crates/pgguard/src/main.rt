@@ -3,20 +3,18 @@
 //! and world count their calls and faults and tell nothing.
 #![tactic(auto)]
 
-mod counts;
-mod stdin_source;
 mod stdout_world;
 #[cfg(test)]
 mod tests;
 
 use pgs_base::{Memory, Seed, Words};
+use pgs_files::StdinSource;
 use pgs_run::{Status, run};
 use std::alloc::Global;
 use std::collections::hash_map::RandomState;
 use std::env::{self, Args};
 use std::io::{self, ErrorKind};
 use std::process::ExitCode;
-use stdin_source::StdinSource;
 use stdout_world::StdoutWorld;
 
 // All of the arguments but the program's name.

@@ -6,8 +6,8 @@ ghost use Rattle.pgs_world.specs.Moment.{Passes, StopsBy, IsQuiet, ShowsOne, IsS
 ghost use Rattle.pgs_world.specs.World.{output_of, part, Adds, AddsFront};
 ghost use Rattle.pgguard.specs.Counted.{view_of};
 
-use crate::counts::Counts;
 use pgs_base::Seed;
+use pgs_files::Counts;
 use pgs_world::{Area, AreaFault, PutFault, World};
 use std::io::Write;
 

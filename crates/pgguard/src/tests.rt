@@ -1,9 +1,9 @@
 //! The program's source and world over bytes in memory: what `main` does with standard input and output, but for the
 //! system's own.
 
-use crate::stdin_source::StdinSource;
 use crate::stdout_world::StdoutWorld;
 use pgs_base::{Seed, Words};
+use pgs_files::StdinSource;
 use pgs_run::run;
 use std::test::Fail;
 

@@ -1,5 +1,5 @@
 ghost use Rattle.std.specs.Prelude.{◌≡◌, ◌+◌, ◌<◌, ◌≤◌, ◌^◌};
-ghost use Rattle.pgs_world.specs.Count.{Rose};
+ghost use Rattle.pgs_world.specs.Count.{Rose, raised};
 
 /// How often the world was called, how often a call on an area and a put failed, and how often a put didn't. A
 /// count of calls or faults stops at the end of a u64.
@@ -24,8 +24,20 @@ impl Counts {
         }
     }
 
+    /// Counts a call on an area that didn't fail.
+    pub fn call_area(&mut self)
+        ensures calls { self.old.calls ≤ self.new.calls }
+        ensures moment { Rose self.old.calls self.new.calls }
+        ensures area_faults { self.new.area_faults ≡ self.old.area_faults }
+        ensures put_faults { self.new.put_faults ≡ self.old.put_faults }
+        ensures puts { self.new.puts ≡ self.old.puts }
+    {
+        self.calls = self.calls.saturating_add(1);
+    }
+
     /// Counts a call on an area that failed.
     pub fn fail_area(&mut self)
+        ensures raised { self.new.area_faults ≡ raised self.old.area_faults }
         ensures rose { Rose self.old.area_faults self.new.area_faults }
         ensures later { self.old.area_faults ≤ self.new.area_faults }
         ensures calls { self.old.calls ≤ self.new.calls }
@@ -39,6 +51,7 @@ impl Counts {
 
     /// Counts a put that failed.
     pub fn fail_put(&mut self)
+        ensures raised { self.new.put_faults ≡ raised self.old.put_faults }
         ensures rose { Rose self.old.put_faults self.new.put_faults }
         ensures later { self.old.put_faults ≤ self.new.put_faults }
         ensures calls { self.old.calls ≤ self.new.calls }

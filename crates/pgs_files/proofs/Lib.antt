@@ -1,0 +1,3 @@
+pub mod Knowing
+pub mod Loops
+pub mod Views
