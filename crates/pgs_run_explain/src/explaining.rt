@@ -1,0 +1,91 @@
+ghost use Rattle.std.specs.Prelude.{◌≡◌, ◌<◌, is_some, true, IfOk};
+ghost use Rattle.pgs_pieces.specs.Puts.{Puts};
+ghost use Rattle.pgs_syntax.specs.Matches.{carried};
+ghost use Rattle.pgs_run_explain.specs.Explaining.{explained};
+
+use crate::keys::put_keys;
+use crate::types::put_types;
+use pgs_answer::absent_line;
+use pgs_base::{Elem, Steps};
+use pgs_graph::GraphRead;
+use pgs_pieces::{PutStop, put_made};
+use pgs_run_base::Status;
+use pgs_run_saved::StoreReader;
+use pgs_store::Store;
+use pgs_world::World;
+use std::alloc::Global;
+use std::marker::Brand;
+use std::sync::ledger::{Blank, Ledger};
+
+/// Tells of one element of a saved store: a line for each type of the guard that it fits, abstract ones too, and for each key in whose
+/// scope it is a line, and one for each of its values. Where the element is not in the graph one line says so, and the status is
+/// `Refused`.
+#[derive(Clone, Copy, Debug)]
+pub struct Explaining {
+    /// The element.
+    pub elem: Elem,
+}
+
+// Whether an element is in a graph.
+fn is_there<G: GraphRead, L: Ledger>(graph: &G, elem: Elem, steps: &mut Steps<L>) -> bool
+    ensures { result ≡ is_some (carried (G.meaning graph.now) elem) }
+{
+    match elem {
+        Elem::Node(id) => graph.node(id, steps).is_some(),
+        Elem::Edge(id) => graph.edge(id, steps).is_some(),
+    }
+}
+
+// Puts the types and the keys of an element that is in the graph.
+fn put_present<W: World, L: Ledger>(
+    alloc: Global,
+    world: &mut W,
+    store: &Store,
+    elem: Elem,
+    steps: &mut Steps<L>,
+) -> Result<(), PutStop>
+    requires { is_some (carried store.now.guard.graph elem) ≡ true }
+    ensures { Puts (W.view world.old) (explained store.now.guard.schema store.now.guard.graph elem).pieces result (W.view world.new) }
+{
+    let types = store.types_of(elem)?;
+    put_types(alloc, world, store.compiled().resolved(), types.as_slice())?;
+    put_keys(alloc, world, store, elem, steps)
+}
+
+// Puts what is told of an element: whether it is in the graph.
+fn put_explained<W: World, L: Ledger>(
+    alloc: Global,
+    world: &mut W,
+    store: &Store,
+    elem: Elem,
+    blank: Blank,
+) -> Result<bool, PutStop>
+    requires name { blank.name ≡ L.name }
+    requires parts { blank.parts ≡ L.parts }
+    requires some { 0 < blank.parts }
+    ensures puts { Puts (W.view world.old) (explained store.now.guard.schema store.now.guard.graph elem).pieces result (W.view world.new) }
+    ensures there { IfOk result (λ there. there ≡ is_some (carried store.now.guard.graph elem)) }
+{
+    let mut steps: Steps<L> = Steps::begin(blank);
+    if is_there(store.graph(), elem, &mut steps) {
+        put_present(alloc, world, store, elem, &mut steps)?;
+        return Ok(true);
+    }
+    put_made(world, absent_line(alloc, elem))?;
+    Ok(false)
+}
+
+impl StoreReader for Explaining {
+    ghost use Rattle.pgs_run_explain.specs.Explaining.{explained};
+
+    ghost tells = { λ explaining store. explained store.schema store.graph explaining.elem };
+
+    fn tell<W: World>(&self, alloc: Global, world: &mut W, store: &Store) -> Status {
+        match put_explained::<W, Brand>(alloc, world, store, self.elem, Blank::new(1)) {
+            Ok(true) => Status::Accepted,
+            Ok(false) => Status::Refused,
+            Err(PutStop::PutFault) => Status::PutFault,
+            Err(PutStop::Memory) => Status::Memory,
+        }
+    }
+}

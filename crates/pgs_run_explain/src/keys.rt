@@ -1,0 +1,84 @@
+//! The lines of the keys in whose scope an element is.
+
+ghost use Rattle.std.specs.Prelude.{◌≡◌, ◌<◌, ◌≤◌, length, map};
+ghost use Rattle.pgs_answer.specs.Lines.{key_value_line};
+ghost use Rattle.pgs_pieces.specs.Puts.{Puts};
+ghost use Rattle.pgs_store.specs.Explained.{key_values_of};
+ghost use Rattle.pgs_run_explain.specs.Explaining.{key_lines, key_numbers, keys_lines};
+
+use pgs_answer::{key_scope_line, key_value_line};
+use pgs_base::{Elem, Steps, Tuple, TupleSet};
+use pgs_pieces::{PutStop, put_made};
+use pgs_store::Store;
+use pgs_world::World;
+use std::alloc::Global;
+use std::sync::ledger::Ledger;
+
+// Puts the lines of values under the key of a number.
+fn put_values<W: World>(
+    alloc: Global,
+    world: &mut W,
+    number: u32,
+    values: &[Tuple],
+) -> Result<(), PutStop>
+    ensures { Puts (W.view world.old) (map (key_value_line number) values.now) result (W.view world.new) }
+{
+    for tuple in values {
+        put_made(world, key_value_line(alloc, number, tuple))?;
+    }
+    Ok(())
+}
+
+// Puts the lines of a key of a number, by the values under it of an element that is in its scope.
+fn put_scope<W: World>(
+    alloc: Global,
+    world: &mut W,
+    number: u32,
+    values: &Option<TupleSet>,
+) -> Result<(), PutStop>
+    ensures { Puts (W.view world.old) (key_lines number values.now) result (W.view world.new) }
+{
+    match values {
+        Some(values) => {
+            put_made(world, key_scope_line(alloc, number))?;
+            put_values(alloc, world, number, values.as_slice())
+        }
+        None => Ok(()),
+    }
+}
+
+// Puts what the store says of an element under the key of a number, from 1.
+fn put_key<W: World, L: Ledger>(
+    alloc: Global,
+    world: &mut W,
+    store: &Store,
+    number: u32,
+    elem: Elem,
+    steps: &mut Steps<L>,
+) -> Result<(), PutStop>
+    requires from_one { 0 < number }
+    requires in_range { number ≤ length store.now.guard.schema.guard.keys }
+    ensures { Puts (W.view world.old)
+        (key_lines number (key_values_of store.now.guard.schema store.now.guard.graph number elem)) result (W.view world.new) }
+{
+    let values = store.key_values(number, elem, steps)?;
+    put_scope(alloc, world, number, &values)
+}
+
+/// Puts what the store says of an element under each key.
+pub(crate) fn put_keys<W: World, L: Ledger>(
+    alloc: Global,
+    world: &mut W,
+    store: &Store,
+    elem: Elem,
+    steps: &mut Steps<L>,
+) -> Result<(), PutStop>
+    ensures { Puts (W.view world.old)
+        (keys_lines store.now.guard.schema store.now.guard.graph elem (key_numbers store.now.guard.schema)) result (W.view world.new) }
+{
+    let count = store.compiled().resolved().guard.keys.len() as u32;
+    for place in 0..count {
+        put_key(alloc, world, store, place + 1, elem, steps)?;
+    }
+    Ok(())
+}
