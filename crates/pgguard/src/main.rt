@@ -1,37 +1,71 @@
-//! The program: it makes the words, standard input and standard output, and calls `pgs_run::run`.
-//! Nothing else stands here. What a terminal, a pipe or a file holds is told by no clause: the real source
-//! and world count their calls and faults and tell nothing.
+//! The program: it makes the words, opens the files that they name, and calls `pgs_run::run` over standard input and output.
+//!
+//! What stands here is `run_program`, which is all but the system's handles and says what is put over a reader and a writer that tell
+//! their bytes, and the opening of what the words name. What a terminal, a pipe or a file holds is told by no clause: the adapters of
+//! `pgs_files` count their calls and faults.
 #![tactic(auto)]
 
-mod stdout_world;
+mod opening;
+mod program;
 #[cfg(test)]
 mod tests;
 
+ghost use Rattle.std.specs.Prelude.{◌≡◌, ◌≢◌, ◌++◌, [], Ok, IsErr, IfErr, IfOk};
+ghost use Rattle.std.specs.IoError.{error_kind};
+ghost use Rattle.std.specs.Process.{exit_status};
+ghost use Rattle.std.specs.Vec.Iter.{into_iter_items};
+ghost use Rattle.pgs_run_base.specs.ExitStatus.{status_number};
+ghost use Rattle.pgguard.specs.Known.{words_behind};
+
+use opening::{areas_of, feeds_of};
 use pgs_base::{Memory, Seed, Words};
-use pgs_files::StdinSource;
-use pgs_run::{Status, run};
+use pgs_files::FileFeed;
+use pgs_run::Status;
+use program::run_program;
 use std::alloc::Global;
 use std::collections::hash_map::RandomState;
 use std::env::{self, Args};
-use std::io::{self, ErrorKind};
+use std::fs::File;
+use std::io::{self, ErrorKind, Stdin, Stdout};
 use std::process::ExitCode;
-use stdout_world::StdoutWorld;
 
-// All of the arguments but the program's name.
-fn words_in(alloc: Global, arguments: Args) -> Result<Words, Memory> {
+// The exit code of a status: its number.
+fn exit_code(status: Status) -> ExitCode
+    ensures { exit_status result ≡ status_number status }
+{
+    ExitCode::from(status.number())
+}
+
+// The words after the program's name.
+#[tactic(auto, using(crate::proofs::Knowing::behind_name))]
+fn words_in(alloc: Global, arguments: Args) -> Result<Words, Memory>
+    ensures { IfOk result (λ words. words ≡ words_behind (into_iter_items arguments)) }
+{
     let mut words = Words::new(alloc);
-    for argument in arguments.skip(1) {
+    let mut arguments = arguments;
+    let Some(_) = arguments.next() else {
+        return Ok(words);
+    };
+    for argument in arguments {
         words.push(argument.as_str())?;
     }
     Ok(words)
 }
 
-// The words after the program's name. Arguments that aren't all UTF-8 give no words, which are no command.
-fn words_of(alloc: Global, arguments: io::Result<Args>) -> Result<Words, Memory> {
+// The words of a command line. Arguments that aren't all UTF-8 give no words, which are no command.
+fn words_of(alloc: Global, arguments: io::Result<Args>) -> Result<Words, Memory>
+    ensures words { IfOk arguments (λ all. IfOk result (λ words. words ≡ words_behind (into_iter_items all))) }
+    ensures no_words { IfErr arguments (λ error. error_kind error ≢ ErrorKind.OutOfMemory → result ≡ Ok []) }
+    ensures memory { IfErr arguments (λ error. error_kind error ≡ ErrorKind.OutOfMemory → IsErr result) }
+{
     match arguments {
         Ok(arguments) => words_in(alloc, arguments),
-        Err(error) if error.kind() == ErrorKind::OutOfMemory => Err(Memory),
-        Err(_) => Ok(Words::new(alloc)),
+        Err(error) => {
+            if error.kind() == ErrorKind::OutOfMemory {
+                return Err(Memory);
+            }
+            Ok(Words::new(alloc))
+        }
     }
 }
 
@@ -44,15 +78,30 @@ fn seed_of(drawn: io::Result<RandomState>) -> Seed {
     }
 }
 
+// Opens what the words name, and runs them.
+fn run_words(rt: &HostRuntime, words: &Words) -> Result<Status, Memory> {
+    let areas = areas_of(rt, rt.alloc(), words)?;
+    let mut feeds = feeds_of(rt, rt.alloc(), words)?;
+    let seed = seed_of(RandomState::new(rt));
+    let (status, _) = run_program::<Stdin, Stdout, File, FileFeed<File>>(
+        rt.alloc(),
+        words,
+        rt.stdin(),
+        rt.stdout(),
+        areas,
+        &mut feeds,
+        seed,
+    );
+    Ok(status)
+}
+
 fn main(rt: HostRuntime) -> ExitCode {
     let status = match words_of(rt.alloc(), env::args(&rt)) {
-        Ok(words) => {
-            let seed = seed_of(RandomState::new(&rt));
-            let mut source = StdinSource::new(rt.stdin());
-            let mut world = StdoutWorld::new(rt.stdout(), seed);
-            run(rt.alloc(), &words, &mut source, &mut world)
-        }
-        Err(Memory) => Status::Memory,
+        Ok(words) => run_words(&rt, &words),
+        Err(Memory) => Err(Memory),
     };
-    ExitCode::from(status.number())
+    match status {
+        Ok(status) => exit_code(status),
+        Err(Memory) => exit_code(Status::Memory),
+    }
 }

@@ -1,9 +1,7 @@
 //! The program's source and world over bytes in memory: what `main` does with standard input and output, but for the
 //! system's own.
 
-use crate::stdout_world::StdoutWorld;
 use pgs_base::{Seed, Words};
-use pgs_files::StdinSource;
 use pgs_run::run;
 use std::test::Fail;
 
@@ -42,10 +40,17 @@ fn runs(rt: HostRuntime) -> Result<(), Fail> {
     ] {
         let mut words = Words::new(rt.alloc());
         words.push(word)?;
-        let mut output = Vec::new(rt.alloc());
-        let mut source = StdinSource::new(input.as_bytes());
-        let mut world = StdoutWorld::new(&mut output, Seed::Fixed);
-        let found = run(rt.alloc(), &words, &mut source, &mut world);
+        let mut feeds: FeedList<FileFeed<File>> = FeedList::new(rt.alloc());
+        let areas: AreaFiles<File> = AreaFiles::absent();
+        let (found, output) = run_program(
+            rt.alloc(),
+            &words,
+            input.as_bytes(),
+            Vec::new(rt.alloc()),
+            areas,
+            &mut feeds,
+            Seed::Fixed,
+        );
         assert_eq!(rt; found.number(), status, "{input}");
         assert_eq!(rt; output.as_slice(), want.as_bytes(), "{input}");
     }
