@@ -1,8 +1,11 @@
 //! The program's source and world over bytes in memory: what `main` does with standard input and output, but for the
 //! system's own.
 
+use crate::program::run_program;
 use pgs_base::{Seed, Words};
-use pgs_run::run;
+use pgs_feed::FeedList;
+use pgs_files::{AreaFiles, FileFeed};
+use std::fs::File;
 use std::test::Fail;
 
 const PERSONS: &str = r#"CREATE GRAPH TYPE g STRICT {(p: Person {name STRING})};
