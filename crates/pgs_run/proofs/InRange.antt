@@ -77,16 +77,15 @@ read_few : (plain : Bool) (words : List (List ℕ)) → IfSome (cond plain (comm
 read_few true words = plain_few words
 read_few false words = tt
 
-built_few : (command : Option Command) → IfSome command HasFew → IfSome (option_and_then built command) IsInRange
-built_few None few = tt
-built_few (Some Try) few = tt
-built_few (Some Validate) few = tt
-built_few (Some Load) few = tt
-built_few (Some Apply) few = tt
-built_few (Some Recover) few = tt
-built_few (Some (Explain elem)) few = tt
-built_few (Some (Gen start count)) few = few
-built_few (Some Checkpoint) few = tt
+built_few : (command : Command) → HasFew command → IfSome (built command) IsInRange
+built_few Try few = tt
+built_few Validate few = tt
+built_few Load few = tt
+built_few Apply few = tt
+built_few Recover few = tt
+built_few (Explain elem) few = tt
+built_few (Gen start count) few = few
+built_few Checkpoint few = tt
 
 read_in_range : (words : List (List ℕ)) → IfSome (reading.command_of words) HasFew
 unfolding reading.command_of
@@ -94,4 +93,4 @@ read_in_range words = read_few (are_plain words) words
 
 -- the command of the words is in range
 pub named_in_range : (words : List (List ℕ)) (command : Command) → reading.command_of words ≡ Some command → IfSome (built command) IsInRange
-named_in_range words command is = built_few (Some command) (subst (λ (read : Option Command). IfSome read HasFew) is (read_in_range words))
+named_in_range words command is = built_few command (subst (λ (read : Option Command). IfSome read HasFew) is (read_in_range words))
