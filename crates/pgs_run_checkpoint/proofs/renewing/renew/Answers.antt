@@ -1,4 +1,4 @@
-use Rattle.std.proofs.Common.{◌≡◌, ◌+◌, ◌≤◌, ◌∷◌, [], Some, refl, sym, ap, subst, arith}
+use Rattle.std.proofs.Common.{Some, refl, sym, ap, subst}
 use Rattle.pgs_answer.specs.Lines.{store_refused_line}
 use Rattle.pgs_answer.specs.Refusals.{epochs_spent_text}
 use Rattle.pgs_lines.specs.Machine.{Told}

@@ -1,4 +1,4 @@
-use Rattle.std.proofs.Common.{◌≡◌, true, false, rules, sym, subst}
+use Rattle.std.proofs.Common.{true, false, rules, sym, subst}
 use Rattle.pgs_lines.specs.Ending.{Faults, faults_of}
 use Rattle.pgs_run_base.specs.Run.{HasCommandCause}
 use Rattle.pgs_run_saved.proofs.Shown.{same_faults}
