@@ -1,5 +1,5 @@
 -- How a run ends, by how the collecting of its text ended and by the loading of the text.
-use Rattle.std.proofs.Common.{◌≡◌, ◌⊎◌, inl, inr, ℕ, ◌+◌, ◌-◌, ◌≤◌, Bool, true, false, cond, nat_le, IsTrue, List, [], ◌∷◌, ◌++◌, length, Option, Some, None, Result, Ok, Err, refl, sym, ap, subst, ◌∙◌, arith}
+use Rattle.std.proofs.Common.{◌≡◌, inl, inr, ℕ, ◌+◌, ◌-◌, ◌≤◌, Bool, true, false, cond, nat_le, IsTrue, List, [], ◌∷◌, ◌++◌, length, Option, Some, None, Result, Ok, Err, refl, sym, ap, subst, ◌∙◌, arith}
 use Rattle.std.specs.Option.{option_map}
 use Rattle.std.specs.List.{concat}
 use Rattle.std.proofs.lemmas.List.{append-nil}
@@ -18,7 +18,6 @@ use Rattle.pgs_lines.proofs.Showing.{all_first}
 use Rattle.pgs_snapshot.specs.Choice.{choice_of, no_store}
 use Rattle.pgs_store.specs.Loads.{FindsNone}
 use Rattle.pgs_world.specs.Moment.{IsTimed, IsSettled, IsQuiet, Passes, EachSince}
-use Rattle.pgs_world.specs.Source.{IsAtEnd}
 use Rattle.pgs_world.specs.World.{Triple, View}
 use Rattle.pgs_world.proofs.Moments.{each_on, each_quiet}
 use Rattle.pgs_run_base.specs.declared.status.Status.{Status}
@@ -27,7 +26,7 @@ use Rattle.pgs_run_base.specs.Areas.{Areas}
 use Rattle.pgs_run_base.specs.Ending.{Ends}
 use Rattle.pgs_run_base.specs.Input.{text_limit, text_front}
 use Rattle.pgs_run_base.specs.Part.{Part, no_part}
-use Rattle.pgs_run_base.specs.Run.{IsRead, EndsAs, HasCommandCause}
+use Rattle.pgs_run_base.specs.Run.{EndsAs, HasCommandCause}
 use Rattle.pgs_run_saved.specs.Opening.{IsAnswer}
 use Rattle.pgs_run_load.specs.declared.collecting.Collected.{Collected}
 use Rattle.pgs_run_load.specs.declared.collecting.Collected.TheVariants.{Text, Cut}
@@ -192,37 +191,6 @@ ends_without_text input areas budget before left part stop status start now new 
     ends_at input areas budget before left start now stop status is without by may
     (subst (λ p. over.EndsAs (told_by collecting text_limit p input) start input budget left stop now) new ends)
 
--- ---- whether the input was read to its end
-
-read_any : (left : Option (List ℕ)) (status : Status) → IsAtEnd left → IsRead left status
-read_any left Accepted end = end
-read_any left Refused end = end
-read_any left BadWords end = tt
-read_any left SchemaRefused end = tt
-read_any left StoreRefused end = tt
-read_any left DiskFault end = tt
-read_any left ReadFault end = tt
-read_any left PutFault end = tt
-read_any left Memory end = tt
-read_any left InputTooLong end = tt
-
-text_end : (budget : ℕ) (before left : Option (List ℕ)) (text : List ℕ) → EndsBy collecting budget before left (stops.Ended (Text text)) → IsAtEnd left
-text_end budget before left text (inl line) = let no = line.is in cc
-text_end budget before left text (inr (inl end)) = end.at_end
-text_end budget before left text (inr (inr cut)) = let no = cut.is in cc
-
-pub read_loaded : (budget : ℕ) (before left : Option (List ℕ)) (stop : Stop Collected) (text : List ℕ) (status : Status) → collected stop ≡ Ok text → EndsBy collecting budget before left stop → IsRead left status
-read_loaded budget before left stop text status is by =
-    read_any left status (text_end budget before left text (subst (EndsBy collecting budget before left) (text_stop stop text is) by))
-
-pub read_without : (left : Option (List ℕ)) (stop : Stop Collected) (status : Status) → collected stop ≡ Err status → IsRead left status
-read_without left (stops.Ended (Text text)) status is = cc
-read_without left (stops.Ended Cut) status is = subst (IsRead left) (same_status InputTooLong status is) tt
-read_without left stops.ReadFault status is = subst (IsRead left) (same_status ReadFault status is) tt
-read_without left stops.AreaFault status is = subst (IsRead left) (same_status DiskFault status is) tt
-read_without left stops.PutFault status is = subst (IsRead left) (same_status PutFault status is) tt
-read_without left stops.Memory status is = subst (IsRead left) (same_status Memory status is) tt
-
 -- ---- causes
 
 -- a command that reads its source too
@@ -244,24 +212,12 @@ cause_loaded before mid now stop text status is cause more =
     let same : mid ≡ before = subst (HasCause before mid) (text_stop stop text is) cause in
     reads_too before now status (subst (λ b. HasCommandCause false true b now status) same more)
 
-pub cause_without_text : (before now : Faults) (stop : Stop Collected) (status : Status) → collected stop ≡ Err status → MayCome collecting stop → HasCause before now stop → HasCommandCause true true before now status
-cause_without_text before now (stops.Ended (Text text)) status is may cause = cc
-cause_without_text before now (stops.Ended Cut) status is may cause = subst (HasCommandCause true true before now) (same_status InputTooLong status is) cause
-cause_without_text before now stops.ReadFault status is may cause = subst (HasCommandCause true true before now) (same_status ReadFault status is) (refl, cause)
-cause_without_text before now stops.AreaFault status is may cause = absurd may
-cause_without_text before now stops.PutFault status is may cause = absurd may
-cause_without_text before now stops.Memory status is may cause = subst (HasCommandCause true true before now) (same_status Memory status is) cause
-
 -- ---- stops
 
 -- what areas find is found in them where the world was only read
 pub found_quiet : (old new : View) → IsQuiet old new → FindsNone old → FindsNone new
 found_quiet old new quiet free told =
     subst (λ (t : Triple). choice_of t.a t.b ≡ no_store) (sym quiet.shown) (free (sym quiet.passes.tells_bytes ∙ told))
-
-pub found_before : (old new : View) → IsQuiet old new → FindsNone new → FindsNone old
-found_before old new quiet free told =
-    subst (λ (t : Triple). choice_of t.a t.b ≡ no_store) quiet.shown (free (quiet.passes.tells_bytes ∙ told))
 
 -- while the text is collected
 pub collects_at : (old mid : View) (input : List ℕ) → IsTimed old → FindsNone old → IsTrue old.tells_output → IsSettled old → IsQuiet old mid → EachSince (IsLoadingAt old.shown input) old mid

@@ -1,19 +1,17 @@
 -- What a reply to a load says of the text and of the areas, and how a run ends that puts it.
-use Rattle.std.proofs.Common.{◌≡◌, ◌⊎◌, inl, inr, ℕ, ◌≤◌, Bool, true, false, cond, IsTrue, IfOk, List, [], ◌∷◌, Some, None, Result, Ok, Err, refl, sym, ap, subst, ◌∙◌}
+use Rattle.std.proofs.Common.{◌≡◌, inl, inr, ℕ, Bool, true, false, cond, IsTrue, IfOk, List, [], ◌∷◌, Some, None, Result, Ok, Err, refl, sym, ap, subst, ◌∙◌}
 use Rattle.pgs_base.specs.declared.limits.Limits.{Limits}
 use Rattle.pgs_base.specs.declared.memory.Memory.{Memory as NoMemory}
-use Rattle.pgs_lines.specs.Ending.{Faults, faults_of, PutsRose}
+use Rattle.pgs_lines.specs.Ending.{Faults, faults_of}
 use Rattle.pgs_lines.specs.Machine.{Told}
-use Rattle.pgs_lines.specs.Pieces.{Shown, shown_of, ShowsAll, ShowsTorn}
+use Rattle.pgs_lines.specs.Pieces.{Shown, shown_of, ShowsAll}
 use Rattle.pgs_lines.proofs.Causes.{world_same}
-use Rattle.pgs_lines.proofs.Showing.{shows_none, all_first}
-use Rattle.pgs_resolve.specs.SchemaOf.{schema, schema_of}
-use Rattle.pgs_schema.specs.Told.{answer_of}
+use Rattle.pgs_resolve.specs.SchemaOf.{schema_of}
 use Rattle.pgs_snapshot.specs.Choice.{Choice, choice_of}
 use Rattle.pgs_snapshot.specs.Choice as choices
 use Rattle.pgs_store.specs.declared.fault.LoadFault.{LoadFault}
 use Rattle.pgs_store.specs.declared.fault.LoadFault.TheVariants as faults
-use Rattle.pgs_store.specs.Loads.{Loads, IsLoaded, IsStore, HasSchema, is_disk_fault}
+use Rattle.pgs_store.specs.Loads.{Loads, IsStore, is_disk_fault}
 use Rattle.pgs_store.specs.State.{GuardState}
 use Rattle.pgs_store.specs.Stored.{StoreState}
 use Rattle.pgs_store.specs.World.{CountsFault}
@@ -31,10 +29,9 @@ use Rattle.pgs_run_base.specs.Input.{text_front}
 use Rattle.pgs_run_base.specs.Run.{HasCommandCause}
 use Rattle.pgs_run_base.specs.Session.{standard}
 use Rattle.pgs_run_base.proofs.SameFronts.{schema_of_front}
-use Rattle.pgs_run_saved.specs.Opening.{IsAnswer}
 use Rattle.pgs_run_saved.specs.Refusing.{told_under, store_refused}
 use Rattle.pgs_run_load.specs.declared.replying.Reply.{Reply}
-use Rattle.pgs_run_load.specs.Replying.{Replies, EndsReply, IsSchemaLine, with_status}
+use Rattle.pgs_run_load.specs.Replying.{Replies, EndsReply, with_status}
 use Rattle.pgs_run_load.specs.Told.{line_of, told_choice, told_text}
 
 -- the limits of the program
@@ -119,29 +116,6 @@ replied_status (Err (faults.Schema fault)) reply replies = subst IsReplied (sym 
 replied_status (Err faults.Memory) reply replies = absurd replies
 replied_status (Err faults.DiskFault) reply replies = absurd replies
 
-replied_answer : (status : Status) → IsReplied status → IsAnswer status
-replied_answer Accepted is = tt
-replied_answer SchemaRefused is = tt
-replied_answer StoreRefused is = tt
-replied_answer Refused is = absurd is
-replied_answer BadWords is = absurd is
-replied_answer DiskFault is = absurd is
-replied_answer ReadFault is = absurd is
-replied_answer PutFault is = absurd is
-replied_answer Memory is = absurd is
-replied_answer InputTooLong is = absurd is
-
-pub answer_reply : (reply : Reply) (old now : View) (result : Status) → IsReplied reply.status → EndsReply reply old result now → IsAnswer result
-answer_reply reply old now result is (inl put) = subst IsAnswer (sym put.0) (replied_answer reply.status is)
-answer_reply reply old now result is (inr torn) = subst IsAnswer (sym torn.0) tt
-
-without_answer : (status : Status) (fault : Bool) → status ≡ cond fault DiskFault Memory → IsAnswer status
-without_answer status true is = subst IsAnswer (sym is) tt
-without_answer status false is = subst IsAnswer (sym is) tt
-
-pub answer_without : (loaded : Result StoreState LoadFault) (status : Status) → Replies (Err status) loaded → IsAnswer status
-answer_without loaded status is = without_answer status (is_disk_fault loaded) is
-
 -- ---- what is shown
 
 -- a call that puts nothing shows the same
@@ -176,16 +150,6 @@ pub ends_reply : (told : Told Status) (start : Shown) (reply : Reply) (old now :
     → IsReplied reply.status → EndsReply reply old result now → Ends start told result (shown_of now)
 ends_reply told start reply old now result same is status ends =
     subst (λ s. Ends s told result (shown_of now)) same (subst (λ t. Ends (shown_of old) t result (shown_of now)) (sym is) (line_ends reply old now result status ends))
-
-without_ends : (told : Told Status) (start : Shown) (status : Status) (fault : Bool) → status ≡ cond fault DiskFault Memory → Ends start told status start
-without_ends told start status true is =
-    subst (λ s. Ends start told s start) (sym is) (all_first start start [] told.pieces (shows_none start))
-without_ends told start status false is =
-    subst (λ s. Ends start told s start) (sym is) (all_first start start [] told.pieces (shows_none start))
-
--- nothing was put
-pub ends_without : (told : Told Status) (start now : Shown) (loaded : Result StoreState LoadFault) (status : Status) → now ≡ start → Replies (Err status) loaded → Ends start told status now
-ends_without told start now loaded status same is = subst (Ends start told status) (sym same) (without_ends told start status (is_disk_fault loaded) is)
 
 -- ---- causes
 
@@ -229,14 +193,3 @@ cause_reply reads loaded reply old mid now result counts none replies ends =
     let areas : mid.area_faults ≡ old.area_faults = subst (λ b. CountsFault b old mid) (no_fault loaded reply replies) counts in
     subst (λ before. HasCommandCause false true before (faults_of reads now) result) (same_faults reads old mid areas none.put_faults)
     (line_cause reads reply mid now result (replied_status loaded reply replies) ends)
-
-without_cause : (reads : ℕ) (old now : View) (status : Status) (fault : Bool) → CountsFault fault old now → MakesNoPut old now → status ≡ cond fault DiskFault Memory
-    → HasCommandCause false true (faults_of reads old) (faults_of reads now) status
-without_cause reads old now status true counts none is =
-    subst (HasCommandCause false true (faults_of reads old) (faults_of reads now)) (sym is) (refl, (counts, refl, none.put_faults))
-without_cause reads old now status false counts none is =
-    subst (HasCommandCause false true (faults_of reads old) (faults_of reads now)) (sym is) (same_faults reads old now counts none.put_faults)
-
-pub cause_without : (reads : ℕ) (loaded : Result StoreState LoadFault) (old now : View) (status : Status) → CountsFault (is_disk_fault loaded) old now → MakesNoPut old now → Replies (Err status) loaded
-    → HasCommandCause false true (faults_of reads old) (faults_of reads now) status
-cause_without reads loaded old now status counts none is = without_cause reads old now status (is_disk_fault loaded) counts none is

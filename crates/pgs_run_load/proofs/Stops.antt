@@ -1,5 +1,5 @@
 -- What a stop leaves while a text is loaded: before the load, inside it, and inside the put of its line.
-use Rattle.std.proofs.Common.{◌≡◌, ◌⊎◌, inl, inr, ⊎_elim, ℕ, ◌<◌, Bool, true, false, nat_lt, IsTrue, List, [], ◌∷◌, ◌++◌, length, Some, Result, Ok, Err, refl, sym, ap, subst, ◌∙◌, arith}
+use Rattle.std.proofs.Common.{◌≡◌, ◌⊎◌, inl, inr, ⊎_elim, ℕ, IsTrue, List, [], ◌++◌, Result, Ok, Err, sym, ap, subst, ◌∙◌}
 use Rattle.std.proofs.lemmas.List.{append-nil}
 use Rattle.pgs_base.specs.Graph.{empty_graph}
 use Rattle.pgs_resolve.specs.SchemaOf.{schema, schema_of}
@@ -19,7 +19,6 @@ use Rattle.pgs_world.specs.Disk.{Puts}
 use Rattle.pgs_world.specs.Moment.{IsTimed, IsSettled, Passes, EachSince, StopsBy}
 use Rattle.pgs_world.specs.World.{Triple, View}
 use Rattle.pgs_world.proofs.Moments.{each_on, each_now}
-use Rattle.pgs_run_base.specs.declared.status.Status.{Status}
 use Rattle.pgs_run_base.specs.Answers.{schema_or_text, schema_answer}
 use Rattle.pgs_run_base.specs.Input.{text_front}
 use Rattle.pgs_run_base.specs.Session.{standard}
@@ -68,8 +67,8 @@ state_loaded text input triple front (inr (resolved, end, of_text, is)) = inr (n
 -- ---- before the line is put
 
 -- no line is empty
-not_empty : (schema : Resolved) → [] ≡ line_of schema → ⊥
-not_empty schema is = cc
+not_empty : (resolved : Resolved) → [] ≡ line_of resolved → ⊥
+not_empty resolved is = cc
 
 -- the output is as it was
 loading_at : (was c : Triple) (text : List ℕ) → c.output ≡ was.output → (saved standard c.a c.b ≡ no_store) ⊎ IsNewStore text c → IsLoadingAt was text c
@@ -77,7 +76,7 @@ loading_at was c text output state = record {
   front = [];
   out = output ∙ sym (append-nil was.output);
   state = state;
-  loaded = λ schema is said. absurd (not_empty schema said);
+  loaded = λ resolved is said. absurd (not_empty resolved said);
 }
 
 -- at the start nothing is saved
@@ -99,12 +98,12 @@ loads_at text input old mid front timed tells settled beside each c left =
 pub made_at : (text input : List ℕ) (loaded : Result StoreState LoadFault) (reply : Reply) (old mid : View) → text ≡ text_front input → FindsNone old → IsTrue old.tells_bytes
     → IsTrue mid.honest → IsTrue mid.tells_bytes → Loads loaded standard text old mid → Replies (Ok reply) loaded
     → (resolved : Resolved) → schema_answer input ≡ Ok resolved → (d : Triple) → mid.may_leave d → IsNewStore input d
-made_at text input (Ok store) reply old mid front free told honest tells loads replies resolved is d left =
+made_at text input (Ok made) reply old mid front free told honest tells loads replies resolved is d left =
     let settled = loads.stands.settled honest tells in
-    let saved : IsSavedIn (opened text loads.resolved standard) (first_journal store.journal.end) mid.shown =
-    subst (λ (g : GuardState). IsSavedIn g (first_journal store.journal.end) mid.shown) loads.guard
-    (subst (λ j. IsSavedIn store.guard j mid.shown) loads.journal (loads.stands.saved tells)) in
-    same_new input d mid.shown (settled.a d left) (settled.b d left) (new_store text input loads.resolved store.journal.end mid.shown front loads.of_text saved)
+    let saved : IsSavedIn (opened text loads.resolved standard) (first_journal made.journal.end) mid.shown =
+    subst (λ (g : GuardState). IsSavedIn g (first_journal made.journal.end) mid.shown) loads.guard
+    (subst (λ j. IsSavedIn made.guard j mid.shown) loads.journal (loads.stands.saved tells)) in
+    same_new input d mid.shown (settled.a d left) (settled.b d left) (new_store text input loads.resolved made.journal.end mid.shown front loads.of_text saved)
 made_at text input (Err faults.AlreadyStore) reply old mid front free told honest tells loads replies resolved is d left =
     absurd (subst IsStore (free told) (loads.1 told))
 made_at text input (Err faults.Foreign) reply old mid front free told honest tells loads replies resolved is d left =

@@ -57,7 +57,12 @@ impl LineTaker for Collecting {
         }
     }
 
-    fn end_input<W: World>(&mut self, alloc: Global, world: &mut W, rest: &[u8]) -> Stop<Collected> {
+    fn end_input<W: World>(
+        &mut self,
+        alloc: Global,
+        world: &mut W,
+        rest: &[u8],
+    ) -> Stop<Collected> {
         match self.part.push_line(rest) {
             Ok(()) => match Bytes::from_slice(alloc, self.part.text()) {
                 Ok(text) => Stop::Ended(Collected::Text(text)),

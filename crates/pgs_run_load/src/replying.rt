@@ -36,7 +36,7 @@ fn line_of(alloc: Global, store: &Store) -> Result<Bytes, Memory>
 }
 
 // The line where an area is a store.
-fn already_store_line(alloc: Global) -> Result<Bytes, Memory>
+fn occupied_line(alloc: Global) -> Result<Bytes, Memory>
     ensures { IfOk result (λ line. line ≡ store_refused_line already_store_text) }
 {
     let text = already_store_text(alloc)?;
@@ -75,9 +75,12 @@ pub fn reply_to(alloc: Global, loaded: Result<Store, LoadFault>) -> Result<Reply
 {
     match loaded {
         Ok(store) => with_status(line_of(alloc, &store), Status::Accepted),
-        Err(LoadFault::AlreadyStore) => with_status(already_store_line(alloc), Status::StoreRefused),
+        Err(LoadFault::AlreadyStore) => with_status(occupied_line(alloc), Status::StoreRefused),
         Err(LoadFault::Foreign) => with_status(foreign_line(alloc), Status::StoreRefused),
-        Err(LoadFault::Schema(fault)) => with_status(schema_line(alloc, fault), Status::SchemaRefused),
+        Err(LoadFault::Schema(fault)) => with_status(
+            schema_line(alloc, fault),
+            Status::SchemaRefused,
+        ),
         Err(LoadFault::DiskFault) => Err(Status::DiskFault),
         Err(LoadFault::Memory) => Err(Status::Memory),
     }

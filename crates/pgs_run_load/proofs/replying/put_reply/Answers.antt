@@ -1,9 +1,6 @@
 use Rattle.std.proofs.Common.{◌∷◌, [], inl, inr, refl, subst}
 use Rattle.pgs_lines.specs.Pieces.{shown_of, ShowsAll, ShowsTorn}
-use Rattle.pgs_lines.proofs.AreasPut.{keeps_put}
 use Rattle.pgs_lines.proofs.Showing.{shows_one, torn_one}
-use Rattle.pgs_world.specs.Disk.{Puts}
-use Rattle.pgs_world.specs.Moment.{StopsBy}
 use Rattle.pgs_run_load.proofs.Replied.{same_faults}
 use Rattle.pgs_run_load.proofs.replying.put_reply.Goals as goal
 
@@ -13,20 +10,8 @@ returns-in-Ok-clause-ends g c =
     let now = g.W.World.view c.put.new.self in
     inl (refl, subst (λ line. ShowsAll (shown_of old) (line ∷ []) (shown_of now)) c.as_slice.ensures (shows_one (shown_of old) (shown_of now) c.as_slice.result.now c.in-Ok.ensures.whole c.in-Ok.ensures.counted), same_faults 0 old now c.put.ensures.no_area c.in-Ok.ensures.no_cause)
 
-pub returns-in-Ok-clause-areas : goal.returns-in-Ok-clause-areas
-returns-in-Ok-clause-areas g c = keeps_put (g.W.World.view c.args.world.now) (g.W.World.view c.put.new.self) c.as_slice.result.now c.put.ensures.a c.put.ensures.b c.put.ensures.stops c.put.ensures.passes c.put.ensures.no_area
-
-pub returns-in-Ok-clause-stops : goal.returns-in-Ok-clause-stops
-returns-in-Ok-clause-stops g c = subst (λ line. StopsBy (Puts line) (g.W.World.view c.args.world.now) (g.W.World.view c.put.new.self)) c.as_slice.ensures c.put.ensures.stops
-
 pub returns-in-Err-clause-ends : goal.returns-in-Err-clause-ends
 returns-in-Err-clause-ends g c =
     let old = g.W.World.view c.args.world.now in
     let now = g.W.World.view c.put.new.self in
     inr (refl, subst (λ line. ShowsTorn (shown_of old) (line ∷ []) (shown_of now)) c.as_slice.ensures (torn_one (shown_of old) (shown_of now) c.as_slice.result.now c.in-Err.ensures.front c.in-Err.ensures.not_counted), (c.in-Err.ensures.cause, refl, c.put.ensures.no_area))
-
-pub returns-in-Err-clause-areas : goal.returns-in-Err-clause-areas
-returns-in-Err-clause-areas g c = keeps_put (g.W.World.view c.args.world.now) (g.W.World.view c.put.new.self) c.as_slice.result.now c.put.ensures.a c.put.ensures.b c.put.ensures.stops c.put.ensures.passes c.put.ensures.no_area
-
-pub returns-in-Err-clause-stops : goal.returns-in-Err-clause-stops
-returns-in-Err-clause-stops g c = subst (λ line. StopsBy (Puts line) (g.W.World.view c.args.world.now) (g.W.World.view c.put.new.self)) c.as_slice.ensures c.put.ensures.stops
