@@ -15,7 +15,9 @@ use Rattle.pgs_run_base.specs.Ending.{Ends}
 use Rattle.pgs_run_base.specs.Run.{IsRead, EndsAs, HasCommandCause, TakesWithin}
 use Rattle.pgs_run.specs.Command.{reads_source, uses_areas, IsTold}
 use Rattle.pgs_run.specs.Leaving.{Leaves}
-use Rattle.pgs_run.specs.Run.{HasRunCause}
+use Rattle.pgs_run_gen.specs.Answer.{IsAnswer as IsGenAnswer}
+use Rattle.pgs_run_saved.specs.Opening.{IsAnswer}
+use Rattle.pgs_run.specs.Run.{HasRunCause, RefusesWords}
 use Rattle.pgs_run.specs.Runs.{SourceState, Setting, Runs}
 use Rattle.pgs_run.specs.Told.{told_command}
 
@@ -50,6 +52,22 @@ takes_unread left input rest budget status left_all left_is unread = record {
   within = within_unread input rest budget left left_all left_is;
   too_long = λ cut. absurd (unread.1 cut);
 }
+
+-- what is taken, where that is said with all else
+pub takes_of : (tell : ℕ → Told Status) (start : Shown) (input rest : List ℕ) (budget : ℕ) (left : Option (List ℕ)) (status : Status) (now : Shown) → left ≡ Some rest → EndsAs tell start input budget left status now → TakesWithin input budget rest status
+takes_of tell start input rest budget left status now left_is ends = record { within = ends.within rest left_is; too_long = ends.too_long rest left_is }
+
+-- the statuses of a command that reads nothing
+pub unread_answer : (status : Status) → IsAnswer status → IsUnread status
+unread_answer status answer = ((λ fault. absurd (subst IsAnswer fault answer)), (λ cut. absurd (subst IsAnswer cut answer)))
+
+pub unread_gen : (status : Status) → IsGenAnswer status → IsUnread status
+unread_gen status answer = ((λ fault. absurd (subst IsGenAnswer fault answer)), (λ cut. absurd (subst IsGenAnswer cut answer)))
+
+pub unread_refused : (status : Status) → RefusesWords status → IsUnread status
+unread_refused status (inl is) = ((λ fault. cc), (λ cut. cc))
+unread_refused status (inr (inl is)) = ((λ fault. cc), (λ cut. cc))
+unread_refused status (inr (inr is)) = ((λ fault. cc), (λ cut. cc))
 
 -- a command that reads nothing, or refused words
 pub runs_alone : (command : Option Command) (budget : ℕ) (source : SourceState) (old new : View) (before after : List Place) (status : Status) → reads_source command ≡ false → IsUnread status
@@ -91,3 +109,17 @@ runs_reading command budget old new status reads ends takes read cause leaves fe
 -- no piece was put
 pub none_first : (start : Shown) (pieces : List (List ℕ)) → ShowsFirst start pieces start
 none_first start pieces = record { first = []; later = pieces; parts = refl; shows = shows_none start }
+
+-- no memory, before anything was done
+pub runs_memory : (command : Option Command) (budget : ℕ) (source : SourceState) (view : View) (places : List Place) → Leaves command source.left view view
+    → Runs command budget (record { source = source; view = view; places = places }) (record { source = source; view = view; places = places }) Memory
+runs_memory command budget source view places leaves = record {
+  ends = λ input known left_is. ends_unread _ (shown_of view) source.left (shown_of view) input budget Memory left_is ((λ e. cc), (λ e. cc)) (none_first (shown_of view) _);
+  takes = λ input rest left_all left_is. takes_unread source.left input rest budget Memory left_all left_is ((λ e. cc), (λ e. cc));
+  alone = λ input known reads. none_first (shown_of view) _;
+  unread = λ reads. refl;
+  read_to_end = λ reads. tt;
+  cause = refl;
+  leaves = leaves;
+  fed = refl;
+}

@@ -5,7 +5,7 @@ ghost use Rattle.pgs_store.specs.Loads.{FindsNone};
 ghost use Rattle.pgs_world.specs.Moment.{EachSince, IsSettled, Passes};
 ghost use Rattle.pgs_run_base.specs.Areas.{areas_of};
 ghost use Rattle.pgs_run_base.specs.Images.{KeepsImages};
-ghost use Rattle.pgs_run_base.specs.Run.{IsRead, EndsAs, HasCommandCause};
+ghost use Rattle.pgs_run_base.specs.Run.{IsRead, EndsAs, HasCommandCause, TakesWithin};
 ghost use Rattle.pgs_run_load.specs.Loading.{IsLoadingAt};
 ghost use Rattle.pgs_run_load.specs.Told.{told_load};
 
@@ -27,6 +27,7 @@ pub fn run_load<S: Source, W: World>(
     requires { budget ≤ 2 ^ 40 }
     ensures ends { IsTrue (W.view world.old).tells_bytes → (input : List ℕ) → S.left source.old ≡ Some input
         → EndsAs (told_load input (areas_of (W.view world.old))) (shown_of (W.view world.old)) input budget (S.left source.new) result (shown_of (W.view world.new)) }
+    ensures takes { (input rest : List ℕ) → S.left source.old ≡ Some input → S.left source.new ≡ Some rest → TakesWithin input budget rest result }
     ensures read_to_end { IsRead (S.left source.new) result }
     ensures cause { HasCommandCause true true (faults_of (S.faults source.old) (W.view world.old)) (faults_of (S.faults source.new) (W.view world.new)) result }
     ensures passes { Passes (W.view world.old) (W.view world.new) }

@@ -5,6 +5,7 @@ use Rattle.pgs_world.specs.World.{Triple}
 use Rattle.pgs_world.proofs.Moments.{settled_quiet}
 use Rattle.pgs_run_base.specs.Areas.{Areas, areas_of}
 use Rattle.pgs_run_base.specs.Ending.{Ends}
+use Rattle.pgs_run_saved.specs.Opening.{IsAnswer}
 use Rattle.pgs_run_load.specs.Told.{told_text}
 use Rattle.pgs_run_load.proofs.LoadEnds.{whole_at, ends_loaded, ends_without_text, cause_loaded, found_quiet, collects_at, stops_loaded}
 use Rattle.pgs_run_load.proofs.run.run_load.Goals as goal
@@ -43,3 +44,14 @@ returns-clause-ends g c = λ told input is.
 pub returns-clause-loads : goal.returns-clause-loads
 returns-clause-loads g c = λ input is free tells settled.
     collects_at (g.W.World.view c.args.world.now) (g.W.World.view c.run_lines-stop.new.world) input (g.met.W.World.timed c.args.world.now) free tells settled c.run_lines-stop.ensures.allows.allowed
+
+pub returns-in-Ok-clause-takes : goal.returns-in-Ok-clause-takes
+returns-in-Ok-clause-takes g c = λ input rest is left_is. record {
+  within = (c.run_lines-stop.ensures.ends input is).within rest left_is;
+  too_long = λ cut. absurd (subst IsAnswer cut c.load_text.ensures.answer);
+}
+
+pub returns-clause-takes : goal.returns-clause-takes
+returns-clause-takes g c = λ input rest is left_is.
+    let ends = ends_without_text input (areas_of (g.W.World.view c.args.world.now)) c.args.budget _ _ c.new-collecting.result.part c.run_lines-stop.result c.in-Err.status (shown_of (g.W.World.view c.args.world.now)) (shown_of (g.W.World.view c.run_lines-stop.new.world)) c.new-collecting.ensures is (sym c.text_of.ensures ∙ c.in-Err.is) c.run_lines-stop.ensures.by c.run_lines-stop.ensures.may (c.run_lines-stop.ensures.ends input is) in
+    record { within = ends.within rest left_is; too_long = ends.too_long rest left_is }
