@@ -37,7 +37,7 @@ pub fn run_checkpoint<W: World>(alloc: Global, world: &mut W) -> Status
         → EachSince (Renews (W.view world.old) text commits graph) (W.view world.old) (W.view world.new) }
     ensures unsaved { IsTrue (W.view world.old).tells_bytes
         → ((text : List ℕ) → (commits : ℕ) → (graph : Graph)
-            → saved standard (W.view world.old).shown.a (W.view world.old).shown.b ≡ saved_store text commits graph → ⊥)
+        → saved standard (W.view world.old).shown.a (W.view world.old).shown.b ≡ saved_store text commits graph → ⊥)
         → KeepsImages (W.view world.old) (W.view world.new) }
     ensures passes { Passes (W.view world.old) (W.view world.new) }
 {
