@@ -1,4 +1,4 @@
-//! A saved store told as text, from which the same store can be loaded again.
+//! A saved store told as text: its schema, and the operations that make its graph.
 //!
 //! The one rule: `dump` (`specs/Dump.antt`) says the pieces: the schema's text, the line `---`, and one operation a line that makes the
 //! graph. Each piece is put as soon as it is made; there is never a copy of more than one operation. `Dump` is what
