@@ -3,6 +3,7 @@ use Rattle.pgs_lines.specs.Pieces.{shown_of}
 use Rattle.pgs_store.specs.Loads.{Loads}
 use Rattle.pgs_store.specs.Stored.{IsLoadedIn}
 use Rattle.pgs_world.specs.Moment.{EachSince}
+use Rattle.pgs_world.proofs.Moments.{passes_on}
 use Rattle.pgs_run_base.specs.Areas.{areas_of}
 use Rattle.pgs_run_base.proofs.Images.{images_quiet, images_areas, images_on}
 use Rattle.pgs_run_load.specs.Told.{told_text}
@@ -24,6 +25,10 @@ returns-in-Ok-clause-ends g c = λ told input front.
 pub returns-in-Ok-clause-cause : goal.returns-in-Ok-clause-cause
 returns-in-Ok-clause-cause g c = λ reads.
     cause_reply reads c.load-loaded.result c.in-Ok.reply (g.W.World.view c.args.world.now) (g.W.World.view c.load-loaded.new.world) (g.W.World.view c.put_reply.new.world) c.put_reply.result c.load-loaded.ensures.faults c.load-loaded.ensures.beside.no_put c.in-Ok.ensures c.put_reply.ensures.ends
+
+pub returns-in-Ok-clause-passes : goal.returns-in-Ok-clause-passes
+returns-in-Ok-clause-passes g c =
+    passes_on (g.W.World.view c.args.world.now) (g.W.World.view c.load-loaded.new.world) (g.W.World.view c.put_reply.new.world) c.load-loaded.ensures.beside.passes c.put_reply.ensures.areas.passes
 
 pub returns-in-Ok-clause-loads : goal.returns-in-Ok-clause-loads
 returns-in-Ok-clause-loads g c = λ input front free tells settled.
