@@ -117,7 +117,7 @@ module _ (before : StoreState) (number : ℕ) (refused : Bool) (txn : Txn) where
       → after ≡ before → mid ≡ old
       → (let t = state_with after number refused in Takes t (refusing t (rejection_text rejection standard)) result now (scene_of (view mid) kept) (scene_of new fed))
       → Takes at (deciding at txn asked) result now (scene_of (view old) kept) (scene_of new fed)
-  take_rejected view result now rejection old mid new kept fed after holds rejected same still taken =
+  take_rejected {W = W} view result now rejection old mid new kept fed after holds rejected same still taken =
       subst (λ (d : Result Graph Rejection). Takes at (deciding at txn d) result now (scene_of (view old) kept) (scene_of new fed))
       (sym (same_decision at txn holds.limits ∙ rejected))
       (subst (λ (w : W). Takes at (refusing at (rejection_text rejection standard)) result now (scene_of (view w) kept) (scene_of new fed)) still
@@ -126,7 +126,7 @@ module _ (before : StoreState) (number : ℕ) (refused : Bool) (txn : Txn) where
   -- and what it needs
   pub still_holds : {W : Type 0} (view : W → View) (old mid : W) (after : StoreState) → HoldsStore at (view old) → after ≡ before → mid ≡ old
       → HoldsStore (state_with after number refused) (view mid)
-  still_holds view old mid after holds same still =
+  still_holds {W = W} view old mid after holds same still =
       subst (λ (w : W). HoldsStore (state_with after number refused) (view w)) (sym still)
       (subst (λ (store : StoreState). HoldsStore (state_with store number refused) (view old)) (sym same) holds)
 
