@@ -1,0 +1,4 @@
+pub mod Reading
+pub mod Saving
+pub mod Shown
+pub mod Unopening
