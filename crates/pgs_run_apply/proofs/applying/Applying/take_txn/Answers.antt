@@ -3,7 +3,7 @@ use Rattle.pgs_feed.specs.Seen.{places}
 use Rattle.pgs_violation.specs.Violations.{verdict}
 use Rattle.pgs_run_base.specs.Session.{decision_on}
 use Rattle.pgs_run_apply.specs.Outcome.{deciding}
-use Rattle.pgs_run_apply.specs.Seen.{state_of}
+use Rattle.pgs_run_apply.specs.Seen.{state_of, state_with}
 use Rattle.pgs_run_apply.proofs.Asked.{still_holds, take_done, take_rejected, take_stopped}
 use Rattle.pgs_run_apply.proofs.Taken.{take_none}
 use Rattle.pgs_run_apply.proofs.applying.Applying.take_txn.Goals as goal
@@ -44,6 +44,6 @@ returns-in-Ok-Some g c =
 pub returns : goal.returns
 returns g c =
     let self = c.args.self.now in
-    take_stopped self.store self.number self.refused c.args.txn.now g.W.World.view c.in-Err-ask.stop (state_of self) c.ask.new.store c.args.world.now c.ask.new.world
+    take_stopped self.store self.number self.refused c.args.txn.now g.W.World.view c.in-Err-ask.stop (state_with c.ask.new.store self.number self.refused) c.ask.new.store c.args.world.now c.ask.new.world
     (places g.F.Feed.taken g.F.Feed.faults self.feeds) c.requires.holds (g.met.W.World.timed c.args.world.now) c.in-Err-ask.ensures.answer
     c.in-Err-ask.ensures.early c.ask.ensures.stops c.ask.ensures.beside
