@@ -45,6 +45,13 @@ impl Store {
         self.guard.commits()
     }
 
+    /// The number of the next commit.
+    pub fn next_commit(&self) -> u64
+        ensures { result ≡ self.now.guard.commits + 1 }
+    {
+        self.guard.commits() + 1
+    }
+
     /// The epoch of the store, from 1 to 16,777,215.
     pub fn epoch(&self) -> u64
         ensures epoch { result ≡ self.now.journal.epoch }

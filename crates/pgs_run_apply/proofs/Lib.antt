@@ -1,0 +1,5 @@
+pub mod Asked
+pub mod Lines
+pub mod Outcomes
+pub mod Same
+pub mod Taken
