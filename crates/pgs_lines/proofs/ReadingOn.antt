@@ -2,13 +2,12 @@
 use Rattle.std.proofs.Common.{◌≡◌, ℕ, ◌+◌, ◌-◌, ◌≤◌, List, [], ◌++◌, length, Option, Some, None, Err, refl, sym, ap, ◌∙◌, append_assoc, length-append, arith}
 use Rattle.std.specs.Option.{option_map}
 use Rattle.pgs_world.specs.Source.{Takes}
-use Rattle.pgs_world.specs.World.{View}
 use Rattle.pgs_lines.specs.declared.stop.Stop.{Stop}
 use Rattle.pgs_lines.specs.declared.stop.Stop.TheVariants as stops
 use Rattle.pgs_lines.specs.Driving.{Runs, StopsAt}
 use Rattle.pgs_lines.specs.Ending.{faults_of, HasCause}
 use Rattle.pgs_lines.specs.Input.{kept_of}
-use Rattle.pgs_lines.specs.Machine.{Machine, Rule, HasRoomFor}
+use Rattle.pgs_lines.specs.Machine.{Machine, Rule, Scene, HasRoomFor}
 use Rattle.pgs_lines.specs.Reading.{StopsIn, Reads, ReadSoFar}
 use Rattle.pgs_lines.proofs.Causes.{no_rise}
 use Rattle.pgs_lines.proofs.Driven.{runs_more, stops_more, room_fewer}
@@ -35,7 +34,7 @@ room_chunk m left count chunk s is within has = room_fewer m (length chunk) (lef
 
 module _ {E : Type 0} (m : Machine E) (rule : Rule m) (limit : ℕ) where
   -- a stop of the taking is one of the reading
-  stops_in : (s : m.State) (start : View) (seen : List ℕ) (state : m.State) (line : List ℕ) (stop : Stop E) (old now : View) → HasCause (faults_of 0 old) (faults_of 0 now) stop → StopsAt m rule s start (kept_of limit seen).ended stop now → StopsIn m rule limit s start seen state line stop now
+  stops_in : (s : m.State) (start : Scene rule.Kept) (seen : List ℕ) (state : m.State) (line : List ℕ) (stop : Stop E) (old now : Scene rule.Kept) → HasCause (faults_of 0 old.view) (faults_of 0 now.view) stop → StopsAt m rule s start (kept_of limit seen).ended stop now → StopsIn m rule limit s start seen state line stop now
   stops_in s start seen state line (stops.Ended status) old now cause stopped = stopped
   stops_in s start seen state line stops.ReadFault old now cause stopped = absurd (no_rise 0 cause.0 refl)
   stops_in s start seen state line stops.PutFault old now cause stopped = stopped
@@ -43,7 +42,7 @@ module _ {E : Type 0} (m : Machine E) (rule : Rule m) (limit : ℕ) where
   stops_in s start seen state line stops.Memory old now cause stopped = stopped
 
   -- before the first read
-  pub read_none : (s : m.State) (start : View) (line : List ℕ) (budget : ℕ) (left : Option (List ℕ)) → Runs m rule limit s start [] s line start → ReadSoFar m rule limit s start budget budget left left s line start
+  pub read_none : (s : m.State) (start : Scene rule.Kept) (line : List ℕ) (budget : ℕ) (left : Option (List ℕ)) → Runs m rule limit s start [] s line start → ReadSoFar m rule limit s start budget budget left left s line start
   read_none s start line budget left runs = record {
     bytes = [];
     taken = none_taken left;
@@ -52,7 +51,7 @@ module _ {E : Type 0} (m : Machine E) (rule : Rule m) (limit : ℕ) where
   }
 
   -- a read more
-  pub read_on : (s state next : m.State) (start mid now : View) (line left chunk : List ℕ) (budget rest count : ℕ) (before src src_now : Option (List ℕ)) → length chunk ≡ count → count ≤ rest → ReadSoFar m rule limit s start budget rest before src state line mid → Takes src src_now chunk → Runs m rule limit state mid (line ++ chunk) next left now → ReadSoFar m rule limit s start budget (rest - count) before src_now next left now
+  pub read_on : (s state next : m.State) (start mid now : Scene rule.Kept) (line left chunk : List ℕ) (budget rest count : ℕ) (before src src_now : Option (List ℕ)) → length chunk ≡ count → count ≤ rest → ReadSoFar m rule limit s start budget rest before src state line mid → Takes src src_now chunk → Runs m rule limit state mid (line ++ chunk) next left now → ReadSoFar m rule limit s start budget (rest - count) before src_now next left now
   read_on s state next start mid now line left chunk budget rest count before src src_now is within p taken q = record {
     bytes = p.bytes ++ chunk;
     taken = takes_on before src src_now p.bytes chunk p.taken taken;
@@ -61,7 +60,7 @@ module _ {E : Type 0} (m : Machine E) (rule : Rule m) (limit : ℕ) where
   }
 
   -- or a stop in what was read
-  pub read_stops : (s state next : m.State) (start mid now : View) (line left chunk : List ℕ) (budget rest count : ℕ) (before src src_now : Option (List ℕ)) (stop : Stop E) → length chunk ≡ count → count ≤ rest → ReadSoFar m rule limit s start budget rest before src state line mid → Takes src src_now chunk → HasCause (faults_of 0 mid) (faults_of 0 now) stop → StopsAt m rule state mid (kept_of limit (line ++ chunk)).ended stop now → Reads m rule limit s start budget before src_now next left (Err stop) now
+  pub read_stops : (s state next : m.State) (start mid now : Scene rule.Kept) (line left chunk : List ℕ) (budget rest count : ℕ) (before src src_now : Option (List ℕ)) (stop : Stop E) → length chunk ≡ count → count ≤ rest → ReadSoFar m rule limit s start budget rest before src state line mid → Takes src src_now chunk → HasCause (faults_of 0 mid.view) (faults_of 0 now.view) stop → StopsAt m rule state mid (kept_of limit (line ++ chunk)).ended stop now → Reads m rule limit s start budget before src_now next left (Err stop) now
   read_stops s state next start mid now line left chunk budget rest count before src src_now stop is within p taken cause q = record {
     bytes = p.bytes ++ chunk;
     taken = takes_on before src src_now p.bytes chunk p.taken taken;

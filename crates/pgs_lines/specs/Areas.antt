@@ -5,8 +5,9 @@ use Rattle.pgs_lines.specs.AreasKept.{KeepsAreas, keeps_none, keeps_on}
 -- between and at all lines both areas are kept
 abbrev pub keeps_areas : {E : Type 0} (m : Machine E) → Rule m
 keeps_areas m = record {
+  Kept = Unit {0};
   holds = λ s view. Unit {0};
-  allows = λ s lines rest old new. KeepsAreas old new;
-  none = λ s view timed. keeps_none view timed;
-  on = λ s t lines more rest old mid new leads p q. keeps_on old mid new p q;
+  allows = λ s lines extent old new. KeepsAreas old.view new.view;
+  none = λ s scene timed holds. keeps_none scene.view timed;
+  on = λ s t lines more extent old mid new leads holds p q. keeps_on old.view mid.view new.view p q;
 }

@@ -1,11 +1,10 @@
 -- Where a machine stands inside its input, and how it is stopped there.
-use Rattle.std.specs.Prelude.{◌≡◌, ℕ, List, ◌++◌, None, Result, Ok, Err}
-use Rattle.pgs_world.specs.World.{View}
+use Rattle.std.specs.Prelude.{◌≡◌, ◌⊎◌, ℕ, List, ◌++◌, Result, Ok, Err}
 use Rattle.pgs_lines.specs.declared.stop.Stop.{Stop}
 use Rattle.pgs_lines.specs.declared.stop.Stop.TheVariants as stops
 use Rattle.pgs_lines.specs.Ending.{Shows}
 use Rattle.pgs_lines.specs.Input.{kept_of}
-use Rattle.pgs_lines.specs.Machine.{Standing, Going, Ended, Machine, Rule, after_lines, pieces_of_lines}
+use Rattle.pgs_lines.specs.Machine.{Standing, Going, Ended, Machine, Rule, Scene, Extent, Whole, Inside, after_lines, pieces_of_lines}
 use Rattle.pgs_lines.specs.Pieces.{Shown, shown_of, ShowsAll}
 
 -- an end of the machine's own is where the run stands; the other stops say nothing of it
@@ -26,33 +25,36 @@ abbrev pub LineShows : {T E : Type 0} → Shown → List (List ℕ) → Result T
 LineShows start pieces (Ok done) now = ShowsAll start pieces now
 LineShows start pieces (Err stop) now = Shows start pieces stop now
 
--- The run that began in this state, on this world, took these bytes: it stands where their lines lead, with the front of the
--- rest, all that the lines tell is shown, and no more was done to the world than they allow.
-pub record Runs {E : Type 0} (m : Machine E) (rule : Rule m) (limit : ℕ) (s : m.State) (start : View) (seen : List ℕ)
-    (state : m.State) (line : List ℕ) (now : View) : Type 0 where
+-- The run that began in this state, on this scene, took these bytes: it stands where their lines lead, with the front of the
+-- rest, what the machine holds there is true, all that the lines tell is shown, and no more was done to the scene than they allow.
+pub record Runs {E : Type 0} (m : Machine E) (rule : Rule m) (limit : ℕ) (s : m.State) (start : Scene rule.Kept) (seen : List ℕ)
+    (state : m.State) (line : List ℕ) (now : Scene rule.Kept) : Type 0 where
   pub stands : after_lines m (Going s) (kept_of limit seen).ended ≡ Going state
   pub begun : line ≡ (kept_of limit seen).rest
-  pub shows : ShowsAll (shown_of start) (pieces_of_lines m (Going s) (kept_of limit seen).ended) (shown_of now)
-  pub allowed : rule.allows s (kept_of limit seen).ended None start now
+  pub holds : rule.holds state now.view
+  pub shows : ShowsAll (shown_of start.view) (pieces_of_lines m (Going s) (kept_of limit seen).ended) (shown_of now.view)
+  pub allowed : rule.allows s (kept_of limit seen).ended Whole start now
 
 -- it was stopped after these of its lines, or inside the last of them
-pub record StopsAt {E : Type 0} (m : Machine E) (rule : Rule m) (s : m.State) (start : View) (ended : List (List ℕ))
-    (stop : Stop E) (now : View) : Type 0 where
+pub record StopsAt {E : Type 0} (m : Machine E) (rule : Rule m) (s : m.State) (start : Scene rule.Kept) (ended : List (List ℕ))
+    (stop : Stop E) (now : Scene rule.Kept) : Type 0 where
   pub until : List (List ℕ)
   pub later : List (List ℕ)
   pub parts : ended ≡ until ++ later
-  pub shows : Shows (shown_of start) (pieces_of_lines m (Going s) until) stop (shown_of now)
+  pub extent : Extent E
+  pub inside : (extent ≡ Whole) ⊎ (extent ≡ Inside stop)
+  pub shows : Shows (shown_of start.view) (pieces_of_lines m (Going s) until) stop (shown_of now.view)
   pub ends : IsEndAt (after_lines m (Going s) until) stop
-  pub allowed : rule.allows s until None start now
+  pub allowed : rule.allows s until extent start now
 
-abbrev pub TakesTo : {T E : Type 0} (m : Machine E) (rule : Rule m) → ℕ → m.State → View → List ℕ → m.State → List ℕ
-    → Result T (Stop E) → View → Type 0
+abbrev pub TakesTo : {T E : Type 0} (m : Machine E) (rule : Rule m) → ℕ → m.State → Scene rule.Kept → List ℕ → m.State → List ℕ
+    → Result T (Stop E) → Scene rule.Kept → Type 0
 TakesTo m rule limit s start seen state line (Ok done) now = Runs m rule limit s start seen state line now
 TakesTo m rule limit s start seen state line (Err stop) now = StopsAt m rule s start (kept_of limit seen).ended stop now
 
 -- of these bytes all but the rest were taken
-pub record RunsSoFar {E : Type 0} (m : Machine E) (rule : Rule m) (limit : ℕ) (s : m.State) (start : View) (seen bytes rest : List ℕ)
-    (state : m.State) (line : List ℕ) (now : View) : Type 0 where
+pub record RunsSoFar {E : Type 0} (m : Machine E) (rule : Rule m) (limit : ℕ) (s : m.State) (start : Scene rule.Kept)
+    (seen bytes rest : List ℕ) (state : m.State) (line : List ℕ) (now : Scene rule.Kept) : Type 0 where
   pub taken : List ℕ
   pub parts : bytes ≡ taken ++ rest
   pub runs : Runs m rule limit s start (seen ++ taken) state line now

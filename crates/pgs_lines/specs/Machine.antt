@@ -1,5 +1,5 @@
 -- A command as a machine over lines: what it tells of an input within a budget, and what it may do to a world.
-use Rattle.std.specs.Prelude.{◌≡◌, ℕ, ◌≤◌, List, [], ◌∷◌, ◌++◌, length, take, Option, None, nat_le, if◌then◌else◌}
+use Rattle.std.specs.Prelude.{◌≡◌, ℕ, ◌≤◌, List, [], ◌∷◌, ◌++◌, length, take, Result, Ok, Err, nat_le, if◌then◌else◌}
 use Rattle.pgs_world.specs.Moment.{IsTimed}
 use Rattle.pgs_world.specs.World.{View}
 use Rattle.pgs_lines.specs.declared.stop.Stop.{Stop}
@@ -87,12 +87,36 @@ pub record HasRoomFor {E : Type 0} (m : Machine E) (lines : ℕ) (s : m.State) :
   pub enough : lines ≤ room
   pub has : m.HasRoom room s
 
--- What the machine holds of a world between two lines, and what the taking of lines from a state on may do to a world: also of
--- the end of the input, where the rest before it stands behind the lines. It may do nothing, and one thing after another.
+-- a world, and what a taker keeps beside its state
+pub record Scene (Kept : Type 0) : Type 1 where
+  pub view : View
+  pub kept : Kept
+
+abbrev pub scene_of : {Kept : Type 0} → View → Kept → Scene Kept
+scene_of view kept = record { view = view; kept = kept }
+
+-- how far lines were taken
+pub data Extent (E : Type 0) : Type 0 where
+  -- all of them
+  Whole : Extent E
+  -- all but the last, and the last stopped the run so
+  Inside : Stop E → Extent E
+  -- all of them, and then the end of the input, with this rest behind them, which ended the run so
+  AtEnd : (rest : List ℕ) → Stop E → Extent E
+
+-- how far a line was taken
+abbrev pub extent_of : {T E : Type 0} → Result T (Stop E) → Extent E
+extent_of (Ok done) = Whole
+extent_of (Err stop) = Inside stop
+
+-- What the machine holds of a world between two lines, and what the taking of lines from a state on may do to a scene. It may do
+-- nothing, and one thing after another.
 pub record Rule {E : Type 0} (m : Machine E) : Type 1 where
+  -- what a taker keeps beside its state
+  pub Kept : Type 0
   pub holds : m.State → View → Type 0
-  pub allows : m.State → List (List ℕ) → Option (List ℕ) → View → View → Type 0
-  pub none : (s : m.State) (view : View) → IsTimed view → allows s [] None view view
-  pub on : (s t : m.State) (lines more : List (List ℕ)) (rest : Option (List ℕ)) (old mid new : View)
-      → after_lines m (Going s) lines ≡ Going t → allows s lines None old mid → allows t more rest mid new
-      → allows s (lines ++ more) rest old new
+  pub allows : m.State → List (List ℕ) → Extent E → Scene Kept → Scene Kept → Type 0
+  pub none : (s : m.State) (scene : Scene Kept) → IsTimed scene.view → holds s scene.view → allows s [] Whole scene scene
+  pub on : (s t : m.State) (lines more : List (List ℕ)) (extent : Extent E) (old mid new : Scene Kept)
+      → after_lines m (Going s) lines ≡ Going t → holds t mid.view → allows s lines Whole old mid → allows t more extent mid new
+      → allows s (lines ++ more) extent old new

@@ -1,12 +1,11 @@
 -- How the run of a machine over an input ends.
-use Rattle.std.specs.Prelude.{◌≡◌, ◌⊎◌, ℕ, ◌+◌, ◌-◌, ◌≤◌, List, [], ◌++◌, length, Option, Some, None}
+use Rattle.std.specs.Prelude.{◌≡◌, ◌⊎◌, ℕ, ◌+◌, ◌-◌, ◌≤◌, List, [], ◌++◌, length, Option, Some}
 use Rattle.pgs_world.specs.Source.{Takes, IsAtEnd}
-use Rattle.pgs_world.specs.World.{View}
 use Rattle.pgs_lines.specs.declared.stop.Stop.{Stop}
 use Rattle.pgs_lines.specs.declared.stop.Stop.TheVariants as stops
 use Rattle.pgs_lines.specs.Ending.{Ends}
 use Rattle.pgs_lines.specs.Input.{kept_of}
-use Rattle.pgs_lines.specs.Machine.{Ended, Machine, Rule, Told}
+use Rattle.pgs_lines.specs.Machine.{Ended, Machine, Rule, Scene, Extent, Whole, Inside, AtEnd, Told}
 use Rattle.pgs_lines.specs.Pieces.{Shown, ShowsAll}
 
 -- A run of which this is told by its budget ended so over this input, with this left of it.
@@ -48,14 +47,16 @@ EndsBy m budget before left stops.AreaFault = Unit {0}
 EndsBy m budget before left stops.PutFault = Unit {0}
 EndsBy m budget before left stops.Memory = Unit {0}
 
--- What was done to the world is what these lines of the bytes taken allow, and the end of the input where that was reached.
-pub record Allows {E : Type 0} (m : Machine E) (rule : Rule m) (limit : ℕ) (s : m.State) (before left : Option (List ℕ))
-    (old new : View) : Type 0 where
+-- What was done to the scene is what these lines of the bytes taken allow, by how far they were taken: all of them, or all but the
+-- last, which gave the stop, or all, and then the end of the input, which gave it.
+pub record Allows {E : Type 0} (m : Machine E) (rule : Rule m) (limit : ℕ) (s : m.State) (before left : Option (List ℕ)) (stop : Stop E)
+    (old new : Scene rule.Kept) : Type 0 where
   pub bytes : List ℕ
   pub taken : Takes before left bytes
   pub lines : List (List ℕ)
   pub later : List (List ℕ)
   pub parts : (kept_of limit bytes).ended ≡ lines ++ later
-  pub rest : Option (List ℕ)
-  pub end : (rest ≡ None) ⊎ ((rest ≡ Some (kept_of limit bytes).rest) × (later ≡ []) × IsAtEnd left)
-  pub allowed : rule.allows s lines rest old new
+  pub extent : Extent E
+  pub end : (extent ≡ Whole)
+      ⊎ ((extent ≡ Inside stop) ⊎ ((extent ≡ AtEnd (kept_of limit bytes).rest stop) × (later ≡ []) × IsAtEnd left))
+  pub allowed : rule.allows s lines extent old new

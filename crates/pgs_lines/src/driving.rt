@@ -3,7 +3,7 @@ ghost use Rattle.pgs_lines.specs.Buffer.{IsBegun};
 ghost use Rattle.pgs_lines.specs.Driving.{TakesTo};
 ghost use Rattle.pgs_lines.specs.Ending.{HasAnyCause, faults_of};
 ghost use Rattle.pgs_lines.specs.Input.{has_no_feed};
-ghost use Rattle.pgs_lines.specs.Machine.{HasRoomFor};
+ghost use Rattle.pgs_lines.specs.Machine.{HasRoomFor, scene_of};
 ghost use Rattle.pgs_lines.specs.May.{MayCome};
 
 use crate::line_buffer::LineBuffer;
@@ -25,7 +25,7 @@ fn take_line<T: LineTaker, W: World>(
     requires holds { T.rule.holds (T.stands taker.old) (W.view world.old) }
     requires begun { IsBegun buffer.old }
     requires line { has_no_feed part.now ≡ true }
-    ensures takes { TakesTo T.machine T.rule buffer.old.limit (T.stands taker.old) (W.view world.old) (buffer.old.bytes ++ (part.now ++ 10 ∷ [])) (T.stands taker.new) buffer.new.bytes result (W.view world.new) }
+    ensures takes { TakesTo T.machine T.rule buffer.old.limit (T.stands taker.old) (scene_of (W.view world.old) (T.kept taker.old)) (buffer.old.bytes ++ (part.now ++ 10 ∷ [])) (T.stands taker.new) buffer.new.bytes result (scene_of (W.view world.new) (T.kept taker.new)) }
     ensures limit { buffer.new.limit ≡ buffer.old.limit }
     ensures begun { OnOk result (IsBegun buffer.new) }
     ensures room { OnOk result ((lines : ℕ) → T.machine.HasRoom (lines + 1) (T.stands taker.old) → T.machine.HasRoom lines (T.stands taker.new)) }
@@ -56,7 +56,7 @@ pub fn take_bytes<T: LineTaker, W: World>(
     requires room { HasRoomFor T.machine (length bytes.now) (T.stands taker.old) }
     requires holds { T.rule.holds (T.stands taker.old) (W.view world.old) }
     requires begun { IsBegun buffer.old }
-    ensures takes { TakesTo T.machine T.rule buffer.old.limit (T.stands taker.old) (W.view world.old) (buffer.old.bytes ++ bytes.now) (T.stands taker.new) buffer.new.bytes result (W.view world.new) }
+    ensures takes { TakesTo T.machine T.rule buffer.old.limit (T.stands taker.old) (scene_of (W.view world.old) (T.kept taker.old)) (buffer.old.bytes ++ bytes.now) (T.stands taker.new) buffer.new.bytes result (scene_of (W.view world.new) (T.kept taker.new)) }
     ensures limit { buffer.new.limit ≡ buffer.old.limit }
     ensures begun { OnOk result (IsBegun buffer.new) }
     ensures room { OnOk result ((more : ℕ) → HasRoomFor T.machine (length bytes.now + more) (T.stands taker.old) → HasRoomFor T.machine more (T.stands taker.new)) }

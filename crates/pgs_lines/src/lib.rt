@@ -2,7 +2,7 @@
 //!
 //! A command is a machine (`specs/Machine.antt`): what an ended line, the end of the input and the end of the budget do.
 //! `told_by` says on whole lines what it tells, and `run_lines` shows exactly that, whatever the cut into reads; the relation on
-//! views that the machine allows holds over the whole run. Nothing here knows a command or a status of the program.
+//! scenes that the machine's rule allows holds over the whole run. Nothing here knows a command or a status of the program.
 #![tactic(auto)]
 
 mod driving;

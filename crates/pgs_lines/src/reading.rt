@@ -2,7 +2,7 @@ ghost use Rattle.std.specs.Prelude.{◌≡◌, ◌<◌, ◌≤◌, ◌+◌, ◌^
 ghost use Rattle.pgs_world.specs.Count.{Rose};
 ghost use Rattle.pgs_world.specs.Source.{Takes, IsAtEnd};
 ghost use Rattle.pgs_lines.specs.Ending.{HasAnyCause, faults_of};
-ghost use Rattle.pgs_lines.specs.Machine.{HasRoomFor};
+ghost use Rattle.pgs_lines.specs.Machine.{HasRoomFor, scene_of};
 ghost use Rattle.pgs_lines.specs.May.{MayCome};
 ghost use Rattle.pgs_lines.specs.Reading.{Reads};
 
@@ -75,7 +75,7 @@ pub fn read_all<T: LineTaker, S: Source, W: World>(
     requires line { line.old.bytes ≡ [] }
     requires room { HasRoomFor T.machine (budget + 1) (T.stands taker.old) }
     requires holds { T.rule.holds (T.stands taker.old) (W.view world.old) }
-    ensures reads { Reads T.machine T.rule line.old.limit (T.stands taker.old) (W.view world.old) budget (S.left source.old) (S.left source.new) (T.stands taker.new) line.new.bytes result (W.view world.new) }
+    ensures reads { Reads T.machine T.rule line.old.limit (T.stands taker.old) (scene_of (W.view world.old) (T.kept taker.old)) budget (S.left source.old) (S.left source.new) (T.stands taker.new) line.new.bytes result (scene_of (W.view world.new) (T.kept taker.new)) }
     ensures room { OnOk result (HasRoomFor T.machine 1 (T.stands taker.new)) }
     ensures holds { OnOk result (T.rule.holds (T.stands taker.new) (W.view world.new)) }
     ensures cause { HasAnyCause (faults_of (S.faults source.old) (W.view world.old)) (faults_of (S.faults source.new) (W.view world.new)) result }

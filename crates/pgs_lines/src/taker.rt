@@ -1,8 +1,8 @@
-ghost use Rattle.std.specs.Prelude.{◌≡◌, ◌∷◌, [], ◌+◌, ℕ, Some, None, IfErr, OnOk, Result};
+ghost use Rattle.std.specs.Prelude.{◌≡◌, ◌∷◌, [], ◌+◌, ℕ, IfErr, OnOk, Result};
 ghost use Rattle.pgs_world.specs.World.{View};
 ghost use Rattle.pgs_lines.specs.Driving.{LineLeads, LineShows};
 ghost use Rattle.pgs_lines.specs.Ending.{Ends, HasCause, HasAnyCause, faults_of};
-ghost use Rattle.pgs_lines.specs.Machine.{Machine, Rule, HasRoomFor};
+ghost use Rattle.pgs_lines.specs.Machine.{Machine, Rule, AtEnd, HasRoomFor, extent_of, scene_of};
 ghost use Rattle.pgs_lines.specs.Pieces.{shown_of};
 
 use crate::stop::Stop;
@@ -23,6 +23,9 @@ pub trait LineTaker {
     /// Where it stands.
     ghost stands: { Self → machine.State };
 
+    /// What it keeps beside that.
+    ghost kept: { Self → rule.Kept };
+
     /// Takes an ended line, of which this is the front, and puts what it tells. After an error the value isn't used any more.
     fn end_line<W: World>(
         &mut self,
@@ -36,7 +39,7 @@ pub trait LineTaker {
         ensures shows { LineShows (shown_of (W.view world.old)) (machine.line (stands self.old) line.now).pieces result (shown_of (W.view world.new)) }
         ensures room { OnOk result ((lines : ℕ) → machine.HasRoom (lines + 1) (stands self.old) → machine.HasRoom lines (stands self.new)) }
         ensures holds { OnOk result (rule.holds (stands self.new) (W.view world.new)) }
-        ensures allows { rule.allows (stands self.old) (line.now ∷ []) None (W.view world.old) (W.view world.new) }
+        ensures allows { rule.allows (stands self.old) (line.now ∷ []) (extent_of result) (scene_of (W.view world.old) (kept self.old)) (scene_of (W.view world.new) (kept self.new)) }
         ensures cause { HasAnyCause (faults_of 0 (W.view world.old)) (faults_of 0 (W.view world.new)) result }
         ensures may { IfErr result (λ stop. machine.MayStop stop) };
 
@@ -50,7 +53,7 @@ pub trait LineTaker {
         requires room { HasRoomFor machine 1 (stands self.old) }
         requires holds { rule.holds (stands self.old) (W.view world.old) }
         ensures ends { Ends (shown_of (W.view world.old)) (machine.rest (stands self.old) rest.now) result (shown_of (W.view world.new)) }
-        ensures allows { rule.allows (stands self.old) [] (Some rest.now) (W.view world.old) (W.view world.new) }
+        ensures allows { rule.allows (stands self.old) [] (AtEnd rest.now result) (scene_of (W.view world.old) (kept self.old)) (scene_of (W.view world.new) (kept self.new)) }
         ensures cause { HasCause (faults_of 0 (W.view world.old)) (faults_of 0 (W.view world.new)) result }
         ensures may { machine.MayStop result };
 

@@ -89,6 +89,8 @@ impl LineTaker for Trying {
 
     ghost stands = { λ taker. taker.phase };
 
+    ghost kept = { λ taker. tt };
+
     fn end_line<W: World>(
         &mut self,
         alloc: Global,

@@ -64,6 +64,8 @@ impl LineTaker for Counting {
 
     ghost stands = { λ taker. taker.lines };
 
+    ghost kept = { λ taker. tt };
+
     fn end_line<W: World>(
         &mut self,
         _alloc: Global,

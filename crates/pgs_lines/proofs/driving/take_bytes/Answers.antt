@@ -2,6 +2,7 @@ use Rattle.std.proofs.Common.{rules, arith, ◌≡◌, ◌+◌, ◌++◌, length
 use Rattle.std.proofs.lemmas.Grind.{common_steps}
 use Rattle.pgs_lines.specs.Driving.{Runs}
 use Rattle.pgs_lines.specs.Input.{has_no_feed, front_of}
+use Rattle.pgs_lines.specs.Machine.{scene_of}
 use Rattle.pgs_lines.proofs.Begun.{begun_more, kept_alone}
 use Rattle.pgs_lines.proofs.LineEnd.{none_left}
 use Rattle.pgs_lines.proofs.Driven.{room_fewer, room_line, so_far_none, so_far_line, so_far_stops, so_far_rest, so_far_memory, takes_in, stops_in}
@@ -9,7 +10,7 @@ use Rattle.pgs_lines.proofs.driving.take_bytes.Goals as goal
 
 pub loop-end-init : goal.loop-end-init
 loop-end-init g c = record {
-  runs = so_far_none g.T.LineTaker.machine g.T.LineTaker.rule c.args.buffer.now.limit _ _ c.args.buffer.now.bytes c.args.bytes.now (g.met.W.World.timed c.args.world.now) (kept_alone c.args.buffer.now c.requires.begun);
+  runs = so_far_none g.T.LineTaker.machine g.T.LineTaker.rule c.args.buffer.now.limit _ _ c.args.buffer.now.bytes c.args.bytes.now (g.met.W.World.timed c.args.world.now) c.requires.holds (kept_alone c.args.buffer.now c.requires.begun);
   limit = search rules;
   room = λ more has. has;
   begun = search rules;
@@ -45,7 +46,7 @@ returns-in-Ok-push_all-clause-takes g c =
     let limit = c.args.buffer.now.limit in
     let line = c.loop-end.buffer.bytes in
     let is : c.push_all.new.self.bytes ≡ front_of limit (line ++ c.loop-end.rest.now) = c.in-Ok-push_all.ensures.ok ∙ ap (λ n. front_of n (line ++ c.loop-end.rest.now)) c.loop-end.invariant.limit in
-    subst (λ left. Runs g.T.LineTaker.machine g.T.LineTaker.rule limit (g.T.LineTaker.stands c.args.taker.now) (g.W.World.view c.args.world.now) (c.args.buffer.now.bytes ++ c.args.bytes.now) (g.T.LineTaker.stands c.loop-end.taker) left (g.W.World.view c.loop-end.world)) (sym is) (so_far_rest g.T.LineTaker.machine g.T.LineTaker.rule limit _ (g.T.LineTaker.stands c.loop-end.taker) _ (g.W.World.view c.loop-end.world) c.args.buffer.now.bytes c.args.bytes.now c.loop-end.rest.now line (g.met.W.World.timed c.loop-end.world) c.loop-end.invariant.begun.no_feed none c.loop-end.invariant.runs)
+    subst (λ left. Runs g.T.LineTaker.machine g.T.LineTaker.rule limit (g.T.LineTaker.stands c.args.taker.now) (scene_of (g.W.World.view c.args.world.now) (g.T.LineTaker.kept c.args.taker.now)) (c.args.buffer.now.bytes ++ c.args.bytes.now) (g.T.LineTaker.stands c.loop-end.taker) left (scene_of (g.W.World.view c.loop-end.world) (g.T.LineTaker.kept c.loop-end.taker))) (sym is) (so_far_rest g.T.LineTaker.machine g.T.LineTaker.rule limit _ (g.T.LineTaker.stands c.loop-end.taker) _ (scene_of (g.W.World.view c.loop-end.world) (g.T.LineTaker.kept c.loop-end.taker)) c.args.buffer.now.bytes c.args.bytes.now c.loop-end.rest.now line (g.met.W.World.timed c.loop-end.world) c.loop-end.invariant.begun.no_feed none c.loop-end.invariant.runs)
 
 pub returns-in-Ok-push_all-clause-begun : goal.returns-in-Ok-push_all-clause-begun
 returns-in-Ok-push_all-clause-begun g c =
@@ -57,4 +58,4 @@ returns-in-Ok-push_all-clause-room g c =
 
 pub returns-in-Err-push_all-clause-takes : goal.returns-in-Err-push_all-clause-takes
 returns-in-Err-push_all-clause-takes g c =
-    so_far_memory g.T.LineTaker.machine g.T.LineTaker.rule c.args.buffer.now.limit _ (g.T.LineTaker.stands c.loop-end.taker) _ (g.W.World.view c.loop-end.world) c.args.buffer.now.bytes c.args.bytes.now c.loop-end.rest.now c.loop-end.buffer.bytes (g.met.W.World.timed c.loop-end.world) c.loop-end.invariant.runs
+    so_far_memory g.T.LineTaker.machine g.T.LineTaker.rule c.args.buffer.now.limit _ (g.T.LineTaker.stands c.loop-end.taker) _ (scene_of (g.W.World.view c.loop-end.world) (g.T.LineTaker.kept c.loop-end.taker)) c.args.buffer.now.bytes c.args.bytes.now c.loop-end.rest.now c.loop-end.buffer.bytes (g.met.W.World.timed c.loop-end.world) c.loop-end.invariant.runs

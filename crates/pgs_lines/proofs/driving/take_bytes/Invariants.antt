@@ -2,12 +2,12 @@ use Rattle.std.proofs.Common.{◌≡◌, ◌+◌, ℕ, length}
 use Rattle.pgs_lines.specs.Buffer.{IsBegun}
 use Rattle.pgs_lines.specs.Driving.{RunsSoFar}
 use Rattle.pgs_lines.specs.Ending.{faults_of}
-use Rattle.pgs_lines.specs.Machine.{HasRoomFor}
+use Rattle.pgs_lines.specs.Machine.{HasRoomFor, scene_of}
 use Rattle.pgs_lines.proofs.driving.take_bytes.Given as goal
 
 abbrev pub invariant-loop-end : goal.invariant-loop-end
 invariant-loop-end g l = record {
-  runs : RunsSoFar g.T.LineTaker.machine g.T.LineTaker.rule l.fn.buffer.limit (g.T.LineTaker.stands l.fn.taker) (g.W.World.view l.fn.world) l.fn.buffer.bytes l.fn.bytes l.rest (g.T.LineTaker.stands l.taker) l.buffer.bytes (g.W.World.view l.world);
+  runs : RunsSoFar g.T.LineTaker.machine g.T.LineTaker.rule l.fn.buffer.limit (g.T.LineTaker.stands l.fn.taker) (scene_of (g.W.World.view l.fn.world) (g.T.LineTaker.kept l.fn.taker)) l.fn.buffer.bytes l.fn.bytes l.rest (g.T.LineTaker.stands l.taker) l.buffer.bytes (scene_of (g.W.World.view l.world) (g.T.LineTaker.kept l.taker));
   limit : l.buffer.limit ≡ l.fn.buffer.limit;
   room : (more : ℕ) → HasRoomFor g.T.LineTaker.machine (length l.fn.bytes + more) (g.T.LineTaker.stands l.fn.taker) → HasRoomFor g.T.LineTaker.machine (length l.rest + more) (g.T.LineTaker.stands l.taker);
   begun : IsBegun l.buffer;

@@ -1,13 +1,13 @@
 use Rattle.std.proofs.Common.{◌≡◌, ◌<◌, ◌+◌, length}
 use Rattle.pgs_lines.specs.Buffer.{IsBegun}
 use Rattle.pgs_lines.specs.Ending.{faults_of}
-use Rattle.pgs_lines.specs.Machine.{HasRoomFor}
+use Rattle.pgs_lines.specs.Machine.{HasRoomFor, scene_of}
 use Rattle.pgs_lines.specs.Reading.{ReadSoFar}
 use Rattle.pgs_lines.proofs.reading.read_all.Given as goal
 
 abbrev pub invariant-loop-left : goal.invariant-loop-left
 invariant-loop-left g l = record {
-  on : ReadSoFar g.T.LineTaker.machine g.T.LineTaker.rule l.fn.line.limit (g.T.LineTaker.stands l.fn.taker) (g.W.World.view l.fn.world) l.fn.budget l.left (g.S.Source.left l.fn.source) (g.S.Source.left l.source) (g.T.LineTaker.stands l.taker) l.line.bytes (g.W.World.view l.world);
+  on : ReadSoFar g.T.LineTaker.machine g.T.LineTaker.rule l.fn.line.limit (g.T.LineTaker.stands l.fn.taker) (scene_of (g.W.World.view l.fn.world) (g.T.LineTaker.kept l.fn.taker)) l.fn.budget l.left (g.S.Source.left l.fn.source) (g.S.Source.left l.source) (g.T.LineTaker.stands l.taker) l.line.bytes (scene_of (g.W.World.view l.world) (g.T.LineTaker.kept l.taker));
   limit : l.line.limit ≡ l.fn.line.limit;
   room : HasRoomFor g.T.LineTaker.machine (l.left + 1) (g.T.LineTaker.stands l.taker);
   begun : IsBegun l.line;
