@@ -1,5 +1,6 @@
 pub mod Applying
 pub mod Committing
+pub mod Ending
 pub mod Left
 pub mod Run
 pub mod State
