@@ -1,0 +1,9 @@
+pub mod Beginning
+pub mod Following
+pub mod Fronts
+pub mod Kept
+pub mod Machine
+pub mod Opened
+pub mod RunEnds
+pub mod Saving
+pub mod Unopened
