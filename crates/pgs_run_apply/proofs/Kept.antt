@@ -19,6 +19,7 @@ use Rattle.pgs_run_base.specs.Input.{text_limit, text_front}
 use Rattle.pgs_run_base.specs.Session.{every_verdict}
 use Rattle.pgs_run_base.proofs.SameFronts.{pieces_of_front}
 use Rattle.pgs_run_apply.specs.Applying.{seen, given_by, IsDone, IsCutOff, IsTornOff, IsStopped, IsReached}
+use Rattle.pgs_run_apply.specs.Following.{left_more}
 use Rattle.pgs_run_apply.specs.Left.{IsLeft, IsWithin, IsSavedAt, state_after_all, pieces_at, pieces_from}
 use Rattle.pgs_run_apply.specs.State.{ApplyState, HoldsStore, standing_of, state_after}
 use Rattle.pgs_run_apply.specs.Told.{all_lines}
@@ -197,26 +198,6 @@ module _ (s : ApplyState) (output : List ℕ) (triple : Triple) where
         state = ⊎_elim (λ even. inl (even.0, subst (λ (t : ApplyState). IsSavedAt t triple) same even.1)) (λ within. inr (left_within (state_after_all s at.until) (state_after_all s left.until) at.more left.later left.front triple same at.later_is within)) left.state;
       }
 
-  within_more : (t : ApplyState) (later more : List (List ℕ)) (front : List ℕ) → IsWithin t later front triple → IsWithin t (later ++ more) front triple
-  within_more t later more front within = record {
-    line = within.line;
-    more = within.more ++ more;
-    next = ap (λ (xs : List (List ℕ)). xs ++ more) within.next;
-    back = within.back;
-    piece = within.piece;
-    saved = within.saved;
-  }
-
-  left_more : (lines more all : List (List ℕ)) → all ≡ lines ++ more → IsLeft s lines output triple → IsLeft s all output triple
-  left_more lines more all is left = record {
-    until = left.until;
-    later = left.later ++ more;
-    parts = is ∙ ap (λ (xs : List (List ℕ)). xs ++ more) left.parts ∙ append_assoc left.until left.later more;
-    front = left.front;
-    out = left.out;
-    state = ⊎_elim (λ even. inl even) (λ within. inr (within_more (state_after_all s left.until) left.later more left.front within)) left.state;
-  }
-
 -- ---- the lines of an input
 
 -- what was seen are the fronts of some first lines of the input
@@ -269,4 +250,5 @@ went_input s input lines stop old new at went =
 
 pub left_input : (s : ApplyState) (input : List ℕ) (lines : List (List ℕ)) (output : List ℕ) (triple : Triple) → Seen input lines → IsLeft s lines output triple → IsLeft s (all_lines input) output triple
 left_input s input lines output triple at left =
-    left_more s output triple at.first at.more (all_lines input) at.parts (left_fronts s output triple at.first (subst (λ (xs : List (List ℕ)). IsLeft s xs output triple) at.is left))
+    subst (λ (xs : List (List ℕ)). IsLeft s xs output triple) (sym at.parts)
+    (left_more s at.first at.more output triple (left_fronts s output triple at.first (subst (λ (xs : List (List ℕ)). IsLeft s xs output triple) at.is left)))

@@ -15,8 +15,7 @@ use Rattle.pgs_lines.specs.Machine.{Scene, Extent, Told, scene_of}
 use Rattle.pgs_lines.specs.Pieces.{Shown, ShowsAll, ShowsTorn, shown_of}
 use Rattle.pgs_lines.specs.Run.{EndsBy}
 use Rattle.pgs_snapshot.specs.Choice.{chosen_area, chosen_epoch}
-use Rattle.pgs_store.specs.State.{GuardState}
-use Rattle.pgs_store.specs.Stored.{IsSavedIn}
+use Rattle.pgs_store.specs.Stored.{StoreState}
 use Rattle.pgs_world.specs.Disk.{Puts}
 use Rattle.pgs_world.specs.Moment.{IsTimed, IsQuiet, IsSettled, MakesNoPut, Passes, EachSince}
 use Rattle.pgs_world.specs.Source.{Takes, IsAtEnd}
@@ -30,15 +29,17 @@ use Rattle.pgs_run_base.specs.Input.{text_limit, is_skipped}
 use Rattle.pgs_run_base.specs.Pieces.{pieces_in}
 use Rattle.pgs_run_base.specs.Session.{standard, every_verdict, verdict_line, answer_to, pieces_of_line}
 use Rattle.pgs_violation.specs.Violations.{verdict}
+use Rattle.pgs_run_saved.specs.Opening.{saved_in}
 use Rattle.pgs_run_saved.specs.Refusing.{SavedStore}
 use Rattle.pgs_run_apply.specs.Applying.{applying, seen, Applies, IsDone as AreDone}
 use Rattle.pgs_run_apply.specs.Ending.{is_done, last_piece, PutsLast, EndsRun}
+use Rattle.pgs_run_apply.specs.Following.{all_append, pieces_cons, pieces_append}
 use Rattle.pgs_run_apply.specs.Left.{IsLeft, IsSavedAt, state_after_all, pieces_at, pieces_from}
 use Rattle.pgs_run_apply.specs.Run.{Saves, SavesAt, SavesAll, IsAppliedAt, IsCounted, FeedsTook, IsEven}
 use Rattle.pgs_run_apply.specs.State.{ApplyState, HoldsStore, standing_of, state_after}
 use Rattle.pgs_run_apply.specs.Told.{after, verdicts, all_lines, lost_pieces, told_whole, told_input}
 use Rattle.pgs_run_apply.proofs.Beginning.{quiet_shown, quiet_applied, saves_same}
-use Rattle.pgs_run_apply.proofs.Following.{first_state, store_of, state_all-append, pieces_first}
+use Rattle.pgs_run_apply.proofs.Standings.{first_state}
 use Rattle.pgs_run_apply.proofs.Kept.{Went, AreCounted, IsEven as MayEnd, IsExtent, went_reached, went_input, left_input, seen_of}
 use Rattle.pgs_run_apply.proofs.RunEnds.{IsDone, IsOwn, uncut, own_of, done_last, left_done, lost_is}
 use Rattle.pgs_run_apply.proofs.Saving.{Chooses, chooses, saves_at, chooses_at, applied_at, left_applied}
@@ -56,26 +57,18 @@ blank_lines : (s : ApplyState) (lines : List (List ℕ)) → length (pieces_from
 blank_lines s [] none = refl
 blank_lines s (line ∷ lines) none =
     let parts = length-append (pieces_at s line) (pieces_from (state_after s line) lines) in
-    let all : length (pieces_at s line ++ pieces_from (state_after s line) lines) ≡ 0 = ap length (pieces_first s line lines) ∙ none in
+    let all : length (pieces_at s line ++ pieces_from (state_after s line) lines) ≡ 0 = ap length (sym (pieces_cons s line lines)) ∙ none in
     let one : length (pieces_at s line) ≡ 0 = omega arith in
     let more : length (pieces_from (state_after s line) lines) ≡ 0 = omega arith in
     blank_lines (state_after s line) lines more ∙ blank_by s line (is_skipped line) refl one
-
-pieces_on : (s : ApplyState) (xs ys : List (List ℕ)) → pieces_from s (xs ++ ys) ≡ pieces_from s xs ++ pieces_from (state_after_all s xs) ys
-pieces_on s [] ys = refl
-pieces_on s (x ∷ xs) ys =
-    sym (pieces_first s x (xs ++ ys))
-    ∙ ap (λ (more : List (List ℕ)). pieces_at s x ++ more) (pieces_on (state_after s x) xs ys)
-    ∙ sym (append_assoc (pieces_at s x) (pieces_from (state_after s x) xs) (pieces_from (state_after_all (state_after s x) xs) ys))
-    ∙ ap (λ (pieces : List (List ℕ)). pieces ++ pieces_from (state_after_all (state_after s x) xs) ys) (pieces_first s x xs)
 
 -- where the pieces of all lines were put, all lines were done
 whole_state : (s : ApplyState) (all until later : List (List ℕ)) (before now : ℕ) → all ≡ until ++ later → now ≡ before + length (pieces_from s until) → now ≡ before + length (pieces_from s all) → state_after_all s all ≡ state_after_all s until
 whole_state s all until later before now parts some whole =
     let count = length-append (pieces_from s until) (pieces_from (state_after_all s until) later) in
-    let same : length (pieces_from s all) ≡ length (pieces_from s until ++ pieces_from (state_after_all s until) later) = ap (λ (xs : List (List ℕ)). length (pieces_from s xs)) parts ∙ ap length (pieces_on s until later) in
+    let same : length (pieces_from s all) ≡ length (pieces_from s until ++ pieces_from (state_after_all s until) later) = ap (λ (xs : List (List ℕ)). length (pieces_from s xs)) parts ∙ ap length (pieces_append s until later) in
     let none : length (pieces_from (state_after_all s until) later) ≡ 0 = omega arith in
-    ap (state_after_all s) parts ∙ state_all-append s until later ∙ blank_lines (state_after_all s until) later none
+    ap (state_after_all s) parts ∙ all_append s until later ∙ blank_lines (state_after_all s until) later none
 
 -- ---- how the run over lines went
 
@@ -204,8 +197,8 @@ IsShown shown triple = (triple.a ≡ shown.a) × (triple.b ≡ shown.b) × (trip
 
 -- ---- all of it
 
-module _ (guard : GuardState) (journal : Journal) (limits : guard.limits ≡ standard) (of_text : schema_answer guard.text ≡ Ok guard.schema) (input : List ℕ) (budget : ℕ) (before left : Option (List ℕ)) (lost : ℕ) (stop : Stop Status) (result : Status) (old : View) (mid now : Scene (List Place)) (new : View) (run : Ran (first_state guard journal) input stop mid now) (by : EndsBy applying budget before left stop) (last : EndsRun (last_piece (is_done stop) lost) (status_at stop) now.view result new) where
-  pub opened_fed : mid.view.puts ≡ old.puts → FeedsTook (store_of guard) input lost old.puts new.puts mid.kept now.kept result
+module _ (it : StoreState) (limits : it.guard.limits ≡ standard) (of_text : schema_answer it.guard.text ≡ Ok it.guard.schema) (input : List ℕ) (budget : ℕ) (before left : Option (List ℕ)) (lost : ℕ) (stop : Stop Status) (result : Status) (old : View) (mid now : Scene (List Place)) (new : View) (run : Ran (first_state it) input stop mid now) (by : EndsBy applying budget before left stop) (last : EndsRun (last_piece (is_done stop) lost) (status_at stop) now.view result new) where
+  pub opened_fed : mid.view.puts ≡ old.puts → FeedsTook (saved_in it) input lost old.puts new.puts mid.kept now.kept result
   opened_fed puts = record {
     until = run.went.until;
     later = run.went.later;
@@ -214,40 +207,40 @@ module _ (guard : GuardState) (journal : Journal) (limits : guard.limits ≡ sta
     counted = ⊎_elim unput put (last_of lost budget before left stop now.view new result by last);
   }
     where
-      counted : AreCounted stop old.puts now.view.puts (length (verdicts (store_of guard) run.went.until))
-      counted = subst (λ (n : ℕ). AreCounted stop n now.view.puts (length (verdicts (store_of guard) run.went.until))) puts run.went.counted
+      counted : AreCounted stop old.puts now.view.puts (length (verdicts (saved_in it) run.went.until))
+      counted = subst (λ (n : ℕ). AreCounted stop n now.view.puts (length (verdicts (saved_in it) run.went.until))) puts run.went.counted
 
-      unput : IsUnput stop now.view result new → IsCounted old.puts new.puts (length (verdicts (store_of guard) run.went.until)) (length (lost_pieces lost)) result
+      unput : IsUnput stop now.view result new → IsCounted old.puts new.puts (length (verdicts (saved_in it) run.went.until)) (length (lost_pieces lost)) result
       unput at =
-          subst (λ (v : View). IsCounted old.puts v.puts (length (verdicts (store_of guard) run.went.until)) (length (lost_pieces lost)) result) (sym at.0)
-          (counted_unput stop result old.puts now.view.puts (length (verdicts (store_of guard) run.went.until)) (length (lost_pieces lost)) at.1 counted)
+          subst (λ (v : View). IsCounted old.puts v.puts (length (verdicts (saved_in it) run.went.until)) (length (lost_pieces lost)) result) (sym at.0)
+          (counted_unput stop result old.puts now.view.puts (length (verdicts (saved_in it) run.went.until)) (length (lost_pieces lost)) at.1 counted)
 
-      put : IsPut lost stop now.view result new → IsCounted old.puts new.puts (length (verdicts (store_of guard) run.went.until)) (length (lost_pieces lost)) result
-      put at = counted_put lost stop now.view new result old.puts (length (verdicts (store_of guard) run.went.until)) at counted
+      put : IsPut lost stop now.view result new → IsCounted old.puts new.puts (length (verdicts (saved_in it) run.went.until)) (length (lost_pieces lost)) result
+      put at = counted_put lost stop now.view new result old.puts (length (verdicts (saved_in it) run.went.until)) at counted
 
-  pub opened_even : shown_of mid.view ≡ shown_of old → IsTrue now.view.tells_bytes → result ≡ Memory → IsEven (store_of guard) input (shown_of old) (shown_of new) new.shown
+  pub opened_even : shown_of mid.view ≡ shown_of old → IsTrue now.view.tells_bytes → result ≡ Memory → IsEven (saved_in it) input (shown_of old) (shown_of new) new.shown
   opened_even shown tells memory =
       ⊎_elim
-      (λ unput. subst (λ (v : View). IsEven (store_of guard) input (shown_of old) (shown_of v) v.shown) (sym unput.0) (even (unput_even stop now.view new result memory unput)))
+      (λ unput. subst (λ (v : View). IsEven (saved_in it) input (shown_of old) (shown_of v) v.shown) (sym unput.0) (even (unput_even stop now.view new result memory unput)))
       (λ put. absurd (put_no_memory lost stop now.view new result memory put))
       (last_of lost budget before left stop now.view new result by last)
     where
-      even : MayEnd stop → IsEven (store_of guard) input (shown_of old) (shown_of now.view) now.view.shown
+      even : MayEnd stop → IsEven (saved_in it) input (shown_of old) (shown_of now.view) now.view.shown
       even ends =
           let done = run.went.even ends in
           record {
             until = run.went.until;
             later = run.went.later;
             parts = run.went.parts;
-            shows = subst (λ (start : Shown). ShowsAll start (verdicts (store_of guard) run.went.until) (shown_of now.view)) shown done.shows;
-            saves = saves_at guard journal limits of_text run.went.until now.view.shown (held (state_after_all (first_state guard journal) run.went.until) now.view tells done.holds);
+            shows = subst (λ (start : Shown). ShowsAll start (verdicts (saved_in it) run.went.until) (shown_of now.view)) shown done.shows;
+            saves = saves_at it limits of_text run.went.until now.view.shown (held (state_after_all (first_state it) run.went.until) now.view tells done.holds);
           }
 
   -- the last piece is put on the store after all lines
-  module _ (quiet : IsQuiet old mid.view) (settled : IsSettled old) (tells : IsTrue old.tells_output) (chosen : Chooses journal old.shown) (ends : lines.Ends (shown_of mid.view) (told_input 0 input budget (store_of guard)) stop (shown_of now.view)) where
-    put_applied : IsPut lost stop now.view result new → EachSince (IsAppliedAt old.shown (store_of guard) input lost) now.view new
+  module _ (quiet : IsQuiet old mid.view) (settled : IsSettled old) (tells : IsTrue old.tells_output) (chosen : Chooses it.journal old.shown) (ends : lines.Ends (shown_of mid.view) (told_input 0 input budget (saved_in it)) stop (shown_of now.view)) where
+    put_applied : IsPut lost stop now.view result new → EachSince (IsAppliedAt old.shown (saved_in it) input lost) now.view new
     put_applied at =
-        each_step now.view new (Puts at.piece) (IsShown now.view.shown) (IsAppliedAt old.shown (store_of guard) input lost) honest
+        each_step now.view new (Puts at.piece) (IsShown now.view.shown) (IsAppliedAt old.shown (saved_in it) input lost) honest
         (λ d may. (still.a d may, still.b d may, run.passes.timed.output honest output d may)) follows at.put.1
       where
         honest : IsTrue now.view.honest
@@ -259,55 +252,55 @@ module _ (guard : GuardState) (journal : Journal) (limits : guard.limits ≡ sta
         output : IsTrue now.view.tells_output
         output = run.passes.tells_output ∙ (quiet.passes.tells_output ∙ tells)
 
-        shows : ShowsAll (shown_of mid.view) (verdicts (store_of guard) (all_lines input)) (shown_of now.view)
-        shows = whole_shown (shown_of mid.view) (shown_of now.view) input budget (store_of guard) at.status stop at.is at.done ends
+        shows : ShowsAll (shown_of mid.view) (verdicts (saved_in it) (all_lines input)) (shown_of now.view)
+        shows = whole_shown (shown_of mid.view) (shown_of now.view) input budget (saved_in it) at.status stop at.is at.done ends
 
-        done : AreDone (first_state guard journal) run.went.until mid now
+        done : AreDone (first_state it) run.went.until mid now
         done = run.went.even (subst MayEnd (sym at.is) tt)
 
-        holds : HoldsStore (state_after_all (first_state guard journal) (all_lines input)) now.view
-        holds = subst (λ (t : ApplyState). HoldsStore t now.view) (sym (whole_state (first_state guard journal) (all_lines input) run.went.until run.went.later mid.view.puts now.view.puts run.went.parts done.shows.puts shows.puts)) done.holds
+        holds : HoldsStore (state_after_all (first_state it) (all_lines input)) now.view
+        holds = subst (λ (t : ApplyState). HoldsStore t now.view) (sym (whole_state (first_state it) (all_lines input) run.went.until run.went.later mid.view.puts now.view.puts run.went.parts done.shows.puts shows.puts)) done.holds
 
-        saved : IsSavedAt (state_after_all (first_state guard journal) (all_lines input)) now.view.shown
-        saved = held (state_after_all (first_state guard journal) (all_lines input)) now.view bytes holds
+        saved : IsSavedAt (state_after_all (first_state it) (all_lines input)) now.view.shown
+        saved = held (state_after_all (first_state it) (all_lines input)) now.view bytes holds
 
         still : IsSettled now.view
         still = holds.stands.settled honest bytes
 
-        shown : now.view.shown.output ≡ old.shown.output ++ concat (verdicts (store_of guard) (all_lines input))
+        shown : now.view.shown.output ≡ old.shown.output ++ concat (verdicts (saved_in it) (all_lines input))
         shown =
-            shown_added mid.view now.view (concat (verdicts (store_of guard) (all_lines input))) (quiet.passes.tells_output ∙ tells) output shows.output
-            ∙ ap (λ (t : Triple). t.output ++ concat (verdicts (store_of guard) (all_lines input))) quiet.shown
+            shown_added mid.view now.view (concat (verdicts (saved_in it) (all_lines input))) (quiet.passes.tells_output ∙ tells) output shows.output
+            ∙ ap (λ (t : Triple). t.output ++ concat (verdicts (saved_in it) (all_lines input))) quiet.shown
 
-        follows : (d c : Triple) → IsShown now.view.shown d → Puts at.piece d c → IsAppliedAt old.shown (store_of guard) input lost c
+        follows : (d c : Triple) → IsShown now.view.shown d → Puts at.piece d c → IsAppliedAt old.shown (saved_in it) input lost c
         follows d c is put =
-            applied_at guard journal limits of_text old.shown chosen input lost c (all_lines input) [] put.front (sym (append-nil (all_lines input)))
-            (put.added ∙ ap (λ (o : List ℕ). o ++ put.front) (is.2 ∙ shown) ∙ append_assoc old.shown.output (concat (verdicts (store_of guard) (all_lines input))) put.front)
-            (chooses_same journal now.view.shown c (put.a ∙ is.0) (put.b ∙ is.1) (chooses_at guard journal limits of_text (all_lines input) now.view.shown saved))
+            applied_at it limits of_text old.shown chosen input lost c (all_lines input) [] put.front (sym (append-nil (all_lines input)))
+            (put.added ∙ ap (λ (o : List ℕ). o ++ put.front) (is.2 ∙ shown) ∙ append_assoc old.shown.output (concat (verdicts (saved_in it) (all_lines input))) put.front)
+            (chooses_same it.journal now.view.shown c (put.a ∙ is.0) (put.b ∙ is.1) (chooses_at it limits of_text (all_lines input) now.view.shown saved))
             (inr (inr (record {
               all = refl;
               back = put.back;
               piece = at.last ∙ ap (λ (p : List ℕ). p ∷ []) put.parts;
-              saves = saves_same (store_of guard) (after (store_of guard) (all_lines input)) now.view.shown c (put.a ∙ is.0) (put.b ∙ is.1) (saves_at guard journal limits of_text (all_lines input) now.view.shown saved);
+              saves = saves_same (saved_in it) (after (saved_in it) (all_lines input)) now.view.shown c (put.a ∙ is.0) (put.b ∙ is.1) (saves_at it limits of_text (all_lines input) now.view.shown saved);
             })))
 
-    pub opened_stops : IsTimed old → Saves (store_of guard) old.shown → EachSince (IsAppliedAt old.shown (store_of guard) input lost) old new
+    pub opened_stops : IsTimed old → Saves (saved_in it) old.shown → EachSince (IsAppliedAt old.shown (saved_in it) input lost) old new
     opened_stops timed known =
         ⊎_elim
-        (λ unput. subst (λ (v : View). EachSince (IsAppliedAt old.shown (store_of guard) input lost) old v) (sym unput.0) so_far)
-        (λ put. each_on old now.view new (IsAppliedAt old.shown (store_of guard) input lost) passes put.put.0 so_far (put_applied put))
+        (λ unput. subst (λ (v : View). EachSince (IsAppliedAt old.shown (saved_in it) input lost) old v) (sym unput.0) so_far)
+        (λ put. each_on old now.view new (IsAppliedAt old.shown (saved_in it) input lost) passes put.put.0 so_far (put_applied put))
         (last_of lost budget before left stop now.view new result by last)
       where
         passes : Passes old now.view
         passes = passes_on old mid.view now.view quiet.passes run.passes
 
-        inside : EachSince (IsAppliedAt old.shown (store_of guard) input lost) mid.view now.view
+        inside : EachSince (IsAppliedAt old.shown (saved_in it) input lost) mid.view now.view
         inside =
-            each_weaker mid.view now.view (IsLeft (first_state guard journal) (all_lines input) mid.view.shown.output) (IsAppliedAt old.shown (store_of guard) input lost)
-            (λ c so. left_applied guard journal limits of_text old.shown chosen input lost c (subst (λ (t : Triple). IsLeft (first_state guard journal) (all_lines input) t.output c) quiet.shown so))
+            each_weaker mid.view now.view (IsLeft (first_state it) (all_lines input) mid.view.shown.output) (IsAppliedAt old.shown (saved_in it) input lost)
+            (λ c so. left_applied it limits of_text old.shown chosen input lost c (subst (λ (t : Triple). IsLeft (first_state it) (all_lines input) t.output c) quiet.shown so))
             (run.stops (quiet.passes.honest ∙ settled.honest) (quiet.passes.tells_bytes ∙ settled.tells_bytes) (quiet.passes.tells_output ∙ tells))
 
-        so_far : EachSince (IsAppliedAt old.shown (store_of guard) input lost) old now.view
+        so_far : EachSince (IsAppliedAt old.shown (saved_in it) input lost) old now.view
         so_far =
-            each_on old mid.view now.view (IsAppliedAt old.shown (store_of guard) input lost) quiet.passes run.passes
-            (quiet_applied old mid.view (store_of guard) input lost timed tells settled quiet known) inside
+            each_on old mid.view now.view (IsAppliedAt old.shown (saved_in it) input lost) quiet.passes run.passes
+            (quiet_applied old mid.view (saved_in it) input lost timed tells settled quiet known) inside

@@ -3,7 +3,6 @@ use Rattle.std.proofs.Common.{◌≡◌, ◌⊎◌, inl, inr, ⊎_elim, ℕ, ◌
 use Rattle.std.proofs.lemmas.Bool.Decides.{nat_tests}
 use Rattle.std.proofs.lemmas.List.{append-nil}
 use Rattle.pgs_answer.specs.Lines.{feeds_lost_line}
-use Rattle.pgs_journal.specs.declared.journal.Journal.{Journal}
 use Rattle.pgs_lines.specs.declared.stop.Stop.{Stop}
 use Rattle.pgs_lines.specs.declared.stop.Stop.TheVariants as stops
 use Rattle.pgs_lines.specs.Ending as lines
@@ -14,7 +13,7 @@ use Rattle.pgs_lines.specs.Run as over
 use Rattle.pgs_lines.specs.Run.{EndsBy, EndsAtLine, EndsAtEnd, EndsAtCut}
 use Rattle.pgs_lines.proofs.RunEnds.{taken_length}
 use Rattle.pgs_lines.proofs.Showing.{shows_on, torn_on, all_first, first_of_more, torn_of_more}
-use Rattle.pgs_store.specs.State.{GuardState}
+use Rattle.pgs_store.specs.Stored.{StoreState}
 use Rattle.pgs_world.specs.Source.{IsAtEnd}
 use Rattle.pgs_world.specs.World.{View}
 use Rattle.pgs_run_base.specs.declared.status.Status.{Status}
@@ -23,13 +22,14 @@ use Rattle.pgs_run_base.specs.Ending.{Ends, status_at}
 use Rattle.pgs_run_base.specs.Input.{text_limit}
 use Rattle.pgs_run_base.specs.Pieces.{pieces_in}
 use Rattle.pgs_run_base.specs.Run.{IsRead, EndsAs, HasCommandCause}
+use Rattle.pgs_run_saved.specs.Opening.{saved_in}
 use Rattle.pgs_run_saved.specs.Refusing.{SavedStore}
 use Rattle.pgs_run_apply.specs.Applying.{applying}
 use Rattle.pgs_run_apply.specs.Ending.{is_done, last_piece, PutsLast, EndsRun}
 use Rattle.pgs_run_apply.specs.State.{ApplyState, state_after}
 use Rattle.pgs_run_apply.specs.Told.{after, lost_pieces, status_after, verdicts, all_lines, told_whole, told_input}
 use Rattle.pgs_run_apply.proofs.Beginning.{faults_beside}
-use Rattle.pgs_run_apply.proofs.Following.{first_state, store_of}
+use Rattle.pgs_run_apply.proofs.Standings.{first_state}
 use Rattle.pgs_run_apply.proofs.Machine.{told_by_applying}
 
 -- ---- the statuses of the machine's own
@@ -226,23 +226,23 @@ less n m = omega arith
 
 -- ---- the run
 
-module _ (start : Shown) (input : List ℕ) (budget : ℕ) (before left : Option (List ℕ)) (guard : GuardState) (journal : Journal) (s : ApplyState) (lost : ℕ) (stop : Stop Status) (old new : View) (result : Status) where
-  pub apply_ends : before ≡ Some input → s ≡ first_state guard journal → EndsBy applying budget before left stop → over.EndsAs (told_by applying text_limit s input) start input budget left stop (shown_of old)
-      → EndsRun (last_piece (is_done stop) lost) (status_at stop) old result new → EndsAs (λ bytes. told_input lost input bytes (store_of guard)) start input budget left result (shown_of new)
+module _ (start : Shown) (input : List ℕ) (budget : ℕ) (before left : Option (List ℕ)) (it : StoreState) (s : ApplyState) (lost : ℕ) (stop : Stop Status) (old new : View) (result : Status) where
+  pub apply_ends : before ≡ Some input → s ≡ first_state it → EndsBy applying budget before left stop → over.EndsAs (told_by applying text_limit s input) start input budget left stop (shown_of old)
+      → EndsRun (last_piece (is_done stop) lost) (status_at stop) old result new → EndsAs (λ bytes. told_input lost input bytes (saved_in it)) start input budget left result (shown_of new)
   apply_ends is first by ends last = record {
-    shown = shown_at start input budget before left (store_of guard) lost old new result stop by (subst (λ (t : Told Status). lines.Ends start t stop (shown_of old)) (tells budget) ends.shown) last;
+    shown = shown_at start input budget before left (saved_in it) lost old new result stop by (subst (λ (t : Told Status). lines.Ends start t stop (shown_of old)) (tells budget) ends.shown) last;
     read_fault = λ rest left_is fault. read rest left_is (fault_at budget before left stop by (is_status (status_at stop) result ReadFault (λ e. cc) (λ e. cc) (last_result (last_piece (is_done stop) lost) (status_at stop) result old new last) fault));
     within = ends.within;
     too_long = λ rest left_is cut. too_long_at budget before left input rest stop is left_is by (is_status (status_at stop) result InputTooLong (λ e. cc) (λ e. cc) (last_result (last_piece (is_done stop) lost) (status_at stop) result old new last) cut);
   }
     where
-      tells : (n : ℕ) → told_by applying text_limit s input n ≡ told_input 0 input n (store_of guard)
-      tells n = ap (λ (t : ApplyState). told_by applying text_limit t input n) first ∙ told_by_applying guard journal input n
+      tells : (n : ℕ) → told_by applying text_limit s input n ≡ told_input 0 input n (saved_in it)
+      tells n = ap (λ (t : ApplyState). told_by applying text_limit t input n) first ∙ told_by_applying it input n
 
-      read : (rest : List ℕ) → left ≡ Some rest → stop ≡ stops.ReadFault → ShowsAll start (told_input lost input (length input - length rest) (store_of guard)).pieces (shown_of new)
+      read : (rest : List ℕ) → left ≡ Some rest → stop ≡ stops.ReadFault → ShowsAll start (told_input lost input (length input - length rest) (saved_in it)).pieces (shown_of new)
       read rest left_is fault =
-          subst (λ (v : View). ShowsAll start (told_input lost input (length input - length rest) (store_of guard)).pieces (shown_of v)) (sym (unread stop lost old new result fault last))
-          (subst (λ (t : Told Status). ShowsAll start t.pieces (shown_of old)) (tells (length input - length rest) ∙ sym (cut_told lost input (length input - length rest) (store_of guard) (less (length input) (length rest)))) (ends.read_fault rest left_is fault))
+          subst (λ (v : View). ShowsAll start (told_input lost input (length input - length rest) (saved_in it)).pieces (shown_of v)) (sym (unread stop lost old new result fault last))
+          (subst (λ (t : Told Status). ShowsAll start t.pieces (shown_of old)) (tells (length input - length rest) ∙ sym (cut_told lost input (length input - length rest) (saved_in it) (less (length input) (length rest)))) (ends.read_fault rest left_is fault))
 
 -- ---- what was read
 

@@ -1,7 +1,13 @@
 pub mod Applying
+pub mod Asking
 pub mod Committing
 pub mod Ending
+pub mod Following
 pub mod Left
+pub mod Outcome
+pub mod Putting
+pub mod Rule
 pub mod Run
+pub mod Seen
 pub mod State
 pub mod Told

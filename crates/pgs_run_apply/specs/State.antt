@@ -1,11 +1,10 @@
 -- Where a run of `apply` stands between two lines: the store, and what was counted.
-use Rattle.std.specs.Prelude.{◌≡◌, ℕ, ◌+◌, Bool, true, List, length, Result, Ok, Err, if◌then◌else◌}
+use Rattle.std.specs.Prelude.{◌≡◌, ℕ, ◌+◌, Bool, true, false, List, Result, Ok, Err, if◌then◌else◌}
 use Rattle.pgs_base.specs.Graph.{Graph}
 use Rattle.pgs_graph.specs.declared.operation.Txn.{Txn}
 use Rattle.pgs_journal.specs.declared.journal.Journal.{Journal}
-use Rattle.pgs_store.specs.Applies.{record_length}
 use Rattle.pgs_store.specs.State.{GuardState}
-use Rattle.pgs_store.specs.Stored.{StandsOn, committed, ending_at}
+use Rattle.pgs_store.specs.Stored.{StandsOn, committed, longer}
 use Rattle.pgs_violation.specs.declared.rejection.Rejection.{Rejection}
 use Rattle.pgs_violation.specs.Violations.{verdict}
 use Rattle.pgs_world.specs.World.{View}
@@ -17,6 +16,8 @@ use Rattle.pgs_run_base.specs.Session.{Standing, standard, decision_on}
 pub record ApplyState : Type 0 where
   pub guard : GuardState
   pub journal : Journal
+  -- whether an area failed under the store
+  pub failed : Bool
   pub number : ℕ
   pub refused : Bool
 
@@ -32,7 +33,8 @@ with_refusal s = record s { number = s.number + 1; refused = true }
 abbrev pub with_commit : ApplyState → Txn → Graph → ApplyState
 with_commit s txn g = record {
   guard = committed s.guard g;
-  journal = ending_at s.journal (s.journal.end + record_length txn);
+  journal = longer s.journal txn;
+  failed = s.failed;
   number = s.number + 1;
   refused = s.refused;
 }
@@ -49,7 +51,8 @@ after_txn s (Err text) = with_refusal s
 unfoldable pub state_after : ApplyState → List ℕ → ApplyState
 state_after s line = if is_skipped line then s else after_txn s (txn_answer line)
 
--- the store is within the limits of the program, and stands on the world
+-- the store is within the limits of the program, no area failed under it, and it stands on the world
 pub record HoldsStore (s : ApplyState) (view : View) : Type 0 where
   pub limits : s.guard.limits ≡ standard
+  pub whole : s.failed ≡ false
   pub stands : StandsOn s.guard s.journal view

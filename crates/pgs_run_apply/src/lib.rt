@@ -6,7 +6,8 @@
 #![tactic(auto)]
 
 mod applying;
+mod asking;
+mod putting;
 mod run;
-mod session;
 
 pub use run::run_apply;

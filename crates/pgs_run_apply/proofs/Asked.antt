@@ -1,0 +1,149 @@
+-- What a line comes to by what the store answered.
+use Rattle.std.proofs.Common.{◌≡◌, ◌∙◌, inl, inr, ⊎_elim, ℕ, ◌+◌, Bool, List, [], ◌∷◌, Option, Some, None, Result, Ok, Err, IsTrue, refl, sym, ap, subst, cond}
+use Rattle.std.proofs.lemmas.List.{append-nil}
+use Rattle.std.specs.List.{AllZip}
+use Rattle.pgs_base.specs.Graph.{Graph}
+use Rattle.pgs_feed.specs.Given.{AreGiven}
+use Rattle.pgs_feed.specs.Places.{Place, Delivers}
+use Rattle.pgs_feed.proofs.Given.{given_line, given_none}
+use Rattle.pgs_graph.specs.declared.operation.Txn.{Txn}
+use Rattle.pgs_lines.specs.declared.stop.Stop.{Stop}
+use Rattle.pgs_lines.specs.declared.stop.Stop.TheVariants as stops
+use Rattle.pgs_lines.specs.Ending.{Faults, faults_of}
+use Rattle.pgs_lines.specs.Machine.{Scene, scene_of}
+use Rattle.pgs_lines.specs.Pieces.{Shown, ShowsAll, shown_of}
+use Rattle.pgs_lines.proofs.Showing.{shows_none}
+use Rattle.pgs_store.specs.Applies.{decided}
+use Rattle.pgs_store.specs.Stored.{StoreState, IsAppliedIn, IsSavedIn, committed, longer}
+use Rattle.pgs_store.specs.World.{StaysBeside}
+use Rattle.pgs_violation.specs.declared.rejection.Rejection.{Rejection}
+use Rattle.pgs_violation.specs.Violations.{verdict}
+use Rattle.pgs_world.specs.declared.area.Area.{Area}
+use Rattle.pgs_world.specs.Count.{Rose}
+use Rattle.pgs_world.specs.Moment.{EachSince, IsTimed}
+use Rattle.pgs_world.specs.World.{Triple, View}
+use Rattle.pgs_answer.specs.Lines.{committed_line, feed_line}
+use Rattle.pgs_answer.specs.Refusals.{rejection_text}
+use Rattle.pgs_run_base.specs.declared.status.Status.{Status}
+use Rattle.pgs_run_base.specs.Session.{standard, decision_on}
+use Rattle.pgs_run_apply.specs.Asking.{IsDoneBy}
+use Rattle.pgs_run_apply.specs.Outcome.{IsPast, IsLeftBy, Takes, refusing, deciding}
+use Rattle.pgs_run_apply.specs.Putting.{PutsPiece}
+use Rattle.pgs_run_apply.specs.Seen.{state_with}
+use Rattle.pgs_run_apply.specs.State.{ApplyState, HoldsStore}
+use Rattle.pgs_run_apply.proofs.Outcomes.{same_decision}
+use Rattle.pgs_run_apply.proofs.Taken.{IsReady, take_put}
+
+-- ---- at every moment of the call
+
+applied_left : (s : ApplyState) (txn : Txn) (decision : Result Graph Rejection) (out : List ℕ) (c : Triple) → decision ≡ decided s.guard txn
+    → c.output ≡ out → IsAppliedIn s.guard s.journal txn c → IsLeftBy s (deciding s txn decision) out c
+applied_left s txn decision out c same is applied =
+    ⊎_elim (λ before. inl (is, (s.journal.end, before)))
+    (λ after. inr (subst (λ (d : Result Graph Rejection). IsPast (deciding s txn d) out c) (sym (same ∙ after.1)) (past after.0 after.2))) applied
+  where
+    past : (graph : Graph) → IsSavedIn (committed s.guard graph) (longer s.journal txn) c → IsPast (deciding s txn (Ok graph)) out c
+    past graph saved = record {
+      front = [];
+      back = committed_line (s.number + 1) (s.guard.commits + 1);
+      piece = refl;
+      out = is ∙ sym (append-nil out);
+      saved = ((longer s.journal txn).end, saved);
+    }
+
+asked_left : (s : ApplyState) (txn : Txn) (decision : Result Graph Rejection) (old mid : View) → decision ≡ decided s.guard txn → IsTimed old
+    → (IsTrue old.honest → IsTrue old.tells_bytes → EachSince (IsAppliedIn s.guard s.journal txn) old mid) → StaysBeside s.journal.area old mid
+    → IsTrue old.honest → IsTrue old.tells_bytes → IsTrue old.tells_output
+    → EachSince (IsLeftBy s (deciding s txn decision) old.shown.output) old mid
+asked_left s txn decision old mid same timed stops beside honest told output = λ c left.
+    let from = beside.stops honest c left in
+    applied_left s txn decision old.shown.output c same (from.2.output ∙ timed.output honest output from.0 from.1) (stops honest told c left)
+
+-- ---- what is shown
+
+abbrev shown_with : Bool → List ℕ → ℕ → Shown
+shown_with tells output puts = record { output = cond tells (Some output) None; puts = puts }
+
+same_shown : (area : Area) (old mid : View) → StaysBeside area old mid → shown_of mid ≡ shown_of old
+same_shown area old mid beside =
+    ap (λ (b : Bool). shown_with b mid.shown.output mid.puts) beside.passes.tells_output
+    ∙ (ap (λ (out : List ℕ). shown_with old.tells_output out mid.puts) beside.shown.output
+    ∙ ap (λ (n : ℕ). shown_with old.tells_output old.shown.output n) beside.no_put.puts)
+
+abbrev faults_with : ℕ → ℕ → Faults
+faults_with areas puts = record { reads = 0; areas = areas; puts = puts }
+
+same_faults : (old mid : View) → mid.area_faults ≡ old.area_faults → mid.put_faults ≡ old.put_faults → faults_of 0 mid ≡ faults_of 0 old
+same_faults old mid areas puts = ap (λ (n : ℕ). faults_with n mid.put_faults) areas ∙ ap (λ (n : ℕ). faults_with old.area_faults n) puts
+
+-- ---- the store's answers
+
+module _ (before : StoreState) (number : ℕ) (refused : Bool) (txn : Txn) where
+  abbrev at : ApplyState
+  at = state_with before number refused
+
+  abbrev asked : Result Graph Rejection
+  asked = decision_on (verdict before.guard.schema) before.guard.graph txn
+
+  ready_done : (after : StoreState) (old mid : View) → HoldsStore at old → IsTimed old → (done : IsDoneBy before after txn old mid)
+      → (IsTrue old.honest → IsTrue old.tells_bytes → EachSince (IsAppliedIn before.guard before.journal txn) old mid)
+      → StaysBeside before.journal.area old mid → IsReady at (deciding at txn (Ok done.graph)) old mid
+  ready_done after old mid holds timed done stops beside = record {
+    passes = beside.passes;
+    holds = record { limits = holds.limits; whole = holds.whole; stands = done.stands };
+    output = beside.shown.output;
+    shown = same_shown before.journal.area old mid beside;
+    faults = same_faults old mid done.area_faults beside.no_put.put_faults;
+    stops = asked_left at txn (Ok done.graph) old mid (sym done.accepted) timed stops beside;
+  }
+
+  -- the transaction is done, feeds were given its line, and its verdict line was put
+  pub take_done : {T : Type 0} (result : Result T (Stop Status)) (after : StoreState) (old mid new : View) (kept fed : List Place)
+      (feed piece : List ℕ) → HoldsStore at old → IsTimed old → (done : IsDoneBy before after txn old mid)
+      → (IsTrue old.honest → IsTrue old.tells_bytes → EachSince (IsAppliedIn before.guard before.journal txn) old mid)
+      → StaysBeside before.journal.area old mid → feed ≡ feed_line txn (before.guard.commits + 1) → AllZip (Delivers feed) kept fed
+      → piece ≡ committed_line (number + 1) (before.guard.commits + 1) → PutsPiece piece result mid new
+      → Takes at (deciding at txn asked) result (state_with after (number + 1) refused) (scene_of old kept) (scene_of new fed)
+  take_done result after old mid new kept fed feed piece holds timed done stops beside feed_is given piece_is put =
+      let now = state_with after (number + 1) refused in
+      let o = deciding at txn (Ok done.graph) in
+      let lines : AreGiven o.given kept fed = subst (λ (line : List ℕ). AreGiven (line ∷ []) kept fed) feed_is (given_line feed kept fed given) in
+      subst (λ (d : Result Graph Rejection). Takes at (deciding at txn d) result now (scene_of old kept) (scene_of new fed))
+      (sym (same_decision at txn holds.limits ∙ done.accepted))
+      (take_put at o piece result now old mid new kept fed (ap (λ (bytes : List ℕ). bytes ∷ []) (sym piece_is))
+      (ap (λ (store : StoreState). state_with store (number + 1) refused) done.store) lines (ready_done after old mid holds timed done stops beside) put)
+
+  -- an area failed
+  pub take_struck : {T : Type 0} (now : ApplyState) (old mid : View) (kept : List Place) → HoldsStore at old → IsTimed old
+      → Rose old.area_faults mid.area_faults
+      → (IsTrue old.honest → IsTrue old.tells_bytes → EachSince (IsAppliedIn before.guard before.journal txn) old mid)
+      → StaysBeside before.journal.area old mid
+      → Takes {T = T} at (deciding at txn asked) (Err stops.AreaFault) now (scene_of old kept) (scene_of mid kept)
+  take_struck now old mid kept holds timed rose stops beside = record {
+    passes = beside.passes;
+    taken = record {
+      shows = subst (λ (shown : Shown). ShowsAll (shown_of old) [] shown) (sym (same_shown before.journal.area old mid beside)) (shows_none (shown_of old));
+      given = given_none kept;
+      faults = (rose, refl, beside.no_put.put_faults);
+    };
+    stops = asked_left at txn asked old mid (same_decision at txn holds.limits) timed stops beside;
+  }
+
+  -- the transaction is rejected
+  pub take_rejected : {T W : Type 0} (view : W → View) (result : Result T (Stop Status)) (now : ApplyState) (rejection : Rejection) (old mid : W)
+      (new : View) (kept fed : List Place) (after : StoreState) → HoldsStore at (view old) → decided before.guard txn ≡ Err rejection
+      → after ≡ before → mid ≡ old
+      → (let t = state_with after number refused in Takes t (refusing t (rejection_text rejection standard)) result now (scene_of (view mid) kept) (scene_of new fed))
+      → Takes at (deciding at txn asked) result now (scene_of (view old) kept) (scene_of new fed)
+  take_rejected view result now rejection old mid new kept fed after holds rejected same still taken =
+      subst (λ (d : Result Graph Rejection). Takes at (deciding at txn d) result now (scene_of (view old) kept) (scene_of new fed))
+      (sym (same_decision at txn holds.limits ∙ rejected))
+      (subst (λ (w : W). Takes at (refusing at (rejection_text rejection standard)) result now (scene_of (view w) kept) (scene_of new fed)) still
+      (subst (λ (store : StoreState). let t = state_with store number refused in Takes t (refusing t (rejection_text rejection standard)) result now (scene_of (view mid) kept) (scene_of new fed)) same taken))
+
+  -- and what it needs
+  pub still_holds : {W : Type 0} (view : W → View) (old mid : W) (after : StoreState) → HoldsStore at (view old) → after ≡ before → mid ≡ old
+      → HoldsStore (state_with after number refused) (view mid)
+  still_holds view old mid after holds same still =
+      subst (λ (w : W). HoldsStore (state_with after number refused) (view w)) (sym still)
+      (subst (λ (store : StoreState). HoldsStore (state_with store number refused) (view old)) (sym same) holds)

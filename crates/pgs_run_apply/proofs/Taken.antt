@@ -1,0 +1,141 @@
+-- The taking of a line, from what its calls do to the world.
+use Rattle.std.proofs.Common.{◌≡◌, ◌∙◌, inl, inr, ℕ, ◌+◌, List, [], ◌∷◌, ◌++◌, length, Result, Ok, Err, IsTrue, refl, sym, ap, subst, arith}
+use Rattle.std.proofs.lemmas.List.{append-nil}
+use Rattle.pgs_feed.specs.Given.{AreGiven}
+use Rattle.pgs_feed.specs.Places.{Place}
+use Rattle.pgs_feed.proofs.Given.{given_none}
+use Rattle.pgs_lines.specs.declared.stop.Stop.{Stop}
+use Rattle.pgs_lines.specs.declared.stop.Stop.TheVariants as stops
+use Rattle.pgs_lines.specs.Ending.{Faults, PutsRose, faults_of}
+use Rattle.pgs_lines.specs.Machine.{scene_of}
+use Rattle.pgs_lines.specs.Pieces.{Shown, ShowsAll, ShowsTorn, shown_of}
+use Rattle.pgs_lines.proofs.Showing.{shows_none}
+use Rattle.pgs_store.proofs.Applied.{same_images}
+use Rattle.pgs_world.specs.Disk.{Puts}
+use Rattle.pgs_world.specs.Moment.{EachSince, IsTimed, Passes, StopsBy}
+use Rattle.pgs_world.specs.World.{Triple, View}
+use Rattle.pgs_world.proofs.Moments.{passes_none, passes_on, each_none, each_on, settled_put}
+use Rattle.pgs_run_base.specs.declared.status.Status.{Status}
+use Rattle.pgs_run_apply.specs.Following.{saved_here}
+use Rattle.pgs_run_apply.specs.Left.{IsSavedAt}
+use Rattle.pgs_run_apply.specs.Outcome.{Outcome, IsPast, IsLeftBy, IsTaken, Takes, skipping}
+use Rattle.pgs_run_apply.specs.Putting.{IsPut, PutsPiece}
+use Rattle.pgs_run_apply.specs.State.{ApplyState, HoldsStore}
+
+-- ---- a put
+
+put_holds : {T : Type 0} (s : ApplyState) (piece : List ℕ) (result : Result T (Stop Status)) (old new : View) → HoldsStore s old
+    → PutsPiece piece result old new → HoldsStore s new
+put_holds s piece result old new holds put = record {
+  limits = holds.limits;
+  whole = holds.whole;
+  stands = record {
+    saved = λ told. same_images s.guard s.journal old.shown new.shown (holds.stands.saved (sym put.passes.tells_bytes ∙ told)) put.a put.b;
+    settled = λ honest told.
+        settled_put old new piece (holds.stands.settled (sym put.passes.honest ∙ honest) (sym put.passes.tells_bytes ∙ told)) put.passes put.stops put.a put.b;
+  };
+}
+
+put_left : (s : ApplyState) (o : Outcome) (piece out : List ℕ) (old new : View) → o.pieces ≡ piece ∷ [] → old.shown.output ≡ out → IsTimed old
+    → HoldsStore o.state old → StopsBy (Puts piece) old new → IsTrue old.honest → IsTrue old.tells_bytes → IsTrue old.tells_output
+    → EachSince (IsLeftBy s o out) old new
+put_left s o piece out old new one is timed holds stops honest told output = λ c left.
+    let from = stops honest c left in
+    let saved = saved_here o.state old holds honest told from.0 from.1 in
+    let past : IsPast o out c = record {
+      front = from.2.front;
+      back = from.2.back;
+      piece = one ∙ ap (λ (bytes : List ℕ). bytes ∷ []) from.2.parts;
+      out = from.2.added ∙ ap (λ (bytes : List ℕ). bytes ++ from.2.front) (timed.output honest output from.0 from.1 ∙ is);
+      saved = (saved.0, same_images o.state.guard (let j = record o.state.journal { end = saved.0 } in j) from.0 c saved.1 from.2.a from.2.b);
+    } in
+    inr past
+
+-- ---- what is done before the put
+
+-- the store did its part for the line, and nothing was put yet
+pub record IsReady (s : ApplyState) (o : Outcome) (old mid : View) : Type 0 where
+  pub passes : Passes old mid
+  pub holds : HoldsStore o.state mid
+  pub output : mid.shown.output ≡ old.shown.output
+  pub shown : shown_of mid ≡ shown_of old
+  pub faults : faults_of 0 mid ≡ faults_of 0 old
+  pub stops : IsTrue old.honest → IsTrue old.tells_bytes → IsTrue old.tells_output → EachSince (IsLeftBy s o old.shown.output) old mid
+
+here_left : (s : ApplyState) (o : Outcome) (view : View) → IsTimed view → HoldsStore s view → IsTrue view.honest → IsTrue view.tells_bytes
+    → IsTrue view.tells_output → EachSince (IsLeftBy s o view.shown.output) view view
+here_left s o view timed holds honest told output =
+    each_none view (IsLeftBy s o view.shown.output) timed
+    (λ c left. inl (timed.output honest output c left, saved_here s view holds honest told c left))
+
+-- the store has nothing to do
+pub ready_none : (s : ApplyState) (o : Outcome) (view : View) → IsTimed view → HoldsStore s view → HoldsStore o.state view → IsReady s o view view
+ready_none s o view timed before holds = record {
+  passes = passes_none view timed;
+  holds = holds;
+  output = refl;
+  shown = refl;
+  faults = refl;
+  stops = here_left s o view timed before;
+}
+
+-- ---- the line
+
+taken_put : {T : Type 0} (s : ApplyState) (o : Outcome) (piece : List ℕ) (result : Result T (Stop Status)) (now : ApplyState) (old mid new : View)
+    (kept after : List Place) → o.pieces ≡ piece ∷ [] → now ≡ o.state → AreGiven o.given kept after → IsReady s o old mid
+    → PutsPiece piece result mid new → IsPut piece result mid new → IsTaken s o result now (scene_of old kept) (scene_of new after)
+taken_put s o piece (Ok done) now old mid new kept after one state given ready put answer = record {
+  state = state;
+  holds = put_holds o.state piece (Ok done) mid new ready.holds put;
+  shows = subst (λ (pieces : List (List ℕ)). ShowsAll (shown_of old) pieces (shown_of new)) (sym one)
+      (subst (λ (start : Shown). ShowsAll start (piece ∷ []) (shown_of new)) ready.shown answer.0);
+  given = given;
+  faults = answer.1 ∙ ready.faults;
+}
+taken_put s o piece (Err (stops.Ended status)) now old mid new kept after one state given ready put answer = answer
+taken_put s o piece (Err stops.ReadFault) now old mid new kept after one state given ready put answer = answer
+taken_put s o piece (Err stops.AreaFault) now old mid new kept after one state given ready put answer = absurd answer
+taken_put s o piece (Err stops.PutFault) now old mid new kept after one state given ready put answer =
+    let was : mid.puts ≡ old.puts = ap (λ (shown : Shown). shown.puts) ready.shown in
+    let same : new.puts ≡ mid.puts = answer.1 in
+    let count : length o.pieces ≡ 1 = ap length one in
+    record {
+      shows = subst (λ (pieces : List (List ℕ)). ShowsTorn (shown_of old) pieces (shown_of new)) (sym one)
+          (subst (λ (start : Shown). ShowsTorn start (piece ∷ []) (shown_of new)) ready.shown answer.0);
+      puts = omega (arith, was, same, count);
+      given = given;
+      faults = subst (λ (f : Faults). PutsRose f (faults_of 0 new)) ready.faults answer.2;
+    }
+taken_put s o piece (Err stops.Memory) now old mid new kept after one state given ready put answer = absurd answer
+
+-- the store did its part, feeds were given what they are to get, and the piece was put
+pub take_put : {T : Type 0} (s : ApplyState) (o : Outcome) (piece : List ℕ) (result : Result T (Stop Status)) (now : ApplyState) (old mid new : View)
+    (kept after : List Place) → o.pieces ≡ piece ∷ [] → now ≡ o.state → AreGiven o.given kept after → IsReady s o old mid
+    → PutsPiece piece result mid new → Takes s o result now (scene_of old kept) (scene_of new after)
+take_put s o piece result now old mid new kept after one state given ready put =
+    let p = ready.passes in
+    record {
+      passes = passes_on old mid new p put.passes;
+      taken = taken_put s o piece result now old mid new kept after one state given ready put put.answer;
+      stops = λ honest told output.
+          each_on old mid new (IsLeftBy s o old.shown.output) p put.passes (ready.stops honest told output)
+          (put_left s o piece old.shown.output mid new one ready.output p.timed ready.holds put.stops (p.honest ∙ honest) (p.tells_bytes ∙ told) (p.tells_output ∙ output));
+    }
+
+-- there was no memory
+pub take_none : {T : Type 0} (s : ApplyState) (o : Outcome) (now : ApplyState) (view : View) (kept : List Place) → IsTimed view → HoldsStore s view
+    → Takes {T = T} s o (Err stops.Memory) now (scene_of view kept) (scene_of view kept)
+take_none s o now view kept timed holds = record {
+  passes = passes_none view timed;
+  taken = record { holds = holds; shows = shows_none (shown_of view); given = given_none kept; faults = refl };
+  stops = here_left s o view timed holds;
+}
+
+-- the line is skipped
+pub take_skipped : {T : Type 0} (s : ApplyState) (done : T) (view : View) (kept : List Place) → IsTimed view → HoldsStore s view
+    → Takes s (skipping s) (Ok done) s (scene_of view kept) (scene_of view kept)
+take_skipped s done view kept timed holds = record {
+  passes = passes_none view timed;
+  taken = record { state = refl; holds = holds; shows = shows_none (shown_of view); given = given_none kept; faults = refl };
+  stops = here_left s (skipping s) view timed holds;
+}

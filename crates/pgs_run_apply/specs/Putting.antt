@@ -1,0 +1,27 @@
+-- What a put of a piece answers, and what it leaves at every moment.
+use Rattle.std.specs.Prelude.{◌≡◌, ℕ, List, [], ◌∷◌, Result, Ok, Err}
+use Rattle.pgs_lines.specs.declared.stop.Stop.{Stop}
+use Rattle.pgs_lines.specs.declared.stop.Stop.TheVariants as stops
+use Rattle.pgs_lines.specs.Ending.{PutsRose, faults_of}
+use Rattle.pgs_lines.specs.Pieces.{shown_of, ShowsAll, ShowsTorn}
+use Rattle.pgs_world.specs.Disk.{Puts}
+use Rattle.pgs_world.specs.Moment.{Passes, StopsBy}
+use Rattle.pgs_world.specs.World.{View}
+use Rattle.pgs_run_base.specs.declared.status.Status.{Status}
+
+-- it was put whole, or a front of it, by a put that failed
+abbrev pub IsPut : {T : Type 0} → List ℕ → Result T (Stop Status) → View → View → Type 0
+IsPut piece (Ok done) old new = ShowsAll (shown_of old) (piece ∷ []) (shown_of new) × (faults_of 0 new ≡ faults_of 0 old)
+IsPut piece (Err (stops.Ended status)) old new = ⊥
+IsPut piece (Err stops.ReadFault) old new = ⊥
+IsPut piece (Err stops.AreaFault) old new = ⊥
+IsPut piece (Err stops.PutFault) old new =
+    ShowsTorn (shown_of old) (piece ∷ []) (shown_of new) × (new.puts ≡ old.puts) × PutsRose (faults_of 0 old) (faults_of 0 new)
+IsPut piece (Err stops.Memory) old new = ⊥
+
+pub record PutsPiece {T : Type 0} (piece : List ℕ) (result : Result T (Stop Status)) (old new : View) : Type 0 where
+  pub answer : IsPut piece result old new
+  pub a : new.shown.a ≡ old.shown.a
+  pub b : new.shown.b ≡ old.shown.b
+  pub passes : Passes old new
+  pub stops : StopsBy (Puts piece) old new

@@ -1,0 +1,207 @@
+ghost use Rattle.std.specs.Prelude.{◌≡◌, ◌+◌, ◌-◌, ◌^◌, ◌<◌, false, IfOk};
+ghost use Rattle.pgs_answer.specs.Lines.{committed_line, feed_line};
+ghost use Rattle.pgs_answer.specs.Refusals.{rejection_text};
+ghost use Rattle.pgs_feed.specs.Seen.{places};
+ghost use Rattle.pgs_lines.specs.Machine.{scene_of};
+ghost use Rattle.pgs_violation.specs.Violations.{verdict};
+ghost use Rattle.pgs_run_base.specs.Session.{standard, decision_on};
+ghost use Rattle.pgs_run_apply.specs.Applying.{applying};
+ghost use Rattle.pgs_run_apply.specs.Outcome.{Takes, refusing, deciding, outcome_of};
+ghost use Rattle.pgs_run_apply.specs.Rule.{applies_rule};
+ghost use Rattle.pgs_run_apply.specs.Seen.{state_of, state_with};
+ghost use Rattle.pgs_run_apply.specs.State.{HoldsStore};
+ghost use Rattle.pgs_run_apply.specs.Told.{status_after};
+
+use crate::asking::ask;
+use crate::putting::put_line;
+use pgs_answer::{committed_line, feed_line, refused_line, rejection_text};
+use pgs_base::{Bytes, Limits, Memory};
+use pgs_feed::FeedList;
+use pgs_graph::Txn;
+use pgs_lines::{LineTaker, Stop, is_blank};
+use pgs_run_base::{Status, TEXT_LIMIT, txn_of};
+use pgs_store::Store;
+use pgs_violation::Rejection;
+use pgs_world::{Feed, World};
+use std::alloc::Global;
+
+/// The command `apply`, between two lines: its store, how many lines are numbered so far, whether one was refused, and its feeds.
+#[derive(Drop)]
+pub struct Applying<F> {
+    store: Store,
+    number: u64,
+    refused: bool,
+    feeds: FeedList<F>,
+}
+
+impl<F: Feed> Applying<F> {
+    /// Before the first line.
+    pub fn new(store: Store, feeds: FeedList<F>) -> Applying<F>
+        ensures state { state_of result ≡ state_with store 0 (false) }
+        ensures feeds { result.feeds ≡ feeds }
+    {
+        Applying {
+            store,
+            number: 0,
+            refused: false,
+            feeds,
+        }
+    }
+
+    /// The feeds.
+    pub fn into_feeds(self) -> FeedList<F>
+        ensures { result ≡ self.feeds }
+    {
+        self.feeds
+    }
+
+    // The verdict line and the feed line that a transaction has where it is committed.
+    fn lines_of(&self, alloc: Global, txn: &Txn) -> Result<(Bytes, Bytes), Memory>
+        requires { self.now.number < 2 ^ 64 - 1 }
+        ensures verdict { IfOk result (λ lines. lines.0 ≡ committed_line (self.now.number + 1) (self.now.store.guard.commits + 1)) }
+        ensures feed { IfOk result (λ lines. lines.1 ≡ feed_line txn.now (self.now.store.guard.commits + 1)) }
+    {
+        let commit = self.store.next_commit();
+        let verdict = committed_line(alloc, self.number + 1, commit)?;
+        let feed = feed_line(alloc, txn, commit)?;
+        Ok((verdict, feed))
+    }
+
+    // Counts a refused line, and puts its verdict line.
+    fn refuse<W: World>(
+        &mut self,
+        alloc: Global,
+        world: &mut W,
+        text: &[u8],
+    ) -> Result<(), Stop<Status>>
+        requires room { self.old.number < 2 ^ 64 - 1 }
+        requires holds { HoldsStore (state_of self.old) (W.view world.old) }
+        ensures { Takes (state_of self.old) (refusing (state_of self.old) text.now) result (state_of self.new)
+            (scene_of (W.view world.old) (places F.taken F.faults self.old.feeds))
+            (scene_of (W.view world.new) (places F.taken F.faults self.new.feeds)) }
+    {
+        let line = match refused_line(alloc, self.number + 1, text) {
+            Ok(line) => line,
+            Err(_) => return Err(Stop::Memory),
+        };
+        self.number += 1;
+        self.refused = true;
+        put_line(world, line.as_slice())
+    }
+
+    // The same of a transaction that is rejected.
+    fn reject<W: World>(
+        &mut self,
+        alloc: Global,
+        world: &mut W,
+        rejection: &Rejection,
+    ) -> Result<(), Stop<Status>>
+        requires room { self.old.number < 2 ^ 64 - 1 }
+        requires holds { HoldsStore (state_of self.old) (W.view world.old) }
+        ensures { Takes (state_of self.old) (refusing (state_of self.old) (rejection_text rejection.now standard)) result (state_of self.new)
+            (scene_of (W.view world.old) (places F.taken F.faults self.old.feeds))
+            (scene_of (W.view world.new) (places F.taken F.faults self.new.feeds)) }
+    {
+        let text = match rejection_text(alloc, rejection, &Limits::standard()) {
+            Ok(text) => text,
+            Err(_) => return Err(Stop::Memory),
+        };
+        self.refuse(alloc, world, text.as_slice())
+    }
+
+    // Has the store decide a transaction. Where it is done, feeds are given its line, and then its verdict line is put; both were made
+    // before, so that no want of memory comes behind the store.
+    fn take_txn<W: World>(
+        &mut self,
+        alloc: Global,
+        world: &mut W,
+        txn: &Txn,
+    ) -> Result<(), Stop<Status>>
+        requires room { self.old.number < 2 ^ 64 - 1 }
+        requires holds { HoldsStore (state_of self.old) (W.view world.old) }
+        ensures { Takes (state_of self.old)
+            (deciding (state_of self.old) txn.now (decision_on (verdict self.old.store.guard.schema) self.old.store.guard.graph txn.now)) result (state_of self.new)
+            (scene_of (W.view world.old) (places F.taken F.faults self.old.feeds))
+            (scene_of (W.view world.new) (places F.taken F.faults self.new.feeds)) }
+    {
+        let (verdict, feed) = match self.lines_of(alloc, txn) {
+            Ok(lines) => lines,
+            Err(_) => return Err(Stop::Memory),
+        };
+        match ask(&mut self.store, world, txn) {
+            Ok(None) => {
+                self.feeds.deliver(feed.as_slice());
+                self.number += 1;
+                put_line(world, verdict.as_slice())
+            }
+            Ok(Some(rejection)) => self.reject(alloc, world, &rejection),
+            Err(stop) => Err(stop),
+        }
+    }
+
+    // Takes a line. A blank one is skipped.
+    fn take_line<W: World>(
+        &mut self,
+        alloc: Global,
+        world: &mut W,
+        line: &[u8],
+    ) -> Result<(), Stop<Status>>
+        requires room { self.old.number < 2 ^ 64 - 1 }
+        requires holds { HoldsStore (state_of self.old) (W.view world.old) }
+        ensures { Takes (state_of self.old) (outcome_of (state_of self.old) line.now) result (state_of self.new)
+            (scene_of (W.view world.old) (places F.taken F.faults self.old.feeds))
+            (scene_of (W.view world.new) (places F.taken F.faults self.new.feeds)) }
+    {
+        if is_blank(line, TEXT_LIMIT) {
+            return Ok(());
+        }
+        match txn_of(alloc, line) {
+            Ok(Ok(txn)) => self.take_txn(alloc, world, &txn),
+            Ok(Err(text)) => self.refuse(alloc, world, text.as_slice()),
+            Err(_) => Err(Stop::Memory),
+        }
+    }
+
+    // The status after a whole input.
+    fn status(&self) -> Status
+        ensures { result ≡ status_after self.now.refused }
+    {
+        if self.refused {
+            Status::Refused
+        } else {
+            Status::Accepted
+        }
+    }
+}
+
+impl<F: Feed> LineTaker for Applying<F> {
+    type Status = Status;
+
+    ghost machine = { applying };
+
+    ghost rule = { applies_rule };
+
+    ghost stands = { state_of };
+
+    ghost kept = { λ taker. places F.taken F.faults taker.feeds };
+
+    fn end_line<W: World>(
+        &mut self,
+        alloc: Global,
+        world: &mut W,
+        line: &[u8],
+    ) -> Result<(), Stop<Status>> {
+        self.take_line(alloc, world, line)
+    }
+
+    fn end_input<W: World>(&mut self, alloc: Global, world: &mut W, rest: &[u8]) -> Stop<Status> {
+        match self.take_line(alloc, world, rest) {
+            Ok(()) => Stop::Ended(self.status()),
+            Err(stop) => stop,
+        }
+    }
+
+    fn end_budget(&self) -> Status {
+        Status::InputTooLong
+    }
+}
