@@ -7,6 +7,7 @@ pub mod Machine
 pub mod Opened
 pub mod Outcomes
 pub mod RunEnds
+pub mod Running
 pub mod Saving
 pub mod Standings
 pub mod Taken

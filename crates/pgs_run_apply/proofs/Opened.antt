@@ -20,7 +20,7 @@ use Rattle.pgs_world.specs.Disk.{Puts}
 use Rattle.pgs_world.specs.Moment.{IsTimed, IsQuiet, IsSettled, MakesNoPut, Passes, EachSince}
 use Rattle.pgs_world.specs.Source.{Takes, IsAtEnd}
 use Rattle.pgs_world.specs.World.{View, Triple}
-use Rattle.pgs_world.proofs.Moments.{passes_on, each_none, each_on, each_weaker, each_now, each_step, shown_added}
+use Rattle.pgs_world.proofs.Moments.{passes_none, passes_on, each_none, each_on, each_weaker, each_now, each_step, shown_added}
 use Rattle.pgs_run_base.specs.declared.status.Status.{Status}
 use Rattle.pgs_run_base.specs.declared.status.Status.TheVariants.{Accepted, Refused, PutFault, Memory, InputTooLong}
 use Rattle.pgs_run_base.specs.Answers.{schema_answer}
@@ -124,6 +124,15 @@ last_of lost budget before left stops.ReadFault old new result by ends = inl (en
 last_of lost budget before left stops.AreaFault old new result by ends = inl (ends.1, inl ends.0)
 last_of lost budget before left stops.PutFault old new result by ends = inl (ends.1, inl ends.0)
 last_of lost budget before left stops.Memory old new result by ends = inl (ends.1, inl ends.0)
+
+-- whatever was put last, the world went on
+pub last_passes : (lost : ℕ) (stop : Stop Status) (old : View) (result : Status) (new : View) → IsTimed old → EndsRun (last_piece (is_done stop) lost) (status_at stop) old result new → Passes old new
+last_passes lost stop old result new timed ends = by_last (last_piece (is_done stop) lost) ends
+  where
+    by_last : (last : Option (List ℕ)) → EndsRun last (status_at stop) old result new → Passes old new
+    by_last None at = subst (λ (v : View). Passes old v) (sym at.1) (passes_none old timed)
+    by_last (Some piece) (inl none) = subst (λ (v : View). Passes old v) (sym none.1) (passes_none old timed)
+    by_last (Some piece) (inr put) = put.0
 
 -- ---- what feeds took
 

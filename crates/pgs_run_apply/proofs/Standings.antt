@@ -76,7 +76,7 @@ pieces_behind s lines line =
 -- what lines tell, by the last one and the others
 pub pieces_last : (s : ApplyState) (lines : List (List ℕ)) (line : List ℕ) → pieces_from s lines ++ pieces_at (state_after_all s lines) line ≡ pieces_from s (lines ++ line ∷ [])
 pieces_last s lines line =
-    let verdict = verdict s.guard.schema in
-    let t = after_lines verdict (standing_of s) lines in
-    ap (λ (pieces : List (List ℕ)). pieces_from s lines ++ pieces) (pieces_behind s lines line ∙ sym (pieces_of_one every_verdict verdict t line))
-    ∙ sym (pieces_of_lines-append every_verdict verdict (standing_of s) lines (line ∷ []))
+    let judge = verdict s.guard.schema in
+    let t = after_lines judge (standing_of s) lines in
+    ap (λ (pieces : List (List ℕ)). pieces_from s lines ++ pieces) (pieces_behind s lines line ∙ sym (pieces_of_one every_verdict judge t line))
+    ∙ sym (pieces_of_lines-append every_verdict judge (standing_of s) lines (line ∷ []))
