@@ -56,9 +56,9 @@ record First (lines : List (List ℕ)) (front : List ℕ) : Type 0 where
   pub parts : lines ≡ line ∷ more
   pub is : front ≡ text_front line
 
-first_of : (lines : List (List ℕ)) (front : List ℕ) (fronts : List (List ℕ)) → map text_front lines ≡ front ∷ fronts → First lines front
-first_of [] front fronts is = absurd (cc)
-first_of (line ∷ more) front fronts is = record { line = line; more = more; parts = refl; is = cc }
+first_line_of : (lines : List (List ℕ)) (front : List ℕ) (fronts : List (List ℕ)) → map text_front lines ≡ front ∷ fronts → First lines front
+first_line_of [] front fronts is = absurd (cc)
+first_line_of (line ∷ more) front fronts is = record { line = line; more = more; parts = refl; is = cc }
 
 -- ---- how far lines were done
 
@@ -174,7 +174,7 @@ module _ (s : ApplyState) (lines : List (List ℕ)) (stop : Stop Status) (old ne
 
 left_within : (s t : ApplyState) (lines later : List (List ℕ)) (front : List ℕ) (triple : Triple) → t ≡ s → later ≡ map text_front lines → IsWithin t later front triple → IsWithin s lines front triple
 left_within s t lines later front triple same is within =
-    let at = first_of lines within.line within.more (sym is ∙ within.next) in
+    let at = first_line_of lines within.line within.more (sym is ∙ within.next) in
     record {
       line = at.line;
       more = at.more;
