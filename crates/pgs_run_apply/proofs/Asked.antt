@@ -1,5 +1,5 @@
 -- What a line comes to by what the store answered.
-use Rattle.std.proofs.Common.{◌≡◌, ◌∙◌, inl, inr, ⊎_elim, ℕ, ◌+◌, Bool, List, [], ◌∷◌, Option, Some, None, Result, Ok, Err, IsTrue, refl, sym, ap, subst, cond}
+use Rattle.std.proofs.Common.{◌≡◌, ◌∙◌, inl, inr, ⊎_elim, ℕ, ◌+◌, Bool, true, List, [], ◌∷◌, Result, Ok, Err, IsTrue, refl, sym, ap, subst}
 use Rattle.std.proofs.lemmas.List.{append-nil}
 use Rattle.std.specs.List.{AllZip}
 use Rattle.pgs_base.specs.Graph.{Graph}
@@ -9,7 +9,6 @@ use Rattle.pgs_feed.proofs.Given.{given_line, given_none}
 use Rattle.pgs_graph.specs.declared.operation.Txn.{Txn}
 use Rattle.pgs_lines.specs.declared.stop.Stop.{Stop}
 use Rattle.pgs_lines.specs.declared.stop.Stop.TheVariants as stops
-use Rattle.pgs_lines.specs.Ending.{Faults, faults_of}
 use Rattle.pgs_lines.specs.Machine.{Scene, scene_of}
 use Rattle.pgs_lines.specs.Pieces.{Shown, ShowsAll, shown_of}
 use Rattle.pgs_lines.proofs.Showing.{shows_none}
@@ -18,7 +17,6 @@ use Rattle.pgs_store.specs.Stored.{StoreState, IsAppliedIn, IsSavedIn, committed
 use Rattle.pgs_store.specs.World.{StaysBeside}
 use Rattle.pgs_violation.specs.declared.rejection.Rejection.{Rejection}
 use Rattle.pgs_violation.specs.Violations.{verdict}
-use Rattle.pgs_world.specs.declared.area.Area.{Area}
 use Rattle.pgs_world.specs.Count.{Rose}
 use Rattle.pgs_world.specs.Moment.{EachSince, IsTimed}
 use Rattle.pgs_world.specs.World.{Triple, View}
@@ -26,13 +24,14 @@ use Rattle.pgs_answer.specs.Lines.{committed_line, feed_line}
 use Rattle.pgs_answer.specs.Refusals.{rejection_text}
 use Rattle.pgs_run_base.specs.declared.status.Status.{Status}
 use Rattle.pgs_run_base.specs.Session.{standard, decision_on}
-use Rattle.pgs_run_apply.specs.Asking.{IsDoneBy}
+use Rattle.pgs_run_apply.specs.Asking.{Asks, IsDoneBy, is_early}
 use Rattle.pgs_run_apply.specs.Outcome.{IsPast, IsLeftBy, Takes, refusing, deciding}
 use Rattle.pgs_run_apply.specs.Putting.{PutsPiece}
 use Rattle.pgs_run_apply.specs.Seen.{state_with}
 use Rattle.pgs_run_apply.specs.State.{ApplyState, HoldsStore}
 use Rattle.pgs_run_apply.proofs.Outcomes.{same_decision}
-use Rattle.pgs_run_apply.proofs.Taken.{IsReady, take_put}
+use Rattle.pgs_run_apply.proofs.Same.{same_shown, same_faults}
+use Rattle.pgs_run_apply.proofs.Taken.{IsReady, take_none, take_put}
 
 -- ---- at every moment of the call
 
@@ -58,23 +57,6 @@ asked_left : (s : ApplyState) (txn : Txn) (decision : Result Graph Rejection) (o
 asked_left s txn decision old mid same timed stops beside honest told output = λ c left.
     let from = beside.stops honest c left in
     applied_left s txn decision old.shown.output c same (from.2.output ∙ timed.output honest output from.0 from.1) (stops honest told c left)
-
--- ---- what is shown
-
-abbrev shown_with : Bool → List ℕ → ℕ → Shown
-shown_with tells output puts = record { output = cond tells (Some output) None; puts = puts }
-
-same_shown : (area : Area) (old mid : View) → StaysBeside area old mid → shown_of mid ≡ shown_of old
-same_shown area old mid beside =
-    ap (λ (b : Bool). shown_with b mid.shown.output mid.puts) beside.passes.tells_output
-    ∙ (ap (λ (out : List ℕ). shown_with old.tells_output out mid.puts) beside.shown.output
-    ∙ ap (λ (n : ℕ). shown_with old.tells_output old.shown.output n) beside.no_put.puts)
-
-abbrev faults_with : ℕ → ℕ → Faults
-faults_with areas puts = record { reads = 0; areas = areas; puts = puts }
-
-same_faults : (old mid : View) → mid.area_faults ≡ old.area_faults → mid.put_faults ≡ old.put_faults → faults_of 0 mid ≡ faults_of 0 old
-same_faults old mid areas puts = ap (λ (n : ℕ). faults_with n mid.put_faults) areas ∙ ap (λ (n : ℕ). faults_with old.area_faults n) puts
 
 -- ---- the store's answers
 
@@ -135,7 +117,7 @@ module _ (before : StoreState) (number : ℕ) (refused : Bool) (txn : Txn) where
       → after ≡ before → mid ≡ old
       → (let t = state_with after number refused in Takes t (refusing t (rejection_text rejection standard)) result now (scene_of (view mid) kept) (scene_of new fed))
       → Takes at (deciding at txn asked) result now (scene_of (view old) kept) (scene_of new fed)
-  take_rejected view result now rejection old mid new kept fed after holds rejected same still taken =
+  take_rejected {W = W} view result now rejection old mid new kept fed after holds rejected same still taken =
       subst (λ (d : Result Graph Rejection). Takes at (deciding at txn d) result now (scene_of (view old) kept) (scene_of new fed))
       (sym (same_decision at txn holds.limits ∙ rejected))
       (subst (λ (w : W). Takes at (refusing at (rejection_text rejection standard)) result now (scene_of (view w) kept) (scene_of new fed)) still
@@ -144,6 +126,22 @@ module _ (before : StoreState) (number : ℕ) (refused : Bool) (txn : Txn) where
   -- and what it needs
   pub still_holds : {W : Type 0} (view : W → View) (old mid : W) (after : StoreState) → HoldsStore at (view old) → after ≡ before → mid ≡ old
       → HoldsStore (state_with after number refused) (view mid)
-  still_holds view old mid after holds same still =
+  still_holds {W = W} view old mid after holds same still =
       subst (λ (w : W). HoldsStore (state_with after number refused) (view w)) (sym still)
       (subst (λ (store : StoreState). HoldsStore (state_with store number refused) (view old)) (sym same) holds)
+
+  -- the store stopped the run
+  pub take_stopped : {T W : Type 0} (view : W → View) (stop : Stop Status) (now : ApplyState) (after : StoreState) (old mid : W) (kept : List Place)
+      → HoldsStore at (view old) → IsTimed (view old) → Asks (Err stop) before after txn (view old) (view mid)
+      → (is_early (Err stop) ≡ true → mid ≡ old)
+      → (IsTrue (view old).honest → IsTrue (view old).tells_bytes → EachSince (IsAppliedIn before.guard before.journal txn) (view old) (view mid))
+      → StaysBeside before.journal.area (view old) (view mid)
+      → Takes {T = T} at (deciding at txn asked) (Err stop) now (scene_of (view old) kept) (scene_of (view mid) kept)
+  take_stopped view (stops.Ended status) now after old mid kept holds timed answer early left beside = absurd answer
+  take_stopped view stops.ReadFault now after old mid kept holds timed answer early left beside = absurd answer
+  take_stopped view stops.AreaFault now after old mid kept holds timed answer early left beside =
+      take_struck now (view old) (view mid) kept holds timed answer left beside
+  take_stopped view stops.PutFault now after old mid kept holds timed answer early left beside = absurd answer
+  take_stopped {T = T} view stops.Memory now after old mid kept holds timed answer early left beside =
+      subst (λ w. Takes {T = T} at (deciding at txn asked) (Err stops.Memory) now (scene_of (view old) kept) (scene_of (view w) kept)) (sym (early refl))
+      (take_none at (deciding at txn asked) now (view old) kept timed holds)

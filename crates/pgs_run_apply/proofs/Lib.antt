@@ -8,6 +8,7 @@ pub mod Opened
 pub mod Outcomes
 pub mod RunEnds
 pub mod Running
+pub mod Same
 pub mod Saving
 pub mod Standings
 pub mod Taken

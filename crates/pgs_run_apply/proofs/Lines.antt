@@ -7,7 +7,7 @@ use Rattle.pgs_feed.specs.Places.{Place}
 use Rattle.pgs_lines.specs.declared.stop.Stop.{Stop}
 use Rattle.pgs_lines.specs.declared.stop.Stop.TheVariants as stops
 use Rattle.pgs_lines.specs.Driving.{LineLeads, LineShows}
-use Rattle.pgs_lines.specs.Ending.{Ends, HasAnyCause, faults_of}
+use Rattle.pgs_lines.specs.Ending.{Ends, HasCause, HasAnyCause, faults_of}
 use Rattle.pgs_lines.specs.Machine.{Going, Scene, AtEnd, extent_of}
 use Rattle.pgs_lines.specs.Pieces.{ShowsAll, shown_of}
 use Rattle.pgs_world.specs.Moment.{EachSince}
@@ -104,7 +104,7 @@ line_holds s now line (Err stop) old new taken = tt
 line_reached : {T : Type 0} (s now : ApplyState) (line : List ℕ) (result : Result T (Stop Status)) (old new : Scene (List Place))
     → IsTaken s (outcome_of s line) result now old new → IsReached s (line ∷ []) (extent_of result) old new
 line_reached s now line (Ok done) old new taken = one_done s now line old new taken
-line_reached {T} s now line (Err stop) old new taken = ([], line, refl, one_stopped s now line stop old new T taken)
+line_reached {T = T} s now line (Err stop) old new taken = ([], line, refl, one_stopped s now line stop old new T taken)
 
 line_seen : {T : Type 0} (s : ApplyState) (line : List ℕ) (result : Result T (Stop Status)) (old new : View)
     → EachSince (IsLeft s (line ∷ []) old.shown.output) old new → EachSince (IsLeft s (seen (line ∷ []) (extent_of result)) old.shown.output) old new
@@ -158,16 +158,28 @@ end_ends s now rest done status old new taken is =
 -- or it stopped the run
 pub stop_allows : {T : Type 0} (s now : ApplyState) (rest : List ℕ) (stop : Stop Status) (old new : Scene (List Place))
     → Takes {T = T} s (outcome_of s rest) (Err stop) now old new → Applies s [] (AtEnd rest stop) old new
-stop_allows {T} s now rest stop old new takes = record {
+stop_allows {T = T} s now rest stop old new takes = record {
   passes = takes.passes;
   reached = one_stopped s now rest stop old new T takes.taken;
   stops = one_left_since s rest old.view new.view takes.stops;
 }
 
-pub stop_ends : {T : Type 0} (s now : ApplyState) (rest : List ℕ) (stop : Stop Status) (old new : Scene (List Place))
+ends_stopped : (T : Type 0) (s now : ApplyState) (rest : List ℕ) (stop : Stop Status) (old new : Scene (List Place))
     → IsTaken {T = T} s (outcome_of s rest) (Err stop) now old new → Ends (shown_of old.view) (applying.rest s rest) stop (shown_of new.view)
-stop_ends s now rest (stops.Ended status) old new taken = absurd taken
-stop_ends s now rest stops.ReadFault old new taken = absurd taken
-stop_ends s now rest stops.AreaFault old new taken = record { first = []; later = pieces_at s rest; parts = refl; shows = taken.shows }
-stop_ends s now rest stops.PutFault old new taken = taken.shows
-stop_ends s now rest stops.Memory old new taken = record { first = []; later = pieces_at s rest; parts = refl; shows = taken.shows }
+ends_stopped T s now rest (stops.Ended status) old new taken = absurd taken
+ends_stopped T s now rest stops.ReadFault old new taken = absurd taken
+ends_stopped T s now rest stops.AreaFault old new taken = record { first = []; later = pieces_at s rest; parts = refl; shows = taken.shows }
+ends_stopped T s now rest stops.PutFault old new taken = taken.shows
+ends_stopped T s now rest stops.Memory old new taken = record { first = []; later = pieces_at s rest; parts = refl; shows = taken.shows }
+
+pub stop_ends : {T : Type 0} (s now : ApplyState) (rest : List ℕ) (stop : Stop Status) (old new : Scene (List Place))
+    → Takes {T = T} s (outcome_of s rest) (Err stop) now old new → Ends (shown_of old.view) (applying.rest s rest) stop (shown_of new.view)
+stop_ends {T = T} s now rest stop old new takes = ends_stopped T s now rest stop old new takes.taken
+
+pub stop_cause : {T : Type 0} (s now : ApplyState) (rest : List ℕ) (stop : Stop Status) (old new : Scene (List Place))
+    → Takes {T = T} s (outcome_of s rest) (Err stop) now old new → HasCause (faults_of 0 old.view) (faults_of 0 new.view) stop
+stop_cause {T = T} s now rest stop old new takes = line_cause {T = T} s now rest (Err stop) old new takes.taken
+
+pub stop_may : {T : Type 0} (s now : ApplyState) (rest : List ℕ) (stop : Stop Status) (old new : Scene (List Place))
+    → Takes {T = T} s (outcome_of s rest) (Err stop) now old new → MayStop stop
+stop_may {T = T} s now rest stop old new takes = line_may {T = T} s now rest (Err stop) old new takes.taken

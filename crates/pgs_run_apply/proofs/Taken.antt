@@ -1,26 +1,27 @@
 -- The taking of a line, from what its calls do to the world.
 use Rattle.std.proofs.Common.{◌≡◌, ◌∙◌, inl, inr, ℕ, ◌+◌, List, [], ◌∷◌, ◌++◌, length, Result, Ok, Err, IsTrue, refl, sym, ap, subst, arith}
-use Rattle.std.proofs.lemmas.List.{append-nil}
 use Rattle.pgs_feed.specs.Given.{AreGiven}
 use Rattle.pgs_feed.specs.Places.{Place}
 use Rattle.pgs_feed.proofs.Given.{given_none}
 use Rattle.pgs_lines.specs.declared.stop.Stop.{Stop}
 use Rattle.pgs_lines.specs.declared.stop.Stop.TheVariants as stops
 use Rattle.pgs_lines.specs.Ending.{Faults, PutsRose, faults_of}
-use Rattle.pgs_lines.specs.Machine.{scene_of}
+use Rattle.pgs_lines.specs.Machine.{Scene, scene_of}
 use Rattle.pgs_lines.specs.Pieces.{Shown, ShowsAll, ShowsTorn, shown_of}
 use Rattle.pgs_lines.proofs.Showing.{shows_none}
+use Rattle.pgs_store.specs.Stored.{ending_at}
 use Rattle.pgs_store.proofs.Applied.{same_images}
 use Rattle.pgs_world.specs.Disk.{Puts}
 use Rattle.pgs_world.specs.Moment.{EachSince, IsTimed, Passes, StopsBy}
 use Rattle.pgs_world.specs.World.{Triple, View}
 use Rattle.pgs_world.proofs.Moments.{passes_none, passes_on, each_none, each_on, settled_put}
+use Rattle.pgs_answer.specs.Lines.{refused_line}
 use Rattle.pgs_run_base.specs.declared.status.Status.{Status}
 use Rattle.pgs_run_apply.specs.Following.{saved_here}
 use Rattle.pgs_run_apply.specs.Left.{IsSavedAt}
-use Rattle.pgs_run_apply.specs.Outcome.{Outcome, IsPast, IsLeftBy, IsTaken, Takes, skipping}
+use Rattle.pgs_run_apply.specs.Outcome.{Outcome, IsPast, IsLeftBy, IsTaken, Takes, skipping, refusing}
 use Rattle.pgs_run_apply.specs.Putting.{IsPut, PutsPiece}
-use Rattle.pgs_run_apply.specs.State.{ApplyState, HoldsStore}
+use Rattle.pgs_run_apply.specs.State.{ApplyState, HoldsStore, with_refusal}
 
 -- ---- a put
 
@@ -47,7 +48,7 @@ put_left s o piece out old new one is timed holds stops honest told output = λ 
       back = from.2.back;
       piece = one ∙ ap (λ (bytes : List ℕ). bytes ∷ []) from.2.parts;
       out = from.2.added ∙ ap (λ (bytes : List ℕ). bytes ++ from.2.front) (timed.output honest output from.0 from.1 ∙ is);
-      saved = (saved.0, same_images o.state.guard (let j = record o.state.journal { end = saved.0 } in j) from.0 c saved.1 from.2.a from.2.b);
+      saved = (saved.0, same_images o.state.guard (ending_at o.state.journal saved.0) from.0 c saved.1 from.2.a from.2.b);
     } in
     inr past
 
@@ -139,3 +140,19 @@ take_skipped s done view kept timed holds = record {
   taken = record { state = refl; holds = holds; shows = shows_none (shown_of view); given = given_none kept; faults = refl };
   stops = here_left s (skipping s) view timed holds;
 }
+
+-- the line is refused
+pub take_refused : {T : Type 0} (s : ApplyState) (text piece : List ℕ) (result : Result T (Stop Status)) (old new : View) (kept : List Place)
+    → piece ≡ refused_line (s.number + 1) text → IsTimed old → HoldsStore s old → PutsPiece piece result old new
+    → Takes s (refusing s text) result (with_refusal s) (scene_of old kept) (scene_of new kept)
+take_refused s text piece result old new kept piece_is timed holds put =
+    let o = refusing s text in
+    let after : HoldsStore o.state old = record { limits = holds.limits; whole = holds.whole; stands = holds.stands } in
+    take_put s o piece result (with_refusal s) old old new kept kept (ap (λ (bytes : List ℕ). bytes ∷ []) (sym piece_is)) refl (given_none kept)
+    (ready_none s o old timed holds after) put
+
+-- the same of an outcome that is the same
+pub take_as : {T : Type 0} {s : ApplyState} {o other : Outcome} {result : Result T (Stop Status)} {now : ApplyState} {old new : Scene (List Place)}
+    → other ≡ o → Takes s o result now old new → Takes s other result now old new
+take_as {s = s} {result = result} {now = now} {old = old} {new = new} same taken =
+    subst (λ (p : Outcome). Takes s p result now old new) (sym same) taken

@@ -19,7 +19,7 @@ use Rattle.pgs_run_apply.specs.Left.{IsLeft, pieces_from, state_after_all}
 use Rattle.pgs_run_apply.specs.State.{ApplyState, HoldsStore}
 
 -- before the first line
-applies_none : (s : ApplyState) (scene : Scene (List Place)) → IsTimed scene.view → HoldsStore s scene.view → Applies s [] Whole scene scene
+pub applies_none : (s : ApplyState) (scene : Scene (List Place)) → IsTimed scene.view → HoldsStore s scene.view → Applies s [] Whole scene scene
 applies_none s scene timed holds = record {
   passes = passes_none scene.view timed;
   reached = record { holds = holds; shows = shows_none (shown_of scene.view); given = given_none scene.kept };
@@ -104,7 +104,7 @@ stops_on s xs ys extent old mid new p q honest told output =
     (q.stops (p.passes.honest ∙ honest) (p.passes.tells_bytes ∙ told) still))
 
 -- some lines, and then others
-applies_on : (s : ApplyState) (xs ys : List (List ℕ)) (extent : Extent Status) (old mid new : Scene (List Place))
+pub applies_on : (s : ApplyState) (xs ys : List (List ℕ)) (extent : Extent Status) (old mid new : Scene (List Place))
     → Applies s xs Whole old mid → Applies (state_after_all s xs) ys extent mid new → Applies s (xs ++ ys) extent old new
 applies_on s xs ys extent old mid new p q = record {
   passes = passes_on old.view mid.view new.view p.passes q.passes;
@@ -117,8 +117,8 @@ applies_on s xs ys extent old mid new p q = record {
 abbrev pub applies_rule : Rule applying
 applies_rule = record {
   Kept = List Place;
-  holds = HoldsStore;
-  allows = Applies;
+  holds = λ s view. HoldsStore s view;
+  allows = λ s lines extent old new. Applies s lines extent old new;
   none = applies_none;
   on = λ s t lines more extent old mid new leads holds p q.
       applies_on s lines more extent old mid new p

@@ -1,4 +1,5 @@
 pub mod Following
+pub mod Images
 pub mod ReadLines
 pub mod SameFronts
 pub mod Separating

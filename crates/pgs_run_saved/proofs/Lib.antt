@@ -1,1 +1,5 @@
 pub mod Conforming
+pub mod Reading
+pub mod Saving
+pub mod Shown
+pub mod Unopening

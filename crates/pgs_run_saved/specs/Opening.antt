@@ -6,18 +6,24 @@ use Rattle.pgs_run_base.specs.declared.status.Status.TheVariants.{BadWords, Sche
 use Rattle.pgs_run_base.specs.Answers.{schema_answer}
 use Rattle.pgs_run_base.specs.Areas.{areas_of}
 use Rattle.pgs_run_base.specs.Session.{standard}
-use Rattle.pgs_snapshot.specs.Saved.{saved, store}
+use Rattle.pgs_snapshot.specs.Saved.{SavedState, saved, store}
+use Rattle.pgs_store.specs.declared.fault.RecoverFault.{RecoverFault}
+use Rattle.pgs_store.specs.Recovers.{IsUnrecovered, is_of_area}
 use Rattle.pgs_store.specs.Stored.{StoreState, StandsOn}
 use Rattle.pgs_world.specs.World.{View}
 use Rattle.pgs_run_saved.specs.declared.opening.Unopened.{Unopened}
 use Rattle.pgs_run_saved.specs.declared.opening.Unopened.TheVariants.{Refused, DiskFault, Memory}
-use Rattle.pgs_run_saved.specs.Refusing.{SavedStore, told_of_areas}
+use Rattle.pgs_run_saved.specs.Refusing.{SavedStore, told_saved, told_of_areas}
+
+-- an area failed
+abbrev pub is_failure : Unopened → Bool
+is_failure (Refused line status) = false
+is_failure DiskFault = true
+is_failure Memory = false
 
 abbrev pub is_disk_fault : {T : Type 0} → Result T Unopened → Bool
 is_disk_fault (Ok done) = false
-is_disk_fault (Err (Refused line status)) = false
-is_disk_fault (Err DiskFault) = true
-is_disk_fault (Err Memory) = false
+is_disk_fault (Err unopened) = is_failure unopened
 
 -- what a store is to the definitions of what is told
 abbrev pub saved_in : StoreState → SavedStore
@@ -36,6 +42,25 @@ abbrev pub IsRefusal : Status → Type 0
 IsRefusal SchemaRefused = Unit {0}
 IsRefusal StoreRefused = Unit {0}
 IsRefusal status = ⊥
+
+-- a refusal has one of these statuses
+abbrev pub IsRefusing : Unopened → Type 0
+IsRefusing (Refused line status) = IsRefusal status
+IsRefusing DiskFault = Unit {0}
+IsRefusing Memory = Unit {0}
+
+-- whatever a command tells of a store, a refusal's line and status are told of what is saved
+abbrev pub IsUnopened : SavedState → Unopened → Type 0
+IsUnopened state (Refused line status) =
+    (go : SavedStore → Told Status) → told_saved state go ≡ record { pieces = line ∷ []; status = status }
+IsUnopened state DiskFault = Unit {0}
+IsUnopened state Memory = Unit {0}
+
+-- why no store is opened where none is recovered for this fault
+pub record Unopens (fault : RecoverFault) (unopened : Unopened) : Type 0 where
+  pub told : (state : SavedState) → IsUnrecovered state fault → IsUnopened state unopened
+  pub refusal : IsRefusing unopened
+  pub area : is_failure unopened ≡ is_of_area fault
 
 -- whatever a command tells of a store, this is told of the two areas
 abbrev pub IsToldOf : View → List ℕ → Status → Type 0

@@ -1,16 +1,18 @@
+ghost use Rattle.std.specs.Prelude.{◌≡◌, false};
 ghost use Rattle.pgs_lines.specs.AreasKept.{KeepsAreas};
-ghost use Rattle.pgs_lines.specs.Pieces.{shown_of};
-ghost use Rattle.pgs_run_saved.specs.Ending.{EndsUnopened};
+ghost use Rattle.pgs_run_saved.specs.Ending.{EndsUnopened, is_refusal};
 
 use crate::Unopened;
 use pgs_lines::put_piece;
 use pgs_run_base::Status;
 use pgs_world::World;
 
-/// Ends a command whose store isn't opened: puts the line of a refusal, and gives the status.
+/// Ends a command whose store isn't opened: puts the line of a refusal, and gives the status. `PutFault` comes only where the count of
+/// put faults rose. Where it is no refusal, the world is as it was.
 pub fn end_unopened<W: World>(world: &mut W, unopened: Unopened) -> Status
     ensures ends { EndsUnopened unopened (W.view world.old) result (W.view world.new) }
     ensures areas { KeepsAreas (W.view world.old) (W.view world.new) }
+    ensures early { is_refusal unopened ≡ false → world.new ≡ world.old }
 {
     match unopened {
         Unopened::Refused { line, status } => match put_piece::<Status, W>(world, line.as_slice()) {

@@ -1,7 +1,9 @@
-ghost use Rattle.std.specs.Prelude.{◌≡◌};
+ghost use Rattle.std.specs.Prelude.{◌≡◌, false, IfOk, OnErr};
+ghost use Rattle.pgs_answer.specs.Lines.{store_refused_line as refused_line};
+ghost use Rattle.pgs_store.specs.Recovers.{is_of_area};
 ghost use Rattle.pgs_store.specs.World.{CountsFault};
 ghost use Rattle.pgs_world.specs.Moment.{IsQuiet, MakesNoPut};
-ghost use Rattle.pgs_run_saved.specs.Opening.{Opens, is_disk_fault};
+ghost use Rattle.pgs_run_saved.specs.Opening.{Opens, Unopens, is_disk_fault};
 
 use pgs_answer::{
     bad_history_text, bad_record_text, foreign_text, no_store_text, schema_refused_line,
@@ -25,9 +27,9 @@ pub enum Unopened {
     Memory,
 }
 
-// The line of a refused store.
+// The refusal of a store for what a text says.
 fn refused_store(alloc: Global, text: &[u8]) -> Result<Unopened, Memory>
-    ensures { IfOk result (λ unopened. unopened ≡ Unopened.Refused (store_refused_line text.now) Status.StoreRefused) }
+    ensures { IfOk result (λ unopened. unopened ≡ Unopened.Refused (refused_line text.now) Status.StoreRefused) }
 {
     let line = store_refused_line(alloc, text)?;
     Ok(Unopened::Refused {
@@ -36,9 +38,10 @@ fn refused_store(alloc: Global, text: &[u8]) -> Result<Unopened, Memory>
     })
 }
 
-// What is told of a store that isn't recovered.
+// Why no store is opened where none is recovered.
 fn refused(alloc: Global, fault: RecoverFault) -> Result<Unopened, Memory>
-    ensures { IfOk result (λ unopened. (state : SavedState) → IsUnrecovered state fault.now → IsUnopened state unopened) }
+    ensures refused { IfOk result (λ unopened. Unopens fault unopened) }
+    ensures memory { OnErr result (is_of_area fault ≡ false) }
 {
     match fault {
         RecoverFault::Memory => Err(Memory),
@@ -64,7 +67,8 @@ fn refused(alloc: Global, fault: RecoverFault) -> Result<Unopened, Memory>
 }
 
 // The same, also where there is no memory for its line.
-fn unopened(alloc: Global, fault: RecoverFault) -> Unopened
+fn reason_for(alloc: Global, fault: RecoverFault) -> Unopened
+    ensures { Unopens fault result }
 {
     match refused(alloc, fault) {
         Ok(unopened) => unopened,
@@ -85,7 +89,11 @@ pub fn open_store<W: World>(alloc: Global, world: &mut W) -> Result<Store, Unope
     ensures no_put { MakesNoPut (W.view world.old) (W.view world.new) }
 {
     match Store::recover(alloc, Limits::standard(), world) {
-        Ok(store) => Ok(store),
-        Err(fault) => Err(unopened(alloc, fault)),
+        Ok(store) => {
+            // What it promises of the text: its schema is the store's.
+            store.schema_text();
+            Ok(store)
+        }
+        Err(fault) => Err(reason_for(alloc, fault)),
     }
 }

@@ -1,0 +1,36 @@
+use Rattle.pgs_feed.specs.Seen.{places}
+use Rattle.pgs_lines.specs.Machine.{scene_of}
+use Rattle.pgs_run_apply.specs.Seen.{state_of}
+use Rattle.pgs_run_apply.proofs.Lines.{end_allows, end_ends, stop_allows, stop_ends, stop_cause, stop_may}
+use Rattle.pgs_run_apply.proofs.applying.ApplyingLineTaker.end_input.Goals as goal
+
+pub returns-in-Ok : goal.returns-in-Ok
+returns-in-Ok g c =
+    let s = state_of c.args.self.now in
+    let now = state_of c.take_line.new.self in
+    let rest = c.args.rest.now in
+    let old = scene_of (g.W.World.view c.args.world.now) (places g.F.Feed.taken g.F.Feed.faults c.args.self.now.feeds) in
+    let new = scene_of (g.W.World.view c.take_line.new.world) (places g.F.Feed.taken g.F.Feed.faults c.take_line.new.self.feeds) in
+    let takes = c.in-Ok.ensures in
+    record {
+      ends = end_ends s now rest _ c.status.result old new takes.taken c.status.ensures;
+      allows = end_allows s now rest _ c.status.result old new takes;
+      cause = takes.taken.faults;
+      may = tt;
+    }
+
+pub returns-in-Err : goal.returns-in-Err
+returns-in-Err g c =
+    let s = state_of c.args.self.now in
+    let now = state_of c.take_line.new.self in
+    let rest = c.args.rest.now in
+    let stop = c.in-Err.stop in
+    let old = scene_of (g.W.World.view c.args.world.now) (places g.F.Feed.taken g.F.Feed.faults c.args.self.now.feeds) in
+    let new = scene_of (g.W.World.view c.take_line.new.world) (places g.F.Feed.taken g.F.Feed.faults c.take_line.new.self.feeds) in
+    let takes = c.in-Err.ensures in
+    record {
+      ends = stop_ends s now rest stop old new takes;
+      allows = stop_allows s now rest stop old new takes;
+      cause = stop_cause s now rest stop old new takes;
+      may = stop_may s now rest stop old new takes;
+    }

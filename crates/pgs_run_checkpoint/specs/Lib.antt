@@ -1,0 +1,4 @@
+pub mod Leaving
+pub mod Putting
+pub mod Renewing
+pub mod Told

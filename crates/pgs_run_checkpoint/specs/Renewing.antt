@@ -1,0 +1,40 @@
+-- What a stop during the run of `checkpoint` leaves of what is saved and of the output.
+use Rattle.std.specs.Prelude.{◌≡◌, ◌⊎◌, ℕ, ◌+◌, List, [], ◌∷◌, Some}
+use Rattle.pgs_base.specs.Graph.{Graph}
+use Rattle.pgs_codec.specs.declared.command.Command.TheVariants.{Schema, Snapshot}
+use Rattle.pgs_codec.specs.Payload.{payload_of}
+use Rattle.pgs_run_base.specs.declared.status.Status.TheVariants.{Accepted}
+use Rattle.pgs_run_base.specs.Areas.{areas_of}
+use Rattle.pgs_run_base.specs.Session.{standard}
+use Rattle.pgs_snapshot.specs.Choice.{choice_of, chosen, chosen_area, chosen_epoch}
+use Rattle.pgs_snapshot.specs.Saved.{saved, store}
+use Rattle.pgs_world.specs.declared.area.Area.{Area}
+use Rattle.pgs_world.specs.World.{Triple, View, other}
+use Rattle.pgs_run_checkpoint.specs.Putting.{PutsFront}
+use Rattle.pgs_run_checkpoint.specs.Told.{told_checkpoint}
+
+-- the records with which a store begins anew: the schema's text and the snapshot alone
+abbrev pub records_of : List ℕ → ℕ → Graph → List (List ℕ)
+records_of text commits graph = payload_of (Schema text) ∷ payload_of (Snapshot commits graph.nodes graph.edges) ∷ []
+
+-- the area and the epoch that are chosen are those of the start
+pub record IsAsBefore (start c : Triple) : Type 0 where
+  pub area : chosen_area c.a c.b ≡ chosen_area start.a start.b
+  pub epoch : chosen_epoch c.a c.b ≡ chosen_epoch start.a start.b
+
+-- the other area is chosen, with the next epoch, and its records are the new ones
+pub record IsRenewed (text : List ℕ) (commits : ℕ) (graph : Graph) (start c : Triple) : Type 0 where
+  pub area : Area
+  pub epoch : ℕ
+  pub end : ℕ
+  pub was_area : chosen_area start.a start.b ≡ Some area
+  pub was_epoch : chosen_epoch start.a start.b ≡ Some epoch
+  pub choice : choice_of c.a c.b ≡ chosen (other area) (epoch + 1) end (records_of text commits graph)
+
+-- Of a world that showed the start, a stop leaves what was saved there, and a front of the line that is told. What is chosen is as at
+-- the start, or renewed; and it is renewed where the whole line of a checkpoint is in the output.
+pub record Renews (start : View) (text : List ℕ) (commits : ℕ) (graph : Graph) (c : Triple) : Type 0 where
+  pub puts : PutsFront (told_checkpoint (areas_of start)) start c
+  pub saves : saved standard c.a c.b ≡ store text commits graph
+  pub chosen_as : IsAsBefore start.shown c ⊎ IsRenewed text commits graph start.shown c
+  pub whole : puts.back ≡ [] → (told_checkpoint (areas_of start)).status ≡ Accepted → IsRenewed text commits graph start.shown c

@@ -1,0 +1,47 @@
+ghost use Rattle.std.specs.Prelude.{◌≡◌, ℕ, true, false, Some, IsTrue};
+ghost use Rattle.pgs_lines.specs.Ending.{faults_of};
+ghost use Rattle.pgs_lines.specs.Pieces.{shown_of};
+ghost use Rattle.pgs_run_base.specs.Ending.{Ends};
+ghost use Rattle.pgs_run_base.specs.Run.{HasCommandCause};
+ghost use Rattle.pgs_run_saved.specs.Opening.{IsAnswer, saved_in};
+ghost use Rattle.pgs_store.specs.Stored.{StandsOn};
+ghost use Rattle.pgs_world.specs.Moment.{EachSince, Passes};
+ghost use Rattle.pgs_run_checkpoint.specs.Leaving.{Leaves};
+ghost use Rattle.pgs_run_checkpoint.specs.Told.{told_by};
+
+use crate::putting::{put_last, refuse};
+use pgs_answer::checkpoint_line;
+use pgs_run_base::Status;
+use pgs_store::{CheckpointFault, Store};
+use pgs_world::World;
+use std::alloc::Global;
+
+/// Renews a store on the world, and then puts the line that says so. The line is made first, so that there is no want of memory
+/// between the two.
+pub(crate) fn renew<W: World>(alloc: Global, world: &mut W, store: &mut Store) -> Status
+    requires whole { store.old.failed ≡ false }
+    requires stands { StandsOn store.old.guard store.old.journal (W.view world.old) }
+    ensures ends { Ends (shown_of (W.view world.old)) (told_by (Some store.old.journal.epoch) (saved_in store.old)) result (shown_of (W.view world.new)) }
+    ensures answer { IsAnswer result }
+    ensures cause { (reads : ℕ) → HasCommandCause false true (faults_of reads (W.view world.old)) (faults_of reads (W.view world.new)) result }
+    ensures stops { IsTrue (W.view world.old).honest → IsTrue (W.view world.old).tells_bytes
+        → EachSince (Leaves store.old (W.view world.old)) (W.view world.old) (W.view world.new) }
+    ensures passes { Passes (W.view world.old) (W.view world.new) }
+{
+    let line = match checkpoint_line(alloc, store.epoch() + 1, store.commits()) {
+        Ok(line) => line,
+        Err(_) => return Status::Memory,
+    };
+    match store.checkpoint(world) {
+        Ok(_) => {
+            // What it promises of the new epoch: it is one of those that there are.
+            store.epoch();
+            put_last(world, line.as_slice(), Status::Accepted)
+        }
+        Err(CheckpointFault::EpochsSpent) => refuse(alloc, world),
+        Err(CheckpointFault::Memory) => Status::Memory,
+        Err(CheckpointFault::DiskFault) => Status::DiskFault,
+        // It comes only where an earlier call on the store failed.
+        Err(CheckpointFault::NeedsReopen) => Status::DiskFault,
+    }
+}

@@ -1,0 +1,8 @@
+use Rattle.pgs_run_saved.proofs.Reading.{ends_opened}
+use Rattle.pgs_run_saved.proofs.reader.run_reader.Goals as goal
+
+pub returns-in-Ok-clause-ends : goal.returns-in-Ok-clause-ends
+returns-in-Ok-clause-ends g c =
+    let opened = c.open_store.ensures in
+    ends_opened c.in-Ok.store (g.W.World.view c.args.world.now) (g.W.World.view c.open_store.new.world) (g.W.World.view c.tell.new.world) (g.R.StoreReader.tells c.args.reader.now) c.tell.result
+    c.in-Ok.ensures.answer opened.quiet opened.no_put c.tell.ensures.ends
