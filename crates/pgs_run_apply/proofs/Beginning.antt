@@ -1,44 +1,19 @@
 -- What the opening of a store leaves, which only reads.
-use Rattle.std.proofs.Common.{◌≡◌, inl, ℕ, ◌+◌, Bool, cond, List, [], ◌∷◌, ◌++◌, Option, Some, None, Result, Ok, IsTrue, refl, sym, ap, subst, ◌∙◌}
+use Rattle.std.proofs.Common.{◌≡◌, inl, ℕ, List, [], IsTrue, refl, sym, ap, subst, ◌∙◌}
 use Rattle.std.proofs.lemmas.List.{append-nil}
-use Rattle.pgs_lines.specs.Ending.{Faults, faults_of}
 use Rattle.pgs_lines.specs.Pieces.{Shown, ShowsAll, shown_of}
 use Rattle.pgs_lines.proofs.Showing.{shows_none}
 use Rattle.pgs_snapshot.specs.Choice.{chosen_area, chosen_epoch}
-use Rattle.pgs_snapshot.specs.Saved.{saved, store}
+use Rattle.pgs_snapshot.specs.Saved.{saved}
 use Rattle.pgs_world.specs.Moment.{IsTimed, IsQuiet, IsSettled, MakesNoPut, EachSince}
-use Rattle.pgs_world.specs.World.{View, Triple, output_of}
+use Rattle.pgs_world.specs.World.{View, Triple}
 use Rattle.pgs_world.proofs.Moments.{each_quiet}
 use Rattle.pgs_run_base.specs.Session.{Standing, standard}
 use Rattle.pgs_run_saved.specs.Refusing.{SavedStore}
 use Rattle.pgs_run_saved.proofs.Conforming.{saved_conforms}
+use Rattle.pgs_run_saved.proofs.Shown.{shown_quiet}
 use Rattle.pgs_run_apply.specs.Run.{Saves, SavesAt, IsEven, IsAppliedAt}
 use Rattle.pgs_run_apply.specs.Told.{start, all_lines}
-
--- ---- what is shown and counted
-
-abbrev shown_with : Option (List ℕ) → ℕ → Shown
-shown_with output puts = record { output = output; puts = puts }
-
-same_output : (now was : Bool) (shown before : Triple) → now ≡ was → shown ≡ before → cond now (Some shown.output) None ≡ cond was (Some before.output) None
-same_output now was shown before is so =
-    ap (λ (b : Bool). cond b (Some shown.output) None) is ∙ ap (λ (t : Triple). cond was (Some t.output) None) so
-
-pub quiet_shown : (old new : View) → IsQuiet old new → MakesNoPut old new → shown_of new ≡ shown_of old
-quiet_shown old new quiet none =
-    ap (λ (output : Option (List ℕ)). shown_with output new.puts) (same_output new.tells_output old.tells_output new.shown old.shown quiet.passes.tells_output quiet.shown)
-    ∙ ap (λ (puts : ℕ). shown_with (output_of old) puts) none.puts
-
-abbrev counts : ℕ → ℕ → ℕ → Faults
-counts reads areas puts = record { reads = reads; areas = areas; puts = puts }
-
-pub quiet_faults : (reads : ℕ) (old new : View) → new.area_faults ≡ old.area_faults → MakesNoPut old new → faults_of reads new ≡ faults_of reads old
-quiet_faults reads old new areas none =
-    ap (λ (count : ℕ). counts reads count new.put_faults) areas ∙ ap (λ (count : ℕ). counts reads old.area_faults count) none.put_faults
-
--- the counts of a world, beside that of a source
-pub faults_beside : (reads : ℕ) (old new : View) → faults_of 0 new ≡ faults_of 0 old → faults_of reads new ≡ faults_of reads old
-faults_beside reads old new same = ap (λ (f : Faults). counts reads f.areas f.puts) same
 
 -- ---- what is saved
 
@@ -58,7 +33,7 @@ even_start old new it input quiet none known = record {
   until = [];
   later = all_lines input;
   parts = refl;
-  shows = subst (λ (s : Shown). ShowsAll (shown_of old) [] s) (sym (quiet_shown old new quiet none)) (shows_none (shown_of old));
+  shows = subst (λ (s : Shown). ShowsAll (shown_of old) [] s) (sym (shown_quiet old new quiet none)) (shows_none (shown_of old));
   saves = subst (λ (t : Triple). SavesAt it (start it) t) (sym quiet.shown) (saves_start it old.shown known);
 }
 

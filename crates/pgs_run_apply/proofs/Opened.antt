@@ -20,7 +20,7 @@ use Rattle.pgs_world.specs.Disk.{Puts}
 use Rattle.pgs_world.specs.Moment.{IsTimed, IsQuiet, IsSettled, MakesNoPut, Passes, EachSince}
 use Rattle.pgs_world.specs.Source.{Takes, IsAtEnd}
 use Rattle.pgs_world.specs.World.{View, Triple}
-use Rattle.pgs_world.proofs.Moments.{passes_none, passes_on, each_none, each_on, each_weaker, each_now, each_step, shown_added}
+use Rattle.pgs_world.proofs.Moments.{passes_on, each_on, each_weaker, each_now, each_quiet, each_step, shown_added}
 use Rattle.pgs_run_base.specs.declared.status.Status.{Status}
 use Rattle.pgs_run_base.specs.declared.status.Status.TheVariants.{Accepted, Refused, PutFault, Memory, InputTooLong}
 use Rattle.pgs_run_base.specs.Answers.{schema_answer}
@@ -32,16 +32,16 @@ use Rattle.pgs_violation.specs.Violations.{verdict}
 use Rattle.pgs_run_saved.specs.Opening.{saved_in}
 use Rattle.pgs_run_saved.specs.Refusing.{SavedStore}
 use Rattle.pgs_run_apply.specs.Applying.{applying, seen, Applies, IsDone as AreDone}
-use Rattle.pgs_run_apply.specs.Ending.{is_done, last_piece, PutsLast, EndsRun}
+use Rattle.pgs_run_apply.specs.Ending.{is_done, last_piece, PutsLast, StaysStill, EndsRun}
 use Rattle.pgs_run_apply.specs.Following.{all_append, pieces_cons, pieces_append}
 use Rattle.pgs_run_apply.specs.Left.{IsLeft, IsSavedAt, state_after_all, pieces_at, pieces_from}
 use Rattle.pgs_run_apply.specs.Run.{Saves, SavesAt, SavesAll, IsAppliedAt, IsCounted, FeedsTook, IsEven}
 use Rattle.pgs_run_apply.specs.State.{ApplyState, HoldsStore, standing_of, state_after}
 use Rattle.pgs_run_apply.specs.Told.{after, verdicts, all_lines, lost_pieces, told_whole, told_input}
-use Rattle.pgs_run_apply.proofs.Beginning.{quiet_shown, quiet_applied, saves_same}
+use Rattle.pgs_run_apply.proofs.Beginning.{quiet_applied, saves_same}
 use Rattle.pgs_run_apply.proofs.Standings.{first_state}
 use Rattle.pgs_run_apply.proofs.Kept.{Went, AreCounted, IsEven as MayEnd, IsExtent, went_reached, went_input, left_input, seen_of}
-use Rattle.pgs_run_apply.proofs.RunEnds.{IsDone, IsOwn, uncut, own_of, done_last, left_done, lost_is}
+use Rattle.pgs_run_apply.proofs.RunEnds.{IsDone, IsOwn, still_shown, uncut, own_of, done_last, left_done, lost_is}
 use Rattle.pgs_run_apply.proofs.Saving.{Chooses, chooses, saves_at, chooses_at, applied_at, left_applied}
 
 -- ---- lines that tell nothing
@@ -102,7 +102,7 @@ record IsPut (lost : ℕ) (stop : Stop Status) (old : View) (result : Status) (n
 
 -- nothing was put, and the status is as it was, or want of memory came behind a whole input
 abbrev IsUnput : Stop Status → View → Status → View → Type 0
-IsUnput stop old result new = (new ≡ old) × ((result ≡ status_at stop) ⊎ ((result ≡ Memory) × MayEnd stop))
+IsUnput stop old result new = StaysStill old new × ((result ≡ status_at stop) ⊎ ((result ≡ Memory) × MayEnd stop))
 
 some_piece : (lost : ℕ) (piece : List ℕ) → last_piece true lost ≡ Some piece → lost_pieces lost ≡ piece ∷ []
 some_piece lost piece is = lost_is lost ∙ ap pieces_in is
@@ -116,7 +116,7 @@ by_piece lost status (Some piece) old new result is done (inr put) =
 by_own : (lost budget : ℕ) (before left : Option (List ℕ)) (status : Status) (old new : View) (result : Status) → IsOwn budget before left status → EndsRun (last_piece (is_done (stops.Ended status)) lost) status old result new → IsUnput (stops.Ended status) old result new ⊎ IsPut lost (stops.Ended status) old result new
 by_own lost budget before left status old new result (inl done) ends = by_piece lost status (last_piece true lost) old new result refl done.0 (done_last lost status old new result done.0 ends)
 by_own lost budget before left status old new result (inr cut) ends =
-    let kept = left_done lost status old new result cut.0 ends in inl (kept.same, inl kept.is)
+    let kept = left_done lost status old new result cut.0 ends in inl (kept.still, inl kept.is)
 
 last_of : (lost budget : ℕ) (before left : Option (List ℕ)) (stop : Stop Status) (old new : View) (result : Status) → EndsBy applying budget before left stop → EndsRun (last_piece (is_done stop) lost) (status_at stop) old result new → IsUnput stop old result new ⊎ IsPut lost stop old result new
 last_of lost budget before left (stops.Ended status) old new result by ends = by_own lost budget before left status old new result (own_of budget before left status by) ends
@@ -126,12 +126,12 @@ last_of lost budget before left stops.PutFault old new result by ends = inl (end
 last_of lost budget before left stops.Memory old new result by ends = inl (ends.1, inl ends.0)
 
 -- whatever was put last, the world went on
-pub last_passes : (lost : ℕ) (stop : Stop Status) (old : View) (result : Status) (new : View) → IsTimed old → EndsRun (last_piece (is_done stop) lost) (status_at stop) old result new → Passes old new
-last_passes lost stop old result new timed ends = by_last (last_piece (is_done stop) lost) ends
+pub last_passes : (lost : ℕ) (stop : Stop Status) (old : View) (result : Status) (new : View) → EndsRun (last_piece (is_done stop) lost) (status_at stop) old result new → Passes old new
+last_passes lost stop old result new ends = by_last (last_piece (is_done stop) lost) ends
   where
     by_last : (last : Option (List ℕ)) → EndsRun last (status_at stop) old result new → Passes old new
-    by_last None at = subst (λ (v : View). Passes old v) (sym at.1) (passes_none old timed)
-    by_last (Some piece) (inl none) = subst (λ (v : View). Passes old v) (sym none.1) (passes_none old timed)
+    by_last None at = at.1.quiet.passes
+    by_last (Some piece) (inl none) = none.1.quiet.passes
     by_last (Some piece) (inr put) = put.0
 
 -- ---- what feeds took
@@ -221,7 +221,7 @@ module _ (it : StoreState) (limits : it.guard.limits ≡ standard) (of_text : sc
 
       unput : IsUnput stop now.view result new → IsCounted old.puts new.puts (length (verdicts (saved_in it) run.went.until)) (length (lost_pieces lost)) result
       unput at =
-          subst (λ (v : View). IsCounted old.puts v.puts (length (verdicts (saved_in it) run.went.until)) (length (lost_pieces lost)) result) (sym at.0)
+          subst (λ (n : ℕ). IsCounted old.puts n (length (verdicts (saved_in it) run.went.until)) (length (lost_pieces lost)) result) (sym at.0.no_put.puts)
           (counted_unput stop result old.puts now.view.puts (length (verdicts (saved_in it) run.went.until)) (length (lost_pieces lost)) at.1 counted)
 
       put : IsPut lost stop now.view result new → IsCounted old.puts new.puts (length (verdicts (saved_in it) run.went.until)) (length (lost_pieces lost)) result
@@ -230,10 +230,15 @@ module _ (it : StoreState) (limits : it.guard.limits ≡ standard) (of_text : sc
   pub opened_even : shown_of mid.view ≡ shown_of old → IsTrue now.view.tells_bytes → result ≡ Memory → IsEven (saved_in it) input (shown_of old) (shown_of new) new.shown
   opened_even shown tells memory =
       ⊎_elim
-      (λ unput. subst (λ (v : View). IsEven (saved_in it) input (shown_of old) (shown_of v) v.shown) (sym unput.0) (even (unput_even stop now.view new result memory unput)))
+      (λ unput. still unput.0 (even (unput_even stop now.view new result memory unput)))
       (λ put. absurd (put_no_memory lost stop now.view new result memory put))
       (last_of lost budget before left stop now.view new result by last)
     where
+      still : StaysStill now.view new → IsEven (saved_in it) input (shown_of old) (shown_of now.view) now.view.shown → IsEven (saved_in it) input (shown_of old) (shown_of new) new.shown
+      still same at =
+          subst (λ (s : Shown). IsEven (saved_in it) input (shown_of old) s new.shown) (sym (still_shown now.view new same))
+          (subst (λ (t : Triple). IsEven (saved_in it) input (shown_of old) (shown_of now.view) t) (sym same.quiet.shown) at)
+
       even : MayEnd stop → IsEven (saved_in it) input (shown_of old) (shown_of now.view) now.view.shown
       even ends =
           let done = run.went.even ends in
@@ -296,7 +301,7 @@ module _ (it : StoreState) (limits : it.guard.limits ≡ standard) (of_text : sc
     pub opened_stops : IsTimed old → Saves (saved_in it) old.shown → EachSince (IsAppliedAt old.shown (saved_in it) input lost) old new
     opened_stops timed known =
         ⊎_elim
-        (λ unput. subst (λ (v : View). EachSince (IsAppliedAt old.shown (saved_in it) input lost) old v) (sym unput.0) so_far)
+        (λ unput. each_on old now.view new (IsAppliedAt old.shown (saved_in it) input lost) passes unput.0.quiet.passes so_far (each_quiet now.view new (IsAppliedAt old.shown (saved_in it) input lost) (passes.honest ∙ settled.honest) unput.0.quiet (each_now old now.view (IsAppliedAt old.shown (saved_in it) input lost) passes so_far)))
         (λ put. each_on old now.view new (IsAppliedAt old.shown (saved_in it) input lost) passes put.put.0 so_far (put_applied put))
         (last_of lost budget before left stop now.view new result by last)
       where

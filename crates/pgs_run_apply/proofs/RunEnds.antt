@@ -24,11 +24,11 @@ use Rattle.pgs_run_base.specs.Pieces.{pieces_in}
 use Rattle.pgs_run_base.specs.Run.{IsRead, EndsAs, HasCommandCause}
 use Rattle.pgs_run_saved.specs.Opening.{saved_in}
 use Rattle.pgs_run_saved.specs.Refusing.{SavedStore}
+use Rattle.pgs_run_saved.proofs.Shown.{shown_quiet, same_faults, beside_reads}
 use Rattle.pgs_run_apply.specs.Applying.{applying}
-use Rattle.pgs_run_apply.specs.Ending.{is_done, last_piece, PutsLast, EndsRun}
+use Rattle.pgs_run_apply.specs.Ending.{is_done, last_piece, PutsLast, StaysStill, EndsRun}
 use Rattle.pgs_run_apply.specs.State.{ApplyState, state_after}
 use Rattle.pgs_run_apply.specs.Told.{after, lost_pieces, status_after, verdicts, all_lines, told_whole, told_input}
-use Rattle.pgs_run_apply.proofs.Beginning.{faults_beside}
 use Rattle.pgs_run_apply.proofs.Standings.{first_state}
 use Rattle.pgs_run_apply.proofs.Machine.{told_by_applying}
 
@@ -103,14 +103,21 @@ done_shown : (start now : Shown) (told : Told Status) (status : Status) → IsDo
 done_shown start now told status (inl is) shows same = own_shown start now told status Accepted is (shows, same ∙ is)
 done_shown start now told status (inr is) shows same = own_shown start now told status Refused is (shows, same ∙ is)
 
+-- a world to which nothing was done shows the same, and counts the same faults
+pub still_shown : (old new : View) → StaysStill old new → shown_of new ≡ shown_of old
+still_shown old new still = shown_quiet old new still.quiet still.no_put
+
+still_faults : (reads : ℕ) (old new : View) → StaysStill old new → faults_of reads new ≡ faults_of reads old
+still_faults reads old new still = same_faults reads old new still.area_faults still.no_put.put_faults
+
 -- behind a whole input
 last_shown : (start : Shown) (pieces : List (List ℕ)) (status result : Status) (last : Option (List ℕ)) (old new : View) → IsDone status → ShowsAll start pieces (shown_of old) → EndsRun last status old result new → Ends start (told_of (pieces ++ pieces_in last) status) result (shown_of new)
 last_shown start pieces status result None old new done shows ends =
     own_shown start (shown_of new) (told_of (pieces ++ []) status) result status ends.0
-    (subst (λ (now : View). Ends start (told_of (pieces ++ []) status) status (shown_of now)) (sym ends.1) (done_shown start (shown_of old) (told_of (pieces ++ []) status) status done (subst (λ (all : List (List ℕ)). ShowsAll start all (shown_of old)) (sym (append-nil pieces)) shows) refl))
+    (subst (λ (now : Shown). Ends start (told_of (pieces ++ []) status) status now) (sym (still_shown old new ends.1)) (done_shown start (shown_of old) (told_of (pieces ++ []) status) status done (subst (λ (all : List (List ℕ)). ShowsAll start all (shown_of old)) (sym (append-nil pieces)) shows) refl))
 last_shown start pieces status result (Some piece) old new done shows (inl none) =
     own_shown start (shown_of new) (told_of (pieces ++ piece ∷ []) status) result Memory none.0
-    (subst (λ (now : View). ShowsFirst start (pieces ++ piece ∷ []) (shown_of now)) (sym none.1) (all_first start (shown_of old) pieces (piece ∷ []) shows))
+    (subst (λ (now : Shown). ShowsFirst start (pieces ++ piece ∷ []) now) (sym (still_shown old new none.1)) (all_first start (shown_of old) pieces (piece ∷ []) shows))
 last_shown start pieces status result (Some piece) old new done shows (inr put) =
     ⊎_elim
     (λ whole. own_shown start (shown_of new) (told_of (pieces ++ piece ∷ []) status) result status whole.0 (done_shown start (shown_of new) (told_of (pieces ++ piece ∷ []) status) status done (shows_on start (shown_of old) (shown_of new) pieces (piece ∷ []) shows whole.1) refl))
@@ -120,12 +127,12 @@ last_shown start pieces status result (Some piece) old new done shows (inr put) 
 -- where nothing was put last
 pub record IsLeft (status : Status) (old : View) (result : Status) (new : View) : Type 0 where
   pub is : result ≡ status
-  pub same : new ≡ old
+  pub still : StaysStill old new
 
 pub left_done : (lost : ℕ) (status : Status) (old new : View) (result : Status) → status ≡ InputTooLong → EndsRun (last_piece (is_done (stops.Ended status)) lost) status old result new → IsLeft status old result new
 left_done lost status old new result is ends =
     let at = subst (λ (s : Status). EndsRun (last_piece (is_done (stops.Ended s)) lost) s old result new) is ends in
-    record { is = at.0 ∙ sym is; same = at.1 }
+    record { is = at.0 ∙ sym is; still = at.1 }
 
 pub done_last : (lost : ℕ) (status : Status) (old new : View) (result : Status) → IsDone status → EndsRun (last_piece (is_done (stops.Ended status)) lost) status old result new → EndsRun (last_piece true lost) status old result new
 done_last lost status old new result (inl is) ends =
@@ -148,7 +155,7 @@ module _ (start : Shown) (input : List ℕ) (budget : ℕ) (before left : Option
   cut_ends : (status : Status) → status ≡ InputTooLong → ShowsAll start (told_input 0 input budget it).pieces (shown_of old) → (told_input 0 input budget it).status ≡ status → IsLeft status old result new → Ends start (told_input lost input budget it) result (shown_of new)
   cut_ends status is shows same kept =
       own_shown start (shown_of new) (told_input lost input budget it) result InputTooLong (kept.is ∙ is)
-      (subst (λ (v : View). Ends start (told_input lost input budget it) InputTooLong (shown_of v)) (sym kept.same) (subst (λ (t : Told Status). Ends start t InputTooLong (shown_of old)) (sym told) (shows, same ∙ is)))
+      (subst (λ (now : Shown). Ends start (told_input lost input budget it) InputTooLong now) (sym (still_shown old new kept.still)) (subst (λ (t : Told Status). Ends start t InputTooLong (shown_of old)) (sym told) (shows, same ∙ is)))
     where
       short : (cut : Bool) → nat_le budget (length input) ≡ cut → (told_input 0 input budget it).status ≡ InputTooLong → told_input lost input budget it ≡ told_input 0 input budget it
       short true e long = rw e refl
@@ -158,13 +165,13 @@ module _ (start : Shown) (input : List ℕ) (budget : ℕ) (before left : Option
       told = short (nat_le budget (length input)) refl (same ∙ is)
 
   -- a fault, or want of memory
-  first_ends : ShowsFirst start (told_input 0 input budget it).pieces (shown_of old) → new ≡ old → ShowsFirst start (told_input lost input budget it).pieces (shown_of new)
-  first_ends shows same =
-      subst (λ (v : View). ShowsFirst start (told_input lost input budget it).pieces (shown_of v)) (sym same) (subst (λ (t : Told Status). ShowsFirst start t.pieces (shown_of old)) (sym (told_rest lost input budget it (nat_le budget (length input)) refl)) (first_of_more start (shown_of old) (told_input 0 input budget it).pieces (rest_pieces lost input budget) shows))
+  first_ends : ShowsFirst start (told_input 0 input budget it).pieces (shown_of old) → StaysStill old new → ShowsFirst start (told_input lost input budget it).pieces (shown_of new)
+  first_ends shows still =
+      subst (λ (now : Shown). ShowsFirst start (told_input lost input budget it).pieces now) (sym (still_shown old new still)) (subst (λ (t : Told Status). ShowsFirst start t.pieces (shown_of old)) (sym (told_rest lost input budget it (nat_le budget (length input)) refl)) (first_of_more start (shown_of old) (told_input 0 input budget it).pieces (rest_pieces lost input budget) shows))
 
-  torn_ends : ShowsTorn start (told_input 0 input budget it).pieces (shown_of old) → new ≡ old → ShowsTorn start (told_input lost input budget it).pieces (shown_of new)
-  torn_ends shows same =
-      subst (λ (v : View). ShowsTorn start (told_input lost input budget it).pieces (shown_of v)) (sym same) (subst (λ (t : Told Status). ShowsTorn start t.pieces (shown_of old)) (sym (told_rest lost input budget it (nat_le budget (length input)) refl)) (torn_of_more start (shown_of old) (told_input 0 input budget it).pieces (rest_pieces lost input budget) shows))
+  torn_ends : ShowsTorn start (told_input 0 input budget it).pieces (shown_of old) → StaysStill old new → ShowsTorn start (told_input lost input budget it).pieces (shown_of new)
+  torn_ends shows still =
+      subst (λ (now : Shown). ShowsTorn start (told_input lost input budget it).pieces now) (sym (still_shown old new still)) (subst (λ (t : Told Status). ShowsTorn start t.pieces (shown_of old)) (sym (told_rest lost input budget it (nat_le budget (length input)) refl)) (torn_of_more start (shown_of old) (told_input 0 input budget it).pieces (rest_pieces lost input budget) shows))
 
   own_ends : (status : Status) → IsOwn budget before left status → ShowsAll start (told_input 0 input budget it).pieces (shown_of old) × ((told_input 0 input budget it).status ≡ status)
       → EndsRun (last_piece (is_done (stops.Ended status)) lost) status old result new → Ends start (told_input lost input budget it) result (shown_of new)
@@ -217,7 +224,7 @@ module _ (budget : ℕ) (before left : Option (List ℕ)) where
   too_long_at input rest stops.Memory is left_is by cut = cc
 
 -- a fault of a read comes before the last piece
-unread : (stop : Stop Status) (lost : ℕ) (old new : View) (result : Status) → stop ≡ stops.ReadFault → EndsRun (last_piece (is_done stop) lost) (status_at stop) old result new → new ≡ old
+unread : (stop : Stop Status) (lost : ℕ) (old new : View) (result : Status) → stop ≡ stops.ReadFault → EndsRun (last_piece (is_done stop) lost) (status_at stop) old result new → StaysStill old new
 unread stop lost old new result is last =
     let at = subst (λ (s : Stop Status). EndsRun (last_piece (is_done s) lost) (status_at s) old result new) is last in at.1
 
@@ -241,7 +248,7 @@ module _ (start : Shown) (input : List ℕ) (budget : ℕ) (before left : Option
 
       read : (rest : List ℕ) → left ≡ Some rest → stop ≡ stops.ReadFault → ShowsAll start (told_input lost input (length input - length rest) (saved_in it)).pieces (shown_of new)
       read rest left_is fault =
-          subst (λ (v : View). ShowsAll start (told_input lost input (length input - length rest) (saved_in it)).pieces (shown_of v)) (sym (unread stop lost old new result fault last))
+          subst (λ (now : Shown). ShowsAll start (told_input lost input (length input - length rest) (saved_in it)).pieces now) (sym (still_shown old new (unread stop lost old new result fault last)))
           (subst (λ (t : Told Status). ShowsAll start t.pieces (shown_of old)) (tells (length input - length rest) ∙ sym (cut_told lost input (length input - length rest) (saved_in it) (less (length input) (length rest)))) (ends.read_fault rest left_is fault))
 
 -- ---- what was read
@@ -294,25 +301,25 @@ module _ (start : Faults) (reads : ℕ) (old new : View) (same : faults_of reads
 
   last_cause : (last : Option (List ℕ)) (status result : Status) → IsDone status → EndsRun last status old result new → Causes start (faults_of reads new) result
   last_cause None status result done ends =
-      cause_as start (faults_of reads new) result status ends.0 (done_cause status done (ap (λ (v : View). faults_of reads v) ends.1 ∙ same))
+      cause_as start (faults_of reads new) result status ends.0 (done_cause status done (still_faults reads old new ends.1 ∙ same))
   last_cause (Some piece) status result done (inl none) =
-      cause_as start (faults_of reads new) result Memory none.0 (ap (λ (v : View). faults_of reads v) none.1 ∙ same)
+      cause_as start (faults_of reads new) result Memory none.0 (still_faults reads old new none.1 ∙ same)
   last_cause (Some piece) status result done (inr put) =
       ⊎_elim
-      (λ whole. cause_as start (faults_of reads new) result status whole.0 (done_cause status done (faults_beside reads old new whole.2 ∙ same)))
+      (λ whole. cause_as start (faults_of reads new) result status whole.0 (done_cause status done (beside_reads reads old new whole.2 ∙ same)))
       (λ torn. cause_as start (faults_of reads new) result PutFault torn.0 (subst (λ (f : Faults). PutsRose f (faults_of reads new)) same (torn.2.0, refl, torn.2.2)))
       put.2
 
-kept_cause : (start : Faults) (reads : ℕ) (old new : View) (status result : Status) → result ≡ status → new ≡ old → Causes start (faults_of reads old) status → Causes start (faults_of reads new) result
-kept_cause start reads old new status result is same cause =
-    cause_as start (faults_of reads new) result status is (subst (λ (v : View). Causes start (faults_of reads v) status) (sym same) cause)
+kept_cause : (start : Faults) (reads : ℕ) (old new : View) (status result : Status) → result ≡ status → StaysStill old new → Causes start (faults_of reads old) status → Causes start (faults_of reads new) result
+kept_cause start reads old new status result is still cause =
+    cause_as start (faults_of reads new) result status is (subst (λ (f : Faults). Causes start f status) (sym (still_faults reads old new still)) cause)
 
 module _ (start : Faults) (reads : ℕ) (budget : ℕ) (before left : Option (List ℕ)) (lost : ℕ) (old new : View) (result : Status) where
   own_causes : (status : Status) → IsOwn budget before left status → faults_of reads old ≡ start → EndsRun (last_piece (is_done (stops.Ended status)) lost) status old result new → Causes start (faults_of reads new) result
   own_causes status (inl done) same last = last_cause start reads old new same (last_piece true lost) status result done.0 (done_last lost status old new result done.0 last)
   own_causes status (inr cut) same last =
       let kept = left_done lost status old new result cut.0 last in
-      kept_cause start reads old new InputTooLong result (kept.is ∙ cut.0) kept.same same
+      kept_cause start reads old new InputTooLong result (kept.is ∙ cut.0) kept.still same
 
   pub apply_cause : (stop : Stop Status) → EndsBy applying budget before left stop → HasCause start (faults_of reads old) stop → EndsRun (last_piece (is_done stop) lost) (status_at stop) old result new → Causes start (faults_of reads new) result
   apply_cause (stops.Ended status) by cause last = own_causes status (own_of budget before left status by) cause last

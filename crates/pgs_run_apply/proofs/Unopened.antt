@@ -7,7 +7,6 @@ use Rattle.pgs_lines.specs.Machine.{Told}
 use Rattle.pgs_lines.specs.Pieces.{Shown, ShowsAll, ShowsFirst, ShowsTorn, shown_of}
 use Rattle.pgs_lines.proofs.RunEnds.{within_unread}
 use Rattle.pgs_lines.proofs.Showing.{shows_none}
-use Rattle.pgs_snapshot.specs.Saved.{SavedState, saved, store}
 use Rattle.pgs_store.specs.Stored.{StoreState}
 use Rattle.pgs_store.specs.World.{CountsFault}
 use Rattle.pgs_world.specs.Count.{Rose}
@@ -15,19 +14,19 @@ use Rattle.pgs_world.specs.Moment.{IsTimed, IsQuiet, IsSettled, MakesNoPut, Each
 use Rattle.pgs_world.specs.World.{View, Triple, output_of}
 use Rattle.pgs_run_base.specs.declared.status.Status.{Status}
 use Rattle.pgs_run_base.specs.declared.status.Status.TheVariants.{Accepted, Refused, BadWords, SchemaRefused, StoreRefused, DiskFault, ReadFault, PutFault, Memory, InputTooLong}
-use Rattle.pgs_run_base.specs.Answers.{schema_answer}
-use Rattle.pgs_run_base.specs.Areas.{Areas, areas_of}
+use Rattle.pgs_run_base.specs.Areas.{areas_of}
 use Rattle.pgs_run_base.specs.Ending.{Ends}
 use Rattle.pgs_run_base.specs.Run.{IsRead, EndsAs, HasCommandCause}
-use Rattle.pgs_run_base.specs.Session.{standard}
 use Rattle.pgs_run_saved.specs.declared.opening.Unopened.{Unopened}
 use Rattle.pgs_run_saved.specs.declared.opening.Unopened.TheVariants as unopened
-use Rattle.pgs_run_saved.specs.Ending.{EndsUnopened}
+use Rattle.pgs_run_saved.specs.Ending.{EndsUnopened, PutsNothing, is_refusal}
 use Rattle.pgs_run_saved.specs.Opening.{Opens, IsRefusal, IsToldOf, is_disk_fault}
-use Rattle.pgs_run_saved.specs.Refusing.{SavedStore, told_saved, told_under, told_of_areas}
+use Rattle.pgs_run_saved.specs.Refusing.{SavedStore, told_of_areas}
+use Rattle.pgs_run_saved.proofs.Saving.{never_refused}
+use Rattle.pgs_run_saved.proofs.Shown.{shown_quiet, same_faults, beside_reads, put_after}
 use Rattle.pgs_run_apply.specs.Run.{Saves, FeedsTook, IsEven, IsAppliedAt}
 use Rattle.pgs_run_apply.specs.Told.{all_lines}
-use Rattle.pgs_run_apply.proofs.Beginning.{quiet_shown, quiet_faults, faults_beside, saves_start, even_start, quiet_applied}
+use Rattle.pgs_run_apply.proofs.Beginning.{even_start, quiet_applied}
 
 -- ---- its status
 
@@ -99,13 +98,13 @@ module _ (old mid new : View) (quiet : IsQuiet old mid) (none : MakesNoPut old m
   refused_shown : (line : List ℕ) (status result : Status) → IsRefusal status → EndsUnopened (unopened.Refused line status) mid result new → Ends (shown_of old) (record { pieces = line ∷ []; status = status }) result (shown_of new)
   refused_shown line status result refusal (inl put) =
       own_shown (shown_of old) (shown_of new) (record { pieces = line ∷ []; status = status }) result status put.0
-      (refusal_shown (shown_of old) (shown_of new) (record { pieces = line ∷ []; status = status }) status refusal (subst (λ (s : Shown). ShowsAll s (line ∷ []) (shown_of new)) (quiet_shown old mid quiet none) put.1) refl)
+      (refusal_shown (shown_of old) (shown_of new) (record { pieces = line ∷ []; status = status }) status refusal (subst (λ (s : Shown). ShowsAll s (line ∷ []) (shown_of new)) (shown_quiet old mid quiet none) put.1) refl)
   refused_shown line status result refusal (inr torn) =
       own_shown (shown_of old) (shown_of new) (record { pieces = line ∷ []; status = status }) result PutFault torn.0
-      (subst (λ (s : Shown). ShowsTorn s (line ∷ []) (shown_of new)) (quiet_shown old mid quiet none) torn.1)
+      (subst (λ (s : Shown). ShowsTorn s (line ∷ []) (shown_of new)) (shown_quiet old mid quiet none) torn.1)
 
-  kept_shown : new ≡ mid → shown_of new ≡ shown_of old
-  kept_shown same = ap (λ (v : View). shown_of v) same ∙ quiet_shown old mid quiet none
+  kept_shown : PutsNothing mid new → shown_of new ≡ shown_of old
+  kept_shown nothing = nothing.shown ∙ shown_quiet old mid quiet none
 
   told_shown : (reason : Unopened) (result : Status) (told : Told Status) → ((line : List ℕ) (status : Status) → reason ≡ unopened.Refused line status → told ≡ record { pieces = line ∷ []; status = status })
       → Opens (Err reason) old mid → EndsUnopened reason mid result new → Ends (shown_of old) told result (shown_of new)
@@ -155,54 +154,38 @@ cause_as old new status so is cause = subst (Causes old new) (sym is) cause
 module _ (reads : ℕ) (old mid new : View) (none : MakesNoPut old mid) where
   -- the counts of a world on which no area failed
   still : mid.area_faults ≡ old.area_faults → faults_of reads mid ≡ faults_of reads old
-  still areas = quiet_faults reads old mid areas none
+  still areas = same_faults reads old mid areas none.put_faults
 
   pub unopened_cause : (reason : Unopened) (result : Status) → Opens (Err reason) old mid → CountsFault (is_disk_fault {T = StoreState} (Err reason)) old mid → EndsUnopened reason mid result new → Causes (faults_of reads old) (faults_of reads new) result
   unopened_cause (unopened.Refused line status) result opens counts (inl put) =
-      cause_as (faults_of reads old) (faults_of reads new) result status put.0 (refusal_cause (faults_of reads old) (faults_of reads new) status opens.0 (faults_beside reads mid new put.2 ∙ still counts))
+      cause_as (faults_of reads old) (faults_of reads new) result status put.0 (refusal_cause (faults_of reads old) (faults_of reads new) status opens.0 (beside_reads reads mid new put.2 ∙ still counts))
   unopened_cause (unopened.Refused line status) result opens counts (inr torn) =
-      cause_as (faults_of reads old) (faults_of reads new) result PutFault torn.0 (subst (λ (f : Faults). PutsRose f (faults_of reads new)) (still counts) (torn.2.0, refl, torn.2.2))
+      cause_as (faults_of reads old) (faults_of reads new) result PutFault torn.0 (put_after reads old mid new counts none.put_faults torn.2)
   unopened_cause unopened.DiskFault result opens counts ends =
       cause_as (faults_of reads old) (faults_of reads new) result DiskFault ends.0
-      (subst (λ (v : View). Causes (faults_of reads old) (faults_of reads v) DiskFault) (sym ends.1) (refl, (counts, refl, none.put_faults)))
+      (subst (λ (f : Faults). Causes (faults_of reads old) f DiskFault) (sym (beside_reads reads mid new ends.1.faults)) (refl, (counts, refl, none.put_faults)))
   unopened_cause unopened.Memory result opens counts ends =
-      cause_as (faults_of reads old) (faults_of reads new) result Memory ends.0 (ap (λ (v : View). faults_of reads v) ends.1 ∙ still counts)
+      cause_as (faults_of reads old) (faults_of reads new) result Memory ends.0 (beside_reads reads mid new ends.1.faults ∙ still counts)
 
 -- ---- where a store is saved
 
--- what is told of areas that save a store
-pub told_store : (areas : Areas) (it : SavedStore) (go : SavedStore → Told Status) → saved standard areas.a areas.b ≡ store it.text it.commits it.graph → schema_answer it.text ≡ Ok it.schema → told_of_areas areas go ≡ go it
-unfolding told_of_areas
-told_store areas it go saves of_text =
-    ap (λ (state : SavedState). told_saved state go) saves
-    ∙ ap (λ found. told_under found (λ schema. go (record { text = it.text; schema = schema; commits = it.commits; graph = it.graph }))) of_text
-
-pieces_told : (line : List ℕ) (one other : Status) (told : Told Status) → told ≡ record { pieces = []; status = one } → told ≡ record { pieces = line ∷ []; status = other } → ⊥
-pieces_told line one other told is so = let e : [] ≡ line ∷ [] = ap (λ (t : Told Status). t.pieces) (sym is ∙ so) in cc
-
 -- it isn't refused
-pub never_refused : (view : View) (it : SavedStore) (line : List ℕ) (status : Status) → IsTrue view.tells_bytes → Saves it view.shown → IsToldOf view line status → ⊥
-never_refused view it line status tells known told =
-    let go : SavedStore → Told Status = λ store. record { pieces = []; status = Accepted } in
-    pieces_told line Accepted status (told_of_areas (areas_of view) go) (told_store (areas_of view) it go known.saves known.schema) (told tells go)
+saved_opens : (reason : Unopened) (old mid : View) (it : SavedStore) → IsTrue old.tells_bytes → Saves it old.shown → Opens (Err reason) old mid → is_refusal reason ≡ false
+saved_opens (unopened.Refused line status) old mid it tells known opens = absurd (never_refused old it.text it.commits it.graph line status tells known.saves opens.1)
+saved_opens unopened.DiskFault old mid it tells known opens = refl
+saved_opens unopened.Memory old mid it tells known opens = refl
 
--- so nothing was changed
-pub nothing_done : (reason : Unopened) (old mid new : View) (it : SavedStore) (result : Status) → IsTrue old.tells_bytes → Saves it old.shown → Opens (Err reason) old mid → EndsUnopened reason mid result new → new ≡ mid
-nothing_done (unopened.Refused line status) old mid new it result tells known opens ends = absurd (never_refused old it line status tells known opens.1)
-nothing_done unopened.DiskFault old mid new it result tells known opens ends = ends.1
-nothing_done unopened.Memory old mid new it result tells known opens ends = ends.1
-
-module _ (reason : Unopened) (old mid new : View) (quiet : IsQuiet old mid) (none : MakesNoPut old mid) (it : SavedStore) (input : List ℕ) (result : Status) where
-  pub unopened_fed : (lost : ℕ) (places same : List Place) → same ≡ places → IsTrue old.tells_bytes → Saves it old.shown → Opens (Err reason) old mid → EndsUnopened reason mid result new → FeedsTook it input lost old.puts new.puts places same result
-  unopened_fed lost places same is tells known opens ends =
-      let puts : new.puts ≡ old.puts = ap (λ (v : View). v.puts) (nothing_done reason old mid new it result tells known opens ends) ∙ none.puts in
+module _ (reason : Unopened) (old mid new : View) (early : is_refusal reason ≡ false → new ≡ mid) (quiet : IsQuiet old mid) (none : MakesNoPut old mid) (it : SavedStore) (input : List ℕ) (result : Status) where
+  pub unopened_fed : (lost : ℕ) (places same : List Place) → same ≡ places → IsTrue old.tells_bytes → Saves it old.shown → Opens (Err reason) old mid → FeedsTook it input lost old.puts new.puts places same result
+  unopened_fed lost places same is tells known opens =
+      let puts : new.puts ≡ old.puts = ap (λ (v : View). v.puts) (early (saved_opens reason old mid it tells known opens)) ∙ none.puts in
       subst (λ (now : List Place). FeedsTook it input lost old.puts new.puts places now result) (sym is)
       (record { until = []; later = all_lines input; parts = refl; given = given_none places; counted = inl (omega arith) })
 
-  pub unopened_even : IsTrue old.tells_bytes → Saves it old.shown → Opens (Err reason) old mid → EndsUnopened reason mid result new → IsEven it input (shown_of old) (shown_of new) new.shown
-  unopened_even tells known opens ends =
-      subst (λ (v : View). IsEven it input (shown_of old) (shown_of v) v.shown) (sym (nothing_done reason old mid new it result tells known opens ends)) (even_start old mid it input quiet none known)
+  pub unopened_even : IsTrue old.tells_bytes → Saves it old.shown → Opens (Err reason) old mid → IsEven it input (shown_of old) (shown_of new) new.shown
+  unopened_even tells known opens =
+      subst (λ (v : View). IsEven it input (shown_of old) (shown_of v) v.shown) (sym (early (saved_opens reason old mid it tells known opens))) (even_start old mid it input quiet none known)
 
-  pub unopened_stops : (lost : ℕ) → IsTimed old → IsTrue old.tells_output → IsSettled old → Saves it old.shown → Opens (Err reason) old mid → EndsUnopened reason mid result new → EachSince (IsAppliedAt old.shown it input lost) old new
-  unopened_stops lost timed tells settled known opens ends =
-      subst (λ (v : View). EachSince (IsAppliedAt old.shown it input lost) old v) (sym (nothing_done reason old mid new it result settled.tells_bytes known opens ends)) (quiet_applied old mid it input lost timed tells settled quiet known)
+  pub unopened_stops : (lost : ℕ) → IsTimed old → IsTrue old.tells_output → IsSettled old → Saves it old.shown → Opens (Err reason) old mid → EachSince (IsAppliedAt old.shown it input lost) old new
+  unopened_stops lost timed tells settled known opens =
+      subst (λ (v : View). EachSince (IsAppliedAt old.shown it input lost) old v) (sym (early (saved_opens reason old mid it settled.tells_bytes known opens))) (quiet_applied old mid it input lost timed tells settled quiet known)
