@@ -1,18 +1,33 @@
 -- A line and its front lead to the same state and tell the same, since a line that is too long is refused.
-use Rattle.std.proofs.Common.{◌≡◌, ℕ, ◌<◌, List, [], ◌∷◌, ◌++◌, length, map, refl, ap, ◌∙◌}
+use Rattle.std.proofs.Common.{◌≡◌, ℕ, ◌<◌, true, false, nat_le, nat_lt, List, [], ◌∷◌, ◌++◌, length, map, Err, refl, ap, ◌∙◌, arith}
+use Rattle.std.proofs.lemmas.Bool.Decides.{nat_tests}
+use Rattle.pgs_answer.specs.Refusals.{line_too_long_text}
 use Rattle.pgs_base.specs.Graph.{Graph}
+use Rattle.pgs_lines.specs.Input.{is_blank}
 use Rattle.pgs_lines.proofs.Fronts.{same_of_front}
 use Rattle.pgs_violation.specs.declared.violation.Verdict.{Verdict}
 use Rattle.pgs_violation.specs.Violations.{verdict}
-use Rattle.pgs_run_base.specs.Input.{text_limit, text_front}
+use Rattle.pgs_run_base.specs.Answers.{txn_answer}
+use Rattle.pgs_run_base.specs.Input.{text_limit, text_front, is_skipped}
 use Rattle.pgs_run_base.specs.Session.{Standing, Telling, every_verdict, after_line, after_lines, pieces_of_line, pieces_of_lines}
-use Rattle.pgs_run_base.proofs.SameFronts.{long_blank, long_txn, after_front, pieces_of_front}
+use Rattle.pgs_run_base.proofs.SameFronts.{after_front, pieces_of_front}
 use Rattle.pgs_run_apply.specs.Applying.{given_by}
 use Rattle.pgs_run_apply.specs.Committing.{feed_lines_at, feed_lines}
 use Rattle.pgs_run_apply.specs.Left.{state_after_all, pieces_from}
 use Rattle.pgs_run_apply.specs.State.{ApplyState, with_refusal, standing_of, state_after}
 
 -- ---- one line
+
+is_long : (n : ℕ) → text_limit < n → (nat_lt text_limit n ≡ true) × (nat_le n text_limit ≡ false)
+is_long n long = (grind (arith, nat_tests), grind (arith, nat_tests))
+
+long_blank : (line : List ℕ) → text_limit < length line → is_skipped line ≡ false
+unfolding is_blank
+long_blank line long = rw (is_long (length line) long).1 refl
+
+long_txn : (line : List ℕ) → text_limit < length line → txn_answer line ≡ Err line_too_long_text
+unfolding txn_answer
+long_txn line long = rw (is_long (length line) long).0 refl
 
 long_state : (s : ApplyState) (line : List ℕ) → text_limit < length line → state_after s line ≡ with_refusal s
 unfolding state_after

@@ -31,11 +31,11 @@ long_schema text long = rw (is_long (length text) long).1 refl
 pub schema_of_front : (text : List ℕ) → schema_answer (text_front text) ≡ schema_answer text
 schema_of_front text = same_of_front text_limit schema_answer (Err too_long_text) text long_schema
 
-pub long_blank : (line : List ℕ) → text_limit < length line → is_skipped line ≡ false
+long_blank : (line : List ℕ) → text_limit < length line → is_skipped line ≡ false
 unfolding is_blank
 long_blank line long = rw (is_long (length line) long).1 refl
 
-pub long_txn : (line : List ℕ) → text_limit < length line → txn_answer line ≡ Err line_too_long_text
+long_txn : (line : List ℕ) → text_limit < length line → txn_answer line ≡ Err line_too_long_text
 unfolding txn_answer
 long_txn line long = rw (is_long (length line) long).0 refl
 
