@@ -9,7 +9,7 @@ use Rattle.pgs_feed.proofs.Given.{given_line, given_none}
 use Rattle.pgs_graph.specs.declared.operation.Txn.{Txn}
 use Rattle.pgs_lines.specs.declared.stop.Stop.{Stop}
 use Rattle.pgs_lines.specs.declared.stop.Stop.TheVariants as stops
-use Rattle.pgs_lines.specs.Machine.{Scene, scene_of}
+use Rattle.pgs_lines.specs.Machine.{scene_of}
 use Rattle.pgs_lines.specs.Pieces.{Shown, ShowsAll, shown_of}
 use Rattle.pgs_lines.proofs.Showing.{shows_none}
 use Rattle.pgs_store.specs.Applies.{decided}

@@ -1,5 +1,5 @@
 -- The outcome of a line, by what the line is.
-use Rattle.std.proofs.Common.{◌≡◌, ◌∙◌, ℕ, ◌+◌, ◌≤◌, Bool, true, false, cond, List, [], ◌∷◌, Result, Ok, Err, refl, sym, ap, subst, arith}
+use Rattle.std.proofs.Common.{◌≡◌, ◌∙◌, ℕ, ◌+◌, ◌≤◌, Bool, true, false, cond, List, [], Result, Ok, Err, refl, sym, ap, arith}
 use Rattle.pgs_base.specs.Graph.{Graph}
 use Rattle.pgs_graph.specs.declared.operation.Txn.{Txn}
 use Rattle.pgs_violation.specs.declared.rejection.Rejection.{Rejection}
@@ -11,7 +11,7 @@ use Rattle.pgs_run_base.specs.Answers.{txn_answer}
 use Rattle.pgs_run_base.specs.Input.{is_skipped}
 use Rattle.pgs_run_base.specs.Session.{standard, decision_on, with_text, answer_to_txn, answer_to, every_verdict, pieces_of_line}
 use Rattle.pgs_run_apply.specs.Committing.{feed_lines_of, feed_lines_of_answer, feed_lines_at}
-use Rattle.pgs_run_apply.specs.Outcome.{Outcome, skipping, refusing, deciding, answering, outcome_of}
+use Rattle.pgs_run_apply.specs.Outcome.{Outcome, skipping, deciding, answering, outcome_of}
 use Rattle.pgs_run_apply.specs.State.{ApplyState, standing_of, after_decision, after_txn, state_after}
 
 -- the same, by whether the line is skipped and by what it says

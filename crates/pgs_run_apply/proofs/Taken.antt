@@ -13,12 +13,11 @@ use Rattle.pgs_store.specs.Stored.{ending_at}
 use Rattle.pgs_store.proofs.Applied.{same_images}
 use Rattle.pgs_world.specs.Disk.{Puts}
 use Rattle.pgs_world.specs.Moment.{EachSince, IsTimed, Passes, StopsBy}
-use Rattle.pgs_world.specs.World.{Triple, View}
+use Rattle.pgs_world.specs.World.{View}
 use Rattle.pgs_world.proofs.Moments.{passes_none, passes_on, each_none, each_on, settled_put}
 use Rattle.pgs_answer.specs.Lines.{refused_line}
 use Rattle.pgs_run_base.specs.declared.status.Status.{Status}
 use Rattle.pgs_run_apply.specs.Following.{saved_here}
-use Rattle.pgs_run_apply.specs.Left.{IsSavedAt}
 use Rattle.pgs_run_apply.specs.Outcome.{Outcome, IsPast, IsLeftBy, IsTaken, Takes, skipping, refusing}
 use Rattle.pgs_run_apply.specs.Putting.{IsPut, PutsPiece}
 use Rattle.pgs_run_apply.specs.State.{ApplyState, HoldsStore, with_refusal}

@@ -8,7 +8,6 @@ use Rattle.pgs_lines.specs.Machine.{Machine, Going, Scene, Extent, Whole, Inside
 use Rattle.pgs_lines.specs.Pieces.{ShowsAll, shown_of}
 use Rattle.pgs_violation.specs.Violations.{verdict}
 use Rattle.pgs_world.specs.Moment.{EachSince, Passes}
-use Rattle.pgs_world.specs.World.{View}
 use Rattle.pgs_run_base.specs.declared.status.Status.{Status}
 use Rattle.pgs_run_base.specs.declared.status.Status.TheVariants as statuses
 use Rattle.pgs_run_apply.specs.Committing.{feed_lines}
@@ -60,7 +59,8 @@ pub record IsTornOff (s : ApplyState) (lines : List (List ℕ)) (old new : Scene
   pub given : AreGiven (given_by s lines) old.kept new.kept
 
 -- how far the lines before a last one were done, by the stop that came at that one
-abbrev pub IsStopped : ApplyState → (before : List (List ℕ)) (last : List ℕ) → Stop Status → Scene (List Place) → Scene (List Place) → Type 0
+abbrev pub IsStopped : ApplyState → (before : List (List ℕ)) (last : List ℕ) → Stop Status → Scene (List Place) → Scene (List Place)
+    → Type 0
 IsStopped s before last (stops.Ended status) old new = IsDone s (before ++ last ∷ []) old new
 IsStopped s before last stops.ReadFault old new = ⊥
 IsStopped s before last stops.AreaFault old new = IsCutOff s before old new

@@ -1,5 +1,5 @@
 -- The state, the pieces and the feed lines of lines, one after another, and what a stop leaves of them.
-use Rattle.std.proofs.Common.{◌≡◌, ◌⊎◌, inl, inr, ⊎_elim, ℕ, ◌+◌, Bool, true, false, List, [], ◌∷◌, ◌++◌, length, Result, Ok, Err, IsTrue, refl, sym, ap, subst, ◌∙◌, append_assoc, length-append, cond}
+use Rattle.std.proofs.Common.{◌≡◌, inl, inr, ⊎_elim, ℕ, ◌+◌, Bool, true, false, List, [], ◌∷◌, ◌++◌, length, Result, Ok, Err, IsTrue, refl, sym, ap, subst, ◌∙◌, append_assoc, length-append, cond}
 use Rattle.std.specs.List.{concat}
 use Rattle.std.proofs.lemmas.List.Folds.{concat-append}
 use Rattle.std.proofs.Math.Nat.{add_assoc}
@@ -135,7 +135,8 @@ puts_more s xs ys old mid new p q =
     q
     ∙ (ap (λ n. n + length two) p
     ∙ (add_assoc old (length one) (length two)
-    ∙ (ap (λ n. old + n) (sym (length-append one two)) ∙ ap (λ (pieces : List (List ℕ)). old + length pieces) (sym (pieces_append s xs ys)))))
+    ∙ (ap (λ n. old + n) (sym (length-append one two))
+    ∙ ap (λ (pieces : List (List ℕ)). old + length pieces) (sym (pieces_append s xs ys)))))
 
 -- ---- where lines lead
 
@@ -172,7 +173,8 @@ within_more s later more front c p = record {
 }
 
 -- what is left of lines is left of them and others
-pub left_more : (s : ApplyState) (xs ys : List (List ℕ)) (output : List ℕ) (c : Triple) → IsLeft s xs output c → IsLeft s (xs ++ ys) output c
+pub left_more : (s : ApplyState) (xs ys : List (List ℕ)) (output : List ℕ) (c : Triple) → IsLeft s xs output c
+    → IsLeft s (xs ++ ys) output c
 left_more s xs ys output c p = record {
   until = p.until;
   later = p.later ++ ys;

@@ -10,7 +10,6 @@ use Rattle.pgs_lines.specs.Machine.{Rule, Scene, Extent, Whole, Inside, AtEnd}
 use Rattle.pgs_lines.specs.Pieces.{shown_of}
 use Rattle.pgs_lines.proofs.Showing.{shows_none}
 use Rattle.pgs_world.specs.Moment.{EachSince, IsTimed}
-use Rattle.pgs_world.specs.World.{Triple}
 use Rattle.pgs_world.proofs.Moments.{passes_none, passes_on, each_none, each_on, each_weaker, shown_added}
 use Rattle.pgs_run_base.specs.declared.status.Status.{Status}
 use Rattle.pgs_run_apply.specs.Applying.{Applies, IsCutOff, IsDone, IsReached, IsStopped, IsTornOff, applying, seen}
@@ -19,7 +18,8 @@ use Rattle.pgs_run_apply.specs.Left.{IsLeft, pieces_from, state_after_all}
 use Rattle.pgs_run_apply.specs.State.{ApplyState, HoldsStore}
 
 -- before the first line
-pub applies_none : (s : ApplyState) (scene : Scene (List Place)) → IsTimed scene.view → HoldsStore s scene.view → Applies s [] Whole scene scene
+pub applies_none : (s : ApplyState) (scene : Scene (List Place)) → IsTimed scene.view → HoldsStore s scene.view
+    → Applies s [] Whole scene scene
 applies_none s scene timed holds = record {
   passes = passes_none scene.view timed;
   reached = record { holds = holds; shows = shows_none (shown_of scene.view); given = given_none scene.kept };
@@ -98,7 +98,8 @@ stops_on s xs ys extent old mid new p q honest told output =
     let still = p.passes.tells_output ∙ output in
     let added = shown_added old.view mid.view (concat (pieces_from s xs)) output still p.reached.shows.output in
     each_on old.view mid.view new.view (IsLeft s (xs ++ more) before) p.passes q.passes
-    (each_weaker old.view mid.view (IsLeft s xs before) (IsLeft s (xs ++ more) before) (left_more s xs more before) (p.stops honest told output))
+    (each_weaker old.view mid.view (IsLeft s xs before) (IsLeft s (xs ++ more) before) (left_more s xs more before)
+    (p.stops honest told output))
     (each_weaker mid.view new.view (IsLeft (state_after_all s xs) more mid.view.shown.output) (IsLeft s (xs ++ more) before)
     (λ c left. left_on s xs more before c (subst (λ (out : List ℕ). IsLeft (state_after_all s xs) more out c) added left))
     (q.stops (p.passes.honest ∙ honest) (p.passes.tells_bytes ∙ told) still))

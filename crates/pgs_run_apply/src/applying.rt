@@ -98,7 +98,8 @@ impl<F: Feed> Applying<F> {
     ) -> Result<(), Stop<Status>>
         requires room { self.old.number < 2 ^ 64 - 1 }
         requires holds { HoldsStore (state_of self.old) (W.view world.old) }
-        ensures { Takes (state_of self.old) (refusing (state_of self.old) (rejection_text rejection.now standard)) result (state_of self.new)
+        ensures { Takes (state_of self.old) (refusing (state_of self.old) (rejection_text rejection.now standard))
+            result (state_of self.new)
             (scene_of (W.view world.old) (places F.taken F.faults self.old.feeds))
             (scene_of (W.view world.new) (places F.taken F.faults self.new.feeds)) }
     {
@@ -120,7 +121,8 @@ impl<F: Feed> Applying<F> {
         requires room { self.old.number < 2 ^ 64 - 1 }
         requires holds { HoldsStore (state_of self.old) (W.view world.old) }
         ensures { Takes (state_of self.old)
-            (deciding (state_of self.old) txn.now (decision_on (verdict self.old.store.guard.schema) self.old.store.guard.graph txn.now)) result (state_of self.new)
+            (deciding (state_of self.old) txn.now (decision_on (verdict self.old.store.guard.schema) self.old.store.guard.graph txn.now))
+            result (state_of self.new)
             (scene_of (W.view world.old) (places F.taken F.faults self.old.feeds))
             (scene_of (W.view world.new) (places F.taken F.faults self.new.feeds)) }
     {

@@ -3,6 +3,7 @@ use Rattle.std.proofs.Common.{◌≡◌, inl, inr, ⊎_elim, ℕ, ◌+◌, ◌<�
 use Rattle.pgs_base.specs.Graph.{Graph}
 use Rattle.pgs_codec.specs.declared.command.Command.TheVariants.{Txn as Transaction}
 use Rattle.pgs_codec.specs.Frame.{framed}
+use Rattle.pgs_codec.specs.Payload.{payload_of}
 use Rattle.pgs_codec.specs.Reading.{decoded}
 use Rattle.pgs_graph.specs.declared.operation.Txn.{Txn}
 use Rattle.pgs_journal.specs.declared.journal.Journal.{Journal}
@@ -14,7 +15,7 @@ use Rattle.pgs_snapshot.proofs.Fitness.{AreFit, more_fit}
 use Rattle.pgs_snapshot.proofs.Histories.{one_more_saves}
 use Rattle.pgs_snapshot.proofs.Stores.{are_fit, goes_on, append_left, images_decide}
 use Rattle.pgs_store.specs.State.{GuardState}
-use Rattle.pgs_store.specs.Stored.{IsSavedIn, StandsOn, committed, ending_at, IsAppliedIn}
+use Rattle.pgs_store.specs.Stored.{IsSavedIn, StandsOn, committed, ending_at, longer, IsAppliedIn}
 use Rattle.pgs_violation.specs.Decision.{decide}
 use Rattle.pgs_violation.specs.Violations.{verdict}
 use Rattle.pgs_world.specs.declared.area.Area.{Area}
@@ -31,19 +32,22 @@ same_images guard journal old new saved a b = (
   record { has = images_decide journal.area journal.epoch journal.end saved.0 old new saved.1.has a b; saves = saved.1.saves },
 )
 
-module _ (guard : GuardState) (journal : Journal) (txn : Txn) (next : Graph) (payload : List ℕ)
+module _ (guard : GuardState) (journal : Journal) (txn : Txn) (next : Graph)
     (of_text : schema_of guard.text ≡ schema guard.schema)
     (accepted : decide guard.limits (verdict guard.schema) guard.graph txn ≡ Ok next)
-    (read : decoded payload ≡ Some (Transaction txn))
-    (small : journal.end + length (framed payload) < 2 ^ 64) where
-  abbrev longer : Journal
-  longer = ending_at journal (journal.end + length (framed payload))
+    (read : decoded (payload_of (Transaction txn)) ≡ Some (Transaction txn))
+    (small : journal.end + length (framed (payload_of (Transaction txn))) < 2 ^ 64) where
+  abbrev payload : List ℕ
+  payload = payload_of (Transaction txn)
+
+  abbrev after : Journal
+  after = longer journal txn
 
   fit : (old : Triple) (saved : IsSavedIn guard journal old) → AreFit journal.epoch (saved.0 ++ payload ∷ [])
   fit old saved = more_fit journal.epoch saved.0 payload txn (are_fit journal.area journal.epoch journal.end saved.0 old saved.1.has) read
 
   with_one_more : (old new : Triple) (saved : IsSavedIn guard journal old)
-      → HasStore journal.area journal.epoch longer.end (saved.0 ++ payload ∷ []) new → IsSavedIn (committed guard next) longer new
+      → HasStore journal.area journal.epoch after.end (saved.0 ++ payload ∷ []) new → IsSavedIn (committed guard next) after new
   with_one_more old new saved has = (
     saved.0 ++ payload ∷ [],
     record {
@@ -57,15 +61,15 @@ module _ (guard : GuardState) (journal : Journal) (txn : Txn) (next : Graph) (pa
       → IsAppliedIn guard journal txn new
   append_stops old new saved turns =
       ⊎_elim (λ before. inl (saved.0, record { has = before; saves = saved.1.saves }))
-      (λ after. inr (next, longer.end, accepted, with_one_more old new saved after))
+      (λ stored. inr (next, accepted, with_one_more old new saved stored))
       (append_left journal.area journal.epoch journal.end saved.0 payload old new saved.1.has (fit old saved) small turns)
 
   pub append_done : (old new : Triple) (saved : IsSavedIn guard journal old)
-      → Holds First journal.epoch (saved.0 ++ payload ∷ []) longer.end (part journal.area new)
-      → IsSameBeside journal.area old new → IsSavedIn (committed guard next) longer new
+      → Holds First journal.epoch (saved.0 ++ payload ∷ []) after.end (part journal.area new)
+      → IsSameBeside journal.area old new → IsSavedIn (committed guard next) after new
   append_done old new saved holds same =
       with_one_more old new saved
-      (goes_on journal.area journal.epoch journal.end longer.end saved.0 (saved.0 ++ payload ∷ []) old new saved.1.has holds (fit old saved) small same.beside)
+      (goes_on journal.area journal.epoch journal.end after.end saved.0 (saved.0 ++ payload ∷ []) old new saved.1.has holds (fit old saved) small same.beside)
 
   pub stops_after : (old new : View) → StandsOn guard journal old → IsTrue old.honest → IsTrue old.tells_bytes
       → StopsBy (Turns journal.area (Appends First journal.epoch journal.end payload)) old new → EachSince (IsAppliedIn guard journal txn) old new
@@ -76,8 +80,8 @@ module _ (guard : GuardState) (journal : Journal) (txn : Txn) (next : Graph) (pa
 
   pub stands_after : (old new : View) → StandsOn guard journal old → Passes old new
       → ((payloads : List (List ℕ)) → Holds First journal.epoch payloads journal.end (part journal.area old.shown) → IsTrue old.tells_bytes
-      → Holds First journal.epoch (payloads ++ payload ∷ []) longer.end (part journal.area new.shown))
-      → IsSameBeside journal.area old.shown new.shown → (IsSettled old → IsSettled new) → StandsOn (committed guard next) longer new
+      → Holds First journal.epoch (payloads ++ payload ∷ []) after.end (part journal.area new.shown))
+      → IsSameBeside journal.area old.shown new.shown → (IsSettled old → IsSettled new) → StandsOn (committed guard next) after new
   stands_after old new stands passes holds same settled = record {
     saved = λ told.
         let before = sym passes.tells_bytes ∙ told in

@@ -6,7 +6,7 @@ use Rattle.pgs_journal.specs.declared.journal.Journal.{Journal}
 use Rattle.pgs_store.specs.declared.fault.ApplyFault.{ApplyFault}
 use Rattle.pgs_store.specs.declared.fault.ApplyFault.TheVariants.{Memory, DiskFault, NeedsReopen, Rejected}
 use Rattle.pgs_store.specs.State.{GuardState}
-use Rattle.pgs_store.specs.Stored.{StoreState, StandsOn, committed, ending_at}
+use Rattle.pgs_store.specs.Stored.{StoreState, StandsOn, committed, longer}
 use Rattle.pgs_violation.specs.declared.rejection.Rejection.{Rejection}
 use Rattle.pgs_violation.specs.Decision.{decide}
 use Rattle.pgs_violation.specs.Violations.{verdict}
@@ -27,20 +27,21 @@ is_early (Err DiskFault) = false
 is_early (Err NeedsReopen) = true
 is_early (Err (Rejected rejection)) = true
 
--- the transaction that leads to this graph was committed under this number, and the store stands on the world
-pub record IsCommitted (old new : GuardState) (before after : Journal) (next : Graph) (number : ℕ) (now : View) : Type 0 where
+-- the transaction, which leads to this graph, was committed under this number, its record ends the journal, and the store stands on
+-- the world
+pub record IsCommitted (old new : GuardState) (before after : Journal) (txn : Txn) (next : Graph) (number : ℕ) (now : View) : Type 0 where
   pub numbered : number ≡ old.commits + 1
   pub guard : new ≡ committed old next
-  pub journal : after ≡ ending_at before after.end
+  pub journal : after ≡ longer before txn
   pub stands : StandsOn new after now
 
 -- of a transaction that is accepted: it was committed, or nothing changed
-abbrev pub Journals : Result ℕ ApplyFault → GuardState → GuardState → Journal → Journal → Graph → View → Type 0
-Journals (Ok number) old new before after next now = IsCommitted old new before after next number now
-Journals (Err Memory) old new before after next now = (new ≡ old) × (after ≡ before)
-Journals (Err DiskFault) old new before after next now = (new ≡ old) × (after ≡ before)
-Journals (Err NeedsReopen) old new before after next now = ⊥
-Journals (Err (Rejected rejection)) old new before after next now = ⊥
+abbrev pub Journals : Result ℕ ApplyFault → GuardState → GuardState → Journal → Journal → Txn → Graph → View → Type 0
+Journals (Ok number) old new before after txn next now = IsCommitted old new before after txn next number now
+Journals (Err Memory) old new before after txn next now = (new ≡ old) × (after ≡ before)
+Journals (Err DiskFault) old new before after txn next now = (new ≡ old) × (after ≡ before)
+Journals (Err NeedsReopen) old new before after txn next now = ⊥
+Journals (Err (Rejected rejection)) old new before after txn next now = ⊥
 
 -- the decision on a transaction by a guard
 abbrev pub decided : GuardState → Txn → Result Graph Rejection
@@ -51,7 +52,7 @@ decided guard txn = decide guard.limits (verdict guard.schema) guard.graph txn
 abbrev pub Applies : Result ℕ ApplyFault → StoreState → StoreState → Txn → View → Type 0
 Applies (Ok number) old new txn now =
     (old.failed ≡ false) × (new.failed ≡ false) × (decided old.guard txn ≡ Ok new.guard.graph)
-    × IsCommitted old.guard new.guard old.journal new.journal new.guard.graph number now
+    × IsCommitted old.guard new.guard old.journal new.journal txn new.guard.graph number now
 Applies (Err Memory) old new txn now = (old.failed ≡ false) × (new ≡ old)
 Applies (Err (Rejected rejection)) old new txn now = (old.failed ≡ false) × (new ≡ old) × (decided old.guard txn ≡ Err rejection)
 Applies (Err DiskFault) old new txn now = (old.failed ≡ false) × (new ≡ record old { failed = true })

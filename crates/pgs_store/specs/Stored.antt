@@ -1,9 +1,10 @@
 -- What contracts see of a store, what holds of every store, and what it is to stand on a world.
-use Rattle.std.specs.Prelude.{◌≡◌, ◌⊎◌, ℕ, ◌+◌, ◌-◌, ◌*◌, ◌^◌, ◌≤◌, ◌<◌, Bool, IsTrue, List, [], ◌∷◌, Ok}
+use Rattle.std.specs.Prelude.{◌≡◌, ◌⊎◌, ℕ, ◌+◌, ◌-◌, ◌*◌, ◌^◌, ◌≤◌, ◌<◌, Bool, IsTrue, List, [], ◌∷◌, length, Ok}
 use Rattle.pgs_base.specs.declared.limits.Limits.{Limits}
 use Rattle.pgs_base.specs.Graph.{Graph, empty_graph}
 use Rattle.pgs_codec.specs.declared.command.Command.{Command}
-use Rattle.pgs_codec.specs.declared.command.Command.TheVariants.{Schema, Snapshot}
+use Rattle.pgs_codec.specs.declared.command.Command.TheVariants.{Schema, Snapshot, Txn as Transaction}
+use Rattle.pgs_codec.specs.Frame.{framed}
 use Rattle.pgs_codec.specs.Payload.{payload_of}
 use Rattle.pgs_graph.specs.declared.operation.Txn.{Txn}
 use Rattle.pgs_journal.specs.declared.journal.Journal.{Journal}
@@ -55,12 +56,20 @@ committed guard graph = record guard { graph = graph; commits = guard.commits + 
 abbrev pub ending_at : Journal → ℕ → Journal
 ending_at journal end = record journal { end = end }
 
--- what a stop during `apply` leaves: the store as it was, or with the transaction accepted, in the same area and of the same epoch
+-- how many bytes the record of a transaction takes in a journal
+abbrev pub record_length : Txn → ℕ
+record_length txn = length (framed (payload_of (Transaction txn)))
+
+-- the journal with the record of a transaction more, in the same area and of the same epoch
+abbrev pub longer : Journal → Txn → Journal
+longer journal txn = ending_at journal (journal.end + record_length txn)
+
+-- what a stop during `apply` leaves: the store as it was, or with the transaction accepted and its record behind the others
 abbrev pub IsAppliedIn : GuardState → Journal → Txn → Triple → Type 0
 IsAppliedIn guard journal txn triple =
     IsSavedIn guard journal triple
-    ⊎ ((graph : Graph) × (end : ℕ) × (decide guard.limits (verdict guard.schema) guard.graph txn ≡ Ok graph)
-    × IsSavedIn (committed guard graph) (ending_at journal end) triple)
+    ⊎ ((graph : Graph) × (decide guard.limits (verdict guard.schema) guard.graph txn ≡ Ok graph)
+    × IsSavedIn (committed guard graph) (longer journal txn) triple)
 
 -- a guard of a text's schema that was just made, and the journal of a first store
 abbrev pub opened : List ℕ → Resolved → Limits → GuardState

@@ -51,7 +51,7 @@ fn journaled<W: World>(
     requires sized { IsTrue (is_sized (Transaction txn.now)) }
     requires bounded { IsBounded journal.old guard.old.commits }
     requires stands { StandsOn guard.old journal.old (W.view world.old) }
-    ensures answer { Journals result guard.old guard.new journal.old journal.new (changed guard.old.graph delta) (W.view world.new) }
+    ensures answer { Journals result guard.old guard.new journal.old journal.new txn.now (changed guard.old.graph delta) (W.view world.new) }
     ensures bounded { IsBounded journal.new guard.new.commits }
     ensures early { is_early result ≡ true → world.new ≡ world.old }
     ensures faults { CountsFault (is_fault_of_area result) (W.view world.old) (W.view world.new) }

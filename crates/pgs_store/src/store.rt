@@ -1,13 +1,17 @@
-ghost use Rattle.std.specs.Prelude.{◌≡◌, ◌+◌, ◌-◌, ◌*◌, ◌^◌, ◌≤◌, IsTrue};
+ghost use Rattle.std.specs.Prelude.{◌≡◌, ◌+◌, ◌-◌, ◌*◌, ◌^◌, ◌<◌, ◌≤◌, length, IsTrue, IfOk};
 ghost use Rattle.pgs_journal.specs.Format.{is_epoch};
 ghost use Rattle.pgs_resolve.specs.SchemaOf.{schema, schema_of};
+ghost use Rattle.pgs_store.specs.Explained.{types_of, key_values_of};
 ghost use Rattle.pgs_store.specs.State.{IsGuarded};
 
 use crate::Guard;
+use pgs_base::{Elem, List, Memory, Steps, TupleSet};
 use pgs_conform::Compiled;
 use pgs_journal::Journal;
+use pgs_syntax::TypeNo;
 use pgs_tables::Tables;
 use std::marker::Model;
+use std::sync::ledger::Ledger;
 
 /// A guard with a journal: each transaction that it takes is on the disk before it is answered. Contracts see the guard, the journal
 /// and whether an earlier call answered `DiskFault`.
@@ -41,6 +45,13 @@ impl Store {
         self.guard.commits()
     }
 
+    /// The number of the next commit.
+    pub fn next_commit(&self) -> u64
+        ensures { result ≡ self.now.guard.commits + 1 }
+    {
+        self.guard.commits() + 1
+    }
+
     /// The epoch of the store, from 1 to 16,777,215.
     pub fn epoch(&self) -> u64
         ensures epoch { result ≡ self.now.journal.epoch }
@@ -70,5 +81,27 @@ impl Store {
         ensures guarded { IsGuarded self.now.guard.schema self.now.guard.limits self.now.guard.graph }
     {
         self.guard.graph()
+    }
+
+    /// The types of the schema's guard that an element fits, as `Guard::types_of` gives them.
+    pub fn types_of(&self, elem: Elem) -> Result<List<TypeNo>, Memory>
+        ensures { IfOk result (λ types. types ≡ types_of self.now.guard.schema self.now.guard.graph elem) }
+    {
+        self.guard.types_of(elem)
+    }
+
+    /// The values of an element under the key of a number, from 1, as `Guard::key_values` gives them.
+    pub fn key_values<L: Ledger>(
+        &self,
+        key: u32,
+        elem: Elem,
+        steps: &mut Steps<L>,
+    ) -> Result<Option<TupleSet>, Memory>
+        requires from_one { 0 < key }
+        requires in_range { key ≤ length self.now.guard.schema.guard.keys }
+        ensures values { IfOk result (λ values. values ≡ key_values_of self.now.guard.schema self.now.guard.graph key elem) }
+        ensures no_step_back { steps.old ≤ steps.new }
+    {
+        self.guard.key_values(key, elem, steps)
     }
 }

@@ -32,14 +32,14 @@ returns-in-Ok-clause-answer g c =
     ∙ ap (λ (s : GuardState). committed s (changed s.graph c.args.delta)) c.guard.view_is in
     let journal = same_journal c.args.journal.now c.append.new.self c.in-Ok.ensures.area c.in-Ok.ensures.epoch (c.args.journal.now.end + length (framed payload))
     (c.in-Ok.ensures.end ∙ ap (λ (f : List ℕ). c.args.journal.now.end + length f) frame) in
-    let stands = stands_after c.args.guard.now c.args.journal.now c.args.txn.now next payload c.facts.ensures.schema c.requires.accepted c.in_ok-frame.ensures.decoded small
+    let stands = stands_after c.args.guard.now c.args.journal.now c.args.txn.now next c.facts.ensures.schema c.requires.accepted c.in_ok-frame.ensures.decoded small
     old new c.requires.stands c.append.ensures.passes
     (λ payloads holds told. subst (λ (j : Journal). Holds First j.epoch (payloads ++ payload ∷ []) j.end (part j.area new.shown)) journal (c.in-Ok.ensures.holds payload payloads frame holds told))
     c.append.ensures.beside c.in-Ok.ensures.settled in
     record {
       numbered = ap (λ (s : GuardState). s.commits + 1) c.guard.view_is;
       guard = guard;
-      journal = same_journal c.args.journal.now c.append.new.self c.in-Ok.ensures.area c.in-Ok.ensures.epoch c.append.new.self.end refl;
+      journal = journal;
       stands =
           subst (λ (s : GuardState). StandsOn s c.append.new.self new) (sym guard)
           (subst (λ (j : Journal). StandsOn (committed c.args.guard.now next) j new) (sym journal) stands);
@@ -50,7 +50,7 @@ returns-in-Ok-clause-stops g c = λ honest told.
     let payload = payload_of (Transaction c.args.txn.now) in
     let vec = c.frame.inside.items in
     let small = small_frame c.args.journal.now.end vec.items payload vec.len vec.cap (c.frame.view_is ∙ c.in_ok-frame.ensures.frame) vec.ok.0 vec.ok.1 vec.small c.requires.bounded.end in
-    stops_after c.args.guard.now c.args.journal.now c.args.txn.now (changed c.args.guard.now.graph c.args.delta) payload c.facts.ensures.schema c.requires.accepted c.in_ok-frame.ensures.decoded small
+    stops_after c.args.guard.now c.args.journal.now c.args.txn.now (changed c.args.guard.now.graph c.args.delta) c.facts.ensures.schema c.requires.accepted c.in_ok-frame.ensures.decoded small
     (g.W.World.view c.args.world.now) (g.W.World.view c.append.new.world) c.requires.stands honest told (c.append.ensures.stops payload (c.as_slice.ensures ∙ c.in_ok-frame.ensures.frame) told)
 
 pub returns-clause-stops : goal.returns-clause-stops
@@ -58,5 +58,5 @@ returns-clause-stops g c = λ honest told.
     let payload = payload_of (Transaction c.args.txn.now) in
     let vec = c.frame.inside.items in
     let small = small_frame c.args.journal.now.end vec.items payload vec.len vec.cap (c.frame.view_is ∙ c.in_ok-frame.ensures.frame) vec.ok.0 vec.ok.1 vec.small c.requires.bounded.end in
-    stops_after c.args.guard.now c.args.journal.now c.args.txn.now (changed c.args.guard.now.graph c.args.delta) payload c.facts.ensures.schema c.requires.accepted c.in_ok-frame.ensures.decoded small
+    stops_after c.args.guard.now c.args.journal.now c.args.txn.now (changed c.args.guard.now.graph c.args.delta) c.facts.ensures.schema c.requires.accepted c.in_ok-frame.ensures.decoded small
     (g.W.World.view c.args.world.now) (g.W.World.view c.append.new.world) c.requires.stands honest told (c.append.ensures.stops payload (c.as_slice.ensures ∙ c.in_ok-frame.ensures.frame) told)

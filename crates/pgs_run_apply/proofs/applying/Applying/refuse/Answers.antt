@@ -1,6 +1,5 @@
-use Rattle.std.proofs.Common.{refl, ap, ◌∙◌}
+use Rattle.std.proofs.Common.{◌∙◌}
 use Rattle.pgs_feed.specs.Seen.{places}
-use Rattle.pgs_feed.proofs.Given.{given_none}
 use Rattle.pgs_run_apply.specs.Outcome.{refusing}
 use Rattle.pgs_run_apply.specs.Seen.{state_of}
 use Rattle.pgs_run_apply.proofs.Taken.{take_none, take_refused}

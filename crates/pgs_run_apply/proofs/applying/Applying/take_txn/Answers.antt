@@ -3,7 +3,7 @@ use Rattle.pgs_feed.specs.Seen.{places}
 use Rattle.pgs_violation.specs.Violations.{verdict}
 use Rattle.pgs_run_base.specs.Session.{decision_on}
 use Rattle.pgs_run_apply.specs.Outcome.{deciding}
-use Rattle.pgs_run_apply.specs.Seen.{state_of}
+use Rattle.pgs_run_apply.specs.Seen.{state_of, state_with}
 use Rattle.pgs_run_apply.proofs.Asked.{still_holds, take_done, take_rejected, take_stopped}
 use Rattle.pgs_run_apply.proofs.Taken.{take_none}
 use Rattle.pgs_run_apply.proofs.applying.Applying.take_txn.Goals as goal
@@ -20,28 +20,30 @@ returns-in-Ok-None g c =
     let self = c.args.self.now in
     let seen = places g.F.Feed.taken g.F.Feed.faults in
     take_done self.store self.number self.refused c.args.txn.now c.put_line.result c.ask.new.store (g.W.World.view c.args.world.now) (g.W.World.view c.ask.new.world)
-    (g.W.World.view c.put_line.new.world) (seen self.feeds) (seen c.deliver.new.self) c.as_slice.result.now c.as_slice-2.result.now c.requires.holds
-    (g.met.W.World.timed c.args.world.now) c.in-Ok-None.ensures.answer c.ask.ensures.stops c.ask.ensures.beside (c.as_slice.ensures ∙ c.in-Ok.ensures.feed)
-    c.deliver.ensures.delivered (c.as_slice-2.ensures ∙ c.in-Ok.ensures.verdict) c.put_line.ensures
+    (g.W.World.view c.put_line.new.world) (seen self.feeds) (seen c.deliver.new.self) c.as_slice.result.now c.as_slice-in-Ok-None.result.now c.requires.holds
+    (g.met.W.World.timed c.args.world.now) (rw c.in-Ok-None.field-0-is at c.in-Ok-None.ensures.answer) c.ask.ensures.stops c.ask.ensures.beside (c.as_slice.ensures ∙ c.in-Ok.ensures.feed)
+    c.deliver.ensures.delivered (c.as_slice-in-Ok-None.ensures ∙ c.in-Ok.ensures.verdict) c.put_line.ensures
 
 pub reject-requires-clause-holds : goal.reject-requires-clause-holds
 reject-requires-clause-holds g c =
     let self = c.args.self.now in
-    let answer = c.in-Ok-Some.ensures.answer in
-    still_holds self.store self.number self.refused c.args.txn.now g.W.World.view c.args.world.now c.ask.new.world c.ask.new.store c.requires.holds answer.1 (c.in-Ok-Some.ensures.early refl)
+    let answer = rw c.in-Ok-Some.field-0-is at c.in-Ok-Some.ensures.answer in
+    let early = rw c.in-Ok-Some.field-0-is at c.in-Ok-Some.ensures.early in
+    still_holds self.store self.number self.refused c.args.txn.now g.W.World.view c.args.world.now c.ask.new.world c.ask.new.store c.requires.holds answer.1 (early refl)
 
 pub returns-in-Ok-Some : goal.returns-in-Ok-Some
 returns-in-Ok-Some g c =
     let self = c.args.self.now in
     let seen = places g.F.Feed.taken g.F.Feed.faults in
-    let answer = c.in-Ok-Some.ensures.answer in
+    let answer = rw c.in-Ok-Some.field-0-is at c.in-Ok-Some.ensures.answer in
+    let early = rw c.in-Ok-Some.field-0-is at c.in-Ok-Some.ensures.early in
     take_rejected self.store self.number self.refused c.args.txn.now g.W.World.view c.reject.result (state_of c.reject.new.self) c.in-Ok-Some.rejection
     c.args.world.now c.ask.new.world (g.W.World.view c.reject.new.world) (seen self.feeds) (seen c.reject.new.self.feeds) c.ask.new.store c.requires.holds
-    answer.0 answer.1 (c.in-Ok-Some.ensures.early refl) c.reject.ensures
+    answer.0 answer.1 (early refl) c.reject.ensures
 
-pub returns-in-Err-ask : goal.returns-in-Err-ask
-returns-in-Err-ask g c =
+pub returns : goal.returns
+returns g c =
     let self = c.args.self.now in
-    take_stopped self.store self.number self.refused c.args.txn.now g.W.World.view c.in-Err-ask.stop (state_of self) c.ask.new.store c.args.world.now c.ask.new.world
+    take_stopped self.store self.number self.refused c.args.txn.now g.W.World.view c.in-Err-ask.stop (state_with c.ask.new.store self.number self.refused) c.ask.new.store c.args.world.now c.ask.new.world
     (places g.F.Feed.taken g.F.Feed.faults self.feeds) c.requires.holds (g.met.W.World.timed c.args.world.now) c.in-Err-ask.ensures.answer
     c.in-Err-ask.ensures.early c.ask.ensures.stops c.ask.ensures.beside

@@ -13,8 +13,8 @@ returns-in-Ok g c =
     let new = scene_of (g.W.World.view c.take_line.new.world) (places g.F.Feed.taken g.F.Feed.faults c.take_line.new.self.feeds) in
     let takes = c.in-Ok.ensures in
     record {
-      ends = end_ends s now rest _ c.status.result old new takes.taken c.status.ensures;
-      allows = end_allows s now rest _ c.status.result old new takes;
+      ends = end_ends {T = Unit {0}} s now rest tt c.status.result old new takes.taken c.status.ensures;
+      allows = end_allows {T = Unit {0}} s now rest tt c.status.result old new takes;
       cause = takes.taken.faults;
       may = tt;
     }
