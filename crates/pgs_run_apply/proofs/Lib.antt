@@ -1,5 +1,15 @@
 pub mod Asked
+pub mod Beginning
+pub mod Fronts
+pub mod Kept
 pub mod Lines
+pub mod Machine
+pub mod Opened
 pub mod Outcomes
+pub mod RunEnds
+pub mod Running
 pub mod Same
+pub mod Saving
+pub mod Standings
 pub mod Taken
+pub mod Unopened

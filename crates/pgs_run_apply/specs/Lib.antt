@@ -1,6 +1,7 @@
 pub mod Applying
 pub mod Asking
 pub mod Committing
+pub mod Ending
 pub mod Following
 pub mod Left
 pub mod Outcome

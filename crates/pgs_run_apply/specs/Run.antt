@@ -37,16 +37,24 @@ pub record SavesNext (it : SavedStore) (until later : List (List ℕ)) (front : 
   pub piece : pieces_of_line every_verdict (verdict it.schema) (after it until) line ≡ (front ++ back) ∷ []
   pub saves : SavesAt it (after it (until ++ line ∷ [])) triple
 
+-- they save the store after all lines, and of the line of the lost feeds this front is out
+pub record SavesAll (it : SavedStore) (lost : ℕ) (until later : List (List ℕ)) (front : List ℕ) (triple : Triple) : Type 0 where
+  pub all : later ≡ []
+  pub back : List ℕ
+  pub piece : lost_pieces lost ≡ (front ++ back) ∷ []
+  pub saves : SavesAt it (after it until) triple
+
 -- A stop leaves the store after the accepted ones of some first lines, whose verdict lines are all out behind the output that there
--- was; or after one line more, of whose verdict line a front is out. So as many transactions are saved as `committed` lines are out
--- whole, or one more. The images choose the area and the epoch that were chosen.
-pub record IsAppliedAt (was : Triple) (it : SavedStore) (input : List ℕ) (triple : Triple) : Type 0 where
+-- was; or after one line more, of whose verdict line a front is out; or after all lines, where a front of the last piece is out. So as
+-- many transactions are saved as `committed` lines are out whole, or one more. The images choose the area and the epoch that were chosen.
+pub record IsAppliedAt (was : Triple) (it : SavedStore) (input : List ℕ) (lost : ℕ) (triple : Triple) : Type 0 where
   pub until : List (List ℕ)
   pub later : List (List ℕ)
   pub parts : all_lines input ≡ until ++ later
   pub front : List ℕ
   pub out : triple.output ≡ was.output ++ (concat (verdicts it until) ++ front)
-  pub state : ((front ≡ []) × SavesAt it (after it until) triple) ⊎ SavesNext it until later front triple
+  pub state : ((front ≡ []) × SavesAt it (after it until) triple)
+      ⊎ (SavesNext it until later front triple ⊎ SavesAll it lost until later front triple)
   pub area : chosen_area triple.a triple.b ≡ chosen_area was.a was.b
   pub epoch : chosen_epoch triple.a triple.b ≡ chosen_epoch was.a was.b
 

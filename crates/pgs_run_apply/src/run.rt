@@ -6,21 +6,54 @@ ghost use Rattle.pgs_lines.specs.Pieces.{shown_of};
 ghost use Rattle.pgs_snapshot.specs.Saved.{saved, store};
 ghost use Rattle.pgs_world.specs.Moment.{EachSince, IsSettled, Passes};
 ghost use Rattle.pgs_run_base.specs.Areas.{areas_of};
+ghost use Rattle.pgs_run_base.specs.Ending.{status_at as status_at_stop};
 ghost use Rattle.pgs_run_base.specs.Images.{KeepsImages};
 ghost use Rattle.pgs_run_base.specs.Run.{IsRead, EndsAs, HasCommandCause};
 ghost use Rattle.pgs_run_base.specs.Session.{standard};
 ghost use Rattle.pgs_run_saved.specs.Refusing.{SavedStore};
+ghost use Rattle.pgs_run_apply.specs.Ending.{EndsRun, PutsLast, is_done, last_piece};
 ghost use Rattle.pgs_run_apply.specs.Run.{Saves, IsAppliedAt, FeedsTook, IsEven};
 ghost use Rattle.pgs_run_apply.specs.Told.{told_apply};
 
 use crate::applying::Applying;
 use pgs_answer::feeds_lost_line;
 use pgs_feed::FeedList;
-use pgs_lines::{Stop, put_piece, run_lines};
+use pgs_lines::{Stop, run_lines};
 use pgs_run_base::{Status, TEXT_LIMIT, status_at};
 use pgs_run_saved::{end_unopened, open_store};
 use pgs_world::{Feed, Source, World};
 use std::alloc::Global;
+use std::mem;
+
+fn is_whole(stop: Stop<Status>) -> bool
+    ensures { result ≡ is_done stop }
+{
+    matches!(stop, Stop::Ended(Status::Accepted | Status::Refused))
+}
+
+// Puts the last piece.
+fn put_last<W: World>(world: &mut W, piece: &[u8], status: Status) -> Status
+    ensures { PutsLast piece.now status (W.view world.old) result (W.view world.new) }
+{
+    match world.put(piece) {
+        Ok(()) => status,
+        Err(_) => Status::PutFault,
+    }
+}
+
+// Ends a run: puts the number of the lost feeds behind a whole input, where there are any, and gives the status.
+fn end_run<W: World>(alloc: Global, world: &mut W, stop: Stop<Status>, lost: u64) -> Status
+    ensures { EndsRun (last_piece (is_done stop) lost) (status_at_stop stop) (W.view world.old) result (W.view world.new) }
+{
+    let status = status_at(stop);
+    if lost == 0 || !is_whole(stop) {
+        return status;
+    }
+    match feeds_lost_line(alloc, lost) {
+        Ok(line) => put_last(world, line.as_slice(), status),
+        Err(_) => Status::Memory,
+    }
+}
 
 /// Runs `apply` over an input within a budget of bytes, at most 2^40, on the store that is saved in both areas, and answers the status.
 /// What it puts and answers is what `told_apply` tells, by the number of feeds that are lost after the last line. The areas are judged
@@ -42,7 +75,7 @@ pub fn run_apply<S: Source, W: World, F: Feed>(
     // What a stop during the run leaves.
     ensures stops { (input : List ℕ) (it : SavedStore) → S.left source.old ≡ Some input → Saves it (W.view world.old).shown
         → IsTrue (W.view world.old).tells_output → IsSettled (W.view world.old)
-        → EachSince (IsAppliedAt (W.view world.old).shown it input) (W.view world.old) (W.view world.new) }
+        → EachSince (IsAppliedAt (W.view world.old).shown it input (lost_count (places F.taken F.faults feeds.new))) (W.view world.old) (W.view world.new) }
     // What the feeds took.
     ensures fed { IsTrue (W.view world.old).tells_bytes → (input : List ℕ) (it : SavedStore) → S.left source.old ≡ Some input → Saves it (W.view world.old).shown
         → FeedsTook it input (lost_count (places F.taken F.faults feeds.new)) (W.view world.old).puts (W.view world.new).puts

@@ -1,3 +1,4 @@
+pub mod Conforming
 pub mod Reading
 pub mod Saving
 pub mod Shown

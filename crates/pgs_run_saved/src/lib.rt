@@ -6,6 +6,7 @@
 #![tactic(auto)]
 
 mod ending;
+pub mod laws;
 mod opening;
 mod reader;
 

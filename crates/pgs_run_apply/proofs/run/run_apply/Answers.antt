@@ -1,0 +1,64 @@
+use Rattle.std.proofs.Common.{◌∙◌, sym, ap}
+use Rattle.pgs_feed.specs.Places.{lost_count}
+use Rattle.pgs_feed.specs.Seen.{places}
+use Rattle.pgs_lines.specs.Machine.{scene_of}
+use Rattle.pgs_world.proofs.Moments.{passes_on}
+use Rattle.pgs_run_base.proofs.Images.{images_quiet, images_areas, images_on}
+use Rattle.pgs_run_apply.specs.Told.{told_input, told_apply}
+use Rattle.pgs_run_apply.proofs.Running.{running_ends, running_cause, running_passes, running_fed, running_even, running_stops}
+use Rattle.pgs_run_apply.proofs.RunEnds.{apply_read}
+use Rattle.pgs_run_apply.proofs.Unopened.{unopened_ends, unopened_read, unopened_cause, unopened_fed, unopened_even, unopened_stops}
+use Rattle.pgs_run_apply.proofs.run.run_apply.Goals as goal
+
+-- ---- no store was opened
+
+pub returns-in-Err-clause-ends : goal.returns-in-Err-clause-ends
+unfolding told_apply
+returns-in-Err-clause-ends g c = λ tells input is.
+    let view = g.W.World.view in
+    unopened_ends (view c.args.world.now) (view c.open_store.new.world) (view c.end_unopened.new.world) c.open_store.ensures.quiet c.open_store.ensures.no_put c.in-Err.unopened c.end_unopened.result (λ bytes. told_input (lost_count (places g.F.Feed.taken g.F.Feed.faults c.args.feeds.now)) input bytes) input c.args.budget _ tells is c.in-Err.ensures.answer c.end_unopened.ensures.ends
+
+pub returns-in-Err-clause-read_to_end : goal.returns-in-Err-clause-read_to_end
+returns-in-Err-clause-read_to_end g c =
+    let view = g.W.World.view in
+    unopened_read c.in-Err.unopened _ (view c.args.world.now) (view c.open_store.new.world) (view c.end_unopened.new.world) c.end_unopened.result c.in-Err.ensures.answer c.end_unopened.ensures.ends
+
+pub returns-in-Err-clause-cause : goal.returns-in-Err-clause-cause
+returns-in-Err-clause-cause g c =
+    let view = g.W.World.view in
+    unopened_cause (g.S.Source.faults c.args.source.now) (view c.args.world.now) (view c.open_store.new.world) (view c.end_unopened.new.world) c.open_store.ensures.no_put c.in-Err.unopened c.end_unopened.result c.in-Err.ensures.answer c.in-Err.ensures.faults c.end_unopened.ensures.ends
+
+pub returns-in-Err-clause-passes : goal.returns-in-Err-clause-passes
+returns-in-Err-clause-passes g c =
+    let view = g.W.World.view in
+    passes_on (view c.args.world.now) (view c.open_store.new.world) (view c.end_unopened.new.world) c.open_store.ensures.quiet.passes c.end_unopened.ensures.areas.passes
+
+pub returns-in-Err-clause-stops : goal.returns-in-Err-clause-stops
+returns-in-Err-clause-stops g c = λ input it is saves tells settled.
+    let view = g.W.World.view in
+    unopened_stops c.in-Err.unopened (view c.args.world.now) (view c.open_store.new.world) (view c.end_unopened.new.world) (λ early. ap view (c.end_unopened.ensures.early early)) c.open_store.ensures.quiet c.open_store.ensures.no_put it input c.end_unopened.result _ (g.met.W.World.timed c.args.world.now) tells settled saves c.in-Err.ensures.answer
+
+pub returns-in-Err-clause-fed : goal.returns-in-Err-clause-fed
+returns-in-Err-clause-fed g c = λ tells input it is saves.
+    let view = g.W.World.view in
+    unopened_fed c.in-Err.unopened (view c.args.world.now) (view c.open_store.new.world) (view c.end_unopened.new.world) (λ early. ap view (c.end_unopened.ensures.early early)) c.open_store.ensures.quiet c.open_store.ensures.no_put it input c.end_unopened.result _ _ _ refl tells saves c.in-Err.ensures.answer
+
+pub returns-in-Err-clause-even : goal.returns-in-Err-clause-even
+returns-in-Err-clause-even g c = λ tells input it is saves memory.
+    let view = g.W.World.view in
+    unopened_even c.in-Err.unopened (view c.args.world.now) (view c.open_store.new.world) (view c.end_unopened.new.world) (λ early. ap view (c.end_unopened.ensures.early early)) c.open_store.ensures.quiet c.open_store.ensures.no_put it input c.end_unopened.result tells saves c.in-Err.ensures.answer
+
+pub returns-in-Err-clause-unsaved : goal.returns-in-Err-clause-unsaved
+returns-in-Err-clause-unsaved g c = λ tells none.
+    let view = g.W.World.view in
+    images_on (view c.args.world.now) (view c.open_store.new.world) (view c.end_unopened.new.world) (images_quiet (view c.args.world.now) (view c.open_store.new.world) c.open_store.ensures.quiet) (images_areas (view c.open_store.new.world) (view c.end_unopened.new.world) c.end_unopened.ensures.areas)
+
+-- ---- a store was opened
+
+pub run_lines-stop-requires : goal.run_lines-stop-requires
+run_lines-stop-requires g c = ?
+
+pub returns-clause-ends : goal.returns-clause-ends
+returns-clause-ends g c = λ tells input is.
+    let view = g.W.World.view in
+    running_ends c.in-Ok.store (view c.args.world.now) (view c.open_store.new.world) (view c.run_lines-stop.new.world) (view c.end_run.new.world) c.in-Ok.ensures.answer c.open_store.ensures.quiet c.open_store.ensures.no_put _ _ c.args.budget _ _ c.run_lines-stop.result c.end_run.result c.run_lines-stop.ensures.by c.end_run.ensures input tells is c.new-applying.ensures.state (c.run_lines-stop.ensures.ends input is)
