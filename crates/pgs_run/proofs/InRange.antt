@@ -10,7 +10,7 @@ use Rattle.pgs_words.specs.declared.command_word.CommandWord.TheVariants as word
 use Rattle.pgs_words.specs.Further.{are_plain}
 use Rattle.pgs_words.specs.Words as reading
 use Rattle.pgs_words.specs.Words.{count_of, number_of, generated, explained, elem_of, command_in, command_word, command_of_plain}
-use Rattle.pgs_run.specs.Command.{built, IsInRange}
+use Rattle.pgs_run.specs.Command.{IsInRange}
 
 -- a workload has at most so many transactions
 abbrev HasFew : Command → Type 0
@@ -77,20 +77,24 @@ read_few : (plain : Bool) (words : List (List ℕ)) → IfSome (cond plain (comm
 read_few true words = plain_few words
 read_few false words = tt
 
-built_few : (command : Command) → HasFew command → IfSome (built command) IsInRange
-built_few Try few = tt
-built_few Validate few = tt
-built_few Load few = tt
-built_few Apply few = tt
-built_few Recover few = tt
-built_few (Explain elem) few = tt
-built_few (Gen start count) few = few
-built_few Checkpoint few = tt
+few_in_range : (command : Command) → HasFew command → IsInRange command
+few_in_range Try few = tt
+few_in_range Validate few = tt
+few_in_range Load few = tt
+few_in_range Apply few = tt
+few_in_range Recover few = tt
+few_in_range (Explain elem) few = tt
+few_in_range (Gen start count) few = few
+few_in_range Checkpoint few = tt
+
+all_in_range : (command : Option Command) → IfSome command HasFew → IfSome command IsInRange
+all_in_range None few = tt
+all_in_range (Some command) few = few_in_range command few
 
 read_in_range : (words : List (List ℕ)) → IfSome (reading.command_of words) HasFew
 unfolding reading.command_of
 read_in_range words = read_few (are_plain words) words
 
 -- the command of the words is in range
-pub named_in_range : (words : List (List ℕ)) (command : Command) → reading.command_of words ≡ Some command → IfSome (built command) IsInRange
-named_in_range words command is = built_few command (subst (λ (read : Option Command). IfSome read HasFew) is (read_in_range words))
+pub named_in_range : (words : List (List ℕ)) → IfSome (reading.command_of words) IsInRange
+named_in_range words = all_in_range (reading.command_of words) (read_in_range words)

@@ -14,7 +14,7 @@ use Rattle.pgs_run_base.specs.Areas.{Areas, areas_of}
 use Rattle.pgs_run_base.specs.Ending.{Ends}
 use Rattle.pgs_run_base.specs.Run.{IsRead, EndsAs, HasCommandCause, TakesWithin}
 use Rattle.pgs_run.specs.Command.{reads_source, uses_areas, IsTold}
-use Rattle.pgs_run.specs.Leaving.{Leaves}
+use Rattle.pgs_run.specs.Leaving.{Leaves, Feeds}
 use Rattle.pgs_run_gen.specs.Answer.{IsAnswer as IsGenAnswer}
 use Rattle.pgs_run_saved.specs.Opening.{IsAnswer}
 use Rattle.pgs_run.specs.Run.{HasRunCause, RefusesWords}
@@ -73,7 +73,7 @@ unread_refused status (inr (inr is)) = ((λ fault. cc), (λ cut. cc))
 pub runs_alone : (command : Option Command) (budget : ℕ) (source : SourceState) (old new : View) (before after : List Place) (status : Status) → reads_source command ≡ false → IsUnread status
     → ((input : List ℕ) → IsTold command source.left old input → Ends (shown_of old) (told_command command input (areas_of old) budget (lost_count after)) status (shown_of new))
     → HasRunCause command (faults_of source.faults old) (faults_of source.faults new) status
-    → Leaves command source.left old new → after ≡ before
+    → Leaves command source.left (lost_count after) old new → Feeds command source.left old new before after status
     → Runs command budget (record { source = source; view = old; places = before }) (record { source = source; view = new; places = after }) status
 runs_alone command budget source old new before after status alone unread shown cause leaves fed = record {
   ends = λ input known left_is. ends_unread (λ bytes. told_command command input (areas_of old) bytes (lost_count after)) (shown_of old) source.left (shown_of new) input budget status left_is unread (shown input known);
@@ -93,7 +93,7 @@ pub runs_reading : (command : Command) (budget : ℕ) (old new : Setting) (statu
     → ((input rest : List ℕ) → old.source.left ≡ Some input → new.source.left ≡ Some rest → TakesWithin input budget rest status)
     → IsRead new.source.left status
     → HasCommandCause true (uses_areas (Some command)) (faults_of old.source.faults old.view) (faults_of new.source.faults new.view) status
-    → Leaves (Some command) old.source.left old.view new.view → new.places ≡ old.places
+    → Leaves (Some command) old.source.left (lost_count new.places) old.view new.view → Feeds (Some command) old.source.left old.view new.view old.places new.places status
     → Runs (Some command) budget old new status
 runs_reading command budget old new status reads ends takes read cause leaves fed = record {
   ends = ends;
@@ -111,9 +111,9 @@ pub none_first : (start : Shown) (pieces : List (List ℕ)) → ShowsFirst start
 none_first start pieces = record { first = []; later = pieces; parts = refl; shows = shows_none start }
 
 -- no memory, before anything was done
-pub runs_memory : (command : Option Command) (budget : ℕ) (source : SourceState) (view : View) (places : List Place) → Leaves command source.left view view
+pub runs_memory : (command : Option Command) (budget : ℕ) (source : SourceState) (view : View) (places : List Place) → Leaves command source.left (lost_count places) view view → Feeds command source.left view view places places Memory
     → Runs command budget (record { source = source; view = view; places = places }) (record { source = source; view = view; places = places }) Memory
-runs_memory command budget source view places leaves = record {
+runs_memory command budget source view places leaves fed = record {
   ends = λ input known left_is. ends_unread _ (shown_of view) source.left (shown_of view) input budget Memory left_is ((λ e. cc), (λ e. cc)) (none_first (shown_of view) _);
   takes = λ input rest left_all left_is. takes_unread source.left input rest budget Memory left_all left_is ((λ e. cc), (λ e. cc));
   alone = λ input known reads. none_first (shown_of view) _;
@@ -121,5 +121,5 @@ runs_memory command budget source view places leaves = record {
   read_to_end = λ reads. tt;
   cause = refl;
   leaves = leaves;
-  fed = refl;
+  fed = fed;
 }

@@ -10,7 +10,8 @@ use Rattle.pgs_run_base.specs.declared.status.Status.TheVariants.{Accepted, Refu
 use Rattle.pgs_run_base.specs.Areas.{Areas, areas_of}
 use Rattle.pgs_run_base.specs.Ending.{Ends}
 use Rattle.pgs_run_base.specs.Run.{EndsAs, IsDisturbed, IsComplete}
-use Rattle.pgs_run.specs.Command.{command_of, reads_source, IsTold}
+use Rattle.pgs_words.specs.Words.{command_of}
+use Rattle.pgs_run.specs.Command.{reads_source, IsTold}
 use Rattle.pgs_run.specs.Run.{IsUndisturbed, HasRunCause}
 use Rattle.pgs_run.specs.Runs.{Setting, Runs}
 use Rattle.pgs_run.specs.Told.{told_command, told}

@@ -19,6 +19,7 @@ use Rattle.pgs_run_base.specs.declared.status.Status.TheVariants.{Accepted, Refu
 use Rattle.pgs_run_base.specs.Answers.{schema_answer, schema_or_text}
 use Rattle.pgs_run_base.specs.Areas.{Areas}
 use Rattle.pgs_run_base.specs.Session.{standard}
+use Rattle.pgs_run_apply.specs.Told.{status_after, after, all_lines, told_input, told_apply}
 use Rattle.pgs_run_checkpoint.specs.Told.{told_by, told_checkpoint}
 use Rattle.pgs_run_gen.proofs.Telling as workload
 use Rattle.pgs_run_load.specs.Told.{told_choice, told_text, told_load}
@@ -64,6 +65,17 @@ unfolding told_load
 uncut_load input areas budget below =
     rw (short input budget below) (uncut_under (schema_answer input) _ (λ schema. uncut_choice schema (choice_of areas.a areas.b)))
 
+uncut_after : (refused : Bool) → status_after refused ≡ InputTooLong → ⊥
+uncut_after true cut = cc
+uncut_after false cut = cc
+
+uncut_lines : (lost : ℕ) (input : List ℕ) (budget : ℕ) → length input < budget → (it : SavedStore) → IsUncut (told_input lost input budget it)
+uncut_lines lost input budget below it = rw (short input budget below) (uncut_after (after it (all_lines input)).refused)
+
+uncut_apply : (input : List ℕ) (areas : Areas) (budget lost : ℕ) → length input < budget → IsUncut (told_apply input areas budget lost)
+unfolding told_apply
+uncut_apply input areas budget lost below = uncut_areas areas (told_input lost input budget) (uncut_lines lost input budget below)
+
 uncut_last : (last : Bool) (epoch : ℕ) (it : SavedStore) → IsUncut (cond last (store_refused epochs_spent_text) (record { pieces = checkpoint_line (epoch + 1) it.commits ∷ []; status = Accepted }))
 uncut_last true epoch it cut = cc
 uncut_last false epoch it cut = cc
@@ -88,7 +100,7 @@ pub uncut_command : (command : Command) (input : List ℕ) (areas : Areas) (budg
 uncut_command Try input areas budget lost below = never_cut EachLine input budget (below refl)
 uncut_command Validate input areas budget lost below = never_cut AtEnd input budget (below refl)
 uncut_command Load input areas budget lost below = uncut_load input areas budget (below refl)
-uncut_command Apply input areas budget lost below = λ cut. cc
+uncut_command Apply input areas budget lost below = uncut_apply input areas budget lost (below refl)
 uncut_command Recover input areas budget lost below = uncut_areas areas told_dump (λ it cut. cc)
 uncut_command (Explain elem) input areas budget lost below = uncut_areas areas (told_element elem) (uncut_element elem)
 uncut_command (Gen start count) input areas budget lost below = workload.never_cut start count

@@ -1,5 +1,7 @@
 -- What a run leaves that did nothing, or no more than to put.
-use Rattle.std.proofs.Common.{◌≡◌, ℕ, List, Option, Some, None}
+use Rattle.std.proofs.Common.{◌≡◌, ℕ, List, [], Option, Some, None, refl, inl, arith}
+use Rattle.pgs_feed.specs.Places.{Place, lost_count}
+use Rattle.pgs_feed.proofs.Given.{given_none}
 use Rattle.pgs_lines.specs.AreasKept.{KeepsAreas, keeps_none}
 use Rattle.pgs_words.specs.declared.command.Command.{Command}
 use Rattle.pgs_words.specs.declared.command.Command.TheVariants.{Try, Validate, Load, Apply, Recover, Explain, Gen, Checkpoint}
@@ -7,10 +9,15 @@ use Rattle.pgs_world.specs.Moment.{IsTimed}
 use Rattle.pgs_world.specs.World.{View}
 use Rattle.pgs_world.proofs.Moments.{passes_none, each_none, quiet_none}
 use Rattle.pgs_run_base.proofs.Images.{images_none}
+use Rattle.pgs_run_base.specs.declared.status.Status.TheVariants.{Memory}
+use Rattle.pgs_run_apply.specs.Run.{FeedsTook}
+use Rattle.pgs_run_apply.specs.Told.{all_lines}
+use Rattle.pgs_run_saved.specs.Refusing.{SavedStore}
+use Rattle.pgs_run_apply.proofs.Beginning.{quiet_applied, even_start}
 use Rattle.pgs_run_checkpoint.proofs.Stopped.{renews_quiet}
 use Rattle.pgs_run_load.specs.Loading.{IsLoadingAt}
 use Rattle.pgs_run_load.proofs.Stops.{starts_at}
-use Rattle.pgs_run.specs.Leaving.{Leaves, LeavesLoaded, LeavesRenewed}
+use Rattle.pgs_run.specs.Leaving.{Leaves, LeavesLoaded, LeavesApplied, LeavesRenewed, Feeds, FeedsApplied}
 
 loaded_none : (left : Option (List ℕ)) (view : View) → IsTimed view → LeavesLoaded left view view
 loaded_none left view timed = record {
@@ -26,14 +33,48 @@ renewed_none view timed = record {
   unsaved = λ told none. images_none view timed;
 }
 
+applied_none : (left : Option (List ℕ)) (lost : ℕ) (view : View) → IsTimed view → LeavesApplied left lost view view
+applied_none left lost view timed = record {
+  passes = passes_none view timed;
+  stops = λ input it is saves tells settled. quiet_applied view view it input lost timed tells settled saves (quiet_none view timed);
+  unsaved = λ told none. images_none view timed;
+}
+
 -- before the first call
-pub leaves_none : (command : Option Command) (left : Option (List ℕ)) (view : View) → IsTimed view → Leaves command left view view
-leaves_none None left view timed = keeps_none view timed
-leaves_none (Some Try) left view timed = keeps_none view timed
-leaves_none (Some Validate) left view timed = keeps_none view timed
-leaves_none (Some Load) left view timed = loaded_none left view timed
-leaves_none (Some Apply) left view timed = keeps_none view timed
-leaves_none (Some Recover) left view timed = images_none view timed
-leaves_none (Some (Explain elem)) left view timed = images_none view timed
-leaves_none (Some (Gen start count)) left view timed = keeps_none view timed
-leaves_none (Some Checkpoint) left view timed = renewed_none view timed
+pub leaves_none : (command : Option Command) (left : Option (List ℕ)) (lost : ℕ) (view : View) → IsTimed view → Leaves command left lost view view
+leaves_none None left lost view timed = keeps_none view timed
+leaves_none (Some Try) left lost view timed = keeps_none view timed
+leaves_none (Some Validate) left lost view timed = keeps_none view timed
+leaves_none (Some Load) left lost view timed = loaded_none left view timed
+leaves_none (Some Apply) left lost view timed = applied_none left lost view timed
+leaves_none (Some Recover) left lost view timed = images_none view timed
+leaves_none (Some (Explain elem)) left lost view timed = images_none view timed
+leaves_none (Some (Gen start count)) left lost view timed = keeps_none view timed
+leaves_none (Some Checkpoint) left lost view timed = renewed_none view timed
+
+took_none : (it : SavedStore) (input : List ℕ) (lost puts : ℕ) (places : List Place) → FeedsTook it input lost puts puts places places Memory
+took_none it input lost puts places = record {
+  until = [];
+  later = all_lines input;
+  parts = refl;
+  given = given_none places;
+  counted = inl (omega arith);
+}
+
+applied_feeds : (left : Option (List ℕ)) (view : View) (places : List Place) → IsTimed view → FeedsApplied left view view places places Memory
+applied_feeds left view places timed = record {
+  took = λ told input it is saves. took_none it input (lost_count places) view.puts places;
+  even = λ told input it is saves memory. even_start view view it input (quiet_none view timed) (record { puts = refl; put_faults = refl }) saves;
+  unsaved = λ told none. refl;
+}
+
+pub feeds_none : (command : Option Command) (left : Option (List ℕ)) (view : View) (places : List Place) → IsTimed view → Feeds command left view view places places Memory
+feeds_none None left view places timed = refl
+feeds_none (Some Try) left view places timed = refl
+feeds_none (Some Validate) left view places timed = refl
+feeds_none (Some Load) left view places timed = refl
+feeds_none (Some Apply) left view places timed = applied_feeds left view places timed
+feeds_none (Some Recover) left view places timed = refl
+feeds_none (Some (Explain elem)) left view places timed = refl
+feeds_none (Some (Gen start count)) left view places timed = refl
+feeds_none (Some Checkpoint) left view places timed = refl

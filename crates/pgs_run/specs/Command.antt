@@ -1,18 +1,8 @@
--- The commands that are built, and what each does with its source and with the areas.
-use Rattle.std.specs.Prelude.{◌≡◌, ℕ, ◌≤◌, Bool, true, false, List, Option, Some, None, IsTrue, option_and_then}
+-- What each command does with its source and with the areas.
+use Rattle.std.specs.Prelude.{◌≡◌, ℕ, ◌≤◌, Bool, true, false, List, Option, Some, None, IsTrue}
 use Rattle.pgs_words.specs.declared.command.Command.{Command}
 use Rattle.pgs_words.specs.declared.command.Command.TheVariants.{Try, Validate, Load, Apply, Recover, Explain, Gen, Checkpoint}
-use Rattle.pgs_words.specs.Words as reading
 use Rattle.pgs_world.specs.World.{View}
-
--- a command, where it is built
-abbrev pub built : Command → Option Command
-built Apply = None
-built command = Some command
-
--- the command of the words; other words, and those of commands that aren't built, are refused
-unfoldable pub command_of : List (List ℕ) → Option Command
-command_of words = option_and_then built (reading.command_of words)
 
 -- whether it reads its source; refused words don't
 abbrev pub reads_source : Option Command → Bool

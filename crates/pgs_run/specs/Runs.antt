@@ -10,7 +10,7 @@ use Rattle.pgs_run_base.specs.Areas.{areas_of}
 use Rattle.pgs_run_base.specs.Ending.{Ends}
 use Rattle.pgs_run_base.specs.Run.{IsRead, EndsAs, TakesWithin}
 use Rattle.pgs_run.specs.Command.{reads_source, IsTold}
-use Rattle.pgs_run.specs.Leaving.{Leaves}
+use Rattle.pgs_run.specs.Leaving.{Leaves, Feeds}
 use Rattle.pgs_run.specs.Run.{HasRunCause}
 use Rattle.pgs_run.specs.Told.{told_command}
 
@@ -39,5 +39,5 @@ pub record Runs (command : Option Command) (budget : ℕ) (old new : Setting) (s
   pub unread : reads_source command ≡ false → new.source ≡ old.source
   pub read_to_end : reads_source command ≡ true → IsRead new.source.left status
   pub cause : HasRunCause command (faults_of old.source.faults old.view) (faults_of new.source.faults new.view) status
-  pub leaves : Leaves command old.source.left old.view new.view
-  pub fed : new.places ≡ old.places
+  pub leaves : Leaves command old.source.left (lost_count new.places) old.view new.view
+  pub fed : Feeds command old.source.left old.view new.view old.places new.places status

@@ -5,9 +5,11 @@ use Rattle.pgs_base.specs.declared.element.Elem.{Elem}
 use Rattle.pgs_lines.specs.Machine.{Told}
 use Rattle.pgs_words.specs.declared.command.Command.{Command}
 use Rattle.pgs_words.specs.declared.command.Command.TheVariants.{Try, Validate, Load, Apply, Recover, Explain, Gen, Checkpoint}
+use Rattle.pgs_words.specs.Words.{command_of}
 use Rattle.pgs_run_base.specs.declared.status.Status.{Status}
 use Rattle.pgs_run_base.specs.declared.status.Status.TheVariants.{Accepted, BadWords}
 use Rattle.pgs_run_base.specs.Areas.{Areas}
+use Rattle.pgs_run_apply.specs.Told.{told_apply}
 use Rattle.pgs_run_checkpoint.specs.Told.{told_checkpoint}
 use Rattle.pgs_run_explain.specs.Explaining.{explained}
 use Rattle.pgs_run_gen.specs.Told.{told_gen}
@@ -15,7 +17,6 @@ use Rattle.pgs_run_load.specs.Told.{told_load}
 use Rattle.pgs_run_recover.specs.Dump.{dump}
 use Rattle.pgs_run_saved.specs.Refusing.{SavedStore, told_of_areas}
 use Rattle.pgs_run_try.specs.Told.{told_try, told_validate}
-use Rattle.pgs_run.specs.Command.{command_of}
 
 -- what a run tells of words that are refused
 abbrev pub told_of_words : Told Status
@@ -28,13 +29,13 @@ told_dump it = record { pieces = dump it.text it.graph; status = Accepted }
 abbrev pub told_element : Elem → SavedStore → Told Status
 told_element elem it = explained it.schema it.graph elem
 
--- what a command tells; `apply` isn't built yet
+-- what a command tells
 abbrev pub told_command : Option Command → List ℕ → Areas → (budget lost : ℕ) → Told Status
 told_command None input areas budget lost = told_of_words
 told_command (Some Try) input areas budget lost = told_try input budget
 told_command (Some Validate) input areas budget lost = told_validate input budget
 told_command (Some Load) input areas budget lost = told_load input areas budget
-told_command (Some Apply) input areas budget lost = told_of_words
+told_command (Some Apply) input areas budget lost = told_apply input areas budget lost
 told_command (Some Recover) input areas budget lost = told_of_areas areas told_dump
 told_command (Some (Explain elem)) input areas budget lost = told_of_areas areas (told_element elem)
 told_command (Some (Gen start count)) input areas budget lost = told_gen start count

@@ -4,6 +4,7 @@ ghost use Rattle.pgs_run.specs.Command.{IsInRange};
 ghost use Rattle.pgs_run.specs.Runs.{Runs, setting_of};
 
 use pgs_feed::FeedList;
+use pgs_run_apply::run_apply;
 use pgs_run_base::Status;
 use pgs_run_checkpoint::run_checkpoint;
 use pgs_run_explain::Explaining;
@@ -32,10 +33,10 @@ pub fn run_command<S: Source, W: World, F: Feed>(
         (setting_of (S.left source.new) (S.faults source.new) (W.view world.new) (seen feeds.new)) result }
 {
     match command {
-        Command::Apply => Status::Memory,
         Command::Try => run_judging(alloc, Judging::EachLine, source, world, budget),
         Command::Validate => run_judging(alloc, Judging::AtEnd, source, world, budget),
         Command::Load => run_load(alloc, source, world, budget),
+        Command::Apply => run_apply(alloc, source, world, feeds, budget),
         Command::Recover => run_reader(alloc, world, &Dump),
         Command::Explain { elem } => run_reader(alloc, world, &Explaining { elem }),
         Command::Gen { start, count } => run_gen(alloc, world, start, count),

@@ -6,8 +6,9 @@ ghost use Rattle.pgs_lines.specs.Pieces.{shown_of, ShowsAll};
 ghost use Rattle.pgs_run_base.specs.Areas.{areas_of};
 ghost use Rattle.pgs_run_base.specs.Ending.{Ends};
 ghost use Rattle.pgs_run_base.specs.Run.{IsRead, IsDisturbed, IsComplete, TakesWithin};
-ghost use Rattle.pgs_run.specs.Command.{command_of, reads_source, IsTold};
-ghost use Rattle.pgs_run.specs.Leaving.{Leaves};
+ghost use Rattle.pgs_words.specs.Words.{command_of};
+ghost use Rattle.pgs_run.specs.Command.{reads_source, IsTold};
+ghost use Rattle.pgs_run.specs.Leaving.{Leaves, Feeds};
 ghost use Rattle.pgs_run.specs.Run.{HasRunCause, RefusesWords, IsUndisturbed};
 ghost use Rattle.pgs_run.specs.Told.{told};
 
@@ -67,9 +68,10 @@ pub fn run_within<S: Source, W: World, F: Feed>(
         → ((told words.now input (areas_of (W.view world.old)) budget (lost_count (places F.taken F.faults feeds.new))).status ≡ Status.StoreRefused → ⊥)
         → IsUndisturbed (command_of words.now) (faults_of (S.faults source.old) (W.view world.old)) (faults_of (S.faults source.new) (W.view world.new))
         → IsComplete (shown_of (W.view world.old)) (told words.now input (areas_of (W.view world.old)) budget (lost_count (places F.taken F.faults feeds.new))) result (shown_of (W.view world.new)) }
-    // What a stop during the run leaves of both areas; the feeds are left alone.
-    ensures leaves { Leaves (command_of words.now) (S.left source.old) (W.view world.old) (W.view world.new) }
-    ensures fed { places F.taken F.faults feeds.new ≡ places F.taken F.faults feeds.old }
+    // What a stop during the run leaves of both areas, and what the feeds took.
+    ensures leaves { Leaves (command_of words.now) (S.left source.old) (lost_count (places F.taken F.faults feeds.new)) (W.view world.old) (W.view world.new) }
+    ensures fed { Feeds (command_of words.now) (S.left source.old) (W.view world.old) (W.view world.new)
+        (places F.taken F.faults feeds.old) (places F.taken F.faults feeds.new) result }
 {
     run_words(alloc, words, source, world, feeds, budget)
 }
@@ -103,8 +105,9 @@ pub fn run<S: Source, W: World, F: Feed>(
         → ((told words.now input (areas_of (W.view world.old)) (2 ^ 40) (lost_count (places F.taken F.faults feeds.new))).status ≡ Status.StoreRefused → ⊥)
         → IsUndisturbed (command_of words.now) (faults_of (S.faults source.old) (W.view world.old)) (faults_of (S.faults source.new) (W.view world.new))
         → IsComplete (shown_of (W.view world.old)) (told words.now input (areas_of (W.view world.old)) (2 ^ 40) (lost_count (places F.taken F.faults feeds.new))) result (shown_of (W.view world.new)) }
-    ensures leaves { Leaves (command_of words.now) (S.left source.old) (W.view world.old) (W.view world.new) }
-    ensures fed { places F.taken F.faults feeds.new ≡ places F.taken F.faults feeds.old }
+    ensures leaves { Leaves (command_of words.now) (S.left source.old) (lost_count (places F.taken F.faults feeds.new)) (W.view world.old) (W.view world.new) }
+    ensures fed { Feeds (command_of words.now) (S.left source.old) (W.view world.old) (W.view world.new)
+        (places F.taken F.faults feeds.old) (places F.taken F.faults feeds.new) result }
 {
     run_within(alloc, words, source, world, feeds, BUDGET)
 }

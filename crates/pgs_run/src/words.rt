@@ -1,7 +1,8 @@
 ghost use Rattle.std.specs.Prelude.{◌≡◌, ◌≤◌, ◌^◌, ℕ, List, Option, None, IfOk, IfSome};
 ghost use Rattle.pgs_feed.specs.Places.{Place};
 ghost use Rattle.pgs_feed.specs.Seen.{places};
-ghost use Rattle.pgs_run.specs.Command.{built, command_of, IsInRange};
+ghost use Rattle.pgs_words.specs.Words.{command_of};
+ghost use Rattle.pgs_run.specs.Command.{IsInRange};
 ghost use Rattle.pgs_run.specs.Run.{RefusesWords};
 ghost use Rattle.pgs_run.specs.Runs.{Runs, setting_of};
 
@@ -15,25 +16,13 @@ use pgs_words::Command;
 use pgs_world::{Feed, Source, World};
 use std::alloc::Global;
 
-// A command, where it is built.
-fn built(command: Command) -> Option<Command>
-    ensures { result ≡ built command }
-{
-    match command {
-        Command::Apply => None,
-        command => Some(command),
-    }
-}
-
 // The command that the words name.
-#[tactic(auto, unfolding(crate::specs::Command::command_of))]
 fn named(alloc: Global, words: &Words) -> Result<Option<Command>, Memory>
     ensures command { IfOk result (λ command. command ≡ command_of words.now) }
     ensures in_range { IfOk result (λ command. IfSome command IsInRange) }
 {
     match pgs_words::command_of(alloc, words) {
-        Ok(Some(command)) => Ok(built(command)),
-        Ok(None) => Ok(None),
+        Ok(command) => Ok(command),
         Err(Memory) => Err(Memory),
     }
 }

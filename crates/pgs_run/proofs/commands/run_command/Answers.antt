@@ -1,6 +1,6 @@
 use Rattle.std.proofs.Common.{Some, true, refl, sym, subst}
 use Rattle.pgs_run.specs.Runs.{Runs}
-use Rattle.pgs_words.specs.declared.command.Command.TheVariants.{Try, Validate, Load, Recover, Explain, Gen, Checkpoint}
+use Rattle.pgs_words.specs.declared.command.Command.TheVariants.{Try, Validate, Load, Apply, Recover, Explain, Gen, Checkpoint}
 use Rattle.pgs_run.proofs.RunFacts.{cause_of, takes_of, runs_alone, runs_reading, unread_answer, unread_gen}
 use Rattle.pgs_run.proofs.commands.run_command.Goals as goal
 
@@ -55,3 +55,12 @@ returns-in-Checkpoint-clause-runs g c =
     (runs_alone (Some Checkpoint) c.args.budget _ _ _ _ _ r.result refl (unread_answer r.result r.ensures.answer) (λ input known. r.ensures.ends (known.bytes refl))
     (cause_of Checkpoint _ _ r.result (r.ensures.cause (g.S.Source.faults c.args.source.now)))
     (record { passes = r.ensures.passes; stops = r.ensures.renews; unsaved = r.ensures.unsaved }) refl)
+
+pub returns-in-Apply-clause-runs : goal.returns-in-Apply-clause-runs
+returns-in-Apply-clause-runs g c =
+    let r = c.run_apply in
+    subst (λ command. Runs (Some command) c.args.budget _ _ r.result) (sym c.in-Apply.is)
+    (runs_reading Apply c.args.budget _ _ r.result refl (λ input known is. r.ensures.ends (known.bytes refl) input is)
+    r.ensures.takes r.ensures.read_to_end r.ensures.cause
+    (record { passes = r.ensures.passes; stops = r.ensures.stops; unsaved = r.ensures.unsaved })
+    (record { took = r.ensures.fed; even = r.ensures.even; unsaved = r.ensures.unfed }))

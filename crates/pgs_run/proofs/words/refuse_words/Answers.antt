@@ -5,4 +5,4 @@ use Rattle.pgs_run.proofs.Unmoved.{leaves_none}
 use Rattle.pgs_run.proofs.words.refuse_words.Goals as goal
 
 pub returns-in-Err-clause-runs : goal.returns-in-Err-clause-runs
-returns-in-Err-clause-runs g c = λ budget left faults places. runs_memory None budget _ _ places (leaves_none None left _ (g.met.W.World.timed c.args.world.now))
+returns-in-Err-clause-runs g c = λ budget left faults places. runs_memory None budget _ _ places (leaves_none None left _ _ (g.met.W.World.timed c.args.world.now)) refl

@@ -1,12 +1,12 @@
 use Rattle.std.proofs.Common.{Some, None, sym, subst, ◌∙◌}
-use Rattle.pgs_run.specs.Command.{command_of}
+use Rattle.pgs_words.specs.Words.{command_of}
 use Rattle.pgs_run.specs.Runs.{Runs}
 use Rattle.pgs_run.proofs.RunFacts.{runs_memory}
-use Rattle.pgs_run.proofs.Unmoved.{leaves_none}
+use Rattle.pgs_run.proofs.Unmoved.{leaves_none, feeds_none}
 use Rattle.pgs_run.proofs.words.run_words.Goals as goal
 
 pub returns-in-Err-clause-runs : goal.returns-in-Err-clause-runs
-returns-in-Err-clause-runs g c = runs_memory (command_of c.args.words.now) c.args.budget _ _ _ (leaves_none (command_of c.args.words.now) _ _ (g.met.W.World.timed c.args.world.now))
+returns-in-Err-clause-runs g c = runs_memory (command_of c.args.words.now) c.args.budget _ _ _ (leaves_none (command_of c.args.words.now) _ _ _ (g.met.W.World.timed c.args.world.now)) (feeds_none (command_of c.args.words.now) _ _ _ (g.met.W.World.timed c.args.world.now))
 
 pub returns-in-Ok-Some-clause-runs : goal.returns-in-Ok-Some-clause-runs
 returns-in-Ok-Some-clause-runs g c =
