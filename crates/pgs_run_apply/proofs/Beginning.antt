@@ -10,7 +10,7 @@ use Rattle.pgs_world.specs.World.{View, Triple}
 use Rattle.pgs_world.proofs.Moments.{each_quiet}
 use Rattle.pgs_run_base.specs.Session.{Standing, standard}
 use Rattle.pgs_run_saved.specs.Refusing.{SavedStore}
-use Rattle.pgs_run_saved.proofs.Conforming.{saved_conforms}
+use Rattle.pgs_run_apply.proofs.Conforming.{saved_conforms}
 use Rattle.pgs_run_saved.proofs.Shown.{shown_quiet}
 use Rattle.pgs_run_apply.specs.Run.{Saves, SavesAt, IsEven, IsAppliedAt}
 use Rattle.pgs_run_apply.specs.Told.{start, all_lines}

@@ -1,5 +1,6 @@
 pub mod Asked
 pub mod Beginning
+pub mod Conforming
 pub mod Fronts
 pub mod Kept
 pub mod Lines

@@ -1,10 +1,10 @@
 -- What is said of a run, from the opening of its store to its last piece.
-use Rattle.std.proofs.Common.{◌≡◌, ℕ, ◌-◌, true, List, length, Option, Some, Result, Ok, IsTrue, refl, sym, ap, subst, ◌∙◌}
+use Rattle.std.proofs.Common.{◌≡◌, ℕ, ◌+◌, ◌-◌, ◌^◌, ◌≤◌, ◌<◌, true, List, length, Option, Some, Result, Ok, IsTrue, refl, sym, ap, subst, ◌∙◌, arith}
 use Rattle.pgs_feed.specs.Places.{Place}
 use Rattle.pgs_lines.specs.declared.stop.Stop.{Stop}
 use Rattle.pgs_lines.specs.Ending as lines
 use Rattle.pgs_lines.specs.Ending.{Faults, HasCause, faults_of}
-use Rattle.pgs_lines.specs.Machine.{Scene, Told, told_by}
+use Rattle.pgs_lines.specs.Machine.{HasRoomFor, Scene, Told, told_by}
 use Rattle.pgs_lines.specs.Pieces.{Shown, ShowsAll, shown_of}
 use Rattle.pgs_lines.specs.Run as over
 use Rattle.pgs_lines.specs.Run.{EndsBy, Allows}
@@ -26,7 +26,7 @@ use Rattle.pgs_run_apply.specs.Applying.{applying}
 use Rattle.pgs_run_apply.specs.Ending.{is_done, last_piece, EndsRun}
 use Rattle.pgs_run_apply.specs.Rule.{applies_rule}
 use Rattle.pgs_run_apply.specs.Run.{Saves, IsAppliedAt, FeedsTook, IsEven}
-use Rattle.pgs_run_apply.specs.State.{ApplyState}
+use Rattle.pgs_run_apply.specs.State.{ApplyState, HoldsStore}
 use Rattle.pgs_run_apply.specs.Told.{told_input, told_apply}
 use Rattle.pgs_run_apply.proofs.Machine.{told_by_applying}
 use Rattle.pgs_run_apply.proofs.Opened.{Ran, ran, last_passes, opened_fed, opened_even, opened_stops}
@@ -46,6 +46,19 @@ ends_told tell told start input budget left status now same ends = record {
 told_opened : (it : StoreState) (old mid : View) (input : List ℕ) (n lost : ℕ) → IsOpened it old mid → IsTrue old.tells_bytes → told_apply input (areas_of old) n lost ≡ told_input lost input n (saved_in it)
 unfolding told_apply
 told_opened it old mid input n lost opened tells = reading.told_opened it old mid (told_input lost input n) opened tells
+
+pub opened_saves : (it : StoreState) (old mid : View) → IsOpened it old mid → IsTrue old.tells_bytes → Saves (saved_in it) old.shown
+opened_saves it old mid opened tells = record { saves = opened.saves tells; schema = opened.schema }
+
+-- before the first line each line that the budget may bring can be counted
+pub first_room : (s : ApplyState) (it : StoreState) (budget : ℕ) → s ≡ first_state it → budget ≤ 2 ^ 40 → HasRoomFor applying (budget + 1) s
+first_room s it budget first few =
+    subst (λ (t : ApplyState). HasRoomFor applying (budget + 1) t) (sym first) (record { room = budget + 1; enough = omega arith; has = omega arith })
+
+-- and the store stands on the world
+pub first_holds : (s : ApplyState) (it : StoreState) (old mid : View) → s ≡ first_state it → IsOpened it old mid → HoldsStore s mid
+first_holds s it old mid first opened =
+    subst (λ (t : ApplyState). HoldsStore t mid) (sym first) (record { limits = opened.limits; whole = opened.whole; stands = opened.stands })
 
 -- ---- what is shown, and why
 
@@ -76,15 +89,15 @@ module _ (it : StoreState) (old : View) (mid now : Scene (List Place)) (new : Vi
     same = same_store it.guard known old.shown saves (opened.saves tells) opened.schema
 
     found : Saves (saved_in it) old.shown
-    found = record { saves = opened.saves tells; schema = opened.schema }
+    found = opened_saves it old mid.view opened tells
 
     run : Ran (first_state it) input stop mid now
     run = ran_of it s input before left stop mid now is first allows
 
     pub running_fed : (places later : List Place) → mid.kept ≡ places → now.kept ≡ later → FeedsTook known input lost old.puts new.puts places later result
-    running_fed places later was then =
-        subst (λ (p : List Place). FeedsTook known input lost old.puts new.puts p later result) was
-        (subst (λ (p : List Place). FeedsTook known input lost old.puts new.puts mid.kept p result) then
+    running_fed places later was_is now_is =
+        subst (λ (p : List Place). FeedsTook known input lost old.puts new.puts p later result) was_is
+        (subst (λ (p : List Place). FeedsTook known input lost old.puts new.puts mid.kept p result) now_is
         (subst (λ (store : SavedStore). FeedsTook store input lost old.puts new.puts mid.kept now.kept result) same
         (opened_fed it opened.limits opened.schema input budget before left lost stop result old mid now new run by last none.puts)))
 

@@ -18,7 +18,7 @@ use Rattle.pgs_run_base.specs.Answers.{schema_answer}
 use Rattle.pgs_run_base.specs.Session.{Standing, standard, every_verdict, pieces_of_line}
 use Rattle.pgs_run_saved.specs.Opening.{saved_in}
 use Rattle.pgs_run_saved.specs.Refusing.{SavedStore}
-use Rattle.pgs_run_saved.proofs.Conforming.{saved_conforms}
+use Rattle.pgs_run_apply.proofs.Conforming.{saved_conforms}
 use Rattle.pgs_run_apply.specs.Following.{all_append}
 use Rattle.pgs_run_apply.specs.Left.{IsLeft, IsWithin, IsSavedAt, state_after_all, pieces_from}
 use Rattle.pgs_run_apply.specs.Run.{Saves, SavesAt, SavesNext, SavesAll, IsAppliedAt}

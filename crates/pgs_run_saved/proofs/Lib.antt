@@ -1,4 +1,3 @@
-pub mod Conforming
 pub mod Reading
 pub mod Saving
 pub mod Shown

@@ -6,7 +6,6 @@
 #![tactic(auto)]
 
 mod ending;
-pub mod laws;
 mod opening;
 mod reader;
 
