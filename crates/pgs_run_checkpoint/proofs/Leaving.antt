@@ -1,9 +1,8 @@
 -- What a stop leaves of a store that is renewed, and of the line behind it.
-use Rattle.std.proofs.Common.{◌≡◌, inl, inr, ⊎_elim, ℕ, IsTrue, List, [], ◌∷◌, ◌++◌, refl, sym, ◌∙◌, ap, subst}
+use Rattle.std.proofs.Common.{◌≡◌, inl, inr, ℕ, IsTrue, List, [], ◌∷◌, ◌++◌, refl, sym, ◌∙◌, ap, subst}
 use Rattle.std.proofs.lemmas.List.{append-nil}
 use Rattle.pgs_journal.specs.declared.journal.Journal.{Journal}
 use Rattle.pgs_run_base.specs.declared.status.Status.TheVariants.{Accepted}
-use Rattle.pgs_snapshot.specs.Standing.{HasStore}
 use Rattle.pgs_snapshot.proofs.Stores.{images_decide}
 use Rattle.pgs_store.specs.State.{GuardState}
 use Rattle.pgs_store.specs.Stored.{StoreState, StandsOn, IsRenewedIn, IsSavedBy, IsSavedIn, next_journal, renewed}

@@ -1,5 +1,5 @@
 -- What a stop during the run leaves, by what it leaves of an opened store.
-use Rattle.std.proofs.Common.{◌≡◌, inl, inr, ⊎_elim, ℕ, ◌+◌, IsTrue, List, [], ◌∷◌, ◌++◌, Some, refl, sym, ◌∙◌, ap, ap₂, subst}
+use Rattle.std.proofs.Common.{◌≡◌, inl, inr, ⊎_elim, ℕ, ◌+◌, false, IsTrue, List, [], Some, Err, refl, sym, ◌∙◌, ap, ap₂, subst}
 use Rattle.std.proofs.lemmas.List.{append-nil}
 use Rattle.std.specs.declared.option.Option.{Option}
 use Rattle.pgs_base.specs.declared.limits.Limits.{Limits}
@@ -11,22 +11,23 @@ use Rattle.pgs_run_base.specs.declared.status.Status.{Status}
 use Rattle.pgs_run_base.specs.Areas.{areas_of}
 use Rattle.pgs_run_base.specs.Ending.{Ends}
 use Rattle.pgs_run_base.specs.Session.{standard}
-use Rattle.pgs_run_saved.specs.Opening.{IsOpened, saved_in}
-use Rattle.pgs_run_saved.specs.Refusing.{SavedStore, told_of_areas}
+use Rattle.pgs_run_saved.specs.declared.opening.Unopened.{Unopened}
+use Rattle.pgs_run_saved.specs.declared.opening.Unopened.TheVariants.{Refused, DiskFault, Memory}
+use Rattle.pgs_run_saved.specs.Ending.{is_refusal}
+use Rattle.pgs_run_saved.specs.Opening.{IsOpened, Opens, saved_in}
 use Rattle.pgs_run_saved.proofs.Reading.{ends_opened, told_opened}
-use Rattle.pgs_run_saved.proofs.Saving.{told_of_saved}
-use Rattle.pgs_snapshot.specs.Choice.{Choice, area_chosen, choice_of, chosen, chosen_area, chosen_epoch, epoch_chosen}
-use Rattle.pgs_snapshot.specs.Saved.{SavedState, saved, saved_by, saved_of, store}
+use Rattle.pgs_run_saved.proofs.Saving.{never_refused, told_of_saved}
+use Rattle.pgs_snapshot.specs.Choice.{area_chosen, chosen, chosen_area, chosen_epoch, epoch_chosen}
+use Rattle.pgs_snapshot.specs.Saved.{saved, saved_by, saved_of, store}
 use Rattle.pgs_store.specs.State.{GuardState}
 use Rattle.pgs_store.specs.Stored.{StoreState, IsRenewedIn, IsSavedBy, IsSavedIn, next_journal, renewed}
-use Rattle.pgs_world.specs.declared.area.Area.{Area}
 use Rattle.pgs_world.specs.Moment.{EachSince, IsQuiet, IsSettled, MakesNoPut, Passes}
 use Rattle.pgs_world.specs.World.{Triple, View, other}
 use Rattle.pgs_world.proofs.Moments.{each_on, each_quiet, quiet_now}
 use Rattle.pgs_run_checkpoint.specs.Leaving.{IsNew, Leaves, told_in}
 use Rattle.pgs_run_checkpoint.specs.Renewing.{IsAsBefore, IsRenewed, Renews, records_of}
 use Rattle.pgs_run_checkpoint.specs.Told.{told_by, told_checkpoint}
-use Rattle.pgs_run_checkpoint.proofs.Line.{TellsOne, tells_one}
+use Rattle.pgs_run_checkpoint.proofs.Line.{tells_one}
 
 -- ---- what is told
 
@@ -149,3 +150,10 @@ pub renews_opened : (it : StoreState) (old mid new : View) (text : List ℕ) (co
 renews_opened it old mid new text commits graph is quiet passes leaves settled saves =
     each_on old mid new (Renews old text commits graph) quiet.passes passes (renews_quiet old mid text commits graph settled saves quiet)
     (λ c left. renews_left it old mid text commits graph is quiet settled saves c (leaves (quiet.passes.honest ∙ settled.honest) (quiet.passes.tells_bytes ∙ settled.tells_bytes) c left))
+
+-- no store that is saved is refused
+pub not_refused : (unopened : Unopened) (old mid : View) (text : List ℕ) (commits : ℕ) (graph : Graph) → Opens (Err unopened) old mid → IsTrue old.tells_bytes
+    → saved standard old.shown.a old.shown.b ≡ store text commits graph → is_refusal unopened ≡ false
+not_refused (Refused line status) old mid text commits graph opens told saves = absurd (never_refused old text commits graph line status told saves opens.1)
+not_refused DiskFault old mid text commits graph opens told saves = refl
+not_refused Memory old mid text commits graph opens told saves = refl

@@ -23,9 +23,9 @@ use std::alloc::Global;
 /// new epoch and the number of commits. What it puts and answers is what `told_checkpoint` tells.
 ///
 /// At every moment what is saved is what it was. Where the whole line is in the output, the renewed store is the one that is chosen.
-/// Where no store is saved, both areas are what they were at every moment; so they are at the last epoch, which is refused with 37.
-/// `DiskFault` comes only where the count of area faults rose, and `PutFault` where that of put faults did; `Memory` may come wherever
-/// there is none, and never behind the first write.
+/// `StoreRefused` is 30, 32, 33 and 34 as for every command over a saved store, and 37 at the last epoch; `SchemaRefused` is a refusal
+/// of the stored schema text. Where no store is saved, both areas are what they were at every moment. `DiskFault` comes only where the
+/// count of area faults rose, and `PutFault` where that of put faults did; `Memory` may come wherever there is none.
 pub fn run_checkpoint<W: World>(alloc: Global, world: &mut W) -> Status
     ensures ends { IsTrue (W.view world.old).tells_bytes
         → Ends (shown_of (W.view world.old)) (told_checkpoint (areas_of (W.view world.old))) result (shown_of (W.view world.new)) }
@@ -37,7 +37,7 @@ pub fn run_checkpoint<W: World>(alloc: Global, world: &mut W) -> Status
         → EachSince (Renews (W.view world.old) text commits graph) (W.view world.old) (W.view world.new) }
     ensures unsaved { IsTrue (W.view world.old).tells_bytes
         → ((text : List ℕ) → (commits : ℕ) → (graph : Graph)
-            → saved standard (W.view world.old).shown.a (W.view world.old).shown.b ≡ saved_store text commits graph → ⊥)
+        → saved standard (W.view world.old).shown.a (W.view world.old).shown.b ≡ saved_store text commits graph → ⊥)
         → KeepsImages (W.view world.old) (W.view world.new) }
     ensures passes { Passes (W.view world.old) (W.view world.new) }
 {

@@ -65,7 +65,7 @@ told_of_saved view text commits graph is =
     )
 
 abbrev nothing : Status → SavedStore → Told Status
-nothing status store = record { pieces = []; status = status }
+nothing status it = record { pieces = []; status = status }
 
 one_is_none : (line : List ℕ) → [] ≡ line ∷ [] → ⊥
 one_is_none line is = cc
@@ -73,6 +73,6 @@ one_is_none line is = cc
 -- no refusal is told of them
 pub never_refused : (view : View) (text : List ℕ) (commits : ℕ) (graph : Graph) (line : List ℕ) (status : Status) → IsTrue view.tells_bytes
     → saved standard view.shown.a view.shown.b ≡ store text commits graph → IsToldOf view line status → ⊥
-never_refused view text commits graph line status told is refused =
+never_refused view text commits graph line status told is tells =
     let here = told_of_saved view text commits graph is in
-    one_is_none line (ap (λ (t : Told Status). t.pieces) (sym (here.1 (nothing status)) ∙ refused told (nothing status)))
+    one_is_none line (ap (λ (t : Told Status). t.pieces) (sym (here.1 (nothing status)) ∙ tells told (nothing status)))

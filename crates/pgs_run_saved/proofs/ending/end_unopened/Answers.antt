@@ -1,4 +1,4 @@
-use Rattle.std.proofs.Common.{◌≡◌, ◌∷◌, [], ℕ, List, inl, inr, refl, sym, ◌∙◌, subst}
+use Rattle.std.proofs.Common.{◌≡◌, ◌∷◌, [], ℕ, List, inl, inr, refl, subst}
 use Rattle.pgs_lines.specs.declared.stop.Stop.{Stop}
 use Rattle.pgs_lines.specs.Ending.{HasCause, Shows, faults_of}
 use Rattle.pgs_lines.specs.Pieces.{shown_of, ShowsAll}

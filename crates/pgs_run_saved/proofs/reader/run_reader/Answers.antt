@@ -1,3 +1,4 @@
+use Rattle.pgs_run_base.proofs.Images.{images_areas, images_on, images_quiet}
 use Rattle.pgs_run_saved.proofs.Reading.{ends_opened}
 use Rattle.pgs_run_saved.proofs.reader.run_reader.Goals as goal
 
@@ -6,3 +7,10 @@ returns-in-Ok-clause-ends g c =
     let opened = c.open_store.ensures in
     ends_opened c.in-Ok.store (g.W.World.view c.args.world.now) (g.W.World.view c.open_store.new.world) (g.W.World.view c.tell.new.world) (g.R.StoreReader.tells c.args.reader.now) c.tell.result
     c.in-Ok.ensures.answer opened.quiet opened.no_put c.tell.ensures.ends
+
+pub returns-in-Ok-clause-images : goal.returns-in-Ok-clause-images
+returns-in-Ok-clause-images g c =
+    let old = g.W.World.view c.args.world.now in
+    let mid = g.W.World.view c.open_store.new.world in
+    let new = g.W.World.view c.tell.new.world in
+    images_on old mid new (images_quiet old mid c.open_store.ensures.quiet) (images_areas mid new c.tell.ensures.areas)

@@ -1,0 +1,56 @@
+use Rattle.std.proofs.Common.{Some, refl, sym, ap, subst}
+use Rattle.pgs_answer.specs.Lines.{store_refused_line}
+use Rattle.pgs_answer.specs.Refusals.{epochs_spent_text}
+use Rattle.pgs_lines.specs.Machine.{Told}
+use Rattle.pgs_run_base.specs.declared.status.Status.{Status}
+use Rattle.pgs_run_saved.specs.Opening.{saved_in}
+use Rattle.pgs_world.specs.Disk.{Puts}
+use Rattle.pgs_world.specs.Moment.{EachSince, StopsBy}
+use Rattle.pgs_run_checkpoint.specs.Leaving.{Leaves}
+use Rattle.pgs_run_checkpoint.proofs.Leaving.{leaves_none, leaves_renewed, leaves_renewing, leaves_spent}
+use Rattle.pgs_run_checkpoint.proofs.Line.{next_below, not_accepted, one_line, some_of, tells_one, told_spent}
+use Rattle.pgs_run_checkpoint.proofs.renewing.renew.Goals as goal
+
+pub returns-in-Err-clause-stops : goal.returns-in-Err-clause-stops
+returns-in-Err-clause-stops g c = λ honest told.
+    let it = c.args.store.now in
+    let line = tells_one (Some it.journal.epoch) (saved_in it) in
+    leaves_none it line.line line.one line.some (g.W.World.view c.args.world.now) (g.met.W.World.timed c.args.world.now) c.requires.stands honest told
+
+pub returns-in-Ok-checkpoint-clause-stops : goal.returns-in-Ok-checkpoint-clause-stops
+returns-in-Ok-checkpoint-clause-stops g c = λ honest told.
+    let it = c.args.store.now in
+    let line = c.as_slice.result.now in
+    let after = c.checkpoint.new.self.journal in
+    let renewed = c.in-Ok-checkpoint.ensures.answer.3 in
+    let below = next_below it.journal after renewed.journal c.epoch-in-Ok-checkpoint.ensures.numbered in
+    let one = one_line it c.epoch.result c.commits.result c.in-Ok.line line c.as_slice.ensures c.in-Ok.ensures c.epoch.ensures.epoch c.commits.ensures.commits below in
+    leaves_renewed it line one (some_of (Some it.journal.epoch) (saved_in it) line one) (g.W.World.view c.args.world.now) (g.W.World.view c.checkpoint.new.world) (g.W.World.view c.put_last.new.world) after
+    honest told c.checkpoint.ensures.beside (c.checkpoint.ensures.stops c.requires.whole honest told) renewed.journal renewed.alone renewed.stands c.put_last.ensures.areas.passes c.put_last.ensures.stops
+
+pub returns-in-Err-EpochsSpent-clause-stops : goal.returns-in-Err-EpochsSpent-clause-stops
+returns-in-Err-EpochsSpent-clause-stops g c = λ honest told.
+    let it = c.args.store.now in
+    let line = store_refused_line epochs_spent_text in
+    let answer = rw c.in-Err-EpochsSpent.field-0-is at c.in-Err-EpochsSpent.ensures.answer in
+    let early = rw c.in-Err-EpochsSpent.field-0-is at c.in-Err-EpochsSpent.ensures.early in
+    let spent = told_spent it.journal.epoch (saved_in it) answer.1 in
+    let one = ap (λ (t : Told Status). t.pieces) spent in
+    leaves_spent it line one (some_of (Some it.journal.epoch) (saved_in it) line one) (g.W.World.view c.args.world.now) (g.W.World.view c.refuse.new.world) c.requires.stands honest told (not_accepted _ line spent)
+    (subst (λ w. StopsBy (Puts line) (g.W.World.view w) (g.W.World.view c.refuse.new.world)) (early refl) c.refuse.ensures.stops)
+
+pub returns-in-Err-Memory-clause-stops : goal.returns-in-Err-Memory-clause-stops
+returns-in-Err-Memory-clause-stops g c = λ honest told.
+    let it = c.args.store.now in
+    let line = tells_one (Some it.journal.epoch) (saved_in it) in
+    let old = g.W.World.view c.args.world.now in
+    let early = rw c.in-Err-Memory.field-0-is at c.in-Err-Memory.ensures.early in
+    subst (λ w. EachSince (Leaves it old) old (g.W.World.view w)) (sym (early refl))
+    (leaves_none it line.line line.one line.some old (g.met.W.World.timed c.args.world.now) c.requires.stands honest told)
+
+pub returns-in-Err-DiskFault-clause-stops : goal.returns-in-Err-DiskFault-clause-stops
+returns-in-Err-DiskFault-clause-stops g c = λ honest told.
+    let it = c.args.store.now in
+    let line = tells_one (Some it.journal.epoch) (saved_in it) in
+    leaves_renewing it line.line line.one line.some (g.W.World.view c.args.world.now) (g.W.World.view c.checkpoint.new.world) honest c.checkpoint.ensures.beside
+    (c.checkpoint.ensures.stops c.requires.whole honest told)
