@@ -21,7 +21,7 @@ use Rattle.pgs_run_base.specs.declared.status.Status.TheVariants.{Accepted, Refu
 use Rattle.pgs_run_base.specs.Ending.{Ends, status_at}
 use Rattle.pgs_run_base.specs.Input.{text_limit}
 use Rattle.pgs_run_base.specs.Pieces.{pieces_in}
-use Rattle.pgs_run_base.specs.Run.{IsRead, EndsAs, HasCommandCause}
+use Rattle.pgs_run_base.specs.Run.{IsRead, EndsAs, HasCommandCause, TakesWithin}
 use Rattle.pgs_run_saved.specs.Opening.{saved_in}
 use Rattle.pgs_run_saved.specs.Refusing.{SavedStore}
 use Rattle.pgs_run_saved.proofs.Shown.{shown_quiet, same_faults, beside_reads}
@@ -250,6 +250,13 @@ module _ (start : Shown) (input : List ℕ) (budget : ℕ) (before left : Option
       read rest left_is fault =
           subst (λ (now : Shown). ShowsAll start (told_input lost input (length input - length rest) (saved_in it)).pieces now) (sym (still_shown old new (unread stop lost old new result fault last)))
           (subst (λ (t : Told Status). ShowsAll start t.pieces (shown_of old)) (tells (length input - length rest) ∙ sym (cut_told lost input (length input - length rest) (saved_in it) (less (length input) (length rest)))) (ends.read_fault rest left_is fault))
+
+  pub apply_takes : before ≡ Some input → EndsBy applying budget before left stop → over.EndsAs (told_by applying text_limit s input) start input budget left stop (shown_of old)
+      → EndsRun (last_piece (is_done stop) lost) (status_at stop) old result new → (rest : List ℕ) → left ≡ Some rest → TakesWithin input budget rest result
+  apply_takes is by ends last rest left_is = record {
+    within = ends.within rest left_is;
+    too_long = λ cut. too_long_at budget before left input rest stop is left_is by (is_status (status_at stop) result InputTooLong (λ e. cc) (λ e. cc) (last_result (last_piece (is_done stop) lost) (status_at stop) result old new last) cut);
+  }
 
 -- ---- what was read
 

@@ -16,7 +16,7 @@ use Rattle.pgs_run_base.specs.declared.status.Status.{Status}
 use Rattle.pgs_run_base.specs.declared.status.Status.TheVariants.{Accepted, Refused, BadWords, SchemaRefused, StoreRefused, DiskFault, ReadFault, PutFault, Memory, InputTooLong}
 use Rattle.pgs_run_base.specs.Areas.{areas_of}
 use Rattle.pgs_run_base.specs.Ending.{Ends}
-use Rattle.pgs_run_base.specs.Run.{IsRead, EndsAs, HasCommandCause}
+use Rattle.pgs_run_base.specs.Run.{IsRead, EndsAs, HasCommandCause, TakesWithin}
 use Rattle.pgs_run_saved.specs.declared.opening.Unopened.{Unopened}
 use Rattle.pgs_run_saved.specs.declared.opening.Unopened.TheVariants as unopened
 use Rattle.pgs_run_saved.specs.Ending.{EndsUnopened, PutsNothing, is_refusal}
@@ -114,6 +114,14 @@ module _ (old mid new : View) (quiet : IsQuiet old mid) (none : MakesNoPut old m
       own_shown (shown_of old) (shown_of new) told result DiskFault ends.0 (none_first (shown_of old) (shown_of new) told.pieces (kept_shown ends.1))
   told_shown unopened.Memory result told tells opens ends =
       own_shown (shown_of old) (shown_of new) told result Memory ends.0 (none_first (shown_of old) (shown_of new) told.pieces (kept_shown ends.1))
+
+  -- the source was left alone
+  pub unopened_takes : (reason : Unopened) (result : Status) (input rest : List ℕ) (budget : ℕ) (left : Option (List ℕ)) → left ≡ Some input → left ≡ Some rest → Opens (Err reason) old mid → EndsUnopened reason mid result new
+      → TakesWithin input budget rest result
+  unopened_takes reason result input rest budget left is left_is opens ends = record {
+    within = within_unread input rest budget left is left_is;
+    too_long = λ long. absurd (never_long result (unread_by reason old mid new result opens ends) long);
+  }
 
   -- the run, whatever is told of a store
   pub unopened_ends : (reason : Unopened) (result : Status) (go : ℕ → SavedStore → Told Status) (input : List ℕ) (budget : ℕ) (left : Option (List ℕ)) → IsTrue old.tells_bytes → left ≡ Some input

@@ -8,7 +8,7 @@ ghost use Rattle.pgs_world.specs.Moment.{EachSince, IsSettled, Passes};
 ghost use Rattle.pgs_run_base.specs.Areas.{areas_of};
 ghost use Rattle.pgs_run_base.specs.Ending.{status_at as status_at_stop};
 ghost use Rattle.pgs_run_base.specs.Images.{KeepsImages};
-ghost use Rattle.pgs_run_base.specs.Run.{IsRead, EndsAs, HasCommandCause};
+ghost use Rattle.pgs_run_base.specs.Run.{IsRead, EndsAs, HasCommandCause, TakesWithin};
 ghost use Rattle.pgs_run_base.specs.Session.{standard};
 ghost use Rattle.pgs_run_saved.specs.Refusing.{SavedStore};
 ghost use Rattle.pgs_run_apply.specs.Ending.{EndsRun, PutsLast, is_done, last_piece};
@@ -69,6 +69,7 @@ pub fn run_apply<S: Source, W: World, F: Feed>(
     ensures ends { IsTrue (W.view world.old).tells_bytes → (input : List ℕ) → S.left source.old ≡ Some input
         → EndsAs (λ bytes. told_apply input (areas_of (W.view world.old)) bytes (lost_count (places F.taken F.faults feeds.new)))
             (shown_of (W.view world.old)) input budget (S.left source.new) result (shown_of (W.view world.new)) }
+    ensures takes { (input rest : List ℕ) → S.left source.old ≡ Some input → S.left source.new ≡ Some rest → TakesWithin input budget rest result }
     ensures read_to_end { IsRead (S.left source.new) result }
     ensures cause { HasCommandCause true true (faults_of (S.faults source.old) (W.view world.old)) (faults_of (S.faults source.new) (W.view world.new)) result }
     ensures passes { Passes (W.view world.old) (W.view world.new) }

@@ -7,8 +7,8 @@ use Rattle.pgs_run_base.proofs.Images.{images_quiet, images_areas, images_on}
 use Rattle.pgs_run_saved.specs.Opening.{saved_in}
 use Rattle.pgs_run_apply.specs.Told.{told_input, told_apply}
 use Rattle.pgs_run_apply.proofs.Running.{running_ends, running_cause, running_passes, running_fed, running_even, running_stops, opened_saves}
-use Rattle.pgs_run_apply.proofs.RunEnds.{apply_read}
-use Rattle.pgs_run_apply.proofs.Unopened.{unopened_ends, unopened_read, unopened_cause, unopened_fed, unopened_even, unopened_stops}
+use Rattle.pgs_run_apply.proofs.RunEnds.{apply_read, apply_takes}
+use Rattle.pgs_run_apply.proofs.Unopened.{unopened_ends, unopened_takes, unopened_read, unopened_cause, unopened_fed, unopened_even, unopened_stops}
 use Rattle.pgs_run_apply.proofs.run.run_apply.Goals as goal
 
 -- ---- no store was opened
@@ -100,3 +100,15 @@ pub returns-clause-unfed : goal.returns-clause-unfed
 returns-clause-unfed g c = λ tells none.
     let view = g.W.World.view in
     absurd (none (saved_in c.in-Ok.store) (opened_saves c.in-Ok.store (view c.args.world.now) (view c.open_store.new.world) c.in-Ok.ensures.answer tells))
+
+-- ---- what is read
+
+pub returns-in-Err-clause-takes : goal.returns-in-Err-clause-takes
+returns-in-Err-clause-takes g c = λ input rest is left_is.
+    let view = g.W.World.view in
+    unopened_takes (view c.args.world.now) (view c.open_store.new.world) (view c.end_unopened.new.world) c.open_store.ensures.quiet c.open_store.ensures.no_put c.in-Err.unopened c.end_unopened.result input rest c.args.budget _ is left_is c.in-Err.ensures.answer c.end_unopened.ensures.ends
+
+pub returns-clause-takes : goal.returns-clause-takes
+returns-clause-takes g c = λ input rest is left_is.
+    let view = g.W.World.view in
+    apply_takes _ input c.args.budget _ _ c.in-Ok.store _ _ c.run_lines-stop.result (view c.run_lines-stop.new.world) (view c.end_run.new.world) c.end_run.result is c.run_lines-stop.ensures.by (c.run_lines-stop.ensures.ends input is) c.end_run.ensures rest left_is
