@@ -36,11 +36,13 @@ same_told words input areas other budget lost none unused = same_command (comman
 
 -- what was written by a writer that a world wrote by
 pub written : (words : List (List ℕ)) (input start : List ℕ) (areas other : Areas) (lost : ℕ) (old new : Shown) (status : Status) (contents : Option (List ℕ)) → old.output ≡ Some start → old.puts ≡ 0 → contents ≡ new.output → uses_areas (command_of words) ≡ false → Ends old (told words input areas (2 ^ 40) lost) status new → (puts : ℕ) × Ends (record { output = Some start; puts = 0 }) (told words input other (2 ^ 40) 0) status (record { output = contents; puts = puts })
-written words input start areas other lost old new status contents begun none all unused ends =
-    (new.puts, subst (λ (t : Told Status). Ends (shown (Some start) 0) t status (shown contents new.puts)) (same_told words input areas other (2 ^ 40) lost 0 unused)
-    (subst (λ (o : Option (List ℕ)). Ends (shown (Some start) 0) (told words input areas (2 ^ 40) lost) status (shown o new.puts)) (sym all)
-    (subst (λ (n : ℕ). Ends (shown (Some start) n) (told words input areas (2 ^ 40) lost) status new) none
-    (subst (λ (o : Option (List ℕ)). Ends (shown o old.puts) (told words input areas (2 ^ 40) lost) status new) begun ends))))
+written words input start areas other lost old new status contents begun none all unused ends = (
+  new.puts,
+  subst (λ (t : Told Status). Ends (shown (Some start) 0) t status (shown contents new.puts)) (same_told words input areas other (2 ^ 40) lost 0 unused)
+      (subst (λ (o : Option (List ℕ)). Ends (shown (Some start) 0) (told words input areas (2 ^ 40) lost) status (shown o new.puts)) (sym all)
+      (subst (λ (n : ℕ). Ends (shown (Some start) n) (told words input areas (2 ^ 40) lost) status new) none
+      (subst (λ (o : Option (List ℕ)). Ends (shown o old.puts) (told words input areas (2 ^ 40) lost) status new) begun ends))),
+)
   where
     shown : Option (List ℕ) → ℕ → Shown
     shown output puts = record { output = output; puts = puts }

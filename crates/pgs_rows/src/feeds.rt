@@ -12,13 +12,16 @@ use std::test::Fail;
 /// The bytes that a feed and a run have room for.
 const ROOM: u64 = 65_536;
 
-const LINES: &str = "{\"ops\":[{\"add_node\":1}]}\n{\"ops\":[{\"remove_node\":7}]}\n{\"ops\":[{\"add_node\":2}]}\n";
+const LINES: &str =
+    "{\"ops\":[{\"add_node\":1}]}\n{\"ops\":[{\"remove_node\":7}]}\n{\"ops\":[{\"add_node\":2}]}\n";
 
-const VERDICTS: &str = "1 committed 1\n2 refused 23 op 1: no node n7\n3 committed 2\nfeeds lost=1\n";
+const VERDICTS: &str =
+    "1 committed 1\n2 refused 23 op 1: no node n7\n3 committed 2\nfeeds lost=1\n";
 
 const FIRST: &str = "{\"commit\":1,\"ops\":[{\"add_node\":1,\"labels\":[],\"props\":{}}]}\n";
 
-const BOTH: &str = "{\"commit\":1,\"ops\":[{\"add_node\":1,\"labels\":[],\"props\":{}}]}\n{\"commit\":2,\"ops\":[{\"add_node\":2,\"labels\":[],\"props\":{}}]}\n";
+const BOTH: &str =
+    "{\"commit\":1,\"ops\":[{\"add_node\":1,\"labels\":[],\"props\":{}}]}\n{\"commit\":2,\"ops\":[{\"add_node\":2,\"labels\":[],\"props\":{}}]}\n";
 
 // Three feeds, of which the second fails at its second put.
 fn three(alloc: Global) -> Result<FeedList<MemFeed>, Memory> {
@@ -52,20 +55,16 @@ fn feeds_follow(alloc: Global) -> Result<bool, Memory> {
         7,
         List::new(alloc),
     );
-    let mut world = MemWorld::new(
-        alloc,
-        loaded.disk.a,
-        loaded.disk.b,
-        ROOM,
-        List::new(alloc),
-    )?;
+    let mut world = MemWorld::new(alloc, loaded.disk.a, loaded.disk.b, ROOM, List::new(alloc))?;
     let mut feeds = three(alloc)?;
     let status = run(alloc, &words, &mut source, &mut world, &mut feeds);
-    Ok(status.number() == 1
-        && world.output() == VERDICTS.as_bytes()
-        && took(&feeds, 0, BOTH)
-        && took(&feeds, 1, FIRST)
-        && took(&feeds, 2, BOTH))
+    Ok(
+        status.number() == 1
+            && world.output() == VERDICTS.as_bytes()
+            && took(&feeds, 0, BOTH)
+            && took(&feeds, 1, FIRST)
+            && took(&feeds, 2, BOTH),
+    )
 }
 
 #[test]

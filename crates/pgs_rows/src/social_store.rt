@@ -21,7 +21,8 @@ CREATE GRAPH TYPE socialGraph STRICT {
 };
 "#;
 
-const LINES: &str = r#"{"ops":[{"add_node":1,"labels":["Person"],"props":{"name":"Ann","mail":"ann@x.org"}}]}
+const LINES: &str =
+    r#"{"ops":[{"add_node":1,"labels":["Person"],"props":{"name":"Ann","mail":"ann@x.org"}}]}
 {"ops":[{"add_node":2,"labels":["Person","Employee"],"props":{"name":"Bob","mail":"bob@x.org","salary":4000}}]}
 {"ops":[{"add_node":3,"labels":["Person"],"props":{"name":"Cyd","mail":"ann@x.org"}}]}
 {"ops":[{"add_node":3,"labels":["Person"],"props":{"name":"Cyd","mail":"cyd@x.org","born":{"date":"1990-02-30"}}}]}
@@ -112,7 +113,12 @@ const STEPS: &[Step] = &[
     ("explain,social,n1,", "", "n1 is not in the graph\n", 1),
     ("recover,social,", "", DUMP, 0),
     ("validate,", DUMP, "", 0),
-    ("checkpoint,social,", "", "checkpoint epoch=2 commits=9\n", 0),
+    (
+        "checkpoint,social,",
+        "",
+        "checkpoint epoch=2 commits=9\n",
+        0,
+    ),
     ("recover,social,", "", DUMP, 0),
 ];
 

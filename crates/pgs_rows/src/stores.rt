@@ -16,7 +16,12 @@ const DUMP: &str =
 const LIFE: &[Step] = &[
     ("recover,s,", "", "store refused 30 no store\n", 4),
     ("apply,s,", NODE, "store refused 30 no store\n", 4),
-    ("load,s,", "CREATE GRAPH TYPE g {};", "schema refused 11 statement 1\n", 3),
+    (
+        "load,s,",
+        "CREATE GRAPH TYPE g {};",
+        "schema refused 11 statement 1\n",
+        3,
+    ),
     ("load,s,", SCHEMA, "loaded types=0 keys=0\n", 0),
     ("load,s,", SCHEMA, "store refused 31 a store is there\n", 4),
     ("load,s,", "", "schema refused 12 no graph type\n", 3),
@@ -50,7 +55,12 @@ fn lengths(alloc: Global) -> Result<[usize; 4], Memory> {
     let applied = run_on(alloc, "apply,s,", NODE, loaded.disk, &[])?;
     let at_apply = applied.disk.a.len();
     let renewed = run_on(alloc, "checkpoint,s,", "", applied.disk, &[])?;
-    Ok([at_load, at_apply, renewed.disk.a.len(), renewed.disk.b.len()])
+    Ok([
+        at_load,
+        at_apply,
+        renewed.disk.a.len(),
+        renewed.disk.b.len(),
+    ])
 }
 
 #[test]
@@ -60,7 +70,13 @@ fn areas_have_the_bytes_of_the_format(rt: HostRuntime) -> Result<(), Fail> {
 }
 
 // The status of a run on the areas of a store with one commit, after the byte at a place of area A was changed.
-fn changed(alloc: Global, words: &str, at: usize, byte: u8, len: usize) -> Result<(Vec<u8>, u8), Memory> {
+fn changed(
+    alloc: Global,
+    words: &str,
+    at: usize,
+    byte: u8,
+    len: usize,
+) -> Result<(Vec<u8>, u8), Memory> {
     let loaded = run_on(alloc, "load,s,", SCHEMA, Disk::of(alloc, &[], &[])?, &[])?;
     let applied = run_on(alloc, "apply,s,", NODE, loaded.disk, &[])?;
     let mut bytes = Vec::from_slice(alloc, applied.disk.a.as_slice())?;
@@ -75,14 +91,49 @@ fn changed(alloc: Global, words: &str, at: usize, byte: u8, len: usize) -> Resul
 
 /// The words, a place of area A, the byte that is put there, how many bytes are left, what is put, and the status.
 const CHANGED: &[(&str, usize, u8, usize, &str, u8)] = &[
-    ("recover,s,", 55, 0, 83, "CREATE GRAPH TYPE g LOOSE {};\n---\n", 0),
-    ("recover,s,", 55, 7, 83, "CREATE GRAPH TYPE g LOOSE {};\n---\n", 0),
+    (
+        "recover,s,",
+        55,
+        0,
+        83,
+        "CREATE GRAPH TYPE g LOOSE {};\n---\n",
+        0,
+    ),
+    (
+        "recover,s,",
+        55,
+        7,
+        83,
+        "CREATE GRAPH TYPE g LOOSE {};\n---\n",
+        0,
+    ),
     ("recover,s,", 55, 1, 83, DUMP, 0),
-    ("recover,s,", 55, 1, 70, "store refused 33 record 2 is damaged\n", 4),
+    (
+        "recover,s,",
+        55,
+        1,
+        70,
+        "store refused 33 record 2 is damaged\n",
+        4,
+    ),
     ("recover,s,", 0, 0, 83, "store refused 30 no store\n", 4),
-    ("recover,s,", 1, 0, 83, "store refused 32 another program's file\n", 4),
+    (
+        "recover,s,",
+        1,
+        0,
+        83,
+        "store refused 32 another program's file\n",
+        4,
+    ),
     ("explain,s,n1,", 0, 1, 1, "store refused 30 no store\n", 4),
-    ("checkpoint,s,", 1, 0, 83, "store refused 32 another program's file\n", 4),
+    (
+        "checkpoint,s,",
+        1,
+        0,
+        83,
+        "store refused 32 another program's file\n",
+        4,
+    ),
 ];
 
 // The first change after which something else is put, or the status is another.

@@ -89,7 +89,7 @@ runs_alone command budget source old new before after status alone unread shown 
 -- a command that reads its source
 pub runs_reading : (command : Command) (budget : ℕ) (old new : Setting) (status : Status) → reads_source (Some command) ≡ true
     → ((input : List ℕ) → IsTold (Some command) old.source.left old.view input → old.source.left ≡ Some input
-        → EndsAs (λ bytes. told_command (Some command) input (areas_of old.view) bytes (lost_count new.places)) (shown_of old.view) input budget new.source.left status (shown_of new.view))
+    → EndsAs (λ bytes. told_command (Some command) input (areas_of old.view) bytes (lost_count new.places)) (shown_of old.view) input budget new.source.left status (shown_of new.view))
     → ((input rest : List ℕ) → old.source.left ≡ Some input → new.source.left ≡ Some rest → TakesWithin input budget rest status)
     → IsRead new.source.left status
     → HasCommandCause true (uses_areas (Some command)) (faults_of old.source.faults old.view) (faults_of new.source.faults new.view) status

@@ -32,7 +32,7 @@ setting_of left faults view places = record { source = record { left = left; fau
 pub record Runs (command : Option Command) (budget : ℕ) (old new : Setting) (status : Status) : Type 0 where
   pub ends : (input : List ℕ) → IsTold command old.source.left old.view input → old.source.left ≡ Some input
       → EndsAs (λ bytes. told_command command input (areas_of old.view) bytes (lost_count new.places))
-          (shown_of old.view) input budget new.source.left status (shown_of new.view)
+      (shown_of old.view) input budget new.source.left status (shown_of new.view)
   pub takes : (input rest : List ℕ) → old.source.left ≡ Some input → new.source.left ≡ Some rest → TakesWithin input budget rest status
   pub alone : (input : List ℕ) → IsTold command old.source.left old.view input → reads_source command ≡ false
       → Ends (shown_of old.view) (told_command command input (areas_of old.view) budget (lost_count new.places)) status (shown_of new.view)

@@ -89,15 +89,17 @@ module _ (it : StoreState) (limits : it.guard.limits ≡ standard) (of_text : sc
     next_at : (until later : List (List ℕ)) (front : List ℕ) → IsWithin (state_after_all (first_state it) until) later front triple → SavesNext (saved_in it) until later front triple × Chooses it.journal triple
     next_at until later front within =
         let s = first_state it in
-        let held = subst (λ (t : ApplyState). IsSavedAt t triple) (sym (all_append s until (within.line ∷ []))) within.saved in
-        (record {
-          line = within.line;
-          more = within.more;
-          next = within.next;
-          back = within.back;
-          piece = sym (pieces_behind s until within.line) ∙ within.piece;
-          saves = saves_at (until ++ within.line ∷ []) triple held;
-        }, chooses_at (until ++ within.line ∷ []) triple held)
+        let held = subst (λ (t : ApplyState). IsSavedAt t triple) (sym (all_append s until (within.line ∷ []))) within.saved in (
+          record {
+            line = within.line;
+            more = within.more;
+            next = within.next;
+            back = within.back;
+            piece = sym (pieces_behind s until within.line) ∙ within.piece;
+            saves = saves_at (until ++ within.line ∷ []) triple held;
+          },
+          chooses_at (until ++ within.line ∷ []) triple held,
+        )
 
     -- what a stop inside the lines leaves
     pub left_applied : IsLeft (first_state it) (all_lines input) was.output triple → IsAppliedAt was (saved_in it) input lost triple

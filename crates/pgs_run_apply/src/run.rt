@@ -68,7 +68,7 @@ pub fn run_apply<S: Source, W: World, F: Feed>(
     requires { budget ≤ 2 ^ 40 }
     ensures ends { IsTrue (W.view world.old).tells_bytes → (input : List ℕ) → S.left source.old ≡ Some input
         → EndsAs (λ bytes. told_apply input (areas_of (W.view world.old)) bytes (lost_count (places F.taken F.faults feeds.new)))
-            (shown_of (W.view world.old)) input budget (S.left source.new) result (shown_of (W.view world.new)) }
+        (shown_of (W.view world.old)) input budget (S.left source.new) result (shown_of (W.view world.new)) }
     ensures takes { (input rest : List ℕ) → S.left source.old ≡ Some input → S.left source.new ≡ Some rest → TakesWithin input budget rest result }
     ensures read_to_end { IsRead (S.left source.new) result }
     ensures cause { HasCommandCause true true (faults_of (S.faults source.old) (W.view world.old)) (faults_of (S.faults source.new) (W.view world.new)) result }
@@ -80,7 +80,7 @@ pub fn run_apply<S: Source, W: World, F: Feed>(
     // What the feeds took.
     ensures fed { IsTrue (W.view world.old).tells_bytes → (input : List ℕ) (it : SavedStore) → S.left source.old ≡ Some input → Saves it (W.view world.old).shown
         → FeedsTook it input (lost_count (places F.taken F.faults feeds.new)) (W.view world.old).puts (W.view world.new).puts
-            (places F.taken F.faults feeds.old) (places F.taken F.faults feeds.new) result }
+        (places F.taken F.faults feeds.old) (places F.taken F.faults feeds.new) result }
     // No want of memory comes between the journal and the verdict line.
     ensures even { IsTrue (W.view world.old).tells_bytes → (input : List ℕ) (it : SavedStore) → S.left source.old ≡ Some input → Saves it (W.view world.old).shown
         → result ≡ Status.Memory → IsEven it input (shown_of (W.view world.old)) (shown_of (W.view world.new)) (W.view world.new).shown }
