@@ -1,5 +1,5 @@
 -- What is said of a run, from the opening of its store to its last piece.
-use Rattle.std.proofs.Common.{◌≡◌, ℕ, ◌+◌, ◌-◌, ◌^◌, ◌≤◌, ◌<◌, true, List, length, Option, Some, Result, Ok, IsTrue, refl, sym, ap, subst, ◌∙◌, arith}
+use Rattle.std.proofs.Common.{◌≡◌, ℕ, ◌+◌, ◌-◌, ◌^◌, ◌≤◌, ◌<◌, Bool, true, List, length, Option, Some, Result, Ok, IsTrue, refl, sym, ap, subst, ◌∙◌, arith}
 use Rattle.pgs_feed.specs.Places.{Place}
 use Rattle.pgs_lines.specs.declared.stop.Stop.{Stop}
 use Rattle.pgs_lines.specs.Ending as lines
@@ -46,6 +46,10 @@ ends_told tell told start input budget left status now same ends = record {
 told_opened : (it : StoreState) (old mid : View) (input : List ℕ) (n lost : ℕ) → IsOpened it old mid → IsTrue old.tells_bytes → told_apply input (areas_of old) n lost ≡ told_input lost input n (saved_in it)
 unfolding told_apply
 told_opened it old mid input n lost opened tells = reading.told_opened it old mid (told_input lost input n) opened tells
+
+-- the same number of lost feeds
+pub counted : (whole : Bool) (n m : ℕ) (status : Status) (old new : View) (result : Status) → n ≡ m → EndsRun (last_piece whole n) status old result new → EndsRun (last_piece whole m) status old result new
+counted whole n m status old new result is ends = subst (λ (k : ℕ). EndsRun (last_piece whole k) status old result new) is ends
 
 pub opened_saves : (it : StoreState) (old mid : View) → IsOpened it old mid → IsTrue old.tells_bytes → Saves (saved_in it) old.shown
 opened_saves it old mid opened tells = record { saves = opened.saves tells; schema = opened.schema }

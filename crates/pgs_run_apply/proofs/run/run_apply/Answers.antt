@@ -1,12 +1,15 @@
-use Rattle.std.proofs.Common.{◌∙◌, sym, ap}
+use Rattle.std.proofs.Common.{◌∙◌, sym, ap, refl, absurd}
 use Rattle.pgs_feed.specs.Places.{lost_count}
 use Rattle.pgs_feed.specs.Seen.{places}
 use Rattle.pgs_lines.specs.Machine.{scene_of}
 use Rattle.pgs_world.proofs.Moments.{passes_on}
 use Rattle.pgs_run_base.proofs.Images.{images_quiet, images_areas, images_on}
 use Rattle.pgs_run_saved.specs.Opening.{saved_in}
+use Rattle.pgs_run_base.specs.Ending.{status_at}
+use Rattle.pgs_run_apply.specs.Ending.{is_done}
+use Rattle.pgs_run_apply.specs.Seen.{state_of}
 use Rattle.pgs_run_apply.specs.Told.{told_input, told_apply}
-use Rattle.pgs_run_apply.proofs.Running.{running_ends, running_cause, running_passes, running_fed, running_even, running_stops, opened_saves}
+use Rattle.pgs_run_apply.proofs.Running.{running_ends, running_cause, running_passes, running_fed, running_even, running_stops, opened_saves, counted, first_room, first_holds}
 use Rattle.pgs_run_apply.proofs.RunEnds.{apply_read, apply_takes}
 use Rattle.pgs_run_apply.proofs.Unopened.{unopened_ends, unopened_takes, unopened_read, unopened_cause, unopened_fed, unopened_even, unopened_stops}
 use Rattle.pgs_run_apply.proofs.run.run_apply.Goals as goal
@@ -42,7 +45,7 @@ returns-in-Err-clause-stops g c = λ input it is saves tells settled.
 pub returns-in-Err-clause-fed : goal.returns-in-Err-clause-fed
 returns-in-Err-clause-fed g c = λ tells input it is saves.
     let view = g.W.World.view in
-    unopened_fed c.in-Err.unopened (view c.args.world.now) (view c.open_store.new.world) (view c.end_unopened.new.world) (λ early. ap view (c.end_unopened.ensures.early early)) c.open_store.ensures.quiet c.open_store.ensures.no_put it input c.end_unopened.result _ _ _ refl tells saves c.in-Err.ensures.answer
+    unopened_fed c.in-Err.unopened (view c.args.world.now) (view c.open_store.new.world) (view c.end_unopened.new.world) (λ early. ap view (c.end_unopened.ensures.early early)) c.open_store.ensures.quiet c.open_store.ensures.no_put it input c.end_unopened.result (lost_count (places g.F.Feed.taken g.F.Feed.faults c.args.feeds.now)) (places g.F.Feed.taken g.F.Feed.faults c.args.feeds.now) (places g.F.Feed.taken g.F.Feed.faults c.args.feeds.now) refl tells saves c.in-Err.ensures.answer
 
 pub returns-in-Err-clause-even : goal.returns-in-Err-clause-even
 returns-in-Err-clause-even g c = λ tells input it is saves memory.
@@ -59,37 +62,37 @@ returns-in-Err-clause-unsaved g c = λ tells none.
 pub returns-clause-ends : goal.returns-clause-ends
 returns-clause-ends g c = λ tells input is.
     let view = g.W.World.view in
-    running_ends c.in-Ok.store (view c.args.world.now) (view c.open_store.new.world) (view c.run_lines-stop.new.world) (view c.end_run.new.world) c.in-Ok.ensures.answer c.open_store.ensures.quiet c.open_store.ensures.no_put _ _ c.args.budget _ _ c.run_lines-stop.result c.end_run.result c.run_lines-stop.ensures.by c.end_run.ensures input tells is c.new-applying.ensures.state (c.run_lines-stop.ensures.ends input is)
+    running_ends c.in-Ok.store (view c.args.world.now) (view c.open_store.new.world) (view c.run_lines-stop.new.world) (view c.end_run.new.world) c.in-Ok.ensures.answer c.open_store.ensures.quiet c.open_store.ensures.no_put _ _ c.args.budget _ _ c.run_lines-stop.result c.end_run.result c.run_lines-stop.ensures.by (counted (is_done c.run_lines-stop.result) c.lost.result _ (status_at c.run_lines-stop.result) (view c.run_lines-stop.new.world) (view c.end_run.new.world) c.end_run.result c.lost.ensures c.end_run.ensures) input tells is c.new-applying.ensures.state (c.run_lines-stop.ensures.ends input is)
 
 pub returns-clause-read_to_end : goal.returns-clause-read_to_end
 returns-clause-read_to_end g c =
     let view = g.W.World.view in
-    apply_read c.args.budget _ _ _ c.run_lines-stop.result (view c.run_lines-stop.new.world) (view c.end_run.new.world) c.end_run.result c.run_lines-stop.ensures.by c.end_run.ensures
+    apply_read c.args.budget _ _ _ c.run_lines-stop.result (view c.run_lines-stop.new.world) (view c.end_run.new.world) c.end_run.result c.run_lines-stop.ensures.by (counted (is_done c.run_lines-stop.result) c.lost.result _ (status_at c.run_lines-stop.result) (view c.run_lines-stop.new.world) (view c.end_run.new.world) c.end_run.result c.lost.ensures c.end_run.ensures)
 
 pub returns-clause-cause : goal.returns-clause-cause
 returns-clause-cause g c =
     let view = g.W.World.view in
-    running_cause c.in-Ok.store (view c.args.world.now) (view c.open_store.new.world) (view c.run_lines-stop.new.world) (view c.end_run.new.world) c.in-Ok.ensures.answer c.open_store.ensures.quiet c.open_store.ensures.no_put _ _ c.args.budget _ _ c.run_lines-stop.result c.end_run.result c.run_lines-stop.ensures.by c.end_run.ensures _ _ c.in-Ok.ensures.faults c.run_lines-stop.ensures.cause
+    running_cause c.in-Ok.store (view c.args.world.now) (view c.open_store.new.world) (view c.run_lines-stop.new.world) (view c.end_run.new.world) c.in-Ok.ensures.answer c.open_store.ensures.quiet c.open_store.ensures.no_put (state_of c.new-applying.result) _ c.args.budget _ _ c.run_lines-stop.result c.end_run.result c.run_lines-stop.ensures.by (counted (is_done c.run_lines-stop.result) c.lost.result _ (status_at c.run_lines-stop.result) (view c.run_lines-stop.new.world) (view c.end_run.new.world) c.end_run.result c.lost.ensures c.end_run.ensures) _ _ c.in-Ok.ensures.faults c.run_lines-stop.ensures.cause
 
 pub returns-clause-passes : goal.returns-clause-passes
 returns-clause-passes g c =
     let view = g.W.World.view in
-    running_passes c.in-Ok.store (view c.args.world.now) (scene_of (view c.open_store.new.world) (places g.F.Feed.taken g.F.Feed.faults c.new-applying.result.feeds)) (scene_of (view c.run_lines-stop.new.world) (places g.F.Feed.taken g.F.Feed.faults c.run_lines-stop.new.taker.feeds)) (view c.end_run.new.world) c.in-Ok.ensures.answer c.open_store.ensures.quiet c.open_store.ensures.no_put _ c.new-applying.ensures.state _ c.args.budget _ _ c.run_lines-stop.result c.end_run.result c.run_lines-stop.ensures.by c.run_lines-stop.ensures.allows c.end_run.ensures
+    running_passes c.in-Ok.store (view c.args.world.now) (scene_of (view c.open_store.new.world) (places g.F.Feed.taken g.F.Feed.faults c.new-applying.result.feeds)) (scene_of (view c.run_lines-stop.new.world) (places g.F.Feed.taken g.F.Feed.faults c.run_lines-stop.new.taker.feeds)) (view c.end_run.new.world) c.in-Ok.ensures.answer c.open_store.ensures.quiet c.open_store.ensures.no_put _ c.new-applying.ensures.state _ c.args.budget _ _ c.run_lines-stop.result c.end_run.result c.run_lines-stop.ensures.by c.run_lines-stop.ensures.allows (counted (is_done c.run_lines-stop.result) c.lost.result _ (status_at c.run_lines-stop.result) (view c.run_lines-stop.new.world) (view c.end_run.new.world) c.end_run.result c.lost.ensures c.end_run.ensures)
 
 pub returns-clause-stops : goal.returns-clause-stops
 returns-clause-stops g c = λ input it is saves tells settled.
     let view = g.W.World.view in
-    running_stops c.in-Ok.store (view c.args.world.now) (scene_of (view c.open_store.new.world) (places g.F.Feed.taken g.F.Feed.faults c.new-applying.result.feeds)) (scene_of (view c.run_lines-stop.new.world) (places g.F.Feed.taken g.F.Feed.faults c.run_lines-stop.new.taker.feeds)) (view c.end_run.new.world) c.in-Ok.ensures.answer c.open_store.ensures.quiet c.open_store.ensures.no_put _ c.new-applying.ensures.state _ c.args.budget _ _ c.run_lines-stop.result c.end_run.result c.run_lines-stop.ensures.by c.run_lines-stop.ensures.allows c.end_run.ensures input is it saves settled.tells_bytes (g.met.W.World.timed c.args.world.now) tells settled (c.run_lines-stop.ensures.ends input is)
+    running_stops c.in-Ok.store (view c.args.world.now) (scene_of (view c.open_store.new.world) (places g.F.Feed.taken g.F.Feed.faults c.new-applying.result.feeds)) (scene_of (view c.run_lines-stop.new.world) (places g.F.Feed.taken g.F.Feed.faults c.run_lines-stop.new.taker.feeds)) (view c.end_run.new.world) c.in-Ok.ensures.answer c.open_store.ensures.quiet c.open_store.ensures.no_put _ c.new-applying.ensures.state _ c.args.budget _ _ c.run_lines-stop.result c.end_run.result c.run_lines-stop.ensures.by c.run_lines-stop.ensures.allows (counted (is_done c.run_lines-stop.result) c.lost.result _ (status_at c.run_lines-stop.result) (view c.run_lines-stop.new.world) (view c.end_run.new.world) c.end_run.result c.lost.ensures c.end_run.ensures) input is it saves settled.tells_bytes (g.met.W.World.timed c.args.world.now) tells settled (c.run_lines-stop.ensures.ends input is)
 
 pub returns-clause-fed : goal.returns-clause-fed
 returns-clause-fed g c = λ tells input it is saves.
     let view = g.W.World.view in
-    running_fed c.in-Ok.store (view c.args.world.now) (scene_of (view c.open_store.new.world) (places g.F.Feed.taken g.F.Feed.faults c.new-applying.result.feeds)) (scene_of (view c.run_lines-stop.new.world) (places g.F.Feed.taken g.F.Feed.faults c.run_lines-stop.new.taker.feeds)) (view c.end_run.new.world) c.in-Ok.ensures.answer c.open_store.ensures.quiet c.open_store.ensures.no_put _ c.new-applying.ensures.state _ c.args.budget _ _ c.run_lines-stop.result c.end_run.result c.run_lines-stop.ensures.by c.run_lines-stop.ensures.allows c.end_run.ensures input is it saves tells (places g.F.Feed.taken g.F.Feed.faults c.args.feeds.now) (places g.F.Feed.taken g.F.Feed.faults c.into_feeds.result) (ap (places g.F.Feed.taken g.F.Feed.faults) c.new-applying.ensures.feeds) (ap (places g.F.Feed.taken g.F.Feed.faults) (sym c.into_feeds.ensures))
+    running_fed c.in-Ok.store (view c.args.world.now) (scene_of (view c.open_store.new.world) (places g.F.Feed.taken g.F.Feed.faults c.new-applying.result.feeds)) (scene_of (view c.run_lines-stop.new.world) (places g.F.Feed.taken g.F.Feed.faults c.run_lines-stop.new.taker.feeds)) (view c.end_run.new.world) c.in-Ok.ensures.answer c.open_store.ensures.quiet c.open_store.ensures.no_put _ c.new-applying.ensures.state _ c.args.budget _ _ c.run_lines-stop.result c.end_run.result c.run_lines-stop.ensures.by c.run_lines-stop.ensures.allows (counted (is_done c.run_lines-stop.result) c.lost.result _ (status_at c.run_lines-stop.result) (view c.run_lines-stop.new.world) (view c.end_run.new.world) c.end_run.result c.lost.ensures c.end_run.ensures) input is it saves tells (places g.F.Feed.taken g.F.Feed.faults c.args.feeds.now) (places g.F.Feed.taken g.F.Feed.faults c.into_feeds.result) (ap (places g.F.Feed.taken g.F.Feed.faults) (c.new-applying.ensures.feeds ∙ c.replace-given.ensures.value)) (ap (places g.F.Feed.taken g.F.Feed.faults) (sym c.into_feeds.ensures))
 
 pub returns-clause-even : goal.returns-clause-even
 returns-clause-even g c = λ tells input it is saves memory.
     let view = g.W.World.view in
-    running_even c.in-Ok.store (view c.args.world.now) (scene_of (view c.open_store.new.world) (places g.F.Feed.taken g.F.Feed.faults c.new-applying.result.feeds)) (scene_of (view c.run_lines-stop.new.world) (places g.F.Feed.taken g.F.Feed.faults c.run_lines-stop.new.taker.feeds)) (view c.end_run.new.world) c.in-Ok.ensures.answer c.open_store.ensures.quiet c.open_store.ensures.no_put _ c.new-applying.ensures.state _ c.args.budget _ _ c.run_lines-stop.result c.end_run.result c.run_lines-stop.ensures.by c.run_lines-stop.ensures.allows c.end_run.ensures input is it saves tells memory
+    running_even c.in-Ok.store (view c.args.world.now) (scene_of (view c.open_store.new.world) (places g.F.Feed.taken g.F.Feed.faults c.new-applying.result.feeds)) (scene_of (view c.run_lines-stop.new.world) (places g.F.Feed.taken g.F.Feed.faults c.run_lines-stop.new.taker.feeds)) (view c.end_run.new.world) c.in-Ok.ensures.answer c.open_store.ensures.quiet c.open_store.ensures.no_put _ c.new-applying.ensures.state _ c.args.budget _ _ c.run_lines-stop.result c.end_run.result c.run_lines-stop.ensures.by c.run_lines-stop.ensures.allows (counted (is_done c.run_lines-stop.result) c.lost.result _ (status_at c.run_lines-stop.result) (view c.run_lines-stop.new.world) (view c.end_run.new.world) c.end_run.result c.lost.ensures c.end_run.ensures) input is it saves tells memory
 
 pub returns-clause-unsaved : goal.returns-clause-unsaved
 returns-clause-unsaved g c = λ tells none.
@@ -111,4 +114,14 @@ returns-in-Err-clause-takes g c = λ input rest is left_is.
 pub returns-clause-takes : goal.returns-clause-takes
 returns-clause-takes g c = λ input rest is left_is.
     let view = g.W.World.view in
-    apply_takes _ input c.args.budget _ _ c.in-Ok.store _ _ c.run_lines-stop.result (view c.run_lines-stop.new.world) (view c.end_run.new.world) c.end_run.result is c.run_lines-stop.ensures.by (c.run_lines-stop.ensures.ends input is) c.end_run.ensures rest left_is
+    apply_takes _ input c.args.budget _ _ c.in-Ok.store _ _ c.run_lines-stop.result (view c.run_lines-stop.new.world) (view c.end_run.new.world) c.end_run.result is c.run_lines-stop.ensures.by (c.run_lines-stop.ensures.ends input is) (counted (is_done c.run_lines-stop.result) c.lost.result _ (status_at c.run_lines-stop.result) (view c.run_lines-stop.new.world) (view c.end_run.new.world) c.end_run.result c.lost.ensures c.end_run.ensures) rest left_is
+
+-- ---- what the reading asks for
+
+pub run_lines-stop-requires-clause-room : goal.run_lines-stop-requires-clause-room
+run_lines-stop-requires-clause-room g c = first_room (state_of c.new-applying.result) c.in-Ok.store c.args.budget c.new-applying.ensures.state c.requires
+
+pub run_lines-stop-requires-clause-holds : goal.run_lines-stop-requires-clause-holds
+run_lines-stop-requires-clause-holds g c =
+    let view = g.W.World.view in
+    first_holds (state_of c.new-applying.result) c.in-Ok.store (view c.args.world.now) (view c.open_store.new.world) c.new-applying.ensures.state c.in-Ok.ensures.answer
