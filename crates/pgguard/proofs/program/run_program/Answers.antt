@@ -1,4 +1,4 @@
-use Rattle.std.proofs.Common.{sym, absurd, ◌∙◌}
+use Rattle.std.proofs.Common.{sym, ◌∙◌}
 use Rattle.std.proofs.lemmas.Bool.{false≢true}
 use Rattle.pgguard.proofs.Knowing.{written, exact_same}
 use Rattle.pgguard.proofs.program.run_program.Goals as goal

@@ -1,4 +1,4 @@
-use Rattle.std.proofs.Common.{◌∙◌, sym, ap, refl, absurd}
+use Rattle.std.proofs.Common.{◌∙◌, sym, ap, refl}
 use Rattle.pgs_feed.specs.Places.{lost_count}
 use Rattle.pgs_feed.specs.Seen.{places}
 use Rattle.pgs_lines.specs.Machine.{scene_of}
