@@ -53,6 +53,10 @@ takes_unread left input rest budget status left_all left_is unread = record {
   too_long = λ cut. absurd (unread.1 cut);
 }
 
+-- a command by another name
+pub runs_as : (command named : Option Command) (budget : ℕ) (old new : Setting) (status : Status) → named ≡ command → Runs command budget old new status → Runs named budget old new status
+runs_as command named budget old new status is runs = subst (λ (c : Option Command). Runs c budget old new status) (sym is) runs
+
 -- what is taken, where that is said with all else
 pub takes_of : (tell : ℕ → Told Status) (start : Shown) (input rest : List ℕ) (budget : ℕ) (left : Option (List ℕ)) (status : Status) (now : Shown) → left ≡ Some rest → EndsAs tell start input budget left status now → TakesWithin input budget rest status
 takes_of tell start input rest budget left status now left_is ends = record { within = ends.within rest left_is; too_long = ends.too_long rest left_is }

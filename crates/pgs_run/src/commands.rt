@@ -28,7 +28,7 @@ pub fn run_command<S: Source, W: World, F: Feed>(
 ) -> Status
     requires within { budget ≤ 2 ^ 40 }
     requires in_range { IsInRange command }
-    ensures runs { let seen = places F.taken F.faults in Runs (Some command) budget
+    ensures { let seen = places F.taken F.faults in Runs (Some command) budget
         (setting_of (S.left source.old) (S.faults source.old) (W.view world.old) (seen feeds.old))
         (setting_of (S.left source.new) (S.faults source.new) (W.view world.new) (seen feeds.new)) result }
 {

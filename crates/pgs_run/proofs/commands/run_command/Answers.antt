@@ -1,65 +1,64 @@
-use Rattle.std.proofs.Common.{Some, true, refl, sym, subst}
-use Rattle.pgs_run.specs.Runs.{Runs}
+use Rattle.std.proofs.Common.{Some, refl, ap}
 use Rattle.pgs_words.specs.declared.command.Command.TheVariants.{Try, Validate, Load, Apply, Recover, Explain, Gen, Checkpoint}
-use Rattle.pgs_run.proofs.RunFacts.{cause_of, takes_of, runs_alone, runs_reading, unread_answer, unread_gen}
+use Rattle.pgs_run.proofs.RunFacts.{runs_as, cause_of, takes_of, runs_alone, runs_reading, unread_answer, unread_gen}
 use Rattle.pgs_run.proofs.commands.run_command.Goals as goal
 
-pub returns-in-Try-clause-runs : goal.returns-in-Try-clause-runs
-returns-in-Try-clause-runs g c =
-    subst (λ command. Runs (Some command) c.args.budget _ _ c.run_judging.result) (sym c.in-Try.is)
+pub returns-in-Try : goal.returns-in-Try
+returns-in-Try g c =
+    runs_as (Some Try) (Some c.args.command) c.args.budget _ _ c.run_judging.result (ap Some c.in-Try.is)
     (runs_reading Try c.args.budget _ _ c.run_judging.result refl (λ input known is. c.run_judging.ensures.ends input is)
     (λ input rest is left_is. takes_of _ _ input rest c.args.budget _ c.run_judging.result _ left_is (c.run_judging.ensures.ends input is))
     c.run_judging.ensures.read_to_end c.run_judging.ensures.cause c.run_judging.ensures.areas refl)
 
-pub returns-in-Validate-clause-runs : goal.returns-in-Validate-clause-runs
-returns-in-Validate-clause-runs g c =
+pub returns-in-Validate : goal.returns-in-Validate
+returns-in-Validate g c =
     let r = c.run_judging-in-Validate in
-    subst (λ command. Runs (Some command) c.args.budget _ _ r.result) (sym c.in-Validate.is)
+    runs_as (Some Validate) (Some c.args.command) c.args.budget _ _ r.result (ap Some c.in-Validate.is)
     (runs_reading Validate c.args.budget _ _ r.result refl (λ input known is. r.ensures.ends input is)
     (λ input rest is left_is. takes_of _ _ input rest c.args.budget _ r.result _ left_is (r.ensures.ends input is))
     r.ensures.read_to_end r.ensures.cause r.ensures.areas refl)
 
-pub returns-in-Load-clause-runs : goal.returns-in-Load-clause-runs
-returns-in-Load-clause-runs g c =
+pub returns-in-Load : goal.returns-in-Load
+returns-in-Load g c =
     let r = c.run_load in
-    subst (λ command. Runs (Some command) c.args.budget _ _ r.result) (sym c.in-Load.is)
+    runs_as (Some Load) (Some c.args.command) c.args.budget _ _ r.result (ap Some c.in-Load.is)
     (runs_reading Load c.args.budget _ _ r.result refl (λ input known is. r.ensures.ends (known.bytes refl) input is)
     r.ensures.takes r.ensures.read_to_end r.ensures.cause
     (record { passes = r.ensures.passes; stops = r.ensures.loads; occupied = r.ensures.occupied }) refl)
 
-pub returns-in-Recover-clause-runs : goal.returns-in-Recover-clause-runs
-returns-in-Recover-clause-runs g c =
+pub returns-in-Recover : goal.returns-in-Recover
+returns-in-Recover g c =
     let r = c.run_reader in
-    subst (λ command. Runs (Some command) c.args.budget _ _ r.result) (sym c.in-Recover.is)
+    runs_as (Some Recover) (Some c.args.command) c.args.budget _ _ r.result (ap Some c.in-Recover.is)
     (runs_alone (Some Recover) c.args.budget _ _ _ _ _ r.result refl (unread_answer r.result r.ensures.answer) (λ input known. r.ensures.ends (known.bytes refl))
     (cause_of Recover _ _ r.result (r.ensures.cause (g.S.Source.faults c.args.source.now))) r.ensures.images refl)
 
-pub returns-in-Explain-clause-runs : goal.returns-in-Explain-clause-runs
-returns-in-Explain-clause-runs g c =
+pub returns-in-Explain : goal.returns-in-Explain
+returns-in-Explain g c =
     let r = c.run_reader-in-Explain in
-    subst (λ command. Runs (Some command) c.args.budget _ _ r.result) (sym c.in-Explain.is)
+    runs_as (Some (Explain c.in-Explain.elem)) (Some c.args.command) c.args.budget _ _ r.result (ap Some c.in-Explain.is)
     (runs_alone (Some (Explain c.in-Explain.elem)) c.args.budget _ _ _ _ _ r.result refl (unread_answer r.result r.ensures.answer) (λ input known. r.ensures.ends (known.bytes refl))
     (cause_of (Explain c.in-Explain.elem) _ _ r.result (r.ensures.cause (g.S.Source.faults c.args.source.now))) r.ensures.images refl)
 
-pub returns-in-Gen-clause-runs : goal.returns-in-Gen-clause-runs
-returns-in-Gen-clause-runs g c =
+pub returns-in-Gen : goal.returns-in-Gen
+returns-in-Gen g c =
     let r = c.run_gen in
-    subst (λ command. Runs (Some command) c.args.budget _ _ r.result) (sym c.in-Gen.is)
+    runs_as (Some (Gen c.in-Gen.start c.in-Gen.count)) (Some c.args.command) c.args.budget _ _ r.result (ap Some c.in-Gen.is)
     (runs_alone (Some (Gen c.in-Gen.start c.in-Gen.count)) c.args.budget _ _ _ _ _ r.result refl (unread_gen r.result r.ensures.answer) (λ input known. r.ensures.shown)
     (cause_of (Gen c.in-Gen.start c.in-Gen.count) _ _ r.result (r.ensures.cause (g.S.Source.faults c.args.source.now))) r.ensures.areas refl)
 
-pub returns-in-Checkpoint-clause-runs : goal.returns-in-Checkpoint-clause-runs
-returns-in-Checkpoint-clause-runs g c =
+pub returns-in-Checkpoint : goal.returns-in-Checkpoint
+returns-in-Checkpoint g c =
     let r = c.run_checkpoint in
-    subst (λ command. Runs (Some command) c.args.budget _ _ r.result) (sym c.in-Checkpoint.is)
+    runs_as (Some Checkpoint) (Some c.args.command) c.args.budget _ _ r.result (ap Some c.in-Checkpoint.is)
     (runs_alone (Some Checkpoint) c.args.budget _ _ _ _ _ r.result refl (unread_answer r.result r.ensures.answer) (λ input known. r.ensures.ends (known.bytes refl))
     (cause_of Checkpoint _ _ r.result (r.ensures.cause (g.S.Source.faults c.args.source.now)))
     (record { passes = r.ensures.passes; stops = r.ensures.renews; unsaved = r.ensures.unsaved }) refl)
 
-pub returns-in-Apply-clause-runs : goal.returns-in-Apply-clause-runs
-returns-in-Apply-clause-runs g c =
+pub returns-in-Apply : goal.returns-in-Apply
+returns-in-Apply g c =
     let r = c.run_apply in
-    subst (λ command. Runs (Some command) c.args.budget _ _ r.result) (sym c.in-Apply.is)
+    runs_as (Some Apply) (Some c.args.command) c.args.budget _ _ r.result (ap Some c.in-Apply.is)
     (runs_reading Apply c.args.budget _ _ r.result refl (λ input known is. r.ensures.ends (known.bytes refl) input is)
     r.ensures.takes r.ensures.read_to_end r.ensures.cause
     (record { passes = r.ensures.passes; stops = r.ensures.stops; unsaved = r.ensures.unsaved })

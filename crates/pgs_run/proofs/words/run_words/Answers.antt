@@ -1,7 +1,7 @@
-use Rattle.std.proofs.Common.{Some, None, sym, subst, ◌∙◌}
+use Rattle.std.proofs.Common.{Some, None, sym, ◌∙◌}
+use Rattle.pgs_feed.specs.Seen.{places}
 use Rattle.pgs_words.specs.Words.{command_of}
-use Rattle.pgs_run.specs.Runs.{Runs}
-use Rattle.pgs_run.proofs.RunFacts.{runs_memory}
+use Rattle.pgs_run.proofs.RunFacts.{runs_as, runs_memory}
 use Rattle.pgs_run.proofs.Unmoved.{leaves_none, feeds_none}
 use Rattle.pgs_run.proofs.words.run_words.Goals as goal
 
@@ -10,8 +10,9 @@ returns-in-Err-clause-runs g c = runs_memory (command_of c.args.words.now) c.arg
 
 pub returns-in-Ok-Some-clause-runs : goal.returns-in-Ok-Some-clause-runs
 returns-in-Ok-Some-clause-runs g c =
-    subst (λ command. Runs command c.args.budget _ _ c.run_command.result) (sym (sym c.in-Ok-Some.ensures.command ∙ c.in-Ok-Some.field-0-is)) c.run_command.ensures.runs
+    runs_as (Some c.in-Ok-Some.command) (command_of c.args.words.now) c.args.budget _ _ c.run_command.result (sym c.in-Ok-Some.ensures.command ∙ c.in-Ok-Some.field-0-is) c.run_command.ensures
 
 pub returns-in-Ok-None-clause-runs : goal.returns-in-Ok-None-clause-runs
 returns-in-Ok-None-clause-runs g c =
-    subst (λ command. Runs command c.args.budget _ _ c.refuse_words.result) (sym (sym c.in-Ok-None.ensures.command ∙ c.in-Ok-None.field-0-is)) (c.refuse_words.ensures.runs c.args.budget _ _ _)
+    runs_as None (command_of c.args.words.now) c.args.budget _ _ c.refuse_words.result (sym c.in-Ok-None.ensures.command ∙ c.in-Ok-None.field-0-is)
+    (c.refuse_words.ensures.runs c.args.budget (g.S.Source.left c.args.source.now) (g.S.Source.faults c.args.source.now) (places g.F.Feed.taken g.F.Feed.faults c.args.feeds.now))
