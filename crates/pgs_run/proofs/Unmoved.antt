@@ -36,7 +36,7 @@ renewed_none view timed = record {
 applied_none : (left : Option (List ℕ)) (lost : ℕ) (view : View) → IsTimed view → LeavesApplied left lost view view
 applied_none left lost view timed = record {
   passes = passes_none view timed;
-  stops = λ input it is saves tells settled. quiet_applied view view it input lost timed tells settled saves (quiet_none view timed);
+  stops = λ input it is saves tells settled. quiet_applied view view it input lost timed tells settled (quiet_none view timed) saves;
   unsaved = λ told none. images_none view timed;
 }
 
