@@ -1,12 +1,20 @@
 use Rattle.std.proofs.Common.{Some, None, sym, ◌∙◌}
+use Rattle.pgs_feed.specs.Places.{lost_count}
 use Rattle.pgs_feed.specs.Seen.{places}
 use Rattle.pgs_words.specs.Words.{command_of}
+use Rattle.pgs_run.specs.Runs.{SourceState}
 use Rattle.pgs_run.proofs.RunFacts.{runs_as, runs_memory}
 use Rattle.pgs_run.proofs.Unmoved.{leaves_none, feeds_none}
 use Rattle.pgs_run.proofs.words.run_words.Goals as goal
 
 pub returns-in-Err-clause-runs : goal.returns-in-Err-clause-runs
-returns-in-Err-clause-runs g c = runs_memory (command_of c.args.words.now) c.args.budget _ _ _ (leaves_none (command_of c.args.words.now) _ _ _ (g.met.W.World.timed c.args.world.now)) (feeds_none (command_of c.args.words.now) _ _ _ (g.met.W.World.timed c.args.world.now))
+returns-in-Err-clause-runs g c =
+    let command = command_of c.args.words.now in
+    let view = g.W.World.view c.args.world.now in
+    let timed = g.met.W.World.timed c.args.world.now in
+    let source : SourceState = record { left = g.S.Source.left c.args.source.now; faults = g.S.Source.faults c.args.source.now } in
+    let seen = places g.F.Feed.taken g.F.Feed.faults c.args.feeds.now in
+    runs_memory command c.args.budget source view seen (leaves_none command source.left (lost_count seen) view timed) (feeds_none command source.left view seen timed)
 
 pub returns-in-Ok-Some-clause-runs : goal.returns-in-Ok-Some-clause-runs
 returns-in-Ok-Some-clause-runs g c =
