@@ -21,6 +21,12 @@ const ROWS: &[Row] = &[
         0,
     ),
     (
+        "gen,0,10,",
+        "",
+        "gen committed=10 refused=0 nodes=10 edges=9 in1=2\n",
+        0,
+    ),
+    (
         "gen,5,0,",
         "",
         "gen committed=0 refused=0 nodes=0 edges=0 in1=0\n",
