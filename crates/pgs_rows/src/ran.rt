@@ -80,10 +80,10 @@ pub fn run_with(
 }
 
 /// The words with a comma after each, an input, what is printed, and the status.
-pub type Row = (&'static str, &'static str, &'static str, u8);
+pub type Row<'a> = (&'a str, &'a str, &'a str, u8);
 
 // The first size of reads with which a row isn't printed so, or ends with another status.
-fn wrong_piece(alloc: Global, row: &Row) -> Result<Option<usize>, Memory> {
+fn wrong_piece(alloc: Global, row: &Row<'_>) -> Result<Option<usize>, Memory> {
     let words = words_of(alloc, row.0)?;
     for piece in PIECES {
         let ran = run_with(alloc, &words, row.1.as_bytes(), quiet(piece))?;
@@ -95,7 +95,7 @@ fn wrong_piece(alloc: Global, row: &Row) -> Result<Option<usize>, Memory> {
 }
 
 /// The first row that isn't printed so with reads of some size, or ends with another status: its place and the size.
-pub fn wrong_row(alloc: Global, rows: &[Row]) -> Result<Option<(usize, usize)>, Memory> {
+pub fn wrong_row(alloc: Global, rows: &[Row<'_>]) -> Result<Option<(usize, usize)>, Memory> {
     for (place, row) in rows.iter().enumerate() {
         if let Some(piece) = wrong_piece(alloc, row)? {
             return Ok(Some((place, piece)));

@@ -3,7 +3,8 @@
 use crate::store_runs::{Disk, Step, wrong_step};
 use std::test::Fail;
 
-const SCHEMA: &str = r#"CREATE NODE TYPE ABSTRACT (namedType {name STRING});
+/// The schema's text.
+pub const SCHEMA: &str = r#"CREATE NODE TYPE ABSTRACT (namedType {name STRING});
 CREATE NODE TYPE (personType: namedType & Person {mail STRING, OPTIONAL born DATE});
 CREATE NODE TYPE (employeeType: personType & Employee {salary INT});
 CREATE NODE TYPE (forumType: namedType & Forum {OPEN});
@@ -21,7 +22,8 @@ CREATE GRAPH TYPE socialGraph STRICT {
 };
 "#;
 
-const LINES: &str =
+/// The lines of transactions.
+pub const LINES: &str =
     r#"{"ops":[{"add_node":1,"labels":["Person"],"props":{"name":"Ann","mail":"ann@x.org"}}]}
 {"ops":[{"add_node":2,"labels":["Person","Employee"],"props":{"name":"Bob","mail":"bob@x.org","salary":4000}}]}
 {"ops":[{"add_node":3,"labels":["Person"],"props":{"name":"Cyd","mail":"ann@x.org"}}]}
@@ -40,7 +42,8 @@ const LINES: &str =
 {"ops":[{"detach_node":1}]}
 "#;
 
-const VERDICTS: &str = r#"1 committed 1
+/// What is put of the lines.
+pub const VERDICTS: &str = r#"1 committed 1
 2 committed 2
 3 refused 29 key 1: n1 and n3 share ("ann@x.org")
 4 refused 20 line is not a transaction
