@@ -4,15 +4,10 @@
 # how often the time of `from_slice` the time of `read_txn` is, and how often the time of `read_txn` the time of `write_txn` is. It
 # makes a small program over pgs_json in a folder of its own, and builds it, proving what is below where no check has kept it.
 # Usage: bench/json.sh
-set -eu
-shopt -s inherit_errexit
-top=$(cd "$(dirname "$(readlink -f "${BASH_SOURCE[0]}")")/.." && pwd)
-work=$(mktemp -d)
-trap 'rm -rf "$work"' EXIT
+source "$(dirname "$(readlink -f "${BASH_SOURCE[0]}")")/common.bash"
+take pgs_base pgs_graph pgs_json
+echo 'lines: pgs_base pgs_graph pgs_json serde_json' >>"$work/crates.txt"
 mkdir -p "$work/crates/lines/src"
-cp "$top/HANDLES" "$work/"
-cp -r "$top"/crates/pgs_{base,text,graph,json} "$work/crates/"
-{ grep -E '^pgs_(base|text|graph|json):' "$top/crates.txt"; echo 'lines: pgs_base pgs_graph pgs_json serde_json'; } >"$work/crates.txt"
 cat >"$work/crates/lines/src/main.rt" <<'E'
 //! Parses, reads or writes the lines of an input, as often as it has words after the second. The first word is the input, the second
 //! says what it does.
@@ -194,22 +189,14 @@ fn main(rt: HostRuntime) -> ExitCode {
     }
 }
 E
-cd "$work/crates/lines"
-built="$work/crates/lines/out/lines"
-(rt all check && rt run) >"$work/log" 2>&1 </dev/null || [ -x "$built" ] || { tail -n 20 "$work/log" >&2; exit 1; }
-[ -z "${KEEP:-}" ] || cp "$built" "$KEEP"
-# The processor's time of the program itself, which other work on the machine changes least.
-milliseconds() {
-  local TIMEFORMAT='%U %S'
-  { time "$built" "$@" || { echo "the program ended with $?" >&2; exit 1; }; } 2>&1 | awk '{ print ($1 + $2) * 1000 }'
-}
+build lines generated parse
 report() {
   local words base parse read write
   mapfile -t words < <(seq "$3")
-  base=$(milliseconds "$2" parse)
-  parse=$(milliseconds "$2" parse "${words[@]}")
-  read=$(milliseconds "$2" read "${words[@]}")
-  write=$(milliseconds "$2" write "${words[@]}")
+  base=$(milliseconds "$built" "$2" parse)
+  parse=$(milliseconds "$built" "$2" parse "${words[@]}")
+  read=$(milliseconds "$built" "$2" read "${words[@]}")
+  write=$(milliseconds "$built" "$2" write "${words[@]}")
   awk -v name="$1" -v turns="$3" -v lines="$4" -v base="$base" -v parse="$parse" -v read="$read" -v write="$write" 'BEGIN {
     p = (parse - base) * 1000 / turns / lines; r = (read - base) * 1000 / turns / lines; w = (write - base) * 1000 / turns / lines
     printf "%s: from_slice %.2f us a line, read_txn %.2f us (%.2f times), write_txn %.2f us (%.2f times reading)\n", name, p, r, r / p, w, w / r }'

@@ -1,39 +1,41 @@
 #!/usr/bin/env bash
-# Times the whole scope of `FOR (x:p) EXCLUSIVE x.mail` and the key values of each of its elements, over tables with 100,000 persons. It
-# makes a small program in a folder of its own, and builds it, proving what is below where no check has kept it.
+# Times the whole scope of `FOR (x:p) EXCLUSIVE x.mail` and the key values of each of its elements, over the generator's graph of 100,000
+# persons and 99,999 edges in tables. It makes a small program in a folder of its own, and builds it, proving what is below where no check
+# has kept it.
 # Usage: bench/matching.sh
-set -eu
-shopt -s inherit_errexit
-top=$(cd "$(dirname "$(readlink -f "${BASH_SOURCE[0]}")")/.." && pwd)
-work=$(mktemp -d)
-trap 'rm -rf "$work"' EXIT
+source "$(dirname "$(readlink -f "${BASH_SOURCE[0]}")")/common.bash"
+take pgs_txn pgs_tables pgs_gen pgs_match pgs_schema
+echo 'matching: pgs_base pgs_graph pgs_syntax pgs_conform pgs_txn pgs_tables pgs_gen pgs_match pgs_schema' >>"$work/crates.txt"
 mkdir -p "$work/crates/matching/src" "$work/crates/matching/proofs/run" "$work/crates/matching/proofs/valued"
-cp "$top/HANDLES" "$work/"
-crates='base|graph|syntax|violation|lexer|parser|resolve|conform|width|product|shapes|txn|edges|numbered|tables|gen|plan|matching|search|match|scratch|schema'
-for crate in ${crates//|/ }; do
-  cp -r "$top/crates/pgs_$crate" "$work/crates/"
-done
-{
-  grep -E "^pgs_($crates):" "$top/crates.txt"
-  echo 'matching: pgs_base pgs_graph pgs_syntax pgs_conform pgs_txn pgs_tables pgs_gen pgs_match pgs_scratch pgs_schema'
-} >"$work/crates.txt"
 cat >"$work/crates/matching/proofs/run/Invariants.antt" <<'E'
 use Rattle.matching.proofs.run.Given as goal
 
 abbrev pub ghosts-run_by : goal.ghosts-run_by
 ghosts-run_by a = record { name = a.blank.name; parts = a.blank.parts }
 E
+# The schema's clauses say that its plans are those of its guard's keys, and that it is valid, so each of them is.
+cat >"$work/crates/matching/proofs/valued/Answers.antt" <<'E'
+use Rattle.std.proofs.Common.{◌∙◌}
+use Rattle.pgs_schema.proofs.Keys.{valid_key}
+use Rattle.matching.proofs.valued.Goals as goal
+
+pub value_count-requires : goal.value_count-requires
+value_count-requires g c =
+    rw c.compiled-compiled.ensures.schema
+    (valid_key c.args.schema.now.resolved c.compiled-compiled.ensures.valid c.as_slice-keys.result.now (c.as_slice-keys.ensures ∙ c.keys.ensures)
+    c.loop-key.key-index c.loop-key-test.true c.key-item.result c.key-item.is)
+E
 cat >"$work/crates/matching/src/main.rt" <<'E'
-//! Makes the generator's persons in tables, and finds the scope and all key values of one key as many times as its word says, 0 to 9.
+//! Makes the generator's graph in tables, and finds the scope and all key values of one key as many times as its word says, 0 to 9.
 #![tactic(auto)]
 
 ghost use Rattle.std.specs.Prelude.{◌≡◌, ◌<◌, true};
 ghost use Rattle.pgs_syntax.specs.Valid.{is_valid_key_of};
 
-use pgs_base::{Limits, List, Memory, Steps};
+use pgs_base::{Limits, Memory, Steps};
 use pgs_conform::Compiled;
 use pgs_gen::generate;
-use pgs_graph::{Op, Txn};
+use pgs_graph::Txn;
 use pgs_match::{PlannedKey, each_x, key_values};
 use pgs_schema::Schema;
 use pgs_tables::Tables;
@@ -44,29 +46,13 @@ use std::marker::Brand;
 use std::process::ExitCode;
 use std::sync::ledger::{Blank, Ledger};
 
-const SCHEMA: &[u8] = b"CREATE GRAPH TYPE g STRICT {(p: Person {id INT, mail STRING}), FOR (x:p) EXCLUSIVE x.mail};";
+const SCHEMA: &[u8] = b"CREATE GRAPH TYPE g STRICT {(p: Person {id INT, mail STRING}), (:p)-[k: knows]->(:p), FOR (x:p) EXCLUSIVE x.mail};";
 
 fn read(alloc: Global) -> Result<Schema, Memory> {
     match Schema::read(alloc, SCHEMA) {
         Ok(schema) => Ok(schema),
         Err(_) => Err(Memory),
     }
-}
-
-// What adds the person of a number.
-fn person(alloc: Global, number: u64) -> Result<Txn, Memory>
-    requires { number < 100001 }
-{
-    if number == 0 {
-        return Ok(Txn { ops: List::new(alloc) });
-    }
-    let mut ops = Vec::with_capacity(alloc, 1)?;
-    for op in generate(alloc, 1, number)?.ops.into_vec() {
-        if matches!(&op, Op::AddNode { .. }) {
-            ops.push(op)?;
-        }
-    }
-    Ok(Txn { ops: List::from_vec(ops) })
 }
 
 fn apply<L: Ledger>(alloc: Global, tables: &mut Tables, txn: &Txn, steps: &mut Steps<L>) -> Result<(), Memory> {
@@ -82,7 +68,7 @@ fn apply<L: Ledger>(alloc: Global, tables: &mut Tables, txn: &Txn, steps: &mut S
 
 fn fill<L: Ledger>(alloc: Global, tables: &mut Tables, steps: &mut Steps<L>) -> Result<(), Memory> {
     for number in 1..100_001 {
-        let txn = person(alloc, number)?;
+        let txn = generate(alloc, 1, number)?;
         apply(alloc, tables, &txn, steps)?;
     }
     Ok(())
@@ -108,8 +94,9 @@ fn value_count<L: Ledger>(
 
 fn valued<L: Ledger>(alloc: Global, tables: &Tables, schema: &Schema, steps: &mut Steps<L>) -> Result<usize, Memory> {
     let compiled = schema.compiled();
+    let keys = schema.keys().as_slice();
     let mut count = 0usize;
-    for key in schema.keys().as_slice() {
+    for key in keys {
         count = count.saturating_add(value_count(alloc, tables, compiled, key, steps)?);
     }
     Ok(count)
@@ -155,17 +142,12 @@ fn main(rt: HostRuntime) -> ExitCode {
     }
 }
 E
-cd "$work/crates/matching"
-built="$work/crates/matching/out/matching"
-(rt all check --jobs 1 && rt run -- 0) >"$work/log" 2>&1 </dev/null || [ -x "$built" ] || { tail -n 40 "$work/log" >&2; exit 1; }
-# The processor's time of the program itself, in milliseconds: the least of three, which other work on the machine changes least.
-milliseconds() {
-  local TIMEFORMAT='%U'
-  for _ in 1 2 3; do
-    { time "$@" >/dev/null || { echo "the program ended with $?" >&2; exit 1; }; } 2>&1
-  done | sort -n | awk 'NR == 1 { print $1 * 1000 }'
-}
-without=$(milliseconds "$built" 0)
-with=$(milliseconds "$built" 5)
-awk -v with="$with" -v without="$without" -v count="$("$built" 1)" \
-  'BEGIN { printf "scope and %d key values of 100,000 persons: %.0f ms\n", count, (with - without) / 5 }'
+build matching 0
+count=$("$built" 1)
+[ "$count" = 100000 ] || { echo "$count key values, where each of 100,000 persons has one" >&2; exit 1; }
+# The program prints its count, which the times are not to have.
+run() { "$built" "$1" >"$work/counted"; }
+without=$(milliseconds run 0)
+with=$(milliseconds run 5)
+awk -v with="$with" -v without="$without" \
+  'BEGIN { printf "scope and key values of 100,000 persons: %.0f ms\n", (with - without) / 5 }'

@@ -1,17 +1,13 @@
 #!/usr/bin/env bash
-# Times the parse of schema texts of nearly a mebibyte beside their cut into tokens: for each text the mean of 20 turns of `lex`
-# alone and of `lex` and `parse`, in milliseconds, and how often the time of `lex` the time of `parse` is. It makes a small
-# program over pgs_parser in a folder of its own, and builds it, proving what is below where no check has kept it.
+# Times the parse of schema texts of nearly a mebibyte beside their cut into tokens: for each text the mean of 20 or more turns of `lex`
+# alone and of `lex` and `parse`, in milliseconds of the processor, system calls included, and how often the time of `lex` the
+# time of `parse` is, which drops the tree. It makes a small program over pgs_parser in a folder of its own, and builds it, proving
+# what is below where no check has kept it.
 # Usage: bench/parsing.sh
-set -eu
-shopt -s inherit_errexit
-top=$(cd "$(dirname "$(readlink -f "${BASH_SOURCE[0]}")")/.." && pwd)
-work=$(mktemp -d)
-trap 'rm -rf "$work"' EXIT
+source "$(dirname "$(readlink -f "${BASH_SOURCE[0]}")")/common.bash"
+take pgs_parser
+echo 'parsing: pgs_base pgs_lexer pgs_parser' >>"$work/crates.txt"
 mkdir -p "$work/crates/parsing/src"
-cp "$top/HANDLES" "$work/"
-cp -r "$top/crates/pgs_base" "$top/crates/pgs_lexer" "$top/crates/pgs_syntax" "$top/crates/pgs_parser" "$work/crates/"
-{ grep -E '^pgs_(base|lexer|syntax|parser):' "$top/crates.txt"; echo 'parsing: pgs_base pgs_lexer pgs_parser'; } >"$work/crates.txt"
 cat >"$work/crates/parsing/src/main.rt" <<'E2'
 //! Lexes, or lexes and parses, the text of a number, as often as there are further words.
 #![tactic(auto)]
@@ -44,7 +40,11 @@ fn input(alloc: Global, number: &str) -> Result<String, AllocError> {
         "4" => text(alloc, "CREATE NODE TYPE (a: ", OPEN_64, 8_000, "A);"),
         "5" => text(alloc, "CREATE GRAPH TYPE g LOOSE {FOR (x {k: '", "''", 65_535, "'}) EXCLUSIVE x};"),
         "6" => text(alloc, "CREATE GRAPH TYPE g LOOSE {", KEY, 3_000, "FOR (x) EXCLUSIVE x};"),
-        _ => text(alloc, "CREATE GRAPH TYPE g LOOSE {a", ",a", 500_000, "}"),
+        "7" => text(alloc, "CREATE GRAPH TYPE g LOOSE {a", ",a", 500_000, "}"),
+        "8" => text(alloc, "CREATE GRAPH TYPE g LOOSE {(a)", ",(a)", 250_000, "};"),
+        "9" => text(alloc, "CREATE GRAPH TYPE g LOOSE {FOR (x)", ",()", 340_000, "EXCLUSIVE x};"),
+        "10" => text(alloc, "CREATE GRAPH TYPE g LOOSE {FOR (x)", "-[]->()", 149_000, "EXCLUSIVE x};"),
+        _ => text(alloc, "CREATE NODE TYPE (a: A", "&A?", 300_000, ");"),
     }
 }
 
@@ -85,22 +85,26 @@ fn main(rt: HostRuntime) -> ExitCode {
     ExitCode::from(0)
 }
 E2
-cd "$work/crates/parsing"
-built="$work/crates/parsing/out/parsing"
-(rt all check && rt run) >"$work/log" 2>&1 </dev/null || [ -x "$built" ] || { tail -n 20 "$work/log" >&2; exit 1; }
-mapfile -t words < <(seq 20)
-microseconds() {
-  local start
-  start=$(date +%s%N)
-  "$built" "$@" || { echo "the program ended with $?" >&2; exit 1; }
-  echo $(( ($(date +%s%N) - start) / 1000 ))
+build parsing 5 lex
+
+# spent WORD..: the milliseconds of the processor that the program takes, system calls included, the least of three
+spent() {
+  local TIMEFORMAT='%U %S'
+  for _ in 1 2 3; do
+    { time "$built" "$@" || { echo "the program ended with $?" >&2; exit 1; }; } 2>&1
+  done | awk '{ print ($1 + $2) * 1000 }' | sort -n | head -n 1
 }
+
 names=("29,000 statements" "one statement of 200,000 members" "one label expression of 250,000 parts"
-  "64 parentheses deep, 8,000 times" "a string of 65,535 quotes" "3,000 keys" "500,000 members, which fail at the last token")
-for number in 1 2 3 4 5 6 7; do
-  base=$(microseconds "$number" lex)
-  lex=$(microseconds "$number" lex "${words[@]}")
-  parse=$(microseconds "$number" parse "${words[@]}")
-  awk -v name="${names[$((number - 1))]}" -v base="$base" -v lex="$lex" -v parse="$parse" \
-    'BEGIN { l = (lex - base) / 20000; p = (parse - lex) / 20000; printf "%s: lex %.2f ms, parse %.2f ms, %.2f times\n", name, l, p, p / l }'
+  "64 parentheses deep, 8,000 times" "a string of 65,535 quotes" "3,000 keys" "500,000 members, which fail at the last token"
+  "250,000 node types as members" "340,000 paths of one place" "a path of 149,000 steps" "300,000 optional parts")
+for number in {1..11}; do
+  turns=20
+  [ "$number" != 5 ] || turns=400
+  mapfile -t words < <(seq "$turns")
+  base=$(spent "$number" lex)
+  lex=$(spent "$number" lex "${words[@]}")
+  parse=$(spent "$number" parse "${words[@]}")
+  awk -v name="${names[$((number - 1))]}" -v base="$base" -v lex="$lex" -v parse="$parse" -v turns="$turns" \
+    'BEGIN { l = (lex - base) / turns; p = (parse - lex) / turns; printf "%s: lex %.2f ms, parse %.2f ms, %.2f times\n", name, l, p, p / l }'
 done

@@ -1,7 +1,7 @@
 #!/usr/bin/env bash
 # Takes a store on real files through its life: load, apply with mistakes among the lines, recover, validate of what recover printed, explain,
-# checkpoint, apply again; then a run that is killed in the middle, and one that goes on behind it. Compares what is printed and each
-# exit status. Ends with 1 where one differs. Usage: examples/store.sh
+# checkpoint, apply again; the last epoch, and other bytes beside a store; then a run that is killed in the middle, and one that goes on
+# behind it. Compares what is printed and each exit status. Ends with 1 where one differs. Usage: examples/store.sh
 set -u
 here=$(cd "$(dirname "$(readlink -f "${BASH_SOURCE[0]}")")" && pwd)
 program="$here/../pgguard"
@@ -55,6 +55,26 @@ runs "explain" 0 explained.txt nothing explain social n2
 runs "explain of nothing" 1 absent.txt nothing explain social n1
 runs "checkpoint" 0 checkpoint.txt nothing checkpoint social
 runs "recover after checkpoint" 0 "$here/store/dump.txt" nothing recover social
+
+# The last epoch, and other bytes beside a store.
+text='CREATE GRAPH TYPE g LOOSE {};'
+store() {
+  printf '\001PGSGRD1\000\000\000\000\000\000\000\001\001\000\000\000\000\000\000\000\036\001%s' "$text"
+  printf '\001\000\000\000\000\000\000\000\022\003\000\000\000\001\001\000\000\000\000\000\000\000\001\000\000\000\000\000'
+}
+printf 'store refused 37 no epoch is left\n' >spent.txt
+printf 'checkpoint epoch=2 commits=1\n' >renewed.txt
+printf '%s\n---\n{"ops":[{"add_node":1,"labels":[],"props":{}}]}\n' "$text" >one.txt
+printf '\001PGSGRD1\000\000\000\000\000\377\377\377\001\000\000\000\000\000\000\000\036\001%s\000' "$text" >last.a
+runs "checkpoint at the last epoch" 4 spent.txt nothing checkpoint last
+store >closed.a
+printf '\000%039d' 0 >closed.b
+runs "recover beside bytes behind a closed gate" 0 one.txt nothing recover closed
+store >open.a
+printf '\001%039d' 0 >open.b
+runs "recover beside another program's bytes" 0 one.txt nothing recover open
+runs "checkpoint over another program's bytes" 0 renewed.txt nothing checkpoint open
+runs "recover after that checkpoint" 0 one.txt nothing recover open
 
 # A run that is killed in the middle: each line adds a person; what was printed is in the store, and at most one more.
 persons() {

@@ -6,7 +6,7 @@ use std::marker::Model;
 
 /// A `Box` that contracts see as the value in it, so that two boxes of one value are equal. A type that
 /// holds itself is written with it.
-#[derive(Debug, Drop)]
+#[derive(Debug)]
 pub struct Boxed<T> {
     inner: Box<T>,
 }
@@ -17,6 +17,13 @@ impl<T> Model for Boxed<T> {
     ghost coded = { T.code };
 
     ghost view = { λ boxed. boxed.inner.value };
+}
+
+// Dropped here, so that crates above need not prove what it holds.
+impl<T: Drop> Drop for Boxed<T> {
+    fn drop(self) {
+        let Boxed { inner: _ } = self;
+    }
 }
 
 impl<T> Boxed<T> {

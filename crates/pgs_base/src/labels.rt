@@ -13,7 +13,7 @@ use std::alloc::Global;
 use std::marker::Model;
 
 /// The labels of an element: a set of names. Contracts see them as a list that ascends strictly.
-#[derive(Debug, Drop)]
+#[derive(Debug)]
 pub struct Labels {
     names: Ordered<Name>,
 }
@@ -30,6 +30,13 @@ impl Model for Labels {
     ghost view = { λ labels. labels.names };
 
     ghost invariant = { λ labels. are_names labels.names ≡ true };
+}
+
+// Dropped here, so that crates above need not prove what it holds.
+impl Drop for Labels {
+    fn drop(self) {
+        let Labels { names: _ } = self;
+    }
 }
 
 // What every slice of names meets. Nothing is done.

@@ -13,7 +13,7 @@ use std::marker::Model;
 pub type Bytes = List<u8>;
 
 /// A `Vec` that contracts see as the list of its items.
-#[derive(Debug, Drop)]
+#[derive(Debug)]
 pub struct List<T> {
     items: Vec<T>,
 }
@@ -27,6 +27,13 @@ impl<T> Model for List<T> {
     ghost coded = { coded_list T.code };
 
     ghost view = { λ list. list.items.items };
+}
+
+// Dropped here, so that crates above need not prove what it holds.
+impl<T: Drop> Drop for List<T> {
+    fn drop(self) {
+        let List { items: _ } = self;
+    }
 }
 
 impl<T> List<T> {

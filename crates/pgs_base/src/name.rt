@@ -4,6 +4,7 @@ ghost use Rattle.std.specs.Cmp.Lexicographic.{pointwise, slice_cmp, lists_per, n
 ghost use Rattle.std.specs.Cmp.{partial_equiv_from_equiv};
 ghost use Rattle.std.specs.List.{list_all};
 ghost use Rattle.pgs_base.specs.Name.{is_name, is_name_start, is_name_byte};
+ghost use Rattle.pgs_base.specs.NameBytes.{repr_bytes, fits_inline};
 
 use crate::{Copyable, Memory};
 use std::alloc::Global;
@@ -11,26 +12,100 @@ use std::cmp::Ordering;
 use std::marker::Model;
 use std::rc::RcSlice;
 
-/// A name: an ASCII letter or `_`, then ASCII letters, digits and `_`, with 1 to 64 bytes.
-/// Copies share their bytes. Names go by their bytes.
+// The most bytes of a name that stands in the value itself: so a name takes 24 bytes, as a `Vec` does.
+const INLINE: usize = 16;
+
+const _: () = prove!(size_of::<Name>() == 24);
+
+// Where the bytes of a name are. Nearly all names are short: such a name asks for no memory and counts no copies.
 #[derive(Debug, Drop)]
+enum Repr {
+    Inline { len: u32, bytes: [u8; INLINE] },
+    Shared(RcSlice<u8>),
+}
+
+/// A name: an ASCII letter or `_`, then ASCII letters, digits and `_`, with 1 to 64 bytes.
+/// A name of at most 16 bytes stands in the value itself; copies of a longer one share their bytes.
+/// Names go by their bytes.
+#[derive(Debug)]
 pub struct Name {
-    bytes: RcSlice<u8>,
+    repr: Repr,
 }
 
 impl Model for Name {
     ghost use Rattle.std.specs.Prelude.{List, ℕ, IsTrue};
     ghost use Rattle.std.specs.Coded.{coded_list, coded_ℕ};
-    ghost use Rattle.std.specs.Rc.{rc_slice_items};
     ghost use Rattle.pgs_base.specs.Name.{is_name};
+    ghost use Rattle.pgs_base.specs.NameBytes.{repr_bytes, fits_inline};
 
     ghost Value = { List ℕ };
 
     ghost coded = { coded_list coded_ℕ };
 
-    ghost view = { λ name. rc_slice_items name.bytes };
+    ghost view = { λ name. repr_bytes name.repr };
 
-    ghost invariant = { λ name. IsTrue (is_name (rc_slice_items name.bytes)) };
+    ghost invariant = { λ name. IsTrue (is_name (repr_bytes name.repr)) × fits_inline name.repr };
+}
+
+// Dropped by a function of its own, so that a crate above need not prove again what a name holds.
+impl Drop for Name {
+    fn drop(self) {
+        let Name { repr: _ } = self;
+    }
+}
+
+impl Repr {
+    // The bytes in the value itself.
+    fn inline(short: &[u8]) -> Repr
+        requires { length short.now ≤ 16 }
+        ensures bytes { repr_bytes result ≡ short.now }
+        ensures fits { fits_inline result }
+    {
+        let mut bytes = [0; INLINE];
+        bytes[..short.len()].copy_from_slice(short);
+        Repr::Inline {
+            len: short.len() as u32,
+            bytes,
+        }
+    }
+
+    // The bytes in the value itself where they fit, else shared.
+    fn new(alloc: Global, bytes: &[u8]) -> Result<Repr, Memory>
+        ensures { IfOk result (λ repr. (repr_bytes repr ≡ bytes.now) × fits_inline repr) }
+    {
+        if bytes.len() <= INLINE {
+            Ok(Repr::inline(bytes))
+        } else {
+            let bytes = RcSlice::from_slice(alloc, bytes)?;
+            Ok(Repr::Shared(bytes))
+        }
+    }
+
+    fn bytes(&self) -> &[u8]
+        requires { fits_inline self.now }
+        ensures { result.now ≡ repr_bytes self.now }
+    {
+        match self {
+            Repr::Inline { len, bytes } => &bytes[..*len as usize],
+            Repr::Shared(bytes) => bytes.as_slice(),
+        }
+    }
+
+    fn copy(&self) -> Result<Repr, Memory>
+        requires { fits_inline self.now }
+        ensures { IfOk result (λ copied. (repr_bytes copied ≡ repr_bytes self.now) × fits_inline copied) }
+    {
+        match self {
+            Repr::Inline { len, bytes } => Ok(Repr::Inline {
+                len: *len,
+                bytes: *bytes,
+            }),
+            Repr::Shared(bytes) => {
+                let bytes = bytes.clone()?;
+                Ok(Repr::Shared(bytes))
+            }
+        }
+    }
 }
 
 fn starts_name(byte: u8) -> bool
@@ -72,8 +147,8 @@ impl Name {
         ensures { IfOk result (λ name. name ≡ (if is_name bytes.now then Some bytes.now else None)) }
     {
         if Name::is_name(bytes) {
-            let bytes = RcSlice::from_slice(alloc, bytes)?;
-            Ok(Some(Name { bytes }))
+            let repr = Repr::new(alloc, bytes)?;
+            Ok(Some(Name { repr }))
         } else {
             Ok(None)
         }
@@ -84,14 +159,14 @@ impl Name {
         ensures bytes { result.now ≡ self.now }
         ensures name { IsTrue (is_name self.now) }
     {
-        self.bytes.as_slice()
+        self.repr.bytes()
     }
 }
 
 impl Copyable for Name {
     fn copy(&self, _alloc: Global) -> Result<Name, Memory> {
-        let bytes = self.bytes.clone()?;
-        Ok(Name { bytes })
+        let repr = self.repr.copy()?;
+        Ok(Name { repr })
     }
 }
 

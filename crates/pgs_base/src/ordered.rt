@@ -13,7 +13,7 @@ use std::alloc::Global;
 use std::marker::Model;
 
 /// Keys that ascend strictly by their order, in a `Vec`. Contracts see the list of them.
-#[derive(Debug, Drop)]
+#[derive(Debug)]
 pub struct Ordered<K: Ord> {
     keys: Vec<K>,
 }
@@ -30,6 +30,13 @@ impl<K: Ord> Model for Ordered<K> {
     ghost view = { λ ordered. ordered.keys.items };
 
     ghost invariant = { λ ordered. IsStrictlySortedBy K.cmp ordered.keys.items };
+}
+
+// Dropped here, so that crates above need not prove what it holds.
+impl<K: Ord + Drop> Drop for Ordered<K> {
+    fn drop(self) {
+        let Ordered { keys: _ } = self;
+    }
 }
 
 impl<K: Ord> Ordered<K> {

@@ -18,7 +18,7 @@ use std::marker::Model;
 
 /// The properties of an element: a partial map from names to values. Contracts see them as a list of pairs
 /// whose names ascend strictly.
-#[derive(Debug, Drop)]
+#[derive(Debug)]
 pub struct Props {
     rows: Rows<Name, Value>,
 }
@@ -33,6 +33,13 @@ impl Model for Props {
     ghost view = { λ props. props.rows };
 
     ghost invariant = { λ props. are_props props.rows ≡ true };
+}
+
+// Dropped here, so that crates above need not prove what it holds.
+impl Drop for Props {
+    fn drop(self) {
+        let Props { rows: _ } = self;
+    }
 }
 
 // What every slice of names and values meets. Nothing is done.

@@ -13,7 +13,7 @@ use std::marker::Model;
 use std::mem;
 
 /// Values by keys that ascend strictly by their order, in a `Vec`. Contracts see the list of the pairs.
-#[derive(Debug, Drop)]
+#[derive(Debug)]
 pub struct Rows<K: Ord, V> {
     rows: Vec<(K, V)>,
 }
@@ -31,6 +31,13 @@ impl<K: Ord, V> Model for Rows<K, V> {
     ghost view = { λ rows. rows.rows.items };
 
     ghost invariant = { λ rows. IsStrictlySortedBy K.cmp (keys_of rows.rows.items) };
+}
+
+// Dropped here, so that crates above need not prove what it holds.
+impl<K: Ord + Drop, V: Drop> Drop for Rows<K, V> {
+    fn drop(self) {
+        let Rows { rows: _ } = self;
+    }
 }
 
 impl<K: Ord, V> Rows<K, V> {

@@ -11,7 +11,7 @@ use std::marker::Model;
 use std::rc::RcStr;
 
 /// A text of at most 65,535 bytes of UTF-8. Copies share their bytes. Texts go by their bytes.
-#[derive(Debug, Drop)]
+#[derive(Debug)]
 pub struct Text {
     text: RcStr,
 }
@@ -28,6 +28,13 @@ impl Model for Text {
     ghost view = { λ text. rc_str_bytes text.text };
 
     ghost invariant = { λ text. length (rc_str_bytes text.text) ≤ 65535 };
+}
+
+// Dropped here, so that crates above need not prove what it holds.
+impl Drop for Text {
+    fn drop(self) {
+        let Text { text: _ } = self;
+    }
 }
 
 impl Text {

@@ -10,7 +10,7 @@ use std::cmp::Ordering;
 use std::marker::Model;
 
 /// A tuple: its parts in order. Tuples go part by part, and a proper prefix comes first.
-#[derive(Debug, Drop)]
+#[derive(Debug)]
 pub struct Tuple {
     parts: List<Part>,
 }
@@ -22,6 +22,13 @@ impl Model for Tuple {
     ghost Value = { Items Part };
 
     ghost view = { λ tuple. tuple.parts };
+}
+
+// Dropped here, so that crates above need not prove what it holds.
+impl Drop for Tuple {
+    fn drop(self) {
+        let Tuple { parts: _ } = self;
+    }
 }
 
 impl Tuple {

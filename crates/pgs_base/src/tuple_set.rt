@@ -11,7 +11,7 @@ use std::alloc::Global;
 use std::marker::Model;
 
 /// A set of tuples. Contracts see it as a list of tuples that ascends strictly.
-#[derive(Debug, Drop)]
+#[derive(Debug)]
 pub struct TupleSet {
     tuples: Ordered<Tuple>,
 }
@@ -23,6 +23,13 @@ impl Model for TupleSet {
     ghost Value = { Items (Items Part) };
 
     ghost view = { λ set. set.tuples };
+}
+
+// Dropped here, so that crates above need not prove what it holds.
+impl Drop for TupleSet {
+    fn drop(self) {
+        let TupleSet { tuples: _ } = self;
+    }
 }
 
 impl TupleSet {

@@ -6,7 +6,7 @@ use std::alloc::Global;
 use std::marker::Model;
 
 /// The words of a command line, after the program's name.
-#[derive(Debug, Drop)]
+#[derive(Debug)]
 pub struct Words {
     alloc: Global,
     words: Vec<String>,
@@ -22,6 +22,13 @@ impl Model for Words {
     ghost coded = { coded_list (coded_list coded_ℕ) };
 
     ghost view = { λ words. map string_bytes words.words.items };
+}
+
+// Dropped here, so that crates above need not prove what it holds.
+impl Drop for Words {
+    fn drop(self) {
+        let Words { alloc: _, words: _ } = self;
+    }
 }
 
 impl Words {

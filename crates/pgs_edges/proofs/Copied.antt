@@ -124,7 +124,9 @@ module _ (xs : List EdgeId) (done : ℕ) (built edited : List EdgeId) (id : Edge
         omega (arith, item_rest k (omega arith), gap_above id xs p g (done + (k - length built)) (omega (arith, gap_done)) (omega (arith, length-edited, copied.in_range)))
 
     gap_moved : IsKeyGap edge_cmp id edited (length built + (p - done))
-    gap_moved = key_between id edited (length built + (p - done)) copied.ascending (omega (arith, gap_done, length-edited, g.in_range)) below_gap above_gap
+    gap_moved =
+        key_between id edited (length built + (p - done)) copied.ascending
+        (record { in_range = omega (arith, gap_done, length-edited, g.in_range); below = below_gap; above = above_gap })
 
     -- an id put in that is not there
     pub copied_with : IsCopied xs p ((built ++ drop done (take p xs)) ++ id ∷ []) (insert_key edge_cmp edited id) rest

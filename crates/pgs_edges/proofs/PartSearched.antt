@@ -5,11 +5,11 @@ use Rattle.std.specs.List.{flat_map}
 use Rattle.std.specs.List.Sorted.{IsStrictlySortedBy, IsBinarySearchResult}
 use Rattle.std.proofs.lemmas.Bool.{cases_lt}
 use Rattle.pgs_base.specs.declared.element.EdgeId.{EdgeId}
-use Rattle.pgs_base.specs.Places.{IsKeyAt, IsKeyGap}
+use Rattle.pgs_base.specs.Places.{IsKeyAt}
 use Rattle.pgs_edges.specs.Starts.{StartFrom}
 use Rattle.pgs_edges.proofs.Joined.{start_is, item_is, first_is, end_is, end_within, has_items}
-use Rattle.pgs_edges.specs.Numbers.{numbered, number_at}
-use Rattle.pgs_edges.proofs.Searched.{numbers_same, ascends, ascends_from, searched_found, searched_missed, key_here, key_between}
+use Rattle.pgs_edges.specs.Numbers.{numbered, number_at, IsBetween}
+use Rattle.pgs_edges.proofs.Searched.{numbers_same, ascends, ascends_from, searched_found, searched_missed, key_here}
 
 pub some_parts : {X A : Type 0} (items : X → List A) (xs : List X) → 0 < length (flat_map items xs) → 0 < length xs
 some_parts items [] lt = lt
@@ -55,14 +55,17 @@ module _ {X : Type 0} (start : X → ℕ) (first : X → EdgeId) (items : X → 
       (within, here, key_here id (flat_map items xs) (start x + j) up within here)
 
   -- a number not found in the part, where those before it are below it and those after it are above
-  pub missed_in :
-      (j : ℕ) → IsBinarySearchResult (λ y. edge_cmp y id) (items x) (Err j) → ((k : ℕ) → k < length (flat_map items (take i xs)) → number_at (flat_map items xs) k < id.0) → ((k : ℕ) → length (flat_map items (take (i + 1) xs)) ≤ k → k < length (flat_map items xs) → id.0 < number_at (flat_map items xs) k) → (start x + j ≤ length (flat_map items xs)) × IsKeyGap edge_cmp id (flat_map items xs) (start x + j)
-  missed_in j h before after =
+  pub parted_in :
+      (j : ℕ) → IsBinarySearchResult (λ y. edge_cmp y id) (items x) (Err j) → ((k : ℕ) → k < length (flat_map items (take i xs)) → number_at (flat_map items xs) k < id.0) → ((k : ℕ) → length (flat_map items (take (i + 1) xs)) ≤ k → k < length (flat_map items xs) → id.0 < number_at (flat_map items xs) k) → IsBetween id (flat_map items xs) (start x + j)
+  parted_in j h before after =
       let missed = searched_missed (items x) id j h rises_in in
       let begins = start_is start first items xs i x s lt e in
       let ends = end_is start first items xs i x s lt e in
-      let within : start x + j ≤ length (flat_map items xs) = omega (arith, missed.0, end_within start first items xs i x s lt e) in
-      (within, key_between id (flat_map items xs) (start x + j) up within (below begins missed.1) (above ends missed.2))
+      record {
+        in_range = omega (arith, missed.0, end_within start first items xs i x s lt e);
+        below = below begins missed.1;
+        above = above ends missed.2;
+      }
     where
       there : (k : ℕ) → start x ≤ k → k < start x + length (items x) → number_at (flat_map items xs) k ≡ number_at (items x) (k - start x)
       there k low high =

@@ -10,7 +10,7 @@ use Rattle.std.proofs.lemmas.Option.{slice_get-get_or}
 use Rattle.std.specs.Cmp.{IsTotalOrder, nat_cmp_is, nat_cmp_total, on_total}
 use Rattle.pgs_base.specs.declared.element.EdgeId.{EdgeId}
 use Rattle.pgs_base.specs.Graph.{edge_cmp}
-use Rattle.pgs_edges.specs.Numbers.{numbered, number_at, AllBelow, AllAbove}
+use Rattle.pgs_edges.specs.Numbers.{numbered, number_at, AllBelow, AllAbove, IsBetween}
 use Rattle.pgs_base.specs.Places.{IsKeyAt, IsKeyGap}
 use Rattle.pgs_base.proofs.Places.{key_searched}
 
@@ -48,17 +48,16 @@ key_here id xs i s lt e =
     key_searched edge_cmp_total id xs s (Ok i) lt (λ d. sym (nat_cmp_is (get_or xs i d).0 id.0 Equal (number_default xs i d lt ∙ e)))
 
 -- the number would stand at place i
-pub key_between : (id : EdgeId) (xs : List EdgeId) (i : ℕ) → IsStrictlySortedBy edge_cmp xs → i ≤ length xs → AllBelow id xs i → AllAbove id xs i →
-    IsKeyGap edge_cmp id xs i
-key_between id xs i s le below above =
-    key_searched edge_cmp_total id xs s (Err i) le (λ rises. (
-      λ k d low high. let lt : k < length xs = omega arith in let e = number_default xs k d lt in sym (nat_cmp_is (get_or xs k d).0 id.0 Less (omega (arith, e, below k high))),
-      λ k d low high. let e = number_default xs k d high in sym (nat_cmp_is (get_or xs k d).0 id.0 Greater (omega (arith, e, above k low high))),
+pub key_between : (id : EdgeId) (xs : List EdgeId) (i : ℕ) → IsStrictlySortedBy edge_cmp xs → IsBetween id xs i → IsKeyGap edge_cmp id xs i
+key_between id xs i s between =
+    key_searched edge_cmp_total id xs s (Err i) between.in_range (λ rises. (
+      λ k d low high. let lt : k < length xs = omega (arith, between.in_range) in let e = number_default xs k d lt in sym (nat_cmp_is (get_or xs k d).0 id.0 Less (omega (arith, e, between.below k high))),
+      λ k d low high. let e = number_default xs k d high in sym (nat_cmp_is (get_or xs k d).0 id.0 Greater (omega (arith, e, between.above k low high))),
     ))
 
--- no number stands anywhere
-pub key_nowhere : (id : EdgeId) (xs : List EdgeId) → IsStrictlySortedBy edge_cmp xs → length xs ≡ 0 → IsKeyGap edge_cmp id xs 0
-key_nowhere id xs s e = key_between id xs 0 s (omega arith) (λ k low. absurd (omega arith)) (λ k low high. absurd (omega arith))
+-- among no numbers it would stand at the first place
+pub between_none : (id : EdgeId) (xs : List EdgeId) → length xs ≡ 0 → IsBetween id xs 0
+between_none id xs e = record { in_range = omega arith; below = λ k low. absurd (omega arith); above = λ k low high. absurd (omega arith) }
 
 -- what a binary search says that found the number
 pub searched_found : (xs : List EdgeId) (id : EdgeId) (i : ℕ) → IsBinarySearchResult (λ y. edge_cmp y id) xs (Ok i) → (i < length xs) × (number_at xs i ≡ id.0)

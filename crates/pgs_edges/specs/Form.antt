@@ -6,4 +6,4 @@ use Rattle.pgs_edges.specs.declared.ids.Form.TheVariants.{Few, Many}
 
 abbrev pub form_ids : Form → List EdgeId
 form_ids (Few ids) = ids.items
-form_ids (Many chunks) = chunks
+form_ids (Many long) = long

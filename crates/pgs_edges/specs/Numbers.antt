@@ -17,3 +17,9 @@ AllBelow id edges end = (place : ℕ) → place < end → number_at edges place 
 -- the numbers from a place on are above that of an edge
 abbrev pub AllAbove : EdgeId → List EdgeId → ℕ → Type 0
 AllAbove id edges start = (place : ℕ) → start ≤ place → place < length edges → id.0 < number_at edges place
+
+-- an edge that isn't there would stand at a place
+pub record IsBetween (id : EdgeId) (edges : List EdgeId) (place : ℕ) : Type 0 where
+  pub in_range : place ≤ length edges
+  pub below : AllBelow id edges place
+  pub above : AllAbove id edges place

@@ -1,9 +1,9 @@
-ghost use Rattle.std.specs.Prelude.{◌≡◌, ℕ, ◌<◌, ◌≤◌, ◌+◌, ◌^◌, ◌++◌, [], length, take, drop, slice_get, IfOk, OnOk, MatchOption, MatchResult};
+ghost use Rattle.std.specs.Prelude.{◌≡◌, ℕ, ◌<◌, ◌≤◌, ◌+◌, ◌^◌, ◌++◌, [], length, take, drop, slice_get, IfOk, IfErr, OnOk, MatchOption, MatchResult};
 ghost use Rattle.pgs_base.specs.Graph.{edge_cmp};
 ghost use Rattle.std.specs.List.Sorted.{IsStrictlySortedBy};
 ghost use Rattle.pgs_base.specs.Places.{IsKeyAt, IsKeyGap};
 ghost use Rattle.std.specs.List.{flat_map};
-ghost use Rattle.pgs_edges.specs.Numbers.{AllBelow, AllAbove};
+ghost use Rattle.pgs_edges.specs.Numbers.{AllBelow, AllAbove, IsBetween};
 ghost use Rattle.pgs_edges.specs.Starts.{StartFrom};
 
 use crate::Chunk;
@@ -129,6 +129,7 @@ impl Chunks {
         requires { IsStrictlySortedBy edge_cmp self.now }
         ensures there { MatchResult result (IsKeyAt edge_cmp id self.now) (IsKeyGap edge_cmp id self.now) }
         ensures found { IfOk result (λ place. slice_get self.now place ≡ Some id) }
+        ensures between { IfErr result (IsBetween id self.now) }
         ensures small { IfOk result (λ place. place + 1 < 2 ^ 64) }
     {
         if self.len == 0 {
@@ -191,6 +192,9 @@ impl Chunks {
     pub fn append(&mut self, alloc: Global, ids: &[EdgeId]) -> Result<(), Memory>
         ensures { OnOk result (self.new ≡ self.old ++ ids.now) }
     {
+        if ids.is_empty() {
+            return Ok(());
+        }
         if self.is_roomy(ids.len()) {
             if let Some(last) = self.pop_chunk() {
                 return self.push_chunk(last.followed_by(alloc, ids)?);

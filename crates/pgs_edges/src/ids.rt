@@ -6,8 +6,9 @@ ghost use Rattle.std.specs.List.Sorted.{IsStrictlySortedBy};
 ghost use Rattle.pgs_base.specs.Graph.{edge_cmp};
 ghost use Rattle.pgs_base.specs.Places.{IsKeyAt, IsKeyGap};
 
-use crate::Chunks;
+use crate::block::{search_block, spliced_block};
 use crate::bulk::{with_each, without_each};
+use crate::{Chunks, Long};
 use pgs_base::{EdgeId, Memory};
 use std::alloc::Global;
 use std::marker::Model;
@@ -15,11 +16,11 @@ use std::marker::Model;
 // Up to so many ids stand in one block, which is smaller than chunks and quick to copy.
 const FEW: usize = 64;
 
-/// Few ids in a block of their own, and many in chunks.
+/// Few ids in a block of their own, and many in a long list.
 #[derive(Drop)]
 enum Form {
     Few(Vec<EdgeId>),
-    Many(Chunks),
+    Many(Long),
 }
 
 /// Any list of ids, of which few take one small block. Contracts see the list.
@@ -36,39 +37,6 @@ impl Model for Ids {
     ghost Value = { List EdgeId };
 
     ghost view = { λ ids. form_ids ids.form };
-}
-
-// A block of these ids with others in the place of a range.
-fn spliced_block(
-    alloc: Global,
-    block: &[EdgeId],
-    from: usize,
-    to: usize,
-    ids: &[EdgeId],
-) -> Result<Vec<EdgeId>, Memory>
-    ensures { IfOk result (λ spliced. spliced.items ≡ take from block.now ++ (ids.now ++ drop to block.now)) }
-{
-    let before = &block[..from.min(block.len())];
-    let after = &block[to.min(block.len())..];
-    let count = before
-        .len()
-        .saturating_add(ids.len())
-        .saturating_add(after.len());
-    let mut spliced = Vec::with_capacity(alloc, count)?;
-    spliced.extend_from_slice(before)?;
-    spliced.extend_from_slice(ids)?;
-    spliced.extend_from_slice(after)?;
-    Ok(spliced)
-}
-
-// Where the id stands in a block that ascends, or where it would go.
-fn search_block(block: &[EdgeId], id: EdgeId) -> Result<usize, usize>
-    requires { IsStrictlySortedBy edge_cmp block.now }
-    ensures there { MatchResult result (IsKeyAt edge_cmp id block.now) (IsKeyGap edge_cmp id block.now) }
-    ensures found { IfOk result (λ place. slice_get block.now place ≡ Some id) }
-    ensures small { IfOk result (λ place. place + 1 < 2 ^ 64) }
-{
-    block.binary_search(&id)
 }
 
 impl Ids {
@@ -88,7 +56,7 @@ impl Ids {
         let form = if ids.len() <= FEW {
             Form::Few(Vec::from_slice(alloc, ids)?)
         } else {
-            Form::Many(Chunks::from_slice(alloc, ids)?)
+            Form::Many(long_of(alloc, ids)?)
         };
         Ok(Ids { form })
     }
@@ -100,7 +68,7 @@ impl Ids {
         let form = if block.len() <= FEW {
             Form::Few(block)
         } else {
-            Form::Many(Chunks::from_slice(alloc, block.as_slice())?)
+            Form::Many(long_of(alloc, block.as_slice())?)
         };
         Ok(Ids { form })
     }
@@ -112,7 +80,19 @@ impl Ids {
         let form = if chunks.len() <= FEW {
             Form::Few(chunks.to_block(alloc)?)
         } else {
-            Form::Many(chunks)
+            Form::Many(Long::from_chunks(alloc, chunks)?)
+        };
+        Ok(Ids { form })
+    }
+
+    // The list of a long list's ids.
+    fn from_long(alloc: Global, long: Long) -> Result<Ids, Memory>
+        ensures { IfOk result (λ list. list ≡ long) }
+    {
+        let form = if long.len() <= FEW {
+            Form::Few(long.to_block(alloc)?)
+        } else {
+            Form::Many(long)
         };
         Ok(Ids { form })
     }
@@ -123,7 +103,7 @@ impl Ids {
     {
         match &self.form {
             Form::Few(ids) => ids.len(),
-            Form::Many(chunks) => chunks.len(),
+            Form::Many(long) => long.len(),
         }
     }
 
@@ -133,7 +113,7 @@ impl Ids {
     {
         match &self.form {
             Form::Few(ids) => ids.as_slice().get(place).copied(),
-            Form::Many(chunks) => chunks.at(place),
+            Form::Many(long) => long.at(place),
         }
     }
 
@@ -146,7 +126,7 @@ impl Ids {
     {
         match &self.form {
             Form::Few(ids) => search_block(ids.as_slice(), id),
-            Form::Many(chunks) => chunks.search(id),
+            Form::Many(long) => long.search(id),
         }
     }
 
@@ -165,9 +145,9 @@ impl Ids {
                 let spliced = spliced_block(alloc, block.as_slice(), from, to, ids)?;
                 Ids::from_block(alloc, spliced)
             }
-            Form::Many(chunks) => {
-                let spliced = chunks.spliced(alloc, from, to, ids)?;
-                Ids::from_chunks(alloc, spliced)
+            Form::Many(long) => {
+                let spliced = long.spliced(alloc, from, to, ids)?;
+                Ids::from_long(alloc, spliced)
             }
         }
     }
@@ -183,7 +163,10 @@ impl Ids {
                 let chunks = Chunks::from_slice(alloc, block.as_slice())?;
                 with_each(alloc, &chunks, ids)?
             }
-            Form::Many(chunks) => with_each(alloc, chunks, ids)?,
+            Form::Many(long) => {
+                let chunks = long.to_chunks(alloc)?;
+                with_each(alloc, &chunks, ids)?
+            }
         };
         Ids::from_chunks(alloc, edited)
     }
@@ -199,8 +182,19 @@ impl Ids {
                 let chunks = Chunks::from_slice(alloc, block.as_slice())?;
                 without_each(alloc, &chunks, ids)?
             }
-            Form::Many(chunks) => without_each(alloc, chunks, ids)?,
+            Form::Many(long) => {
+                let chunks = long.to_chunks(alloc)?;
+                without_each(alloc, &chunks, ids)?
+            }
         };
         Ids::from_chunks(alloc, edited)
     }
+}
+
+// The long list of a slice's ids.
+fn long_of(alloc: Global, ids: &[EdgeId]) -> Result<Long, Memory>
+    ensures { IfOk result (λ long. long ≡ ids.now) }
+{
+    let chunks = Chunks::from_slice(alloc, ids)?;
+    Long::from_chunks(alloc, chunks)
 }

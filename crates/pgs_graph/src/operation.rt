@@ -68,9 +68,16 @@ pub enum Op {
 }
 
 /// Operations that are done together or not at all. Only the graph after all of them is judged.
-#[derive(Debug, Drop)]
+#[derive(Debug)]
 pub struct Txn {
     pub ops: List<Op>,
+}
+
+// Dropped by one function of this crate, so that those above need not prove anew how a transaction is taken apart.
+impl Drop for Txn {
+    fn drop(self) {
+        let Txn { ops: _ } = self;
+    }
 }
 
 fn add_node(alloc: Global, id: NodeId, labels: &Labels, props: &Props) -> Result<Op, Memory>

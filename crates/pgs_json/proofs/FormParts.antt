@@ -1,10 +1,9 @@
 -- Digits, names and members of a form.
-use Rattle.std.proofs.Common.{◌≡◌, ℕ, zero, suc, lit≤, ◌^◌, ◌<◌, ◌≤◌, Bool, true, false, cond, ltb, ◌&&◌, List, [], ◌∷◌, length, Some, None, refl, ap, ◌∙◌, arith}
+use Rattle.std.proofs.Common.{◌≡◌, ℕ, zero, suc, lit≤, ◌^◌, ◌<◌, ◌≤◌, Bool, true, false, cond, ltb, ◌&&◌, List, [], ◌∷◌, length, Some, None, option_and_then, refl, ap, ◌∙◌, arith}
 use Rattle.std.specs.List.{list_all}
 use Rattle.std.specs.Char.{digit_value}
 use Rattle.std.specs.Str.{is_utf8, IsUtf8}
 use Rattle.std.proofs.lemmas.Str.{is_utf8-from_IsUtf8, IsUtf8-from_is_utf8}
-use Rattle.serde_json.specs.Data.{Data}
 use Rattle.serde_json.specs.Read.{read}
 use Rattle.pgs_json.specs.Form.{form}
 use Rattle.pgs_json.specs.Line.{txn_of}
@@ -56,15 +55,15 @@ digits_at_all bs h short =
     ap (λ ds. cond (ltb (digits_value 10 ds) (2 ^ 64)) (Some (digits_value 10 ds)) None) (digits_in-all bs h)
     ∙ ap (λ (t : Bool). cond t (Some (digits_value 10 bs)) None) (lt-ltb _ _ small)
 
--- a line that is read as a value, and one that isn't
-pub line_value : (line : List ℕ) (d : Data) → IsUtf8 line → read line ≡ Some d → txn_of line ≡ form d
+-- a line that is a text, and one that isn't
+pub line_text : (line : List ℕ) → IsUtf8 line → txn_of line ≡ option_and_then form (read line)
 unfolding txn_of
-line_value line d utf8 e = rw (is_utf8-from_IsUtf8 line utf8, e) refl
+line_text line utf8 = rw (is_utf8-from_IsUtf8 line utf8) refl
 
-line_none_by : (line : List ℕ) (b : Bool) → is_utf8 line ≡ b → (IsUtf8 line → read line ≡ None) → txn_of line ≡ None
+line_none_by : (line : List ℕ) (b : Bool) → is_utf8 line ≡ b → (IsUtf8 line → ⊥) → txn_of line ≡ None
 unfolding txn_of
-line_none_by line true e h = rw (e, h (IsUtf8-from_is_utf8 line e)) refl
+line_none_by line true e h = absurd (h (IsUtf8-from_is_utf8 line e))
 line_none_by line false e h = rw e refl
 
-pub line_none : (line : List ℕ) → (IsUtf8 line → read line ≡ None) → txn_of line ≡ None
+pub line_none : (line : List ℕ) → (IsUtf8 line → ⊥) → txn_of line ≡ None
 line_none line h = line_none_by line (is_utf8 line) refl h

@@ -3,10 +3,10 @@ pub mod Digits
 pub mod Joined
 pub mod ToldKinds
 mod LabelOrder
-mod Taking
-mod TakenKinds
 mod Spelt
 mod Parts
 mod WrittenRead
+mod Trees
+mod Reading
 mod FormParts
 mod FormLoops

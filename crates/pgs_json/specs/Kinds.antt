@@ -1,13 +1,12 @@
 -- The member that names the kind of an operation, and an operation of a known kind.
 use Rattle.std.specs.Prelude.{ℕ, List, [], ◌∷◌, Option, Some, None, option_map, if◌then◌else◌, codes, bytes_eq}
 use Rattle.std.specs.Option.{option_or}
-use Rattle.pgs_base.specs.declared.value.Value.{Value}
 use Rattle.pgs_base.specs.Options.{◌>>=◌}
 use Rattle.pgs_graph.specs.declared.operation.Op.{Op}
 use Rattle.pgs_graph.specs.declared.operation.Op.TheVariants as ops
 use Rattle.pgs_json.specs.declared.kind.Kind.{Kind}
 use Rattle.pgs_json.specs.declared.kind.Kind.TheVariants.{AddNode, AddEdge, RemoveNode, DetachNode, RemoveEdge, SetNode, UnsetNode, LabelNode, UnlabelNode, SetEdge, UnsetEdge, LabelEdge, UnlabelEdge}
-use Rattle.pgs_json.specs.Form.{node, edge, id_of, name_of, value_of, form_or_empty, labels_of, props_of, add_node, add_edge, with_id, with_name, with_value}
+use Rattle.pgs_json.specs.Form.{node, edge, add_node, add_edge, with_id, with_name, with_value}
 use Rattle.serde_json.specs.Data.{Data, object, Members, no_members, member}
 use Rattle.serde_json.specs.Find.{as_object}
 
@@ -49,23 +48,3 @@ op_as UnlabelEdge d = option_map (λ p. ops.UnlabelEdge (edge p.0) p.1) (with_na
 -- what an object tells to be, by its kind
 abbrev pub op_told : Data → Option Op
 op_told d = as_object d >>= λ ms. kind_in ms >>= λ kind. op_as kind (object ms)
-
--- ---- the same by the members, each taken where it is
-
-abbrev pub node_of : Option Data → Option Data → Option Data → Option Op
-node_of id labels props =
-    id >>= id_of >>= λ id. form_or_empty labels_of labels >>= λ labels. form_or_empty props_of props >>= λ props.
-    Some (ops.AddNode (node id) labels props)
-
-abbrev pub edge_of : Option Data → Option Data → Option Data → Option Data → Option Data → Option Op
-edge_of id source target labels props =
-    id >>= id_of >>= λ id. source >>= id_of >>= λ source. target >>= id_of >>= λ target.
-    form_or_empty labels_of labels >>= λ labels. form_or_empty props_of props >>= λ props.
-    Some (ops.AddEdge (edge id) (node source) (node target) labels props)
-
-abbrev pub named_of : Option Data → Option Data → Option (ℕ × List ℕ)
-named_of id name = id >>= id_of >>= λ id. name >>= name_of >>= λ name. Some (id, name)
-
-abbrev pub valued_of : Option Data → Option Data → Option Data → Option (ℕ × List ℕ × Value)
-valued_of id key value =
-    id >>= id_of >>= λ id. key >>= name_of >>= λ key. value >>= value_of >>= λ value. Some (id, key, value)

@@ -1,4 +1,3 @@
-pub mod Ahead
 pub mod Canonical
 pub mod Digits
 pub mod Form
@@ -6,4 +5,5 @@ pub mod Kinds
 pub mod Line
 pub mod Pieces
 pub mod Sets
+pub mod Tree
 pub mod Unread

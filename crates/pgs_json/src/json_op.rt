@@ -4,23 +4,22 @@ ghost use Rattle.std.specs.Prelude.{◌≡◌, [], ◌∷◌, ◌++◌, option_m
 ghost use Rattle.std.specs.Ordering.{nat_cmp};
 ghost use Rattle.std.specs.Cmp.Lexicographic.{slice_cmp};
 ghost use Rattle.std.specs.BTreeSet.{insert_key};
-ghost use Rattle.serde_json.specs.View.{view, items_view, members_view};
 ghost use Rattle.pgs_json.specs.Sets.{label_set, pair_map};
 ghost use Rattle.pgs_json.specs.Form.{form_or_empty, each_item, each_member, pair_of, name_of, labels_of, props_of, op_of, ops_of, form};
 ghost use Rattle.pgs_json.specs.Kinds.{op_told};
+ghost use Rattle.pgs_json.specs.Tree.{view, items_view, members_view};
 ghost use Rattle.pgs_json.specs.Unread.{Gives};
 ghost use Rattle.pgs_json.specs.declared.unread.Unread.TheVariants.{Memory as OutOfMemory};
 
-use crate::ahead::Ahead;
 use crate::json_part::{has_only, name, value};
 use crate::kind::kind_in;
 use crate::op_of_kind::op_as;
+use crate::tree::{Json, Member};
 use crate::unread::Unread;
 use pgs_base::{Labels, List, Memory, Name, Props, Value};
 use pgs_graph::{Op, Txn};
-use serde_json::Value as Json;
 use std::alloc::Global;
-use std::collections::{BTreeMap, BTreeSet};
+use std::collections::BTreeSet;
 
 /// How many labels are put in one after the other: as many as an element may have.
 const FEW_LABELS: usize = 64;
@@ -29,7 +28,7 @@ const FEW_LABELS: usize = 64;
 const MOST_ROOM: usize = 10_000;
 
 /// Labels that are put in one after the other.
-fn few_labels(alloc: Global, items: &[Json]) -> Result<Labels, Unread>
+fn few_labels(alloc: Global, items: &[Json<'_>]) -> Result<Labels, Unread>
     ensures { Gives (λ x. x) result (option_and_then (λ names. Some (label_set names)) (each_item name_of (items_view items.now))) }
 {
     let mut labels = Labels::new(alloc);
@@ -53,7 +52,7 @@ fn put_name(names: &mut BTreeSet<Name>, name: Name) -> Result<(), Unread>
     }
 }
 
-fn label_names(alloc: Global, items: &[Json]) -> Result<BTreeSet<Name>, Unread>
+fn label_names(alloc: Global, items: &[Json<'_>]) -> Result<BTreeSet<Name>, Unread>
     ensures { Gives (λ names. names.keys) result (option_and_then (λ names. Some (label_set names)) (each_item name_of (items_view items.now))) }
 {
     let mut names = BTreeSet::new(alloc);
@@ -65,7 +64,7 @@ fn label_names(alloc: Global, items: &[Json]) -> Result<BTreeSet<Name>, Unread>
 }
 
 /// Labels that are sorted first, since each one put in moves those behind it.
-fn many_labels(alloc: Global, items: &[Json]) -> Result<Labels, Unread>
+fn many_labels(alloc: Global, items: &[Json<'_>]) -> Result<Labels, Unread>
     ensures { Gives (λ x. x) result (option_and_then (λ names. Some (label_set names)) (each_item name_of (items_view items.now))) }
 {
     let names = label_names(alloc, items)?;
@@ -80,7 +79,7 @@ fn sorted_labels(alloc: Global, names: BTreeSet<Name>) -> Result<Labels, Memory>
     Ok(Labels::from_vec(names))
 }
 
-fn some_labels(alloc: Global, items: &[Json]) -> Result<Labels, Unread>
+fn some_labels(alloc: Global, items: &[Json<'_>]) -> Result<Labels, Unread>
     ensures { Gives (λ x. x) result (option_and_then (λ names. Some (label_set names)) (each_item name_of (items_view items.now))) }
 {
     if items.len() <= FEW_LABELS {
@@ -91,17 +90,17 @@ fn some_labels(alloc: Global, items: &[Json]) -> Result<Labels, Unread>
 }
 
 #[tactic(auto, unfolding(crate::specs::Form::labels_of))]
-fn labels(alloc: Global, value: &Json) -> Result<Labels, Unread>
+fn labels(alloc: Global, value: &Json<'_>) -> Result<Labels, Unread>
     ensures { Gives (λ x. x) result (labels_of (view value.now)) }
 {
     match value.as_array() {
-        Some(items) => some_labels(alloc, items.as_slice()),
+        Some(items) => some_labels(alloc, items),
         None => Err(Unread::Unfit),
     }
 }
 
 /// The labels that a member is, or none where it is absent.
-pub fn labels_part(alloc: Global, part: Option<&Json>) -> Result<Labels, Unread>
+pub fn labels_part(alloc: Global, part: Option<&Json<'_>>) -> Result<Labels, Unread>
     ensures { Gives (λ x. x) result (form_or_empty labels_of (option_map (λ value. view value.now) part.entry)) }
 {
     match part {
@@ -110,7 +109,7 @@ pub fn labels_part(alloc: Global, part: Option<&Json>) -> Result<Labels, Unread>
     }
 }
 
-fn pair(alloc: Global, key: &str, part: &Json) -> Result<(Name, Value), Unread>
+fn pair(alloc: Global, key: &str, part: &Json<'_>) -> Result<(Name, Value), Unread>
     ensures { Gives (λ x. x) result (pair_of key.now (view part.now)) }
 {
     match Name::new(alloc, key.as_bytes())? {
@@ -122,29 +121,29 @@ fn pair(alloc: Global, key: &str, part: &Json) -> Result<(Name, Value), Unread>
     }
 }
 
-fn some_props(alloc: Global, object: &BTreeMap<String, Json>) -> Result<Props, Unread>
-    ensures { Gives (λ x. x) result (option_and_then (λ pairs. Some (pair_map pairs)) (each_member pair_of (members_view object.now.entries))) }
+fn some_props(alloc: Global, members: &[Member<'_>]) -> Result<Props, Unread>
+    ensures { Gives (λ x. x) result (option_and_then (λ pairs. Some (pair_map pairs)) (each_member pair_of (members_view members.now))) }
 {
     let mut props = Props::new(alloc);
-    for (key, part) in object.iter() {
-        let (name, value) = pair(alloc, key.as_str(), part)?;
+    for (key, part) in members {
+        let (name, value) = pair(alloc, key, part)?;
         props.set(name, value)?;
     }
     Ok(props)
 }
 
 #[tactic(auto, unfolding(crate::specs::Form::props_of))]
-fn props(alloc: Global, value: &Json) -> Result<Props, Unread>
+fn props(alloc: Global, value: &Json<'_>) -> Result<Props, Unread>
     ensures { Gives (λ x. x) result (props_of (view value.now)) }
 {
     match value.as_object() {
-        Some(object) => some_props(alloc, object),
+        Some(members) => some_props(alloc, members),
         None => Err(Unread::Unfit),
     }
 }
 
 /// The properties that a member is, or none where it is absent.
-pub fn props_part(alloc: Global, part: Option<&Json>) -> Result<Props, Unread>
+pub fn props_part(alloc: Global, part: Option<&Json<'_>>) -> Result<Props, Unread>
     ensures { Gives (λ x. x) result (form_or_empty props_of (option_map (λ value. view value.now) part.entry)) }
 {
     match part {
@@ -153,17 +152,16 @@ pub fn props_part(alloc: Global, part: Option<&Json>) -> Result<Props, Unread>
     }
 }
 
-fn told_op(alloc: Global, value: &Json) -> Result<Op, Unread>
+fn told_op(alloc: Global, value: &Json<'_>) -> Result<Op, Unread>
     ensures { Gives (λ x. x) result (op_told (view value.now)) }
 {
-    let object = value.as_object().ok_or(Unread::Unfit)?;
-    let kind = kind_in(object).ok_or(Unread::Unfit)?;
-    let mut members = Ahead::new(object);
-    op_as(alloc, kind, &mut members)
+    let members = value.as_object().ok_or(Unread::Unfit)?;
+    let kind = kind_in(members).ok_or(Unread::Unfit)?;
+    op_as(alloc, kind, members)
 }
 
 #[tactic(auto, using(crate::proofs::ToldKinds::op_of_told))]
-fn op(alloc: Global, value: &Json) -> Result<Op, Unread>
+fn op(alloc: Global, value: &Json<'_>) -> Result<Op, Unread>
     ensures { Gives (λ x. x) result (op_of (view value.now)) }
 {
     told_op(alloc, value)
@@ -190,7 +188,7 @@ fn room_for(alloc: Global, count: usize) -> Result<List<Op>, Memory>
     Ok(List::from_vec(ops))
 }
 
-fn some_ops(alloc: Global, items: &[Json]) -> Result<List<Op>, Unread>
+fn some_ops(alloc: Global, items: &[Json<'_>]) -> Result<List<Op>, Unread>
     ensures { Gives (λ x. x) result (each_item op_of (items_view items.now)) }
 {
     let mut ops = room_for(alloc, items.len())?;
@@ -202,18 +200,18 @@ fn some_ops(alloc: Global, items: &[Json]) -> Result<List<Op>, Unread>
 }
 
 #[tactic(auto, unfolding(crate::specs::Form::ops_of))]
-fn ops(alloc: Global, value: &Json) -> Result<List<Op>, Unread>
+fn ops(alloc: Global, value: &Json<'_>) -> Result<List<Op>, Unread>
     ensures { Gives (λ x. x) result (ops_of (view value.now)) }
 {
     match value.as_array() {
-        Some(items) => some_ops(alloc, items.as_slice()),
+        Some(items) => some_ops(alloc, items),
         None => Err(Unread::Unfit),
     }
 }
 
 /// The transaction that a JSON value is.
 #[tactic(auto, unfolding(crate::specs::Form::form))]
-pub fn txn(alloc: Global, value: &Json) -> Result<Txn, Unread>
+pub fn txn(alloc: Global, value: &Json<'_>) -> Result<Txn, Unread>
     ensures { Gives (λ x. x) result (form (view value.now)) }
 {
     if !has_only(value, &["ops"]) {

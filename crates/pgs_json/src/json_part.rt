@@ -3,19 +3,18 @@
 ghost use Rattle.std.specs.Prelude.{◌≡◌, ◌≤◌, ◌<◌, ◌^◌, IfSome, map, length, codes, option_map, option_and_then};
 ghost use Rattle.std.specs.List.{list_any, list_all};
 ghost use Rattle.std.specs.Str.{bytes_eq};
-ghost use Rattle.serde_json.specs.View.{view, members_view};
 ghost use Rattle.pgs_json.specs.Form.{names_in, are_among, has_only, part, id_of, name_of, day_of, date_of, text_in, value_of};
 ghost use Rattle.pgs_base.specs.DayForm.{number_in, day_in};
 ghost use Rattle.pgs_base.specs.Name.{is_between};
 ghost use Rattle.pgs_base.specs.declared.value.Value.TheVariants as values;
+ghost use Rattle.pgs_json.specs.Tree.{view, members_view};
 ghost use Rattle.pgs_json.specs.Unread.{Gives};
 
 use crate::number::digits;
+use crate::tree::{Json, Member};
 use crate::unread::Unread;
 use pgs_base::{Day, Name, Text, Value};
-use serde_json::Value as Json;
 use std::alloc::Global;
-use std::collections::BTreeMap;
 
 fn is_among(names: &[&str], name: &str) -> bool
     ensures { result ≡ list_any (bytes_eq name.now) (map (λ one. one.now) names.now) }
@@ -26,11 +25,12 @@ fn is_among(names: &[&str], name: &str) -> bool
     }
 }
 
-fn are_among(names: &[&str], object: &BTreeMap<String, Json>) -> bool
-    ensures { result ≡ are_among (map (λ one. one.now) names.now) (names_in (members_view object.now.entries)) }
+/// Whether each member has one of these names.
+pub fn are_among(names: &[&str], members: &[Member<'_>]) -> bool
+    ensures { result ≡ are_among (map (λ one. one.now) names.now) (names_in (members_view members.now)) }
 {
-    for (name, _) in object.iter() {
-        if !is_among(names, name.as_str()) {
+    for (name, _) in members {
+        if !is_among(names, name) {
             return false;
         }
     }
@@ -38,24 +38,24 @@ fn are_among(names: &[&str], object: &BTreeMap<String, Json>) -> bool
 }
 
 /// Whether this is an object none of whose members has another name than these.
-pub fn has_only(value: &Json, names: &[&str]) -> bool
+pub fn has_only(value: &Json<'_>, names: &[&str]) -> bool
     ensures { result ≡ has_only (map (λ one. one.now) names.now) (view value.now) }
 {
     match value.as_object() {
-        Some(object) => are_among(names, object),
+        Some(members) => are_among(names, members),
         None => false,
     }
 }
 
 /// The id that a member is, which has to be there.
-pub fn id_part(part: Option<&Json>) -> Result<u64, Unread>
+pub fn id_part(part: Option<&Json<'_>>) -> Result<u64, Unread>
     ensures { Gives (λ x. x) result (option_and_then id_of (option_map (λ value. view value.now) part.entry)) }
 {
-    part.and_then(Json::as_u64).ok_or(Unread::Unfit)
+    part.and_then(|value| value.as_u64()).ok_or(Unread::Unfit)
 }
 
 /// The name that a JSON text is.
-pub fn name(alloc: Global, value: &Json) -> Result<Name, Unread>
+pub fn name(alloc: Global, value: &Json<'_>) -> Result<Name, Unread>
     ensures { Gives (λ x. x) result (name_of (view value.now)) }
 {
     let text = value.as_str().ok_or(Unread::Unfit)?;
@@ -66,7 +66,7 @@ pub fn name(alloc: Global, value: &Json) -> Result<Name, Unread>
 }
 
 /// The name that a member is, which has to be there.
-pub fn name_part(alloc: Global, part: Option<&Json>) -> Result<Name, Unread>
+pub fn name_part(alloc: Global, part: Option<&Json<'_>>) -> Result<Name, Unread>
     ensures { Gives (λ x. x) result (option_and_then name_of (option_map (λ value. view value.now) part.entry)) }
 {
     match part {
@@ -110,14 +110,14 @@ fn day_in(text: &[u8]) -> Option<Day>
     }
 }
 
-fn day(value: &Json) -> Option<Day>
+fn day(value: &Json<'_>) -> Option<Day>
     ensures { result ≡ day_of (view value.now) }
 {
     let text = value.as_str()?;
     day_in(text.as_bytes())
 }
 
-fn date(value: &Json) -> Option<Day>
+fn date(value: &Json<'_>) -> Option<Day>
     ensures { result ≡ date_of (view value.now) }
 {
     if has_only(value, &["date"]) {
@@ -137,8 +137,8 @@ fn text(alloc: Global, text: &str) -> Result<Value, Unread>
 }
 
 /// The property value that a JSON value is.
-#[tactic(auto, using(serde_json::specs::declared::value::Value::the_lemmas))]
-pub fn value(alloc: Global, value: &Json) -> Result<Value, Unread>
+#[tactic(auto, using(crate::specs::declared::tree::Json::the_lemmas))]
+pub fn value(alloc: Global, value: &Json<'_>) -> Result<Value, Unread>
     ensures { Gives (λ x. x) result (value_of (view value.now)) }
 {
     match value {
@@ -147,7 +147,7 @@ pub fn value(alloc: Global, value: &Json) -> Result<Value, Unread>
             let number = number.as_i64().ok_or(Unread::Unfit)?;
             Ok(Value::Int(number))
         }
-        Json::String(characters) => text(alloc, characters.as_str()),
+        Json::String(characters) => text(alloc, characters),
         Json::Object(_) => {
             let day = date(value).ok_or(Unread::Unfit)?;
             Ok(Value::Date(day))
@@ -157,7 +157,7 @@ pub fn value(alloc: Global, value: &Json) -> Result<Value, Unread>
 }
 
 /// The property value that a member is, which has to be there.
-pub fn value_part(alloc: Global, part: Option<&Json>) -> Result<Value, Unread>
+pub fn value_part(alloc: Global, part: Option<&Json<'_>>) -> Result<Value, Unread>
     ensures { Gives (λ x. x) result (option_and_then value_of (option_map (λ value. view value.now) part.entry)) }
 {
     match part {

@@ -1,11 +1,10 @@
 //! Which kind of operation an object is: the member that names it tells.
 
 ghost use Rattle.std.specs.Prelude.{◌≡◌, map};
-ghost use Rattle.serde_json.specs.View.{members_view};
 ghost use Rattle.pgs_json.specs.Kinds.{kind_at, kind_named, kind_in};
+ghost use Rattle.pgs_json.specs.Tree.{members_view};
 
-use serde_json::Value as Json;
-use std::collections::BTreeMap;
+use crate::tree::Member;
 
 /// A kind of operation.
 #[derive(Clone, Copy, Debug, PartialEq, Eq)]
@@ -66,11 +65,11 @@ fn kind_named(name: &str) -> Option<Kind>
 }
 
 /// The kind that the first member with a kind's name tells.
-pub fn kind_in(object: &BTreeMap<String, Json>) -> Option<Kind>
-    ensures { result ≡ kind_in (members_view object.now.entries) }
+pub fn kind_in(members: &[Member<'_>]) -> Option<Kind>
+    ensures { result ≡ kind_in (members_view members.now) }
 {
-    for (name, _) in object.iter() {
-        if let Some(kind) = kind_named(name.as_str()) {
+    for (name, _) in members {
+        if let Some(kind) = kind_named(name) {
             return Some(kind);
         }
     }

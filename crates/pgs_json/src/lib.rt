@@ -5,7 +5,6 @@
 //! that what is written is read again.
 #![tactic(auto)]
 
-mod ahead;
 mod canonical;
 mod json_op;
 mod json_part;
@@ -14,8 +13,11 @@ mod laws;
 mod line;
 mod line_fault;
 mod number;
+mod numeral;
 mod op_of_kind;
+mod ordering;
 mod samples;
+mod tree;
 mod unread;
 
 pub use canonical::{push_txn, txn_room, write_txn};

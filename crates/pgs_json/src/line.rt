@@ -1,31 +1,37 @@
-ghost use Rattle.std.specs.Prelude.{◌≡◌};
+ghost use Rattle.std.specs.Prelude.{◌≡◌, option_and_then};
+ghost use Rattle.serde_json.specs.Read.{read};
+ghost use Rattle.pgs_json.specs.Form.{form};
 ghost use Rattle.pgs_json.specs.Line.{txn_of, Reads};
 ghost use Rattle.pgs_json.specs.Unread.{Gives};
 
 use crate::json_op::txn;
 use crate::line_fault::LineFault;
+use crate::tree::Json;
 use crate::unread::Unread;
+use json::Scratch;
 use pgs_graph::Txn;
-use serde_json::Value as Json;
 use std::alloc::Global;
+use std::str;
 
 /// The most bytes of a line.
 const LONGEST: usize = 1_048_576;
 
+fn text_txn(alloc: Global, text: &str) -> Result<Txn, Unread>
+    ensures { Gives (λ txn. txn) result (option_and_then form (read text.now)) }
+{
+    let mut scratch = Scratch::new(alloc);
+    let value = Json::from_str(alloc, text, &mut scratch)?;
+    txn(alloc, &value)
+}
+
 /// The transaction of a line of whatever length.
-#[tactic(auto, using(crate::proofs::FormParts::line_value, crate::proofs::FormParts::line_none), unfolding(crate::specs::Line::txn_of))]
+#[tactic(auto, using(crate::proofs::FormParts::line_text, crate::proofs::FormParts::line_none))]
 fn line_txn(alloc: Global, line: &[u8]) -> Result<Txn, Unread>
     ensures { Gives (λ txn. txn) result (txn_of line.now) }
 {
-    match Json::from_slice(alloc, line) {
-        Ok(value) => txn(alloc, &value),
-        Err(error) => {
-            if error.is_memory() {
-                Err(Unread::Memory)
-            } else {
-                Err(Unread::Unfit)
-            }
-        }
+    match str::from_utf8(line) {
+        Ok(text) => text_txn(alloc, text),
+        Err(_) => Err(Unread::Unfit),
     }
 }
 

@@ -1,39 +1,32 @@
-//! Operations, each by the members of its kind, taken in the order of their names.
+//! Operations, each by the members of its kind.
 
-ghost use Rattle.std.specs.Prelude.{◌≡◌, codes, option_map};
-ghost use Rattle.std.specs.Ordering.{nat_cmp};
-ghost use Rattle.std.specs.declared.cmp.Ordering.TheVariants.{Less};
-ghost use Rattle.std.specs.Cmp.Lexicographic.{slice_cmp};
+ghost use Rattle.std.specs.Prelude.{◌≡◌, codes};
 ghost use Rattle.serde_json.specs.Data.{object};
-ghost use Rattle.serde_json.specs.View.{view};
 ghost use Rattle.pgs_json.specs.declared.kind.Kind.TheVariants as kinds;
-ghost use Rattle.pgs_json.specs.Ahead.{members_ahead, Ascend};
 ghost use Rattle.pgs_json.specs.Form.{add_node, add_edge, with_id, with_name, with_value};
-ghost use Rattle.pgs_json.specs.Kinds.{op_as, node_of, edge_of, named_of, valued_of};
+ghost use Rattle.pgs_json.specs.Kinds.{op_as};
+ghost use Rattle.pgs_json.specs.Tree.{members_view};
 ghost use Rattle.pgs_json.specs.Unread.{Gives};
 
-use crate::ahead::Ahead;
 use crate::json_op::{labels_part, props_part};
-use crate::json_part::{id_part, name_part, value_part};
+use crate::json_part::{are_among, id_part, name_part, value_part};
 use crate::kind::Kind;
+use crate::tree::{Member, member};
 use crate::unread::Unread;
 use pgs_base::{EdgeId, Name, NodeId, Value};
 use pgs_graph::Op;
-use serde_json::Value as Json;
 use std::alloc::Global;
 
-fn node_of(
-    alloc: Global,
-    id: Option<&Json>,
-    labels: Option<&Json>,
-    props: Option<&Json>,
-) -> Result<Op, Unread>
-    ensures { Gives (λ x. x) result (node_of (option_map (λ part. view part.now) id.entry)
-        (option_map (λ part. view part.now) labels.entry) (option_map (λ part. view part.now) props.entry)) }
+#[tactic(auto, unfolding(crate::specs::Form::add_node))]
+fn add_node(alloc: Global, members: &[Member<'_>]) -> Result<Op, Unread>
+    ensures { Gives (λ x. x) result (add_node (object (members_view members.now))) }
 {
-    let id = id_part(id)?;
-    let labels = labels_part(alloc, labels)?;
-    let props = props_part(alloc, props)?;
+    if !are_among(&["add_node", "labels", "props"], members) {
+        return Err(Unread::Unfit);
+    }
+    let id = id_part(member(members, "add_node"))?;
+    let labels = labels_part(alloc, member(members, "labels"))?;
+    let props = props_part(alloc, member(members, "props"))?;
     Ok(Op::AddNode {
         id: NodeId(id),
         labels,
@@ -41,36 +34,18 @@ fn node_of(
     })
 }
 
-fn add_node(alloc: Global, members: &mut Ahead<'_>) -> Result<Op, Unread>
-    requires { Ascend (members_ahead members.old) }
-    ensures { Gives (λ x. x) result (add_node (object (members_ahead members.old))) }
+#[tactic(auto, unfolding(crate::specs::Form::add_edge))]
+fn add_edge(alloc: Global, members: &[Member<'_>]) -> Result<Op, Unread>
+    ensures { Gives (λ x. x) result (add_edge (object (members_view members.now))) }
 {
-    let id = members.take("add_node");
-    let labels = members.take("labels");
-    let props = members.take("props");
-    if members.is_over() {
-        node_of(alloc, id, labels, props)
-    } else {
-        Err(Unread::Unfit)
+    if !are_among(&["add_edge", "from", "labels", "props", "to"], members) {
+        return Err(Unread::Unfit);
     }
-}
-
-fn edge_of(
-    alloc: Global,
-    id: Option<&Json>,
-    ends: (Option<&Json>, Option<&Json>),
-    labels: Option<&Json>,
-    props: Option<&Json>,
-) -> Result<Op, Unread>
-    ensures { Gives (λ x. x) result (edge_of (option_map (λ part. view part.now) id.entry)
-        (option_map (λ part. view part.now) ends.entry.0) (option_map (λ part. view part.now) ends.entry.1)
-        (option_map (λ part. view part.now) labels.entry) (option_map (λ part. view part.now) props.entry)) }
-{
-    let id = id_part(id)?;
-    let source = id_part(ends.0)?;
-    let target = id_part(ends.1)?;
-    let labels = labels_part(alloc, labels)?;
-    let props = props_part(alloc, props)?;
+    let id = id_part(member(members, "add_edge"))?;
+    let source = id_part(member(members, "from"))?;
+    let target = id_part(member(members, "to"))?;
+    let labels = labels_part(alloc, member(members, "labels"))?;
+    let props = props_part(alloc, member(members, "props"))?;
     Ok(Op::AddEdge {
         id: EdgeId(id),
         source: NodeId(source),
@@ -80,123 +55,73 @@ fn edge_of(
     })
 }
 
-fn add_edge(alloc: Global, members: &mut Ahead<'_>) -> Result<Op, Unread>
-    requires { Ascend (members_ahead members.old) }
-    ensures { Gives (λ x. x) result (add_edge (object (members_ahead members.old))) }
+#[tactic(auto, unfolding(crate::specs::Form::with_id))]
+fn with_id(members: &[Member<'_>], kind: &str) -> Result<u64, Unread>
+    ensures { Gives (λ x. x) result (with_id kind.now (object (members_view members.now))) }
 {
-    let id = members.take("add_edge");
-    let source = members.take("from");
-    let labels = members.take("labels");
-    let props = members.take("props");
-    let target = members.take("to");
-    if members.is_over() {
-        edge_of(alloc, id, (source, target), labels, props)
-    } else {
-        Err(Unread::Unfit)
+    if !are_among(&[kind], members) {
+        return Err(Unread::Unfit);
     }
+    id_part(member(members, kind))
 }
 
-fn with_id(members: &mut Ahead<'_>, kind: &str) -> Result<u64, Unread>
-    requires { Ascend (members_ahead members.old) }
-    ensures { Gives (λ x. x) result (with_id kind.now (object (members_ahead members.old))) }
-{
-    let id = members.take(kind);
-    if members.is_over() {
-        id_part(id)
-    } else {
-        Err(Unread::Unfit)
-    }
-}
-
-fn named_of(alloc: Global, id: Option<&Json>, name: Option<&Json>) -> Result<(u64, Name), Unread>
-    ensures { Gives (λ x. x) result (named_of (option_map (λ part. view part.now) id.entry) (option_map (λ part. view part.now) name.entry)) }
-{
-    let id = id_part(id)?;
-    let name = name_part(alloc, name)?;
-    Ok((id, name))
-}
-
+#[tactic(auto, unfolding(crate::specs::Form::with_name))]
 fn with_name(
     alloc: Global,
-    members: &mut Ahead<'_>,
+    members: &[Member<'_>],
     kind: &str,
     second: &str,
 ) -> Result<(u64, Name), Unread>
-    requires ascend { Ascend (members_ahead members.old) }
-    requires below { slice_cmp nat_cmp second.now kind.now ≡ Less }
-    ensures { Gives (λ x. x) result (with_name kind.now second.now (object (members_ahead members.old))) }
+    ensures { Gives (λ x. x) result (with_name kind.now second.now (object (members_view members.now))) }
 {
-    let name = members.take(second);
-    let id = members.take(kind);
-    if members.is_over() {
-        named_of(alloc, id, name)
-    } else {
-        Err(Unread::Unfit)
+    if !are_among(&[second, kind], members) {
+        return Err(Unread::Unfit);
     }
+    let id = id_part(member(members, kind))?;
+    let name = name_part(alloc, member(members, second))?;
+    Ok((id, name))
 }
 
-fn valued_of(
+#[tactic(auto, unfolding(crate::specs::Form::with_value))]
+fn with_value(
     alloc: Global,
-    id: Option<&Json>,
-    key: Option<&Json>,
-    value: Option<&Json>,
+    members: &[Member<'_>],
+    kind: &str,
 ) -> Result<(u64, Name, Value), Unread>
-    ensures { Gives (λ x. x) result (valued_of (option_map (λ part. view part.now) id.entry)
-        (option_map (λ part. view part.now) key.entry) (option_map (λ part. view part.now) value.entry)) }
+    ensures { Gives (λ x. x) result (with_value kind.now (object (members_view members.now))) }
 {
-    let id = id_part(id)?;
-    let key = name_part(alloc, key)?;
-    let value = value_part(alloc, value)?;
+    if !are_among(&["key", kind, "value"], members) {
+        return Err(Unread::Unfit);
+    }
+    let id = id_part(member(members, kind))?;
+    let key = name_part(alloc, member(members, "key"))?;
+    let value = value_part(alloc, member(members, "value"))?;
     Ok((id, key, value))
 }
 
-fn with_value(
-    alloc: Global,
-    members: &mut Ahead<'_>,
-    kind: &str,
-) -> Result<(u64, Name, Value), Unread>
-    requires ascend { Ascend (members_ahead members.old) }
-    requires key_below { slice_cmp nat_cmp (codes "key") kind.now ≡ Less }
-    requires value_above { slice_cmp nat_cmp kind.now (codes "value") ≡ Less }
-    ensures { Gives (λ x. x) result (with_value kind.now (object (members_ahead members.old))) }
-{
-    let key = members.take("key");
-    let id = members.take(kind);
-    let value = members.take("value");
-    if members.is_over() {
-        valued_of(alloc, id, key, value)
-    } else {
-        Err(Unread::Unfit)
-    }
-}
-
-fn remove_node(members: &mut Ahead<'_>) -> Result<Op, Unread>
-    requires { Ascend (members_ahead members.old) }
-    ensures { Gives (λ x. x) result (op_as kinds.RemoveNode (object (members_ahead members.old))) }
+fn remove_node(members: &[Member<'_>]) -> Result<Op, Unread>
+    ensures { Gives (λ x. x) result (op_as kinds.RemoveNode (object (members_view members.now))) }
 {
     let id = with_id(members, "remove_node")?;
     Ok(Op::RemoveNode { id: NodeId(id) })
 }
 
-fn detach_node(members: &mut Ahead<'_>) -> Result<Op, Unread>
-    requires { Ascend (members_ahead members.old) }
-    ensures { Gives (λ x. x) result (op_as kinds.DetachNode (object (members_ahead members.old))) }
+fn detach_node(members: &[Member<'_>]) -> Result<Op, Unread>
+    ensures { Gives (λ x. x) result (op_as kinds.DetachNode (object (members_view members.now))) }
 {
     let id = with_id(members, "detach_node")?;
     Ok(Op::DetachNode { id: NodeId(id) })
 }
 
-fn remove_edge(members: &mut Ahead<'_>) -> Result<Op, Unread>
-    requires { Ascend (members_ahead members.old) }
-    ensures { Gives (λ x. x) result (op_as kinds.RemoveEdge (object (members_ahead members.old))) }
+fn remove_edge(members: &[Member<'_>]) -> Result<Op, Unread>
+    ensures { Gives (λ x. x) result (op_as kinds.RemoveEdge (object (members_view members.now))) }
 {
     let id = with_id(members, "remove_edge")?;
     Ok(Op::RemoveEdge { id: EdgeId(id) })
 }
 
-fn set_node(alloc: Global, members: &mut Ahead<'_>) -> Result<Op, Unread>
-    requires { Ascend (members_ahead members.old) }
-    ensures { Gives (λ x. x) result (op_as kinds.SetNode (object (members_ahead members.old))) }
+fn set_node(alloc: Global, members: &[Member<'_>]) -> Result<Op, Unread>
+    ensures { Gives (λ x. x) result (op_as kinds.SetNode (object (members_view members.now))) }
 {
     let (id, key, value) = with_value(alloc, members, "set_node")?;
     Ok(Op::SetNode {
@@ -206,9 +131,8 @@ fn set_node(alloc: Global, members: &mut Ahead<'_>) -> Result<Op, Unread>
     })
 }
 
-fn set_edge(alloc: Global, members: &mut Ahead<'_>) -> Result<Op, Unread>
-    requires { Ascend (members_ahead members.old) }
-    ensures { Gives (λ x. x) result (op_as kinds.SetEdge (object (members_ahead members.old))) }
+fn set_edge(alloc: Global, members: &[Member<'_>]) -> Result<Op, Unread>
+    ensures { Gives (λ x. x) result (op_as kinds.SetEdge (object (members_view members.now))) }
 {
     let (id, key, value) = with_value(alloc, members, "set_edge")?;
     Ok(Op::SetEdge {
@@ -218,9 +142,8 @@ fn set_edge(alloc: Global, members: &mut Ahead<'_>) -> Result<Op, Unread>
     })
 }
 
-fn unset_node(alloc: Global, members: &mut Ahead<'_>) -> Result<Op, Unread>
-    requires { Ascend (members_ahead members.old) }
-    ensures { Gives (λ x. x) result (op_as kinds.UnsetNode (object (members_ahead members.old))) }
+fn unset_node(alloc: Global, members: &[Member<'_>]) -> Result<Op, Unread>
+    ensures { Gives (λ x. x) result (op_as kinds.UnsetNode (object (members_view members.now))) }
 {
     let (id, key) = with_name(alloc, members, "unset_node", "key")?;
     Ok(Op::UnsetNode {
@@ -229,9 +152,8 @@ fn unset_node(alloc: Global, members: &mut Ahead<'_>) -> Result<Op, Unread>
     })
 }
 
-fn unset_edge(alloc: Global, members: &mut Ahead<'_>) -> Result<Op, Unread>
-    requires { Ascend (members_ahead members.old) }
-    ensures { Gives (λ x. x) result (op_as kinds.UnsetEdge (object (members_ahead members.old))) }
+fn unset_edge(alloc: Global, members: &[Member<'_>]) -> Result<Op, Unread>
+    ensures { Gives (λ x. x) result (op_as kinds.UnsetEdge (object (members_view members.now))) }
 {
     let (id, key) = with_name(alloc, members, "unset_edge", "key")?;
     Ok(Op::UnsetEdge {
@@ -240,9 +162,8 @@ fn unset_edge(alloc: Global, members: &mut Ahead<'_>) -> Result<Op, Unread>
     })
 }
 
-fn label_node(alloc: Global, members: &mut Ahead<'_>) -> Result<Op, Unread>
-    requires { Ascend (members_ahead members.old) }
-    ensures { Gives (λ x. x) result (op_as kinds.LabelNode (object (members_ahead members.old))) }
+fn label_node(alloc: Global, members: &[Member<'_>]) -> Result<Op, Unread>
+    ensures { Gives (λ x. x) result (op_as kinds.LabelNode (object (members_view members.now))) }
 {
     let (id, label) = with_name(alloc, members, "label_node", "label")?;
     Ok(Op::LabelNode {
@@ -251,9 +172,8 @@ fn label_node(alloc: Global, members: &mut Ahead<'_>) -> Result<Op, Unread>
     })
 }
 
-fn label_edge(alloc: Global, members: &mut Ahead<'_>) -> Result<Op, Unread>
-    requires { Ascend (members_ahead members.old) }
-    ensures { Gives (λ x. x) result (op_as kinds.LabelEdge (object (members_ahead members.old))) }
+fn label_edge(alloc: Global, members: &[Member<'_>]) -> Result<Op, Unread>
+    ensures { Gives (λ x. x) result (op_as kinds.LabelEdge (object (members_view members.now))) }
 {
     let (id, label) = with_name(alloc, members, "label_edge", "label")?;
     Ok(Op::LabelEdge {
@@ -262,9 +182,8 @@ fn label_edge(alloc: Global, members: &mut Ahead<'_>) -> Result<Op, Unread>
     })
 }
 
-fn unlabel_node(alloc: Global, members: &mut Ahead<'_>) -> Result<Op, Unread>
-    requires { Ascend (members_ahead members.old) }
-    ensures { Gives (λ x. x) result (op_as kinds.UnlabelNode (object (members_ahead members.old))) }
+fn unlabel_node(alloc: Global, members: &[Member<'_>]) -> Result<Op, Unread>
+    ensures { Gives (λ x. x) result (op_as kinds.UnlabelNode (object (members_view members.now))) }
 {
     let (id, label) = with_name(alloc, members, "unlabel_node", "label")?;
     Ok(Op::UnlabelNode {
@@ -273,9 +192,8 @@ fn unlabel_node(alloc: Global, members: &mut Ahead<'_>) -> Result<Op, Unread>
     })
 }
 
-fn unlabel_edge(alloc: Global, members: &mut Ahead<'_>) -> Result<Op, Unread>
-    requires { Ascend (members_ahead members.old) }
-    ensures { Gives (λ x. x) result (op_as kinds.UnlabelEdge (object (members_ahead members.old))) }
+fn unlabel_edge(alloc: Global, members: &[Member<'_>]) -> Result<Op, Unread>
+    ensures { Gives (λ x. x) result (op_as kinds.UnlabelEdge (object (members_view members.now))) }
 {
     let (id, label) = with_name(alloc, members, "unlabel_edge", "label")?;
     Ok(Op::UnlabelEdge {
@@ -285,9 +203,8 @@ fn unlabel_edge(alloc: Global, members: &mut Ahead<'_>) -> Result<Op, Unread>
 }
 
 /// The operation of a kind that these members are.
-pub fn op_as(alloc: Global, kind: Kind, members: &mut Ahead<'_>) -> Result<Op, Unread>
-    requires { Ascend (members_ahead members.old) }
-    ensures { Gives (λ x. x) result (op_as kind (object (members_ahead members.old))) }
+pub fn op_as(alloc: Global, kind: Kind, members: &[Member<'_>]) -> Result<Op, Unread>
+    ensures { Gives (λ x. x) result (op_as kind (object (members_view members.now))) }
 {
     match kind {
         Kind::AddNode => add_node(alloc, members),

@@ -1,3 +1,5 @@
+use std::alloc::AllocFailed;
+
 /// Why nothing was read.
 #[derive(Clone, Copy, Debug, PartialEq, Eq)]
 pub enum Unread {
@@ -15,5 +17,27 @@ impl From<pgs_base::Memory> for Unread {
 
     fn from(_: pgs_base::Memory) -> Unread {
         Unread::Memory
+    }
+}
+
+impl<T: Drop> From<AllocFailed<T>> for Unread {
+    ghost use Rattle.std.specs.Prelude.{◌≡◌};
+    ghost use Rattle.pgs_json.specs.declared.unread.Unread.TheVariants.{Memory as OutOfMemory};
+
+    ghost from_gives = { λ _ e. e ≡ OutOfMemory };
+
+    fn from(_: AllocFailed<T>) -> Unread {
+        Unread::Memory
+    }
+}
+
+impl From<json::Invalid> for Unread {
+    ghost use Rattle.std.specs.Prelude.{◌≡◌};
+    ghost use Rattle.pgs_json.specs.declared.unread.Unread.TheVariants.{Unfit};
+
+    ghost from_gives = { λ _ e. e ≡ Unfit };
+
+    fn from(_: json::Invalid) -> Unread {
+        Unread::Unfit
     }
 }

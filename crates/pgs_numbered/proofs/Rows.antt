@@ -267,16 +267,6 @@ module _ {K V : Type 0} {eq : K → K → Bool} {cmp : K → K → Ordering} (to
         subst (λ e. IsDistinct e (keys_of es) → IsSome (lookup (e k) es) → by_key cmp (present (set_value (e k) es (Some v))) ≡ insert_entry cmp (by_key cmp (present es)) k v) (sym (eq_is cmp ties))
         (set_there total exact k (Some v) es)
 
--- the first of the rows, taken out
-pub first_taken : {K V : Type 0} {cmp : K → K → Ordering} → IsTotalOrder cmp → (rows : List (K × V)) (id : K) (ids : List K) → keys_of rows ≡ id ∷ ids →
-    (v : V) × (lookup (is_at (cmp id)) rows ≡ Some v) × (rows ≡ (id, v) ∷ remove_entry (is_at (cmp id)) rows) × (keys_of (remove_entry (is_at (cmp id)) rows) ≡ ids)
-first_taken total [] id ids keys = cc
-first_taken {cmp = cmp} total (r ∷ rs) id ids keys =
-    let head : r.0 ≡ id = ap (λ l. get_or l 0 id) keys in
-    let tail : keys_of rs ≡ ids = ap (drop 1) keys in
-    let tie : is_at (cmp id) r.0 ≡ true = ap (λ k. is_at (cmp id) k) head ∙ ap is_eq (tied_itself total id) in
-    (r.1, rw tie refl, rw tie (ap (λ k. (k, r.1) ∷ rs) head), rw tie tail)
-
 -- the first of what is left of a list that a loop goes over
 pub first_of_rest : {X : Type 0} (items : List X) (i : ℕ) (x : X) → i < length items → x ≡ get_or items i x → drop i items ≡ x ∷ drop (i + 1) items
 first_of_rest items i x within is = rw (add-one, drop-cons items i x) (ap (λ l. l ∷ drop (suc i) items) (sym is))

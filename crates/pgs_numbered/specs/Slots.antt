@@ -1,9 +1,10 @@
 -- What a table of numbered rows is seen as: the rows that are there by ascending number, and the numbers that have a slot.
-use Rattle.std.specs.Prelude.{◌≡◌, ℕ, Bool, List, length, [], ◌∷◌, ◌++◌, Option, Some, None, refl}
+use Rattle.std.specs.Prelude.{◌≡◌, ℕ, Bool, List, length, [], ◌∷◌, ◌++◌, Option, Some, None, ◌<◌, get_or, refl}
 use Rattle.std.specs.Coded.{Coded, code_by, coded_list, coded×}
 use Rattle.std.specs.declared.cmp.Ordering.{Ordering}
 use Rattle.std.specs.List.{list_any, IsDistinct}
-use Rattle.std.specs.Map.{keys_of}
+use Rattle.std.specs.Map.{keys_of, lookup, set_value}
+use Rattle.indexmap.specs.Layout.{set_value_at}
 use Rattle.std.specs.BTreeMap.{is_at, insert_entry}
 use Rattle.pgs_graph.specs.Merging.{left_at}
 
@@ -39,3 +40,9 @@ row_count (Some row) = 1
 pub record AreSlots {K V : Type 0} (eq : K → K → Bool) (count : ℕ) (slots : List (K × Option V)) : Type 0 where
   pub distinct : IsDistinct eq (keys_of slots)
   pub counted : count ≡ length (present slots)
+
+-- the entry that a test finds is the one at a place
+pub record IsFoundAt {K W : Type 0} (test : K → Bool) (entries : List (K × W)) (place : ℕ) : Type 0 where
+  pub in_range : place < length entries
+  pub found : (d : K × W) → lookup test entries ≡ Some (get_or entries place d).1
+  pub sets : (new : W) → set_value_at entries place new ≡ set_value test entries new

@@ -6,6 +6,7 @@
 
 mod number;
 mod numbered;
+mod places;
 
-pub use number::Number;
+pub use number::{Number, Numeric};
 pub use numbered::Numbered;

@@ -1,12 +1,13 @@
-ghost use Rattle.std.specs.Prelude.{◌≡◌, ◌+◌, ◌<◌, ◌≤◌, ◌^◌, true, [], length, is_some, OnOk, OnSome, IfOk, Some};
+ghost use Rattle.std.specs.Prelude.{◌≡◌, ◌+◌, ◌<◌, ◌≤◌, ◌^◌, true, [], length, is_some, OnOk, OnSome, IfOk, MatchOption, None, Some};
 ghost use Rattle.std.specs.Option.{option_copied, option_flatten};
 ghost use Rattle.std.specs.List.{list_any, IsDistinct};
 ghost use Rattle.std.specs.List.Sorted.{IsStrictlySortedBy};
 ghost use Rattle.std.specs.BTreeMap.{is_at, insert_entry};
 ghost use Rattle.std.specs.Map.{keys_of, lookup, remove_entry, set_value};
-ghost use Rattle.pgs_numbered.specs.Slots.{has_slot, present, row_count};
+ghost use Rattle.pgs_numbered.specs.Slots.{has_slot, present, row_count, IsFoundAt};
 
 use crate::Number;
+use crate::places::Places;
 use indexmap::IndexMap;
 use pgs_base::{List, Memory, Seed};
 use std::alloc::Global;
@@ -18,6 +19,7 @@ use std::mem;
 pub struct Numbered<K: Number, V> {
     slots: IndexMap<K, Option<V>, Seed>,
     live: usize,
+    last: Places,
 }
 
 impl<K: Number, V> Model for Numbered<K, V> {
@@ -42,6 +44,7 @@ impl<K: Number, V: Drop> Numbered<K, V> {
         Numbered {
             slots: IndexMap::with_hasher(alloc, seed),
             live: 0,
+            last: Places::new(),
         }
     }
 
@@ -49,7 +52,7 @@ impl<K: Number, V: Drop> Numbered<K, V> {
     pub fn get(&self, id: K) -> Option<&V>
         ensures { option_copied result ≡ lookup (is_at (K.cmp id)) self.now.rows }
     {
-        match self.slots.get(&id) {
+        match read(&self.slots, &self.last, id) {
             Some(slot) => slot.as_ref(),
             None => None,
         }
@@ -61,10 +64,12 @@ impl<K: Number, V: Drop> Numbered<K, V> {
         ensures there { OnOk result (has_slot K.cmp self.new id ≡ true) }
         ensures kept { (other : K) → has_slot K.cmp self.old other ≡ true → has_slot K.cmp self.new other ≡ true }
     {
-        if self.slots.contains_key(&id) {
+        if find(&self.slots, &self.last, id).is_some() {
             return Ok(());
         }
+        let place = self.slots.len();
         self.slots.insert(id, None)?;
+        self.last.note(id.number(), place);
         Ok(())
     }
 
@@ -76,7 +81,7 @@ impl<K: Number, V: Drop> Numbered<K, V> {
         ensures there { OnSome result (has_slot K.cmp self.new id ≡ true) }
         ensures ascending { IsStrictlySortedBy K.cmp (keys_of self.old.rows) }
     {
-        let old = replace(&mut self.slots, id, None);
+        let old = replace(&mut self.slots, &self.last, id, None);
         self.live -= count_row(&old);
         old
     }
@@ -88,7 +93,7 @@ impl<K: Number, V: Drop> Numbered<K, V> {
         ensures numbers { self.new.numbers ≡ self.old.numbers }
     {
         let _slots = self.slots.len();
-        let old = replace(&mut self.slots, id, Some(row));
+        let old = replace(&mut self.slots, &self.last, id, Some(row));
         self.live = self.live - count_row(&old) + 1;
     }
 
@@ -109,33 +114,6 @@ impl<K: Number, V: Drop> Numbered<K, V> {
         let mut ids = listed(&self.slots, alloc)?;
         ids.sort_unstable();
         Ok(List::from_vec(ids))
-    }
-
-    /// The rows with their numbers, ascending. `Memory` where none was left.
-    pub fn into_rows(self, alloc: Global) -> Result<List<(K, V)>, Memory>
-        ensures rows { IfOk result (λ rows. rows ≡ self.rows) }
-        ensures ascending { IfOk result (λ rows. IsStrictlySortedBy K.cmp (keys_of rows)) }
-    {
-        let _rows = self.len();
-        let ids = self.ids(alloc)?;
-        let mut table = self;
-        let rows = table.take_all(alloc, ids.as_slice())?;
-        Ok(List::from_vec(rows))
-    }
-
-    // Takes out the rows of the numbers that have one.
-    fn take_all(&mut self, alloc: Global, ids: &[K]) -> Result<Vec<(K, V)>, Memory>
-        requires { keys_of self.old.rows ≡ ids.now }
-        ensures { IfOk result (λ rows. rows.items ≡ self.old.rows) }
-    {
-        let mut rows = Vec::with_capacity(alloc, ids.len())?;
-        for id in ids {
-            match self.take(*id) {
-                Some(row) => rows.push((*id, row))?,
-                None => {}
-            }
-        }
-        Ok(rows)
     }
 
     /// Takes out the slots without a row, where they are more than half of all.
@@ -164,9 +142,55 @@ fn listed<K: Number, V: Drop>(
     Ok(ids)
 }
 
+// Whether the slot of a number stands at a place.
+fn stands_at<K: Number, V: Drop>(slots: &IndexMap<K, Option<V>, Seed>, place: usize, id: K) -> bool
+    ensures { result ≡ true → IsFoundAt (K.eq id) slots.now.entries place }
+{
+    let _unique = slots.len();
+    match slots.get_index(place) {
+        Some((key, _)) => id == *key,
+        None => false,
+    }
+}
+
+// The place of the slot of a number. It is looked for where one was found last.
+fn find<K: Number, V: Drop>(
+    slots: &IndexMap<K, Option<V>, Seed>,
+    last: &Places,
+    id: K,
+) -> Option<usize>
+    ensures place { MatchOption result (lookup (K.eq id) slots.now.entries ≡ None) (IsFoundAt (K.eq id) slots.now.entries) }
+    ensures unique { IsDistinct K.eq (keys_of slots.now.entries) }
+{
+    let _unique = slots.len();
+    let near = last.near(id.number());
+    if stands_at(slots, near, id) {
+        return Some(near);
+    }
+    let (place, _, _) = slots.get_full(&id)?;
+    last.note(id.number(), place);
+    Some(place)
+}
+
+// The slot of a number.
+fn read<'a, K: Number, V: Drop>(
+    slots: &'a IndexMap<K, Option<V>, Seed>,
+    last: &Places,
+    id: K,
+) -> Option<&'a Option<V>>
+    ensures { option_copied result ≡ lookup (K.eq id) slots.now.entries }
+{
+    let place = find(slots, last, id)?;
+    match slots.get_index(place) {
+        Some((_, slot)) => Some(slot),
+        None => None,
+    }
+}
+
 // Puts a row, or none, into the slot of a number, and answers what was there. Where there is no slot, nothing happens.
 fn replace<K: Number, V: Drop>(
     slots: &mut IndexMap<K, Option<V>, Seed>,
+    last: &Places,
     id: K,
     row: Option<V>,
 ) -> Option<V>
@@ -174,7 +198,10 @@ fn replace<K: Number, V: Drop>(
     ensures old { result ≡ option_flatten (lookup (K.eq id) slots.old.entries) }
     ensures unique { IsDistinct K.eq (keys_of slots.old.entries) }
 {
-    match slots.get_mut(&id) {
+    let Some(place) = find(slots, last, id) else {
+        return None;
+    };
+    match slots.get_index_mut(place) {
         Some(slot) => mem::replace(slot, row),
         None => None,
     }

@@ -6,9 +6,9 @@ use Rattle.std.proofs.lemmas.Bool.{cases_lt}
 use Rattle.std.proofs.lemmas.Option.{slice_get_within, get_or_from_slice_get, slice_get-get_or}
 use Rattle.pgs_base.specs.declared.element.EdgeId.{EdgeId}
 use Rattle.pgs_base.specs.Graph.{edge_cmp}
-use Rattle.pgs_edges.specs.Numbers.{numbered, number_at, AllBelow, AllAbove}
+use Rattle.pgs_edges.specs.Numbers.{numbered, number_at, AllBelow, AllAbove, IsBetween}
 use Rattle.pgs_edges.proofs.Searched.{numbers_same, ascends}
-use Rattle.pgs_overlay.specs.Found.{AllFrom, IsLower, StandsAt, WouldStandAt}
+use Rattle.pgs_overlay.specs.Found.{AllFrom, IsLower, StandsAt}
 
 module _ (xs : List EdgeId) (up : IsStrictlySortedBy edge_cmp xs) (edge : EdgeId) (place : ℕ) where
   number_found : (found : EdgeId) → slice_get xs place ≡ Some found → number_at xs place ≡ found.0
@@ -48,7 +48,7 @@ module _ (xs : List EdgeId) (up : IsStrictlySortedBy edge_cmp xs) (edge : EdgeId
 
   -- and where it isn't
   stands_before : place ≤ length xs → AllBelow edge xs place → AllFrom edge xs place
-      → (place < length xs → number_at xs place ≡ edge.0 → ⊥) → WouldStandAt edge xs place
+      → (place < length xs → number_at xs place ≡ edge.0 → ⊥) → IsBetween edge xs place
   stands_before le below from other = record { in_range = le; below = below; above = above }
     where
       above : AllAbove edge xs place
@@ -61,10 +61,10 @@ module _ (xs : List EdgeId) (up : IsStrictlySortedBy edge_cmp xs) (edge : EdgeId
       ]
 
   pub stands_before_other : place ≤ length xs → AllBelow edge xs place → AllFrom edge xs place
-      → (found : EdgeId) → slice_get xs place ≡ Some found → (found.0 ≡ edge.0 → ⊥) → WouldStandAt edge xs place
+      → (found : EdgeId) → slice_get xs place ≡ Some found → (found.0 ≡ edge.0 → ⊥) → IsBetween edge xs place
   stands_before_other le below from found e other =
       stands_before le below from (λ within same. other (sym (number_found found e) ∙ same))
 
-  pub stands_last : place ≤ length xs → AllBelow edge xs place → AllFrom edge xs place → slice_get xs place ≡ None → WouldStandAt edge xs place
+  pub stands_last : place ≤ length xs → AllBelow edge xs place → AllFrom edge xs place → slice_get xs place ≡ None → IsBetween edge xs place
   stands_last le below from e =
       stands_before le below from (λ within same. let some = slice_get-get_or xs place (numbered 0) within in absurd (cc))

@@ -1,7 +1,7 @@
--- Where an edge stands among edges by ascending number, or would stand.
+-- Where an edge stands among edges by ascending number.
 use Rattle.std.specs.Prelude.{◌≡◌, ℕ, ◌+◌, ◌<◌, ◌≤◌, List, length}
 use Rattle.pgs_base.specs.declared.element.EdgeId.{EdgeId}
-use Rattle.pgs_edges.specs.Numbers.{number_at, AllBelow, AllAbove}
+use Rattle.pgs_edges.specs.Numbers.{number_at, AllBelow}
 
 -- the numbers from a place on are that of an edge or above it
 abbrev pub AllFrom : EdgeId → List EdgeId → ℕ → Type 0
@@ -16,9 +16,3 @@ pub record IsLower (id : EdgeId) (edges : List EdgeId) (place : ℕ) : Type 0 wh
 pub record StandsAt (id : EdgeId) (edges : List EdgeId) (place : ℕ) : Type 0 where
   pub in_range : place < length edges
   pub here : number_at edges place ≡ id.0
-
--- the edge isn't there, and would stand at a place
-pub record WouldStandAt (id : EdgeId) (edges : List EdgeId) (place : ℕ) : Type 0 where
-  pub in_range : place ≤ length edges
-  pub below : AllBelow id edges place
-  pub above : AllAbove id edges place

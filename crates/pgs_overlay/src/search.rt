@@ -1,9 +1,9 @@
 ghost use Rattle.std.specs.Prelude.{◌≡◌, ◌+◌, ◌-◌, ◌*◌, ◌<◌, ◌≤◌, length, MatchResult, true, false};
 ghost use Rattle.pgs_base.specs.declared.element.NodeId.{NodeId};
 ghost use Rattle.pgs_base.specs.Graph.{is_graph};
-ghost use Rattle.pgs_edges.specs.Numbers.{AllBelow};
+ghost use Rattle.pgs_edges.specs.Numbers.{AllBelow, IsBetween};
 ghost use Rattle.pgs_overlay.specs.declared.side.Side.{Side};
-ghost use Rattle.pgs_overlay.specs.Found.{AllFrom, IsLower, StandsAt, WouldStandAt};
+ghost use Rattle.pgs_overlay.specs.Found.{AllFrom, IsLower, StandsAt};
 ghost use Rattle.pgs_overlay.specs.Sides.{edges_at};
 
 use crate::side::{Side, edge_at};
@@ -112,7 +112,7 @@ pub fn search<B: GraphRead, L: Ledger>(
     requires in_range { from ≤ length (edges_at side id (B.meaning base.now).edges) }
     requires lower { AllBelow edge (edges_at side id (B.meaning base.now).edges) from }
     ensures place { MatchResult result (StandsAt edge (edges_at side id (B.meaning base.now).edges))
-        (WouldStandAt edge (edges_at side id (B.meaning base.now).edges)) }
+        (IsBetween edge (edges_at side id (B.meaning base.now).edges)) }
     ensures graph { is_graph (B.meaning base.now) ≡ true }
     ensures never_back { steps.old ≤ steps.new }
     ensures cost { steps.new ≤ steps.old + 2 * length (edges_at side id (B.meaning base.now).edges) + 3 }

@@ -5,6 +5,7 @@ pub mod FirstNones
 pub mod Items
 pub mod NextToken
 pub mod NoMode
+pub mod OneItem
 pub mod OneToken
 pub mod ParseAnswers
 pub mod Pieces

@@ -107,3 +107,9 @@ listed_at begin item = numbered begin (λ place. item) none_declared 0
 
 abbrev pub each_at : {A : Type 0} → (List Lexeme → Option (List Lexeme)) → Reader A → Reader (List A)
 each_at begin item tokens = more begin (λ place. item) none_declared (length tokens) 0 tokens
+
+-- an item that has been read, and further ones after it
+abbrev pub followed : {A : Type 0} → (List Lexeme → Option (List Lexeme)) → (ℕ → Reader A) → (A → List ℕ) → ℕ → A × List Lexeme → Option (List A × List Lexeme)
+followed begin item places place first = do
+  others ← more begin item places (length first.1) (place + length (places first.0)) first.1
+  Some (first.0 ∷ others.0, others.1)

@@ -1,4 +1,7 @@
 //! The productions of keys, each named as in the grammar.
+//!
+//! A list begins with room for one item, since most have one. The productions of a place are one function with their callers:
+//! its tree is large, and each call would move it once more.
 
 ghost use Rattle.std.specs.Prelude.{◌≡◌, ◌∷◌, codes, IsTrue, ◌↔◌, true};
 ghost use Rattle.std.specs.List.{list_any};
@@ -41,7 +44,7 @@ impl Parser<'_> {
         ensures { Reads result self.new (listed_at (after (the_sign separator.now)) name_at self.old) }
     {
         let first = self.name()?;
-        let mut names = Vec::new(self.alloc);
+        let mut names = Vec::with_capacity(self.alloc, 1)?;
         names.push(first)?;
         while self.passes_sign(separator) {
             let name = self.name()?;
@@ -67,7 +70,7 @@ impl Parser<'_> {
         ensures { Reads result self.new (listed_at (sign_at ",") test_at self.old) }
     {
         let first = self.test()?;
-        let mut tests = Vec::new(self.alloc);
+        let mut tests = Vec::with_capacity(self.alloc, 1)?;
         tests.push(first)?;
         while self.passes_sign(b",") {
             let test = self.test()?;
@@ -103,6 +106,7 @@ impl Parser<'_> {
         }
     }
 
+    #[inline(always)]
     #[tactic(auto, unfolding(crate::specs::KeyReaders::place_at))]
     fn place(&mut self) -> Result<RawPlace, Unread>
         ensures { Reads result self.new (place_at self.old) }
@@ -114,6 +118,7 @@ impl Parser<'_> {
         Ok(RawPlace { var, filter })
     }
 
+    #[inline(always)]
     #[tactic(auto, unfolding(crate::specs::KeyReaders::node_at))]
     fn node(&mut self) -> Result<RawPlace, Unread>
         ensures { Reads result self.new (node_at self.old) }
@@ -125,6 +130,7 @@ impl Parser<'_> {
     }
 
     /// The place of an edge, in its brackets.
+    #[inline(always)]
     #[tactic(auto, unfolding(crate::specs::KeyReaders::edge_at))]
     fn edge(&mut self) -> Result<RawPlace, Unread>
         ensures { Reads result self.new (edge_at self.old) }
@@ -174,7 +180,7 @@ impl Parser<'_> {
     fn steps(&mut self) -> Result<List<RawStep>, Unread>
         ensures { Reads result self.new (each_at step_begins step_at self.old) }
     {
-        let mut steps = Vec::new(self.alloc);
+        let mut steps = Vec::with_capacity(self.alloc, usize::from(self.is_at_step()))?;
         while self.is_at_step() {
             let step = self.step()?;
             steps.push(step)?;
@@ -182,6 +188,7 @@ impl Parser<'_> {
         Ok(List::from_vec(steps))
     }
 
+    #[inline(always)]
     #[tactic(auto, unfolding(crate::specs::KeyReaders::path_at))]
     fn path(&mut self) -> Result<RawPath, Unread>
         ensures { Reads result self.new (path_at self.old) }
@@ -196,7 +203,7 @@ impl Parser<'_> {
         ensures { Reads result self.new (paths_at self.old) }
     {
         let first = self.path()?;
-        let mut paths = Vec::new(self.alloc);
+        let mut paths = Vec::with_capacity(self.alloc, 1)?;
         paths.push(first)?;
         while self.passes_comma_unless(b"FOR") {
             let path = self.path()?;
@@ -295,7 +302,7 @@ impl Parser<'_> {
         ensures { Reads result self.new (exprs_at self.old) }
     {
         let first = self.expr()?;
-        let mut exprs = Vec::new(self.alloc);
+        let mut exprs = Vec::with_capacity(self.alloc, 1)?;
         exprs.push(first)?;
         while self.passes_comma_unless(b"FOR") {
             let expr = self.expr()?;

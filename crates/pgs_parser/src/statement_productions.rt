@@ -1,4 +1,6 @@
 //! The productions of statements, each named as in the grammar.
+//!
+//! Those of an element are one function with their caller, so that its tree is not moved by each.
 
 ghost use Rattle.std.specs.Prelude.{◌≡◌, ◌+◌, ◌<◌, ◌≤◌, ◌^◌, ◌&&◌, ◌||◌, length, flat_map, codes};
 ghost use Rattle.pgs_parser.specs.Progress.{Reads};
@@ -9,7 +11,7 @@ ghost use Rattle.pgs_parser.specs.Gives.{Gives};
 
 use crate::parser::Parser;
 use crate::unread::Unread;
-use pgs_base::{List, Name};
+use pgs_base::{Boxed, List, Name};
 use pgs_syntax::{GraphType, Member, RawKey, Statement};
 
 /// How many types a member declares.
@@ -43,25 +45,30 @@ pub fn declared_in(statement: &Statement) -> u32
     match statement {
         Statement::Node(_) | Statement::Edge(_) => 1,
         Statement::Graph(graph) => {
+            let graph = graph.get();
             1 + declared_by_all(graph.members.as_slice()) + graph.keys.len() as u32
         }
     }
 }
 
 impl Parser<'_> {
+    #[inline(always)]
     #[tactic(auto, unfolding(crate::specs::StatementReaders::element_type_at))]
     fn element_type(&mut self, hidden: bool, place: u32) -> Result<Member, Unread>
         ensures { Reads result self.new (element_type_at hidden place self.old) }
     {
         if self.is_second_name() {
             let node = self.node_type(hidden, place)?;
+            let node = Boxed::new(self.alloc, node)?;
             Ok(Member::Node(node))
         } else {
             let edge = self.edge_type(hidden, place)?;
+            let edge = Boxed::new(self.alloc, edge)?;
             Ok(Member::Edge(edge))
         }
     }
 
+    #[inline(always)]
     #[tactic(auto, unfolding(crate::specs::StatementReaders::element_at))]
     fn element(&mut self, place: u32) -> Result<Member, Unread>
         ensures { Reads result self.new (element_at place self.old) }
@@ -205,14 +212,16 @@ impl Parser<'_> {
         self.sign(b"{")?;
         let (members, keys) = self.members(place + 1)?;
         self.sign(b"}")?;
-        Ok(Statement::Graph(GraphType {
+        let graph = GraphType {
             name,
             strict,
             place,
             imports,
             members,
             keys,
-        }))
+        };
+        let graph = Boxed::new(self.alloc, graph)?;
+        Ok(Statement::Graph(graph))
     }
 
     /// TYPE and maybe ABSTRACT, which must not have stood before.
@@ -231,6 +240,7 @@ impl Parser<'_> {
     {
         let hidden = self.hidden(earlier)?;
         let node = self.node_type(hidden, place)?;
+        let node = Boxed::new(self.alloc, node)?;
         Ok(Statement::Node(node))
     }
 
@@ -241,6 +251,7 @@ impl Parser<'_> {
     {
         let hidden = self.hidden(earlier)?;
         let edge = self.edge_type(hidden, place)?;
+        let edge = Boxed::new(self.alloc, edge)?;
         Ok(Statement::Edge(edge))
     }
 

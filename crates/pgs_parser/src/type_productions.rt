@@ -1,7 +1,7 @@
 //! The productions of element types, each named as in the grammar.
 
 ghost use Rattle.std.specs.Prelude.{◌≡◌, codes, Some};
-ghost use Rattle.pgs_parser.specs.Reader.{listed_at, sign_at, comma_unless, after, the_sign, name_at, maybe_at};
+ghost use Rattle.pgs_parser.specs.Reader.{listed_at, followed, none_declared, sign_at, comma_unless, after, the_sign, name_at, maybe_at};
 ghost use Rattle.pgs_parser.specs.Gives.{Gives};
 ghost use Rattle.pgs_parser.specs.Progress.{Reads};
 ghost use Rattle.pgs_parser.specs.Types.{parts, together};
@@ -51,7 +51,7 @@ fn parts(
 ) -> Result<Vec<Spec<Name>>, Unread>
     ensures { Gives (λ written. written.items) result (Some (parts labels is_open braces)) }
 {
-    let mut written = Vec::new(alloc);
+    let mut written = Vec::with_capacity(alloc, 2)?;
     if let Some(labels) = labels {
         written.push(labels)?;
     }
@@ -64,7 +64,11 @@ fn parts(
     Ok(written)
 }
 
+// Labels, up to `level`. Several units or conjunctions are read apart, so that where one stands, as between parentheses that
+// are open at once, no list is made, and the functions from `parenthesised` to `conj` are one with `level`: a processor foresees
+// the returns of few calls.
 impl Parser<'_> {
+    #[inline(always)]
     #[cycle(labels)]
     #[tactic(auto, unfolding(crate::specs::TypeReaders::parenthesised_at, crate::specs::TypeReaders::inner_at))]
     fn parenthesised(&mut self, further: u32) -> Result<Spec<Name>, Unread>
@@ -79,6 +83,7 @@ impl Parser<'_> {
         Ok(labels)
     }
 
+    #[inline(always)]
     #[cycle(labels)]
     #[tactic(auto, unfolding(crate::specs::TypeReaders::atom_at))]
     fn atom(&mut self, further: u32) -> Result<Spec<Name>, Unread>
@@ -92,6 +97,7 @@ impl Parser<'_> {
         }
     }
 
+    #[inline(always)]
     #[cycle(labels)]
     #[tactic(auto, unfolding(crate::specs::TypeReaders::unit_at))]
     fn unit(&mut self, further: u32) -> Result<Spec<Name>, Unread>
@@ -106,12 +112,12 @@ impl Parser<'_> {
         }
     }
 
-    /// A unit and further ones.
+    /// The first unit and those that follow it.
+    #[inline(never)]
     #[cycle(labels)]
-    fn units(&mut self, further: u32) -> Result<List<Spec<Name>>, Unread>
-        ensures { Reads result self.new (listed_at (sign_at "&") (unit_at (inner_at further)) self.old) }
+    fn units(&mut self, first: Spec<Name>, further: u32) -> Result<List<Spec<Name>>, Unread>
+        ensures { Reads result self.new (followed (sign_at "&") (λ place. unit_at (inner_at further)) none_declared 0 (first, self.old)) }
     {
-        let first = self.unit(further)?;
         let mut units = Vec::new(self.alloc);
         units.push(first)?;
         while self.passes_sign(b"&") {
@@ -121,21 +127,26 @@ impl Parser<'_> {
         Ok(List::from_vec(units))
     }
 
+    #[inline(always)]
     #[cycle(labels)]
     #[tactic(auto, unfolding(crate::specs::TypeReaders::conj_at))]
     fn conj(&mut self, further: u32) -> Result<Spec<Name>, Unread>
         ensures { Reads result self.new (conj_at (inner_at further) self.old) }
     {
-        let units = self.units(further)?;
+        let first = self.unit(further)?;
+        if !self.is_at_sign(b"&") {
+            return Ok(first);
+        }
+        let units = self.units(first, further)?;
         Ok(joined(units.into_vec()))
     }
 
-    /// A conjunction and further ones.
+    /// The first conjunction and those that follow it.
+    #[inline(never)]
     #[cycle(labels)]
-    fn conjs(&mut self, further: u32) -> Result<List<Spec<Name>>, Unread>
-        ensures { Reads result self.new (listed_at (sign_at "|") (conj_at (inner_at further)) self.old) }
+    fn conjs(&mut self, first: Spec<Name>, further: u32) -> Result<List<Spec<Name>>, Unread>
+        ensures { Reads result self.new (followed (sign_at "|") (λ place. conj_at (inner_at further)) none_declared 0 (first, self.old)) }
     {
-        let first = self.conj(further)?;
         let mut conjs = Vec::new(self.alloc);
         conjs.push(first)?;
         while self.passes_sign(b"|") {
@@ -151,7 +162,11 @@ impl Parser<'_> {
     fn level(&mut self, further: u32) -> Result<Spec<Name>, Unread>
         ensures { Reads result self.new (level_at (inner_at further) self.old) }
     {
-        let conjs = self.conjs(further)?;
+        let first = self.conj(further)?;
+        if !self.is_at_sign(b"|") {
+            return Ok(first);
+        }
+        let conjs = self.conjs(first, further)?;
         Ok(alternatives(conjs.into_vec()))
     }
 
@@ -198,7 +213,7 @@ impl Parser<'_> {
         ensures { Reads result self.new (listed_at (comma_unless (codes "OPEN")) property_at self.old) }
     {
         let first = self.property()?;
-        let mut properties = Vec::new(self.alloc);
+        let mut properties = Vec::with_capacity(self.alloc, 1)?;
         properties.push(first)?;
         while self.passes_comma_unless(b"OPEN") {
             let property = self.property()?;
@@ -288,6 +303,7 @@ impl Parser<'_> {
         Ok(joined(written))
     }
 
+    #[inline(always)]
     #[tactic(auto, unfolding(crate::specs::TypeReaders::node_type_at))]
     pub fn node_type(&mut self, hidden: bool, place: u32) -> Result<NodeType<Name>, Unread>
         ensures { Reads result self.new (node_type_at hidden place self.old) }

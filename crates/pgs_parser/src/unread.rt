@@ -2,7 +2,7 @@ ghost use Rattle.std.specs.Prelude.{◌≡◌};
 ghost use Rattle.pgs_parser.specs.declared.unread.Unread.TheVariants as unread;
 
 use pgs_base::Memory;
-use std::alloc::AllocFailed;
+use std::alloc::{AllocError, AllocFailed};
 
 /// Why a text wasn't read.
 #[derive(Clone, Copy, Debug, PartialEq, Eq)]
@@ -17,6 +17,14 @@ impl From<Memory> for Unread {
     ghost from_gives = { λ _ e. e ≡ unread.Memory };
 
     fn from(_: Memory) -> Unread {
+        Unread::Memory
+    }
+}
+
+impl From<AllocError> for Unread {
+    ghost from_gives = { λ _ e. e ≡ unread.Memory };
+
+    fn from(_: AllocError) -> Unread {
         Unread::Memory
     }
 }

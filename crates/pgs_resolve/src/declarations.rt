@@ -39,8 +39,8 @@ fn list_member<'a>(
 {
     match member {
         Member::Named(_) => {}
-        Member::Node(node) => nodes.push(node)?,
-        Member::Edge(edge) => edges.push(edge)?,
+        Member::Node(node) => nodes.push(node.get())?,
+        Member::Edge(edge) => edges.push(edge.get())?,
     }
     Ok(())
 }
@@ -57,9 +57,10 @@ fn list_statement<'a>(
     ensures graphs { OnOk result (map (λ type. type.now) graphs.new.items ≡ map (λ type. type.now) graphs.old.items ++ option_to_list (graph_in statement.now)) }
 {
     match statement {
-        Statement::Node(node) => nodes.push(node)?,
-        Statement::Edge(edge) => edges.push(edge)?,
+        Statement::Node(node) => nodes.push(node.get())?,
+        Statement::Edge(edge) => edges.push(edge.get())?,
         Statement::Graph(graph) => {
+            let graph = graph.get();
             for member in graph.members.as_slice() {
                 list_member(member, nodes, edges)?;
             }

@@ -93,8 +93,8 @@ fn mark_member(alloc: Global, member: &Member, marks: &mut Vec<Mark>) -> Result<
 {
     match member {
         Member::Named(_) => Ok(()),
-        Member::Node(node) => mark_node(alloc, node, marks),
-        Member::Edge(edge) => mark_edge(alloc, edge, marks),
+        Member::Node(node) => mark_node(alloc, node.get(), marks),
+        Member::Edge(edge) => mark_edge(alloc, edge.get(), marks),
     }
 }
 
@@ -111,9 +111,10 @@ fn mark_statement(alloc: Global, statement: &Statement, marks: &mut Vec<Mark>) -
     ensures { OnOk result (marks.new.items ≡ marks.old.items ++ marks_of statement.now) }
 {
     match statement {
-        Statement::Node(node) => mark_node(alloc, node, marks),
-        Statement::Edge(edge) => mark_edge(alloc, edge, marks),
+        Statement::Node(node) => mark_node(alloc, node.get(), marks),
+        Statement::Edge(edge) => mark_edge(alloc, edge.get(), marks),
         Statement::Graph(graph) => {
+            let graph = graph.get();
             marks.push(Mark::Graph(graph.name.copy(alloc)?))?;
             mark_members(alloc, graph.members.as_slice(), marks)
         }

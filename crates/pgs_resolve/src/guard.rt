@@ -22,8 +22,8 @@ fn name_of(member: &Member) -> &Name
 {
     match member {
         Member::Named(name) => name,
-        Member::Node(node) => &node.name,
-        Member::Edge(edge) => &edge.name,
+        Member::Node(node) => &node.get().name,
+        Member::Edge(edge) => &edge.get().name,
     }
 }
 

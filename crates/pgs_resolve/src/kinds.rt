@@ -66,8 +66,8 @@ fn use_member(alloc: Global, member: &Member, uses: &mut Vec<Use>) -> Result<(),
 {
     match member {
         Member::Named(_) => Ok(()),
-        Member::Node(node) => use_node_type(alloc, node, uses),
-        Member::Edge(edge) => use_edge_type(alloc, edge, uses),
+        Member::Node(node) => use_node_type(alloc, node.get(), uses),
+        Member::Edge(edge) => use_edge_type(alloc, edge.get(), uses),
     }
 }
 
@@ -129,9 +129,10 @@ fn use_statement(alloc: Global, statement: &Statement, uses: &mut Vec<Use>) -> R
     ensures { OnOk result (uses.new.items ≡ uses.old.items ++ uses_in statement.now) }
 {
     match statement {
-        Statement::Node(node) => use_node_type(alloc, node, uses),
-        Statement::Edge(edge) => use_edge_type(alloc, edge, uses),
+        Statement::Node(node) => use_node_type(alloc, node.get(), uses),
+        Statement::Edge(edge) => use_edge_type(alloc, edge.get(), uses),
         Statement::Graph(graph) => {
+            let graph = graph.get();
             use_members(alloc, graph.members.as_slice(), uses)?;
             use_keys(alloc, graph.keys.as_slice(), uses)
         }

@@ -153,6 +153,58 @@ fn changed_areas_are_told(rt: HostRuntime) -> Result<(), Fail> {
     Ok(())
 }
 
+/// Area A of a store with one commit.
+const STORE: &[u8] =
+    b"\x01PGSGRD1\x00\x00\x00\x00\x00\x00\x00\x01\x01\x00\x00\x00\x00\x00\x00\x00\x1e\x01CREATE GRAPH TYPE g LOOSE {};\x01\x00\x00\x00\x00\x00\x00\x00\x12\x03\x00\x00\x00\x01\x01\x00\x00\x00\x00\x00\x00\x00\x01\x00\x00\x00\x00\x00";
+
+/// Area A of a store of the last epoch.
+const LAST: &[u8] =
+    b"\x01PGSGRD1\x00\x00\x00\x00\x00\xff\xff\xff\x01\x00\x00\x00\x00\x00\x00\x00\x1e\x01CREATE GRAPH TYPE g LOOSE {};\x00";
+
+/// Both areas, and runs on them, one after another.
+const BESIDE: &[(&[u8], &[u8], &[Step])] = &[
+    (
+        LAST,
+        b"",
+        &[(
+            "checkpoint,s,",
+            "",
+            "store refused 37 no epoch is left\n",
+            4,
+        )],
+    ),
+    (
+        STORE,
+        b"\x00xxxxxxxxxxxxxxxxxxxxxxxxxxxxxxxxxxxxxxx",
+        &[("recover,s,", "", DUMP, 0)],
+    ),
+    (
+        STORE,
+        b"\x01xxxxxxxxxxxxxxxxxxxxxxxxxxxxxxxxxxxxxxx",
+        &[
+            ("recover,s,", "", DUMP, 0),
+            ("checkpoint,s,", "", "checkpoint epoch=2 commits=1\n", 0),
+            ("recover,s,", "", DUMP, 0),
+        ],
+    ),
+];
+
+// The first areas on which something else is told.
+fn wrong_areas(alloc: Global) -> Result<Option<usize>, Memory> {
+    for (place, row) in BESIDE.iter().enumerate() {
+        if wrong_step(alloc, Disk::of(alloc, row.0, row.1)?, row.2)?.is_some() {
+            return Ok(Some(place));
+        }
+    }
+    Ok(None)
+}
+
+#[test]
+fn the_last_epoch_and_other_bytes_beside_a_store(rt: HostRuntime) -> Result<(), Fail> {
+    assert_eq!(rt; wrong_areas(rt.alloc())?, None);
+    Ok(())
+}
+
 /// The words and the input of a run, the call on the world that fails, counted from 1, and the status.
 const FAILING: &[(&str, &str, u64, u8)] = &[
     ("recover,s,", "", 1, 5),

@@ -12,7 +12,7 @@ ghost use Rattle.pgs_store.specs.World.{StaysBeside, CountsFault};
 ghost use Rattle.pgs_world.specs.Moment.{EachSince};
 
 use crate::{ApplyFault, Guard, Store};
-use pgs_base::{Bytes, Copyable, Memory, Steps};
+use pgs_base::{Copyable, Memory, Steps};
 use pgs_codec::Command;
 use pgs_graph::{Delta, Txn};
 use pgs_journal::Journal;
@@ -28,13 +28,14 @@ fn is_disk_fault(answer: &Result<u64, ApplyFault>) -> bool
 }
 
 // The frame of a transaction.
-fn txn_frame(alloc: Global, txn: &Txn) -> Result<Bytes, Memory>
+fn txn_frame(alloc: Global, txn: &Txn) -> Result<Vec<u8>, Memory>
     requires { IsTrue (is_sized (Transaction txn.now)) }
-    ensures frame { IfOk result (λ frame. frame ≡ framed (payload_of (Transaction txn.now))) }
+    ensures frame { IfOk result (λ frame. frame.items ≡ framed (payload_of (Transaction txn.now))) }
     ensures decoded { OnOk result (decoded_by (payload_of (Transaction txn.now)) ≡ Some (Transaction txn.now)) }
 {
     let copy = txn.copy(alloc)?;
-    record_frame(alloc, &Command::Txn(copy))
+    let frame = record_frame(alloc, &Command::Txn(copy))?;
+    Ok(frame.into_vec())
 }
 
 // Journals a transaction that is accepted, and then does it. All memory is taken before the first call on the world.

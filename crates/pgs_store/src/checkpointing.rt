@@ -11,7 +11,7 @@ ghost use Rattle.pgs_world.specs.Moment.{EachSince};
 ghost use Rattle.pgs_world.specs.World.{other as other_than};
 
 use crate::{CheckpointFault, Guard, Store};
-use pgs_base::{Bytes, List, Memory, Steps};
+use pgs_base::{List, Memory, Steps};
 use pgs_codec::Command;
 use pgs_records::{edge_rows, first_frames, node_rows};
 use pgs_snapshot::checkpoint;
@@ -59,14 +59,15 @@ fn snapshot_of<L: Ledger>(guard: &Guard, blank: Blank) -> Result<Command, Memory
 }
 
 // The frames of the records with which the store of a guard begins anew.
-fn frames_of(guard: &Guard) -> Result<Bytes, Memory>
-    ensures frames { IfOk result (λ first. IsFrames First (renewed guard.now) first) }
+fn frames_of(guard: &Guard) -> Result<Vec<u8>, Memory>
+    ensures frames { IfOk result (λ first. IsFrames First (renewed guard.now) first.items) }
     ensures schema { OnOk result (decoded (payload_of (SchemaCommand guard.now.text)) ≡ Some (SchemaCommand guard.now.text)) }
     ensures snapshot { OnOk result (decoded (payload_of (snapshot_in guard.now)) ≡ Some (snapshot_in guard.now)) }
 {
     let schema = schema_of(guard)?;
     let snapshot = snapshot_of::<Brand>(guard, Blank::new(1))?;
-    first_frames(guard.alloc, &schema, &snapshot)
+    let first = first_frames(guard.alloc, &schema, &snapshot)?;
+    Ok(first.into_vec())
 }
 
 impl Store {

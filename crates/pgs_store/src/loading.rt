@@ -10,7 +10,7 @@ ghost use Rattle.pgs_world.specs.declared.area.Area.TheVariants.{A};
 ghost use Rattle.pgs_world.specs.Moment.{EachSince, IsQuiet, IsSettled, MakesNoPut};
 
 use crate::{Guard, LoadFault, Store};
-use pgs_base::{Bytes, Limits, List, Memory};
+use pgs_base::{Limits, List, Memory};
 use pgs_codec::Command;
 use pgs_journal::Journal;
 use pgs_records::record_frame;
@@ -19,12 +19,13 @@ use pgs_world::{Area, World};
 use std::alloc::Global;
 
 // The frame of a schema's text.
-fn schema_frame(alloc: Global, text: &[u8]) -> Result<Bytes, Memory>
-    ensures frames { IfOk result (λ frame. IsFrames First (payload_of (SchemaCommand text.now) ∷ []) frame) }
+fn schema_frame(alloc: Global, text: &[u8]) -> Result<Vec<u8>, Memory>
+    ensures frames { IfOk result (λ frame. IsFrames First (payload_of (SchemaCommand text.now) ∷ []) frame.items) }
     ensures decoded { OnOk result (decoded (payload_of (SchemaCommand text.now)) ≡ Some (SchemaCommand text.now)) }
 {
     let text = List::from_slice(alloc, text)?;
-    record_frame(alloc, &Command::Schema(text))
+    let frame = record_frame(alloc, &Command::Schema(text))?;
+    Ok(frame.into_vec())
 }
 
 // Refuses areas of which one is a store, or another program's file. Both are synced and read.

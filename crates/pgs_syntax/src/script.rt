@@ -1,12 +1,13 @@
 use crate::{EdgeType, NodeType, RawKey};
-use pgs_base::{List, Name};
+use pgs_base::{Boxed, List, Name};
 
-/// A member of a graph type: the name of an element type, or a type declared on the spot.
+/// A member of a graph type: the name of an element type, or a type declared on the spot. Types are in boxes, so that
+/// a list of names takes little memory.
 #[derive(Debug, Drop)]
 pub enum Member {
     Named(Name),
-    Node(NodeType<Name>),
-    Edge(EdgeType<Name>),
+    Node(Boxed<NodeType<Name>>),
+    Edge(Boxed<EdgeType<Name>>),
 }
 
 /// A graph type as written. `strict` is the word STRICT in place of LOOSE; `place` is the number of the declaration in
@@ -24,9 +25,9 @@ pub struct GraphType {
 /// A declaration of a script.
 #[derive(Debug, Drop)]
 pub enum Statement {
-    Node(NodeType<Name>),
-    Edge(EdgeType<Name>),
-    Graph(GraphType),
+    Node(Boxed<NodeType<Name>>),
+    Edge(Boxed<EdgeType<Name>>),
+    Graph(Boxed<GraphType>),
 }
 
 /// A schema as written.

@@ -20,7 +20,9 @@ use crate::{NodeEdges, Tables};
 use pgs_base::{Copyable, EdgeId, EdgeRow, List, Memory, NodeId, NodeRow};
 use pgs_graph::Delta;
 use pgs_numbered::{Number, Numbered};
+use std::alloc::Global;
 use std::cmp::Ordering;
+use std::collections::BTreeMap;
 
 /// Makes a slot for each changed number that has none. After `Memory` some have got one.
 pub(crate) fn make_slots<K: Number, V: Drop, W>(
@@ -52,6 +54,19 @@ fn leaves(changes: &[(NodeId, Option<NodeRow>)], id: NodeId) -> bool
     }
 }
 
+// Edges by node as a list, by ascending number.
+fn listed(
+    alloc: Global,
+    touched: BTreeMap<NodeId, NodeEdges>,
+) -> Result<List<(NodeId, NodeEdges)>, Memory>
+    ensures lists { IfOk result (λ lists. lists ≡ touched.entries) }
+    ensures ascending { IfOk result (λ lists. IsStrictlySortedBy node_cmp (keys_of lists)) }
+{
+    let _ascending = touched.len();
+    let lists = touched.into_iter().collect::<Vec<_>>(alloc)?;
+    Ok(List::from_vec(lists))
+}
+
 impl Tables {
     /// The edges at a node, after a sound delta, of each node that is there then and that the delta touches. `Memory` where none was
     /// left.
@@ -60,10 +75,10 @@ impl Tables {
         ensures { IfOk result (λ lists. lists ≡ touched_edges self.now.graph delta.now) }
     {
         let nodes = delta.nodes.as_slice();
-        let mut touched = Numbered::new(self.alloc, self.seed);
+        let mut touched = BTreeMap::new(self.alloc);
         self.relist_edges(&mut touched, nodes, delta.edges.as_slice())?;
         self.keep_nodes(&mut touched, nodes)?;
-        touched.into_rows(self.alloc)
+        listed(self.alloc, touched)
     }
 
     // The edges at a node, where it is there.
@@ -79,14 +94,14 @@ impl Tables {
     // The edges at a node after an edit: of those that are made already, and else of those that it had.
     fn edited(
         &self,
-        touched: &Numbered<NodeId, NodeEdges>,
+        touched: &BTreeMap<NodeId, NodeEdges>,
         id: NodeId,
         edit: Edit,
     ) -> Result<NodeEdges, Memory>
         ensures { IfOk result (λ edges. edges ≡ edges_edited edit
-            (unwrap_or (lookup (is_at (node_cmp id)) touched.now.rows) (node_edges self.now.graph id))) }
+            (unwrap_or (lookup (is_at (node_cmp id)) touched.now.entries) (node_edges self.now.graph id))) }
     {
-        if let Some(edges) = touched.get(id) {
+        if let Some(edges) = touched.get(&id) {
             return edges.edited(self.alloc, edit);
         }
         match self.edges_at(id) {
@@ -98,36 +113,35 @@ impl Tables {
     // An edit of the edges at a node, unless the delta takes the node out.
     fn relist(
         &self,
-        touched: &mut Numbered<NodeId, NodeEdges>,
+        touched: &mut BTreeMap<NodeId, NodeEdges>,
         nodes: &[(NodeId, Option<NodeRow>)],
         id: NodeId,
         edit: Edit,
     ) -> Result<(), Memory>
         requires { IsStrictlySortedBy node_cmp (keys_of nodes.now) }
-        ensures { OnOk result ((q : NodeId) → lookup (is_at (node_cmp q)) touched.new.rows
-            ≡ relisted_at (node_edges self.now.graph q) (stays nodes.now q) q id edit.side edit.adds edit.edge (lookup (is_at (node_cmp q)) touched.old.rows)) }
+        ensures { OnOk result ((q : NodeId) → lookup (is_at (node_cmp q)) touched.new.entries
+            ≡ relisted_at (node_edges self.now.graph q) (stays nodes.now q) q id edit.side edit.adds edit.edge (lookup (is_at (node_cmp q)) touched.old.entries)) }
     {
         if !leaves(nodes, id) {
             return Ok(());
         }
         let edges = self.edited(touched, id, edit)?;
-        touched.make_slot(id)?;
-        touched.put(id, edges);
+        touched.insert(id, edges)?;
         Ok(())
     }
 
     // An edit at both ends of an edge, where there is one.
     fn relist_ends(
         &self,
-        touched: &mut Numbered<NodeId, NodeEdges>,
+        touched: &mut BTreeMap<NodeId, NodeEdges>,
         nodes: &[(NodeId, Option<NodeRow>)],
         adds: bool,
         edge: EdgeId,
         row: Option<&EdgeRow>,
     ) -> Result<(), Memory>
         requires { IsStrictlySortedBy node_cmp (keys_of nodes.now) }
-        ensures { OnOk result ((q : NodeId) → lookup (is_at (node_cmp q)) touched.new.rows
-            ≡ relisted_ends (node_edges self.now.graph q) (stays nodes.now q) q adds edge (option_copied row.entry) (lookup (is_at (node_cmp q)) touched.old.rows)) }
+        ensures { OnOk result ((q : NodeId) → lookup (is_at (node_cmp q)) touched.new.entries
+            ≡ relisted_ends (node_edges self.now.graph q) (stays nodes.now q) q adds edge (option_copied row.entry) (lookup (is_at (node_cmp q)) touched.old.entries)) }
     {
         let Some(row) = row else {
             return Ok(());
@@ -150,13 +164,13 @@ impl Tables {
     // A changed edge taken out at its old ends, and put in at its new ones.
     fn relist_change(
         &self,
-        touched: &mut Numbered<NodeId, NodeEdges>,
+        touched: &mut BTreeMap<NodeId, NodeEdges>,
         nodes: &[(NodeId, Option<NodeRow>)],
         change: &(EdgeId, Option<EdgeRow>),
     ) -> Result<(), Memory>
         requires { IsStrictlySortedBy node_cmp (keys_of nodes.now) }
-        ensures { OnOk result ((q : NodeId) → lookup (is_at (node_cmp q)) touched.new.rows
-            ≡ relisted_all self.now.graph nodes.now q (change.now ∷ []) (lookup (is_at (node_cmp q)) touched.old.rows)) }
+        ensures { OnOk result ((q : NodeId) → lookup (is_at (node_cmp q)) touched.new.entries
+            ≡ relisted_all self.now.graph nodes.now q (change.now ∷ []) (lookup (is_at (node_cmp q)) touched.old.entries)) }
     {
         let old = self.edges.get(change.0);
         self.relist_ends(touched, nodes, false, change.0, old)?;
@@ -166,13 +180,13 @@ impl Tables {
 
     fn relist_edges(
         &self,
-        touched: &mut Numbered<NodeId, NodeEdges>,
+        touched: &mut BTreeMap<NodeId, NodeEdges>,
         nodes: &[(NodeId, Option<NodeRow>)],
         changes: &[(EdgeId, Option<EdgeRow>)],
     ) -> Result<(), Memory>
         requires { IsStrictlySortedBy node_cmp (keys_of nodes.now) }
-        ensures { OnOk result ((q : NodeId) → lookup (is_at (node_cmp q)) touched.new.rows
-            ≡ relisted_all self.now.graph nodes.now q changes.now (lookup (is_at (node_cmp q)) touched.old.rows)) }
+        ensures { OnOk result ((q : NodeId) → lookup (is_at (node_cmp q)) touched.new.entries
+            ≡ relisted_all self.now.graph nodes.now q changes.now (lookup (is_at (node_cmp q)) touched.old.entries)) }
     {
         for change in changes {
             self.relist_change(touched, nodes, change)?;
@@ -181,30 +195,29 @@ impl Tables {
     }
 
     // The edges of a node that the delta puts in: those that are made already, and else those that it had.
-    fn keep(&self, touched: &mut Numbered<NodeId, NodeEdges>, id: NodeId) -> Result<(), Memory>
-        ensures { OnOk result ((q : NodeId) → lookup (is_at (node_cmp q)) touched.new.rows
-            ≡ kept_here self.now.graph q id (lookup (is_at (node_cmp q)) touched.old.rows)) }
+    fn keep(&self, touched: &mut BTreeMap<NodeId, NodeEdges>, id: NodeId) -> Result<(), Memory>
+        ensures { OnOk result ((q : NodeId) → lookup (is_at (node_cmp q)) touched.new.entries
+            ≡ kept_here self.now.graph q id (lookup (is_at (node_cmp q)) touched.old.entries)) }
     {
-        if touched.get(id).is_some() {
+        if touched.get(&id).is_some() {
             return Ok(());
         }
         let edges = match self.edges_at(id) {
             Some(edges) => edges.copy(self.alloc)?,
             None => NodeEdges::new(self.alloc),
         };
-        touched.make_slot(id)?;
-        touched.put(id, edges);
+        touched.insert(id, edges)?;
         Ok(())
     }
 
     fn keep_nodes(
         &self,
-        touched: &mut Numbered<NodeId, NodeEdges>,
+        touched: &mut BTreeMap<NodeId, NodeEdges>,
         nodes: &[(NodeId, Option<NodeRow>)],
     ) -> Result<(), Memory>
         requires { IsStrictlySortedBy node_cmp (keys_of nodes.now) }
-        ensures { OnOk result ((q : NodeId) → lookup (is_at (node_cmp q)) touched.new.rows
-            ≡ kept_at self.now.graph q (lookup (is_at (node_cmp q)) nodes.now) (lookup (is_at (node_cmp q)) touched.old.rows)) }
+        ensures { OnOk result ((q : NodeId) → lookup (is_at (node_cmp q)) touched.new.entries
+            ≡ kept_at self.now.graph q (lookup (is_at (node_cmp q)) nodes.now) (lookup (is_at (node_cmp q)) touched.old.entries)) }
     {
         for change in nodes {
             if change.1.is_some() {

@@ -205,8 +205,8 @@ fn put_member(out: &mut String, member: &Member) -> Put {
     out.push_str(", ")?;
     match member {
         Member::Named(name) => put_name(out, name),
-        Member::Node(node) => put_node(out, node),
-        Member::Edge(edge) => put_edge(out, edge),
+        Member::Node(node) => put_node(out, node.get()),
+        Member::Edge(edge) => put_edge(out, edge.get()),
     }
 }
 
@@ -228,9 +228,9 @@ fn put_graph(out: &mut String, graph: &GraphType) -> Put {
 
 fn put_statement(out: &mut String, statement: &Statement) -> Put {
     match statement {
-        Statement::Node(node) => put_node(out, node),
-        Statement::Edge(edge) => put_edge(out, edge),
-        Statement::Graph(graph) => put_graph(out, graph),
+        Statement::Node(node) => put_node(out, node.get()),
+        Statement::Edge(edge) => put_edge(out, edge.get()),
+        Statement::Graph(graph) => put_graph(out, graph.get()),
     }
 }
 

@@ -2,7 +2,7 @@ use Rattle.std.proofs.Common.{◌≡◌, ℕ, List, [], drop}
 use Rattle.std.specs.Ordering.{nat_cmp}
 use Rattle.std.specs.Cmp.Lexicographic.{slice_cmp}
 use Rattle.std.specs.BTreeSet.{insert_key}
-use Rattle.serde_json.specs.View.{items_view}
+use Rattle.pgs_json.specs.Tree.{items_view}
 use Rattle.pgs_json.specs.Form.{name_of}
 use Rattle.pgs_json.proofs.FormLoops.{after_items}
 use Rattle.pgs_json.proofs.json_op.label_names.Given as goal

@@ -1,6 +1,6 @@
 use Rattle.std.proofs.Common.{◌∙◌, ap, sym}
 use Rattle.std.proofs.lemmas.List.{drop_all}
-use Rattle.serde_json.specs.View.{items_view}
+use Rattle.pgs_json.specs.Tree.{items_view}
 use Rattle.pgs_json.specs.Form.{op_of}
 use Rattle.pgs_json.proofs.FormLoops.{after_items, put_op, ops_in_order}
 use Rattle.pgs_json.proofs.json_op.some_ops.Goals as goal

@@ -1,5 +1,5 @@
 use Rattle.std.proofs.Common.{◌≡◌, [], drop}
-use Rattle.serde_json.specs.View.{items_view}
+use Rattle.pgs_json.specs.Tree.{items_view}
 use Rattle.pgs_json.specs.Form.{op_of}
 use Rattle.pgs_json.proofs.FormLoops.{after_items, put_op}
 use Rattle.pgs_json.proofs.json_op.some_ops.Given as goal

@@ -1,7 +1,7 @@
-use Rattle.std.proofs.Common.{◌≡◌}
-use Rattle.serde_json.specs.View.{members_view}
+use Rattle.std.proofs.Common.{◌≡◌, drop}
+use Rattle.pgs_json.specs.Tree.{members_view}
 use Rattle.pgs_json.specs.Kinds.{kind_in}
 use Rattle.pgs_json.proofs.kind.kind_in.Given as goal
 
 abbrev pub invariant-loop-name : goal.invariant-loop-name
-invariant-loop-name l = kind_in (members_view l.fn.object.entries) ≡ kind_in (members_view l.name-iterator)
+invariant-loop-name l = kind_in (members_view l.members) ≡ kind_in (members_view (drop l.name-index l.members))

@@ -1,5 +1,6 @@
 use Rattle.std.proofs.Common.{◌++◌, map, sym, ◌∙◌, ap, arith}
 use Rattle.std.specs.List.{filter_map}
+use Rattle.pgs_syntax.specs.declared.script.GraphType.{GraphType}
 use Rattle.pgs_resolve.specs.Declarations.{node_in, edge_in, declared_in}
 use Rattle.pgs_resolve.proofs.Members.{nodes_declared, edges_declared}
 use Rattle.pgs_resolve.proofs.Walks.{more_kept, all_kept}
@@ -13,12 +14,12 @@ loop-member-preserved c = record {
 
 pub returns-in_ok-push-in-Graph-clause-nodes : goal.returns-in_ok-push-in-Graph-clause-nodes
 returns-in_ok-push-in-Graph-clause-nodes c =
-    all_kept node_in (map (λ type. type.now) c.args.nodes.now.items) _ _ _ _ (omega arith) c.as_slice-member-items.ensures c.loop-member.invariant.nodes
+    all_kept node_in (map (λ type. type.now) c.args.nodes.now.items) _ _ _ _ (omega arith) (c.as_slice-member-items.ensures ∙ ap (λ (graph : GraphType). graph.members) c.get-graph.ensures) c.loop-member.invariant.nodes
     ∙ ap (λ types. map (λ type. type.now) c.args.nodes.now.items ++ types)
     (sym (nodes_declared c.in-Graph.graph.members) ∙ ap (λ s. filter_map node_in (declared_in s)) (sym c.in-Graph.is))
 
 pub returns-in_ok-push-in-Graph-clause-edges : goal.returns-in_ok-push-in-Graph-clause-edges
 returns-in_ok-push-in-Graph-clause-edges c =
-    all_kept edge_in (map (λ type. type.now) c.args.edges.now.items) _ _ _ _ (omega arith) c.as_slice-member-items.ensures c.loop-member.invariant.edges
+    all_kept edge_in (map (λ type. type.now) c.args.edges.now.items) _ _ _ _ (omega arith) (c.as_slice-member-items.ensures ∙ ap (λ (graph : GraphType). graph.members) c.get-graph.ensures) c.loop-member.invariant.edges
     ∙ ap (λ types. map (λ type. type.now) c.args.edges.now.items ++ types)
     (sym (edges_declared c.in-Graph.graph.members) ∙ ap (λ s. filter_map edge_in (declared_in s)) (sym c.in-Graph.is))

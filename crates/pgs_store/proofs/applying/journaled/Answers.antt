@@ -16,9 +16,9 @@ use Rattle.pgs_store.proofs.applying.journaled.Goals as goal
 pub returns-in-Ok-clause-answer : goal.returns-in-Ok-clause-answer
 returns-in-Ok-clause-answer g c =
     let payload = payload_of (Transaction c.args.txn.now) in
-    let frame = c.as_slice.ensures ∙ c.in_ok-frame.ensures.frame in
-    let vec = c.frame.inside.items in
-    let small = small_frame c.args.journal.now.end vec.items payload vec.len vec.cap (c.frame.view_is ∙ c.in_ok-frame.ensures.frame) vec.ok.0 vec.ok.1 vec.small c.requires.bounded.end in
+    let frame = c.as_slice.ensures.value ∙ c.in_ok-frame.ensures.frame in
+    let vec = c.in_ok-frame.frame in
+    let small = small_frame c.args.journal.now.end vec.items payload vec.len vec.cap c.in_ok-frame.ensures.frame vec.ok.0 vec.ok.1 vec.small c.requires.bounded.end in
     let inside = c.guard.inside in
     let next = changed c.args.guard.now.graph c.args.delta in
     let old = g.W.World.view c.args.world.now in
@@ -48,15 +48,15 @@ returns-in-Ok-clause-answer g c =
 pub returns-in-Ok-clause-stops : goal.returns-in-Ok-clause-stops
 returns-in-Ok-clause-stops g c = λ honest told.
     let payload = payload_of (Transaction c.args.txn.now) in
-    let vec = c.frame.inside.items in
-    let small = small_frame c.args.journal.now.end vec.items payload vec.len vec.cap (c.frame.view_is ∙ c.in_ok-frame.ensures.frame) vec.ok.0 vec.ok.1 vec.small c.requires.bounded.end in
+    let vec = c.in_ok-frame.frame in
+    let small = small_frame c.args.journal.now.end vec.items payload vec.len vec.cap c.in_ok-frame.ensures.frame vec.ok.0 vec.ok.1 vec.small c.requires.bounded.end in
     stops_after c.args.guard.now c.args.journal.now c.args.txn.now (changed c.args.guard.now.graph c.args.delta) c.facts.ensures.schema c.requires.accepted c.in_ok-frame.ensures.decoded small
-    (g.W.World.view c.args.world.now) (g.W.World.view c.append.new.world) c.requires.stands honest told (c.append.ensures.stops payload (c.as_slice.ensures ∙ c.in_ok-frame.ensures.frame) told)
+    (g.W.World.view c.args.world.now) (g.W.World.view c.append.new.world) c.requires.stands honest told (c.append.ensures.stops payload (c.as_slice.ensures.value ∙ c.in_ok-frame.ensures.frame) told)
 
 pub returns-clause-stops : goal.returns-clause-stops
 returns-clause-stops g c = λ honest told.
     let payload = payload_of (Transaction c.args.txn.now) in
-    let vec = c.frame.inside.items in
-    let small = small_frame c.args.journal.now.end vec.items payload vec.len vec.cap (c.frame.view_is ∙ c.in_ok-frame.ensures.frame) vec.ok.0 vec.ok.1 vec.small c.requires.bounded.end in
+    let vec = c.in_ok-frame.frame in
+    let small = small_frame c.args.journal.now.end vec.items payload vec.len vec.cap c.in_ok-frame.ensures.frame vec.ok.0 vec.ok.1 vec.small c.requires.bounded.end in
     stops_after c.args.guard.now c.args.journal.now c.args.txn.now (changed c.args.guard.now.graph c.args.delta) c.facts.ensures.schema c.requires.accepted c.in_ok-frame.ensures.decoded small
-    (g.W.World.view c.args.world.now) (g.W.World.view c.append.new.world) c.requires.stands honest told (c.append.ensures.stops payload (c.as_slice.ensures ∙ c.in_ok-frame.ensures.frame) told)
+    (g.W.World.view c.args.world.now) (g.W.World.view c.append.new.world) c.requires.stands honest told (c.append.ensures.stops payload (c.as_slice.ensures.value ∙ c.in_ok-frame.ensures.frame) told)

@@ -9,10 +9,10 @@ pub returns-in-Some : goal.returns-in-Some
 returns-in-Some g c =
     let slots = c.self.inside.slots.entries in
     let found = row-found g.met.K.Ord.total g.met.K.Ord.matches_eq c.args.id slots c.self.invariant.distinct in
-    c.as_ref.ensures.value ∙ ap option_flatten c.in-Some.ensures.value ∙ sym found ∙ ap (λ s. lookup (is_at (g.K.Ord.cmp c.args.id)) s.rows) c.self.view_is
+    c.as_ref.ensures.value ∙ ap option_flatten c.in-Some.ensures ∙ sym found ∙ ap (λ s. lookup (is_at (g.K.Ord.cmp c.args.id)) s.rows) c.self.view_is
 
 pub returns-in-None : goal.returns-in-None
 returns-in-None g c =
     let slots = c.self.inside.slots.entries in
     let found = row-found g.met.K.Ord.total g.met.K.Ord.matches_eq c.args.id slots c.self.invariant.distinct in
-    ap option_flatten c.in-None.ensures.value ∙ sym found ∙ ap (λ s. lookup (is_at (g.K.Ord.cmp c.args.id)) s.rows) c.self.view_is
+    ap option_flatten c.in-None.ensures ∙ sym found ∙ ap (λ s. lookup (is_at (g.K.Ord.cmp c.args.id)) s.rows) c.self.view_is

@@ -1,5 +1,5 @@
 use Rattle.std.proofs.Common.{◌≡◌, ◌+◌, ◌*◌, length}
-use Rattle.pgs_parser.specs.Reader.{more, none_declared, listed_at, sign_at}
+use Rattle.pgs_parser.specs.Reader.{more, none_declared, followed, sign_at}
 use Rattle.pgs_parser.specs.TypeReaders.{unit_at, conj_at, inner_at}
 use Rattle.pgs_parser.proofs.Items.{ahead}
 use Rattle.pgs_parser.proofs.parser.Parser.+labels.Given as goal
@@ -27,14 +27,14 @@ decreases-parenthesised l = 7 * l.further + 0
 
 abbrev pub invariant-units-loop-self : goal.invariant-units-loop-self
 invariant-units-loop-self l =
-    ahead l.units.items (more (sign_at "&") (λ place. unit_at (inner_at l.further)) none_declared (length l.self) 0 l.self) ≡ listed_at (sign_at "&") (unit_at (inner_at l.fn.further)) l.fn.self
+    ahead l.units.items (more (sign_at "&") (λ place. unit_at (inner_at l.further)) none_declared (length l.self) 0 l.self) ≡ followed (sign_at "&") (λ place. unit_at (inner_at l.fn.further)) none_declared 0 (l.fn.first, l.fn.self)
 
 abbrev pub decreases-units-loop-self : goal.decreases-units-loop-self
 decreases-units-loop-self l = length l.self
 
 abbrev pub invariant-conjs-loop-self : goal.invariant-conjs-loop-self
 invariant-conjs-loop-self l =
-    ahead l.conjs.items (more (sign_at "|") (λ place. conj_at (inner_at l.further)) none_declared (length l.self) 0 l.self) ≡ listed_at (sign_at "|") (conj_at (inner_at l.fn.further)) l.fn.self
+    ahead l.conjs.items (more (sign_at "|") (λ place. conj_at (inner_at l.further)) none_declared (length l.self) 0 l.self) ≡ followed (sign_at "|") (λ place. conj_at (inner_at l.fn.further)) none_declared 0 (l.fn.first, l.fn.self)
 
 abbrev pub decreases-conjs-loop-self : goal.decreases-conjs-loop-self
 decreases-conjs-loop-self l = length l.self

@@ -16,7 +16,7 @@ pub loop-self-init : goal.loop-self-init
 loop-self-init c =
     let rest = c.name.new.self in
     ap (λ xs. ahead xs (more (after (the_sign c.args.separator.now)) (λ place. name_at) none_declared (length rest) 0 rest))
-    (c.in_ok-push.ensures.items ∙ ap (λ xs. xs ++ c.in_ok-first.first ∷ []) c.new-names.ensures.items)
+    (c.in_ok-push.ensures.items ∙ ap (λ xs. xs ++ c.in_ok-first.first ∷ []) c.in_ok-names.ensures.items)
     ∙ starts (after (the_sign c.args.separator.now)) (λ place. name_at) none_declared 0 c.args.self.now (c.in_ok-first.first, rest) c.in_ok-first.ensures
 
 pub returns-in_err-name : goal.returns-in_err-name

@@ -17,7 +17,7 @@ pub loop-self-init : goal.loop-self-init
 loop-self-init c =
     let rest = c.property.new.self in
     ap (λ xs. ahead xs (more (comma_unless (codes "OPEN")) (λ place. property_at) none_declared (length rest) 0 rest))
-    (c.in_ok-push.ensures.items ∙ ap (λ xs. xs ++ c.in_ok-first.first ∷ []) c.new-properties.ensures.items)
+    (c.in_ok-push.ensures.items ∙ ap (λ xs. xs ++ c.in_ok-first.first ∷ []) c.in_ok-properties.ensures.items)
     ∙ starts (comma_unless (codes "OPEN")) (λ place. property_at) none_declared 0 c.args.self.now (c.in_ok-first.first, rest) c.in_ok-first.ensures
 
 pub returns-in_err-property : goal.returns-in_err-property

@@ -17,7 +17,7 @@ pub loop-self-init : goal.loop-self-init
 loop-self-init c =
     let rest = c.test.new.self in
     ap (λ xs. ahead xs (more (sign_at ",") (λ place. test_at) none_declared (length rest) 0 rest))
-    (c.in_ok-push.ensures.items ∙ ap (λ xs. xs ++ c.in_ok-first.first ∷ []) c.new-tests.ensures.items)
+    (c.in_ok-push.ensures.items ∙ ap (λ xs. xs ++ c.in_ok-first.first ∷ []) c.in_ok-tests.ensures.items)
     ∙ starts (sign_at ",") (λ place. test_at) none_declared 0 c.args.self.now (c.in_ok-first.first, rest) c.in_ok-first.ensures
 
 pub returns-in_err-test : goal.returns-in_err-test

@@ -9,11 +9,11 @@ use Rattle.pgs_parser.proofs.parser.Parser.steps.Goals as goal
 
 pub loop-self-init : goal.loop-self-init
 loop-self-init c =
-    ap (λ xs. ahead xs (each_at step_begins step_at c.args.self.now)) c.new-steps.ensures.items ∙ ahead-none (each_at step_begins step_at c.args.self.now)
+    ap (λ xs. ahead xs (each_at step_begins step_at c.args.self.now)) c.in_ok-steps.ensures.items ∙ ahead-none (each_at step_begins step_at c.args.self.now)
 
 pub returns-in_err-step : goal.returns-in_err-step
 returns-in_err-step c =
-    let p = err_from_is_err_and c.from_residual.result c.from_residual.ensures.1 in
+    let p = err_from_is_err_and c.from_residual-in_err-step.result c.from_residual-in_err-step.ensures.1 in
     rw (p.1, p.2) (fails step_begins (λ place. step_at) none_declared step_begin c.loop-self.steps.items 0 c.loop-self.self
     c.loop-self.self (each_at step_begins step_at c.args.self.now) c.in_err-step.field-0.0 c.loop-self-test.ensures c.loop-self.invariant c.in_err-step.ensures)
 

@@ -13,17 +13,17 @@ use Rattle.pgs_store.proofs.Renewed.{few_before, stops_renewed, alone_renewed, s
 use Rattle.pgs_store.proofs.store.Store.checkpoint.Goals as goal
 
 pub checkpoint-requires-clause-frames : goal.checkpoint-requires-clause-frames
-checkpoint-requires-clause-frames g c = (renewed c.self.inside.guard, rw c.as_slice.ensures c.in_ok-first.ensures.frames)
+checkpoint-requires-clause-frames g c = (renewed c.self.inside.guard, rw c.as_slice.ensures.value c.in_ok-first.ensures.frames)
 
 pub returns-in-Ok-clause-answer : goal.returns-in-Ok-clause-answer
 returns-in-Ok-clause-answer g c =
     let guard = c.self.inside.guard in
     let journal = c.self.inside.journal in
     let first = c.as_slice.result.now in
-    let vec = c.first.inside.items in
+    let vec = c.in_ok-first.first in
     let old = g.W.World.view c.args.world.now in
     let new = g.W.World.view c.checkpoint.new.world in
-    let frames : IsFrames First (renewed guard) first = rw c.as_slice.ensures c.in_ok-first.ensures.frames in
+    let frames : IsFrames First (renewed guard) first = rw c.as_slice.ensures.value c.in_ok-first.ensures.frames in
     let few = few_before journal.epoch journal.end guard.commits c.self.invariant.epoch c.self.invariant.end c.self.invariant.most in
     let stands = subst (λ (s : StoreState). s.failed ≡ false → StandsOn s.guard s.journal old) (sym c.self.view_is) c.requires.stands c.if-self.false in
     let end = c.in-Ok.journal.end in
@@ -56,16 +56,16 @@ returns-in-Ok-clause-stops g c =
     let guard = c.self.inside.guard in
     let journal = c.self.inside.journal in
     let first = c.as_slice.result.now in
-    let vec = c.first.inside.items in
+    let vec = c.in_ok-first.first in
     let old = g.W.World.view c.args.world.now in
     let new = g.W.World.view c.checkpoint.new.world in
-    let frames : IsFrames First (renewed guard) first = rw c.as_slice.ensures c.in_ok-first.ensures.frames in
+    let frames : IsFrames First (renewed guard) first = rw c.as_slice.ensures.value c.in_ok-first.ensures.frames in
     let few = few_before journal.epoch journal.end guard.commits c.self.invariant.epoch c.self.invariant.end c.self.invariant.most in
     let stands = subst (λ (s : StoreState). s.failed ≡ false → StandsOn s.guard s.journal old) (sym c.self.view_is) c.requires.stands c.if-self.false in
     subst (λ (s : StoreState). s.failed ≡ false → IsTrue old.honest → IsTrue old.tells_bytes → EachSince (IsRenewedIn s.guard s.journal) old new) c.self.view_is
     (λ whole honest told.
     stops_renewed guard journal (16 + length first) c.facts.ensures.schema c.facts.ensures.guarded c.in_ok-first.ensures.schema c.in_ok-first.ensures.snapshot few
-    (small_first first vec.items vec.len vec.cap (c.as_slice.ensures ∙ sym c.first.view_is) vec.ok.0 vec.ok.1 vec.small) old new stands honest told
+    (small_first first vec.items vec.len vec.cap c.as_slice.ensures.value vec.ok.0 vec.ok.1 vec.small) old new stands honest told
     (subst (λ (a : Area). IsTrue old.tells_bytes → IsSynced a old → StopsBy (Turns a (Creates First (journal.epoch + 1) (renewed guard) (16 + length first))) old new) c.other.ensures
     (c.checkpoint.ensures.stops (renewed guard) frames)))
 
@@ -74,15 +74,15 @@ returns-clause-stops g c =
     let guard = c.self.inside.guard in
     let journal = c.self.inside.journal in
     let first = c.as_slice.result.now in
-    let vec = c.first.inside.items in
+    let vec = c.in_ok-first.first in
     let old = g.W.World.view c.args.world.now in
     let new = g.W.World.view c.checkpoint.new.world in
-    let frames : IsFrames First (renewed guard) first = rw c.as_slice.ensures c.in_ok-first.ensures.frames in
+    let frames : IsFrames First (renewed guard) first = rw c.as_slice.ensures.value c.in_ok-first.ensures.frames in
     let few = few_before journal.epoch journal.end guard.commits c.self.invariant.epoch c.self.invariant.end c.self.invariant.most in
     let stands = subst (λ (s : StoreState). s.failed ≡ false → StandsOn s.guard s.journal old) (sym c.self.view_is) c.requires.stands c.if-self.false in
     subst (λ (s : StoreState). s.failed ≡ false → IsTrue old.honest → IsTrue old.tells_bytes → EachSince (IsRenewedIn s.guard s.journal) old new) c.self.view_is
     (λ whole honest told.
     stops_renewed guard journal (16 + length first) c.facts.ensures.schema c.facts.ensures.guarded c.in_ok-first.ensures.schema c.in_ok-first.ensures.snapshot few
-    (small_first first vec.items vec.len vec.cap (c.as_slice.ensures ∙ sym c.first.view_is) vec.ok.0 vec.ok.1 vec.small) old new stands honest told
+    (small_first first vec.items vec.len vec.cap c.as_slice.ensures.value vec.ok.0 vec.ok.1 vec.small) old new stands honest told
     (subst (λ (a : Area). IsTrue old.tells_bytes → IsSynced a old → StopsBy (Turns a (Creates First (journal.epoch + 1) (renewed guard) (16 + length first))) old new) c.other.ensures
     (c.checkpoint.ensures.stops (renewed guard) frames)))

@@ -40,12 +40,12 @@ returns-in_err-refuse_occupied-clause-faults g c =
 
 pub create-requires-clause-frames : goal.create-requires-clause-frames
 create-requires-clause-frames g c =
-    (payload_of (SchemaCommand c.args.text.now) ∷ [], rw c.as_slice.ensures c.in_ok-frame.ensures.frames)
+    (payload_of (SchemaCommand c.args.text.now) ∷ [], rw c.as_slice.ensures.value c.in_ok-frame.ensures.frames)
 
 pub returns-in-Ok-clause-answer : goal.returns-in-Ok-clause-answer
 returns-in-Ok-clause-answer g c =
     let payload = payload_of (SchemaCommand c.args.text.now) in
-    let frames : IsFrames First (payload ∷ []) c.as_slice.result.now = rw c.as_slice.ensures c.in_ok-frame.ensures.frames in
+    let frames : IsFrames First (payload ∷ []) c.as_slice.result.now = rw c.as_slice.ensures.value c.in_ok-frame.ensures.frames in
     let made = c.in_ok-guard.ensures in
     let end = c.in-Ok.journal.end in
     let old = g.W.World.view c.args.world.now in
@@ -73,10 +73,10 @@ pub returns-in-Ok-clause-stops : goal.returns-in-Ok-clause-stops
 returns-in-Ok-clause-stops g c = λ free settled.
     let payload = payload_of (SchemaCommand c.args.text.now) in
     let first = c.as_slice.result.now in
-    let frames : IsFrames First (payload ∷ []) first = rw c.as_slice.ensures c.in_ok-frame.ensures.frames in
-    let vec = c.frame.inside.items in
+    let frames : IsFrames First (payload ∷ []) first = rw c.as_slice.ensures.value c.in_ok-frame.ensures.frames in
+    let vec = c.in_ok-frame.frame in
     load_stops c.args.limits c.args.text.now c.in_ok-guard.guard.schema payload (16 + length first) c.in_ok-guard.ensures.schema c.in_ok-frame.ensures.decoded
-    (small_first first vec.items vec.len vec.cap (c.as_slice.ensures ∙ sym c.frame.view_is) vec.ok.0 vec.ok.1 vec.small)
+    (small_first first vec.items vec.len vec.cap c.as_slice.ensures.value vec.ok.0 vec.ok.1 vec.small)
     (g.W.World.view c.args.world.now) (g.W.World.view c.refuse_occupied.new.world) (g.W.World.view c.create.new.world) free settled c.refuse_occupied.ensures.quiet c.create.ensures.passes
     (c.create.ensures.stops (payload ∷ []) frames)
 
@@ -90,10 +90,10 @@ pub returns-in-Err-clause-stops : goal.returns-in-Err-clause-stops
 returns-in-Err-clause-stops g c = λ free settled.
     let payload = payload_of (SchemaCommand c.args.text.now) in
     let first = c.as_slice.result.now in
-    let frames : IsFrames First (payload ∷ []) first = rw c.as_slice.ensures c.in_ok-frame.ensures.frames in
-    let vec = c.frame.inside.items in
+    let frames : IsFrames First (payload ∷ []) first = rw c.as_slice.ensures.value c.in_ok-frame.ensures.frames in
+    let vec = c.in_ok-frame.frame in
     load_stops c.args.limits c.args.text.now c.in_ok-guard.guard.schema payload (16 + length first) c.in_ok-guard.ensures.schema c.in_ok-frame.ensures.decoded
-    (small_first first vec.items vec.len vec.cap (c.as_slice.ensures ∙ sym c.frame.view_is) vec.ok.0 vec.ok.1 vec.small)
+    (small_first first vec.items vec.len vec.cap c.as_slice.ensures.value vec.ok.0 vec.ok.1 vec.small)
     (g.W.World.view c.args.world.now) (g.W.World.view c.refuse_occupied.new.world) (g.W.World.view c.create.new.world) free settled c.refuse_occupied.ensures.quiet c.create.ensures.passes
     (c.create.ensures.stops (payload ∷ []) frames)
 

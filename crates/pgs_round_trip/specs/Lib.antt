@@ -1,0 +1,2 @@
+pub mod DumpOps
+pub mod Lines

@@ -1,0 +1,94 @@
+//! Each stop of a store that is loaded, takes a transaction and is checkpointed, with each leaving.
+
+use crate::scenario::{Call, answers, recovered};
+use pgs_base::{Limits, List, Memory};
+use pgs_world::{Area, Leave, MemWorld};
+use std::alloc::Global;
+use std::test::Fail;
+
+const CALLS: &[Call] = &[Call::Add(&[1]), Call::Checkpoint];
+
+/// What is recovered once the world stopped after so many calls and left its bytes so.
+fn left_after(alloc: Global, calls: u64, how: Leave) -> Result<u64, Memory> {
+    let mut world = MemWorld::stopping(alloc, List::new(alloc), List::new(alloc), 512, calls)?;
+    answers(alloc, Limits::standard(), &mut world, CALLS)?;
+    let (a, b, _) = world.left(alloc, how)?;
+    recovered(alloc, a, b)
+}
+
+const WAYS: [Leave; 5] = [
+    Leave::Old,
+    Leave::New,
+    Leave::Fill(0),
+    Leave::Fill(1),
+    Leave::Fill(7),
+];
+
+/// From which number of calls on, up to which one, and what is recovered with each leaving.
+type Row = (u64, u64, [u64; 5]);
+
+/// No store; the store of epoch 1 after no commit and after one; the store of epoch 2 after one commit.
+const STOPS: [Row; 7] = [
+    (0, 14, [30_000; 5]),
+    (15, 15, [30_000, 10, 30_000, 10, 30_000]),
+    (16, 18, [10; 5]),
+    (19, 19, [10, 11, 10, 11, 10]),
+    (20, 28, [11; 5]),
+    (29, 29, [11, 21, 11, 21, 11]),
+    (30, 30, [21; 5]),
+];
+
+/// Whether these states are recovered after so many calls, each with its leaving.
+fn leaves(alloc: Global, calls: u64, states: &[u64; 5]) -> Result<bool, Memory> {
+    for (how, state) in WAYS.iter().zip(states) {
+        if left_after(alloc, calls, *how)? != *state {
+            return Ok(false);
+        }
+    }
+    Ok(true)
+}
+
+/// The first number of calls of a row after which something else is recovered.
+fn wrong_stop(alloc: Global, row: &Row) -> Result<Option<u64>, Memory> {
+    for calls in row.0..=row.1 {
+        if !leaves(alloc, calls, &row.2)? {
+            return Ok(Some(calls));
+        }
+    }
+    Ok(None)
+}
+
+/// The first of all rows.
+fn first_wrong_stop(alloc: Global) -> Result<Option<u64>, Memory> {
+    for row in STOPS.iter() {
+        if let Some(calls) = wrong_stop(alloc, row)? {
+            return Ok(Some(calls));
+        }
+    }
+    Ok(None)
+}
+
+#[test]
+fn each_stop_leaves_the_state_before_or_after(rt: HostRuntime) -> Result<(), Fail> {
+    assert_eq!(rt; first_wrong_stop(rt.alloc())?, None);
+    Ok(())
+}
+
+/// How many bytes each area has after all calls.
+fn sizes(alloc: Global) -> Result<(usize, usize), Memory> {
+    let mut world = MemWorld::new(
+        alloc,
+        List::new(alloc),
+        List::new(alloc),
+        512,
+        List::new(alloc),
+    )?;
+    answers(alloc, Limits::standard(), &mut world, CALLS)?;
+    Ok((world.bytes(Area::A).len(), world.bytes(Area::B).len()))
+}
+
+#[test]
+fn the_worked_store_has_its_bytes(rt: HostRuntime) -> Result<(), Fail> {
+    assert_eq!(rt; sizes(rt.alloc())?, (83, 102));
+    Ok(())
+}
