@@ -15,15 +15,15 @@ use crate::side::Side;
 use crate::side_lists::edit_side;
 use pgs_base::{EdgeId, EdgeRow, Memory, NodeId, Steps};
 use pgs_graph::GraphRead;
+use pgs_keyed::Keyed;
 use std::alloc::Global;
-use std::collections::BTreeMap;
 use std::sync::ledger::Ledger;
 
 /// The edited lists of nodes, on each side. A node without one has the base's list.
 #[derive(Drop)]
 pub(crate) struct NodeLists {
-    pub outgoing: BTreeMap<NodeId, EditedList>,
-    pub incoming: BTreeMap<NodeId, EditedList>,
+    pub outgoing: Keyed<NodeId, EditedList>,
+    pub incoming: Keyed<NodeId, EditedList>,
 }
 
 // The source and the target of an edge, where it is there, with one tick.
@@ -63,10 +63,10 @@ impl NodeLists {
         steps: &mut Steps<L>,
     ) -> Result<(), Memory>
         requires graph { is_graph (B.meaning base.now) ≡ true }
-        requires outgoing { AreReady change.now.0 Out (B.meaning base.now) self.old.outgoing.entries }
-        requires incoming { AreReady change.now.0 In (B.meaning base.now) self.old.incoming.entries }
-        ensures outgoing { OnOk result (AllFollow Out (B.meaning base.now) change.now self.old.outgoing.entries self.new.outgoing.entries) }
-        ensures incoming { OnOk result (AllFollow In (B.meaning base.now) change.now self.old.incoming.entries self.new.incoming.entries) }
+        requires outgoing { AreReady change.now.0 Out (B.meaning base.now) self.old.outgoing }
+        requires incoming { AreReady change.now.0 In (B.meaning base.now) self.old.incoming }
+        ensures outgoing { OnOk result (AllFollow Out (B.meaning base.now) change.now self.old.outgoing self.new.outgoing) }
+        ensures incoming { OnOk result (AllFollow In (B.meaning base.now) change.now self.old.incoming self.new.incoming) }
         ensures never_back { steps.old ≤ steps.new }
         ensures cost { (most : ℕ) → ((id : NodeId) → ends_here (B.meaning base.now) id change.now ≡ true → HasFew (B.meaning base.now) most id) →
             steps.new ≤ steps.old + 8 * most + 13 }
@@ -104,15 +104,15 @@ impl NodeLists {
     ) -> Result<NodeLists, Memory>
         requires graph { is_graph (B.meaning base.now) ≡ true }
         requires ascending { IsStrictlySortedBy edge_cmp (keys_of changes.now) }
-        ensures outgoing { IfOk result (λ lists. ArePassed Out (B.meaning base.now) changes.now [] lists.outgoing.entries) }
-        ensures incoming { IfOk result (λ lists. ArePassed In (B.meaning base.now) changes.now [] lists.incoming.entries) }
+        ensures outgoing { IfOk result (λ lists. ArePassed Out (B.meaning base.now) changes.now [] lists.outgoing) }
+        ensures incoming { IfOk result (λ lists. ArePassed In (B.meaning base.now) changes.now [] lists.incoming) }
         ensures never_back { steps.old ≤ steps.new }
         ensures cost { (most : ℕ) → ((id : NodeId) → list_any (ends_here (B.meaning base.now) id) changes.now ≡ true → HasFew (B.meaning base.now) most id) →
             steps.new ≤ steps.old + (8 * most + 13) * length changes.now }
     {
         let mut lists = NodeLists {
-            outgoing: BTreeMap::new(alloc),
-            incoming: BTreeMap::new(alloc),
+            outgoing: Keyed::new(alloc, changes.len()),
+            incoming: Keyed::new(alloc, changes.len()),
         };
         for change in changes {
             lists.edit_edge(alloc, base, change, steps)?;

@@ -29,8 +29,8 @@ impl<'a, B: GraphRead> Model for Overlay<'a, B> {
 
     ghost view = { λ overlay. changed (B.meaning overlay.base.now) overlay.delta.now };
 
-    ghost invariant = { λ overlay. IsOverlay (B.meaning overlay.base.now) overlay.delta.now overlay.lists.outgoing.entries
-        overlay.lists.incoming.entries overlay.count };
+    ghost invariant = { λ overlay. IsOverlay (B.meaning overlay.base.now) overlay.delta.now overlay.lists.outgoing
+        overlay.lists.incoming overlay.count };
 }
 
 impl<'a, B: GraphRead> Overlay<'a, B> {

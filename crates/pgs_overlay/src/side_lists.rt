@@ -16,18 +16,18 @@ use crate::edited_list::EditedList;
 use crate::side::Side;
 use pgs_base::{EdgeId, Memory, NodeId, Steps};
 use pgs_graph::GraphRead;
+use pgs_keyed::Keyed;
 use std::alloc::Global;
-use std::collections::BTreeMap;
 use std::sync::ledger::Ledger;
 
-// Takes the list of a node out of the map, to edit it: what is kept, and else the base's list as it is.
-fn take_list(lists: &mut BTreeMap<NodeId, EditedList>, alloc: Global, id: NodeId) -> EditedList
-    ensures list { IsListOf (list_at lists.old.entries id) result }
-    ensures entries { lists.new.entries ≡ remove_entry (is_at (node_cmp id)) lists.old.entries }
-    ensures ascending { IsStrictlySortedBy node_cmp (keys_of lists.old.entries) }
+// Takes the list of a node out, to edit it: what is kept, and else the base's list as it is.
+fn take_list(lists: &mut Keyed<NodeId, EditedList>, alloc: Global, id: NodeId) -> EditedList
+    ensures list { IsListOf (list_at lists.old id) result }
+    ensures entries { lists.new ≡ remove_entry (is_at (node_cmp id)) lists.old }
+    ensures ascending { IsStrictlySortedBy node_cmp (keys_of lists.old) }
 {
-    let _ascending = lists.len();
-    match lists.remove(&id) {
+    lists.facts();
+    match lists.unset(&id) {
         Some(list) => list,
         None => EditedList::new(alloc),
     }
@@ -35,7 +35,7 @@ fn take_list(lists: &mut BTreeMap<NodeId, EditedList>, alloc: Global, id: NodeId
 
 // Takes an edge out of the list of its old end, where it had one.
 fn take_out<B: GraphRead, L: Ledger>(
-    lists: &mut BTreeMap<NodeId, EditedList>,
+    lists: &mut Keyed<NodeId, EditedList>,
     alloc: Global,
     base: &B,
     side: Side,
@@ -43,10 +43,10 @@ fn take_out<B: GraphRead, L: Ledger>(
     edge: EdgeId,
     steps: &mut Steps<L>,
 ) -> Result<(), Memory>
-    requires ready { IfSome end (λ id. IsReadyAt edge (edges_at side id (B.meaning base.now).edges) (list_at lists.old.entries id)) }
+    requires ready { IfSome end (λ id. IsReadyAt edge (edges_at side id (B.meaning base.now).edges) (list_at lists.old id)) }
     requires there { IfSome end (λ id. list_any (is_at (edge_cmp edge)) (edges_at side id (B.meaning base.now).edges) ≡ true) }
     ensures taken { OnOk result ((id : NodeId) → IsEditAt (edges_at side id (B.meaning base.now).edges) edge true false (is_here id end)
-        (list_at lists.old.entries id) (list_at lists.new.entries id)) }
+        (list_at lists.old id) (list_at lists.new id)) }
     ensures never_back { steps.old ≤ steps.new }
     ensures cost { (most : ℕ) → IfSome end (λ id. length (edges_at side id (B.meaning base.now).edges) ≤ most) →
         steps.new ≤ steps.old + 2 * most + 3 }
@@ -56,13 +56,13 @@ fn take_out<B: GraphRead, L: Ledger>(
     };
     let mut list = take_list(lists, alloc, id);
     take_edge_out(&mut list, base, side, id, edge, steps)?;
-    lists.insert(id, list)?;
+    lists.set(id, list)?;
     Ok(())
 }
 
 // Puts an edge into the list of its new end, where it has one.
 fn put_in<B: GraphRead, L: Ledger>(
-    lists: &mut BTreeMap<NodeId, EditedList>,
+    lists: &mut Keyed<NodeId, EditedList>,
     alloc: Global,
     base: &B,
     side: Side,
@@ -70,10 +70,10 @@ fn put_in<B: GraphRead, L: Ledger>(
     edge: EdgeId,
     steps: &mut Steps<L>,
 ) -> Result<(), Memory>
-    requires ready { IfSome end (λ id. IsReadyAt edge (edges_at side id (B.meaning base.now).edges) (list_at lists.old.entries id)) }
+    requires ready { IfSome end (λ id. IsReadyAt edge (edges_at side id (B.meaning base.now).edges) (list_at lists.old id)) }
     requires absent { IfSome end (λ id. list_any (is_at (edge_cmp edge)) (edges_at side id (B.meaning base.now).edges) ≡ false) }
     ensures put { OnOk result ((id : NodeId) → IsEditAt (edges_at side id (B.meaning base.now).edges) edge false true (is_here id end)
-        (list_at lists.old.entries id) (list_at lists.new.entries id)) }
+        (list_at lists.old id) (list_at lists.new id)) }
     ensures never_back { steps.old ≤ steps.new }
     ensures cost { (most : ℕ) → IfSome end (λ id. length (edges_at side id (B.meaning base.now).edges) ≤ most) →
         steps.new ≤ steps.old + 2 * most + 3 }
@@ -83,7 +83,7 @@ fn put_in<B: GraphRead, L: Ledger>(
     };
     let mut list = take_list(lists, alloc, id);
     put_edge_in(&mut list, base, side, id, edge, steps)?;
-    lists.insert(id, list)?;
+    lists.set(id, list)?;
     Ok(())
 }
 
@@ -100,7 +100,7 @@ fn are_same(first: Option<NodeId>, second: Option<NodeId>) -> bool
 
 /// Edits the lists of one side for an edge that the delta changes: it is taken out at its old end, and put in at its new one.
 pub(crate) fn edit_side<B: GraphRead, L: Ledger>(
-    lists: &mut BTreeMap<NodeId, EditedList>,
+    lists: &mut Keyed<NodeId, EditedList>,
     alloc: Global,
     base: &B,
     side: Side,
@@ -109,10 +109,10 @@ pub(crate) fn edit_side<B: GraphRead, L: Ledger>(
     steps: &mut Steps<L>,
 ) -> Result<(), Memory>
     requires graph { is_graph (B.meaning base.now) ≡ true }
-    requires ready { AreReady edge side (B.meaning base.now) lists.old.entries }
+    requires ready { AreReady edge side (B.meaning base.now) lists.old }
     requires old_end { ends.0 ≡ option_map (end_of (end_at side)) (edge_at (B.meaning base.now) edge) }
     ensures edited { OnOk result ((id : NodeId) → FollowsChange (edges_at side id (B.meaning base.now).edges) edge
-        (is_here id ends.0) (is_here id ends.1) (list_at lists.old.entries id) (list_at lists.new.entries id)) }
+        (is_here id ends.0) (is_here id ends.1) (list_at lists.old id) (list_at lists.new id)) }
     ensures never_back { steps.old ≤ steps.new }
     ensures cost { (most : ℕ) → IfSome ends.0 (λ id. length (edges_at side id (B.meaning base.now).edges) ≤ most) →
         IfSome ends.1 (λ id. length (edges_at side id (B.meaning base.now).edges) ≤ most) → steps.new ≤ steps.old + 4 * most + 6 }

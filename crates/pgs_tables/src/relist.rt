@@ -19,10 +19,10 @@ use crate::edit::{Edit, Side};
 use crate::{NodeEdges, Tables};
 use pgs_base::{Copyable, EdgeId, EdgeRow, List, Memory, NodeId, NodeRow};
 use pgs_graph::Delta;
+use pgs_keyed::Keyed;
 use pgs_numbered::{Number, Numbered};
 use std::alloc::Global;
 use std::cmp::Ordering;
-use std::collections::BTreeMap;
 
 /// Makes a slot for each changed number that has none. After `Memory` some have got one.
 pub(crate) fn make_slots<K: Number, V: Drop, W>(
@@ -57,13 +57,12 @@ fn leaves(changes: &[(NodeId, Option<NodeRow>)], id: NodeId) -> bool
 // Edges by node as a list, by ascending number.
 fn listed(
     alloc: Global,
-    touched: BTreeMap<NodeId, NodeEdges>,
+    touched: Keyed<NodeId, NodeEdges>,
 ) -> Result<List<(NodeId, NodeEdges)>, Memory>
-    ensures lists { IfOk result (λ lists. lists ≡ touched.entries) }
+    ensures lists { IfOk result (λ lists. lists ≡ touched) }
     ensures ascending { IfOk result (λ lists. IsStrictlySortedBy node_cmp (keys_of lists)) }
 {
-    let _ascending = touched.len();
-    let lists = touched.into_iter().collect::<Vec<_>>(alloc)?;
+    let lists = touched.into_vec(alloc)?;
     Ok(List::from_vec(lists))
 }
 
@@ -75,7 +74,8 @@ impl Tables {
         ensures { IfOk result (λ lists. lists ≡ touched_edges self.now.graph delta.now) }
     {
         let nodes = delta.nodes.as_slice();
-        let mut touched = BTreeMap::new(self.alloc);
+        let changes = delta.nodes.len().saturating_add(delta.edges.len());
+        let mut touched = Keyed::new(self.alloc, changes);
         self.relist_edges(&mut touched, nodes, delta.edges.as_slice())?;
         self.keep_nodes(&mut touched, nodes)?;
         listed(self.alloc, touched)
@@ -94,12 +94,12 @@ impl Tables {
     // The edges at a node after an edit: of those that are made already, and else of those that it had.
     fn edited(
         &self,
-        touched: &BTreeMap<NodeId, NodeEdges>,
+        touched: &Keyed<NodeId, NodeEdges>,
         id: NodeId,
         edit: Edit,
     ) -> Result<NodeEdges, Memory>
         ensures { IfOk result (λ edges. edges ≡ edges_edited edit
-            (unwrap_or (lookup (is_at (node_cmp id)) touched.now.entries) (node_edges self.now.graph id))) }
+            (unwrap_or (lookup (is_at (node_cmp id)) touched.now) (node_edges self.now.graph id))) }
     {
         if let Some(edges) = touched.get(&id) {
             return edges.edited(self.alloc, edit);
@@ -113,35 +113,35 @@ impl Tables {
     // An edit of the edges at a node, unless the delta takes the node out.
     fn relist(
         &self,
-        touched: &mut BTreeMap<NodeId, NodeEdges>,
+        touched: &mut Keyed<NodeId, NodeEdges>,
         nodes: &[(NodeId, Option<NodeRow>)],
         id: NodeId,
         edit: Edit,
     ) -> Result<(), Memory>
         requires { IsStrictlySortedBy node_cmp (keys_of nodes.now) }
-        ensures { OnOk result ((q : NodeId) → lookup (is_at (node_cmp q)) touched.new.entries
-            ≡ relisted_at (node_edges self.now.graph q) (stays nodes.now q) q id edit.side edit.adds edit.edge (lookup (is_at (node_cmp q)) touched.old.entries)) }
+        ensures { OnOk result ((q : NodeId) → lookup (is_at (node_cmp q)) touched.new
+            ≡ relisted_at (node_edges self.now.graph q) (stays nodes.now q) q id edit.side edit.adds edit.edge (lookup (is_at (node_cmp q)) touched.old)) }
     {
         if !leaves(nodes, id) {
             return Ok(());
         }
         let edges = self.edited(touched, id, edit)?;
-        touched.insert(id, edges)?;
+        touched.set(id, edges)?;
         Ok(())
     }
 
     // An edit at both ends of an edge, where there is one.
     fn relist_ends(
         &self,
-        touched: &mut BTreeMap<NodeId, NodeEdges>,
+        touched: &mut Keyed<NodeId, NodeEdges>,
         nodes: &[(NodeId, Option<NodeRow>)],
         adds: bool,
         edge: EdgeId,
         row: Option<&EdgeRow>,
     ) -> Result<(), Memory>
         requires { IsStrictlySortedBy node_cmp (keys_of nodes.now) }
-        ensures { OnOk result ((q : NodeId) → lookup (is_at (node_cmp q)) touched.new.entries
-            ≡ relisted_ends (node_edges self.now.graph q) (stays nodes.now q) q adds edge (option_copied row.entry) (lookup (is_at (node_cmp q)) touched.old.entries)) }
+        ensures { OnOk result ((q : NodeId) → lookup (is_at (node_cmp q)) touched.new
+            ≡ relisted_ends (node_edges self.now.graph q) (stays nodes.now q) q adds edge (option_copied row.entry) (lookup (is_at (node_cmp q)) touched.old)) }
     {
         let Some(row) = row else {
             return Ok(());
@@ -164,13 +164,13 @@ impl Tables {
     // A changed edge taken out at its old ends, and put in at its new ones.
     fn relist_change(
         &self,
-        touched: &mut BTreeMap<NodeId, NodeEdges>,
+        touched: &mut Keyed<NodeId, NodeEdges>,
         nodes: &[(NodeId, Option<NodeRow>)],
         change: &(EdgeId, Option<EdgeRow>),
     ) -> Result<(), Memory>
         requires { IsStrictlySortedBy node_cmp (keys_of nodes.now) }
-        ensures { OnOk result ((q : NodeId) → lookup (is_at (node_cmp q)) touched.new.entries
-            ≡ relisted_all self.now.graph nodes.now q (change.now ∷ []) (lookup (is_at (node_cmp q)) touched.old.entries)) }
+        ensures { OnOk result ((q : NodeId) → lookup (is_at (node_cmp q)) touched.new
+            ≡ relisted_all self.now.graph nodes.now q (change.now ∷ []) (lookup (is_at (node_cmp q)) touched.old)) }
     {
         let old = self.edges.get(change.0);
         self.relist_ends(touched, nodes, false, change.0, old)?;
@@ -180,13 +180,13 @@ impl Tables {
 
     fn relist_edges(
         &self,
-        touched: &mut BTreeMap<NodeId, NodeEdges>,
+        touched: &mut Keyed<NodeId, NodeEdges>,
         nodes: &[(NodeId, Option<NodeRow>)],
         changes: &[(EdgeId, Option<EdgeRow>)],
     ) -> Result<(), Memory>
         requires { IsStrictlySortedBy node_cmp (keys_of nodes.now) }
-        ensures { OnOk result ((q : NodeId) → lookup (is_at (node_cmp q)) touched.new.entries
-            ≡ relisted_all self.now.graph nodes.now q changes.now (lookup (is_at (node_cmp q)) touched.old.entries)) }
+        ensures { OnOk result ((q : NodeId) → lookup (is_at (node_cmp q)) touched.new
+            ≡ relisted_all self.now.graph nodes.now q changes.now (lookup (is_at (node_cmp q)) touched.old)) }
     {
         for change in changes {
             self.relist_change(touched, nodes, change)?;
@@ -195,9 +195,9 @@ impl Tables {
     }
 
     // The edges of a node that the delta puts in: those that are made already, and else those that it had.
-    fn keep(&self, touched: &mut BTreeMap<NodeId, NodeEdges>, id: NodeId) -> Result<(), Memory>
-        ensures { OnOk result ((q : NodeId) → lookup (is_at (node_cmp q)) touched.new.entries
-            ≡ kept_here self.now.graph q id (lookup (is_at (node_cmp q)) touched.old.entries)) }
+    fn keep(&self, touched: &mut Keyed<NodeId, NodeEdges>, id: NodeId) -> Result<(), Memory>
+        ensures { OnOk result ((q : NodeId) → lookup (is_at (node_cmp q)) touched.new
+            ≡ kept_here self.now.graph q id (lookup (is_at (node_cmp q)) touched.old)) }
     {
         if touched.get(&id).is_some() {
             return Ok(());
@@ -206,18 +206,18 @@ impl Tables {
             Some(edges) => edges.copy(self.alloc)?,
             None => NodeEdges::new(self.alloc),
         };
-        touched.insert(id, edges)?;
+        touched.set(id, edges)?;
         Ok(())
     }
 
     fn keep_nodes(
         &self,
-        touched: &mut BTreeMap<NodeId, NodeEdges>,
+        touched: &mut Keyed<NodeId, NodeEdges>,
         nodes: &[(NodeId, Option<NodeRow>)],
     ) -> Result<(), Memory>
         requires { IsStrictlySortedBy node_cmp (keys_of nodes.now) }
-        ensures { OnOk result ((q : NodeId) → lookup (is_at (node_cmp q)) touched.new.entries
-            ≡ kept_at self.now.graph q (lookup (is_at (node_cmp q)) nodes.now) (lookup (is_at (node_cmp q)) touched.old.entries)) }
+        ensures { OnOk result ((q : NodeId) → lookup (is_at (node_cmp q)) touched.new
+            ≡ kept_at self.now.graph q (lookup (is_at (node_cmp q)) nodes.now) (lookup (is_at (node_cmp q)) touched.old)) }
     {
         for change in nodes {
             if change.1.is_some() {

@@ -28,7 +28,13 @@ pub struct Tables {
 // Dropped by one function of this crate, so that those above need not prove anew how tables is taken apart.
 impl Drop for Tables {
     fn drop(self) {
-        let Tables { alloc: _, seed: _, nodes: _, edges: _, ready: _ } = self;
+        let Tables {
+            alloc: _,
+            seed: _,
+            nodes: _,
+            edges: _,
+            ready: _,
+        } = self;
     }
 }
 

@@ -6,7 +6,7 @@ use Rattle.pgs_overlay.proofs.side_lists.put_in.Goals as goal
 
 pub returns-clause-put : goal.returns-clause-put
 returns-clause-put g c =
-    edited_at (λ id. edges_at c.args.side id (g.B.GraphRead.meaning c.args.base.now).edges) c.args.edge false true c.args.lists.now.entries c.take_list-list.ensures.ascending
-    c.in-Some.id _ _ _ c.take_list-list.ensures.entries c.in_ok-insert.ensures.entries
+    edited_at (λ id. edges_at c.args.side id (g.B.GraphRead.meaning c.args.base.now).edges) c.args.edge false true c.args.lists.now c.take_list-list.ensures.ascending
+    c.in-Some.id _ _ _ c.take_list-list.ensures.entries c.in_ok-set.ensures.ok
     (λ edited later was rising. c.in_ok-put_edge_in.ensures.edited edited later
-    (list_edited _ edited _ (list_at c.args.lists.now.entries c.in-Some.id) c.take_list-list.result c.take_list-list.ensures.list was) rising) c.args.end c.in-Some.is
+    (list_edited _ edited _ (list_at c.args.lists.now c.in-Some.id) c.take_list-list.result c.take_list-list.ensures.list was) rising) c.args.end c.in-Some.is

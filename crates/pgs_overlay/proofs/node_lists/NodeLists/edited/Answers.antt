@@ -7,8 +7,8 @@ use Rattle.pgs_overlay.proofs.node_lists.NodeLists.edited.Goals as goal
 
 pub loop-change-init : goal.loop-change-init
 loop-change-init g c = record {
-  outgoing = rw c.new.ensures.empty (passed_none Out (g.B.GraphRead.meaning c.args.base.now) c.requires.graph (keys_of c.args.changes.now));
-  incoming = rw c.new-2.ensures.empty (passed_none In (g.B.GraphRead.meaning c.args.base.now) c.requires.graph (keys_of c.args.changes.now));
+  outgoing = rw c.new.ensures (passed_none Out (g.B.GraphRead.meaning c.args.base.now) c.requires.graph (keys_of c.args.changes.now));
+  incoming = rw c.new-2.ensures (passed_none In (g.B.GraphRead.meaning c.args.base.now) c.requires.graph (keys_of c.args.changes.now));
   never_back = omega arith;
   cost = λ most few. omega arith;
 }
@@ -16,19 +16,19 @@ loop-change-init g c = record {
 pub edit_edge-requires-clause-outgoing : goal.edit_edge-requires-clause-outgoing
 edit_edge-requires-clause-outgoing g c =
     ready_next Out (g.B.GraphRead.meaning c.args.base.now) c.requires.graph c.args.changes.now c.loop-change.change-index c.change-item.result
-    c.requires.ascending c.loop-change-test.true c.change-item.is c.loop-change.lists.outgoing.entries c.loop-change.invariant.outgoing
+    c.requires.ascending c.loop-change-test.true c.change-item.is c.loop-change.lists.outgoing c.loop-change.invariant.outgoing
 
 pub edit_edge-requires-clause-incoming : goal.edit_edge-requires-clause-incoming
 edit_edge-requires-clause-incoming g c =
     ready_next In (g.B.GraphRead.meaning c.args.base.now) c.requires.graph c.args.changes.now c.loop-change.change-index c.change-item.result
-    c.requires.ascending c.loop-change-test.true c.change-item.is c.loop-change.lists.incoming.entries c.loop-change.invariant.incoming
+    c.requires.ascending c.loop-change-test.true c.change-item.is c.loop-change.lists.incoming c.loop-change.invariant.incoming
 
 pub loop-change-preserved : goal.loop-change-preserved
 loop-change-preserved g c = record {
   outgoing = passed_next Out (g.B.GraphRead.meaning c.args.base.now) c.requires.graph c.args.changes.now c.loop-change.change-index c.change-item.result
-      c.requires.ascending c.loop-change-test.true c.change-item.is c.loop-change.lists.outgoing.entries c.loop-change.invariant.outgoing _ c.in_ok-edit_edge.ensures.outgoing;
+      c.requires.ascending c.loop-change-test.true c.change-item.is c.loop-change.lists.outgoing c.loop-change.invariant.outgoing _ c.in_ok-edit_edge.ensures.outgoing;
   incoming = passed_next In (g.B.GraphRead.meaning c.args.base.now) c.requires.graph c.args.changes.now c.loop-change.change-index c.change-item.result
-      c.requires.ascending c.loop-change-test.true c.change-item.is c.loop-change.lists.incoming.entries c.loop-change.invariant.incoming _ c.in_ok-edit_edge.ensures.incoming;
+      c.requires.ascending c.loop-change-test.true c.change-item.is c.loop-change.lists.incoming c.loop-change.invariant.incoming _ c.in_ok-edit_edge.ensures.incoming;
   never_back = omega (arith, c.loop-change.invariant.never_back, c.edit_edge.ensures.never_back);
   cost = λ most few. omega (
     arith,

@@ -9,8 +9,8 @@ use Rattle.pgs_overlay.proofs.node_lists.NodeLists.edited.Given as goal
 
 abbrev pub invariant-loop-change : goal.invariant-loop-change
 invariant-loop-change g l = record {
-  outgoing : ArePassed Out (g.B.GraphRead.meaning l.base) (take l.change-index l.changes) (keys_of (drop l.change-index l.changes)) l.lists.outgoing.entries;
-  incoming : ArePassed In (g.B.GraphRead.meaning l.base) (take l.change-index l.changes) (keys_of (drop l.change-index l.changes)) l.lists.incoming.entries;
+  outgoing : ArePassed Out (g.B.GraphRead.meaning l.base) (take l.change-index l.changes) (keys_of (drop l.change-index l.changes)) l.lists.outgoing;
+  incoming : ArePassed In (g.B.GraphRead.meaning l.base) (take l.change-index l.changes) (keys_of (drop l.change-index l.changes)) l.lists.incoming;
   never_back : l.initial.steps ≤ l.steps;
   cost : (most : ℕ) → ((id : NodeId) → list_any (ends_here (g.B.GraphRead.meaning l.base) id) l.changes ≡ true → HasFew (g.B.GraphRead.meaning l.base) most id) →
       l.steps ≤ l.initial.steps + (8 * most + 13) * l.change-index;

@@ -13,7 +13,7 @@ returns-in-None c =
     let graph = c.args.self.now.graph in
     let graph_is : is_graph graph ≡ true = ap (λ s. is_graph s.graph) (sym c.self.view_is) ∙ c.self.invariant.graph in
     let absent = absent_node graph c.args.id graph_is (no_node (node_at graph c.args.id) (node_edges graph c.args.id) c.in-None.ensures) in
-    let unmade : lookup (is_at (node_cmp c.args.id)) c.args.touched.now.entries ≡ None = sym c.get.ensures.value ∙ ap option_copied c.in_default.is in
-    let before : c.new.result ≡ unwrap_or (lookup (is_at (node_cmp c.args.id)) c.args.touched.now.entries) (node_edges graph c.args.id) =
+    let unmade : lookup (is_at (node_cmp c.args.id)) c.args.touched.now ≡ None = sym c.get.ensures ∙ ap option_copied c.in_default.is in
+    let before : c.new.result ≡ unwrap_or (lookup (is_at (node_cmp c.args.id)) c.args.touched.now) (node_edges graph c.args.id) =
     c.new.ensures ∙ sym absent ∙ ap (λ o. unwrap_or o (node_edges graph c.args.id)) (sym unmade) in
     subst (λ e. IfOk c.edited-in-None.result (λ edges. edges ≡ edges_edited c.args.edit e)) before c.edited-in-None.ensures

@@ -34,16 +34,16 @@ same_edges (Some row) edges had some = ap (λ (s : Option NodeEdges). unwrap_or 
 
 pub returns : goal.returns
 returns c q =
-    let rows = c.args.touched.now.entries in
+    let rows = c.args.touched.now in
     let graph = c.args.self.now.graph in
     let was = λ (n : NodeId). lookup (is_at (node_cmp n)) rows in
     let base = λ (n : NodeId). node_edges graph n in
-    let none : was c.args.id ≡ None = none_of (was c.args.id) (ap is_some (sym c.get.ensures.value) ∙ some_copied c.get.result ∙ sym c.is_some.ensures ∙ c.if-is_some.false) in
+    let none : was c.args.id ≡ None = none_of (was c.args.id) (ap is_some (sym c.get.ensures) ∙ some_copied c.get.result ∙ sym c.is_some.ensures ∙ c.if-is_some.false) in
     let graph_is : is_graph graph ≡ true = ap (λ s. is_graph s.graph) (sym c.self.view_is) ∙ c.self.invariant.graph in
     let edges : c.match-edges_at.edges ≡ base c.args.id =
     elim c.match-edges_at.branch [
       | in-Some+in_ok-edges-in-Some w ↦ w.edges-is ∙ w.in_ok-edges-in-Some.ensures ∙ same_edges (node_at graph c.args.id) (base c.args.id) w.in-Some.edges.now w.in-Some.ensures
       | in-None w ↦ w.edges-is ∙ w.new-edges.ensures ∙ sym (absent_node graph c.args.id graph_is (no_node (node_at graph c.args.id) (base c.args.id) w.in-None.ensures))
     ] in
-    ap (lookup (is_at (node_cmp q))) c.in_ok-insert.ensures.entries ∙ lookup-insert_entry node_cmp_total q c.args.id c.match-edges_at.edges rows
+    ap (lookup (is_at (node_cmp q))) c.in_ok-set.ensures.ok ∙ lookup-insert_entry node_cmp_total q c.args.id c.match-edges_at.edges rows
     ∙ kept_in c.args.id q was base none c.match-edges_at.edges edges (is_at (node_cmp c.args.id) q) refl

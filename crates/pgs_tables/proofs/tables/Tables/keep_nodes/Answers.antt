@@ -64,16 +64,16 @@ loop-change-preserved c q =
     let nodes = c.args.nodes.now in
     let item = c.change-item.result in
     let rest = drop (c.loop-change.change-index + 1) nodes in
-    let had = lookup (is_at (node_cmp q)) c.loop-change.touched.entries in
+    let had = lookup (is_at (node_cmp q)) c.loop-change.touched in
     let front = first_of_rest nodes c.loop-change.change-index item c.loop-change-test.true c.change-item.is in
     let sorted : IsStrictlySortedBy node_cmp (item.0 ∷ keys_of rest) =
     subst (λ l. IsStrictlySortedBy node_cmp (keys_of l)) front (ascending_drop node_cmp c.loop-change.change-index nodes c.requires) in
-    let now : lookup (is_at (node_cmp q)) c.if-is_some.touched.entries ≡ after_first graph q item.0 item.1 had =
+    let now : lookup (is_at (node_cmp q)) c.if-is_some.touched ≡ after_first graph q item.0 item.1 had =
     elim c.if-is_some.branch [
       | then-is_some+in_ok-keep w ↦
-          ap (λ t. lookup (is_at (node_cmp q)) t.entries) w.touched-is
-          ∙ first_put graph q item.0 item.1 had (lookup (is_at (node_cmp q)) w.keep.new.touched.entries) (sym c.is_some.ensures ∙ w.if-is_some.true) (w.in_ok-keep.ensures q)
-      | else-is_some w ↦ ap (λ t. lookup (is_at (node_cmp q)) t.entries) w.touched-is ∙ first_left graph q item.0 item.1 had (sym c.is_some.ensures ∙ w.if-is_some.false)
+          ap (λ t. lookup (is_at (node_cmp q)) t) w.touched-is
+          ∙ first_put graph q item.0 item.1 had (lookup (is_at (node_cmp q)) w.keep.new.touched) (sym c.is_some.ensures ∙ w.if-is_some.true) (w.in_ok-keep.ensures q)
+      | else-is_some w ↦ ap (λ t. lookup (is_at (node_cmp q)) t) w.touched-is ∙ first_left graph q item.0 item.1 had (sym c.is_some.ensures ∙ w.if-is_some.false)
     ] in
     ap (kept_at graph q (lookup (is_at (node_cmp q)) rest)) now
     ∙ kept_first graph q item.0 item.1 rest had sorted

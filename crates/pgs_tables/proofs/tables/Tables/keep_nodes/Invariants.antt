@@ -8,5 +8,5 @@ use Rattle.pgs_tables.proofs.tables.Tables.keep_nodes.Given as goal
 
 abbrev pub invariant-loop-change : goal.invariant-loop-change
 invariant-loop-change l =
-    (q : NodeId) → kept_at l.self.graph q (lookup (is_at (node_cmp q)) (drop l.change-index l.nodes)) (lookup (is_at (node_cmp q)) l.touched.entries)
-    ≡ kept_at l.self.graph q (lookup (is_at (node_cmp q)) l.nodes) (lookup (is_at (node_cmp q)) l.fn.touched.entries)
+    (q : NodeId) → kept_at l.self.graph q (lookup (is_at (node_cmp q)) (drop l.change-index l.nodes)) (lookup (is_at (node_cmp q)) l.touched)
+    ≡ kept_at l.self.graph q (lookup (is_at (node_cmp q)) l.nodes) (lookup (is_at (node_cmp q)) l.fn.touched)

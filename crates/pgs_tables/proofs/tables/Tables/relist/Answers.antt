@@ -31,9 +31,9 @@ module _ (id q : NodeId) (was : NodeId → Option NodeEdges) (base : NodeId → 
 
 pub returns : goal.returns
 returns c q =
-    let rows = c.args.touched.now.entries in
+    let rows = c.args.touched.now in
     let was = λ (n : NodeId). lookup (is_at (node_cmp n)) rows in
     let base = λ (n : NodeId). node_edges c.args.self.now.graph n in
     let left = λ (n : NodeId). stays c.args.nodes.now n in
-    ap (lookup (is_at (node_cmp q))) c.in_ok-insert.ensures.entries ∙ lookup-insert_entry node_cmp_total q c.args.id c.in_ok-edges.edges rows
+    ap (lookup (is_at (node_cmp q))) c.in_ok-set.ensures.ok ∙ lookup-insert_entry node_cmp_total q c.args.id c.in_ok-edges.edges rows
     ∙ put_in c.args.id q was base left c.args.edit (sym c.leaves.ensures ∙ c.if-not-leaves.false) c.in_ok-edges.edges c.in_ok-edges.ensures (is_at (node_cmp c.args.id) q) refl

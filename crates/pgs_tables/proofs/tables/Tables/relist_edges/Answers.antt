@@ -14,10 +14,10 @@ loop-change-preserved c q =
     let changes = c.args.changes.now in
     let front = first_of_rest changes c.loop-change.change-index c.change-item.result c.loop-change-test.true c.change-item.is in
     ap (relisted_all graph nodes q (drop (c.loop-change.change-index + 1) changes)) (c.in_ok-relist_change.ensures q)
-    ∙ ap (λ l. relisted_all graph nodes q l (lookup (is_at (node_cmp q)) c.loop-change.touched.entries)) (sym front)
+    ∙ ap (λ l. relisted_all graph nodes q l (lookup (is_at (node_cmp q)) c.loop-change.touched)) (sym front)
     ∙ c.loop-change.invariant q
 
 pub returns : goal.returns
 returns c q =
     let done = drop_all c.loop-change.change-index c.args.changes.now c.loop-change-test.false in
-    ap (λ l. relisted_all c.args.self.now.graph c.args.nodes.now q l (lookup (is_at (node_cmp q)) c.loop-change.touched.entries)) (sym done) ∙ c.loop-change.invariant q
+    ap (λ l. relisted_all c.args.self.now.graph c.args.nodes.now q l (lookup (is_at (node_cmp q)) c.loop-change.touched)) (sym done) ∙ c.loop-change.invariant q

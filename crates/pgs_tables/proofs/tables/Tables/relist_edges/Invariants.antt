@@ -8,5 +8,5 @@ use Rattle.pgs_tables.proofs.tables.Tables.relist_edges.Given as goal
 
 abbrev pub invariant-loop-change : goal.invariant-loop-change
 invariant-loop-change l =
-    (q : NodeId) → relisted_all l.self.graph l.nodes q (drop l.change-index l.changes) (lookup (is_at (node_cmp q)) l.touched.entries)
-    ≡ relisted_all l.self.graph l.nodes q l.changes (lookup (is_at (node_cmp q)) l.fn.touched.entries)
+    (q : NodeId) → relisted_all l.self.graph l.nodes q (drop l.change-index l.changes) (lookup (is_at (node_cmp q)) l.touched)
+    ≡ relisted_all l.self.graph l.nodes q l.changes (lookup (is_at (node_cmp q)) l.fn.touched)

@@ -26,15 +26,15 @@ returns c =
     let graph = c.args.self.now.graph in
     let delta = c.args.delta.now in
     let graph_is : is_graph graph ≡ true = ap (λ s. is_graph s.graph) (sym c.self.view_is) ∙ c.self.invariant.graph in
-    let made = c.keep_nodes.new.touched.entries in
+    let made = c.keep_nodes.new.touched in
     let each = λ (q : NodeId).
     c.in_ok-keep_nodes.ensures q
-    ∙ ap (λ l. kept_at graph q (lookup (is_at (node_cmp q)) l) (lookup (is_at (node_cmp q)) c.relist_edges.new.touched.entries)) c.as_slice-nodes.ensures
+    ∙ ap (λ l. kept_at graph q (lookup (is_at (node_cmp q)) l) (lookup (is_at (node_cmp q)) c.relist_edges.new.touched)) c.as_slice-nodes.ensures
     ∙ ap (kept_at graph q (lookup (is_at (node_cmp q)) delta.nodes))
     (c.in_ok-relist_edges.ensures q
-    ∙ ap (λ l. relisted_all graph l q c.as_slice.result.now (lookup (is_at (node_cmp q)) c.new-touched.result.entries)) c.as_slice-nodes.ensures
-    ∙ ap (λ l. relisted_all graph delta.nodes q l (lookup (is_at (node_cmp q)) c.new-touched.result.entries)) c.as_slice.ensures
-    ∙ ap (λ l. relisted_all graph delta.nodes q delta.edges (lookup (is_at (node_cmp q)) l)) c.new-touched.ensures.empty) in
+    ∙ ap (λ l. relisted_all graph l q c.as_slice.result.now (lookup (is_at (node_cmp q)) c.new-touched.result)) c.as_slice-nodes.ensures
+    ∙ ap (λ l. relisted_all graph delta.nodes q l (lookup (is_at (node_cmp q)) c.new-touched.result)) c.as_slice.ensures
+    ∙ ap (λ l. relisted_all graph delta.nodes q delta.edges (lookup (is_at (node_cmp q)) l)) c.new-touched.ensures) in
     both_ok _ _ _ c.listed.result
     (λ lists same ascending. all_relisted graph delta graph_is c.requires lists ascending (λ q. ap (lookup (is_at (node_cmp q))) same ∙ each q))
     c.listed.ensures.lists c.listed.ensures.ascending

@@ -1,0 +1,9 @@
+//! Values by ordered keys, in a form that suits their number.
+//!
+//! Few stand in one sorted block, which takes one piece of memory; many in a tree, where none takes long. Contracts see the list of the
+//! pairs by ascending key, whatever the form.
+#![tactic(auto)]
+
+mod keyed;
+
+pub use keyed::Keyed;
