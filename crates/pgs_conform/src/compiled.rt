@@ -21,7 +21,11 @@ pub struct Compiled {
 // Dropped by one function of this crate, so that those above need not prove anew how a schema with its shapes is taken apart.
 impl Drop for Compiled {
     fn drop(self) {
-        let Compiled { resolved: _, nodes: _, edges: _ } = self;
+        let Compiled {
+            resolved: _,
+            nodes: _,
+            edges: _,
+        } = self;
     }
 }
 

@@ -24,7 +24,11 @@ pub struct Graph {
 // Dropped by one function of this crate, so that those above need not prove anew how a graph is taken apart.
 impl Drop for Graph {
     fn drop(self) {
-        let Graph { alloc: _, nodes: _, edges: _ } = self;
+        let Graph {
+            alloc: _,
+            nodes: _,
+            edges: _,
+        } = self;
     }
 }
 

@@ -27,7 +27,11 @@ pub struct PlannedKey {
 // Dropped by one function of this crate, so that those above need not prove anew how a planned key is taken apart.
 impl Drop for PlannedKey {
     fn drop(self) {
-        let PlannedKey { key: _, scope: _, descriptor: _ } = self;
+        let PlannedKey {
+            key: _,
+            scope: _,
+            descriptor: _,
+        } = self;
     }
 }
 

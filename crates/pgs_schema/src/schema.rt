@@ -21,7 +21,11 @@ pub struct Schema {
 // Dropped by one function of this crate, so that those above need not prove anew how a schema is taken apart.
 impl Drop for Schema {
     fn drop(self) {
-        let Schema { text: _, compiled: _, keys: _ } = self;
+        let Schema {
+            text: _,
+            compiled: _,
+            keys: _,
+        } = self;
     }
 }
 

@@ -39,7 +39,13 @@ pub struct Guard {
 // Dropped by one function of this crate, so that those above need not prove anew how a guard is taken apart.
 impl Drop for Guard {
     fn drop(self) {
-        let Guard { alloc: _, schema: _, limits: _, graph: _, commits: _ } = self;
+        let Guard {
+            alloc: _,
+            schema: _,
+            limits: _,
+            graph: _,
+            commits: _,
+        } = self;
     }
 }
 

@@ -24,7 +24,11 @@ pub struct Store {
 // Dropped by one function of this crate, so that those above need not prove anew how a store is taken apart.
 impl Drop for Store {
     fn drop(self) {
-        let Store { guard: _, journal: _, failed: _ } = self;
+        let Store {
+            guard: _,
+            journal: _,
+            failed: _,
+        } = self;
     }
 }
 
