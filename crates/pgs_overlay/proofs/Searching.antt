@@ -1,5 +1,5 @@
 -- What a look at one place of a list that ascends says of the others.
-use Rattle.std.proofs.Common.{◌≡◌, ◌∙◌, ℕ, ◌+◌, ◌<◌, ◌≤◌, List, length, Some, None, ap, sym, arith, inl, inr}
+use Rattle.std.proofs.Common.{◌≡◌, ◌∙◌, ℕ, zero, suc, ◌+◌, ◌-◌, ◌<◌, ◌≤◌, List, length, Some, None, ap, sym, arith, inl, inr}
 use Rattle.std.specs.List.{slice_get}
 use Rattle.std.specs.List.Sorted.{IsStrictlySortedBy}
 use Rattle.std.proofs.lemmas.Bool.{cases_lt}
@@ -35,6 +35,17 @@ module _ (xs : List EdgeId) (up : IsStrictlySortedBy edge_cmp xs) (edge : EdgeId
 
   pub from_at : (found : EdgeId) → slice_get xs place ≡ Some found → edge.0 ≤ found.0 → AllFrom edge xs place
   from_at found e le k after high = omega (arith, not_falling k after high, number_found found e, le)
+
+  rises : (d : ℕ) → place + d < length xs → number_at xs place + d ≤ number_at xs (place + d)
+  rises zero within = let e : place + 0 ≡ place = omega arith in omega (arith, ap (number_at xs) e)
+  rises (suc d) within = omega (arith, rises d (omega arith), ascends xs (place + d) (place + suc d) up (omega arith) within)
+
+  -- the numbers behind a place rise by one at least, from one place to the next
+  pub above_gap : (found : EdgeId) → slice_get xs place ≡ Some found → (last : ℕ) → place ≤ last → edge.0 ≤ found.0 + (last - place) + 1
+      → AllFrom edge xs (last + 1)
+  above_gap found e last le gap k after high =
+      let at : place + (k - place) ≡ k = omega arith in
+      omega (arith, rises (k - place) (omega arith), ap (number_at xs) at, number_found found e)
 
   pub past_end : slice_get xs place ≡ None → AllFrom edge xs place
   past_end e k after high =

@@ -31,7 +31,7 @@ pub fn take_edge_out<B: GraphRead, L: Ledger>(
         IsStrictlySortedBy edge_cmp (edge ∷ later) → OnOk result (IsEdited (edges_at side id (B.meaning base.now).edges)
         (remove_key (is_at (edge_cmp edge)) edited) later list.new) }
     ensures never_back { steps.old ≤ steps.new }
-    ensures cost { steps.new ≤ steps.old + 2 * length (edges_at side id (B.meaning base.now).edges) + 3 }
+    ensures cost { steps.new ≤ steps.old + 2 * length (edges_at side id (B.meaning base.now).edges) + 5 }
 {
     match search(base, side, id, list.done, edge, steps) {
         Ok(place) => list.take_out(place),
@@ -54,7 +54,7 @@ pub fn put_edge_in<B: GraphRead, L: Ledger>(
         IsStrictlySortedBy edge_cmp (edge ∷ later) → OnOk result (IsEdited (edges_at side id (B.meaning base.now).edges)
         (insert_key edge_cmp edited edge) later list.new) }
     ensures never_back { steps.old ≤ steps.new }
-    ensures cost { steps.new ≤ steps.old + 2 * length (edges_at side id (B.meaning base.now).edges) + 3 }
+    ensures cost { steps.new ≤ steps.old + 2 * length (edges_at side id (B.meaning base.now).edges) + 5 }
 {
     match search(base, side, id, list.done, edge, steps) {
         Err(place) => list.put_in(place, edge),

@@ -69,7 +69,7 @@ impl NodeLists {
         ensures incoming { OnOk result (AllFollow In (B.meaning base.now) change.now self.old.incoming self.new.incoming) }
         ensures never_back { steps.old ≤ steps.new }
         ensures cost { (most : ℕ) → ((id : NodeId) → ends_here (B.meaning base.now) id change.now ≡ true → HasFew (B.meaning base.now) most id) →
-            steps.new ≤ steps.old + 8 * most + 13 }
+            steps.new ≤ steps.old + 8 * most + 21 }
     {
         let (edge, row) = change;
         let old = old_ends(base, *edge, steps);
@@ -108,7 +108,7 @@ impl NodeLists {
         ensures incoming { IfOk result (λ lists. ArePassed In (B.meaning base.now) changes.now [] lists.incoming) }
         ensures never_back { steps.old ≤ steps.new }
         ensures cost { (most : ℕ) → ((id : NodeId) → list_any (ends_here (B.meaning base.now) id) changes.now ≡ true → HasFew (B.meaning base.now) most id) →
-            steps.new ≤ steps.old + (8 * most + 13) * length changes.now }
+            steps.new ≤ steps.old + (8 * most + 21) * length changes.now }
     {
         let mut lists = NodeLists {
             outgoing: Keyed::new(alloc, changes.len()),

@@ -1,4 +1,4 @@
-ghost use Rattle.std.specs.Prelude.{◌≡◌, ◌+◌, ◌-◌, ◌*◌, ◌<◌, ◌≤◌, length, MatchResult, true, false};
+ghost use Rattle.std.specs.Prelude.{◌≡◌, ◌+◌, ◌-◌, ◌*◌, ◌<◌, ◌≤◌, length, MatchResult, IfSome, true, false};
 ghost use Rattle.pgs_base.specs.declared.element.NodeId.{NodeId};
 ghost use Rattle.pgs_base.specs.Graph.{is_graph};
 ghost use Rattle.pgs_edges.specs.Numbers.{AllBelow, IsBetween};
@@ -100,6 +100,63 @@ fn halved<B: GraphRead, L: Ledger>(
     low
 }
 
+// The first place from which no edge is lower, where from a place on no number is missing up to the edge: so the place is known from
+// the number there, which is where most edges go. At most two looks.
+fn without_gap<B: GraphRead, L: Ledger>(
+    base: &B,
+    side: Side,
+    id: NodeId,
+    from: usize,
+    edge: EdgeId,
+    steps: &mut Steps<L>,
+) -> Option<usize>
+    requires in_range { from ≤ length (edges_at side id (B.meaning base.now).edges) }
+    requires lower { AllBelow edge (edges_at side id (B.meaning base.now).edges) from }
+    ensures in_range { IfSome result (λ place. place ≤ length (edges_at side id (B.meaning base.now).edges)) }
+    ensures lower { IfSome result (AllBelow edge (edges_at side id (B.meaning base.now).edges)) }
+    ensures upper { IfSome result (AllFrom edge (edges_at side id (B.meaning base.now).edges)) }
+    ensures never_back { steps.old ≤ steps.new }
+    ensures cost { steps.new ≤ steps.old + 2 }
+{
+    let Some(found) = edge_at(base, side, id, from, steps) else {
+        return Some(from);
+    };
+    if edge.0 <= found.0 {
+        return Some(from);
+    }
+    let missing = (edge.0 - found.0 - 1) as usize;
+    let place = from + limit(base).saturating_sub(from).min(missing);
+    if is_below(base, side, id, place, edge, steps) {
+        Some(place + 1)
+    } else {
+        None
+    }
+}
+
+// The first place from which no edge is lower, at or behind a place before which all are.
+fn lower_bound<B: GraphRead, L: Ledger>(
+    base: &B,
+    side: Side,
+    id: NodeId,
+    from: usize,
+    edge: EdgeId,
+    steps: &mut Steps<L>,
+) -> usize
+    requires in_range { from ≤ length (edges_at side id (B.meaning base.now).edges) }
+    requires lower { AllBelow edge (edges_at side id (B.meaning base.now).edges) from }
+    ensures in_range { result ≤ length (edges_at side id (B.meaning base.now).edges) }
+    ensures lower { AllBelow edge (edges_at side id (B.meaning base.now).edges) result }
+    ensures upper { AllFrom edge (edges_at side id (B.meaning base.now).edges) result }
+    ensures never_back { steps.old ≤ steps.new }
+    ensures cost { steps.new ≤ steps.old + 2 * length (edges_at side id (B.meaning base.now).edges) + 4 }
+{
+    if let Some(place) = without_gap(base, side, id, from, edge, steps) {
+        return place;
+    }
+    let bounds = bounds(base, side, id, from, edge, steps);
+    halved(base, side, id, bounds, edge, steps)
+}
+
 /// Where an edge stands in a node's list, or where it would go, at or behind a place before which all edges are lower.
 pub fn search<B: GraphRead, L: Ledger>(
     base: &B,
@@ -115,10 +172,9 @@ pub fn search<B: GraphRead, L: Ledger>(
         (IsBetween edge (edges_at side id (B.meaning base.now).edges)) }
     ensures graph { is_graph (B.meaning base.now) ≡ true }
     ensures never_back { steps.old ≤ steps.new }
-    ensures cost { steps.new ≤ steps.old + 2 * length (edges_at side id (B.meaning base.now).edges) + 3 }
+    ensures cost { steps.new ≤ steps.old + 2 * length (edges_at side id (B.meaning base.now).edges) + 5 }
 {
-    let bounds = bounds(base, side, id, from, edge, steps);
-    let place = halved(base, side, id, bounds, edge, steps);
+    let place = lower_bound(base, side, id, from, edge, steps);
     match edge_at(base, side, id, place, steps) {
         Some(found) if found.0 == edge.0 => Ok(place),
         _ => Err(place),

@@ -49,7 +49,7 @@ fn take_out<B: GraphRead, L: Ledger>(
         (list_at lists.old id) (list_at lists.new id)) }
     ensures never_back { steps.old ≤ steps.new }
     ensures cost { (most : ℕ) → IfSome end (λ id. length (edges_at side id (B.meaning base.now).edges) ≤ most) →
-        steps.new ≤ steps.old + 2 * most + 3 }
+        steps.new ≤ steps.old + 2 * most + 5 }
 {
     let Some(id) = end else {
         return Ok(());
@@ -76,7 +76,7 @@ fn put_in<B: GraphRead, L: Ledger>(
         (list_at lists.old id) (list_at lists.new id)) }
     ensures never_back { steps.old ≤ steps.new }
     ensures cost { (most : ℕ) → IfSome end (λ id. length (edges_at side id (B.meaning base.now).edges) ≤ most) →
-        steps.new ≤ steps.old + 2 * most + 3 }
+        steps.new ≤ steps.old + 2 * most + 5 }
 {
     let Some(id) = end else {
         return Ok(());
@@ -115,7 +115,7 @@ pub(crate) fn edit_side<B: GraphRead, L: Ledger>(
         (is_here id ends.0) (is_here id ends.1) (list_at lists.old id) (list_at lists.new id)) }
     ensures never_back { steps.old ≤ steps.new }
     ensures cost { (most : ℕ) → IfSome ends.0 (λ id. length (edges_at side id (B.meaning base.now).edges) ≤ most) →
-        IfSome ends.1 (λ id. length (edges_at side id (B.meaning base.now).edges) ≤ most) → steps.new ≤ steps.old + 4 * most + 6 }
+        IfSome ends.1 (λ id. length (edges_at side id (B.meaning base.now).edges) ≤ most) → steps.new ≤ steps.old + 4 * most + 10 }
 {
     let (old, new) = ends;
     if are_same(old, new) {

@@ -33,7 +33,7 @@ loop-change-preserved g c = record {
   cost = λ most few. omega (
     arith,
     c.loop-change.invariant.cost most few,
-    one_more (8 * most + 13) c.loop-change.change-index,
+    one_more (8 * most + 21) c.loop-change.change-index,
     c.edit_edge.ensures.cost most (few_of_one (g.B.GraphRead.meaning c.args.base.now) most c.args.changes.now c.loop-change.change-index c.change-item.result
         c.loop-change-test.true c.change-item.is few),
   );
@@ -44,7 +44,7 @@ returns-in_err-edit_edge-clause-cost g c most few =
     omega (
       arith,
       c.loop-change.invariant.cost most few,
-      all_of_them (8 * most + 13) c.loop-change.change-index (length c.args.changes.now) c.loop-change-test.true,
+      all_of_them (8 * most + 21) c.loop-change.change-index (length c.args.changes.now) c.loop-change-test.true,
       c.edit_edge.ensures.cost most (few_of_one (g.B.GraphRead.meaning c.args.base.now) most c.args.changes.now c.loop-change.change-index c.change-item.result
           c.loop-change-test.true c.change-item.is few),
     )

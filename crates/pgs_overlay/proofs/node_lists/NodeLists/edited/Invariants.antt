@@ -13,5 +13,5 @@ invariant-loop-change g l = record {
   incoming : ArePassed In (g.B.GraphRead.meaning l.base) (take l.change-index l.changes) (keys_of (drop l.change-index l.changes)) l.lists.incoming;
   never_back : l.initial.steps ≤ l.steps;
   cost : (most : ℕ) → ((id : NodeId) → list_any (ends_here (g.B.GraphRead.meaning l.base) id) l.changes ≡ true → HasFew (g.B.GraphRead.meaning l.base) most id) →
-      l.steps ≤ l.initial.steps + (8 * most + 13) * l.change-index;
+      l.steps ≤ l.initial.steps + (8 * most + 21) * l.change-index;
 }

@@ -17,7 +17,7 @@ returns-in_err-lists-clause-cost g c most within =
     omega (
       arith,
       cost_bound most (length c.args.delta.now.nodes) (length c.args.delta.now.edges),
-      ap (λ l. (8 * most + 13) * length l) c.as_slice.ensures,
+      ap (λ l. (8 * most + 21) * length l) c.as_slice.ensures,
       c.count_after.ensures.cost,
       c.edited.ensures.cost most (few_touched graph c.args.delta.now most within c.as_slice.result.now c.as_slice.ensures),
     )
@@ -28,7 +28,7 @@ returns-clause-cost g c most within =
     omega (
       arith,
       cost_bound most (length c.args.delta.now.nodes) (length c.args.delta.now.edges),
-      ap (λ l. (8 * most + 13) * length l) c.as_slice.ensures,
+      ap (λ l. (8 * most + 21) * length l) c.as_slice.ensures,
       c.count_after.ensures.cost,
       c.edited.ensures.cost most (few_touched graph c.args.delta.now most within c.as_slice.result.now c.as_slice.ensures),
     )
