@@ -1,7 +1,7 @@
 #!/usr/bin/env bash
 # Times 200,000 transactions on the tables, each of which is staged, seen through an overlay, prepared and committed, and adds one edge:
-# between nodes that look as if drawn, and all of them at one node. Beside them a version in Rust with the standard library's maps, which checks the same and
-# keeps the same rows and lists. Then one transaction that adds 200,000 edges at one node, and the most memory that 1,000,000 elements
+# between nodes that look as if drawn, and all of them at one node. Beside them a version in Rust with the standard library's maps, which
+# checks the same, sees the change over the graph before it puts it in, and keeps the same rows and lists. Then one transaction that adds 200,000 edges at one node, and the most memory that 1,000,000 elements
 # with two properties each take. It makes small programs in a folder of its own, and builds them, proving what is below where no check
 # has kept it.
 # Usage: bench/tables.sh
@@ -211,8 +211,8 @@ fn main(rt: HostRuntime) -> ExitCode {
 }
 E
 cat >"$work/bare.rs" <<'E'
-// The same rows and lists over the standard library's maps: a transaction is a list of operations, which are checked and staged as
-// changed rows first, and then put in.
+// The same over the standard library's maps: a transaction is a list of operations, which are checked and staged as changed rows; these
+// are seen over the graph as the changed graph, room is made for them, and then they are put in.
 use std::collections::{BTreeMap, BTreeSet, HashMap, HashSet};
 
 #[derive(Clone)]
@@ -256,6 +256,12 @@ impl Graph {
         Some(delta)
     }
 
+    // Takes all memory that a delta needs in the maps.
+    fn prepare(&mut self, delta: &Delta) {
+        self.nodes.try_reserve(delta.nodes.len()).unwrap();
+        self.edges.try_reserve(delta.edges.len()).unwrap();
+    }
+
     fn commit(&mut self, delta: Delta) {
         for (id, row) in delta.nodes { self.nodes.entry(id).or_default().row = row; }
         for (id, edge) in delta.edges {
@@ -266,25 +272,58 @@ impl Graph {
     }
 }
 
+// A pending change seen as a graph: for each node at which a changed edge stands, the edges that are put in and those that are taken out.
+#[derive(Default)]
+struct Edits { put: BTreeSet<u64>, taken: BTreeSet<u64> }
+
+struct Overlay<'a> { base: &'a Graph, delta: &'a Delta, outgoing: BTreeMap<u64, Edits>, incoming: BTreeMap<u64, Edits>, count: usize }
+
+impl<'a> Overlay<'a> {
+    fn new(base: &'a Graph, delta: &'a Delta) -> Overlay<'a> {
+        let mut overlay = Overlay { base, delta, outgoing: BTreeMap::new(), incoming: BTreeMap::new(), count: base.nodes.len() + base.edges.len() };
+        for id in delta.nodes.keys() {
+            if !base.nodes.contains_key(id) { overlay.count += 1; }
+        }
+        for (id, edge) in &delta.edges {
+            match base.edges.get(id) {
+                Some(old) => {
+                    overlay.outgoing.entry(old.source).or_default().taken.insert(*id);
+                    overlay.incoming.entry(old.target).or_default().taken.insert(*id);
+                }
+                None => overlay.count += 1,
+            }
+            overlay.outgoing.entry(edge.source).or_default().put.insert(*id);
+            overlay.incoming.entry(edge.target).or_default().put.insert(*id);
+        }
+        overlay
+    }
+}
+
 const MANY: u64 = 200_000;
 const TOGETHER: u64 = 10_000;
 
 fn mixed(number: u64) -> u64 { number.wrapping_mul(0x9E37_79B9_7F4A_7C15) }
+
+fn apply(graph: &mut Graph, ops: Vec<Op>) {
+    let delta = graph.stage(ops).unwrap();
+    let count = Overlay::new(graph, &delta).count;
+    assert!(count > 0);
+    graph.prepare(&delta);
+    graph.commit(delta);
+}
 
 fn main() {
     let kind = std::env::args().nth(1).unwrap();
     let mut graph = Graph::default();
     for part in 0..MANY / TOGETHER {
         let ops = (0..TOGETHER).map(|place| Op::AddNode { id: part * TOGETHER + place, row: Row::default() }).collect();
-        let delta = graph.stage(ops).unwrap();
-        graph.commit(delta);
+        apply(&mut graph, ops);
     }
     if kind != "nodes" {
         for number in 0..MANY {
             let target = if kind == "hub" { 0 } else { mixed(number) % MANY };
             let ops = vec![Op::AddEdge { id: number, source: mixed(number + MANY) % MANY, target, row: Row::default() }];
-            let delta = graph.stage(ops).unwrap();
-            graph.commit(delta);
+            apply(&mut graph, ops);
         }
     }
     let seen: HashSet<u64> = graph.nodes.values().map(|node| node.outgoing.len() as u64).collect();
