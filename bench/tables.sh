@@ -1,9 +1,9 @@
 #!/usr/bin/env bash
 # Times 200,000 transactions on the tables, each of which is staged, seen through an overlay, prepared and committed, and adds one edge:
 # between nodes that look as if drawn, and all of them at one node. Beside them a version in Rust with the standard library's maps, which
-# checks the same, sees the change over the graph before it puts it in, and keeps the same rows and lists. Then one transaction that adds 200,000 edges at one node, and the most memory that 1,000,000 elements
-# with two properties each take. It makes small programs in a folder of its own, and builds them, proving what is below where no check
-# has kept it.
+# checks the same, sees the change over the graph before it puts it in, and keeps the same rows and lists. Then one transaction that adds
+# 200,000 edges at one node, and the most memory that 1,000,000 elements with two properties each take. It makes small programs in a folder
+# of its own, and builds them, proving what is below where no check has kept it.
 # Usage: bench/tables.sh
 source "$(dirname "$(readlink -f "${BASH_SOURCE[0]}")")/common.bash"
 take pgs_txn pgs_overlay
