@@ -1,15 +1,16 @@
 -- The entry at a place whose key is the one that is looked for.
-use Rattle.std.proofs.Common.{◌≡◌, ◌∙◌, ℕ, zero, suc, ◌<◌, Bool, true, false, cond, List, [], ◌∷◌, length, get_or, slice_get, Option, Some, None, Ordering, is_some, unwrap_or, refl, sym, ap, subst, arith, true≢false, MatchOption}
+use Rattle.std.proofs.Common.{◌≡◌, ◌∙◌, ℕ, zero, suc, Bool, true, false, ◌||◌, List, [], ◌∷◌, ◌++◌, slice_get, Option, Some, None, Ordering, is_some, unwrap_or, refl, sym, ap, subst, arith, true≢false, MatchOption}
 use Rattle.std.specs.Cmp.{IsEquivalence, IsTotalOrder, eq_by_cmp_equiv}
-use Rattle.std.specs.Ordering.{eq_by_cmp, is_eq}
-use Rattle.std.specs.List.{AllByRecursion, IsDistinct}
+use Rattle.std.specs.Ordering.{is_eq}
+use Rattle.std.specs.List.{AllByRecursion, list_any, IsDistinct}
 use Rattle.std.specs.Option.{option_map}
-use Rattle.std.specs.Map.{keys_of, values_of, lookup, set_value}
+use Rattle.std.specs.Map.{keys_of, values_of, lookup}
 use Rattle.std.proofs.lemmas.Option.{slice_get-map, slice_get-get_or}
 use Rattle.std.proofs.lemmas.Map.Keys.{IsDistinct-head, IsDistinct-tail}
-use Rattle.indexmap.specs.Layout.{set_value_at}
-use Rattle.pgs_numbered.specs.Slots.{IsFoundAt}
-use Rattle.pgs_numbered.proofs.Rows.{eq_is}
+use Rattle.indexmap.specs.IndexMap.{IndexMap, get, insert_entry}
+use Rattle.indexmap.proofs.CallerLemmas.{insert_entry-new}
+use Rattle.pgs_numbered.specs.Slots.{present, AreKept, IsFoundAt}
+use Rattle.pgs_numbered.proofs.Rows.{eq_is, present-push, keys-push, any-push}
 
 module _ {K W : Type 0} {eq : K → K → Bool} (laws : IsEquivalence eq) (id : K) where
   -- a key that is apart from all others isn't among them
@@ -47,12 +48,9 @@ module _ {K W : Type 0} {eq : K → K → Bool} (laws : IsEquivalence eq) (id : 
 pub laws_of : {K : Type 0} {eq : K → K → Bool} {cmp : K → K → Ordering} → IsTotalOrder cmp → ((x y : K) → eq x y ≡ is_eq (cmp x y)) → IsEquivalence eq
 laws_of {cmp = cmp} total ties = subst IsEquivalence (sym (eq_is cmp ties)) (eq_by_cmp_equiv total)
 
-pub none_there : {A : Type 0} (o : Option A) → is_some o ≡ false → o ≡ None
-none_there None empty = refl
-none_there (Some a) empty = absurd (true≢false empty)
-
 module _ {K W : Type 0} (test : K → Bool) (es : List (K × W)) where
-  some_at : (l : List (K × W)) (i : ℕ) → IsFoundAt test l i → is_some (lookup test l) ≡ true
+  -- a key that stands at a place is found
+  pub some_at : (l : List (K × W)) (i : ℕ) → IsFoundAt test l i → is_some (lookup test l) ≡ true
   some_at [] i found = absurd (omega (arith, found.in_range))
   some_at (e ∷ l) i found = ap is_some (found.found e)
 
@@ -61,9 +59,16 @@ module _ {K W : Type 0} (test : K → Bool) (es : List (K × W)) where
   none_found None none found = found
   none_found (Some i) none found = absurd (true≢false (ap is_some none))
 
-  pub some_found : (o : Option ℕ) → is_some o ≡ true → MatchOption o (lookup test es ≡ None) (IsFoundAt test es) → is_some (lookup test es) ≡ true
-  some_found None some found = absurd (true≢false (sym some))
-  some_found (Some i) some found = some_at es i found
+-- an empty slot that is put in for a number without one
+pub kept_with_one : {K V S : Type 0} (eq : K → K → Bool) (slots : IndexMap K (Option V) S) (k : K) → get eq slots k ≡ None → (entries : List (K × Option V))
+    → entries ≡ insert_entry eq slots.entries k None → AreKept slots.entries entries
+kept_with_one eq slots k absent entries made =
+    let pushed : entries ≡ slots.entries ++ (k, None) ∷ [] = made ∙ insert_entry-new eq slots k None absent in
+    record {
+      rows = ap present pushed ∙ present-push slots.entries k;
+      numbers = λ test there. ap (λ l. list_any test (keys_of l)) pushed ∙ ap (list_any test) (keys-push slots.entries k None)
+          ∙ any-push test (keys_of slots.entries) k ∙ ap (λ b. b || test k) there;
+    }
 
 -- what the look-up finds is the value at the place
 pub value_found : {K W : Type 0} (test : K → Bool) (es : List (K × W)) (i : ℕ) → IsFoundAt test es i → lookup test es ≡ slice_get (values_of es) i

@@ -1,5 +1,5 @@
 -- What a table of numbered rows is seen as: the rows that are there by ascending number, and the numbers that have a slot.
-use Rattle.std.specs.Prelude.{◌≡◌, ℕ, Bool, List, length, [], ◌∷◌, ◌++◌, Option, Some, None, ◌<◌, get_or, refl}
+use Rattle.std.specs.Prelude.{◌≡◌, ℕ, Bool, true, List, length, [], ◌∷◌, ◌++◌, Option, Some, None, ◌<◌, get_or, refl}
 use Rattle.std.specs.Coded.{Coded, code_by, coded_list, coded×}
 use Rattle.std.specs.declared.cmp.Ordering.{Ordering}
 use Rattle.std.specs.List.{list_any, IsDistinct}
@@ -40,6 +40,11 @@ row_count (Some row) = 1
 pub record AreSlots {K V : Type 0} (eq : K → K → Bool) (count : ℕ) (slots : List (K × Option V)) : Type 0 where
   pub distinct : IsDistinct eq (keys_of slots)
   pub counted : count ≡ length (present slots)
+
+-- slots with the rows of others, and where each number that has a slot there has one
+pub record AreKept {K V : Type 0} (old new : List (K × Option V)) : Type 0 where
+  pub rows : present new ≡ present old
+  pub numbers : (test : K → Bool) → list_any test (keys_of old) ≡ true → list_any test (keys_of new) ≡ true
 
 -- the entry that a test finds is the one at a place
 pub record IsFoundAt {K W : Type 0} (test : K → Bool) (entries : List (K × W)) (place : ℕ) : Type 0 where

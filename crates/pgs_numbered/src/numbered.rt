@@ -1,14 +1,15 @@
 ghost use Rattle.std.specs.Prelude.{◌≡◌, ◌+◌, ◌<◌, ◌≤◌, ◌^◌, true, [], length, is_some, OnOk, OnSome, IfOk, MatchOption, None, Some};
 ghost use Rattle.std.specs.Option.{option_copied, option_flatten};
-ghost use Rattle.std.specs.List.{list_any, IsDistinct};
+ghost use Rattle.std.specs.List.{IsDistinct};
 ghost use Rattle.std.specs.List.Sorted.{IsStrictlySortedBy};
 ghost use Rattle.std.specs.BTreeMap.{is_at, insert_entry};
 ghost use Rattle.std.specs.Map.{keys_of, lookup, remove_entry, set_value};
-ghost use Rattle.pgs_numbered.specs.Slots.{has_slot, present, row_count, IsFoundAt};
+ghost use Rattle.pgs_numbered.specs.Slots.{has_slot, present, row_count, AreKept, IsFoundAt};
 
 use crate::Number;
 use crate::places::Places;
 use indexmap::IndexMap;
+use indexmap::map::Entry;
 use pgs_base::{List, Memory, Seed};
 use std::alloc::Global;
 use std::marker::Model;
@@ -64,11 +65,10 @@ impl<K: Number, V: Drop> Numbered<K, V> {
         ensures there { OnOk result (has_slot K.cmp self.new id ≡ true) }
         ensures kept { (other : K) → has_slot K.cmp self.old other ≡ true → has_slot K.cmp self.new other ≡ true }
     {
-        if find(&self.slots, &self.last, id).is_some() {
+        if stands_at(&self.slots, self.last.near(id.number()), id) {
             return Ok(());
         }
-        let place = self.slots.len();
-        self.slots.insert(id, None)?;
+        let place = slot_of(&mut self.slots, id)?;
         self.last.note(id.number(), place);
         Ok(())
     }
@@ -170,6 +170,25 @@ fn find<K: Number, V: Drop>(
     let (place, _, _) = slots.get_full(&id)?;
     last.note(id.number(), place);
     Some(place)
+}
+
+// The place of the slot of a number, which is made, empty, where the number has none.
+fn slot_of<K: Number, V: Drop>(
+    slots: &mut IndexMap<K, Option<V>, Seed>,
+    id: K,
+) -> Result<usize, Memory>
+    ensures there { OnOk result (is_some (lookup (K.eq id) slots.new.entries) ≡ true) }
+    ensures kept { AreKept slots.old.entries slots.new.entries }
+    ensures unique { IsDistinct K.eq (keys_of slots.new.entries) }
+{
+    match slots.entry(id)? {
+        Entry::Occupied(entry) => Ok(entry.index()),
+        Entry::Vacant(entry) => {
+            let place = entry.index();
+            entry.insert(None);
+            Ok(place)
+        }
+    }
 }
 
 // The slot of a number.
