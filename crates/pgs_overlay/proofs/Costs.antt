@@ -14,14 +14,13 @@ use Rattle.pgs_overlay.specs.Passed.{HasFew}
 use Rattle.pgs_overlay.specs.Standing.{HasDegreesWithin}
 use Rattle.pgs_overlay.proofs.Looping.{or_right}
 
-pub cost_bound : (most nodes edges : ℕ) → (8 * most + 21) * edges + nodes + edges ≤ 16 * (nodes + edges + 1) * (most + 2)
+pub cost_bound : (most nodes edges : ℕ) → (8 * most + 21) * edges + nodes ≤ 16 * (nodes + edges + 1) * (most + 2)
 cost_bound most nodes edges =
     let whole : 16 * (nodes + edges + 1) * (most + 2) ≡ (16 * most + 32) * nodes + (16 * most + 32) * edges + (16 * most + 32) = grind arith in
-    let split : (8 * most + 22) * edges ≡ (8 * most + 21) * edges + edges = grind arith in
     let one : 1 * nodes ≡ nodes = omega arith in
-    let for_edges : (8 * most + 22) * edges ≤ (16 * most + 32) * edges = mul-le-mul_right edges (omega arith) in
+    let for_edges : (8 * most + 21) * edges ≤ (16 * most + 32) * edges = mul-le-mul_right edges (omega arith) in
     let for_nodes : 1 * nodes ≤ (16 * most + 32) * nodes = mul-le-mul_right nodes (omega arith) in
-    omega (arith, whole, split, one, for_edges, for_nodes)
+    omega (arith, whole, one, for_edges, for_nodes)
 
 -- a node that has few edges has few on each side
 pub few_touched : (g : Graph) (delta : Delta) (most : ℕ) → HasDegreesWithin g delta most → (edges : List (EdgeId × Option EdgeRow)) → edges ≡ delta.edges

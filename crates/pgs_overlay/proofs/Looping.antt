@@ -1,5 +1,5 @@
 -- A loop over the changes of a delta: what comes before a change, and what after it.
-use Rattle.std.proofs.Common.{◌≡◌, ◌∙◌, ℕ, zero, suc, ◌+◌, ◌*◌, ◌<◌, ◌≤◌, ◌==◌, Bool, true, false, ◌||◌, List, [], ◌∷◌, length, take, drop, get_or, Option, Some, None, IfSome, refl, sym, ap, subst, arith}
+use Rattle.std.proofs.Common.{◌≡◌, ◌∙◌, ℕ, zero, suc, ◌+◌, ◌*◌, ◌<◌, ◌≤◌, ◌==◌, Bool, true, false, ◌||◌, List, [], ◌∷◌, length, take, drop, get_or, Option, Some, None, IfSome, Result, Ok, Err, OnOk, refl, sym, ap, subst, arith}
 use Rattle.std.specs.List.{list_any}
 use Rattle.std.specs.List.Sorted.{IsStrictlySortedBy}
 use Rattle.std.specs.Map.{keys_of, lookup}
@@ -38,6 +38,11 @@ module _ (side : Side) (g : Graph) (graph : is_graph g ≡ true) (cs : List Chan
       subst (λ x. lookup (is_at (edge_cmp x.0)) (take i cs) ≡ None) (sym is) (fresh_at edge_cmp edge_cmp_total cs i c s within) in
       subst (λ l. ArePassed side g l (keys_of (drop (i + 1) cs)) new) (sym (last_of_front cs i c within is))
       (passed_more side g graph (take i cs) c (keys_of (drop (i + 1) cs)) lists new passed_here follows fresh (ascending_before edge_cmp i cs s) rising)
+
+-- what holds in any case holds where a call succeeds
+pub holds_on_ok : {A E P : Type 0} (r : Result A E) → P → OnOk r P
+holds_on_ok (Ok a) p = p
+holds_on_ok (Err e) p = tt
 
 -- what is edited at two ends follows the change
 pub all_follow : (side : Side) (g : Graph) (c : Change) (first second : Option NodeId) (old new : List (NodeId × EditedList))

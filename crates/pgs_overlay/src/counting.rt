@@ -1,18 +1,18 @@
-//! How many nodes and edges there are after a delta.
+//! How many elements there are after changes. The edges of a delta are counted in the pass that edits the lists.
 
 ghost use Rattle.std.specs.Prelude.{◌≡◌, ◌+◌, ◌<◌, ◌≤◌, true, cond, length, IfOk};
 ghost use Rattle.std.specs.List.Sorted.{IsStrictlySortedBy};
 ghost use Rattle.std.specs.Map.{keys_of};
-ghost use Rattle.pgs_base.specs.Graph.{node_cmp, edge_cmp, element_count, is_graph};
-ghost use Rattle.pgs_graph.specs.Changed.{changed, entries_changed, is_sound};
-ghost use Rattle.pgs_overlay.specs.Standing.{row_count};
+ghost use Rattle.pgs_base.specs.Graph.{node_cmp, is_graph};
+ghost use Rattle.pgs_graph.specs.Changed.{entries_changed};
 
-use pgs_base::{EdgeId, EdgeRow, Memory, NodeId, NodeRow, Steps};
-use pgs_graph::{Delta, GraphRead};
+use pgs_base::{Memory, NodeId, NodeRow, Steps};
+use pgs_graph::GraphRead;
 use std::sync::ledger::Ledger;
 
-// How many there are after a change of one, by whether it was there and whether it is.
-fn count_changed(count: u64, had: bool, has: bool) -> Result<u64, Memory>
+/// How many there are after a change of one, by whether it was there and whether it is. `Memory` where the number is too great to be
+/// counted, which no memory holds.
+pub(crate) fn count_changed(count: u64, had: bool, has: bool) -> Result<u64, Memory>
     requires { had ≡ true → 0 < count }
     ensures { IfOk result (λ after. after + cond had 1 0 ≡ count + cond has 1 0) }
 {
@@ -26,8 +26,8 @@ fn count_changed(count: u64, had: bool, has: bool) -> Result<u64, Memory>
     }
 }
 
-// A count of elements after changes of nodes of ascending numbers. At most one look at the base for each.
-fn count_nodes<B: GraphRead, L: Ledger>(
+/// A count of elements after changes of nodes of ascending numbers. At most one look at the base for each.
+pub(crate) fn count_nodes<B: GraphRead, L: Ledger>(
     base: &B,
     changes: &[(NodeId, Option<NodeRow>)],
     before: u64,
@@ -47,45 +47,4 @@ fn count_nodes<B: GraphRead, L: Ledger>(
         count = count_changed(count, had, change.1.is_some())?;
     }
     Ok(count)
-}
-
-// The same of edges.
-fn count_edges<B: GraphRead, L: Ledger>(
-    base: &B,
-    changes: &[(EdgeId, Option<EdgeRow>)],
-    before: u64,
-    steps: &mut Steps<L>,
-) -> Result<u64, Memory>
-    requires graph { is_graph (B.meaning base.now) ≡ true }
-    requires ascending { IsStrictlySortedBy edge_cmp (keys_of changes.now) }
-    requires counted { length (B.meaning base.now).edges ≤ before }
-    ensures count { IfOk result (λ after. after + length (B.meaning base.now).edges
-        ≡ before + length (entries_changed edge_cmp (B.meaning base.now).edges changes.now)) }
-    ensures never_back { steps.old ≤ steps.new }
-    ensures cost { steps.new ≤ steps.old + length changes.now }
-{
-    let mut count = before;
-    for change in changes {
-        let had = base.edge(change.0, steps).is_some();
-        count = count_changed(count, had, change.1.is_some())?;
-    }
-    Ok(count)
-}
-
-/// How many nodes and edges there are after a sound delta. At most one look at the base for each row of the delta. `Memory` where the
-/// number is too great to be counted, which no memory holds.
-pub(crate) fn count_after<B: GraphRead, L: Ledger>(
-    base: &B,
-    delta: &Delta,
-    steps: &mut Steps<L>,
-) -> Result<u64, Memory>
-    requires { is_sound (B.meaning base.now) delta.now ≡ true }
-    ensures count { IfOk result (λ count. count ≡ element_count (changed (B.meaning base.now) delta.now)) }
-    ensures graph { is_graph (B.meaning base.now) ≡ true }
-    ensures never_back { steps.old ≤ steps.new }
-    ensures cost { steps.new ≤ steps.old + row_count delta.now }
-{
-    let before = base.count();
-    let nodes_counted = count_nodes(base, delta.nodes.as_slice(), before, steps)?;
-    count_edges(base, delta.edges.as_slice(), nodes_counted, steps)
 }

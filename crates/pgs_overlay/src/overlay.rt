@@ -2,7 +2,7 @@ ghost use Rattle.std.specs.Prelude.{◌≡◌, ◌+◌, ◌*◌, ◌≤◌, ℕ,
 ghost use Rattle.pgs_graph.specs.Changed.{changed, is_sound};
 ghost use Rattle.pgs_overlay.specs.Standing.{HasDegreesWithin, row_count};
 
-use crate::counting::count_after;
+use crate::counting::count_nodes;
 use crate::node_lists::NodeLists;
 use pgs_base::{Memory, Steps};
 use pgs_graph::{Delta, GraphRead};
@@ -34,8 +34,8 @@ impl<'a, B: GraphRead> Model for Overlay<'a, B> {
 }
 
 impl<'a, B: GraphRead> Overlay<'a, B> {
-    /// A sound delta over a base, which stays as it is. Each change of an edge looks its place up, by halving, in the lists of the nodes
-    /// at its old and its new ends. `Memory` where none was left.
+    /// A sound delta over a base, which stays as it is. Each row of the delta is looked up once in the base, and each change of an edge looks
+    /// its place up in the lists of the nodes at its old and its new ends. `Memory` where none was left.
     pub fn new<L: Ledger>(
         alloc: Global,
         base: &'a B,
@@ -48,8 +48,15 @@ impl<'a, B: GraphRead> Overlay<'a, B> {
         ensures cost { (most : ℕ) → HasDegreesWithin (B.meaning base.now) delta.now most →
             steps.new ≤ steps.old + 16 * (row_count delta.now + 1) * (most + 2) }
     {
-        let count = count_after(base, delta, steps)?;
-        let lists = NodeLists::edited(alloc, base, delta.edges.as_slice(), steps)?;
+        let before = base.count();
+        let nodes_counted = count_nodes(base, delta.nodes.as_slice(), before, steps)?;
+        let (lists, count) = NodeLists::edited(
+            alloc,
+            base,
+            delta.edges.as_slice(),
+            nodes_counted,
+            steps,
+        )?;
         Ok(Overlay {
             base,
             delta,

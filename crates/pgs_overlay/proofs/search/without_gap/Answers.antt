@@ -1,5 +1,5 @@
 use Rattle.std.proofs.Common.{◌+◌, refl, sym, arith}
-use Rattle.pgs_overlay.proofs.Lists.{ascending_list, list_within}
+use Rattle.pgs_overlay.proofs.Lists.{ascending_list}
 use Rattle.pgs_overlay.proofs.Searching.{from_at, above_gap}
 use Rattle.pgs_overlay.proofs.search.without_gap.Goals as goal
 

@@ -1,15 +1,24 @@
 use Rattle.std.proofs.Common.{◌+◌, ◌*◌, length, ap, arith}
-use Rattle.pgs_graph.proofs.Deltas.{ascending_changed_edges}
+use Rattle.pgs_graph.proofs.Deltas.{ascending_changed_nodes, ascending_changed_edges}
 use Rattle.pgs_overlay.proofs.Costs.{cost_bound, few_touched}
 use Rattle.pgs_overlay.proofs.overlay.Overlay.new.Goals as goal
 
+pub count_nodes-requires-clause-ascending : goal.count_nodes-requires-clause-ascending
+count_nodes-requires-clause-ascending g c =
+    rw c.as_slice.ensures (ascending_changed_nodes (g.B.GraphRead.meaning c.args.base.now) c.args.delta.now c.requires)
+
 pub edited-requires-clause-ascending : goal.edited-requires-clause-ascending
 edited-requires-clause-ascending g c =
-    rw c.as_slice.ensures (ascending_changed_edges (g.B.GraphRead.meaning c.args.base.now) c.args.delta.now c.requires)
+    rw c.as_slice-2.ensures (ascending_changed_edges (g.B.GraphRead.meaning c.args.base.now) c.args.delta.now c.requires)
 
-pub returns-in_err-count-clause-cost : goal.returns-in_err-count-clause-cost
-returns-in_err-count-clause-cost g c most within =
-    omega (arith, cost_bound most (length c.args.delta.now.nodes) (length c.args.delta.now.edges), c.count_after.ensures.cost)
+pub returns-in_err-nodes_counted-clause-cost : goal.returns-in_err-nodes_counted-clause-cost
+returns-in_err-nodes_counted-clause-cost g c most within =
+    omega (
+      arith,
+      cost_bound most (length c.args.delta.now.nodes) (length c.args.delta.now.edges),
+      ap (λ l. length l) c.as_slice.ensures,
+      c.count_nodes.ensures.cost,
+    )
 
 pub returns-in_err-lists-clause-cost : goal.returns-in_err-lists-clause-cost
 returns-in_err-lists-clause-cost g c most within =
@@ -17,9 +26,10 @@ returns-in_err-lists-clause-cost g c most within =
     omega (
       arith,
       cost_bound most (length c.args.delta.now.nodes) (length c.args.delta.now.edges),
-      ap (λ l. (8 * most + 21) * length l) c.as_slice.ensures,
-      c.count_after.ensures.cost,
-      c.edited.ensures.cost most (few_touched graph c.args.delta.now most within c.as_slice.result.now c.as_slice.ensures),
+      ap (λ l. length l) c.as_slice.ensures,
+      ap (λ l. (8 * most + 21) * length l) c.as_slice-2.ensures,
+      c.count_nodes.ensures.cost,
+      c.edited.ensures.cost most (few_touched graph c.args.delta.now most within c.as_slice-2.result.now c.as_slice-2.ensures),
     )
 
 pub returns-clause-cost : goal.returns-clause-cost
@@ -28,7 +38,8 @@ returns-clause-cost g c most within =
     omega (
       arith,
       cost_bound most (length c.args.delta.now.nodes) (length c.args.delta.now.edges),
-      ap (λ l. (8 * most + 21) * length l) c.as_slice.ensures,
-      c.count_after.ensures.cost,
-      c.edited.ensures.cost most (few_touched graph c.args.delta.now most within c.as_slice.result.now c.as_slice.ensures),
+      ap (λ l. length l) c.as_slice.ensures,
+      ap (λ l. (8 * most + 21) * length l) c.as_slice-2.ensures,
+      c.count_nodes.ensures.cost,
+      c.edited.ensures.cost most (few_touched graph c.args.delta.now most within c.as_slice-2.result.now c.as_slice-2.ensures),
     )
