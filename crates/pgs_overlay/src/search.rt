@@ -100,8 +100,8 @@ fn halved<B: GraphRead, L: Ledger>(
     low
 }
 
-// The first place from which no edge is lower, where from a place on no number is missing up to the edge: so the place is known from
-// the number there, which is where most edges go. At most two looks.
+// The first place from which no edge is lower, where no number is missing between the edge at a place and there: its number tells how far
+// that is. So it is where edges were numbered one after another. At most two looks.
 fn without_gap<B: GraphRead, L: Ledger>(
     base: &B,
     side: Side,
