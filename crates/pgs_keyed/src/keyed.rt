@@ -1,5 +1,7 @@
-ghost use Rattle.std.specs.Prelude.{◌≡◌, [], IfOk, OnOk, OnErr};
+ghost use Rattle.std.specs.Prelude.{◌≡◌, [], IfOk, OnOk, OnErr, is_some};
 ghost use Rattle.std.specs.Option.{option_copied};
+ghost use Rattle.std.specs.Ordering.{is_le, is_gt};
+ghost use Rattle.std.specs.List.{find};
 ghost use Rattle.std.specs.List.Sorted.{IsStrictlySortedBy};
 ghost use Rattle.std.specs.Map.{keys_of, lookup, remove_entry};
 ghost use Rattle.std.specs.BTreeMap.{is_at, insert_entry};
@@ -36,6 +38,22 @@ impl<K: Ord, V> Model for Keyed<K, V> {
     ghost view = { λ keyed. form_rows keyed.form };
 }
 
+// The first key from a key on, among pairs by ascending key.
+fn first_of<'a, K: Ord, V>(rows: &'a [(K, V)], start: &K) -> Option<&'a K>
+    requires { IsStrictlySortedBy K.cmp (keys_of rows.now) }
+    ensures { option_copied result ≡ find (λ key. is_le (K.cmp start.now key)) (keys_of rows.now) }
+{
+    let place = rows.partition_point(
+        |row: &(K, V)| -> bool
+            ensures { result ≡ is_gt (K.cmp start.entry.now row.now.0) }
+        { start.cmp(&row.0).is_gt() },
+    );
+    match rows.get(place) {
+        Some(row) => Some(&row.0),
+        None => None,
+    }
+}
+
 impl<K: Ord + Drop, V: Drop> Keyed<K, V> {
     /// No values, in a form that suits about so many changes. It takes no memory.
     pub fn new(alloc: Global, changes: usize) -> Keyed<K, V>
@@ -56,6 +74,29 @@ impl<K: Ord + Drop, V: Drop> Keyed<K, V> {
         match &self.form {
             Form::Few(rows) => rows.get(key),
             Form::Many(map) => map.get(key),
+        }
+    }
+
+    /// Whether a key is there.
+    pub fn contains(&self, key: &K) -> bool
+        ensures { result ≡ is_some (lookup (is_at (K.cmp key.now)) self.now) }
+    {
+        match &self.form {
+            Form::Few(rows) => rows.contains(key),
+            Form::Many(map) => map.contains_key(key),
+        }
+    }
+
+    /// The least key that isn't below a key. `None` exactly where there is none.
+    pub fn first_from(&self, start: &K) -> Option<&K>
+        ensures { option_copied result ≡ find (λ key. is_le (K.cmp start.now key)) (keys_of self.now) }
+    {
+        match &self.form {
+            Form::Few(rows) => first_of(rows.as_slice(), start),
+            Form::Many(map) => match map.range(start..).next() {
+                Some((key, _)) => Some(key),
+                None => None,
+            },
         }
     }
 
