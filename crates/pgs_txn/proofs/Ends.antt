@@ -1,20 +1,22 @@
 -- The ends of the edges that were put in stay exactly those, and the least of them at a node.
-use Rattle.std.proofs.Common.{◌≡◌, ℕ, ◌+◌, ◌<◌, ◌≤◌, Bool, true, false, cond, ◌&&◌, ◌||◌, ◌==◌, List, [], ◌∷◌, slice_get, length, Option, Some, None, IfSome, refl, sym, ◌∙◌, ap, subst, true≢false, arith, Ordering, Less, Equal, Greater, is_eq, is_gt}
+use Rattle.std.proofs.Common.{◌≡◌, ℕ, ◌+◌, ◌<◌, ◌≤◌, Bool, true, false, cond, ◌&&◌, ◌||◌, ◌==◌, List, length, Option, Some, None, refl, sym, ◌∙◌, ap, subst, true≢false, arith, Ordering, Less, Equal, Greater, is_eq, is_gt}
 use Rattle.std.specs.Cmp.{IsTotalOrder, ranks, tied_then, nat_cmp_total, on_total, then_total}
-use Rattle.std.specs.Ordering.{nat_cmp, ordering_then, MatchOrdering}
-use Rattle.std.specs.List.{list_any}
-use Rattle.std.specs.Map.{lookup}
+use Rattle.std.specs.Ordering.{is_le, nat_cmp, ordering_then, MatchOrdering}
+use Rattle.std.specs.List.{find, list_any}
+use Rattle.std.specs.List.Sorted.{IsStrictlySortedBy}
+use Rattle.std.specs.Map.{keys_of, lookup}
 use Rattle.std.specs.Set.{remove_key}
 use Rattle.std.specs.BTreeMap.{is_at, insert_entry}
-use Rattle.std.specs.BTreeSet.{insert_key, IsKeyInRange, IsKeyRangeOf}
-use Rattle.std.specs.declared.ops.Bound.TheVariants.{Included, Unbounded}
+use Rattle.std.specs.BTreeSet.{insert_key}
 use Rattle.std.proofs.lemmas.Bool.{eqb-true, eq-eqb, ne_eqb, or_left, false_from_ne_true}
+use Rattle.std.proofs.lemmas.Map.Entries.{length-keys_of}
 use Rattle.pgs_base.specs.declared.element.NodeId.{NodeId}
 use Rattle.pgs_base.specs.declared.element.EdgeId.{EdgeId}
 use Rattle.pgs_base.specs.declared.row.EdgeRow.{EdgeRow}
 use Rattle.pgs_base.specs.Graph.{edge_cmp}
 use Rattle.pgs_base.proofs.Ascending.{ascending-remove_key}
 use Rattle.pgs_base.proofs.Lookups.{lookup-insert_entry, any-insert_key, any-remove_key, length-remove_key}
+use Rattle.pgs_keyed.proofs.First.{first_among, first_least, none_from}
 use Rattle.pgs_graph.proofs.Deltas.{edge_cmp_total}
 use Rattle.pgs_txn.specs.declared.changed_rows.EdgeEnd.{EdgeEnd}
 use Rattle.pgs_txn.specs.declared.changed_rows.ChangedRows.{ChangedRows}
@@ -57,16 +59,16 @@ module _ (id : EdgeId) (row : EdgeRow) where
   module _ (rows : ChangedRows) (indexed : IsIndexed rows) where
     -- the ends after an edge is put in
     pub ends_put : was_put (edge_change rows id) ≡ false → (at : EdgeEnd) →
-        list_any (is_at (end_cmp at)) (ends_with id row rows.ends.keys)
-        ≡ was_put_at at.node (lookup (is_at (edge_cmp at.edge)) (insert_entry edge_cmp rows.edges.entries id (Some row)))
+        list_any (is_at (end_cmp at)) (ends_with id row (keys_of rows.ends))
+        ≡ was_put_at at.node (lookup (is_at (edge_cmp at.edge)) (insert_entry edge_cmp rows.edges id (Some row)))
     ends_put absent at =
-        any-insert_key end_cmp_total at target_end (insert_key end_cmp rows.ends.keys source_end)
-        ∙ ap (λ b. is_at (end_cmp target_end) at || b) (any-insert_key end_cmp_total at source_end rows.ends.keys)
-        ∙ ap (λ b. b || (is_at (end_cmp source_end) at || list_any (is_at (end_cmp at)) rows.ends.keys)) (same_end target_end at)
-        ∙ ap (λ b. ((row.target.0 == at.node.0) && is_at (edge_cmp id) at.edge) || (b || list_any (is_at (end_cmp at)) rows.ends.keys)) (same_end source_end at)
+        any-insert_key end_cmp_total at target_end (insert_key end_cmp (keys_of rows.ends) source_end)
+        ∙ ap (λ b. is_at (end_cmp target_end) at || b) (any-insert_key end_cmp_total at source_end (keys_of rows.ends))
+        ∙ ap (λ b. b || (is_at (end_cmp source_end) at || list_any (is_at (end_cmp at)) (keys_of rows.ends))) (same_end target_end at)
+        ∙ ap (λ b. ((row.target.0 == at.node.0) && is_at (edge_cmp id) at.edge) || (b || list_any (is_at (end_cmp at)) (keys_of rows.ends))) (same_end source_end at)
         ∙ ap (λ b. ((row.target.0 == at.node.0) && is_at (edge_cmp id) at.edge) || (((row.source.0 == at.node.0) && is_at (edge_cmp id) at.edge) || b)) (indexed.ends at)
         ∙ by (is_at (edge_cmp id) at.edge) refl
-        ∙ ap (was_put_at at.node) (sym (lookup-insert_entry edge_cmp_total at.edge id (Some row) rows.edges.entries))
+        ∙ ap (was_put_at at.node) (sym (lookup-insert_entry edge_cmp_total at.edge id (Some row) rows.edges))
       where
         either : (s t : Bool) → ((t && true) || ((s && true) || false)) ≡ (s || t)
         either true true = refl
@@ -92,17 +94,17 @@ module _ (id : EdgeId) (row : EdgeRow) where
 
     -- and after one is taken out
     pub ends_taken : edge_change rows id ≡ Some (Some row) → (at : EdgeEnd) →
-        list_any (is_at (end_cmp at)) (remove_key (is_at (end_cmp target_end)) (remove_key (is_at (end_cmp source_end)) rows.ends.keys))
-        ≡ was_put_at at.node (lookup (is_at (edge_cmp at.edge)) (insert_entry edge_cmp rows.edges.entries id None))
+        list_any (is_at (end_cmp at)) (remove_key (is_at (end_cmp target_end)) (remove_key (is_at (end_cmp source_end)) (keys_of rows.ends)))
+        ≡ was_put_at at.node (lookup (is_at (edge_cmp at.edge)) (insert_entry edge_cmp rows.edges id None))
     ends_taken there at =
-        any-remove_key end_cmp_total at target_end (remove_key (is_at (end_cmp source_end)) rows.ends.keys)
-        (ascending-remove_key end_cmp_total (is_at (end_cmp source_end)) rows.ends.keys indexed.ends_ascend)
-        ∙ ap (cond (is_at (end_cmp target_end) at) false) (any-remove_key end_cmp_total at source_end rows.ends.keys indexed.ends_ascend)
-        ∙ ap (λ b. cond b false (cond (is_at (end_cmp source_end) at) false (list_any (is_at (end_cmp at)) rows.ends.keys))) (same_end target_end at)
-        ∙ ap (λ b. cond ((row.target.0 == at.node.0) && is_at (edge_cmp id) at.edge) false (cond b false (list_any (is_at (end_cmp at)) rows.ends.keys))) (same_end source_end at)
+        any-remove_key end_cmp_total at target_end (remove_key (is_at (end_cmp source_end)) (keys_of rows.ends))
+        (ascending-remove_key end_cmp_total (is_at (end_cmp source_end)) (keys_of rows.ends) indexed.ends_ascend)
+        ∙ ap (cond (is_at (end_cmp target_end) at) false) (any-remove_key end_cmp_total at source_end (keys_of rows.ends) indexed.ends_ascend)
+        ∙ ap (λ b. cond b false (cond (is_at (end_cmp source_end) at) false (list_any (is_at (end_cmp at)) (keys_of rows.ends)))) (same_end target_end at)
+        ∙ ap (λ b. cond ((row.target.0 == at.node.0) && is_at (edge_cmp id) at.edge) false (cond b false (list_any (is_at (end_cmp at)) (keys_of rows.ends)))) (same_end source_end at)
         ∙ ap (λ b. cond ((row.target.0 == at.node.0) && is_at (edge_cmp id) at.edge) false (cond ((row.source.0 == at.node.0) && is_at (edge_cmp id) at.edge) false b)) (indexed.ends at)
         ∙ by (is_at (edge_cmp id) at.edge) refl
-        ∙ ap (was_put_at at.node) (sym (lookup-insert_entry edge_cmp_total at.edge id None rows.edges.entries))
+        ∙ ap (was_put_at at.node) (sym (lookup-insert_entry edge_cmp_total at.edge id None rows.edges))
       where
         neither : (s t b : Bool) → cond (t && false) false (cond (s && false) false b) ≡ b
         neither true true b = refl
@@ -127,9 +129,9 @@ module _ (id : EdgeId) (row : EdgeRow) where
 
 -- an edge that was not put in has no ends to be taken out
 pub ends_removed : (rows : ChangedRows) → IsIndexed rows → (id : EdgeId) → was_put (edge_change rows id) ≡ false → (at : EdgeEnd) →
-    list_any (is_at (end_cmp at)) rows.ends.keys ≡ was_put_at at.node (lookup (is_at (edge_cmp at.edge)) (insert_entry edge_cmp rows.edges.entries id None))
+    list_any (is_at (end_cmp at)) (keys_of rows.ends) ≡ was_put_at at.node (lookup (is_at (edge_cmp at.edge)) (insert_entry edge_cmp rows.edges id None))
 ends_removed rows indexed id absent at =
-    indexed.ends at ∙ by (is_at (edge_cmp id) at.edge) refl ∙ ap (was_put_at at.node) (sym (lookup-insert_entry edge_cmp_total at.edge id None rows.edges.entries))
+    indexed.ends at ∙ by (is_at (edge_cmp id) at.edge) refl ∙ ap (was_put_at at.node) (sym (lookup-insert_entry edge_cmp_total at.edge id None rows.edges))
   where
     by : (b : Bool) → is_at (edge_cmp id) at.edge ≡ b → was_put_at at.node (edge_change rows at.edge) ≡ was_put_at at.node (cond b (Some None) (edge_change rows at.edge))
     by true e = not_put at.node (edge_change rows at.edge) (ap was_put (same_change rows id at.edge e) ∙ absent)
@@ -137,11 +139,16 @@ ends_removed rows indexed id absent at =
 
 -- the ends after an edge is removed
 pub ends_after_take : (rows : ChangedRows) → IsIndexed rows → (id : EdgeId) (change : Option (Option EdgeRow)) → change ≡ edge_change rows id → (at : EdgeEnd) →
-    list_any (is_at (end_cmp at)) (ends_left id change rows.ends.keys)
-    ≡ was_put_at at.node (lookup (is_at (edge_cmp at.edge)) (insert_entry edge_cmp rows.edges.entries id None))
+    list_any (is_at (end_cmp at)) (ends_left id change (keys_of rows.ends))
+    ≡ was_put_at at.node (lookup (is_at (edge_cmp at.edge)) (insert_entry edge_cmp rows.edges id None))
 ends_after_take rows indexed id None is at = ends_removed rows indexed id (ap was_put (sym is)) at
 ends_after_take rows indexed id (Some None) is at = ends_removed rows indexed id (ap was_put (sym is)) at
 ends_after_take rows indexed id (Some (Some row)) is at = ends_taken id row rows indexed (sym is) at
+
+pub ascending_left : (id : EdgeId) (change : Option (Option EdgeRow)) (ends : List EdgeEnd) → IsStrictlySortedBy end_cmp ends → IsStrictlySortedBy end_cmp (ends_left id change ends)
+ascending_left id None ends sorted = sorted
+ascending_left id (Some None) ends sorted = sorted
+ascending_left id (Some (Some row)) ends sorted = ascending-remove_key end_cmp_total _ _ (ascending-remove_key end_cmp_total _ _ sorted)
 
 -- ---- the least at a node
 
@@ -187,12 +194,12 @@ module _ (rows : ChangedRows) (indexed : IsIndexed rows) (id : NodeId) where
   is_put_at edge = was_put_at id (edge_change rows edge)
 
   -- where no end of a node is listed, no edge was put in there
-  pub none_put_at : ((end : EdgeEnd) → is_gt (end_cmp (first_end id (record { 0 = 0 })) end) ≡ false → list_any (is_at (end_cmp end)) rows.ends.keys ≡ false) →
+  pub none_put_at : ((end : EdgeEnd) → is_gt (end_cmp (first_end id (record { 0 = 0 })) end) ≡ false → list_any (is_at (end_cmp end)) (keys_of rows.ends) ≡ false) →
       IsLeast is_put_at None
   none_put_at none edge = sym (indexed.ends (first_end id edge)) ∙ none (first_end id edge) (from_start id edge)
 
-  module _ (found : EdgeEnd) (listed : list_any (is_at (end_cmp found)) rows.ends.keys ≡ true)
-      (least : (end : EdgeEnd) → is_gt (end_cmp (first_end id (record { 0 = 0 })) end) ≡ false → list_any (is_at (end_cmp end)) rows.ends.keys ≡ true →
+  module _ (found : EdgeEnd) (listed : list_any (is_at (end_cmp found)) (keys_of rows.ends) ≡ true)
+      (least : (end : EdgeEnd) → is_gt (end_cmp (first_end id (record { 0 = 0 })) end) ≡ false → list_any (is_at (end_cmp end)) (keys_of rows.ends) ≡ true →
       is_gt (end_cmp found end) ≡ false) where
     first_listed : (edge : EdgeId) → is_put_at edge ≡ true → is_gt (end_cmp found (first_end id edge)) ≡ false
     first_listed edge there = least (first_end id edge) (from_start id edge) (indexed.ends (first_end id edge) ∙ there)
@@ -211,48 +218,54 @@ module _ (rows : ChangedRows) (indexed : IsIndexed rows) (id : NodeId) where
         let below = node_order found (first_end id edge) (first_listed edge there) in
         other (omega arith))
 
-  -- the same of the ends from a node's first on, as `range` gives them
-  module _ (part : List EdgeEnd) (range : IsKeyRangeOf end_cmp (Included (first_end id (record { 0 = 0 }))) Unbounded rows.ends part) where
-    pub none_in_range : part ≡ [] → IsLeast is_put_at None
-    none_in_range empty = none_put_at (λ end from. range.5 empty end (from, tt))
+  -- the first end that isn't below a node's first, as it is looked up
+  abbrev start : EdgeEnd
+  start = first_end id (record { 0 = 0 })
 
-    module _ (found : EdgeEnd) (rest : List EdgeEnd) (is : part ≡ found ∷ rest) where
-      first_is : slice_get part 0 ≡ Some found
-      first_is = ap (λ l. slice_get l 0) is
+  pub none_put : None ≡ find (λ end. is_le (end_cmp start end)) (keys_of rows.ends) → IsLeast is_put_at None
+  none_put none = none_put_at (none_from end_cmp_total start (keys_of rows.ends) (sym none))
 
-      in_range : IsKeyInRange end_cmp (Included (first_end id (record { 0 = 0 }))) Unbounded rows.ends found
-      in_range = subst (λ o. IfSome o (IsKeyInRange end_cmp (Included (first_end id (record { 0 = 0 }))) Unbounded rows.ends)) first_is range.1
+  module _ (found : EdgeEnd) (is : Some found ≡ find (λ end. is_le (end_cmp start end)) (keys_of rows.ends)) where
+    pub first_put : found.node.0 ≡ id.0 → IsLeast is_put_at (Some found.edge)
+    first_put same =
+        least_put_at found (first_among end_cmp_total start (keys_of rows.ends) found (sym is)).0
+        (first_least end_cmp_total start (keys_of rows.ends) indexed.ends_ascend found (sym is)) same
 
-      least_of : (end : EdgeEnd) → is_gt (end_cmp (first_end id (record { 0 = 0 })) end) ≡ false → list_any (is_at (end_cmp end)) rows.ends.keys ≡ true →
-          is_gt (end_cmp found end) ≡ false
-      least_of end from there = subst (λ o. IfSome o (λ k. is_gt (end_cmp k end) ≡ false)) first_is (range.2 end (from, tt) there)
-
-      pub first_in_range : found.node.0 ≡ id.0 → IsLeast is_put_at (Some found.edge)
-      first_in_range same = least_put_at found in_range.1 least_of same
-
-      pub first_past_range : (found.node.0 ≡ id.0 → ⊥) → IsLeast is_put_at None
-      first_past_range other = none_before found in_range.1 least_of in_range.0.0 other
+    pub first_elsewhere : (found.node.0 ≡ id.0 → ⊥) → IsLeast is_put_at None
+    first_elsewhere other =
+        let among = first_among end_cmp_total start (keys_of rows.ends) found (sym is) in
+        none_before found among.0 (first_least end_cmp_total start (keys_of rows.ends) indexed.ends_ascend found (sym is)) among.1 other
 
 -- ---- how many ends there are
 
-pub ends_fewer : (rows : ChangedRows) → IsIndexed rows → (id : EdgeId) (change : Option (Option EdgeRow)) → change ≡ edge_change rows id → was_put change ≡ true →
-    length (ends_left id change rows.ends.keys) < length rows.ends.keys
-ends_fewer rows indexed id None is put = absurd (true≢false (sym put))
-ends_fewer rows indexed id (Some None) is put = absurd (true≢false (sym put))
-ends_fewer rows indexed id (Some (Some row)) is put =
+ends_fewer_keys : (rows : ChangedRows) → IsIndexed rows → (id : EdgeId) (change : Option (Option EdgeRow)) → change ≡ edge_change rows id → was_put change ≡ true →
+    length (ends_left id change (keys_of rows.ends)) < length (keys_of rows.ends)
+ends_fewer_keys rows indexed id None is put = absurd (true≢false (sym put))
+ends_fewer_keys rows indexed id (Some None) is put = absurd (true≢false (sym put))
+ends_fewer_keys rows indexed id (Some (Some row)) is put =
     let source = source_end id row in
     let target = target_end id row in
-    let there : list_any (is_at (end_cmp source)) rows.ends.keys ≡ true =
+    let there : list_any (is_at (end_cmp source)) (keys_of rows.ends) ≡ true =
     indexed.ends source ∙ ap (was_put_at row.source) (sym is) ∙ or_left (row.source.0 == row.source.0) (row.target.0 == row.source.0) (eq-eqb row.source.0 row.source.0 refl) in
-    let first = length-remove_key end_cmp_total source rows.ends.keys indexed.ends_ascend in
-    let second = length-remove_key end_cmp_total target (remove_key (is_at (end_cmp source)) rows.ends.keys)
-    (ascending-remove_key end_cmp_total (is_at (end_cmp source)) rows.ends.keys indexed.ends_ascend) in
-    let one = subst (λ b. length (remove_key (is_at (end_cmp source)) rows.ends.keys) + cond b 1 0 ≡ length rows.ends.keys) there first in
-    by (list_any (is_at (end_cmp target)) (remove_key (is_at (end_cmp source)) rows.ends.keys)) second one
+    let first = length-remove_key end_cmp_total source (keys_of rows.ends) indexed.ends_ascend in
+    let second = length-remove_key end_cmp_total target (remove_key (is_at (end_cmp source)) (keys_of rows.ends))
+    (ascending-remove_key end_cmp_total (is_at (end_cmp source)) (keys_of rows.ends) indexed.ends_ascend) in
+    let one = subst (λ b. length (remove_key (is_at (end_cmp source)) (keys_of rows.ends)) + cond b 1 0 ≡ length (keys_of rows.ends)) there first in
+    by (list_any (is_at (end_cmp target)) (remove_key (is_at (end_cmp source)) (keys_of rows.ends))) second one
   where
-    by : (b : Bool) → length (remove_key (is_at (end_cmp (target_end id row))) (remove_key (is_at (end_cmp (source_end id row))) rows.ends.keys)) + cond b 1 0
-        ≡ length (remove_key (is_at (end_cmp (source_end id row))) rows.ends.keys) →
-        length (remove_key (is_at (end_cmp (source_end id row))) rows.ends.keys) + 1 ≡ length rows.ends.keys →
-        length (remove_key (is_at (end_cmp (target_end id row))) (remove_key (is_at (end_cmp (source_end id row))) rows.ends.keys)) < length rows.ends.keys
+    by : (b : Bool) → length (remove_key (is_at (end_cmp (target_end id row))) (remove_key (is_at (end_cmp (source_end id row))) (keys_of rows.ends))) + cond b 1 0
+        ≡ length (remove_key (is_at (end_cmp (source_end id row))) (keys_of rows.ends)) →
+        length (remove_key (is_at (end_cmp (source_end id row))) (keys_of rows.ends)) + 1 ≡ length (keys_of rows.ends) →
+        length (remove_key (is_at (end_cmp (target_end id row))) (remove_key (is_at (end_cmp (source_end id row))) (keys_of rows.ends))) < length (keys_of rows.ends)
     by true second one = omega arith
     by false second one = omega arith
+
+-- the pairs after the ends of an edge are taken out
+pub ends_fewer : (rows : ChangedRows) → IsIndexed rows → (id : EdgeId) (change : Option (Option EdgeRow)) → change ≡ edge_change rows id → was_put change ≡ true →
+    (left : List (EdgeEnd × Unit {0})) → keys_of left ≡ ends_left id change (keys_of rows.ends) → length left < length rows.ends
+ends_fewer rows indexed id change is put left taken =
+    let fewer = ends_fewer_keys rows indexed id change is put in
+    let new = ap length taken in
+    let many = length-keys_of left in
+    let before = length-keys_of rows.ends in
+    omega arith

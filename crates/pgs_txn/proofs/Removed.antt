@@ -72,7 +72,7 @@ key_passes test (e ∷ es) all edge there =
 module _ (g : Graph) (w next : Working) (stands : StandsOn g w) where
   -- ---- an edge is removed
 
-  module _ (edge : EdgeId) (edges : next.rows.edges.entries ≡ insert_entry edge_cmp w.rows.edges.entries edge None) (nodes : next.rows.nodes ≡ w.rows.nodes)
+  module _ (edge : EdgeId) (edges : next.rows.edges ≡ insert_entry edge_cmp w.rows.edges edge None) (nodes : next.rows.nodes ≡ w.rows.nodes)
       (cleared : next.cleared ≡ w.cleared) (count : next.count ≡ w.count - 1) (indexed : IsIndexed next.rows) where
     pub dropped_stands : is_some (edge_at (graph_now g w) edge) ≡ true → StandsOn g next
     dropped_stands there =
@@ -85,11 +85,11 @@ module _ (g : Graph) (w next : Working) (stands : StandsOn g w) where
     dropped_graph = graph_after_edge g w stands next indexed cleared edge None edges nodes
 
     pub dropped_changed : is_changed next.rows edge ≡ true
-    dropped_changed = ap (λ es. is_some (lookup (is_at (edge_cmp edge)) es)) edges ∙ ap is_some (lookup-insert_entry_same edge_cmp_total edge None w.rows.edges.entries)
+    dropped_changed = ap (λ es. is_some (lookup (is_at (edge_cmp edge)) es)) edges ∙ ap is_some (lookup-insert_entry_same edge_cmp_total edge None w.rows.edges)
 
     -- an edge at a node that was changed before, or that stands there in the graph at the start
     pub only_dropped : (id : NodeId) → is_at_node id (graph_now g w) edge ≡ true →
-        ((tests : EdgeId → Bool) → ((other : EdgeId) → is_at_node id g other ≡ true → tests other ≡ true) → list_all tests (keys_of w.rows.edges.entries) ≡ true → tests edge ≡ true) →
+        ((tests : EdgeId → Bool) → ((other : EdgeId) → is_at_node id g other ≡ true → tests other ≡ true) → list_all tests (keys_of w.rows.edges) ≡ true → tests edge ≡ true) →
         OnlyEdgesAt g id w next
     only_dropped id at own = record {
       stands = dropped_stands (some_end id (edge_at (graph_now g w) edge) at);
@@ -100,7 +100,7 @@ module _ (g : Graph) (w next : Working) (stands : StandsOn g w) where
     }
 
     pub only_dropped_changed : (id : NodeId) → is_at_node id (graph_now g w) edge ≡ true → is_changed w.rows edge ≡ true → OnlyEdgesAt g id w next
-    only_dropped_changed id at was = only_dropped id at (λ tests start all. key_passes tests w.rows.edges.entries all edge was)
+    only_dropped_changed id at was = only_dropped id at (λ tests start all. key_passes tests w.rows.edges all edge was)
 
     pub only_dropped_old : (id : NodeId) → edge_change w.rows edge ≡ None → is_at_node id g edge ≡ true → OnlyEdgesAt g id w next
     only_dropped_old id was at =
@@ -108,7 +108,7 @@ module _ (g : Graph) (w next : Working) (stands : StandsOn g w) where
 
   -- ---- a node without edges is removed
 
-  module _ (id : NodeId) (nodes : next.rows.nodes.entries ≡ insert_entry node_cmp w.rows.nodes.entries id None) (edges : next.rows.edges ≡ w.rows.edges)
+  module _ (id : NodeId) (nodes : next.rows.nodes ≡ insert_entry node_cmp w.rows.nodes id None) (edges : next.rows.edges ≡ w.rows.edges)
       (cleared : next.cleared.keys ≡ insert_key node_cmp w.cleared.keys id) (count : next.count ≡ w.count - 1) (indexed : IsIndexed next.rows)
       (lone : IsLeast (is_at_node id (graph_now g w)) None) where
     -- the same state, but for the mark
@@ -127,7 +127,7 @@ module _ (g : Graph) (w next : Working) (stands : StandsOn g w) where
         record {
           base = stands.base;
           indexed = indexed;
-          cleared = λ other marked edge at. ap (λ es. is_some (lookup (is_at (edge_cmp edge)) es.entries)) edges ∙ covered other marked edge at;
+          cleared = λ other marked edge at. ap (λ es. is_some (lookup (is_at (edge_cmp edge)) es)) edges ∙ covered other marked edge at;
           count = omega arith;
         }
       where
@@ -151,8 +151,8 @@ module _ (g : Graph) (w next : Working) (stands : StandsOn g w) where
 
     pub lone_lists : (tests : NodeId → Bool) (others : EdgeId → Bool) → tests id ≡ true → Lists tests others w.rows → Lists tests others next.rows
     lone_lists tests others own all = (
-      ap (λ es. list_all tests (keys_of es)) nodes ∙ all_with_change node_cmp_total exact_node tests id None w.rows.nodes.entries own all.0,
-      ap (λ es. list_all others (keys_of es.entries)) edges ∙ all.1,
+      ap (λ es. list_all tests (keys_of es)) nodes ∙ all_with_change node_cmp_total exact_node tests id None w.rows.nodes own all.0,
+      ap (λ es. list_all others (keys_of es)) edges ∙ all.1,
     )
 
 module _ (g : Graph) (id : NodeId) where
@@ -173,4 +173,4 @@ module _ (g : Graph) (id : NodeId) where
 
   -- the nodes are as they were
   pub same_node : (a b : Working) → OnlyEdgesAt g id a b → node_at (graph_now g b) id ≡ node_at (graph_now g a) id
-  same_node a b only = ap (λ es. lookup (is_at (node_cmp id)) (entries_changed node_cmp g.nodes es.entries)) only.nodes
+  same_node a b only = ap (λ es. lookup (is_at (node_cmp id)) (entries_changed node_cmp g.nodes es)) only.nodes

@@ -88,7 +88,7 @@ staged_is limits g h txn few done small =
 -- the delta of a working state is sound where the graph that it makes is a graph
 pub sound_delta : (g : Graph) (w : Working) → StandsOn g w → is_graph (graph_now g w) ≡ true → is_sound g (delta_of w.rows) ≡ true
 sound_delta g w stands graph =
-    and_from (ascends node_cmp (keys_of w.rows.nodes.entries) && ascends edge_cmp (keys_of w.rows.edges.entries)) (is_graph (graph_now g w))
-    (and_from (ascends node_cmp (keys_of w.rows.nodes.entries)) (ascends edge_cmp (keys_of w.rows.edges.entries))
-    ((ascends_decides node_cmp (keys_of w.rows.nodes.entries)).1 stands.indexed.nodes_ascend)
-    ((ascends_decides edge_cmp (keys_of w.rows.edges.entries)).1 stands.indexed.edges_ascend)) graph
+    and_from (ascends node_cmp (keys_of w.rows.nodes) && ascends edge_cmp (keys_of w.rows.edges)) (is_graph (graph_now g w))
+    (and_from (ascends node_cmp (keys_of w.rows.nodes)) (ascends edge_cmp (keys_of w.rows.edges))
+    ((ascends_decides node_cmp (keys_of w.rows.nodes)).1 stands.indexed.nodes_ascend)
+    ((ascends_decides edge_cmp (keys_of w.rows.edges)).1 stands.indexed.edges_ascend)) graph

@@ -94,16 +94,16 @@ module _ {K : Type 0} {cmp : K → K → Ordering} (total : IsTotalOrder cmp) (e
 -- ---- the graph as it is so far
 
 module _ (g : Graph) (w : Working) (stands : StandsOn g w) where
-  pub node_now : (id : NodeId) → node_at (graph_now g w) id ≡ after_changes (lookup (is_at (node_cmp id)) w.rows.nodes.entries) (node_at g id)
-  node_now id = lookup-entries_changed node_cmp_total id g.nodes w.rows.nodes.entries (ascending_nodes g stands.base) stands.indexed.nodes_ascend
+  pub node_now : (id : NodeId) → node_at (graph_now g w) id ≡ after_changes (lookup (is_at (node_cmp id)) w.rows.nodes) (node_at g id)
+  node_now id = lookup-entries_changed node_cmp_total id g.nodes w.rows.nodes (ascending_nodes g stands.base) stands.indexed.nodes_ascend
 
   pub edge_now : (id : EdgeId) → edge_at (graph_now g w) id ≡ after_changes (edge_change w.rows id) (edge_at g id)
-  edge_now id = lookup-entries_changed edge_cmp_total id g.edges w.rows.edges.entries (ascending_edges g stands.base) stands.indexed.edges_ascend
+  edge_now id = lookup-entries_changed edge_cmp_total id g.edges w.rows.edges (ascending_edges g stands.base) stands.indexed.edges_ascend
 
-  pub node_of_change : (id : NodeId) (change : Option NodeRow) → lookup (is_at (node_cmp id)) w.rows.nodes.entries ≡ Some change → node_at (graph_now g w) id ≡ change
+  pub node_of_change : (id : NodeId) (change : Option NodeRow) → lookup (is_at (node_cmp id)) w.rows.nodes ≡ Some change → node_at (graph_now g w) id ≡ change
   node_of_change id change is = node_now id ∙ ap (λ o. after_changes o (node_at g id)) is
 
-  pub node_unchanged : (id : NodeId) → lookup (is_at (node_cmp id)) w.rows.nodes.entries ≡ None → node_at (graph_now g w) id ≡ node_at g id
+  pub node_unchanged : (id : NodeId) → lookup (is_at (node_cmp id)) w.rows.nodes ≡ None → node_at (graph_now g w) id ≡ node_at g id
   node_unchanged id is = node_now id ∙ ap (λ o. after_changes o (node_at g id)) is
 
   pub edge_of_change : (id : EdgeId) (change : Option EdgeRow) → edge_change w.rows id ≡ Some change → edge_at (graph_now g w) id ≡ change
@@ -113,26 +113,26 @@ module _ (g : Graph) (w : Working) (stands : StandsOn g w) where
   edge_unchanged id is = edge_now id ∙ ap (λ o. after_changes o (edge_at g id)) is
 
   pub nodes_now_ascend : IsStrictlySortedBy node_cmp (keys_of (graph_now g w).nodes)
-  nodes_now_ascend = ascending-entries_changed node_cmp_total g.nodes w.rows.nodes.entries (ascending_nodes g stands.base)
+  nodes_now_ascend = ascending-entries_changed node_cmp_total g.nodes w.rows.nodes (ascending_nodes g stands.base)
 
   pub edges_now_ascend : IsStrictlySortedBy edge_cmp (keys_of (graph_now g w).edges)
-  edges_now_ascend = ascending-entries_changed edge_cmp_total g.edges w.rows.edges.entries (ascending_edges g stands.base)
+  edges_now_ascend = ascending-entries_changed edge_cmp_total g.edges w.rows.edges (ascending_edges g stands.base)
 
   module _ (next : Working) (indexed : IsIndexed next.rows) (cleared : next.cleared ≡ w.cleared) where
     -- after a change of a node
-    module _ (id : NodeId) (row : Option NodeRow) (nodes : next.rows.nodes.entries ≡ insert_entry node_cmp w.rows.nodes.entries id row) (edges : next.rows.edges ≡ w.rows.edges) where
+    module _ (id : NodeId) (row : Option NodeRow) (nodes : next.rows.nodes ≡ insert_entry node_cmp w.rows.nodes id row) (edges : next.rows.edges ≡ w.rows.edges) where
       pub graph_after_node : graph_now g next ≡ record { nodes = entry_changed node_cmp (graph_now g w).nodes id row; edges = (graph_now g w).edges }
       graph_after_node =
           let same_nodes = ap (entries_changed node_cmp g.nodes) nodes
-          ∙ changed_once_more node_cmp_total exact_node id row g.nodes w.rows.nodes.entries (ascending_nodes g stands.base) stands.indexed.nodes_ascend in
-          let same_edges = ap (λ es. entries_changed edge_cmp g.edges es.entries) edges in
+          ∙ changed_once_more node_cmp_total exact_node id row g.nodes w.rows.nodes (ascending_nodes g stands.base) stands.indexed.nodes_ascend in
+          let same_edges = ap (λ es. entries_changed edge_cmp g.edges es) edges in
           λ i. record { nodes = same_nodes i; edges = same_edges i }
 
       pub stands_after_node : next.count + cond (is_some (node_at (graph_now g w) id)) 1 0 ≡ w.count + cond (is_some row) 1 0 → StandsOn g next
       stands_after_node count = record {
         base = stands.base;
         indexed = indexed;
-        cleared = λ other marked edge at. ap (λ es. is_some (lookup (is_at (edge_cmp edge)) es.entries)) edges
+        cleared = λ other marked edge at. ap (λ es. is_some (lookup (is_at (edge_cmp edge)) es)) edges
             ∙ stands.cleared other (ap (λ s. list_any (is_at (node_cmp other)) s.keys) (sym cleared) ∙ marked) edge at;
         count =
             let counted = length-entry_changed node_cmp_total exact_node id row (graph_now g w).nodes nodes_now_ascend in
@@ -143,22 +143,22 @@ module _ (g : Graph) (w : Working) (stands : StandsOn g w) where
 
       pub lists_after_node : (test : NodeId → Bool) (other : EdgeId → Bool) → test id ≡ true → Lists test other w.rows → Lists test other next.rows
       lists_after_node test other own all = (
-        ap (λ es. list_all test (keys_of es)) nodes ∙ all_with_change node_cmp_total exact_node test id row w.rows.nodes.entries own all.0,
-        ap (λ es. list_all other (keys_of es.entries)) edges ∙ all.1,
+        ap (λ es. list_all test (keys_of es)) nodes ∙ all_with_change node_cmp_total exact_node test id row w.rows.nodes own all.0,
+        ap (λ es. list_all other (keys_of es)) edges ∙ all.1,
       )
 
     -- and of an edge
-    module _ (id : EdgeId) (row : Option EdgeRow) (edges : next.rows.edges.entries ≡ insert_entry edge_cmp w.rows.edges.entries id row) (nodes : next.rows.nodes ≡ w.rows.nodes) where
+    module _ (id : EdgeId) (row : Option EdgeRow) (edges : next.rows.edges ≡ insert_entry edge_cmp w.rows.edges id row) (nodes : next.rows.nodes ≡ w.rows.nodes) where
       pub graph_after_edge : graph_now g next ≡ record { nodes = (graph_now g w).nodes; edges = entry_changed edge_cmp (graph_now g w).edges id row }
       graph_after_edge =
           let same_edges = ap (entries_changed edge_cmp g.edges) edges
-          ∙ changed_once_more edge_cmp_total exact_edge id row g.edges w.rows.edges.entries (ascending_edges g stands.base) stands.indexed.edges_ascend in
-          let same_nodes = ap (λ es. entries_changed node_cmp g.nodes es.entries) nodes in
+          ∙ changed_once_more edge_cmp_total exact_edge id row g.edges w.rows.edges (ascending_edges g stands.base) stands.indexed.edges_ascend in
+          let same_nodes = ap (λ es. entries_changed node_cmp g.nodes es) nodes in
           λ i. record { nodes = same_nodes i; edges = same_edges i }
 
       pub stays_changed : (edge : EdgeId) → is_changed w.rows edge ≡ true → is_changed next.rows edge ≡ true
       stays_changed edge there =
-          ap (λ es. is_some (lookup (is_at (edge_cmp edge)) es)) edges ∙ changed_is_some edge_cmp_total exact_edge edge id row w.rows.edges.entries there
+          ap (λ es. is_some (lookup (is_at (edge_cmp edge)) es)) edges ∙ changed_is_some edge_cmp_total exact_edge edge id row w.rows.edges there
 
       pub stands_after_edge : next.count + cond (is_some (edge_at (graph_now g w) id)) 1 0 ≡ w.count + cond (is_some row) 1 0 → StandsOn g next
       stands_after_edge count = record {
@@ -175,8 +175,8 @@ module _ (g : Graph) (w : Working) (stands : StandsOn g w) where
 
       pub lists_after_edge : (other : NodeId → Bool) (test : EdgeId → Bool) → test id ≡ true → Lists other test w.rows → Lists other test next.rows
       lists_after_edge other test own all = (
-        ap (λ es. list_all other (keys_of es.entries)) nodes ∙ all.0,
-        ap (λ es. list_all test (keys_of es)) edges ∙ all_with_change edge_cmp_total exact_edge test id row w.rows.edges.entries own all.1,
+        ap (λ es. list_all other (keys_of es)) nodes ∙ all.0,
+        ap (λ es. list_all test (keys_of es)) edges ∙ all_with_change edge_cmp_total exact_edge test id row w.rows.edges own all.1,
       )
 
 -- ---- a row that is taken out, edited, and put back
@@ -236,20 +236,20 @@ module _ (edit : Edit) (g : Graph) where
 
 module _ (g : Graph) (w : Working) (stands : StandsOn g w) where
   pub node_put_back : (id : NodeId) (row : NodeRow) (mid : List (NodeId × Option NodeRow)) (after : List (NodeId × Option NodeRow)) →
-      mid ≡ insert_entry node_cmp w.rows.nodes.entries id None → after ≡ insert_entry node_cmp mid id (Some row) →
-      after ≡ insert_entry node_cmp w.rows.nodes.entries id (Some row)
+      mid ≡ insert_entry node_cmp w.rows.nodes id None → after ≡ insert_entry node_cmp mid id (Some row) →
+      after ≡ insert_entry node_cmp w.rows.nodes id (Some row)
   node_put_back id row mid after taken put =
       put ∙ ap (λ es. insert_entry node_cmp es id (Some row)) taken
-      ∙ inserted_twice node_cmp_total exact_node id None (Some row) w.rows.nodes.entries stands.indexed.nodes_ascend
+      ∙ inserted_twice node_cmp_total exact_node id None (Some row) w.rows.nodes stands.indexed.nodes_ascend
 
   pub edge_put_back : (id : EdgeId) (row : EdgeRow) (mid : List (EdgeId × Option EdgeRow)) (after : List (EdgeId × Option EdgeRow)) →
-      mid ≡ insert_entry edge_cmp w.rows.edges.entries id None → after ≡ insert_entry edge_cmp mid id (Some row) →
-      after ≡ insert_entry edge_cmp w.rows.edges.entries id (Some row)
+      mid ≡ insert_entry edge_cmp w.rows.edges id None → after ≡ insert_entry edge_cmp mid id (Some row) →
+      after ≡ insert_entry edge_cmp w.rows.edges id (Some row)
   edge_put_back id row mid after taken put =
       put ∙ ap (λ es. insert_entry edge_cmp es id (Some row)) taken
-      ∙ inserted_twice edge_cmp_total exact_edge id None (Some row) w.rows.edges.entries stands.indexed.edges_ascend
+      ∙ inserted_twice edge_cmp_total exact_edge id None (Some row) w.rows.edges stands.indexed.edges_ascend
 
   -- an edge that was taken out is not put in
-  pub taken_change : (id : EdgeId) (rows : ChangedRows) → rows.edges.entries ≡ insert_entry edge_cmp w.rows.edges.entries id None → edge_change rows id ≡ Some None
+  pub taken_change : (id : EdgeId) (rows : ChangedRows) → rows.edges ≡ insert_entry edge_cmp w.rows.edges id None → edge_change rows id ≡ Some None
   taken_change id rows taken =
-      ap (lookup (is_at (edge_cmp id))) taken ∙ lookup-insert_entry_same edge_cmp_total id None w.rows.edges.entries
+      ap (lookup (is_at (edge_cmp id))) taken ∙ lookup-insert_entry_same edge_cmp_total id None w.rows.edges

@@ -44,6 +44,22 @@ names_edge id (UnsetNode node key) = false
 names_edge id (LabelNode node label) = false
 names_edge id (UnlabelNode node label) = false
 
+-- whether an operation detaches a node
+abbrev pub detaches : Op → Bool
+detaches (DetachNode node) = true
+detaches (AddNode node labels props) = false
+detaches (AddEdge edge source target labels props) = false
+detaches (RemoveNode node) = false
+detaches (RemoveEdge edge) = false
+detaches (SetNode node key value) = false
+detaches (UnsetNode node key) = false
+detaches (LabelNode node label) = false
+detaches (UnlabelNode node label) = false
+detaches (SetEdge edge key value) = false
+detaches (UnsetEdge edge key) = false
+detaches (LabelEdge edge label) = false
+detaches (UnlabelEdge edge label) = false
+
 -- whether an edge of the graph stands at a node that an operation detaches
 abbrev pub detaches_edge : Graph → EdgeId → Op → Bool
 detaches_edge g id (DetachNode node) = has_end node (edge_at g id)

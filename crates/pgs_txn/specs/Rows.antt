@@ -22,7 +22,7 @@ end_cmp a b = ordering_then (nat_cmp a.node.0 b.node.0) (nat_cmp a.edge.0 b.edge
 
 -- the delta that the changes are
 abbrev pub delta_of : ChangedRows → Delta
-delta_of rows = record { nodes = rows.nodes.entries; edges = rows.edges.entries }
+delta_of rows = record { nodes = rows.nodes; edges = rows.edges }
 
 -- whether there is an edge, and a node is an end of it
 abbrev pub has_end : NodeId → Option EdgeRow → Bool
@@ -36,7 +36,7 @@ was_put_at id (Some row) = has_end id row
 
 -- the change of an edge, where there is one
 abbrev pub edge_change : ChangedRows → EdgeId → Option (Option EdgeRow)
-edge_change rows id = lookup (is_at (edge_cmp id)) rows.edges.entries
+edge_change rows id = lookup (is_at (edge_cmp id)) rows.edges
 
 -- whether an edge was changed to a row
 abbrev pub was_put : Option (Option EdgeRow) → Bool
@@ -62,10 +62,10 @@ ends_left id (Some (Some row)) ends =
 
 -- rows by ascending numbers, and with the ends of exactly the edges that were put in
 pub record IsIndexed (rows : ChangedRows) : Type 0 where
-  pub nodes_ascend : IsStrictlySortedBy node_cmp (keys_of rows.nodes.entries)
-  pub edges_ascend : IsStrictlySortedBy edge_cmp (keys_of rows.edges.entries)
-  pub ends_ascend : IsStrictlySortedBy end_cmp rows.ends.keys
-  pub ends : (at : EdgeEnd) → list_any (is_at (end_cmp at)) rows.ends.keys ≡ was_put_at at.node (edge_change rows at.edge)
+  pub nodes_ascend : IsStrictlySortedBy node_cmp (keys_of rows.nodes)
+  pub edges_ascend : IsStrictlySortedBy edge_cmp (keys_of rows.edges)
+  pub ends_ascend : IsStrictlySortedBy end_cmp (keys_of rows.ends)
+  pub ends : (at : EdgeEnd) → list_any (is_at (end_cmp at)) (keys_of rows.ends) ≡ was_put_at at.node (edge_change rows at.edge)
 
 -- the least edge that passes a test, or that there is none
 abbrev pub IsLeast : (EdgeId → Bool) → Option EdgeId → Type 0

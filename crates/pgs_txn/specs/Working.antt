@@ -29,4 +29,4 @@ pub record StandsOn (g : Graph) (w : Working) : Type 0 where
 
 -- all elements that were changed pass tests
 abbrev pub Lists : (NodeId → Bool) → (EdgeId → Bool) → ChangedRows → Type 0
-Lists nodes edges rows = (list_all nodes (keys_of rows.nodes.entries) ≡ true) × (list_all edges (keys_of rows.edges.entries) ≡ true)
+Lists nodes edges rows = (list_all nodes (keys_of rows.nodes) ≡ true) × (list_all edges (keys_of rows.edges) ≡ true)

@@ -64,7 +64,7 @@ impl Working {
     fn put_new_edge(&mut self, id: EdgeId, row: EdgeRow) -> Result<(), Memory>
         requires indexed { IsIndexed self.old.rows }
         requires absent { was_put (edge_change self.old.rows id) ≡ false }
-        ensures edges { OnOk result (self.new.rows.edges.entries ≡ insert_entry edge_cmp self.old.rows.edges.entries id (Some row)) }
+        ensures edges { OnOk result (self.new.rows.edges ≡ insert_entry edge_cmp self.old.rows.edges id (Some row)) }
         ensures nodes { self.new.rows.nodes ≡ self.old.rows.nodes }
         ensures cleared { self.new.cleared ≡ self.old.cleared }
         ensures count { OnOk result (self.new.count ≡ self.old.count + 1) }

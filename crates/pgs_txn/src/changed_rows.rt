@@ -3,14 +3,14 @@
 ghost use Rattle.std.specs.Prelude.{◌≡◌, ◌<◌, [], IfOk, OnOk, Some, None, false, true, length};
 ghost use Rattle.std.specs.BTreeMap.{is_at, insert_entry};
 ghost use Rattle.std.specs.List.Sorted.{IsStrictlySortedBy};
-ghost use Rattle.std.specs.Map.{lookup};
+ghost use Rattle.std.specs.Map.{keys_of, lookup};
 ghost use Rattle.pgs_base.specs.Graph.{node_cmp, edge_cmp};
 ghost use Rattle.pgs_txn.specs.Rows.{IsIndexed, IsLeast, delta_of, edge_change, end_cmp, ends_left, ends_with, was_put, was_put_at};
 
 use pgs_base::{EdgeId, EdgeRow, List, Memory, NodeId, NodeRow};
 use pgs_graph::Delta;
+use pgs_keyed::Keyed;
 use std::alloc::Global;
-use std::collections::{BTreeMap, BTreeSet};
 
 /// A node that is an end of an edge.
 #[derive(Clone, Copy, PartialEq, Eq, PartialOrd, Ord)]
@@ -22,59 +22,54 @@ pub(crate) struct EdgeEnd {
 /// Changed rows: the row after the changes, `None` for removed. Beside them the ends of the edges that have a row.
 #[derive(Drop)]
 pub(crate) struct ChangedRows {
-    pub nodes: BTreeMap<NodeId, Option<NodeRow>>,
-    pub edges: BTreeMap<EdgeId, Option<EdgeRow>>,
-    pub ends: BTreeSet<EdgeEnd>,
+    pub nodes: Keyed<NodeId, Option<NodeRow>>,
+    pub edges: Keyed<EdgeId, Option<EdgeRow>>,
+    pub ends: Keyed<EdgeEnd, ()>,
 }
 
 // Puts the ends of an edge in.
-fn put_ends(ends: &mut BTreeSet<EdgeEnd>, id: EdgeId, row: &EdgeRow) -> Result<(), Memory>
-    ensures ends { OnOk result (ends.new.keys ≡ ends_with id row.now ends.old.keys) }
-    ensures ascending { OnOk result (IsStrictlySortedBy end_cmp ends.new.keys) }
+fn put_ends(ends: &mut Keyed<EdgeEnd, ()>, id: EdgeId, row: &EdgeRow) -> Result<(), Memory>
+    ensures { OnOk result (keys_of ends.new ≡ ends_with id row.now (keys_of ends.old)) }
 {
-    ends.insert(EdgeEnd {
+    let source = EdgeEnd {
         node: row.source,
         edge: id,
-    })?;
-    ends.insert(EdgeEnd {
+    };
+    ends.set(source, ())?;
+    let target = EdgeEnd {
         node: row.target,
         edge: id,
-    })?;
+    };
+    ends.set(target, ())?;
     Ok(())
 }
 
 // Takes the ends of an edge out, where it was put in.
-fn remove_ends(ends: &mut BTreeSet<EdgeEnd>, id: EdgeId, change: &Option<Option<EdgeRow>>)
-    ensures ends { ends.new.keys ≡ ends_left id change.now ends.old.keys }
-    ensures ascending { IsStrictlySortedBy end_cmp ends.new.keys }
+fn remove_ends(ends: &mut Keyed<EdgeEnd, ()>, id: EdgeId, change: &Option<Option<EdgeRow>>)
+    ensures { keys_of ends.new ≡ ends_left id change.now (keys_of ends.old) }
 {
-    match change {
-        Some(Some(row)) => {
-            ends.remove(&EdgeEnd {
-                node: row.source,
-                edge: id,
-            });
-            ends.remove(&EdgeEnd {
-                node: row.target,
-                edge: id,
-            });
-        }
-        _ => {
-            let _ascending = ends.len();
-        }
+    if let Some(Some(row)) = change {
+        ends.unset(&EdgeEnd {
+            node: row.source,
+            edge: id,
+        });
+        ends.unset(&EdgeEnd {
+            node: row.target,
+            edge: id,
+        });
     }
 }
 
 impl ChangedRows {
-    /// No changes. It takes no memory.
-    pub fn new(alloc: Global) -> ChangedRows
+    /// No changes, in a form that suits about so many changes of nodes and of edges. It takes no memory.
+    pub fn new(alloc: Global, changes: usize) -> ChangedRows
         ensures none { delta_of result ≡ record { nodes = []; edges = [] } }
         ensures indexed { IsIndexed result }
     {
         ChangedRows {
-            nodes: BTreeMap::new(alloc),
-            edges: BTreeMap::new(alloc),
-            ends: BTreeSet::new(alloc),
+            nodes: Keyed::new(alloc, changes),
+            edges: Keyed::new(alloc, changes),
+            ends: Keyed::new(alloc, changes.saturating_mul(2)),
         }
     }
 
@@ -85,12 +80,12 @@ impl ChangedRows {
         row: Option<NodeRow>,
     ) -> Result<Option<Option<NodeRow>>, Memory>
         requires { IsIndexed self.old }
-        ensures earlier { IfOk result (λ earlier. earlier ≡ lookup (is_at (node_cmp id)) self.old.nodes.entries) }
-        ensures nodes { OnOk result (self.new.nodes.entries ≡ insert_entry node_cmp self.old.nodes.entries id row) }
+        ensures earlier { IfOk result (λ earlier. earlier ≡ lookup (is_at (node_cmp id)) self.old.nodes) }
+        ensures nodes { OnOk result (self.new.nodes ≡ insert_entry node_cmp self.old.nodes id row) }
         ensures edges { self.new.edges ≡ self.old.edges }
         ensures indexed { OnOk result (IsIndexed self.new) }
     {
-        let earlier = self.nodes.insert(id, row)?;
+        let earlier = self.nodes.set(id, row)?;
         Ok(earlier)
     }
 
@@ -98,12 +93,12 @@ impl ChangedRows {
     pub fn put_edge(&mut self, id: EdgeId, row: EdgeRow) -> Result<(), Memory>
         requires indexed { IsIndexed self.old }
         requires absent { was_put (edge_change self.old id) ≡ false }
-        ensures edges { OnOk result (self.new.edges.entries ≡ insert_entry edge_cmp self.old.edges.entries id (Some row)) }
+        ensures edges { OnOk result (self.new.edges ≡ insert_entry edge_cmp self.old.edges id (Some row)) }
         ensures nodes { self.new.nodes ≡ self.old.nodes }
         ensures indexed { OnOk result (IsIndexed self.new) }
     {
         put_ends(&mut self.ends, id, &row)?;
-        self.edges.insert(id, Some(row))?;
+        self.edges.set(id, Some(row))?;
         Ok(())
     }
 
@@ -111,12 +106,12 @@ impl ChangedRows {
     pub fn take_edge(&mut self, id: EdgeId) -> Result<Option<Option<EdgeRow>>, Memory>
         requires { IsIndexed self.old }
         ensures earlier { IfOk result (λ earlier. earlier ≡ edge_change self.old id) }
-        ensures edges { OnOk result (self.new.edges.entries ≡ insert_entry edge_cmp self.old.edges.entries id None) }
+        ensures edges { OnOk result (self.new.edges ≡ insert_entry edge_cmp self.old.edges id None) }
         ensures nodes { self.new.nodes ≡ self.old.nodes }
         ensures indexed { OnOk result (IsIndexed self.new) }
-        ensures fewer { OnOk result (was_put (edge_change self.old id) ≡ true → length self.new.ends.keys < length self.old.ends.keys) }
+        ensures fewer { OnOk result (was_put (edge_change self.old id) ≡ true → length self.new.ends < length self.old.ends) }
     {
-        let earlier = self.edges.insert(id, None)?;
+        let earlier = self.edges.set(id, None)?;
         remove_ends(&mut self.ends, id, &earlier);
         Ok(earlier)
     }
@@ -130,7 +125,7 @@ impl ChangedRows {
             node: id,
             edge: EdgeId(0),
         };
-        match self.ends.range(start..).next() {
+        match self.ends.first_from(&start) {
             Some(end) if end.node == id => Some(end.edge),
             _ => None,
         }
@@ -145,8 +140,8 @@ impl ChangedRows {
             edges,
             ends: _,
         } = self;
-        let nodes = nodes.into_iter().collect::<Vec<_>>(alloc)?;
-        let edges = edges.into_iter().collect::<Vec<_>>(alloc)?;
+        let nodes = nodes.into_vec(alloc)?;
+        let edges = edges.into_vec(alloc)?;
         Ok(Delta {
             nodes: List::from_vec(nodes),
             edges: List::from_vec(edges),

@@ -55,7 +55,7 @@ fn first_unchanged<G: GraphRead, L: Ledger>(
         let Some(edge) = edge_in(graph, direction, id, nth, steps) else {
             return None;
         };
-        if !rows.edges.contains_key(&edge) {
+        if !rows.edges.contains(&edge) {
             return Some(edge);
         }
     }

@@ -27,12 +27,12 @@ impl Working {
     // Takes an edge out that is there.
     fn drop_edge(&mut self, id: EdgeId) -> Result<(), Memory>
         requires { IsIndexed self.old.rows }
-        ensures edges { OnOk result (self.new.rows.edges.entries ≡ insert_entry edge_cmp self.old.rows.edges.entries id None) }
+        ensures edges { OnOk result (self.new.rows.edges ≡ insert_entry edge_cmp self.old.rows.edges id None) }
         ensures nodes { self.new.rows.nodes ≡ self.old.rows.nodes }
         ensures cleared { self.new.cleared ≡ self.old.cleared }
         ensures count { OnOk result (self.new.count ≡ self.old.count - 1) }
         ensures indexed { OnOk result (IsIndexed self.new.rows) }
-        ensures fewer { OnOk result (was_put (edge_change self.old.rows id) ≡ true → length self.new.rows.ends.keys < length self.old.rows.ends.keys) }
+        ensures fewer { OnOk result (was_put (edge_change self.old.rows id) ≡ true → length self.new.rows.ends < length self.old.rows.ends) }
     {
         self.rows.take_edge(id)?;
         self.count = self.count.saturating_sub(1);
@@ -42,7 +42,7 @@ impl Working {
     // Takes a node out that is there and has no edges, and marks it: all its edges were changed.
     fn drop_node(&mut self, id: NodeId) -> Result<(), Memory>
         requires { IsIndexed self.old.rows }
-        ensures nodes { OnOk result (self.new.rows.nodes.entries ≡ insert_entry node_cmp self.old.rows.nodes.entries id None) }
+        ensures nodes { OnOk result (self.new.rows.nodes ≡ insert_entry node_cmp self.old.rows.nodes id None) }
         ensures edges { self.new.rows.edges ≡ self.old.rows.edges }
         ensures cleared { OnOk result (self.new.cleared.keys ≡ insert_key node_cmp self.old.cleared.keys id) }
         ensures count { OnOk result (self.new.count ≡ self.old.count - 1) }
@@ -107,7 +107,7 @@ impl Working {
         ensures changed { OnOk result (is_changed self.new.rows edge ≡ true) }
         ensures only { OnOk result ((g : Graph) (id : NodeId) → StandsOn g self.old → is_at_node id g edge ≡ true → OnlyEdgesAt g id self.old self.new) }
     {
-        if self.rows.edges.contains_key(&edge) {
+        if self.rows.edges.contains(&edge) {
             return Ok(());
         }
         self.drop_edge(edge)?;

@@ -1,10 +1,11 @@
-ghost use Rattle.std.specs.Prelude.{◌≡◌, ℕ, ◌+◌, ◌*◌, ◌≤◌, Bool, true, Ok, IfOk, IfErr, OnOk, length};
+ghost use Rattle.std.specs.Prelude.{◌≡◌, ℕ, ◌+◌, ◌-◌, ◌*◌, ◌^◌, ◌≤◌, Bool, true, Ok, IfOk, IfErr, OnOk, length, if◌then◌else◌};
+ghost use Rattle.std.specs.List.{list_any};
 ghost use Rattle.pgs_base.specs.declared.element.NodeId.{NodeId};
 ghost use Rattle.pgs_base.specs.declared.element.EdgeId.{EdgeId};
 ghost use Rattle.pgs_graph.specs.Changed.{changed, is_sound};
 ghost use Rattle.pgs_violation.specs.Staging.{step, after_ops, staged};
 ghost use Rattle.pgs_txn.specs.Answers.{Makes, IsRefusal};
-ghost use Rattle.pgs_txn.specs.Listing.{MayList, element_degree, has_degrees_upto, lists_only, may_list_node, may_list_edge};
+ghost use Rattle.pgs_txn.specs.Listing.{MayList, detaches, element_degree, has_degrees_upto, lists_only, may_list_node, may_list_edge};
 ghost use Rattle.pgs_txn.specs.Working.{StandsOn, graph_now, Lists};
 
 use crate::edit::Edit;
@@ -80,6 +81,30 @@ fn do_op<G: GraphRead, L: Ledger>(
     }
 }
 
+// Whether an operation detaches a node.
+fn is_detach(op: &Op) -> bool
+    ensures { result ≡ detaches op.now }
+{
+    matches!(op, Op::DetachNode { .. })
+}
+
+fn has_detach(ops: &[Op]) -> bool
+    ensures { result ≡ list_any detaches ops.now }
+{
+    ops.iter().any(|op| is_detach(op))
+}
+
+// How many nodes, and how many edges, operations may change. Where they detach a node, it may be any number of edges.
+fn most_changes(ops: &[Op]) -> usize
+    ensures { result ≡ if list_any detaches ops.now then 2 ^ 64 - 1 else length ops.now }
+{
+    if has_detach(ops) {
+        usize::MAX
+    } else {
+        ops.len()
+    }
+}
+
 // Does operations one after another, from no changes on.
 fn do_ops<G: GraphRead, L: Ledger>(
     alloc: Global,
@@ -94,7 +119,7 @@ fn do_ops<G: GraphRead, L: Ledger>(
     ensures no_step_back { steps.old ≤ steps.new }
     ensures looks { (most : ℕ) → has_degrees_upto (G.meaning graph.now) most ops.now ≡ true → steps.new ≤ steps.old + length ops.now * (most + 3) }
 {
-    let mut working = Working::new(alloc, graph);
+    let mut working = Working::new(alloc, graph, most_changes(ops));
     for (index, op) in ops.iter().enumerate() {
         if let Err(fault) = do_op(alloc, graph, &mut working, op, steps) {
             return Err(fault.at(index as u64 + 1));

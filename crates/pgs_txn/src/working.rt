@@ -72,13 +72,13 @@ fn edge_copy(alloc: Global, edge: Option<EdgeRef<'_>>) -> Result<Option<EdgeRow>
 }
 
 impl Working {
-    /// No changes of a graph.
-    pub fn new<G: GraphRead>(alloc: Global, graph: &G) -> Working
+    /// No changes of a graph, in a form that suits about so many changes.
+    pub fn new<G: GraphRead>(alloc: Global, graph: &G, changes: usize) -> Working
         ensures none { delta_of result.rows ≡ record { nodes = []; edges = [] } }
         ensures stands { StandsOn (G.meaning graph.now) result }
     {
         Working {
-            rows: ChangedRows::new(alloc),
+            rows: ChangedRows::new(alloc, changes),
             cleared: BTreeSet::new(alloc),
             count: graph.count(),
         }
@@ -136,7 +136,7 @@ impl Working {
     ) -> Result<NodeRow, OpFault>
         requires { StandsOn (G.meaning graph.now) self.old }
         ensures row { Gives result (node_or_fault (graph_now (G.meaning graph.now) self.old) id) }
-        ensures nodes { OnOk result (self.new.rows.nodes.entries ≡ insert_entry node_cmp self.old.rows.nodes.entries id None) }
+        ensures nodes { OnOk result (self.new.rows.nodes ≡ insert_entry node_cmp self.old.rows.nodes id None) }
         ensures edges { self.new.rows.edges ≡ self.old.rows.edges }
         ensures cleared { self.new.cleared ≡ self.old.cleared }
         ensures count { self.new.count ≡ self.old.count }
@@ -163,7 +163,7 @@ impl Working {
     ) -> Result<EdgeRow, OpFault>
         requires { StandsOn (G.meaning graph.now) self.old }
         ensures row { Gives result (edge_or_fault (graph_now (G.meaning graph.now) self.old) id) }
-        ensures edges { OnOk result (self.new.rows.edges.entries ≡ insert_entry edge_cmp self.old.rows.edges.entries id None) }
+        ensures edges { OnOk result (self.new.rows.edges ≡ insert_entry edge_cmp self.old.rows.edges id None) }
         ensures nodes { self.new.rows.nodes ≡ self.old.rows.nodes }
         ensures cleared { self.new.cleared ≡ self.old.cleared }
         ensures count { self.new.count ≡ self.old.count }

@@ -14,10 +14,10 @@ returns-in_default-clause-least g c =
     none_unchanged c.args.direction c.args.id m c.args.rows.now
     (ap (list_all (is_changed c.args.rows.now)) (sym (all_before edges c.loop-nth.nth (sym c.in_default.ensures.value))) ∙ c.loop-nth.invariant.changed)
 
-pub returns-then-not-contains_key-clause-least : goal.returns-then-not-contains_key-clause-least
-returns-then-not-contains_key-clause-least g c =
+pub returns-then-not-contains-clause-least : goal.returns-then-not-contains-clause-least
+returns-then-not-contains-clause-least g c =
     least_unchanged c.args.direction c.args.id (g.G.GraphRead.meaning c.args.graph.now) c.args.rows.now c.count-nth-end.ensures.graph c.loop-nth.nth c.in-Some.edge
-    (sym c.in-Some.ensures.value) c.loop-nth.invariant.changed c.in-Some.ensures.direction (sym c.contains_key.ensures ∙ c.if-not-contains_key.true)
+    (sym c.in-Some.ensures.value) c.loop-nth.invariant.changed c.in-Some.ensures.direction (sym c.contains.ensures ∙ c.if-not-contains.true)
 
 pub loop-nth-preserved : goal.loop-nth-preserved
 loop-nth-preserved g c =
@@ -29,7 +29,7 @@ loop-nth-preserved g c =
       looks = omega arith;
       within = omega arith;
       changed = one_more_passes (is_changed c.args.rows.now) edges c.loop-nth.nth c.in-Some.edge (sym c.in-Some.ensures.value) c.loop-nth.invariant.changed
-          (sym c.contains_key.ensures ∙ c.if-not-contains_key.false);
+          (sym c.contains.ensures ∙ c.if-not-contains.false);
     }
 
 pub returns-clause-least : goal.returns-clause-least

@@ -12,4 +12,4 @@ invariant-loop-edge l = record {
 }
 
 abbrev pub decreases-loop-edge : goal.decreases-loop-edge
-decreases-loop-edge l = length l.self.rows.ends.keys
+decreases-loop-edge l = length l.self.rows.ends
