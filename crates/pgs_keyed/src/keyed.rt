@@ -87,7 +87,7 @@ impl<K: Ord + Drop, V: Drop> Keyed<K, V> {
         }
     }
 
-    /// The least key that isn't below a key. `None` exactly where there is none.
+    /// The least key that isn't below another one. `None` exactly where all are below it.
     pub fn first_from(&self, start: &K) -> Option<&K>
         ensures { option_copied result ≡ find (λ key. is_le (K.cmp start.now key)) (keys_of self.now) }
     {
