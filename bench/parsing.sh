@@ -1,21 +1,24 @@
 #!/usr/bin/env bash
-# Times the parse of schema texts of nearly a mebibyte beside their cut into tokens: for each text the mean of 20 or more turns of `lex`
-# alone and of `lex` and `parse`, in milliseconds of the processor, system calls included, and how often the time of `lex` the
-# time of `parse` is, which drops the tree. It makes a small program over pgs_parser in a folder of its own, and builds it, proving
-# what is below where no check has kept it.
+# Times the parse of schema texts of nearly a mebibyte beside their cut into tokens. As a program reads its schema once, each text is
+# cut once in a run of a small program, cut and parsed once in another, and in a third its tree is dropped too: each run begins with
+# no memory at hand. It prints, by the medians of 25 such runs, what `lex` and `parse` take, in milliseconds of the processor, system
+# calls included, and how often the time of `lex` the time of `parse` is, without and with the drop of the tree; at the end the most.
+# It makes the program over pgs_parser in a folder of its own, and builds it, proving what is below where no check has kept it.
 # Usage: bench/parsing.sh
 source "$(dirname "$(readlink -f "${BASH_SOURCE[0]}")")/common.bash"
 take pgs_parser
 echo 'parsing: pgs_base pgs_lexer pgs_parser' >>"$work/crates.txt"
 mkdir -p "$work/crates/parsing/src"
 cat >"$work/crates/parsing/src/main.rt" <<'E2'
-//! Lexes, or lexes and parses, the text of a number, as often as there are further words.
+//! Makes the text of a number, and cuts it into tokens, unless the word after it is `text`; with `parse` it parses them too, and with
+//! `drop` it drops the tree besides.
 #![tactic(auto)]
 
 use pgs_lexer::lex;
 use pgs_parser::parse;
 use std::alloc::{AllocError, Global};
 use std::env;
+use std::mem;
 use std::process::ExitCode;
 
 /// A piece so often, between others.
@@ -44,14 +47,21 @@ fn input(alloc: Global, number: &str) -> Result<String, AllocError> {
         "8" => text(alloc, "CREATE GRAPH TYPE g LOOSE {(a)", ",(a)", 250_000, "};"),
         "9" => text(alloc, "CREATE GRAPH TYPE g LOOSE {FOR (x)", ",()", 340_000, "EXCLUSIVE x};"),
         "10" => text(alloc, "CREATE GRAPH TYPE g LOOSE {FOR (x)", "-[]->()", 149_000, "EXCLUSIVE x};"),
-        _ => text(alloc, "CREATE NODE TYPE (a: A", "&A?", 300_000, ");"),
+        "11" => text(alloc, "CREATE NODE TYPE (a: A", "&A?", 300_000, ");"),
+        "12" => text(alloc, "CREATE NODE TYPE (a: A", "|A&A", 262_000, ");"),
+        "13" => text(alloc, "CREATE GRAPH TYPE g LOOSE {a", ",()-[a]->()", 95_000, "};"),
+        "14" => text(alloc, "CREATE GRAPH TYPE g LOOSE {", "FOR()EXCLUSIVE x,", 61_000, "FOR (x) EXCLUSIVE x};"),
+        "15" => text(alloc, "CREATE GRAPH TYPE g LOOSE {", "FOR(:a)EXCLUSIVE x,", 55_000, "FOR (x) EXCLUSIVE x};"),
+        "16" => text(alloc, "CREATE GRAPH TYPE g LOOSE {FOR (x) EXCLUSIVE x WITHIN ()", ",()-[]->()", 104_000, "};"),
+        "17" => text(alloc, "CREATE GRAPH TYPE g LOOSE {FOR (x) EXCLUSIVE x WITHIN ()", "-[]->()-[]->(),()", 61_000, "};"),
+        "18" => text(alloc, "CREATE GRAPH TYPE g LOOSE {FOR () EXCLUSIVE x", ",x", 524_000, "};"),
+        _ => text(alloc, "CREATE GRAPH TYPE g LOOSE {FOR (x {k:1", ",k:1", 262_000, "}) EXCLUSIVE x};"),
     }
 }
 
 fn main(rt: HostRuntime) -> ExitCode {
     let mut number = String::new(rt.alloc());
-    let mut parses = false;
-    let mut turns = 0;
+    let mut wanted = String::new(rt.alloc());
     let arguments = match env::args(&rt) {
         Ok(arguments) => arguments,
         Err(_) => return ExitCode::from(2),
@@ -60,9 +70,7 @@ fn main(rt: HostRuntime) -> ExitCode {
         if place == 1 {
             number = word;
         } else if place == 2 {
-            parses = word.as_str() == "parse";
-        } else if place > 2 && turns < 1000 {
-            turns += 1;
+            wanted = word;
         }
     }
     let text = match input(rt.alloc(), number.as_str()) {
@@ -72,39 +80,59 @@ fn main(rt: HostRuntime) -> ExitCode {
     if text.len() > 1_048_576 {
         return ExitCode::from(3);
     }
-    for _ in 0..turns {
-        match lex(rt.alloc(), text.as_bytes()) {
-            Ok(tokens) => {
-                if parses {
-                    let _ = parse(rt.alloc(), &tokens);
+    if wanted.as_str() == "text" {
+        return ExitCode::from(0);
+    }
+    match lex(rt.alloc(), text.as_bytes()) {
+        Ok(tokens) => {
+            if wanted.as_str() != "lex" {
+                let parsed = parse(rt.alloc(), &tokens);
+                let fails = number.as_str() == "7";
+                if parsed.is_err() != fails {
+                    return ExitCode::from(4);
+                }
+                if wanted.as_str() == "parse" {
+                    mem::forget(parsed);
                 }
             }
-            Err(_) => return ExitCode::from(1),
+            ExitCode::from(0)
         }
+        Err(_) => ExitCode::from(1),
     }
-    ExitCode::from(0)
 }
 E2
 build parsing 5 lex
 
-# spent WORD..: the milliseconds of the processor that the program takes, system calls included, the least of three
-spent() {
-  local TIMEFORMAT='%U %S'
-  for _ in 1 2 3; do
-    { time "$built" "$@" || { echo "the program ended with $?" >&2; exit 1; }; } 2>&1
-  done | awk '{ print ($1 + $2) * 1000 }' | sort -n | head -n 1
-}
+python3 - "$built" <<'P'
+import os, statistics, sys
 
-names=("29,000 statements" "one statement of 200,000 members" "one label expression of 250,000 parts"
-  "64 parentheses deep, 8,000 times" "a string of 65,535 quotes" "3,000 keys" "500,000 members, which fail at the last token"
-  "250,000 node types as members" "340,000 paths of one place" "a path of 149,000 steps" "300,000 optional parts")
-for number in {1..11}; do
-  turns=20
-  [ "$number" != 5 ] || turns=400
-  mapfile -t words < <(seq "$turns")
-  base=$(spent "$number" lex)
-  lex=$(spent "$number" lex "${words[@]}")
-  parse=$(spent "$number" parse "${words[@]}")
-  awk -v name="${names[$((number - 1))]}" -v base="$base" -v lex="$lex" -v parse="$parse" -v turns="$turns" \
-    'BEGIN { l = (lex - base) / turns; p = (parse - lex) / turns; printf "%s: lex %.2f ms, parse %.2f ms, %.2f times\n", name, l, p, p / l }'
-done
+NAMES = ["29,000 statements", "one statement of 200,000 members", "one label expression of 250,000 parts", "64 parentheses deep, 8,000 times",
+         "a string of 65,535 quotes", "3,000 keys", "500,000 members, which fail at the last token", "250,000 node types as members",
+         "340,000 paths of one place", "a path of 149,000 steps", "300,000 optional parts", "262,000 alternatives of two parts",
+         "95,000 edge types as members", "61,000 keys of an empty place", "55,000 keys of a label", "104,000 paths of one step",
+         "61,000 paths of two steps between empty ones", "524,000 expressions", "262,000 tests"]
+WORDS = ("text", "lex", "parse", "drop")
+
+
+def spent(*words):
+    pid = os.fork()
+    if pid == 0:
+        os.execv(words[0], words)
+    _, status, used = os.wait4(pid, 0)
+    if status != 0:
+        sys.exit(f"the program ended with {os.waitstatus_to_exitcode(status)} at {words[1:]}")
+    return (used.ru_utime + used.ru_stime) * 1000
+
+
+most, most_dropped = (0, ""), (0, "")
+for number, name in enumerate(NAMES, 1):
+    times = {word: [] for word in WORDS}
+    for _ in range(25):
+        for word in WORDS:
+            times[word].append(spent(sys.argv[1], str(number), word))
+    text, lex, parse, drop = (statistics.median(times[word]) for word in WORDS)
+    ratio, dropped = (parse - lex) / (lex - text), (drop - lex) / (lex - text)
+    most, most_dropped = max(most, (ratio, name)), max(most_dropped, (dropped, name))
+    print(f"{name}: lex {lex - text:.2f} ms, parse {parse - lex:.2f} ms, {ratio:.2f} times, with the drop {dropped:.2f}", flush=True)
+print(f"at most {most[0]:.2f} times: {most[1]}; with the drop {most_dropped[0]:.2f}: {most_dropped[1]}")
+P

@@ -11,7 +11,7 @@ use Rattle.pgs_lexer.specs.declared.kind.TokenKind.TheVariants.{Name, Keyword, N
 use Rattle.pgs_parser.specs.Literal.{name}
 use Rattle.pgs_parser.specs.Production.{Production, ◌▸◌, here, sign, keyword, keyword_if, maybe, each, listed}
 use Rattle.pgs_parser.specs.Statements.{count_from}
-use Rattle.pgs_parser.specs.Reader.{Reader, Test, a_name, the_keyword, the_sign, next, second, after, sign_at, keyword_at, name_at, keyword_if_at, maybe_at, comma_unless, more, numbered, listed_at, each_at, none_declared}
+use Rattle.pgs_parser.specs.Reader.{Reader, Test, a_name, the_keyword, the_sign, second, after, sign_at, keyword_at, name_at, keyword_if_at, maybe_at, comma_unless, more, numbered, listed_at, none_declared}
 use Rattle.pgs_parser.proofs.Items.{IsBegin}
 
 -- what there was before what a function made of it

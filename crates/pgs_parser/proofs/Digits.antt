@@ -1,8 +1,7 @@
 -- Digits and quoted texts, as the calls that read them need them.
-use Rattle.std.proofs.Common.{◌≡◌, ℕ, ℤ, pos, negsuc, int_le, zero, suc, lit≤, ◌^◌, ◌<◌, ◌≤◌, ◌-◌, Bool, true, false, cond, not, ◌&&◌, List, [], ◌∷◌, ◌++◌, length, get_or, take, drop, append-nil, Some, None, ◌⊎◌, inl, inr, refl, sym, ap, ◌∙◌, subst, arith, length-append, append_assoc, IsUtf8}
+use Rattle.std.proofs.Common.{◌≡◌, ℕ, ℤ, pos, negsuc, int_le, zero, suc, lit≤, ◌^◌, ◌<◌, ◌≤◌, ◌-◌, Bool, true, false, cond, not, List, [], ◌∷◌, ◌++◌, length, get_or, take, append-nil, None, inl, inr, refl, sym, ap, ◌∙◌, subst, arith, length-append, IsUtf8}
 use Rattle.std.specs.Prelude.{encode_utf8, encode_utf8_all, flat_map}
 use Rattle.std.specs.List.{list_all}
-use Rattle.std.specs.Str.{all_scalars}
 use Rattle.std.specs.Ffi.{without_last}
 use Rattle.std.specs.Str.Parse.{digits_value, signed_digits_value, AllDigits, IsNumeral, without_leading_plus, without_leading_sign}
 use Rattle.std.proofs.lemmas.Bool.{and_parts, and_from, not-true, not_from_false, eqb-true, eqb-false, ne_eqb, leb-true, le-leb}
@@ -18,8 +17,8 @@ use Rattle.pgs_parser.specs.KeyReaders.{number_value}
 use Rattle.std.proofs.lemmas.Str.{IsUtf8-from_ascii, IsUtf8-append, encode_ascii, inside_one}
 use Rattle.std.specs.Char.{digit_value}
 use Rattle.pgs_base.specs.Name.{is_between}
-use Rattle.pgs_lexer.specs.Form.{IsNumber, IsString, is_digit, is_quote, written}
-use Rattle.pgs_parser.specs.Literal.{inside, with_single_quotes, text_in}
+use Rattle.pgs_lexer.specs.Form.{IsNumber, IsString, is_quote, written}
+use Rattle.pgs_parser.specs.Literal.{with_single_quotes, text_in}
 
 digit_small : (b : ℕ) → is_between 48 57 b ≡ true → digit_value b < 10
 digit_small b h = grind (arith, nat_tests)

@@ -1,12 +1,11 @@
 -- A text is found to be one thing.
-use Rattle.std.proofs.Common.{◌≡◌, ℕ, suc, ◌+◌, List, [], ◌∷◌, ◌++◌, length, Result, Ok, refl, sym, ◌∙◌, ap, subst, arith, Err, ◌≤◌, Bool, true, false, cond, ◌↔◌, nat_le}
+use Rattle.std.proofs.Common.{◌≡◌, ℕ, List, length, Result, Ok, refl, ap, subst, arith, Err, ◌≤◌, Bool, true, false, cond, ◌↔◌, nat_le}
 use Rattle.std.proofs.lemmas.Bool.{leb-true, leb-false}
 use Rattle.pgs_lexer.specs.Cut.{tokens_of}
 use Rattle.pgs_parser.specs.StatementReaders.{script_of}
 use Rattle.pgs_lexer.specs.Token.{Lexeme}
 use Rattle.pgs_syntax.specs.declared.script.Script.{Script}
-use Rattle.pgs_syntax.specs.declared.script.Statement.{Statement}
-use Rattle.pgs_parser.specs.Statements.{AreStatements, IsNoStatement, IsScript, IsNoScriptFrom}
+use Rattle.pgs_parser.specs.Statements.{IsScript, IsNoScriptFrom}
 use Rattle.pgs_parser.proofs.FirstNones.{same_number, not_both}
 use Rattle.pgs_parser.proofs.WholeScripts.{one_script, scripts, no_scripts}
 use Rattle.pgs_parser.specs.Text.{Found, no_item, no_statement, script, IsFound, found_in, found, too_long, is_too_long, has_no_item, has_no_statement, is_script}

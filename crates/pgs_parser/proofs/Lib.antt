@@ -5,10 +5,12 @@ pub mod FirstNones
 pub mod Items
 pub mod NextToken
 pub mod NoMode
+pub mod NoStep
 pub mod OneItem
 pub mod OneToken
 pub mod ParseAnswers
 pub mod Pieces
+pub mod Qualifiers
 pub mod Ranges
 pub mod Renumbering
 pub mod Script

@@ -1,5 +1,5 @@
 -- What parsing returns, by the grammar.
-use Rattle.std.proofs.Common.{◌≡◌, ℕ, List, Result, Ok, Err, IfOk, IsErrOf, sym, ap, ◌∙◌, subst}
+use Rattle.std.proofs.Common.{◌≡◌, ℕ, List, Result, Ok, Err, IfOk, IsErrOf, ap, ◌∙◌, subst}
 use Rattle.pgs_lexer.specs.Token.{Lexeme}
 use Rattle.pgs_syntax.specs.declared.script.Script.{Script}
 use Rattle.pgs_parser.specs.declared.fault.ParseFault.{ParseFault}

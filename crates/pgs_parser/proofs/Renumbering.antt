@@ -1,16 +1,15 @@
 -- The declarations of a statement may be numbered from any place on: the grammar says nothing of their numbers.
-use Rattle.std.proofs.Common.{◌≡◌, ℕ, ◌+◌, ◌==◌, true, List, [], ◌∷◌, ◌++◌, length, map, flat_map, inl, inr, refl, sym, ap, ◌∙◌, subst}
+use Rattle.std.proofs.Common.{◌≡◌, ℕ, ◌+◌, ◌==◌, true, List, [], ◌∷◌, ◌++◌, length, map, flat_map, refl, ap, ◌∙◌}
 use Rattle.std.proofs.lemmas.Bool.{and_from, eq-eqb}
 use Rattle.pgs_lexer.specs.Token.{Lexeme}
 use Rattle.pgs_syntax.specs.declared.raw.RawKey.{RawKey}
-use Rattle.pgs_syntax.specs.declared.script.GraphType.{GraphType}
 use Rattle.pgs_syntax.specs.declared.script.Member.{Member}
 use Rattle.pgs_syntax.specs.declared.script.Member.TheVariants as members
 use Rattle.pgs_syntax.specs.declared.script.Statement.{Statement}
 use Rattle.pgs_syntax.specs.declared.script.Statement.TheVariants.{Node, Edge, Graph}
 use Rattle.pgs_parser.specs.Production.{Production, ◌▸◌, sign, each, listed}
 use Rattle.pgs_parser.specs.Keys.{key}
-use Rattle.pgs_parser.specs.Statements.{element, elements, keys, members_of, statement, place_of_member, places_in, count_from}
+use Rattle.pgs_parser.specs.Statements.{element, members_of, statement, place_of_member, places_in, count_from}
 use Rattle.pgs_parser.specs.StatementReaders.{place_of_key}
 use Rattle.pgs_parser.proofs.Chains.{count_append}
 use Rattle.pgs_parser.proofs.SoundStatements.{keys_places, one_number}

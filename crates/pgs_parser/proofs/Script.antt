@@ -1,5 +1,5 @@
 -- The statements of a script as the loop reads them: those so far in front of those to come.
-use Rattle.std.proofs.Common.{◌≡◌, ℕ, ◌+◌, ◌-◌, ◌<◌, ◌≤◌, List, [], ◌∷◌, ◌++◌, length, drop, Option, Some, None, Result, Ok, Err, refl, sym, ap, ap₂, ◌∙◌, subst, arith, append_assoc, length-append, true, append-nil}
+use Rattle.std.proofs.Common.{◌≡◌, ℕ, ◌+◌, ◌-◌, ◌≤◌, List, [], ◌∷◌, ◌++◌, length, drop, Option, Some, None, Result, Ok, Err, refl, sym, ap, ◌∙◌, subst, arith, append_assoc, length-append, true, append-nil}
 use Rattle.std.proofs.lemmas.Option.{same_Some}
 use Rattle.std.specs.List.{slice_range}
 use Rattle.std.proofs.lemmas.List.{length-take}
@@ -7,7 +7,7 @@ use Rattle.pgs_lexer.specs.Token.{Lexeme}
 use Rattle.pgs_syntax.specs.declared.script.Statement.{Statement}
 use Rattle.pgs_parser.specs.Statements.{statement, places_in, count_from}
 use Rattle.pgs_parser.specs.StatementReaders.{statement_at, statement_of, with_statement, statements_of}
-use Rattle.pgs_parser.proofs.Chains.{bind_some, holds}
+use Rattle.pgs_parser.proofs.Chains.{bind_some}
 use Rattle.pgs_parser.proofs.SoundStatements.{statement_sound}
 
 -- statements in front of others

@@ -1,13 +1,9 @@
 -- What is read as a key is one by the grammar.
-use Rattle.std.proofs.Common.{◌≡◌, ℕ, ℤ, ◌<◌, ◌≤◌, Bool, true, false, cond, ◌||◌, List, [], ◌∷◌, length, Option, Some, None, ◌⊎◌, inl, inr, refl, sym, ap, ◌∙◌, subst, arith, codes, bytes_eq, negsuc, pos, int_le}
+use Rattle.std.proofs.Common.{◌≡◌, ℕ, ℤ, ◌<◌, ◌≤◌, Bool, false, ◌||◌, List, [], ◌∷◌, length, Some, inl, inr, refl, sym, ap, subst, arith, codes, bytes_eq}
 use Rattle.std.proofs.lemmas.Option.{same_Some, cond_some}
-use Rattle.std.proofs.lemmas.Bool.{and_parts, leb-true}
+use Rattle.std.proofs.lemmas.Bool.{leb-true}
 use Rattle.std.proofs.lemmas.Slice.Eq.{bytes_eq-Decides}
 use Rattle.std.specs.Str.Parse.{signed_digits_value}
-use Rattle.std.specs.Int.RustNames.{FitsSigned}
-use mir.Syntax.{w64}
-use Rattle.pgs_base.specs.Value.{is_number}
-use Rattle.pgs_base.specs.DayForm.{day_in}
 use Rattle.pgs_base.specs.declared.value.Value.{Value}
 use Rattle.pgs_base.specs.declared.value.Value.TheVariants as values
 use Rattle.pgs_lexer.specs.Token.{Lexeme}
@@ -17,14 +13,13 @@ use Rattle.pgs_syntax.specs.declared.raw.RawPlace.{RawPlace}
 use Rattle.pgs_syntax.specs.declared.raw.RawKey.{RawKey}
 use Rattle.pgs_syntax.specs.Valid.{are_distinct}
 use Rattle.pgs_parser.specs.Literal.{name, literal, text_in, IsDay}
-use Rattle.pgs_parser.specs.Production.{Production, ◌▸◌, ◌or◌, nothing, IsToken, here, sign, keyword, maybe, each, listed}
+use Rattle.pgs_parser.specs.Production.{Production, ◌▸◌, ◌or◌, nothing, IsToken, here, sign, keyword, maybe, listed}
 use Rattle.pgs_parser.specs.Keys.{test, tests, names, place, node, arrow, step, path, paths, qualifier, qualifiers, expr, key, is_same_kind}
-use Rattle.pgs_parser.specs.Reader.{Reader, a_name, a_keyword, the_keyword, the_sign, next, sign_at, keyword_at, name_at, maybe_at, comma_unless, listed_at, each_at, more, none_declared}
+use Rattle.pgs_parser.specs.Reader.{a_name, a_keyword, the_sign, next, sign_at, keyword_at, name_at, maybe_at, listed_at, each_at, none_declared}
 use Rattle.pgs_parser.specs.KeyReaders.{text_value, number_value, keyword_value, value_of, value_at, day_of, day_at, literal_at, test_at, names_at, tests_at, name_if_at, place_at, node_at, edge_at, arrow_at, step_at, step_begins, path_at, paths_at, qualifier_at, qualifier_begins, qualifier_list_at, qualifiers_at, expr_at, exprs_at, key_at}
-use Rattle.pgs_parser.specs.declared.qualifier.Qualifier.{Qualifier}
 use Rattle.pgs_parser.proofs.Digits.{in_range}
 use Rattle.pgs_parser.proofs.Items.{IsBegin}
-use Rattle.pgs_parser.proofs.Chains.{bind_some, either_way, chosen_way, holds, Took, TookAny, Sound, SoundAny, sign_sound, keyword_sound, name_sound, maybe_sound, after_begin, listed_sound, commas_sound, listed_by, more_sound}
+use Rattle.pgs_parser.proofs.Chains.{bind_some, either_way, chosen_way, holds, Took, TookAny, Sound, SoundAny, sign_sound, keyword_sound, name_sound, maybe_sound, listed_sound, commas_sound, listed_by, more_sound}
 
 -- ---- literals
 

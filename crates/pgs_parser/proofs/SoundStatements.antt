@@ -1,8 +1,7 @@
 -- What is read as a statement is one by the grammar, and its declarations have the numbers from a place on.
 use Prim.Native.String.{String}
-use Rattle.std.proofs.Common.{◌≡◌, ℕ, suc, ◌+◌, ◌==◌, ◌<◌, ◌≤◌, Bool, true, false, cond, ◌||◌, List, [], ◌∷◌, ◌++◌, length, map, flat_map, Option, Some, None, ◌⊎◌, inl, inr, refl, sym, ap, ◌∙◌, subst, arith, codes, length-append}
-use Rattle.std.proofs.lemmas.Option.{cond_some}
-use Rattle.std.proofs.lemmas.Bool.{and_parts, and_from, eq-eqb}
+use Rattle.std.proofs.Common.{◌≡◌, ℕ, ◌+◌, ◌==◌, ◌<◌, ◌≤◌, Bool, true, false, cond, List, [], ◌∷◌, ◌++◌, length, map, flat_map, Some, None, inl, inr, refl, sym, ap, subst, arith, codes, length-append}
+use Rattle.std.proofs.lemmas.Bool.{and_from, eq-eqb}
 use Rattle.pgs_lexer.specs.Token.{Lexeme}
 use Rattle.pgs_syntax.specs.declared.raw.RawKey.{RawKey}
 use Rattle.pgs_syntax.specs.declared.element_type.NodeType.{NodeType}
@@ -10,16 +9,16 @@ use Rattle.pgs_syntax.specs.declared.element_type.EdgeType.{EdgeType}
 use Rattle.pgs_syntax.specs.declared.script.Member.{Member}
 use Rattle.pgs_syntax.specs.declared.script.Member.TheVariants as members
 use Rattle.pgs_syntax.specs.declared.script.Statement.{Statement}
-use Rattle.pgs_syntax.specs.declared.script.Statement.TheVariants.{Node, Edge, Graph}
+use Rattle.pgs_syntax.specs.declared.script.Statement.TheVariants.{Node, Edge}
 use Rattle.pgs_parser.specs.Literal.{name}
 use Rattle.pgs_parser.specs.Production.{Production, ◌▸◌, sign, keyword, keyword_if, listed}
 use Rattle.pgs_parser.specs.Types.{node_type, edge_type}
 use Rattle.pgs_parser.specs.Keys.{key}
 use Rattle.pgs_parser.specs.Statements.{create, element, elements, keys, members_of, mode, imports, statement, place_of_member, places_in, count_from}
-use Rattle.pgs_parser.specs.Reader.{Reader, a_name, the_keyword, the_sign, next, second, sign_at, keyword_at, name_at, keyword_if_at, comma_unless, listed_at, numbered}
+use Rattle.pgs_parser.specs.Reader.{a_name, the_keyword, next, second, sign_at, keyword_at, name_at, keyword_if_at, comma_unless}
 use Rattle.pgs_parser.specs.TypeReaders.{node_type_at, edge_type_at}
 use Rattle.pgs_parser.specs.KeyReaders.{key_at}
-use Rattle.pgs_parser.specs.StatementReaders.{element_type_at, element_at, elements_at, place_of_key, keys_at, no_element, elements_if_at, only_keys_at, further_keys_at, keys_if_at, mode_at, imports_at, members_at, graph_type_at, hidden_at, declared_node_at, declared_edge_at, declared_at, statement_at}
+use Rattle.pgs_parser.specs.StatementReaders.{element_type_at, element_at, elements_at, place_of_key, keys_at, no_element, elements_if_at, keys_if_at, mode_at, imports_at, members_at, graph_type_at, hidden_at, declared_node_at, declared_edge_at, declared_at, statement_at}
 use Rattle.pgs_parser.proofs.Chains.{bind_some, either_way, chosen_way, holds, Took, TookAny, Sound, SoundAny, sign_sound, keyword_sound, name_sound, keyword_if_sound, listed_sound, sign_before, comma_before, numbered_listed, count_append}
 use Rattle.pgs_parser.proofs.SoundTypes.{node_type_sound, edge_type_sound}
 use Rattle.pgs_parser.proofs.SoundKeys.{key_sound, key_number}

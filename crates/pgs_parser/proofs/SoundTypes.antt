@@ -1,20 +1,16 @@
 -- What is read as an element type is one by the grammar.
-use Rattle.std.proofs.Common.{◌≡◌, ℕ, zero, suc, ◌<◌, ◌≤◌, Bool, true, false, cond, ◌||◌, List, [], ◌∷◌, length, Option, Some, None, ◌⊎◌, inl, inr, refl, sym, ap, ◌∙◌, subst, arith, codes, if◌then◌else◌}
-use Rattle.std.proofs.lemmas.Option.{same_Some}
-use Rattle.pgs_base.specs.declared.value.Kind.{Kind}
+use Rattle.std.proofs.Common.{◌≡◌, ℕ, zero, suc, ◌≤◌, Bool, true, false, List, [], ◌∷◌, length, Some, inl, inr, refl, sym, subst, arith, codes, if◌then◌else◌}
 use Rattle.pgs_lexer.specs.Token.{Lexeme}
 use Rattle.pgs_syntax.specs.declared.element_type.NodeType.{NodeType}
 use Rattle.pgs_syntax.specs.declared.element_type.EdgeType.{EdgeType}
 use Rattle.pgs_syntax.specs.declared.specification.Braces.{Braces}
 use Rattle.pgs_syntax.specs.declared.specification.Property.{Property}
-use Rattle.pgs_syntax.specs.declared.specification.Spec.{Empty, Word, And, Or, Opt}
 use Rattle.pgs_parser.specs.Literal.{name}
-use Rattle.pgs_parser.specs.Production.{Production, ◌▸◌, never, sign, keyword, keyword_if, maybe, each, listed}
-use Rattle.pgs_parser.specs.Types.{Written, IsAtom, named, parenthesised, IsUnit, plain, optional, IsConj, one_unit, units, IsLabels, one_conj, conjs, labels_within, labels, kind, property, properties, braces, together, body, node_type, end_of, middle_of, edge_type}
-use Rattle.pgs_parser.specs.Reader.{Reader, a_name, the_keyword, next, sign_at, keyword_at, name_at, keyword_if_at, maybe_at, comma_unless, listed_at}
-use Rattle.pgs_parser.specs.TypeReaders.{alternatives, parenthesised_at, atom_at, unit_at, conj_at, level_at, inner_at, labels_at, kind_at, property_at, begins_property, properties_at, open_after_comma_at, open_at, braces_rest_at, body_at, node_type_at, end_at, middle_at, arrow_type_at, edge_type_at}
-use Rattle.pgs_parser.proofs.Items.{IsBegin}
-use Rattle.pgs_parser.proofs.Chains.{bind_some, either_way, chosen_way, holds, Took, TookAny, Sound, SoundAny, sign_sound, keyword_sound, name_sound, keyword_if_sound, maybe_sound, after_begin, comma_begin, comma_sound, listed_sound, commas_sound}
+use Rattle.pgs_parser.specs.Production.{Production, ◌▸◌, never, sign, keyword_if, listed}
+use Rattle.pgs_parser.specs.Types.{Written, IsAtom, named, parenthesised, IsUnit, plain, optional, IsConj, one_unit, units, IsLabels, one_conj, conjs, labels_within, labels, kind, property, properties, braces, together, body, node_type, end_of, edge_type}
+use Rattle.pgs_parser.specs.Reader.{Reader, a_name, next, sign_at, keyword_at, name_at, keyword_if_at, maybe_at, listed_at}
+use Rattle.pgs_parser.specs.TypeReaders.{alternatives, parenthesised_at, atom_at, unit_at, conj_at, level_at, inner_at, labels_at, kind_at, property_at, begins_property, properties_at, open_at, braces_rest_at, body_at, node_type_at, end_at, middle_at, arrow_type_at, edge_type_at}
+use Rattle.pgs_parser.proofs.Chains.{bind_some, either_way, chosen_way, holds, Took, TookAny, Sound, SoundAny, sign_sound, keyword_sound, name_sound, keyword_if_sound, maybe_sound, listed_sound, commas_sound}
 
 -- ---- labels
 

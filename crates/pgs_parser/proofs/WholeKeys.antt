@@ -1,13 +1,11 @@
 -- Keys of the grammar are read.
-use Prim.Native.String.{String}
-use Rattle.std.proofs.Common.{◌≡◌, ℕ, ℤ, Bool, true, false, cond, ◌||◌, List, [], ◌∷◌, length, ◌≤◌, Option, Some, None, ◌⊎◌, inl, inr, refl, sym, ap, ap₂, ◌∙◌, subst, codes, bytes_eq, arith}
+use Rattle.std.proofs.Common.{◌≡◌, ℕ, ℤ, Bool, true, false, cond, List, [], ◌∷◌, length, ◌≤◌, Option, Some, None, inl, inr, refl, sym, ap, ◌∙◌, subst, codes, bytes_eq, arith}
 use Rattle.std.proofs.lemmas.Bool.{le-leb}
 use Rattle.std.specs.List.{list_all}
 use Rattle.std.specs.Str.Parse.{signed_digits_value}
 use Rattle.std.specs.Int.RustNames.{FitsSigned}
 use mir.Syntax.{w64}
 use Rattle.pgs_base.specs.Options.{◌>>=◌}
-use Rattle.pgs_base.specs.Value.{is_number}
 use Rattle.pgs_base.specs.declared.value.Value.{Value}
 use Rattle.pgs_base.specs.declared.value.Value.TheVariants as values
 use Rattle.pgs_lexer.specs.Token.{Lexeme}
@@ -15,23 +13,21 @@ use Rattle.pgs_lexer.specs.declared.kind.TokenKind.{TokenKind}
 use Rattle.pgs_lexer.specs.declared.kind.TokenKind.TheVariants as tokens
 use Rattle.pgs_syntax.specs.declared.key.Qualifiers.{Qualifiers}
 use Rattle.pgs_syntax.specs.declared.raw.RawPlace.{RawPlace}
-use Rattle.pgs_syntax.specs.declared.raw.RawStep.{RawStep}
 use Rattle.pgs_syntax.specs.declared.raw.RawPath.{RawPath}
 use Rattle.pgs_syntax.specs.declared.raw.RawExpr.{RawExpr}
 use Rattle.pgs_syntax.specs.declared.raw.RawKey.{RawKey}
-use Rattle.pgs_syntax.specs.Valid.{are_distinct}
 use Rattle.pgs_parser.specs.Literal.{name, literal, text_in, IsDay}
-use Rattle.pgs_parser.specs.Production.{Production, ◌▸◌, ◌or◌, nothing, IsToken, here, sign, keyword, maybe, each, listed}
-use Rattle.pgs_parser.specs.Keys.{test, tests, names, place, node, arrow, step, path, paths, qualifier, qualifiers, expr, key, is_same_kind, asked_by}
-use Rattle.pgs_parser.specs.Reader.{Reader, Test, a_name, a_keyword, the_keyword, the_sign, next, sign_at, keyword_at, name_at, maybe_at, comma_unless, listed_at, each_at, none_declared}
+use Rattle.pgs_parser.specs.Production.{◌▸◌, ◌or◌, nothing, IsToken, here, sign, keyword, maybe, listed}
+use Rattle.pgs_parser.specs.Keys.{test, tests, names, place, node, arrow, step, path, paths, qualifier, qualifiers, expr, key}
+use Rattle.pgs_parser.specs.Reader.{Test, a_name, a_keyword, the_keyword, the_sign, next, sign_at, keyword_at, name_at, maybe_at, comma_unless, listed_at, none_declared}
 use Rattle.pgs_parser.specs.KeyReaders.{text_value, number_value, keyword_value, value_of, value_at, day_of, day_at, literal_at, test_at, names_at, tests_at, name_if_at, place_at, node_at, edge_at, arrow_at, step_at, step_begins, path_at, paths_at, qualifier_at, qualifier_begins, qualifier_list_at, qualifiers_at, expr_at, exprs_at, key_at}
 use Rattle.pgs_parser.specs.declared.qualifier.Qualifier.{Qualifier}
 use Rattle.pgs_parser.specs.declared.qualifier.Qualifier.TheVariants.{Exclusive, Mandatory, Singleton}
 use Rattle.pgs_parser.proofs.Digits.{within_range}
-use Rattle.pgs_parser.proofs.NextToken.{Fails, Passes, maybe_begins, word, tells, fewer, next_sign, next_keyword, next_name, next_word}
-use Rattle.pgs_parser.proofs.Chains.{Sound, name_sound}
-use Rattle.pgs_parser.proofs.SoundKeys.{test_sound, step_sound, step_begin, path_sound, qualifier_sound, qualifier_begin, expr_sound, paths_sound}
-use Rattle.pgs_parser.proofs.Whole.{Complete, Anything, sign_read, keyword_read, name_read, maybe_read, not_passed, signs_read, commas_read, listed_read, more_read, no_sign_next, no_keyword_next, other, comma_then, comma_not_next, no_numbers}
+use Rattle.pgs_parser.proofs.NextToken.{Fails, Passes, word, tells, fewer, next_sign, next_keyword, next_name, next_word}
+use Rattle.pgs_parser.proofs.Chains.{name_sound}
+use Rattle.pgs_parser.proofs.SoundKeys.{test_sound, step_sound, step_begin, path_sound, qualifier_sound, qualifier_begin, expr_sound}
+use Rattle.pgs_parser.proofs.Whole.{Complete, Anything, sign_read, keyword_read, name_read, maybe_read, not_passed, signs_read, commas_read, listed_read, more_read, no_sign_next, other, comma_then, comma_not_next, no_numbers}
 use Rattle.pgs_parser.proofs.WholeTypes.{closers}
 
 -- ---- literals

@@ -1,11 +1,10 @@
 -- The function `script_of` answers what the grammar says.
-use Rattle.std.proofs.Common.{◌≡◌, ◌↔◌, ℕ, suc, ◌+◌, ◌==◌, Bool, true, List, [], ◌∷◌, ◌++◌, length, flat_map, Option, Some, None, Result, Ok, Err, ◌⊎◌, inl, inr, refl, sym, ap, ap₂, ◌∙◌, subst, arith}
-use Rattle.pgs_base.specs.Options.{◌>>=◌}
+use Rattle.std.proofs.Common.{◌≡◌, ◌↔◌, ℕ, ◌+◌, true, List, [], ◌∷◌, ◌++◌, length, flat_map, Option, Some, None, Result, Ok, Err, ◌⊎◌, inl, inr, refl, sym, ap, ◌∙◌, subst, arith}
 use Rattle.pgs_lexer.specs.Token.{Lexeme}
 use Rattle.pgs_syntax.specs.declared.script.Script.{Script}
 use Rattle.pgs_syntax.specs.declared.script.Statement.{Statement}
-use Rattle.pgs_parser.specs.Statements.{statement, IsStatement, IsNoStatement, AreStatements, IsScript, IsNoScriptFrom, pieces_of, places_in, count_from}
-use Rattle.pgs_parser.specs.StatementReaders.{statement_at, statement_of, with_statement, statements_of, as_script, script_of}
+use Rattle.pgs_parser.specs.Statements.{IsStatement, IsNoStatement, AreStatements, IsScript, IsNoScriptFrom, pieces_of, places_in, count_from}
+use Rattle.pgs_parser.specs.StatementReaders.{statement_of, with_statement, statements_of, as_script, script_of}
 use Rattle.pgs_parser.proofs.Chains.{count_append}
 use Rattle.pgs_parser.proofs.Renumbering.{renumbered}
 use Rattle.pgs_parser.proofs.FirstNones.{same_number, not_both}

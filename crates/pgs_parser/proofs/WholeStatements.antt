@@ -1,8 +1,7 @@
 -- Statements of the grammar are read.
 use Prim.Native.String.{String}
-use Rattle.std.proofs.Common.{◌≡◌, ℕ, ◌+◌, ◌==◌, Bool, true, false, cond, ◌||◌, List, [], ◌∷◌, ◌++◌, length, map, flat_map, Option, Some, None, inl, inr, refl, sym, ap, ap₂, ◌∙◌, subst, codes, bytes_eq, arith}
+use Rattle.std.proofs.Common.{◌≡◌, ℕ, ◌+◌, ◌==◌, Bool, true, false, List, [], ◌∷◌, ◌++◌, length, flat_map, Option, Some, None, inl, inr, refl, sym, ap, ◌∙◌, subst, codes, bytes_eq, arith}
 use Rattle.std.proofs.lemmas.Bool.{and_parts, eqb-true}
-use Rattle.pgs_base.specs.Options.{◌>>=◌}
 use Rattle.pgs_lexer.specs.Token.{Lexeme}
 use Rattle.pgs_lexer.specs.declared.kind.TokenKind.TheVariants as tokens
 use Rattle.pgs_syntax.specs.declared.element_type.NodeType.{NodeType}
@@ -14,18 +13,18 @@ use Rattle.pgs_syntax.specs.declared.script.Member.TheVariants as members
 use Rattle.pgs_syntax.specs.declared.script.Statement.{Statement}
 use Rattle.pgs_syntax.specs.declared.script.Statement.TheVariants.{Node, Edge, Graph}
 use Rattle.pgs_parser.specs.Literal.{name}
-use Rattle.pgs_parser.specs.Production.{Production, ◌▸◌, sign, keyword, keyword_if, listed}
-use Rattle.pgs_parser.specs.Types.{Written, node_type, edge_type, end_of}
+use Rattle.pgs_parser.specs.Production.{◌▸◌, sign, keyword, keyword_if, listed}
+use Rattle.pgs_parser.specs.Types.{node_type, edge_type}
 use Rattle.pgs_parser.specs.Keys.{key}
 use Rattle.pgs_parser.specs.Statements.{create, element, elements, keys, members_of, mode, imports, statement, place_of_member, places_in, count_from}
-use Rattle.pgs_parser.specs.Reader.{Reader, Test, a_name, the_keyword, the_sign, next, second, sign_at, keyword_at, name_at, keyword_if_at, comma_unless, listed_at}
+use Rattle.pgs_parser.specs.Reader.{Test, a_name, the_keyword, the_sign, next, second, sign_at, keyword_at, name_at, comma_unless, listed_at}
 use Rattle.pgs_parser.specs.TypeReaders.{node_type_at, edge_type_at}
 use Rattle.pgs_parser.specs.KeyReaders.{key_at}
-use Rattle.pgs_parser.specs.StatementReaders.{element_type_at, element_at, elements_at, place_of_key, keys_at, no_element, elements_if_at, only_keys_at, further_keys_at, keys_if_at, mode_at, imports_at, members_at, graph_type_at, hidden_at, declared_node_at, declared_edge_at, declared_at, statement_at}
+use Rattle.pgs_parser.specs.StatementReaders.{element_type_at, element_at, elements_at, place_of_key, keys_at, no_element, elements_if_at, further_keys_at, keys_if_at, mode_at, imports_at, members_at, graph_type_at, hidden_at, declared_node_at, declared_edge_at, declared_at, statement_at}
 use Rattle.pgs_parser.proofs.NextToken.{Fails, keyword_if_begins, word, next_sign, next_keyword, next_name}
 use Rattle.pgs_parser.proofs.Chains.{name_sound, after_begin, comma_begin}
 use Rattle.pgs_parser.proofs.SoundStatements.{TypeWord, element_sound, key_declared, keys_places}
-use Rattle.pgs_parser.proofs.Whole.{Complete, Anything, count_parts, sign_read, keyword_read, name_read, keyword_if_read, not_passed, signs_read, numbered_listed_read, no_sign_next, other, comma_read, comma_then, comma_not_next, second_is}
+use Rattle.pgs_parser.proofs.Whole.{Complete, Anything, count_parts, sign_read, keyword_read, name_read, keyword_if_read, not_passed, signs_read, numbered_listed_read, no_sign_next, other, comma_read, second_is}
 use Rattle.pgs_parser.proofs.WholeTypes.{node_type_read, edge_type_read, end_no_name}
 use Rattle.pgs_parser.proofs.WholeKeys.{KeyEnd, last, key_next, no_further, key_read}
 

@@ -1,9 +1,8 @@
 -- Element types of the grammar are read.
 use Prim.Native.String.{String}
-use Rattle.std.proofs.Common.{◌≡◌, ℕ, zero, suc, Bool, true, false, cond, ◌||◌, List, [], ◌∷◌, Option, Some, None, inl, inr, refl, sym, ap, ap₂, ◌∙◌, subst, codes, if◌then◌else◌}
+use Rattle.std.proofs.Common.{◌≡◌, ℕ, zero, suc, Bool, true, false, List, [], ◌∷◌, Option, Some, None, inl, inr, refl, sym, ap, ◌∙◌, subst, codes}
 use Rattle.std.specs.List.{list_all}
 use Rattle.pgs_base.specs.Options.{◌>>=◌}
-use Rattle.pgs_base.specs.declared.value.Kind.{Kind}
 use Rattle.pgs_base.specs.declared.value.Kind.TheVariants as kinds
 use Rattle.pgs_lexer.specs.Token.{Lexeme}
 use Rattle.pgs_lexer.specs.declared.kind.TokenKind.TheVariants.{Name, Keyword, Sign}
@@ -11,16 +10,16 @@ use Rattle.pgs_syntax.specs.declared.element_type.NodeType.{NodeType}
 use Rattle.pgs_syntax.specs.declared.element_type.EdgeType.{EdgeType}
 use Rattle.pgs_syntax.specs.declared.specification.Braces.{Braces}
 use Rattle.pgs_syntax.specs.declared.specification.Property.{Property}
-use Rattle.pgs_syntax.specs.declared.specification.Spec.{Word, And, Or, Opt}
+use Rattle.pgs_syntax.specs.declared.specification.Spec.{Opt}
 use Rattle.pgs_parser.specs.Literal.{name}
-use Rattle.pgs_parser.specs.Production.{Production, ◌▸◌, never, sign, keyword, keyword_if, maybe, listed}
-use Rattle.pgs_parser.specs.Types.{Written, IsAtom, named, parenthesised, IsUnit, plain, optional, IsConj, one_unit, units, IsLabels, one_conj, conjs, labels_within, labels, kind, property, properties, braces, parts, together, body, node_type, end_of, middle_of, edge_type}
-use Rattle.pgs_parser.specs.Reader.{Reader, Test, a_name, the_keyword, the_sign, next, second, sign_at, keyword_at, name_at, keyword_if_at, maybe_at, comma_unless, listed_at}
+use Rattle.pgs_parser.specs.Production.{Production, ◌▸◌, sign, keyword, keyword_if, maybe, listed}
+use Rattle.pgs_parser.specs.Types.{Written, IsAtom, named, parenthesised, IsUnit, plain, optional, IsConj, one_unit, units, IsLabels, one_conj, conjs, labels, kind, property, properties, braces, together, body, node_type, end_of, edge_type}
+use Rattle.pgs_parser.specs.Reader.{Reader, Test, a_name, the_keyword, the_sign, next, second, sign_at, maybe_at, comma_unless, listed_at}
 use Rattle.pgs_parser.specs.TypeReaders.{alternatives, parenthesised_at, atom_at, unit_at, conj_at, level_at, inner_at, labels_at, kind_at, property_at, begins_property, properties_at, open_after_comma_at, open_at, braces_rest_at, body_at, node_type_at, end_at, middle_at, arrow_type_at, edge_type_at}
 use Rattle.pgs_parser.proofs.NextToken.{Fails, Passes, maybe_begins, keyword_if_begins, word, tells, next_sign, next_keyword, next_name, next_word, fewer}
 use Rattle.pgs_parser.proofs.Chains.{Sound}
-use Rattle.pgs_parser.proofs.SoundTypes.{inner_of, inner_sound, unit_within_sound, conj_within_sound, property_sound, braces_rest, middle, arrow_type, edge_between}
-use Rattle.pgs_parser.proofs.Whole.{Complete, Anything, sign_read, keyword_read, name_read, keyword_if_read, maybe_read, not_passed, other, comma_then, comma_not_next, second_is, second_is, signs_read, commas_read, no_sign_next, no_keyword_next}
+use Rattle.pgs_parser.proofs.SoundTypes.{inner_of, unit_within_sound, conj_within_sound, property_sound, braces_rest, middle, arrow_type, edge_between}
+use Rattle.pgs_parser.proofs.Whole.{Complete, Anything, sign_read, keyword_read, name_read, keyword_if_read, maybe_read, not_passed, other, comma_then, comma_not_next, second_is, second_is, signs_read, commas_read, no_sign_next}
 
 -- ---- labels
 

@@ -16,7 +16,7 @@ use Rattle.pgs_syntax.specs.declared.raw.RawPath.{RawPath}
 use Rattle.pgs_syntax.specs.declared.raw.RawExpr.{RawExpr}
 use Rattle.pgs_syntax.specs.declared.raw.RawKey.{RawKey}
 use Rattle.pgs_syntax.specs.Valid.{are_distinct}
-use Rattle.pgs_parser.specs.Reader.{Reader, a_name, a_keyword, the_keyword, the_sign, next, sign_at, keyword_at, name_at, maybe_at, comma_unless, listed_at, each_at}
+use Rattle.pgs_parser.specs.Reader.{Reader, a_name, a_keyword, the_sign, next, sign_at, keyword_at, name_at, maybe_at, comma_unless, listed_at, each_at}
 use Rattle.pgs_parser.specs.Literal.{text_in}
 use Rattle.pgs_parser.specs.Keys.{all_asked, is_same_kind, asked_by}
 use Rattle.pgs_parser.specs.declared.qualifier.Qualifier.{Qualifier}
@@ -76,14 +76,15 @@ test_at tokens = do
 unfoldable pub names_at : Reader (List (List ℕ))
 names_at tokens = elim (sign_at ":" tokens) [ None ↦ Some ([], tokens) | Some rest ↦ listed_at (sign_at "&") name_at rest ]
 
+-- tests, after the first brace
+abbrev pub tests_rest_at : Reader (List (List ℕ × Value))
+tests_rest_at tokens = do
+  tests ← listed_at (sign_at ",") test_at tokens
+  rest ← sign_at "}" tests.1
+  Some (tests.0, rest)
+
 unfoldable pub tests_at : Reader (List (List ℕ × Value))
-tests_at tokens = elim (sign_at "{" tokens) [
-  | None ↦ Some ([], tokens)
-  | Some rest ↦ do
-    tests ← listed_at (sign_at ",") test_at rest
-    rest ← sign_at "}" tests.1
-    Some (tests.0, rest)
-]
+tests_at tokens = elim (sign_at "{" tokens) [ None ↦ Some ([], tokens) | Some rest ↦ tests_rest_at rest ]
 
 -- a name, where one stands
 unfoldable pub name_if_at : Reader (Option (List ℕ))

@@ -1,10 +1,7 @@
 -- What parsing tokens returns.
-use Rattle.std.specs.Prelude.{◌≡◌, ℕ, List, Result, Ok, Err}
-use Rattle.pgs_lexer.specs.Token.{Lexeme}
-use Rattle.pgs_syntax.specs.declared.script.Script.{Script}
+use Rattle.std.specs.Prelude.{◌≡◌, ℕ, Result, Ok, Err}
 use Rattle.pgs_parser.specs.declared.fault.ParseFault.{ParseFault}
 use Rattle.pgs_parser.specs.declared.fault.ParseFault.TheVariants as faults
-use Rattle.pgs_parser.specs.StatementReaders.{script_of}
 
 -- a fault says which statement is none, unless memory ran out
 abbrev pub IsFault : {A : Type 0} → Result A ℕ → ParseFault → Type 0

@@ -8,7 +8,7 @@ use Rattle.pgs_syntax.specs.declared.script.Member.TheVariants as members
 use Rattle.pgs_syntax.specs.declared.script.Script.{Script}
 use Rattle.pgs_syntax.specs.declared.script.Statement.{Statement}
 use Rattle.pgs_syntax.specs.declared.script.Statement.TheVariants.{Node, Edge, Graph}
-use Rattle.pgs_parser.specs.Reader.{Reader, Test, a_name, the_keyword, the_sign, next, second, sign_at, keyword_at, name_at, keyword_if_at, comma_unless, listed_at, numbered}
+use Rattle.pgs_parser.specs.Reader.{Reader, a_name, the_keyword, the_sign, next, second, sign_at, keyword_at, name_at, keyword_if_at, comma_unless, listed_at, numbered}
 use Rattle.pgs_parser.specs.TypeReaders.{node_type_at, edge_type_at}
 use Rattle.pgs_parser.specs.KeyReaders.{key_at}
 use Rattle.pgs_parser.specs.Statements.{place_of_member, places_in, pieces_of}

@@ -3,12 +3,12 @@
 //! A list begins with room for one item, since most have one. The productions of a place are one function with their callers:
 //! its tree is large, and each call would move it once more.
 
-ghost use Rattle.std.specs.Prelude.{◌≡◌, ◌∷◌, codes, IsTrue, ◌↔◌, true};
+ghost use Rattle.std.specs.Prelude.{◌≡◌, ◌∷◌, codes, IsTrue, IsSome, ◌↔◌, true};
 ghost use Rattle.std.specs.List.{list_any};
 ghost use Rattle.pgs_syntax.specs.Valid.{are_distinct};
 ghost use Rattle.pgs_parser.specs.Keys.{all_asked, asked_by, is_same_kind};
-ghost use Rattle.pgs_parser.specs.Reader.{listed_at, each_at, sign_at, keyword_at, comma_unless, after, the_sign, name_at, maybe_at};
-ghost use Rattle.pgs_parser.specs.KeyReaders.{literal_at, test_at, names_at, tests_at, name_if_at, place_at, node_at, edge_at, arrow_at, step_at, step_begins, path_at, paths_at, qualifier_at, qualifier_begins, qualifier_list_at, qualifiers_at, expr_at, exprs_at, key_at};
+ghost use Rattle.pgs_parser.specs.Reader.{listed_at, followed, none_declared, each_at, sign_at, keyword_at, comma_unless, after, the_sign, name_at, maybe_at};
+ghost use Rattle.pgs_parser.specs.KeyReaders.{literal_at, test_at, tests_rest_at, place_at, node_at, edge_at, arrow_at, step_at, step_begins, path_at, paths_at, qualifier_at, qualifier_begins, qualifier_list_at, qualifiers_at, expr_at, exprs_at, key_at};
 ghost use Rattle.pgs_parser.specs.Progress.{Reads, Moves};
 
 use crate::parser::Parser;
@@ -53,18 +53,6 @@ impl Parser<'_> {
         Ok(List::from_vec(names))
     }
 
-    /// Names after a colon, where one stands.
-    #[tactic(auto, unfolding(crate::specs::KeyReaders::names_at))]
-    fn names(&mut self) -> Result<List<Name>, Unread>
-        ensures { Reads result self.new (names_at self.old) }
-    {
-        if self.passes_sign(b":") {
-            self.some_names(b"&")
-        } else {
-            Ok(List::new(self.alloc))
-        }
-    }
-
     /// A test and further ones.
     fn some_tests(&mut self) -> Result<List<(Name, Value)>, Unread>
         ensures { Reads result self.new (listed_at (sign_at ",") test_at self.old) }
@@ -79,43 +67,39 @@ impl Parser<'_> {
         Ok(List::from_vec(tests))
     }
 
-    /// Tests in braces, where they begin.
-    #[tactic(auto, unfolding(crate::specs::KeyReaders::tests_at))]
-    fn tests(&mut self) -> Result<List<(Name, Value)>, Unread>
-        ensures { Reads result self.new (tests_at self.old) }
+    /// Tests, after the first brace.
+    fn tests_rest(&mut self) -> Result<List<(Name, Value)>, Unread>
+        ensures { Reads result self.new (tests_rest_at self.old) }
     {
-        if self.passes_sign(b"{") {
-            let tests = self.some_tests()?;
-            self.sign(b"}")?;
-            Ok(tests)
-        } else {
-            Ok(List::new(self.alloc))
-        }
+        let tests = self.some_tests()?;
+        self.sign(b"}")?;
+        Ok(tests)
     }
 
-    /// A name, where one stands.
-    #[tactic(auto, unfolding(crate::specs::KeyReaders::name_if_at))]
-    fn name_if(&mut self) -> Result<Option<Name>, Unread>
-        ensures { Reads result self.new (name_if_at self.old) }
-    {
-        if self.is_at_name() {
-            let name = self.name()?;
-            Ok(Some(name))
-        } else {
-            Ok(None)
-        }
-    }
-
+    /// A place, whose parts are put in as they are read: moved about, they would cost more than their reading.
     #[inline(always)]
-    #[tactic(auto, unfolding(crate::specs::KeyReaders::place_at))]
+    #[tactic(auto, unfolding(crate::specs::KeyReaders::place_at, crate::specs::KeyReaders::name_if_at, crate::specs::KeyReaders::names_at, crate::specs::KeyReaders::tests_at))]
     fn place(&mut self) -> Result<RawPlace, Unread>
         ensures { Reads result self.new (place_at self.old) }
     {
-        let var = self.name_if()?;
-        let names = self.names()?;
-        let tests = self.tests()?;
-        let filter = RawFilter { names, tests };
-        Ok(RawPlace { var, filter })
+        let mut place = RawPlace {
+            var: None,
+            filter: RawFilter {
+                names: List::new(self.alloc),
+                tests: List::new(self.alloc),
+            },
+        };
+        if self.is_at_name() {
+            let var = self.name()?;
+            place.var = Some(var);
+        }
+        if self.passes_sign(b":") {
+            place.filter.names = self.some_names(b"&")?;
+        }
+        if self.passes_sign(b"{") {
+            place.filter.tests = self.tests_rest()?;
+        }
+        Ok(place)
     }
 
     #[inline(always)]
@@ -141,28 +125,20 @@ impl Parser<'_> {
         Ok(place)
     }
 
-    /// The edge of a step, and whether its arrow leads forward.
-    #[tactic(auto, unfolding(crate::specs::KeyReaders::arrow_at))]
-    fn arrow(&mut self) -> Result<(bool, RawPlace), Unread>
-        ensures { Reads result self.new (arrow_at self.old) }
-    {
-        if self.passes_sign(b"-") {
-            let edge = self.edge()?;
-            self.sign(b"->")?;
-            Ok((true, edge))
-        } else {
-            self.sign(b"<-")?;
-            let edge = self.edge()?;
-            self.sign(b"-")?;
-            Ok((false, edge))
-        }
-    }
-
-    #[tactic(auto, unfolding(crate::specs::KeyReaders::step_at))]
+    #[tactic(auto, unfolding(crate::specs::KeyReaders::step_at, crate::specs::KeyReaders::arrow_at))]
     fn step(&mut self) -> Result<RawStep, Unread>
         ensures { Reads result self.new (step_at self.old) }
     {
-        let (forward, edge) = self.arrow()?;
+        let forward = self.passes_sign(b"-");
+        if !forward {
+            self.sign(b"<-")?;
+        }
+        let edge = self.edge()?;
+        if forward {
+            self.sign(b"->")?;
+        } else {
+            self.sign(b"-")?;
+        }
         let node = self.node()?;
         Ok(RawStep {
             edge,
@@ -177,25 +153,33 @@ impl Parser<'_> {
         self.is_at_sign(b"-") || self.is_at_sign(b"<-")
     }
 
-    fn steps(&mut self) -> Result<List<RawStep>, Unread>
+    /// The steps of a path, where there are some.
+    fn some_steps(&mut self) -> Result<List<RawStep>, Unread>
         ensures { Reads result self.new (each_at step_begins step_at self.old) }
     {
-        let mut steps = Vec::with_capacity(self.alloc, usize::from(self.is_at_step()))?;
+        let mut steps = Vec::with_capacity(self.alloc, 1)?;
         while self.is_at_step() {
             let step = self.step()?;
             steps.push(step)?;
         }
+        steps.shrink_to_fit();
         Ok(List::from_vec(steps))
     }
 
     #[inline(always)]
-    #[tactic(auto, unfolding(crate::specs::KeyReaders::path_at))]
+    #[tactic(auto, using(crate::proofs::NoStep::no_step), unfolding(crate::specs::KeyReaders::path_at))]
     fn path(&mut self) -> Result<RawPath, Unread>
         ensures { Reads result self.new (path_at self.old) }
     {
         let start = self.node()?;
-        let steps = self.steps()?;
-        Ok(RawPath { start, steps })
+        let mut path = RawPath {
+            start,
+            steps: List::new(self.alloc),
+        };
+        if self.is_at_step() {
+            path.steps = self.some_steps()?;
+        }
+        Ok(path)
     }
 
     /// A path and further ones, up to a comma before a key.
@@ -209,6 +193,7 @@ impl Parser<'_> {
             let path = self.path()?;
             paths.push(path)?;
         }
+        paths.shrink_to_fit();
         Ok(List::from_vec(paths))
     }
 
@@ -226,6 +211,13 @@ impl Parser<'_> {
         Ok(Qualifier::Singleton)
     }
 
+    /// Whether a qualifier has to follow, by a comma or a keyword.
+    fn is_before_qualifier(&self) -> bool
+        ensures { IsTrue result ↔ IsSome (qualifier_begins self.now) }
+    {
+        self.is_at_sign(b",") || self.is_at_any_keyword()
+    }
+
     /// Whether a qualifier has to follow, by a comma or a keyword; goes past the comma.
     fn passes_to_qualifier(&mut self) -> bool
         ensures { Moves result self.old self.new (qualifier_begins self.old) }
@@ -233,11 +225,10 @@ impl Parser<'_> {
         self.passes_sign(b",") || self.is_at_any_keyword()
     }
 
-    /// A qualifier and further ones, with or without commas.
-    fn written_qualifiers(&mut self) -> Result<List<Qualifier>, Unread>
-        ensures { Reads result self.new (listed_at qualifier_begins qualifier_at self.old) }
+    /// The first qualifier and those that follow it, with or without commas.
+    fn written_qualifiers(&mut self, first: Qualifier) -> Result<List<Qualifier>, Unread>
+        ensures { Reads result self.new (followed qualifier_begins (λ place. qualifier_at) none_declared 0 (first, self.old)) }
     {
-        let first = self.qualifier()?;
         let mut written = Vec::new(self.alloc);
         written.push(first)?;
         while self.passes_to_qualifier() {
@@ -247,12 +238,16 @@ impl Parser<'_> {
         Ok(List::from_vec(written))
     }
 
-    /// Qualifiers, each kind at most once.
-    #[tactic(auto, unfolding(crate::specs::KeyReaders::qualifier_list_at))]
+    /// Qualifiers, each kind at most once. For one, no list is made.
+    #[tactic(auto, using(crate::proofs::Qualifiers::one_written, crate::proofs::Qualifiers::more_written, crate::proofs::Qualifiers::none_written), unfolding(crate::specs::KeyReaders::qualifier_list_at))]
     fn qualifier_list(&mut self) -> Result<Qualifiers, Unread>
         ensures { Reads result self.new (qualifier_list_at self.old) }
     {
-        let written = self.written_qualifiers()?;
+        let first = self.qualifier()?;
+        if !self.is_before_qualifier() {
+            return Ok(asked_by(&[first]));
+        }
+        let written = self.written_qualifiers(first)?;
         if each_kind_once(written.as_slice()) {
             Ok(asked_by(written.as_slice()))
         } else {

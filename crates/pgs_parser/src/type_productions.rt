@@ -64,6 +64,27 @@ fn parts(
     Ok(written)
 }
 
+/// What the parts of a body are together. Most bodies have at most one part, for which no list is made.
+fn body_of(
+    alloc: Global,
+    labels: Option<Spec<Name>>,
+    is_open: bool,
+    braces: Option<Braces>,
+) -> Result<Spec<Name>, Unread>
+    ensures { Gives (λ spec. spec) result (Some (together (parts labels is_open braces))) }
+{
+    match (labels, is_open, braces) {
+        (None, false, None) => Ok(Spec::Empty),
+        (Some(labels), false, None) => Ok(labels),
+        (None, true, None) => Ok(Spec::OpenLabels),
+        (None, false, Some(braces)) => Ok(Spec::Braces(braces)),
+        (labels, is_open, braces) => {
+            let written = parts(alloc, labels, is_open, braces)?;
+            Ok(joined(written))
+        }
+    }
+}
+
 // Labels, up to `level`. Several units or conjunctions are read apart, so that where one stands, as between parentheses that
 // are open at once, no list is made, and the functions from `parenthesised` to `conj` are one with `level`: a processor foresees
 // the returns of few calls.
@@ -118,7 +139,7 @@ impl Parser<'_> {
     fn units(&mut self, first: Spec<Name>, further: u32) -> Result<List<Spec<Name>>, Unread>
         ensures { Reads result self.new (followed (sign_at "&") (λ place. unit_at (inner_at further)) none_declared 0 (first, self.old)) }
     {
-        let mut units = Vec::new(self.alloc);
+        let mut units = Vec::with_capacity(self.alloc, 2)?;
         units.push(first)?;
         while self.passes_sign(b"&") {
             let unit = self.unit(further)?;
@@ -147,7 +168,7 @@ impl Parser<'_> {
     fn conjs(&mut self, first: Spec<Name>, further: u32) -> Result<List<Spec<Name>>, Unread>
         ensures { Reads result self.new (followed (sign_at "|") (λ place. conj_at (inner_at further)) none_declared 0 (first, self.old)) }
     {
-        let mut conjs = Vec::new(self.alloc);
+        let mut conjs = Vec::with_capacity(self.alloc, 2)?;
         conjs.push(first)?;
         while self.passes_sign(b"|") {
             let conj = self.conj(further)?;
@@ -299,8 +320,7 @@ impl Parser<'_> {
         let labels = self.labels_if()?;
         let is_open = self.keyword_if(b"OPEN");
         let braces = self.braces_if()?;
-        let written = parts(self.alloc, labels, is_open, braces)?;
-        Ok(joined(written))
+        body_of(self.alloc, labels, is_open, braces)
     }
 
     #[inline(always)]

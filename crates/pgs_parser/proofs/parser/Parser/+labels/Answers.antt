@@ -12,7 +12,7 @@ use Rattle.pgs_parser.proofs.parser.Parser.+labels.Goals as goal
 pub units-loop-self-init : goal.units-loop-self-init
 units-loop-self-init t c =
     ap (λ xs. ahead xs (more (sign_at "&") (λ place. unit_at (inner_at c.args.further)) none_declared (length c.args.self.now) 0 c.args.self.now))
-    (c.in_ok-push.ensures.items ∙ ap (λ xs. xs ++ c.args.first ∷ []) c.new-units.ensures.items)
+    (c.in_ok-push.ensures.items ∙ ap (λ xs. xs ++ c.args.first ∷ []) c.in_ok-units.ensures.items)
 
 pub units-returns-in_err-unit : goal.units-returns-in_err-unit
 units-returns-in_err-unit t c =
@@ -42,7 +42,7 @@ units-returns t c =
 pub conjs-loop-self-init : goal.conjs-loop-self-init
 conjs-loop-self-init t c =
     ap (λ xs. ahead xs (more (sign_at "|") (λ place. conj_at (inner_at c.args.further)) none_declared (length c.args.self.now) 0 c.args.self.now))
-    (c.in_ok-push.ensures.items ∙ ap (λ xs. xs ++ c.args.first ∷ []) c.new-conjs.ensures.items)
+    (c.in_ok-push.ensures.items ∙ ap (λ xs. xs ++ c.args.first ∷ []) c.in_ok-conjs.ensures.items)
 
 pub conjs-returns-in_err-conj : goal.conjs-returns-in_err-conj
 conjs-returns-in_err-conj t c =

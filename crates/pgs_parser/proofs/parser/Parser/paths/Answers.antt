@@ -43,4 +43,4 @@ pub returns : goal.returns
 returns c =
     ends (comma_unless (codes "FOR")) (λ place. path_at) none_declared c.loop-self.paths.items 0 c.loop-self.self
     (paths_at c.args.self.now) c.loop-self-test.ensures.0 c.loop-self.invariant
-    ∙ ap₂ (λ xs rest. Some (xs, rest)) (sym c.from_vec.ensures) (sym c.loop-self-test.ensures.1)
+    ∙ ap₂ (λ xs rest. Some (xs, rest)) (sym (c.from_vec.ensures ∙ c.shrink_to_fit.ensures.items)) (sym c.loop-self-test.ensures.1)

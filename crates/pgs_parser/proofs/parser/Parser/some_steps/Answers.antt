@@ -5,7 +5,7 @@ use Rattle.pgs_parser.proofs.Items.{ahead, ahead-none, goes_on, ends, fails, lef
 use Rattle.pgs_parser.proofs.SoundKeys.{step_sound, step_begin}
 use Rattle.pgs_parser.specs.Reader.{each_at}
 use Rattle.pgs_parser.specs.KeyReaders.{step_at, step_begins}
-use Rattle.pgs_parser.proofs.parser.Parser.steps.Goals as goal
+use Rattle.pgs_parser.proofs.parser.Parser.some_steps.Goals as goal
 
 pub loop-self-init : goal.loop-self-init
 loop-self-init c =
@@ -34,4 +34,4 @@ pub returns : goal.returns
 returns c =
     ends step_begins (λ place. step_at) none_declared c.loop-self.steps.items 0 c.loop-self.self
     (each_at step_begins step_at c.args.self.now) c.loop-self-test.ensures.0 c.loop-self.invariant
-    ∙ ap (λ xs. Some (xs, c.loop-self.self)) (sym c.from_vec.ensures)
+    ∙ ap (λ xs. Some (xs, c.loop-self.self)) (sym (c.from_vec.ensures ∙ c.shrink_to_fit.ensures.items))
