@@ -1,7 +1,7 @@
 //! The productions of keys, each named as in the grammar.
 //!
-//! A list begins with room for one item, since most have one. The productions of a place are one function with their callers:
-//! its tree is large, and each call would move it once more.
+//! A list begins with room for one item, since most have one; lists of large items give back the room that they don't need. The
+//! productions of a place are one function with their callers: its tree is large, and each call would move it once more.
 
 ghost use Rattle.std.specs.Prelude.{◌≡◌, ◌∷◌, codes, IsTrue, IsSome, ◌↔◌, true};
 ghost use Rattle.std.specs.List.{list_any};
