@@ -1,17 +1,5 @@
-pub mod Declarations
-pub mod Groups
 pub mod Guard
-pub mod KeyFaults
 pub mod Keyed
-pub mod KeyNames
-pub mod Links
-pub mod Listing
-pub mod Order
-pub mod Patterns
-pub mod Placed
-pub mod Refused
 pub mod Resolution
 pub mod Samples
 pub mod SchemaOf
-pub mod Tables
-pub mod VariableTable

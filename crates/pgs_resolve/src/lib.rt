@@ -5,35 +5,15 @@
 //! from its bytes to its schema.
 #![tactic(auto)]
 
-mod atoms;
-mod components;
-mod connected;
-mod cycles;
-mod declarations;
-mod duplicates;
 mod fault;
 mod guard;
 mod guard_keys;
-mod imports;
-mod key_causes;
-mod key_faults;
 mod key_refusals;
-mod kinds;
 pub mod laws;
-mod links;
-mod listing;
-mod names;
-mod order;
-mod patterns;
-mod pieces;
-mod places;
 mod resolution;
-mod resolved_keys;
 mod resolved_types;
 pub mod samples;
 mod specifications;
-mod unknown;
-mod variables;
 
 pub use fault::ResolveFault;
 pub use pgs_syntax::KeyCause;

@@ -1,0 +1,5 @@
+pub mod Declarations
+pub mod Imports
+pub mod Order
+pub mod Refused
+pub mod Tables

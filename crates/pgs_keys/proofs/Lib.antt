@@ -1,0 +1,5 @@
+pub mod AtomsOfPaths
+pub mod Held
+pub mod Listed
+pub mod Stepped
+pub mod Unions

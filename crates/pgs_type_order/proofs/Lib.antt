@@ -1,0 +1,6 @@
+pub mod Backs
+pub mod Kept
+pub mod Leading
+pub mod Leasts
+pub mod Linked
+pub mod Queues
