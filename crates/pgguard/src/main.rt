@@ -14,6 +14,7 @@ ghost use Rattle.std.specs.Prelude.{◌≡◌, ◌≢◌, ◌++◌, [], Ok, IsEr
 ghost use Rattle.std.specs.IoError.{error_kind};
 ghost use Rattle.std.specs.Process.{exit_status};
 ghost use Rattle.std.specs.Vec.Iter.{into_iter_items};
+ghost use Rattle.pgs_base.specs.declared.seed.Seed.TheVariants as seeds;
 ghost use Rattle.pgs_run_base.specs.ExitStatus.{status_number};
 ghost use Rattle.pgguard.specs.Known.{words_behind};
 
@@ -71,7 +72,10 @@ fn words_of(alloc: Global, arguments: io::Result<Args>) -> Result<Words, Memory>
 
 // How the program's graphs hash: by keys that no one else knows, so that whoever chooses the numbers of nodes can't make them collide. Where
 // the system draws none, the fixed keys serve, since no answer depends on them.
-fn seed_of(drawn: io::Result<RandomState>) -> Seed {
+fn seed_of(drawn: io::Result<RandomState>) -> Seed
+    ensures drawn { IfOk drawn (λ keys. result ≡ seeds.Random keys) }
+    ensures fixed { IfErr drawn (λ _. result ≡ seeds.Fixed) }
+{
     match drawn {
         Ok(keys) => Seed::Random(keys),
         Err(_) => Seed::Fixed,
