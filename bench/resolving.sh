@@ -11,7 +11,7 @@ trap 'rm -rf "$work"' EXIT
 mkdir -p "$work/crates/resolving/src"
 cp "$top/HANDLES" "$work/"
 : >"$work/crates.txt"
-for crate in pgs_base pgs_lexer pgs_syntax pgs_parser pgs_declared pgs_keys pgs_type_order pgs_resolve; do
+for crate in pgs_base pgs_lexer pgs_syntax pgs_parser pgs_resolve_declared pgs_resolve_keys pgs_resolve_order pgs_resolve; do
   cp -r "$top/crates/$crate" "$work/crates/"
   grep -E "^$crate:" "$top/crates.txt" >>"$work/crates.txt"
 done

@@ -2,7 +2,7 @@
 //!
 //! What stands here is `run_program`, which is all but the system's handles and says what is put over a reader and a writer that tell
 //! their bytes, and the opening of what the words name. What a terminal, a pipe or a file holds is told by no clause: the adapters of
-//! `pgs_files` count their calls and faults.
+//! `pgs_world_files` count their calls and faults.
 #![tactic(auto)]
 
 mod opening;
@@ -20,8 +20,8 @@ ghost use Rattle.pgguard.specs.Known.{words_behind};
 
 use opening::{areas_of, feeds_of};
 use pgs_base::{Memory, Seed, Words};
-use pgs_files::FileFeed;
 use pgs_run::Status;
+use pgs_world_files::FileFeed;
 use program::run_program;
 use std::alloc::Global;
 use std::collections::hash_map::RandomState;

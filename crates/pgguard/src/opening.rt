@@ -3,13 +3,13 @@
 ghost use Rattle.std.specs.Prelude.{◌≡◌, None, map, IfOk};
 ghost use Rattle.pgs_feed.specs.Places.{fed};
 ghost use Rattle.pgs_feed.specs.Seen.{places};
-ghost use Rattle.pgs_files.specs.Counted.{untold_bytes};
-ghost use Rattle.pgs_words.specs.Words.{store_of, feeds_of};
+ghost use Rattle.pgs_world_files.specs.Counted.{untold_bytes};
+ghost use Rattle.pgs_run_words.specs.Words.{store_of, feeds_of};
 
 use pgs_base::{Memory, Words};
 use pgs_feed::FeedList;
-use pgs_files::{AreaFiles, FileFeed};
-use pgs_words::{feed_names, store_name};
+use pgs_run_words::{feed_names, store_name};
+use pgs_world_files::{AreaFiles, FileFeed};
 use std::alloc::Global;
 use std::fs::File;
 use std::rt::Files;

@@ -1,6 +1,6 @@
 ghost use Rattle.std.specs.Prelude.{◌≡◌, ◌⊎◌, ◌+◌, ◌^◌, List, ℕ, false, length, Some};
-ghost use Rattle.pgs_lines.specs.Pieces.{Shown};
-ghost use Rattle.pgs_words.specs.Words.{command_of};
+ghost use Rattle.pgs_run_lines.specs.Pieces.{Shown};
+ghost use Rattle.pgs_run_words.specs.Words.{command_of};
 ghost use Rattle.pgs_run_base.specs.Areas.{Areas};
 ghost use Rattle.pgs_run_base.specs.Ending.{Ends};
 ghost use Rattle.pgs_run_base.specs.Run.{IsDisturbed};
@@ -9,9 +9,9 @@ ghost use Rattle.pgs_run.specs.Told.{told};
 
 use pgs_base::{Seed, Words};
 use pgs_feed::FeedList;
-use pgs_files::{AreaFiles, FileWorld, Handle, StdinSource, SteadyRead, SteadyWrite};
 use pgs_run::{Status, run};
 use pgs_world::Feed;
+use pgs_world_files::{AreaFiles, FileWorld, Handle, StdinSource, SteadyRead, SteadyWrite};
 use std::alloc::Global;
 
 /// Runs words over a reader, a writer, the files of a store and feeds, and gives the writer back: the program but for the system's

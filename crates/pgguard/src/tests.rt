@@ -4,7 +4,7 @@
 use crate::program::run_program;
 use pgs_base::{Seed, Words};
 use pgs_feed::FeedList;
-use pgs_files::{AreaFiles, FileFeed};
+use pgs_world_files::{AreaFiles, FileFeed};
 use std::fs::File;
 use std::test::Fail;
 

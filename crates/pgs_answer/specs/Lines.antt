@@ -2,7 +2,7 @@
 use Rattle.std.specs.Prelude.{ℕ, Bool, true, false, List, ◌++◌, Some, None, codes, decimal}
 use Rattle.pgs_base.specs.declared.element.Elem.{Elem}
 use Rattle.pgs_base.specs.declared.part.Part.{Part}
-use Rattle.pgs_text.specs.Text.{elem_text, tuple_text}
+use Rattle.pgs_base_text.specs.Text.{elem_text, tuple_text}
 use Rattle.pgs_graph.specs.declared.operation.Txn.{Txn}
 use Rattle.pgs_json.specs.Canonical.{text_of_txn}
 

@@ -2,7 +2,7 @@
 use Rattle.std.specs.Prelude.{ℕ, List, ◌++◌, codes, decimal}
 use Rattle.pgs_base.specs.declared.element.Elem.TheVariants.{Node, Edge}
 use Rattle.pgs_base.specs.declared.limits.Limits.{Limits}
-use Rattle.pgs_text.specs.Text.{elem_text, tuple_text}
+use Rattle.pgs_base_text.specs.Text.{elem_text, tuple_text}
 use Rattle.pgs_syntax.specs.declared.key_cause.KeyCause.{KeyCause}
 use Rattle.pgs_syntax.specs.declared.key_cause.KeyCause.TheVariants.{NoX, TwoKinds, Shared, Disconnected, UnknownVariable, TooLarge}
 use Rattle.pgs_violation.specs.declared.structural.Cause.{Cause}

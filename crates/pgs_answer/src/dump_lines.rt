@@ -2,7 +2,7 @@ ghost use Rattle.std.specs.Prelude.{◌≡◌, IfOk};
 ghost use Rattle.pgs_answer.specs.Lines.{schema_line, separator_line, type_line, key_scope_line, key_value_line, absent_line};
 
 use pgs_base::{Bytes, Elem, Memory, Name, Tuple};
-use pgs_text::TextBuffer;
+use pgs_base_text::TextBuffer;
 use std::alloc::Global;
 
 // Room for the words of a line and one name or number.

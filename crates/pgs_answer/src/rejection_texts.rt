@@ -1,9 +1,9 @@
 ghost use Rattle.std.specs.Prelude.{◌≡◌, ◌++◌, codes, decimal, IfOk, OnOk};
-ghost use Rattle.pgs_text.specs.Text.{elem_text, tuple_text};
+ghost use Rattle.pgs_base_text.specs.Text.{elem_text, tuple_text};
 ghost use Rattle.pgs_answer.specs.Refusals.{unreadable_text, line_too_long_text, cause_words, bad_op_text, too_large_text, structural_text, violation_text, rejection_text};
 
 use pgs_base::{Bytes, Elem, Limits, Memory, Tuple};
-use pgs_text::TextBuffer;
+use pgs_base_text::TextBuffer;
 use pgs_violation::{Cause, Rejection, Structural, Violation};
 use std::alloc::Global;
 

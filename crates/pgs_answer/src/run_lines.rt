@@ -2,7 +2,7 @@ ghost use Rattle.std.specs.Prelude.{◌≡◌, ◌++◌, decimal, IfOk, OnOk};
 ghost use Rattle.pgs_answer.specs.Lines.{schema_refused_line, store_refused_line, words_refused_line, committed_line, refused_line, violation_line, loaded_line, feeds_lost_line, graph_counts, gen_line, checkpoint_line};
 
 use pgs_base::{Bytes, Memory};
-use pgs_text::TextBuffer;
+use pgs_base_text::TextBuffer;
 use std::alloc::Global;
 
 // Room for the words of a line and two numbers.

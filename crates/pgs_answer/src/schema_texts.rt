@@ -2,8 +2,8 @@ ghost use Rattle.std.specs.Prelude.{◌≡◌, IfOk};
 ghost use Rattle.pgs_answer.specs.Refusals.{lex_text, syntax_text, no_graph_type_text, duplicate_text, unknown_text, kind_text, cycle_text, too_wide_text, key_cause_words, bad_key_text, too_long_text};
 
 use pgs_base::{Bytes, Memory, Name};
+use pgs_base_text::TextBuffer;
 use pgs_syntax::KeyCause;
-use pgs_text::TextBuffer;
 use std::alloc::Global;
 
 // Room for a text with one name or two numbers.

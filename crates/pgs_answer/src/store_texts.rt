@@ -3,7 +3,7 @@ ghost use Rattle.pgs_answer.specs.Refusals.{no_store_text, already_store_text, f
 
 use crate::rejection_texts::push_rejection;
 use pgs_base::{Bytes, Limits, Memory};
-use pgs_text::TextBuffer;
+use pgs_base_text::TextBuffer;
 use pgs_violation::Rejection;
 use std::alloc::Global;
 

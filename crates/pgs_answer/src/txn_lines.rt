@@ -2,9 +2,9 @@ ghost use Rattle.std.specs.Prelude.{◌≡◌, IfOk};
 ghost use Rattle.pgs_answer.specs.Lines.{feed_line, txn_line};
 
 use pgs_base::{Bytes, Memory};
+use pgs_base_text::TextBuffer;
 use pgs_graph::Txn;
 use pgs_json::{push_txn, txn_room};
-use pgs_text::TextBuffer;
 use std::alloc::Global;
 
 /// The line of a committed transaction that each feed gets: its canonical text with the number of its commit.

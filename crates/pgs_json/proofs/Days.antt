@@ -11,7 +11,7 @@ use Rattle.pgs_base.specs.Day.{is_day}
 use Rattle.pgs_base.specs.DayForm.{number_in, day_in}
 use Rattle.pgs_base.specs.Name.{is_between}
 use Rattle.pgs_base.specs.declared.value.Value.TheVariants as values
-use Rattle.pgs_text.specs.Text.{escaped, quoted, day_text, two_digits}
+use Rattle.pgs_base_text.specs.Text.{escaped, quoted, day_text, two_digits}
 use Rattle.pgs_json.specs.Canonical.{value_text}
 
 pub record IsShort (day : ℕ × ℕ × ℕ) : Type 0 where

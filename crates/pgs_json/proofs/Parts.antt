@@ -22,7 +22,7 @@ use Rattle.pgs_base.specs.Name.{is_name, is_name_start, is_name_byte}
 use Rattle.pgs_base.specs.Value.{is_value, is_number}
 use Rattle.pgs_base.proofs.Ascending.{ascending-insert_entry}
 use Rattle.pgs_base.proofs.Lookups.{insert_entry_last, insert_key_last}
-use Rattle.pgs_text.specs.Text.{quoted, day_text}
+use Rattle.pgs_base_text.specs.Text.{quoted, day_text}
 use Rattle.pgs_json.specs.Sets.{label_set, pair_map}
 use Rattle.pgs_json.specs.Form.{name_of, pair_of, value_of, each_item, each_member, labels_of, props_of}
 use Rattle.pgs_json.specs.Canonical.{value_text, labels_text, props_text, object_text}

@@ -26,7 +26,7 @@ use Rattle.serde_json.specs.View.{items_of}
 use Rattle.serde_json.specs.Written.{outline, items_outline, members_outline, compact_text, items_text, members_text}
 use Rattle.serde_json.proofs.Numbers.{number_of-decimal, number_of-negative}
 use Rattle.serde_json.proofs.Texts.{print-outline}
-use Rattle.pgs_text.specs.Text.{escaped, quoted, truth_text}
+use Rattle.pgs_base_text.specs.Text.{escaped, quoted, truth_text}
 use Rattle.pgs_json.specs.Canonical.{list_text, object_text, member_text}
 use Rattle.pgs_json.specs.Pieces.{further}
 use Rattle.pgs_json.proofs.Joined.{joined}

@@ -19,7 +19,7 @@ use Rattle.pgs_base.specs.Properties.{are_props, has_value}
 use Rattle.pgs_base.specs.Pair.{is_pair, pair_of}
 use Rattle.pgs_base.specs.Value.{is_value}
 use Rattle.pgs_base.proofs.Ascending.{ascends_decides}
-use Rattle.pgs_text.specs.Text.{quoted}
+use Rattle.pgs_base_text.specs.Text.{quoted}
 use Rattle.pgs_graph.specs.declared.operation.Op.{Op}
 use Rattle.pgs_graph.specs.declared.operation.Op.TheVariants.{AddNode, AddEdge, RemoveNode, DetachNode, RemoveEdge, SetNode, UnsetNode, LabelNode, UnlabelNode, SetEdge, UnsetEdge, LabelEdge, UnlabelEdge}
 use Rattle.pgs_graph.specs.declared.operation.Txn.{Txn}

@@ -4,7 +4,7 @@ use Rattle.std.specs.Fmt.{signed_decimal}
 use Rattle.std.specs.List.{join_with_byte}
 use Rattle.pgs_base.specs.declared.value.Value.{Value}
 use Rattle.pgs_base.specs.declared.value.Value.TheVariants as values
-use Rattle.pgs_text.specs.Text.{quoted, day_text, truth_text}
+use Rattle.pgs_base_text.specs.Text.{quoted, day_text, truth_text}
 use Rattle.pgs_graph.specs.declared.operation.Op.{Op}
 use Rattle.pgs_graph.specs.declared.operation.Op.TheVariants.{AddNode, AddEdge, RemoveNode, DetachNode, RemoveEdge, SetNode, UnsetNode, LabelNode, UnlabelNode, SetEdge, UnsetEdge, LabelEdge, UnlabelEdge}
 use Rattle.pgs_graph.specs.declared.operation.Txn.{Txn}

@@ -1,7 +1,7 @@
 -- Pieces of the canonical text, as they are written one after the other.
 use Rattle.std.specs.Prelude.{ℕ, List, [], ◌∷◌, ◌++◌, flat_map, Option, Some, None, codes, decimal}
 use Rattle.pgs_base.specs.declared.value.Value.{Value}
-use Rattle.pgs_text.specs.Text.{quoted}
+use Rattle.pgs_base_text.specs.Text.{quoted}
 use Rattle.pgs_json.specs.Canonical.{value_text, labels_text, props_text}
 
 -- an item that follows another

@@ -3,13 +3,13 @@
 ghost use Rattle.std.specs.Prelude.{◌≡◌, ◌++◌, flat_map, codes, decimal, IfOk, OnOk};
 ghost use Rattle.pgs_base.specs.declared.value.Value.TheVariants as values;
 ghost use Rattle.pgs_graph.specs.declared.operation.Op.TheVariants.{AddNode, AddEdge, SetNode, SetEdge};
-ghost use Rattle.pgs_text.specs.Text.{quoted};
+ghost use Rattle.pgs_base_text.specs.Text.{quoted};
 ghost use Rattle.pgs_json.specs.Canonical.{value_text, labels_text, props_text, op_text, ops_text, text_of_txn};
 ghost use Rattle.pgs_json.specs.Pieces.{further, listed, prop_text, pair_part, named_text, front_text};
 
 use pgs_base::{Bytes, Day, EdgeId, Labels, Memory, Name, NodeId, Props, Value};
+use pgs_base_text::TextBuffer;
 use pgs_graph::{Op, Txn};
-use pgs_text::TextBuffer;
 use std::alloc::Global;
 
 /// Room for an operation of usual length.
@@ -212,7 +212,7 @@ fn push_only_named(
     text.push(b"}")
 }
 
-#[tactic(auto, unfolding(pgs_text::specs::Text::quoted))]
+#[tactic(auto, unfolding(pgs_base_text::specs::Text::quoted))]
 fn push_op(text: &mut TextBuffer, op: &Op) -> Result<(), Memory>
     ensures { OnOk result (text.new ≡ text.old ++ op_text op.now) }
 {

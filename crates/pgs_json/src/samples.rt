@@ -82,7 +82,7 @@ pub fn other_lines()
 {}
 
 /// Canonical texts, as a feed gets them with a commit number, and without.
-#[tactic(auto, unfolding(pgs_text::specs::Text::quoted, crate::specs::Canonical::text_of_txn))]
+#[tactic(auto, unfolding(pgs_base_text::specs::Text::quoted, crate::specs::Canonical::text_of_txn))]
 pub fn canonical_texts()
     ensures nothing { text_of_txn (record { ops = [] }) None ≡ codes "{\"ops\":[]}" }
     ensures numbered { (n : ℕ) → text_of_txn (record { ops = [] }) (Some n)

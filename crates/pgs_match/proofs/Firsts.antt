@@ -18,14 +18,14 @@ use Rattle.pgs_syntax.specs.declared.pattern.Expr.TheVariants.{Element}
 use Rattle.pgs_syntax.specs.declared.pattern.Pattern.{Pattern}
 use Rattle.pgs_syntax.specs.declared.resolved.Resolved.{Resolved}
 use Rattle.pgs_syntax.specs.Valid.{is_valid_pattern}
-use Rattle.pgs_plan.specs.declared.step.Step.{Step}
-use Rattle.pgs_plan.specs.Plans.{is_plan}
-use Rattle.pgs_matching.specs.declared.bindings.Bound.{Bound}
-use Rattle.pgs_matching.specs.Bounds.{with_bound, nothing_bound}
-use Rattle.pgs_matching.specs.Reached.{reached}
-use Rattle.pgs_matching.specs.Search.{gathered}
-use Rattle.pgs_matching.specs.Tests.{admitted}
-use Rattle.pgs_matching.proofs.Reaching.{one_elem, gathered_are_reached, has_all}
+use Rattle.pgs_match.specs.declared.step.Step.{Step}
+use Rattle.pgs_match.specs.Plans.{is_plan}
+use Rattle.pgs_match.specs.declared.bindings.Bound.{Bound}
+use Rattle.pgs_match.specs.Bounds.{with_bound, nothing_bound}
+use Rattle.pgs_match.specs.Reached.{reached}
+use Rattle.pgs_match.specs.Search.{gathered}
+use Rattle.pgs_match.specs.Tests.{admitted}
+use Rattle.pgs_match.proofs.Reaching.{one_elem, gathered_are_reached, has_all}
 use Rattle.pgs_match.specs.Planned.{first_elem}
 
 module _ (tuples : List (List Part)) (i : ℕ) (d : List Part) (below : i < length tuples) where

@@ -2,8 +2,8 @@
 use Rattle.std.proofs.Common.{◌≡◌, ℕ, zero, suc, ◌+◌, true, ◌==◌, List, [], ◌∷◌, ◌++◌, length, slice_get, Some, refl, sym, subst, add-zero, arith}
 use Rattle.std.proofs.lemmas.Bool.{and_parts, and_from, eqb-true, eq-eqb}
 use Rattle.pgs_syntax.specs.declared.pattern.Pattern.{Pattern}
-use Rattle.pgs_plan.specs.declared.step.Step.{Step}
-use Rattle.pgs_plan.specs.Plans.{is_plan}
+use Rattle.pgs_match.specs.declared.step.Step.{Step}
+use Rattle.pgs_match.specs.Plans.{is_plan}
 use Rattle.pgs_match.specs.Planned.{are_plans_from, are_plans}
 
 module _ (pattern : Pattern) where

@@ -22,9 +22,9 @@ use Rattle.pgs_syntax.specs.KeyValues.{starts_at, is_in_scope, scope_of}
 use Rattle.pgs_syntax.specs.Matches.{same_elem, elements}
 use Rattle.pgs_syntax.specs.Valid.{edge_count, is_edge_var, is_node_var, is_valid_pattern, is_valid_key}
 use Rattle.pgs_syntax.proofs.Assigned.{match_found}
-use Rattle.pgs_matching.specs.Tests.{admitted, admitted_node, admitted_edge}
-use Rattle.pgs_matching.proofs.Started.{admitted_of_match}
-use Rattle.pgs_matching.proofs.Values.{scope_valid, descriptor_valid}
+use Rattle.pgs_match.specs.Tests.{admitted, admitted_node, admitted_edge}
+use Rattle.pgs_match.proofs.Started.{admitted_of_match}
+use Rattle.pgs_match.proofs.Values.{scope_valid, descriptor_valid}
 use Rattle.pgs_match.specs.declared.planned.Side.{Side}
 use Rattle.pgs_match.specs.declared.planned.Side.TheVariants.{Scope, Descriptor}
 use Rattle.pgs_match.specs.Planned.{pattern_of, most_edges}

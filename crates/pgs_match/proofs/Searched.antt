@@ -11,19 +11,19 @@ use Rattle.pgs_syntax.specs.declared.pattern.Pattern.{Pattern}
 use Rattle.pgs_syntax.specs.declared.resolved.Resolved.{Resolved}
 use Rattle.pgs_syntax.specs.Matches.{matches}
 use Rattle.pgs_syntax.specs.Valid.{edge_count, is_valid_pattern}
-use Rattle.pgs_plan.specs.declared.step.Step.{Step}
-use Rattle.pgs_plan.specs.Plans.{is_plan}
-use Rattle.pgs_plan.proofs.Counts.{some_at}
-use Rattle.pgs_matching.specs.declared.bindings.Bound.{Bound}
-use Rattle.pgs_matching.specs.Bounds.{with_bound, nothing_bound, stands_at}
-use Rattle.pgs_matching.specs.Near.{IsSparse}
-use Rattle.pgs_matching.specs.Search.{can_complete, gathered, most_steps}
-use Rattle.pgs_matching.specs.Tests.{admitted}
-use Rattle.pgs_matching.proofs.Bounded.{steps_most, completions_most}
-use Rattle.pgs_matching.proofs.Costs.{one_at_least}
-use Rattle.pgs_matching.proofs.Gathered.{gathered_size}
-use Rattle.pgs_matching.proofs.Started.{admitted_good}
-use Rattle.pgs_matching.proofs.Values.{found_by_matches}
+use Rattle.pgs_match.specs.declared.step.Step.{Step}
+use Rattle.pgs_match.specs.Plans.{is_plan}
+use Rattle.pgs_match.proofs.Counts.{some_at}
+use Rattle.pgs_match.specs.declared.bindings.Bound.{Bound}
+use Rattle.pgs_match.specs.Bounds.{with_bound, nothing_bound, stands_at}
+use Rattle.pgs_match.specs.Near.{IsSparse}
+use Rattle.pgs_match.specs.Search.{can_complete, gathered, most_steps}
+use Rattle.pgs_match.specs.Tests.{admitted}
+use Rattle.pgs_match.proofs.Bounded.{steps_most, completions_most}
+use Rattle.pgs_match.proofs.Costs.{one_at_least}
+use Rattle.pgs_match.proofs.Gathered.{gathered_size}
+use Rattle.pgs_match.proofs.Started.{admitted_good}
+use Rattle.pgs_match.proofs.Values.{found_by_matches}
 
 -- the searched place in other words: the same schema, graph and atoms
 pub record IsSame (other resolved : Resolved) (graph g : Graph) (demands atoms : List Atom) : Type 0 where

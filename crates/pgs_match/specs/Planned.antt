@@ -6,8 +6,8 @@ use Rattle.pgs_base.specs.declared.part.Part.TheVariants as parts
 use Rattle.pgs_syntax.specs.declared.key.Key.{Key}
 use Rattle.pgs_syntax.specs.declared.pattern.Pattern.{Pattern}
 use Rattle.pgs_syntax.specs.Valid.{edge_count, is_valid_key}
-use Rattle.pgs_plan.specs.declared.step.Step.{Step}
-use Rattle.pgs_plan.specs.Plans.{is_plan}
+use Rattle.pgs_match.specs.declared.step.Step.{Step}
+use Rattle.pgs_match.specs.Plans.{is_plan}
 use Rattle.pgs_match.specs.declared.planned.Side.{Side}
 use Rattle.pgs_match.specs.declared.planned.Side.TheVariants.{Scope, Descriptor}
 

@@ -4,8 +4,8 @@ ghost use Rattle.std.specs.Prelude.{◌≡◌, ◌+◌, ◌*◌, ◌^◌, ◌<�
 ghost use Rattle.pgs_syntax.specs.KeyValues.{is_in_scope, scope_of, key_values};
 ghost use Rattle.pgs_syntax.specs.Matches.{elements};
 ghost use Rattle.pgs_syntax.specs.Valid.{is_valid_key_of};
-ghost use Rattle.pgs_matching.specs.Near.{IsSparse};
-ghost use Rattle.pgs_matching.specs.Reached.{reached};
+ghost use Rattle.pgs_match.specs.Near.{IsSparse};
+ghost use Rattle.pgs_match.specs.Reached.{reached};
 ghost use Rattle.pgs_match.specs.Planned.{most_edges, pattern_of, first_elem};
 
 use crate::searching::Place;
@@ -72,7 +72,7 @@ pub fn key_values<G: GraphRead, L: Ledger>(
 }
 
 /// The elements that x takes in the matches of a pattern of the key in which the variable takes the element, ascending and each once.
-/// The variable is in range, and the key's types are those of the schema. The rule is `reached` in `specs/Reached.antt` of `pgs_matching`.
+/// The variable is in range, and the key's types are those of the schema. The rule is `reached` in `specs/Reached.antt` of `pgs_match`.
 ///
 /// At every exit it has taken at most as many look-ups as [`in_scope`], and it gives at most (d + 2)^w elements.
 pub fn reach<G: GraphRead, L: Ledger>(

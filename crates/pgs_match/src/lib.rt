@@ -2,13 +2,36 @@
 //!
 //! [`plan_key`] plans the searches of a key once. [`in_scope`], [`each_x`], [`key_values`] and [`reach`] then answer exactly by the
 //! definitions of `pgs_syntax`, and the calls that begin at an element say how many look-ups they take at most, by the degrees near it.
-//! What a plan is, how the search goes and why it is right stand in `pgs_plan`, `pgs_search` and `pgs_matching`.
+//!
+//! Below these calls stand three layers:
+//! - plans: in which order a search binds the variables of a pattern, from one variable on. A plan is a list of [`Step`]s, each of which
+//!   binds one variable through an edge of the pattern (`specs/Plans.antt`); [`plan_from`] finds one from any variable of a valid
+//!   pattern, and knows no graphs.
+//! - what a search along a plan comes to, as functions of the graph (`specs/Search.antt`), and how many look-ups it may take
+//!   (`specs/Bounds.antt`); the laws in [`laws`] say that this is what the matches of the pattern give, and within which bound.
+//! - the search itself: a [`Search`] reads the graph by the trait alone, each variable is bound to an element that passes the tests of
+//!   the variable. [`Search::can_complete`] takes no memory; [`Gathering::gather`] adds the tuples of expressions.
 #![tactic(auto)]
 
+mod admission;
+mod asked;
+mod bindings;
 mod calls;
+mod completion;
 mod copies;
+mod gathering;
+pub mod laws;
 mod planned;
+mod planner;
+mod search;
 mod searching;
+mod step;
+mod tuples;
 
+pub use bindings::{Bindings, Bound, MOST_VARIABLES};
 pub use calls::{each_x, in_scope, key_values, reach};
+pub use gathering::Gathering;
 pub use planned::{PlannedKey, Side, plan_key};
+pub use planner::plan_from;
+pub use search::Search;
+pub use step::Step;

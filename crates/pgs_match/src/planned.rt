@@ -1,11 +1,11 @@
 ghost use Rattle.std.specs.Prelude.{◌≡◌, ◌<◌, true, length, IfOk};
 ghost use Rattle.pgs_syntax.specs.Valid.{is_edge_var, is_valid_pattern, is_valid_key};
-ghost use Rattle.pgs_plan.specs.Plans.{is_plan};
+ghost use Rattle.pgs_match.specs.Plans.{is_plan};
 ghost use Rattle.pgs_match.specs.Planned.{are_plans, pattern_of};
 
 use crate::copies::copy_key;
+use crate::{Step, plan_from};
 use pgs_base::{List, Memory};
-use pgs_plan::{Step, plan_from};
 use pgs_syntax::{Key, Pattern};
 use std::alloc::Global;
 use std::marker::Model;

@@ -8,9 +8,9 @@ use Rattle.std.specs.Set.{remove_key}
 use Rattle.std.proofs.lemmas.Bool.{cases_lt}
 use Rattle.pgs_base.specs.declared.element.EdgeId.{EdgeId}
 use Rattle.pgs_base.specs.Graph.{edge_cmp}
-use Rattle.pgs_edges.proofs.Copied.{IsCopied, copied_without, copied_with}
-use Rattle.pgs_edges.specs.Numbers.{IsBetween}
-use Rattle.pgs_edges.proofs.Searched.{key_here, key_between}
+use Rattle.pgs_tables_edges.proofs.Copied.{IsCopied, copied_without, copied_with}
+use Rattle.pgs_tables_edges.specs.Numbers.{IsBetween}
+use Rattle.pgs_tables_edges.proofs.Searched.{key_here, key_between}
 use Rattle.pgs_overlay.specs.declared.edited_list.EditedList.{EditedList}
 use Rattle.pgs_overlay.specs.Edited.{IsEdited}
 use Rattle.pgs_overlay.specs.Found.{StandsAt}

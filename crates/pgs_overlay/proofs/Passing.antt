@@ -11,7 +11,7 @@ use Rattle.pgs_base.specs.declared.element.EdgeId.{EdgeId}
 use Rattle.pgs_base.specs.declared.row.EdgeRow.{EdgeRow}
 use Rattle.pgs_base.specs.Graph.{Graph, edge_cmp, edge_at, is_graph}
 use Rattle.pgs_base.proofs.Lookups.{same_keys}
-use Rattle.pgs_edges.proofs.Copied.{IsCopied, copied_none}
+use Rattle.pgs_tables_edges.proofs.Copied.{IsCopied, copied_none}
 use Rattle.pgs_graph.specs.declared.scan.End.{End}
 use Rattle.pgs_graph.specs.Reads.{end_of, edges_with}
 use Rattle.pgs_graph.specs.Changed.{entry_changed, entries_changed, after_changes}

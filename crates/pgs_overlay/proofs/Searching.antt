@@ -6,8 +6,8 @@ use Rattle.std.proofs.lemmas.Bool.{cases_lt}
 use Rattle.std.proofs.lemmas.Option.{slice_get_within, get_or_from_slice_get, slice_get-get_or}
 use Rattle.pgs_base.specs.declared.element.EdgeId.{EdgeId}
 use Rattle.pgs_base.specs.Graph.{edge_cmp}
-use Rattle.pgs_edges.specs.Numbers.{numbered, number_at, AllBelow, AllAbove, IsBetween}
-use Rattle.pgs_edges.proofs.Searched.{numbers_same, ascends}
+use Rattle.pgs_tables_edges.specs.Numbers.{numbered, number_at, AllBelow, AllAbove, IsBetween}
+use Rattle.pgs_tables_edges.proofs.Searched.{numbers_same, ascends}
 use Rattle.pgs_overlay.specs.Found.{AllFrom, IsLower, StandsAt}
 
 module _ (xs : List EdgeId) (up : IsStrictlySortedBy edge_cmp xs) (edge : EdgeId) (place : ℕ) where

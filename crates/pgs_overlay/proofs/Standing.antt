@@ -5,9 +5,9 @@ use Rattle.std.proofs.lemmas.List.Concat.{flat_map-append}
 use Rattle.std.proofs.lemmas.List.{append-nil, get_or-drop, get_or-take, get_or_default}
 use Rattle.std.proofs.lemmas.Option.{slice_get-get_or}
 use Rattle.pgs_base.specs.declared.element.EdgeId.{EdgeId}
-use Rattle.pgs_edges.specs.Numbers.{numbered}
-use Rattle.pgs_edges.specs.Starts.{StartFrom, IsPlaced}
-use Rattle.pgs_edges.proofs.Joined.{start_is, item_in, IsItemIn, placed_push}
+use Rattle.pgs_tables_edges.specs.Numbers.{numbered}
+use Rattle.pgs_tables_edges.specs.Starts.{StartFrom, IsPlaced}
+use Rattle.pgs_tables_edges.proofs.Joined.{start_is, item_in, IsItemIn, placed_push}
 use Rattle.pgs_overlay.specs.declared.part.Part.{Part}
 use Rattle.pgs_overlay.specs.declared.part.Part.TheVariants.{Range, Added}
 use Rattle.pgs_overlay.specs.declared.part.Placed.{Placed}

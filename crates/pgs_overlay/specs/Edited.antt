@@ -1,8 +1,8 @@
 -- A node's list after the edges of a delta up to a place: what is built, and what is left of the base's list.
 use Rattle.std.specs.Prelude.{List, [], Option, Some, None}
 use Rattle.pgs_base.specs.declared.element.EdgeId.{EdgeId}
-use Rattle.pgs_edges.specs.Numbers.{AllBelow}
-use Rattle.pgs_edges.proofs.Copied.{IsCopied}
+use Rattle.pgs_tables_edges.specs.Numbers.{AllBelow}
+use Rattle.pgs_tables_edges.proofs.Copied.{IsCopied}
 use Rattle.pgs_overlay.specs.declared.edited_list.EditedList.{EditedList}
 use Rattle.pgs_overlay.specs.Parts.{built, StandsOn}
 

@@ -1,7 +1,7 @@
 -- Where an edge stands among edges by ascending number.
 use Rattle.std.specs.Prelude.{◌≡◌, ℕ, ◌+◌, ◌<◌, ◌≤◌, List, length}
 use Rattle.pgs_base.specs.declared.element.EdgeId.{EdgeId}
-use Rattle.pgs_edges.specs.Numbers.{number_at, AllBelow}
+use Rattle.pgs_tables_edges.specs.Numbers.{number_at, AllBelow}
 
 -- the numbers from a place on are that of an edge or above it
 abbrev pub AllFrom : EdgeId → List EdgeId → ℕ → Type 0

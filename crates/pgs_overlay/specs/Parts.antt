@@ -2,8 +2,8 @@
 use Rattle.std.specs.Prelude.{◌≡◌, ℕ, ◌≤◌, List, [], ◌∷◌, ◌++◌, length, take, drop, get_or}
 use Rattle.std.specs.List.{flat_map}
 use Rattle.pgs_base.specs.declared.element.EdgeId.{EdgeId}
-use Rattle.pgs_edges.specs.Numbers.{numbered}
-use Rattle.pgs_edges.specs.Starts.{IsPlaced}
+use Rattle.pgs_tables_edges.specs.Numbers.{numbered}
+use Rattle.pgs_tables_edges.specs.Starts.{IsPlaced}
 use Rattle.pgs_overlay.specs.declared.part.Part.{Part}
 use Rattle.pgs_overlay.specs.declared.part.Part.TheVariants.{Range, Added}
 use Rattle.pgs_overlay.specs.declared.part.Placed.{Placed}

@@ -1,7 +1,7 @@
 ghost use Rattle.std.specs.Prelude.{◌≡◌, ℕ, ◌+◌, ◌<◌, ◌≤◌, List, [], ◌∷◌, ◌++◌, length, take, drop, slice_get, OnOk};
 ghost use Rattle.std.specs.List.{flat_map};
 ghost use Rattle.pgs_base.specs.declared.element.EdgeId.{EdgeId};
-ghost use Rattle.pgs_edges.specs.Starts.{StartFrom};
+ghost use Rattle.pgs_tables_edges.specs.Starts.{StartFrom};
 ghost use Rattle.pgs_overlay.specs.Parts.{part_items, items, first_item, built, listed, StandsOn, IsBuiltOn};
 ghost use Rattle.pgs_overlay.specs.Sides.{edges_at};
 

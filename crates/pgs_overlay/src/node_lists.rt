@@ -16,8 +16,8 @@ use crate::edited_list::EditedList;
 use crate::side::Side;
 use crate::side_lists::edit_side;
 use pgs_base::{EdgeId, EdgeRow, Memory, NodeId, Steps};
+use pgs_base_keyed::Keyed;
 use pgs_graph::GraphRead;
-use pgs_keyed::Keyed;
 use std::alloc::Global;
 use std::sync::ledger::Ledger;
 

@@ -1,7 +1,7 @@
 ghost use Rattle.std.specs.Prelude.{◌≡◌, ◌+◌, ◌-◌, ◌*◌, ◌<◌, ◌≤◌, length, MatchResult, IfSome, true, false};
 ghost use Rattle.pgs_base.specs.declared.element.NodeId.{NodeId};
 ghost use Rattle.pgs_base.specs.Graph.{is_graph};
-ghost use Rattle.pgs_edges.specs.Numbers.{AllBelow, IsBetween};
+ghost use Rattle.pgs_tables_edges.specs.Numbers.{AllBelow, IsBetween};
 ghost use Rattle.pgs_overlay.specs.declared.side.Side.{Side};
 ghost use Rattle.pgs_overlay.specs.Found.{AllFrom, IsLower, StandsAt};
 ghost use Rattle.pgs_overlay.specs.Sides.{edges_at};

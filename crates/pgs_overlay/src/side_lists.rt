@@ -15,8 +15,8 @@ use crate::edit::{put_edge_in, take_edge_out};
 use crate::edited_list::EditedList;
 use crate::side::Side;
 use pgs_base::{EdgeId, Memory, NodeId, Steps};
+use pgs_base_keyed::Keyed;
 use pgs_graph::GraphRead;
-use pgs_keyed::Keyed;
 use std::alloc::Global;
 use std::sync::ledger::Ledger;
 

@@ -15,9 +15,9 @@ use Rattle.pgs_parser.proofs.NoMode.{no_mode_found}
 use Rattle.pgs_parser.proofs.Texts as found
 use Rattle.pgs_syntax.specs.declared.key_cause.KeyCause.TheVariants.{NoX, TwoKinds, Shared, Disconnected, UnknownVariable, TooLarge}
 use Rattle.pgs_resolve.specs.declared.fault.ResolveFault.TheVariants as faults
-use Rattle.pgs_keys.specs.KeyFaults.{cause_of}
-use Rattle.pgs_declared.specs.Order.{numbering_of}
-use Rattle.pgs_keys.specs.Patterns.{resolved_key}
+use Rattle.pgs_resolve_keys.specs.KeyFaults.{cause_of}
+use Rattle.pgs_resolve_declared.specs.Order.{numbering_of}
+use Rattle.pgs_resolve_keys.specs.Patterns.{resolved_key}
 use Rattle.pgs_resolve.specs.Resolution.{resolution, resolved}
 use Rattle.pgs_resolve.specs.Samples.{acquaintance_schema, mail_schema, no_names, of_nodes, of_options, widest, narrow}
 use Rattle.pgs_resolve.specs.SchemaOf.{IsSchemaOf, refused, schema, begins_no_item, is_no_statement, of_items, of_statements, of_refusal, of_script}

@@ -9,9 +9,9 @@ use Rattle.pgs_base.specs.Pair.{same_name}
 use Rattle.pgs_syntax.specs.declared.raw.RawKey.{RawKey}
 use Rattle.pgs_syntax.specs.declared.script.GraphType.{GraphType}
 use Rattle.pgs_syntax.specs.declared.script.Script.{Script}
-use Rattle.pgs_declared.specs.Declarations.{graphs_of, keys_of}
-use Rattle.pgs_declared.specs.Imports.{walked, last_of, walked_graphs}
-use Rattle.pgs_declared.proofs.Walks.{one_more}
+use Rattle.pgs_resolve_declared.specs.Declarations.{graphs_of, keys_of}
+use Rattle.pgs_resolve_declared.specs.Imports.{walked, last_of, walked_graphs}
+use Rattle.pgs_resolve_declared.proofs.Walks.{one_more}
 
 module _ {X : Type 0} (p : X → Bool) where
   -- both parts, and back

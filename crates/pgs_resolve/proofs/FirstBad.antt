@@ -11,12 +11,12 @@ use Rattle.pgs_syntax.specs.declared.key_cause.KeyCause.TheVariants.{NoX, TwoKin
 use Rattle.pgs_syntax.specs.declared.raw.RawKey.{RawKey}
 use Rattle.pgs_resolve.specs.declared.fault.ResolveFault.{ResolveFault}
 use Rattle.pgs_resolve.specs.declared.fault.ResolveFault.TheVariants as faults
-use Rattle.pgs_keys.specs.KeyFaults.{cause_of, has_no_x, descriptor_names, has_two_kinds, shares_more, is_apart, reads_unknown, is_too_large}
+use Rattle.pgs_resolve_keys.specs.KeyFaults.{cause_of, has_no_x, descriptor_names, has_two_kinds, shares_more, is_apart, reads_unknown, is_too_large}
 use Rattle.pgs_resolve.specs.Keyed.{names_x}
-use Rattle.pgs_keys.specs.Patterns.{x_of}
+use Rattle.pgs_resolve_keys.specs.Patterns.{x_of}
 use Rattle.pgs_resolve.specs.Resolution.{bad_key}
-use Rattle.pgs_declared.proofs.Firsts.{first_stays}
-use Rattle.pgs_declared.proofs.Walks.{one_more}
+use Rattle.pgs_resolve_declared.proofs.Firsts.{first_stays}
+use Rattle.pgs_resolve_declared.proofs.Walks.{one_more}
 
 enumerate-append : {X : Type 0} (n : ℕ) (xs ys : List X) → enumerate_from n (xs ++ ys) ≡ enumerate_from n xs ++ enumerate_from (n + length xs) ys
 enumerate-append n [] ys = ap (λ m. enumerate_from m ys) (omega arith)

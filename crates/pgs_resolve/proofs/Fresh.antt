@@ -13,14 +13,14 @@ use Rattle.pgs_syntax.specs.declared.script.Script.{Script}
 use Rattle.pgs_syntax.specs.declared.script.Statement.{Statement}
 use Rattle.pgs_syntax.specs.declared.script.Statement.TheVariants.{Node, Edge, Graph}
 use Rattle.pgs_syntax.specs.declared.specification.Spec.{Spec}
-use Rattle.pgs_declared.specs.declared.duplicates.Mark.{Mark}
-use Rattle.pgs_declared.specs.declared.duplicates.Mark.TheVariants as marks
-use Rattle.pgs_declared.specs.Declarations.{braces_of, declared_in, is_declared, types_of, nodes_of, edges_of, node_in, edge_in}
+use Rattle.pgs_resolve_declared.specs.declared.duplicates.Mark.{Mark}
+use Rattle.pgs_resolve_declared.specs.declared.duplicates.Mark.TheVariants as marks
+use Rattle.pgs_resolve_declared.specs.Declarations.{braces_of, declared_in, is_declared, types_of, nodes_of, edges_of, node_in, edge_in}
 use Rattle.pgs_resolve.specs.Guard.{name_of}
-use Rattle.pgs_declared.specs.Refused.{element_in, marks_in, marks_of_member, marks_of, is_second, repeated_after, seconds_after}
+use Rattle.pgs_resolve_declared.specs.Refused.{element_in, marks_in, marks_of_member, marks_of, is_second, repeated_after, seconds_after}
 use Rattle.pgs_resolve.proofs.Each.{all_parts, all_joined, flat_from}
-use Rattle.pgs_declared.proofs.Repeats.{elements_marked}
-use Rattle.pgs_declared.proofs.Same.{in_turn, itself}
+use Rattle.pgs_resolve_declared.proofs.Repeats.{elements_marked}
+use Rattle.pgs_resolve_declared.proofs.Same.{in_turn, itself}
 
 -- an item of a list
 abbrev pub In : {X : Type 0} → X → List X → Type 0

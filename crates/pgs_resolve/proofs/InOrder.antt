@@ -5,9 +5,9 @@ use Rattle.std.proofs.lemmas.Bool.{or_from, cases_lt, not-true}
 use Rattle.std.proofs.lemmas.List.{get_or_append_left, get_or_at, take-append-le, take_at}
 use Rattle.std.proofs.lemmas.List.Folds.{list_any-append}
 use Rattle.pgs_base.specs.Pair.{same_name, has_name}
-use Rattle.pgs_declared.specs.Order.{Entry, is_ready, sooner, soonest, listing}
+use Rattle.pgs_resolve_declared.specs.Order.{Entry, is_ready, sooner, soonest, listing}
 use Rattle.pgs_resolve.proofs.Fresh.{In}
-use Rattle.pgs_declared.proofs.Same.{in_turn}
+use Rattle.pgs_resolve_declared.proofs.Same.{in_turn}
 
 -- the entry of the name at a place: all that it names stands before, and it doesn't
 pub record EntryAt (entries : List Entry) (names : List (List ℕ)) (k : ℕ) : Type 0 where

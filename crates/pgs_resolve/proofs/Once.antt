@@ -5,8 +5,8 @@ use Rattle.std.proofs.lemmas.List.Elements.{filter-append}
 use Rattle.pgs_base.specs.Pair.{same_name, has_name}
 use Rattle.pgs_syntax.specs.declared.script.Member.{Member}
 use Rattle.pgs_resolve.specs.Guard.{name_of, each_once}
-use Rattle.pgs_declared.proofs.Same.{in_turn, one_name}
-use Rattle.pgs_declared.proofs.Walks.{one_more}
+use Rattle.pgs_resolve_declared.proofs.Same.{in_turn, one_name}
+use Rattle.pgs_resolve_declared.proofs.Walks.{one_more}
 
 abbrev others : List ℕ → List (List ℕ) → List (List ℕ)
 others name names = filter (λ other. not (same_name name other)) names

@@ -8,10 +8,10 @@ use Rattle.pgs_syntax.specs.declared.script.GraphType.{GraphType}
 use Rattle.pgs_syntax.specs.declared.script.Script.{Script}
 use Rattle.pgs_resolve.specs.declared.fault.ResolveFault.{ResolveFault}
 use Rattle.pgs_resolve.specs.declared.fault.ResolveFault.TheVariants as faults
-use Rattle.pgs_declared.specs.Declarations.{graphs_of, keys_of}
-use Rattle.pgs_declared.specs.Refused.{duplicates, unknowns, wrong_kinds, cycle}
+use Rattle.pgs_resolve_declared.specs.Declarations.{graphs_of, keys_of}
+use Rattle.pgs_resolve_declared.specs.Refused.{duplicates, unknowns, wrong_kinds, cycle}
 use Rattle.pgs_resolve.specs.Resolution.{no_graph_type, bad_key, refusals, resolved, resolution, first_refusal}
-use Rattle.pgs_declared.proofs.Firsts.{none_first, first_stays}
+use Rattle.pgs_resolve_declared.proofs.Firsts.{none_first, first_stays}
 
 -- the first of mapped names
 pub named_first : (fault : List ℕ → ResolveFault) (names : List (List ℕ)) (name : List ℕ) → Some name ≡ slice_get names 0 →

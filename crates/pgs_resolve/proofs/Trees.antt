@@ -5,7 +5,7 @@ use denote.Hole.Carrier.{hidden}
 use Rattle.pgs_syntax.specs.declared.specification.Leaf.{Leaf}
 use Rattle.pgs_syntax.specs.declared.specification.Spec.{Spec, And, And', Or, Or', Opt, Row_of-Spec, more_of-Spec}
 use Rattle.pgs_syntax.specs.declared.specification.Spec.TheBlock as block
-use Rattle.pgs_declared.specs.Order.{resolved_spec, resolved_specs}
+use Rattle.pgs_resolve_declared.specs.Order.{resolved_spec, resolved_specs}
 
 abbrev Row : Type 0
 Row = (shape : List (Unit {0})) × Row_of-Spec Leaf (list_count (this {0}) shape 0)

@@ -15,13 +15,13 @@ use Rattle.pgs_syntax.specs.declared.script.Script.{Script}
 use Rattle.pgs_syntax.specs.Valid.{is_valid, is_valid_key_of}
 use Rattle.pgs_resolve.specs.declared.fault.ResolveFault.{ResolveFault}
 use Rattle.pgs_resolve.specs.declared.fault.ResolveFault.TheVariants as faults
-use Rattle.pgs_declared.specs.Declarations.{nodes_of, edges_of, keys_of}
-use Rattle.pgs_declared.specs.Imports.{walked_graphs}
+use Rattle.pgs_resolve_declared.specs.Declarations.{nodes_of, edges_of, keys_of}
+use Rattle.pgs_resolve_declared.specs.Imports.{walked_graphs}
 use Rattle.pgs_resolve.specs.Guard.{each_once, name_of}
-use Rattle.pgs_declared.specs.declared.order.Numbering.{Numbering}
-use Rattle.pgs_declared.specs.Order.{numbering_of}
-use Rattle.pgs_keys.specs.Patterns.{resolved_key}
-use Rattle.pgs_declared.specs.Refused.{marks_of, seconds_after, duplicates, cyclic, named_by, cycle}
+use Rattle.pgs_resolve_declared.specs.declared.order.Numbering.{Numbering}
+use Rattle.pgs_resolve_declared.specs.Order.{numbering_of}
+use Rattle.pgs_resolve_keys.specs.Patterns.{resolved_key}
+use Rattle.pgs_resolve_declared.specs.Refused.{marks_of, seconds_after, duplicates, cyclic, named_by, cycle}
 use Rattle.pgs_resolve.specs.Resolution.{refusals, resolved, resolution}
 use Rattle.pgs_resolve.proofs.Each.{of_guard, keys_in}
 use Rattle.pgs_resolve.proofs.FirstBad.{AllSound, all_sound, is_sound}

@@ -12,17 +12,17 @@ use Rattle.pgs_syntax.specs.declared.resolved.TypeNo.TheVariants.{Node, Edge}
 use Rattle.pgs_syntax.specs.declared.script.GraphType.{GraphType}
 use Rattle.pgs_syntax.specs.declared.script.Script.{Script}
 use Rattle.pgs_syntax.specs.Valid.{is_type}
-use Rattle.pgs_declared.specs.Declarations.{graphs_of, graph_named, keys_of}
-use Rattle.pgs_declared.specs.Imports.{walked, last_of, walked_graphs}
+use Rattle.pgs_resolve_declared.specs.Declarations.{graphs_of, graph_named, keys_of}
+use Rattle.pgs_resolve_declared.specs.Imports.{walked, last_of, walked_graphs}
 use Rattle.pgs_resolve.specs.Guard.{type_no}
-use Rattle.pgs_keys.specs.KeyFaults.{are_too_large, within_of}
-use Rattle.pgs_declared.specs.declared.order.Numbering.{Numbering}
-use Rattle.pgs_declared.specs.Order.{number_in}
-use Rattle.pgs_declared.specs.Refused.{imported_by, leads, cyclic, least}
+use Rattle.pgs_resolve_keys.specs.KeyFaults.{are_too_large, within_of}
+use Rattle.pgs_resolve_declared.specs.declared.order.Numbering.{Numbering}
+use Rattle.pgs_resolve_declared.specs.Order.{number_in}
+use Rattle.pgs_resolve_declared.specs.Refused.{imported_by, leads, cyclic, least}
 use Rattle.pgs_resolve.proofs.Each.{keys_in}
 use Rattle.pgs_resolve.proofs.FirstBad.{AllSound, is_sound}
 use Rattle.pgs_resolve.proofs.Fresh.{Fresh, In, fresh_none}
-use Rattle.pgs_declared.proofs.Same.{one_name, in_turn}
+use Rattle.pgs_resolve_declared.proofs.Same.{one_name, in_turn}
 use Rattle.pgs_resolve.proofs.ValidSpecs.{number_within}
 
 -- ---- the types that are listed

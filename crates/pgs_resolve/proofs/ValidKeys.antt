@@ -15,14 +15,14 @@ use Rattle.pgs_syntax.specs.declared.raw.RawKey.{RawKey}
 use Rattle.pgs_syntax.specs.declared.raw.RawPath.{RawPath}
 use Rattle.pgs_syntax.specs.declared.resolved.Resolved.{Resolved}
 use Rattle.pgs_syntax.specs.Valid.{is_valid_pattern, is_valid_key_of, is_connected, are_one_kind, is_edge_var, read_var, names_types}
-use Rattle.pgs_keys.specs.KeyFaults.{within_of, descriptor_names, are_too_large}
-use Rattle.pgs_declared.specs.declared.order.Numbering.{Numbering}
-use Rattle.pgs_declared.specs.Order.{number_in}
-use Rattle.pgs_keys.specs.Patterns.{Variable, called, nameless, is_same, variables_at, variables_of, number_of, with_variable, name_atom, named_in, places_of, pattern_of, x_of, x_alone, descriptor_variables, resolved_expr, resolved_key}
-use Rattle.pgs_keys.proofs.AtomsOfPaths.{AllGood, paths_ok, number_below}
+use Rattle.pgs_resolve_keys.specs.KeyFaults.{within_of, descriptor_names, are_too_large}
+use Rattle.pgs_resolve_declared.specs.declared.order.Numbering.{Numbering}
+use Rattle.pgs_resolve_declared.specs.Order.{number_in}
+use Rattle.pgs_resolve_keys.specs.Patterns.{Variable, called, nameless, is_same, variables_at, variables_of, number_of, with_variable, name_atom, named_in, places_of, pattern_of, x_of, x_alone, descriptor_variables, resolved_expr, resolved_key}
+use Rattle.pgs_resolve_keys.proofs.AtomsOfPaths.{AllGood, paths_ok, number_below}
 use Rattle.pgs_resolve.proofs.FirstBad.{IsSound}
 use Rattle.pgs_resolve.proofs.Fresh.{In}
-use Rattle.pgs_declared.proofs.Same.{itself}
+use Rattle.pgs_resolve_declared.proofs.Same.{itself}
 use Rattle.pgs_resolve.proofs.ValidGuard.{node_there, edge_there}
 use Rattle.pgs_resolve.proofs.ValidPatterns.{pattern_valid}
 use Rattle.pgs_resolve.proofs.VariablesOfPaths.{Kinded, OneKind, one_kind, one_kind_parts, one_kind_across, find_is, found_in, one_variable, stays_first, named_edge, named_node}

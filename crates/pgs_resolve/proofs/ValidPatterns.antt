@@ -13,13 +13,13 @@ use Rattle.pgs_syntax.specs.declared.raw.RawFilter.{RawFilter}
 use Rattle.pgs_syntax.specs.declared.raw.RawPath.{RawPath}
 use Rattle.pgs_syntax.specs.declared.raw.RawStep.{RawStep}
 use Rattle.pgs_syntax.specs.Valid.{speaks_of, gives_ends, has_all_ends, groups_after, together, is_connected, edge_count, is_valid_pattern}
-use Rattle.pgs_keys.specs.KeyFaults.{edge_places, are_too_large}
-use Rattle.pgs_declared.specs.declared.order.Numbering.{Numbering}
-use Rattle.pgs_declared.specs.Order.{number_in}
-use Rattle.pgs_keys.specs.Patterns.{Place, Variable, variable_at, variables_at, variables_of, number_of, name_atom, place_atoms, ends, step_atoms, path_atoms, places_of, places_of_path, places_of_step, pattern_of}
-use Rattle.pgs_keys.proofs.AtomsOfPaths.{AllGood, paths_ok}
+use Rattle.pgs_resolve_keys.specs.KeyFaults.{edge_places, are_too_large}
+use Rattle.pgs_resolve_declared.specs.declared.order.Numbering.{Numbering}
+use Rattle.pgs_resolve_declared.specs.Order.{number_in}
+use Rattle.pgs_resolve_keys.specs.Patterns.{Place, Variable, variable_at, variables_at, variables_of, number_of, name_atom, place_atoms, ends, step_atoms, path_atoms, places_of, places_of_path, places_of_step, pattern_of}
+use Rattle.pgs_resolve_keys.proofs.AtomsOfPaths.{AllGood, paths_ok}
 use Rattle.pgs_resolve.proofs.Fresh.{In}
-use Rattle.pgs_keys.proofs.Stepped.{step_places}
+use Rattle.pgs_resolve_keys.proofs.Stepped.{step_places}
 use Rattle.pgs_resolve.proofs.VariablesOfPaths.{Kinded, OneKind, in_at, in_either, total, total_variables, variable_from, variable_there, variables_once, same_kind, number_at, own_number}
 
 -- ---- how many places there are

@@ -17,12 +17,12 @@ use Rattle.pgs_syntax.specs.declared.script.Statement.{Statement}
 use Rattle.pgs_syntax.specs.declared.script.Statement.TheVariants.{Node, Edge, Graph}
 use Rattle.pgs_syntax.specs.declared.specification.Leaf.{Leaf}
 use Rattle.pgs_syntax.specs.Valid.{are_distinct}
-use Rattle.pgs_declared.specs.Declarations.{types_of, nodes_of, edges_of, declared_in, is_declared, node_named, edge_named}
-use Rattle.pgs_declared.specs.declared.order.Numbering.{Numbering}
-use Rattle.pgs_declared.specs.Order.{Entry, numbering_of, resolved_node, resolved_edge, resolved_nodes, resolved_edges}
-use Rattle.pgs_declared.specs.Refused.{marks_of, seconds_after}
+use Rattle.pgs_resolve_declared.specs.Declarations.{types_of, nodes_of, edges_of, declared_in, is_declared, node_named, edge_named}
+use Rattle.pgs_resolve_declared.specs.declared.order.Numbering.{Numbering}
+use Rattle.pgs_resolve_declared.specs.Order.{Entry, numbering_of, resolved_node, resolved_edge, resolved_nodes, resolved_edges}
+use Rattle.pgs_resolve_declared.specs.Refused.{marks_of, seconds_after}
 use Rattle.pgs_resolve.proofs.Fresh.{In, nodes_among, edges_among}
-use Rattle.pgs_declared.proofs.Same.{itself}
+use Rattle.pgs_resolve_declared.proofs.Same.{itself}
 use Rattle.pgs_resolve.proofs.ValidTypes.{TypeAt, resolved_of, node_at, edge_at, node_count, edge_count}
 
 -- numbers that ascend from one on

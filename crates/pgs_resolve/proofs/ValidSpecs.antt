@@ -10,13 +10,13 @@ use Rattle.pgs_syntax.specs.declared.specification.Property.{Property}
 use Rattle.pgs_syntax.specs.declared.specification.Spec as specs
 use Rattle.pgs_syntax.specs.declared.specification.Spec.{Spec, Empty, Word, OpenLabels, And', Or', Opt', Row_of-Spec, end_of-Spec, more_of-Spec}
 use Rattle.pgs_syntax.specs.Valid.{are_distinct, is_valid_spec, are_valid_specs}
-use Rattle.pgs_declared.specs.declared.duplicates.Mark.TheVariants as marks
-use Rattle.pgs_declared.specs.Declarations.{pieces_of, pieces_of_each, words_of, word_in, braces_of, keys_in}
-use Rattle.pgs_declared.specs.Order.{number_in, resolved_spec, resolved_specs}
-use Rattle.pgs_declared.specs.Refused.{repeated_after, marks_in}
+use Rattle.pgs_resolve_declared.specs.declared.duplicates.Mark.TheVariants as marks
+use Rattle.pgs_resolve_declared.specs.Declarations.{pieces_of, pieces_of_each, words_of, word_in, braces_of, keys_in}
+use Rattle.pgs_resolve_declared.specs.Order.{number_in, resolved_spec, resolved_specs}
+use Rattle.pgs_resolve_declared.specs.Refused.{repeated_after, marks_in}
 use Rattle.pgs_resolve.proofs.Each.{all_parts}
 use Rattle.pgs_resolve.proofs.Fresh.{Fresh, fresh_none, is_single}
-use Rattle.pgs_declared.proofs.Same.{some_place}
+use Rattle.pgs_resolve_declared.proofs.Same.{some_place}
 
 abbrev same_key : Property → Property → Bool
 same_key a b = same_name a.key b.key

@@ -12,14 +12,14 @@ use Rattle.pgs_syntax.specs.declared.script.Script.{Script}
 use Rattle.pgs_syntax.specs.declared.specification.Leaf.{Leaf}
 use Rattle.pgs_syntax.specs.declared.specification.Spec.{Spec}
 use Rattle.pgs_syntax.specs.Valid.{is_valid_spec, are_valid_nodes, are_valid_edges}
-use Rattle.pgs_declared.specs.Declarations.{words_of, types_of, nodes_of, edges_of, node_named, edge_named, is_node_type, is_edge_type}
-use Rattle.pgs_declared.specs.declared.order.Numbering.{Numbering}
-use Rattle.pgs_declared.specs.Order.{Entry, is_ready, node_entry, edge_entry, numbering_of, resolved_spec, resolved_node, resolved_edge, resolved_nodes, resolved_edges}
-use Rattle.pgs_declared.specs.Refused.{marks_in, marks_of, seconds_after}
+use Rattle.pgs_resolve_declared.specs.Declarations.{words_of, types_of, nodes_of, edges_of, node_named, edge_named, is_node_type, is_edge_type}
+use Rattle.pgs_resolve_declared.specs.declared.order.Numbering.{Numbering}
+use Rattle.pgs_resolve_declared.specs.Order.{Entry, is_ready, node_entry, edge_entry, numbering_of, resolved_spec, resolved_node, resolved_edge, resolved_nodes, resolved_edges}
+use Rattle.pgs_resolve_declared.specs.Refused.{marks_in, marks_of, seconds_after}
 use Rattle.pgs_resolve.proofs.Each.{all_parts}
 use Rattle.pgs_resolve.proofs.Fresh.{In, in_all, is_single, member_single, types_fresh, types_single, all_single, node_found, edge_found, nodes_among, edges_among}
 use Rattle.pgs_resolve.proofs.InOrder.{EntryAt, in_order}
-use Rattle.pgs_declared.proofs.Same.{one_name}
+use Rattle.pgs_resolve_declared.proofs.Same.{one_name}
 use Rattle.pgs_resolve.proofs.ValidSpecs.{is_below, spec_valid, words_below, each_below}
 
 -- the type of the name at a place

@@ -10,10 +10,10 @@ use Rattle.std.proofs.lemmas.List.Quantifiers.{position-Some}
 use Rattle.pgs_base.specs.Pair.{same_name, has_name}
 use Rattle.pgs_syntax.specs.declared.raw.RawPath.{RawPath}
 use Rattle.pgs_syntax.specs.declared.raw.RawPlace.{RawPlace}
-use Rattle.pgs_keys.specs.KeyFaults.{edge_places, node_places}
-use Rattle.pgs_keys.specs.Patterns.{Place, Variable, called, nameless, same_variable, is_same, variable_at, variables_at, with_variable, variables_of, number_of, named_in, places_of}
+use Rattle.pgs_resolve_keys.specs.KeyFaults.{edge_places, node_places}
+use Rattle.pgs_resolve_keys.specs.Patterns.{Place, Variable, called, nameless, same_variable, is_same, variable_at, variables_at, with_variable, variables_of, number_of, named_in, places_of}
 use Rattle.pgs_resolve.proofs.Fresh.{In, in_none}
-use Rattle.pgs_declared.proofs.Same.{one_name, itself, some_place}
+use Rattle.pgs_resolve_declared.proofs.Same.{one_name, itself, some_place}
 
 abbrev pub Kinded : Type 0
 Kinded = Variable × Bool

@@ -9,11 +9,11 @@ use Rattle.pgs_syntax.specs.declared.script.Member.{Member}
 use Rattle.pgs_syntax.specs.declared.script.Member.TheVariants as members
 use Rattle.pgs_syntax.specs.declared.script.Script.{Script}
 use Rattle.pgs_base.specs.Pair.{same_name}
-use Rattle.pgs_declared.specs.Declarations.{graphs_of}
-use Rattle.pgs_declared.specs.Imports.{last_of, walked_graphs}
-use Rattle.pgs_declared.specs.declared.order.Numbering.{Numbering}
-use Rattle.pgs_declared.specs.Order.{number_in}
-use Rattle.pgs_keys.specs.Patterns.{resolved_key}
+use Rattle.pgs_resolve_declared.specs.Declarations.{graphs_of}
+use Rattle.pgs_resolve_declared.specs.Imports.{last_of, walked_graphs}
+use Rattle.pgs_resolve_declared.specs.declared.order.Numbering.{Numbering}
+use Rattle.pgs_resolve_declared.specs.Order.{number_in}
+use Rattle.pgs_resolve_keys.specs.Patterns.{resolved_key}
 
 -- the name of a member
 abbrev pub name_of : Member → List ℕ

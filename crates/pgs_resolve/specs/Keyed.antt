@@ -3,10 +3,10 @@ use Rattle.std.specs.Prelude.{◌≡◌, Bool, true, List, is_some}
 use Rattle.std.specs.List.{list_all}
 use Rattle.pgs_syntax.specs.declared.raw.RawKey.{RawKey}
 use Rattle.pgs_syntax.specs.declared.script.Script.{Script}
-use Rattle.pgs_declared.specs.declared.declarations.Declarations.{Declarations}
-use Rattle.pgs_declared.specs.Declarations.{keys_of}
-use Rattle.pgs_keys.specs.Patterns.{x_of}
-use Rattle.pgs_declared.specs.Tables.{AreOf}
+use Rattle.pgs_resolve_declared.specs.declared.declarations.Declarations.{Declarations}
+use Rattle.pgs_resolve_declared.specs.Declarations.{keys_of}
+use Rattle.pgs_resolve_keys.specs.Patterns.{x_of}
+use Rattle.pgs_resolve_declared.specs.Tables.{AreOf}
 
 -- whether the scope of a key names a variable, and whether those of all keys do
 abbrev pub names_x : RawKey → Bool

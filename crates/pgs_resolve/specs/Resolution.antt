@@ -8,10 +8,10 @@ use Rattle.pgs_syntax.specs.declared.script.GraphType.{GraphType}
 use Rattle.pgs_syntax.specs.declared.script.Script.{Script}
 use Rattle.pgs_resolve.specs.declared.fault.ResolveFault.{ResolveFault}
 use Rattle.pgs_resolve.specs.declared.fault.ResolveFault.TheVariants as faults
-use Rattle.pgs_declared.specs.Declarations.{graphs_of, keys_of}
-use Rattle.pgs_declared.specs.Refused.{duplicates, unknowns, wrong_kinds, cycle}
-use Rattle.pgs_declared.specs.Order.{numbering_of, resolved_nodes, resolved_edges}
-use Rattle.pgs_keys.specs.KeyFaults.{cause_of}
+use Rattle.pgs_resolve_declared.specs.Declarations.{graphs_of, keys_of}
+use Rattle.pgs_resolve_declared.specs.Refused.{duplicates, unknowns, wrong_kinds, cycle}
+use Rattle.pgs_resolve_declared.specs.Order.{numbering_of, resolved_nodes, resolved_edges}
+use Rattle.pgs_resolve_keys.specs.KeyFaults.{cause_of}
 use Rattle.pgs_resolve.specs.Guard.{guarding}
 
 -- a script without graph types is refused

@@ -8,7 +8,7 @@ use Rattle.pgs_syntax.specs.declared.resolved.TypeNo.TheVariants as numbers
 use Rattle.pgs_syntax.specs.declared.element_type.NodeType.{NodeType}
 use Rattle.pgs_syntax.specs.declared.specification.Leaf.{Leaf}
 use Rattle.pgs_syntax.specs.declared.specification.Spec.{Spec, And, Opt}
-use Rattle.pgs_declared.specs.declared.order.Numbering.{Numbering}
+use Rattle.pgs_resolve_declared.specs.declared.order.Numbering.{Numbering}
 use Rattle.pgs_syntax.specs.Samples.{label, type, node_type, braces, property, key, qualifiers, pattern}
 
 -- the schema of nodes that know other nodes

@@ -3,15 +3,15 @@ ghost use Rattle.std.specs.Option.{option_to_list, option_map_or};
 ghost use Rattle.pgs_base.specs.Pair.{has_name};
 ghost use Rattle.pgs_syntax.specs.declared.script.GraphType.{GraphType};
 ghost use Rattle.pgs_syntax.specs.declared.script.Script.{Script};
-ghost use Rattle.pgs_declared.specs.Declarations.{graphs_of};
-ghost use Rattle.pgs_declared.specs.Imports.{last_of};
+ghost use Rattle.pgs_resolve_declared.specs.Declarations.{graphs_of};
+ghost use Rattle.pgs_resolve_declared.specs.Imports.{last_of};
 ghost use Rattle.pgs_resolve.specs.Guard.{name_of, each_once, type_no, guarding};
 ghost use Rattle.pgs_resolve.specs.Keyed.{AreKeyed};
-ghost use Rattle.pgs_declared.specs.Tables.{AreOf};
+ghost use Rattle.pgs_resolve_declared.specs.Tables.{AreOf};
 
 use crate::guard_keys::resolve_keys;
 use pgs_base::{Copyable, List, Memory, Name};
-use pgs_declared::{Declarations, Names, Numbering, guard_graphs, last_graph};
+use pgs_resolve_declared::{Declarations, Names, Numbering, guard_graphs, last_graph};
 use pgs_syntax::{GraphType, Guarding, Member, TypeNo};
 use std::alloc::Global;
 

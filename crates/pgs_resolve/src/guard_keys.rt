@@ -1,10 +1,10 @@
 ghost use Rattle.std.specs.Prelude.{◌≡◌, ◌++◌, [], ◌∷◌, true, map, flat_map, IfOk, OnOk};
 ghost use Rattle.pgs_resolve.specs.Keyed.{names_x, EachNamesX};
-ghost use Rattle.pgs_keys.specs.Patterns.{resolved_key};
+ghost use Rattle.pgs_resolve_keys.specs.Patterns.{resolved_key};
 
 use pgs_base::Memory;
-use pgs_declared::Numbering;
-use pgs_keys::{named_in, places_of, resolve_key};
+use pgs_resolve_declared::Numbering;
+use pgs_resolve_keys::{named_in, places_of, resolve_key};
 use pgs_syntax::{GraphType, Key, RawKey};
 use std::alloc::Global;
 

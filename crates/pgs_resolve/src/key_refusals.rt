@@ -1,14 +1,14 @@
 ghost use Rattle.std.specs.Prelude.{◌≡◌, ◌++◌, map, filter_map, slice_get, IfOk, OnOk};
 ghost use Rattle.std.specs.List.{enumerate_from};
 ghost use Rattle.pgs_syntax.specs.declared.script.Script.{Script};
-ghost use Rattle.pgs_declared.specs.Declarations.{keys_of};
+ghost use Rattle.pgs_resolve_declared.specs.Declarations.{keys_of};
 ghost use Rattle.pgs_resolve.specs.Resolution.{bad_key};
-ghost use Rattle.pgs_declared.specs.Tables.{AreOf};
+ghost use Rattle.pgs_resolve_declared.specs.Tables.{AreOf};
 
 use crate::ResolveFault;
 use pgs_base::Memory;
-use pgs_declared::Declarations;
-use pgs_keys::cause_of;
+use pgs_resolve_declared::Declarations;
+use pgs_resolve_keys::cause_of;
 use pgs_syntax::RawKey;
 use std::alloc::Global;
 

@@ -6,16 +6,16 @@ ghost use Rattle.pgs_syntax.specs.Valid.{is_valid};
 ghost use Rattle.pgs_resolve.specs.declared.fault.ResolveFault.TheVariants as faults;
 ghost use Rattle.pgs_resolve.specs.Resolution.{refusals, resolved, resolution};
 ghost use Rattle.pgs_resolve.specs.Keyed.{AreKeyed};
-ghost use Rattle.pgs_declared.specs.Tables.{AreOf};
+ghost use Rattle.pgs_resolve_declared.specs.Tables.{AreOf};
 
 use crate::ResolveFault;
 use crate::guard::guarding;
 use crate::key_refusals::first_bad_key;
 use crate::resolved_types::{resolve_edges, resolve_nodes};
 use pgs_base::{Copyable, Memory};
-use pgs_declared::{Declarations, first_duplicate, first_unknown, first_wrong};
+use pgs_resolve_declared::{Declarations, first_duplicate, first_unknown, first_wrong};
+use pgs_resolve_order::{least_on_cycle, numbering};
 use pgs_syntax::{Resolved, Script};
-use pgs_type_order::{least_on_cycle, numbering};
 use std::alloc::Global;
 
 // The first refusal of a script. `None` exactly where it has none.

@@ -1,13 +1,13 @@
 ghost use Rattle.std.specs.Prelude.{◌≡◌, ◌++◌, IfOk, OnOk};
 ghost use Rattle.std.specs.Option.{option_map, option_to_list};
 ghost use Rattle.pgs_syntax.specs.declared.script.Script.{Script};
-ghost use Rattle.pgs_declared.specs.Declarations.{node_named, edge_named};
-ghost use Rattle.pgs_declared.specs.Order.{resolved_node, resolved_edge, resolved_nodes, resolved_edges};
-ghost use Rattle.pgs_declared.specs.Tables.{AreOf};
+ghost use Rattle.pgs_resolve_declared.specs.Declarations.{node_named, edge_named};
+ghost use Rattle.pgs_resolve_declared.specs.Order.{resolved_node, resolved_edge, resolved_nodes, resolved_edges};
+ghost use Rattle.pgs_resolve_declared.specs.Tables.{AreOf};
 
 use crate::specifications::resolve_spec;
 use pgs_base::{Copyable, List, Memory, Name};
-use pgs_declared::{Declarations, Numbering};
+use pgs_resolve_declared::{Declarations, Numbering};
 use pgs_syntax::{EdgeType, Leaf, NodeType};
 use std::alloc::Global;
 

@@ -8,9 +8,9 @@ ghost use Rattle.pgs_syntax.specs.Samples.{staff, keyed, two_steps, moderator, p
 ghost use Rattle.pgs_syntax.specs.Valid.{is_valid};
 ghost use Rattle.pgs_syntax.specs.declared.key_cause.KeyCause.TheVariants.{NoX, TwoKinds, Shared, Disconnected, UnknownVariable, TooLarge};
 ghost use Rattle.pgs_resolve.specs.declared.fault.ResolveFault.TheVariants as faults;
-ghost use Rattle.pgs_keys.specs.KeyFaults.{cause_of};
-ghost use Rattle.pgs_declared.specs.Order.{numbering_of};
-ghost use Rattle.pgs_keys.specs.Patterns.{resolved_key};
+ghost use Rattle.pgs_resolve_keys.specs.KeyFaults.{cause_of};
+ghost use Rattle.pgs_resolve_declared.specs.Order.{numbering_of};
+ghost use Rattle.pgs_resolve_keys.specs.Patterns.{resolved_key};
 ghost use Rattle.pgs_resolve.specs.Resolution.{resolution, resolved};
 ghost use Rattle.pgs_resolve.specs.Samples.{acquaintance_schema, mail_schema, no_names, of_nodes, of_options, widest, narrow};
 ghost use Rattle.pgs_resolve.specs.SchemaOf.{IsSchemaOf, refused, schema, begins_no_item, is_no_statement};

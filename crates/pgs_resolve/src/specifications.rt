@@ -1,8 +1,8 @@
 ghost use Rattle.std.specs.Prelude.{◌≡◌, map, IfOk};
-ghost use Rattle.pgs_declared.specs.Order.{leaf_in, resolved_spec};
+ghost use Rattle.pgs_resolve_declared.specs.Order.{leaf_in, resolved_spec};
 
 use pgs_base::{Boxed, Copyable, List, Memory, Name};
-use pgs_declared::Names;
+use pgs_resolve_declared::Names;
 use pgs_syntax::{Braces, Leaf, Property, Spec};
 use std::alloc::Global;
 

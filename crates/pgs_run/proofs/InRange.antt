@@ -3,13 +3,13 @@ use Rattle.std.proofs.Common.{ℕ, ◌≤◌, Bool, true, false, cond, List, [],
 use Rattle.std.specs.Prelude.{nat_le, option_map, option_and_then}
 use Rattle.std.proofs.lemmas.Bool.{leb-true}
 use Rattle.pgs_base.specs.declared.element.Elem.{Elem}
-use Rattle.pgs_words.specs.declared.command.Command.{Command}
-use Rattle.pgs_words.specs.declared.command.Command.TheVariants.{Try, Validate, Load, Apply, Recover, Explain, Gen, Checkpoint}
-use Rattle.pgs_words.specs.declared.command_word.CommandWord.{CommandWord}
-use Rattle.pgs_words.specs.declared.command_word.CommandWord.TheVariants as words
-use Rattle.pgs_words.specs.Further.{are_plain}
-use Rattle.pgs_words.specs.Words as reading
-use Rattle.pgs_words.specs.Words.{count_of, number_of, generated, explained, elem_of, command_in, command_word, command_of_plain}
+use Rattle.pgs_run_words.specs.declared.command.Command.{Command}
+use Rattle.pgs_run_words.specs.declared.command.Command.TheVariants.{Try, Validate, Load, Apply, Recover, Explain, Gen, Checkpoint}
+use Rattle.pgs_run_words.specs.declared.command_word.CommandWord.{CommandWord}
+use Rattle.pgs_run_words.specs.declared.command_word.CommandWord.TheVariants as words
+use Rattle.pgs_run_words.specs.Further.{are_plain}
+use Rattle.pgs_run_words.specs.Words as reading
+use Rattle.pgs_run_words.specs.Words.{count_of, number_of, generated, explained, elem_of, command_in, command_word, command_of_plain}
 use Rattle.pgs_run.specs.Command.{IsInRange}
 
 -- a workload has at most so many transactions

@@ -1,12 +1,12 @@
 -- The facts of a run, from those of its command.
 use Rattle.std.proofs.Common.{◌≡◌, ◌⊎◌, ℕ, ◌-◌, Bool, true, false, List, [], length, Option, Some, None, refl, sym, ap, subst, inl, inr, ◌∙◌}
 use Rattle.pgs_feed.specs.Places.{Place, lost_count}
-use Rattle.pgs_lines.specs.Ending.{Faults, faults_of}
-use Rattle.pgs_lines.specs.Machine.{Told}
-use Rattle.pgs_lines.specs.Pieces.{Shown, ShowsAll, ShowsFirst, shown_of}
-use Rattle.pgs_lines.proofs.RunEnds.{within_unread}
-use Rattle.pgs_lines.proofs.Showing.{shows_none}
-use Rattle.pgs_words.specs.declared.command.Command.{Command}
+use Rattle.pgs_run_lines.specs.Ending.{Faults, faults_of}
+use Rattle.pgs_run_lines.specs.Machine.{Told}
+use Rattle.pgs_run_lines.specs.Pieces.{Shown, ShowsAll, ShowsFirst, shown_of}
+use Rattle.pgs_run_lines.proofs.RunEnds.{within_unread}
+use Rattle.pgs_run_lines.proofs.Showing.{shows_none}
+use Rattle.pgs_run_words.specs.declared.command.Command.{Command}
 use Rattle.pgs_world.specs.World.{View}
 use Rattle.pgs_run_base.specs.declared.status.Status.{Status}
 use Rattle.pgs_run_base.specs.declared.status.Status.TheVariants.{Accepted, Refused, BadWords, SchemaRefused, StoreRefused, DiskFault, ReadFault, PutFault, Memory, InputTooLong}

@@ -5,15 +5,15 @@ use Rattle.std.proofs.lemmas.Bool.Decides.{nat_tests}
 use Rattle.pgs_answer.specs.Lines.{checkpoint_line, absent_line}
 use Rattle.pgs_answer.specs.Refusals.{epochs_spent_text}
 use Rattle.pgs_base.specs.declared.element.Elem.{Elem}
-use Rattle.pgs_lines.specs.Machine.{Told}
+use Rattle.pgs_run_lines.specs.Machine.{Told}
 use Rattle.pgs_snapshot.specs.Choice.{Choice, choice_of, chosen_epoch}
 use Rattle.pgs_snapshot.specs.Choice as choices
 use Rattle.pgs_snapshot.specs.Saved.{SavedState, saved}
 use Rattle.pgs_snapshot.specs.Saved as states
 use Rattle.pgs_syntax.specs.Matches.{carried}
 use Rattle.pgs_syntax.specs.declared.resolved.Resolved.{Resolved}
-use Rattle.pgs_words.specs.declared.command.Command.{Command}
-use Rattle.pgs_words.specs.declared.command.Command.TheVariants.{Try, Validate, Load, Apply, Recover, Explain, Gen, Checkpoint}
+use Rattle.pgs_run_words.specs.declared.command.Command.{Command}
+use Rattle.pgs_run_words.specs.declared.command.Command.TheVariants.{Try, Validate, Load, Apply, Recover, Explain, Gen, Checkpoint}
 use Rattle.pgs_run_base.specs.declared.status.Status.{Status}
 use Rattle.pgs_run_base.specs.declared.status.Status.TheVariants.{Accepted, Refused, InputTooLong}
 use Rattle.pgs_run_base.specs.Answers.{schema_answer, schema_or_text}

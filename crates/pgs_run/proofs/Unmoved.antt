@@ -2,9 +2,9 @@
 use Rattle.std.proofs.Common.{◌≡◌, ℕ, List, [], Option, Some, None, refl, inl, arith}
 use Rattle.pgs_feed.specs.Places.{Place, lost_count}
 use Rattle.pgs_feed.proofs.Given.{given_none}
-use Rattle.pgs_lines.specs.AreasKept.{KeepsAreas, keeps_none}
-use Rattle.pgs_words.specs.declared.command.Command.{Command}
-use Rattle.pgs_words.specs.declared.command.Command.TheVariants.{Try, Validate, Load, Apply, Recover, Explain, Gen, Checkpoint}
+use Rattle.pgs_run_lines.specs.AreasKept.{KeepsAreas, keeps_none}
+use Rattle.pgs_run_words.specs.declared.command.Command.{Command}
+use Rattle.pgs_run_words.specs.declared.command.Command.TheVariants.{Try, Validate, Load, Apply, Recover, Explain, Gen, Checkpoint}
 use Rattle.pgs_world.specs.Moment.{IsTimed}
 use Rattle.pgs_world.specs.World.{View}
 use Rattle.pgs_world.proofs.Moments.{passes_none, each_none, quiet_none}

@@ -2,12 +2,12 @@
 use Rattle.std.specs.Prelude.{◌≡◌, ℕ, List, Option, Some, None, IsTrue}
 use Rattle.pgs_base.specs.Graph.{Graph}
 use Rattle.pgs_feed.specs.Places.{Place, lost_count}
-use Rattle.pgs_lines.specs.AreasKept.{KeepsAreas}
-use Rattle.pgs_lines.specs.Pieces.{shown_of}
+use Rattle.pgs_run_lines.specs.AreasKept.{KeepsAreas}
+use Rattle.pgs_run_lines.specs.Pieces.{shown_of}
 use Rattle.pgs_snapshot.specs.Saved.{saved, store}
 use Rattle.pgs_store.specs.Loads.{FindsNone}
-use Rattle.pgs_words.specs.declared.command.Command.{Command}
-use Rattle.pgs_words.specs.declared.command.Command.TheVariants.{Load, Apply, Recover, Explain, Checkpoint}
+use Rattle.pgs_run_words.specs.declared.command.Command.{Command}
+use Rattle.pgs_run_words.specs.declared.command.Command.TheVariants.{Load, Apply, Recover, Explain, Checkpoint}
 use Rattle.pgs_world.specs.Moment.{EachSince, IsSettled, Passes}
 use Rattle.pgs_world.specs.World.{View}
 use Rattle.pgs_run_base.specs.declared.status.Status.{Status}

@@ -1,10 +1,10 @@
 -- The causes of a run's answers, by the command that its words name.
 use Rattle.std.specs.Prelude.{◌≡◌, ◌⊎◌, true, Option, None}
-use Rattle.pgs_lines.specs.Ending.{Faults, ReadsRose, AreasRose, PutsRose}
+use Rattle.pgs_run_lines.specs.Ending.{Faults, ReadsRose, AreasRose, PutsRose}
 use Rattle.pgs_world.specs.Count.{Rose}
 use Rattle.pgs_run_base.specs.declared.status.Status.{Status}
 use Rattle.pgs_run_base.specs.declared.status.Status.TheVariants.{BadWords, StoreRefused, DiskFault, ReadFault, PutFault, Memory}
-use Rattle.pgs_words.specs.declared.command.Command.{Command}
+use Rattle.pgs_run_words.specs.declared.command.Command.{Command}
 use Rattle.pgs_run.specs.Command.{reads_source, uses_areas}
 
 -- A fault is answered only where its count rose, and then no other count rose; with any other answer each count is as before. A

@@ -1,9 +1,9 @@
 -- All that is said of a run of one command.
 use Rattle.std.specs.Prelude.{◌≡◌, ℕ, true, false, List, Option, Some}
 use Rattle.pgs_feed.specs.Places.{Place, lost_count}
-use Rattle.pgs_lines.specs.Ending.{faults_of}
-use Rattle.pgs_lines.specs.Pieces.{shown_of}
-use Rattle.pgs_words.specs.declared.command.Command.{Command}
+use Rattle.pgs_run_lines.specs.Ending.{faults_of}
+use Rattle.pgs_run_lines.specs.Pieces.{shown_of}
+use Rattle.pgs_run_words.specs.declared.command.Command.{Command}
 use Rattle.pgs_world.specs.World.{View}
 use Rattle.pgs_run_base.specs.declared.status.Status.{Status}
 use Rattle.pgs_run_base.specs.Areas.{areas_of}

@@ -2,10 +2,10 @@
 use Rattle.std.specs.Prelude.{ℕ, List, [], ◌∷◌, Option, Some, None}
 use Rattle.pgs_answer.specs.Lines.{words_refused_line}
 use Rattle.pgs_base.specs.declared.element.Elem.{Elem}
-use Rattle.pgs_lines.specs.Machine.{Told}
-use Rattle.pgs_words.specs.declared.command.Command.{Command}
-use Rattle.pgs_words.specs.declared.command.Command.TheVariants.{Try, Validate, Load, Apply, Recover, Explain, Gen, Checkpoint}
-use Rattle.pgs_words.specs.Words.{command_of}
+use Rattle.pgs_run_lines.specs.Machine.{Told}
+use Rattle.pgs_run_words.specs.declared.command.Command.{Command}
+use Rattle.pgs_run_words.specs.declared.command.Command.TheVariants.{Try, Validate, Load, Apply, Recover, Explain, Gen, Checkpoint}
+use Rattle.pgs_run_words.specs.Words.{command_of}
 use Rattle.pgs_run_base.specs.declared.status.Status.{Status}
 use Rattle.pgs_run_base.specs.declared.status.Status.TheVariants.{Accepted, BadWords}
 use Rattle.pgs_run_base.specs.Areas.{Areas}

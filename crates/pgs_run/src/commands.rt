@@ -13,7 +13,7 @@ use pgs_run_load::run_load;
 use pgs_run_recover::Dump;
 use pgs_run_saved::run_reader;
 use pgs_run_try::{Judging, run_judging};
-use pgs_words::Command;
+use pgs_run_words::Command;
 use pgs_world::{Feed, Source, World};
 use std::alloc::Global;
 

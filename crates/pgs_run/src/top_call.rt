@@ -1,12 +1,12 @@
 ghost use Rattle.std.specs.Prelude.{◌≡◌, ◌⊎◌, ◌-◌, ◌<◌, ◌≤◌, ◌^◌, List, ℕ, length, Some, None, true, false};
 ghost use Rattle.pgs_feed.specs.Places.{lost_count};
 ghost use Rattle.pgs_feed.specs.Seen.{places};
-ghost use Rattle.pgs_lines.specs.Ending.{faults_of};
-ghost use Rattle.pgs_lines.specs.Pieces.{shown_of, ShowsAll};
+ghost use Rattle.pgs_run_lines.specs.Ending.{faults_of};
+ghost use Rattle.pgs_run_lines.specs.Pieces.{shown_of, ShowsAll};
 ghost use Rattle.pgs_run_base.specs.Areas.{areas_of};
 ghost use Rattle.pgs_run_base.specs.Ending.{Ends};
 ghost use Rattle.pgs_run_base.specs.Run.{IsRead, IsDisturbed, IsComplete, TakesWithin};
-ghost use Rattle.pgs_words.specs.Words.{command_of};
+ghost use Rattle.pgs_run_words.specs.Words.{command_of};
 ghost use Rattle.pgs_run.specs.Command.{reads_source, IsTold};
 ghost use Rattle.pgs_run.specs.Leaving.{Leaves, Feeds};
 ghost use Rattle.pgs_run.specs.Run.{HasRunCause, RefusesWords, IsUndisturbed};

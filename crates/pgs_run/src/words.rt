@@ -1,7 +1,7 @@
 ghost use Rattle.std.specs.Prelude.{◌≡◌, ◌≤◌, ◌^◌, ℕ, List, Option, None, IfOk, IfSome};
 ghost use Rattle.pgs_feed.specs.Places.{Place};
 ghost use Rattle.pgs_feed.specs.Seen.{places};
-ghost use Rattle.pgs_words.specs.Words.{command_of};
+ghost use Rattle.pgs_run_words.specs.Words.{command_of};
 ghost use Rattle.pgs_run.specs.Command.{IsInRange};
 ghost use Rattle.pgs_run.specs.Run.{RefusesWords};
 ghost use Rattle.pgs_run.specs.Runs.{Runs, setting_of};
@@ -10,9 +10,9 @@ use crate::commands::run_command;
 use pgs_answer::words_refused_line;
 use pgs_base::{Memory, Words};
 use pgs_feed::FeedList;
-use pgs_lines::put_piece;
 use pgs_run_base::Status;
-use pgs_words::Command;
+use pgs_run_lines::put_piece;
+use pgs_run_words::Command;
 use pgs_world::{Feed, Source, World};
 use std::alloc::Global;
 
@@ -21,7 +21,7 @@ fn named(alloc: Global, words: &Words) -> Result<Option<Command>, Memory>
     ensures command { IfOk result (λ command. command ≡ command_of words.now) }
     ensures in_range { IfOk result (λ command. IfSome command IsInRange) }
 {
-    match pgs_words::command_of(alloc, words) {
+    match pgs_run_words::command_of(alloc, words) {
         Ok(command) => Ok(command),
         Err(Memory) => Err(Memory),
     }

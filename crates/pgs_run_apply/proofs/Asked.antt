@@ -7,11 +7,11 @@ use Rattle.pgs_feed.specs.Given.{AreGiven}
 use Rattle.pgs_feed.specs.Places.{Place, Delivers}
 use Rattle.pgs_feed.proofs.Given.{given_line, given_none}
 use Rattle.pgs_graph.specs.declared.operation.Txn.{Txn}
-use Rattle.pgs_lines.specs.declared.stop.Stop.{Stop}
-use Rattle.pgs_lines.specs.declared.stop.Stop.TheVariants as stops
-use Rattle.pgs_lines.specs.Machine.{scene_of}
-use Rattle.pgs_lines.specs.Pieces.{Shown, ShowsAll, shown_of}
-use Rattle.pgs_lines.proofs.Showing.{shows_none}
+use Rattle.pgs_run_lines.specs.declared.stop.Stop.{Stop}
+use Rattle.pgs_run_lines.specs.declared.stop.Stop.TheVariants as stops
+use Rattle.pgs_run_lines.specs.Machine.{scene_of}
+use Rattle.pgs_run_lines.specs.Pieces.{Shown, ShowsAll, shown_of}
+use Rattle.pgs_run_lines.proofs.Showing.{shows_none}
 use Rattle.pgs_store.specs.Applies.{decided}
 use Rattle.pgs_store.specs.Stored.{StoreState, IsAppliedIn, IsSavedIn, committed, longer}
 use Rattle.pgs_store.specs.World.{StaysBeside}

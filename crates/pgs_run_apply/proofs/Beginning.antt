@@ -1,8 +1,8 @@
 -- What the opening of a store leaves, which only reads.
 use Rattle.std.proofs.Common.{◌≡◌, inl, ℕ, List, [], IsTrue, refl, sym, ap, subst, ◌∙◌}
 use Rattle.std.proofs.lemmas.List.{append-nil}
-use Rattle.pgs_lines.specs.Pieces.{Shown, ShowsAll, shown_of}
-use Rattle.pgs_lines.proofs.Showing.{shows_none}
+use Rattle.pgs_run_lines.specs.Pieces.{Shown, ShowsAll, shown_of}
+use Rattle.pgs_run_lines.proofs.Showing.{shows_none}
 use Rattle.pgs_snapshot.specs.Choice.{chosen_area, chosen_epoch}
 use Rattle.pgs_snapshot.specs.Saved.{saved}
 use Rattle.pgs_world.specs.Moment.{IsTimed, IsQuiet, IsSettled, MakesNoPut, EachSince}

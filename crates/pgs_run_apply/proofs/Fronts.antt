@@ -3,8 +3,8 @@ use Rattle.std.proofs.Common.{◌≡◌, ℕ, ◌<◌, true, false, nat_le, nat_
 use Rattle.std.proofs.lemmas.Bool.Decides.{nat_tests}
 use Rattle.pgs_answer.specs.Refusals.{line_too_long_text}
 use Rattle.pgs_base.specs.Graph.{Graph}
-use Rattle.pgs_lines.specs.Input.{is_blank}
-use Rattle.pgs_lines.proofs.Fronts.{same_of_front}
+use Rattle.pgs_run_lines.specs.Input.{is_blank}
+use Rattle.pgs_run_lines.proofs.Fronts.{same_of_front}
 use Rattle.pgs_violation.specs.declared.violation.Verdict.{Verdict}
 use Rattle.pgs_violation.specs.Violations.{verdict}
 use Rattle.pgs_run_base.specs.Answers.{txn_answer}

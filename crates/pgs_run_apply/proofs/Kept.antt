@@ -4,13 +4,13 @@ use Rattle.std.proofs.lemmas.List.{append-nil, map-append}
 use Rattle.std.specs.List.{concat}
 use Rattle.pgs_feed.specs.Given.{AreGiven}
 use Rattle.pgs_feed.specs.Places.{Place}
-use Rattle.pgs_lines.specs.declared.stop.Stop.{Stop}
-use Rattle.pgs_lines.specs.declared.stop.Stop.TheVariants as stops
-use Rattle.pgs_lines.specs.Input.{lines_of, kept_of}
-use Rattle.pgs_lines.specs.Machine.{Scene, Extent, Whole, Inside, AtEnd}
-use Rattle.pgs_lines.specs.Pieces.{ShowsAll, shown_of}
-use Rattle.pgs_lines.proofs.Cutting.{lines_of_goes_on}
-use Rattle.pgs_lines.proofs.RunEnds.{rest_of}
+use Rattle.pgs_run_lines.specs.declared.stop.Stop.{Stop}
+use Rattle.pgs_run_lines.specs.declared.stop.Stop.TheVariants as stops
+use Rattle.pgs_run_lines.specs.Input.{lines_of, kept_of}
+use Rattle.pgs_run_lines.specs.Machine.{Scene, Extent, Whole, Inside, AtEnd}
+use Rattle.pgs_run_lines.specs.Pieces.{ShowsAll, shown_of}
+use Rattle.pgs_run_lines.proofs.Cutting.{lines_of_goes_on}
+use Rattle.pgs_run_lines.proofs.RunEnds.{rest_of}
 use Rattle.pgs_violation.specs.Violations.{verdict}
 use Rattle.pgs_world.specs.Source.{Takes, IsAtEnd}
 use Rattle.pgs_world.specs.World.{Triple}

@@ -4,12 +4,12 @@ use Rattle.std.specs.Prelude.{OnOk, IfErr}
 use Rattle.std.proofs.lemmas.List.{append-nil}
 use Rattle.pgs_feed.specs.Given.{AreGiven}
 use Rattle.pgs_feed.specs.Places.{Place}
-use Rattle.pgs_lines.specs.declared.stop.Stop.{Stop}
-use Rattle.pgs_lines.specs.declared.stop.Stop.TheVariants as stops
-use Rattle.pgs_lines.specs.Driving.{LineLeads, LineShows}
-use Rattle.pgs_lines.specs.Ending.{Ends, HasCause, HasAnyCause, faults_of}
-use Rattle.pgs_lines.specs.Machine.{Going, Scene, AtEnd, extent_of}
-use Rattle.pgs_lines.specs.Pieces.{ShowsAll, shown_of}
+use Rattle.pgs_run_lines.specs.declared.stop.Stop.{Stop}
+use Rattle.pgs_run_lines.specs.declared.stop.Stop.TheVariants as stops
+use Rattle.pgs_run_lines.specs.Driving.{LineLeads, LineShows}
+use Rattle.pgs_run_lines.specs.Ending.{Ends, HasCause, HasAnyCause, faults_of}
+use Rattle.pgs_run_lines.specs.Machine.{Going, Scene, AtEnd, extent_of}
+use Rattle.pgs_run_lines.specs.Pieces.{ShowsAll, shown_of}
 use Rattle.pgs_world.specs.Moment.{EachSince}
 use Rattle.pgs_world.specs.World.{Triple, View}
 use Rattle.pgs_world.proofs.Moments.{each_weaker}

@@ -1,9 +1,9 @@
 -- The machine of `apply` tells what an input tells, without the last piece.
 use Rattle.std.proofs.Common.{◌≡◌, ℕ, Bool, true, false, nat_le, List, [], ◌∷◌, ◌++◌, length, take, map, refl, sym, ap, ◌∙◌}
 use Rattle.std.proofs.lemmas.List.{append-nil, map-append}
-use Rattle.pgs_lines.specs.Input.{lines_of, kept_of}
-use Rattle.pgs_lines.specs.Machine as machine
-use Rattle.pgs_lines.specs.Machine.{Told, Standing, Going, told_by, told_at_end, status_at_cut}
+use Rattle.pgs_run_lines.specs.Input.{lines_of, kept_of}
+use Rattle.pgs_run_lines.specs.Machine as machine
+use Rattle.pgs_run_lines.specs.Machine.{Told, Standing, Going, told_by, told_at_end, status_at_cut}
 use Rattle.pgs_store.specs.Stored.{StoreState}
 use Rattle.pgs_run_base.specs.declared.status.Status.{Status}
 use Rattle.pgs_run_base.specs.declared.status.Status.TheVariants as statuses

@@ -7,13 +7,13 @@ use Rattle.pgs_base.specs.declared.limits.Limits.{Limits}
 use Rattle.pgs_feed.specs.Given.{AreGiven}
 use Rattle.pgs_feed.specs.Places.{Place}
 use Rattle.pgs_journal.specs.declared.journal.Journal.{Journal}
-use Rattle.pgs_lines.specs.declared.stop.Stop.{Stop}
-use Rattle.pgs_lines.specs.declared.stop.Stop.TheVariants as stops
-use Rattle.pgs_lines.specs.Ending as lines
-use Rattle.pgs_lines.specs.Input.{kept_of}
-use Rattle.pgs_lines.specs.Machine.{Scene, Extent, Told, scene_of}
-use Rattle.pgs_lines.specs.Pieces.{Shown, ShowsAll, ShowsTorn, shown_of}
-use Rattle.pgs_lines.specs.Run.{EndsBy}
+use Rattle.pgs_run_lines.specs.declared.stop.Stop.{Stop}
+use Rattle.pgs_run_lines.specs.declared.stop.Stop.TheVariants as stops
+use Rattle.pgs_run_lines.specs.Ending as lines
+use Rattle.pgs_run_lines.specs.Input.{kept_of}
+use Rattle.pgs_run_lines.specs.Machine.{Scene, Extent, Told, scene_of}
+use Rattle.pgs_run_lines.specs.Pieces.{Shown, ShowsAll, ShowsTorn, shown_of}
+use Rattle.pgs_run_lines.specs.Run.{EndsBy}
 use Rattle.pgs_snapshot.specs.Choice.{chosen_area, chosen_epoch}
 use Rattle.pgs_store.specs.Stored.{StoreState}
 use Rattle.pgs_world.specs.Disk.{Puts}

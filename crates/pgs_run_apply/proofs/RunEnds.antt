@@ -3,16 +3,16 @@ use Rattle.std.proofs.Common.{◌≡◌, ◌⊎◌, inl, inr, ⊎_elim, ℕ, ◌
 use Rattle.std.proofs.lemmas.Bool.Decides.{nat_tests}
 use Rattle.std.proofs.lemmas.List.{append-nil}
 use Rattle.pgs_answer.specs.Lines.{feeds_lost_line}
-use Rattle.pgs_lines.specs.declared.stop.Stop.{Stop}
-use Rattle.pgs_lines.specs.declared.stop.Stop.TheVariants as stops
-use Rattle.pgs_lines.specs.Ending as lines
-use Rattle.pgs_lines.specs.Ending.{Faults, HasCause, PutsRose, faults_of}
-use Rattle.pgs_lines.specs.Machine.{Told, Standing, Going, Ended, told_by}
-use Rattle.pgs_lines.specs.Pieces.{Shown, ShowsAll, ShowsFirst, ShowsTorn, shown_of}
-use Rattle.pgs_lines.specs.Run as over
-use Rattle.pgs_lines.specs.Run.{EndsBy, EndsAtLine, EndsAtEnd, EndsAtCut}
-use Rattle.pgs_lines.proofs.RunEnds.{taken_length}
-use Rattle.pgs_lines.proofs.Showing.{shows_on, torn_on, all_first, first_of_more, torn_of_more}
+use Rattle.pgs_run_lines.specs.declared.stop.Stop.{Stop}
+use Rattle.pgs_run_lines.specs.declared.stop.Stop.TheVariants as stops
+use Rattle.pgs_run_lines.specs.Ending as lines
+use Rattle.pgs_run_lines.specs.Ending.{Faults, HasCause, PutsRose, faults_of}
+use Rattle.pgs_run_lines.specs.Machine.{Told, Standing, Going, Ended, told_by}
+use Rattle.pgs_run_lines.specs.Pieces.{Shown, ShowsAll, ShowsFirst, ShowsTorn, shown_of}
+use Rattle.pgs_run_lines.specs.Run as over
+use Rattle.pgs_run_lines.specs.Run.{EndsBy, EndsAtLine, EndsAtEnd, EndsAtCut}
+use Rattle.pgs_run_lines.proofs.RunEnds.{taken_length}
+use Rattle.pgs_run_lines.proofs.Showing.{shows_on, torn_on, all_first, first_of_more, torn_of_more}
 use Rattle.pgs_store.specs.Stored.{StoreState}
 use Rattle.pgs_world.specs.Source.{IsAtEnd}
 use Rattle.pgs_world.specs.World.{View}

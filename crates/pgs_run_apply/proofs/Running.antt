@@ -1,13 +1,13 @@
 -- What is said of a run, from the opening of its store to its last piece.
 use Rattle.std.proofs.Common.{◌≡◌, ℕ, ◌+◌, ◌-◌, ◌^◌, ◌≤◌, ◌<◌, Bool, true, List, length, Option, Some, Result, Ok, IsTrue, refl, sym, ap, subst, ◌∙◌, arith}
 use Rattle.pgs_feed.specs.Places.{Place}
-use Rattle.pgs_lines.specs.declared.stop.Stop.{Stop}
-use Rattle.pgs_lines.specs.Ending as lines
-use Rattle.pgs_lines.specs.Ending.{Faults, HasCause, faults_of}
-use Rattle.pgs_lines.specs.Machine.{HasRoomFor, Scene, Told, told_by}
-use Rattle.pgs_lines.specs.Pieces.{Shown, ShowsAll, shown_of}
-use Rattle.pgs_lines.specs.Run as over
-use Rattle.pgs_lines.specs.Run.{EndsBy, Allows}
+use Rattle.pgs_run_lines.specs.declared.stop.Stop.{Stop}
+use Rattle.pgs_run_lines.specs.Ending as lines
+use Rattle.pgs_run_lines.specs.Ending.{Faults, HasCause, faults_of}
+use Rattle.pgs_run_lines.specs.Machine.{HasRoomFor, Scene, Told, told_by}
+use Rattle.pgs_run_lines.specs.Pieces.{Shown, ShowsAll, shown_of}
+use Rattle.pgs_run_lines.specs.Run as over
+use Rattle.pgs_run_lines.specs.Run.{EndsBy, Allows}
 use Rattle.pgs_store.specs.Stored.{StoreState}
 use Rattle.pgs_world.specs.Moment.{IsTimed, IsQuiet, IsSettled, MakesNoPut, Passes, EachSince}
 use Rattle.pgs_world.specs.World.{View, Triple}

@@ -1,7 +1,7 @@
 -- What a world shows, and the counts of its faults, by their parts.
 use Rattle.std.proofs.Common.{◌≡◌, ◌∙◌, ℕ, Bool, List, Some, None, cond, ap}
-use Rattle.pgs_lines.specs.Ending.{Faults, faults_of}
-use Rattle.pgs_lines.specs.Pieces.{Shown, shown_of}
+use Rattle.pgs_run_lines.specs.Ending.{Faults, faults_of}
+use Rattle.pgs_run_lines.specs.Pieces.{Shown, shown_of}
 use Rattle.pgs_store.specs.World.{StaysBeside}
 use Rattle.pgs_world.specs.declared.area.Area.{Area}
 use Rattle.pgs_world.specs.World.{View}

@@ -3,12 +3,12 @@ use Rattle.std.proofs.Common.{◌≡◌, ◌∙◌, inl, inr, ℕ, ◌+◌, List
 use Rattle.pgs_feed.specs.Given.{AreGiven}
 use Rattle.pgs_feed.specs.Places.{Place}
 use Rattle.pgs_feed.proofs.Given.{given_none}
-use Rattle.pgs_lines.specs.declared.stop.Stop.{Stop}
-use Rattle.pgs_lines.specs.declared.stop.Stop.TheVariants as stops
-use Rattle.pgs_lines.specs.Ending.{Faults, PutsRose, faults_of}
-use Rattle.pgs_lines.specs.Machine.{Scene, scene_of}
-use Rattle.pgs_lines.specs.Pieces.{Shown, ShowsAll, ShowsTorn, shown_of}
-use Rattle.pgs_lines.proofs.Showing.{shows_none}
+use Rattle.pgs_run_lines.specs.declared.stop.Stop.{Stop}
+use Rattle.pgs_run_lines.specs.declared.stop.Stop.TheVariants as stops
+use Rattle.pgs_run_lines.specs.Ending.{Faults, PutsRose, faults_of}
+use Rattle.pgs_run_lines.specs.Machine.{Scene, scene_of}
+use Rattle.pgs_run_lines.specs.Pieces.{Shown, ShowsAll, ShowsTorn, shown_of}
+use Rattle.pgs_run_lines.proofs.Showing.{shows_none}
 use Rattle.pgs_store.specs.Stored.{ending_at}
 use Rattle.pgs_store.proofs.Applied.{same_images}
 use Rattle.pgs_world.specs.Disk.{Puts}

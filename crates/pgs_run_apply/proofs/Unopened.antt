@@ -2,11 +2,11 @@
 use Rattle.std.proofs.Common.{◌≡◌, ◌⊎◌, inl, inr, ⊎_elim, ℕ, ◌+◌, ◌≤◌, Bool, true, false, cond, List, [], ◌∷◌, ◌++◌, length, Option, Some, None, Result, Ok, Err, IsTrue, refl, sym, ap, subst, ◌∙◌, arith}
 use Rattle.pgs_feed.specs.Places.{Place}
 use Rattle.pgs_feed.proofs.Given.{given_none}
-use Rattle.pgs_lines.specs.Ending.{Faults, PutsRose, AreasRose, faults_of}
-use Rattle.pgs_lines.specs.Machine.{Told}
-use Rattle.pgs_lines.specs.Pieces.{Shown, ShowsAll, ShowsFirst, ShowsTorn, shown_of}
-use Rattle.pgs_lines.proofs.RunEnds.{within_unread}
-use Rattle.pgs_lines.proofs.Showing.{shows_none}
+use Rattle.pgs_run_lines.specs.Ending.{Faults, PutsRose, AreasRose, faults_of}
+use Rattle.pgs_run_lines.specs.Machine.{Told}
+use Rattle.pgs_run_lines.specs.Pieces.{Shown, ShowsAll, ShowsFirst, ShowsTorn, shown_of}
+use Rattle.pgs_run_lines.proofs.RunEnds.{within_unread}
+use Rattle.pgs_run_lines.proofs.Showing.{shows_none}
 use Rattle.pgs_store.specs.Stored.{StoreState}
 use Rattle.pgs_store.specs.World.{CountsFault}
 use Rattle.pgs_world.specs.Count.{Rose}

@@ -2,10 +2,10 @@
 use Rattle.std.specs.Prelude.{◌≡◌, ◌<◌, ◌^◌, ℕ, ◌+◌, IsTrue, List, [], ◌∷◌, ◌++◌, length}
 use Rattle.pgs_feed.specs.Given.{AreGiven}
 use Rattle.pgs_feed.specs.Places.{Place}
-use Rattle.pgs_lines.specs.declared.stop.Stop.{Stop}
-use Rattle.pgs_lines.specs.declared.stop.Stop.TheVariants as stops
-use Rattle.pgs_lines.specs.Machine.{Machine, Going, Scene, Extent, Whole, Inside, AtEnd}
-use Rattle.pgs_lines.specs.Pieces.{ShowsAll, shown_of}
+use Rattle.pgs_run_lines.specs.declared.stop.Stop.{Stop}
+use Rattle.pgs_run_lines.specs.declared.stop.Stop.TheVariants as stops
+use Rattle.pgs_run_lines.specs.Machine.{Machine, Going, Scene, Extent, Whole, Inside, AtEnd}
+use Rattle.pgs_run_lines.specs.Pieces.{ShowsAll, shown_of}
 use Rattle.pgs_violation.specs.Violations.{verdict}
 use Rattle.pgs_world.specs.Moment.{EachSince, Passes}
 use Rattle.pgs_run_base.specs.declared.status.Status.{Status}

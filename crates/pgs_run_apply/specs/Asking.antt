@@ -2,8 +2,8 @@
 use Rattle.std.specs.Prelude.{◌≡◌, Bool, true, false, Option, Some, None, Result, Ok, Err}
 use Rattle.pgs_base.specs.Graph.{Graph}
 use Rattle.pgs_graph.specs.declared.operation.Txn.{Txn}
-use Rattle.pgs_lines.specs.declared.stop.Stop.{Stop}
-use Rattle.pgs_lines.specs.declared.stop.Stop.TheVariants as stops
+use Rattle.pgs_run_lines.specs.declared.stop.Stop.{Stop}
+use Rattle.pgs_run_lines.specs.declared.stop.Stop.TheVariants as stops
 use Rattle.pgs_store.specs.Applies.{decided}
 use Rattle.pgs_store.specs.Stored.{StoreState, StandsOn, committed, longer}
 use Rattle.pgs_violation.specs.declared.rejection.Rejection.{Rejection}

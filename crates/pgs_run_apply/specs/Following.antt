@@ -5,9 +5,9 @@ use Rattle.std.proofs.lemmas.List.Folds.{concat-append}
 use Rattle.std.proofs.Math.Nat.{add_assoc}
 use Rattle.pgs_base.specs.Graph.{Graph}
 use Rattle.pgs_graph.specs.declared.operation.Txn.{Txn}
-use Rattle.pgs_lines.specs.Machine.{Standing as RunStanding, Going, Ended, after_lines}
-use Rattle.pgs_lines.specs.Pieces.{Shown, ShowsAll}
-use Rattle.pgs_lines.proofs.Showing.{shows_on}
+use Rattle.pgs_run_lines.specs.Machine.{Standing as RunStanding, Going, Ended, after_lines}
+use Rattle.pgs_run_lines.specs.Pieces.{Shown, ShowsAll}
+use Rattle.pgs_run_lines.proofs.Showing.{shows_on}
 use Rattle.pgs_feed.specs.Given.{AreGiven}
 use Rattle.pgs_feed.specs.Places.{Place}
 use Rattle.pgs_feed.proofs.Given.{given_on}

@@ -4,11 +4,11 @@ use Rattle.std.specs.List.{concat}
 use Rattle.std.proofs.lemmas.List.{append-nil}
 use Rattle.pgs_feed.specs.Places.{Place}
 use Rattle.pgs_feed.proofs.Given.{given_none}
-use Rattle.pgs_lines.specs.declared.stop.Stop.{Stop}
-use Rattle.pgs_lines.specs.declared.stop.Stop.TheVariants as stops
-use Rattle.pgs_lines.specs.Machine.{Rule, Scene, Extent, Whole, Inside, AtEnd}
-use Rattle.pgs_lines.specs.Pieces.{shown_of}
-use Rattle.pgs_lines.proofs.Showing.{shows_none}
+use Rattle.pgs_run_lines.specs.declared.stop.Stop.{Stop}
+use Rattle.pgs_run_lines.specs.declared.stop.Stop.TheVariants as stops
+use Rattle.pgs_run_lines.specs.Machine.{Rule, Scene, Extent, Whole, Inside, AtEnd}
+use Rattle.pgs_run_lines.specs.Pieces.{shown_of}
+use Rattle.pgs_run_lines.proofs.Showing.{shows_none}
 use Rattle.pgs_world.specs.Moment.{EachSince, IsTimed}
 use Rattle.pgs_world.proofs.Moments.{passes_none, passes_on, each_none, each_on, each_weaker, shown_added}
 use Rattle.pgs_run_base.specs.declared.status.Status.{Status}

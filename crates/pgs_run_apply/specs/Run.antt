@@ -3,7 +3,7 @@ use Rattle.std.specs.Prelude.{◌≡◌, ◌⊎◌, ℕ, ◌+◌, List, [], ◌�
 use Rattle.std.specs.List.{concat}
 use Rattle.pgs_feed.specs.Given.{AreGiven}
 use Rattle.pgs_feed.specs.Places.{Place}
-use Rattle.pgs_lines.specs.Pieces.{Shown, ShowsAll}
+use Rattle.pgs_run_lines.specs.Pieces.{Shown, ShowsAll}
 use Rattle.pgs_snapshot.specs.Choice.{chosen_area, chosen_epoch}
 use Rattle.pgs_snapshot.specs.Saved.{saved, store}
 use Rattle.pgs_violation.specs.declared.violation.Verdict.TheVariants.{Conforms}

@@ -2,7 +2,7 @@ ghost use Rattle.std.specs.Prelude.{◌≡◌, ◌+◌, ◌-◌, ◌^◌, ◌<�
 ghost use Rattle.pgs_answer.specs.Lines.{committed_line, feed_line};
 ghost use Rattle.pgs_answer.specs.Refusals.{rejection_text};
 ghost use Rattle.pgs_feed.specs.Seen.{places};
-ghost use Rattle.pgs_lines.specs.Machine.{scene_of};
+ghost use Rattle.pgs_run_lines.specs.Machine.{scene_of};
 ghost use Rattle.pgs_violation.specs.Violations.{verdict};
 ghost use Rattle.pgs_run_base.specs.Session.{standard, decision_on};
 ghost use Rattle.pgs_run_apply.specs.Applying.{applying};
@@ -18,8 +18,8 @@ use pgs_answer::{committed_line, feed_line, refused_line, rejection_text};
 use pgs_base::{Bytes, Limits, Memory};
 use pgs_feed::FeedList;
 use pgs_graph::Txn;
-use pgs_lines::{LineTaker, Stop, is_blank};
 use pgs_run_base::{Status, TEXT_LIMIT, txn_of};
+use pgs_run_lines::{LineTaker, Stop, is_blank};
 use pgs_store::Store;
 use pgs_violation::Rejection;
 use pgs_world::{Feed, World};

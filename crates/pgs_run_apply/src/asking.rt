@@ -7,8 +7,8 @@ ghost use Rattle.pgs_run_apply.specs.Asking.{Asks, is_early};
 
 use pgs_base::Steps;
 use pgs_graph::Txn;
-use pgs_lines::Stop;
 use pgs_run_base::Status;
+use pgs_run_lines::Stop;
 use pgs_store::{ApplyFault, Store};
 use pgs_violation::Rejection;
 use pgs_world::World;

@@ -1,7 +1,7 @@
 ghost use Rattle.pgs_run_apply.specs.Putting.{PutsPiece};
 
-use pgs_lines::Stop;
 use pgs_run_base::Status;
+use pgs_run_lines::Stop;
 use pgs_world::World;
 
 /// Puts a piece. `PutFault` is the one stop, and comes only where the count of put faults rose. At every moment both areas are what they

@@ -1,6 +1,6 @@
 -- Calls that keep both areas, one after another.
 use Rattle.std.proofs.Common.{◌≡◌, ⊎_elim, IsTrue, refl, ◌∙◌, ap}
-use Rattle.pgs_lines.specs.AreasKept.{KeepsAreas}
+use Rattle.pgs_run_lines.specs.AreasKept.{KeepsAreas}
 use Rattle.pgs_world.specs.Moment.{IsTimed, IsQuiet}
 use Rattle.pgs_world.specs.World.{Triple, View}
 use Rattle.pgs_world.proofs.Moments.{passes_none, passes_on}

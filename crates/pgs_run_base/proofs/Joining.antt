@@ -2,8 +2,8 @@
 use Rattle.std.proofs.Common.{◌≡◌, ℕ, Bool, true, false, not, ◌==◌, List, [], ◌∷◌, ◌++◌, refl, sym, ap, ◌∙◌, append_assoc}
 use Rattle.std.specs.List.{join_with_byte}
 use Rattle.std.proofs.lemmas.Bool.{eqb-true}
-use Rattle.pgs_lines.specs.Input.{Lines, with_byte, with_front, lines_of}
-use Rattle.pgs_lines.proofs.Fronts.{front_left, front_right, front_front}
+use Rattle.pgs_run_lines.specs.Input.{Lines, with_byte, with_front, lines_of}
+use Rattle.pgs_run_lines.proofs.Fronts.{front_left, front_right, front_front}
 use Rattle.pgs_run_base.specs.Input.{text_limit, text_front}
 use Rattle.pgs_run_base.specs.Part.{Part, with_line, has_none}
 use Rattle.pgs_run_base.proofs.Separating.{join_more}

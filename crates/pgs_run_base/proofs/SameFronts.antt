@@ -3,8 +3,8 @@ use Rattle.std.proofs.Common.{◌≡◌, ℕ, ◌<◌, Bool, true, false, ◌==�
 use Rattle.std.specs.Cmp.Lexicographic.{unequal}
 use Rattle.std.proofs.lemmas.Bool.Decides.{nat_tests}
 use Rattle.pgs_base.specs.Graph.{Graph}
-use Rattle.pgs_lines.specs.Input.{is_blank}
-use Rattle.pgs_lines.proofs.Fronts.{front_whole, same_of_front}
+use Rattle.pgs_run_lines.specs.Input.{is_blank}
+use Rattle.pgs_run_lines.proofs.Fronts.{front_whole, same_of_front}
 use Rattle.pgs_parser.specs.Text.{found}
 use Rattle.pgs_resolve.specs.SchemaOf.{schema_of}
 use Rattle.pgs_syntax.specs.declared.resolved.Resolved.{Resolved}

@@ -1,9 +1,9 @@
 -- What a world shows, by the status, of what a run was told to put.
 use Rattle.std.specs.Prelude.{◌≡◌}
-use Rattle.pgs_lines.specs.declared.stop.Stop.{Stop}
-use Rattle.pgs_lines.specs.declared.stop.Stop.TheVariants as stops
-use Rattle.pgs_lines.specs.Machine.{Told}
-use Rattle.pgs_lines.specs.Pieces.{Shown, ShowsAll, ShowsFirst, ShowsTorn}
+use Rattle.pgs_run_lines.specs.declared.stop.Stop.{Stop}
+use Rattle.pgs_run_lines.specs.declared.stop.Stop.TheVariants as stops
+use Rattle.pgs_run_lines.specs.Machine.{Told}
+use Rattle.pgs_run_lines.specs.Pieces.{Shown, ShowsAll, ShowsFirst, ShowsTorn}
 use Rattle.pgs_run_base.specs.declared.status.Status.{Status}
 use Rattle.pgs_run_base.specs.declared.status.Status.TheVariants.{Accepted, Refused, BadWords, SchemaRefused, StoreRefused, DiskFault, ReadFault, PutFault, Memory, InputTooLong}
 

@@ -2,7 +2,7 @@
 use Rattle.std.specs.Prelude.{ℕ, Bool, ◌||◌, ◌==◌, List, [], ◌∷◌, if◌then◌else◌, codes}
 use Rattle.std.specs.List.{join_with_byte}
 use Rattle.std.specs.Cmp.Lexicographic.{pointwise}
-use Rattle.pgs_lines.specs.Input.{front_of, is_blank}
+use Rattle.pgs_run_lines.specs.Input.{front_of, is_blank}
 
 -- the most bytes of a schema text and of a transaction line
 abbrev pub text_limit : ℕ

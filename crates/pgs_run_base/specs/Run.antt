@@ -1,8 +1,8 @@
 -- How a run ends, and the causes of its answers.
 use Rattle.std.specs.Prelude.{◌≡◌, ◌⊎◌, ℕ, ◌+◌, ◌-◌, ◌≤◌, Bool, true, List, length, Option, Some}
-use Rattle.pgs_lines.specs.Ending.{Faults, ReadsRose, AreasRose, PutsRose}
-use Rattle.pgs_lines.specs.Machine.{Told}
-use Rattle.pgs_lines.specs.Pieces.{Shown, ShowsAll}
+use Rattle.pgs_run_lines.specs.Ending.{Faults, ReadsRose, AreasRose, PutsRose}
+use Rattle.pgs_run_lines.specs.Machine.{Told}
+use Rattle.pgs_run_lines.specs.Pieces.{Shown, ShowsAll}
 use Rattle.pgs_world.specs.Source.{IsAtEnd}
 use Rattle.pgs_run_base.specs.declared.status.Status.{Status}
 use Rattle.pgs_run_base.specs.declared.status.Status.TheVariants.{Accepted, Refused, BadWords, StoreRefused, DiskFault, ReadFault, PutFault, Memory, InputTooLong}

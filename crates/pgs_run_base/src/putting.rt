@@ -1,13 +1,13 @@
 ghost use Rattle.std.specs.Prelude.{◌≡◌, IfErr};
-ghost use Rattle.pgs_lines.specs.AreasKept.{KeepsAreas};
-ghost use Rattle.pgs_lines.specs.Driving.{LineShows};
-ghost use Rattle.pgs_lines.specs.Ending.{HasAnyCause, faults_of};
-ghost use Rattle.pgs_lines.specs.Pieces.{shown_of};
+ghost use Rattle.pgs_run_lines.specs.AreasKept.{KeepsAreas};
+ghost use Rattle.pgs_run_lines.specs.Driving.{LineShows};
+ghost use Rattle.pgs_run_lines.specs.Ending.{HasAnyCause, faults_of};
+ghost use Rattle.pgs_run_lines.specs.Pieces.{shown_of};
 ghost use Rattle.pgs_run_base.specs.Pieces.{pieces_in};
 
 use crate::Status;
 use pgs_base::Bytes;
-use pgs_lines::{Stop, put_piece};
+use pgs_run_lines::{Stop, put_piece};
 use pgs_world::World;
 
 /// Puts a piece, where there is one. `PutFault` is the one stop, and comes only where the count of put faults rose.

@@ -3,7 +3,7 @@ ghost use Rattle.pgs_run_base.specs.Part.{no_part, with_line};
 
 use crate::TEXT_LIMIT;
 use pgs_base::Memory;
-use pgs_lines::LineBuffer;
+use pgs_run_lines::LineBuffer;
 use std::alloc::Global;
 use std::marker::Model;
 

@@ -2,7 +2,7 @@ ghost use Rattle.std.specs.Prelude.{◌≡◌};
 ghost use Rattle.pgs_run_base.specs.Ending.{status_at};
 ghost use Rattle.pgs_run_base.specs.ExitStatus.{status_number};
 
-use pgs_lines::Stop;
+use pgs_run_lines::Stop;
 
 /// How a run ended. The number is the exit status of the program.
 #[derive(Clone, Copy, Debug, PartialEq, Eq)]

@@ -6,7 +6,7 @@ use Rattle.pgs_answer.specs.Lines.{checkpoint_line, store_refused_line}
 use Rattle.pgs_answer.specs.Refusals.{epochs_spent_text, no_store_text}
 use Rattle.pgs_journal.specs.declared.journal.Journal.{Journal}
 use Rattle.pgs_journal.specs.Format.{is_epoch}
-use Rattle.pgs_lines.specs.Machine.{Told}
+use Rattle.pgs_run_lines.specs.Machine.{Told}
 use Rattle.pgs_run_base.specs.declared.status.Status.{Status}
 use Rattle.pgs_run_base.specs.declared.status.Status.TheVariants as statuses
 use Rattle.pgs_run_saved.specs.Opening.{saved_in}

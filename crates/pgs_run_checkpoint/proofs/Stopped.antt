@@ -5,8 +5,8 @@ use Rattle.std.specs.declared.option.Option.{Option}
 use Rattle.pgs_base.specs.declared.limits.Limits.{Limits}
 use Rattle.pgs_base.specs.Graph.{Graph}
 use Rattle.pgs_journal.specs.declared.journal.Journal.{Journal}
-use Rattle.pgs_lines.specs.Machine.{Told}
-use Rattle.pgs_lines.specs.Pieces.{shown_of}
+use Rattle.pgs_run_lines.specs.Machine.{Told}
+use Rattle.pgs_run_lines.specs.Pieces.{shown_of}
 use Rattle.pgs_run_base.specs.declared.status.Status.{Status}
 use Rattle.pgs_run_base.specs.Areas.{areas_of}
 use Rattle.pgs_run_base.specs.Ending.{Ends}

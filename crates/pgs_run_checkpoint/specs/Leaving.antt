@@ -1,6 +1,6 @@
 -- What a stop leaves while an opened store is renewed.
 use Rattle.std.specs.Prelude.{◌≡◌, ℕ, [], Some}
-use Rattle.pgs_lines.specs.Machine.{Told}
+use Rattle.pgs_run_lines.specs.Machine.{Told}
 use Rattle.pgs_run_base.specs.declared.status.Status.{Status}
 use Rattle.pgs_run_base.specs.declared.status.Status.TheVariants.{Accepted}
 use Rattle.pgs_run_saved.specs.Opening.{saved_in}

@@ -1,8 +1,8 @@
 -- How a run ends that puts one line, and what a stop leaves of the line.
 use Rattle.std.specs.Prelude.{◌≡◌, ◌⊎◌, ℕ, List, [], ◌∷◌, ◌++◌}
-use Rattle.pgs_lines.specs.Ending.{PutsRose, faults_of}
-use Rattle.pgs_lines.specs.Machine.{Told}
-use Rattle.pgs_lines.specs.Pieces.{shown_of, ShowsAll, ShowsTorn}
+use Rattle.pgs_run_lines.specs.Ending.{PutsRose, faults_of}
+use Rattle.pgs_run_lines.specs.Machine.{Told}
+use Rattle.pgs_run_lines.specs.Pieces.{shown_of, ShowsAll, ShowsTorn}
 use Rattle.pgs_run_base.specs.declared.status.Status.{Status}
 use Rattle.pgs_run_base.specs.declared.status.Status.TheVariants.{StoreRefused, PutFault, Memory}
 use Rattle.pgs_run_saved.specs.Ending.{PutsNothing}

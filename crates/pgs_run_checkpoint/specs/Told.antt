@@ -2,7 +2,7 @@
 use Rattle.std.specs.Prelude.{ℕ, ◌+◌, ◌==◌, [], ◌∷◌, Option, Some, None, if◌then◌else◌}
 use Rattle.pgs_answer.specs.Lines.{checkpoint_line}
 use Rattle.pgs_answer.specs.Refusals.{epochs_spent_text, no_store_text}
-use Rattle.pgs_lines.specs.Machine.{Told}
+use Rattle.pgs_run_lines.specs.Machine.{Told}
 use Rattle.pgs_run_base.specs.declared.status.Status.{Status}
 use Rattle.pgs_run_base.specs.declared.status.Status.TheVariants.{Accepted}
 use Rattle.pgs_run_base.specs.Areas.{Areas}

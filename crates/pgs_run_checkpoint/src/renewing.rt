@@ -1,6 +1,6 @@
 ghost use Rattle.std.specs.Prelude.{◌≡◌, ℕ, true, false, Some, IsTrue};
-ghost use Rattle.pgs_lines.specs.Ending.{faults_of};
-ghost use Rattle.pgs_lines.specs.Pieces.{shown_of};
+ghost use Rattle.pgs_run_lines.specs.Ending.{faults_of};
+ghost use Rattle.pgs_run_lines.specs.Pieces.{shown_of};
 ghost use Rattle.pgs_run_base.specs.Ending.{Ends};
 ghost use Rattle.pgs_run_base.specs.Run.{HasCommandCause};
 ghost use Rattle.pgs_run_saved.specs.Opening.{IsAnswer, saved_in};

@@ -1,7 +1,7 @@
 ghost use Rattle.std.specs.Prelude.{◌≡◌, ℕ, true, false, List, IsTrue};
 ghost use Rattle.pgs_base.specs.Graph.{Graph};
-ghost use Rattle.pgs_lines.specs.Ending.{faults_of};
-ghost use Rattle.pgs_lines.specs.Pieces.{shown_of};
+ghost use Rattle.pgs_run_lines.specs.Ending.{faults_of};
+ghost use Rattle.pgs_run_lines.specs.Pieces.{shown_of};
 ghost use Rattle.pgs_run_base.specs.Areas.{areas_of};
 ghost use Rattle.pgs_run_base.specs.Ending.{Ends};
 ghost use Rattle.pgs_run_base.specs.Images.{KeepsImages};

@@ -5,7 +5,7 @@ use Rattle.pgs_answer.specs.Lines.{absent_line, type_line, key_scope_line, key_v
 use Rattle.pgs_base.specs.declared.element.Elem.{Elem}
 use Rattle.pgs_base.specs.declared.part.Part.{Part}
 use Rattle.pgs_base.specs.Graph.{Graph}
-use Rattle.pgs_lines.specs.Machine.{Told}
+use Rattle.pgs_run_lines.specs.Machine.{Told}
 use Rattle.pgs_run_base.specs.declared.status.Status.{Status}
 use Rattle.pgs_run_base.specs.declared.status.Status.TheVariants.{Accepted, Refused}
 use Rattle.pgs_store.specs.Explained.{types_of, key_values_of}

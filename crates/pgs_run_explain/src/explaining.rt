@@ -1,5 +1,5 @@
 ghost use Rattle.std.specs.Prelude.{◌≡◌, ◌<◌, is_some, true, IfOk};
-ghost use Rattle.pgs_pieces.specs.Puts.{Puts};
+ghost use Rattle.pgs_run_lines.specs.Puts.{Puts};
 ghost use Rattle.pgs_syntax.specs.Matches.{carried};
 ghost use Rattle.pgs_run_explain.specs.Explaining.{explained};
 
@@ -8,8 +8,8 @@ use crate::types::put_types;
 use pgs_answer::absent_line;
 use pgs_base::{Elem, Steps};
 use pgs_graph::GraphRead;
-use pgs_pieces::{PutStop, put_made};
 use pgs_run_base::Status;
+use pgs_run_lines::{PutStop, put_made};
 use pgs_run_saved::StoreReader;
 use pgs_store::Store;
 use pgs_world::World;

@@ -2,13 +2,13 @@
 
 ghost use Rattle.std.specs.Prelude.{◌≡◌, ◌<◌, ◌≤◌, length, map};
 ghost use Rattle.pgs_answer.specs.Lines.{key_value_line};
-ghost use Rattle.pgs_pieces.specs.Puts.{Puts};
+ghost use Rattle.pgs_run_lines.specs.Puts.{Puts};
 ghost use Rattle.pgs_store.specs.Explained.{key_values_of};
 ghost use Rattle.pgs_run_explain.specs.Explaining.{key_lines, key_numbers, keys_lines};
 
 use pgs_answer::{key_scope_line, key_value_line};
 use pgs_base::{Elem, Steps, Tuple, TupleSet};
-use pgs_pieces::{PutStop, put_made};
+use pgs_run_lines::{PutStop, put_made};
 use pgs_store::Store;
 use pgs_world::World;
 use std::alloc::Global;

@@ -1,12 +1,12 @@
 //! The lines of the types that an element fits.
 
 ghost use Rattle.std.specs.Prelude.{◌≡◌, ◌∷◌, [], option_map};
-ghost use Rattle.pgs_pieces.specs.Puts.{Puts};
+ghost use Rattle.pgs_run_lines.specs.Puts.{Puts};
 ghost use Rattle.pgs_run_explain.specs.Explaining.{named, type_lines};
 
 use pgs_answer::type_line;
 use pgs_base::Name;
-use pgs_pieces::{PutStop, put_made};
+use pgs_run_lines::{PutStop, put_made};
 use pgs_syntax::{Resolved, TypeNo};
 use pgs_world::World;
 use std::alloc::Global;

@@ -4,7 +4,7 @@ use Rattle.pgs_answer.specs.Lines.{gen_line, schema_refused_line}
 use Rattle.pgs_base.specs.Graph.{Graph}
 use Rattle.pgs_gen.specs.Generated.{schema_text}
 use Rattle.pgs_graph.specs.Reads.{in_edges_of}
-use Rattle.pgs_lines.specs.Machine.{Told}
+use Rattle.pgs_run_lines.specs.Machine.{Told}
 use Rattle.pgs_syntax.specs.declared.resolved.Resolved.{Resolved}
 use Rattle.pgs_violation.specs.declared.rejection.Rejection.{Rejection}
 use Rattle.pgs_violation.specs.Violations.{verdict}

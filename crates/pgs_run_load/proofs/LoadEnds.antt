@@ -4,17 +4,17 @@ use Rattle.std.specs.Option.{option_map}
 use Rattle.std.specs.List.{concat}
 use Rattle.std.proofs.lemmas.List.{append-nil}
 use Rattle.std.proofs.lemmas.Bool.Decides.{nat_tests}
-use Rattle.pgs_lines.specs.declared.stop.Stop.{Stop}
-use Rattle.pgs_lines.specs.declared.stop.Stop.TheVariants as stops
-use Rattle.pgs_lines.specs.Ending as lines
-use Rattle.pgs_lines.specs.Ending.{Faults, HasCause}
-use Rattle.pgs_lines.specs.Machine.{told_by}
-use Rattle.pgs_lines.specs.May.{MayCome}
-use Rattle.pgs_lines.specs.Pieces.{Shown, ShowsAll, ShowsFirst}
-use Rattle.pgs_lines.specs.Run as over
-use Rattle.pgs_lines.specs.Run.{EndsBy}
-use Rattle.pgs_lines.proofs.RunEnds.{taken_length}
-use Rattle.pgs_lines.proofs.Showing.{all_first}
+use Rattle.pgs_run_lines.specs.declared.stop.Stop.{Stop}
+use Rattle.pgs_run_lines.specs.declared.stop.Stop.TheVariants as stops
+use Rattle.pgs_run_lines.specs.Ending as lines
+use Rattle.pgs_run_lines.specs.Ending.{Faults, HasCause}
+use Rattle.pgs_run_lines.specs.Machine.{told_by}
+use Rattle.pgs_run_lines.specs.May.{MayCome}
+use Rattle.pgs_run_lines.specs.Pieces.{Shown, ShowsAll, ShowsFirst}
+use Rattle.pgs_run_lines.specs.Run as over
+use Rattle.pgs_run_lines.specs.Run.{EndsBy}
+use Rattle.pgs_run_lines.proofs.RunEnds.{taken_length}
+use Rattle.pgs_run_lines.proofs.Showing.{all_first}
 use Rattle.pgs_snapshot.specs.Choice.{choice_of, no_store}
 use Rattle.pgs_store.specs.Loads.{FindsNone}
 use Rattle.pgs_world.specs.Moment.{IsTimed, IsSettled, IsQuiet, Passes, EachSince}

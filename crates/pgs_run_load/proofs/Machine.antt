@@ -2,9 +2,9 @@
 use Rattle.std.proofs.Common.{◌≡◌, ℕ, Bool, true, false, not, nat_le, List, [], ◌∷◌, ◌++◌, length, take, map, cond, refl, sym, ap, subst, ◌∙◌, append_assoc}
 use Rattle.std.specs.List.{join_with_byte}
 use Rattle.std.proofs.lemmas.List.{append-nil}
-use Rattle.pgs_lines.specs.Input.{lines_of, kept_of}
-use Rattle.pgs_lines.specs.Machine.{Told, Going, after_lines, pieces_of_lines, told_by, told_cut, told_whole}
-use Rattle.pgs_lines.proofs.Fronts.{front_none}
+use Rattle.pgs_run_lines.specs.Input.{lines_of, kept_of}
+use Rattle.pgs_run_lines.specs.Machine.{Told, Going, after_lines, pieces_of_lines, told_by, told_cut, told_whole}
+use Rattle.pgs_run_lines.proofs.Fronts.{front_none}
 use Rattle.pgs_run_base.specs.Input.{text_limit, text_front}
 use Rattle.pgs_run_base.specs.Part.{Part, with_line, no_part, has_none}
 use Rattle.pgs_run_base.proofs.Joining.{joined_lines, has_some, begun_more, text_of_more}

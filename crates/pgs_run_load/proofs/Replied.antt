@@ -2,10 +2,10 @@
 use Rattle.std.proofs.Common.{◌≡◌, inl, inr, ℕ, Bool, true, false, cond, IsTrue, IfOk, List, [], ◌∷◌, Some, None, Result, Ok, Err, refl, sym, ap, subst, ◌∙◌}
 use Rattle.pgs_base.specs.declared.limits.Limits.{Limits}
 use Rattle.pgs_base.specs.declared.memory.Memory.{Memory as NoMemory}
-use Rattle.pgs_lines.specs.Ending.{Faults, faults_of}
-use Rattle.pgs_lines.specs.Machine.{Told}
-use Rattle.pgs_lines.specs.Pieces.{Shown, shown_of, ShowsAll}
-use Rattle.pgs_lines.proofs.Causes.{world_same}
+use Rattle.pgs_run_lines.specs.Ending.{Faults, faults_of}
+use Rattle.pgs_run_lines.specs.Machine.{Told}
+use Rattle.pgs_run_lines.specs.Pieces.{Shown, shown_of, ShowsAll}
+use Rattle.pgs_run_lines.proofs.Causes.{world_same}
 use Rattle.pgs_resolve.specs.SchemaOf.{schema_of}
 use Rattle.pgs_snapshot.specs.Choice.{Choice, choice_of}
 use Rattle.pgs_snapshot.specs.Choice as choices

@@ -1,8 +1,8 @@
 -- What is replied to the loading of a text: one line with its status, or a status alone.
 use Rattle.std.specs.Prelude.{◌≡◌, ◌⊎◌, ℕ, List, [], ◌∷◌, Result, Ok, Err, if◌then◌else◌}
 use Rattle.pgs_base.specs.declared.memory.Memory.{Memory as NoMemory}
-use Rattle.pgs_lines.specs.Ending.{PutsRose, faults_of}
-use Rattle.pgs_lines.specs.Pieces.{shown_of, ShowsAll, ShowsTorn}
+use Rattle.pgs_run_lines.specs.Ending.{PutsRose, faults_of}
+use Rattle.pgs_run_lines.specs.Pieces.{shown_of, ShowsAll, ShowsTorn}
 use Rattle.pgs_resolve.specs.SchemaOf.{Answer}
 use Rattle.pgs_schema.specs.Told.{answer_of}
 use Rattle.pgs_store.specs.declared.fault.LoadFault.{LoadFault}

@@ -1,6 +1,6 @@
 -- What the command `load` tells of an input within a budget and of two areas: one piece, and a status.
 use Rattle.std.specs.Prelude.{ℕ, List, [], ◌∷◌, length, nat_le, if◌then◌else◌}
-use Rattle.pgs_lines.specs.Machine.{Told}
+use Rattle.pgs_run_lines.specs.Machine.{Told}
 use Rattle.pgs_syntax.specs.declared.resolved.Resolved.{Resolved}
 use Rattle.pgs_answer.specs.Lines.{loaded_line}
 use Rattle.pgs_answer.specs.Refusals.{already_store_text, foreign_text}

@@ -3,8 +3,8 @@ ghost use Rattle.pgs_run_base.specs.Part.{no_part};
 ghost use Rattle.pgs_run_load.specs.Collecting.{collecting, leaves_world, collected};
 
 use pgs_base::Bytes;
-use pgs_lines::{LineTaker, Stop};
 use pgs_run_base::{SchemaPart, Status};
+use pgs_run_lines::{LineTaker, Stop};
 use pgs_world::World;
 use std::alloc::Global;
 

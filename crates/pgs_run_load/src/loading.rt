@@ -1,8 +1,8 @@
 //! The loading of a text that was read whole.
 
 ghost use Rattle.std.specs.Prelude.{◌≡◌, ℕ, List, true, false, IsTrue};
-ghost use Rattle.pgs_lines.specs.Ending.{faults_of};
-ghost use Rattle.pgs_lines.specs.Pieces.{shown_of};
+ghost use Rattle.pgs_run_lines.specs.Ending.{faults_of};
+ghost use Rattle.pgs_run_lines.specs.Pieces.{shown_of};
 ghost use Rattle.pgs_store.specs.Loads.{FindsNone};
 ghost use Rattle.pgs_world.specs.Moment.{EachSince, IsSettled, Passes};
 ghost use Rattle.pgs_run_base.specs.Areas.{areas_of};

@@ -3,7 +3,7 @@
 ghost use Rattle.std.specs.Prelude.{◌≡◌, IfOk};
 ghost use Rattle.pgs_answer.specs.Lines.{store_refused_line};
 ghost use Rattle.pgs_answer.specs.Refusals.{already_store_text, foreign_text};
-ghost use Rattle.pgs_lines.specs.AreasKept.{KeepsAreas};
+ghost use Rattle.pgs_run_lines.specs.AreasKept.{KeepsAreas};
 ghost use Rattle.pgs_schema.specs.Told.{answer_of};
 ghost use Rattle.pgs_world.specs.Disk.{Puts};
 ghost use Rattle.pgs_world.specs.Moment.{StopsBy};

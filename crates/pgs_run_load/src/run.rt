@@ -1,6 +1,6 @@
 ghost use Rattle.std.specs.Prelude.{◌≡◌, ◌≤◌, ◌^◌, List, ℕ, Some, true, IsTrue};
-ghost use Rattle.pgs_lines.specs.Ending.{faults_of};
-ghost use Rattle.pgs_lines.specs.Pieces.{shown_of};
+ghost use Rattle.pgs_run_lines.specs.Ending.{faults_of};
+ghost use Rattle.pgs_run_lines.specs.Pieces.{shown_of};
 ghost use Rattle.pgs_store.specs.Loads.{FindsNone};
 ghost use Rattle.pgs_world.specs.Moment.{EachSince, IsSettled, Passes};
 ghost use Rattle.pgs_run_base.specs.Areas.{areas_of};
@@ -11,8 +11,8 @@ ghost use Rattle.pgs_run_load.specs.Told.{told_load};
 
 use crate::collecting::{Collecting, text_of};
 use crate::loading::load_text;
-use pgs_lines::run_lines;
 use pgs_run_base::{Status, TEXT_LIMIT};
+use pgs_run_lines::run_lines;
 use pgs_world::{Source, World};
 use std::alloc::Global;
 

@@ -1,13 +1,13 @@
 ghost use Rattle.std.specs.Prelude.{◌≡◌, ◌<◌, map};
-ghost use Rattle.pgs_pieces.specs.Puts.{Puts};
+ghost use Rattle.pgs_run_lines.specs.Puts.{Puts};
 ghost use Rattle.pgs_run_recover.specs.Dump.{dump, graph_ops, op_line};
 
 use crate::elements::{put_edges, put_nodes};
 use pgs_answer::{schema_line, separator_line};
 use pgs_base::Steps;
 use pgs_graph::GraphRead;
-use pgs_pieces::{PutStop, put_made};
 use pgs_run_base::Status;
+use pgs_run_lines::{PutStop, put_made};
 use pgs_run_saved::StoreReader;
 use pgs_store::Store;
 use pgs_world::World;

@@ -3,14 +3,14 @@
 ghost use Rattle.std.specs.Prelude.{◌≡◌, map};
 ghost use Rattle.pgs_base.specs.Pair.{pair_of};
 ghost use Rattle.pgs_graph.specs.Reads.{edge_row};
-ghost use Rattle.pgs_pieces.specs.Puts.{Puts};
+ghost use Rattle.pgs_run_lines.specs.Puts.{Puts};
 ghost use Rattle.pgs_run_recover.specs.Dump.{edge_ops, node_ops, op_line};
 ghost use Rattle.pgs_run_recover.specs.Parts.{edge_lines, node_lines, set_lines};
 
 use crate::lines::{add_edge_line, add_node_line, set_line};
 use pgs_base::{EdgeId, Elem, Name, NodeId, Steps, Value};
 use pgs_graph::{EdgeRef, GraphRead, NodeRef};
-use pgs_pieces::{PutStop, put_made};
+use pgs_run_lines::{PutStop, put_made};
 use pgs_world::World;
 use std::alloc::Global;
 use std::sync::ledger::Ledger;

@@ -1,7 +1,7 @@
 -- What is told of two areas whose store is opened.
 use Rattle.std.proofs.Common.{◌≡◌, IsTrue, List, ℕ, Result, sym, ◌∙◌, ap, subst}
-use Rattle.pgs_lines.specs.Machine.{Told}
-use Rattle.pgs_lines.specs.Pieces.{Shown, shown_of}
+use Rattle.pgs_run_lines.specs.Machine.{Told}
+use Rattle.pgs_run_lines.specs.Pieces.{Shown, shown_of}
 use Rattle.pgs_run_base.specs.declared.status.Status.{Status}
 use Rattle.pgs_run_base.specs.Areas.{areas_of}
 use Rattle.pgs_run_base.specs.Ending.{Ends}

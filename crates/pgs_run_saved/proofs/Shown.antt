@@ -1,9 +1,9 @@
 -- What is shown, and which faults are counted, where nothing was put.
 use Rattle.std.proofs.Common.{◌≡◌, ℕ, Bool, List, [], Some, None, refl, ◌∙◌, ap, subst}
 use Rattle.std.specs.Prelude.{if◌then◌else◌}
-use Rattle.pgs_lines.specs.Ending.{Faults, PutsRose, faults_of}
-use Rattle.pgs_lines.specs.Pieces.{Shown, ShowsFirst, shown_of}
-use Rattle.pgs_lines.proofs.Showing.{shows_none}
+use Rattle.pgs_run_lines.specs.Ending.{Faults, PutsRose, faults_of}
+use Rattle.pgs_run_lines.specs.Pieces.{Shown, ShowsFirst, shown_of}
+use Rattle.pgs_run_lines.proofs.Showing.{shows_none}
 use Rattle.pgs_world.specs.Count.{Rose}
 use Rattle.pgs_world.specs.Moment.{IsQuiet, MakesNoPut}
 use Rattle.pgs_world.specs.World.{Triple, View}

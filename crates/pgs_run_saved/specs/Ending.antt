@@ -1,7 +1,7 @@
 -- How a command ends whose store isn't opened.
 use Rattle.std.specs.Prelude.{◌≡◌, ◌⊎◌, Bool, true, false, [], ◌∷◌}
-use Rattle.pgs_lines.specs.Ending.{PutsRose, faults_of}
-use Rattle.pgs_lines.specs.Pieces.{shown_of, ShowsAll, ShowsTorn}
+use Rattle.pgs_run_lines.specs.Ending.{PutsRose, faults_of}
+use Rattle.pgs_run_lines.specs.Pieces.{shown_of, ShowsAll, ShowsTorn}
 use Rattle.pgs_run_base.specs.declared.status.Status.{Status}
 use Rattle.pgs_run_base.specs.declared.status.Status.TheVariants as statuses
 use Rattle.pgs_world.specs.World.{View}

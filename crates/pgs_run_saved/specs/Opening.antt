@@ -1,6 +1,6 @@
 -- What the opening of a saved store answers, and which statuses a command has that needs one.
 use Rattle.std.specs.Prelude.{◌≡◌, ℕ, Bool, true, false, IsTrue, List, [], ◌∷◌, Result, Ok, Err}
-use Rattle.pgs_lines.specs.Machine.{Told}
+use Rattle.pgs_run_lines.specs.Machine.{Told}
 use Rattle.pgs_run_base.specs.declared.status.Status.{Status}
 use Rattle.pgs_run_base.specs.declared.status.Status.TheVariants.{BadWords, SchemaRefused, StoreRefused, DiskFault as AreaFailed, ReadFault, InputTooLong}
 use Rattle.pgs_run_base.specs.Answers.{schema_answer}

@@ -1,7 +1,7 @@
 -- What is told where a command needs a saved store: its own pieces, or the one line of what two areas are refused for.
 use Rattle.std.specs.Prelude.{ℕ, List, [], ◌∷◌, Result, Ok, Err}
 use Rattle.pgs_base.specs.Graph.{Graph}
-use Rattle.pgs_lines.specs.Machine.{Told}
+use Rattle.pgs_run_lines.specs.Machine.{Told}
 use Rattle.pgs_syntax.specs.declared.resolved.Resolved.{Resolved}
 use Rattle.pgs_answer.specs.Lines.{schema_refused_line, store_refused_line}
 use Rattle.pgs_answer.specs.Refusals.{no_store_text, foreign_text, bad_record_text, bad_history_text}

@@ -1,10 +1,10 @@
 ghost use Rattle.std.specs.Prelude.{◌≡◌, false};
-ghost use Rattle.pgs_lines.specs.AreasKept.{KeepsAreas};
+ghost use Rattle.pgs_run_lines.specs.AreasKept.{KeepsAreas};
 ghost use Rattle.pgs_run_saved.specs.Ending.{EndsUnopened, is_refusal};
 
 use crate::Unopened;
-use pgs_lines::put_piece;
 use pgs_run_base::Status;
+use pgs_run_lines::put_piece;
 use pgs_world::World;
 
 /// Ends a command whose store isn't opened: puts the line of a refusal, and gives the status. `PutFault` comes only where the count of

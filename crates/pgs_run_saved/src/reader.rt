@@ -1,8 +1,8 @@
 ghost use Rattle.std.specs.Prelude.{◌≡◌, ℕ, true, false, IsTrue};
-ghost use Rattle.pgs_lines.specs.AreasKept.{KeepsAreas};
-ghost use Rattle.pgs_lines.specs.Ending.{faults_of};
-ghost use Rattle.pgs_lines.specs.Machine.{Told};
-ghost use Rattle.pgs_lines.specs.Pieces.{shown_of};
+ghost use Rattle.pgs_run_lines.specs.AreasKept.{KeepsAreas};
+ghost use Rattle.pgs_run_lines.specs.Ending.{faults_of};
+ghost use Rattle.pgs_run_lines.specs.Machine.{Told};
+ghost use Rattle.pgs_run_lines.specs.Pieces.{shown_of};
 ghost use Rattle.pgs_run_base.specs.declared.status.Status.{Status};
 ghost use Rattle.pgs_run_base.specs.Areas.{areas_of};
 ghost use Rattle.pgs_run_base.specs.Ending.{Ends};

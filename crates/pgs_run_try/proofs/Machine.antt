@@ -2,10 +2,10 @@
 use Rattle.std.proofs.Common.{◌≡◌, ℕ, Bool, true, false, nat_le, List, [], ◌∷◌, ◌++◌, length, take, map, Ok, Err, refl, sym, ap, subst, ◌∙◌, append_assoc}
 use Rattle.std.proofs.lemmas.List.{append-nil}
 use Rattle.std.specs.List.{list_any, join_with_byte}
-use Rattle.pgs_lines.specs.Input.{lines_of, kept_of}
-use Rattle.pgs_lines.specs.Machine as machine
-use Rattle.pgs_lines.specs.Machine.{Told, Standing, Going, Ended, told_by, told_at_end, status_at_cut}
-use Rattle.pgs_lines.proofs.Fronts.{front_none}
+use Rattle.pgs_run_lines.specs.Input.{lines_of, kept_of}
+use Rattle.pgs_run_lines.specs.Machine as machine
+use Rattle.pgs_run_lines.specs.Machine.{Told, Standing, Going, Ended, told_by, told_at_end, status_at_cut}
+use Rattle.pgs_run_lines.proofs.Fronts.{front_none}
 use Rattle.pgs_run_base.specs.declared.status.Status.{Status}
 use Rattle.pgs_run_base.specs.declared.status.Status.TheVariants as statuses
 use Rattle.pgs_run_base.specs.Answers.{schema_answer}

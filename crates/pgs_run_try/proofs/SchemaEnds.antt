@@ -1,11 +1,11 @@
 -- The end of an input in which no separator came: all of it is the schema text.
 use Rattle.std.proofs.Common.{◌≡◌, ℕ, true, List, [], Result, Ok, Err, sym, subst}
-use Rattle.pgs_lines.specs.declared.stop.Stop.{Stop}
-use Rattle.pgs_lines.specs.declared.stop.Stop.TheVariants as stops
-use Rattle.pgs_lines.specs.Ending.{Shows, Ends}
-use Rattle.pgs_lines.specs.Machine.{Told}
-use Rattle.pgs_lines.specs.Pieces.{Shown, ShowsAll, ShowsTorn}
-use Rattle.pgs_lines.proofs.Showing.{ends_on, torn_of_more}
+use Rattle.pgs_run_lines.specs.declared.stop.Stop.{Stop}
+use Rattle.pgs_run_lines.specs.declared.stop.Stop.TheVariants as stops
+use Rattle.pgs_run_lines.specs.Ending.{Shows, Ends}
+use Rattle.pgs_run_lines.specs.Machine.{Told}
+use Rattle.pgs_run_lines.specs.Pieces.{Shown, ShowsAll, ShowsTorn}
+use Rattle.pgs_run_lines.proofs.Showing.{ends_on, torn_of_more}
 use Rattle.pgs_syntax.specs.declared.resolved.Resolved.{Resolved}
 use Rattle.pgs_run_base.specs.declared.status.Status.{Status}
 use Rattle.pgs_run_try.specs.declared.judging.Judging.{Judging}

@@ -1,16 +1,16 @@
 ghost use Rattle.std.specs.Prelude.{◌≡◌, ◌∷◌, [], map, IfOk, IfErr};
-ghost use Rattle.pgs_lines.specs.AreasKept.{KeepsAreas};
-ghost use Rattle.pgs_lines.specs.Driving.{LineShows};
-ghost use Rattle.pgs_lines.specs.Ending.{Ends, HasCause, HasAnyCause, faults_of};
-ghost use Rattle.pgs_lines.specs.Pieces.{shown_of};
+ghost use Rattle.pgs_run_lines.specs.AreasKept.{KeepsAreas};
+ghost use Rattle.pgs_run_lines.specs.Driving.{LineShows};
+ghost use Rattle.pgs_run_lines.specs.Ending.{Ends, HasCause, HasAnyCause, faults_of};
+ghost use Rattle.pgs_run_lines.specs.Pieces.{shown_of};
 ghost use Rattle.pgs_run_try.specs.Told.{listed_line, status_after, told_end};
 ghost use Rattle.pgs_run_try.specs.Trying.{MayStop, StopsPutting};
 
 use crate::session::Session;
 use pgs_answer::{violation_line, violation_text};
 use pgs_base::{Bytes, Memory};
-use pgs_lines::{Stop, put_piece};
 use pgs_run_base::Status;
+use pgs_run_lines::{Stop, put_piece};
 use pgs_violation::Violation;
 use pgs_world::World;
 use std::alloc::Global;

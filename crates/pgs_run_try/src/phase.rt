@@ -1,5 +1,5 @@
 ghost use Rattle.std.specs.Prelude.{◌≡◌, [], IfOk, IfSome, IfNone, OnOk};
-ghost use Rattle.pgs_lines.specs.Machine.{HasRoomFor};
+ghost use Rattle.pgs_run_lines.specs.Machine.{HasRoomFor};
 ghost use Rattle.pgs_run_base.specs.Answers.{schema_answer};
 ghost use Rattle.pgs_run_base.specs.Pieces.{pieces_in};
 ghost use Rattle.pgs_run_try.specs.Trying.{trying, after_schema, pieces_of_schema, after_end, pieces_at_end};

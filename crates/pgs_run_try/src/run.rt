@@ -1,14 +1,14 @@
 ghost use Rattle.std.specs.Prelude.{◌≡◌, ◌≤◌, ◌^◌, List, ℕ, Some, true, false};
-ghost use Rattle.pgs_lines.specs.AreasKept.{KeepsAreas};
-ghost use Rattle.pgs_lines.specs.Ending.{faults_of};
-ghost use Rattle.pgs_lines.specs.Pieces.{shown_of};
+ghost use Rattle.pgs_run_lines.specs.AreasKept.{KeepsAreas};
+ghost use Rattle.pgs_run_lines.specs.Ending.{faults_of};
+ghost use Rattle.pgs_run_lines.specs.Pieces.{shown_of};
 ghost use Rattle.pgs_run_base.specs.Run.{IsRead, EndsAs, HasCommandCause};
 ghost use Rattle.pgs_run_try.specs.Told.{told_judging};
 
 use crate::Judging;
 use crate::trying::Trying;
-use pgs_lines::run_lines;
 use pgs_run_base::{Status, TEXT_LIMIT, status_at};
+use pgs_run_lines::run_lines;
 use pgs_world::{Source, World};
 use std::alloc::Global;
 

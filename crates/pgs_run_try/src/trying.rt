@@ -1,8 +1,8 @@
 ghost use Rattle.std.specs.Prelude.{◌≡◌, [], true};
-ghost use Rattle.pgs_lines.specs.Areas.{keeps_areas};
-ghost use Rattle.pgs_lines.specs.AreasKept.{KeepsAreas};
-ghost use Rattle.pgs_lines.specs.Ending.{Ends, HasCause, faults_of};
-ghost use Rattle.pgs_lines.specs.Pieces.{shown_of};
+ghost use Rattle.pgs_run_lines.specs.Areas.{keeps_areas};
+ghost use Rattle.pgs_run_lines.specs.AreasKept.{KeepsAreas};
+ghost use Rattle.pgs_run_lines.specs.Ending.{Ends, HasCause, faults_of};
+ghost use Rattle.pgs_run_lines.specs.Pieces.{shown_of};
 ghost use Rattle.pgs_run_base.specs.Answers.{schema_answer};
 ghost use Rattle.pgs_run_try.specs.Told.{told_schema};
 ghost use Rattle.pgs_run_try.specs.Trying.{trying, first_phase, told_after, MayStop};
@@ -11,8 +11,8 @@ use crate::Judging;
 use crate::listing::end_session;
 use crate::phase::{Phase, judge};
 use pgs_base::Seed;
-use pgs_lines::{LineTaker, Stop};
 use pgs_run_base::{SchemaPart, Status, put_any};
+use pgs_run_lines::{LineTaker, Stop};
 use pgs_world::World;
 use std::alloc::Global;
 

@@ -15,8 +15,8 @@ use Rattle.pgs_graph.specs.declared.scan.End.{End}
 use Rattle.pgs_graph.specs.Reads.{end_of, ends_at, edges_with}
 use Rattle.pgs_graph.specs.Changed.{entry_changed}
 use Rattle.pgs_graph.proofs.Deltas.{edge_cmp_total, exact_edge, absent_below, ascending-entry_changed}
-use Rattle.pgs_numbered.proofs.Keys.{same_keys}
-use Rattle.pgs_numbered.proofs.Rows.{lookup-changed}
+use Rattle.pgs_tables.proofs.Keys.{same_keys}
+use Rattle.pgs_tables.proofs.Rows.{lookup-changed}
 use Rattle.pgs_tables.specs.Relists.{list_edited}
 use Rattle.pgs_tables.proofs.Folded.{ascending-filter}
 

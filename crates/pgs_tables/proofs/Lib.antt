@@ -4,3 +4,6 @@ pub mod Ends
 pub mod Folded
 pub mod Relisted
 pub mod Touched
+pub mod Keys
+pub mod Placed
+pub mod Rows

@@ -13,7 +13,7 @@ use Rattle.pgs_graph.specs.declared.scan.End.TheVariants.{Source, Target}
 use Rattle.pgs_graph.specs.Reads.{edges_with}
 use Rattle.pgs_graph.specs.Changed.{entry_changed, entries_changed}
 use Rattle.pgs_graph.proofs.Deltas.{edge_cmp_total, ascending-entry_changed}
-use Rattle.pgs_numbered.proofs.Rows.{lookup-changed}
+use Rattle.pgs_tables.proofs.Rows.{lookup-changed}
 use Rattle.pgs_tables.specs.declared.edit.Side.{Side}
 use Rattle.pgs_tables.specs.declared.edit.Side.TheVariants.{Out, In}
 use Rattle.pgs_tables.specs.declared.node_edges.NodeEdges.{NodeEdges}

@@ -3,3 +3,4 @@ pub mod Commits
 pub mod Ready
 pub mod Relists
 pub mod Standing
+pub mod Slots

@@ -8,7 +8,7 @@ use Rattle.pgs_base.specs.declared.element.EdgeId.{EdgeId}
 use Rattle.pgs_base.specs.declared.row.EdgeRow.{EdgeRow}
 use Rattle.pgs_base.specs.Graph.{Graph, node_cmp, edge_cmp, is_graph}
 use Rattle.pgs_graph.specs.declared.delta.Delta.{Delta}
-use Rattle.pgs_numbered.specs.Slots.{Slots, has_slot}
+use Rattle.pgs_tables.specs.Slots.{Slots, has_slot}
 use Rattle.pgs_tables.specs.declared.node_edges.NodeTable.{NodeTable}
 use Rattle.pgs_tables.specs.Adjacency.{node_edges}
 

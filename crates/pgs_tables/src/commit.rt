@@ -8,13 +8,12 @@ ghost use Rattle.std.specs.BTreeMap.{is_at};
 ghost use Rattle.pgs_base.specs.declared.element.NodeId.{NodeId};
 ghost use Rattle.pgs_base.specs.Graph.{node_cmp};
 ghost use Rattle.pgs_graph.specs.Changed.{entry_changed, entries_changed};
-ghost use Rattle.pgs_numbered.specs.Slots.{has_slot};
+ghost use Rattle.pgs_tables.specs.Slots.{has_slot};
 ghost use Rattle.pgs_tables.specs.Commits.{edges_kept, row_put, rows_put, edges_put, lists_put};
 
-use crate::NodeEdges;
 use crate::node_edges::NodeTable;
+use crate::{NodeEdges, Number, Numbered};
 use pgs_base::{NodeId, NodeRow};
-use pgs_numbered::{Number, Numbered};
 use std::alloc::Global;
 
 /// Does changes of rows whose numbers have slots.

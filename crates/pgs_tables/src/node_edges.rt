@@ -4,7 +4,7 @@ ghost use Rattle.pgs_tables.specs.Relists.{list_edited, edges_edited};
 
 use crate::edit::{Edit, Side};
 use pgs_base::{Copyable, EdgeId, Memory, NodeRow};
-use pgs_edges::EdgeList;
+use pgs_tables_edges::EdgeList;
 use std::alloc::Global;
 
 /// The edges that go out of a node and those that come in, each by ascending number.

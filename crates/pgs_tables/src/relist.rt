@@ -10,17 +10,16 @@ ghost use Rattle.pgs_base.specs.declared.element.NodeId.{NodeId};
 ghost use Rattle.pgs_base.specs.declared.row.NodeRow.{NodeRow};
 ghost use Rattle.pgs_base.specs.Graph.{node_cmp, node_at};
 ghost use Rattle.pgs_graph.specs.Changed.{is_sound};
-ghost use Rattle.pgs_numbered.specs.Slots.{has_slot};
+ghost use Rattle.pgs_tables.specs.Slots.{has_slot};
 ghost use Rattle.pgs_tables.specs.Adjacency.{node_edges, touched_edges};
 ghost use Rattle.pgs_tables.specs.Relists.{edges_edited, stays, relisted as relisted_at, relisted_ends, relisted_all, kept_at, kept_here};
 ghost use Rattle.std.specs.Option.{unwrap_or};
 
 use crate::edit::{Edit, Side};
-use crate::{NodeEdges, Tables};
+use crate::{NodeEdges, Number, Numbered, Tables};
 use pgs_base::{Copyable, EdgeId, EdgeRow, List, Memory, NodeId, NodeRow};
+use pgs_base_keyed::Keyed;
 use pgs_graph::Delta;
-use pgs_keyed::Keyed;
-use pgs_numbered::{Number, Numbered};
 use std::alloc::Global;
 use std::cmp::Ordering;
 

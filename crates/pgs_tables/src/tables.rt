@@ -3,13 +3,12 @@ ghost use Rattle.pgs_base.specs.Graph.{empty_graph};
 ghost use Rattle.pgs_graph.specs.Changed.{changed, is_sound};
 ghost use Rattle.pgs_tables.specs.Adjacency.{Suits};
 
-use crate::Prepared;
 use crate::commit::{put_lists, put_nodes, put_rows};
 use crate::node_edges::NodeTable;
 use crate::relist::make_slots;
+use crate::{Numbered, Prepared};
 use pgs_base::{EdgeId, EdgeRow, Memory, NodeId, Seed};
 use pgs_graph::Delta;
-use pgs_numbered::Numbered;
 use std::alloc::Global;
 use std::marker::Model;
 use std::snapshot::Snapshot;

@@ -16,7 +16,7 @@ use Rattle.pgs_base.specs.declared.row.EdgeRow.{EdgeRow}
 use Rattle.pgs_base.specs.Graph.{edge_cmp}
 use Rattle.pgs_base.proofs.Ascending.{ascending-remove_key}
 use Rattle.pgs_base.proofs.Lookups.{lookup-insert_entry, any-insert_key, any-remove_key, length-remove_key}
-use Rattle.pgs_keyed.proofs.First.{first_among, first_least, none_from}
+use Rattle.pgs_base_keyed.proofs.First.{first_among, first_least, none_from}
 use Rattle.pgs_graph.proofs.Deltas.{edge_cmp_total}
 use Rattle.pgs_txn.specs.declared.changed_rows.EdgeEnd.{EdgeEnd}
 use Rattle.pgs_txn.specs.declared.changed_rows.ChangedRows.{ChangedRows}

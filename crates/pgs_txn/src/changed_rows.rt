@@ -8,8 +8,8 @@ ghost use Rattle.pgs_base.specs.Graph.{node_cmp, edge_cmp};
 ghost use Rattle.pgs_txn.specs.Rows.{IsIndexed, IsLeast, delta_of, edge_change, end_cmp, ends_left, ends_with, was_put, was_put_at};
 
 use pgs_base::{EdgeId, EdgeRow, List, Memory, NodeId, NodeRow};
+use pgs_base_keyed::Keyed;
 use pgs_graph::Delta;
-use pgs_keyed::Keyed;
 use std::alloc::Global;
 
 /// A node that is an end of an edge.

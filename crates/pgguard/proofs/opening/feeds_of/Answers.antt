@@ -2,7 +2,7 @@ use Rattle.std.proofs.Common.{◌∙◌, sym, ap, map, arith}
 use Rattle.std.proofs.lemmas.List.{take_all}
 use Rattle.std.proofs.lemmas.Simd.{map-map}
 use Rattle.pgs_feed.specs.Places.{fed}
-use Rattle.pgs_files.specs.Counted.{untold_bytes}
+use Rattle.pgs_world_files.specs.Counted.{untold_bytes}
 use Rattle.pgguard.proofs.opening.feeds_of.Goals as goal
 
 pub returns : goal.returns

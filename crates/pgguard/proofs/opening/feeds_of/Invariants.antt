@@ -1,7 +1,7 @@
 use Rattle.std.proofs.Common.{◌≡◌, map, take}
 use Rattle.pgs_feed.specs.Places.{fed}
 use Rattle.pgs_feed.specs.Seen.{places}
-use Rattle.pgs_files.specs.Counted.{untold_bytes}
+use Rattle.pgs_world_files.specs.Counted.{untold_bytes}
 use Rattle.pgguard.proofs.opening.feeds_of.Given as goal
 
 -- the feeds of the first names are open

@@ -1,5 +1,5 @@
 use Rattle.std.proofs.Common.{◌≡◌, ◌++◌, flat_map, take}
-use Rattle.pgs_text.specs.Text.{quoted}
+use Rattle.pgs_base_text.specs.Text.{quoted}
 use Rattle.pgs_json.specs.Pieces.{further}
 use Rattle.pgs_json.proofs.canonical.push_further_labels.Given as goal
 

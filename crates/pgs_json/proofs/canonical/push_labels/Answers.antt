@@ -1,6 +1,6 @@
 use Rattle.std.proofs.Common.{◌++◌, sym, ap, ◌∙◌}
 use Rattle.std.specs.Prelude.{codes}
-use Rattle.pgs_text.specs.Text.{quoted}
+use Rattle.pgs_base_text.specs.Text.{quoted}
 use Rattle.pgs_json.specs.Pieces.{listed}
 use Rattle.pgs_json.proofs.Joined.{three_pieces, labels_listed}
 use Rattle.pgs_json.proofs.canonical.push_labels.Goals as goal

@@ -1,7 +1,7 @@
 use Rattle.std.proofs.Common.{refl}
 use Rattle.std.specs.Fmt.{digits}
 use Rattle.pgs_json.specs.Canonical.{text_of_txn}
-use Rattle.pgs_text.specs.Text.{quoted}
+use Rattle.pgs_base_text.specs.Text.{quoted}
 use Rattle.pgs_json.proofs.samples.canonical_texts.Goals as goal
 
 pub returns-clause-nothing : goal.returns-clause-nothing

@@ -1,7 +1,7 @@
 use Rattle.std.proofs.Common.{refl}
 use Rattle.std.specs.Fmt.{digits}
 use Rattle.pgs_json.specs.Canonical.{text_of_txn}
-use Rattle.pgs_text.specs.Text.{quoted}
+use Rattle.pgs_base_text.specs.Text.{quoted}
 use Rattle.pgs_json.proofs.samples.texts_of_changes.Goals as goal
 
 pub returns-clause-nodes : goal.returns-clause-nodes

@@ -6,7 +6,7 @@ use Rattle.pgs_json.specs.Form.{labels_of, props_of, add_node, add_edge, with_id
 use Rattle.pgs_json.specs.Line.{txn_of}
 use Rattle.std.specs.Fmt.{digits}
 use Rattle.pgs_json.specs.Canonical.{text_of_txn}
-use Rattle.pgs_text.specs.Text.{quoted}
+use Rattle.pgs_base_text.specs.Text.{quoted}
 use Rattle.pgs_json.proofs.samples.written_and_read.Goals as goal
 
 pub returns-clause-nodes : goal.returns-clause-nodes

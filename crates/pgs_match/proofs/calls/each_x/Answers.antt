@@ -1,7 +1,7 @@
 use Rattle.std.proofs.Common.{sym, ◌∙◌}
 use Rattle.std.proofs.lemmas.Bool.{and_parts}
 use Rattle.pgs_syntax.specs.KeyValues.{scope_of}
-use Rattle.pgs_matching.proofs.There.{edge_kind}
+use Rattle.pgs_match.proofs.There.{edge_kind}
 use Rattle.pgs_match.proofs.Scopes.{edges_are_scope, nodes_are_scope, ok_same}
 use Rattle.pgs_match.proofs.calls.each_x.Goals as goal
 

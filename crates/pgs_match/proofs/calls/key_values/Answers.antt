@@ -2,10 +2,10 @@ use Rattle.std.proofs.Common.{[], ap, ◌∙◌}
 use Rattle.std.specs.Option.{option_map_or}
 use Rattle.std.proofs.lemmas.Bool.{and_parts}
 use Rattle.pgs_syntax.specs.KeyValues.{key_values}
-use Rattle.pgs_matching.specs.Bounds.{with_bound, nothing_bound}
-use Rattle.pgs_matching.specs.Search.{gathered}
-use Rattle.pgs_matching.specs.Tests.{admitted}
-use Rattle.pgs_matching.proofs.Values.{gathered_are_values}
+use Rattle.pgs_match.specs.Bounds.{with_bound, nothing_bound}
+use Rattle.pgs_match.specs.Search.{gathered}
+use Rattle.pgs_match.specs.Tests.{admitted}
+use Rattle.pgs_match.proofs.Values.{gathered_are_values}
 use Rattle.pgs_match.proofs.Scopes.{ok_same, some_variable}
 use Rattle.pgs_match.proofs.calls.key_values.Goals as goal
 

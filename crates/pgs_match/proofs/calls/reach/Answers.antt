@@ -1,8 +1,8 @@
 use Rattle.std.proofs.Common.{◌≡◌, ◌+◌, ◌^◌, ◌<◌, ◌≤◌, true, length, sym, ap, ◌∙◌, subst, arith}
 use Rattle.std.specs.Prelude.{filter_map}
 use Rattle.pgs_syntax.specs.Valid.{edge_count, is_valid_pattern}
-use Rattle.pgs_plan.specs.Plans.{is_plan}
-use Rattle.pgs_matching.specs.Reached.{reached}
+use Rattle.pgs_match.specs.Plans.{is_plan}
+use Rattle.pgs_match.specs.Reached.{reached}
 use Rattle.pgs_match.specs.Planned.{pattern_of, most_edges, first_elem}
 use Rattle.pgs_match.proofs.Firsts.{firsts_are_reached, firsts_few}
 use Rattle.pgs_match.proofs.Scopes.{ok_same, ok_fewer, side_edges, side_valid}

@@ -1,6 +1,6 @@
 use Rattle.std.proofs.Common.{◌≡◌, ◌<◌, true, length, refl, sym, subst, arith}
 use Rattle.std.proofs.lemmas.Option.{slice_get_read}
-use Rattle.pgs_plan.specs.Plans.{is_plan}
+use Rattle.pgs_match.specs.Plans.{is_plan}
 use Rattle.pgs_match.proofs.Plans.{planned_at, plans_size}
 use Rattle.pgs_match.proofs.planned.plan_at.Goals as goal
 

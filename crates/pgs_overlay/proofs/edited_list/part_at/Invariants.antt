@@ -1,7 +1,7 @@
 use Rattle.std.proofs.Common.{◌-◌, ◌<◌, ◌≤◌, List, length, take}
 use Rattle.std.specs.List.{flat_map}
 use Rattle.pgs_base.specs.declared.element.EdgeId.{EdgeId}
-use Rattle.pgs_edges.specs.Starts.{StartFrom}
+use Rattle.pgs_tables_edges.specs.Starts.{StartFrom}
 use Rattle.pgs_overlay.specs.declared.part.Placed.{Placed}
 use Rattle.pgs_overlay.specs.Parts.{items, first_item}
 use Rattle.pgs_overlay.proofs.edited_list.part_at.Given as goal

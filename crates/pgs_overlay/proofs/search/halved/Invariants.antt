@@ -1,5 +1,5 @@
 use Rattle.std.proofs.Common.{◌+◌, ◌-◌, ◌≤◌, length}
-use Rattle.pgs_edges.specs.Numbers.{AllBelow}
+use Rattle.pgs_tables_edges.specs.Numbers.{AllBelow}
 use Rattle.pgs_overlay.specs.Found.{AllFrom}
 use Rattle.pgs_overlay.specs.Sides.{edges_at}
 use Rattle.pgs_overlay.proofs.search.halved.Given as goal

@@ -7,10 +7,10 @@ use Rattle.pgs_syntax.specs.declared.key.Key.{Key}
 use Rattle.pgs_syntax.specs.declared.script.GraphType.{GraphType}
 use Rattle.pgs_syntax.specs.declared.script.Member.{Member}
 use Rattle.pgs_resolve.specs.Guard.{name_of, each_once, type_no}
-use Rattle.pgs_keys.specs.Patterns.{resolved_key}
+use Rattle.pgs_resolve_keys.specs.Patterns.{resolved_key}
 use Rattle.pgs_resolve.specs.Keyed.{names_x}
 use Rattle.pgs_resolve.proofs.Each.{of_guard, keys_in}
-use Rattle.pgs_declared.proofs.Firsts.{flat_map_through}
+use Rattle.pgs_resolve_declared.proofs.Firsts.{flat_map_through}
 use Rattle.pgs_resolve.proofs.guard.guarding.Goals as goal
 
 abbrev lent : Bor GraphType → GraphType

@@ -1,6 +1,6 @@
 use Rattle.std.proofs.Common.{arith}
 use Rattle.pgs_resolve.specs.Keyed.{names_x}
-use Rattle.pgs_keys.specs.Patterns.{resolved_key}
+use Rattle.pgs_resolve_keys.specs.Patterns.{resolved_key}
 use Rattle.pgs_resolve.proofs.Each.{each_at, more_mapped}
 use Rattle.pgs_resolve.proofs.guard_keys.push_keys.Goals as goal
 

@@ -1,5 +1,5 @@
 use Rattle.std.proofs.Common.{◌≡◌, ◌++◌, map, take}
-use Rattle.pgs_keys.specs.Patterns.{resolved_key}
+use Rattle.pgs_resolve_keys.specs.Patterns.{resolved_key}
 use Rattle.pgs_resolve.proofs.guard_keys.push_keys.Given as goal
 
 abbrev pub invariant-loop-key : goal.invariant-loop-key

@@ -1,6 +1,6 @@
 use Rattle.std.proofs.Common.{◌≡◌, map, take}
 use Rattle.std.specs.List.{flat_map}
-use Rattle.pgs_keys.specs.Patterns.{resolved_key}
+use Rattle.pgs_resolve_keys.specs.Patterns.{resolved_key}
 use Rattle.pgs_resolve.proofs.guard_keys.resolve_keys.Given as goal
 
 abbrev pub invariant-loop-graph : goal.invariant-loop-graph

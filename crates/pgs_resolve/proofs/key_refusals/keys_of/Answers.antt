@@ -4,7 +4,7 @@ use Rattle.std.specs.List.{flat_map}
 use Rattle.std.proofs.lemmas.List.{take_all}
 use Rattle.pgs_syntax.specs.declared.script.GraphType.{GraphType}
 use Rattle.pgs_resolve.proofs.Each.{keys_in}
-use Rattle.pgs_declared.proofs.Firsts.{flat_map_through}
+use Rattle.pgs_resolve_declared.proofs.Firsts.{flat_map_through}
 use Rattle.pgs_resolve.proofs.key_refusals.keys_of.Goals as goal
 
 abbrev lent : Bor GraphType → GraphType

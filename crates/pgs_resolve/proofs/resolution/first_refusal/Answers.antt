@@ -7,8 +7,8 @@ use Rattle.std.proofs.lemmas.List.{length-map}
 use Rattle.pgs_syntax.specs.declared.script.GraphType.{GraphType}
 use Rattle.pgs_resolve.specs.declared.fault.ResolveFault.{ResolveFault}
 use Rattle.pgs_resolve.specs.declared.fault.ResolveFault.TheVariants as faults
-use Rattle.pgs_declared.specs.Declarations.{graphs_of, keys_of}
-use Rattle.pgs_declared.specs.Refused.{duplicates, unknowns, wrong_kinds, cycle}
+use Rattle.pgs_resolve_declared.specs.Declarations.{graphs_of, keys_of}
+use Rattle.pgs_resolve_declared.specs.Refused.{duplicates, unknowns, wrong_kinds, cycle}
 use Rattle.pgs_resolve.specs.Resolution.{no_graph_type, bad_key}
 use Rattle.pgs_resolve.proofs.Refusing.{at_last, named_none, some_graph}
 use Rattle.pgs_resolve.proofs.resolution.first_refusal.Goals as goal

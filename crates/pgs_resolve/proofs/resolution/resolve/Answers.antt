@@ -1,8 +1,8 @@
 use Rattle.std.proofs.Common.{◌≡◌, inr, sym, ◌∙◌, ap, Ok}
-use Rattle.pgs_declared.specs.Declarations.{keys_of}
+use Rattle.pgs_resolve_declared.specs.Declarations.{keys_of}
 use Rattle.pgs_resolve.specs.Resolution.{refusals, resolution}
 use Rattle.pgs_resolve.proofs.FirstBad.{all_sound, each_names_x}
-use Rattle.pgs_declared.proofs.Firsts.{none_first}
+use Rattle.pgs_resolve_declared.proofs.Firsts.{none_first}
 use Rattle.pgs_resolve.proofs.Refusing.{is_refused, is_resolved, not_refused}
 use Rattle.pgs_resolve.proofs.Valid.{schema_valid}
 use Rattle.pgs_resolve.proofs.resolution.resolve.Goals as goal

@@ -1,8 +1,8 @@
 use Rattle.std.proofs.Common.{ℕ, List, [], arith}
 use Rattle.std.specs.Option.{option_map}
-use Rattle.pgs_declared.specs.Declarations.{edge_named}
-use Rattle.pgs_declared.specs.Order.{resolved_edge}
-use Rattle.pgs_declared.proofs.Walks.{more_kept}
+use Rattle.pgs_resolve_declared.specs.Declarations.{edge_named}
+use Rattle.pgs_resolve_declared.specs.Order.{resolved_edge}
+use Rattle.pgs_resolve_declared.proofs.Walks.{more_kept}
 use Rattle.pgs_resolve.proofs.resolved_types.resolve_edges.Goals as goal
 
 pub loop-name-preserved : goal.loop-name-preserved

@@ -1,6 +1,6 @@
 use Rattle.std.proofs.Common.{map, sym, ◌∙◌, ap}
 use Rattle.pgs_syntax.specs.declared.specification.Spec.{And, Or, Opt}
-use Rattle.pgs_declared.specs.Order.{resolved_spec}
+use Rattle.pgs_resolve_declared.specs.Order.{resolved_spec}
 use Rattle.pgs_resolve.proofs.Trees.{resolved_and, resolved_or, resolved_opt}
 use Rattle.pgs_resolve.proofs.specifications.+specifications.Goals as goal
 

@@ -1,5 +1,5 @@
 use Rattle.std.proofs.Common.{Some, refl, ap}
-use Rattle.pgs_words.specs.declared.command.Command.TheVariants.{Try, Validate, Load, Apply, Recover, Explain, Gen, Checkpoint}
+use Rattle.pgs_run_words.specs.declared.command.Command.TheVariants.{Try, Validate, Load, Apply, Recover, Explain, Gen, Checkpoint}
 use Rattle.pgs_run.proofs.RunFacts.{runs_as, cause_of, takes_of, runs_alone, runs_reading, unread_answer, unread_gen}
 use Rattle.pgs_run.proofs.commands.run_command.Goals as goal
 

@@ -1,5 +1,5 @@
 use Rattle.std.proofs.Common.{refl}
-use Rattle.pgs_lines.specs.Pieces.{shown_of}
+use Rattle.pgs_run_lines.specs.Pieces.{shown_of}
 use Rattle.pgs_run_base.specs.Areas.{areas_of}
 use Rattle.pgs_run.specs.Told.{told}
 use Rattle.pgs_run.proofs.RunWords.{shown, read_fault, exact_of, complete_of}

@@ -1,7 +1,7 @@
 use Rattle.std.proofs.Common.{Some, None, sym, ◌∙◌}
 use Rattle.pgs_feed.specs.Places.{lost_count}
 use Rattle.pgs_feed.specs.Seen.{places}
-use Rattle.pgs_words.specs.Words.{command_of}
+use Rattle.pgs_run_words.specs.Words.{command_of}
 use Rattle.pgs_run.specs.Runs.{SourceState}
 use Rattle.pgs_run.proofs.RunFacts.{runs_as, runs_memory}
 use Rattle.pgs_run.proofs.Unmoved.{leaves_none, feeds_none}

@@ -1,6 +1,6 @@
 use Rattle.std.proofs.Common.{inl, inr, refl}
-use Rattle.pgs_lines.specs.Pieces.{shown_of}
-use Rattle.pgs_lines.proofs.Showing.{shows_one, torn_one}
+use Rattle.pgs_run_lines.specs.Pieces.{shown_of}
+use Rattle.pgs_run_lines.proofs.Showing.{shows_one, torn_one}
 use Rattle.pgs_run_saved.proofs.Shown.{same_faults}
 use Rattle.pgs_run_apply.proofs.run.put_last.Goals as goal
 

@@ -1,7 +1,7 @@
 use Rattle.std.proofs.Common.{◌∙◌, sym, ap, refl}
 use Rattle.pgs_feed.specs.Places.{lost_count}
 use Rattle.pgs_feed.specs.Seen.{places}
-use Rattle.pgs_lines.specs.Machine.{scene_of}
+use Rattle.pgs_run_lines.specs.Machine.{scene_of}
 use Rattle.pgs_world.proofs.Moments.{passes_on}
 use Rattle.pgs_run_base.proofs.Images.{images_quiet, images_areas, images_on}
 use Rattle.pgs_run_saved.specs.Opening.{saved_in}

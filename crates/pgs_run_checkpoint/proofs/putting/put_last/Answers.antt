@@ -1,6 +1,6 @@
 use Rattle.std.proofs.Common.{inr, refl}
-use Rattle.pgs_lines.specs.Pieces.{shown_of}
-use Rattle.pgs_lines.proofs.Showing.{torn_one}
+use Rattle.pgs_run_lines.specs.Pieces.{shown_of}
+use Rattle.pgs_run_lines.proofs.Showing.{torn_one}
 use Rattle.pgs_run_checkpoint.proofs.putting.put_last.Goals as goal
 
 pub returns-in-Err-clause-ends : goal.returns-in-Err-clause-ends

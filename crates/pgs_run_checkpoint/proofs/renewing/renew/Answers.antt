@@ -1,7 +1,7 @@
 use Rattle.std.proofs.Common.{Some, refl, sym, ap, subst}
 use Rattle.pgs_answer.specs.Lines.{store_refused_line}
 use Rattle.pgs_answer.specs.Refusals.{epochs_spent_text}
-use Rattle.pgs_lines.specs.Machine.{Told}
+use Rattle.pgs_run_lines.specs.Machine.{Told}
 use Rattle.pgs_run_base.specs.declared.status.Status.{Status}
 use Rattle.pgs_run_saved.specs.Opening.{saved_in}
 use Rattle.pgs_world.specs.Disk.{Puts}

@@ -1,5 +1,5 @@
 use Rattle.std.proofs.Common.{true, false, rules, sym, subst}
-use Rattle.pgs_lines.specs.Ending.{Faults, faults_of}
+use Rattle.pgs_run_lines.specs.Ending.{Faults, faults_of}
 use Rattle.pgs_run_base.specs.Run.{HasCommandCause}
 use Rattle.pgs_run_base.proofs.Images.{images_areas, images_on, images_quiet}
 use Rattle.pgs_run_saved.proofs.Shown.{same_faults}

@@ -1,5 +1,5 @@
 use Rattle.std.proofs.Common.{◌∙◌, ap₂}
-use Rattle.pgs_pieces.proofs.Together.{exits, stops_in, result_on}
+use Rattle.pgs_run_lines.proofs.Together.{exits, stops_in, result_on}
 use Rattle.pgs_run_explain.specs.Explaining.{key_numbers, keys_lines, type_lines}
 use Rattle.pgs_run_explain.proofs.Tells.{told_there}
 use Rattle.pgs_run_explain.proofs.explaining.put_present.Goals as goal

@@ -1,8 +1,8 @@
 use Rattle.std.proofs.Common.{◌+◌, ◌<◌, ◌∙◌, length, ap, subst, arith}
 use Rattle.std.proofs.lemmas.List.{take_all}
 use Rattle.std.proofs.lemmas.List.FromFn.{length-range_with_len}
-use Rattle.pgs_pieces.specs.Puts.{PutsAll}
-use Rattle.pgs_pieces.proofs.Together.{exits, item_on, item_stop}
+use Rattle.pgs_run_lines.specs.Puts.{PutsAll}
+use Rattle.pgs_run_lines.proofs.Together.{exits, item_on, item_stop}
 use Rattle.pgs_syntax.specs.declared.resolved.Resolved.{Resolved}
 use Rattle.pgs_run_explain.specs.Explaining.{key_numbers, keys_lines}
 use Rattle.pgs_run_explain.proofs.Tells.{keys_lines-append, keys_lines_one, next_number}

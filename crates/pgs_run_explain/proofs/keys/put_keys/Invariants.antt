@@ -1,5 +1,5 @@
 use Rattle.std.proofs.Common.{take}
-use Rattle.pgs_pieces.specs.Puts.{PutsAll}
+use Rattle.pgs_run_lines.specs.Puts.{PutsAll}
 use Rattle.pgs_run_explain.specs.Explaining.{key_numbers, keys_lines}
 use Rattle.pgs_run_explain.proofs.keys.put_keys.Given as goal
 

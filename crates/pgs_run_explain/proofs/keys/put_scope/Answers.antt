@@ -1,6 +1,6 @@
 use Rattle.std.proofs.Common.{map}
 use Rattle.pgs_answer.specs.Lines.{key_scope_line, key_value_line}
-use Rattle.pgs_pieces.proofs.Together.{exits, stops_in, result_on}
+use Rattle.pgs_run_lines.proofs.Together.{exits, stops_in, result_on}
 use Rattle.pgs_run_explain.proofs.keys.put_scope.Goals as goal
 
 pub returns-in_err-put_made-in-Some : goal.returns-in_err-put_made-in-Some

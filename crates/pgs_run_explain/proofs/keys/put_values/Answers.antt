@@ -1,6 +1,6 @@
 use Rattle.std.proofs.Common.{map, refl}
 use Rattle.pgs_answer.specs.Lines.{key_value_line}
-use Rattle.pgs_pieces.proofs.Together.{exits, at_place, item_on, item_stop}
+use Rattle.pgs_run_lines.proofs.Together.{exits, at_place, item_on, item_stop}
 use Rattle.pgs_run_explain.proofs.Tells.{value_lines-append}
 use Rattle.pgs_run_explain.proofs.keys.put_values.Goals as goal
 

@@ -1,6 +1,6 @@
 use Rattle.std.proofs.Common.{map, take}
 use Rattle.pgs_answer.specs.Lines.{key_value_line}
-use Rattle.pgs_pieces.specs.Puts.{PutsAll}
+use Rattle.pgs_run_lines.specs.Puts.{PutsAll}
 use Rattle.pgs_run_explain.proofs.keys.put_values.Given as goal
 
 abbrev pub invariant-loop-tuple : goal.invariant-loop-tuple

@@ -1,6 +1,6 @@
 use Rattle.std.proofs.Common.{refl}
 use Rattle.std.proofs.lemmas.List.{take_more}
-use Rattle.pgs_pieces.proofs.Together.{exits, item_on, item_stop}
+use Rattle.pgs_run_lines.proofs.Together.{exits, item_on, item_stop}
 use Rattle.pgs_run_explain.specs.Explaining.{type_lines}
 use Rattle.pgs_run_explain.proofs.Tells.{type_lines-append}
 use Rattle.pgs_run_explain.proofs.types.put_types.Goals as goal

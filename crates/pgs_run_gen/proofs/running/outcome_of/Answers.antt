@@ -1,6 +1,6 @@
 use Rattle.std.proofs.Common.{◌≡◌, ◌∷◌, [], IfOk, sym, ap, subst, ◌∙◌}
 use Rattle.pgs_answer.specs.Lines.{schema_refused_line}
-use Rattle.pgs_lines.specs.Machine.{Told}
+use Rattle.pgs_run_lines.specs.Machine.{Told}
 use Rattle.pgs_run_base.specs.declared.status.Status.{Status}
 use Rattle.pgs_run_gen.proofs.Telling.{told_decided, told_refused}
 use Rattle.pgs_run_gen.proofs.running.outcome_of.Goals as goal

@@ -1,5 +1,5 @@
 use Rattle.std.proofs.Common.{subst}
-use Rattle.pgs_lines.specs.Pieces.{shown_of}
+use Rattle.pgs_run_lines.specs.Pieces.{shown_of}
 use Rattle.pgs_store.specs.Loads.{Loads}
 use Rattle.pgs_store.specs.Stored.{IsLoadedIn}
 use Rattle.pgs_world.specs.Moment.{EachSince}

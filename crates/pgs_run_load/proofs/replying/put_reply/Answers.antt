@@ -1,6 +1,6 @@
 use Rattle.std.proofs.Common.{◌∷◌, [], inl, inr, refl, subst}
-use Rattle.pgs_lines.specs.Pieces.{shown_of, ShowsAll, ShowsTorn}
-use Rattle.pgs_lines.proofs.Showing.{shows_one, torn_one}
+use Rattle.pgs_run_lines.specs.Pieces.{shown_of, ShowsAll, ShowsTorn}
+use Rattle.pgs_run_lines.proofs.Showing.{shows_one, torn_one}
 use Rattle.pgs_run_load.proofs.Replied.{same_faults}
 use Rattle.pgs_run_load.proofs.replying.put_reply.Goals as goal
 

@@ -1,6 +1,6 @@
 use Rattle.std.proofs.Common.{sym, ap, subst, ◌∙◌}
-use Rattle.pgs_lines.specs.Ending.{faults_of}
-use Rattle.pgs_lines.specs.Pieces.{shown_of}
+use Rattle.pgs_run_lines.specs.Ending.{faults_of}
+use Rattle.pgs_run_lines.specs.Pieces.{shown_of}
 use Rattle.pgs_world.specs.World.{Triple}
 use Rattle.pgs_world.proofs.Moments.{settled_quiet}
 use Rattle.pgs_run_base.specs.Areas.{Areas, areas_of}

@@ -1,6 +1,6 @@
 use Rattle.std.proofs.Common.{◌∷◌, map}
 use Rattle.pgs_answer.specs.Lines.{schema_line, separator_line}
-use Rattle.pgs_pieces.proofs.Together.{exits, puts_on, stops_in, stops_on, result_on}
+use Rattle.pgs_run_lines.proofs.Together.{exits, puts_on, stops_in, stops_on, result_on}
 use Rattle.pgs_run_recover.specs.Dump.{graph_ops, op_line}
 use Rattle.pgs_run_recover.proofs.dump.put_dump.Goals as goal
 

@@ -1,4 +1,4 @@
-use Rattle.pgs_pieces.proofs.Together.{exits, stops_in, result_on}
+use Rattle.pgs_run_lines.proofs.Together.{exits, stops_in, result_on}
 use Rattle.pgs_run_recover.specs.Parts.{edge_lines}
 use Rattle.pgs_run_recover.proofs.Tells.{graph_lines}
 use Rattle.pgs_run_recover.proofs.dump.put_graph.Goals as goal

@@ -1,7 +1,7 @@
 use Rattle.std.proofs.Common.{[]}
 use Rattle.pgs_base.specs.declared.element.Elem.TheVariants as elems
 use Rattle.pgs_graph.specs.declared.operation.Op.TheVariants.{AddEdge}
-use Rattle.pgs_pieces.proofs.Together.{exits, stops_in, result_on}
+use Rattle.pgs_run_lines.proofs.Together.{exits, stops_in, result_on}
 use Rattle.pgs_run_recover.specs.Dump.{op_line}
 use Rattle.pgs_run_recover.specs.Parts.{set_lines}
 use Rattle.pgs_run_recover.proofs.elements.put_edge.Goals as goal

@@ -1,6 +1,6 @@
 use Rattle.std.proofs.Common.{◌∙◌, sym}
 use Rattle.pgs_graph.specs.Reads.{edge_row}
-use Rattle.pgs_pieces.proofs.Together.{exits, item_on, item_stop}
+use Rattle.pgs_run_lines.proofs.Together.{exits, item_on, item_stop}
 use Rattle.pgs_run_recover.specs.Parts.{edge_lines}
 use Rattle.pgs_records.proofs.Listed.{is_there, one_more, edges_sorted, edge_total}
 use Rattle.pgs_run_recover.proofs.Tells.{edge_lines-append, edge_lines_one}

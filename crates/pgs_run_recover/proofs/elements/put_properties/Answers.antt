@@ -1,5 +1,5 @@
 use Rattle.std.proofs.Common.{refl}
-use Rattle.pgs_pieces.proofs.Together.{exits, at_place, item_on, item_stop}
+use Rattle.pgs_run_lines.proofs.Together.{exits, at_place, item_on, item_stop}
 use Rattle.pgs_run_recover.specs.Dump.{op_line, set_op}
 use Rattle.pgs_run_recover.specs.Parts.{set_lines}
 use Rattle.pgs_run_recover.proofs.Tells.{set_lines-append}

@@ -1,5 +1,5 @@
 use Rattle.std.proofs.Common.{take}
-use Rattle.pgs_pieces.specs.Puts.{PutsAll}
+use Rattle.pgs_run_lines.specs.Puts.{PutsAll}
 use Rattle.pgs_run_recover.specs.Parts.{set_lines}
 use Rattle.pgs_run_recover.proofs.elements.put_properties.Given as goal
 

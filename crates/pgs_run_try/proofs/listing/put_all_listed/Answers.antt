@@ -1,6 +1,6 @@
 use Rattle.std.proofs.Common.{◌∙◌, add-one}
-use Rattle.pgs_lines.specs.AreasKept.{keeps_on}
-use Rattle.pgs_lines.specs.Pieces.{shown_of}
+use Rattle.pgs_run_lines.specs.AreasKept.{keeps_on}
+use Rattle.pgs_run_lines.specs.Pieces.{shown_of}
 use Rattle.pgs_run_try.proofs.Listed.{listed_on, listed_stop}
 use Rattle.pgs_run_try.proofs.listing.put_all_listed.Goals as goal
 

@@ -1,7 +1,7 @@
 use Rattle.std.proofs.Common.{◌≡◌, take, map}
-use Rattle.pgs_lines.specs.AreasKept.{KeepsAreas}
-use Rattle.pgs_lines.specs.Ending.{faults_of}
-use Rattle.pgs_lines.specs.Pieces.{shown_of, ShowsAll}
+use Rattle.pgs_run_lines.specs.AreasKept.{KeepsAreas}
+use Rattle.pgs_run_lines.specs.Ending.{faults_of}
+use Rattle.pgs_run_lines.specs.Pieces.{shown_of, ShowsAll}
 use Rattle.pgs_run_try.specs.Told.{listed_line}
 use Rattle.pgs_run_try.proofs.listing.put_all_listed.Given as goal
 

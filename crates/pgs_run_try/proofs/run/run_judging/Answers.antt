@@ -1,4 +1,4 @@
-use Rattle.pgs_lines.specs.Pieces.{shown_of}
+use Rattle.pgs_run_lines.specs.Pieces.{shown_of}
 use Rattle.pgs_run_try.proofs.TryEnds.{try_ends, try_read, try_cause}
 use Rattle.pgs_run_try.proofs.run.run_judging.Goals as goal
 

@@ -4,7 +4,7 @@ use Rattle.std.specs.Map.{keys_of, lookup}
 use Rattle.std.specs.BTreeMap.{is_at}
 use Rattle.pgs_base.specs.declared.element.NodeId.{NodeId}
 use Rattle.pgs_base.specs.Graph.{node_cmp}
-use Rattle.pgs_numbered.specs.Slots.{has_slot}
+use Rattle.pgs_tables.specs.Slots.{has_slot}
 use Rattle.pgs_tables.specs.Commits.{rows_put}
 use Rattle.pgs_tables.proofs.commit.put_nodes.Given as goal
 

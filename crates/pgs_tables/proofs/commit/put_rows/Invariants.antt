@@ -2,7 +2,7 @@ use Rattle.std.proofs.Common.{◌≡◌, true}
 use Rattle.std.specs.List.{list_all}
 use Rattle.std.specs.Map.{keys_of}
 use Rattle.pgs_graph.specs.Changed.{entries_changed}
-use Rattle.pgs_numbered.specs.Slots.{has_slot}
+use Rattle.pgs_tables.specs.Slots.{has_slot}
 use Rattle.pgs_tables.proofs.commit.put_rows.Given as goal
 
 abbrev pub invariant-loop-id : goal.invariant-loop-id

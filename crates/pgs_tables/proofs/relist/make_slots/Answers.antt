@@ -3,7 +3,7 @@ use Rattle.std.specs.List.{list_all}
 use Rattle.std.specs.Map.{keys_of}
 use Rattle.std.proofs.lemmas.Bool.{and_parts, and_from}
 use Rattle.std.proofs.lemmas.List.{take_more}
-use Rattle.pgs_numbered.specs.Slots.{has_slot}
+use Rattle.pgs_tables.specs.Slots.{has_slot}
 use Rattle.pgs_tables.proofs.relist.make_slots.Goals as goal
 
 all_kept : {K : Type 0} (p q : K → Bool) → ((k : K) → p k ≡ true → q k ≡ true) → (ks : List K) → list_all p ks ≡ true → list_all q ks ≡ true

@@ -1,7 +1,7 @@
 use Rattle.std.proofs.Common.{◌≡◌, true, take}
 use Rattle.std.specs.List.{list_all}
 use Rattle.std.specs.Map.{keys_of}
-use Rattle.pgs_numbered.specs.Slots.{has_slot}
+use Rattle.pgs_tables.specs.Slots.{has_slot}
 use Rattle.pgs_tables.proofs.relist.make_slots.Given as goal
 
 abbrev pub invariant-loop-change : goal.invariant-loop-change

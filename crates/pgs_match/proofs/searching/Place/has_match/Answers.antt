@@ -1,5 +1,5 @@
 use Rattle.std.proofs.Common.{ap, ◌∙◌, arith}
-use Rattle.pgs_matching.specs.Search.{can_complete, most_steps}
+use Rattle.pgs_match.specs.Search.{can_complete, most_steps}
 use Rattle.pgs_match.proofs.Searched.{found_with, found_without, cost_with, cost_without}
 use Rattle.pgs_match.proofs.searching.Place.has_match.Goals as goal
 

@@ -1,5 +1,5 @@
 use Rattle.std.proofs.Common.{[], length, ap, ◌∙◌, arith}
-use Rattle.pgs_matching.specs.Search.{gathered, most_steps}
+use Rattle.pgs_match.specs.Search.{gathered, most_steps}
 use Rattle.pgs_match.proofs.Searched.{cost_with, cost_without, few_with}
 use Rattle.pgs_match.proofs.searching.Place.tuples.Goals as goal
 

@@ -1,5 +1,5 @@
 use Rattle.pgs_feed.specs.Seen.{places}
-use Rattle.pgs_lines.specs.Machine.{scene_of}
+use Rattle.pgs_run_lines.specs.Machine.{scene_of}
 use Rattle.pgs_run_apply.specs.Seen.{state_of}
 use Rattle.pgs_run_apply.proofs.Lines.{end_allows, end_ends, stop_allows, stop_ends, stop_cause, stop_may}
 use Rattle.pgs_run_apply.proofs.applying.ApplyingLineTaker.end_input.Goals as goal

@@ -1,5 +1,5 @@
 use Rattle.pgs_feed.specs.Seen.{places}
-use Rattle.pgs_lines.specs.Machine.{scene_of}
+use Rattle.pgs_run_lines.specs.Machine.{scene_of}
 use Rattle.pgs_run_apply.specs.Seen.{state_of}
 use Rattle.pgs_run_apply.proofs.Lines.{line_leads, line_shows, line_room, line_holds, line_allows, line_cause, line_may}
 use Rattle.pgs_run_apply.proofs.applying.ApplyingLineTaker.end_line.Goals as goal

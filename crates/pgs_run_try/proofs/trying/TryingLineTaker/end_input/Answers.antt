@@ -1,7 +1,7 @@
 use Rattle.std.proofs.Common.{subst}
-use Rattle.pgs_lines.specs.Ending.{Ends}
-use Rattle.pgs_lines.specs.Pieces.{shown_of, ShowsAll}
-use Rattle.pgs_lines.proofs.Showing.{ends_on}
+use Rattle.pgs_run_lines.specs.Ending.{Ends}
+use Rattle.pgs_run_lines.specs.Pieces.{shown_of, ShowsAll}
+use Rattle.pgs_run_lines.proofs.Showing.{ends_on}
 use Rattle.pgs_run_try.specs.Trying.{after_end, pieces_at_end, told_after}
 use Rattle.pgs_run_try.proofs.trying.TryingLineTaker.end_input.Goals as goal
 

@@ -9,7 +9,7 @@ use Rattle.pgs_base.specs.Graph.{Graph, node_cmp}
 use Rattle.pgs_graph.proofs.Deltas.{node_cmp_total, absent_below}
 use Rattle.pgs_tables.specs.declared.node_edges.NodeEdges.{NodeEdges}
 use Rattle.pgs_tables.specs.Relists.{kept_at, kept_here}
-use Rattle.pgs_numbered.proofs.Rows.{first_of_rest}
+use Rattle.pgs_tables.proofs.Rows.{first_of_rest}
 use Rattle.pgs_tables.proofs.tables.Tables.keep_nodes.Goals.{then-is_some+in_ok-keep, else-is_some}
 use Rattle.pgs_tables.proofs.tables.Tables.keep_nodes.Goals as goal
 

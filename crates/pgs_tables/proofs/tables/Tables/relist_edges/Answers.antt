@@ -4,7 +4,7 @@ use Rattle.std.specs.Map.{lookup}
 use Rattle.std.specs.BTreeMap.{is_at}
 use Rattle.pgs_base.specs.Graph.{node_cmp}
 use Rattle.pgs_tables.specs.Relists.{relisted_all}
-use Rattle.pgs_numbered.proofs.Rows.{first_of_rest}
+use Rattle.pgs_tables.proofs.Rows.{first_of_rest}
 use Rattle.pgs_tables.proofs.tables.Tables.relist_edges.Goals as goal
 
 pub loop-change-preserved : goal.loop-change-preserved

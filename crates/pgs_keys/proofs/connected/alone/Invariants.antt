@@ -1,5 +1,0 @@
-use Rattle.std.proofs.Common.{◌≡◌, ℕ, ◌<◌, length, get_or}
-use Rattle.pgs_keys.proofs.connected.alone.Given as goal
-
-abbrev pub invariant-loop-number : goal.invariant-loop-number
-invariant-loop-number l = (length l.parents.items ≡ l.number) × ((k : ℕ) → k < l.number → get_or l.parents.items k 0 ≡ k)

@@ -1,0 +1,27 @@
+use Rattle.std.proofs.Common.{◌≡◌, ◌*◌, ◌+◌, ◌≤◌, fold, length, take, Some}
+use Rattle.std.specs.List.{sum_by}
+use Rattle.pgs_match.specs.declared.bindings.Bound.TheVariants as bounds
+use Rattle.pgs_match.specs.Search.{edges_along}
+use Rattle.pgs_match.proofs.Along.{gathered_with, steps_with}
+use Rattle.pgs_match.proofs.gathering.Gathering.+gather.Given as goal
+
+abbrev pub decreases-gather : goal.decreases-gather
+decreases-gather g l = 3 * length l.plan.now
+
+abbrev pub decreases-gather_along : goal.decreases-gather_along
+decreases-gather_along g l = 3 * length l.plan.now + 2
+
+abbrev pub decreases-gather_with : goal.decreases-gather_with
+decreases-gather_with g l = 3 * length l.plan.now + 1
+
+abbrev pub invariant-gather_along-loop-nth : goal.invariant-gather_along-loop-nth
+invariant-gather_along-loop-nth g l =
+    let search = l.self.search in
+    let graph = g.G.GraphRead.meaning search.graph.now in
+    let ids = edges_along graph l.forward (Some (bounds.Node l.from)) in
+    record {
+      so_far : l.tuples ≡ fold (gathered_with search.compiled.now graph search.atoms.now l.plan l.bindings l.var l.self.exprs.now) l.fn.tuples (take l.nth ids);
+      reached : l.nth ≤ length ids;
+      no_step_back : l.fn.steps ≤ l.steps;
+      cost : l.steps ≤ l.fn.steps + (l.nth + sum_by (steps_with search.compiled.now graph search.atoms.now l.plan l.bindings l.var (length l.self.exprs.now)) (take l.nth ids));
+    }

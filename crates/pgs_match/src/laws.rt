@@ -1,0 +1,50 @@
+//! Laws on searches along plans, from a variable to which an element is bound. The functions do nothing; their contracts are the
+//! statements.
+
+ghost use Rattle.std.specs.Prelude.{◌≡◌, ◌+◌, ◌*◌, ◌^◌, ◌<◌, ◌≤◌, ℕ, Bool, true, false, List, [], length, slice_get, Some};
+ghost use Rattle.std.specs.Option.{option_map_or};
+ghost use Rattle.std.specs.List.{list_any};
+ghost use Rattle.pgs_base.specs.declared.element.Elem.{Elem};
+ghost use Rattle.pgs_base.specs.Graph.{Graph, is_graph};
+ghost use Rattle.pgs_syntax.specs.declared.key.Key.{Key};
+ghost use Rattle.pgs_syntax.specs.declared.pattern.Pattern.{Pattern};
+ghost use Rattle.pgs_syntax.specs.declared.resolved.Resolved.{Resolved};
+ghost use Rattle.pgs_syntax.specs.KeyValues.{key_values};
+ghost use Rattle.pgs_syntax.specs.Matches.{matches};
+ghost use Rattle.pgs_syntax.specs.Valid.{edge_count, is_valid_pattern, is_valid_key};
+ghost use Rattle.pgs_match.specs.declared.step.Step.{Step};
+ghost use Rattle.pgs_match.specs.Plans.{is_plan};
+ghost use Rattle.pgs_match.specs.declared.bindings.Bound.{Bound};
+ghost use Rattle.pgs_match.specs.Bounds.{with_bound, nothing_bound, stands_at};
+ghost use Rattle.pgs_match.specs.Near.{IsSparse};
+ghost use Rattle.pgs_match.specs.Search.{completions, can_complete, gathered, most_steps};
+ghost use Rattle.pgs_match.specs.Tests.{admitted};
+
+/// A search along a plan from a variable and an element comes to an end exactly where some match has the element at the variable.
+pub fn a_search_finds_a_match_where_there_is_one()
+    ensures { (resolved : Resolved) (g : Graph) (pattern : Pattern) → is_valid_pattern pattern ≡ true → (var : ℕ) → var < length pattern.edge_vars →
+        (plan : List Step) → is_plan pattern var plan ≡ true → (elem : Elem) →
+        option_map_or (λ bound. can_complete resolved g pattern.atoms plan (with_bound nothing_bound var bound)) (admitted resolved g pattern var elem) false
+        ≡ list_any (stands_at var elem) (matches resolved g pattern) }
+{}
+
+/// What a search along a plan of the descriptor gathers from an element are the key values of the element.
+pub fn what_a_search_gathers_are_the_key_values()
+    ensures { (resolved : Resolved) (g : Graph) (key : Key) → is_valid_key key ≡ true → 0 < length key.descriptor.edge_vars →
+        (plan : List Step) → is_plan key.descriptor 0 plan ≡ true → (elem : Elem) →
+        option_map_or (λ bound. gathered resolved g key.descriptor.atoms key.exprs plan (with_bound nothing_bound 0 bound) [])
+        (admitted resolved g key.descriptor 0 elem) [] ≡ key_values resolved g key elem }
+{}
+
+/// A search from an element takes few look-ups and comes to few ends, where no node near the element has many edges and each end takes
+/// at most 16 look-ups. Three are taken before it begins.
+pub fn a_search_is_short_where_few_edges_are_near()
+    ensures steps { (resolved : Resolved) (g : Graph) (pattern : Pattern) → is_graph g ≡ true → is_valid_pattern pattern ≡ true → (var : ℕ) →
+        var < length pattern.edge_vars → (plan : List Step) → is_plan pattern var plan ≡ true → (elem : Elem) (bound : Bound) →
+        admitted resolved g pattern var elem ≡ Some bound → (edges most last : ℕ) → edge_count pattern.edge_vars ≤ edges → IsSparse g edges elem most → last ≤ 16 →
+        3 + most_steps resolved g pattern.atoms last plan (with_bound nothing_bound var bound) ≤ 16 * (most + 2) ^ (edges + 1) }
+    ensures ends { (resolved : Resolved) (g : Graph) (pattern : Pattern) → is_graph g ≡ true → is_valid_pattern pattern ≡ true → (var : ℕ) →
+        var < length pattern.edge_vars → (plan : List Step) → is_plan pattern var plan ≡ true → (elem : Elem) (bound : Bound) →
+        admitted resolved g pattern var elem ≡ Some bound → (edges most : ℕ) → edge_count pattern.edge_vars ≤ edges → IsSparse g edges elem most →
+        length (completions resolved g pattern.atoms plan (with_bound nothing_bound var bound)) ≤ (most + 2) ^ edges }
+{}

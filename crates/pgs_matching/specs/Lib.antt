@@ -1,5 +1,0 @@
-pub mod Bounds
-pub mod Near
-pub mod Reached
-pub mod Search
-pub mod Tests

@@ -1,3 +1,0 @@
-pub mod Keys
-pub mod Placed
-pub mod Rows

@@ -1,0 +1,10 @@
+use Rattle.std.proofs.Common.{◌∙◌, ap}
+use Rattle.pgs_syntax.specs.declared.script.GraphType.{GraphType}
+use Rattle.pgs_base.specs.Pair.{same_name, has_name}
+use Rattle.pgs_resolve_declared.proofs.Firsts.{some_found}
+use Rattle.pgs_resolve_declared.proofs.declarations.Declarations.is_graph.Goals as goal
+
+pub returns : goal.returns
+returns c script are =
+    c.contains.ensures ∙ ap (has_name c.args.name.now) are.graph_names
+    ∙ some_found (λ (type : GraphType). type.name) (same_name c.args.name.now) _

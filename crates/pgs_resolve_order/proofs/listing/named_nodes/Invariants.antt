@@ -1,0 +1,8 @@
+use Rattle.std.proofs.Common.{◌≡◌, filter, take}
+use Rattle.pgs_syntax.specs.declared.script.Script.{Script}
+use Rattle.pgs_resolve_declared.specs.Declarations.{is_node_type}
+use Rattle.pgs_resolve_declared.specs.Tables.{AreOf}
+use Rattle.pgs_resolve_order.proofs.listing.named_nodes.Given as goal
+
+abbrev pub invariant-loop-word : goal.invariant-loop-word
+invariant-loop-word l = (script : Script) → AreOf script l.declarations → l.names.items ≡ filter (is_node_type script) (take l.word-index l.words)

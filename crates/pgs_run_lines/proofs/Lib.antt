@@ -1,0 +1,12 @@
+pub mod AreasPut
+pub mod Begun
+pub mod Budget
+pub mod Causes
+pub mod Cutting
+pub mod Driven
+pub mod Fronts
+pub mod LineEnd
+pub mod ReadingOn
+pub mod RunEnds
+pub mod Showing
+pub mod Together

@@ -1,0 +1,12 @@
+pub mod Areas
+pub mod AreasKept
+pub mod Buffer
+pub mod Driving
+pub mod Ending
+pub mod Input
+pub mod Machine
+pub mod May
+pub mod Pieces
+pub mod Reading
+pub mod Run
+pub mod Puts

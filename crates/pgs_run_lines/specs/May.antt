@@ -1,0 +1,12 @@
+-- Which stops may come.
+use Rattle.pgs_run_lines.specs.declared.stop.Stop.{Stop}
+use Rattle.pgs_run_lines.specs.declared.stop.Stop.TheVariants as stops
+use Rattle.pgs_run_lines.specs.Machine.{Machine}
+
+-- A fault of a read and want of memory may come of the reading; the other faults only where the machine says that they may.
+abbrev pub MayCome : {E : Type 0} → Machine E → Stop E → Type 0
+MayCome m (stops.Ended status) = Unit {0}
+MayCome m stops.ReadFault = Unit {0}
+MayCome m stops.AreaFault = m.MayStop stops.AreaFault
+MayCome m stops.PutFault = m.MayStop stops.PutFault
+MayCome m stops.Memory = Unit {0}

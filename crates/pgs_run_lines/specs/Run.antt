@@ -1,0 +1,62 @@
+-- How the run of a machine over an input ends.
+use Rattle.std.specs.Prelude.{◌≡◌, ◌⊎◌, ℕ, ◌+◌, ◌-◌, ◌≤◌, List, [], ◌++◌, length, Option, Some}
+use Rattle.pgs_world.specs.Source.{Takes, IsAtEnd}
+use Rattle.pgs_run_lines.specs.declared.stop.Stop.{Stop}
+use Rattle.pgs_run_lines.specs.declared.stop.Stop.TheVariants as stops
+use Rattle.pgs_run_lines.specs.Ending.{Ends}
+use Rattle.pgs_run_lines.specs.Input.{kept_of}
+use Rattle.pgs_run_lines.specs.Machine.{Ended, Machine, Rule, Scene, Extent, Whole, Inside, AtEnd, Told}
+use Rattle.pgs_run_lines.specs.Pieces.{Shown, ShowsAll}
+
+-- A run of which this is told by its budget ended so over this input, with this left of it.
+pub record EndsAs {E : Type 0} (tell : ℕ → Told E) (start : Shown) (input : List ℕ) (budget : ℕ) (left : Option (List ℕ))
+    (stop : Stop E) (now : Shown) : Type 0 where
+  pub shown : Ends start (tell budget) stop now
+  -- after a fault of a read all is put that is told with the number of bytes that the reads gave in the budget's place
+  pub read_fault : (rest : List ℕ) → left ≡ Some rest → stop ≡ stops.ReadFault
+      → ShowsAll start (tell (length input - length rest)).pieces now
+  -- never more than the budget is taken
+  pub within : (rest : List ℕ) → left ≡ Some rest → length input ≤ budget + length rest
+
+-- a line ended the run with this status
+pub record EndsAtLine {E : Type 0} (m : Machine E) (status : E) : Type 0 where
+  pub state : m.State
+  pub line : List ℕ
+  pub is : (m.line state line).next ≡ Ended status
+
+-- the input was read to its end, which gave this status
+pub record EndsAtEnd {E : Type 0} (m : Machine E) (left : Option (List ℕ)) (status : E) : Type 0 where
+  pub state : m.State
+  pub rest : List ℕ
+  pub is : (m.rest state rest).status ≡ status
+  pub at_end : IsAtEnd left
+
+-- as many bytes as the budget were taken, which gave this status
+pub record EndsAtCut {E : Type 0} (m : Machine E) (budget : ℕ) (before left : Option (List ℕ)) (status : E) : Type 0 where
+  pub state : m.State
+  pub is : m.cut state ≡ status
+  pub bytes : List ℕ
+  pub taken : Takes before left bytes
+  pub full : length bytes ≡ budget
+
+-- where an end of the machine's own comes from
+abbrev pub EndsBy : {E : Type 0} → Machine E → ℕ → Option (List ℕ) → Option (List ℕ) → Stop E → Type 0
+EndsBy m budget before left (stops.Ended status) = EndsAtLine m status ⊎ (EndsAtEnd m left status ⊎ EndsAtCut m budget before left status)
+EndsBy m budget before left stops.ReadFault = Unit {0}
+EndsBy m budget before left stops.AreaFault = Unit {0}
+EndsBy m budget before left stops.PutFault = Unit {0}
+EndsBy m budget before left stops.Memory = Unit {0}
+
+-- What was done to the scene is what these lines of the bytes taken allow, by how far they were taken: all of them, or all but the
+-- last, which gave the stop, or all, and then the end of the input, which gave it.
+pub record Allows {E : Type 0} (m : Machine E) (rule : Rule m) (limit : ℕ) (s : m.State) (before left : Option (List ℕ)) (stop : Stop E)
+    (old new : Scene rule.Kept) : Type 0 where
+  pub bytes : List ℕ
+  pub taken : Takes before left bytes
+  pub lines : List (List ℕ)
+  pub later : List (List ℕ)
+  pub parts : (kept_of limit bytes).ended ≡ lines ++ later
+  pub extent : Extent E
+  pub end : (extent ≡ Whole)
+      ⊎ ((extent ≡ Inside stop) ⊎ ((extent ≡ AtEnd (kept_of limit bytes).rest stop) × (later ≡ []) × IsAtEnd left))
+  pub allowed : rule.allows s lines extent old new

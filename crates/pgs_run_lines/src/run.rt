@@ -1,0 +1,65 @@
+ghost use Rattle.std.specs.Prelude.{◌≡◌, ◌≤◌, ◌+◌, ◌^◌, List, ℕ, Some};
+ghost use Rattle.pgs_run_lines.specs.Ending.{HasCause, faults_of};
+ghost use Rattle.pgs_run_lines.specs.Machine.{HasRoomFor, scene_of, told_by};
+ghost use Rattle.pgs_run_lines.specs.May.{MayCome};
+ghost use Rattle.pgs_run_lines.specs.Pieces.{shown_of};
+ghost use Rattle.pgs_run_lines.specs.Run.{EndsAs, EndsBy, Allows};
+
+use crate::line_buffer::LineBuffer;
+use crate::reading::{End, read_all, read_buffer};
+use crate::stop::Stop;
+use crate::taker::LineTaker;
+use pgs_world::{Source, World};
+use std::alloc::Global;
+
+/// Runs a command over the lines of an input: reads it within a budget of bytes, at most 2^40, takes its lines, of each no more
+/// than the limit, at most 2^40, and one byte, and ends it. A read asks for at most 65,536 bytes and never for more than is left
+/// of the budget. What is put, and the status of the machine's own, is what `told_by` tells (docs/DEFINITIONS.md, "A run over
+/// lines"). The first fault ends the run, and nothing more is put.
+pub fn run_lines<T: LineTaker, S: Source, W: World>(
+    taker: &mut T,
+    alloc: Global,
+    source: &mut S,
+    world: &mut W,
+    limit: usize,
+    budget: u64,
+) -> Stop<T::Status>
+    requires limit { limit ≤ 2 ^ 40 }
+    requires budget { budget ≤ 2 ^ 40 }
+    requires room { HasRoomFor T.machine (budget + 1) (T.stands taker.old) }
+    requires holds { T.rule.holds (T.stands taker.old) (W.view world.old) }
+
+    // What is shown of what is told, and that never more than the budget is read.
+    ensures ends { (input : List ℕ) → S.left source.old ≡ Some input
+        → EndsAs (told_by T.machine limit (T.stands taker.old) input) (shown_of (W.view world.old)) input budget (S.left source.new) result (shown_of (W.view world.new)) }
+    // Where an end of the machine's own comes from.
+    ensures by { EndsBy T.machine budget (S.left source.old) (S.left source.new) result }
+    // A fault comes only where its count rose, and each fault that came is the answer.
+    ensures cause { HasCause (faults_of (S.faults source.old) (W.view world.old)) (faults_of (S.faults source.new) (W.view world.new)) result }
+    ensures may { MayCome T.machine result }
+    // What was done to the world, also at every stop since the run's start, and to what the taker keeps, is what the machine's rule
+    // allows, by how far the lines were taken.
+    ensures allows { Allows T.machine T.rule limit (T.stands taker.old) (S.left source.old) (S.left source.new) result (scene_of (W.view world.old) (T.kept taker.old)) (scene_of (W.view world.new) (T.kept taker.new)) }
+{
+    let mut bytes = match read_buffer(alloc) {
+        Ok(bytes) => bytes,
+        Err(_) => return Stop::Memory,
+    };
+    let mut line = LineBuffer::new(alloc, limit);
+    let end = read_all(
+        taker,
+        &mut line,
+        alloc,
+        source,
+        world,
+        bytes.as_mut_slice(),
+        budget,
+    );
+    match end {
+        Ok(end) => match end {
+            End::Whole => taker.end_input(alloc, world, line.as_slice()),
+            End::Cut => Stop::Ended(taker.end_budget()),
+        },
+        Err(stop) => stop,
+    }
+}

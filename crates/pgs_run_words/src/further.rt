@@ -1,0 +1,115 @@
+ghost use Rattle.std.specs.Prelude.{◌≡◌, IfOk, map, option_map, option_and_then, true};
+ghost use Rattle.pgs_run_words.specs.Further.{are_plain};
+ghost use Rattle.pgs_run_words.specs.Words.{elem_of, number_of, count_of, alone, named, fed, explained, generated, command_in};
+ghost use Rattle.pgs_run_words.specs.declared.command.Command.TheVariants.{Explain, Gen};
+
+use crate::Command;
+use crate::command_word::CommandWord;
+use crate::element::element;
+use crate::name_and_feeds::read_name_and_feeds;
+use crate::no_word::read_no_word;
+use crate::number::{count, number};
+use crate::one_word::read_one_word;
+use crate::two_words::read_two_words;
+use pgs_base::Memory;
+use std::alloc::Global;
+
+// A command that has no further words.
+fn alone<'a>(
+    alloc: Global,
+    command: Command,
+    words: &'a [&'a str],
+) -> Result<Option<Command>, Memory>
+    requires { are_plain (map (λ w. w.now) words.now) ≡ true }
+    ensures { IfOk result (λ r. r ≡ alone command (map (λ w. w.now) words.entry.now)) }
+{
+    if read_no_word(alloc, words)? {
+        Ok(Some(command))
+    } else {
+        Ok(None)
+    }
+}
+
+// A command that has the name of a store.
+fn named<'a>(
+    alloc: Global,
+    command: Command,
+    words: &'a [&'a str],
+) -> Result<Option<Command>, Memory>
+    requires { are_plain (map (λ w. w.now) words.now) ≡ true }
+    ensures { IfOk result (λ r. r ≡ named command (map (λ w. w.now) words.entry.now)) }
+{
+    match read_one_word(alloc, words)? {
+        Some(_) => Ok(Some(command)),
+        None => Ok(None),
+    }
+}
+
+// A command that has the name of a store, and feeds.
+fn fed<'a>(alloc: Global, command: Command, words: &'a [&'a str]) -> Result<Option<Command>, Memory>
+    requires { are_plain (map (λ w. w.now) words.now) ≡ true }
+    ensures { IfOk result (λ r. r ≡ fed command (map (λ w. w.now) words.entry.now)) }
+{
+    match read_name_and_feeds(alloc, words)? {
+        Some(_) => Ok(Some(command)),
+        None => Ok(None),
+    }
+}
+
+fn explained<'a>(alloc: Global, words: &'a [&'a str]) -> Result<Option<Command>, Memory>
+    requires { are_plain (map (λ w. w.now) words.now) ≡ true }
+    ensures { IfOk result (λ r. r ≡ explained (map (λ w. w.now) words.entry.now)) }
+{
+    match read_two_words(alloc, words)? {
+        Some((_, elem)) => Ok(explain(elem)),
+        None => Ok(None),
+    }
+}
+
+fn explain(elem: &str) -> Option<Command>
+    ensures { result ≡ option_map Explain (elem_of elem.now) }
+{
+    match element(elem.as_bytes()) {
+        Some(elem) => Some(Command::Explain { elem }),
+        None => None,
+    }
+}
+
+fn generated<'a>(alloc: Global, words: &'a [&'a str]) -> Result<Option<Command>, Memory>
+    requires { are_plain (map (λ w. w.now) words.now) ≡ true }
+    ensures { IfOk result (λ r. r ≡ generated (map (λ w. w.now) words.entry.now)) }
+{
+    match read_two_words(alloc, words)? {
+        Some((start, count)) => Ok(generate(start, count)),
+        None => Ok(None),
+    }
+}
+
+fn generate(start: &str, transactions: &str) -> Option<Command>
+    ensures { result ≡ option_and_then (λ s. option_map (Gen s) (count_of transactions.now)) (number_of start.now) }
+{
+    let start = number(start.as_bytes())?;
+    let count = count(transactions.as_bytes())?;
+    Some(Command::Gen { start, count })
+}
+
+/// The command of a first word and its further words. `None` exactly where these aren't the command's.
+pub fn command_in<'a>(
+    alloc: Global,
+    word: CommandWord,
+    further: &'a [&'a str],
+) -> Result<Option<Command>, Memory>
+    requires { are_plain (map (λ w. w.now) further.now) ≡ true }
+    ensures { IfOk result (λ r. r ≡ command_in word (map (λ w. w.now) further.entry.now)) }
+{
+    match word {
+        CommandWord::Try => alone(alloc, Command::Try, further),
+        CommandWord::Validate => alone(alloc, Command::Validate, further),
+        CommandWord::Load => named(alloc, Command::Load, further),
+        CommandWord::Apply => fed(alloc, Command::Apply, further),
+        CommandWord::Recover => named(alloc, Command::Recover, further),
+        CommandWord::Explain => explained(alloc, further),
+        CommandWord::Gen => generated(alloc, further),
+        CommandWord::Checkpoint => named(alloc, Command::Checkpoint, further),
+    }
+}

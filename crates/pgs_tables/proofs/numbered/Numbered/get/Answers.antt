@@ -1,0 +1,18 @@
+use Rattle.std.proofs.Common.{◌∙◌, sym, ap}
+use Rattle.std.specs.Option.{option_flatten}
+use Rattle.std.specs.Map.{lookup}
+use Rattle.std.specs.BTreeMap.{is_at}
+use Rattle.pgs_tables.proofs.Rows.{row-found}
+use Rattle.pgs_tables.proofs.numbered.Numbered.get.Goals as goal
+
+pub returns-in-Some : goal.returns-in-Some
+returns-in-Some g c =
+    let slots = c.self.inside.slots.entries in
+    let found = row-found g.met.K.Ord.total g.met.K.Ord.matches_eq c.args.id slots c.self.invariant.distinct in
+    c.as_ref.ensures.value ∙ ap option_flatten c.in-Some.ensures ∙ sym found ∙ ap (λ s. lookup (is_at (g.K.Ord.cmp c.args.id)) s.rows) c.self.view_is
+
+pub returns-in-None : goal.returns-in-None
+returns-in-None g c =
+    let slots = c.self.inside.slots.entries in
+    let found = row-found g.met.K.Ord.total g.met.K.Ord.matches_eq c.args.id slots c.self.invariant.distinct in
+    ap option_flatten c.in-None.ensures ∙ sym found ∙ ap (λ s. lookup (is_at (g.K.Ord.cmp c.args.id)) s.rows) c.self.view_is

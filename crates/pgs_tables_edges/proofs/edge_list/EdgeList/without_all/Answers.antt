@@ -1,0 +1,5 @@
+use Rattle.pgs_tables_edges.proofs.Edited.{ascending_without}
+use Rattle.pgs_tables_edges.proofs.edge_list.EdgeList.without_all.Goals as goal
+
+pub invariant_of-result : goal.invariant_of-result
+invariant_of-result c = rw c.in_ok-ids.ensures (ascending_without c.self.inside.ids c.args.ids.now c.self.invariant)

@@ -1,0 +1,200 @@
+ghost use Rattle.std.specs.Prelude.{◌≡◌, ◌<◌, ◌+◌, ◌^◌, ◌++◌, [], length, take, drop, fold, slice_get, IfOk, MatchResult};
+ghost use Rattle.std.specs.BTreeMap.{is_at};
+ghost use Rattle.std.specs.BTreeSet.{insert_key};
+ghost use Rattle.std.specs.Set.{remove_key};
+ghost use Rattle.std.specs.List.Sorted.{IsStrictlySortedBy};
+ghost use Rattle.pgs_base.specs.Graph.{edge_cmp};
+ghost use Rattle.pgs_base.specs.Places.{IsKeyAt, IsKeyGap};
+
+use crate::block::{search_block, spliced_block};
+use crate::bulk::{with_each, without_each};
+use crate::{Chunks, Long};
+use pgs_base::{EdgeId, Memory};
+use std::alloc::Global;
+use std::marker::Model;
+
+// Up to so many ids stand in one block, which is smaller than chunks and quick to copy.
+const FEW: usize = 64;
+
+/// Few ids in a block of their own, and many in a long list.
+#[derive(Drop)]
+enum Form {
+    Few(Vec<EdgeId>),
+    Many(Long),
+}
+
+/// Any list of ids, of which few take one small block. Contracts see the list.
+#[derive(Drop)]
+pub struct Ids {
+    form: Form,
+}
+
+impl Model for Ids {
+    ghost use Rattle.std.specs.Prelude.{List};
+    ghost use Rattle.pgs_base.specs.declared.element.EdgeId.{EdgeId};
+    ghost use Rattle.pgs_tables_edges.specs.Form.{form_ids};
+
+    ghost Value = { List EdgeId };
+
+    ghost view = { λ ids. form_ids ids.form };
+}
+
+impl Ids {
+    /// No ids. It takes no memory.
+    pub fn new(alloc: Global) -> Ids
+        ensures { result ≡ [] }
+    {
+        Ids {
+            form: Form::Few(Vec::new(alloc)),
+        }
+    }
+
+    /// The list of a slice's ids.
+    pub fn from_slice(alloc: Global, ids: &[EdgeId]) -> Result<Ids, Memory>
+        ensures { IfOk result (λ list. list ≡ ids.now) }
+    {
+        let form = if ids.len() <= FEW {
+            Form::Few(Vec::from_slice(alloc, ids)?)
+        } else {
+            Form::Many(long_of(alloc, ids)?)
+        };
+        Ok(Ids { form })
+    }
+
+    // The list of a block's ids.
+    fn from_block(alloc: Global, block: Vec<EdgeId>) -> Result<Ids, Memory>
+        ensures { IfOk result (λ list. list ≡ block.items) }
+    {
+        let form = if block.len() <= FEW {
+            Form::Few(block)
+        } else {
+            Form::Many(long_of(alloc, block.as_slice())?)
+        };
+        Ok(Ids { form })
+    }
+
+    // The list of the chunks' ids.
+    fn from_chunks(alloc: Global, chunks: Chunks) -> Result<Ids, Memory>
+        ensures { IfOk result (λ list. list ≡ chunks) }
+    {
+        let form = if chunks.len() <= FEW {
+            Form::Few(chunks.to_block(alloc)?)
+        } else {
+            Form::Many(Long::from_chunks(alloc, chunks)?)
+        };
+        Ok(Ids { form })
+    }
+
+    // The list of a long list's ids.
+    fn from_long(alloc: Global, long: Long) -> Result<Ids, Memory>
+        ensures { IfOk result (λ list. list ≡ long) }
+    {
+        let form = if long.len() <= FEW {
+            Form::Few(long.to_block(alloc)?)
+        } else {
+            Form::Many(long)
+        };
+        Ok(Ids { form })
+    }
+
+    /// How many ids there are.
+    pub fn len(&self) -> usize
+        ensures { result ≡ length self.now }
+    {
+        match &self.form {
+            Form::Few(ids) => ids.len(),
+            Form::Many(long) => long.len(),
+        }
+    }
+
+    /// The id at a place, from 0. `None` exactly past the last.
+    pub fn at(&self, place: usize) -> Option<EdgeId>
+        ensures { result ≡ slice_get self.now place }
+    {
+        match &self.form {
+            Form::Few(ids) => ids.as_slice().get(place).copied(),
+            Form::Many(long) => long.at(place),
+        }
+    }
+
+    /// Where the id stands among ids that ascend, or where it would go.
+    pub fn search(&self, id: EdgeId) -> Result<usize, usize>
+        requires { IsStrictlySortedBy edge_cmp self.now }
+        ensures there { MatchResult result (IsKeyAt edge_cmp id self.now) (IsKeyGap edge_cmp id self.now) }
+        ensures found { IfOk result (λ place. slice_get self.now place ≡ Some id) }
+        ensures small { IfOk result (λ place. place + 1 < 2 ^ 64) }
+    {
+        match &self.form {
+            Form::Few(ids) => search_block(ids.as_slice(), id),
+            Form::Many(long) => long.search(id),
+        }
+    }
+
+    /// The list with other ids in the place of a range. `Memory` where there was none left.
+    pub fn spliced(
+        &self,
+        alloc: Global,
+        from: usize,
+        to: usize,
+        ids: &[EdgeId],
+    ) -> Result<Ids, Memory>
+        ensures { IfOk result (λ list. list ≡ take from self.now ++ (ids.now ++ drop to self.now)) }
+    {
+        match &self.form {
+            Form::Few(block) => {
+                let spliced = spliced_block(alloc, block.as_slice(), from, to, ids)?;
+                Ids::from_block(alloc, spliced)
+            }
+            Form::Many(long) => {
+                let spliced = long.spliced(alloc, from, to, ids)?;
+                Ids::from_long(alloc, spliced)
+            }
+        }
+    }
+
+    /// The list, which ascends, with ids put in that ascend. `Memory` where there was none left.
+    pub fn with_all(&self, alloc: Global, ids: &[EdgeId]) -> Result<Ids, Memory>
+        requires ascends { IsStrictlySortedBy edge_cmp self.now }
+        requires ids_ascend { IsStrictlySortedBy edge_cmp ids.now }
+        ensures { IfOk result (λ list. list ≡ fold (insert_key edge_cmp) self.now ids.now) }
+    {
+        let edited = match &self.form {
+            Form::Few(block) => {
+                let chunks = Chunks::from_slice(alloc, block.as_slice())?;
+                with_each(alloc, &chunks, ids)?
+            }
+            Form::Many(long) => {
+                let chunks = long.to_chunks(alloc)?;
+                with_each(alloc, &chunks, ids)?
+            }
+        };
+        Ids::from_chunks(alloc, edited)
+    }
+
+    /// The list, which ascends, with ids taken out that ascend. `Memory` where there was none left.
+    pub fn without_all(&self, alloc: Global, ids: &[EdgeId]) -> Result<Ids, Memory>
+        requires ascends { IsStrictlySortedBy edge_cmp self.now }
+        requires ids_ascend { IsStrictlySortedBy edge_cmp ids.now }
+        ensures { IfOk result (λ list. list ≡ fold (λ left id. remove_key (is_at (edge_cmp id)) left) self.now ids.now) }
+    {
+        let edited = match &self.form {
+            Form::Few(block) => {
+                let chunks = Chunks::from_slice(alloc, block.as_slice())?;
+                without_each(alloc, &chunks, ids)?
+            }
+            Form::Many(long) => {
+                let chunks = long.to_chunks(alloc)?;
+                without_each(alloc, &chunks, ids)?
+            }
+        };
+        Ids::from_chunks(alloc, edited)
+    }
+}
+
+// The long list of a slice's ids.
+fn long_of(alloc: Global, ids: &[EdgeId]) -> Result<Long, Memory>
+    ensures { IfOk result (λ long. long ≡ ids.now) }
+{
+    let chunks = Chunks::from_slice(alloc, ids)?;
+    Long::from_chunks(alloc, chunks)
+}

@@ -1,4 +1,0 @@
-use Rattle.pgs_words.proofs.command_word.command_word.Goals as goal
-
-pub returns : goal.returns
-returns c = c.found_in.ensures

@@ -1,0 +1,118 @@
+ghost use Rattle.std.specs.Prelude.{◌≡◌, ◌++◌, None, IfOk, string_bytes};
+ghost use Rattle.pgs_world.specs.World.{other};
+ghost use Rattle.pgs_world_files.specs.Handles.{LengthIs, ReadIs, WriteIs, CallIs, IfOpen, handle_in};
+
+use crate::{AreaFile, Handle};
+use pgs_base::Memory;
+use pgs_world::{Area, AreaFault};
+use std::alloc::Global;
+use std::fs::File;
+use std::rt::Files;
+
+/// The two areas of a store, each in a file.
+#[derive(Drop)]
+pub struct AreaFiles<H: Handle> {
+    a: AreaFile<H>,
+    b: AreaFile<H>,
+}
+
+// The name of a store, and then an ending.
+fn file_name(alloc: Global, store: &str, ending: &str) -> Result<String, Memory>
+    ensures { IfOk result (λ name. string_bytes name ≡ store.now ++ ending.now) }
+{
+    let mut name = String::from_str(alloc, store)?;
+    name.push_str(ending)?;
+    Ok(name)
+}
+
+impl AreaFiles<File> {
+    /// The files NAME.a and NAME.b, as areas A and B of the store NAME. Each stands for itself, as `AreaFile::open` says.
+    pub fn open<R: Files<File = File>>(
+        rt: &R,
+        alloc: Global,
+        store: &str,
+    ) -> Result<AreaFiles<File>, Memory> {
+        let a = file_name(alloc, store, ".a")?;
+        let b = file_name(alloc, store, ".b")?;
+        Ok(AreaFiles {
+            a: AreaFile::open(rt, a.as_str()),
+            b: AreaFile::open(rt, b.as_str()),
+        })
+    }
+}
+
+impl<H: Handle> AreaFiles<H> {
+    /// These files as areas A and B.
+    pub fn new(a: AreaFile<H>, b: AreaFile<H>) -> AreaFiles<H>
+        ensures a { result.a ≡ a }
+        ensures b { result.b ≡ b }
+    {
+        AreaFiles { a, b }
+    }
+
+    /// No file for either area, as for a command without a store: every call is a fault.
+    pub fn absent() -> AreaFiles<H>
+        ensures a { result.a.handle ≡ None }
+        ensures b { result.b.handle ≡ None }
+    {
+        AreaFiles {
+            a: AreaFile::absent(),
+            b: AreaFile::absent(),
+        }
+    }
+
+    /// The length of an area, in bytes. More than 2^40 are a fault.
+    pub fn len(&mut self, area: Area) -> Result<u64, AreaFault>
+        ensures given { IfOpen (LengthIs H.length_gives) (handle_in area self.old) result (handle_in area self.new) }
+        ensures beside { handle_in (other area) self.new ≡ handle_in (other area) self.old }
+    {
+        match area {
+            Area::A => self.a.len(),
+            Area::B => self.b.len(),
+        }
+    }
+
+    /// Fills the buffer with the bytes of an area from a place on. A range past the end, or past 2^40, is a fault.
+    pub fn read_at(&mut self, area: Area, at: u64, buf: &mut [u8]) -> Result<(), AreaFault>
+        ensures given { IfOpen (λ old answer new. ReadIs H.read_gives old at buf.new answer new) (handle_in area self.old) result (handle_in area self.new) }
+        ensures beside { handle_in (other area) self.new ≡ handle_in (other area) self.old }
+    {
+        match area {
+            Area::A => self.a.read_at(at, buf),
+            Area::B => self.b.read_at(at, buf),
+        }
+    }
+
+    /// Writes all bytes from a place of an area on. A write past 2^40 bytes is a fault, and nothing is written.
+    pub fn write_at(&mut self, area: Area, at: u64, bytes: &[u8]) -> Result<(), AreaFault>
+        ensures given { IfOpen (λ old answer new. WriteIs H.write_gives old at bytes.now answer new) (handle_in area self.old) result (handle_in area self.new) }
+        ensures beside { handle_in (other area) self.new ≡ handle_in (other area) self.old }
+    {
+        match area {
+            Area::A => self.a.write_at(at, bytes),
+            Area::B => self.b.write_at(at, bytes),
+        }
+    }
+
+    /// Cuts an area to a length.
+    pub fn cut(&mut self, area: Area, len: u64) -> Result<(), AreaFault>
+        ensures given { IfOpen (CallIs (λ old succeeds new. H.cut_gives old len succeeds new)) (handle_in area self.old) result (handle_in area self.new) }
+        ensures beside { handle_in (other area) self.new ≡ handle_in (other area) self.old }
+    {
+        match area {
+            Area::A => self.a.cut(len),
+            Area::B => self.b.cut(len),
+        }
+    }
+
+    /// After it, what was written to an area stands on the disk.
+    pub fn sync(&mut self, area: Area) -> Result<(), AreaFault>
+        ensures given { IfOpen (CallIs H.sync_gives) (handle_in area self.old) result (handle_in area self.new) }
+        ensures beside { handle_in (other area) self.new ≡ handle_in (other area) self.old }
+    {
+        match area {
+            Area::A => self.a.sync(),
+            Area::B => self.b.sync(),
+        }
+    }
+}

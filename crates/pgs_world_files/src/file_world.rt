@@ -1,0 +1,263 @@
+ghost use Rattle.std.specs.Prelude.{◌≡◌, ◌+◌, ◌^◌, ◌≤◌, length, take, drop, IsTrue, IfOk, OnOk, OnErr};
+ghost use Rattle.std.specs.Io.KnownBytes.{Appends};
+ghost use Rattle.pgs_world.specs.Count.{Rose, raised};
+ghost use Rattle.pgs_world.specs.Disk.{written_over, IsSameBeside, Writes, Cuts, Puts};
+ghost use Rattle.pgs_world.specs.Moment.{Passes, StopsBy, IsQuiet, ShowsOne, IsSynced, MakesNoPut};
+ghost use Rattle.pgs_world.specs.World.{output_of, part, other, Adds, AddsFront};
+ghost use Rattle.pgs_world_files.specs.Counted.{view_of};
+ghost use Rattle.pgs_world_files.specs.Handles.{LengthIs, ReadIs, WriteIs, CallIs, IfOpen, handle_in};
+ghost use Rattle.pgs_world_files.specs.Pieces.{AppendsFront, PutIs};
+
+use crate::counts::Counts;
+use crate::whole::write_whole;
+use crate::{AreaFiles, Handle, SteadyWrite};
+use pgs_base::Seed;
+use pgs_world::{Area, AreaFault, PutFault, World};
+
+#[cfg(test)]
+mod tests;
+
+/// A world over two files and a writer. It tells the output where the writer tells, and nothing of its areas; it counts its
+/// calls, its faults and its puts.
+///
+/// No clause says what a file holds, or what of it a stop leaves: that rests on the system.
+#[derive(Drop)]
+pub struct FileWorld<W: SteadyWrite, H: Handle> {
+    areas: AreaFiles<H>,
+    writer: W,
+    counts: Counts,
+    seed: Seed,
+}
+
+impl<W: SteadyWrite, H: Handle> FileWorld<W, H> {
+    /// These files and the writer as a world without a fault, whose graphs hash by the seed.
+    #[tactic(auto, using(crate::proofs::Views::output_is))]
+    pub fn new(areas: AreaFiles<H>, writer: W, seed: Seed) -> FileWorld<W, H>
+        ensures areas { result.areas ≡ areas }
+        ensures writer { result.writer ≡ writer }
+        ensures output { output_of (⟦<FileWorld<W, H> as World>⟧.view result) ≡ W.contents writer }
+        ensures area_faults { (⟦<FileWorld<W, H> as World>⟧.view result).area_faults ≡ 0 }
+        ensures put_faults { (⟦<FileWorld<W, H> as World>⟧.view result).put_faults ≡ 0 }
+        ensures puts { (⟦<FileWorld<W, H> as World>⟧.view result).puts ≡ 0 }
+    {
+        FileWorld {
+            areas,
+            writer,
+            counts: Counts::none(),
+            seed,
+        }
+    }
+
+    /// The writer. The files are closed.
+    #[tactic(auto, using(crate::proofs::Views::output_is))]
+    pub fn into_writer(self) -> W
+        ensures { W.contents result ≡ output_of (⟦<FileWorld<W, H> as World>⟧.view self) }
+    {
+        let FileWorld {
+            areas: _,
+            writer,
+            counts: _,
+            seed: _,
+        } = self;
+        writer
+    }
+
+    // Counts a call on an area that was answered so.
+    fn counted<T>(&mut self, answer: Result<T, AreaFault>) -> Result<T, AreaFault>
+        ensures answer { result ≡ answer }
+        ensures areas { self.new.areas ≡ self.old.areas }
+        ensures writer { self.new.writer ≡ self.old.writer }
+        ensures raised { OnErr answer (self.new.counts.area_faults ≡ raised self.old.counts.area_faults) }
+        ensures no_cause { OnOk answer (self.new.counts.area_faults ≡ self.old.counts.area_faults) }
+        ensures moment { Rose self.old.counts.calls self.new.counts.calls }
+        ensures put_faults { self.new.counts.put_faults ≡ self.old.counts.put_faults }
+        ensures puts { self.new.counts.puts ≡ self.old.counts.puts }
+        ensures quiet { IsQuiet (view_of W.tells (W.contents self.old.writer) self.old.counts) (view_of W.tells (W.contents self.new.writer) self.new.counts) }
+        ensures passes { Passes (view_of W.tells (W.contents self.old.writer) self.old.counts) (view_of W.tells (W.contents self.new.writer) self.new.counts) }
+    {
+        match answer {
+            Ok(value) => {
+                self.counts.call_area();
+                Ok(value)
+            }
+            Err(AreaFault) => {
+                self.counts.fail_area();
+                Err(AreaFault)
+            }
+        }
+    }
+
+    // Counts a put that failed.
+    fn put_fault(&mut self) -> PutFault
+        ensures areas { self.new.areas ≡ self.old.areas }
+        ensures writer { self.new.writer ≡ self.old.writer }
+        ensures raised { self.new.counts.put_faults ≡ raised self.old.counts.put_faults }
+        ensures later { self.old.counts.put_faults ≤ self.new.counts.put_faults }
+        ensures calls { self.old.counts.calls ≤ self.new.counts.calls }
+        ensures moment { Rose self.old.counts.calls self.new.counts.calls }
+        ensures area_faults { self.new.counts.area_faults ≡ self.old.counts.area_faults }
+        ensures puts { self.new.counts.puts ≡ self.old.counts.puts }
+    {
+        self.counts.fail_put();
+        PutFault
+    }
+}
+
+impl<W: SteadyWrite, H: Handle> World for FileWorld<W, H> {
+    ghost use Rattle.pgs_world_files.specs.Counted.{view_of, timed_view};
+
+    ghost view = { λ world. view_of W.tells (W.contents world.writer) world.counts };
+
+    ghost timed = { λ world. timed_view W.tells (W.contents world.writer) world.counts };
+
+    /// The length of an area, in bytes. More than 2^40 are a fault.
+    fn len(&mut self, area: Area) -> Result<u64, AreaFault>
+        ensures given { IfOpen (LengthIs H.length_gives) (handle_in area self.old.areas) result (handle_in area self.new.areas) }
+        ensures beside_handle { handle_in (other area) self.new.areas ≡ handle_in (other area) self.old.areas }
+        ensures writer { self.new.writer ≡ self.old.writer }
+        ensures raised { OnErr result (self.new.counts.area_faults ≡ raised self.old.counts.area_faults) }
+
+        // What every world says.
+        ensures length { IfOk result (λ count. IsTrue (view_of W.tells (W.contents self.old.writer) self.old.counts).tells_bytes → count ≡ length (part area (view_of W.tells (W.contents self.old.writer) self.old.counts).shown)) }
+        ensures limit { IfOk result (λ count. count ≤ 2 ^ 40) }
+        ensures quiet { IsQuiet (view_of W.tells (W.contents self.old.writer) self.old.counts) (view_of W.tells (W.contents self.new.writer) self.new.counts) }
+        ensures moment { Rose (view_of W.tells (W.contents self.old.writer) self.old.counts).moment (view_of W.tells (W.contents self.new.writer) self.new.counts).moment }
+        ensures image { ShowsOne (view_of W.tells (W.contents self.new.writer) self.new.counts) }
+        ensures cause { OnErr result (Rose (view_of W.tells (W.contents self.old.writer) self.old.counts).area_faults (view_of W.tells (W.contents self.new.writer) self.new.counts).area_faults) }
+        ensures no_cause { OnOk result ((view_of W.tells (W.contents self.new.writer) self.new.counts).area_faults ≡ (view_of W.tells (W.contents self.old.writer) self.old.counts).area_faults) }
+        ensures no_put { MakesNoPut (view_of W.tells (W.contents self.old.writer) self.old.counts) (view_of W.tells (W.contents self.new.writer) self.new.counts) }
+    {
+        let answer = self.areas.len(area);
+        self.counted(answer)
+    }
+
+    /// Fills the buffer with the bytes of an area from a place on. A range past the end, or past 2^40, is a fault.
+    fn read_at(&mut self, area: Area, at: u64, buf: &mut [u8]) -> Result<(), AreaFault>
+        requires { IsTrue (view_of W.tells (W.contents self.old.writer) self.old.counts).tells_bytes → at + length buf.old ≤ length (part area (view_of W.tells (W.contents self.old.writer) self.old.counts).shown) }
+        ensures given { IfOpen (λ old answer new. ReadIs H.read_gives old at buf.new answer new) (handle_in area self.old.areas) result (handle_in area self.new.areas) }
+        ensures beside_handle { handle_in (other area) self.new.areas ≡ handle_in (other area) self.old.areas }
+        ensures writer { self.new.writer ≡ self.old.writer }
+        ensures raised { OnErr result (self.new.counts.area_faults ≡ raised self.old.counts.area_faults) }
+
+        // What every world says.
+        ensures bytes { OnOk result (IsTrue (view_of W.tells (W.contents self.old.writer) self.old.counts).tells_bytes → buf.new ≡ take (length buf.old) (drop at (part area (view_of W.tells (W.contents self.old.writer) self.old.counts).shown))) }
+        ensures quiet { IsQuiet (view_of W.tells (W.contents self.old.writer) self.old.counts) (view_of W.tells (W.contents self.new.writer) self.new.counts) }
+        ensures moment { Rose (view_of W.tells (W.contents self.old.writer) self.old.counts).moment (view_of W.tells (W.contents self.new.writer) self.new.counts).moment }
+        ensures image { ShowsOne (view_of W.tells (W.contents self.new.writer) self.new.counts) }
+        ensures cause { OnErr result (Rose (view_of W.tells (W.contents self.old.writer) self.old.counts).area_faults (view_of W.tells (W.contents self.new.writer) self.new.counts).area_faults) }
+        ensures no_cause { OnOk result ((view_of W.tells (W.contents self.new.writer) self.new.counts).area_faults ≡ (view_of W.tells (W.contents self.old.writer) self.old.counts).area_faults) }
+        ensures no_put { MakesNoPut (view_of W.tells (W.contents self.old.writer) self.old.counts) (view_of W.tells (W.contents self.new.writer) self.new.counts) }
+    {
+        let answer = self.areas.read_at(area, at, buf);
+        self.counted(answer)
+    }
+
+    /// Writes all bytes from a place of an area on. A write past 2^40 bytes is a fault, and nothing is written.
+    fn write_at(&mut self, area: Area, at: u64, bytes: &[u8]) -> Result<(), AreaFault>
+        requires { IsTrue (view_of W.tells (W.contents self.old.writer) self.old.counts).tells_bytes → at ≤ length (part area (view_of W.tells (W.contents self.old.writer) self.old.counts).shown) }
+        ensures given { IfOpen (λ old answer new. WriteIs H.write_gives old at bytes.now answer new) (handle_in area self.old.areas) result (handle_in area self.new.areas) }
+        ensures beside_handle { handle_in (other area) self.new.areas ≡ handle_in (other area) self.old.areas }
+        ensures writer { self.new.writer ≡ self.old.writer }
+        ensures raised { OnErr result (self.new.counts.area_faults ≡ raised self.old.counts.area_faults) }
+
+        // What every world says.
+        ensures written { OnOk result (IsTrue (view_of W.tells (W.contents self.old.writer) self.old.counts).tells_bytes → part area (view_of W.tells (W.contents self.new.writer) self.new.counts).shown ≡ written_over (part area (view_of W.tells (W.contents self.old.writer) self.old.counts).shown) at bytes.now) }
+        ensures limit { OnOk result (at + length bytes.now ≤ 2 ^ 40) }
+        ensures beside { IsSameBeside area (view_of W.tells (W.contents self.old.writer) self.old.counts).shown (view_of W.tells (W.contents self.new.writer) self.new.counts).shown }
+        ensures stops { StopsBy (Writes area at (length bytes.now)) (view_of W.tells (W.contents self.old.writer) self.old.counts) (view_of W.tells (W.contents self.new.writer) self.new.counts) }
+        ensures passes { Passes (view_of W.tells (W.contents self.old.writer) self.old.counts) (view_of W.tells (W.contents self.new.writer) self.new.counts) }
+        ensures moment { Rose (view_of W.tells (W.contents self.old.writer) self.old.counts).moment (view_of W.tells (W.contents self.new.writer) self.new.counts).moment }
+        ensures image { ShowsOne (view_of W.tells (W.contents self.new.writer) self.new.counts) }
+        ensures cause { OnErr result (Rose (view_of W.tells (W.contents self.old.writer) self.old.counts).area_faults (view_of W.tells (W.contents self.new.writer) self.new.counts).area_faults) }
+        ensures no_cause { OnOk result ((view_of W.tells (W.contents self.new.writer) self.new.counts).area_faults ≡ (view_of W.tells (W.contents self.old.writer) self.old.counts).area_faults) }
+        ensures no_put { MakesNoPut (view_of W.tells (W.contents self.old.writer) self.old.counts) (view_of W.tells (W.contents self.new.writer) self.new.counts) }
+    {
+        let answer = self.areas.write_at(area, at, bytes);
+        self.counted(answer)
+    }
+
+    /// Cuts an area to a length.
+    fn cut(&mut self, area: Area, len: u64) -> Result<(), AreaFault>
+        requires { IsTrue (view_of W.tells (W.contents self.old.writer) self.old.counts).tells_bytes → len ≤ length (part area (view_of W.tells (W.contents self.old.writer) self.old.counts).shown) }
+        ensures given { IfOpen (CallIs (λ old succeeds new. H.cut_gives old len succeeds new)) (handle_in area self.old.areas) result (handle_in area self.new.areas) }
+        ensures beside_handle { handle_in (other area) self.new.areas ≡ handle_in (other area) self.old.areas }
+        ensures writer { self.new.writer ≡ self.old.writer }
+        ensures raised { OnErr result (self.new.counts.area_faults ≡ raised self.old.counts.area_faults) }
+
+        // What every world says.
+        ensures cut { OnOk result (IsTrue (view_of W.tells (W.contents self.old.writer) self.old.counts).tells_bytes → part area (view_of W.tells (W.contents self.new.writer) self.new.counts).shown ≡ take len (part area (view_of W.tells (W.contents self.old.writer) self.old.counts).shown)) }
+        ensures beside { IsSameBeside area (view_of W.tells (W.contents self.old.writer) self.old.counts).shown (view_of W.tells (W.contents self.new.writer) self.new.counts).shown }
+        ensures stops { StopsBy (Cuts area len) (view_of W.tells (W.contents self.old.writer) self.old.counts) (view_of W.tells (W.contents self.new.writer) self.new.counts) }
+        ensures passes { Passes (view_of W.tells (W.contents self.old.writer) self.old.counts) (view_of W.tells (W.contents self.new.writer) self.new.counts) }
+        ensures moment { Rose (view_of W.tells (W.contents self.old.writer) self.old.counts).moment (view_of W.tells (W.contents self.new.writer) self.new.counts).moment }
+        ensures image { ShowsOne (view_of W.tells (W.contents self.new.writer) self.new.counts) }
+        ensures cause { OnErr result (Rose (view_of W.tells (W.contents self.old.writer) self.old.counts).area_faults (view_of W.tells (W.contents self.new.writer) self.new.counts).area_faults) }
+        ensures no_cause { OnOk result ((view_of W.tells (W.contents self.new.writer) self.new.counts).area_faults ≡ (view_of W.tells (W.contents self.old.writer) self.old.counts).area_faults) }
+        ensures no_put { MakesNoPut (view_of W.tells (W.contents self.old.writer) self.old.counts) (view_of W.tells (W.contents self.new.writer) self.new.counts) }
+    {
+        let answer = self.areas.cut(area, len);
+        self.counted(answer)
+    }
+
+    /// After it, what was written to an area stands on the disk.
+    fn sync(&mut self, area: Area) -> Result<(), AreaFault>
+        ensures given { IfOpen (CallIs H.sync_gives) (handle_in area self.old.areas) result (handle_in area self.new.areas) }
+        ensures beside_handle { handle_in (other area) self.new.areas ≡ handle_in (other area) self.old.areas }
+        ensures writer { self.new.writer ≡ self.old.writer }
+        ensures raised { OnErr result (self.new.counts.area_faults ≡ raised self.old.counts.area_faults) }
+
+        // What every world says.
+        ensures synced { OnOk result (IsSynced area (view_of W.tells (W.contents self.new.writer) self.new.counts)) }
+        ensures quiet { IsQuiet (view_of W.tells (W.contents self.old.writer) self.old.counts) (view_of W.tells (W.contents self.new.writer) self.new.counts) }
+        ensures moment { Rose (view_of W.tells (W.contents self.old.writer) self.old.counts).moment (view_of W.tells (W.contents self.new.writer) self.new.counts).moment }
+        ensures image { ShowsOne (view_of W.tells (W.contents self.new.writer) self.new.counts) }
+        ensures cause { OnErr result (Rose (view_of W.tells (W.contents self.old.writer) self.old.counts).area_faults (view_of W.tells (W.contents self.new.writer) self.new.counts).area_faults) }
+        ensures no_cause { OnOk result ((view_of W.tells (W.contents self.new.writer) self.new.counts).area_faults ≡ (view_of W.tells (W.contents self.old.writer) self.old.counts).area_faults) }
+        ensures no_put { MakesNoPut (view_of W.tells (W.contents self.old.writer) self.old.counts) (view_of W.tells (W.contents self.new.writer) self.new.counts) }
+    {
+        let answer = self.areas.sync(area);
+        self.counted(answer)
+    }
+
+    /// Writes the whole piece to the writer and flushes it, or counts a fault; a front of the piece may be written then.
+    /// After 2^64 - 1 puts no more can be counted: each is a fault, and nothing is written.
+    #[tactic(auto, using(crate::proofs::Views::passes_view, crate::proofs::Views::adds_view, crate::proofs::Views::adds_front_view))]
+    fn put(&mut self, piece: &[u8]) -> Result<(), PutFault>
+        ensures written { OnOk result (Appends (W.contents self.old.writer) (W.contents self.new.writer) piece.now) }
+        ensures torn { OnErr result (AppendsFront (W.contents self.old.writer) (W.contents self.new.writer) piece.now) }
+        ensures given { PutIs W.write_gives W.flush_gives self.old.counts.puts self.old.writer piece.now result self.new.writer }
+        ensures areas { self.new.areas ≡ self.old.areas }
+        ensures raised { OnErr result (self.new.counts.put_faults ≡ raised self.old.counts.put_faults) }
+
+        // What every world says.
+        ensures whole { OnOk result (Adds (output_of (view_of W.tells (W.contents self.old.writer) self.old.counts)) (output_of (view_of W.tells (W.contents self.new.writer) self.new.counts)) piece.now) }
+        ensures front { OnErr result (AddsFront (output_of (view_of W.tells (W.contents self.old.writer) self.old.counts)) (output_of (view_of W.tells (W.contents self.new.writer) self.new.counts)) piece.now) }
+        ensures cause { OnErr result (Rose (view_of W.tells (W.contents self.old.writer) self.old.counts).put_faults (view_of W.tells (W.contents self.new.writer) self.new.counts).put_faults) }
+        ensures faults_stay { (view_of W.tells (W.contents self.old.writer) self.old.counts).put_faults ≤ (view_of W.tells (W.contents self.new.writer) self.new.counts).put_faults }
+        ensures a { (view_of W.tells (W.contents self.new.writer) self.new.counts).shown.a ≡ (view_of W.tells (W.contents self.old.writer) self.old.counts).shown.a }
+        ensures b { (view_of W.tells (W.contents self.new.writer) self.new.counts).shown.b ≡ (view_of W.tells (W.contents self.old.writer) self.old.counts).shown.b }
+        ensures stops { StopsBy (Puts piece.now) (view_of W.tells (W.contents self.old.writer) self.old.counts) (view_of W.tells (W.contents self.new.writer) self.new.counts) }
+        ensures passes { Passes (view_of W.tells (W.contents self.old.writer) self.old.counts) (view_of W.tells (W.contents self.new.writer) self.new.counts) }
+        ensures moment { Rose (view_of W.tells (W.contents self.old.writer) self.old.counts).moment (view_of W.tells (W.contents self.new.writer) self.new.counts).moment }
+        ensures image { ShowsOne (view_of W.tells (W.contents self.new.writer) self.new.counts) }
+        ensures counted { OnOk result ((view_of W.tells (W.contents self.new.writer) self.new.counts).puts ≡ (view_of W.tells (W.contents self.old.writer) self.old.counts).puts + 1) }
+        ensures not_counted { OnErr result ((view_of W.tells (W.contents self.new.writer) self.new.counts).puts ≡ (view_of W.tells (W.contents self.old.writer) self.old.counts).puts) }
+        ensures no_cause { OnOk result ((view_of W.tells (W.contents self.new.writer) self.new.counts).put_faults ≡ (view_of W.tells (W.contents self.old.writer) self.old.counts).put_faults) }
+        ensures no_area { (view_of W.tells (W.contents self.new.writer) self.new.counts).area_faults ≡ (view_of W.tells (W.contents self.old.writer) self.old.counts).area_faults }
+    {
+        if self.counts.puts == u64::MAX {
+            return Err(self.put_fault());
+        }
+        match write_whole(&mut self.writer, piece) {
+            Ok(()) => {
+                self.counts.put();
+                Ok(())
+            }
+            Err(_) => Err(self.put_fault()),
+        }
+    }
+
+    fn seed(&self) -> Seed {
+        self.seed
+    }
+}
