@@ -11,7 +11,7 @@ count=${1-10000}
 work=$(mktemp -d -p "${2-.}")
 work=$(readlink -f "$work")
 trap 'rm -rf "$work"' EXIT
-"$top/pgguard" gen 5 0 >/dev/null
+program=$("$top/tools/run" --path pgguard)
 cd "$work"
 echo 'CREATE GRAPH TYPE g STRICT {(p: Person {id INT, mail STRING}), FOR (x:p) IDENTIFIER x.mail};' >schema
 python3 - "$count" >lines <<'E'
@@ -59,8 +59,8 @@ print(f"  {name:20}{int(count) / spent:9.0f} transactions a second, {spent:.2f} 
 E
 }
 echo "$count transactions of one node each"
-"$top/build/pgguard" load store <schema >/dev/null
-rate "pgguard apply" lines "$top/build/pgguard" apply store
+"$program" load store <schema >/dev/null
+rate "pgguard apply" lines "$program" apply store
 [ "$(grep -c ' committed ' output)" = "$count" ] || { echo "not every transaction was committed" >&2; exit 1; }
 rate "two syncs a commit" /dev/null python3 disk.py "$count"
 rate "SQLite, WAL, FULL" /dev/null python3 tables.py "$count"

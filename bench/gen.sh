@@ -122,7 +122,7 @@ into_first = first("SELECT count(*) FROM knows WHERE target = 1")
 print(f"gen committed={count} refused=0 nodes={nodes} edges={edges} in1={into_first}")
 E
 rustc -O -A warnings -o "$work/bare" "$work/bare.rs"
-"$top/pgguard" gen 5 0 >/dev/null
+program=$("$top/tools/run" --path pgguard)
 # rate NAME LINE START COUNT PROGRAM..: how many transactions a second of processor time that is, of the least of three runs, without the
 # time that the program takes for none. Each run has to write the line.
 rate() {
@@ -146,7 +146,7 @@ for start in 1000003 5; do
   for count in "$@"; do
     line=$("$work/bare" "$start" "$count")
     echo "gen $start $count: ${line#gen }"
-    rate pgguard "$line" "$start" "$count" "$top/build/pgguard" gen
+    rate pgguard "$line" "$start" "$count" "$program" gen
     rate Rust "$line" "$start" "$count" "$work/bare"
     rate SQLite "$line" "$start" "$count" python3 "$work/tables.py"
   done
