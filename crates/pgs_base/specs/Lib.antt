@@ -1,6 +1,7 @@
 pub mod Day
 pub mod DayForm
 pub mod Graph
+pub mod Kept
 pub mod Name
 pub mod NameBytes
 pub mod Names
