@@ -100,7 +100,7 @@ impl<K: Ord + Drop, V: Drop> Keyed<K, V> {
         }
     }
 
-    /// Sets the value at a key, and answers the value that was there. After `Memory`, which comes only for a new key, all is as it was.
+    /// Sets the value at a key, and answers the value that was there. After `Memory` all is as it was.
     pub fn set(&mut self, key: K, value: V) -> Result<Option<V>, Memory>
         ensures ok { OnOk result (self.new ≡ insert_entry K.cmp self.old key value) }
         ensures answer { IfOk result (λ old. old ≡ lookup (is_at (K.cmp key)) self.old) }

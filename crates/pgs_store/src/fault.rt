@@ -65,9 +65,9 @@ pub enum RecoverFault {
 pub enum ApplyFault {
     /// There was no memory. It comes before the first call on the world.
     Memory,
-    /// 4: a call on an area failed: the count of area faults rose. The transaction may be in the areas or not.
+    /// A call on an area failed: the count of area faults rose. The transaction may be in the areas or not.
     DiskFault,
-    /// 5: an earlier call on this store answered `DiskFault`, so it has to be recovered.
+    /// An earlier call on this store answered `DiskFault`, so it has to be recovered.
     NeedsReopen,
     /// The transaction is rejected.
     Rejected(Rejection),

@@ -59,7 +59,7 @@ impl<K: Number, V: Drop> Numbered<K, V> {
         }
     }
 
-    /// Makes a slot for a number that has none. After `Memory` nothing is changed.
+    /// Makes a slot for a number that has none. After `Memory` the rows are as they were, and each number that had a slot has one.
     pub fn make_slot(&mut self, id: K) -> Result<(), Memory>
         ensures rows { self.new.rows ≡ self.old.rows }
         ensures there { OnOk result (has_slot K.cmp self.new id ≡ true) }

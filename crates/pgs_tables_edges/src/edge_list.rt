@@ -79,7 +79,7 @@ impl EdgeList {
         self.ids.at(place)
     }
 
-    /// The place of a number, from 0: `Ok` where it stands, and `Err` where it would go. Its cost is two searches by halving.
+    /// The place of a number, from 0: `Ok` where it stands, and `Err` where it would go. It looks by halving, twice.
     pub fn place(&self, id: EdgeId) -> Result<usize, usize>
         ensures there { MatchResult result (IsKeyAt edge_cmp id self.now) (IsKeyGap edge_cmp id self.now) }
         ensures found { IfOk result (λ place. slice_get self.now place ≡ Some id) }
