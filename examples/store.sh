@@ -1,10 +1,24 @@
 #!/usr/bin/env bash
 # Takes a store on real files through its life: load, apply with mistakes among the lines, recover, validate of what recover printed, explain,
-# checkpoint, apply again; the last epoch, and other bytes beside a store; then a run that is killed in the middle, and one that goes on
-# behind it. Compares what is printed and each exit status. Ends with 1 where one differs. Usage: examples/store.sh
+# checkpoint, apply again; the last epoch, and other bytes beside a store; closed streams, locks, missing rights, a full disk, files of
+# something else, a file that is taken away, feeds; the order of syncs, where strace is there; then a run that is killed in the middle, and
+# one that goes on behind it. Compares what is printed and each exit status. Ends with 1 where one differs.
+# Usage: examples/store.sh; with PGGUARD=FILE in the environment that executable is run.
 set -u
 here=$(cd "$(dirname "$(readlink -f "${BASH_SOURCE[0]}")")" && pwd)
-program="$here/../pgguard"
+
+# The path of the executable itself, so that it is the one that is killed. It is built where it isn't there.
+executable() {
+  if [ -n "${PGGUARD-}" ]; then
+    readlink -f "$PGGUARD"
+  elif [ -x "$here/../tools/run" ]; then
+    "$here/../tools/run" --path pgguard
+  else
+    "$here/../pgguard" try </dev/null >&2 && readlink -f "$here/../build/pgguard"
+  fi
+}
+
+program=$(executable) || exit 1
 work=$(mktemp -d) || exit 1
 trap 'rm -rf "$work"' EXIT
 cd "$work" || exit 1
@@ -76,6 +90,209 @@ runs "recover beside another program's bytes" 0 one.txt nothing recover open
 runs "checkpoint over another program's bytes" 0 renewed.txt nothing checkpoint open
 runs "recover after that checkpoint" 0 one.txt nothing recover open
 
+# What the system makes of a run: `ends NAME STATUS LINE COMMAND..` runs a command of the shell, and compares its status and its line on
+# standard error, without the program's name.
+ends() {
+  local name=$1 status=$2 line=$3 found
+  shift 3
+  "$@" >found.txt 2>told.txt
+  found=$?
+  if [ "$found" = "$status" ] && [ "$(cat told.txt)" = "pgguard: $line" ]; then
+    echo "$name: as expected"
+  else
+    echo "$name: different, status $found, $(cat told.txt)"
+    different=1
+  fi
+}
+
+# A store in both files, one line for it, and what it is before and behind that line.
+node='{"ops":[{"add_node":1000,"labels":["P"],"props":{"id":1000}}]}'
+fresh() {
+  rm -f "$1".a "$1".b
+  cp kept.a "$1".a
+  cp kept.b "$1".b
+}
+printf 'CREATE GRAPH TYPE g STRICT {(p: P {id INT}), FOR (x:p) IDENTIFIER x.id};' >kept_schema.txt
+printf '{"ops":[{"add_node":1,"labels":["P"],"props":{"id":1}}]}\n' >kept_line.txt
+printf '%s\n' "$node" >line.txt
+{ "$program" load kept <kept_schema.txt && "$program" apply kept <kept_line.txt && "$program" checkpoint kept; } >kept.txt 2>&1
+fresh after
+"$program" recover after >before_dump.txt
+"$program" apply after <line.txt >after.txt
+"$program" recover after >after_dump.txt
+"$program" load whole <kept_schema.txt >whole.txt
+"$program" recover whole >whole_dump.txt
+
+# The words of each command, and its input.
+words() {
+  case $1 in
+    try | validate) echo "$1" ;;
+    load) echo "load made" ;;
+    explain) echo "explain closed n1" ;;
+    gen) echo "gen 5 6" ;;
+    *) echo "$1 closed" ;;
+  esac
+}
+input() {
+  case $1 in
+    try | validate) echo "$here/fraud/input.txt" ;;
+    load) echo kept_schema.txt ;;
+    *) echo line.txt ;;
+  esac
+}
+
+# Whether both files are as they were, or the store is what one line more, or a new store, makes of it.
+stands() {
+  local command=$1 dump
+  case $command in
+    load) dump=whole_dump.txt && { [ ! -s made.a ] && [ ! -s made.b ] || "$program" recover made 2>&1 | cmp -s - "$dump"; } ;;
+    apply) "$program" recover closed >now.txt && { cmp -s now.txt before_dump.txt || cmp -s now.txt after_dump.txt; } ;;
+    checkpoint) "$program" recover closed | cmp -s - before_dump.txt ;;
+    *) cmp -s closed.a kept.a && cmp -s closed.b kept.b ;;
+  esac
+}
+
+# Runs a command with streams closed: closed COMMAND STREAMS, which are of <, > and 2.
+closed() {
+  local command=$1 streams=$2 status wanted
+  fresh closed
+  rm -f made.a made.b
+  # shellcheck disable=SC2046
+  "$program" $(words "$command") <"$(input "$command")" >wanted.txt 2>/dev/null
+  wanted=$?
+  fresh closed
+  rm -f made.a made.b
+  (
+    case $streams in *'<'*) exec <&- ;; *) exec <"$(input "$command")" ;; esac
+    case $streams in *'>'*) exec >&- ;; *) exec >found.txt ;; esac
+    case $streams in *2*) exec 2>&- ;; *) exec 2>/dev/null ;; esac
+    # shellcheck disable=SC2046
+    exec "$program" $(words "$command")
+  )
+  status=$?
+  case "$command $streams" in
+    *' 2') holds "$command with $streams closed" eval '[ "$status" = "$wanted" ] && cmp -s found.txt wanted.txt && stands "$command"' ;;
+    'try <'* | 'validate <'* | 'load <'* | 'apply <'*) holds "$command with $streams closed" eval '[ "$status" = 6 ] && stands "$command"' ;;
+    *' <') holds "$command with $streams closed" eval '[ "$status" = "$wanted" ] && cmp -s found.txt wanted.txt && stands "$command"' ;;
+    'validate '*) holds "$command with $streams closed" eval '[ "$status" = 7 ] || [ ! -s wanted.txt ]' ;;
+    *) holds "$command with $streams closed" eval '[ "$status" = 7 ] && stands "$command"' ;;
+  esac
+}
+for command in try validate load apply recover explain gen checkpoint; do
+  for streams in '<' '>' '2' '<>2'; do
+    closed "$command" "$streams"
+  done
+done
+
+# Waits until a run that writes has the files of a store.
+has_files() {
+  for _ in $(seq 1 100); do
+    "$program" recover "$1" >/dev/null 2>&1
+    [ $? = 5 ] && return
+    sleep 0.1
+  done
+}
+
+# Locks: readers go together, and nobody beside a run that writes.
+fresh social
+mkfifo held
+"$program" apply social <held >/dev/null &
+writer=$!
+exec 9>held
+has_files social
+ends "recover beside a run that writes" 5 "social.a: is locked by another run" "$program" recover social
+ends "apply beside a run that writes" 5 "social.a: is locked by another run" "$program" apply social
+exec 9>&-
+wait "$writer"
+if [ -n "$(command -v flock)" ]; then
+  holds "recover beside a reader" eval 'flock -s social.a "$program" recover social | cmp -s - before_dump.txt'
+  ends "apply beside a reader" 5 "social.a: is locked by another run" flock -s social.a "$program" apply social
+fi
+
+# Rights, a full disk, and inputs and files of other kinds.
+holds "a new file is its owner's" test "$(stat -c %a whole.a)" = 600
+fresh right
+chmod 444 right.a right.b
+chmod 755 "$work"
+someone=()
+if [ "$(id -u)" = 0 ]; then
+  someone=(setpriv --reuid 65534 --regid 65534 --clear-groups)
+fi
+if "${someone[@]}" "$program" gen 1 1 >/dev/null 2>&1; then
+  holds "recover without the right to write" eval '"${someone[@]}" "$program" recover right 2>&1 | cmp -s - before_dump.txt'
+  ends "apply without the right to write" 5 "right.a: permission denied" "${someone[@]}" "$program" apply right
+fi
+full() { "$program" recover social >/dev/full; }
+ends "recover onto a full disk" 7 "standard output: no space left" full
+folder() { "$program" apply social <.; }
+ends "a folder as input" 6 "standard input: is a folder" folder
+closed_input() { "$program" apply social <&-; }
+ends "no input" 6 "standard input: is not open" closed_input
+seq 1 1000 | sed 's/.*/{"ops":[{"add_node":&,"labels":["P"],"props":{"id":&}}]}/' >many.txt
+limited() { (trap '' XFSZ; ulimit -f 8; exec "$program" apply whole <many.txt); }
+ends "a limit on the size of files" 5 "whole.a: reaches the limit on a file's size" limited
+seq 1 1000 >report.a
+cp report.a report.txt
+ends "load over a file of something else" 5 "report.a: is a file of something else" "$program" load report
+holds "that file stands" cmp -s report.a report.txt
+mkfifo pipe.a
+ends "a pipe as a store's file" 5 "pipe.a: is not a regular file" "$program" apply pipe
+ln -s /dev/null device.a
+ends "a device as a store's file" 5 "device.a: is not a regular file" "$program" load device
+mkdir folder.a
+ends "a folder as a store's file" 5 "folder.a: is not a regular file" "$program" load folder
+ends "a store in no folder" 5 "missing/s.a: no such file or folder" "$program" recover missing/s
+printf 'words refused 35\n' >refused.txt
+for word in help --help -h; do
+  "$program" $word >found.txt 2>told.txt
+  holds "$word" eval '[ $? = 2 ] && cmp -s found.txt refused.txt && head -n 1 told.txt | grep -qx "usage:"'
+done
+
+# A file that is taken away while a run has it.
+fresh gone
+"$program" apply gone <held >gone.txt 2>told.txt &
+writer=$!
+exec 9>held
+has_files gone
+rm gone.a gone.b
+cat line.txt >&9
+exec 9>&-
+wait "$writer"
+status=$?
+holds "a file taken away" eval '[ "$status" = 5 ] && [ ! -s gone.txt ] && grep -qx "pgguard: gone\.[ab]: was replaced or removed" told.txt'
+
+# Feeds: no two of them one file, none a file of the store, and two runs lose no line of one.
+fresh fed
+ln feed_once.jsonl feed_link.jsonl 2>/dev/null || { : >feed_once.jsonl && ln feed_once.jsonl feed_link.jsonl; }
+printf '1 committed 2\nfeeds lost=4\n' >lost.txt
+runs "feeds of one file" 0 lost.txt line.txt apply fed feed_once.jsonl feed_once.jsonl feed_link.jsonl fed.b ./fed.a
+holds "a feed gets a line once" test "$(wc -l <feed_once.jsonl)" = 1
+holds "a store is no feed" eval '"$program" recover fed | cmp -s - after_dump.txt'
+"$program" load one <kept_schema.txt >/dev/null
+"$program" load two <kept_schema.txt >/dev/null
+"$program" apply one both.jsonl <many.txt >one_lines.txt &
+"$program" apply two both.jsonl <many.txt >two_lines.txt
+wait
+holds "two runs on one feed" eval '[ "$(wc -l <both.jsonl)" = 2000 ] && [ "$(grep -c "^{.*}$" both.jsonl)" = 2000 ]'
+
+# What a run asks of the system, in order: F the sync of the folder, one for each file; S the sync of a file, one of each at the start and
+# two a commit; P a write to a file; W the line, which comes behind both syncs of its commit.
+if strace -o /dev/null true 2>/dev/null; then
+  mkdir sub
+  "$program" load sub/s <kept_schema.txt >/dev/null
+  head -n 2 many.txt >two.txt
+  strace -y -o trace.txt -e trace=openat,flock,fsync,fdatasync,pwrite64,write "$program" apply sub/s sub/feed <two.txt >found.txt
+  order=$(sed -n 's/^fsync(.*\/sub>).*/F/p; s/^fdatasync(.*\/s\.[ab]>).*/S/p; s/^pwrite64(.*\/s\.a>.*/P/p; s/^write(1<.*/W/p' trace.txt | tr -d '\n')
+  holds "the order of syncs, $order" test "$order" = FFSSPSPSWPSPSW
+  holds "files stay as long as they are" eval '! grep -q O_TRUNC trace.txt'
+  holds "a feed is written behind its end" eval 'grep -q "sub/feed.*O_APPEND" trace.txt'
+  holds "both files are locked alone" test "$(grep -c 'flock(.*/s\.[ab]>, LOCK_EX|LOCK_NB) = 0' trace.txt)" = 2
+  strace -y -o trace.txt -e trace=flock "$program" recover sub/s >found.txt
+  holds "both files are locked for readers" test "$(grep -c 'flock(.*/s\.[ab]>, LOCK_SH|LOCK_NB) = 0' trace.txt)" = 2
+else
+  echo "strace isn't there: the order of syncs isn't compared"
+fi
+
 # A run that is killed in the middle: each line adds a person; what was printed is in the store, and at most one more.
 persons() {
   local first=$1 last=$2 number
@@ -87,9 +304,7 @@ printf 'CREATE GRAPH TYPE g STRICT {(p: P {id INT}), FOR (x:p) IDENTIFIER x.id};
 printf 'loaded types=1 keys=1\n' >people_loaded.txt
 runs "load people" 0 people_loaded.txt people_schema.txt load people
 persons 1 100000 >people.txt
-# The built program alone, so that it is the one that is killed.
-"$program" try <nothing >/dev/null
-"$here/../build/pgguard" apply people <people.txt >killed.txt &
+"$program" apply people <people.txt >killed.txt &
 running=$!
 sleep 1
 kill -9 "$running"

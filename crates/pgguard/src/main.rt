@@ -1,14 +1,13 @@
 //! The program: it makes the words, opens the files that they name, and calls `pgs_run::run` over standard input and output.
 //!
 //! What stands here is `run_program`, which is all but the system's handles and says what is put over a reader and a writer that tell
-//! their bytes, and the opening of what the words name. What a terminal, a pipe or a file holds is told by no clause: the adapters of
-//! `pgs_world_files` count their calls and faults.
+//! their bytes; the opening of what the words name; and the line on standard error where a run ends without one on standard output. What a
+//! terminal, a pipe or a file holds is told by no clause: `pgs_world_streams` and `pgs_world_files` count their calls and faults.
 #![tactic(auto)]
 
+mod ending;
 mod opening;
 mod program;
-#[cfg(test)]
-mod tests;
 
 ghost use Rattle.std.specs.Prelude.{◌≡◌, ◌≢◌, ◌++◌, [], Ok, IsErr, IfErr, IfOk};
 ghost use Rattle.std.specs.IoError.{error_kind};
@@ -18,16 +17,17 @@ ghost use Rattle.pgs_base.specs.declared.seed.Seed.TheVariants as seeds;
 ghost use Rattle.pgs_run_base.specs.ExitStatus.{status_number};
 ghost use Rattle.pgguard.specs.Known.{words_behind};
 
+use ending::{Causes, tell_ending};
 use opening::{areas_of, feeds_of};
 use pgs_base::{Memory, Seed, Words};
 use pgs_run::Status;
-use pgs_world_files::FileFeed;
+use pgs_world_files::SystemOpening;
+use pgs_world_streams::{Cause, StandardNumbers};
 use program::run_program;
 use std::alloc::Global;
 use std::collections::hash_map::RandomState;
 use std::env::{self, Args};
-use std::fs::File;
-use std::io::{self, ErrorKind, Stdin, Stdout};
+use std::io::{self, ErrorKind};
 use std::process::ExitCode;
 
 // The exit code of a status: its number.
@@ -83,11 +83,12 @@ fn seed_of(drawn: io::Result<RandomState>) -> Seed
 }
 
 // Opens what the words name, and runs them.
-fn run_words(rt: &HostRuntime, words: &Words) -> Result<Status, Memory> {
-    let areas = areas_of(rt, rt.alloc(), words)?;
-    let mut feeds = feeds_of(rt, rt.alloc(), words)?;
+fn run_words(rt: &HostRuntime, words: &Words) -> Result<(Status, Causes), Memory> {
+    let mut system = SystemOpening::new(rt);
+    let areas = areas_of(&mut system, rt.alloc(), words)?;
+    let mut feeds = feeds_of(&mut system, rt.alloc(), words)?;
     let seed = seed_of(RandomState::new(rt));
-    let (status, _) = run_program::<Stdin, Stdout, File, FileFeed<File>>(
+    let (status, _, causes) = run_program(
         rt.alloc(),
         words,
         rt.stdin(),
@@ -96,16 +97,31 @@ fn run_words(rt: &HostRuntime, words: &Words) -> Result<Status, Memory> {
         &mut feeds,
         seed,
     );
-    Ok(status)
+    Ok((status, causes))
+}
+
+// Runs words, tells why they ended so, and gives the status.
+fn run_and_tell(rt: &HostRuntime, words: &Words, numbers: &StandardNumbers) -> Status {
+    let (status, mut causes) = match run_words(rt, words) {
+        Ok(ended) => ended,
+        Err(Memory) => (Status::Memory, Causes::none()),
+    };
+    if numbers.input_was_closed() {
+        causes.source = Some(Cause::NotOpen);
+    }
+    tell_ending(rt, words, status, causes);
+    status
 }
 
 fn main(rt: HostRuntime) -> ExitCode {
-    let status = match words_of(rt.alloc(), env::args(&rt)) {
-        Ok(words) => run_words(&rt, &words),
-        Err(Memory) => Err(Memory),
+    // Before anything is opened: no file gets the number of a stream.
+    let numbers = StandardNumbers::take(&rt);
+    let words = match words_of(rt.alloc(), env::args(&rt)) {
+        Ok(words) => words,
+        Err(Memory) => {
+            tell_ending(&rt, &Words::new(rt.alloc()), Status::Memory, Causes::none());
+            return exit_code(Status::Memory);
+        }
     };
-    match status {
-        Ok(status) => exit_code(status),
-        Err(Memory) => exit_code(Status::Memory),
-    }
+    exit_code(run_and_tell(&rt, &words, &numbers))
 }

@@ -10,7 +10,7 @@ use Rattle.pgs_violation.specs.declared.structural.Cause.TheVariants.{AlreadyThe
 use Rattle.pgs_violation.specs.declared.structural.Structural.{Structural}
 use Rattle.pgs_violation.specs.declared.structural.Structural.TheVariants.{TooManyOps, BadOp, ElementTooLarge, TooManyElements}
 use Rattle.pgs_violation.specs.declared.violation.Violation.{Violation}
-use Rattle.pgs_violation.specs.declared.violation.Violation.TheVariants.{UntypedNode, UntypedEdge, Mandatory, Singleton, Exclusive}
+use Rattle.pgs_violation.specs.declared.violation.Violation.TheVariants.{UntypedNode, UntypedEdge, Mandatory, Singleton, Exclusive, CountOutside}
 use Rattle.pgs_violation.specs.declared.rejection.Rejection.{Rejection}
 use Rattle.pgs_violation.specs.declared.rejection.Rejection.TheVariants.{Structural as ByStructure, Violation as ByViolation}
 
@@ -93,6 +93,9 @@ violation_text (Singleton key elem first second) =
 violation_text (Exclusive key first second tuple) =
     codes "29 key " ++ (decimal key ++ (codes ": " ++ (elem_text first ++ (codes " and "
     ++ (elem_text second ++ (codes " share " ++ tuple_text tuple))))))
+violation_text (CountOutside key elem count least most) =
+    codes "39 key " ++ (decimal key ++ (codes ": " ++ (elem_text elem ++ (codes " has "
+    ++ (decimal count ++ (codes " values, outside " ++ (decimal least ++ (codes ".." ++ decimal most))))))))
 
 abbrev pub rejection_text : Rejection → Limits → List ℕ
 rejection_text (ByStructure structural) limits = structural_text structural limits

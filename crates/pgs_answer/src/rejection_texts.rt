@@ -7,7 +7,7 @@ use pgs_base_text::TextBuffer;
 use pgs_violation::{Cause, Rejection, Structural, Violation};
 use std::alloc::Global;
 
-// Room for a text with three numbers.
+// Room for a text with five numbers.
 const ROOM: usize = 128;
 
 /// Refusal 20: the line is not a transaction.
@@ -136,6 +136,18 @@ fn push_shared_value(text: &mut TextBuffer, other: Elem, tuple: &Tuple) -> Resul
     text.push_tuple(tuple)
 }
 
+fn push_count(text: &mut TextBuffer, count: u64, least: u32, most: u32) -> Result<(), Memory>
+    ensures { OnOk result (text.new ≡ text.old ++ (codes " has " ++ (decimal count ++ (codes " values, outside "
+        ++ (decimal least ++ (codes ".." ++ decimal most)))))) }
+{
+    text.push(b" has ")?;
+    text.push_number(count)?;
+    text.push(b" values, outside ")?;
+    text.push_number(least as u64)?;
+    text.push(b"..")?;
+    text.push_number(most as u64)
+}
+
 fn push_untyped(text: &mut TextBuffer, number: &[u8], elem: Elem) -> Result<(), Memory>
     ensures { OnOk result (text.new ≡ text.old ++ (number.now ++ (elem_text elem ++ codes " fits no type"))) }
 {
@@ -173,6 +185,16 @@ fn push_violation(text: &mut TextBuffer, violation: &Violation) -> Result<(), Me
             push_key(text, b"29 key ", *key, *first)?;
             push_shared_value(text, *second, tuple)
         }
+        Violation::CountOutside {
+            key,
+            elem,
+            count,
+            least,
+            most,
+        } => {
+            push_key(text, b"39 key ", *key, *elem)?;
+            push_count(text, *count, *least, *most)
+        }
     }
 }
 
@@ -203,7 +225,7 @@ pub fn structural_text(
     Ok(text.into_bytes())
 }
 
-/// Violations 25 to 29.
+/// Violations 25 to 29, and 39.
 pub fn violation_text(alloc: Global, violation: &Violation) -> Result<Bytes, Memory>
     ensures { IfOk result (λ text. text ≡ violation_text violation.now) }
 {

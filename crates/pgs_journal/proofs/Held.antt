@@ -11,13 +11,12 @@ use Rattle.byteorder.specs.Numbers.{big_from-take}
 use Rattle.pgs_journal.specs.declared.area_state.AreaState.{AreaState}
 use Rattle.pgs_journal.specs.declared.area_state.AreaState.TheVariants.{NoStore, Foreign, Damaged, Store}
 use Rattle.pgs_journal.specs.Area.{epoch_of, has_head, first_unfit, has_some, judged, store_of, state_within, area_state, HoldsStore}
-use Rattle.pgs_journal.specs.declared.records.Found.{Found}
 use Rattle.pgs_journal.specs.Format.{First, is_open, is_epoch, magic, head_body, open_records, opened, Holds}
-use Rattle.pgs_journal.specs.Reading.{Next, Closed, Torn, Whole, record_of, next_of, found_at, records_within, records_in}
+use Rattle.pgs_journal.specs.Reading.{Found, Next, Closed, Torn, Whole, record_of, next_of, found_at, records_within, records_in}
 use Rattle.pgs_journal.proofs.Images.{open_is_one}
 use Rattle.pgs_journal.proofs.ReadingOn.{payload_in, rest_in, is_whole}
 
-abbrev IsBytes : List ℕ → Type 0
+abbrev pub IsBytes : List ℕ → Type 0
 IsBytes bytes = (i : ℕ) → slice_index bytes i < 256
 
 front_bytes : (n : ℕ) (bytes : List ℕ) → IsBytes bytes → IsBytes (take n bytes)
@@ -32,7 +31,7 @@ back_bytes (suc n) [] small i = lit< tt
 back_bytes (suc n) (b ∷ bytes) small i = back_bytes n bytes (λ j. small (suc j)) i
 
 -- a number of eight bytes, written again
-number_again : (bytes : List ℕ) → 8 ≤ length bytes → IsBytes bytes → big_bytes 8 (big_number 8 bytes) ≡ take 8 bytes
+pub number_again : (bytes : List ℕ) → 8 ≤ length bytes → IsBytes bytes → big_bytes 8 (big_number 8 bytes) ≡ take 8 bytes
 number_again bytes long small =
     be_bytes_8 (take 8 bytes) (big_number 8 bytes) (omega (arith, length-take 8 bytes, long)) (front_bytes 8 bytes small)
     (sym (big_from-take 0 8 8 bytes (omega arith)) ∙ omega arith)
@@ -124,7 +123,7 @@ records_stand (suc most) number (gate ∷ bytes) small some is = at (next_of Fir
         one_more number gate bytes payload rest (records_within First most (suc number) rest).payloads whole (behind rest whole.small whole.some ended)
 
 -- the seven bytes and the epoch behind the first gate
-head_stands : (gate : ℕ) (bytes : List ℕ) → 17 ≤ length (gate ∷ bytes) → IsBytes bytes → take 7 bytes ≡ magic First → bytes ≡ head_body First (epoch_of (gate ∷ bytes)) ++ drop 15 bytes
+pub head_stands : (gate : ℕ) (bytes : List ℕ) → 17 ≤ length (gate ∷ bytes) → IsBytes bytes → take 7 bytes ≡ magic First → bytes ≡ head_body First (epoch_of (gate ∷ bytes)) ++ drop 15 bytes
 head_stands gate bytes long small is =
     sym (take-append-drop 7 bytes) ∙ ap (λ (l : List ℕ). l ++ drop 7 bytes) is
     ∙ ap (λ (l : List ℕ). magic First ++ l)

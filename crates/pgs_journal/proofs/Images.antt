@@ -36,7 +36,7 @@ records-push number (first ∷ payloads) payload =
     ap (λ (l : List ℕ). 1 ∷ (big_bytes 8 (length first) ++ first ++ l)) (records-push (suc number) payloads payload)
     ∙ ap (λ (l : List ℕ). 1 ∷ l) (sym (append_assoc (big_bytes 8 (length first) ++ first) (open_records First (suc number) payloads) (1 ∷ (big_bytes 8 (length payload) ++ payload))))
 
-opened-push : (epoch : ℕ) (payloads : List (List ℕ)) (payload : List ℕ) → opened First epoch (payloads ++ payload ∷ []) ≡ opened First epoch payloads ++ 1 ∷ (big_bytes 8 (length payload) ++ payload)
+pub opened-push : (epoch : ℕ) (payloads : List (List ℕ)) (payload : List ℕ) → opened First epoch (payloads ++ payload ∷ []) ≡ opened First epoch payloads ++ 1 ∷ (big_bytes 8 (length payload) ++ payload)
 opened-push epoch payloads payload =
     ap (λ (l : List ℕ). 1 ∷ (head_body First epoch ++ l)) (records-push 1 payloads payload)
     ∙ ap (λ (l : List ℕ). 1 ∷ l) (sym (append_assoc (head_body First epoch) (open_records First 1 payloads) (1 ∷ (big_bytes 8 (length payload) ++ payload))))

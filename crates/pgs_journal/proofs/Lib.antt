@@ -3,7 +3,9 @@ pub mod Bounding
 pub mod Composing
 pub mod Creating
 pub mod Images
-pub mod States
+pub mod Seeing
+pub mod Heads
+pub mod Stepping
 pub mod Written
 pub mod ReadingOn
 pub mod Fits

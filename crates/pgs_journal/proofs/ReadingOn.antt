@@ -3,9 +3,8 @@ use Rattle.std.proofs.Common.{◌≡◌, ℕ, zero, suc, ◌+◌, ◌≤◌, ◌
 use Rattle.std.proofs.lemmas.Bool.Decides.{nat_tests}
 use Rattle.std.proofs.lemmas.List.{append-nil}
 use Rattle.byteorder.specs.Endian.{big_number, big_bytes}
-use Rattle.pgs_journal.specs.declared.records.Found.{Found}
 use Rattle.pgs_journal.specs.Format.{First, is_open, open_records}
-use Rattle.pgs_journal.specs.Reading.{Next, Closed, Torn, Whole, record_of, next_of, after_one, found_at, records_within}
+use Rattle.pgs_journal.specs.Reading.{Found, Next, Closed, Torn, Whole, record_of, next_of, after_one, found_at, records_within}
 
 unfoldable pub payload_in : Next → List ℕ
 payload_in Closed = []
@@ -46,47 +45,3 @@ whole_size number (gate ∷ bytes) payload rest is = some (is_open gate) is
     some : (b : Bool) → (if b then record_of First number bytes else Closed) ≡ Whole payload rest → (length (gate ∷ bytes) ≡ 9 + length payload + length rest) × (1 ≤ length rest)
     some true same = inside (nat_lt (8 + big_number 8 bytes) (length bytes)) refl same
     some false same = absurd (let h : false ≡ true = ap is_whole same in cc)
-
-found_same : (next : Next) (f g : List ℕ → Found) → ((payload rest : List ℕ) → next ≡ Whole payload rest → f rest ≡ g rest) → found_at next f ≡ found_at next g
-found_same Closed f g same = refl
-found_same Torn f g same = refl
-found_same (Whole payload rest) f g same = ap (after_one payload) (same payload rest refl)
-
--- more steps than bytes read all records
-pub same_fuel : (k m number : ℕ) (bytes : List ℕ) → length bytes < k → length bytes < m → records_within First k number bytes ≡ records_within First m number bytes
-same_fuel zero m number bytes one two = absurd (omega arith)
-same_fuel (suc k) zero number bytes one two = absurd (omega arith)
-same_fuel (suc k) (suc m) number bytes one two =
-    found_same (next_of First number bytes) (λ rest. records_within First k (suc number) rest) (λ rest. records_within First m (suc number) rest)
-    (λ payload rest is. let size = whole_size number bytes payload rest is in same_fuel k m (suc number) rest (omega (arith, size.0, one)) (omega (arith, size.0, two)))
-
--- these payloads, and then those that were found
-abbrev pub prepend : List (List ℕ) → Found → Found
-prepend payloads found = record { payloads = payloads ++ found.payloads; ended = found.ended }
-
-abbrev found_with : Bool → List (List ℕ) → Found
-found_with ended payloads = record { payloads = payloads; ended = ended }
-
--- one record more was read
-pub read_on : (payloads : List (List ℕ)) (payload bytes rest : List ℕ) (all : Found) → length bytes ≡ 9 + length payload + length rest
-    → ((most number : ℕ) → records_within First (suc most) number bytes ≡ after_one payload (records_within First most (suc number) rest))
-    → prepend payloads (records_within First (suc (length bytes)) (suc (length payloads)) bytes) ≡ all
-    → prepend (payloads ++ payload ∷ []) (records_within First (suc (length rest)) (suc (length (payloads ++ payload ∷ []))) rest) ≡ all
-read_on payloads payload bytes rest all size whole before =
-    let count : suc (length (payloads ++ payload ∷ [])) ≡ suc (suc (length payloads)) = omega (arith, length-append payloads (payload ∷ [])) in
-    ap (λ n. prepend (payloads ++ payload ∷ []) (records_within First (suc (length rest)) n rest)) count
-    ∙ ap (λ f. prepend (payloads ++ payload ∷ []) f) (same_fuel (suc (length rest)) (length bytes) (suc (suc (length payloads))) rest (omega arith) (omega (arith, size)))
-    ∙ ap (found_with (records_within First (length bytes) (suc (suc (length payloads))) rest).ended) (append_assoc payloads (payload ∷ []) (records_within First (length bytes) (suc (suc (length payloads))) rest).payloads)
-    ∙ sym (ap (prepend payloads) (whole (length bytes) (suc (length payloads)))) ∙ before
-
--- the bytes of one record more
-pub length-push : (number : ℕ) (payloads : List (List ℕ)) (payload : List ℕ) → length (open_records First number (payloads ++ payload ∷ [])) ≡ length (open_records First number payloads) + 9 + length payload
-length-push number [] payload = omega (arith, length-append (big_bytes 8 (length payload) ++ payload) [])
-length-push number (first ∷ payloads) payload =
-    omega (arith, length-push (suc number) payloads payload, length-append first (open_records First (suc number) (payloads ++ payload ∷ [])), length-append first (open_records First (suc number) payloads))
-
--- no record is behind a gate that ends the reading
-pub read_all : (payloads : List (List ℕ)) (bytes : List ℕ) (ended : Bool) (all : Found) → records_within First (suc (length bytes)) (suc (length payloads)) bytes ≡ record { payloads = []; ended = ended }
-    → prepend payloads (records_within First (suc (length bytes)) (suc (length payloads)) bytes) ≡ all → record { payloads = payloads; ended = ended } ≡ all
-read_all payloads bytes ended all none before =
-    ap (found_with ended) (sym (append-nil payloads)) ∙ sym (ap (prepend payloads) none) ∙ before

@@ -5,8 +5,9 @@ use Rattle.pgs_codec.specs.Places.{is_payload_of, is_schema, is_txn, is_snapshot
 use Rattle.pgs_journal.specs.declared.area_state.AreaState.{AreaState}
 use Rattle.pgs_journal.specs.declared.area_state.AreaState.TheVariants.{NoStore, Foreign, Damaged, Store}
 use Rattle.pgs_journal.specs.Format.{Format, is_open, is_epoch, magic, opened, Holds}
-use Rattle.pgs_journal.specs.declared.records.Found.{Found}
-use Rattle.pgs_journal.specs.Reading.{records_in}
+use Rattle.pgs_journal.specs.declared.head.Head.{Head}
+use Rattle.pgs_journal.specs.declared.head.Head.TheVariants as heads
+use Rattle.pgs_journal.specs.Reading.{Next, Closed, Torn, Whole, Found, records_in}
 
 -- the first byte is an open gate
 abbrev pub opens : List ℕ → Bool
@@ -29,12 +30,28 @@ epoch_of image = big_number 8 (drop 8 image)
 abbrev pub has_head : Format → List ℕ → Bool
 has_head format image = bytes_eq (take 7 (drop 1 image)) (magic format) && is_epoch (epoch_of image)
 
+-- what the head of an area says of it
+abbrev pub head_of : Format → List ℕ → Head
+head_of format image =
+    if is_no_store image then heads.NoStore
+    else (if has_head format image then heads.Store (epoch_of image) else heads.Foreign)
+
+-- the same of an area of this length, by its first 17 bytes
+abbrev pub head_in : Format → ℕ → List ℕ → Head
+head_in format len front = if nat_lt len 17 then heads.NoStore else head_of format front
+
 -- A payload is fit for its place: record 1 is a schema, record 2 may be a snapshot after no more commits than the stores
 -- before this one may have, and every other record is a transaction.
 unfoldable pub is_fit : ℕ → ℕ → List ℕ → Bool
 is_fit epoch number payload =
     if nat_eq number 1 then is_payload_of is_schema payload
     else (is_payload_of is_txn payload || (nat_eq number 2 && is_payload_of (is_snapshot_within ((epoch - 1) * 2 ^ 40)) payload))
+
+-- what stands at the gate of this number isn't damaged: the gate is closed, or the record is whole and fit for its place
+abbrev pub is_sound : ℕ → ℕ → Next → Bool
+is_sound epoch number Closed = true
+is_sound epoch number Torn = false
+is_sound epoch number (Whole payload rest) = is_fit epoch number payload
 
 -- the number of the first record that isn't fit for its place, of those from this number on
 abbrev pub first_unfit : ℕ → ℕ → List (List ℕ) → Option ℕ

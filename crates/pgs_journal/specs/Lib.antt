@@ -3,4 +3,5 @@ pub mod Bounds
 pub mod Format
 pub mod Reading
 pub mod Samples
+pub mod Seen
 pub mod Stops

@@ -1,7 +1,6 @@
 -- How the records of an area are read from its first gate on.
-use Rattle.std.specs.Prelude.{ℕ, zero, suc, ◌+◌, true, false, List, [], ◌∷◌, length, take, drop, nat_lt, if◌then◌else◌}
+use Rattle.std.specs.Prelude.{ℕ, zero, suc, ◌+◌, Bool, true, false, List, [], ◌∷◌, length, take, drop, nat_lt, if◌then◌else◌}
 use Rattle.byteorder.specs.Endian.{big_number}
-use Rattle.pgs_journal.specs.declared.records.Found.{Found}
 use Rattle.pgs_journal.specs.Format.{Format, First, is_open}
 
 -- what stands at a gate
@@ -22,6 +21,11 @@ record_of First number bytes =
 abbrev pub next_of : Format → ℕ → List ℕ → Next
 next_of format number [] = Closed
 next_of format number (gate ∷ bytes) = if is_open gate then record_of format number bytes else Closed
+
+-- the payloads of the whole records from a gate on, and whether the gate behind them is closed
+pub record Found : Type 0 where
+  pub payloads : List (List ℕ)
+  pub ended : Bool
 
 -- the same with one payload before them
 abbrev pub after_one : List ℕ → Found → Found

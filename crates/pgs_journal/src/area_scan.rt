@@ -2,41 +2,53 @@ ghost use Rattle.std.specs.Prelude.{◌≡◌, ◌≤◌, ◌^◌, List, ℕ, le
 ghost use Rattle.pgs_journal.specs.Area.{area_state, HoldsStore};
 ghost use Rattle.pgs_journal.specs.Bounds.{IsBounded};
 ghost use Rattle.pgs_journal.specs.Format.{First};
+ghost use Rattle.pgs_journal.specs.Seen.{HasLength, Stand, Decide, IsStateOf};
 ghost use Rattle.pgs_world.specs.Count.{Rose};
 ghost use Rattle.pgs_world.specs.Moment.{IsQuiet, ShowsOne, MakesNoPut};
 ghost use Rattle.pgs_world.specs.World.{part};
 
-use crate::judging::state_of;
+use crate::head::{Front, Head};
+use crate::records::RecordReader;
 use crate::{AreaState, ScanFault};
-use pgs_base::Memory;
 use pgs_world::{Area, World};
 use std::alloc::Global;
 
-/// As many zeros.
-fn zeros(alloc: Global, count: usize) -> Result<Vec<u8>, Memory>
-    ensures { IfOk result (λ bytes. length bytes.items ≡ count) }
-{
-    Ok(vec![in alloc; 0; count]?)
-}
-
-/// The bytes of an area, by one read.
-fn read_area<W: World>(alloc: Global, world: &mut W, area: Area) -> Result<Vec<u8>, ScanFault>
-    ensures bytes { IfOk result (λ bytes. IsTrue (W.view world.old).tells_bytes → bytes.items ≡ part area (W.view world.old).shown) }
-    ensures limit { IfOk result (λ bytes. length bytes.items ≤ 2 ^ 40) }
+/// What an area is whose first bytes these are.
+fn scan_behind<W: World>(
+    alloc: Global,
+    world: &mut W,
+    front: &Front,
+) -> Result<AreaState, ScanFault>
+    requires limit { front.now.len ≤ 2 ^ 40 }
+    requires len { HasLength (W.view world.old) front.now.area front.now.len }
+    requires size { length front.now.bytes ≡ 17 }
+    requires bytes { 17 ≤ front.now.len → Stand (W.view world.old) front.now.area 0 front.now.bytes }
+    requires image { ShowsOne (W.view world.old) }
+    ensures decided { IfOk result (λ state. Decide (W.view world.old) front.now.area front.now.len 0 (IsStateOf state)) }
     ensures quiet { IsQuiet (W.view world.old) (W.view world.new) }
     ensures image { ShowsOne (W.view world.new) }
     ensures cause { result ≡ Err ScanFault.AreaFault → Rose (W.view world.old).area_faults (W.view world.new).area_faults }
     ensures no_cause { (result ≡ Err ScanFault.AreaFault → ⊥) → (W.view world.new).area_faults ≡ (W.view world.old).area_faults }
     ensures no_put { MakesNoPut (W.view world.old) (W.view world.new) }
 {
-    let len = world.len(area)?;
-    let mut bytes = zeros(alloc, len as usize)?;
-    world.read_at(area, 0, &mut bytes)?;
-    Ok(bytes)
+    match front.head() {
+        Head::NoStore => Ok(AreaState::NoStore),
+        Head::Foreign => Ok(AreaState::Foreign),
+        Head::Store { epoch } => {
+            let records = RecordReader {
+                area: front.area,
+                len: front.len,
+                epoch,
+            };
+            records.read_all(alloc, world, front.bytes[16])
+        }
+    }
 }
 
-/// What an area is, by one call for its length and one read of all its bytes; no write and no sync. It takes memory for
-/// the bytes and for the payloads, whatever their length fields say.
+/// What an area is, with no write and no sync. Its length is asked, and its first 17 bytes are read where it has so many. Where
+/// its gate is open and its head a store's, its records are read one after the other, up to the closed gate or to the first that
+/// isn't whole or isn't fit for its place; nothing behind that is read. It takes memory for the payloads, and more of it only for
+/// one record at a time, whatever their length fields say.
 ///
 /// `Memory` may come wherever there is none. `AreaFault` comes only where the count of area faults rose.
 pub fn scan<W: World>(alloc: Global, world: &mut W, area: Area) -> Result<AreaState, ScanFault>
@@ -52,6 +64,6 @@ pub fn scan<W: World>(alloc: Global, world: &mut W, area: Area) -> Result<AreaSt
     ensures no_cause { (result ≡ Err ScanFault.AreaFault → ⊥) → (W.view world.new).area_faults ≡ (W.view world.old).area_faults }
     ensures no_put { MakesNoPut (W.view world.old) (W.view world.new) }
 {
-    let image = read_area(alloc, world, area)?;
-    Ok(state_of(alloc, &image)?)
+    let front = Front::read(world, area)?;
+    scan_behind(alloc, world, &front)
 }

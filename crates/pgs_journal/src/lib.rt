@@ -7,8 +7,8 @@
 
 mod area_scan;
 mod area_state;
+mod head;
 mod journal;
-mod judging;
 pub mod laws;
 mod records;
 pub mod samples;
@@ -17,5 +17,6 @@ mod steps;
 
 pub use area_scan::scan;
 pub use area_state::AreaState;
+pub use head::{Head, read_head};
 pub use journal::Journal;
 pub use scan_fault::ScanFault;

@@ -166,7 +166,7 @@ module _ (resolved : Resolved) (g : Graph) (pattern : Pattern) (valid : is_valid
             (id, row, refl, at, ap (λ (n : NodeId). Some (Node n)) (sym (one_node row.source a parts.0)), ap (λ (n : NodeId). Some (Node n)) (sym (one_node row.target c parts.1)))
     led edge source target h = absurd (true≢false (sym h))
 
-    abbrev IsPlaced : ℕ → ℕ → Bool → Type 0
+    abbrev pub IsPlaced : ℕ → ℕ → Bool → Type 0
     IsPlaced edge node source = (id : EdgeId) × (row : EdgeRow) × (slice_get elems edge ≡ Some (Edge id)) × (edge_at g id ≡ Some row)
         × (slice_get elems node ≡ Some (Node (cond source row.source row.target)))
 
@@ -181,7 +181,7 @@ module _ (resolved : Resolved) (g : Graph) (pattern : Pattern) (valid : is_valid
         by true at row one other = subst (λ v. slice_get elems v ≡ Some (Node row.source)) (eqb-true first node at) one
         by false at row one other = subst (λ v. slice_get elems v ≡ Some (Node row.target)) (eqb-true second node at) other
 
-    placed : (edge node : ℕ) (source : Bool) (atoms : List Atom) → list_any (has_end edge node source) atoms ≡ true → list_all (holds resolved g elems) atoms ≡ true → IsPlaced edge node source
+    pub placed : (edge node : ℕ) (source : Bool) (atoms : List Atom) → list_any (has_end edge node source) atoms ≡ true → list_all (holds resolved g elems) atoms ≡ true → IsPlaced edge node source
     placed edge node source [] has hold = absurd (true≢false (sym has))
     placed edge node source (Ends of first second ∷ atoms) has hold =
         let parts = and_parts (holds resolved g elems (Ends of first second)) _ hold in

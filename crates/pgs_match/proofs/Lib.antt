@@ -20,3 +20,5 @@ pub mod Values
 pub mod Along
 pub mod EdgeTypes
 pub mod Few
+pub mod Planning
+pub mod Walked

@@ -27,3 +27,7 @@ is_within g (suc edges) elem id =
 -- no node within so many edges of an element has a greater in-degree plus out-degree
 abbrev pub IsSparse : Graph → ℕ → Elem → ℕ → Type 0
 IsSparse g edges elem most = (id : NodeId) → is_within g edges elem id ≡ true → degree_of g id ≤ most
+
+-- each node at an element, the node itself or an end of the edge, is within so many edges of the element from which one goes
+abbrev pub IsNearTo : Graph → ℕ → Elem → Elem → Type 0
+IsNearTo g edges from elem = (id : NodeId) → is_at_element g elem id ≡ true → is_within g edges from id ≡ true

@@ -48,6 +48,14 @@ abbrev pub edge_passes : Resolved → Graph → List Atom → ℕ → EdgeRow �
 edge_passes resolved g atoms var row =
     list_all (pair_meets var (pair_of row.labels row.props)) atoms && list_all (triple_meets resolved var (triple_at g row)) atoms
 
+-- whether an element is of the kind of a variable, and its own pair passes what is asked of the variable but for an edge type, which
+-- is asked of the ends too
+abbrev pub own_passes : Resolved → Pattern → ℕ → Elem → NodeRow → Bool
+own_passes resolved pattern var (elems.Node id) own =
+    cond (is_node_var pattern.edge_vars var) (node_passes resolved pattern.atoms var own) false
+own_passes resolved pattern var (elems.Edge id) own =
+    cond (is_edge_var pattern.edge_vars var) (list_all (pair_meets var own) pattern.atoms) false
+
 -- what a variable is bound to by a node that is there and passes
 abbrev pub admitted_node : Resolved → Graph → List Atom → ℕ → NodeId → Option Bound
 admitted_node resolved g atoms var id =

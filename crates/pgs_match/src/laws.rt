@@ -3,7 +3,7 @@
 
 ghost use Rattle.std.specs.Prelude.{◌≡◌, ◌+◌, ◌*◌, ◌^◌, ◌<◌, ◌≤◌, ℕ, Bool, true, false, List, [], length, slice_get, Some};
 ghost use Rattle.std.specs.Option.{option_map_or};
-ghost use Rattle.std.specs.List.{list_any};
+ghost use Rattle.std.specs.List.{list_any, All};
 ghost use Rattle.pgs_base.specs.declared.element.Elem.{Elem};
 ghost use Rattle.pgs_base.specs.Graph.{Graph, is_graph};
 ghost use Rattle.pgs_syntax.specs.declared.key.Key.{Key};
@@ -16,7 +16,8 @@ ghost use Rattle.pgs_match.specs.declared.step.Step.{Step};
 ghost use Rattle.pgs_match.specs.Plans.{is_plan};
 ghost use Rattle.pgs_match.specs.declared.bindings.Bound.{Bound};
 ghost use Rattle.pgs_match.specs.Bounds.{with_bound, nothing_bound, stands_at};
-ghost use Rattle.pgs_match.specs.Near.{IsSparse};
+ghost use Rattle.pgs_match.specs.Near.{IsSparse, IsNearTo};
+ghost use Rattle.pgs_match.specs.Reached.{reached};
 ghost use Rattle.pgs_match.specs.Search.{completions, can_complete, gathered, most_steps};
 ghost use Rattle.pgs_match.specs.Tests.{admitted};
 
@@ -47,4 +48,14 @@ pub fn a_search_is_short_where_few_edges_are_near()
         var < length pattern.edge_vars → (plan : List Step) → is_plan pattern var plan ≡ true → (elem : Elem) (bound : Bound) →
         admitted resolved g pattern var elem ≡ Some bound → (edges most : ℕ) → edge_count pattern.edge_vars ≤ edges → IsSparse g edges elem most →
         length (completions resolved g pattern.atoms plan (with_bound nothing_bound var bound)) ≤ (most + 2) ^ edges }
+{}
+
+/// The elements that are reached from an element lie within as many edges of it as the pattern has edge variables, and they are few
+/// where no node near it has many edges.
+pub fn what_is_reached_is_near_and_few()
+    ensures near { (resolved : Resolved) (g : Graph) (pattern : Pattern) → is_valid_pattern pattern ≡ true → (var : ℕ) → var < length pattern.edge_vars →
+        (elem : Elem) (edges : ℕ) → edge_count pattern.edge_vars ≤ edges → All (IsNearTo g edges elem) (reached resolved g pattern var elem) }
+    ensures few { (resolved : Resolved) (g : Graph) (pattern : Pattern) → is_graph g ≡ true → is_valid_pattern pattern ≡ true → (var : ℕ) →
+        var < length pattern.edge_vars → (elem : Elem) (edges most : ℕ) → edge_count pattern.edge_vars ≤ edges → IsSparse g edges elem most →
+        length (reached resolved g pattern var elem) ≤ (most + 2) ^ edges }
 {}

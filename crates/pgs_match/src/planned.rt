@@ -93,7 +93,7 @@ impl PlannedKey {
     }
 
     /// A pattern of the key, which is valid.
-    pub(crate) fn pattern(&self, side: Side) -> &Pattern
+    pub fn pattern(&self, side: Side) -> &Pattern
         ensures pattern { result.now ≡ pattern_of side self.now }
         ensures valid { is_valid_key self.now ≡ true }
     {

@@ -1,5 +1,5 @@
 -- What is read as a key is one by the grammar.
-use Rattle.std.proofs.Common.{◌≡◌, ℕ, ℤ, ◌<◌, ◌≤◌, Bool, false, ◌||◌, List, [], ◌∷◌, length, Some, inl, inr, refl, sym, ap, subst, arith, codes, bytes_eq}
+use Rattle.std.proofs.Common.{◌≡◌, ℕ, ℤ, pos, negsuc, ◌<◌, ◌≤◌, Bool, false, ◌||◌, List, [], ◌∷◌, length, Some, inl, inr, refl, sym, ap, subst, arith, codes, bytes_eq, nat_le}
 use Rattle.std.proofs.lemmas.Option.{same_Some, cond_some}
 use Rattle.std.proofs.lemmas.Bool.{leb-true}
 use Rattle.std.proofs.lemmas.Slice.Eq.{bytes_eq-Decides}
@@ -14,9 +14,9 @@ use Rattle.pgs_syntax.specs.declared.raw.RawKey.{RawKey}
 use Rattle.pgs_syntax.specs.Valid.{are_distinct}
 use Rattle.pgs_parser.specs.Literal.{name, literal, text_in, IsDay}
 use Rattle.pgs_parser.specs.Production.{Production, ◌▸◌, ◌or◌, nothing, IsToken, here, sign, keyword, maybe, listed}
-use Rattle.pgs_parser.specs.Keys.{test, tests, names, place, node, arrow, step, path, paths, qualifier, qualifiers, expr, key, is_same_kind}
+use Rattle.pgs_parser.specs.Keys.{test, tests, names, place, node, arrow, step, path, paths, bound, bounds, qualifier, qualifiers, expr, key, is_same_kind}
 use Rattle.pgs_parser.specs.Reader.{a_name, a_keyword, the_sign, next, sign_at, keyword_at, name_at, maybe_at, listed_at, each_at, none_declared}
-use Rattle.pgs_parser.specs.KeyReaders.{text_value, number_value, keyword_value, value_of, value_at, day_of, day_at, literal_at, test_at, names_at, tests_at, name_if_at, place_at, node_at, edge_at, arrow_at, step_at, step_begins, path_at, paths_at, qualifier_at, qualifier_begins, qualifier_list_at, qualifiers_at, expr_at, exprs_at, key_at}
+use Rattle.pgs_parser.specs.KeyReaders.{text_value, number_value, keyword_value, value_of, value_at, day_of, day_at, literal_at, test_at, names_at, tests_at, name_if_at, place_at, node_at, edge_at, arrow_at, step_at, step_begins, path_at, paths_at, bound_of, bound_at, bounds_at, qualifier_at, qualifier_begins, qualifier_list_at, qualifiers_at, expr_at, exprs_at, key_at}
 use Rattle.pgs_parser.proofs.Digits.{in_range}
 use Rattle.pgs_parser.proofs.Items.{IsBegin}
 use Rattle.pgs_parser.proofs.Chains.{bind_some, either_way, chosen_way, holds, Took, TookAny, Sound, SoundAny, sign_sound, keyword_sound, name_sound, maybe_sound, listed_sound, commas_sound, listed_by, more_sound}
@@ -235,6 +235,40 @@ paths_sound = commas_sound (codes "FOR") path_at path path_sound
 
 -- ---- qualifiers
 
+is_bound : (value : Value) (number : ℕ) → bound_of value ≡ Some number → (value ≡ values.Int (pos number)) × (number ≤ 1000000)
+is_bound (values.Int (pos n)) number e =
+    let p = cond_some (nat_le n 1000000) n number e in
+    (ap (λ (k : ℕ). values.Int (pos k)) p.1, subst (λ k. k ≤ 1000000) p.1 (leb-true n 1000000 p.0))
+is_bound (values.Int (negsuc n)) number e = cc
+is_bound (values.Text text) number e = cc
+is_bound (values.Bool value) number e = cc
+is_bound (values.Date day) number e = cc
+
+bound_found : (tokens : List Lexeme) (x : ℕ × List Lexeme) → bound_at tokens ≡ Some x → Took bound tokens x × (x.0 ≤ 1000000)
+unfolding bound_at
+bound_found tokens x e =
+    let value = bind_some (value_at tokens) _ x e in
+    let number = bind_some (bound_of value.0.0) _ x value.2 in
+    let a = value_sound tokens value.0 value.1 in
+    let b = is_bound value.0.0 number.0 number.1 in
+    holds (λ (x : ℕ × List Lexeme). Took bound tokens x × (x.0 ≤ 1000000)) number.2
+    ((subst (λ v. literal v tokens value.0.1) b.0 a.0, omega arith), b.1)
+
+bounds_sound : Sound bounds_at bounds
+unfolding bounds_at
+bounds_sound tokens x e =
+    let least = bind_some (bound_at tokens) _ x e in
+    let dots = bind_some (sign_at ".." least.0.1) _ x least.2 in
+    let most = bind_some (bound_at dots.0) _ x dots.2 in
+    let last = bind_some (keyword_at "OF" most.0.1) _ x most.2 in
+    let ordered = cond_some (nat_le least.0.0 most.0.0) _ x last.2 in
+    let a = bound_found tokens least.0 least.1 in
+    let b = sign_sound ".." least.0.1 dots.0 dots.1 in
+    let c = bound_found dots.0 most.0 most.1 in
+    let d = keyword_sound "OF" most.0.1 last.0 last.1 in
+    subst (Took bounds tokens) ordered.1
+    ((leb-true _ _ ordered.0, c.1, (least.0.1, a.0.0, (dots.0, b.0, (most.0.1, c.0.0, d.0)))), omega (arith, a.0.1, b.1, c.0.1, d.1))
+
 pub qualifier_sound : Sound qualifier_at qualifier
 unfolding qualifier_at
 qualifier_sound tokens x e =
@@ -243,7 +277,15 @@ qualifier_sound tokens x e =
       | inl w ↦ holds P w.2 (keyword_sound "EXCLUSIVE" tokens w.0 w.1)
       | inr v ↦ elim (either_way (keyword_at "MANDATORY" tokens) _ _ x v.1) [
         | inl w ↦ holds P w.2 (keyword_sound "MANDATORY" tokens w.0 w.1)
-        | inr u ↦ let w = bind_some (keyword_at "SINGLETON" tokens) _ x u.1 in holds P w.2 (keyword_sound "SINGLETON" tokens w.0 w.1)
+        | inr u ↦ elim (either_way (keyword_at "SINGLETON" tokens) _ _ x u.1) [
+          | inl w ↦ holds P w.2 (keyword_sound "SINGLETON" tokens w.0 w.1)
+          | inr s ↦
+              let w = bind_some (keyword_at "COUNT" tokens) _ x s.1 in
+              let ends = bind_some (bounds_at w.0) _ x w.2 in
+              let a = keyword_sound "COUNT" tokens w.0 w.1 in
+              let b = bounds_sound w.0 ends.0 ends.1 in
+              holds P ends.2 ((w.0, a.0, b.0), omega arith)
+        ]
       ]
     ]
 

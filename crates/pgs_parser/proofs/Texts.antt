@@ -9,7 +9,7 @@ use Rattle.pgs_base.specs.DayForm.{day_in}
 use Rattle.pgs_base.specs.declared.value.Kind.TheVariants as kinds
 use Rattle.pgs_syntax.specs.declared.specification.Spec.{Word, Or, And, Opt}
 use Rattle.pgs_parser.specs.Production.{here}
-use Rattle.pgs_parser.specs.declared.qualifier.Qualifier.TheVariants.{Exclusive, Mandatory, Singleton}
+use Rattle.pgs_parser.specs.declared.qualifier.Qualifier.TheVariants.{Exclusive, Mandatory, Singleton, Count}
 use Rattle.pgs_parser.proofs.OneToken.{◌⟨◌⟩◌}
 use Rattle.pgs_parser.specs.Types.{named, parenthesised, plain, optional, one_unit, units, one_conj, conjs}
 use Rattle.pgs_parser.specs.Samples as samples
@@ -238,11 +238,17 @@ forms_found = is_script (omega arith) refl (record {
           _ ⟨ here (refl, refl) ⟩ here (refl, refl, omega arith)) ⟩ refl) ⟩ here (refl, refl)) ⟩
           here (refl, refl)) ⟩ refl) ⟩ refl) ⟩
           _ ⟨ (inr (
-            Exclusive ∷ Mandatory ∷ Singleton ∷ [],
+            Exclusive ∷ Mandatory ∷ Singleton ∷ Count 0 12 ∷ [],
             refl,
             refl,
             _ ⟨ here (refl, refl) ⟩
                 _ ⟨ (_ ⟨ inl (here (refl, refl)) ⟩ here (refl, refl)) ⟩ _ ⟨ (_ ⟨ inr refl ⟩ here (refl, refl)) ⟩
+                _ ⟨ (_ ⟨ inr refl ⟩ _ ⟨ here (refl, refl) ⟩ (
+                  omega arith,
+                  omega arith,
+                  _ ⟨ here (refl, refl, omega arith) ⟩
+                      _ ⟨ here (refl, refl) ⟩ _ ⟨ here (refl, refl, omega arith) ⟩ here (refl, refl),
+                )) ⟩
                 refl,
           )) ⟩ _ ⟨ (_ ⟨ (_ ⟨ here (refl, refl) ⟩ _ ⟨ here (refl, refl) ⟩ here (refl, refl)) ⟩
           _ ⟨ (_ ⟨ here (refl, refl) ⟩ _ ⟨ here (refl, refl) ⟩ refl) ⟩ refl) ⟩ refl) ⟩ refl) ⟩

@@ -1,5 +1,5 @@
 -- Keys of the grammar are read.
-use Rattle.std.proofs.Common.{◌≡◌, ℕ, ℤ, Bool, true, false, cond, List, [], ◌∷◌, length, ◌≤◌, Option, Some, None, inl, inr, refl, sym, ap, ◌∙◌, subst, codes, bytes_eq, arith}
+use Rattle.std.proofs.Common.{◌≡◌, ℕ, ℤ, pos, Bool, true, false, cond, List, [], ◌∷◌, length, ◌≤◌, Option, Some, None, inl, inr, refl, sym, ap, ◌∙◌, subst, codes, bytes_eq, arith}
 use Rattle.std.proofs.lemmas.Bool.{le-leb}
 use Rattle.std.specs.List.{list_all}
 use Rattle.std.specs.Str.Parse.{signed_digits_value}
@@ -18,11 +18,11 @@ use Rattle.pgs_syntax.specs.declared.raw.RawExpr.{RawExpr}
 use Rattle.pgs_syntax.specs.declared.raw.RawKey.{RawKey}
 use Rattle.pgs_parser.specs.Literal.{name, literal, text_in, IsDay}
 use Rattle.pgs_parser.specs.Production.{◌▸◌, ◌or◌, nothing, IsToken, here, sign, keyword, maybe, listed}
-use Rattle.pgs_parser.specs.Keys.{test, tests, names, place, node, arrow, step, path, paths, qualifier, qualifiers, expr, key}
+use Rattle.pgs_parser.specs.Keys.{test, tests, names, place, node, arrow, step, path, paths, bound, bounds, qualifier, qualifiers, expr, key}
 use Rattle.pgs_parser.specs.Reader.{Test, a_name, a_keyword, the_keyword, the_sign, next, sign_at, keyword_at, name_at, maybe_at, comma_unless, listed_at, none_declared}
-use Rattle.pgs_parser.specs.KeyReaders.{text_value, number_value, keyword_value, value_of, value_at, day_of, day_at, literal_at, test_at, names_at, tests_at, name_if_at, place_at, node_at, edge_at, arrow_at, step_at, step_begins, path_at, paths_at, qualifier_at, qualifier_begins, qualifier_list_at, qualifiers_at, expr_at, exprs_at, key_at}
+use Rattle.pgs_parser.specs.KeyReaders.{text_value, number_value, keyword_value, value_of, value_at, day_of, day_at, literal_at, test_at, names_at, tests_at, name_if_at, place_at, node_at, edge_at, arrow_at, step_at, step_begins, path_at, paths_at, bound_at, bounds_at, qualifier_at, qualifier_begins, qualifier_list_at, qualifiers_at, expr_at, exprs_at, key_at}
 use Rattle.pgs_parser.specs.declared.qualifier.Qualifier.{Qualifier}
-use Rattle.pgs_parser.specs.declared.qualifier.Qualifier.TheVariants.{Exclusive, Mandatory, Singleton}
+use Rattle.pgs_parser.specs.declared.qualifier.Qualifier.TheVariants.{Exclusive, Mandatory, Singleton, Count}
 use Rattle.pgs_parser.proofs.Digits.{within_range}
 use Rattle.pgs_parser.proofs.NextToken.{Fails, Passes, word, tells, fewer, next_sign, next_keyword, next_name, next_word}
 use Rattle.pgs_parser.proofs.Chains.{name_sound}
@@ -174,18 +174,43 @@ paths_read = commas_read {Inner = NoStep} "FOR" path_at path path_sound path_rea
 
 -- ---- qualifiers
 
+bound_read : (number : ℕ) (before after : List Lexeme) → bound number before after → number ≤ 1000000 → bound_at before ≡ Some (number, after)
+unfolding bound_at
+bound_read number _ after (here {token = t} asked) small =
+    let value = token_read (values.Int (pos number)) t tokens.Number after asked.0 (number_read (pos number) t.bytes asked.1 asked.2) in
+    let within = le-leb number 1000000 small in
+    rw (value, within) refl
+
+bounds_read : Complete Anything bounds_at bounds
+unfolding bounds_at
+bounds_read x before after (ordered, small, (a, h, (b, i, (c, j, k)))) f =
+    let least = bound_read x.0 before a h (omega arith) in
+    let most = bound_read x.1 b c j small in
+    let within = le-leb x.0 x.1 ordered in
+    rw (least, sign_read ".." i, most, keyword_read "OF" k, within) refl
+
 qualifier_read : Complete Anything qualifier_at qualifier
 unfolding qualifier_at
 qualifier_read Exclusive before after h f = rw (keyword_read "EXCLUSIVE" h, qualifier_at) refl
 qualifier_read Mandatory before after h f = rw (other "EXCLUSIVE" "MANDATORY" h refl, qualifier_at, keyword_read "MANDATORY" h) refl
 qualifier_read Singleton before after h f = rw (other "EXCLUSIVE" "SINGLETON" h refl, qualifier_at, other "MANDATORY" "SINGLETON" h refl, keyword_read "SINGLETON" h) refl
+qualifier_read (Count least most) before after (m, h, k) f =
+    rw (
+      other "EXCLUSIVE" "COUNT" h refl,
+      qualifier_at,
+      other "MANDATORY" "COUNT" h refl,
+      other "SINGLETON" "COUNT" h refl,
+      keyword_read "COUNT" h,
+      bounds_read (least, most) m after k tt,
+    ) refl
 
--- what a test tells of the three words, it tells of what begins a qualifier
+-- what a test tells of the four words, it tells of what begins a qualifier
 qualifier_first : (check : Test) (value : Bool) → ((bytes : List ℕ) → check tokens.Keyword bytes ≡ value) → (x : Qualifier) (before after : List Lexeme) →
     qualifier x before after → next check before ≡ value
 qualifier_first check value e Exclusive before after h = next_keyword check "EXCLUSIVE" h ∙ e (codes "EXCLUSIVE")
 qualifier_first check value e Mandatory before after h = next_keyword check "MANDATORY" h ∙ e (codes "MANDATORY")
 qualifier_first check value e Singleton before after h = next_keyword check "SINGLETON" h ∙ e (codes "SINGLETON")
+qualifier_first check value e (Count least most) before after h = next_keyword check "COUNT" h.1 ∙ e (codes "COUNT")
 
 qualifier_goes : (x : Qualifier) (before between after : List Lexeme) → (sign "," or nothing) before between → qualifier x between after →
     (qualifier_begins before ≡ Some between) × Unit {0}
@@ -219,6 +244,7 @@ no_identifier [] before after h = absurd h
 no_identifier (Exclusive ∷ xs) before after h = other "IDENTIFIER" "EXCLUSIVE" h.1 refl
 no_identifier (Mandatory ∷ xs) before after h = other "IDENTIFIER" "MANDATORY" h.1 refl
 no_identifier (Singleton ∷ xs) before after h = other "IDENTIFIER" "SINGLETON" h.1 refl
+no_identifier (Count least most ∷ xs) before after h = other "IDENTIFIER" "COUNT" h.1.1 refl
 
 qualifiers_read : Complete (Passes a_name) qualifiers_at qualifiers
 unfolding qualifiers_at qualifier_list_at

@@ -1,5 +1,5 @@
 -- How keys are read from tokens. Each reader answers for the production of its name in `Keys`.
-use Rattle.std.specs.Prelude.{ℕ, Bool, true, false, ◌||◌, List, [], ◌∷◌, length, Option, Some, None, if◌then◌else◌, nat_le, codes, bytes_eq, ℤ}
+use Rattle.std.specs.Prelude.{ℕ, Bool, true, false, ◌||◌, List, [], ◌∷◌, length, Option, Some, None, if◌then◌else◌, nat_le, codes, bytes_eq, ℤ, pos, negsuc}
 use Rattle.std.specs.Str.Parse.{signed_digits_value}
 use Rattle.pgs_base.specs.DayForm.{day_in}
 use Rattle.pgs_base.specs.Options.{◌>>=◌}
@@ -20,7 +20,7 @@ use Rattle.pgs_parser.specs.Reader.{Reader, a_name, a_keyword, the_sign, next, s
 use Rattle.pgs_parser.specs.Literal.{text_in}
 use Rattle.pgs_parser.specs.Keys.{all_asked, is_same_kind, asked_by}
 use Rattle.pgs_parser.specs.declared.qualifier.Qualifier.{Qualifier}
-use Rattle.pgs_parser.specs.declared.qualifier.Qualifier.TheVariants.{Exclusive, Mandatory, Singleton}
+use Rattle.pgs_parser.specs.declared.qualifier.Qualifier.TheVariants.{Exclusive, Mandatory, Singleton, Count}
 
 -- ---- literals
 
@@ -152,14 +152,38 @@ paths_at = listed_at (comma_unless (codes "FOR")) path_at
 
 -- ---- keys
 
+-- the bound that a value is
+abbrev pub bound_of : Value → Option ℕ
+bound_of (values.Int (pos number)) = if nat_le number 1000000 then Some number else None
+bound_of _ = None
+
+unfoldable pub bound_at : Reader ℕ
+bound_at tokens = do
+  value ← value_at tokens
+  number ← bound_of value.0
+  Some (number, value.1)
+
+-- bounds, and OF
+unfoldable pub bounds_at : Reader (ℕ × ℕ)
+bounds_at tokens = do
+  least ← bound_at tokens
+  rest ← sign_at ".." least.1
+  most ← bound_at rest
+  rest ← keyword_at "OF" most.1
+  if nat_le least.0 most.0 then Some ((least.0, most.0), rest) else None
+
 unfoldable pub qualifier_at : Reader Qualifier
 qualifier_at tokens = elim (keyword_at "EXCLUSIVE" tokens) [
   | Some rest ↦ Some (Exclusive, rest)
   | None ↦ elim (keyword_at "MANDATORY" tokens) [
     | Some rest ↦ Some (Mandatory, rest)
-    | None ↦ do
-      rest ← keyword_at "SINGLETON" tokens
-      Some (Singleton, rest)
+    | None ↦ elim (keyword_at "SINGLETON" tokens) [
+      | Some rest ↦ Some (Singleton, rest)
+      | None ↦ do
+        rest ← keyword_at "COUNT" tokens
+        bounds ← bounds_at rest
+        Some (Count bounds.0.0 bounds.0.1, bounds.1)
+    ]
   ]
 ]
 

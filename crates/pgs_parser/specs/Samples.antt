@@ -263,12 +263,12 @@ mail_script = script (
     (mail_key ∷ []) ∷ [])
 
 -- a text of many forms: ABSTRACT behind TYPE, parentheses, a quoted name, an arrow to the left, tests, qualifiers with
--- a comma and without
+-- a comma and without, and bounds
 abbrev pub forms_text : List ℕ
 forms_text =
     codes "CREATE NODE TYPE ABSTRACT (t: (A | B)? & `NODE` OPEN {OPTIONAL k DATE, OPEN}); "
     ++ codes "CREATE GRAPH TYPE h LOOSE IMPORTS g {(:t)<-[e]-(OPEN), "
-    ++ codes "FOR (x:t {k: DATE '2024-02-29', s: 'it''s', n: -5}) EXCLUSIVE, MANDATORY SINGLETON x.k, x};"
+    ++ codes "FOR (x:t {k: DATE '2024-02-29', s: 'it''s', n: -5}) EXCLUSIVE, MANDATORY SINGLETON COUNT 0..12 OF x.k, x};"
 
 abbrev pub forms_body : Spec (List ℕ)
 forms_body = And (
@@ -279,7 +279,7 @@ forms_body = And (
 abbrev pub forms_key : RawKey
 forms_key = record {
   place = 4;
-  qualifiers = qualifiers true true true;
+  qualifiers = record (qualifiers true true true) { count = Some (0, 12) };
   scope = alone (record {
     var = Some (codes "x");
     filter = record {

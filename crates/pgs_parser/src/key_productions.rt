@@ -6,9 +6,9 @@
 ghost use Rattle.std.specs.Prelude.{◌≡◌, ◌∷◌, codes, IsTrue, IsSome, ◌↔◌, true};
 ghost use Rattle.std.specs.List.{list_any};
 ghost use Rattle.pgs_syntax.specs.Valid.{are_distinct};
-ghost use Rattle.pgs_parser.specs.Keys.{all_asked, asked_by, is_same_kind};
+ghost use Rattle.pgs_parser.specs.Keys.{all_asked, asked_by, bounds_in, is_same_kind};
 ghost use Rattle.pgs_parser.specs.Reader.{listed_at, followed, none_declared, each_at, sign_at, keyword_at, comma_unless, after, the_sign, name_at, maybe_at};
-ghost use Rattle.pgs_parser.specs.KeyReaders.{literal_at, test_at, tests_rest_at, place_at, node_at, edge_at, arrow_at, step_at, step_begins, path_at, paths_at, qualifier_at, qualifier_begins, qualifier_list_at, qualifiers_at, expr_at, exprs_at, key_at};
+ghost use Rattle.pgs_parser.specs.KeyReaders.{literal_at, test_at, tests_rest_at, place_at, node_at, edge_at, arrow_at, step_at, step_begins, path_at, paths_at, bound_of, bound_at, bounds_at, qualifier_at, qualifier_begins, qualifier_list_at, qualifiers_at, expr_at, exprs_at, key_at};
 ghost use Rattle.pgs_parser.specs.Progress.{Reads, Moves};
 
 use crate::parser::Parser;
@@ -197,6 +197,31 @@ impl Parser<'_> {
         Ok(List::from_vec(paths))
     }
 
+    /// A number that may bound a count.
+    #[tactic(auto, unfolding(crate::specs::KeyReaders::bound_at))]
+    fn bound(&mut self) -> Result<u32, Unread>
+        ensures { Reads result self.new (bound_at self.old) }
+    {
+        let value = self.value()?;
+        bound_of(&value).ok_or(Unread::OtherForm)
+    }
+
+    /// The bounds of a COUNT, and OF.
+    #[tactic(auto, unfolding(crate::specs::KeyReaders::bounds_at))]
+    fn bounds(&mut self) -> Result<(u32, u32), Unread>
+        ensures { Reads result self.new (bounds_at self.old) }
+    {
+        let least = self.bound()?;
+        self.sign(b"..")?;
+        let most = self.bound()?;
+        self.keyword(b"OF")?;
+        if least <= most {
+            Ok((least, most))
+        } else {
+            Err(Unread::OtherForm)
+        }
+    }
+
     #[tactic(auto, unfolding(crate::specs::KeyReaders::qualifier_at))]
     fn qualifier(&mut self) -> Result<Qualifier, Unread>
         ensures { Reads result self.new (qualifier_at self.old) }
@@ -207,8 +232,12 @@ impl Parser<'_> {
         if self.passes_keyword(b"MANDATORY") {
             return Ok(Qualifier::Mandatory);
         }
-        self.keyword(b"SINGLETON")?;
-        Ok(Qualifier::Singleton)
+        if self.passes_keyword(b"SINGLETON") {
+            return Ok(Qualifier::Singleton);
+        }
+        self.keyword(b"COUNT")?;
+        let (least, most) = self.bounds()?;
+        Ok(Qualifier::Count(least, most))
     }
 
     /// Whether a qualifier has to follow, by a comma or a keyword.
@@ -264,6 +293,7 @@ impl Parser<'_> {
                 mandatory: true,
                 singleton: true,
                 exclusive: true,
+                count: None,
             })
         } else {
             self.qualifier_list()
@@ -339,6 +369,19 @@ impl Parser<'_> {
     }
 }
 
+/// The greatest number that may bound a count.
+const GREATEST: i64 = 1_000_000;
+
+/// The bound that a value is.
+fn bound_of(value: &Value) -> Option<u32>
+    ensures { result ≡ bound_of value.now }
+{
+    match value {
+        Value::Int(number) if *number >= 0 && *number <= GREATEST => Some(*number as u32),
+        _ => None,
+    }
+}
+
 fn is_same_kind(one: Qualifier, other: Qualifier) -> bool
     ensures { result ≡ is_same_kind one other }
 {
@@ -346,6 +389,7 @@ fn is_same_kind(one: Qualifier, other: Qualifier) -> bool
         (Qualifier::Exclusive, Qualifier::Exclusive) => true,
         (Qualifier::Mandatory, Qualifier::Mandatory) => true,
         (Qualifier::Singleton, Qualifier::Singleton) => true,
+        (Qualifier::Count(..), Qualifier::Count(..)) => true,
         _ => false,
     }
 }
@@ -356,13 +400,24 @@ fn has_kind(kind: Qualifier, written: &[Qualifier]) -> bool
     written.iter().any(|other| is_same_kind(kind, *other))
 }
 
-/// Whether no kind stands twice. As there are three kinds, this is at most four calls deep.
+/// Whether no kind stands twice. As there are four kinds, this is at most five calls deep.
 fn each_kind_once(written: &[Qualifier]) -> bool
     ensures { result ≡ are_distinct is_same_kind written.now }
 {
     match written {
         [] => true,
         [first, others @ ..] => !has_kind(*first, others) && each_kind_once(others),
+    }
+}
+
+/// The bounds of the first COUNT.
+fn bounds_in(written: &[Qualifier]) -> Option<(u32, u32)>
+    ensures { result ≡ bounds_in written.now }
+{
+    match written {
+        [] => None,
+        [Qualifier::Count(least, most), ..] => Some((*least, *most)),
+        [_, others @ ..] => bounds_in(others),
     }
 }
 
@@ -373,5 +428,6 @@ fn asked_by(written: &[Qualifier]) -> Qualifiers
         mandatory: has_kind(Qualifier::Mandatory, written),
         singleton: has_kind(Qualifier::Singleton, written),
         exclusive: has_kind(Qualifier::Exclusive, written),
+        count: bounds_in(written),
     }
 }

@@ -4,4 +4,6 @@ pub enum Qualifier {
     Exclusive,
     Mandatory,
     Singleton,
+    /// The least and the greatest number of key values.
+    Count(u32, u32),
 }

@@ -1,9 +1,13 @@
 -- The facts of a run, from those of its command.
 use Rattle.std.proofs.Common.{◌≡◌, ◌⊎◌, ℕ, ◌-◌, Bool, true, false, List, [], length, Option, Some, None, refl, sym, ap, subst, inl, inr, ◌∙◌}
 use Rattle.pgs_feed.specs.Places.{Place, lost_count}
+use Rattle.pgs_answer.specs.Lines.{words_refused_line}
+use Rattle.pgs_run_lines.specs.AreasKept.{KeepsAreas}
 use Rattle.pgs_run_lines.specs.Ending.{Faults, faults_of}
 use Rattle.pgs_run_lines.specs.Machine.{Told}
 use Rattle.pgs_run_lines.specs.Pieces.{Shown, ShowsAll, ShowsFirst, shown_of}
+use Rattle.pgs_run_lines.specs.Replies.{EndsReply}
+use Rattle.pgs_run_lines.proofs.Causes.{world_same}
 use Rattle.pgs_run_lines.proofs.RunEnds.{within_unread}
 use Rattle.pgs_run_lines.proofs.Showing.{shows_none}
 use Rattle.pgs_run_words.specs.declared.command.Command.{Command}
@@ -19,7 +23,7 @@ use Rattle.pgs_run_gen.specs.Answer.{IsAnswer as IsGenAnswer}
 use Rattle.pgs_run_saved.specs.Opening.{IsAnswer}
 use Rattle.pgs_run.specs.Run.{HasRunCause, RefusesWords}
 use Rattle.pgs_run.specs.Runs.{SourceState, Setting, Runs}
-use Rattle.pgs_run.specs.Told.{told_command}
+use Rattle.pgs_run.specs.Told.{told_command, told_of_words}
 
 -- the cause that a command's own clause tells
 pub cause_of : (command : Command) (old new : Faults) (status : Status) → HasCommandCause (reads_source (Some command)) (uses_areas (Some command)) old new status → HasRunCause (Some command) old new status
@@ -109,6 +113,25 @@ runs_reading command budget old new status reads ends takes read cause leaves fe
   leaves = leaves;
   fed = fed;
 }
+
+-- the line of refused words was put, or its put failed
+pub refuses_by : (old new : View) (status : Status) → EndsReply words_refused_line BadWords PutFault old status new → RefusesWords status
+refuses_by old new status (inl whole) = inl whole.0
+refuses_by old new status (inr torn) = inr (inl torn.0)
+
+refused_shown : (old new : View) (status : Status) → EndsReply words_refused_line BadWords PutFault old status new → Ends (shown_of old) told_of_words status (shown_of new)
+refused_shown old new status (inl whole) = subst (λ (s : Status). Ends (shown_of old) told_of_words s (shown_of new)) (sym whole.0) (whole.1, refl)
+refused_shown old new status (inr torn) = subst (λ (s : Status). Ends (shown_of old) told_of_words s (shown_of new)) (sym torn.0) torn.1
+
+refused_cause : (count : ℕ) (old new : View) (status : Status) → EndsReply words_refused_line BadWords PutFault old status new → HasRunCause None (faults_of count old) (faults_of count new) status
+refused_cause count old new status (inl whole) = subst (HasRunCause None (faults_of count old) (faults_of count new)) (sym whole.0) (refl, world_same count count old new refl whole.2)
+refused_cause count old new status (inr torn) = subst (HasRunCause None (faults_of count old) (faults_of count new)) (sym torn.0) (torn.2.0, refl, torn.2.2)
+
+pub runs_refused : (budget : ℕ) (source : SourceState) (old new : View) (places : List Place) (status : Status) → KeepsAreas old new → EndsReply words_refused_line BadWords PutFault old status new
+    → Runs None budget (record { source = source; view = old; places = places }) (record { source = source; view = new; places = places }) status
+runs_refused budget source old new places status areas ends =
+    runs_alone None budget source old new places places status refl (unread_refused status (refuses_by old new status ends)) (λ input known. refused_shown old new status ends)
+    (refused_cause source.faults old new status ends) areas refl
 
 -- no piece was put
 pub none_first : (start : Shown) (pieces : List (List ℕ)) → ShowsFirst start pieces start

@@ -12,8 +12,9 @@ use Rattle.pgs_run_base.specs.Ending.{Ends}
 use Rattle.pgs_run_base.specs.Run.{EndsAs, IsDisturbed, IsComplete}
 use Rattle.pgs_run_words.specs.Words.{command_of}
 use Rattle.pgs_run.specs.Command.{reads_source, IsTold}
-use Rattle.pgs_run.specs.Run.{IsUndisturbed, HasRunCause}
-use Rattle.pgs_run.specs.Runs.{Setting, Runs}
+use Rattle.pgs_run.specs.Headline.{KeepsPromise, faults_in, telling}
+use Rattle.pgs_run.specs.Run.{IsUndisturbed, HasRunCause, RefusesWords}
+use Rattle.pgs_run.specs.Runs.{Setting, SourceState, Runs}
 use Rattle.pgs_run.specs.Told.{told_command, told}
 use Rattle.pgs_run.proofs.Uncut.{IsUncut, uncut_command}
 
@@ -71,3 +72,64 @@ pub complete_of : (words : List (List ℕ)) (areas : Areas) (start now : Shown) 
 unfolding told
 complete_of words areas start now input budget lost status old new named short schema store none cause ends =
     complete_named (command_of words) areas start now input budget lost status old new named short schema store none cause ends
+
+-- ---- a fault is told
+
+told_read : (command : Option Command) (before now : Faults) (status : Status) → HasRunCause command before now status → (status ≡ ReadFault → ⊥) → now.reads ≡ before.reads
+told_read command before now Accepted cause other = ap (λ (f : Faults). f.reads) cause
+told_read command before now Refused cause other = ap (λ (f : Faults). f.reads) cause
+told_read command before now BadWords cause other = ap (λ (f : Faults). f.reads) cause.1
+told_read command before now SchemaRefused cause other = ap (λ (f : Faults). f.reads) cause
+told_read command before now StoreRefused cause other = ap (λ (f : Faults). f.reads) cause.1
+told_read command before now DiskFault cause other = cause.1.1
+told_read command before now ReadFault cause other = absurd (other refl)
+told_read command before now PutFault cause other = cause.1
+told_read command before now Memory cause other = ap (λ (f : Faults). f.reads) cause
+told_read command before now InputTooLong cause other = ap (λ (f : Faults). f.reads) cause
+
+told_put : (command : Option Command) (before now : Faults) (status : Status) → HasRunCause command before now status → (status ≡ PutFault → ⊥) → now.puts ≡ before.puts
+told_put command before now Accepted cause other = ap (λ (f : Faults). f.puts) cause
+told_put command before now Refused cause other = ap (λ (f : Faults). f.puts) cause
+told_put command before now BadWords cause other = ap (λ (f : Faults). f.puts) cause.1
+told_put command before now SchemaRefused cause other = ap (λ (f : Faults). f.puts) cause
+told_put command before now StoreRefused cause other = ap (λ (f : Faults). f.puts) cause.1
+told_put command before now DiskFault cause other = cause.1.2
+told_put command before now ReadFault cause other = cause.1.2
+told_put command before now PutFault cause other = absurd (other refl)
+told_put command before now Memory cause other = ap (λ (f : Faults). f.puts) cause
+told_put command before now InputTooLong cause other = ap (λ (f : Faults). f.puts) cause
+
+told_area : (command : Option Command) (before now : Faults) (status : Status) → HasRunCause command before now status → (status ≡ DiskFault → ⊥) → now.areas ≡ before.areas
+told_area command before now Accepted cause other = ap (λ (f : Faults). f.areas) cause
+told_area command before now Refused cause other = ap (λ (f : Faults). f.areas) cause
+told_area command before now BadWords cause other = ap (λ (f : Faults). f.areas) cause.1
+told_area command before now SchemaRefused cause other = ap (λ (f : Faults). f.areas) cause
+told_area command before now StoreRefused cause other = ap (λ (f : Faults). f.areas) cause.1
+told_area command before now DiskFault cause other = absurd (other refl)
+told_area command before now ReadFault cause other = cause.1.1
+told_area command before now PutFault cause other = cause.2
+told_area command before now Memory cause other = ap (λ (f : Faults). f.areas) cause
+told_area command before now InputTooLong cause other = ap (λ (f : Faults). f.areas) cause
+
+-- ---- all of it
+
+pub promised : (words : List (List ℕ)) (budget : ℕ) (old new : Setting) (status : Status) → Runs (command_of words) budget old new status → (command_of words ≡ None → RefusesWords status) → KeepsPromise words budget old new status
+promised words budget old new status runs refused = record {
+  shown = shown words budget old new status runs;
+  read_fault = λ input rest known is left_is fault. read_fault words budget old new status runs input known rest is left_is fault;
+  takes = runs.takes;
+  words_alone = λ reads. ap (λ (s : SourceState). s.left) (runs.unread reads);
+  words_no_fault = λ reads. ap (λ (s : SourceState). s.faults) (runs.unread reads);
+  no_command = refused;
+  read_to_end = runs.read_to_end;
+  cause = runs.cause;
+  read_fault_told = told_read (command_of words) (faults_in old) (faults_in new) status runs.cause;
+  put_fault_told = told_put (command_of words) (faults_in old) (faults_in new) status runs.cause;
+  area_fault_told = told_area (command_of words) (faults_in old) (faults_in new) status runs.cause;
+  exact = λ input known. exact_of (shown_of old.view) (shown_of new.view) (telling words old new input budget) status (shown words budget old new status runs input known);
+  complete = λ input known named short schema store none.
+      complete_of words (areas_of old.view) (shown_of old.view) (shown_of new.view) input budget (lost_count new.places) status (faults_in old) (faults_in new) named short schema store none runs.cause
+      (shown words budget old new status runs input known);
+  leaves = runs.leaves;
+  fed = runs.fed;
+}

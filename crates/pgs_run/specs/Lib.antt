@@ -1,4 +1,5 @@
 pub mod Command
+pub mod Headline
 pub mod Leaving
 pub mod Run
 pub mod Runs

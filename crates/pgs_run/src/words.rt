@@ -11,13 +11,13 @@ use pgs_answer::words_refused_line;
 use pgs_base::{Memory, Words};
 use pgs_feed::FeedList;
 use pgs_run_base::Status;
-use pgs_run_lines::put_piece;
+use pgs_run_lines::{Reply, put_reply};
 use pgs_run_words::Command;
 use pgs_world::{Feed, Source, World};
 use std::alloc::Global;
 
 // The command that the words name.
-fn named(alloc: Global, words: &Words) -> Result<Option<Command>, Memory>
+fn command_of(alloc: Global, words: &Words) -> Result<Option<Command>, Memory>
     ensures command { IfOk result (λ command. command ≡ command_of words.now) }
     ensures in_range { IfOk result (λ command. IfSome command IsInRange) }
 {
@@ -33,13 +33,15 @@ fn refuse_words<W: World>(alloc: Global, world: &mut W) -> Status
     ensures runs { (budget : ℕ) (left : Option (List ℕ)) (faults : ℕ) (places : List Place) → Runs None budget
         (setting_of left faults (W.view world.old) places) (setting_of left faults (W.view world.new) places) result }
 {
-    let piece = match words_refused_line(alloc) {
-        Ok(piece) => piece,
-        Err(_) => return Status::Memory,
-    };
-    match put_piece::<Status, W>(world, piece.as_slice()) {
-        Ok(()) => Status::BadWords,
-        Err(_) => Status::PutFault,
+    match words_refused_line(alloc) {
+        Ok(line) => put_reply(
+            world,
+            &Reply {
+                line,
+                status: Status::BadWords,
+            },
+        ),
+        Err(_) => Status::Memory,
     }
 }
 
@@ -58,7 +60,7 @@ pub fn run_words<S: Source, W: World, F: Feed>(
         (setting_of (S.left source.old) (S.faults source.old) (W.view world.old) (seen feeds.old))
         (setting_of (S.left source.new) (S.faults source.new) (W.view world.new) (seen feeds.new)) result }
 {
-    match named(alloc, words) {
+    match command_of(alloc, words) {
         Ok(Some(command)) => run_command(alloc, command, source, world, feeds, budget),
         Ok(None) => refuse_words(alloc, world),
         Err(_) => Status::Memory,

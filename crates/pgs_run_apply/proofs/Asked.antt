@@ -26,7 +26,7 @@ use Rattle.pgs_run_base.specs.declared.status.Status.{Status}
 use Rattle.pgs_run_base.specs.Session.{standard, decision_on}
 use Rattle.pgs_run_apply.specs.Asking.{Asks, IsDoneBy, is_early}
 use Rattle.pgs_run_apply.specs.Outcome.{IsPast, IsLeftBy, Takes, refusing, deciding}
-use Rattle.pgs_run_apply.specs.Putting.{PutsPiece}
+use Rattle.pgs_run_apply.proofs.Putting.{PutsPiece}
 use Rattle.pgs_run_apply.specs.Seen.{state_with}
 use Rattle.pgs_run_apply.specs.State.{ApplyState, HoldsStore}
 use Rattle.pgs_run_apply.proofs.Outcomes.{same_decision}

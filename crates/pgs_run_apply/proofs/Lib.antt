@@ -7,6 +7,7 @@ pub mod Lines
 pub mod Machine
 pub mod Opened
 pub mod Outcomes
+pub mod Putting
 pub mod RunEnds
 pub mod Running
 pub mod Same

@@ -12,7 +12,9 @@ use Rattle.pgs_run_lines.specs.declared.stop.Stop.TheVariants as stops
 use Rattle.pgs_run_lines.specs.Ending as lines
 use Rattle.pgs_run_lines.specs.Input.{kept_of}
 use Rattle.pgs_run_lines.specs.Machine.{Scene, Extent, Told, scene_of}
-use Rattle.pgs_run_lines.specs.Pieces.{Shown, ShowsAll, ShowsTorn, shown_of}
+use Rattle.pgs_run_lines.specs.Pieces.{Shown, ShowsAll, shown_of}
+use Rattle.pgs_run_lines.specs.Replies.{PutsReply}
+use Rattle.pgs_run_lines.proofs.Showing.{torn_puts}
 use Rattle.pgs_run_lines.specs.Run.{EndsBy}
 use Rattle.pgs_snapshot.specs.Choice.{chosen_area, chosen_epoch}
 use Rattle.pgs_store.specs.Stored.{StoreState}
@@ -32,7 +34,7 @@ use Rattle.pgs_violation.specs.Violations.{verdict}
 use Rattle.pgs_run_saved.specs.Opening.{saved_in}
 use Rattle.pgs_run_saved.specs.Refusing.{SavedStore}
 use Rattle.pgs_run_apply.specs.Applying.{applying, seen, Applies, IsDone as AreDone}
-use Rattle.pgs_run_apply.specs.Ending.{is_done, last_piece, PutsLast, StaysStill, EndsRun}
+use Rattle.pgs_run_apply.specs.Ending.{is_done, last_piece, StaysStill, EndsRun}
 use Rattle.pgs_run_apply.specs.Following.{all_append, pieces_cons, pieces_append}
 use Rattle.pgs_run_apply.specs.Left.{IsLeft, IsSavedAt, state_after_all, pieces_at, pieces_from}
 use Rattle.pgs_run_apply.specs.Run.{Saves, SavesAt, SavesAll, IsAppliedAt, IsCounted, FeedsTook, IsEven}
@@ -98,7 +100,7 @@ record IsPut (lost : ℕ) (stop : Stop Status) (old : View) (result : Status) (n
   pub done : IsDone status
   pub piece : List ℕ
   pub last : lost_pieces lost ≡ piece ∷ []
-  pub put : PutsLast piece status old result new
+  pub put : PutsReply piece status PutFault old result new
 
 -- nothing was put, and the status is as it was, or want of memory came behind a whole input
 abbrev IsUnput : Stop Status → View → Status → View → Type 0
@@ -132,7 +134,7 @@ last_passes lost stop old result new ends = by_last (last_piece (is_done stop) l
     by_last : (last : Option (List ℕ)) → EndsRun last (status_at stop) old result new → Passes old new
     by_last None at = at.1.quiet.passes
     by_last (Some piece) (inl none) = none.1.quiet.passes
-    by_last (Some piece) (inr put) = put.0
+    by_last (Some piece) (inr put) = put.areas.passes
 
 -- ---- what feeds took
 
@@ -145,13 +147,6 @@ counted_whole : (status : Status) (stop : Stop Status) (before now pieces : ℕ)
 counted_whole status stop before now pieces is (inl all) = all
 counted_whole status stop before now pieces is (inr torn) = absurd (let e : stops.Ended status ≡ stops.PutFault = sym is ∙ torn.0 in cc)
 
-torn_puts : (start now : Shown) (piece : List ℕ) → ShowsTorn start (piece ∷ []) now → now.puts ≡ start.puts
-torn_puts start now piece torn =
-    let parts : 1 ≡ length (torn.first ++ (torn.front ++ torn.back) ∷ torn.later) = ap length torn.parts in
-    let count = length-append torn.first ((torn.front ++ torn.back) ∷ torn.later) in
-    let puts = torn.puts in
-    omega arith
-
 counted_put : (lost : ℕ) (stop : Stop Status) (old new : View) (result : Status) (before pieces : ℕ) → IsPut lost stop old result new → AreCounted stop before old.puts pieces → IsCounted before new.puts pieces (length (lost_pieces lost)) result
 counted_put lost stop old new result before pieces at counted =
     let all = counted_whole at.status stop before old.puts pieces at.is counted in
@@ -159,7 +154,7 @@ counted_put lost stop old new result before pieces at counted =
     ⊎_elim
     (λ whole. let puts = whole.1.puts in inr (inr (omega arith)))
     (λ torn. let puts = torn_puts (shown_of old) (shown_of new) at.piece torn.1 in inl (omega arith))
-    at.put.2
+    at.put.ends
 
 -- ---- where the run ended by itself, or for want of memory
 
@@ -180,7 +175,7 @@ not_memory status (inr is) memory = cc
 
 put_no_memory : (lost : ℕ) (stop : Stop Status) (old new : View) (result : Status) → result ≡ Memory → IsPut lost stop old result new → ⊥
 put_no_memory lost stop old new result memory at =
-    ⊎_elim (λ whole. not_memory at.status at.done (sym whole.0 ∙ memory)) (λ torn. let e : PutFault ≡ Memory = sym torn.0 ∙ memory in cc) at.put.2
+    ⊎_elim (λ whole. not_memory at.status at.done (sym whole.0 ∙ memory)) (λ torn. let e : PutFault ≡ Memory = sym torn.0 ∙ memory in cc) at.put.ends
 
 -- the images hold the store
 held : (s : ApplyState) (view : View) → IsTrue view.tells_bytes → HoldsStore s view → IsSavedAt s view.shown
@@ -255,7 +250,7 @@ module _ (it : StoreState) (limits : it.guard.limits ≡ standard) (of_text : sc
     put_applied : IsPut lost stop now.view result new → EachSince (IsAppliedAt old.shown (saved_in it) input lost) now.view new
     put_applied at =
         each_step now.view new (Puts at.piece) (IsShown now.view.shown) (IsAppliedAt old.shown (saved_in it) input lost) honest
-        (λ d may. (still.a d may, still.b d may, run.passes.timed.output honest output d may)) follows at.put.1
+        (λ d may. (still.a d may, still.b d may, run.passes.timed.output honest output d may)) follows at.put.stops
       where
         honest : IsTrue now.view.honest
         honest = run.passes.honest ∙ (quiet.passes.honest ∙ settled.honest)
@@ -302,7 +297,7 @@ module _ (it : StoreState) (limits : it.guard.limits ≡ standard) (of_text : sc
     opened_stops timed known =
         ⊎_elim
         (λ unput. each_on old now.view new (IsAppliedAt old.shown (saved_in it) input lost) passes unput.0.quiet.passes so_far (each_quiet now.view new (IsAppliedAt old.shown (saved_in it) input lost) (passes.honest ∙ settled.honest) unput.0.quiet (each_now old now.view (IsAppliedAt old.shown (saved_in it) input lost) passes so_far)))
-        (λ put. each_on old now.view new (IsAppliedAt old.shown (saved_in it) input lost) passes put.put.0 so_far (put_applied put))
+        (λ put. each_on old now.view new (IsAppliedAt old.shown (saved_in it) input lost) passes put.put.areas.passes so_far (put_applied put))
         (last_of lost budget before left stop now.view new result by last)
       where
         passes : Passes old now.view

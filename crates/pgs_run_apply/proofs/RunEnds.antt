@@ -26,7 +26,7 @@ use Rattle.pgs_run_saved.specs.Opening.{saved_in}
 use Rattle.pgs_run_saved.specs.Refusing.{SavedStore}
 use Rattle.pgs_run_saved.proofs.Shown.{shown_quiet, same_faults, beside_reads}
 use Rattle.pgs_run_apply.specs.Applying.{applying}
-use Rattle.pgs_run_apply.specs.Ending.{is_done, last_piece, PutsLast, StaysStill, EndsRun}
+use Rattle.pgs_run_apply.specs.Ending.{is_done, last_piece, StaysStill, EndsRun}
 use Rattle.pgs_run_apply.specs.State.{ApplyState, state_after}
 use Rattle.pgs_run_apply.specs.Told.{after, lost_pieces, status_after, verdicts, all_lines, told_whole, told_input}
 use Rattle.pgs_run_apply.proofs.Standings.{first_state}
@@ -122,7 +122,7 @@ last_shown start pieces status result (Some piece) old new done shows (inr put) 
     ⊎_elim
     (λ whole. own_shown start (shown_of new) (told_of (pieces ++ piece ∷ []) status) result status whole.0 (done_shown start (shown_of new) (told_of (pieces ++ piece ∷ []) status) status done (shows_on start (shown_of old) (shown_of new) pieces (piece ∷ []) shows whole.1) refl))
     (λ torn. own_shown start (shown_of new) (told_of (pieces ++ piece ∷ []) status) result PutFault torn.0 (torn_on start (shown_of old) (shown_of new) pieces (piece ∷ []) shows torn.1))
-    put.2
+    put.ends
 
 -- where nothing was put last
 pub record IsLeft (status : Status) (old : View) (result : Status) (new : View) : Type 0 where
@@ -191,7 +191,7 @@ module _ (start : Shown) (input : List ℕ) (budget : ℕ) (before left : Option
 last_result : (last : Option (List ℕ)) (status result : Status) (old new : View) → EndsRun last status old result new → (result ≡ status) ⊎ ((result ≡ Memory) ⊎ (result ≡ PutFault))
 last_result None status result old new ends = inl ends.0
 last_result (Some piece) status result old new (inl none) = inr (inl none.0)
-last_result (Some piece) status result old new (inr put) = ⊎_elim (λ whole. inl whole.0) (λ torn. inr (inr torn.0)) put.2
+last_result (Some piece) status result old new (inr put) = ⊎_elim (λ whole. inl whole.0) (λ torn. inr (inr torn.0)) put.ends
 
 is_status : (status result other : Status) → (other ≡ Memory → ⊥) → (other ≡ PutFault → ⊥) → (result ≡ status) ⊎ ((result ≡ Memory) ⊎ (result ≡ PutFault)) → result ≡ other → status ≡ other
 is_status status result other no_memory no_fault (inl same) is = sym same ∙ is
@@ -315,7 +315,7 @@ module _ (start : Faults) (reads : ℕ) (old new : View) (same : faults_of reads
       ⊎_elim
       (λ whole. cause_as start (faults_of reads new) result status whole.0 (done_cause status done (beside_reads reads old new whole.2 ∙ same)))
       (λ torn. cause_as start (faults_of reads new) result PutFault torn.0 (subst (λ (f : Faults). PutsRose f (faults_of reads new)) same (torn.2.0, refl, torn.2.2)))
-      put.2
+      put.ends
 
 kept_cause : (start : Faults) (reads : ℕ) (old new : View) (status result : Status) → result ≡ status → StaysStill old new → Causes start (faults_of reads old) status → Causes start (faults_of reads new) result
 kept_cause start reads old new status result is still cause =

@@ -1,5 +1,7 @@
 -- The taking of a line, from what its calls do to the world.
 use Rattle.std.proofs.Common.{◌≡◌, ◌∙◌, inl, inr, ℕ, ◌+◌, List, [], ◌∷◌, ◌++◌, length, Result, Ok, Err, IsTrue, refl, sym, ap, subst, arith}
+use Rattle.std.specs.Result.{IsErrAnd}
+use Rattle.std.proofs.lemmas.Result.{err_from_is_err_and}
 use Rattle.pgs_feed.specs.Given.{AreGiven}
 use Rattle.pgs_feed.specs.Places.{Place}
 use Rattle.pgs_feed.proofs.Given.{given_none}
@@ -19,7 +21,7 @@ use Rattle.pgs_answer.specs.Lines.{refused_line}
 use Rattle.pgs_run_base.specs.declared.status.Status.{Status}
 use Rattle.pgs_run_apply.specs.Following.{saved_here}
 use Rattle.pgs_run_apply.specs.Outcome.{Outcome, IsPast, IsLeftBy, IsTaken, Takes, skipping, refusing}
-use Rattle.pgs_run_apply.specs.Putting.{IsPut, PutsPiece}
+use Rattle.pgs_run_apply.proofs.Putting.{IsPut, PutsPiece}
 use Rattle.pgs_run_apply.specs.State.{ApplyState, HoldsStore, with_refusal}
 
 -- ---- a put
@@ -130,6 +132,12 @@ take_none s o now view kept timed holds = record {
   taken = record { holds = holds; shows = shows_none (shown_of view); given = given_none kept; faults = refl };
   stops = here_left s o view timed holds;
 }
+
+-- a call that answers so
+pub take_untaken : {T : Type 0} (s : ApplyState) (o : Outcome) (result : Result T (Stop Status)) (now : ApplyState) (view : View) (kept : List Place) → IsErrAnd result (λ given. given ≡ stops.Memory)
+    → IsTimed view → HoldsStore s view → Takes s o result now (scene_of view kept) (scene_of view kept)
+take_untaken s o result now view kept handed timed holds =
+    let exit = err_from_is_err_and result handed in rw (exit.1, exit.2) (take_none s o now view kept timed holds)
 
 -- the line is skipped
 pub take_skipped : {T : Type 0} (s : ApplyState) (done : T) (view : View) (kept : List Place) → IsTimed view → HoldsStore s view

@@ -3,8 +3,10 @@ use Rattle.std.proofs.Common.{◌≡◌, ◌⊎◌, inl, inr, ⊎_elim, ℕ, ◌
 use Rattle.pgs_feed.specs.Places.{Place}
 use Rattle.pgs_feed.proofs.Given.{given_none}
 use Rattle.pgs_run_lines.specs.Ending.{Faults, PutsRose, AreasRose, faults_of}
+use Rattle.pgs_run_lines.specs.declared.reply.Reply.{Reply}
 use Rattle.pgs_run_lines.specs.Machine.{Told}
 use Rattle.pgs_run_lines.specs.Pieces.{Shown, ShowsAll, ShowsFirst, ShowsTorn, shown_of}
+use Rattle.pgs_run_lines.specs.Replies.{EndsReply}
 use Rattle.pgs_run_lines.proofs.RunEnds.{within_unread}
 use Rattle.pgs_run_lines.proofs.Showing.{shows_none}
 use Rattle.pgs_store.specs.Stored.{StoreState}
@@ -35,8 +37,8 @@ abbrev IsUnread : Status → Type 0
 IsUnread status = IsRefusal status ⊎ ((status ≡ DiskFault) ⊎ ((status ≡ Memory) ⊎ (status ≡ PutFault)))
 
 unread_by : (reason : Unopened) (old mid new : View) (result : Status) → Opens (Err reason) old mid → EndsUnopened reason mid result new → IsUnread result
-unread_by (unopened.Refused line status) old mid new result opens (inl put) = inl (subst IsRefusal (sym put.0) opens.0)
-unread_by (unopened.Refused line status) old mid new result opens (inr torn) = inr (inr (inr torn.0))
+unread_by (unopened.Refused reply) old mid new result opens (inl put) = inl (subst IsRefusal (sym put.0) opens.0)
+unread_by (unopened.Refused reply) old mid new result opens (inr torn) = inr (inr (inr torn.0))
 unread_by unopened.DiskFault old mid new result opens ends = inr (inl ends.0)
 unread_by unopened.Memory old mid new result opens ends = inr (inr (inl ends.0))
 
@@ -95,7 +97,7 @@ none_first start now pieces same =
     record { first = []; later = pieces; parts = refl; shows = subst (λ (s : Shown). ShowsAll start [] s) (sym same) (shows_none start) }
 
 module _ (old mid new : View) (quiet : IsQuiet old mid) (none : MakesNoPut old mid) where
-  refused_shown : (line : List ℕ) (status result : Status) → IsRefusal status → EndsUnopened (unopened.Refused line status) mid result new → Ends (shown_of old) (record { pieces = line ∷ []; status = status }) result (shown_of new)
+  refused_shown : (line : List ℕ) (status result : Status) → IsRefusal status → EndsReply line status PutFault mid result new → Ends (shown_of old) (record { pieces = line ∷ []; status = status }) result (shown_of new)
   refused_shown line status result refusal (inl put) =
       own_shown (shown_of old) (shown_of new) (record { pieces = line ∷ []; status = status }) result status put.0
       (refusal_shown (shown_of old) (shown_of new) (record { pieces = line ∷ []; status = status }) status refusal (subst (λ (s : Shown). ShowsAll s (line ∷ []) (shown_of new)) (shown_quiet old mid quiet none) put.1) refl)
@@ -106,10 +108,10 @@ module _ (old mid new : View) (quiet : IsQuiet old mid) (none : MakesNoPut old m
   kept_shown : PutsNothing mid new → shown_of new ≡ shown_of old
   kept_shown nothing = nothing.shown ∙ shown_quiet old mid quiet none
 
-  told_shown : (reason : Unopened) (result : Status) (told : Told Status) → ((line : List ℕ) (status : Status) → reason ≡ unopened.Refused line status → told ≡ record { pieces = line ∷ []; status = status })
+  told_shown : (reason : Unopened) (result : Status) (told : Told Status) → ((reply : Reply Status) → reason ≡ unopened.Refused reply → told ≡ record { pieces = reply.line ∷ []; status = reply.status })
       → Opens (Err reason) old mid → EndsUnopened reason mid result new → Ends (shown_of old) told result (shown_of new)
-  told_shown (unopened.Refused line status) result told tells opens ends =
-      subst (λ (t : Told Status). Ends (shown_of old) t result (shown_of new)) (sym (tells line status refl)) (refused_shown line status result opens.0 ends)
+  told_shown (unopened.Refused reply) result told tells opens ends =
+      subst (λ (t : Told Status). Ends (shown_of old) t result (shown_of new)) (sym (tells reply refl)) (refused_shown reply.line reply.status result opens.0 ends)
   told_shown unopened.DiskFault result told tells opens ends =
       own_shown (shown_of old) (shown_of new) told result DiskFault ends.0 (none_first (shown_of old) (shown_of new) told.pieces (kept_shown ends.1))
   told_shown unopened.Memory result told tells opens ends =
@@ -127,7 +129,7 @@ module _ (old mid new : View) (quiet : IsQuiet old mid) (none : MakesNoPut old m
   pub unopened_ends : (reason : Unopened) (result : Status) (go : ℕ → SavedStore → Told Status) (input : List ℕ) (budget : ℕ) (left : Option (List ℕ)) → IsTrue old.tells_bytes → left ≡ Some input
       → Opens (Err reason) old mid → EndsUnopened reason mid result new → EndsAs (λ bytes. told_of_areas (areas_of old) (go bytes)) (shown_of old) input budget left result (shown_of new)
   unopened_ends reason result go input budget left tells is opens ends = record {
-    shown = told_shown reason result (told_of_areas (areas_of old) (go budget)) (λ line status so. told_line line status so) opens ends;
+    shown = told_shown reason result (told_of_areas (areas_of old) (go budget)) (λ reply so. told_line reply so) opens ends;
     read_fault = λ rest left_is fault. absurd (never_read result unread fault);
     within = λ rest left_is. within_unread input rest budget left is left_is;
     too_long = λ rest left_is long. absurd (never_long result unread long);
@@ -136,8 +138,8 @@ module _ (old mid new : View) (quiet : IsQuiet old mid) (none : MakesNoPut old m
       unread : IsUnread result
       unread = unread_by reason old mid new result opens ends
 
-      told_line : (line : List ℕ) (status : Status) → reason ≡ unopened.Refused line status → told_of_areas (areas_of old) (go budget) ≡ record { pieces = line ∷ []; status = status }
-      told_line line status so = let at = subst (λ (r : Unopened). Opens (Err r) old mid) so opens in at.1 tells (go budget)
+      told_line : (reply : Reply Status) → reason ≡ unopened.Refused reply → told_of_areas (areas_of old) (go budget) ≡ record { pieces = reply.line ∷ []; status = reply.status }
+      told_line reply so = let at = subst (λ (r : Unopened). Opens (Err r) old mid) so opens in at.1 tells (go budget)
 
 -- ---- the cause
 
@@ -165,9 +167,9 @@ module _ (reads : ℕ) (old mid new : View) (none : MakesNoPut old mid) where
   still areas = same_faults reads old mid areas none.put_faults
 
   pub unopened_cause : (reason : Unopened) (result : Status) → Opens (Err reason) old mid → CountsFault (is_disk_fault {T = StoreState} (Err reason)) old mid → EndsUnopened reason mid result new → Causes (faults_of reads old) (faults_of reads new) result
-  unopened_cause (unopened.Refused line status) result opens counts (inl put) =
-      cause_as (faults_of reads old) (faults_of reads new) result status put.0 (refusal_cause (faults_of reads old) (faults_of reads new) status opens.0 (beside_reads reads mid new put.2 ∙ still counts))
-  unopened_cause (unopened.Refused line status) result opens counts (inr torn) =
+  unopened_cause (unopened.Refused reply) result opens counts (inl put) =
+      cause_as (faults_of reads old) (faults_of reads new) result reply.status put.0 (refusal_cause (faults_of reads old) (faults_of reads new) reply.status opens.0 (beside_reads reads mid new put.2 ∙ still counts))
+  unopened_cause (unopened.Refused reply) result opens counts (inr torn) =
       cause_as (faults_of reads old) (faults_of reads new) result PutFault torn.0 (put_after reads old mid new counts none.put_faults torn.2)
   unopened_cause unopened.DiskFault result opens counts ends =
       cause_as (faults_of reads old) (faults_of reads new) result DiskFault ends.0
@@ -179,7 +181,7 @@ module _ (reads : ℕ) (old mid new : View) (none : MakesNoPut old mid) where
 
 -- it isn't refused
 saved_opens : (reason : Unopened) (old mid : View) (it : SavedStore) → IsTrue old.tells_bytes → Saves it old.shown → Opens (Err reason) old mid → is_refusal reason ≡ false
-saved_opens (unopened.Refused line status) old mid it tells known opens = absurd (never_refused old it.text it.commits it.graph line status tells known.saves opens.1)
+saved_opens (unopened.Refused reply) old mid it tells known opens = absurd (never_refused old it.text it.commits it.graph reply.line reply.status tells known.saves opens.1)
 saved_opens unopened.DiskFault old mid it tells known opens = refl
 saved_opens unopened.Memory old mid it tells known opens = refl
 

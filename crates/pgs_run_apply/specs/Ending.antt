@@ -1,12 +1,10 @@
 -- How a run of `apply` ends behind its lines.
-use Rattle.std.specs.Prelude.{◌≡◌, ◌⊎◌, ℕ, ◌&&◌, ◌==◌, Bool, true, false, not, List, [], ◌∷◌, Option, Some, None, if◌then◌else◌}
+use Rattle.std.specs.Prelude.{◌≡◌, ◌⊎◌, ℕ, ◌&&◌, ◌==◌, Bool, true, false, not, List, Option, Some, None, if◌then◌else◌}
 use Rattle.pgs_answer.specs.Lines.{feeds_lost_line}
 use Rattle.pgs_run_lines.specs.declared.stop.Stop.{Stop}
 use Rattle.pgs_run_lines.specs.declared.stop.Stop.TheVariants as stops
-use Rattle.pgs_run_lines.specs.Ending.{PutsRose, faults_of}
-use Rattle.pgs_run_lines.specs.Pieces.{shown_of, ShowsAll, ShowsTorn}
-use Rattle.pgs_world.specs.Disk.{Puts}
-use Rattle.pgs_world.specs.Moment.{Passes, StopsBy, IsQuiet, MakesNoPut}
+use Rattle.pgs_run_lines.specs.Replies.{PutsReply}
+use Rattle.pgs_world.specs.Moment.{IsQuiet, MakesNoPut}
 use Rattle.pgs_world.specs.World.{View}
 use Rattle.pgs_run_base.specs.declared.status.Status.{Status}
 use Rattle.pgs_run_base.specs.declared.status.Status.TheVariants.{Accepted, Refused, PutFault, Memory}
@@ -21,13 +19,6 @@ is_done stop = false
 abbrev pub last_piece : Bool → ℕ → Option (List ℕ)
 last_piece done lost = if done && not (lost == 0) then Some (feeds_lost_line lost) else None
 
--- the piece was put, or its put failed
-abbrev pub PutsLast : List ℕ → Status → View → Status → View → Type 0
-PutsLast piece status old result new =
-    Passes old new × StopsBy (Puts piece) old new
-    × (((result ≡ status) × ShowsAll (shown_of old) (piece ∷ []) (shown_of new) × (faults_of 0 new ≡ faults_of 0 old))
-    ⊎ ((result ≡ PutFault) × ShowsTorn (shown_of old) (piece ∷ []) (shown_of new) × PutsRose (faults_of 0 old) (faults_of 0 new)))
-
 -- nothing was done to the world
 pub record StaysStill (old new : View) : Type 0 where
   pub quiet : IsQuiet old new
@@ -37,4 +28,4 @@ pub record StaysStill (old new : View) : Type 0 where
 -- Without a last piece the status is the answer. With one there was no memory for it, or it was put, or its put failed.
 abbrev pub EndsRun : Option (List ℕ) → Status → View → Status → View → Type 0
 EndsRun None status old result new = (result ≡ status) × StaysStill old new
-EndsRun (Some piece) status old result new = ((result ≡ Memory) × StaysStill old new) ⊎ PutsLast piece status old result new
+EndsRun (Some piece) status old result new = ((result ≡ Memory) × StaysStill old new) ⊎ PutsReply piece status PutFault old result new

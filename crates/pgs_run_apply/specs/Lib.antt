@@ -5,7 +5,6 @@ pub mod Ending
 pub mod Following
 pub mod Left
 pub mod Outcome
-pub mod Putting
 pub mod Rule
 pub mod Run
 pub mod Seen

@@ -13,13 +13,12 @@ ghost use Rattle.pgs_run_apply.specs.State.{HoldsStore};
 ghost use Rattle.pgs_run_apply.specs.Told.{status_after};
 
 use crate::asking::ask;
-use crate::putting::put_line;
 use pgs_answer::{committed_line, feed_line, refused_line, rejection_text};
 use pgs_base::{Bytes, Limits, Memory};
 use pgs_feed::FeedList;
 use pgs_graph::Txn;
 use pgs_run_base::{Status, TEXT_LIMIT, txn_of};
-use pgs_run_lines::{LineTaker, Stop, is_blank};
+use pgs_run_lines::{LineTaker, Stop, is_blank, put_piece};
 use pgs_store::Store;
 use pgs_violation::Rejection;
 use pgs_world::{Feed, World};
@@ -80,13 +79,10 @@ impl<F: Feed> Applying<F> {
             (scene_of (W.view world.old) (places F.taken F.faults self.old.feeds))
             (scene_of (W.view world.new) (places F.taken F.faults self.new.feeds)) }
     {
-        let line = match refused_line(alloc, self.number + 1, text) {
-            Ok(line) => line,
-            Err(_) => return Err(Stop::Memory),
-        };
+        let line = refused_line(alloc, self.number + 1, text)?;
         self.number += 1;
         self.refused = true;
-        put_line(world, line.as_slice())
+        put_piece(world, line.as_slice())
     }
 
     // The same of a transaction that is rejected.
@@ -103,10 +99,7 @@ impl<F: Feed> Applying<F> {
             (scene_of (W.view world.old) (places F.taken F.faults self.old.feeds))
             (scene_of (W.view world.new) (places F.taken F.faults self.new.feeds)) }
     {
-        let text = match rejection_text(alloc, rejection, &Limits::standard()) {
-            Ok(text) => text,
-            Err(_) => return Err(Stop::Memory),
-        };
+        let text = rejection_text(alloc, rejection, &Limits::standard())?;
         self.refuse(alloc, world, text.as_slice())
     }
 
@@ -126,15 +119,12 @@ impl<F: Feed> Applying<F> {
             (scene_of (W.view world.old) (places F.taken F.faults self.old.feeds))
             (scene_of (W.view world.new) (places F.taken F.faults self.new.feeds)) }
     {
-        let (verdict, feed) = match self.lines_of(alloc, txn) {
-            Ok(lines) => lines,
-            Err(_) => return Err(Stop::Memory),
-        };
+        let (verdict, feed) = self.lines_of(alloc, txn)?;
         match ask(&mut self.store, world, txn) {
             Ok(None) => {
                 self.feeds.deliver(feed.as_slice());
                 self.number += 1;
-                put_line(world, verdict.as_slice())
+                put_piece(world, verdict.as_slice())
             }
             Ok(Some(rejection)) => self.reject(alloc, world, &rejection),
             Err(stop) => Err(stop),

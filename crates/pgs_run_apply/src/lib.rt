@@ -7,7 +7,6 @@
 
 mod applying;
 mod asking;
-mod putting;
 mod run;
 
 pub use run::run_apply;

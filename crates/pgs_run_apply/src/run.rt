@@ -11,7 +11,7 @@ ghost use Rattle.pgs_run_base.specs.Images.{KeepsImages};
 ghost use Rattle.pgs_run_base.specs.Run.{IsRead, EndsAs, HasCommandCause, TakesWithin};
 ghost use Rattle.pgs_run_base.specs.Session.{standard};
 ghost use Rattle.pgs_run_saved.specs.Refusing.{SavedStore};
-ghost use Rattle.pgs_run_apply.specs.Ending.{EndsRun, PutsLast, is_done, last_piece};
+ghost use Rattle.pgs_run_apply.specs.Ending.{EndsRun, is_done, last_piece};
 ghost use Rattle.pgs_run_apply.specs.Run.{Saves, IsAppliedAt, FeedsTook, IsEven};
 ghost use Rattle.pgs_run_apply.specs.Told.{told_apply};
 
@@ -19,7 +19,7 @@ use crate::applying::Applying;
 use pgs_answer::feeds_lost_line;
 use pgs_feed::FeedList;
 use pgs_run_base::{Status, TEXT_LIMIT, status_at};
-use pgs_run_lines::{Stop, run_lines};
+use pgs_run_lines::{Reply, Stop, put_reply, run_lines};
 use pgs_run_saved::{end_unopened, open_store};
 use pgs_world::{Feed, Source, World};
 use std::alloc::Global;
@@ -31,16 +31,6 @@ fn is_whole(stop: Stop<Status>) -> bool
     matches!(stop, Stop::Ended(Status::Accepted | Status::Refused))
 }
 
-// Puts the last piece.
-fn put_last<W: World>(world: &mut W, piece: &[u8], status: Status) -> Status
-    ensures { PutsLast piece.now status (W.view world.old) result (W.view world.new) }
-{
-    match world.put(piece) {
-        Ok(()) => status,
-        Err(_) => Status::PutFault,
-    }
-}
-
 // Ends a run: puts the number of the lost feeds behind a whole input, where there are any, and gives the status.
 fn end_run<W: World>(alloc: Global, world: &mut W, stop: Stop<Status>, lost: u64) -> Status
     ensures { EndsRun (last_piece (is_done stop) lost) (status_at_stop stop) (W.view world.old) result (W.view world.new) }
@@ -50,7 +40,7 @@ fn end_run<W: World>(alloc: Global, world: &mut W, stop: Stop<Status>, lost: u64
         return status;
     }
     match feeds_lost_line(alloc, lost) {
-        Ok(line) => put_last(world, line.as_slice(), status),
+        Ok(line) => put_reply(world, &Reply { line, status }),
         Err(_) => Status::Memory,
     }
 }

@@ -2,7 +2,7 @@ ghost use Rattle.std.specs.Prelude.{◌≡◌};
 ghost use Rattle.pgs_run_base.specs.Ending.{status_at};
 ghost use Rattle.pgs_run_base.specs.ExitStatus.{status_number};
 
-use pgs_run_lines::Stop;
+use pgs_run_lines::{RunStatus, Stop};
 
 /// How a run ended. The number is the exit status of the program.
 #[derive(Clone, Copy, Debug, PartialEq, Eq)]
@@ -46,6 +46,16 @@ impl Status {
             Status::Memory => 8,
             Status::InputTooLong => 9,
         }
+    }
+}
+
+impl RunStatus for Status {
+    ghost use Rattle.pgs_run_base.specs.declared.status.Status.TheVariants.{PutFault};
+
+    ghost put_failed = { PutFault };
+
+    fn put_fault() -> Status {
+        Status::PutFault
     }
 }
 

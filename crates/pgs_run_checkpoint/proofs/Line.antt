@@ -1,5 +1,5 @@
 -- The one line of a run: which it is.
-use Rattle.std.proofs.Common.{◌≡◌, ℕ, ◌+◌, ◌≤◌, Bool, true, false, IsTrue, List, [], ◌∷◌, Option, Some, None, refl, sym, ◌∙◌, ap, ap₂, arith, eq-eqb}
+use Rattle.std.proofs.Common.{◌≡◌, ℕ, ◌+◌, ◌≤◌, Bool, true, false, IsTrue, List, [], ◌∷◌, Option, Some, None, refl, sym, ◌∙◌, ap, arith, eq-eqb}
 use Rattle.std.specs.Prelude.{◌==◌, if◌then◌else◌}
 use Rattle.std.proofs.lemmas.Bool.Decides.{nat_tests}
 use Rattle.pgs_answer.specs.Lines.{checkpoint_line, store_refused_line}
@@ -62,11 +62,9 @@ some_of epoch store line one accepted none =
     told.some accepted (same_head told.line line (sym told.one ∙ one) ∙ none)
 
 -- a line that is made so is the one that is told
-pub one_line : (it : StoreState) (epoch commits : ℕ) (line piece : List ℕ) → piece ≡ line → line ≡ checkpoint_line (epoch + 1) commits → epoch ≡ it.journal.epoch → commits ≡ it.guard.commits
-    → it.journal.epoch + 1 ≤ 16777215 → (told_in it).pieces ≡ piece ∷ []
-one_line it epoch commits line piece same made numbered counted below =
-    ap (λ (t : Told Status). t.pieces) (told_next it.journal.epoch (saved_in it) below)
-    ∙ ap (λ (l : List ℕ). l ∷ []) (sym (same ∙ made ∙ ap₂ (λ (e n : ℕ). checkpoint_line (e + 1) n) numbered counted))
+pub one_line : (it : StoreState) (line : List ℕ) → line ≡ checkpoint_line (it.journal.epoch + 1) it.guard.commits → it.journal.epoch + 1 ≤ 16777215 → (told_in it).pieces ≡ line ∷ []
+one_line it line made below =
+    ap (λ (t : Told Status). t.pieces) (told_next it.journal.epoch (saved_in it) below) ∙ ap (λ (l : List ℕ). l ∷ []) (sym made)
 
 pub not_accepted : (told : Told Status) (line : List ℕ) → told ≡ record { pieces = line ∷ []; status = statuses.StoreRefused } → told.status ≡ statuses.Accepted → ⊥
 not_accepted told line is accepted = cc

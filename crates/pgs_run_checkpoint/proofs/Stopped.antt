@@ -154,6 +154,6 @@ renews_opened it old mid new text commits graph is quiet passes leaves settled s
 -- no store that is saved is refused
 pub not_refused : (unopened : Unopened) (old mid : View) (text : List ℕ) (commits : ℕ) (graph : Graph) → Opens (Err unopened) old mid → IsTrue old.tells_bytes
     → saved standard old.shown.a old.shown.b ≡ store text commits graph → is_refusal unopened ≡ false
-not_refused (Refused line status) old mid text commits graph opens told saves = absurd (never_refused old text commits graph line status told saves opens.1)
+not_refused (Refused reply) old mid text commits graph opens told saves = absurd (never_refused old text commits graph reply.line reply.status told saves opens.1)
 not_refused DiskFault old mid text commits graph opens told saves = refl
 not_refused Memory old mid text commits graph opens told saves = refl

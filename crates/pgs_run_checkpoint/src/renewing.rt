@@ -1,4 +1,5 @@
-ghost use Rattle.std.specs.Prelude.{◌≡◌, ℕ, true, false, Some, IsTrue};
+ghost use Rattle.std.specs.Prelude.{◌≡◌, ◌+◌, ℕ, true, false, Some, IfOk, IsTrue};
+ghost use Rattle.pgs_answer.specs.Lines.{checkpoint_line};
 ghost use Rattle.pgs_run_lines.specs.Ending.{faults_of};
 ghost use Rattle.pgs_run_lines.specs.Pieces.{shown_of};
 ghost use Rattle.pgs_run_base.specs.Ending.{Ends};
@@ -9,15 +10,31 @@ ghost use Rattle.pgs_world.specs.Moment.{EachSince, Passes};
 ghost use Rattle.pgs_run_checkpoint.specs.Leaving.{Leaves};
 ghost use Rattle.pgs_run_checkpoint.specs.Told.{told_by};
 
-use crate::putting::{put_last, refuse};
+use crate::putting::refuse;
 use pgs_answer::checkpoint_line;
+use pgs_base::Memory;
 use pgs_run_base::Status;
+use pgs_run_lines::{Reply, put_reply};
 use pgs_store::{CheckpointFault, Store};
 use pgs_world::World;
 use std::alloc::Global;
 
-/// Renews a store on the world, and then puts the line that says so. The line is made first, so that there is no want of memory
-/// between the two.
+// The reply where a store is renewed.
+fn renewed_reply(alloc: Global, store: &Store) -> Result<Reply<Status>, Memory>
+    ensures { IfOk result (λ reply. reply ≡ record {
+      line = checkpoint_line (store.now.journal.epoch + 1) store.now.guard.commits;
+      status = Status.Accepted;
+    }) }
+{
+    let line = checkpoint_line(alloc, store.epoch() + 1, store.commits())?;
+    Ok(Reply {
+        line,
+        status: Status::Accepted,
+    })
+}
+
+/// Renews a store under which no area failed on the world, and then puts the line that says so. The line is made first, so that there
+/// is no want of memory between the two.
 pub(crate) fn renew<W: World>(alloc: Global, world: &mut W, store: &mut Store) -> Status
     requires whole { store.old.failed ≡ false }
     requires stands { StandsOn store.old.guard store.old.journal (W.view world.old) }
@@ -28,20 +45,19 @@ pub(crate) fn renew<W: World>(alloc: Global, world: &mut W, store: &mut Store) -
         → EachSince (Leaves store.old (W.view world.old)) (W.view world.old) (W.view world.new) }
     ensures passes { Passes (W.view world.old) (W.view world.new) }
 {
-    let line = match checkpoint_line(alloc, store.epoch() + 1, store.commits()) {
-        Ok(line) => line,
+    let reply = match renewed_reply(alloc, store) {
+        Ok(reply) => reply,
         Err(_) => return Status::Memory,
     };
     match store.checkpoint(world) {
         Ok(_) => {
             // What it promises of the new epoch: it is one of those that there are.
             store.epoch();
-            put_last(world, line.as_slice(), Status::Accepted)
+            put_reply(world, &reply)
         }
         Err(CheckpointFault::EpochsSpent) => refuse(alloc, world),
         Err(CheckpointFault::Memory) => Status::Memory,
         Err(CheckpointFault::DiskFault) => Status::DiskFault,
-        // It comes only where an earlier call on the store failed.
-        Err(CheckpointFault::NeedsReopen) => Status::DiskFault,
+        Err(CheckpointFault::NeedsReopen) => unreachable!(),
     }
 }

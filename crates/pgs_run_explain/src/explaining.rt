@@ -8,8 +8,8 @@ use crate::types::put_types;
 use pgs_answer::absent_line;
 use pgs_base::{Elem, Steps};
 use pgs_graph::GraphRead;
-use pgs_run_base::Status;
-use pgs_run_lines::{PutStop, put_made};
+use pgs_run_base::{Status, status_at};
+use pgs_run_lines::{Stop, put_made};
 use pgs_run_saved::StoreReader;
 use pgs_store::Store;
 use pgs_world::World;
@@ -43,7 +43,7 @@ fn put_present<W: World, L: Ledger>(
     store: &Store,
     elem: Elem,
     steps: &mut Steps<L>,
-) -> Result<(), PutStop>
+) -> Result<(), Stop<Status>>
     requires { is_some (carried store.now.guard.graph elem) ≡ true }
     ensures { Puts (W.view world.old) (explained store.now.guard.schema store.now.guard.graph elem).pieces result (W.view world.new) }
 {
@@ -59,7 +59,7 @@ fn put_explained<W: World, L: Ledger>(
     store: &Store,
     elem: Elem,
     blank: Blank,
-) -> Result<bool, PutStop>
+) -> Result<bool, Stop<Status>>
     requires name { blank.name ≡ L.name }
     requires parts { blank.parts ≡ L.parts }
     requires some { 0 < blank.parts }
@@ -84,8 +84,7 @@ impl StoreReader for Explaining {
         match put_explained::<W, Brand>(alloc, world, store, self.elem, Blank::new(1)) {
             Ok(true) => Status::Accepted,
             Ok(false) => Status::Refused,
-            Err(PutStop::PutFault) => Status::PutFault,
-            Err(PutStop::Memory) => Status::Memory,
+            Err(stop) => status_at(stop),
         }
     }
 }

@@ -8,7 +8,8 @@ ghost use Rattle.pgs_run_explain.specs.Explaining.{key_lines, key_numbers, keys_
 
 use pgs_answer::{key_scope_line, key_value_line};
 use pgs_base::{Elem, Steps, Tuple, TupleSet};
-use pgs_run_lines::{PutStop, put_made};
+use pgs_run_base::Status;
+use pgs_run_lines::{Stop, put_made};
 use pgs_store::Store;
 use pgs_world::World;
 use std::alloc::Global;
@@ -20,7 +21,7 @@ fn put_values<W: World>(
     world: &mut W,
     number: u32,
     values: &[Tuple],
-) -> Result<(), PutStop>
+) -> Result<(), Stop<Status>>
     ensures { Puts (W.view world.old) (map (key_value_line number) values.now) result (W.view world.new) }
 {
     for tuple in values {
@@ -35,7 +36,7 @@ fn put_scope<W: World>(
     world: &mut W,
     number: u32,
     values: &Option<TupleSet>,
-) -> Result<(), PutStop>
+) -> Result<(), Stop<Status>>
     ensures { Puts (W.view world.old) (key_lines number values.now) result (W.view world.new) }
 {
     match values {
@@ -55,7 +56,7 @@ fn put_key<W: World, L: Ledger>(
     number: u32,
     elem: Elem,
     steps: &mut Steps<L>,
-) -> Result<(), PutStop>
+) -> Result<(), Stop<Status>>
     requires from_one { 0 < number }
     requires in_range { number ≤ length store.now.guard.schema.guard.keys }
     ensures { Puts (W.view world.old)
@@ -72,7 +73,7 @@ pub(crate) fn put_keys<W: World, L: Ledger>(
     store: &Store,
     elem: Elem,
     steps: &mut Steps<L>,
-) -> Result<(), PutStop>
+) -> Result<(), Stop<Status>>
     ensures { Puts (W.view world.old)
         (keys_lines store.now.guard.schema store.now.guard.graph elem (key_numbers store.now.guard.schema)) result (W.view world.new) }
 {

@@ -6,7 +6,8 @@ ghost use Rattle.pgs_run_explain.specs.Explaining.{named, type_lines};
 
 use pgs_answer::type_line;
 use pgs_base::Name;
-use pgs_run_lines::{PutStop, put_made};
+use pgs_run_base::Status;
+use pgs_run_lines::{Stop, put_made};
 use pgs_syntax::{Resolved, TypeNo};
 use pgs_world::World;
 use std::alloc::Global;
@@ -33,7 +34,7 @@ fn put_type<W: World>(
     world: &mut W,
     resolved: &Resolved,
     type_no: TypeNo,
-) -> Result<(), PutStop>
+) -> Result<(), Stop<Status>>
     ensures { Puts (W.view world.old) (type_lines resolved.now (type_no ∷ [])) result (W.view world.new) }
 {
     match named(resolved, type_no) {
@@ -48,7 +49,7 @@ pub(crate) fn put_types<W: World>(
     world: &mut W,
     resolved: &Resolved,
     types: &[TypeNo],
-) -> Result<(), PutStop>
+) -> Result<(), Stop<Status>>
     ensures { Puts (W.view world.old) (type_lines resolved.now types.now) result (W.view world.new) }
 {
     for type_no in types {

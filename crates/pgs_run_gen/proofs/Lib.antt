@@ -1,3 +1,4 @@
 pub mod Decided
 pub mod Incoming
+pub mod Replied
 pub mod Telling

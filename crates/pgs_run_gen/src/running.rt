@@ -19,19 +19,12 @@ use pgs_answer::schema_refused_line;
 use pgs_base::{Bytes, Limits, Memory, Seed, Steps};
 use pgs_gen::schema;
 use pgs_run_base::{Status, refusal_of};
-use pgs_run_lines::put_piece;
+use pgs_run_lines::{Reply, put_reply};
 use pgs_store::Guard;
 use pgs_world::World;
 use std::alloc::Global;
 use std::marker::Brand;
 use std::sync::ledger::{Blank, Ledger};
-
-/// The one piece of a run, and the status after it.
-#[derive(Drop)]
-struct Outcome {
-    line: Bytes,
-    status: Status,
-}
 
 // The status of a run in which so many transactions were rejected.
 fn status_of(rejected: u64) -> Status
@@ -45,30 +38,30 @@ fn status_of(rejected: u64) -> Status
     }
 }
 
-// What comes of a workload by a new guard.
+// The reply of a workload by a new guard.
 fn decided_by<L: Ledger>(
     alloc: Global,
     guard: &mut Guard,
     start: u64,
     count: u64,
     blank: Blank,
-) -> Result<Outcome, Memory>
+) -> Result<Reply<Status>, Memory>
     requires name { blank.name ≡ L.name }
     requires parts { blank.parts ≡ L.parts }
     requires some { 0 < blank.parts }
     requires few { count ≤ 500000 }
     requires empty { guard.old.graph ≡ empty_graph }
     requires new { guard.old.commits ≡ 0 }
-    ensures line { IfOk result (λ outcome.
-        (told_of (decided guard.old.limits (verdict guard.old.schema) start count)).pieces ≡ outcome.line ∷ []) }
-    ensures status { IfOk result (λ outcome.
-        (told_of (decided guard.old.limits (verdict guard.old.schema) start count)).status ≡ outcome.status) }
-    ensures own { IfOk result (λ outcome. IsTold outcome.status) }
+    ensures line { IfOk result (λ reply.
+        (told_of (decided guard.old.limits (verdict guard.old.schema) start count)).pieces ≡ reply.line ∷ []) }
+    ensures status { IfOk result (λ reply.
+        (told_of (decided guard.old.limits (verdict guard.old.schema) start count)).status ≡ reply.status) }
+    ensures own { IfOk result (λ reply. IsTold reply.status) }
 {
     let mut steps: Steps<L> = Steps::begin(blank);
     let rejected = decide_workload(alloc, guard, start, count, &mut steps)?;
     let line = summary(alloc, guard.graph(), guard.commits(), rejected, &mut steps)?;
-    Ok(Outcome {
+    Ok(Reply {
         line,
         status: status_of(rejected),
     })
@@ -92,18 +85,18 @@ fn guard_of(alloc: Global, seed: Seed) -> Result<Result<Guard, Bytes>, Memory>
     }
 }
 
-// What comes of a workload, by tables that are hashed by a seed.
-fn outcome_of(alloc: Global, seed: Seed, start: u64, count: u64) -> Result<Outcome, Memory>
+// The reply of a workload, by tables that are hashed by a seed.
+fn reply_of(alloc: Global, seed: Seed, start: u64, count: u64) -> Result<Reply<Status>, Memory>
     requires { count ≤ 500000 }
-    ensures line { IfOk result (λ outcome. (told_gen start count).pieces ≡ outcome.line ∷ []) }
-    ensures status { IfOk result (λ outcome. (told_gen start count).status ≡ outcome.status) }
-    ensures own { IfOk result (λ outcome. IsTold outcome.status) }
+    ensures line { IfOk result (λ reply. (told_gen start count).pieces ≡ reply.line ∷ []) }
+    ensures status { IfOk result (λ reply. (told_gen start count).status ≡ reply.status) }
+    ensures own { IfOk result (λ reply. IsTold reply.status) }
 {
     match guard_of(alloc, seed)? {
         Ok(mut guard) => decided_by::<Brand>(alloc, &mut guard, start, count, Blank::new(1)),
         Err(refusal) => {
             let line = schema_refused_line(alloc, refusal.as_slice())?;
-            Ok(Outcome {
+            Ok(Reply {
                 line,
                 status: Status::SchemaRefused,
             })
@@ -120,12 +113,8 @@ pub fn run_gen<W: World>(alloc: Global, world: &mut W, start: u64, count: u64) -
     ensures cause { (reads : ℕ) → HasCommandCause false false (faults_of reads (W.view world.old)) (faults_of reads (W.view world.new)) result }
     ensures areas { KeepsAreas (W.view world.old) (W.view world.new) }
 {
-    let outcome = match outcome_of(alloc, world.seed(), start, count) {
-        Ok(outcome) => outcome,
-        Err(_) => return Status::Memory,
-    };
-    match put_piece::<Status, W>(world, outcome.line.as_slice()) {
-        Ok(()) => outcome.status,
-        Err(_) => Status::PutFault,
+    match reply_of(alloc, world.seed(), start, count) {
+        Ok(reply) => put_reply(world, &reply),
+        Err(_) => Status::Memory,
     }
 }

@@ -56,6 +56,14 @@ torn_one old new piece adds counted = record {
   puts = omega arith;
 }
 
+-- a put that failed isn't counted
+pub torn_puts : (start now : Shown) (piece : List ℕ) → ShowsTorn start (piece ∷ []) now → now.puts ≡ start.puts
+torn_puts start now piece torn =
+    let parts : 1 ≡ length (torn.first ++ (torn.front ++ torn.back) ∷ torn.later) = ap length torn.parts in
+    let count = length-append torn.first ((torn.front ++ torn.back) ∷ torn.later) in
+    let puts = torn.puts in
+    omega arith
+
 pub first_on : (start mid now : Shown) (xs ys : List (List ℕ)) → ShowsAll start xs mid → ShowsFirst mid ys now → ShowsFirst start (xs ++ ys) now
 first_on start mid now xs ys p q = record {
   first = xs ++ q.first;

@@ -3,23 +3,25 @@ use Rattle.std.proofs.Common.{◌≡◌, ℕ, ◌+◌, List, [], ◌∷◌, ◌+
 use Rattle.std.specs.Result.{IsErrAnd}
 use Rattle.std.proofs.lemmas.List.{take-append-drop, take_more}
 use Rattle.std.proofs.lemmas.Result.{err_from_is_err_and}
+use Rattle.pgs_run_lines.specs.declared.stop.Stop.{Stop}
+use Rattle.pgs_run_lines.specs.declared.stop.Stop.TheVariants as stops
 use Rattle.pgs_run_lines.specs.AreasKept.{keeps_none, keeps_on}
-use Rattle.pgs_run_lines.specs.Ending.{Faults, PutsRose}
-use Rattle.pgs_run_lines.specs.Pieces.{Shown, shown_of, ShowsAll}
-use Rattle.pgs_run_lines.proofs.Showing.{shows_none, shows_on, first_on, torn_on, first_of_more, torn_of_more}
+use Rattle.pgs_run_lines.specs.Ending.{Shows}
+use Rattle.pgs_run_lines.specs.Pieces.{Shown, shown_of}
+use Rattle.pgs_run_lines.specs.Puts.{PutsAll, PutsUntil, Puts, StopsPutting}
+use Rattle.pgs_run_lines.proofs.Causes.{cause_on}
+use Rattle.pgs_run_lines.proofs.Showing.{shows_none, shows_on, stop_on, first_of_more, torn_of_more}
 use Rattle.pgs_world.specs.Moment.{IsTimed}
 use Rattle.pgs_world.specs.World.{View}
-use Rattle.pgs_run_lines.specs.declared.made.PutStop.{PutStop}
-use Rattle.pgs_run_lines.specs.declared.made.PutStop.TheVariants as stops
-use Rattle.pgs_run_lines.specs.Puts.{PutsAll, ShowsUntil, IsCause, PutsUntil, Puts}
 
 -- nothing was put
 pub puts_none : (view : View) → IsTimed view → PutsAll view [] view
 puts_none view timed = record { shows = shows_none (shown_of view); faults = refl; areas = keeps_none view timed }
 
 -- there was no memory before the first piece
-pub stops_first : (view : View) → IsTimed view → (pieces : List (List ℕ)) → PutsUntil view pieces stops.Memory view
+pub stops_first : {E : Type 0} (view : View) → IsTimed view → (pieces : List (List ℕ)) → PutsUntil {E = E} view pieces stops.Memory view
 stops_first view timed pieces = record {
+  only = tt;
   shows = record { first = []; later = pieces; parts = refl; shows = shows_none (shown_of view) };
   cause = refl;
   areas = keeps_none view timed;
@@ -33,38 +35,38 @@ puts_on {old} {mid} {new} {xs} {ys} p q = record {
   areas = keeps_on old mid new p.areas q.areas;
 }
 
-until_on : (stop : PutStop) (start mid now : Shown) (xs ys : List (List ℕ)) → ShowsAll start xs mid → ShowsUntil mid ys stop now → ShowsUntil start (xs ++ ys) stop now
-until_on stops.PutFault start mid now xs ys p q = torn_on start mid now xs ys p q
-until_on stops.Memory start mid now xs ys p q = first_on start mid now xs ys p q
-
-cause_on : (stop : PutStop) (before mid now : Faults) → mid ≡ before → IsCause stop mid now → IsCause stop before now
-cause_on stops.PutFault before mid now same rose = subst (λ faults. PutsRose faults now) same rose
-cause_on stops.Memory before mid now same is = is ∙ same
-
 -- all these, and then some of those
-pub stops_on : {old mid new : View} {xs ys : List (List ℕ)} {stop : PutStop} → PutsAll old xs mid → PutsUntil mid ys stop new → PutsUntil old (xs ++ ys) stop new
-stops_on {old} {mid} {new} {xs} {ys} {stop} p q = record {
-  shows = until_on stop (shown_of old) (shown_of mid) (shown_of new) xs ys p.shows q.shows;
-  cause = cause_on stop _ _ _ p.faults q.cause;
+pub stops_on : {E : Type 0} {old mid new : View} {xs ys : List (List ℕ)} {stop : Stop E} → PutsAll old xs mid → PutsUntil mid ys stop new → PutsUntil old (xs ++ ys) stop new
+stops_on {E} {old} {mid} {new} {xs} {ys} {stop} p q = record {
+  only = q.only;
+  shows = stop_on stop (shown_of old) (shown_of mid) (shown_of new) xs ys p.shows q.shows;
+  cause = cause_on _ _ _ stop p.faults q.cause;
   areas = keeps_on old mid new p.areas q.areas;
 }
 
-until_more : (stop : PutStop) (start now : Shown) (pieces later : List (List ℕ)) → ShowsUntil start pieces stop now → ShowsUntil start (pieces ++ later) stop now
-until_more stops.PutFault start now pieces later p = torn_of_more start now pieces later p
-until_more stops.Memory start now pieces later p = first_of_more start now pieces later p
+until_more : {E : Type 0} (stop : Stop E) (start now : Shown) (pieces later : List (List ℕ)) → StopsPutting stop → Shows start pieces stop now → Shows start (pieces ++ later) stop now
+until_more (stops.Ended status) start now pieces later only p = absurd only
+until_more stops.ReadFault start now pieces later only p = absurd only
+until_more stops.AreaFault start now pieces later only p = absurd only
+until_more stops.PutFault start now pieces later only p = torn_of_more start now pieces later p
+until_more stops.Memory start now pieces later only p = first_of_more start now pieces later p
 
 -- some of these are some of more
-pub stops_in : {old new : View} {pieces : List (List ℕ)} {stop : PutStop} (later : List (List ℕ)) → PutsUntil old pieces stop new → PutsUntil old (pieces ++ later) stop new
-stops_in {old} {new} {pieces} {stop} later p =
-    record { shows = until_more stop (shown_of old) (shown_of new) pieces later p.shows; cause = p.cause; areas = p.areas }
+pub stops_in : {E : Type 0} {old new : View} {pieces : List (List ℕ)} {stop : Stop E} (later : List (List ℕ)) → PutsUntil old pieces stop new → PutsUntil old (pieces ++ later) stop new
+stops_in {E} {old} {new} {pieces} {stop} later p = record {
+  only = p.only;
+  shows = until_more stop (shown_of old) (shown_of new) pieces later p.only p.shows;
+  cause = p.cause;
+  areas = p.areas;
+}
 
 -- all these, and then those, as a call put them
-pub result_on : {T : Type 0} {old mid : View} {xs : List (List ℕ)} (new : View) (ys : List (List ℕ)) (result : Result T PutStop) → PutsAll old xs mid → Puts mid ys result new → Puts old (xs ++ ys) result new
+pub result_on : {T E : Type 0} {old mid : View} {xs : List (List ℕ)} (new : View) (ys : List (List ℕ)) (result : Result T (Stop E)) → PutsAll old xs mid → Puts mid ys result new → Puts old (xs ++ ys) result new
 result_on new ys (Ok done) p q = puts_on p q
 result_on new ys (Err stop) p q = stops_on p q
 
 -- what a call says that hands the stop on
-pub exits : {T : Type 0} {old new : View} {pieces : List (List ℕ)} {stop : PutStop} (result : Result T PutStop) → IsErrAnd result (λ given. given ≡ stop) → PutsUntil old pieces stop new → Puts old pieces result new
+pub exits : {T E : Type 0} {old new : View} {pieces : List (List ℕ)} {stop : Stop E} (result : Result T (Stop E)) → IsErrAnd result (λ given. given ≡ stop) → PutsUntil old pieces stop new → Puts old pieces result new
 exits result handed p = let exit = err_from_is_err_and result handed in rw (exit.1, exit.2) p
 
 -- the items before a place, and the one there
@@ -86,6 +88,6 @@ module _ {X : Type 0} (tells : List X → List (List ℕ)) (append : (xs ys : Li
   item_on {old} {mid} {new} p q = subst (λ all. PutsAll old all new) (sym next) (puts_on p q)
 
   -- or the putting stopped
-  pub item_stop : {old mid new : View} {stop : PutStop} → PutsAll old (tells (take place items)) mid → PutsUntil mid pieces stop new → PutsUntil old (tells items) stop new
-  item_stop {old} {mid} {new} {stop} p q =
+  pub item_stop : {E : Type 0} {old mid new : View} {stop : Stop E} → PutsAll old (tells (take place items)) mid → PutsUntil mid pieces stop new → PutsUntil old (tells items) stop new
+  item_stop {E} {old} {mid} {new} {stop} p q =
       subst (λ all. PutsUntil old all stop new) (sym parts) (stops_in (tells (drop (place + 1) items)) (stops_on p q))

@@ -7,6 +7,7 @@ pub mod Input
 pub mod Machine
 pub mod May
 pub mod Pieces
-pub mod Reading
-pub mod Run
 pub mod Puts
+pub mod Reading
+pub mod Replies
+pub mod Run

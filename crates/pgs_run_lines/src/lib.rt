@@ -5,23 +5,24 @@
 //! scenes that the machine's rule allows holds over the whole run. Nothing here knows a command or a status of the program.
 //!
 //! Pieces of output that are made one by one, each put as soon as it is made, go by `put_made`: `Puts` (`specs/Puts.antt`) says what a
-//! world shows of them, all or some first ones, and goes on from call to call (`proofs/Together.antt`).
+//! world shows of them, all or some first ones, and goes on from call to call (`proofs/Together.antt`). The one line of a run that is
+//! put last, with its status, goes by `put_reply`: `EndsReply` (`specs/Replies.antt`) says what comes of it.
 #![tactic(auto)]
 
 mod driving;
 mod line_buffer;
 mod lines;
-mod made;
 mod putting;
 mod reading;
+mod reply;
 mod run;
 mod stop;
 mod taker;
 
 pub use line_buffer::LineBuffer;
 pub use lines::{is_blank, line_end};
-pub use made::{PutStop, put_made};
-pub use putting::{put_piece, put_pieces};
+pub use putting::{put_made, put_piece, put_pieces};
+pub use reply::{Reply, RunStatus, put_reply};
 pub use run::run_lines;
 pub use stop::Stop;
 pub use taker::LineTaker;

@@ -1,11 +1,12 @@
 -- What a reply to a load says of the text and of the areas, and how a run ends that puts it.
-use Rattle.std.proofs.Common.{◌≡◌, inl, inr, ℕ, Bool, true, false, cond, IsTrue, IfOk, List, [], ◌∷◌, Some, None, Result, Ok, Err, refl, sym, ap, subst, ◌∙◌}
+use Rattle.std.proofs.Common.{◌≡◌, ℕ, Bool, true, false, cond, IsTrue, IfOk, List, [], ◌∷◌, Some, None, Result, Ok, Err, refl, sym, ap, subst, ◌∙◌}
 use Rattle.pgs_base.specs.declared.limits.Limits.{Limits}
 use Rattle.pgs_base.specs.declared.memory.Memory.{Memory as NoMemory}
+use Rattle.pgs_run_lines.specs.declared.reply.Reply.{Reply}
 use Rattle.pgs_run_lines.specs.Ending.{Faults, faults_of}
 use Rattle.pgs_run_lines.specs.Machine.{Told}
-use Rattle.pgs_run_lines.specs.Pieces.{Shown, shown_of, ShowsAll}
-use Rattle.pgs_run_lines.proofs.Causes.{world_same}
+use Rattle.pgs_run_lines.specs.Pieces.{Shown, shown_of}
+use Rattle.pgs_run_lines.specs.Replies.{EndsReply}
 use Rattle.pgs_resolve.specs.SchemaOf.{schema_of}
 use Rattle.pgs_snapshot.specs.Choice.{Choice, choice_of}
 use Rattle.pgs_snapshot.specs.Choice as choices
@@ -21,17 +22,17 @@ use Rattle.pgs_world.specs.World.{View}
 use Rattle.pgs_answer.specs.Lines.{schema_refused_line, store_refused_line}
 use Rattle.pgs_answer.specs.Refusals.{already_store_text, foreign_text}
 use Rattle.pgs_run_base.specs.declared.status.Status.{Status}
-use Rattle.pgs_run_base.specs.declared.status.Status.TheVariants.{Accepted, Refused, BadWords, SchemaRefused, StoreRefused, DiskFault, ReadFault, PutFault, Memory, InputTooLong}
+use Rattle.pgs_run_base.specs.declared.status.Status.TheVariants.{Accepted, SchemaRefused, StoreRefused, PutFault}
 use Rattle.pgs_run_base.specs.Answers.{schema_or_text, schema_answer}
 use Rattle.pgs_run_base.specs.Areas.{Areas, areas_of}
 use Rattle.pgs_run_base.specs.Ending.{Ends}
 use Rattle.pgs_run_base.specs.Input.{text_front}
 use Rattle.pgs_run_base.specs.Run.{HasCommandCause}
 use Rattle.pgs_run_base.specs.Session.{standard}
+use Rattle.pgs_run_base.proofs.Replied.{IsOwn, reply_cause, reply_ends}
 use Rattle.pgs_run_base.proofs.SameFronts.{schema_of_front}
 use Rattle.pgs_run_saved.specs.Refusing.{told_under, store_refused}
-use Rattle.pgs_run_load.specs.declared.replying.Reply.{Reply}
-use Rattle.pgs_run_load.specs.Replying.{Replies, EndsReply, with_status}
+use Rattle.pgs_run_load.specs.Replying.{Replies, with_status}
 use Rattle.pgs_run_load.specs.Told.{line_of, told_choice, told_text}
 
 -- the limits of the program
@@ -44,7 +45,7 @@ is_standard limits ops elements = ap (λ n. both n limits.elements) ops ∙ ap (
 -- ---- the reply is made
 
 -- a line with its status is the reply where it is so of the line; want of memory is no fault of an area
-pub replies_with : (loaded : Result StoreState LoadFault) (status : Status) (P : List ℕ → Type 0) (line : Result (List ℕ) NoMemory) (result : Result Reply Status)
+pub replies_with : (loaded : Result StoreState LoadFault) (status : Status) (P : List ℕ → Type 0) (line : Result (List ℕ) NoMemory) (result : Result (Reply Status) Status)
     → is_disk_fault loaded ≡ false → ((l : List ℕ) → P l → Replies (Ok (record { line = l; status = status })) loaded) → IfOk line P → result ≡ with_status line status → Replies result loaded
 replies_with loaded status P (Ok line) result no_fault follows is made = subst (λ r. Replies r loaded) (sym made) (follows line is)
 replies_with loaded status P (Err none) result no_fault follows is made = subst (λ r. Replies r loaded) (sym made) (rw no_fault refl)
@@ -73,11 +74,11 @@ told_store resolved (choices.damaged area epoch number) is = refl
 told_store resolved choices.no_store is = absurd is
 told_store resolved choices.foreign is = absurd is
 
-same_line : (reply : Reply) (line : List ℕ) (status : Status) → reply.line ≡ line → reply.status ≡ status → told_line line status ≡ told_line reply.line reply.status
+same_line : (reply : Reply Status) (line : List ℕ) (status : Status) → reply.line ≡ line → reply.status ≡ status → told_line line status ≡ told_line reply.line reply.status
 same_line reply line status same is = ap (λ l. told_line l status) (sym same) ∙ ap (told_line reply.line) (sym is)
 
 -- a reply is what is told
-pub tells_reply : (text input : List ℕ) (loaded : Result StoreState LoadFault) (reply : Reply) (old now : View) → text ≡ text_front input → IsTrue old.tells_bytes
+pub tells_reply : (text input : List ℕ) (loaded : Result StoreState LoadFault) (reply : Reply Status) (old now : View) → text ≡ text_front input → IsTrue old.tells_bytes
     → Loads loaded standard text old now → Replies (Ok reply) loaded → told_text input (areas_of old) ≡ told_line reply.line reply.status
 tells_reply text input (Ok store) reply old now front told loads replies =
     let is : schema_answer input ≡ Ok loads.resolved = answer_of_front text input front ∙ ap schema_or_text loads.of_text in
@@ -101,18 +102,11 @@ tells_reply text input (Err faults.DiskFault) reply old now front told loads rep
 
 -- ---- the status
 
--- the statuses of a reply
-abbrev pub IsReplied : Status → Type 0
-IsReplied Accepted = Unit {0}
-IsReplied SchemaRefused = Unit {0}
-IsReplied StoreRefused = Unit {0}
-IsReplied status = ⊥
-
-pub replied_status : (loaded : Result StoreState LoadFault) (reply : Reply) → Replies (Ok reply) loaded → IsReplied reply.status
-replied_status (Ok store) reply replies = subst IsReplied (sym replies.1) tt
-replied_status (Err faults.AlreadyStore) reply replies = subst IsReplied (sym replies.1) tt
-replied_status (Err faults.Foreign) reply replies = subst IsReplied (sym replies.1) tt
-replied_status (Err (faults.Schema fault)) reply replies = subst IsReplied (sym replies.1) tt
+pub replied_status : (loaded : Result StoreState LoadFault) (reply : Reply Status) → Replies (Ok reply) loaded → IsOwn true reply.status
+replied_status (Ok store) reply replies = subst (IsOwn true) (sym replies.1) tt
+replied_status (Err faults.AlreadyStore) reply replies = subst (IsOwn true) (sym replies.1) refl
+replied_status (Err faults.Foreign) reply replies = subst (IsOwn true) (sym replies.1) refl
+replied_status (Err (faults.Schema fault)) reply replies = subst (IsOwn true) (sym replies.1) tt
 replied_status (Err faults.Memory) reply replies = absurd replies
 replied_status (Err faults.DiskFault) reply replies = absurd replies
 
@@ -127,29 +121,12 @@ shown_same old new tells output puts =
     shown_by : Bool → List ℕ → ℕ → Shown
     shown_by tells output puts = record { output = cond tells (Some output) None; puts = puts }
 
-replied_ends : (start now : Shown) (line : List ℕ) (status : Status) → IsReplied status → ShowsAll start (line ∷ []) now → Ends start (told_line line status) status now
-replied_ends start now line Accepted is shows = (shows, refl)
-replied_ends start now line SchemaRefused is shows = (shows, refl)
-replied_ends start now line StoreRefused is shows = (shows, refl)
-replied_ends start now line Refused is shows = absurd is
-replied_ends start now line BadWords is shows = absurd is
-replied_ends start now line DiskFault is shows = absurd is
-replied_ends start now line ReadFault is shows = absurd is
-replied_ends start now line PutFault is shows = absurd is
-replied_ends start now line Memory is shows = absurd is
-replied_ends start now line InputTooLong is shows = absurd is
-
-line_ends : (reply : Reply) (old now : View) (result : Status) → IsReplied reply.status → EndsReply reply old result now → Ends (shown_of old) (told_line reply.line reply.status) result (shown_of now)
-line_ends reply old now result is (inl put) =
-    subst (λ s. Ends (shown_of old) (told_line reply.line reply.status) s (shown_of now)) (sym put.0) (replied_ends (shown_of old) (shown_of now) reply.line reply.status is put.1)
-line_ends reply old now result is (inr torn) =
-    subst (λ s. Ends (shown_of old) (told_line reply.line reply.status) s (shown_of now)) (sym torn.0) torn.1
-
 -- the line was put, behind a load that showed the same
-pub ends_reply : (told : Told Status) (start : Shown) (reply : Reply) (old now : View) (result : Status) → shown_of old ≡ start → told ≡ told_line reply.line reply.status
-    → IsReplied reply.status → EndsReply reply old result now → Ends start told result (shown_of now)
-ends_reply told start reply old now result same is status ends =
-    subst (λ s. Ends s told result (shown_of now)) same (subst (λ t. Ends (shown_of old) t result (shown_of now)) (sym is) (line_ends reply old now result status ends))
+pub ends_reply : (told : Told Status) (start : Shown) (reply : Reply Status) (old now : View) (result : Status) → shown_of old ≡ start → told ≡ told_line reply.line reply.status
+    → IsOwn true reply.status → EndsReply reply.line reply.status PutFault old result now → Ends start told result (shown_of now)
+ends_reply told start reply old now result same is own ends =
+    subst (λ s. Ends s told result (shown_of now)) same
+    (reply_ends true told reply.line reply.status result old now own (ap (λ (t : Told Status). t.pieces) is) (ap (λ (t : Told Status). t.status) is) ends)
 
 -- ---- causes
 
@@ -160,26 +137,7 @@ same_faults reads old new areas puts =
     faults : ℕ → ℕ → ℕ → Faults
     faults reads areas puts = record { reads = reads; areas = areas; puts = puts }
 
-replied_cause : (before now : Faults) (status : Status) → IsReplied status → now ≡ before → HasCommandCause false true before now status
-replied_cause before now Accepted is same = same
-replied_cause before now SchemaRefused is same = same
-replied_cause before now StoreRefused is same = (refl, same)
-replied_cause before now Refused is same = absurd is
-replied_cause before now BadWords is same = absurd is
-replied_cause before now DiskFault is same = absurd is
-replied_cause before now ReadFault is same = absurd is
-replied_cause before now PutFault is same = absurd is
-replied_cause before now Memory is same = absurd is
-replied_cause before now InputTooLong is same = absurd is
-
-line_cause : (reads : ℕ) (reply : Reply) (old now : View) (result : Status) → IsReplied reply.status → EndsReply reply old result now → HasCommandCause false true (faults_of reads old) (faults_of reads now) result
-line_cause reads reply old now result is (inl put) =
-    subst (HasCommandCause false true (faults_of reads old) (faults_of reads now)) (sym put.0)
-    (replied_cause (faults_of reads old) (faults_of reads now) reply.status is (world_same reads reads old now refl put.2))
-line_cause reads reply old now result is (inr torn) =
-    subst (HasCommandCause false true (faults_of reads old) (faults_of reads now)) (sym torn.0) (torn.2.0, refl, torn.2.2)
-
-no_fault : (loaded : Result StoreState LoadFault) (reply : Reply) → Replies (Ok reply) loaded → is_disk_fault loaded ≡ false
+no_fault : (loaded : Result StoreState LoadFault) (reply : Reply Status) → Replies (Ok reply) loaded → is_disk_fault loaded ≡ false
 no_fault (Ok store) reply replies = refl
 no_fault (Err faults.AlreadyStore) reply replies = refl
 no_fault (Err faults.Foreign) reply replies = refl
@@ -187,9 +145,9 @@ no_fault (Err (faults.Schema fault)) reply replies = refl
 no_fault (Err faults.Memory) reply replies = absurd replies
 no_fault (Err faults.DiskFault) reply replies = absurd replies
 
-pub cause_reply : (reads : ℕ) (loaded : Result StoreState LoadFault) (reply : Reply) (old mid now : View) (result : Status) → CountsFault (is_disk_fault loaded) old mid → MakesNoPut old mid
-    → Replies (Ok reply) loaded → EndsReply reply mid result now → HasCommandCause false true (faults_of reads old) (faults_of reads now) result
+pub cause_reply : (reads : ℕ) (loaded : Result StoreState LoadFault) (reply : Reply Status) (old mid now : View) (result : Status) → CountsFault (is_disk_fault loaded) old mid → MakesNoPut old mid
+    → Replies (Ok reply) loaded → EndsReply reply.line reply.status PutFault mid result now → HasCommandCause false true (faults_of reads old) (faults_of reads now) result
 cause_reply reads loaded reply old mid now result counts none replies ends =
     let areas : mid.area_faults ≡ old.area_faults = subst (λ b. CountsFault b old mid) (no_fault loaded reply replies) counts in
     subst (λ before. HasCommandCause false true before (faults_of reads now) result) (same_faults reads old mid areas none.put_faults)
-    (line_cause reads reply mid now result (replied_status loaded reply replies) ends)
+    (reply_cause false true reads reply.line reply.status result mid now (replied_status loaded reply replies) ends)

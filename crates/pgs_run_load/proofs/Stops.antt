@@ -22,8 +22,9 @@ use Rattle.pgs_world.proofs.Moments.{each_on, each_now}
 use Rattle.pgs_run_base.specs.Answers.{schema_or_text, schema_answer}
 use Rattle.pgs_run_base.specs.Input.{text_front}
 use Rattle.pgs_run_base.specs.Session.{standard}
+use Rattle.pgs_run_base.specs.declared.status.Status.{Status}
 use Rattle.pgs_run_base.proofs.SameFronts.{whole_text}
-use Rattle.pgs_run_load.specs.declared.replying.Reply.{Reply}
+use Rattle.pgs_run_lines.specs.declared.reply.Reply.{Reply}
 use Rattle.pgs_run_load.specs.Loading.{IsNewStore, IsLoadingAt}
 use Rattle.pgs_run_load.specs.Replying.{Replies}
 use Rattle.pgs_run_load.specs.Told.{line_of}
@@ -95,7 +96,7 @@ loads_at text input old mid front timed tells settled beside each c left =
 -- ---- the line
 
 -- where the text is a schema, all that a stop may leave behind a load with a reply is the new store
-pub made_at : (text input : List ℕ) (loaded : Result StoreState LoadFault) (reply : Reply) (old mid : View) → text ≡ text_front input → FindsNone old → IsTrue old.tells_bytes
+pub made_at : (text input : List ℕ) (loaded : Result StoreState LoadFault) (reply : Reply Status) (old mid : View) → text ≡ text_front input → FindsNone old → IsTrue old.tells_bytes
     → IsTrue mid.honest → IsTrue mid.tells_bytes → Loads loaded standard text old mid → Replies (Ok reply) loaded
     → (resolved : Resolved) → schema_answer input ≡ Ok resolved → (d : Triple) → mid.may_leave d → IsNewStore input d
 made_at text input (Ok made) reply old mid front free told honest tells loads replies resolved is d left =
@@ -129,7 +130,7 @@ puts_at was input line mid now honest same each made stops c left =
     }
 
 -- inside a load with a reply, and then inside the put of its line
-pub stops_reply : (text input : List ℕ) (loaded : Result StoreState LoadFault) (reply : Reply) (old mid now : View) → text ≡ text_front input → IsTimed old → FindsNone old → IsTrue old.tells_output
+pub stops_reply : (text input : List ℕ) (loaded : Result StoreState LoadFault) (reply : Reply Status) (old mid now : View) → text ≡ text_front input → IsTimed old → FindsNone old → IsTrue old.tells_output
     → IsSettled old → StaysBeside A old mid → EachSince (IsLoadedIn standard text) old mid → Loads loaded standard text old mid → Replies (Ok reply) loaded → Passes mid now
     → StopsBy (Puts reply.line) mid now → EachSince (IsLoadingAt old.shown input) old now
 stops_reply text input loaded reply old mid now front timed free tells settled beside each loads replies passes stops =

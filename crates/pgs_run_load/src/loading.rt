@@ -14,9 +14,10 @@ ghost use Rattle.pgs_run_saved.specs.Opening.{IsAnswer};
 ghost use Rattle.pgs_run_load.specs.Loading.{IsLoadingAt};
 ghost use Rattle.pgs_run_load.specs.Told.{told_text};
 
-use crate::replying::{put_reply, reply_to};
+use crate::replying::reply_to;
 use pgs_base::Limits;
 use pgs_run_base::Status;
+use pgs_run_lines::put_reply;
 use pgs_store::Store;
 use pgs_world::World;
 use std::alloc::Global;

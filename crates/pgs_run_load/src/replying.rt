@@ -3,11 +3,8 @@
 ghost use Rattle.std.specs.Prelude.{◌≡◌, IfOk};
 ghost use Rattle.pgs_answer.specs.Lines.{store_refused_line};
 ghost use Rattle.pgs_answer.specs.Refusals.{already_store_text, foreign_text};
-ghost use Rattle.pgs_run_lines.specs.AreasKept.{KeepsAreas};
 ghost use Rattle.pgs_schema.specs.Told.{answer_of};
-ghost use Rattle.pgs_world.specs.Disk.{Puts};
-ghost use Rattle.pgs_world.specs.Moment.{StopsBy};
-ghost use Rattle.pgs_run_load.specs.Replying.{IsSchemaLine, Replies, EndsReply, with_status};
+ghost use Rattle.pgs_run_load.specs.Replying.{IsSchemaLine, Replies, with_status};
 ghost use Rattle.pgs_run_load.specs.Told.{line_of};
 
 use pgs_answer::{
@@ -15,17 +12,10 @@ use pgs_answer::{
 };
 use pgs_base::{Bytes, Memory};
 use pgs_run_base::{Status, refusal_of};
+use pgs_run_lines::Reply;
 use pgs_schema::{SchemaFault, SchemaUnread};
 use pgs_store::{LoadFault, Store};
-use pgs_world::World;
 use std::alloc::Global;
-
-/// A line, and the status of a run that puts it.
-#[derive(Drop)]
-pub struct Reply {
-    pub line: Bytes,
-    pub status: Status,
-}
 
 // The line of a store that was made.
 fn line_of(alloc: Global, store: &Store) -> Result<Bytes, Memory>
@@ -60,7 +50,7 @@ fn schema_line(alloc: Global, fault: SchemaFault) -> Result<Bytes, Memory>
 }
 
 // A line with its status; a status alone where there was no memory for the line.
-fn with_status(line: Result<Bytes, Memory>, status: Status) -> Result<Reply, Status>
+fn with_status(line: Result<Bytes, Memory>, status: Status) -> Result<Reply<Status>, Status>
     ensures { result ≡ with_status line status }
 {
     match line {
@@ -70,7 +60,7 @@ fn with_status(line: Result<Bytes, Memory>, status: Status) -> Result<Reply, Sta
 }
 
 /// The reply to the loading of a text; a status alone where an area failed, and where there is no memory for the line.
-pub fn reply_to(alloc: Global, loaded: Result<Store, LoadFault>) -> Result<Reply, Status>
+pub fn reply_to(alloc: Global, loaded: Result<Store, LoadFault>) -> Result<Reply<Status>, Status>
     ensures { Replies result loaded }
 {
     match loaded {
@@ -83,17 +73,5 @@ pub fn reply_to(alloc: Global, loaded: Result<Store, LoadFault>) -> Result<Reply
         ),
         Err(LoadFault::DiskFault) => Err(Status::DiskFault),
         Err(LoadFault::Memory) => Err(Status::Memory),
-    }
-}
-
-/// Puts the line of a reply, and gives its status, or `PutFault`, which comes only where the count of put faults rose.
-pub fn put_reply<W: World>(world: &mut W, reply: &Reply) -> Status
-    ensures ends { EndsReply reply.now (W.view world.old) result (W.view world.new) }
-    ensures stops { StopsBy (Puts reply.now.line) (W.view world.old) (W.view world.new) }
-    ensures areas { KeepsAreas (W.view world.old) (W.view world.new) }
-{
-    match world.put(reply.line.as_slice()) {
-        Ok(()) => reply.status,
-        Err(_) => Status::PutFault,
     }
 }

@@ -22,7 +22,7 @@ use Rattle.pgs_base.specs.Value.{is_value}
 use Rattle.pgs_base.proofs.Graphs.{graph_parts}
 use Rattle.pgs_graph.specs.declared.operation.Op.{Op}
 use Rattle.pgs_violation.specs.Staging.{is_small}
-use Rattle.pgs_run_recover.specs.Dump.{set_op, node_ops, edge_ops, graph_ops}
+use Rattle.pgs_dump.specs.Lines.{set_op, node_ops, edge_ops, graph_ops}
 use Rattle.pgs_run_round_trip.specs.DumpOps.{IsDumpOp}
 use Rattle.pgs_run_round_trip.proofs.Rebuilt.{HasSmallRows, small_parts}
 

@@ -1,5 +1,5 @@
 -- No production of a key reads past the sign `-` and a token after it that begins with `-`.
-use Rattle.std.proofs.Common.{ℕ, Bool, true, false, List, [], ◌∷◌, refl}
+use Rattle.std.proofs.Common.{ℕ, pos, Bool, true, false, List, [], ◌∷◌, refl}
 use Rattle.pgs_base.specs.declared.value.Value.{Value}
 use Rattle.pgs_base.specs.declared.value.Value.TheVariants as values
 use Rattle.pgs_lexer.specs.declared.kind.TokenKind.TheVariants.{Sign, Number, Text}
@@ -10,10 +10,10 @@ use Rattle.pgs_syntax.specs.declared.raw.RawPath.{RawPath}
 use Rattle.pgs_syntax.specs.declared.raw.RawExpr.{RawExpr}
 use Rattle.pgs_syntax.specs.declared.raw.RawKey.{RawKey}
 use Rattle.pgs_parser.specs.declared.qualifier.Qualifier.{Qualifier}
-use Rattle.pgs_parser.specs.declared.qualifier.Qualifier.TheVariants.{Exclusive, Mandatory, Singleton}
+use Rattle.pgs_parser.specs.declared.qualifier.Qualifier.TheVariants.{Exclusive, Mandatory, Singleton, Count}
 use Rattle.pgs_parser.specs.Production.{◌▸◌, ◌or◌, nothing, IsSpelled, keyword, sign}
 use Rattle.pgs_parser.specs.Literal.{IsText, IsNumber, IsDay, name, literal}
-use Rattle.pgs_parser.specs.Keys.{test, tests, names, place, node, arrow, step, path, paths, qualifier, qualifier_list, identifier, qualifiers, expr, key}
+use Rattle.pgs_parser.specs.Keys.{test, tests, names, place, node, arrow, step, path, paths, bounds, qualifier, qualifier_list, identifier, qualifiers, expr, key}
 use Rattle.pgs_run_round_trip.proofs.Ahead.{HasPair, IsNear, Leads, Stays, ◌⨟◌, either_stays, nothing_stays, maybe_stays, each_stays, listed_stays, token_is_near, kind_stays, keyword_stays, name_stays, sign_stays, sign_leaves}
 
 -- ---- places
@@ -64,10 +64,17 @@ paths_stay = listed_stays (sign ",") path (sign_stays "," refl) path_stays
 
 -- ---- keys
 
+bounds_stay : (ends : ℕ × ℕ) → Stays (bounds ends)
+bounds_stay ends = record {
+  leads = λ before after h pair.
+      (literal_stays (values.Int (pos ends.0)) ⨟ sign_stays ".." refl ⨟ literal_stays (values.Int (pos ends.1)) ⨟ keyword_stays "OF").leads before after h.2 pair;
+}
+
 qualifier_stays : (q : Qualifier) → Stays (qualifier q)
 qualifier_stays Exclusive = keyword_stays "EXCLUSIVE"
 qualifier_stays Mandatory = keyword_stays "MANDATORY"
 qualifier_stays Singleton = keyword_stays "SINGLETON"
+qualifier_stays (Count least most) = keyword_stays "COUNT" ⨟ bounds_stay (least, most)
 
 qualifiers_stay : (asked : Qualifiers) → Stays (qualifiers asked)
 qualifiers_stay asked = either_stays identifier_stays list_stays

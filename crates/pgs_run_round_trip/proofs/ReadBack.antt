@@ -15,7 +15,8 @@ use Rattle.pgs_run_base.specs.Answers.{schema_answer}
 use Rattle.pgs_run_base.specs.Areas.{Areas}
 use Rattle.pgs_run_base.specs.Session.{standard}
 use Rattle.pgs_run_apply.proofs.Conforming.{saved_conforms}
-use Rattle.pgs_run_recover.specs.Dump.{graph_ops, dump}
+use Rattle.pgs_dump.specs.Lines.{graph_ops}
+use Rattle.pgs_run_recover.specs.Dump.{dump}
 use Rattle.pgs_run_saved.specs.Refusing.{told_of_areas}
 use Rattle.pgs_run_try.specs.declared.judging.Judging.TheVariants.{AtEnd}
 use Rattle.pgs_run_try.specs.Told.{start, told_judging, told_whole}

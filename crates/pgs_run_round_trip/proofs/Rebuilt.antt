@@ -31,7 +31,7 @@ use Rattle.pgs_run_base.specs.Session.{standard}
 use Rattle.pgs_run_try.specs.Judging.{judges_nothing}
 use Rattle.pgs_run_round_trip.specs.DumpOps.{txn_of_op}
 use Rattle.pgs_run_round_trip.proofs.Behind.{IsAbove, lookup_above, lookup_last, insert_above, insert_last, above_front}
-use Rattle.pgs_run_recover.specs.Dump.{set_op, node_ops, edge_ops, graph_ops}
+use Rattle.pgs_dump.specs.Lines.{set_op, node_ops, edge_ops, graph_ops}
 
 -- ---- operations, each a transaction of its own
 

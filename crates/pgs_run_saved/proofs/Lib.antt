@@ -1,4 +1,5 @@
 pub mod Reading
 pub mod Saving
 pub mod Shown
+pub mod Stopping
 pub mod Unopening

@@ -22,7 +22,7 @@ standard_is limits ops elements = ap₂ (λ o e. record { ops = o; elements = e 
 pub not_opened : (fault : RecoverFault) (unopened : Unopened) (limits : Limits) (old now : View) → limits ≡ standard → Recovers (Err fault) limits old now → Unopens fault unopened
     → Opens (Err unopened) old now
 unfolding told_of_areas
-not_opened fault (Refused line status) limits old now within recovers is =
+not_opened fault (Refused reply) limits old now within recovers is =
     (is.refusal, λ told go. is.told (saved standard old.shown.a old.shown.b) (subst (λ (l : Limits). IsUnrecovered (saved l old.shown.a old.shown.b) fault) within (recovers told)) go)
 not_opened fault DiskFault limits old now within recovers is = tt
 not_opened fault Memory limits old now within recovers is = tt

@@ -17,7 +17,7 @@ use Rattle.pgs_run_saved.specs.Refusing.{SavedStore, told_saved, told_of_areas}
 
 -- an area failed
 abbrev pub is_failure : Unopened → Bool
-is_failure (Refused line status) = false
+is_failure (Refused reply) = false
 is_failure DiskFault = true
 is_failure Memory = false
 
@@ -45,14 +45,14 @@ IsRefusal status = ⊥
 
 -- a refusal has one of these statuses
 abbrev pub IsRefusing : Unopened → Type 0
-IsRefusing (Refused line status) = IsRefusal status
+IsRefusing (Refused reply) = IsRefusal reply.status
 IsRefusing DiskFault = Unit {0}
 IsRefusing Memory = Unit {0}
 
 -- whatever a command tells of a store, a refusal's line and status are told of what is saved
 abbrev pub IsUnopened : SavedState → Unopened → Type 0
-IsUnopened state (Refused line status) =
-    (go : SavedStore → Told Status) → told_saved state go ≡ record { pieces = line ∷ []; status = status }
+IsUnopened state (Refused reply) =
+    (go : SavedStore → Told Status) → told_saved state go ≡ record { pieces = reply.line ∷ []; status = reply.status }
 IsUnopened state DiskFault = Unit {0}
 IsUnopened state Memory = Unit {0}
 
@@ -69,7 +69,7 @@ IsToldOf view line status = IsTrue view.tells_bytes → (go : SavedStore → Tol
 
 abbrev pub Opens : Result StoreState Unopened → View → View → Type 0
 Opens (Ok it) old now = IsOpened it old now
-Opens (Err (Refused line status)) old now = IsRefusal status × IsToldOf old line status
+Opens (Err (Refused reply)) old now = IsRefusal reply.status × IsToldOf old reply.line reply.status
 Opens (Err DiskFault) old now = Unit {0}
 Opens (Err Memory) old now = Unit {0}
 

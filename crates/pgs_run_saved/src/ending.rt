@@ -4,7 +4,7 @@ ghost use Rattle.pgs_run_saved.specs.Ending.{EndsUnopened, is_refusal};
 
 use crate::Unopened;
 use pgs_run_base::Status;
-use pgs_run_lines::put_piece;
+use pgs_run_lines::put_reply;
 use pgs_world::World;
 
 /// Ends a command whose store isn't opened: puts the line of a refusal, and gives the status. `PutFault` comes only where the count of
@@ -15,10 +15,7 @@ pub fn end_unopened<W: World>(world: &mut W, unopened: Unopened) -> Status
     ensures early { is_refusal unopened ≡ false → world.new ≡ world.old }
 {
     match unopened {
-        Unopened::Refused { line, status } => match put_piece::<Status, W>(world, line.as_slice()) {
-            Ok(()) => status,
-            Err(_) => Status::PutFault,
-        },
+        Unopened::Refused(reply) => put_reply(world, &reply),
         Unopened::DiskFault => Status::DiskFault,
         Unopened::Memory => Status::Memory,
     }

@@ -9,8 +9,9 @@ use pgs_answer::{
     bad_history_text, bad_record_text, foreign_text, no_store_text, schema_refused_line,
     store_refused_line,
 };
-use pgs_base::{Bytes, Limits, Memory};
+use pgs_base::{Limits, Memory};
 use pgs_run_base::{Status, refusal_of};
+use pgs_run_lines::Reply;
 use pgs_schema::SchemaUnread;
 use pgs_store::{RecoverFault, Store};
 use pgs_world::World;
@@ -20,7 +21,7 @@ use std::alloc::Global;
 #[derive(Drop)]
 pub enum Unopened {
     /// The areas, the stored schema text or a record are refused: the line that says so, and the status.
-    Refused { line: Bytes, status: Status },
+    Refused(Reply<Status>),
     /// A call on an area failed.
     DiskFault,
     /// There was no memory.
@@ -29,13 +30,13 @@ pub enum Unopened {
 
 // The refusal of a store for what a text says.
 fn refused_store(alloc: Global, text: &[u8]) -> Result<Unopened, Memory>
-    ensures { IfOk result (λ unopened. unopened ≡ Unopened.Refused (refused_line text.now) Status.StoreRefused) }
+    ensures { IfOk result (λ unopened. unopened ≡ Unopened.Refused (record { line = refused_line text.now; status = Status.StoreRefused })) }
 {
     let line = store_refused_line(alloc, text)?;
-    Ok(Unopened::Refused {
+    Ok(Unopened::Refused(Reply {
         line,
         status: Status::StoreRefused,
-    })
+    }))
 }
 
 // Why no store is opened where none is recovered.
@@ -58,10 +59,10 @@ fn refused(alloc: Global, fault: RecoverFault) -> Result<Unopened, Memory>
         RecoverFault::Schema(fault) => {
             let text = refusal_of(alloc, SchemaUnread::Schema(fault))?;
             let line = schema_refused_line(alloc, text.as_slice())?;
-            Ok(Unopened::Refused {
+            Ok(Unopened::Refused(Reply {
                 line,
                 status: Status::SchemaRefused,
-            })
+            }))
         }
     }
 }

@@ -6,12 +6,12 @@ use Rattle.pgs_run_lines.specs.declared.stop.Stop.{Stop}
 use Rattle.pgs_run_lines.specs.declared.stop.Stop.TheVariants as stops
 use Rattle.pgs_run_lines.specs.Ending.{Shows, Ends}
 use Rattle.pgs_run_lines.specs.Machine.{Told}
+use Rattle.pgs_run_lines.specs.Puts.{StopsPutting}
 use Rattle.pgs_run_lines.specs.Pieces.{Shown, ShowsAll}
 use Rattle.pgs_run_lines.proofs.Showing.{shows_on, stop_on, first_of_more, torn_of_more}
 use Rattle.pgs_violation.specs.declared.violation.Violation.{Violation}
 use Rattle.pgs_run_base.specs.declared.status.Status.{Status}
 use Rattle.pgs_run_try.specs.Told.{listed_line}
-use Rattle.pgs_run_try.specs.Trying.{StopsPutting}
 
 -- what is shown of some pieces where a put stops is shown of more
 stop_of_more : (stop : Stop Status) (start now : Shown) (pieces later : List (List ℕ)) → StopsPutting stop → Shows start pieces stop now → Shows start (pieces ++ later) stop now

@@ -1,4 +1,5 @@
 pub mod Judging
+pub mod Opening
 pub mod State
 pub mod Told
 pub mod Trying

@@ -66,14 +66,6 @@ MayStop stops.AreaFault = ⊥
 MayStop stops.PutFault = Unit {0}
 MayStop stops.Memory = Unit {0}
 
--- what may stop the putting of pieces that are made one by one
-abbrev pub StopsPutting : Stop Status → Type 0
-StopsPutting (stops.Ended status) = ⊥
-StopsPutting stops.ReadFault = ⊥
-StopsPutting stops.AreaFault = ⊥
-StopsPutting stops.PutFault = Unit {0}
-StopsPutting stops.Memory = Unit {0}
-
 -- lines and commits that can be counted so many further
 abbrev pub HasRoom : ℕ → Phase → Type 0
 HasRoom lines (Schema judging part) = lines < 2 ^ 64

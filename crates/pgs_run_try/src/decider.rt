@@ -1,17 +1,17 @@
-ghost use Rattle.std.specs.Prelude.{◌≡◌, ◌+◌, ◌<◌, Ok, Err, IfOk, IfErr, OnOk, OnErr};
-ghost use Rattle.pgs_base.specs.Graph.{empty_graph};
+ghost use Rattle.std.specs.Prelude.{◌≡◌, ◌+◌, ◌<◌, Ok, IfOk, IfErr, OnOk, OnErr};
 ghost use Rattle.pgs_store.specs.Refused.{IsRejected};
-ghost use Rattle.pgs_run_base.specs.Answers.{schema_answer};
 ghost use Rattle.pgs_run_base.specs.Session.{standard, decision_on};
 ghost use Rattle.pgs_violation.specs.Decision.{decide};
 ghost use Rattle.pgs_violation.specs.Violations.{verdict};
 ghost use Rattle.pgs_run_try.specs.declared.judging.Judging.TheVariants.{EachLine};
 ghost use Rattle.pgs_run_try.specs.Judging.{verdict_by};
+ghost use Rattle.pgs_run_try.specs.Opening.{IsOpened, IsRefused};
 ghost use Rattle.pgs_run_try.specs.State.{judging_in, schema_in, graph_in, commits_in, HasStandardLimits};
 
 use crate::Judging;
+use crate::open_fault::OpenFault;
 use crate::staged::Staged;
-use pgs_base::{Bytes, Limits, Memory, Seed, Steps};
+use pgs_base::{Limits, Seed, Steps};
 use pgs_graph::Txn;
 use pgs_run_base::{refusal_of, schema_of};
 use pgs_store::{Guard, GuardRefusal};
@@ -29,61 +29,49 @@ pub enum Decider {
     Unjudged(Staged),
 }
 
-// A guard of a schema text, or the text of the schema's refusal.
+// A guard under a schema text.
 #[tactic(auto, unfolding(pgs_run_base::specs::Answers::schema_answer))]
-fn guarded(alloc: Global, text: &[u8], seed: Seed) -> Result<Result<Decider, Bytes>, Memory>
-    ensures schema { IfOk result (λ answer. IfOk answer (λ decider. schema_answer text.now ≡ Ok (schema_in decider))) }
-    ensures judging { IfOk result (λ answer. IfOk answer (λ decider. judging_in decider ≡ Judging.EachLine)) }
-    ensures empty { IfOk result (λ answer. IfOk answer (λ decider. graph_in decider ≡ empty_graph)) }
-    ensures commits { IfOk result (λ answer. IfOk answer (λ decider. commits_in decider ≡ 0)) }
-    ensures limits { IfOk result (λ answer. IfOk answer HasStandardLimits) }
-    ensures refused { IfOk result (λ answer. IfErr answer (λ refusal. schema_answer text.now ≡ Err refusal)) }
+fn guard_under(alloc: Global, text: &[u8], seed: Seed) -> Result<Decider, OpenFault>
+    ensures opened { IfOk result (IsOpened Judging.EachLine text.now) }
+    ensures refused { IfErr result (IsRefused text.now) }
 {
     match Guard::with_seed(alloc, text, Limits::standard(), seed) {
-        Ok(guard) => Ok(Ok(Decider::Guarded(guard))),
+        Ok(guard) => Ok(Decider::Guarded(guard)),
         Err(unread) => {
             let refusal = refusal_of(alloc, unread)?;
-            Ok(Err(refusal))
+            Err(OpenFault::Refused(refusal))
         }
     }
 }
 
-// The same without a guard.
-fn unjudged(alloc: Global, text: &[u8], seed: Seed) -> Result<Result<Decider, Bytes>, Memory>
-    ensures schema { IfOk result (λ answer. IfOk answer (λ decider. schema_answer text.now ≡ Ok (schema_in decider))) }
-    ensures judging { IfOk result (λ answer. IfOk answer (λ decider. judging_in decider ≡ Judging.AtEnd)) }
-    ensures empty { IfOk result (λ answer. IfOk answer (λ decider. graph_in decider ≡ empty_graph)) }
-    ensures commits { IfOk result (λ answer. IfOk answer (λ decider. commits_in decider ≡ 0)) }
-    ensures limits { IfOk result (λ answer. IfOk answer HasStandardLimits) }
-    ensures refused { IfOk result (λ answer. IfErr answer (λ refusal. schema_answer text.now ≡ Err refusal)) }
+// Tables under a schema text.
+fn tables_under(alloc: Global, text: &[u8], seed: Seed) -> Result<Decider, OpenFault>
+    ensures opened { IfOk result (IsOpened Judging.AtEnd text.now) }
+    ensures refused { IfErr result (IsRefused text.now) }
 {
     match schema_of(alloc, text)? {
-        Ok(schema) => Ok(Ok(Decider::Unjudged(Staged {
+        Ok(schema) => Ok(Decider::Unjudged(Staged {
             schema,
             graph: Tables::with_seed(alloc, seed),
             commits: 0,
-        }))),
-        Err(refusal) => Ok(Err(refusal)),
+        })),
+        Err(refusal) => Err(OpenFault::Refused(refusal)),
     }
 }
 
-/// What decides under a schema text, with an empty graph, or the text of the schema's refusal.
+/// What decides under a schema text, with an empty graph.
 pub fn open_decider(
     alloc: Global,
     judging: Judging,
     text: &[u8],
     seed: Seed,
-) -> Result<Result<Decider, Bytes>, Memory>
-    ensures schema { IfOk result (λ answer. IfOk answer (λ decider. schema_answer text.now ≡ Ok (schema_in decider))) }
-    ensures judging { IfOk result (λ answer. IfOk answer (λ decider. judging_in decider ≡ judging)) }
-    ensures empty { IfOk result (λ answer. IfOk answer (λ decider. graph_in decider ≡ empty_graph)) }
-    ensures commits { IfOk result (λ answer. IfOk answer (λ decider. commits_in decider ≡ 0)) }
-    ensures limits { IfOk result (λ answer. IfOk answer HasStandardLimits) }
-    ensures refused { IfOk result (λ answer. IfErr answer (λ refusal. schema_answer text.now ≡ Err refusal)) }
+) -> Result<Decider, OpenFault>
+    ensures opened { IfOk result (IsOpened judging text.now) }
+    ensures refused { IfErr result (IsRefused text.now) }
 {
     match judging {
-        Judging::EachLine => guarded(alloc, text, seed),
-        Judging::AtEnd => unjudged(alloc, text, seed),
+        Judging::EachLine => guard_under(alloc, text, seed),
+        Judging::AtEnd => tables_under(alloc, text, seed),
     }
 }
 

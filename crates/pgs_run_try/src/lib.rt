@@ -8,6 +8,7 @@
 mod decider;
 mod judging;
 mod listing;
+mod open_fault;
 mod phase;
 mod run;
 mod session;

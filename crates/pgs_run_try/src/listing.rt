@@ -3,8 +3,9 @@ ghost use Rattle.pgs_run_lines.specs.AreasKept.{KeepsAreas};
 ghost use Rattle.pgs_run_lines.specs.Driving.{LineShows};
 ghost use Rattle.pgs_run_lines.specs.Ending.{Ends, HasCause, HasAnyCause, faults_of};
 ghost use Rattle.pgs_run_lines.specs.Pieces.{shown_of};
+ghost use Rattle.pgs_run_lines.specs.Puts.{StopsPutting};
 ghost use Rattle.pgs_run_try.specs.Told.{listed_line, status_after, told_end};
-ghost use Rattle.pgs_run_try.specs.Trying.{MayStop, StopsPutting};
+ghost use Rattle.pgs_run_try.specs.Trying.{MayStop};
 
 use crate::session::Session;
 use pgs_answer::{violation_line, violation_text};

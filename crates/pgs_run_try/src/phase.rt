@@ -5,6 +5,7 @@ ghost use Rattle.pgs_run_base.specs.Pieces.{pieces_in};
 ghost use Rattle.pgs_run_try.specs.Trying.{trying, after_schema, pieces_of_schema, after_end, pieces_at_end};
 
 use crate::Judging;
+use crate::open_fault::OpenFault;
 use crate::session::Session;
 use pgs_answer::schema_refused_line;
 use pgs_base::{Bytes, Memory, Seed};
@@ -29,12 +30,13 @@ pub fn judge(
     ensures phase { IfOk result (λ next. next.0 ≡ after_schema judging (schema_answer text.now)) }
     ensures piece { IfOk result (λ next. pieces_in next.1 ≡ pieces_of_schema (schema_answer text.now)) }
 {
-    match Session::open(alloc, judging, text, seed)? {
+    match Session::open(alloc, judging, text, seed) {
         Ok(session) => Ok((Phase::Lines(session), None)),
-        Err(text) => {
+        Err(OpenFault::Refused(text)) => {
             let piece = schema_refused_line(alloc, text.as_slice())?;
             Ok((Phase::Refused, Some(piece)))
         }
+        Err(OpenFault::Memory) => Err(Memory),
     }
 }
 

@@ -4,11 +4,13 @@ ghost use Rattle.pgs_run_base.specs.Answers.{schema_answer};
 ghost use Rattle.pgs_run_base.specs.Pieces.{pieces_in};
 ghost use Rattle.pgs_run_base.specs.Session.{with_text, answer_to, answer_to_txn, after_answer, after_refusal};
 ghost use Rattle.pgs_run_try.specs.Judging.{verdict_by, telling_by, listed};
+ghost use Rattle.pgs_run_try.specs.Opening.{IsRefused};
 ghost use Rattle.pgs_run_try.specs.State.{session_after, session_pieces};
 ghost use Rattle.pgs_run_try.specs.Told.{start};
 
 use crate::Judging;
 use crate::decider::{Decider, apply, open_decider};
+use crate::open_fault::OpenFault;
 use pgs_answer::{committed_line, refused_line, rejection_text};
 use pgs_base::{Bytes, Limits, List, Memory, Seed};
 use pgs_graph::Txn;
@@ -42,26 +44,24 @@ impl Model for Session {
 }
 
 impl Session {
-    /// Before the first line, under the schema of a text; or the text of the schema's refusal.
+    /// Before the first line, under the schema of a text.
     pub fn open(
         alloc: Global,
         judging: Judging,
         text: &[u8],
         seed: Seed,
-    ) -> Result<Result<Session, Bytes>, Memory>
-        ensures schema { IfOk result (λ answer. IfOk answer (λ session. schema_answer text.now ≡ Ok session.schema)) }
-        ensures judging { IfOk result (λ answer. IfOk answer (λ session. session.judging ≡ judging)) }
-        ensures standing { IfOk result (λ answer. IfOk answer (λ session. session.standing ≡ start)) }
-        ensures refused { IfOk result (λ answer. IfErr answer (λ refusal. schema_answer text.now ≡ Err refusal)) }
+    ) -> Result<Session, OpenFault>
+        ensures schema { IfOk result (λ session. schema_answer text.now ≡ Ok session.schema) }
+        ensures judging { IfOk result (λ session. session.judging ≡ judging) }
+        ensures standing { IfOk result (λ session. session.standing ≡ start) }
+        ensures refused { IfErr result (IsRefused text.now) }
     {
-        match open_decider(alloc, judging, text, seed)? {
-            Ok(decider) => Ok(Ok(Session {
-                decider,
-                number: 0,
-                refused: false,
-            })),
-            Err(refusal) => Ok(Err(refusal)),
-        }
+        let decider = open_decider(alloc, judging, text, seed)?;
+        Ok(Session {
+            decider,
+            number: 0,
+            refused: false,
+        })
     }
 
     /// Whether a line was refused so far.

@@ -1,5 +1,5 @@
 -- The violations of a key from its rows are those of its scope and its key values.
-use Rattle.std.proofs.Common.{◌≡◌, ℕ, true, List, [], ◌∷◌, ◌++◌, map, append_assoc, refl, sym, ap, ◌∙◌}
+use Rattle.std.proofs.Common.{◌≡◌, ℕ, true, Option, Some, None, List, [], ◌∷◌, ◌++◌, map, append_assoc, refl, sym, ap, ◌∙◌}
 use Rattle.std.specs.Prelude.{filter_map, slice_get}
 use Rattle.std.specs.List.{cons_option}
 use Rattle.pgs_base.specs.declared.element.Elem.{Elem}
@@ -10,10 +10,15 @@ use Rattle.pgs_syntax.specs.declared.key.Key.{Key}
 use Rattle.pgs_syntax.specs.declared.resolved.Resolved.{Resolved}
 use Rattle.pgs_syntax.specs.KeyValues.{scope_of, key_values}
 use Rattle.pgs_syntax.proofs.InOrder.{scope_ascends}
-use Rattle.pgs_violation.specs.Violations.{mandatory_violation, singleton_violation, sharing, exclusive_violation, where_asked, key_violations}
+use Rattle.pgs_violation.specs.Violations.{mandatory_violation, singleton_violation, sharing, exclusive_violation, count_violation, where_asked, where_bounded, key_violations}
 use Rattle.pgs_scratch.specs.declared.key_row.KeyRow.{KeyRow}
-use Rattle.pgs_scratch.specs.Rows.{row_of, missing_value, several_values, shared_value, shared_values, rows_violations}
+use Rattle.pgs_scratch.specs.Rows.{row_of, missing_value, several_values, shared_value, shared_values, count_of_row, rows_violations}
 use Rattle.pgs_scratch.proofs.Ordered.{later_are_after}
+
+-- what four equal parts make is equal
+ap₄ : {A B C D E : Type 0} (f : A → B → C → D → E) {a a' : A} {b b' : B} {c c' : C} {d d' : D} → a ≡ a' → b ≡ b' → c ≡ c' → d ≡ d' →
+    f a b c d ≡ f a' b' c' d'
+ap₄ f p q r s = λ i. f (p i) (q i) (r i) (s i)
 
 module _ (number : ℕ) (values : Elem → List (List Part)) where
   missing_same : (elems : List Elem) → filter_map (missing_value number) (map (row_of values) elems) ≡ filter_map (mandatory_violation number values) elems
@@ -39,6 +44,17 @@ module _ (number : ℕ) (values : Elem → List (List Part)) where
       ∙ ap (cons_option (exclusive_violation number (before ++ elem ∷ elems) values elem))
       (rest ∙ ap (λ scope. filter_map (exclusive_violation number scope values) elems) moved)
 
+  counts_same : (bounds : ℕ × ℕ) (elems : List Elem) →
+      filter_map (count_of_row number bounds) (map (row_of values) elems) ≡ filter_map (count_violation number values bounds) elems
+  counts_same bounds [] = refl
+  counts_same bounds (elem ∷ elems) = ap (cons_option (count_violation number values bounds elem)) (counts_same bounds elems)
+
+  bounded_same : (bounds : Option (ℕ × ℕ)) (elems : List Elem) →
+      where_bounded bounds (λ bounds. filter_map (count_of_row number bounds) (map (row_of values) elems))
+      ≡ where_bounded bounds (λ bounds. filter_map (count_violation number values bounds) elems)
+  bounded_same None elems = refl
+  bounded_same (Some bounds) elems = counts_same bounds elems
+
 module _ (resolved : Resolved) (g : Graph) (graph : is_graph g ≡ true) (number : ℕ) (key : Key) where
   abbrev pub rows_of : List KeyRow
   rows_of = map (row_of (key_values resolved g key)) (scope_of resolved g key)
@@ -56,10 +72,6 @@ module _ (resolved : Resolved) (g : Graph) (graph : is_graph g ≡ true) (number
   rows_are_scope =
       let values = key_values resolved g key in
       let scope = scope_of resolved g key in
-      ap (λ found. where_asked key.qualifiers.mandatory found ++ where_asked key.qualifiers.singleton (filter_map (several_values number) rows_of)
-      ++ where_asked key.qualifiers.exclusive (shared_values number rows_of)) (missing_same number values scope)
-      ∙ ap (λ found. where_asked key.qualifiers.mandatory (filter_map (mandatory_violation number values) scope) ++ where_asked key.qualifiers.singleton found
-      ++ where_asked key.qualifiers.exclusive (shared_values number rows_of)) (several_same number values scope)
-      ∙ ap (λ found. where_asked key.qualifiers.mandatory (filter_map (mandatory_violation number values) scope)
-      ++ where_asked key.qualifiers.singleton (filter_map (singleton_violation number values) scope) ++ where_asked key.qualifiers.exclusive found)
-      (shared_same number values [] scope (scope_ascends g graph resolved key))
+      ap₄ (λ missing several shared counted. where_asked key.qualifiers.mandatory missing ++ where_asked key.qualifiers.singleton several
+      ++ where_asked key.qualifiers.exclusive shared ++ counted) (missing_same number values scope) (several_same number values scope)
+      (shared_same number values [] scope (scope_ascends g graph resolved key)) (bounded_same number values key.qualifiers.count scope)

@@ -1,5 +1,5 @@
 -- A violation stands in the list exactly where it is the one of its key, number and least element.
-use Rattle.std.proofs.Common.{◌≡◌, ◌↔◌, ℕ, zero, suc, Bool, true, false, IsTrue, List, [], ◌∷◌, Option, Some, None, slice_get, refl, sym, ap, ◌∙◌, subst, true≢false, arith}
+use Rattle.std.proofs.Common.{◌≡◌, ◌↔◌, ℕ, zero, suc, Bool, true, false, IsTrue, List, [], ◌∷◌, length, Option, Some, None, slice_get, refl, sym, ap, ◌∙◌, subst, true≢false, arith}
 use Rattle.std.specs.Prelude.{Contains, ◌&&◌, option_map, option_and_then, filter_map, if◌then◌else◌}
 use Rattle.std.specs.BTreeMap.{is_at}
 use Rattle.std.specs.Cmp.{Equal-is, nat_cmp_total, on_total}
@@ -25,11 +25,11 @@ use Rattle.pgs_syntax.specs.Typed.{is_typed_node, is_typed_edge}
 use Rattle.pgs_syntax.proofs.Assigned.{match_found}
 use Rattle.pgs_syntax.proofs.Members.{kept_found, in_scope_given}
 use Rattle.pgs_violation.specs.declared.violation.Violation.{Violation}
-use Rattle.pgs_violation.specs.declared.violation.Violation.TheVariants.{UntypedNode, UntypedEdge, Mandatory, Singleton, Exclusive}
-use Rattle.pgs_violation.specs.Violations.{two_least, shared_tuple, sharing, later_than, violations}
+use Rattle.pgs_violation.specs.declared.violation.Violation.TheVariants.{UntypedNode, UntypedEdge, Mandatory, Singleton, Exclusive, CountOutside}
+use Rattle.pgs_violation.specs.Violations.{two_least, shared_tuple, sharing, later_than, is_within, count_outside, violations}
 use Rattle.pgs_violation.specs.Meaning.{IsKeyOf}
-use Rattle.pgs_violation.proofs.Origins.{Origin, of_node, of_edge, missing, several, shared, origin, listed}
-use Rattle.pgs_scratch.specs.Confirmed.{key_numbered, missing_at, several_at, shared_at, violation_at}
+use Rattle.pgs_violation.proofs.Origins.{Origin, of_node, of_edge, missing, several, shared, counted, origin, listed}
+use Rattle.pgs_scratch.specs.Confirmed.{key_numbered, missing_at, several_at, shared_at, count_at, violation_at}
 use Rattle.pgs_scratch.specs.Untyped.{untyped_node_at, untyped_edge_at}
 use Rattle.pgs_scratch.proofs.ByNumber.{found_row}
 
@@ -71,6 +71,10 @@ shared_form number values elem (other ∷ later) v e = by (shared_tuple (values 
         (second : Elem) × (tuple : List Part) × (Exclusive number elem second tuple ≡ v)
     by None h rest = rest h
     by (Some tuple) h rest = (other, tuple, cc)
+
+count_form : (number : ℕ) (bounds : ℕ × ℕ) (elem : Elem) (tuples : List (List Part)) (v : Violation) → count_outside number bounds elem tuples ≡ Some v →
+    CountOutside number elem (length tuples) bounds.0 bounds.1 ≡ v
+count_form number bounds elem tuples v e = unless (is_within bounds (length tuples)) (CountOutside number elem (length tuples) bounds.0 bounds.1) v e
 
 -- ---- keys and scopes
 
@@ -143,6 +147,13 @@ module _ (resolved : Resolved) (g : Graph) (graph : is_graph g ≡ true) where
       let asked = if_found (key.qualifiers.exclusive && is_in_scope resolved g key elem) _ v found.2 in
       let both = and_parts _ _ asked.0 in
       listed resolved g v (shared number key elem found.1 both.0 (scope_found resolved g key elem both.1) asked.1)
+  found_listed (CountOutside number elem count least most) e =
+      let v = CountOutside number elem count least most in
+      let found = of_key_found v number (count_at resolved g number elem) e in
+      let key = found.0 in
+      let bounded = then_found _ key.qualifiers.count v found.2 in
+      let asked = if_found (is_in_scope resolved g key elem) _ v bounded.2 in
+      listed resolved g v (counted number key bounded.0 elem found.1 bounded.1 (scope_found resolved g key elem asked.0) asked.1)
 
   -- ---- listed, so found
 
@@ -171,6 +182,11 @@ module _ (resolved : Resolved) (g : Graph) (graph : is_graph g ≡ true) where
           let form = shared_form number (key_values resolved g key) elem (later_than elem (scope_of resolved g key)) v gives in
           subst (λ w. violation_at resolved g w ≡ Some v) form.2
           (of_key_given number (shared_at resolved g number elem) key v is (if_given _ _ v (and_from _ _ asked (scope_given resolved g key elem there)) gives))
+      by (counted number key bounds elem is asked there gives) =
+          subst (λ w. violation_at resolved g w ≡ Some v) (count_form number bounds elem (key_values resolved g key elem) v gives)
+          (of_key_given number (count_at resolved g number elem) key v is
+          (ap (option_and_then (λ (bounds : ℕ × ℕ). if is_in_scope resolved g key elem then count_outside number bounds elem (key_values resolved g key elem) else None))
+          asked ∙ if_given _ _ v (scope_given resolved g key elem there) gives))
 
   -- ---- what a comparison with it says
 

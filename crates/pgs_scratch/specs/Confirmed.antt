@@ -10,8 +10,8 @@ use Rattle.pgs_syntax.specs.declared.key.Key.{Key}
 use Rattle.pgs_syntax.specs.declared.resolved.Resolved.{Resolved}
 use Rattle.pgs_syntax.specs.KeyValues.{is_in_scope, scope_of, key_values}
 use Rattle.pgs_violation.specs.declared.violation.Violation.{Violation}
-use Rattle.pgs_violation.specs.declared.violation.Violation.TheVariants.{UntypedNode, UntypedEdge, Mandatory, Singleton, Exclusive}
-use Rattle.pgs_violation.specs.Violations.{mandatory_violation, singleton_violation, exclusive_violation, sharing}
+use Rattle.pgs_violation.specs.declared.violation.Violation.TheVariants.{UntypedNode, UntypedEdge, Mandatory, Singleton, Exclusive, CountOutside}
+use Rattle.pgs_violation.specs.Violations.{mandatory_violation, singleton_violation, exclusive_violation, sharing, count_outside}
 use Rattle.pgs_violation.specs.Standing.{key_of}
 use Rattle.pgs_scratch.specs.declared.key_row.KeyRow.{KeyRow}
 use Rattle.pgs_scratch.specs.Rows.{row_of}
@@ -27,7 +27,7 @@ abbrev pub row_in_scope : Resolved → Graph → Bool → Elem → Key → Optio
 row_in_scope resolved g asked elem key =
     if asked && is_in_scope resolved g key elem then Some (row_of (key_values resolved g key) elem) else None
 
--- 27, 28 and 29 for an element, where the key asks for it and the element is in its scope
+-- 27, 28, 29 and 39 for an element, where the key asks for it and the element is in its scope
 abbrev pub missing_at : Resolved → Graph → ℕ → Elem → Key → Option Violation
 missing_at resolved g number elem key =
     if key.qualifiers.mandatory && is_in_scope resolved g key elem
@@ -43,6 +43,11 @@ shared_at resolved g number elem key =
     if key.qualifiers.exclusive && is_in_scope resolved g key elem
     then exclusive_violation number (scope_of resolved g key) (key_values resolved g key) elem else None
 
+abbrev pub count_at : Resolved → Graph → ℕ → Elem → Key → Option Violation
+count_at resolved g number elem key =
+    option_and_then (λ (bounds : ℕ × ℕ). if is_in_scope resolved g key elem
+    then count_outside number bounds elem (key_values resolved g key elem) else None) key.qualifiers.count
+
 -- of a key, the violation of the same number and least element as a violation of it
 abbrev pub key_violation_at : Resolved → Graph → Violation → Key → Option Violation
 key_violation_at resolved g (UntypedNode node) key = None
@@ -50,6 +55,7 @@ key_violation_at resolved g (UntypedEdge edge) key = None
 key_violation_at resolved g (Mandatory number elem) key = missing_at resolved g number elem key
 key_violation_at resolved g (Singleton number elem first second) key = several_at resolved g number elem key
 key_violation_at resolved g (Exclusive number first second tuple) key = shared_at resolved g number first key
+key_violation_at resolved g (CountOutside number elem count least most) key = count_at resolved g number elem key
 
 -- the violation of the same key, number and least element
 abbrev pub violation_at : Resolved → Graph → Violation → Option Violation

@@ -7,7 +7,7 @@ use Rattle.pgs_syntax.specs.declared.key.Qualifiers.{Qualifiers}
 use Rattle.pgs_syntax.specs.Join.{is_empty}
 use Rattle.pgs_violation.specs.declared.violation.Violation.{Violation}
 use Rattle.pgs_violation.specs.declared.violation.Violation.TheVariants.{Mandatory, Exclusive}
-use Rattle.pgs_violation.specs.Violations.{two_least, shared_tuple, where_asked}
+use Rattle.pgs_violation.specs.Violations.{two_least, shared_tuple, count_outside, where_asked, where_bounded}
 use Rattle.pgs_scratch.specs.declared.key_row.KeyRow.{KeyRow}
 
 -- the row of an element
@@ -34,9 +34,14 @@ abbrev pub shared_values : ℕ → List KeyRow → List Violation
 shared_values number [] = []
 shared_values number (row ∷ rows) = cons_option (first_sharer number row rows) (shared_values number rows)
 
+-- 39 for a row whose number of key values isn't within the bounds
+abbrev pub count_of_row : ℕ → ℕ × ℕ → KeyRow → Option Violation
+count_of_row number bounds row = count_outside number bounds row.elem row.tuples
+
 -- the violations of a key of this number that has these rows
 abbrev pub rows_violations : Qualifiers → ℕ → List KeyRow → List Violation
 rows_violations asked number rows =
     where_asked asked.mandatory (filter_map (missing_value number) rows)
     ++ where_asked asked.singleton (filter_map (several_values number) rows)
     ++ where_asked asked.exclusive (shared_values number rows)
+    ++ where_bounded asked.count (λ bounds. filter_map (count_of_row number bounds) rows)

@@ -6,11 +6,11 @@ ghost use Rattle.pgs_syntax.specs.KeyValues.{scope_of, key_values};
 ghost use Rattle.pgs_syntax.specs.Valid.{is_valid_key_of};
 ghost use Rattle.pgs_violation.specs.Standing.{key_of};
 ghost use Rattle.pgs_violation.specs.Violations.{exclusive_violation, shared_tuple, violations};
-ghost use Rattle.pgs_scratch.specs.Confirmed.{key_numbered, row_in_scope, missing_at, several_at, shared_at, key_violation_at, violation_at, sharing_if_later};
+ghost use Rattle.pgs_scratch.specs.Confirmed.{key_numbered, row_in_scope, missing_at, several_at, shared_at, count_at, key_violation_at, violation_at, sharing_if_later};
 ghost use Rattle.pgs_scratch.specs.Rows.{shared_value};
 
 use crate::key_row::KeyRow;
-use crate::row_violations::{missing_value, several_values};
+use crate::row_violations::{count_of_row, missing_value, several_values};
 use crate::untyped::{untyped_edge, untyped_node};
 use pgs_base::{Copyable, Elem, List, Memory, Steps, Tuple, TupleSet};
 use pgs_conform::Compiled;
@@ -203,6 +203,29 @@ fn shared_at<G: GraphRead, L: Ledger>(
     }
 }
 
+// 39 for an element, where the key counts and the element is in its scope.
+fn count_at<G: GraphRead, L: Ledger>(
+    alloc: Global,
+    graph: &G,
+    compiled: &Compiled,
+    number: u32,
+    key: &PlannedKey,
+    elem: Elem,
+    steps: &mut Steps<L>,
+) -> Result<Option<Violation>, Memory>
+    requires { is_valid_key_of compiled.now key.now ≡ true }
+    ensures found { IfOk result (λ found. found ≡ count_at compiled.now (G.meaning graph.now) number elem key.now) }
+    ensures no_step_back { steps.old ≤ steps.new }
+{
+    let Some(bounds) = key.key().qualifiers.count else {
+        return Ok(None);
+    };
+    match row_in_scope(alloc, graph, compiled, true, key, elem, steps)? {
+        Some(row) => Ok(count_of_row(number, bounds, &row)),
+        None => Ok(None),
+    }
+}
+
 // The violation of a key that is of the same number and least element as a violation of it.
 fn key_violation_at<G: GraphRead, L: Ledger>(
     alloc: Global,
@@ -230,6 +253,11 @@ fn key_violation_at<G: GraphRead, L: Ledger>(
             first,
             ..
         } => shared_at(alloc, graph, compiled, *number, key, *first, steps),
+        Violation::CountOutside {
+            key: number,
+            elem,
+            ..
+        } => count_at(alloc, graph, compiled, *number, key, *elem, steps),
         _ => Ok(None),
     }
 }
@@ -242,7 +270,8 @@ fn key_of(violation: &Violation) -> u32
         Violation::UntypedNode { .. } | Violation::UntypedEdge { .. } => 0,
         Violation::Mandatory { key, .. }
         | Violation::Singleton { key, .. }
-        | Violation::Exclusive { key, .. } => *key,
+        | Violation::Exclusive { key, .. }
+        | Violation::CountOutside { key, .. } => *key,
     }
 }
 

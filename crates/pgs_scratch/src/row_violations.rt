@@ -1,10 +1,10 @@
-//! 27, 28 and 29: the violations of one key from its rows.
+//! 27, 28, 29 and 39: the violations of one key from its rows.
 
 ghost use Rattle.std.specs.Prelude.{◌≡◌, ◌++◌, true, map, filter_map, IfOk, OnOk};
 ghost use Rattle.pgs_base.specs.Order.{ascends, elem_cmp};
 ghost use Rattle.pgs_violation.specs.Violations.{where_asked};
 ghost use Rattle.pgs_scratch.specs.declared.key_row.KeyRow.{KeyRow as Row};
-ghost use Rattle.pgs_scratch.specs.Rows.{missing_value, several_values, shared_values, rows_violations};
+ghost use Rattle.pgs_scratch.specs.Rows.{missing_value, several_values, shared_values, count_of_row, rows_violations};
 
 use crate::finding::add;
 use crate::key_row::KeyRow;
@@ -48,6 +48,25 @@ pub(crate) fn several_values(
             }))
         }
         _ => Ok(None),
+    }
+}
+
+/// 39 for a row whose number of key values isn't within the bounds.
+pub(crate) fn count_of_row(number: u32, bounds: (u32, u32), row: &KeyRow) -> Option<Violation>
+    ensures { result ≡ count_of_row number bounds row.now }
+{
+    let (least, most) = bounds;
+    let count = row.tuples.len() as u64;
+    if u64::from(least) <= count && count <= u64::from(most) {
+        None
+    } else {
+        Some(Violation::CountOutside {
+            key: number,
+            elem: row.elem,
+            count,
+            least,
+            most,
+        })
     }
 }
 
@@ -99,6 +118,22 @@ fn add_shared_values(
     Ok(())
 }
 
+// Adds 39 for each row whose number of key values isn't within the bounds.
+fn add_counts(
+    found: &mut Vec<Violation>,
+    number: u32,
+    bounds: (u32, u32),
+    rows: &[KeyRow],
+) -> Result<(), Memory>
+    ensures { OnOk result (found.new.items ≡ found.old.items ++ filter_map (count_of_row number bounds) rows.now) }
+{
+    for row in rows {
+        let violation = count_of_row(number, bounds, row);
+        add(found, violation)?;
+    }
+    Ok(())
+}
+
 /// Adds the violations of a key of this number that has these rows, which ascend.
 pub(crate) fn add_rows_violations(
     alloc: Global,
@@ -118,6 +153,9 @@ pub(crate) fn add_rows_violations(
     }
     if asked.exclusive {
         add_shared_values(alloc, found, number, rows)?;
+    }
+    if let Some(bounds) = asked.count {
+        add_counts(found, number, bounds, rows)?;
     }
     Ok(())
 }

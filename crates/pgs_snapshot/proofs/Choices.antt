@@ -7,8 +7,8 @@ use Rattle.pgs_world.specs.declared.area.Area.TheVariants.{A, B}
 use Rattle.pgs_world.specs.World.{Triple, part, other}
 use Rattle.pgs_journal.specs.declared.area_state.AreaState.{AreaState}
 use Rattle.pgs_journal.specs.declared.area_state.AreaState.TheVariants.{NoStore, Foreign, Damaged, Store}
-use Rattle.pgs_journal.specs.Area.{area_state, HoldsStore}
-use Rattle.pgs_journal.specs.Format.{First, Holds}
+use Rattle.pgs_journal.specs.Area.{area_state}
+use Rattle.pgs_journal.specs.Format.{First}
 use Rattle.pgs_snapshot.specs.Choice.{no_store, foreign, chosen, store_epoch, greater, taken, is_foreign, without_store, choice_in, choice, choice_of}
 
 abbrev pub state_in : Area → Triple → AreaState
@@ -32,7 +32,7 @@ none_chosen a b area epoch end payloads is = some (is_foreign a || is_foreign b)
     some false same = cc
 
 -- where the choice is this store, its area is in this state
-taken_area : (at area : Area) (state : AreaState) (epoch end : ℕ) (payloads : List (List ℕ)) → taken at state ≡ chosen area epoch end payloads → (at ≡ area) × (state ≡ Store epoch end payloads)
+pub taken_area : (at area : Area) (state : AreaState) (epoch end : ℕ) (payloads : List (List ℕ)) → taken at state ≡ chosen area epoch end payloads → (at ≡ area) × (state ≡ Store epoch end payloads)
 taken_area at area NoStore epoch end payloads is = absurd (let h : no_store ≡ chosen area epoch end payloads = is in cc)
 taken_area at area Foreign epoch end payloads is = absurd (let h : foreign ≡ chosen area epoch end payloads = is in cc)
 taken_area at area (Damaged e n) epoch end payloads is = absurd (cc)
@@ -125,16 +125,3 @@ none_of a b is = no_stores (area_state First a) (area_state First b) is
 pub of_none : (a b : List ℕ) → area_state First a ≡ NoStore → area_state First b ≡ NoStore → choice_of a b ≡ no_store
 unfolding choice_of
 of_none a b one two = ap (λ s. choice s (area_state First b)) one ∙ ap (λ s. choice NoStore s) two
-
--- ---- images that were read
-
--- the choice of images by the states that were read of them
-pub choice_read : (a b : AreaState) (x y : List ℕ) → a ≡ area_state First x → b ≡ area_state First y → choice a b ≡ choice_of x y
-unfolding choice_of
-choice_read a b x y one two = ap (λ s. choice s b) one ∙ ap (λ s. choice (area_state First x) s) two
-
--- the chosen area holds its records, where each area that is a store does
-pub held_chosen : (area : Area) (epoch end : ℕ) (payloads : List (List ℕ)) (triple : Triple) → choice_of triple.a triple.b ≡ chosen area epoch end payloads
-    → HoldsStore First (state_in A triple) triple.a → HoldsStore First (state_in B triple) triple.b → Holds First epoch payloads end (part area triple)
-held_chosen A epoch end payloads triple is a b = subst (λ s. HoldsStore First s triple.a) (leading A epoch end payloads triple is).state a
-held_chosen B epoch end payloads triple is a b = subst (λ s. HoldsStore First s triple.b) (leading B epoch end payloads triple is).state b

@@ -4,6 +4,8 @@ use Rattle.pgs_world.specs.declared.area.Area.{Area}
 use Rattle.pgs_world.specs.declared.area.Area.TheVariants.{A, B}
 use Rattle.pgs_journal.specs.declared.area_state.AreaState.{AreaState}
 use Rattle.pgs_journal.specs.declared.area_state.AreaState.TheVariants.{NoStore, Foreign, Damaged, Store}
+use Rattle.pgs_journal.specs.declared.head.Head.{Head}
+use Rattle.pgs_journal.specs.declared.head.Head.TheVariants as heads
 use Rattle.pgs_journal.specs.Area.{area_state}
 use Rattle.pgs_journal.specs.Format.{First}
 
@@ -60,6 +62,26 @@ choice a b = choice_in a b (greater (store_epoch a) (store_epoch b))
 -- the choice of two images
 unfoldable pub choice_of : List ℕ → List ℕ → Choice
 choice_of a b = choice (area_state First a) (area_state First b)
+
+-- the epoch of the store that a head is of
+abbrev pub head_epoch : Head → Option ℕ
+head_epoch heads.NoStore = None
+head_epoch heads.Foreign = None
+head_epoch (heads.Store epoch) = Some epoch
+
+-- the head is none of a store, behind an open gate
+abbrev pub is_foreign_head : Head → Bool
+is_foreign_head heads.NoStore = false
+is_foreign_head heads.Foreign = true
+is_foreign_head (heads.Store epoch) = false
+
+-- the area of the store with the greater epoch, by the heads of both
+abbrev pub leading : Head → Head → Option Area
+leading a b = greater (head_epoch a) (head_epoch b)
+
+-- what two areas of these heads are, of which none is a store
+abbrev pub without_heads : Head → Head → Choice
+without_heads a b = if is_foreign_head a || is_foreign_head b then foreign else no_store
 
 -- the area that is chosen, and its epoch, where an area is a store
 abbrev pub area_chosen : Choice → Option Area

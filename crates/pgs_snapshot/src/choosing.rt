@@ -1,6 +1,6 @@
-ghost use Rattle.std.specs.Prelude.{◌≡◌, true, Err, IsTrue, IfOk, IfErr};
+ghost use Rattle.std.specs.Prelude.{◌≡◌, true, Some, None, Err, IsTrue, IfOk, IfErr, OnErr};
 ghost use Rattle.pgs_journal.specs.Bounds.{IsBounded, IsBoundedStore};
-ghost use Rattle.pgs_snapshot.specs.Choice.{choice, choice_of, greater, is_foreign, store_epoch, taken, without_store};
+ghost use Rattle.pgs_snapshot.specs.Choice.{choice_of, greater, head_epoch, is_foreign_head, leading, taken, without_heads};
 ghost use Rattle.pgs_snapshot.specs.Choice as choices;
 ghost use Rattle.pgs_snapshot.specs.Standing.{HasStore, Refuses, is_read};
 ghost use Rattle.pgs_world.specs.Count.{Rose};
@@ -8,7 +8,7 @@ ghost use Rattle.pgs_world.specs.Moment.{IsQuiet, ShowsOne, IsSettled, MakesNoPu
 
 use crate::ChooseFault;
 use pgs_base::{Bytes, List};
-use pgs_journal::{AreaState, scan};
+use pgs_journal::{AreaState, Head, read_head, scan};
 use pgs_world::{Area, World, sync_both};
 use std::alloc::Global;
 
@@ -23,13 +23,13 @@ pub struct Chosen {
     pub payloads: List<Bytes>,
 }
 
-/// The epoch of a store, whole or damaged.
-fn store_epoch(state: &AreaState) -> Option<u64>
-    ensures { result ≡ store_epoch state.now }
+/// The epoch of the store that a head is of.
+fn head_epoch(head: Head) -> Option<u64>
+    ensures { result ≡ head_epoch head }
 {
-    match state {
-        AreaState::NoStore | AreaState::Foreign => None,
-        AreaState::Damaged { epoch, .. } | AreaState::Store { epoch, .. } => Some(*epoch),
+    match head {
+        Head::NoStore | Head::Foreign => None,
+        Head::Store { epoch } => Some(epoch),
     }
 }
 
@@ -45,15 +45,15 @@ fn greater(a: Option<u64>, b: Option<u64>) -> Option<Area>
     }
 }
 
-fn is_foreign(state: &AreaState) -> bool
-    ensures { result ≡ is_foreign state.now }
+fn is_foreign(head: Head) -> bool
+    ensures { result ≡ is_foreign_head head }
 {
-    matches!(state, AreaState::Foreign)
+    matches!(head, Head::Foreign)
 }
 
-/// Why there is no store in two areas of these states, neither of which is one.
-fn no_store_of(a: &AreaState, b: &AreaState) -> ChooseFault
-    ensures refused { Refuses result (without_store a.now b.now) }
+/// Why there is no store in two areas of these heads, neither of which is one's.
+fn no_store_of(a: Head, b: Head) -> ChooseFault
+    ensures refused { Refuses result (without_heads a b) }
     ensures read { is_read (Err result) ≡ true }
 {
     if is_foreign(a) || is_foreign(b) {
@@ -63,11 +63,26 @@ fn no_store_of(a: &AreaState, b: &AreaState) -> ChooseFault
     }
 }
 
+/// The area of the store with the greater epoch, by the heads of both.
+fn leading(a: Head, b: Head) -> Result<Area, ChooseFault>
+    ensures leads { IfOk result (λ area. leading a b ≡ Some area) }
+    ensures none { OnErr result (leading a b ≡ None) }
+    ensures refused { IfErr result (λ fault. Refuses fault (without_heads a b)) }
+    ensures read { IfErr result (λ fault. is_read (Err fault) ≡ true) }
+{
+    match greater(head_epoch(a), head_epoch(b)) {
+        Some(area) => Ok(area),
+        None => Err(no_store_of(a, b)),
+    }
+}
+
 /// The store of an area of this state.
 fn store_in(area: Area, state: AreaState) -> Result<Chosen, ChooseFault>
+    requires { IsBounded state }
     ensures chosen { IfOk result (λ it. taken area state ≡ choices.chosen it.area it.epoch it.end it.payloads) }
     ensures refused { IfErr result (λ fault. Refuses fault (taken area state)) }
     ensures read { is_read result ≡ true }
+    ensures bounds { IfOk result (λ it. IsBoundedStore it.epoch it.end it.payloads) }
 {
     match state {
         AreaState::NoStore => Err(ChooseFault::NoStore),
@@ -86,23 +101,7 @@ fn store_in(area: Area, state: AreaState) -> Result<Chosen, ChooseFault>
     }
 }
 
-/// The store of two areas of these states.
-fn choose(a: AreaState, b: AreaState) -> Result<Chosen, ChooseFault>
-    requires a { IsBounded a }
-    requires b { IsBounded b }
-    ensures chosen { IfOk result (λ it. choice a b ≡ choices.chosen it.area it.epoch it.end it.payloads) }
-    ensures refused { IfErr result (λ fault. Refuses fault (choice a b)) }
-    ensures read { is_read result ≡ true }
-    ensures bounds { IfOk result (λ it. IsBoundedStore it.epoch it.end it.payloads) }
-{
-    match greater(store_epoch(&a), store_epoch(&b)) {
-        Some(Area::A) => store_in(Area::A, a),
-        Some(Area::B) => store_in(Area::B, b),
-        None => Err(no_store_of(&a, &b)),
-    }
-}
-
-/// The store of two areas, each read once, with no sync.
+/// The store of two areas, with no sync. Of each the head is read, and then the chosen one is scanned.
 fn read_chosen<W: World>(alloc: Global, world: &mut W) -> Result<Chosen, ChooseFault>
     ensures chosen { IfOk result (λ it. IsTrue (W.view world.old).tells_bytes
         → choice_of (W.view world.old).shown.a (W.view world.old).shown.b ≡ choices.chosen it.area it.epoch it.end it.payloads) }
@@ -118,15 +117,17 @@ fn read_chosen<W: World>(alloc: Global, world: &mut W) -> Result<Chosen, ChooseF
         → (W.view world.new).area_faults ≡ (W.view world.old).area_faults }
     ensures no_put { MakesNoPut (W.view world.old) (W.view world.new) }
 {
-    let a = scan(alloc, world, Area::A)?;
-    let b = scan(alloc, world, Area::B)?;
-    choose(a, b)
+    let a = read_head(world, Area::A)?;
+    let b = read_head(world, Area::B)?;
+    let area = leading(a, b)?;
+    let state = scan(alloc, world, area)?;
+    store_in(area, state)
 }
 
-/// The store of two areas, by the definition of which one is chosen. Both areas are synced first, and then each is read once, by
-/// one call for its length and one read of all its bytes. Nothing is written: both areas and the output are what they were at
-/// every moment, and after an answer that speaks of the areas nothing is pending. What it gives is within its bounds on every
-/// world.
+/// The store of two areas, by the definition of which one is chosen. Both areas are synced first; then the head of each is read, and
+/// the one that is chosen is scanned, so that of the other no more than 17 bytes are read. Nothing is written: both areas and the
+/// output are what they were at every moment, and after an answer that speaks of the areas nothing is pending. What it gives is
+/// within its bounds on every world.
 ///
 /// `NoStore` where no area is a store and none is foreign, `Foreign` where no area is a store and one is foreign, `BadRecord`
 /// where the chosen store is damaged at that record, each exactly where the world tells its bytes. `DiskFault` comes only where

@@ -1,5 +1,5 @@
 -- Schemas, pairs and triples on which the definitions are tried.
-use Rattle.std.specs.Prelude.{ℕ, Bool, true, false, pos, List, [], ◌∷◌, codes}
+use Rattle.std.specs.Prelude.{ℕ, Bool, true, false, pos, List, [], ◌∷◌, Some, None, codes}
 use Rattle.pgs_base.specs.declared.element.NodeId.{NodeId}
 use Rattle.pgs_base.specs.declared.element.EdgeId.{EdgeId}
 use Rattle.pgs_base.specs.declared.row.NodeRow.{NodeRow}
@@ -82,7 +82,11 @@ key qualifiers scope exprs descriptor =
 
 abbrev pub qualifiers : Bool → Bool → Bool → Qualifiers
 qualifiers mandatory singleton exclusive =
-    record { mandatory = mandatory; singleton = singleton; exclusive = exclusive }
+    record { mandatory = mandatory; singleton = singleton; exclusive = exclusive; count = None }
+
+-- COUNT between two numbers alone
+abbrev pub counted : ℕ → ℕ → Qualifiers
+counted least most = record (qualifiers false false false) { count = Some (least, most) }
 
 -- (personType: Person {name STRING}), (employeeType: personType & Employee {salary INT})
 abbrev pub staff_types : List (NodeType Leaf)

@@ -2,12 +2,14 @@ use crate::{Expr, Pattern};
 use pgs_base::List;
 
 /// What a key asks: MANDATORY, that each element of the scope has a key value; SINGLETON, that it has at most one;
-/// EXCLUSIVE, that no two elements of the scope share one. IDENTIFIER is all three.
+/// EXCLUSIVE, that no two elements of the scope share one. IDENTIFIER is these three. COUNT asks that the number of different key
+/// values of each element of the scope is at least `count`'s first number and at most its second.
 #[derive(Clone, Copy, Debug, PartialEq, Eq)]
 pub struct Qualifiers {
     pub mandatory: bool,
     pub singleton: bool,
     pub exclusive: bool,
+    pub count: Option<(u32, u32)>,
 }
 
 /// A key: `FOR scope qualifiers exprs WITHIN descriptor`. Variable 0 is the element in both patterns.

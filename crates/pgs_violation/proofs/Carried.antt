@@ -25,8 +25,8 @@ use Rattle.pgs_violation.specs.declared.violation.Violation.{Violation}
 use Rattle.pgs_violation.specs.declared.violation.Violation.TheVariants.{UntypedNode, UntypedEdge, Mandatory, Singleton, Exclusive}
 use Rattle.pgs_violation.specs.Meaning.{IsUntypedNode, IsUntypedEdge, IsKeyOf, LacksValue, IsLaterValue, HasTwoLeast, IsShared, IsLaterSharer, SharesLeast}
 use Rattle.pgs_violation.specs.Violations.{two_least, shared_tuple, later_than, sharing, exclusive_violation, violations}
-use Rattle.pgs_violation.proofs.InOrder.{untyped_node_says, untyped_edge_says, mandatory_violation_says, two_least_says, first_says}
-use Rattle.pgs_violation.proofs.Origins.{Origin, of_node, of_edge, missing, several, shared, origin, listed}
+use Rattle.pgs_violation.proofs.InOrder.{untyped_node_says, untyped_edge_says, mandatory_violation_says, two_least_says, first_says, count_outside_says}
+use Rattle.pgs_violation.proofs.Origins.{Origin, of_node, of_edge, missing, several, shared, counted, origin, listed}
 
 -- ---- small steps
 
@@ -141,6 +141,7 @@ module _ (resolved : Resolved) (g : Graph) where
       by (missing number key elem is asked there gives) = let n = (mandatory_violation_says number (key_values resolved g key) elem _ gives).1 in absurd (omega arith)
       by (several number key elem is asked there gives) = let n = (two_least_says number (key_values resolved g key) elem _ _ gives).1 in absurd (omega arith)
       by (shared number key elem is asked there gives) = let n = (first_says number (key_values resolved g key) elem _ _ gives).1 in absurd (omega arith)
+      by (counted number key bounds elem is asked there gives) = let n = (count_outside_says number bounds elem _ _ gives).1 in absurd (omega arith)
 
   pub untyped_node_given : (node : NodeId) → IsUntypedNode resolved g node → Contains (violations resolved g) (UntypedNode node)
   untyped_node_given node (row, strict, there, fails) =
@@ -159,6 +160,7 @@ module _ (resolved : Resolved) (g : Graph) where
       by (missing number key elem is asked there gives) = let n = (mandatory_violation_says number (key_values resolved g key) elem _ gives).1 in absurd (omega arith)
       by (several number key elem is asked there gives) = let n = (two_least_says number (key_values resolved g key) elem _ _ gives).1 in absurd (omega arith)
       by (shared number key elem is asked there gives) = let n = (first_says number (key_values resolved g key) elem _ _ gives).1 in absurd (omega arith)
+      by (counted number key bounds elem is asked there gives) = let n = (count_outside_says number bounds elem _ _ gives).1 in absurd (omega arith)
 
   pub untyped_edge_given : (edge : EdgeId) → IsUntypedEdge resolved g edge → Contains (violations resolved g) (UntypedEdge edge)
   untyped_edge_given edge (row, strict, there, fails) =
@@ -183,6 +185,7 @@ module _ (resolved : Resolved) (g : Graph) where
       by (of_edge own strict there gives) = let n = (untyped_edge_says resolved g own _ gives).1 in absurd (omega arith)
       by (several n key e is asked there gives) = let m = (two_least_says n (key_values resolved g key) e _ _ gives).1 in absurd (omega arith)
       by (shared n key e is asked there gives) = let m = (first_says n (key_values resolved g key) e _ _ gives).1 in absurd (omega arith)
+      by (counted n key bounds e is asked there gives) = let m = (count_outside_says n bounds e _ _ gives).1 in absurd (omega arith)
 
   pub missing_given : (number : ℕ) (elem : Elem) → LacksValue resolved g number elem → Contains (violations resolved g) (Mandatory number elem)
   missing_given number elem (key, is, asked, there, none) =
@@ -207,6 +210,7 @@ module _ (resolved : Resolved) (g : Graph) where
       by (of_edge own strict there gives) = let n = (untyped_edge_says resolved g own _ gives).1 in absurd (omega arith)
       by (missing n key e is asked there gives) = let m = (mandatory_violation_says n (key_values resolved g key) e _ gives).1 in absurd (omega arith)
       by (shared n key e is asked there gives) = let m = (first_says n (key_values resolved g key) e _ _ gives).1 in absurd (omega arith)
+      by (counted n key bounds e is asked there gives) = let m = (count_outside_says n bounds e _ _ gives).1 in absurd (omega arith)
 
   pub two_least_given : (number : ℕ) (elem : Elem) (first second : List Part) → HasTwoLeast resolved g number elem first second →
       Contains (violations resolved g) (Singleton number elem first second)
@@ -291,6 +295,7 @@ module _ (resolved : Resolved) (g : Graph) where
         by (of_edge own strict there gives) = let n = (untyped_edge_says resolved g own _ gives).1 in absurd (omega arith)
         by (missing n key e is asked there gives) = let m = (mandatory_violation_says n (key_values resolved g key) e _ gives).1 in absurd (omega arith)
         by (several n key e is asked there gives) = let m = (two_least_says n (key_values resolved g key) e _ _ gives).1 in absurd (omega arith)
+        by (counted n key bounds e is asked there gives) = let m = (count_outside_says n bounds e _ _ gives).1 in absurd (omega arith)
 
     pub sharers_given : SharesLeast resolved g number first second tuple → Contains (violations resolved g) (Exclusive number first second tuple)
     sharers_given (key, is, asked, there, least, least_shared) =

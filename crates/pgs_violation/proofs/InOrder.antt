@@ -22,21 +22,22 @@ use Rattle.pgs_syntax.specs.KeyValues.{scope_of, key_values}
 use Rattle.pgs_syntax.specs.Typed.{is_typed_node, is_typed_edge}
 use Rattle.pgs_syntax.proofs.InOrder.{nodes_ascend, edges_ascend, scope_ascends}
 use Rattle.pgs_violation.specs.declared.violation.Violation.{Violation}
-use Rattle.pgs_violation.specs.declared.violation.Violation.TheVariants.{UntypedNode, UntypedEdge, Mandatory, Singleton, Exclusive}
+use Rattle.pgs_violation.specs.declared.violation.Violation.TheVariants.{UntypedNode, UntypedEdge, Mandatory, Singleton, Exclusive, CountOutside}
 use Rattle.pgs_violation.specs.Standing.{violation_cmp, key_of, number_of, elem_of, carried_cmp}
-use Rattle.pgs_violation.specs.Violations.{untyped_node, untyped_edge, mandatory_violation, two_least, singleton_violation, shared_tuple, later_than, sharing, exclusive_violation, where_asked, key_violations, keys_violations, violations}
+use Rattle.pgs_violation.specs.Violations.{untyped_node, untyped_edge, mandatory_violation, two_least, singleton_violation, shared_tuple, later_than, sharing, exclusive_violation, is_within, count_outside, count_violation, where_asked, where_bounded, key_violations, keys_violations, violations}
 
 -- ---- one number for the key and the number of a violation
 
 abbrev rank : Violation → ℕ
 rank v = key_of v * 100 + number_of v
 
-number_within : (v : Violation) → (25 ≤ number_of v) × (number_of v ≤ 29)
+number_within : (v : Violation) → (25 ≤ number_of v) × (number_of v ≤ 39)
 number_within (UntypedNode node) = (omega arith, omega arith)
 number_within (UntypedEdge edge) = (omega arith, omega arith)
 number_within (Mandatory key elem) = (omega arith, omega arith)
 number_within (Singleton key elem first second) = (omega arith, omega arith)
 number_within (Exclusive key first second tuple) = (omega arith, omega arith)
+number_within (CountOutside key elem count least most) = (omega arith, omega arith)
 
 less_is : (a b : ℕ) → a < b → nat_cmp a b ≡ Less
 less_is a b h = sym (nat_cmp_is a b Less h)
@@ -111,6 +112,11 @@ append low mid high (x ∷ xs) ys a b first second =
 asked : (low high : ℕ) (b : Bool) (vs : List Violation) → Run low high vs → Run low high (where_asked b vs)
 asked low high true vs run = run
 asked low high false vs run = record { ascending = refl; within = tt }
+
+bounded : (low high : ℕ) (o : Option (ℕ × ℕ)) (vs : ℕ × ℕ → List Violation) → ((bounds : ℕ × ℕ) → Run low high (vs bounds)) →
+    Run low high (where_bounded o vs)
+bounded low high None vs runs = record { ascending = refl; within = tt }
+bounded low high (Some bounds) vs runs = runs bounds
 
 -- ---- what is found of elements that ascend
 
@@ -198,10 +204,15 @@ module _ (key : ℕ) (values : Elem → List (List Part)) where
       by None is e rest = rest e
       by (Some u) is e rest = sharing_says elem second v (is ∙ e)
 
+pub count_outside_says : (key : ℕ) (bounds : ℕ × ℕ) (elem : Elem) (tuples : List (List Part)) (v : Violation) → count_outside key bounds elem tuples ≡ Some v →
+    Says elem key 39 v
+count_outside_says key bounds elem tuples v e =
+    subst (Says elem key 39) (unless (is_within bounds (length tuples)) (CountOutside key elem (length tuples) bounds.0 bounds.1) v e) (refl, refl, refl)
+
 -- ---- the whole list
 
 module _ (g : Graph) (graph : is_graph g ≡ true) (resolved : Resolved) where
-  key_run : (number : ℕ) (key : Key) → Run (number * 100 + 27) (number * 100 + 30) (key_violations resolved g number key)
+  key_run : (number : ℕ) (key : Key) → Run (number * 100 + 27) (number * 100 + 40) (key_violations resolved g number key)
   key_run number key =
       let scope = scope_of resolved g key in
       let values = key_values resolved g key in
@@ -212,10 +223,15 @@ module _ (g : Graph) (graph : is_graph g ≡ true) (resolved : Resolved) where
       (λ elem v e. two_least_says number values elem (values elem) v e) scope ordered) in
       let shared = asked _ _ key.qualifiers.exclusive _ (found_run (λ elem. elem) (exclusive_violation number scope values) number 29
       (λ elem v e. first_says number values elem (later_than elem scope) v e) scope ordered) in
-      append (number * 100 + 27) (number * 100 + 29) (number * 100 + 30) _ _ (omega arith) (omega arith)
+      let outside = bounded _ _ key.qualifiers.count (λ (bounds : ℕ × ℕ). filter_map (count_violation number values bounds) scope)
+      (λ bounds. found_run (λ elem. elem) (count_violation number values bounds) number 39
+      (λ elem v e. count_outside_says number bounds elem (values elem) v e) scope ordered) in
+      append (number * 100 + 27) (number * 100 + 30) (number * 100 + 40) _ _ (omega arith) (omega arith)
+      (append (number * 100 + 27) (number * 100 + 29) (number * 100 + 30) _ _ (omega arith) (omega arith)
       (append (number * 100 + 27) (number * 100 + 28) (number * 100 + 29) _ _ (omega arith) (omega arith)
       (wide _ _ _ _ _ (omega arith) (omega arith) missing) (wide _ _ _ _ _ (omega arith) (omega arith) several))
-      (wide _ _ _ _ _ (omega arith) (omega arith) shared)
+      (wide _ _ _ _ _ (omega arith) (omega arith) shared))
+      (wide _ _ _ _ _ (omega arith) (omega arith) outside)
 
   keys_run : (number : ℕ) (keys : List Key) → Run (number * 100 + 27) ((number + length keys) * 100 + 27) (keys_violations resolved g number keys)
   keys_run number [] = record { ascending = refl; within = tt }

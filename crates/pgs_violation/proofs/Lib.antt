@@ -1,4 +1,5 @@
 pub mod Carried
+pub mod Counted
 pub mod FirstOf
 pub mod InOrder
 pub mod Origins

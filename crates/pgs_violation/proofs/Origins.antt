@@ -1,5 +1,5 @@
 -- Where a violation in the list of a graph's violations comes from, and what it says.
-use Rattle.std.proofs.Common.{◌≡◌, ℕ, zero, suc, ◌+◌, Bool, true, false, ⊎_elim, ◌⊎◌, inl, inr, List, [], ◌∷◌, ◌++◌, Some, slice_get, refl, sym, subst, arith}
+use Rattle.std.proofs.Common.{◌≡◌, ℕ, zero, suc, ◌+◌, Bool, true, false, ⊎_elim, ◌⊎◌, inl, inr, List, [], ◌∷◌, ◌++◌, Option, Some, None, slice_get, refl, sym, subst, arith}
 use Rattle.std.specs.Prelude.{Contains, filter_map}
 use Rattle.std.proofs.lemmas.List.Elements.{Contains-append_left, Contains-append_right, Contains-append_cases}
 use Rattle.pgs_base.specs.declared.element.NodeId.{NodeId}
@@ -15,9 +15,9 @@ use Rattle.pgs_syntax.specs.KeyValues.{scope_of, key_values}
 use Rattle.pgs_syntax.proofs.Members.{contains_none, given_found, given_given}
 use Rattle.pgs_violation.specs.declared.violation.Violation.{Violation}
 use Rattle.pgs_violation.specs.Meaning.{IsKeyOf}
-use Rattle.pgs_violation.specs.Violations.{untyped_node, untyped_edge, mandatory_violation, two_least, singleton_violation, exclusive_violation, where_asked, key_violations, keys_violations, violations}
+use Rattle.pgs_violation.specs.Violations.{untyped_node, untyped_edge, mandatory_violation, two_least, singleton_violation, exclusive_violation, count_outside, count_violation, where_asked, where_bounded, key_violations, keys_violations, violations}
 
--- ---- the five sources of violations
+-- ---- the six sources of violations
 
 asked_found : (b : Bool) (vs : List Violation) (v : Violation) → Contains (where_asked b vs) v → (b ≡ true) × Contains vs v
 asked_found true vs v h = (refl, h)
@@ -27,8 +27,14 @@ asked_given : (b : Bool) (vs : List Violation) (v : Violation) → b ≡ true �
 asked_given true vs v asked h = h
 asked_given false vs v asked h = cc
 
+bounded_found : (o : Option (ℕ × ℕ)) (vs : ℕ × ℕ → List Violation) (v : Violation) → Contains (where_bounded o vs) v →
+    (bounds : ℕ × ℕ) × (o ≡ Some bounds) × Contains (vs bounds) v
+bounded_found None vs v h = absurd (contains_none v h)
+bounded_found (Some bounds) vs v h = (bounds, refl, h)
+
 module _ (resolved : Resolved) (g : Graph) where
-  -- of an untyped node, of an untyped edge, and of an element of a key's scope that has no key value, several, or a shared one
+  -- of an untyped node, of an untyped edge, and of an element of a key's scope that has no key value, several, a shared one, or a number
+  -- of them that isn't within the key's bounds
   pub data Origin (v : Violation) : Type 0 where
     of_node : (node : NodeId × NodeRow) → resolved.guard.strict ≡ true → Contains g.nodes node → untyped_node resolved node ≡ Some v → Origin v
     of_edge : (edge : EdgeId × EdgeRow) → resolved.guard.strict ≡ true → Contains g.edges edge → untyped_edge resolved g edge ≡ Some v → Origin v
@@ -38,6 +44,8 @@ module _ (resolved : Resolved) (g : Graph) where
         two_least number elem (key_values resolved g key elem) ≡ Some v → Origin v
     shared : (number : ℕ) (key : Key) (elem : Elem) → IsKeyOf resolved number key → key.qualifiers.exclusive ≡ true → Contains (scope_of resolved g key) elem →
         exclusive_violation number (scope_of resolved g key) (key_values resolved g key) elem ≡ Some v → Origin v
+    counted : (number : ℕ) (key : Key) (bounds : ℕ × ℕ) (elem : Elem) → IsKeyOf resolved number key → key.qualifiers.count ≡ Some bounds →
+        Contains (scope_of resolved g key) elem → count_outside number bounds elem (key_values resolved g key elem) ≡ Some v → Origin v
 
   keys_found : (first : ℕ) (keys : List Key) (v : Violation) → Contains (keys_violations resolved g first keys) v →
       (place : ℕ) × (key : Key) × (slice_get keys place ≡ Some key) × Contains (key_violations resolved g (place + first) key) v
@@ -75,8 +83,14 @@ module _ (resolved : Resolved) (g : Graph) where
     abbrev of_exclusive : List Violation
     of_exclusive = where_asked key.qualifiers.exclusive (filter_map (exclusive_violation number scope values) scope)
 
-    key_origin : (v : Violation) → IsKeyOf resolved number key → Contains (key_violations resolved g number key) v → Origin v
-    key_origin v is h =
+    abbrev of_bounds : ℕ × ℕ → List Violation
+    of_bounds bounds = filter_map (count_violation number values bounds) scope
+
+    abbrev of_count : List Violation
+    of_count = where_bounded key.qualifiers.count of_bounds
+
+    uncounted_origin : (v : Violation) → IsKeyOf resolved number key → Contains (of_mandatory ++ of_singleton ++ of_exclusive) v → Origin v
+    uncounted_origin v is h =
         ⊎_elim (λ front. ⊎_elim
         (λ first. let asked = asked_found key.qualifiers.mandatory _ v first in
         let found = given_found (mandatory_violation number values) scope v asked.1 in missing number key found.0 is asked.0 found.1 found.2)
@@ -87,10 +101,22 @@ module _ (resolved : Resolved) (g : Graph) where
         let found = given_found (exclusive_violation number scope values) scope v asked.1 in shared number key found.0 is asked.0 found.1 found.2)
         (Contains-append_cases (of_mandatory ++ of_singleton) of_exclusive v h)
 
+    key_origin : (v : Violation) → IsKeyOf resolved number key → Contains (key_violations resolved g number key) v → Origin v
+    key_origin v is h =
+        ⊎_elim (λ front. uncounted_origin v is front)
+        (λ last. let bounded = bounded_found key.qualifiers.count of_bounds v last in
+        let found = given_found (count_violation number values bounded.0) scope v bounded.2 in
+        counted number key bounded.0 found.0 is bounded.1 found.1 found.2)
+        (Contains-append_cases (of_mandatory ++ of_singleton ++ of_exclusive) of_count v h)
+
     key_listed : (v : Violation) → Contains (of_mandatory ++ of_singleton) v ⊎ Contains of_exclusive v → Contains (key_violations resolved g number key) v
     key_listed v h =
-        ⊎_elim (λ front. Contains-append_left (of_mandatory ++ of_singleton) of_exclusive v front)
-        (λ last. Contains-append_right (of_mandatory ++ of_singleton) of_exclusive v last) h
+        Contains-append_left (of_mandatory ++ of_singleton ++ of_exclusive) of_count v
+        (⊎_elim (λ front. Contains-append_left (of_mandatory ++ of_singleton) of_exclusive v front)
+        (λ last. Contains-append_right (of_mandatory ++ of_singleton) of_exclusive v last) h)
+
+    count_listed : (v : Violation) → Contains of_count v → Contains (key_violations resolved g number key) v
+    count_listed v h = Contains-append_right (of_mandatory ++ of_singleton ++ of_exclusive) of_count v h
 
   abbrev untyped_nodes : List Violation
   untyped_nodes = filter_map (untyped_node resolved) g.nodes
@@ -135,3 +161,7 @@ module _ (resolved : Resolved) (g : Graph) where
   listed v (shared number key elem is asked there gives) =
       in_keys number key v is (key_listed number key v (inr
       (asked_given key.qualifiers.exclusive _ v asked (given_given (exclusive_violation number (scope number key) (values number key)) (scope number key) elem v there gives))))
+  listed v (counted number key bounds elem is asked there gives) =
+      in_keys number key v is (count_listed number key v
+      (subst (λ o. Contains (where_bounded o (of_bounds number key)) v) (sym asked)
+      (given_given (count_violation number (values number key) bounds) (scope number key) elem v there gives)))

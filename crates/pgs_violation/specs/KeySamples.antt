@@ -16,6 +16,10 @@ three_with edges = record {
 abbrev pub three_values : List (EdgeId × EdgeRow)
 three_values = edge 1 1 9 (codes "r") ∷ edge 2 1 8 (codes "r") ∷ edge 3 1 7 (codes "r") ∷ []
 
+-- from n1 to n8, twice
+abbrev pub one_twice : List (EdgeId × EdgeRow)
+one_twice = edge 1 1 8 (codes "r") ∷ edge 2 1 8 (codes "r") ∷ []
+
 -- from n1 to n8 and n9, from n2 to n7, and from n3 to n9 and n8
 abbrev pub later_sharer : List (EdgeId × EdgeRow)
 later_sharer =

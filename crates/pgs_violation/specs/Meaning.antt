@@ -1,5 +1,5 @@
 -- What the violations of a graph say: when each of them stands in the list, in words.
-use Rattle.std.specs.Prelude.{◌≡◌, ℕ, ◌+◌, true, false, List, [], Some, Contains, slice_get}
+use Rattle.std.specs.Prelude.{◌≡◌, ◌↔◌, ◌⊎◌, ℕ, ◌+◌, ◌<◌, true, false, List, [], Some, Contains, length, slice_get}
 use Rattle.std.specs.declared.cmp.Ordering.TheVariants.{Less}
 use Rattle.pgs_base.specs.declared.element.NodeId.{NodeId}
 use Rattle.pgs_base.specs.declared.element.EdgeId.{EdgeId}
@@ -8,7 +8,7 @@ use Rattle.pgs_base.specs.declared.part.Part.{Part}
 use Rattle.pgs_base.specs.declared.row.NodeRow.{NodeRow}
 use Rattle.pgs_base.specs.declared.row.EdgeRow.{EdgeRow}
 use Rattle.pgs_base.specs.Graph.{Graph}
-use Rattle.pgs_base.specs.Order.{elem_cmp, tuple_cmp}
+use Rattle.pgs_base.specs.Order.{ascends, elem_cmp, tuple_cmp}
 use Rattle.pgs_syntax.specs.declared.key.Key.{Key}
 use Rattle.pgs_syntax.specs.declared.resolved.Resolved.{Resolved}
 use Rattle.pgs_syntax.specs.KeyValues.{scope_of, key_values}
@@ -60,3 +60,15 @@ abbrev pub SharesLeast : Resolved → Graph → ℕ → Elem → Elem → List P
 SharesLeast resolved g number first second tuple = (key : Key) × IsKeyOf resolved number key × (key.qualifiers.exclusive ≡ true)
     × Contains (scope_of resolved g key) first × IsLeast elem_cmp (IsLaterSharer resolved g key first) second
     × IsLeast tuple_cmp (IsShared resolved g key first second) tuple
+
+-- so many tuples are such: there is a list of them in which each stands once
+abbrev pub AreSoMany : (List Part → Type 0) → ℕ → Type 0
+AreSoMany IsSuch count = (tuples : List (List Part)) × (ascends tuple_cmp tuples ≡ true)
+    × ((tuple : List Part) → Contains tuples tuple ↔ IsSuch tuple) × (length tuples ≡ count)
+
+-- 39: the element is in the scope of a key that counts, and so many different tuples are its key values, which are fewer than the
+-- key's first number or more than its second
+abbrev pub HasCountOutside : Resolved → Graph → ℕ → Elem → ℕ → ℕ → ℕ → Type 0
+HasCountOutside resolved g number elem count least most = (key : Key) × IsKeyOf resolved number key
+    × (key.qualifiers.count ≡ Some (least, most)) × Contains (scope_of resolved g key) elem
+    × AreSoMany (Contains (key_values resolved g key elem)) count × ((count < least) ⊎ (most < count))

@@ -1,21 +1,27 @@
 -- The order of violations is total, and tells different ones apart.
-use Rattle.std.proofs.Common.{true, true≢false, is_lt, is_gt, ◌≡◌, Decides, List, [], ◌∷◌, refl, ◌∙◌, ap, subst, Ordering, Less, Equal, Greater}
+use Rattle.std.proofs.Common.{ℕ, true, true≢false, is_lt, is_gt, ◌≡◌, Decides, List, [], ◌∷◌, refl, ◌∙◌, ap, subst, Ordering, Less, Equal, Greater}
 use Rattle.std.specs.Ordering.{nat_cmp, ordering_then, eq_by_cmp}
 use Rattle.std.specs.Cmp.{IsTotalOrder, nat_cmp_total, on_total, then_total, Equal-is, eq_by_cmp_equiv}
 use Rattle.std.specs.Cmp.Lexicographic.{slice_cmp, lists_total}
 use Rattle.std.proofs.lemmas.Map.Lookups.{CmpEqualImpliesEq, exact_unsigned}
+use Rattle.pgs_base.specs.declared.element.Elem.TheVariants.{Node}
 use Rattle.pgs_base.specs.declared.part.Part.{Part}
 use Rattle.pgs_base.specs.declared.part.Part.TheVariants as parts
 use Rattle.pgs_base.specs.Order.{elem_cmp, tuple_cmp}
 use Rattle.pgs_base.specs.OrderLaws.{elem_cmp_total, tuple_cmp_total, exact_elem, exact_tuple}
 use Rattle.pgs_violation.specs.declared.violation.Violation.{Violation}
-use Rattle.pgs_violation.specs.declared.violation.Violation.TheVariants.{UntypedNode, UntypedEdge, Mandatory, Singleton, Exclusive}
+use Rattle.pgs_violation.specs.declared.violation.Violation.TheVariants.{UntypedNode, UntypedEdge, Mandatory, Singleton, Exclusive, CountOutside}
 use Rattle.pgs_violation.specs.Standing.{violation_cmp, key_of, number_of, elem_of, carried_cmp}
+
+-- a number as a tuple: such tuples go by their numbers
+abbrev of_number : ℕ → List Part
+of_number number = parts.Elem (Node (record { 0 = number })) ∷ []
 
 -- what a violation carries, as tuples
 abbrev carried : Violation → List (List Part)
 carried (Singleton key elem first second) = first ∷ second ∷ []
 carried (Exclusive key first second tuple) = (parts.Elem second ∷ []) ∷ tuple ∷ []
+carried (CountOutside key elem count least most) = of_number count ∷ of_number least ∷ of_number most ∷ []
 carried v = []
 
 -- the order of violations, in which what two of different numbers carry compares too
@@ -28,6 +34,15 @@ then_Equal : (a : Ordering) → ordering_then a Equal ≡ a
 then_Equal Less = refl
 then_Equal Equal = refl
 then_Equal Greater = refl
+
+three_numbers : (a b c : Ordering) →
+    ordering_then (ordering_then a Equal) (ordering_then (ordering_then b Equal) (ordering_then (ordering_then c Equal) Equal))
+    ≡ ordering_then (ordering_then a b) c
+three_numbers Less b c = refl
+three_numbers Greater b c = refl
+three_numbers Equal Less c = refl
+three_numbers Equal Greater c = refl
+three_numbers Equal Equal c = then_Equal (ordering_then c Equal) ∙ then_Equal c
 
 not_less : Less ≡ Equal → ⊥
 not_less e = true≢false (ap is_lt e)
@@ -42,7 +57,11 @@ same_number (Singleton key elem first second) (Singleton other_key other_elem ot
 same_number (Exclusive key first second tuple) (Exclusive other_key other_first other_second other_tuple) e =
     ap (λ o. ordering_then o (ordering_then (tuple_cmp tuple other_tuple) Equal)) (then_Equal (elem_cmp second other_second))
     ∙ ap (ordering_then (elem_cmp second other_second)) (then_Equal (tuple_cmp tuple other_tuple))
+same_number (CountOutside key elem count least most) (CountOutside other_key other_elem other_count other_least other_most) e =
+    three_numbers (nat_cmp count other_count) (nat_cmp least other_least) (nat_cmp most other_most)
 same_number (Singleton key elem first second) (Exclusive other_key other_first other_second other_tuple) e = absurd (not_less e)
+same_number a (CountOutside other_key other_elem other_count other_least other_most) e = absurd (not_less e)
+same_number (CountOutside key elem count least most) b e = absurd (not_greater e)
 same_number (Singleton key elem first second) b e = absurd (not_greater e)
 same_number (Exclusive key first second tuple) b e = absurd (not_greater e)
 same_number a (Singleton other_key other_elem other_first other_second) e = absurd (not_less e)
@@ -91,6 +110,11 @@ parts_exact (Exclusive key first second tuple) (Exclusive other_key other_first 
     let carried = both_Equal (elem_cmp second other_second) (tuple_cmp tuple other_tuple) c in
     λ i. Exclusive (exact_unsigned key other_key k i) (exact_elem first other_first e i) (exact_elem second other_second carried.0 i)
     (exact_tuple tuple other_tuple carried.1 i)
+parts_exact (CountOutside key elem count least most) (CountOutside other_key other_elem other_count other_least other_most) k n e c =
+    let outer = both_Equal (ordering_then (nat_cmp count other_count) (nat_cmp least other_least)) (nat_cmp most other_most) c in
+    let inner = both_Equal (nat_cmp count other_count) (nat_cmp least other_least) outer.0 in
+    λ i. CountOutside (exact_unsigned key other_key k i) (exact_elem elem other_elem e i) (exact_unsigned count other_count inner.0 i)
+    (exact_unsigned least other_least inner.1 i) (exact_unsigned most other_most outer.1 i)
 parts_exact v w k n e c = cc
 
 pub exact_violation : CmpEqualImpliesEq violation_cmp

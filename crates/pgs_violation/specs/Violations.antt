@@ -1,6 +1,6 @@
 -- The violations of a graph under a schema, in order, and the verdict on it. A violation of an element and a key is found from
 -- the key's scope and the key values of its elements alone.
-use Rattle.std.specs.Prelude.{ℕ, ◌+◌, Bool, true, false, List, [], ◌∷◌, ◌++◌, Option, Some, None, filter, filter_map, find, slice_get, option_map, if◌then◌else◌}
+use Rattle.std.specs.Prelude.{ℕ, ◌+◌, Bool, true, false, List, [], ◌∷◌, ◌++◌, Option, Some, None, filter, filter_map, find, slice_get, option_map, if◌then◌else◌, ◌&&◌, nat_le, length}
 use Rattle.std.specs.Ordering.{is_lt}
 use Rattle.std.specs.List.{list_any}
 use Rattle.std.specs.BTreeMap.{is_at}
@@ -20,7 +20,7 @@ use Rattle.pgs_syntax.specs.Typed.{is_typed_node, is_typed_edge}
 use Rattle.pgs_violation.specs.declared.violation.Verdict.{Verdict}
 use Rattle.pgs_violation.specs.declared.violation.Verdict.TheVariants.{Conforms, Refused}
 use Rattle.pgs_violation.specs.declared.violation.Violation.{Violation}
-use Rattle.pgs_violation.specs.declared.violation.Violation.TheVariants.{UntypedNode, UntypedEdge, Mandatory, Singleton, Exclusive}
+use Rattle.pgs_violation.specs.declared.violation.Violation.TheVariants.{UntypedNode, UntypedEdge, Mandatory, Singleton, Exclusive, CountOutside}
 
 -- 25 for a node that isn't typed, and 26 for an edge that isn't
 abbrev pub untyped_node : Resolved → NodeId × NodeRow → Option Violation
@@ -57,10 +57,27 @@ sharing number values first second = option_map (Exclusive number first second) 
 abbrev pub exclusive_violation : ℕ → List Elem → (Elem → List (List Part)) → Elem → Option Violation
 exclusive_violation number scope values elem = slice_get (filter_map (sharing number values elem) (later_than elem scope)) 0
 
+-- whether a number is at least the first bound and at most the second
+abbrev pub is_within : ℕ × ℕ → ℕ → Bool
+is_within bounds count = nat_le bounds.0 count && nat_le count bounds.1
+
+-- 39 for an element whose number of key values isn't within the bounds, with that number
+abbrev pub count_outside : ℕ → ℕ × ℕ → Elem → List (List Part) → Option Violation
+count_outside number bounds elem tuples =
+    if is_within bounds (length tuples) then None else Some (CountOutside number elem (length tuples) bounds.0 bounds.1)
+
+abbrev pub count_violation : ℕ → (Elem → List (List Part)) → ℕ × ℕ → Elem → Option Violation
+count_violation number values bounds elem = count_outside number bounds elem (values elem)
+
 -- what is found, where it is asked for
 abbrev pub where_asked : Bool → List Violation → List Violation
 where_asked true found = found
 where_asked false found = []
+
+-- what is found by bounds, where there are some
+abbrev pub where_bounded : Option (ℕ × ℕ) → (ℕ × ℕ → List Violation) → List Violation
+where_bounded None found = []
+where_bounded (Some bounds) found = found bounds
 
 -- the violations of one key, of this number
 abbrev pub key_violations : Resolved → Graph → ℕ → Key → List Violation
@@ -70,6 +87,7 @@ key_violations resolved g number key =
     where_asked key.qualifiers.mandatory (filter_map (mandatory_violation number values) scope)
     ++ where_asked key.qualifiers.singleton (filter_map (singleton_violation number values) scope)
     ++ where_asked key.qualifiers.exclusive (filter_map (exclusive_violation number scope values) scope)
+    ++ where_bounded key.qualifiers.count (λ bounds. filter_map (count_violation number values bounds) scope)
 
 -- the violations of keys, of which the first has this number
 abbrev pub keys_violations : Resolved → Graph → ℕ → List Key → List Violation

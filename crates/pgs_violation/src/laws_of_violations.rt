@@ -11,8 +11,8 @@ ghost use Rattle.pgs_syntax.specs.declared.resolved.Resolved.{Resolved};
 ghost use Rattle.pgs_syntax.specs.Least.{IsLeast};
 ghost use Rattle.pgs_violation.specs.declared.violation.Verdict.TheVariants.{Refused};
 ghost use Rattle.pgs_violation.specs.declared.violation.Violation.{Violation};
-ghost use Rattle.pgs_violation.specs.declared.violation.Violation.TheVariants.{UntypedNode, UntypedEdge, Mandatory, Singleton, Exclusive};
-ghost use Rattle.pgs_violation.specs.Meaning.{IsUntypedNode, IsUntypedEdge, LacksValue, HasTwoLeast, SharesLeast};
+ghost use Rattle.pgs_violation.specs.declared.violation.Violation.TheVariants.{UntypedNode, UntypedEdge, Mandatory, Singleton, Exclusive, CountOutside};
+ghost use Rattle.pgs_violation.specs.Meaning.{IsUntypedNode, IsUntypedEdge, LacksValue, HasTwoLeast, SharesLeast, HasCountOutside};
 ghost use Rattle.pgs_violation.specs.Standing.{violation_cmp};
 ghost use Rattle.pgs_violation.specs.Violations.{violations, verdict};
 
@@ -42,6 +42,13 @@ pub fn two_least_values_are_listed()
 pub fn least_sharers_are_listed()
     ensures { (resolved : Resolved) (g : Graph) (number : ℕ) (first second : Elem) (tuple : List Part) → is_graph g ≡ true →
         Contains (violations resolved g) (Exclusive number first second tuple) ↔ SharesLeast resolved g number first second tuple }
+{}
+
+/// A 39 stands for exactly the elements of the scope of a key that counts that have fewer different key values than the first number,
+/// or more than the second. It carries how many they have, and both numbers.
+pub fn counts_outside_are_listed()
+    ensures { (resolved : Resolved) (g : Graph) (number : ℕ) (elem : Elem) (count least most : ℕ) →
+        Contains (violations resolved g) (CountOutside number elem count least most) ↔ HasCountOutside resolved g number elem count least most }
 {}
 
 /// The verdict on a graph names the least of its violations.

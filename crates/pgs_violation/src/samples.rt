@@ -1,20 +1,20 @@
 //! What the definitions say of small graphs and transactions, which stand in `specs/Samples.antt`,
 //! `specs/StagingSamples.antt` and `specs/KeySamples.antt`. The functions do nothing; their contracts are the statements.
 
-ghost use Rattle.std.specs.Prelude.{◌≡◌, true, false, [], ◌∷◌, Ok, Err, pos, codes};
+ghost use Rattle.std.specs.Prelude.{◌≡◌, true, false, [], ◌∷◌, Some, Ok, Err, pos, codes};
 ghost use Rattle.pgs_base.specs.declared.part.Part.TheVariants as parts;
 ghost use Rattle.pgs_base.specs.declared.value.Value.TheVariants.{Text, Int};
 ghost use Rattle.pgs_base.specs.Graph.{empty_graph};
 ghost use Rattle.pgs_syntax.specs.KeySamples.{the_node, one_text, mails, mail, two_persons};
 ghost use Rattle.pgs_syntax.specs.MatchSamples.{the_edge, next_node, edge_key, valued_edges};
-ghost use Rattle.pgs_syntax.specs.Samples.{qualifiers, acquaintance, acquainted, two_steps, steps_to, moderator, forum, by_n4, by_n5, keyed};
+ghost use Rattle.pgs_syntax.specs.Samples.{qualifiers, counted, acquaintance, acquainted, two_steps, steps_to, moderator, forum, by_n4, by_n5, keyed};
 ghost use Rattle.pgs_violation.specs.declared.rejection.Rejection.TheVariants as rejections;
 ghost use Rattle.pgs_violation.specs.declared.structural.Cause.TheVariants.{AlreadyThere, NoNode, NoEdge, HasEdges};
 ghost use Rattle.pgs_violation.specs.declared.structural.Structural.TheVariants.{TooManyOps, BadOp, ElementTooLarge, TooManyElements};
 ghost use Rattle.pgs_violation.specs.declared.violation.Verdict.TheVariants.{Conforms};
-ghost use Rattle.pgs_violation.specs.declared.violation.Violation.TheVariants.{UntypedNode, UntypedEdge, Mandatory, Singleton, Exclusive};
+ghost use Rattle.pgs_violation.specs.declared.violation.Violation.TheVariants.{UntypedNode, UntypedEdge, Mandatory, Singleton, Exclusive, CountOutside};
 ghost use Rattle.pgs_violation.specs.Decision.{decisions};
-ghost use Rattle.pgs_violation.specs.KeySamples.{three_with, three_values, later_sharer, each_kind, each_kind_twice};
+ghost use Rattle.pgs_violation.specs.KeySamples.{three_with, three_values, one_twice, later_sharer, each_kind, each_kind_twice};
 ghost use Rattle.pgs_violation.specs.Samples.{limits, tight, txn, add_node, add_edge, remove_node, detach_node, remove_edge, set_mail, unset, add_two_persons, one_mail, lone, looped, many_labels};
 ghost use Rattle.pgs_violation.specs.Staging.{staged};
 ghost use Rattle.pgs_violation.specs.StagingSamples.{many_props, add_node_with, add_edge_with, set_node, set_edge, label_node, label_edge, loop_with, two_ways};
@@ -155,6 +155,21 @@ pub fn violations_of_one_key()
     ensures { violations (keyed (next_node (qualifiers true true true) (codes "r") ∷ [])) (three_with each_kind)
         ≡ Mandatory 1 (the_node 1) ∷ Singleton 1 (the_node 2) (parts.Elem (the_node 7) ∷ []) (parts.Elem (the_node 8) ∷ [])
         ∷ Exclusive 1 (the_node 2) (the_node 3) (parts.Elem (the_node 8) ∷ []) ∷ [] }
+{}
+
+/// Too many key values, and none where one is asked. Two edges to one node are one value.
+pub fn counts_of_values()
+    ensures outside { violations (keyed (next_node (counted 1 2) (codes "r") ∷ [])) (three_with three_values)
+        ≡ CountOutside 1 (the_node 1) 3 1 2 ∷ CountOutside 1 (the_node 2) 0 1 2 ∷ CountOutside 1 (the_node 3) 0 1 2 ∷ [] }
+    ensures value_twice { violations (keyed (next_node (counted 0 1) (codes "r") ∷ [])) (three_with one_twice) ≡ [] }
+{}
+
+/// Of one key the numbers of values come last.
+pub fn counts_after_the_others()
+    ensures { violations (keyed (next_node (record (qualifiers true true true) { count = Some (1, 1) }) (codes "r") ∷ [])) (three_with each_kind)
+        ≡ Mandatory 1 (the_node 1) ∷ Singleton 1 (the_node 2) (parts.Elem (the_node 7) ∷ []) (parts.Elem (the_node 8) ∷ [])
+        ∷ Exclusive 1 (the_node 2) (the_node 3) (parts.Elem (the_node 8) ∷ [])
+        ∷ CountOutside 1 (the_node 1) 0 1 1 ∷ CountOutside 1 (the_node 2) 2 1 1 ∷ [] }
 {}
 
 /// All violations of the first key go before those of the second.

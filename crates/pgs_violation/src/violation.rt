@@ -8,7 +8,7 @@ use pgs_base::{EdgeId, Elem, NodeId, Tuple};
 use std::cmp::Ordering;
 
 /// Why a graph doesn't conform to a schema. Keys are numbered from 1. Violations go as they stand in the list of a
-/// graph's violations: 25 and 26 first, then key by key 27, 28 and 29, each by its least element.
+/// graph's violations: 25 and 26 first, then key by key 27, 28, 29 and 39, each by its least element.
 #[derive(Debug, Drop)]
 pub enum Violation {
     /// 25: the node fits no type.
@@ -39,6 +39,14 @@ pub enum Violation {
         second: Elem,
         tuple: Tuple,
     },
+    /// 39: the element of the scope has `count` different key values, fewer than `least` or more than `most`.
+    CountOutside {
+        key: u32,
+        elem: Elem,
+        count: u64,
+        least: u32,
+        most: u32,
+    },
 }
 
 impl Violation {
@@ -50,11 +58,12 @@ impl Violation {
             Violation::UntypedNode { .. } | Violation::UntypedEdge { .. } => 0,
             Violation::Mandatory { key, .. }
             | Violation::Singleton { key, .. }
-            | Violation::Exclusive { key, .. } => *key,
+            | Violation::Exclusive { key, .. }
+            | Violation::CountOutside { key, .. } => *key,
         }
     }
 
-    /// The number of the violation, 25 to 29.
+    /// The number of the violation: 25 to 29, or 39.
     pub fn number(&self) -> u8
         ensures { result ≡ number_of self.now }
     {
@@ -64,6 +73,7 @@ impl Violation {
             Violation::Mandatory { .. } => 27,
             Violation::Singleton { .. } => 28,
             Violation::Exclusive { .. } => 29,
+            Violation::CountOutside { .. } => 39,
         }
     }
 
@@ -74,7 +84,9 @@ impl Violation {
         match self {
             Violation::UntypedNode { node } => Elem::Node(*node),
             Violation::UntypedEdge { edge } => Elem::Edge(*edge),
-            Violation::Mandatory { elem, .. } | Violation::Singleton { elem, .. } => *elem,
+            Violation::Mandatory { elem, .. }
+            | Violation::Singleton { elem, .. }
+            | Violation::CountOutside { elem, .. } => *elem,
             Violation::Exclusive { first, .. } => *first,
         }
     }
@@ -100,6 +112,23 @@ impl Violation {
                     ..
                 },
             ) => second.cmp(other_second).then(tuple.cmp(other_tuple)),
+            (
+                Violation::CountOutside {
+                    count,
+                    least,
+                    most,
+                    ..
+                },
+                Violation::CountOutside {
+                    count: other_count,
+                    least: other_least,
+                    most: other_most,
+                    ..
+                },
+            ) => count
+                .cmp(other_count)
+                .then(least.cmp(other_least))
+                .then(most.cmp(other_most)),
             _ => Ordering::Equal,
         }
     }

@@ -1,3 +1,1 @@
-pub mod Knowing
-pub mod Loops
 pub mod Views

@@ -6,7 +6,7 @@ use Rattle.std.specs.Io.KnownBytes.{Appends}
 use Rattle.pgs_world.specs.World.{Adds, AddsFront, output_of}
 use Rattle.pgs_world.specs.Moment.{Passes}
 use Rattle.pgs_world_files.specs.Counted.{view_of, timed_view}
-use Rattle.pgs_world_files.specs.Pieces.{AppendsFront}
+use Rattle.pgs_world_streams.specs.Pieces.{AppendsFront}
 use Rattle.pgs_world_files.specs.declared.counts.Counts.{Counts}
 
 -- what the world shows as its output, where the writer is steady

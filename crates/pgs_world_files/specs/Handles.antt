@@ -5,7 +5,7 @@ use Rattle.std.specs.declared.io.Error.{Error}
 use Rattle.pgs_world.specs.declared.area.Area.{Area}
 use Rattle.pgs_world.specs.declared.area.Area.TheVariants.{A, B}
 use Rattle.pgs_world_files.specs.declared.area_files.AreaFiles.{AreaFiles}
-use Rattle.pgs_world_files.specs.Given.{PlacedCall, BareCall, HasRead, HasWritten, HasFailed}
+use Rattle.pgs_world_streams.specs.Given.{PlacedCall, BareCall, HasRead, HasWritten, HasFailed}
 
 -- the length that was given, of at most 2^40 bytes; a fault where none was given, or a greater one
 abbrev pub LengthIs : {H F : Type 0} → (H → Result ℕ Error → H → Type 0) → H → Result ℕ F → H → Type 0

@@ -1,4 +1,5 @@
 pub mod Counted
-pub mod Given
 pub mod Handles
-pub mod Pieces
+pub mod Head
+pub mod Named
+pub mod Opened

@@ -1,58 +1,59 @@
-ghost use Rattle.std.specs.Prelude.{◌≡◌, None};
+ghost use Rattle.std.specs.Prelude.{◌≡◌, None, Some};
+ghost use Rattle.std.specs.Option.{is_some};
 ghost use Rattle.pgs_world_files.specs.Handles.{LengthIs, ReadIs, WriteIs, CallIs, IfOpen};
 
-use crate::Handle;
+use crate::{FileCause, Handle};
 use pgs_world::{AreaFault, passes_limit};
-use std::fs::{self, File};
-use std::io::{self, ErrorKind};
-use std::rt::Files;
+use pgs_world_streams::Cause;
+use std::io::ErrorKind;
 
-/// An area in a file: an open and locked file, or none, and then every call is a fault. An area has at most 2^40 bytes.
+/// An area in a file: an open and locked file, or none, and then every call is a fault. An area has at most 2^40 bytes. It keeps the cause
+/// of its last fault, and where there is no file, why.
 #[derive(Drop)]
 pub struct AreaFile<H: Handle> {
     handle: Option<H>,
-}
-
-// The folder that a file stands in.
-fn folder_of(name: &str) -> &str {
-    match name.rsplit_once('/') {
-        Some((folder, _)) if !folder.is_empty() => folder,
-        Some(_) => "/",
-        None => ".",
-    }
-}
-
-// Opens a file for reading and writing, and makes it empty where it is absent; takes its lock without waiting; and
-// syncs its folder, so that the file itself outlasts a stop. The folder is synced where the file was there too: a run
-// that was stopped may have made it.
-fn open_locked<R: Files<File = File>>(rt: &R, name: &str) -> io::Result<File> {
-    let file = File::options()
-        .read(true)
-        .write(true)
-        .create(true)
-        .truncate(false)
-        .open(rt, name)?;
-    file.try_lock()?;
-    fs::open(rt, folder_of(name))?.sync_all()?;
-    Ok(file)
-}
-
-impl AreaFile<File> {
-    /// The file of that name. Where it can't be opened or made, or is locked by another handle, or its folder can't be
-    /// synced, there is no file, and every call is a fault.
-    pub fn open<R: Files<File = File>>(rt: &R, name: &str) -> AreaFile<File> {
-        AreaFile {
-            handle: open_locked(rt, name).ok(),
-        }
-    }
+    cause: Option<FileCause>,
 }
 
 impl<H: Handle> AreaFile<H> {
-    /// No file: every call is a fault.
-    pub fn absent() -> AreaFile<H>
+    /// An area in this file.
+    pub fn new(handle: H) -> AreaFile<H>
+        ensures { result.handle ≡ Some handle }
+    {
+        AreaFile {
+            handle: Some(handle),
+            cause: None,
+        }
+    }
+
+    /// No file, and why, if the file can tell: every call is a fault.
+    pub fn absent(cause: Option<FileCause>) -> AreaFile<H>
         ensures { result.handle ≡ None }
     {
-        AreaFile { handle: None }
+        AreaFile {
+            handle: None,
+            cause,
+        }
+    }
+
+    /// Whether there is a file.
+    pub fn is_open(&self) -> bool
+        ensures { result ≡ is_some self.now.handle }
+    {
+        self.handle.is_some()
+    }
+
+    /// Why the last fault came, or why there is no file, where that is known.
+    pub fn cause(&self) -> Option<FileCause> {
+        self.cause
+    }
+
+    // A fault, and its cause.
+    fn fault(&mut self, cause: FileCause) -> AreaFault
+        ensures { self.new.handle ≡ self.old.handle }
+    {
+        self.cause = Some(cause);
+        AreaFault
     }
 
     /// The length in bytes. More than 2^40 are a fault.
@@ -60,7 +61,10 @@ impl<H: Handle> AreaFile<H> {
         ensures { IfOpen (LengthIs H.length_gives) self.old.handle result self.new.handle }
     {
         match &mut self.handle {
-            Some(handle) => length_within(handle),
+            Some(handle) => match length_within(handle) {
+                Ok(done) => Ok(done),
+                Err(cause) => Err(self.fault(cause)),
+            },
             None => Err(AreaFault),
         }
     }
@@ -70,7 +74,10 @@ impl<H: Handle> AreaFile<H> {
         ensures { IfOpen (λ old answer new. ReadIs H.read_gives old at buf.new answer new) self.old.handle result self.new.handle }
     {
         match &mut self.handle {
-            Some(handle) => read_within(handle, at, buf),
+            Some(handle) => match read_within(handle, at, buf) {
+                Ok(done) => Ok(done),
+                Err(cause) => Err(self.fault(cause)),
+            },
             None => Err(AreaFault),
         }
     }
@@ -80,7 +87,10 @@ impl<H: Handle> AreaFile<H> {
         ensures { IfOpen (λ old answer new. WriteIs H.write_gives old at bytes.now answer new) self.old.handle result self.new.handle }
     {
         match &mut self.handle {
-            Some(handle) => write_within(handle, at, bytes),
+            Some(handle) => match write_within(handle, at, bytes) {
+                Ok(done) => Ok(done),
+                Err(cause) => Err(self.fault(cause)),
+            },
             None => Err(AreaFault),
         }
     }
@@ -90,7 +100,10 @@ impl<H: Handle> AreaFile<H> {
         ensures { IfOpen (CallIs (λ old succeeds new. H.cut_gives old len succeeds new)) self.old.handle result self.new.handle }
     {
         match &mut self.handle {
-            Some(handle) => handle.cut_once(len).map_err(|_| AreaFault),
+            Some(handle) => match handle.cut_once(len) {
+                Ok(()) => Ok(()),
+                Err(error) => Err(self.fault(FileCause::of(&error))),
+            },
             None => Err(AreaFault),
         }
     }
@@ -100,28 +113,32 @@ impl<H: Handle> AreaFile<H> {
         ensures { IfOpen (CallIs H.sync_gives) self.old.handle result self.new.handle }
     {
         match &mut self.handle {
-            Some(handle) => handle.sync_once().map_err(|_| AreaFault),
+            Some(handle) => match handle.sync_once() {
+                Ok(()) => Ok(()),
+                Err(error) => Err(self.fault(FileCause::of(&error))),
+            },
             None => Err(AreaFault),
         }
     }
 }
 
 /// The length of a file of at most 2^40 bytes.
-fn length_within<H: Handle>(handle: &mut H) -> Result<u64, AreaFault>
+fn length_within<H: Handle>(handle: &mut H) -> Result<u64, FileCause>
     ensures { LengthIs H.length_gives handle.old result handle.new }
 {
     match handle.length_once() {
         Ok(count) if !passes_limit(count, 0) => Ok(count),
-        _ => Err(AreaFault),
+        Ok(_) => Err(FileCause::Long),
+        Err(error) => Err(FileCause::of(&error)),
     }
 }
 
 /// A read of a range that ends by 2^40.
-fn read_within<H: Handle>(handle: &mut H, at: u64, buf: &mut [u8]) -> Result<(), AreaFault>
+fn read_within<H: Handle>(handle: &mut H, at: u64, buf: &mut [u8]) -> Result<(), FileCause>
     ensures { ReadIs H.read_gives handle.old at buf.new result handle.new }
 {
     if passes_limit(at, buf.len() as u64) {
-        return Err(AreaFault);
+        return Err(FileCause::Long);
     }
     let mut done = 0;
     for _ in 0..u64::MAX {
@@ -129,24 +146,24 @@ fn read_within<H: Handle>(handle: &mut H, at: u64, buf: &mut [u8]) -> Result<(),
             return Ok(());
         }
         match handle.read_once(at + done as u64, &mut buf[done..]) {
-            Ok(0) => return Err(AreaFault),
+            Ok(0) => return Err(FileCause::Short),
             Ok(count) => done += count,
             Err(error) => {
                 if error.kind() != ErrorKind::Interrupted {
-                    return Err(AreaFault);
+                    return Err(FileCause::of(&error));
                 }
             }
         }
     }
-    Err(AreaFault)
+    Err(FileCause::Call(Cause::Failed))
 }
 
 /// A write that ends by 2^40.
-fn write_within<H: Handle>(handle: &mut H, at: u64, bytes: &[u8]) -> Result<(), AreaFault>
+fn write_within<H: Handle>(handle: &mut H, at: u64, bytes: &[u8]) -> Result<(), FileCause>
     ensures { WriteIs H.write_gives handle.old at bytes.now result handle.new }
 {
     if passes_limit(at, bytes.len() as u64) {
-        return Err(AreaFault);
+        return Err(FileCause::Long);
     }
     let mut done = 0;
     for _ in 0..u64::MAX {
@@ -154,41 +171,14 @@ fn write_within<H: Handle>(handle: &mut H, at: u64, bytes: &[u8]) -> Result<(), 
             return Ok(());
         }
         match handle.write_once(at + done as u64, &bytes[done..]) {
-            Ok(0) => return Err(AreaFault),
+            Ok(0) => return Err(FileCause::Call(Cause::NoSpace)),
             Ok(count) => done += count,
             Err(error) => {
                 if error.kind() != ErrorKind::Interrupted {
-                    return Err(AreaFault);
+                    return Err(FileCause::of(&error));
                 }
             }
         }
     }
-    Err(AreaFault)
-}
-
-#[cfg(test)]
-mod tests {
-    use super::*;
-    use std::test::Fail;
-
-    /// Which of the five calls fail.
-    fn failing(area: &mut AreaFile<File>) -> [bool; 5] {
-        [
-            area.cut(0).is_err(),
-            area.write_at(0, b"x").is_err(),
-            area.read_at(0, &mut [0]).is_err(),
-            area.len().is_err(),
-            area.sync().is_err(),
-        ]
-    }
-
-    #[test]
-    fn a_second_open_is_locked_out(rt: HostRuntime) -> Result<(), Fail> {
-        let mut first = AreaFile::open(&rt, "locked.a");
-        let mut second = AreaFile::open(&rt, "locked.a");
-        let seen = [failing(&mut first), failing(&mut second)];
-        fs::remove_file(&rt, "locked.a")?;
-        assert_eq!(rt; seen, [[false; 5], [true; 5]]);
-        Ok(())
-    }
+    Err(FileCause::Call(Cause::Failed))
 }

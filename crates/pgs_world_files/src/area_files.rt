@@ -1,13 +1,12 @@
 ghost use Rattle.std.specs.Prelude.{◌≡◌, ◌++◌, None, IfOk, string_bytes};
 ghost use Rattle.pgs_world.specs.World.{other};
 ghost use Rattle.pgs_world_files.specs.Handles.{LengthIs, ReadIs, WriteIs, CallIs, IfOpen, handle_in};
+ghost use Rattle.pgs_world_files.specs.Opened.{IsStoreOf};
 
-use crate::{AreaFile, Handle};
+use crate::{Access, AreaFile, FileCause, Handle, Opening};
 use pgs_base::Memory;
 use pgs_world::{Area, AreaFault};
 use std::alloc::Global;
-use std::fs::File;
-use std::rt::Files;
 
 /// The two areas of a store, each in a file.
 #[derive(Drop)]
@@ -16,8 +15,8 @@ pub struct AreaFiles<H: Handle> {
     b: AreaFile<H>,
 }
 
-// The name of a store, and then an ending.
-fn file_name(alloc: Global, store: &str, ending: &str) -> Result<String, Memory>
+/// The name of a file of a store: the store's, and then an ending, `.a` or `.b`.
+pub fn file_name(alloc: Global, store: &str, ending: &str) -> Result<String, Memory>
     ensures { IfOk result (λ name. string_bytes name ≡ store.now ++ ending.now) }
 {
     let mut name = String::from_str(alloc, store)?;
@@ -25,23 +24,37 @@ fn file_name(alloc: Global, store: &str, ending: &str) -> Result<String, Memory>
     Ok(name)
 }
 
-impl AreaFiles<File> {
-    /// The files NAME.a and NAME.b, as areas A and B of the store NAME. Each stands for itself, as `AreaFile::open` says.
-    pub fn open<R: Files<File = File>>(
-        rt: &R,
+impl<H: Handle> AreaFiles<H> {
+    /// The files NAME.a and NAME.b, as areas A and B of the store NAME, opened for this access. Where the first can't be opened the
+    /// second isn't tried, so that of two runs that start at once one gets both.
+    pub fn open<O: Opening<Area = H>>(
+        system: &mut O,
         alloc: Global,
         store: &str,
-    ) -> Result<AreaFiles<File>, Memory> {
-        let a = file_name(alloc, store, ".a")?;
-        let b = file_name(alloc, store, ".b")?;
-        Ok(AreaFiles {
-            a: AreaFile::open(rt, a.as_str()),
-            b: AreaFile::open(rt, b.as_str()),
-        })
+        access: Access,
+    ) -> Result<AreaFiles<H>, Memory>
+        ensures { IfOk result (λ areas. IsStoreOf O.area_gives store.now access areas) }
+    {
+        let a = system.open_area(file_name(alloc, store, ".a")?, access)?;
+        if !a.is_open() {
+            return Ok(AreaFiles {
+                a,
+                b: AreaFile::absent(None),
+            });
+        }
+        let b = system.open_area(file_name(alloc, store, ".b")?, access)?;
+        Ok(AreaFiles { a, b })
     }
-}
 
-impl<H: Handle> AreaFiles<H> {
+    /// Why the last fault came, or why there are no files, where that is known: the ending of the file's name, and the cause.
+    pub fn cause(&self) -> Option<(&'static str, FileCause)> {
+        match (self.a.cause(), self.b.cause()) {
+            (Some(cause), _) => Some((".a", cause)),
+            (None, Some(cause)) => Some((".b", cause)),
+            (None, None) => None,
+        }
+    }
+
     /// These files as areas A and B.
     pub fn new(a: AreaFile<H>, b: AreaFile<H>) -> AreaFiles<H>
         ensures a { result.a ≡ a }
@@ -56,8 +69,8 @@ impl<H: Handle> AreaFiles<H> {
         ensures b { result.b.handle ≡ None }
     {
         AreaFiles {
-            a: AreaFile::absent(),
-            b: AreaFile::absent(),
+            a: AreaFile::absent(None),
+            b: AreaFile::absent(None),
         }
     }
 

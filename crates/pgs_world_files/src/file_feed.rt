@@ -1,16 +1,12 @@
-ghost use Rattle.std.specs.Prelude.{◌≡◌, ◌≤◌, OnOk, OnErr};
+ghost use Rattle.std.specs.Prelude.{◌≡◌, ◌≤◌, None, Some, OnOk, OnErr};
 ghost use Rattle.pgs_world.specs.Count.{Rose, raised};
 ghost use Rattle.pgs_world.specs.World.{Adds, AddsFront};
 ghost use Rattle.pgs_world_files.specs.Counted.{untold_bytes};
 ghost use Rattle.pgs_world_files.specs.Handles.{IfOpen};
-ghost use Rattle.pgs_world_files.specs.Pieces.{HoldsPiece, PieceIs};
+ghost use Rattle.pgs_world_streams.specs.Pieces.{HoldsPiece, PieceIs};
 
-use crate::SteadyWrite;
-use crate::whole::write_whole;
 use pgs_world::{Feed, FeedFault};
-use std::fs::File;
-use std::io;
-use std::rt::Files;
+use pgs_world_streams::{SteadyWrite, write_whole};
 
 /// A feed into a file: an open file, behind whose bytes each piece is written, or none, and then every put is a fault.
 ///
@@ -21,24 +17,29 @@ pub struct FileFeed<W: SteadyWrite + Drop> {
     faults: u64,
 }
 
-// Opens a file to write behind its end, and makes it empty where it is absent.
-fn open_end<R: Files<File = File>>(rt: &R, name: &str) -> io::Result<File> {
-    File::options().append(true).create(true).open(rt, name)
-}
-
-impl FileFeed<File> {
-    /// The file of that name as a feed without a fault. Where it can't be opened or made, every put is a fault.
-    pub fn open<R: Files<File = File>>(rt: &R, name: &str) -> FileFeed<File>
-        ensures { ⟦<FileFeed<File> as Feed>⟧.faults result ≡ 0 }
+impl<W: SteadyWrite + Drop> FileFeed<W> {
+    /// A feed into this file, without a fault.
+    pub fn new(writer: W) -> FileFeed<W>
+        ensures writer { result.writer ≡ Some writer }
+        ensures faults { ⟦<FileFeed<W> as Feed>⟧.faults result ≡ 0 }
     {
         FileFeed {
-            writer: open_end(rt, name).ok(),
+            writer: Some(writer),
             faults: 0,
         }
     }
-}
 
-impl<W: SteadyWrite + Drop> FileFeed<W> {
+    /// No file, without a fault so far: every put is one.
+    pub fn absent() -> FileFeed<W>
+        ensures writer { result.writer ≡ None }
+        ensures faults { ⟦<FileFeed<W> as Feed>⟧.faults result ≡ 0 }
+    {
+        FileFeed {
+            writer: None,
+            faults: 0,
+        }
+    }
+
     // Counts a put that failed.
     fn fault(&mut self) -> FeedFault
         ensures writer { self.new.writer ≡ self.old.writer }
@@ -92,35 +93,5 @@ impl<W: SteadyWrite + Drop> Feed for FileFeed<W> {
 
     fn shown(&self) -> Option<&[u8]> {
         None
-    }
-}
-
-#[cfg(test)]
-mod tests {
-    use super::*;
-    use std::fs;
-    use std::test::Fail;
-
-    /// Opens a feed, puts two lines, and says what that answered and how often a put failed.
-    fn put_two<R: Files<File = File>>(rt: &R, name: &str) -> ([Result<(), FeedFault>; 2], u64) {
-        let mut feed = FileFeed::open(rt, name);
-        ([feed.put(b"a\n"), feed.put(b"bc\n")], feed.faults)
-    }
-
-    #[test]
-    fn lines_stand_behind_those_of_an_earlier_run(rt: HostRuntime) -> Result<(), Fail> {
-        // A run of this test that was stopped may have left it.
-        let _absent = fs::remove_file(&rt, "feed.out");
-        let runs = [put_two(&rt, "feed.out"), put_two(&rt, "feed.out")];
-        let missing = put_two(&rt, "missing/feed.out");
-        let text = fs::read_to_string(&rt, "feed.out")?;
-        fs::remove_file(&rt, "feed.out")?;
-        let done = ([Ok(()); 2], 0);
-        let failed = ([Err(FeedFault); 2], 2);
-        assert_eq!(rt;
-            (runs, missing, text.as_str()),
-            ([done; 2], failed, "a\nbc\na\nbc\n")
-        );
-        Ok(())
     }
 }

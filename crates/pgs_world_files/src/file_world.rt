@@ -6,19 +6,19 @@ ghost use Rattle.pgs_world.specs.Moment.{Passes, StopsBy, IsQuiet, ShowsOne, IsS
 ghost use Rattle.pgs_world.specs.World.{output_of, part, other, Adds, AddsFront};
 ghost use Rattle.pgs_world_files.specs.Counted.{view_of};
 ghost use Rattle.pgs_world_files.specs.Handles.{LengthIs, ReadIs, WriteIs, CallIs, IfOpen, handle_in};
-ghost use Rattle.pgs_world_files.specs.Pieces.{AppendsFront, PutIs};
+ghost use Rattle.pgs_world_streams.specs.Pieces.{AppendsFront, PutIs};
 
 use crate::counts::Counts;
-use crate::whole::write_whole;
-use crate::{AreaFiles, Handle, SteadyWrite};
+use crate::{AreaFiles, FileCause, Handle};
 use pgs_base::Seed;
 use pgs_world::{Area, AreaFault, PutFault, World};
+use pgs_world_streams::{Cause, SteadyWrite, write_whole};
 
 #[cfg(test)]
 mod tests;
 
 /// A world over two files and a writer. It tells the output where the writer tells, and nothing of its areas; it counts its
-/// calls, its faults and its puts.
+/// calls, its faults and its puts, and keeps the causes of the last faults.
 ///
 /// No clause says what a file holds, or what of it a stop leaves: that rests on the system.
 #[derive(Drop)]
@@ -27,6 +27,7 @@ pub struct FileWorld<W: SteadyWrite, H: Handle> {
     writer: W,
     counts: Counts,
     seed: Seed,
+    put_cause: Option<Cause>,
 }
 
 impl<W: SteadyWrite, H: Handle> FileWorld<W, H> {
@@ -45,7 +46,19 @@ impl<W: SteadyWrite, H: Handle> FileWorld<W, H> {
             writer,
             counts: Counts::none(),
             seed,
+            put_cause: None,
         }
+    }
+
+    /// Why the last fault of a call on an area came, or why there is no file, where that is known: the ending of the file's name, and the
+    /// cause.
+    pub fn area_cause(&self) -> Option<(&'static str, FileCause)> {
+        self.areas.cause()
+    }
+
+    /// Why the last fault of a put came, where that is known.
+    pub fn put_cause(&self) -> Option<Cause> {
+        self.put_cause
     }
 
     /// The writer. The files are closed.
@@ -58,6 +71,7 @@ impl<W: SteadyWrite, H: Handle> FileWorld<W, H> {
             writer,
             counts: _,
             seed: _,
+            put_cause: _,
         } = self;
         writer
     }
@@ -253,7 +267,10 @@ impl<W: SteadyWrite, H: Handle> World for FileWorld<W, H> {
                 self.counts.put();
                 Ok(())
             }
-            Err(_) => Err(self.put_fault()),
+            Err(error) => {
+                self.put_cause = Some(Cause::of(&error));
+                Err(self.put_fault())
+            }
         }
     }
 

@@ -2,9 +2,7 @@ ghost use Rattle.std.specs.Prelude.{ℕ, List, Bool, Result, ⊤, is_ok, length,
 ghost use Rattle.std.specs.Io.{ReadsAtMost, WritesAtMost};
 ghost use Rattle.std.specs.declared.io.Error.{Error};
 
-use std::fs::File;
 use std::io;
-use std::os::unix::fs::FileExt;
 
 /// An open file, read and written at places.
 ///
@@ -47,27 +45,4 @@ pub trait Handle: Drop {
     /// Waits until what was written stands on the disk.
     fn sync_once(&mut self) -> io::Result<()>
         ensures gives { sync_gives self.old (is_ok result) self.new };
-}
-
-/// std promises of these calls their counts alone: no clause says which bytes a file holds, or that a sync reaches the disk.
-impl Handle for File {
-    fn length_once(&mut self) -> io::Result<u64> {
-        Ok(self.metadata()?.len())
-    }
-
-    fn read_once(&mut self, at: u64, buf: &mut [u8]) -> io::Result<usize> {
-        self.read_at(buf, at)
-    }
-
-    fn write_once(&mut self, at: u64, bytes: &[u8]) -> io::Result<usize> {
-        self.write_at(bytes, at)
-    }
-
-    fn cut_once(&mut self, len: u64) -> io::Result<()> {
-        self.set_len(len)
-    }
-
-    fn sync_once(&mut self) -> io::Result<()> {
-        self.sync_data()
-    }
 }

@@ -1,21 +1,34 @@
-//! The store's outside as files of the system.
+//! The store's outside as files of the system: areas and feeds in files, and the world over them.
+//!
+//! A file is opened by an `Opening`, `SystemOpening` for the program: which file, for which access, with which lock. All above the calls of
+//! `NamedFile` and `SystemOpening` is proved for every file; what a file holds, and what a stop leaves of it, rests on the system
+//! (docs/DECISIONS.md, "The real files").
 #![tactic(auto)]
 
+mod access;
 mod area_file;
 mod area_files;
+mod cause;
 mod counts;
 mod file_feed;
 mod file_world;
 mod handle;
-mod stdin_source;
-mod steady;
-mod whole;
+mod identity;
+mod named_file;
+mod opening;
+mod store_file;
+mod store_head;
+mod system_opening;
 
+pub use access::Access;
 pub use area_file::AreaFile;
-pub use area_files::AreaFiles;
+pub use area_files::{AreaFiles, file_name};
+pub use cause::{FileCause, OpenFault};
 pub use counts::Counts;
 pub use file_feed::FileFeed;
 pub use file_world::FileWorld;
 pub use handle::Handle;
-pub use stdin_source::StdinSource;
-pub use steady::{SteadyRead, SteadyWrite};
+pub use named_file::{NamedFile, SystemFile};
+pub use opening::Opening;
+pub use store_file::StoreFile;
+pub use system_opening::SystemOpening;

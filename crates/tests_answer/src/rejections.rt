@@ -98,6 +98,14 @@ fn shared_value(alloc: Global) -> Result<Violation, Fail> {
     })
 }
 
+const COUNT: Violation = Violation::CountOutside {
+    key: 1,
+    elem: Elem::Node(NodeId(1)),
+    count: 3,
+    least: 1,
+    most: 2,
+};
+
 /// Puts the text of a violation last, and that of the rejection that it is.
 fn add_violation(alloc: Global, out: &mut String, violation: Violation) -> Result<(), Fail> {
     add_text(out, violation_text(alloc, &violation))?;
@@ -120,6 +128,7 @@ fn violation_texts(alloc: Global) -> Result<String, Fail> {
     add_without_values(alloc, &mut out)?;
     add_violation(alloc, &mut out, several_values(alloc)?)?;
     add_violation(alloc, &mut out, shared_value(alloc)?)?;
+    add_violation(alloc, &mut out, COUNT)?;
     Ok(out)
 }
 
@@ -133,6 +142,8 @@ const VIOLATION_TEXTS: &str = r#"25 node n1 fits no type
 28 key 1: n1 has ("db", n4) and ("a \"b\"\n", n5)
 29 key 1: n1 and n3 share ("ann@x.org")
 29 key 1: n1 and n3 share ("ann@x.org")
+39 key 1: n1 has 3 values, outside 1..2
+39 key 1: n1 has 3 values, outside 1..2
 "#;
 
 #[test]

@@ -10,13 +10,15 @@ const NODE_TESTS: [&str; 6] = [":A", ":B", ":t", ":u", " {k: 4}", ":A {k: 5}"];
 
 const EDGE_TESTS: [&str; 6] = [":r", ":s", ":e", ":f", " {k: 4}", ":r {k: 5}"];
 
-const QUALIFIERS: [&str; 6] = [
+const QUALIFIERS: [&str; 8] = [
     " IDENTIFIER ",
     " EXCLUSIVE ",
     " MANDATORY ",
     " SINGLETON ",
     " EXCLUSIVE MANDATORY ",
     " SINGLETON, EXCLUSIVE ",
+    " COUNT 1..2 OF ",
+    " MANDATORY, COUNT 0..1 OF EXCLUSIVE ",
 ];
 
 const DIGITS: [&str; 10] = ["0", "1", "2", "3", "4", "5", "6", "7", "8", "9"];

@@ -94,6 +94,24 @@ fn is_sharing(found: &Violation, number: u32, row: &Valued, other: &Valued) -> b
     }
 }
 
+fn is_count(found: &Violation, number: u32, bounds: (u32, u32), row: &Valued) -> bool {
+    match found {
+        Violation::CountOutside {
+            key,
+            elem,
+            count,
+            least,
+            most,
+        } => {
+            *key == number
+                && *elem == row.elem
+                && *count == row.tuples.len() as u64
+                && (*least, *most) == bounds
+        }
+        _ => false,
+    }
+}
+
 /// The place behind the violations of elements that fit no type.
 pub fn after_untyped(compiled: &Compiled, rows: &Rows<'_>, list: &[Violation]) -> Option<usize> {
     let rows = rows.rows.as_slice();
@@ -148,6 +166,26 @@ fn after_shared(number: u32, rows: &[Valued], list: &[Violation], from: usize) -
     Some(place)
 }
 
+fn after_counts(
+    number: u32,
+    bounds: (u32, u32),
+    rows: &[Valued],
+    list: &[Violation],
+    from: usize,
+) -> Option<usize> {
+    let mut place = from;
+    for row in rows {
+        let count = row.tuples.len();
+        if count < bounds.0 as usize || count > bounds.1 as usize {
+            if !is_count(list.get(place)?, number, bounds, row) {
+                return None;
+            }
+            place = place.checked_add(1)?;
+        }
+    }
+    Some(place)
+}
+
 /// The place behind the violations of a key of this number, by its elements with their key values.
 pub fn after_key(
     number: u32,
@@ -165,6 +203,9 @@ pub fn after_key(
     }
     if asked.exclusive {
         place = after_shared(number, rows, list, place)?;
+    }
+    if let Some(bounds) = asked.count {
+        place = after_counts(number, bounds, rows, list, place)?;
     }
     Some(place)
 }

@@ -26,6 +26,9 @@ const TWO_STEPS: &str =
 const MODERATORS: &str =
     "CREATE GRAPH TYPE g LOOSE {FOR (f:Forum)<-[:joined]-(:Person) IDENTIFIER f.name, p WITHIN (f)<-[:moderates]-(p:Person)};";
 
+const ONE_OR_TWO_MODERATORS: &str =
+    "CREATE GRAPH TYPE g LOOSE {FOR (f:Forum) COUNT 1..2 OF p WITHIN (f)<-[:moderates]-(p:Person)};";
+
 const TWO_OF_ONE_MAIL: &str =
     r#"{"ops":[{"add_node":1,"labels":["Person"],"props":{"mail":"b"}},{"add_node":2,"labels":["Person"],"props":{"mail":"b"}}]}"#;
 
@@ -43,6 +46,10 @@ const ONE_MODERATOR: &str =
 
 const TWO_MODERATORS: &str =
     r#"{"ops":[{"add_node":1,"labels":["Forum"],"props":{"name":"db"}},{"add_node":4,"labels":["Person"]},{"add_node":5,"labels":["Person"]},{"add_edge":1,"from":4,"to":1,"labels":["joined"]},{"add_edge":2,"from":4,"to":1,"labels":["moderates"]},{"add_edge":3,"from":5,"to":1,"labels":["moderates"]}]}"#;
+
+// One forum is moderated by n4 twice, by n5 and by n6, and the other one by nobody.
+const TWO_FORUMS: &str =
+    r#"{"ops":[{"add_node":1,"labels":["Forum"]},{"add_node":2,"labels":["Forum"]},{"add_node":4,"labels":["Person"]},{"add_node":5,"labels":["Person"]},{"add_node":6,"labels":["Person"]},{"add_edge":1,"from":4,"to":1,"labels":["moderates"]},{"add_edge":2,"from":4,"to":1,"labels":["moderates"]},{"add_edge":3,"from":5,"to":1,"labels":["moderates"]},{"add_edge":4,"from":6,"to":1,"labels":["moderates"]}]}"#;
 
 // How many elements are in the scope of a key, and how many key values a node has.
 fn key_counts<L: Ledger>(
@@ -145,13 +152,17 @@ const SEVERAL: &str = "28 key 1: n1 has (\"db\", n4) and (\"db\", n5)\n";
 const UNTYPED_AND_SHARED: &str =
     "25 node n4 fits no type\n29 key 1: n1 and n2 share (\"a\")\n29 key 1: n2 and n3 share (\"a\")\n";
 
-const LISTS: [(&str, &str, &str); 6] = [
+const OUTSIDE: &str =
+    "39 key 1: n1 has 3 values, outside 1..2\n39 key 1: n2 has 0 values, outside 1..2\n";
+
+const LISTS: [(&str, &str, &str); 7] = [
     (UNIQUE_MAILS, TWO_OF_ONE_MAIL, SHARED),
     (TWO_STEPS, WITH_VALUE, ""),
     (TWO_STEPS, WITHOUT_VALUE, MISSING),
     (MODERATORS, ONE_MODERATOR, ""),
     (MODERATORS, TWO_MODERATORS, SEVERAL),
     (UNIQUE_MAILS, THREE_OF_ONE_MAIL, UNTYPED_AND_SHARED),
+    (ONE_OR_TWO_MODERATORS, TWO_FORUMS, OUTSIDE),
 ];
 
 #[test]
@@ -224,6 +235,34 @@ fn only_what_is_listed_is_confirmed(rt: HostRuntime) -> Result<(), Fail> {
             confirmed(rt.alloc(), &case, *first, *second, mail)?,
             *wanted
         );
+    }
+    Ok(())
+}
+
+// Whether it is confirmed that a node has so many key values, outside 1 to 2.
+fn confirmed_count(alloc: Global, case: &Case, node: u64, count: u64) -> Result<bool, Memory> {
+    let violation = Violation::CountOutside {
+        key: 1,
+        elem: Elem::Node(NodeId(node)),
+        count,
+        least: 1,
+        most: 2,
+    };
+    confirmed_by::<Brand>(alloc, case, &violation, Blank::new(1))
+}
+
+const CONFIRMED_COUNTS: [(u64, u64, bool); 4] = [
+    (1, 3, true),
+    (1, 4, false),
+    (2, 0, true),
+    (4, 0, false),
+];
+
+#[test]
+fn only_listed_counts_are_confirmed(rt: HostRuntime) -> Result<(), Fail> {
+    let case = case_of(rt.alloc(), ONE_OR_TWO_MODERATORS, TWO_FORUMS)?;
+    for (node, count, wanted) in &CONFIRMED_COUNTS {
+        assert_eq!(rt; confirmed_count(rt.alloc(), &case, *node, *count)?, *wanted);
     }
     Ok(())
 }

@@ -167,12 +167,23 @@ fn put_paths(out: &mut String, paths: &[RawPath]) -> Put {
     Ok(())
 }
 
+fn put_bounds(out: &mut String, least: u32, most: u32) -> Put {
+    out.push_str("c")?;
+    put_number(out, i64::from(least))?;
+    out.push_str("..")?;
+    put_number(out, i64::from(most))
+}
+
 /// A letter for each thing that is asked.
 fn put_asked(out: &mut String, asked: Qualifiers) -> Put {
     out.push_str(" ")?;
     out.push_str(if asked.mandatory { "m" } else { "" })?;
     out.push_str(if asked.singleton { "s" } else { "" })?;
-    out.push_str(if asked.exclusive { "e" } else { "" })
+    out.push_str(if asked.exclusive { "e" } else { "" })?;
+    match asked.count {
+        Some((least, most)) => put_bounds(out, least, most),
+        None => Ok(()),
+    }
 }
 
 fn put_expr(out: &mut String, expr: &RawExpr) -> Put {
@@ -360,6 +371,22 @@ const MEMBERS: &[(&str, &str)] = &[
     ("FOR (x) MANDATORY, SINGLETON x", ", key 2 (x) ms x"),
     ("FOR (x) MANDATORY MANDATORY x", "-1"),
     ("FOR (x) MANDATORY, x", "-1"),
+    ("FOR (x) COUNT 1..2 OF x", ", key 2 (x) c1..2 x"),
+    (
+        "FOR (x) MANDATORY, COUNT 0..0 OF EXCLUSIVE x",
+        ", key 2 (x) mec0..0 x",
+    ),
+    (
+        "FOR (x) COUNT 1000000 .. 1000000 OF, SINGLETON x",
+        ", key 2 (x) sc1000000..1000000 x",
+    ),
+    ("FOR (x) COUNT 2..1 OF x", "-1"),
+    ("FOR (x) COUNT -1..2 OF x", "-1"),
+    ("FOR (x) COUNT 0..1000001 OF x", "-1"),
+    ("FOR (x) COUNT 'a'..2 OF x", "-1"),
+    ("FOR (x) COUNT 1..2 x", "-1"),
+    ("FOR (x) COUNT 1..2 OF COUNT 1..2 OF x", "-1"),
+    ("FOR (x) IDENTIFIER COUNT 1..2 OF x", "-1"),
     ("FOR (x) EXCLUSIVE x, a", ", key 2 (x) e x a"),
     ("FOR (x) EXCLUSIVE x, (a)", "-1"),
     (

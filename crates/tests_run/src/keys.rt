@@ -41,6 +41,20 @@ const ROWS: &[Row] = &[
         1,
     ),
     (
+        "try,",
+        r#"CREATE GRAPH TYPE g LOOSE {FOR (f:Forum) COUNT 1..2 OF p WITHIN (f)<-[:moderates]-(p:Person)};
+---
+{"ops":[{"add_node":1,"labels":["Forum"]},{"add_node":2,"labels":["Person"]},{"add_node":3,"labels":["Person"]},{"add_node":4,"labels":["Person"]},{"add_edge":1,"from":2,"to":1,"labels":["moderates"]},{"add_edge":2,"from":3,"to":1,"labels":["moderates"]}]}
+{"ops":[{"add_edge":3,"from":4,"to":1,"labels":["moderates"]}]}
+{"ops":[{"remove_edge":1},{"remove_edge":2}]}
+"#,
+        r#"1 committed 1
+2 refused 39 key 1: n1 has 3 values, outside 1..2
+3 refused 39 key 1: n1 has 0 values, outside 1..2
+"#,
+        1,
+    ),
+    (
         "validate,",
         r#"CREATE GRAPH TYPE g STRICT {(person: Person {mail STRING}), FOR (x:person) EXCLUSIVE x.mail};
 ---

@@ -54,6 +54,13 @@ const SCHEMA_ROWS: &[Row] = &[
 "#,
         3,
     ),
+    (
+        "try,",
+        r#"CREATE GRAPH TYPE g LOOSE {FOR (f:Forum) COUNT 2..1 OF p WITHIN (f)<-[:moderates]-(p:Person)};"#,
+        r#"schema refused 11 statement 1
+"#,
+        3,
+    ),
 ];
 
 #[test]

@@ -10,3 +10,5 @@ mod choices;
 mod codec;
 #[cfg(test)]
 mod journal;
+#[cfg(test)]
+mod reads;

@@ -1,12 +1,14 @@
 ghost use Rattle.std.specs.Prelude.{false, refl};
 
 use super::*;
+use crate::{Access, StoreFile, SystemFile, SystemOpening};
 use pgs_base::Memory;
 use std::alloc::Global;
-use std::fs::{self, File};
+use std::fs;
 use std::io::{self, ErrorKind, Write};
-use std::rt::Files;
 use std::test::Fail;
+
+type System<'a> = StoreFile<SystemFile<'a, HostRuntime>>;
 
 /// What is seen of an area: which of the calls that change it fail, its length before and after a cut, what a read
 /// gives, whether one past the end fails, and the count of faults.
@@ -20,17 +22,18 @@ struct Seen {
     area_faults: u64,
 }
 
-fn world_at<R: Files<File = File>>(
-    rt: &R,
+fn world_at<'a>(
+    rt: &'a HostRuntime,
     alloc: Global,
     store: &str,
-) -> Result<FileWorld<Vec<u8>, File>, Memory> {
-    let areas = AreaFiles::open(rt, alloc, store)?;
+) -> Result<FileWorld<Vec<u8>, System<'a>>, Memory> {
+    let mut system = SystemOpening::new(rt);
+    let areas = AreaFiles::open(&mut system, alloc, store, Access::Write)?;
     Ok(FileWorld::new(areas, Vec::new(alloc), Seed::Fixed))
 }
 
 /// Writes `abcdef` to an area, in two writes, cuts it to `abcd`, and reads `bcd`.
-fn seen_of(world: &mut FileWorld<Vec<u8>, File>, area: Area) -> Seen {
+fn seen_of(world: &mut FileWorld<Vec<u8>, System<'_>>, area: Area) -> Seen {
     let emptied = world.cut(area, 0).is_err();
     let front = world.write_at(area, 0, b"abc").is_err();
     let back = world.write_at(area, 3, b"def").is_err();
@@ -136,7 +139,7 @@ fn pieces_are_put_whole_and_faults_counted(rt: HostRuntime) -> Result<(), Fail> 
         kept: Vec::new(rt.alloc()),
         writes: 0,
     };
-    let areas: AreaFiles<File> = AreaFiles::absent();
+    let areas: AreaFiles<System<'_>> = AreaFiles::absent();
     let mut world = FileWorld::new(areas, slow, Seed::Fixed);
     let answers = [world.put(b"ab"), world.put(b"cd"), world.put(b"e")];
     let counted = (world.counts.puts, world.counts.put_faults);

@@ -1,6 +1,7 @@
 use Rattle.std.proofs.Common.{Some, refl, sym, ap, subst}
 use Rattle.pgs_answer.specs.Lines.{store_refused_line}
 use Rattle.pgs_answer.specs.Refusals.{epochs_spent_text}
+use Rattle.pgs_run_lines.specs.declared.reply.Reply.{Reply}
 use Rattle.pgs_run_lines.specs.Machine.{Told}
 use Rattle.pgs_run_base.specs.declared.status.Status.{Status}
 use Rattle.pgs_run_saved.specs.Opening.{saved_in}
@@ -20,13 +21,13 @@ returns-in-Err-clause-stops g c = λ honest told.
 pub returns-in-Ok-checkpoint-clause-stops : goal.returns-in-Ok-checkpoint-clause-stops
 returns-in-Ok-checkpoint-clause-stops g c = λ honest told.
     let it = c.args.store.now in
-    let line = c.as_slice.result.now in
+    let line = c.in-Ok.reply.line in
     let after = c.checkpoint.new.self.journal in
     let renewed = c.in-Ok-checkpoint.ensures.answer.3 in
-    let below = next_below it.journal after renewed.journal c.epoch-in-Ok-checkpoint.ensures.numbered in
-    let one = one_line it c.epoch.result c.commits.result c.in-Ok.line line c.as_slice.ensures c.in-Ok.ensures c.epoch.ensures.epoch c.commits.ensures.commits below in
-    leaves_renewed it line one (some_of (Some it.journal.epoch) (saved_in it) line one) (g.W.World.view c.args.world.now) (g.W.World.view c.checkpoint.new.world) (g.W.World.view c.put_last.new.world) after
-    honest told c.checkpoint.ensures.beside (c.checkpoint.ensures.stops c.requires.whole honest told) renewed.journal renewed.alone renewed.stands c.put_last.ensures.areas.passes c.put_last.ensures.stops
+    let below = next_below it.journal after renewed.journal c.epoch.ensures.numbered in
+    let one = one_line it line (ap (λ (r : Reply Status). r.line) c.in-Ok.ensures) below in
+    leaves_renewed it line one (some_of (Some it.journal.epoch) (saved_in it) line one) (g.W.World.view c.args.world.now) (g.W.World.view c.checkpoint.new.world) (g.W.World.view c.put_reply.new.world) after
+    honest told c.checkpoint.ensures.beside (c.checkpoint.ensures.stops c.requires.whole honest told) renewed.journal renewed.alone renewed.stands c.put_reply.ensures.areas.passes c.put_reply.ensures.stops
 
 pub returns-in-Err-EpochsSpent-clause-stops : goal.returns-in-Err-EpochsSpent-clause-stops
 returns-in-Err-EpochsSpent-clause-stops g c = λ honest told.

@@ -11,6 +11,9 @@ returns-in-Err-clause-shows g c =
     pieces_stop (shown_of (g.W.World.view c.args.world.now)) (shown_of (g.W.World.view c.loop-piece.world)) _ c.args.pieces.now c.loop-piece.piece-index c.piece-item.result c.in-Err.stop c.loop-piece-test.true c.in-Err.ensures.fault c.loop-piece.invariant.shows
     (subst (λ (piece : List ℕ). Shows (shown_of (g.W.World.view c.loop-piece.world)) (piece ∷ []) c.in-Err.stop (shown_of (g.W.World.view c.put_piece.new.world))) is c.in-Err.ensures.shows)
 
+pub returns-in-Err-clause-areas : goal.returns-in-Err-clause-areas
+returns-in-Err-clause-areas g c = keeps_on _ (g.W.World.view c.loop-piece.world) _ c.loop-piece.invariant.areas c.put_piece.ensures.areas
+
 pub loop-piece-preserved : goal.loop-piece-preserved
 loop-piece-preserved g c = record {
   shows =

@@ -1,62 +1,110 @@
-use Rattle.std.proofs.Common.{◌≡◌, IsTrue, sym, ◌∙◌, ap, subst}
-use Rattle.std.proofs.lemmas.Result.{IfOk-weaker, IfErr-weaker}
+use Rattle.std.proofs.Common.{◌≡◌, IsTrue, Some, List, ℕ, sym, ◌∙◌, ap, subst}
+use Rattle.std.proofs.lemmas.Result.{IfOk-weaker, IfErr-weaker, err_from_is_err_and}
+use Rattle.pgs_world.specs.declared.area.Area.{Area}
 use Rattle.pgs_world.specs.declared.area.Area.TheVariants.{A, B}
 use Rattle.pgs_world.specs.Moment.{IsQuiet}
 use Rattle.pgs_world.specs.World.{Triple, View, part}
 use Rattle.pgs_world.proofs.Moments.{quiet_on}
 use Rattle.pgs_journal.specs.declared.area_state.AreaState.{AreaState}
-use Rattle.pgs_journal.specs.Area.{area_state, HoldsStore}
-use Rattle.pgs_journal.specs.Format.{First}
-use Rattle.pgs_snapshot.specs.Choice.{choice, choice_of, chosen}
+use Rattle.pgs_journal.specs.declared.head.Head.{Head}
+use Rattle.pgs_journal.specs.Area.{area_state, head_of, HoldsStore}
+use Rattle.pgs_journal.specs.Format.{First, Holds}
+use Rattle.pgs_snapshot.specs.Choice.{choice_of, chosen, leading, taken}
 use Rattle.pgs_snapshot.specs.Standing.{Refuses}
-use Rattle.pgs_snapshot.proofs.Choices.{choice_read, held_chosen}
+use Rattle.pgs_snapshot.proofs.Choices.{taken_area}
+use Rattle.pgs_snapshot.proofs.Heads.{AreHeads, leading_choice, headless_choice}
 use Rattle.pgs_snapshot.proofs.choosing.read_chosen.Goals as goal
 
--- a world whose areas were read one after the other: what was read is what they are
-both_read : (first one : View) → IsQuiet first one → (a b : AreaState) → (IsTrue first.tells_bytes → a ≡ area_state First (part A first.shown)) → (IsTrue one.tells_bytes → b ≡ area_state First (part B one.shown)) → IsTrue first.tells_bytes
-    → choice a b ≡ choice_of first.shown.a first.shown.b
-both_read first one q a b of_a of_b told =
-    choice_read a b first.shown.a first.shown.b (of_a told) (of_b (q.passes.tells_bytes ∙ told) ∙ ap (λ (t : Triple). area_state First t.b) q.shown)
+-- heads that were read one after the other
+heads_read : (first one : View) → IsQuiet first one → (a b : Head) → (IsTrue first.tells_bytes → a ≡ head_of First (part A first.shown)) → (IsTrue one.tells_bytes → b ≡ head_of First (part B one.shown)) → IsTrue first.tells_bytes
+    → AreHeads a b first.shown
+heads_read first one q a b of_a of_b told =
+    record { of_a = of_a told; of_b = of_b (q.passes.tells_bytes ∙ told) ∙ ap (λ (t : Triple). head_of First t.b) q.shown }
+
+-- and the area that was scanned behind them
+scanned : (first two : View) → IsQuiet first two → (a b : Head) (area : Area) (state : AreaState) → (IsTrue first.tells_bytes → AreHeads a b first.shown) → leading a b ≡ Some area
+    → (IsTrue two.tells_bytes → state ≡ area_state First (part area two.shown)) → IsTrue first.tells_bytes → choice_of first.shown.a first.shown.b ≡ taken area state
+scanned first two q a b area state are leads is told =
+    leading_choice a b first.shown (are told) area leads
+    ∙ ap (taken area) (sym (is (q.passes.tells_bytes ∙ told) ∙ ap (λ (t : Triple). area_state First (part area t)) q.shown))
+
+holds_taken : (area at : Area) (state : AreaState) (epoch end : ℕ) (payloads : List (List ℕ)) (triple : Triple) → taken area state ≡ chosen at epoch end payloads
+    → HoldsStore First state (part area triple) → Holds First epoch payloads end (part at triple)
+holds_taken area at state epoch end payloads triple is holds =
+    let found = taken_area area at state epoch end payloads is in
+    subst (λ (x : Area). Holds First epoch payloads end (part x triple)) found.0 (subst (λ (s : AreaState). HoldsStore First s (part area triple)) found.1 holds)
 
 pub returns-in_err-b-clause-quiet : goal.returns-in_err-b-clause-quiet
 returns-in_err-b-clause-quiet g c =
-    quiet_on (g.W.World.view c.args.world.now) (g.W.World.view c.scan.new.world) (g.W.World.view c.scan-2.new.world) c.scan.ensures.quiet c.scan-2.ensures.quiet
+    quiet_on (g.W.World.view c.args.world.now) (g.W.World.view c.read_head.new.world) (g.W.World.view c.read_head-2.new.world) c.read_head.ensures.quiet c.read_head-2.ensures.quiet
+
+pub returns-in_err-area-clause-quiet : goal.returns-in_err-area-clause-quiet
+returns-in_err-area-clause-quiet g c =
+    quiet_on (g.W.World.view c.args.world.now) (g.W.World.view c.read_head.new.world) (g.W.World.view c.read_head-2.new.world) c.read_head.ensures.quiet c.read_head-2.ensures.quiet
+
+pub returns-in_err-area-clause-refused : goal.returns-in_err-area-clause-refused
+returns-in_err-area-clause-refused g c =
+    let first = g.W.World.view c.args.world.now in
+    let one = g.W.World.view c.read_head.new.world in
+    let p = err_from_is_err_and c.from_residual-in_err-area.result c.from_residual-in_err-area.ensures.1 in
+    rw (p.1, p.2)
+    (λ told.
+    subst (Refuses c.in_err-area.field-0.0)
+    (sym (headless_choice c.in_ok-a.a c.in_ok-b.b first.shown (heads_read first one c.read_head.ensures.quiet c.in_ok-a.a c.in_ok-b.b c.in_ok-a.ensures.head c.in_ok-b.ensures.head told) c.in_err-area.ensures.none))
+    c.in_err-area.ensures.refused)
+
+pub returns-in_err-state-clause-quiet : goal.returns-in_err-state-clause-quiet
+returns-in_err-state-clause-quiet g c =
+    let first = g.W.World.view c.args.world.now in
+    let two = g.W.World.view c.read_head-2.new.world in
+    quiet_on first two (g.W.World.view c.scan.new.world)
+    (quiet_on first (g.W.World.view c.read_head.new.world) two c.read_head.ensures.quiet c.read_head-2.ensures.quiet) c.scan.ensures.quiet
 
 pub returns-clause-quiet : goal.returns-clause-quiet
 returns-clause-quiet g c =
-    quiet_on (g.W.World.view c.args.world.now) (g.W.World.view c.scan.new.world) (g.W.World.view c.scan-2.new.world) c.scan.ensures.quiet c.scan-2.ensures.quiet
+    let first = g.W.World.view c.args.world.now in
+    let two = g.W.World.view c.read_head-2.new.world in
+    quiet_on first two (g.W.World.view c.scan.new.world)
+    (quiet_on first (g.W.World.view c.read_head.new.world) two c.read_head.ensures.quiet c.read_head-2.ensures.quiet) c.scan.ensures.quiet
 
 pub returns-clause-chosen : goal.returns-clause-chosen
 returns-clause-chosen g c =
-    IfOk-weaker c.choose.result _ _ (λ it is told.
-    sym (both_read (g.W.World.view c.args.world.now) (g.W.World.view c.scan.new.world) c.scan.ensures.quiet c.in_ok-a.a c.in_ok-b.b c.in_ok-a.ensures.state c.in_ok-b.ensures.state told)
-    ∙ is) c.choose.ensures.chosen
+    let first = g.W.World.view c.args.world.now in
+    let one = g.W.World.view c.read_head.new.world in
+    let two = g.W.World.view c.read_head-2.new.world in
+    IfOk-weaker c.store_in.result _ _
+    (λ it is told.
+    scanned first two (quiet_on first one two c.read_head.ensures.quiet c.read_head-2.ensures.quiet) c.in_ok-a.a c.in_ok-b.b c.in_ok-area.area c.in_ok-state.state
+    (heads_read first one c.read_head.ensures.quiet c.in_ok-a.a c.in_ok-b.b c.in_ok-a.ensures.head c.in_ok-b.ensures.head) c.in_ok-area.ensures.leads c.in_ok-state.ensures.state told
+    ∙ is) c.store_in.ensures.chosen
 
 pub returns-clause-refused : goal.returns-clause-refused
 returns-clause-refused g c =
-    IfErr-weaker c.choose.result _ _ (λ fault is told.
+    let first = g.W.World.view c.args.world.now in
+    let one = g.W.World.view c.read_head.new.world in
+    let two = g.W.World.view c.read_head-2.new.world in
+    IfErr-weaker c.store_in.result _ _
+    (λ fault is told.
     subst (Refuses fault)
-    (both_read (g.W.World.view c.args.world.now) (g.W.World.view c.scan.new.world) c.scan.ensures.quiet c.in_ok-a.a c.in_ok-b.b c.in_ok-a.ensures.state c.in_ok-b.ensures.state told)
-    is) c.choose.ensures.refused
+    (sym (scanned first two (quiet_on first one two c.read_head.ensures.quiet c.read_head-2.ensures.quiet) c.in_ok-a.a c.in_ok-b.b c.in_ok-area.area c.in_ok-state.state
+    (heads_read first one c.read_head.ensures.quiet c.in_ok-a.a c.in_ok-b.b c.in_ok-a.ensures.head c.in_ok-b.ensures.head) c.in_ok-area.ensures.leads c.in_ok-state.ensures.state told))
+    is) c.store_in.ensures.refused
 
 pub returns-clause-stands : goal.returns-clause-stands
 returns-clause-stands g c =
     let first = g.W.World.view c.args.world.now in
-    let one = g.W.World.view c.scan.new.world in
-    let two = g.W.World.view c.scan-2.new.world in
-    let q = c.scan.ensures.quiet in
-    let r = c.scan-2.ensures.quiet in
-    let all = quiet_on first one two q r in
-    IfOk-weaker c.choose.result _ _ (λ it is now.
-    let told_one = sym r.passes.tells_bytes ∙ now in
-    let told = sym q.passes.tells_bytes ∙ told_one in
-    let chosen_first = sym (both_read first one q c.in_ok-a.a c.in_ok-b.b c.in_ok-a.ensures.state c.in_ok-b.ensures.state told) ∙ is in
-    let chosen_now = subst (λ (t : Triple). choice_of t.a t.b ≡ chosen it.area it.epoch it.end it.payloads) (sym all.shown) chosen_first in
+    let one = g.W.World.view c.read_head.new.world in
+    let two = g.W.World.view c.read_head-2.new.world in
+    let three = g.W.World.view c.scan.new.world in
+    let q = quiet_on first one two c.read_head.ensures.quiet c.read_head-2.ensures.quiet in
+    let all = quiet_on first two three q c.scan.ensures.quiet in
+    IfOk-weaker c.store_in.result _ _
+    (λ it is now.
     record {
-      choice = chosen_now;
-      holds =
-          held_chosen it.area it.epoch it.end it.payloads two.shown chosen_now
-          (subst (λ (t : Triple). HoldsStore First (area_state First t.a) t.a) (sym r.shown)
-          (subst (λ (s : AreaState). HoldsStore First s one.shown.a) (c.in_ok-a.ensures.state told ∙ ap (λ (t : Triple). area_state First t.a) (sym q.shown)) (c.in_ok-a.ensures.holds told_one)))
-          (subst (λ (s : AreaState). HoldsStore First s two.shown.b) (c.in_ok-b.ensures.state told_one ∙ ap (λ (t : Triple). area_state First t.b) (sym r.shown)) (c.in_ok-b.ensures.holds now));
-    }) c.choose.ensures.chosen
+      choice =
+          subst (λ (t : Triple). choice_of t.a t.b ≡ chosen it.area it.epoch it.end it.payloads) (sym all.shown)
+          (scanned first two q c.in_ok-a.a c.in_ok-b.b c.in_ok-area.area c.in_ok-state.state
+          (heads_read first one c.read_head.ensures.quiet c.in_ok-a.a c.in_ok-b.b c.in_ok-a.ensures.head c.in_ok-b.ensures.head) c.in_ok-area.ensures.leads c.in_ok-state.ensures.state (sym all.passes.tells_bytes ∙ now)
+          ∙ is);
+      holds = holds_taken c.in_ok-area.area it.area c.in_ok-state.state it.epoch it.end it.payloads three.shown is (c.in_ok-state.ensures.holds now);
+    }) c.store_in.ensures.chosen

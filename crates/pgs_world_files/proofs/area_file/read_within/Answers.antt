@@ -1,6 +1,6 @@
 use Rattle.std.proofs.Common.{◌<◌, inl, inr, refl, sym, subst, arith}
-use Rattle.pgs_world_files.specs.Given.HasRead.{read_none}
-use Rattle.pgs_world_files.proofs.Loops.{failed_by_error, failed_by_none, some_left, tried_more, buffer_within, buffer_within_more, read_all, read_more, read_no_more}
+use Rattle.pgs_world_streams.specs.Given.HasRead.{read_none}
+use Rattle.pgs_world_streams.proofs.Loops.{failed_by_error, failed_by_none, some_left, tried_more, buffer_within, buffer_within_more, read_all, read_more, read_no_more}
 use Rattle.pgs_world_files.proofs.area_file.read_within.Goals as goal
 use Rattle.pgs_world_files.proofs.area_file.read_within.Goals.{in-Ok, in-Err+else-ne}
 

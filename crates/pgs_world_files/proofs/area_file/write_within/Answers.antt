@@ -1,6 +1,6 @@
 use Rattle.std.proofs.Common.{inl, inr, refl, arith}
-use Rattle.pgs_world_files.specs.Given.HasWritten.{wrote_none}
-use Rattle.pgs_world_files.proofs.Loops.{failed_by_error, failed_by_none, some_left, tried_more, within_more, wrote_more, wrote_no_more}
+use Rattle.pgs_world_streams.specs.Given.HasWritten.{wrote_none}
+use Rattle.pgs_world_streams.proofs.Loops.{failed_by_error, failed_by_none, some_left, tried_more, within_more, wrote_more, wrote_no_more}
 use Rattle.pgs_world_files.proofs.area_file.write_within.Goals as goal
 use Rattle.pgs_world_files.proofs.area_file.write_within.Goals.{in-Ok, in-Err+else-ne}
 

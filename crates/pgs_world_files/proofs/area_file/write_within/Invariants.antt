@@ -1,5 +1,5 @@
 use Rattle.std.proofs.Common.{◌≤◌, ◌⊎◌, length}
-use Rattle.pgs_world_files.specs.Given.{HasWritten, HasFailed}
+use Rattle.pgs_world_streams.specs.Given.{HasWritten, HasFailed}
 use Rattle.pgs_world_files.proofs.area_file.write_within.Given as goal
 
 abbrev pub invariant-loop : goal.invariant-loop

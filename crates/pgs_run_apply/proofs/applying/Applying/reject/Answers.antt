@@ -3,11 +3,11 @@ use Rattle.pgs_feed.specs.Seen.{places}
 use Rattle.pgs_run_base.specs.Session.{standard}
 use Rattle.pgs_run_apply.specs.Outcome.{refusing}
 use Rattle.pgs_run_apply.specs.Seen.{state_of}
-use Rattle.pgs_run_apply.proofs.Taken.{take_none}
+use Rattle.pgs_run_apply.proofs.Taken.{take_untaken}
 use Rattle.pgs_run_apply.proofs.applying.Applying.reject.Goals as goal
 
-pub returns-in-Err : goal.returns-in-Err
-returns-in-Err g c =
+pub returns-in_err-text : goal.returns-in_err-text
+returns-in_err-text g c =
     let s = state_of c.args.self.now in
-    take_none s (refusing s (rejection_text c.args.rejection.now standard)) s (g.W.World.view c.args.world.now)
-    (places g.F.Feed.taken g.F.Feed.faults c.args.self.now.feeds) (g.met.W.World.timed c.args.world.now) c.requires.holds
+    take_untaken s (refusing s (rejection_text c.args.rejection.now standard)) c.from_residual.result s (g.W.World.view c.args.world.now)
+    (places g.F.Feed.taken g.F.Feed.faults c.args.self.now.feeds) c.from_residual.ensures.1 (g.met.W.World.timed c.args.world.now) c.requires.holds

@@ -5,24 +5,27 @@ use Rattle.pgs_run_base.specs.Session.{decision_on}
 use Rattle.pgs_run_apply.specs.Outcome.{deciding}
 use Rattle.pgs_run_apply.specs.Seen.{state_of, state_with}
 use Rattle.pgs_run_apply.proofs.Asked.{still_holds, take_done, take_rejected, take_stopped}
-use Rattle.pgs_run_apply.proofs.Taken.{take_none}
+use Rattle.pgs_run_apply.proofs.Putting.{piece_put}
+use Rattle.pgs_run_apply.proofs.Taken.{take_untaken}
 use Rattle.pgs_run_apply.proofs.applying.Applying.take_txn.Goals as goal
 
-pub returns-in-Err : goal.returns-in-Err
-returns-in-Err g c =
+pub returns-in_err-verdict : goal.returns-in_err-verdict
+returns-in_err-verdict g c =
     let self = c.args.self.now in
     let s = state_of self in
-    take_none s (deciding s c.args.txn.now (decision_on (verdict self.store.guard.schema) self.store.guard.graph c.args.txn.now)) s (g.W.World.view c.args.world.now)
-    (places g.F.Feed.taken g.F.Feed.faults self.feeds) (g.met.W.World.timed c.args.world.now) c.requires.holds
+    take_untaken s (deciding s c.args.txn.now (decision_on (verdict self.store.guard.schema) self.store.guard.graph c.args.txn.now)) c.from_residual.result s (g.W.World.view c.args.world.now)
+    (places g.F.Feed.taken g.F.Feed.faults self.feeds) c.from_residual.ensures.1 (g.met.W.World.timed c.args.world.now) c.requires.holds
 
 pub returns-in-Ok-None : goal.returns-in-Ok-None
 returns-in-Ok-None g c =
     let self = c.args.self.now in
     let seen = places g.F.Feed.taken g.F.Feed.faults in
-    take_done self.store self.number self.refused c.args.txn.now c.put_line.result c.ask.new.store (g.W.World.view c.args.world.now) (g.W.World.view c.ask.new.world)
-    (g.W.World.view c.put_line.new.world) (seen self.feeds) (seen c.deliver.new.self) c.as_slice.result.now c.as_slice-in-Ok-None.result.now c.requires.holds
-    (g.met.W.World.timed c.args.world.now) (rw c.in-Ok-None.field-0-is at c.in-Ok-None.ensures.answer) c.ask.ensures.stops c.ask.ensures.beside (c.as_slice.ensures ∙ c.in-Ok.ensures.feed)
-    c.deliver.ensures.delivered (c.as_slice-in-Ok-None.ensures ∙ c.in-Ok.ensures.verdict) c.put_line.ensures
+    take_done self.store self.number self.refused c.args.txn.now c.put_piece.result c.ask.new.store (g.W.World.view c.args.world.now) (g.W.World.view c.ask.new.world)
+    (g.W.World.view c.put_piece.new.world) (seen self.feeds) (seen c.deliver.new.self) c.as_slice.result.now c.as_slice-in-Ok-None.result.now c.requires.holds
+    (g.met.W.World.timed c.args.world.now) (rw c.in-Ok-None.field-0-is at c.in-Ok-None.ensures.answer) c.ask.ensures.stops c.ask.ensures.beside (c.as_slice.ensures ∙ c.in_ok-verdict.ensures.feed)
+    c.deliver.ensures.delivered (c.as_slice-in-Ok-None.ensures ∙ c.in_ok-verdict.ensures.verdict)
+    (piece_put c.as_slice-in-Ok-None.result.now (g.W.World.view c.ask.new.world) (g.W.World.view c.put_piece.new.world) c.put_piece.ensures.areas c.put_piece.ensures.stops c.put_piece.result
+    c.put_piece.ensures.shows c.put_piece.ensures.fault c.put_piece.ensures.cause)
 
 pub reject-requires-clause-holds : goal.reject-requires-clause-holds
 reject-requires-clause-holds g c =
@@ -44,6 +47,6 @@ returns-in-Ok-Some g c =
 pub returns : goal.returns
 returns g c =
     let self = c.args.self.now in
-    take_stopped self.store self.number self.refused c.args.txn.now g.W.World.view c.in-Err-ask.stop (state_with c.ask.new.store self.number self.refused) c.ask.new.store c.args.world.now c.ask.new.world
-    (places g.F.Feed.taken g.F.Feed.faults self.feeds) c.requires.holds (g.met.W.World.timed c.args.world.now) c.in-Err-ask.ensures.answer
-    c.in-Err-ask.ensures.early c.ask.ensures.stops c.ask.ensures.beside
+    take_stopped self.store self.number self.refused c.args.txn.now g.W.World.view c.in-Err.stop (state_with c.ask.new.store self.number self.refused) c.ask.new.store c.args.world.now c.ask.new.world
+    (places g.F.Feed.taken g.F.Feed.faults self.feeds) c.requires.holds (g.met.W.World.timed c.args.world.now) c.in-Err.ensures.answer
+    c.in-Err.ensures.early c.ask.ensures.stops c.ask.ensures.beside

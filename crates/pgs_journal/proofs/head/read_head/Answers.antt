@@ -1,0 +1,16 @@
+use Rattle.std.proofs.Common.{◌≡◌, List, ℕ, ◌∙◌}
+use Rattle.pgs_journal.specs.Area.{head_in, head_of}
+use Rattle.pgs_journal.specs.Format.{First}
+use Rattle.pgs_journal.proofs.Heads.{head_decided}
+use Rattle.pgs_journal.proofs.Seeing.{decided_shown}
+use Rattle.pgs_journal.proofs.head.read_head.Goals as goal
+
+pub returns-clause-head : goal.returns-clause-head
+returns-clause-head g c =
+    let view = g.W.World.view c.args.world.now in
+    let front = c.in_ok-front.front in
+    let read = c.in_ok-front.ensures in
+    λ told.
+    c.head.ensures.head
+    ∙ decided_shown view c.args.area front.len (λ image. head_in First front.len front.bytes ≡ head_of First image) read.len
+    (head_decided view c.args.area front.len front.bytes read.size read.bytes) told

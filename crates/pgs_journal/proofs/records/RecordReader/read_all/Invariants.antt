@@ -1,0 +1,18 @@
+-- The reading stands at a gate, behind records that were read and are fit.
+use Rattle.std.proofs.Common.{◌≡◌, ◌-◌}
+use Rattle.pgs_journal.proofs.Stepping.{IsAt}
+use Rattle.pgs_world.specs.Moment.{IsQuiet, ShowsOne, MakesNoPut}
+use Rattle.pgs_journal.proofs.records.RecordReader.read_all.Given as goal
+
+abbrev pub invariant-loop-gate : goal.invariant-loop-gate
+invariant-loop-gate g l =
+    record {
+      at : IsAt (g.W.World.view l.fn.world) l.self.area l.self.len l.self.epoch l.at l.payloads.items l.gate;
+      quiet : IsQuiet (g.W.World.view l.fn.world) (g.W.World.view l.world);
+      image : ShowsOne (g.W.World.view l.world);
+      faults : (g.W.World.view l.world).area_faults ≡ (g.W.World.view l.fn.world).area_faults;
+      no_put : MakesNoPut (g.W.World.view l.fn.world) (g.W.World.view l.world);
+    }
+
+abbrev pub decreases-loop-gate : goal.decreases-loop-gate
+decreases-loop-gate g l = l.self.len - l.at

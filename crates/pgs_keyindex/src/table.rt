@@ -1,0 +1,303 @@
+//! The rows of an index, and the elements that may hold a value.
+
+ghost use Rattle.std.specs.Prelude.{◌≡◌, true, false, [], filter, IfOk, OnOk, MatchOption};
+ghost use Rattle.std.specs.Option.{option_copied};
+ghost use Rattle.std.specs.List.{list_all};
+ghost use Rattle.std.specs.List.Sorted.{IsStrictlySortedBy};
+ghost use Rattle.std.specs.Map.{keys_of};
+ghost use Rattle.pgs_base.specs.declared.element.Elem.{Elem};
+ghost use Rattle.pgs_keyindex.specs.Members.{member_cmp};
+ghost use Rattle.pgs_keyindex.specs.Rows.{values_at, has_value, is_exclusive, row_changed};
+ghost use Rattle.pgs_keyindex.specs.Table.{has_digest, has_elem, has_room, is_listed, listed_at, stands, Grows, KeepsRoom, SameRows};
+
+use crate::KeyChange;
+use crate::digest::Digest;
+use crate::few::Few;
+use crate::holders::{has_elem, listed, relist, with_elem};
+use crate::member::Member;
+use pgs_base::{Elem, List, Memory, Seed, Tuple, TupleSet};
+use pgs_tables::Numbered;
+use std::alloc::Global;
+use std::marker::Model;
+
+/// As many elements are listed at a digest before it is tried which of them still stand there.
+const CROWD: usize = 4;
+
+/// The rows of an index. Where a value of an exclusive key is looked for, the elements are listed that may have it; some of them may
+/// have lost it.
+pub(crate) struct KeyTable {
+    alloc: Global,
+    seed: Seed,
+    exclusive: List<bool>,
+    rows: Numbered<Member, TupleSet>,
+    holders: Numbered<Digest, Few>,
+    lost: usize,
+}
+
+impl Model for KeyTable {
+    ghost use Rattle.pgs_keyindex.specs.Table.{TableState, IsHeld};
+
+    ghost Value = { TableState };
+
+    ghost view = { λ table. record { exclusive = table.exclusive; seed = table.seed; rows = table.rows; holders = table.holders } };
+
+    ghost invariant = { λ table. IsHeld (record { exclusive = table.exclusive; seed = table.seed; rows = table.rows; holders = table.holders }) };
+}
+
+// Dropped here, so that what holds it need not prove what it holds.
+impl Drop for KeyTable {
+    fn drop(self) {
+        let KeyTable {
+            alloc: _,
+            seed: _,
+            exclusive: _,
+            rows: _,
+            holders: _,
+            lost: _,
+        } = self;
+    }
+}
+
+impl KeyTable {
+    /// No rows, where it is known which keys are exclusive. It takes no memory.
+    pub(crate) fn new(alloc: Global, exclusive: List<bool>, seed: Seed) -> KeyTable
+        ensures exclusive { result.exclusive ≡ exclusive }
+        ensures rows { result.rows.rows ≡ [] }
+    {
+        KeyTable {
+            alloc,
+            seed,
+            exclusive,
+            rows: Numbered::new(alloc, seed),
+            holders: Numbered::new(alloc, seed),
+            lost: 0,
+        }
+    }
+
+    /// The rows ascend by key and element. Nothing is done.
+    pub(crate) fn facts(&self)
+        ensures { IsStrictlySortedBy member_cmp (keys_of self.now.rows.rows) }
+    {
+        let _rows = self.rows.len();
+    }
+
+    // Whether the key of a number is exclusive.
+    fn is_exclusive(&self, key: u32) -> bool
+        ensures { result ≡ is_exclusive self.now.exclusive key }
+    {
+        if key == 0 {
+            return false;
+        }
+        match self.exclusive.at(key as usize - 1) {
+            Some(asked) => *asked,
+            None => false,
+        }
+    }
+
+    /// The key values of an element. `None` exactly where it has no row.
+    pub(crate) fn values(&self, key: u32, elem: Elem) -> Option<&TupleSet>
+        ensures { option_copied result ≡ values_at self.now.rows.rows key elem }
+    {
+        self.rows.get(Member::new(key, elem))
+    }
+
+    // Whether an element has a key value.
+    fn has_value(&self, key: u32, elem: Elem, tuple: &Tuple) -> bool
+        ensures { result ≡ has_value self.now.rows.rows key elem tuple.now }
+    {
+        match self.values(key, elem) {
+            Some(values) => values.contains(tuple),
+            None => false,
+        }
+    }
+
+    /// The element that has a value of an exclusive key. `None` exactly where none has it.
+    pub(crate) fn owner(&self, key: u32, tuple: &Tuple) -> Option<Elem>
+        requires { is_exclusive self.now.exclusive key ≡ true }
+        ensures { MatchOption result
+            ((elem : Elem) → has_value self.now.rows.rows key elem tuple.now ≡ false)
+            (λ elem. has_value self.now.rows.rows key elem tuple.now ≡ true) }
+    {
+        let digest = Digest::of(self.seed, key, tuple);
+        let elems = listed(&self.holders, digest);
+        for elem in elems {
+            if self.has_value(key, *elem, tuple) {
+                return Some(*elem);
+            }
+        }
+        None
+    }
+
+    // Whether some tuple has a digest.
+    fn has_digest(&self, digest: Digest, tuples: &TupleSet) -> bool
+        ensures { result ≡ has_digest self.now.seed digest tuples.now }
+    {
+        let tuples = tuples.as_slice();
+        for tuple in tuples {
+            if digest
+                .cmp(&Digest::of(self.seed, digest.key, tuple))
+                .is_eq()
+            {
+                return true;
+            }
+        }
+        false
+    }
+
+    // Whether an element has a value of a digest.
+    fn stands(&self, digest: Digest, elem: Elem) -> bool
+        ensures { result ≡ stands self.now digest elem }
+    {
+        match self.values(digest.key, elem) {
+            Some(values) => self.has_digest(digest, values),
+            None => false,
+        }
+    }
+
+    // The elements listed at a digest that have a value of it. `Memory` where none was left.
+    fn standing(&self, digest: Digest) -> Result<Few, Memory>
+        ensures { IfOk result (λ few. few ≡ filter (stands self.now digest) (listed_at self.now.holders.rows digest)) }
+    {
+        let elems = listed(&self.holders, digest);
+        let mut standing = Vec::new(self.alloc);
+        for elem in elems {
+            if self.stands(digest, *elem) {
+                standing.push(*elem)?;
+            }
+        }
+        Ok(Few::many(List::from_vec(standing)))
+    }
+
+    // Whether each element listed at a digest has a value of it.
+    fn all_stand(&self, digest: Digest) -> bool {
+        let elems = listed(&self.holders, digest);
+        for elem in elems {
+            if !self.stands(digest, *elem) {
+                return false;
+            }
+        }
+        true
+    }
+
+    // Leaves at a digest the elements that have a value of it.
+    fn tidy(&mut self, digest: Digest) -> Result<(), Memory>
+        ensures { SameRows self.old self.new }
+    {
+        if self.all_stand(digest) {
+            return Ok(());
+        }
+        let standing = self.standing(digest)?;
+        self.holders.make_slot(digest)?;
+        relist(&mut self.holders, digest, standing);
+        Ok(())
+    }
+
+    fn tidy_all(&mut self) -> Result<(), Memory>
+        ensures { SameRows self.old self.new }
+    {
+        let digests = self.holders.ids(self.alloc)?;
+        let digests = digests.as_slice();
+        for digest in digests {
+            self.tidy(*digest)?;
+        }
+        Ok(())
+    }
+
+    /// Takes out the slots without a row, and what is listed without a value, where they are more than half of all.
+    pub(crate) fn clear(&mut self) -> Result<(), Memory>
+        ensures { SameRows self.old self.new }
+    {
+        self.rows.clear_slots();
+        if self.lost > self.holders.len() / 2 {
+            self.tidy_all()?;
+            self.holders.clear_slots();
+            self.lost = 0;
+        }
+        Ok(())
+    }
+
+    /// Takes out what is listed without a value, where the change's values are looked for and many are listed.
+    pub(crate) fn tidy_for(&mut self, change: &KeyChange) -> Result<(), Memory>
+        ensures { SameRows self.old self.new }
+    {
+        let Some(values) = &change.values else {
+            return Ok(());
+        };
+        let tuples = values.as_slice();
+        for tuple in tuples {
+            let digest = Digest::of(self.seed, change.key, tuple);
+            if listed(&self.holders, digest).len() > CROWD {
+                self.tidy(digest)?;
+            }
+        }
+        Ok(())
+    }
+
+    // Lists an element at a digest of an exclusive key.
+    fn list(&mut self, digest: Digest, elem: Elem) -> Result<(), Memory>
+        requires { is_exclusive self.old.exclusive digest.key ≡ true }
+        ensures grows { Grows self.old self.new }
+        ensures there { OnOk result (has_elem elem (listed_at self.new.holders.rows digest) ≡ true) }
+    {
+        if has_elem(listed(&self.holders, digest), elem) {
+            return Ok(());
+        }
+        let few = with_elem(self.alloc, listed(&self.holders, digest), elem)?;
+        self.holders.make_slot(digest)?;
+        relist(&mut self.holders, digest, few);
+        Ok(())
+    }
+
+    // Lists an element where each of its values of an exclusive key is looked for.
+    fn list_at_each(&mut self, key: u32, elem: Elem, values: &TupleSet) -> Result<(), Memory>
+        requires { is_exclusive self.old.exclusive key ≡ true }
+        ensures grows { Grows self.old self.new }
+        ensures there { OnOk result (list_all (λ tuple. is_listed self.new key tuple elem) values.now ≡ true) }
+    {
+        let tuples = values.as_slice();
+        for tuple in tuples {
+            self.list(Digest::of(self.seed, key, tuple), elem)?;
+        }
+        Ok(())
+    }
+
+    /// Takes all memory that a change needs: a slot for the row, and the element listed where its values are looked for.
+    pub(crate) fn make_room(&mut self, change: &KeyChange) -> Result<(), Memory>
+        ensures grows { Grows self.old self.new }
+        ensures room { OnOk result (has_room self.new change.now ≡ true) }
+    {
+        let Some(values) = &change.values else {
+            return Ok(());
+        };
+        self.rows.make_slot(Member::new(change.key, change.elem))?;
+        if self.is_exclusive(change.key) {
+            self.list_at_each(change.key, change.elem, values)?;
+        }
+        Ok(())
+    }
+
+    // How many values an element has.
+    fn count(&self, key: u32, elem: Elem) -> usize {
+        match self.values(key, elem) {
+            Some(values) => values.len(),
+            None => 0,
+        }
+    }
+
+    /// Does a change for which there is room. It takes no memory.
+    pub(crate) fn set(&mut self, change: KeyChange)
+        requires { has_room self.old change ≡ true }
+        ensures rows { self.new.rows.rows ≡ row_changed self.old.rows.rows change }
+        ensures room { KeepsRoom self.old self.new }
+    {
+        let KeyChange { key, elem, values } = change;
+        let lost = self.count(key, elem);
+        self.lost = self.lost.saturating_add(lost);
+        match values {
+            Some(values) => self.rows.put(Member::new(key, elem), values),
+            None => {
+                let _ = self.rows.take(Member::new(key, elem));
+            }
+        }
+    }
+}

@@ -1,0 +1,18 @@
+use Rattle.pgs_run_lines.specs.Machine.{Told}
+use Rattle.pgs_run_base.specs.declared.status.Status.{Status}
+use Rattle.pgs_run_explain.specs.Explaining.{explained}
+use Rattle.pgs_run_saved.proofs.Stopping.{until_cause, until_ends, until_told}
+use Rattle.pgs_run_explain.proofs.explaining.ExplainingStoreReader.tell.Goals as goal
+
+pub returns-in-Err : goal.returns-in-Err
+returns-in-Err g c =
+    let it = c.args.store.now.guard in
+    let old = g.W.World.view c.args.world.now in
+    let new = g.W.World.view c.put_explained.new.world in
+    let told : Told Status = explained it.schema it.graph c.args.self.now.elem in
+    record {
+      ends = until_ends c.in-Err.stop c.status_at.result told old new c.status_at.ensures c.in-Err.ensures.puts;
+      told = until_told c.in-Err.stop c.status_at.result told old new c.status_at.ensures c.in-Err.ensures.puts;
+      cause = until_cause c.in-Err.stop c.status_at.result told old new c.status_at.ensures c.in-Err.ensures.puts;
+      areas = c.in-Err.ensures.puts.areas;
+    }

@@ -1,0 +1,39 @@
+ghost use Rattle.std.specs.Prelude.{◌≡◌};
+ghost use Rattle.pgs_run_lines.specs.AreasKept.{KeepsAreas};
+ghost use Rattle.pgs_run_lines.specs.Replies.{EndsReply};
+ghost use Rattle.pgs_world.specs.Disk.{Puts as PutsFront};
+ghost use Rattle.pgs_world.specs.Moment.{StopsBy};
+
+use crate::putting::put_piece;
+use pgs_base::Bytes;
+use pgs_world::World;
+
+/// How a program's run may end.
+pub trait RunStatus: Copy {
+    /// The status where a put failed.
+    ghost put_failed: { Self };
+
+    /// The status where a put failed.
+    fn put_fault() -> Self
+        ensures { result ≡ put_failed };
+}
+
+/// A line, and the status of a run that puts it last.
+#[derive(Drop)]
+pub struct Reply<E> {
+    pub line: Bytes,
+    pub status: E,
+}
+
+/// Puts the line of a reply, and gives its status, or the status of a put that failed, which comes only where the count of put faults
+/// rose. At every moment both areas are what they were, and a front of the line is out.
+pub fn put_reply<E: RunStatus, W: World>(world: &mut W, reply: &Reply<E>) -> E
+    ensures ends { EndsReply reply.now.line reply.now.status E.put_failed (W.view world.old) result (W.view world.new) }
+    ensures stops { StopsBy (PutsFront reply.now.line) (W.view world.old) (W.view world.new) }
+    ensures areas { KeepsAreas (W.view world.old) (W.view world.new) }
+{
+    match put_piece::<E, W>(world, reply.line.as_slice()) {
+        Ok(()) => reply.status,
+        Err(_) => E::put_fault(),
+    }
+}

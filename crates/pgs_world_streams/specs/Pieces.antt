@@ -1,0 +1,35 @@
+-- What a writer does with a piece.
+use Rattle.std.specs.Prelude.{◌≡◌, ◌⊎◌, ℕ, ◌-◌, ◌^◌, true, false, List, ◌++◌, length, Option, Result, Ok, Err}
+use Rattle.std.specs.Io.KnownBytes.{Appends}
+use Rattle.pgs_world_streams.specs.Given.{PlacedCall, PlainCall, BareCall, HasWritten, HasFailed}
+
+-- known bytes grow by some front of the piece
+pub record AppendsFront (old new : Option (List ℕ)) (piece : List ℕ) : Type 0 where
+  pub front : List ℕ
+  pub back : List ℕ
+  pub parts : piece ≡ front ++ back
+  pub appends : Appends old new front
+
+-- known bytes grow by the whole piece; after a fault by some front of it
+abbrev pub HoldsPiece : {W A F : Type 0} → (W → Option (List ℕ)) → W → List ℕ → Result A F → W → Type 0
+HoldsPiece contents old piece (Ok _) new = Appends (contents old) (contents new) piece
+HoldsPiece contents old piece (Err _) new = AppendsFront (contents old) (contents new) piece
+
+-- writes that have no place
+abbrev pub placeless : {W : Type 0} → PlainCall W → PlacedCall W
+placeless writes old at bytes answer new = writes old bytes answer new
+
+-- The whole piece was written, and then flushed. Else a front of it was written, where a write failed, or all of it, where
+-- the flush failed.
+abbrev pub PieceIs : {W A F : Type 0} → PlainCall W → BareCall W → W → List ℕ → Result A F → W → Type 0
+PieceIs writes flushes old piece (Ok _) new =
+    (mid : _) × HasWritten (placeless writes) old 0 piece (length piece) mid × flushes mid true new
+PieceIs writes flushes old piece (Err _) new =
+    ((mid : _) × HasWritten (placeless writes) old 0 piece (length piece) mid × flushes mid false new)
+    ⊎ (HasFailed (placeless writes) × (done : ℕ) × HasWritten (placeless writes) old 0 piece done new)
+
+-- the same of a put, which fails with nothing written where no more puts can be counted
+abbrev pub PutIs : {W A F : Type 0} → PlainCall W → BareCall W → ℕ → W → List ℕ → Result A F → W → Type 0
+PutIs {F = F} writes flushes puts old piece (Ok done) new = PieceIs {F = F} writes flushes old piece (Ok done) new
+PutIs {A = A} writes flushes puts old piece (Err fault) new =
+    ((puts ≡ 2 ^ 64 - 1) × (new ≡ old)) ⊎ PieceIs {A = A} writes flushes old piece (Err fault) new
