@@ -3,15 +3,10 @@
 # transactions as JSON. It makes a small program over pgs_codec and pgs_json in a folder of its own, and builds it, proving what is
 # below where no check has kept it.
 # Usage: bench/codec.sh
-set -eu
-shopt -s inherit_errexit
-top=$(cd "$(dirname "$(readlink -f "${BASH_SOURCE[0]}")")/.." && pwd)
-work=$(mktemp -d)
-trap 'rm -rf "$work"' EXIT
+source "$(dirname "$(readlink -f "${BASH_SOURCE[0]}")")/common.bash"
+take pgs_json pgs_codec
+echo 'coding: pgs_base pgs_graph pgs_json pgs_codec' >>"$work/crates.txt"
 mkdir -p "$work/crates/coding/src"
-cp "$top/HANDLES" "$work/"
-cp -r "$top"/crates/pgs_{base,text,graph,json,codec} "$work/crates/"
-{ grep -E '^pgs_(base|text|graph|json|codec):' "$top/crates.txt"; echo 'coding: pgs_base pgs_graph pgs_json pgs_codec'; } >"$work/crates.txt"
 cat >"$work/crates/coding/src/main.rt" <<'E'
 //! Decodes, encodes or reads as JSON the same 1,000 transactions, as often as it has words after the first, which says what it does.
 #![tactic(auto)]
@@ -154,9 +149,7 @@ fn main(rt: HostRuntime) -> ExitCode {
     }
 }
 E
-cd "$work/crates/coding"
-built="$work/crates/coding/out/coding"
-(rt all check && rt run) >"$work/log" 2>&1 </dev/null || [ -x "$built" ] || { tail -n 20 "$work/log" >&2; exit 1; }
+build coding decode
 # The processor's time of the program itself, which other work on the machine changes least.
 milliseconds() {
   local TIMEFORMAT='%U'

@@ -8,7 +8,8 @@ mkdir "$work/crates"
 cp "$top/HANDLES" "$work/"
 : >"$work/crates.txt"
 
-# take CRATE..: copies these crates of the repository, and all below them, without what their checks have kept
+# take CRATE..: copies these crates of the repository, and all below them, with the libraries that were built of them: `rt` takes such a
+# library where it is of these very sources, and else proves and builds it anew
 take() {
   local crate part line lower
   for crate; do
@@ -17,6 +18,10 @@ take() {
       for part in src specs proofs; do
         [ ! -d "$top/crates/$crate/$part" ] || cp -r "$top/crates/$crate/$part" "$work/crates/$crate/"
       done
+      if [ -d "$top/crates/$crate/out/rlib" ]; then
+        mkdir "$work/crates/$crate/out"
+        cp -a "$top/crates/$crate/out/rlib" "$work/crates/$crate/out/"
+      fi
       line=$(grep -E "^$crate:" "$top/crates.txt")
       echo "$line" >>"$work/crates.txt"
       read -r -a lower <<<"${line#*:}"

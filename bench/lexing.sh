@@ -2,15 +2,10 @@
 # Times the cut of a schema text of nearly a mebibyte into tokens: the mean of 100 turns of `lex` on one text, in
 # milliseconds. It makes a small program over pgs_lexer in a folder of its own, and builds it, proving what is below where no check has kept it.
 # Usage: bench/lexing.sh
-set -eu
-shopt -s inherit_errexit
-top=$(cd "$(dirname "$(readlink -f "${BASH_SOURCE[0]}")")/.." && pwd)
-work=$(mktemp -d)
-trap 'rm -rf "$work"' EXIT
+source "$(dirname "$(readlink -f "${BASH_SOURCE[0]}")")/common.bash"
+take pgs_lexer
+echo 'lexing: pgs_base pgs_lexer' >>"$work/crates.txt"
 mkdir -p "$work/crates/lexing/src"
-cp "$top/HANDLES" "$work/"
-cp -r "$top/crates/pgs_base" "$top/crates/pgs_lexer" "$work/crates/"
-{ grep -E '^pgs_(base|lexer):' "$top/crates.txt"; echo 'lexing: pgs_base pgs_lexer'; } >"$work/crates.txt"
 cat >"$work/crates/lexing/src/main.rt" <<'E'
 //! Lexes one text as often as it has words, and answers 0 where each turn gave tokens.
 #![tactic(auto)]
@@ -51,9 +46,7 @@ fn main(rt: HostRuntime) -> ExitCode {
     ExitCode::from(0)
 }
 E
-cd "$work/crates/lexing"
-built="$work/crates/lexing/out/lexing"
-(rt all check && rt run) >"$work/log" 2>&1 </dev/null || [ -x "$built" ] || { tail -n 20 "$work/log" >&2; exit 1; }
+build lexing
 milliseconds() {
   local start
   start=$(date +%s%N)

@@ -3,18 +3,9 @@
 # what it found. It makes a small program over pgs_resolve in a folder of its own, and builds it, proving what is below where no
 # check has kept it.
 # Usage: bench/resolving.sh [WORD]   (only the texts with WORD in their names)
-set -eu
-shopt -s inherit_errexit
-top=$(cd "$(dirname "$(readlink -f "${BASH_SOURCE[0]}")")/.." && pwd)
-work=$(mktemp -d)
-trap 'rm -rf "$work"' EXIT
+source "$(dirname "$(readlink -f "${BASH_SOURCE[0]}")")/common.bash"
+take pgs_resolve
 mkdir -p "$work/crates/resolving/src"
-cp "$top/HANDLES" "$work/"
-: >"$work/crates.txt"
-for crate in pgs_base pgs_lexer pgs_syntax pgs_parser pgs_resolve_declared pgs_resolve_keys pgs_resolve_order pgs_resolve; do
-  cp -r "$top/crates/$crate" "$work/crates/"
-  grep -E "^$crate:" "$top/crates.txt" >>"$work/crates.txt"
-done
 echo 'resolving: pgs_base pgs_lexer pgs_parser pgs_resolve' >>"$work/crates.txt"
 cat >"$work/crates/resolving/src/main.rt" <<'E2'
 //! Reads a schema text from the file of the first word, and resolves it as often as there are further words. The exit status
@@ -83,9 +74,7 @@ fn main(rt: HostRuntime) -> ExitCode {
     }
 }
 E2
-cd "$work/crates/resolving"
-built="$work/crates/resolving/out/resolving"
-(rt all check && rt run) >"$work/log" 2>&1 </dev/null || [ -x "$built" ] || { tail -n 20 "$work/log" >&2; exit 1; }
+build resolving
 
 # texts NAME: the text of this name. Types have names of t and five digits, and stand in one graph type.
 texts() {

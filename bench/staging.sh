@@ -5,18 +5,10 @@
 # three detaches a node it has 100 edges. It makes a small program over pgs_txn in a folder of its own, and builds it, proving what is
 # below where no check has kept it.
 # Usage: bench/staging.sh
-set -eu
-shopt -s inherit_errexit
-top=$(cd "$(dirname "$(readlink -f "${BASH_SOURCE[0]}")")/.." && pwd)
-work=$(mktemp -d)
-trap 'rm -rf "$work"' EXIT
-mkdir -p "$work/crates/staging/src"
-cp "$top/HANDLES" "$work/"
-for crate in base graph syntax violation txn; do
-    cp -r "$top/crates/pgs_$crate" "$work/crates/"
-done
-{ grep -E '^pgs_(base|graph|syntax|violation|txn):' "$top/crates.txt"; echo 'staging: pgs_base pgs_graph pgs_violation pgs_txn'; } >"$work/crates.txt"
-mkdir -p "$work/crates/staging/proofs/done"
+source "$(dirname "$(readlink -f "${BASH_SOURCE[0]}")")/common.bash"
+take pgs_txn
+echo 'staging: pgs_base pgs_graph pgs_violation pgs_txn' >>"$work/crates.txt"
+mkdir -p "$work/crates/staging/src" "$work/crates/staging/proofs/done"
 echo 'use Rattle.staging.proofs.done.Given as goal
 
 abbrev pub ghosts-done_by : goal.ghosts-done_by
@@ -198,9 +190,7 @@ fn main(rt: HostRuntime) -> ExitCode {
     }
 }
 E2
-cd "$work/crates/staging"
-built="$work/crates/staging/out/staging"
-(rt all check && rt run) >"$work/log" 2>&1 </dev/null || [ -x "$built" ] || { tail -n 20 "$work/log" >&2; exit 1; }
+build staging
 mapfile -t words < <(seq 50)
 TIMEFORMAT='%3U %3S'
 seconds() {

@@ -4,21 +4,10 @@
 # with the standard library's hash maps. It makes small programs in a folder of its own, and builds them, proving what is below where no
 # check has kept it.
 # Usage: bench/validating.sh
-set -eu
-shopt -s inherit_errexit
-top=$(cd "$(dirname "$(readlink -f "${BASH_SOURCE[0]}")")/.." && pwd)
-work=$(mktemp -d)
-trap 'rm -rf "$work"' EXIT
+source "$(dirname "$(readlink -f "${BASH_SOURCE[0]}")")/common.bash"
+take pgs_txn pgs_tables pgs_gen pgs_scratch pgs_schema
+echo 'validating: pgs_base pgs_graph pgs_txn pgs_tables pgs_gen pgs_scratch pgs_schema' >>"$work/crates.txt"
 mkdir -p "$work/crates/validating/src" "$work/crates/validating/proofs/run"
-cp "$top/HANDLES" "$work/"
-crates='base|graph|syntax|violation|lexer|parser|resolve|conform|width|product|shapes|txn|edges|numbered|tables|gen|plan|matching|search|match|scratch|schema'
-for crate in ${crates//|/ }; do
-  cp -r "$top/crates/pgs_$crate" "$work/crates/"
-done
-{
-  grep -E "^pgs_($crates):" "$top/crates.txt"
-  echo 'validating: pgs_base pgs_graph pgs_txn pgs_tables pgs_gen pgs_scratch pgs_schema'
-} >"$work/crates.txt"
 cat >"$work/crates/validating/proofs/run/Invariants.antt" <<'E'
 use Rattle.validating.proofs.run.Given as goal
 
@@ -224,20 +213,15 @@ fn main() {
 }
 E
 rustc -O -A warnings -o "$work/bare" "$work/bare.rs"
-cd "$work/crates/validating"
-built="$work/crates/validating/out/validating"
-(rt all check --jobs 1 && rt run -- 0) >"$work/log" 2>&1 </dev/null || [ -x "$built" ] || { tail -n 40 "$work/log" >&2; exit 1; }
-# The processor's time of the program itself, in milliseconds: the least of three, which other work on the machine changes least.
-milliseconds() {
-  local TIMEFORMAT='%U'
-  for _ in 1 2 3; do
-    { time "$@" >/dev/null || { echo "the program ended with $?" >&2; exit 1; }; } 2>&1
-  done | sort -n | awk 'NR == 1 { print $1 * 1000 }'
+build validating 0
+# runs COMMAND..: a command without what it prints
+runs() {
+  "$@" >/dev/null
 }
 for kind in '' shared; do
   for program in "$built" "$work/bare"; do
-    without=$(milliseconds "$program" 0 $kind)
-    with=$(milliseconds "$program" 5 $kind)
+    without=$(milliseconds runs "$program" 0 $kind)
+    with=$(milliseconds runs "$program" 5 $kind)
     awk -v program="$(basename "$program")" -v kind="${kind:-conforming}" -v with="$with" -v without="$without" \
       -v count="$("$program" 1 $kind)" 'BEGIN { printf "%s, %s: %d violations, %.0f ms a list\n", program, kind, count, (with - without) / 5 }'
   done
