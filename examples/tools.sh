@@ -59,6 +59,14 @@ ends "the map went on" 0 grep -q '"add_node":3' any.txt
 printf 'id,labels,age:int\n1,P,1.5\n' >bad.csv
 ends "csv-to-lines refuses a fraction" 1 "$tools/csv-to-lines" --nodes bad.csv 2>told.txt
 ends "and names the place" 0 grep -q 'bad.csv:2, age' told.txt
+printf 'id,labels,name\n1,P,Ann\n1,P,Bob\n' >twice.csv
+ends "csv-to-lines refuses an id that stands twice" 1 "$tools/csv-to-lines" --nodes twice.csv 2>told.txt >/dev/null
+ends "and names its place" 0 grep -q 'twice.csv:3: the id "1" stood before' told.txt
+printf 'id,labels,name\n1,P,A\377n\n' >bytes.csv
+ends "csv-to-lines refuses what isn't UTF-8" 1 "$tools/csv-to-lines" --nodes bytes.csv 2>told.txt >/dev/null
+ends "and names the line" 0 grep -q "bytes.csv:2: isn't UTF-8" told.txt
+printf 'id,labels,name\n1,P,"Ann\n' >open.csv
+ends "csv-to-lines refuses an open quote" 1 "$tools/csv-to-lines" --nodes open.csv 2>told.txt >/dev/null
 
 # Out and in again: the dump as lines gives the same dump.
 "$program" recover bank >dump.txt </dev/null
