@@ -69,8 +69,8 @@ CREATE EDGE TYPE (:part)-[supplying: supplies]->(:part);
 CREATE GRAPH TYPE bank STRICT {holder, account, part, owning, supplying, FOR (a:Account) IDENTIFIER a.iban};
 S
 cat >lines.txt <<'L'
-{"ops":[{"add_node":1,"labels":["Holder"],"props":{"name":"Ann O'Hara"}},{"add_node":2,"labels":["Holder"],"props":{"name":"Bob"}},{"add_node":10,"labels":["Account"],"props":{"iban":"DE1"}}]}
-{"ops":[{"add_edge":1,"from":1,"to":10,"labels":["owns"]},{"add_edge":2,"from":2,"to":10,"labels":["owns"]}]}
+{"ops":[{"add_node":1,"labels":["Holder"],"props":{"name":"Ann O'Hara"}},{"add_node":2,"labels":["Holder"],"props":{"name":"Bob"}},{"add_node":10,"labels":["Account"],"props":{"iban":"DE1"}},{"add_node":11,"labels":["Account"],"props":{"iban":"DE2"}}]}
+{"ops":[{"add_edge":1,"from":1,"to":10,"labels":["owns"]},{"add_edge":2,"from":2,"to":10,"labels":["owns"]},{"add_edge":5,"from":1,"to":11,"labels":["owns"]}]}
 {"ops":[{"add_node":20,"labels":["Part"],"props":{"name":"car"}},{"add_node":21,"labels":["Part"],"props":{"name":"engine"}},{"add_node":22,"labels":["Part"],"props":{"name":"bolt $pgguard$"}},{"add_edge":3,"from":21,"to":20,"labels":["supplies"]},{"add_edge":4,"from":22,"to":21,"labels":["supplies"]}]}
 {"ops":[{"add_node":18446744073709551615,"labels":["Part"],"props":{"name":"last"}}]}
 {"ops":[{"detach_node":18446744073709551615},{"set_node":2,"key":"name","value":"Bob Jones"}]}
@@ -103,10 +103,10 @@ prints "a text with U+0000 ends it" 1 grep -c 'zero.jsonl:1: n1, name' told.txt
 prints "before anything of that commit" 0 grep -c 'set_node\|UPDATE graph_node' zero.sql
 
 # Two questions that pgguard doesn't answer.
-prints "accounts with more than one owner" "DE1|Ann O'Hara, Bob Jones" sql -At -c "
-  SELECT account.props ->> 'iban', string_agg(holder.props ->> 'name', ', ' ORDER BY holder.id)
+prints "accounts that share an owner" "Ann O'Hara|DE1, DE2" sql -At -c "
+  SELECT holder.props ->> 'name', string_agg(account.props ->> 'iban', ', ' ORDER BY account.id)
   FROM graph_edge AS owning JOIN graph_node AS holder ON holder.id = owning.source JOIN graph_node AS account ON account.id = owning.target
-  WHERE 'owns' = ANY (owning.labels) GROUP BY account.id HAVING count(*) > 1"
+  WHERE 'owns' = ANY (owning.labels) GROUP BY holder.id HAVING count(*) > 1"
 prints "suppliers of a part, upstream" 'engine|1
 bolt $pgguard$|2' sql -At -c "
   WITH RECURSIVE upstream (id, depth) AS (

@@ -132,9 +132,24 @@ printf '{"ops":[{"add_node":12,"labels":["Account"],"props":{"iban":"DE1"}}]}\n'
 "$program" apply bank <clash.txt >clash_verdicts.txt
 ends "show-dot of what a refusal names" 0 "$tools/show-dot" dump.txt --faults clash_verdicts.txt >faults.dot
 ends "red, and only what is near" 0 sh -c 'grep -q "n10 .*color=red" faults.dot && grep -q "n1 " faults.dot && ! grep -q "n12 " faults.dot'
+# The way of docs/GUIDE.md, "In and out", from CSV to a picture.
+ring="$here/ring"
+printf 'loaded types=4 keys=2\n1 committed 1\n1 refused 27 key 2: n10 has no key value\n' >ring_wanted.txt
+{
+  "$program" load ring <"$ring/schema.txt"
+  "$tools/csv-to-lines" --nodes "$ring/holders.csv" "$ring/accounts.csv" --edges "$ring/edges.csv" | "$program" apply ring ring.jsonl
+  "$program" apply ring ring.jsonl <"$ring/ring.txt"
+} >ring_found.txt
+ends "a ring of payments is refused" 0 cmp ring_found.txt ring_wanted.txt
+"$program" recover ring </dev/null | cat - "$ring/ring.txt" >refused.txt
+"$program" validate <refused.txt >ring_faults.txt
+ends "show-dot of a ring" 0 "$tools/show-dot" --faults ring_faults.txt refused.txt >ring.dot
+ends "all three of it are red, with their owners" 0 test "$(grep -c 'color=red' ring.dot) $(grep -c ': Holder' ring.dot) $(grep -c n13 ring.dot)" = "3 3 0"
+ends "show-dot around a node" 0 "$tools/show-dot" --around n13 --steps 1 refused.txt >around.dot
+ends "only what is near" 0 test "$(grep -c 'label="n' around.dot)" = 2
 if command -v dot >/dev/null; then
-  ends "the picture" 0 dot -Tsvg -o faults.svg faults.dot
-  ends "has the names" 0 grep -q 'n10: Account' faults.svg
+  ends "the picture" 0 dot -Tsvg -o ring.svg ring.dot
+  ends "has the names of docs/refused_ring.svg" 0 cmp <(grep '<text' ring.svg | sed 's/<[^>]*>//g') <(grep '<text' "$here/../docs/refused_ring.svg" | sed 's/<[^>]*>//g')
 else
   echo "the picture: passed over, graphviz isn't installed"
 fi
