@@ -243,10 +243,18 @@ mkdir folder.a
 ends "a folder as a store's file" 5 "folder.a: is not a regular file" "$program" load folder
 ends "a store in no folder" 5 "missing/s.a: no such file or folder" "$program" recover missing/s
 printf 'words refused 35\n' >refused.txt
-for word in help --help -h; do
+for word in '' help --help -h; do
+  # shellcheck disable=SC2086
   "$program" $word >found.txt 2>told.txt
-  holds "$word" eval '[ $? = 2 ] && cmp -s found.txt refused.txt && head -n 1 told.txt | grep -qx "usage:"'
+  status=$?
+  holds "${word:-no word}" eval '[ "$status" = 2 ] && cmp -s found.txt refused.txt && head -n 1 told.txt | grep -qx "usage:"'
 done
+
+# Of a file that isn't a store only the head is read.
+fresh sparse
+rm sparse.a
+truncate -s 4G sparse.a
+holds "recover beside a sparse file of 4 GB, in 1 GB" eval '(ulimit -v 1000000; exec "$program" recover sparse <nothing) | cmp -s - before_dump.txt'
 
 # A file that is taken away while a run has it.
 fresh gone
