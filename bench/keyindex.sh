@@ -8,14 +8,54 @@
 source "$(dirname "$(readlink -f "${BASH_SOURCE[0]}")")/common.bash"
 take pgs_keyindex
 echo 'indexing: pgs_base pgs_syntax pgs_keyindex' >>"$work/crates.txt"
-mkdir -p "$work/crates/indexing/src" "$work/crates/indexing/proofs/done"
+mkdir -p "$work/crates/indexing/src" "$work/crates/indexing/proofs/done" "$work/crates/indexing/proofs/put"
+cat >"$work/crates/indexing/proofs/done/Invariants.antt" <<'E'
+use Rattle.indexing.proofs.done.Given as goal
+
+abbrev pub ghosts-done_by : goal.ghosts-done_by
+ghosts-done_by a = record { name = a.blank.name; parts = a.blank.parts }
+E
+cat >"$work/crates/indexing/proofs/Lib.antt" <<'E'
+mod Owned
+E
+cat >"$work/crates/indexing/proofs/Owned.antt" <<'E'
+-- Each value still has one owner where an element gets one value that no other has.
+use Rattle.std.proofs.Common.{◌≡◌, Bool, true, false, ◌||◌, List, [], ◌∷◌, Some, refl, subst}
+use Rattle.std.specs.Cmp.{Equal-is}
+use Rattle.std.specs.List.{list_any}
+use Rattle.std.specs.List.Sorted.{IsStrictlySortedBy}
+use Rattle.std.specs.Map.{keys_of}
+use Rattle.std.specs.BTreeMap.{is_at}
+use Rattle.pgs_base.specs.declared.element.Elem.{Elem}
+use Rattle.pgs_base.specs.declared.part.Part.{Part}
+use Rattle.pgs_base.specs.Order.{tuple_cmp}
+use Rattle.pgs_base.specs.OrderLaws.{exact_tuple}
+use Rattle.pgs_keyindex.specs.Members.{member_cmp}
+use Rattle.pgs_keyindex.specs.Rows.{KeyRows, has_value, IsOwned, row_changed}
+use Rattle.pgs_keyindex.proofs.Changes.{owned-row_changed}
+
+true_or_false : (b : Bool) → (b || false) ≡ true → b ≡ true
+true_or_false true h = refl
+true_or_false false h = h
+
+is_only : (tuple other : List Part) → list_any (is_at (tuple_cmp other)) (tuple ∷ []) ≡ true → other ≡ tuple
+is_only tuple other there = exact_tuple other tuple ((Equal-is (tuple_cmp other tuple)).0 (true_or_false (is_at (tuple_cmp other) tuple) there))
+
+pub owned_after : (exclusive : List Bool) (rows : KeyRows) (elem : Elem) (tuple : List Part) → IsStrictlySortedBy member_cmp (keys_of rows) → IsOwned exclusive rows →
+    ((other : Elem) → has_value rows 1 other tuple ≡ true → other ≡ elem) →
+    IsOwned exclusive (row_changed rows (record { key = 1; elem = elem; values = Some (tuple ∷ []) }))
+owned_after exclusive rows elem tuple sorted owned free =
+    owned-row_changed rows sorted (record { key = 1; elem = elem; values = Some (tuple ∷ []) }) exclusive owned
+    (λ given other there has. free other (subst (λ t. has_value rows 1 other t ≡ true) (is_only tuple given there) has))
+E
 cat >"$work/crates/indexing/src/main.rt" <<'E'
 //! Makes changes of one row each in a key index, of the kind that the first word says, hashed by fixed keys, or with the second word `drawn`
 //! by drawn ones. With a third word the numbers of the elements, or of the texts, are the lines of that file.
 #![tactic(auto)]
 
 ghost use Rattle.std.specs.Prelude.{◌≡◌, ◌<◌, true};
-ghost use Rattle.pgs_keyindex.specs.Rows.{is_exclusive};
+ghost use Rattle.pgs_base.specs.declared.element.Elem.{Elem};
+ghost use Rattle.pgs_keyindex.specs.Rows.{has_value, is_exclusive};
 
 use pgs_base::{Elem, List, Memory, NodeId, Part, Seed, Steps, Text, Tuple, TupleSet, Value};
 use pgs_keyindex::{KeyChange, KeyIndex};
@@ -88,20 +128,38 @@ impl Drop for Owners {
     }
 }
 
+/// Whether no other element has a value.
+fn is_free<L: Ledger>(index: &KeyIndex, elem: Elem, tuple: &Tuple, steps: &mut Steps<L>) -> bool
+    requires { is_exclusive index.now.exclusive 1 ≡ true }
+    ensures { result ≡ true → (other : Elem) → has_value index.now.rows 1 other tuple.now ≡ true → other ≡ elem }
+{
+    match index.owner_of(1, tuple, steps) {
+        Some(other) => elem.cmp(&other).is_eq(),
+        None => true,
+    }
+}
+
+/// Gives an element a value that no other has.
+fn put(alloc: Global, index: &mut KeyIndex, elem: Elem, tuple: Tuple) -> Result<(), Memory>
+    requires { (other : Elem) → has_value index.old.rows 1 other tuple ≡ true → other ≡ elem }
+    ensures { index.new.exclusive ≡ index.old.exclusive }
+{
+    index.facts();
+    let mut values = TupleSet::new(alloc);
+    let _ = values.insert(tuple)?;
+    let mut changes = Vec::with_capacity(alloc, 1)?;
+    changes.push(KeyChange { key: 1, elem, values: Some(values) })?;
+    let ready = index.prepare(List::from_vec(changes))?;
+    index.commit(ready);
+    Ok(())
+}
+
 impl Owners {
     /// Gives an element a value that no other has. Nothing is done where another has it.
     fn set<L: Ledger>(&mut self, alloc: Global, elem: Elem, tuple: Tuple, steps: &mut Steps<L>) -> Result<(), Memory> {
-        if let Some(other) = self.index.owner_of(1, &tuple, steps) {
-            if other != elem {
-                return Ok(());
-            }
+        if is_free(&self.index, elem, &tuple, steps) {
+            put(alloc, &mut self.index, elem, tuple)?;
         }
-        let mut values = TupleSet::new(alloc);
-        let _ = values.insert(tuple)?;
-        let mut changes = Vec::with_capacity(alloc, 1)?;
-        changes.push(KeyChange { key: 1, elem, values: Some(values) })?;
-        let ready = self.index.prepare(List::from_vec(changes))?;
-        self.index.commit(ready);
         Ok(())
     }
 }
