@@ -47,7 +47,7 @@ const TRANSACTION_FAILS: &[Call] = &[
 fn a_store_needs_to_be_reopened_after_a_transaction_that_failed(
     rt: HostRuntime,
 ) -> Result<(), Fail> {
-    assert_eq!(rt; wrong_failing(rt.alloc(), 21, 24, TRANSACTION_FAILS)?, None);
+    assert_eq!(rt; wrong_failing(rt.alloc(), 19, 22, TRANSACTION_FAILS)?, None);
     Ok(())
 }
 
@@ -62,6 +62,6 @@ const CHECKPOINT_FAILS: &[Call] = &[
 fn a_store_needs_to_be_reopened_after_a_checkpoint_that_failed(
     rt: HostRuntime,
 ) -> Result<(), Fail> {
-    assert_eq!(rt; wrong_failing(rt.alloc(), 21, 30, CHECKPOINT_FAILS)?, None);
+    assert_eq!(rt; wrong_failing(rt.alloc(), 19, 28, CHECKPOINT_FAILS)?, None);
     Ok(())
 }

@@ -29,13 +29,13 @@ type Row = (u64, u64, [u64; 5]);
 
 /// No store; the store of epoch 1 after no commit and after one; the store of epoch 2 after one commit.
 const STOPS: [Row; 7] = [
-    (0, 14, [30_000; 5]),
-    (15, 15, [30_000, 10, 30_000, 10, 30_000]),
-    (16, 18, [10; 5]),
-    (19, 19, [10, 11, 10, 11, 10]),
-    (20, 28, [11; 5]),
-    (29, 29, [11, 21, 11, 21, 11]),
-    (30, 30, [21; 5]),
+    (0, 12, [30_000; 5]),
+    (13, 13, [30_000, 10, 30_000, 10, 30_000]),
+    (14, 16, [10; 5]),
+    (17, 17, [10, 11, 10, 11, 10]),
+    (18, 26, [11; 5]),
+    (27, 27, [11, 21, 11, 21, 11]),
+    (28, 28, [21; 5]),
 ];
 
 /// Whether these states are recovered after so many calls, each with its leaving.
