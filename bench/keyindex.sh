@@ -8,7 +8,7 @@
 source "$(dirname "$(readlink -f "${BASH_SOURCE[0]}")")/common.bash"
 take pgs_keyindex
 echo 'indexing: pgs_base pgs_syntax pgs_keyindex' >>"$work/crates.txt"
-mkdir -p "$work/crates/indexing/src" "$work/crates/indexing/proofs/done" "$work/crates/indexing/proofs/put"
+mkdir -p "$work/crates/indexing/src" "$work/crates/indexing/proofs"/{done,empty_owners,is_free,put}
 cat >"$work/crates/indexing/proofs/done/Invariants.antt" <<'E'
 use Rattle.indexing.proofs.done.Given as goal
 
@@ -48,13 +48,63 @@ owned_after exclusive rows elem tuple sorted owned free =
     owned-row_changed rows sorted (record { key = 1; elem = elem; values = Some (tuple ∷ []) }) exclusive owned
     (λ given other there has. free other (subst (λ t. has_value rows 1 other t ≡ true) (is_only tuple given there) has))
 E
+cat >"$work/crates/indexing/proofs/empty_owners/Answers.antt" <<'E'
+use Rattle.std.proofs.Common.{◌≡◌, true, false, ◌∷◌, [], ◌++◌, ◌∙◌, ap}
+use Rattle.std.specs.Option.{option_map_or}
+use Rattle.std.specs.List.{slice_get}
+use Rattle.pgs_keyindex.specs.Standing.{exclusive_keys}
+use Rattle.indexing.proofs.empty_owners.Goals as goal
+
+pub invariant_of-result : goal.invariant_of-result
+invariant_of-result c =
+    ap (λ flags. option_map_or (λ asked. asked) (slice_get flags 0) false)
+    (c.in_ok-index.ensures.exclusive ∙ ap exclusive_keys (c.from_vec.ensures ∙ c.in_ok-push.ensures.items ∙ ap (λ keys. keys ++ c.exclusive_key.result ∷ []) c.in_ok-keys.ensures.items))
+    ∙ c.exclusive_key.ensures
+E
+cat >"$work/crates/indexing/proofs/is_free/Answers.antt" <<'E'
+use Rattle.std.proofs.Common.{◌≡◌, true, is_some, unwrap_or, ◌∙◌, ap, sym, true≢false}
+use Rattle.std.specs.Cmp.{Equal-is}
+use Rattle.pgs_base.specs.Order.{elem_cmp}
+use Rattle.pgs_base.specs.OrderLaws.{exact_elem}
+use Rattle.indexing.proofs.is_free.Goals as goal
+
+pub returns-in-Some : goal.returns-in-Some
+returns-in-Some g c tie other has =
+    let found = ap (λ o. unwrap_or o c.in-Some.other) ((c.in-Some.ensures.owner other).0 has) in
+    let same = exact_elem c.args.elem c.in-Some.other ((Equal-is (elem_cmp c.args.elem c.in-Some.other)).0 (sym c.is_same.ensures ∙ tie)) in
+    sym found ∙ sym same
+
+pub returns-in-None : goal.returns-in-None
+returns-in-None g c is other has = absurd (true≢false (sym (ap is_some ((c.in-None.ensures.owner other).0 has))))
+E
+cat >"$work/crates/indexing/proofs/put/Answers.antt" <<'E'
+use Rattle.std.proofs.Common.{◌≡◌, true, List, [], ◌∷◌, ◌++◌, Some, ◌∙◌, ap, sym, subst}
+use Rattle.std.specs.BTreeSet.{insert_key}
+use Rattle.pgs_base.specs.declared.part.Part.{Part}
+use Rattle.pgs_base.specs.Order.{tuple_cmp}
+use Rattle.pgs_keyindex.specs.declared.change.KeyChange.{KeyChange}
+use Rattle.pgs_keyindex.specs.Rows.{IsOwned, rows_changed}
+use Rattle.indexing.proofs.Owned.{owned_after}
+use Rattle.indexing.proofs.put.Goals as goal
+
+pub prepare-requires : goal.prepare-requires
+prepare-requires c =
+    let index = c.args.index.now in
+    let change : List (List Part) → List KeyChange = λ values. record { key = 1; elem = c.args.elem; values = Some values } ∷ [] in
+    let changes = c.from_vec.ensures ∙ c.in_ok-push.ensures.items ∙ ap (λ items. items ++ change c.insert.new.self) c.in_ok-changes.ensures.items in
+    let values = c.in_ok-insert.ensures.ok ∙ ap (λ old. insert_key tuple_cmp old c.args.tuple) c.new-values.ensures in
+    subst (λ changes. IsOwned index.exclusive (rows_changed index.rows changes)) (sym (changes ∙ ap change values))
+    (owned_after index.exclusive index.rows c.args.elem c.args.tuple c.facts.ensures.ascending c.facts.ensures.owned c.requires)
+E
 cat >"$work/crates/indexing/src/main.rt" <<'E'
 //! Makes changes of one row each in a key index, of the kind that the first word says, hashed by fixed keys, or with the second word `drawn`
 //! by drawn ones. With a third word the numbers of the elements, or of the texts, are the lines of that file.
 #![tactic(auto)]
 
 ghost use Rattle.std.specs.Prelude.{◌≡◌, ◌<◌, true};
+ghost use Rattle.std.specs.BTreeMap.{is_at};
 ghost use Rattle.pgs_base.specs.declared.element.Elem.{Elem};
+ghost use Rattle.pgs_base.specs.Order.{elem_cmp};
 ghost use Rattle.pgs_keyindex.specs.Rows.{has_value, is_exclusive};
 
 use pgs_base::{Elem, List, Memory, NodeId, Part, Seed, Steps, Text, Tuple, TupleSet, Value};
@@ -128,13 +178,19 @@ impl Drop for Owners {
     }
 }
 
+fn is_same(elem: Elem, other: Elem) -> bool
+    ensures { result ≡ is_at (elem_cmp elem) other }
+{
+    elem.cmp(&other).is_eq()
+}
+
 /// Whether no other element has a value.
 fn is_free<L: Ledger>(index: &KeyIndex, elem: Elem, tuple: &Tuple, steps: &mut Steps<L>) -> bool
     requires { is_exclusive index.now.exclusive 1 ≡ true }
     ensures { result ≡ true → (other : Elem) → has_value index.now.rows 1 other tuple.now ≡ true → other ≡ elem }
 {
     match index.owner_of(1, tuple, steps) {
-        Some(other) => elem.cmp(&other).is_eq(),
+        Some(other) => is_same(elem, other),
         None => true,
     }
 }
@@ -164,7 +220,9 @@ impl Owners {
     }
 }
 
-fn exclusive_key(alloc: Global) -> Key {
+fn exclusive_key(alloc: Global) -> Key
+    ensures { result.qualifiers.exclusive ≡ true }
+{
     Key {
         qualifiers: Qualifiers { mandatory: false, singleton: false, exclusive: true, count: None },
         scope: Pattern { edge_vars: List::new(alloc), atoms: List::new(alloc) },
