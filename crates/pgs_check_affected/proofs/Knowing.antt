@@ -1,0 +1,52 @@
+-- What is known of the elements of a sound delta is a change.
+use Rattle.std.proofs.Common.{◌≡◌, ◌+◌, ◌≡◌, true, List, [], ◌∷◌, ◌++◌, Option, length, map, refl, sym, ◌∙◌, ap, subst, arith}
+use Rattle.std.specs.Map.{keys_of}
+use Rattle.std.proofs.lemmas.List.{length-append}
+use Rattle.pgs_base.specs.declared.element.NodeId.{NodeId}
+use Rattle.pgs_base.specs.declared.element.EdgeId.{EdgeId}
+use Rattle.pgs_base.specs.declared.element.Elem.{Elem}
+use Rattle.pgs_base.specs.declared.element.Elem.TheVariants.{Node, Edge}
+use Rattle.pgs_base.specs.Graph.{Graph, is_graph}
+use Rattle.pgs_base.specs.Order.{ascends, elem_cmp}
+use Rattle.pgs_graph.specs.declared.delta.Delta.{Delta}
+use Rattle.pgs_graph.specs.Changed.{changed, is_sound}
+use Rattle.pgs_graph.proofs.Deltas.{changed_graph}
+use Rattle.pgs_check_affected.specs.declared.known.Known.{Known}
+use Rattle.pgs_check_affected.specs.Changes.{elems_of, known_in, IsChange}
+use Rattle.pgs_check_affected.specs.Local.{is_one_of, AgreeBut}
+use Rattle.pgs_check_affected.proofs.Loops.{map_append}
+use Rattle.pgs_check_affected.proofs.Touching.{changed_agrees, elems_ascend}
+
+module _ (g h : Graph) where
+  pub of_nodes : {R : Type 0} (nodes : List (NodeId × Option R)) →
+      map (λ (node : NodeId × Option R). known_in g h (Node node.0)) nodes ≡ map (known_in g h) (map (λ id. Node id) (keys_of nodes))
+  of_nodes [] = refl
+  of_nodes (node ∷ nodes) = ap (λ rest. known_in g h (Node node.0) ∷ rest) (of_nodes nodes)
+
+  pub of_edges : {R : Type 0} (edges : List (EdgeId × Option R)) →
+      map (λ (edge : EdgeId × Option R). known_in g h (Edge edge.0)) edges ≡ map (known_in g h) (map (λ id. Edge id) (keys_of edges))
+  of_edges [] = refl
+  of_edges (edge ∷ edges) = ap (λ rest. known_in g h (Edge edge.0) ∷ rest) (of_edges edges)
+
+  -- the elements of what is known
+  pub known_elems : (elems : List Elem) → map (λ (known : Known). known.elem) (map (known_in g h) elems) ≡ elems
+  known_elems [] = refl
+  known_elems (elem ∷ elems) = ap (λ rest. elem ∷ rest) (known_elems elems)
+
+  pub known_all : (delta : Delta) (known : List Known) →
+      known ≡ map (known_in g h) (map (λ id. Node id) (keys_of delta.nodes)) ++ map (known_in g h) (map (λ id. Edge id) (keys_of delta.edges)) →
+      known ≡ map (known_in g h) (elems_of delta)
+  known_all delta known is =
+      is ∙ sym (map_append (known_in g h) (map (λ id. Node id) (keys_of delta.nodes)) (map (λ id. Edge id) (keys_of delta.edges)))
+
+  pub is_change : (delta : Delta) (known : List Known) → is_graph g ≡ true → is_sound g delta ≡ true → h ≡ changed g delta → known ≡ map (known_in g h) (elems_of delta) →
+      IsChange g h (map (λ (known : Known). known.elem) known) known
+  is_change delta known graph sound after is =
+      subst (λ elems. IsChange g h elems known) (sym (ap (map (λ (one : Known). one.elem)) is ∙ known_elems (elems_of delta)))
+      (record {
+        before = graph;
+        after = ap is_graph after ∙ changed_graph g delta sound;
+        ascending = elems_ascend delta g sound;
+        known = is;
+        agree = subst (λ other. AgreeBut (is_one_of (elems_of delta)) g other) (sym after) (changed_agrees delta g graph sound);
+      })
