@@ -5,7 +5,7 @@ use Rattle.std.specs.Option.{option_map_or}
 use Rattle.std.specs.List.{list_any, All, Contains}
 use Rattle.std.specs.Cmp.{Equal-is}
 use Rattle.std.proofs.Math.Nat.{pow-zero, pow-succ', pow-le-pow_right, mul-le-mul, mul-le-mul_right}
-use Rattle.std.proofs.lemmas.Bool.{or_cases, or_left, or_right}
+use Rattle.std.proofs.lemmas.Bool.{or_cases, or_left, or_right, eq-eqb}
 use Rattle.std.proofs.lemmas.List.{length-append, length-map}
 use Rattle.std.proofs.lemmas.List.Elements.{All-weaker, All-contains, All-contains_itself}
 use Rattle.std.proofs.lemmas.List.Folds.{list_any-append}
@@ -40,20 +40,38 @@ use Rattle.pgs_check_affected.specs.Found.{passes, edges_at, found_alone, found_
 use Rattle.pgs_check_affected.specs.Local.{is_one_of, AgreeBut, has_touched_end}
 use Rattle.pgs_check_affected.specs.Touched.{touched, AreSparse, IsSparseInBoth, AreSparseInBoth}
 use Rattle.pgs_check_affected.proofs.Finding.{contains_it, has_it, found_is, patterns_valid}
-use Rattle.pgs_check_affected.proofs.Touching.{one_that, itself, touched_is, own_fewer, sparse_touched, sparse_before, sparse_after}
+use Rattle.pgs_check_affected.proofs.Touching.{one_that, itself, touched_is, own_fewer, sparse_touched, sparse_own, sparse_before, sparse_after}
 
 -- ---- powers
 
 pub power_more : (most less more : ℕ) → less ≤ more → (most + 2) ^ less ≤ (most + 2) ^ more
 power_more most less more h = pow-le-pow_right {n = most + 2} (omega arith) h
 
-one_power : (most w : ℕ) → 1 ≤ w → most + 2 ≤ (most + 2) ^ w
+pub one_power : (most w : ℕ) → 1 ≤ w → most + 2 ≤ (most + 2) ^ w
 one_power most w some =
     let first = power_more most 1 w some in
     let once = pow-succ' (most + 2) 0 in
     let none = pow-zero (most + 2) in
     let same : (most + 2) ^ 1 ≡ (most + 2) * 1 = once ∙ ap (λ n. (most + 2) * n) none in
     omega (arith, first, same)
+
+-- a search of each variable, and none
+pub searched_few : (vars power start now : ℕ) → vars ≤ 20 → now ≤ start + vars * (32 * power) → now ≤ start + 640 * power
+searched_few vars power start now few cost = let most = mul-le-mul_right (32 * power) few in omega (arith, cost, most)
+
+pub alone_few_steps : (most w start now : ℕ) → now ≤ start + 2 * (most + 2) → now ≤ start + 640 * (most + 2) ^ (w + 1)
+alone_few_steps most w start now cost = let some = one_power most (w + 1) (omega arith) in omega (arith, cost, some)
+
+-- one turn more
+pub turn_more : (index power start now mid after : ℕ) → now ≤ start + index * (32 * power) → mid ≤ now + 16 * power → after ≤ mid + 16 * power → after ≤ start + (index + 1) * (32 * power)
+turn_more index power start now mid after a b c = omega arith
+
+pub known_more : (index power start now mid after : ℕ) → now ≤ start + 1280 * index * power → mid ≤ now + 640 * power → after ≤ mid + 640 * power → after ≤ start + 1280 * (index + 1) * power
+known_more index power start now mid after a b c = omega arith
+
+pub known_within : (index count power start now after : ℕ) → index < count → now ≤ start + 1280 * index * power → after ≤ now + 1280 * power → after ≤ start + 1280 * count * power
+known_within index count power start now after below a b =
+    let whole : (index + 1) * power ≤ count * power = mul-le-mul_right power (let more : index + 1 ≤ count = omega (arith, below) in more) in omega (arith, a, b, whole)
 
 edges_some : (edge_vars : List Bool) → is_edge_var edge_vars 0 ≡ true → 1 ≤ edge_count edge_vars
 edges_some [] is = absurd (true≢false (sym is))
@@ -63,10 +81,10 @@ edges_some (false ∷ rest) is = absurd (true≢false (sym is))
 -- ---- from one element
 
 -- the edges at an element
-edges_few : (g : Graph) (elem : Elem) (w most : ℕ) → IsSparse g w elem most → length (edges_at g elem) ≤ most
+pub edges_few : (g : Graph) (elem : Elem) (w most : ℕ) → IsSparse g w elem most → length (edges_at g elem) ≤ most
 edges_few g (Edge id) w most sparse = omega arith
 edges_few g (Node id) w most sparse =
-    let here = sparse id (within_less g (Node id) 0 w id (omega arith) (itself (Node id))) in
+    let here = sparse id (within_less g (Node id) 0 w id (omega arith) (eq-eqb id.0 id.0 refl)) in
     let all = length-append (map (λ edge. Edge edge) (out_edges_of g id)) (map (λ edge. Edge edge) (in_edges_of g id)) in
     let first : length (map (λ edge. Edge edge) (out_edges_of g id)) ≡ length (out_edges_of g id) = length-map (out_edges_of g id) (λ edge. Edge edge) in
     let second : length (map (λ edge. Edge edge) (in_edges_of g id)) ≡ length (in_edges_of g id) = length-map (in_edges_of g id) (λ edge. Edge edge) in
@@ -118,7 +136,7 @@ module _ (resolved : Resolved) (g h : Graph) (elem : Elem) (w most : ℕ) (spars
       by true = alone_few pattern few
       by false =
           let all = from_few before after pattern valid few (length pattern.edge_vars) (omega arith) in
-          let vars = mul-le-mul_right {b = length pattern.edge_vars} {c = 20} (2 * (most + 2) ^ w) (valid_most pattern valid) in
+          let vars = mul-le-mul_right (2 * (most + 2) ^ w) (valid_most pattern valid) in
           omega (arith, all, vars)
 
   by_few : is_graph g ≡ true → is_graph h ≡ true → (key : Key) → is_valid_key key ≡ true → most_edges key ≤ w → length (found_by resolved g h elem key) ≤ 80 * (most + 2) ^ w
@@ -149,7 +167,7 @@ module _ (resolved : Resolved) (g h : Graph) (before : is_graph g ≡ true) (aft
     pub found_few : length (found resolved g h key elems) ≤ 80 * length (touched g elems) * (most + 2) ^ edges
     found_few =
         let all = each_few edges few elems (λ elem own. sparse_touched g h elems agree edges most sparse elem (by elem own)) in
-        let less = mul-le-mul_right {b = length elems} {c = length (touched g elems)} (80 * (most + 2) ^ edges) (own_fewer g h elems) in
+        let less = mul-le-mul_right (80 * (most + 2) ^ edges) (own_fewer g h elems) in
         turn (length (touched g elems)) ((most + 2) ^ edges) _ _ all less
       where
         by : (elem : Elem) → is_one_of elems elem ≡ true → is_one_of (touched g elems) elem ≡ true
@@ -219,7 +237,7 @@ module _ (resolved : Resolved) (g h : Graph) (before : is_graph g ≡ true) (aft
 
       near_from : (vars : ℕ) → vars ≤ length pattern.edge_vars → is_one_of (found_from resolved g h elem pattern vars) x ≡ true → IsNear x
       near_from zero inside some = absurd (true≢false (sym some))
-      near_from (suc vars) inside =
+      near_from (suc vars) inside some =
           either (IsNear x) x (found_from resolved g h elem pattern vars) _ (near_from vars (omega arith))
           (either (IsNear x) x (reached resolved g pattern vars elem) (reached resolved h pattern vars elem)
           (λ old. sparse_before g h elems agree edges most sparse edges (omega arith) elem x own
@@ -227,7 +245,7 @@ module _ (resolved : Resolved) (g h : Graph) (before : is_graph g ≡ true) (aft
           (contains_it (reached resolved g pattern vars elem) x old)))
           (λ new. sparse_after g h elems agree edges most sparse edges (omega arith) elem x own
           (All-contains (IsNearTo h edges elem) (reached resolved h pattern vars elem) x (reached_near resolved h pattern good vars (omega arith) elem edges least)
-          (contains_it (reached resolved h pattern vars elem) x new))))
+          (contains_it (reached resolved h pattern vars elem) x new)))) some
 
       near_in : is_one_of (found_in resolved g h elem pattern) x ≡ true → IsNear x
       near_in = by (length pattern.edge_vars == 1)
@@ -250,3 +268,31 @@ module _ (resolved : Resolved) (g h : Graph) (before : is_graph g ≡ true) (aft
     -- a list of what is found alone
     pub all_near : (xs : List Elem) → ((x : Elem) → Contains xs x → Contains (found resolved g h key elems) x) → All IsNear xs
     all_near xs no_other = All-weaker (Contains xs) IsNear (λ x inside. found_near x (no_other x inside)) xs (All-contains_itself xs)
+
+    -- ---- what the searches cost
+
+    pub own_sparse : AreSparseInBoth g h (most_edges key) elems most
+    own_sparse = sparse_own g h elems agree edges most sparse (most_edges key) few
+
+    pub found_cost : (start now : ℕ) → now ≤ start + 1280 * length elems * (most + 2) ^ (most_edges key + 1) →
+        now ≤ start + 1280 * length (touched g elems) * (most + 2) ^ (edges + 1)
+    found_cost start now cost =
+        let more = power_more most (most_edges key + 1) (edges + 1) (omega (arith, few)) in
+        let all = mul-le-mul (own_fewer g h elems) more in
+        turn start now (length elems) (length (touched g elems)) ((most + 2) ^ (most_edges key + 1)) ((most + 2) ^ (edges + 1)) cost all
+      where
+        turn : (start now count u less more : ℕ) → now ≤ start + 1280 * count * less → count * less ≤ u * more → now ≤ start + 1280 * u * more
+        turn start now count u less more a b = omega arith
+
+    -- with two look-ups for each element before
+    pub affected_cost : (start mid now : ℕ) → mid ≤ start + 2 * length elems → now ≤ mid + 1280 * length (touched g elems) * (most + 2) ^ (edges + 1) →
+        now ≤ start + 1536 * (length (touched g elems) + 1) * (most + 2) ^ (edges + 1)
+    affected_cost start mid now first second =
+        let some = one_at_least most (edges + 1) in
+        let fewer = own_fewer g h elems in
+        let all : length (touched g elems) * 1 ≤ length (touched g elems) * (most + 2) ^ (edges + 1) = mul-le-mul (let same : length (touched g elems) ≤ length (touched g elems) = omega arith in same) some in
+        turn start mid now (length elems) (length (touched g elems)) ((most + 2) ^ (edges + 1)) first second fewer some all
+      where
+        turn : (start mid now count u power : ℕ) → mid ≤ start + 2 * count → now ≤ mid + 1280 * u * power → count ≤ u → 1 ≤ power → u * 1 ≤ u * power →
+            now ≤ start + 1536 * (u + 1) * power
+        turn start mid now count u power a b c d e = omega arith

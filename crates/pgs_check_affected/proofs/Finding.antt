@@ -1,5 +1,5 @@
 -- What is found from the elements of a change has each element at which a match in either graph starts that binds one that may differ.
-use Rattle.std.proofs.Common.{◌≡◌, ℕ, zero, suc, ◌+◌, ◌<◌, Bool, true, false, ◌&&◌, ◌||◌, ◌==◌, cond, ⊎_elim, List, [], ◌∷◌, ◌++◌, map, filter, length, slice_get, Option, Some, None, refl, sym, ◌∙◌, ap, subst, true≢false, arith}
+use Rattle.std.proofs.Common.{◌≡◌, ℕ, zero, suc, ◌+◌, ◌<◌, Bool, true, false, ◌&&◌, ◌||◌, ◌==◌, cond, ⊎_elim, List, [], ◌∷◌, ◌++◌, map, filter, length, slice_get, Option, Some, None, refl, sym, ◌∙◌, ap, subst, true≢false, add-one, append_assoc, arith}
 use Rattle.std.specs.Prelude.{option_and_then, option_map}
 use Rattle.std.specs.Option.{option_map_or}
 use Rattle.std.specs.List.{list_any, list_all, Contains}
@@ -69,7 +69,7 @@ none_kept test none (x ∷ xs) = rw (none x) (none_kept test none xs)
 listed : {K V : Type 0} (test : K → Bool) (keep : K × V → Bool) (v : V) → ((k : K) → keep (k, v) ≡ true) → (es : List (K × V)) → lookup test es ≡ Some v →
     list_any test (keys_of (filter keep es)) ≡ true
 listed test keep v kept [] at = cc
-listed {K} {V} test keep v kept (e ∷ es) at = by (test e.0) refl at
+listed {K} {V} test keep v kept (e ∷ es) at = by (test e.0) refl at (listed test keep v kept es)
   where
     past : (b : Bool) → list_any test (keys_of (filter keep es)) ≡ true → list_any test (keys_of (cond b (e ∷ filter keep es) (filter keep es))) ≡ true
     past true rest = or_right (test e.0) _ rest
@@ -79,10 +79,11 @@ listed {K} {V} test keep v kept (e ∷ es) at = by (test e.0) refl at
     here true is first = or_left _ _ first
     here false is first = absurd (true≢false (sym is))
 
-    by : (b : Bool) → test e.0 ≡ b → cond b (Some e.1) (lookup test es) ≡ Some v → list_any test (keys_of (cond (keep e) (e ∷ filter keep es) (filter keep es))) ≡ true
-    by true first found =
+    by : (b : Bool) → test e.0 ≡ b → cond b (Some e.1) (lookup test es) ≡ Some v → (lookup test es ≡ Some v → list_any test (keys_of (filter keep es)) ≡ true) →
+        list_any test (keys_of (cond (keep e) (e ∷ filter keep es) (filter keep es))) ≡ true
+    by true first at_first rest =
         let same : e.1 ≡ v = cc in here (keep e) (subst (λ w. keep (e.0, w) ≡ true) (sym same) (kept e.0)) first
-    by false first found = past (keep e) (listed test keep v kept es found)
+    by false first at_later rest = past (keep e) (rest at_later)
 
 pub patterns_valid : (key : Key) → is_valid_key key ≡ true → (is_valid_pattern key.scope ≡ true) × (is_valid_pattern key.descriptor ≡ true)
 patterns_valid key valid = let parts = and_parts _ _ (and_parts _ _ (and_parts _ _ (and_parts _ _ valid).0).0).0 in (parts.0, parts.1)
@@ -154,11 +155,11 @@ module _ (resolved : Resolved) (g : Graph) (pattern : Pattern) where
 -- ---- one of two graphs
 
 module _ (resolved : Resolved) (g h : Graph) where
-  record IsEither (one : Graph) : Type 0 where
-    reaching : (pattern : Pattern) (var : ℕ) (elem x : Elem) → is_one_of (reached resolved one pattern var elem) x ≡ true →
+  pub record IsEither (one : Graph) : Type 0 where
+    pub reaching : (pattern : Pattern) (var : ℕ) (elem x : Elem) → is_one_of (reached resolved one pattern var elem) x ≡ true →
         is_one_of (reached resolved g pattern var elem ++ reached resolved h pattern var elem) x ≡ true
-    passing : (pattern : Pattern) (elem : Elem) → passes resolved one pattern 0 elem ≡ true → (passes resolved g pattern 0 elem || passes resolved h pattern 0 elem) ≡ true
-    listing : (elem x : Elem) → is_one_of (edges_at one elem) x ≡ true → is_one_of (edges_at g elem ++ edges_at h elem) x ≡ true
+    pub passing : (pattern : Pattern) (elem : Elem) → passes resolved one pattern 0 elem ≡ true → (passes resolved g pattern 0 elem || passes resolved h pattern 0 elem) ≡ true
+    pub listing : (elem x : Elem) → is_one_of (edges_at one elem) x ≡ true → is_one_of (edges_at g elem ++ edges_at h elem) x ≡ true
 
   first_of : (x : Elem) (xs ys : List Elem) → is_one_of xs x ≡ true → is_one_of (xs ++ ys) x ≡ true
   first_of x xs ys some = list_any-append (same_elem x) xs ys ∙ or_left _ _ some
@@ -301,3 +302,21 @@ module _ (resolved : Resolved) (g h : Graph) where
           (false_from_ne_true _ (λ some. both_ways _ none (from_descriptor (covered g is_before elems key.descriptor (patterns_valid key valid).1 x some))))
           (false_from_ne_true _ (λ some. both_ways _ none (from_descriptor (covered h is_after elems key.descriptor (patterns_valid key valid).1 x some)))));
     }
+
+    -- so of an answer that has all that is found
+    pub answered : (items result : List Elem) → items ≡ found resolved g h key elems → ((y : Elem) → Contains items y → Contains result y) → is_one_of result x ≡ false →
+        HasOneRow resolved g h key x
+    answered items result is kept none =
+        one_row (false_from_ne_true _ (λ some.
+        both_ways _ none (has_it result x (kept x (subst (λ xs. Contains xs x) (sym is) (contains_it (found resolved g h key elems) x some))))))
+
+  -- ---- a turn more of the loops
+
+  pub searched_more : (pattern : Pattern) (elem : Elem) (var : ℕ) (start before mid after : List Elem) → before ≡ start ++ found_from resolved g h elem pattern var →
+      mid ≡ before ++ reached resolved g pattern var elem → after ≡ mid ++ reached resolved h pattern var elem → after ≡ start ++ found_from resolved g h elem pattern (var + 1)
+  searched_more pattern elem var start before mid after so_far first second =
+      let old = reached resolved g pattern var elem in
+      let new = reached resolved h pattern var elem in
+      second ∙ ap (λ xs. xs ++ new) first ∙ append_assoc before old new ∙ ap (λ xs. xs ++ (old ++ new)) so_far
+      ∙ append_assoc start (found_from resolved g h elem pattern var) (old ++ new)
+      ∙ ap (λ vars. start ++ found_from resolved g h elem pattern vars) (sym (add-one var))

@@ -1,7 +1,7 @@
 -- What is known of the elements of a sound delta is a change.
-use Rattle.std.proofs.Common.{◌≡◌, ◌+◌, ◌≡◌, true, List, [], ◌∷◌, ◌++◌, Option, length, map, refl, sym, ◌∙◌, ap, subst, arith}
+use Rattle.std.proofs.Common.{◌≡◌, ℕ, zero, suc, ◌+◌, ◌<◌, true, List, [], ◌∷◌, ◌++◌, Option, length, get_or, map, refl, sym, ◌∙◌, ap, subst, arith}
 use Rattle.std.specs.Map.{keys_of}
-use Rattle.std.proofs.lemmas.List.{length-append}
+use Rattle.std.proofs.lemmas.Bool.{or_left, or_right}
 use Rattle.pgs_base.specs.declared.element.NodeId.{NodeId}
 use Rattle.pgs_base.specs.declared.element.EdgeId.{EdgeId}
 use Rattle.pgs_base.specs.declared.element.Elem.{Elem}
@@ -11,11 +11,12 @@ use Rattle.pgs_base.specs.Order.{ascends, elem_cmp}
 use Rattle.pgs_graph.specs.declared.delta.Delta.{Delta}
 use Rattle.pgs_graph.specs.Changed.{changed, is_sound}
 use Rattle.pgs_graph.proofs.Deltas.{changed_graph}
+use Rattle.pgs_syntax.specs.Matches.{same_elem}
 use Rattle.pgs_check_affected.specs.declared.known.Known.{Known}
 use Rattle.pgs_check_affected.specs.Changes.{elems_of, known_in, IsChange}
 use Rattle.pgs_check_affected.specs.Local.{is_one_of, AgreeBut}
 use Rattle.pgs_check_affected.proofs.Loops.{map_append}
-use Rattle.pgs_check_affected.proofs.Touching.{changed_agrees, elems_ascend}
+use Rattle.pgs_check_affected.proofs.Touching.{changed_agrees, elems_ascend, itself}
 
 module _ (g h : Graph) where
   pub of_nodes : {R : Type 0} (nodes : List (NodeId × Option R)) →
@@ -47,6 +48,19 @@ module _ (g h : Graph) where
         before = graph;
         after = ap is_graph after ∙ changed_graph g delta sound;
         ascending = elems_ascend delta g sound;
-        known = is;
+        rows = is;
         agree = subst (λ other. AgreeBut (is_one_of (elems_of delta)) g other) (sym after) (changed_agrees delta g graph sound);
       })
+
+  -- one of what is known
+  pub known_at : (elems : List Elem) (i : ℕ) (known : Known) → i < length (map (known_in g h) elems) → get_or (map (known_in g h) elems) i known ≡ known → known ≡ known_in g h known.elem
+  known_at [] i known below is = absurd (omega arith)
+  known_at (elem ∷ elems) zero known below is = subst (λ (one : Known). one ≡ known_in g h one.elem) is refl
+  known_at (elem ∷ elems) (suc i) known below is = known_at elems i known (omega arith) is
+
+-- its element is one of all
+pub elem_own : (known : List Known) (i : ℕ) (one : Known) → i < length known → get_or known i one ≡ one → is_one_of (map (λ (k : Known). k.elem) known) one.elem ≡ true
+elem_own [] i one below is = absurd (omega arith)
+elem_own (k ∷ ks) zero one below is =
+    or_left (same_elem one.elem k.elem) _ (ap (λ (known : Known). same_elem one.elem known.elem) is ∙ itself one.elem)
+elem_own (k ∷ ks) (suc i) one below is = or_right (same_elem one.elem k.elem) _ (elem_own ks i one (omega arith) is)

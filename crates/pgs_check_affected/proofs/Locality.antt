@@ -142,8 +142,8 @@ module _ (touched : Elem → Bool) (g h : Graph) (agree : AgreeBut touched g h) 
     atoms_hold : list_all (holds resolved g elems) pattern.atoms ≡ true
     atoms_hold = (and_parts (are_there g pattern.edge_vars elems) _ match).1
 
-    speaks : list_all (speaks_of pattern.edge_vars) pattern.atoms ≡ true
-    speaks = valid_speaks pattern valid
+    all_speak : list_all (speaks_of pattern.edge_vars) pattern.atoms ≡ true
+    all_speak = valid_speaks pattern valid
 
     abbrev UntouchedEnds : EdgeRow → Type 0
     UntouchedEnds row = (touched (Node row.source) ≡ false) × (touched (Node row.target) ≡ false)
@@ -204,7 +204,9 @@ module _ (touched : Elem → Bool) (g h : Graph) (agree : AgreeBut touched g h) 
 
     untouched_ends : (var : ℕ) (id : EdgeId) (row : EdgeRow) → is_edge_var pattern.edge_vars var ≡ true →
         slice_get elems var ≡ Some (Edge id) → edge_at g id ≡ Some row → UntouchedEnds row
-    untouched_ends var id row kind at row_at = ⊎_elim (λ one. alone var id row kind one at row_at) from_atoms (or_cases (length pattern.edge_vars == 1) _ all_ends)
+    untouched_ends var id row kind at row_at = ⊎_elim (λ one. alone var id row kind one at row_at) from_atoms
+        (or_cases (length pattern.edge_vars == 1)
+        (list_all (λ (place : ℕ × Bool). not place.1 || list_any (gives_ends place.0) pattern.atoms) (enumerate_from 0 pattern.edge_vars)) all_ends)
       where
         all_ends : has_all_ends pattern ≡ true
         all_ends = (and_parts _ _ (and_parts _ _ valid).0).1
@@ -279,7 +281,7 @@ module _ (touched : Elem → Bool) (g h : Graph) (agree : AgreeBut touched g h) 
         and_from _ _ (sym (holds_same atom s.0) ∙ p.0) (all_hold atoms s.1 p.1)
 
     pub match_too : is_match resolved h pattern elems ≡ true
-    match_too = and_from _ _ (all_there pattern.edge_vars elems outside there) (all_hold pattern.atoms speaks atoms_hold)
+    match_too = and_from _ _ (all_there pattern.edge_vars elems outside there) (all_hold pattern.atoms all_speak atoms_hold)
 
     pub binds_none : list_any touched elems ≡ false
     binds_none = outside

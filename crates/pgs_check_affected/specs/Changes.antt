@@ -29,5 +29,5 @@ pub record IsChange (g h : Graph) (elems : List Elem) (known : List Known) : Typ
   pub before : is_graph g ≡ true
   pub after : is_graph h ≡ true
   pub ascending : ascends elem_cmp elems ≡ true
-  pub known : known ≡ map (known_in g h) elems
+  pub rows : known ≡ map (known_in g h) elems
   pub agree : AgreeBut (is_one_of elems) g h

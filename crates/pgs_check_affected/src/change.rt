@@ -9,16 +9,15 @@ ghost use Rattle.pgs_syntax.specs.Matches.{carried};
 ghost use Rattle.pgs_syntax.specs.Valid.{is_valid_key_of};
 ghost use Rattle.pgs_match.specs.Planned.{most_edges};
 ghost use Rattle.pgs_check_affected.specs.Changes.{elems_of, known_in};
-ghost use Rattle.pgs_check_affected.specs.Found.{found};
 ghost use Rattle.pgs_check_affected.specs.Local.{is_one_of, HasOneRow};
 ghost use Rattle.pgs_check_affected.specs.Touched.{touched, AreSparse, IsSparseInBoth, AreSparseInBoth};
 
 use crate::Known;
-use crate::gathering::{Sought, each_once};
+use crate::gathering::{each_once, found_by_all};
 use pgs_base::{EdgeId, EdgeRow, Elem, List, Memory, NodeId, NodeRow, Steps};
 use pgs_conform::{Compiled, Pair};
 use pgs_graph::{Delta, GraphRead};
-use pgs_match::{PlannedKey, Side};
+use pgs_match::PlannedKey;
 use pgs_overlay::Overlay;
 use pgs_tables::Tables;
 use std::alloc::Global;
@@ -204,31 +203,8 @@ impl<'a> Change<'a> {
             AreSparse self.now.before self.now.after (2 * edges) (touched self.now.before self.now.elems) most →
             IfOk result (All (λ elem. IsSparseInBoth self.now.before self.now.after edges elem most)) }
     {
-        let found = self.found(alloc, compiled, key, steps)?;
+        let known = self.known.as_slice();
+        let found = found_by_all(alloc, self.before, self.after, known, compiled, key, steps)?;
         Ok(each_once(found))
-    }
-
-    // What is found from each element of the change.
-    fn found<L: Ledger>(
-        &self,
-        alloc: Global,
-        compiled: &Compiled,
-        key: &PlannedKey,
-        steps: &mut Steps<L>,
-    ) -> Result<Vec<Elem>, Memory>
-        requires { is_valid_key_of compiled.now key.now ≡ true }
-        ensures found { IfOk result (λ elems. elems.items ≡ found compiled.now self.now.before self.now.after key.now self.now.elems) }
-        ensures no_step_back { steps.old ≤ steps.new }
-        ensures cost { (most : ℕ) → AreSparseInBoth self.now.before self.now.after (most_edges key.now) self.now.elems most →
-            steps.new ≤ steps.old + 1280 * length self.now.elems * (most + 2) ^ (most_edges key.now + 1) }
-    {
-        let scope = Sought::new(compiled, key, Side::Scope);
-        let descriptor = Sought::new(compiled, key, Side::Descriptor);
-        let mut elems = Vec::new(alloc);
-        for known in self.known.as_slice() {
-            scope.add_found(alloc, self.before, self.after, known, &mut elems, steps)?;
-            descriptor.add_found(alloc, self.before, self.after, known, &mut elems, steps)?;
-        }
-        Ok(elems)
     }
 }

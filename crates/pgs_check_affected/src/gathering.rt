@@ -11,9 +11,10 @@ ghost use Rattle.pgs_match.specs.Near.{IsSparse};
 ghost use Rattle.pgs_match.specs.Planned.{most_edges, pattern_of};
 ghost use Rattle.pgs_match.specs.Reached.{reached};
 ghost use Rattle.pgs_match.specs.Tests.{own_passes};
+ghost use Rattle.pgs_check_affected.specs.declared.known.Known.{Known};
 ghost use Rattle.pgs_check_affected.specs.Changes.{known_in};
-ghost use Rattle.pgs_check_affected.specs.Found.{passes, edges_at, found_alone, found_from, found_in};
-ghost use Rattle.pgs_check_affected.specs.Touched.{IsSparseInBoth};
+ghost use Rattle.pgs_check_affected.specs.Found.{edges_at, found_alone, found_from, found_in, found};
+ghost use Rattle.pgs_check_affected.specs.Touched.{IsSparseInBoth, AreSparseInBoth};
 
 use crate::Known;
 use pgs_base::{EdgeId, Elem, List, Memory, NodeId, Steps};
@@ -95,27 +96,15 @@ fn add_edges_at<G: GraphRead, L: Ledger>(
     Ok(())
 }
 
-/// A pattern of a key whose types are those of a schema.
+// A pattern of a key whose types are those of a schema.
 #[derive(Clone, Copy)]
-pub(crate) struct Sought<'a> {
+struct Sought<'a> {
     compiled: &'a Compiled,
     key: &'a PlannedKey,
     side: Side,
 }
 
 impl<'a> Sought<'a> {
-    pub(crate) fn new(compiled: &'a Compiled, key: &'a PlannedKey, side: Side) -> Sought<'a>
-        ensures compiled { result.compiled.now ≡ compiled.now }
-        ensures key { result.key.now ≡ key.now }
-        ensures side { result.side ≡ side }
-    {
-        Sought {
-            compiled,
-            key,
-            side,
-        }
-    }
-
     // Whether an element's own row passes what the pattern asks of a variable. It takes no look-up.
     fn passes(&self, var: u32, elem: Elem, own: &Option<Pair<'_>>) -> bool
         requires { is_valid_key_of self.now.compiled.now self.now.key.now ≡ true }
@@ -220,8 +209,8 @@ impl<'a> Sought<'a> {
         Ok(())
     }
 
-    /// Adds what is found from an element of a change.
-    pub(crate) fn add_found<G: GraphRead, H: GraphRead, L: Ledger>(
+    // Adds what is found from an element of a change.
+    fn add_found<G: GraphRead, H: GraphRead, L: Ledger>(
         &self,
         alloc: Global,
         before: &G,
@@ -256,4 +245,39 @@ fn is_edge(pattern: &Pattern) -> bool
         Some(is_edge) => *is_edge,
         None => false,
     }
+}
+
+/// What is found in both patterns of a key from the elements of a change.
+pub(crate) fn found_by_all<G: GraphRead, H: GraphRead, L: Ledger>(
+    alloc: Global,
+    before: &G,
+    after: &H,
+    known: &[Known<'_>],
+    compiled: &Compiled,
+    key: &PlannedKey,
+    steps: &mut Steps<L>,
+) -> Result<Vec<Elem>, Memory>
+    requires typed { is_valid_key_of compiled.now key.now ≡ true }
+    requires known { known.now ≡ map (known_in (G.meaning before.now) (H.meaning after.now)) (map (λ (one : Known). one.elem) known.now) }
+    ensures found { IfOk result (λ elems. elems.items ≡ found compiled.now (G.meaning before.now) (H.meaning after.now) key.now (map (λ (one : Known). one.elem) known.now)) }
+    ensures no_step_back { steps.old ≤ steps.new }
+    ensures cost { (most : ℕ) → AreSparseInBoth (G.meaning before.now) (H.meaning after.now) (most_edges key.now) (map (λ (one : Known). one.elem) known.now) most →
+        steps.new ≤ steps.old + 1280 * length known.now * (most + 2) ^ (most_edges key.now + 1) }
+{
+    let scope = Sought {
+        compiled,
+        key,
+        side: Side::Scope,
+    };
+    let descriptor = Sought {
+        compiled,
+        key,
+        side: Side::Descriptor,
+    };
+    let mut elems = Vec::new(alloc);
+    for one in known {
+        scope.add_found(alloc, before, after, one, &mut elems, steps)?;
+        descriptor.add_found(alloc, before, after, one, &mut elems, steps)?;
+    }
+    Ok(elems)
 }
