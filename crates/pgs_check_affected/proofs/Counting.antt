@@ -167,7 +167,7 @@ module _ (resolved : Resolved) (g h : Graph) (before : is_graph g ≡ true) (aft
     pub found_few : length (found resolved g h key elems) ≤ 80 * length (touched g elems) * (most + 2) ^ edges
     found_few =
         let all = each_few edges few elems (λ elem own. sparse_touched g h elems agree edges most sparse elem (by elem own)) in
-        let less = mul-le-mul_right (80 * (most + 2) ^ edges) (own_fewer g h elems) in
+        let less = mul-le-mul_right (80 * (most + 2) ^ edges) (own_fewer g elems) in
         turn (length (touched g elems)) ((most + 2) ^ edges) _ _ all less
       where
         by : (elem : Elem) → is_one_of elems elem ≡ true → is_one_of (touched g elems) elem ≡ true
@@ -278,21 +278,31 @@ module _ (resolved : Resolved) (g h : Graph) (before : is_graph g ≡ true) (aft
         now ≤ start + 1280 * length (touched g elems) * (most + 2) ^ (edges + 1)
     found_cost start now cost =
         let more = power_more most (most_edges key + 1) (edges + 1) (omega (arith, few)) in
-        let all = mul-le-mul (own_fewer g h elems) more in
+        let all = mul-le-mul (own_fewer g elems) more in
         turn start now (length elems) (length (touched g elems)) ((most + 2) ^ (most_edges key + 1)) ((most + 2) ^ (edges + 1)) cost all
       where
         turn : (start now count u less more : ℕ) → now ≤ start + 1280 * count * less → count * less ≤ u * more → now ≤ start + 1280 * u * more
         turn start now count u less more a b = omega arith
 
-    -- with two look-ups for each element before
-    pub affected_cost : (start mid now : ℕ) → mid ≤ start + 2 * length elems → now ≤ mid + 1280 * length (touched g elems) * (most + 2) ^ (edges + 1) →
-        now ≤ start + 1536 * (length (touched g elems) + 1) * (most + 2) ^ (edges + 1)
-    affected_cost start mid now first second =
-        let some = one_at_least most (edges + 1) in
-        let fewer = own_fewer g h elems in
-        let all : length (touched g elems) * 1 ≤ length (touched g elems) * (most + 2) ^ (edges + 1) = mul-le-mul (let same : length (touched g elems) ≤ length (touched g elems) = omega arith in same) some in
-        turn start mid now (length elems) (length (touched g elems)) ((most + 2) ^ (edges + 1)) first second fewer some all
-      where
-        turn : (start mid now count u power : ℕ) → mid ≤ start + 2 * count → now ≤ mid + 1280 * u * power → count ≤ u → 1 ≤ power → u * 1 ≤ u * power →
-            now ≤ start + 1536 * (u + 1) * power
-        turn start mid now count u power a b c d e = omega arith
+-- ---- with two look-ups for each element before
+
+module _ (g : Graph) (elems : List Elem) (most edges : ℕ) where
+  pub read_cost : (start mid : ℕ) → mid ≤ start + 2 * length elems → mid ≤ start + 1536 * (length (touched g elems) + 1) * (most + 2) ^ (edges + 1)
+  read_cost start mid first =
+      let all : (length (touched g elems) + 1) * 1 ≤ (length (touched g elems) + 1) * (most + 2) ^ (edges + 1) =
+      mul-le-mul (let same : length (touched g elems) + 1 ≤ length (touched g elems) + 1 = omega arith in same) (one_at_least most (edges + 1)) in
+      turn start mid (length elems) (length (touched g elems)) ((most + 2) ^ (edges + 1)) first (own_fewer g elems) all
+    where
+      turn : (start mid count u power : ℕ) → mid ≤ start + 2 * count → count ≤ u → (u + 1) * 1 ≤ (u + 1) * power → mid ≤ start + 1536 * (u + 1) * power
+      turn start mid count u power a b c = omega arith
+
+  pub affected_cost : (start mid now : ℕ) → mid ≤ start + 2 * length elems → now ≤ mid + 1280 * length (touched g elems) * (most + 2) ^ (edges + 1) →
+      now ≤ start + 1536 * (length (touched g elems) + 1) * (most + 2) ^ (edges + 1)
+  affected_cost start mid now first second =
+      let all : (length (touched g elems) + 1) * 1 ≤ (length (touched g elems) + 1) * (most + 2) ^ (edges + 1) =
+      mul-le-mul (let same : length (touched g elems) + 1 ≤ length (touched g elems) + 1 = omega arith in same) (one_at_least most (edges + 1)) in
+      turn start mid now (length elems) (length (touched g elems)) ((most + 2) ^ (edges + 1)) first second (own_fewer g elems) all
+    where
+      turn : (start mid now count u power : ℕ) → mid ≤ start + 2 * count → now ≤ mid + 1280 * u * power → count ≤ u → (u + 1) * 1 ≤ (u + 1) * power →
+          now ≤ start + 1536 * (u + 1) * power
+      turn start mid now count u power a b c d = omega arith

@@ -304,11 +304,11 @@ module _ (resolved : Resolved) (g h : Graph) where
     }
 
     -- so of an answer that has all that is found
-    pub answered : (items result : List Elem) → items ≡ found resolved g h key elems → ((y : Elem) → Contains items y → Contains result y) → is_one_of result x ≡ false →
+    pub answered : (items result : List Elem) → items ≡ found resolved g h key elems → ((y : Elem) → Contains items y → is_one_of result y ≡ true) → is_one_of result x ≡ false →
         HasOneRow resolved g h key x
     answered items result is kept none =
         one_row (false_from_ne_true _ (λ some.
-        both_ways _ none (has_it result x (kept x (subst (λ xs. Contains xs x) (sym is) (contains_it (found resolved g h key elems) x some))))))
+        both_ways _ none (kept x (subst (λ xs. Contains xs x) (sym is) (contains_it (found resolved g h key elems) x some)))))
 
   -- ---- a turn more of the loops
 

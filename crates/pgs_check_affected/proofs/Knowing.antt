@@ -2,10 +2,13 @@
 use Rattle.std.proofs.Common.{◌≡◌, ℕ, zero, suc, ◌+◌, ◌<◌, true, List, [], ◌∷◌, ◌++◌, Option, length, get_or, map, refl, sym, ◌∙◌, ap, subst, arith}
 use Rattle.std.specs.Map.{keys_of}
 use Rattle.std.proofs.lemmas.Bool.{or_left, or_right}
+use Rattle.std.proofs.lemmas.List.{length-append}
 use Rattle.pgs_base.specs.declared.element.NodeId.{NodeId}
 use Rattle.pgs_base.specs.declared.element.EdgeId.{EdgeId}
 use Rattle.pgs_base.specs.declared.element.Elem.{Elem}
 use Rattle.pgs_base.specs.declared.element.Elem.TheVariants.{Node, Edge}
+use Rattle.pgs_base.specs.declared.row.NodeRow.{NodeRow}
+use Rattle.pgs_base.specs.declared.row.EdgeRow.{EdgeRow}
 use Rattle.pgs_base.specs.Graph.{Graph, is_graph}
 use Rattle.pgs_base.specs.Order.{ascends, elem_cmp}
 use Rattle.pgs_graph.specs.declared.delta.Delta.{Delta}
@@ -17,6 +20,18 @@ use Rattle.pgs_check_affected.specs.Changes.{elems_of, known_in, IsChange}
 use Rattle.pgs_check_affected.specs.Local.{is_one_of, AgreeBut}
 use Rattle.pgs_check_affected.proofs.Loops.{map_append}
 use Rattle.pgs_check_affected.proofs.Touching.{changed_agrees, elems_ascend, itself}
+
+-- how many elements a delta has
+mapped_size : {K V : Type 0} (f : K → Elem) (rows : List (K × V)) → length (map f (keys_of rows)) ≡ length rows
+mapped_size f [] = refl
+mapped_size f (row ∷ rows) = ap suc (mapped_size f rows)
+
+pub elems_size : (delta : Delta) → length (elems_of delta) ≡ length delta.nodes + length delta.edges
+elems_size delta =
+    let all = length-append (map (λ id. Node id) (keys_of delta.nodes)) (map (λ id. Edge id) (keys_of delta.edges)) in
+    let first = mapped_size (λ id. Node id) delta.nodes in
+    let second = mapped_size (λ id. Edge id) delta.edges in
+    omega (arith, all, first, second)
 
 module _ (g h : Graph) where
   pub of_nodes : {R : Type 0} (nodes : List (NodeId × Option R)) →
@@ -39,6 +54,15 @@ module _ (g h : Graph) where
       known ≡ map (known_in g h) (elems_of delta)
   known_all delta known is =
       is ∙ sym (map_append (known_in g h) (map (λ id. Node id) (keys_of delta.nodes)) (map (λ id. Edge id) (keys_of delta.edges)))
+
+  pub known_added : (delta : Delta) (nodes : List (NodeId × Option NodeRow)) (edges : List (EdgeId × Option EdgeRow)) (start first second known : List Known) → nodes ≡ delta.nodes → edges ≡ delta.edges →
+      start ≡ [] → first ≡ start ++ map (known_in g h) (map (λ id. Node id) (keys_of nodes)) → second ≡ first ++ map (known_in g h) (map (λ id. Edge id) (keys_of edges)) → known ≡ second →
+      known ≡ map (known_in g h) (elems_of delta)
+  known_added delta nodes edges start first second known n e none one two is =
+      known_all delta known
+      (is ∙ two ∙ ap (λ xs. first ++ map (known_in g h) (map (λ id. Edge id) (keys_of xs))) e
+      ∙ ap (λ xs. xs ++ map (known_in g h) (map (λ id. Edge id) (keys_of delta.edges)))
+      (one ∙ ap (λ xs. xs ++ map (known_in g h) (map (λ id. Node id) (keys_of nodes))) none ∙ ap (λ xs. map (known_in g h) (map (λ id. Node id) (keys_of xs))) n))
 
   pub is_change : (delta : Delta) (known : List Known) → is_graph g ≡ true → is_sound g delta ≡ true → h ≡ changed g delta → known ≡ map (known_in g h) (elems_of delta) →
       IsChange g h (map (λ (known : Known). known.elem) known) known

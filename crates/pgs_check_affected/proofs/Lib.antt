@@ -4,3 +4,4 @@ pub mod Finding
 pub mod Counting
 pub mod Knowing
 pub mod Loops
+pub mod Sorting

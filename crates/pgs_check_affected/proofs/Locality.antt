@@ -56,6 +56,10 @@ enumerated test (x ∷ xs) start (suc var) kind all at =
     let here : start + 1 + var ≡ start + suc var = omega arith in
     subst (λ n. test (n, kind) ≡ true) here (enumerated test xs (start + 1) var kind (and_parts (test (start, x)) _ all).1 at)
 
+-- a valid pattern has one variable, or all ends
+valid_ends : (pattern : Pattern) → is_valid_pattern pattern ≡ true → has_all_ends pattern ≡ true
+valid_ends pattern valid = (and_parts _ _ (and_parts _ _ valid).0).1
+
 pub one_node : (a b : NodeId) → (a.0 == b.0) ≡ true → a ≡ b
 one_node a b h = ap (λ n. record { 0 = n }) (eqb-true a.0 b.0 h)
 
@@ -206,11 +210,8 @@ module _ (touched : Elem → Bool) (g h : Graph) (agree : AgreeBut touched g h) 
         slice_get elems var ≡ Some (Edge id) → edge_at g id ≡ Some row → UntouchedEnds row
     untouched_ends var id row kind at row_at = ⊎_elim (λ one. alone var id row kind one at row_at) from_atoms
         (or_cases (length pattern.edge_vars == 1)
-        (list_all (λ (place : ℕ × Bool). not place.1 || list_any (gives_ends place.0) pattern.atoms) (enumerate_from 0 pattern.edge_vars)) all_ends)
+        (list_all (λ (place : ℕ × Bool). not place.1 || list_any (gives_ends place.0) pattern.atoms) (enumerate_from 0 pattern.edge_vars)) (valid_ends pattern valid))
       where
-        all_ends : has_all_ends pattern ≡ true
-        all_ends = (and_parts _ _ (and_parts _ _ valid).0).1
-
         from_atoms : list_all (λ (place : ℕ × Bool). not place.1 || list_any (gives_ends place.0) pattern.atoms) (enumerate_from 0 pattern.edge_vars) ≡ true → UntouchedEnds row
         from_atoms all =
             let here = enumerated (λ (place : ℕ × Bool). not place.1 || list_any (gives_ends place.0) pattern.atoms) pattern.edge_vars 0 var true all (edge_kind pattern.edge_vars var kind) in

@@ -126,12 +126,12 @@ module _ (delta : Delta) where
 
 -- ---- what a change touches
 
+pub own_fewer : (g : Graph) (elems : List Elem) → length elems ≤ length (touched g elems)
+own_fewer g elems = let all = length-append elems (filter (is_beside g elems) (elements g true)) in omega arith
+
 module _ (g h : Graph) (elems : List Elem) where
   pub own_touched : (elem : Elem) → is_one_of elems elem ≡ true → is_one_of (touched g elems) elem ≡ true
   own_touched elem own = list_any-append (same_elem elem) elems (filter (is_beside g elems) (elements g true)) ∙ or_left _ _ own
-
-  pub own_fewer : length elems ≤ length (touched g elems)
-  own_fewer = let all = length-append elems (filter (is_beside g elems) (elements g true)) in omega arith
 
   has_row : (elem : Elem) → has_touched_end (is_one_of elems) g elem ≡ true → is_one_of (elements g true) elem ≡ true
   has_row (Node id) some = absurd (true≢false (sym some))

@@ -13,7 +13,7 @@ ghost use Rattle.pgs_check_affected.specs.Local.{is_one_of, HasOneRow};
 ghost use Rattle.pgs_check_affected.specs.Touched.{touched, AreSparse, IsSparseInBoth, AreSparseInBoth};
 
 use crate::Known;
-use crate::gathering::{each_once, found_by_all};
+use crate::gathering::{found_by_all, in_order};
 use pgs_base::{EdgeId, EdgeRow, Elem, List, Memory, NodeId, NodeRow, Steps};
 use pgs_conform::{Compiled, Pair};
 use pgs_graph::{Delta, GraphRead};
@@ -205,6 +205,6 @@ impl<'a> Change<'a> {
     {
         let known = self.known.as_slice();
         let found = found_by_all(alloc, self.before, self.after, known, compiled, key, steps)?;
-        Ok(each_once(found))
+        Ok(in_order(found))
     }
 }

@@ -2,7 +2,9 @@
 
 ghost use Rattle.std.specs.Prelude.{◌≡◌, ◌+◌, ◌*◌, ◌^◌, ◌<◌, ◌≤◌, ◌||◌, ◌++◌, ℕ, true, false, cond, length, slice_get, map, IfOk, OnOk};
 ghost use Rattle.std.specs.Option.{option_map_or};
-ghost use Rattle.std.specs.List.{Contains};
+ghost use Rattle.std.specs.List.{Contains, list_any};
+ghost use Rattle.std.specs.List.Sorted.{IsStrictlySortedBy};
+ghost use Rattle.std.specs.BTreeMap.{is_at};
 ghost use Rattle.pgs_base.specs.Order.{ascends, elem_cmp};
 ghost use Rattle.pgs_graph.specs.Reads.{out_edges_of, in_edges_of};
 ghost use Rattle.pgs_syntax.specs.Matches.{carried};
@@ -14,6 +16,7 @@ ghost use Rattle.pgs_match.specs.Tests.{own_passes};
 ghost use Rattle.pgs_check_affected.specs.declared.known.Known.{Known};
 ghost use Rattle.pgs_check_affected.specs.Changes.{known_in};
 ghost use Rattle.pgs_check_affected.specs.Found.{edges_at, found_alone, found_from, found_in, found};
+ghost use Rattle.pgs_check_affected.specs.Local.{is_one_of};
 ghost use Rattle.pgs_check_affected.specs.Touched.{IsSparseInBoth, AreSparseInBoth};
 
 use crate::Known;
@@ -25,16 +28,26 @@ use pgs_syntax::Pattern;
 use std::alloc::Global;
 use std::sync::ledger::Ledger;
 
+// Items in order, each once.
+fn each_once<T: Ord + Drop>(mut items: Vec<T>) -> List<T>
+    ensures kept { (item : T) → Contains items.items item → list_any (is_at (T.cmp item)) result ≡ true }
+    ensures no_other { (item : T) → Contains result item → Contains items.items item }
+    ensures ascending { IsStrictlySortedBy T.cmp result }
+    ensures few { length result ≤ length items.items }
+{
+    items.sort_unstable();
+    items.dedup();
+    List::from_vec(items)
+}
+
 /// Elements in order, each once.
-pub(crate) fn each_once(mut elems: Vec<Elem>) -> List<Elem>
-    ensures kept { (elem : Elem) → Contains elems.items elem → Contains result elem }
+pub(crate) fn in_order(elems: Vec<Elem>) -> List<Elem>
+    ensures kept { (elem : Elem) → Contains elems.items elem → is_one_of result elem ≡ true }
     ensures no_other { (elem : Elem) → Contains result elem → Contains elems.items elem }
     ensures ascending { ascends elem_cmp result ≡ true }
     ensures few { length result ≤ length elems.items }
 {
-    elems.sort_unstable();
-    elems.dedup();
-    List::from_vec(elems)
+    each_once(elems)
 }
 
 // The edge at a place among those that go out of a node, or that come in at it.

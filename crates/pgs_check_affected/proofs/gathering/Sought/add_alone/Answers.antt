@@ -14,7 +14,7 @@ returns-in_err-add_edges_at-2-clause-cost g c = λ most sparse.
     omega (
       arith,
       c.add_edges_at.ensures.cost,
-      c.add_edges_at-2.ensures.cost,
+      c.add_edges_at-then-is_edge.ensures.cost,
       edges_few (g.G.GraphRead.meaning c.args.before.now) c.args.known.now.elem w most sparse.0,
       edges_few (g.H.GraphRead.meaning c.args.after.now) c.args.known.now.elem w most sparse.1,
     )
@@ -25,7 +25,7 @@ returns-in_ok-add_edges_at-2-clause-cost g c = λ most sparse.
     omega (
       arith,
       c.add_edges_at.ensures.cost,
-      c.add_edges_at-2.ensures.cost,
+      c.add_edges_at-then-is_edge.ensures.cost,
       edges_few (g.G.GraphRead.meaning c.args.before.now) c.args.known.now.elem w most sparse.0,
       edges_few (g.H.GraphRead.meaning c.args.after.now) c.args.known.now.elem w most sparse.1,
     )
