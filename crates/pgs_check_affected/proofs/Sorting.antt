@@ -1,5 +1,5 @@
 -- The order of elements that is derived is the one of the definitions, and what sorting by an order and leaving repeats out gives.
-use Rattle.std.proofs.Common.{◌≡◌, Bool, true, ◌&&◌, List, [], ◌∷◌, refl, sym, ◌∙◌, ap, Ordering, is_lt}
+use Rattle.std.proofs.Common.{rules, ◌≡◌, Bool, true, ◌&&◌, List, [], ◌∷◌, refl, sym, ◌∙◌, ap, Ordering, is_lt}
 use Rattle.std.specs.Ordering.{is_eq, eq_by_cmp}
 use Rattle.std.specs.Cmp.{IsTotalOrder, IsEquivalence, eq_by_cmp_equiv}
 use Rattle.std.specs.List.{Contains, list_any, list_all, dedup}
@@ -35,10 +35,10 @@ module _ {K : Type 0} {cmp : K → K → Ordering} (total : IsTotalOrder cmp) {s
 -- ---- elements
 
 cmp_is : (x y : Elem) → (elem_ord.ghosts).cmp x y ≡ elem_cmp x y
-cmp_is (Node a) (Node b) = refl
+cmp_is (Node a) (Node b) = search rules
 cmp_is (Node a) (Edge b) = refl
 cmp_is (Edge a) (Node b) = refl
-cmp_is (Edge a) (Edge b) = refl
+cmp_is (Edge a) (Edge b) = search rules
 
 pub one_by_order : (x : Elem) (xs : List Elem) → list_any (is_at ((elem_ord.ghosts).cmp x)) xs ≡ true → is_one_of xs x ≡ true
 one_by_order x xs some = any_same (same_elem x) (is_at ((elem_ord.ghosts).cmp x)) (λ y. ap is_eq (sym (cmp_is x y))) xs ∙ some

@@ -6,3 +6,6 @@ returns-clause-kept c = λ elem inside. one_by_order elem c.each_once.result (c.
 
 pub returns-clause-ascending : goal.returns-clause-ascending
 returns-clause-ascending c = rises c.each_once.result c.each_once.ensures.ascending
+
+pub returns-clause-no_other : goal.returns-clause-no_other
+returns-clause-no_other c = c.each_once.ensures.no_other
