@@ -1,5 +1,5 @@
 -- How much is found from a change, and that it lies near it.
-use Rattle.std.proofs.Common.{◌≡◌, ℕ, zero, suc, ◌+◌, ◌*◌, ◌^◌, ◌<◌, ◌≤◌, Bool, true, false, ◌&&◌, ◌||◌, ◌==◌, cond, ⊎_elim, List, [], ◌∷◌, ◌++◌, map, flat_map, length, slice_get, Option, Some, None, IfSome, refl, sym, ◌∙◌, ap, subst, true≢false, arith}
+use Rattle.std.proofs.Common.{◌≡◌, ℕ, zero, suc, ◌+◌, ◌*◌, ◌^◌, ◌<◌, ◌≤◌, Bool, true, false, ◌||◌, ◌==◌, cond, ⊎_elim, List, [], ◌∷◌, ◌++◌, map, length, slice_get, Option, Some, None, IfSome, refl, sym, ◌∙◌, ap, subst, true≢false, arith}
 use Rattle.std.specs.Prelude.{option_map}
 use Rattle.std.specs.Option.{option_map_or}
 use Rattle.std.specs.List.{list_any, All, Contains}
@@ -19,7 +19,7 @@ use Rattle.pgs_base.specs.Order.{elem_cmp}
 use Rattle.pgs_base.specs.OrderLaws.{exact_elem}
 use Rattle.pgs_graph.specs.declared.scan.End.{End}
 use Rattle.pgs_graph.specs.declared.scan.End.TheVariants.{Source, Target}
-use Rattle.pgs_graph.specs.Reads.{end_of, edges_with, out_edges_of, in_edges_of, degree_of}
+use Rattle.pgs_graph.specs.Reads.{end_of, edges_with, out_edges_of, in_edges_of}
 use Rattle.pgs_graph.proofs.EdgesWith.{listed_end}
 use Rattle.pgs_syntax.specs.declared.key.Key.{Key}
 use Rattle.pgs_syntax.specs.declared.pattern.Pattern.{Pattern}

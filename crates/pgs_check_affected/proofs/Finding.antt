@@ -6,7 +6,7 @@ use Rattle.std.specs.List.{list_any, list_all, Contains}
 use Rattle.std.specs.Map.{keys_of, lookup}
 use Rattle.std.specs.BTreeMap.{is_at}
 use Rattle.std.specs.Cmp.{Equal-is}
-use Rattle.std.proofs.lemmas.Bool.{and_parts, and_from, and_left, or_cases, or_parts, or_from, or_left, or_right, both_ways, cases_lt, eqb-true, eq-eqb, true_from_ne_false, false_from_ne_true}
+use Rattle.std.proofs.lemmas.Bool.{and_parts, and_from, and_left, or_cases, or_from, or_left, or_right, both_ways, cases_lt, eqb-true, eq-eqb, true_from_ne_false, false_from_ne_true}
 use Rattle.std.proofs.lemmas.List.Folds.{list_any-append, list_any_at, Any-from_list_any}
 use Rattle.pgs_base.specs.declared.element.NodeId.{NodeId}
 use Rattle.pgs_base.specs.declared.element.EdgeId.{EdgeId}
@@ -24,16 +24,15 @@ use Rattle.pgs_syntax.specs.declared.key.Key.{Key}
 use Rattle.pgs_syntax.specs.declared.pattern.Pattern.{Pattern}
 use Rattle.pgs_syntax.specs.declared.resolved.Resolved.{Resolved}
 use Rattle.pgs_syntax.specs.KeyValues.{starts_at}
-use Rattle.pgs_syntax.specs.Matches.{same_elem, carried, elements, are_there, is_match, matches}
+use Rattle.pgs_syntax.specs.Matches.{same_elem, elements, is_match, matches}
 use Rattle.pgs_syntax.specs.Valid.{is_edge_var, is_node_var, is_valid_pattern, is_valid_key}
 use Rattle.pgs_syntax.proofs.Assigned.{match_found, match_given}
 use Rattle.pgs_syntax.proofs.Halves.{any_map, any_flat_map, any_filter}
-use Rattle.pgs_match.specs.declared.bindings.Bound.{Bound}
 use Rattle.pgs_match.specs.declared.bindings.Bound.TheVariants as bounds
 use Rattle.pgs_match.specs.Bounds.{stands_at, with_bound, nothing_bound}
 use Rattle.pgs_match.specs.Reached.{reaches, reached}
 use Rattle.pgs_match.specs.Search.{can_complete}
-use Rattle.pgs_match.specs.Tests.{pair_meets, triple_meets, node_passes, own_passes, admitted}
+use Rattle.pgs_match.specs.Tests.{pair_meets, triple_meets, node_passes, admitted}
 use Rattle.pgs_match.proofs.Counts.{some_at}
 use Rattle.pgs_match.proofs.Planning.{plan_of}
 use Rattle.pgs_match.proofs.There.{there_at, there_size, IsOfKind, node_there, edge_there}

@@ -10,7 +10,6 @@ use Rattle.pgs_base.specs.declared.element.Elem.TheVariants.{Node, Edge}
 use Rattle.pgs_base.specs.declared.row.NodeRow.{NodeRow}
 use Rattle.pgs_base.specs.declared.row.EdgeRow.{EdgeRow}
 use Rattle.pgs_base.specs.Graph.{Graph, is_graph}
-use Rattle.pgs_base.specs.Order.{ascends, elem_cmp}
 use Rattle.pgs_graph.specs.declared.delta.Delta.{Delta}
 use Rattle.pgs_graph.specs.Changed.{changed, is_sound}
 use Rattle.pgs_graph.proofs.Deltas.{changed_graph}

@@ -1,10 +1,10 @@
 -- Assignments that bind no touched element match alike in two graphs that agree but for the touched elements.
-use Rattle.std.proofs.Common.{◌≡◌, ℕ, zero, suc, ◌+◌, ◌<◌, add-zero, Bool, true, false, ◌&&◌, ◌||◌, ◌==◌, not, ⊎_elim, List, [], ◌∷◌, length, slice_get, Option, Some, None, refl, sym, ◌∙◌, ap, subst, true≢false, arith}
+use Rattle.std.proofs.Common.{◌≡◌, ℕ, zero, suc, ◌+◌, add-zero, Bool, true, false, ◌&&◌, ◌||◌, ◌==◌, not, ⊎_elim, List, [], ◌∷◌, length, slice_get, Option, Some, None, refl, sym, ◌∙◌, ap, subst, true≢false, arith}
 use Rattle.std.specs.Prelude.{option_and_then, option_map}
 use Rattle.std.specs.Option.{option_map_or}
 use Rattle.std.specs.List.{list_any, list_all, enumerate_from}
 use Rattle.std.specs.BTreeMap.{is_at}
-use Rattle.std.proofs.lemmas.Bool.{and_parts, and_from, or_cases, or_parts, or_from, or_left, or_right, both_ways, eqb-true, eq-eqb, not-false, false_from_ne_true}
+use Rattle.std.proofs.lemmas.Bool.{and_parts, and_from, or_cases, or_parts, or_from, or_left, both_ways, eqb-true, false_from_ne_true}
 use Rattle.pgs_base.specs.declared.element.NodeId.{NodeId}
 use Rattle.pgs_base.specs.declared.element.EdgeId.{EdgeId}
 use Rattle.pgs_base.specs.declared.element.Elem.{Elem}
@@ -27,18 +27,17 @@ use Rattle.pgs_syntax.specs.declared.pattern.Expr.TheVariants.{Element, Property
 use Rattle.pgs_syntax.specs.declared.pattern.Pattern.{Pattern}
 use Rattle.pgs_syntax.specs.declared.resolved.Resolved.{Resolved}
 use Rattle.pgs_syntax.specs.Fitting.{fits_node, fits_edge}
-use Rattle.pgs_syntax.specs.Join.{Triple}
 use Rattle.pgs_syntax.specs.KeyValues.{starts_at, is_in_scope, part_of, tuple_of, key_values}
 use Rattle.pgs_syntax.specs.Matches.{same_elem, same_value, carried, elements, is_node_of_type, is_edge_of_type, leads, carries, holds, are_there, is_match, matches}
 use Rattle.pgs_syntax.specs.Typed.{triple_at}
-use Rattle.pgs_syntax.specs.Valid.{is_edge_var, is_node_var, speaks_of, gives_ends, has_all_ends, is_valid_pattern, is_valid_key}
+use Rattle.pgs_syntax.specs.Valid.{is_edge_var, speaks_of, gives_ends, has_all_ends, is_valid_pattern, is_valid_key}
 use Rattle.pgs_syntax.proofs.Assigned.{match_found, match_given, value_found, value_given}
 use Rattle.pgs_syntax.proofs.Halves.{any_same}
 use Rattle.pgs_syntax.proofs.InOrder.{values_ascend}
 use Rattle.pgs_match.proofs.Known.{edge_below, valid_speaks}
 use Rattle.pgs_match.proofs.Started.{same_truth}
-use Rattle.pgs_match.proofs.There.{there_at, there_size, of_kind, IsOfKind, node_there, edge_there, edge_kind}
-use Rattle.pgs_check_affected.specs.Local.{is_one_of, AgreeBut, has_touched_end, is_edge_alone, may_differ, binds_touched}
+use Rattle.pgs_match.proofs.There.{of_kind, IsOfKind, node_there, edge_there, edge_kind}
+use Rattle.pgs_check_affected.specs.Local.{AgreeBut, has_touched_end, is_edge_alone, may_differ, binds_touched}
 
 -- what an item of a list with no item that passes
 pub passes_none : {X : Type 0} (test : X → Bool) (xs : List X) (var : ℕ) (x : X) → list_any test xs ≡ false → slice_get xs var ≡ Some x → test x ≡ false

@@ -1,7 +1,7 @@
 -- What a loop that adds to a list has added after one turn more, and after all.
-use Rattle.std.proofs.Common.{◌≡◌, ℕ, ◌+◌, ◌<◌, ◌≤◌, List, [], ◌∷◌, ◌++◌, map, flat_map, length, take, get_or, slice_get, Some, refl, sym, ◌∙◌, ap, arith, append_assoc}
+use Rattle.std.proofs.Common.{◌≡◌, ℕ, ◌+◌, ◌<◌, ◌≤◌, List, [], ◌∷◌, ◌++◌, map, flat_map, length, take, get_or, refl, sym, ◌∙◌, ap, append_assoc}
 use Rattle.std.proofs.lemmas.List.{take_more}
-use Rattle.pgs_match.proofs.Along.{at_place, take_whole}
+use Rattle.pgs_match.proofs.Along.{take_whole}
 
 pub front_more : {X : Type 0} (xs : List X) (i : ℕ) (x : X) → i < length xs → get_or xs i x ≡ x → take (i + 1) xs ≡ take i xs ++ x ∷ []
 front_more xs i x below is = take_more xs i x below ∙ ap (λ y. take i xs ++ y ∷ []) is

@@ -1,19 +1,18 @@
 -- A sound delta touches its own elements and the edges at its nodes; what is near them over both graphs has few edges.
-use Rattle.std.proofs.Common.{◌≡◌, ℕ, zero, suc, ◌+◌, ◌*◌, ◌-◌, ◌≤◌, zero-add, Bool, true, false, ◌&&◌, ◌||◌, ◌==◌, cond, not, ⊎_elim, List, [], ◌∷◌, ◌++◌, map, filter, length, Option, Some, None, refl, sym, ◌∙◌, ap, subst, true≢false, arith, Ordering, is_lt}
+use Rattle.std.proofs.Common.{◌≡◌, ℕ, zero, suc, ◌+◌, ◌*◌, ◌-◌, ◌≤◌, zero-add, Bool, true, false, ◌&&◌, ◌||◌, cond, not, ⊎_elim, List, [], ◌∷◌, ◌++◌, map, filter, length, Option, Some, None, refl, sym, ◌∙◌, ap, subst, true≢false, arith, is_lt}
 use Rattle.std.specs.Option.{option_map_or}
 use Rattle.std.specs.Ordering.{is_eq}
-use Rattle.std.specs.List.{list_any, list_all, All}
+use Rattle.std.specs.List.{list_any, list_all}
 use Rattle.std.specs.Map.{keys_of, lookup}
 use Rattle.std.specs.BTreeMap.{is_at}
 use Rattle.std.specs.Cmp.{tied_itself, Equal-is}
-use Rattle.std.proofs.lemmas.Bool.{and_parts, and_from, or_cases, or_parts, or_left, or_right, eq-eqb}
+use Rattle.std.proofs.lemmas.Bool.{and_parts, and_from, or_cases, or_parts, or_left, or_right}
 use Rattle.std.proofs.lemmas.List.{length-append}
 use Rattle.std.proofs.lemmas.List.Folds.{list_any-append, list_all-append}
 use Rattle.pgs_base.specs.declared.element.NodeId.{NodeId}
 use Rattle.pgs_base.specs.declared.element.EdgeId.{EdgeId}
 use Rattle.pgs_base.specs.declared.element.Elem.{Elem}
 use Rattle.pgs_base.specs.declared.element.Elem.TheVariants.{Node, Edge}
-use Rattle.pgs_base.specs.declared.row.NodeRow.{NodeRow}
 use Rattle.pgs_base.specs.declared.row.EdgeRow.{EdgeRow}
 use Rattle.pgs_base.specs.Graph.{Graph, node_cmp, edge_cmp, node_at, edge_at, is_end, is_graph}
 use Rattle.pgs_base.specs.Order.{ascends, elem_cmp}
@@ -24,7 +23,7 @@ use Rattle.pgs_graph.specs.Reads.{degree_of}
 use Rattle.pgs_graph.proofs.Deltas.{node_after, edge_after}
 use Rattle.pgs_syntax.specs.Matches.{same_elem, elements}
 use Rattle.pgs_syntax.proofs.Halves.{any_map, any_filter}
-use Rattle.pgs_match.specs.Near.{is_at_element, is_within, IsSparse, IsNearTo}
+use Rattle.pgs_match.specs.Near.{is_at_element, is_within, IsNearTo}
 use Rattle.pgs_match.proofs.Started.{same_truth}
 use Rattle.pgs_match.proofs.There.{edge_there}
 use Rattle.pgs_check_affected.specs.Changes.{elems_of}

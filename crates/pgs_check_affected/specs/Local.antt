@@ -1,5 +1,5 @@
 -- When two graphs agree but for some elements, and which elements of a match can make it differ between them.
-use Rattle.std.specs.Prelude.{◌≡◌, Bool, true, false, ◌&&◌, ◌||◌, ◌==◌, List, length}
+use Rattle.std.specs.Prelude.{◌≡◌, Bool, false, ◌&&◌, ◌||◌, ◌==◌, List, length}
 use Rattle.std.specs.Option.{option_map_or}
 use Rattle.std.specs.List.{list_any}
 use Rattle.pgs_base.specs.declared.element.NodeId.{NodeId}

@@ -20,7 +20,8 @@ use std::marker::Brand;
 use std::sync::ledger::{Blank, Ledger};
 use std::test::Fail;
 
-const SCHEMA: &str = "CREATE GRAPH TYPE g LOOSE {ABSTRACT (t: A OPEN {k INT, OPEN}), ABSTRACT (:t)-[f: r OPEN {OPEN}]->(OPEN {OPEN}), FOR (x:A) EXCLUSIVE x.k, FOR (x:t) MANDATORY y WITHIN (x)-[:r]->(y:A), FOR (x)-[:f]->() SINGLETON z.k WITHIN (x)-[:r]->()<-[:s]-(z), FOR (x)-[a]->()-[:r]->(x) MANDATORY b, y.k WITHIN (x)-[b]->(y)-[:s]->(x), FOR (x)-[a]->(x) SINGLETON b WITHIN (x)-[b]->(x), FOR ()-[x:r]->(:A) EXCLUSIVE u, v.k WITHIN (u)-[x]->(v)-[:s]->(), FOR (:t)-[x:f]->() SINGLETON x.k};";
+const SCHEMA: &str =
+    "CREATE GRAPH TYPE g LOOSE {ABSTRACT (t: A OPEN {k INT, OPEN}), ABSTRACT (:t)-[f: r OPEN {OPEN}]->(OPEN {OPEN}), FOR (x:A) EXCLUSIVE x.k, FOR (x:t) MANDATORY y WITHIN (x)-[:r]->(y:A), FOR (x)-[:f]->() SINGLETON z.k WITHIN (x)-[:r]->()<-[:s]-(z), FOR (x)-[a]->()-[:r]->(x) MANDATORY b, y.k WITHIN (x)-[b]->(y)-[:s]->(x), FOR (x)-[a]->(x) SINGLETON b WITHIN (x)-[b]->(x), FOR ()-[x:r]->(:A) EXCLUSIVE u, v.k WITHIN (u)-[x]->(v)-[:s]->(), FOR (:t)-[x:f]->() SINGLETON x.k};";
 
 const DIGITS: [&str; 10] = ["0", "1", "2", "3", "4", "5", "6", "7", "8", "9"];
 
@@ -196,7 +197,9 @@ fn count_key<L: Ledger>(
     let given = change.affected(alloc, compiled, key, steps)?;
     for number in 0..ELEMENTS {
         let given = given.as_slice();
-        count_number(alloc, before, after, compiled, key, given, number, counts, steps)?;
+        count_number(
+            alloc, before, after, compiled, key, given, number, counts, steps,
+        )?;
     }
     Ok(())
 }

@@ -1,4 +1,4 @@
-use Rattle.std.proofs.Common.{◌≡◌, ◌++◌, List, map, ap, ◌∙◌, arith}
+use Rattle.std.proofs.Common.{◌++◌, ap, ◌∙◌, arith}
 use Rattle.pgs_base.specs.declared.element.Elem.TheVariants.{Edge}
 use Rattle.pgs_check_affected.specs.Changes.{known_in}
 use Rattle.pgs_check_affected.proofs.Knowing.{of_edges}

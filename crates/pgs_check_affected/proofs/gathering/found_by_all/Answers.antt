@@ -1,7 +1,6 @@
-use Rattle.std.proofs.Common.{◌≡◌, ◌<◌, ◌≤◌, ◌+◌, ◌*◌, ◌^◌, get_or, length, map, refl, sym, ap, ◌∙◌, subst, arith}
+use Rattle.std.proofs.Common.{◌<◌, ◌+◌, ◌^◌, get_or, length, map, refl, sym, ap, ◌∙◌, subst, arith}
 use Rattle.pgs_match.specs.Planned.{most_edges}
 use Rattle.pgs_check_affected.specs.declared.known.Known.{Known}
-use Rattle.pgs_check_affected.specs.Changes.{known_in}
 use Rattle.pgs_check_affected.specs.Found.{found_in, found_by}
 use Rattle.pgs_check_affected.proofs.Counting.{known_more, known_within}
 use Rattle.pgs_check_affected.proofs.Knowing.{known_at, elem_own}

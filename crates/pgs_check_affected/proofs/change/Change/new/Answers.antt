@@ -1,4 +1,4 @@
-use Rattle.std.proofs.Common.{◌≡◌, length, map, ap, ◌∙◌, arith}
+use Rattle.std.proofs.Common.{length, map, ap, ◌∙◌, arith}
 use Rattle.pgs_check_affected.specs.declared.known.Known.{Known}
 use Rattle.pgs_check_affected.proofs.Knowing.{known_added, known_elems, is_change, elems_size}
 use Rattle.pgs_check_affected.specs.Changes.{elems_of}

@@ -1,4 +1,4 @@
-use Rattle.std.proofs.Common.{◌≤◌, ◌+◌, ◌^◌, length, ap, arith}
+use Rattle.std.proofs.Common.{◌+◌, ◌^◌, length, ap, arith}
 use Rattle.std.proofs.lemmas.Bool.{and_parts}
 use Rattle.pgs_syntax.specs.declared.pattern.Pattern.{Pattern}
 use Rattle.pgs_match.specs.Planned.{most_edges, pattern_of}
