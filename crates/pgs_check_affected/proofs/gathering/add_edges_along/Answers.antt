@@ -1,0 +1,20 @@
+use Rattle.std.proofs.Common.{cond, sym, ◌∙◌, arith}
+use Rattle.pgs_base.specs.declared.element.Elem.TheVariants.{Edge}
+use Rattle.pgs_graph.specs.Reads.{out_edges_of, in_edges_of}
+use Rattle.pgs_match.proofs.Along.{at_place}
+use Rattle.pgs_check_affected.proofs.Loops.{mapped_more}
+use Rattle.pgs_check_affected.proofs.gathering.add_edges_along.Goals as goal
+
+pub loop-nth-preserved : goal.loop-nth-preserved
+loop-nth-preserved g c =
+    let graph = g.G.GraphRead.meaning c.args.graph.now in
+    let ids = cond c.args.forward (out_edges_of graph c.args.id) (in_edges_of graph c.args.id) in
+    let before = c.loop-nth.invariant in
+    let place = at_place ids c.loop-nth.nth c.in-Some.edge (sym c.in-Some.ensures.value) in
+    record {
+      so_far =
+          c.in_ok-push-in-Some.ensures.items
+          ∙ mapped_more (λ edge. Edge edge) c.args.elems.now.items c.loop-nth.elems.items ids c.loop-nth.nth c.in-Some.edge place.0 place.1 before.so_far;
+      within = omega (arith, place.0);
+      looked = omega (arith, c.edge_along.ensures.tick, before.looked);
+    }

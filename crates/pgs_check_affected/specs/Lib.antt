@@ -1,0 +1,5 @@
+pub mod Changes
+pub mod Found
+pub mod Local
+pub mod Touched
+pub mod Samples
