@@ -1,0 +1,4 @@
+pub mod Contents
+pub mod Histories
+pub mod Alike
+pub mod Tracked

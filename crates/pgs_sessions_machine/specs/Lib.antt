@@ -1,0 +1,4 @@
+pub mod Alone
+pub mod Content
+pub mod Machine
+pub mod Samples
