@@ -1,15 +1,15 @@
 -- A session whose commit is decided has the replies of running alone at its commit.
 use Rattle.std.specs.List.Sorted.{IsStrictlySortedBy}
-use Rattle.std.proofs.Common.{◌≡◌, ℕ, ◌+◌, ◌==◌, ◌<◌, ◌≤◌, ◌⊎◌, inl, inr, Bool, ◌&&◌, ◌||◌, true, false, true≢false, cond, List, [], ◌∷◌, ◌++◌, length, Option, Some, None, is_some, Result, Ok, Err, refl, sym, ap, subst, ◌∙◌, arith, is_eq}
+use Rattle.std.proofs.Common.{◌≡◌, ℕ, ◌+◌, ◌<◌, ◌≤◌, inl, inr, Bool, ◌&&◌, ◌||◌, true, false, true≢false, cond, List, [], ◌∷◌, ◌++◌, length, Option, Some, None, is_some, Result, Ok, Err, refl, sym, ap, subst, ◌∙◌, arith}
 use Rattle.std.specs.Prelude.{if◌then◌else◌, nat_le, filter, flat_map}
 use Rattle.std.specs.Cmp.{nat_cmp_total, Equal-is}
 use Rattle.std.specs.List.{list_all, list_any}
-use Rattle.std.specs.Map.{lookup, remove_entry}
+use Rattle.std.specs.Map.{lookup}
 use Rattle.std.specs.Ordering.{nat_cmp}
 use Rattle.std.specs.BTreeMap.{is_at, insert_entry}
-use Rattle.std.proofs.lemmas.Bool.{and_parts, eqb-true, leb-false, lt-leb, or_cases}
+use Rattle.std.proofs.lemmas.Bool.{and_parts, eqb-true, leb-false, lt-leb}
 use Rattle.pgs_base.specs.declared.element.Elem.{Elem}
-use Rattle.pgs_base.specs.Graph.{Graph, empty_graph}
+use Rattle.pgs_base.specs.Graph.{Graph}
 use Rattle.pgs_base.specs.Order.{elem_cmp}
 use Rattle.pgs_base.specs.OrderLaws.{exact_elem}
 use Rattle.pgs_base.proofs.Lookups.{lookup-insert_entry_same, lookup-remove_key_same, length-remove_entry}
@@ -18,12 +18,12 @@ use Rattle.pgs_violation.specs.declared.rejection.Rejection.{Rejection}
 use Rattle.pgs_sessions_machine.specs.declared.event.Event.{Event}
 use Rattle.pgs_sessions_machine.specs.declared.event.Event.TheVariants.{Begin, Read, Stage, Commit, Abort}
 use Rattle.pgs_sessions_machine.specs.declared.event.Reply.{Reply}
-use Rattle.pgs_sessions_machine.specs.declared.event.Reply.TheVariants.{Began, Content, Staged, Committed, Rejected, AlreadyOpen, Stale, TooManySessions}
+use Rattle.pgs_sessions_machine.specs.declared.event.Reply.TheVariants.{Began, Content, Staged, Committed, AlreadyOpen, TooManySessions}
 use Rattle.pgs_sessions_machine.specs.Alone.{is_own, leaves_open, is_decision, own_replies, alone, RunsAsAlone}
 use Rattle.pgs_sessions_machine.specs.Content.{content_of}
-use Rattle.pgs_sessions_machine.specs.Machine.{Session, State, Outcome, start, session_at, with_session, without_session, later_change, least_of, least_change, named, watched, decided, committed, open_step, begun, number_of, step_at, step, replies, state_after}
+use Rattle.pgs_sessions_machine.specs.Machine.{Session, State, Outcome, start, session_at, with_session, without_session, last_of, least_of, least_after, named, watched, decided, committed, open_step, begun, step_at, step, replies, state_after}
 use Rattle.pgs_sessions_machine.proofs.Contents.{none_after}
-use Rattle.pgs_sessions_machine.proofs.Histories.{IsSound, with_sound, step_sound, run_sound, along, commits_grow}
+use Rattle.pgs_sessions_machine.proofs.Histories.{IsSound, later_change, with_sound, step_sound, run_sound, along, commits_grow}
 use Rattle.pgs_sessions_machine.proofs.Tracked.{advanced, after, began_stays, has_read, reads_stay, reads_it, with_it, others, tracked}
 
 -- ---- what a commit that is decided says of the elements read
@@ -32,19 +32,19 @@ first_none : (elem : Elem) (change : Option ℕ) (rest : Option (Elem × ℕ)) �
 first_none elem None rest h = (refl, h)
 first_none elem (Some commit) rest h = cc
 
-still_each : (state : State) (n : ℕ) (elem : Elem) (xs ys : List Elem) → least_change state n (xs ++ ys) ≡ None → list_any (is_at (elem_cmp elem)) xs ≡ true → later_change state n elem ≡ None
+still_each : (state : State) (n : ℕ) (elem : Elem) (xs ys : List Elem) → least_after (last_of state) n (xs ++ ys) ≡ None → list_any (is_at (elem_cmp elem)) xs ≡ true → later_change state n elem ≡ None
 still_each state n elem [] ys none there = absurd (true≢false (sym there))
 still_each state n elem (x ∷ xs) ys none there = by (still_each state n elem xs ys parts.1) (is_at (elem_cmp elem) x) refl there
   where
-    parts : (later_change state n x ≡ None) × (least_change state n (xs ++ ys) ≡ None)
-    parts = first_none x (later_change state n x) (least_change state n (xs ++ ys)) none
+    parts : (later_change state n x ≡ None) × (least_after (last_of state) n (xs ++ ys) ≡ None)
+    parts = first_none x (later_change state n x) (least_after (last_of state) n (xs ++ ys)) none
 
     by : (list_any (is_at (elem_cmp elem)) xs ≡ true → later_change state n elem ≡ None) →
         (b : Bool) → is_at (elem_cmp elem) x ≡ b → (b || list_any (is_at (elem_cmp elem)) xs) ≡ true → later_change state n elem ≡ None
     by rest true at here = ap (later_change state n) (exact_elem elem x ((Equal-is (elem_cmp elem x)).0 at)) ∙ parts.0
     by rest false at later = rest later
 
-no_change : (state : State) (xs : List Elem) → least_change state (length state.earlier) xs ≡ None
+no_change : (state : State) (xs : List Elem) → least_after (last_of state) (length state.earlier) xs ≡ None
 no_change state [] = refl
 no_change state (x ∷ xs) = rw (none_after x state.latest state.earlier (length state.earlier) (omega arith)) (no_change state xs)
 
@@ -67,11 +67,11 @@ module _ (decision : Graph → Txn → Result Graph Rejection) (number : ℕ) wh
   not_stale state session (Some change) h = absurd (true≢false (sym h))
 
   commit_is : (state : State) (session : Session) → session_at state number ≡ Some session →
-      step decision state (Commit number) ≡ committed decision (without_session state number) session (least_change state session.began (watched session))
+      step decision state (Commit number) ≡ committed decision (without_session state number) session (least_after (last_of state) session.began (watched session))
   commit_is state session is_open = ap (step_at decision state (Commit number)) is_open
 
   unchanged : (state : State) (session : Session) → session_at state number ≡ Some session → is_decision (commit_reply state) ≡ true →
-      least_change state session.began (watched session) ≡ None
+      least_after (last_of state) session.began (watched session) ≡ None
   unchanged state session is_open decided =
       not_stale (without_session state number) session _ (ap (λ (o : Outcome). is_decision o.reply) (sym (commit_is state session is_open)) ∙ decided)
 
@@ -81,7 +81,7 @@ module _ (decision : Graph → Txn → Result Graph Rejection) (number : ℕ) wh
   same_reply a b e (Ok graph) = ap (λ (earlier : List Graph). Committed (length earlier + 1)) e
   same_reply a b e (Err rejection) = refl
 
-  plain_reply : (state : State) (session : Session) → session_at state number ≡ Some session → least_change state session.began (watched session) ≡ None →
+  plain_reply : (state : State) (session : Session) → session_at state number ≡ Some session → least_after (last_of state) session.began (watched session) ≡ None →
       commit_reply state ≡ (decided (without_session state number) (decision state.latest (record { ops = session.staged }))).reply
   plain_reply state session is_open none =
       ap (λ (o : Outcome). o.reply) (commit_is state session is_open)
@@ -138,14 +138,14 @@ module _ (decision : Graph → Txn → Result Graph Rejection) (number : ℕ) wh
         let next : State = with_session state other new in
         let final : State = state_after decision next events in
         let step_there : step decision (mirror final os) (Read other elem) ≡ open_step decision (mirror final os) other (moved final session) (Read other elem) =
-            ap (step_at decision (mirror final os) (Read other elem)) (found_there other same final os (moved final session) found) in
+        ap (step_at decision (mirror final os) (Read other elem)) (found_there other same final os (moved final session) found) in
         let unmoved : later_change final session.began elem ≡ None = still elem (reads_stay number elem events new (reads_it elem session other)) in
         let content : content_of state.latest elem ≡ content_of final.latest elem =
-            (along decision events next session.began elem (put_sound other same new) within unmoved).1 in
+        (along decision events next session.began elem (put_sound other same new) within unmoved).1 in
         let rest = later next new (insert_entry nat_cmp os other (moved final new)) (put_sound other same new) (put_open other same new) within leaves still decided (put_found other same os (moved final new)) in
         subst (λ (o : Outcome). Content (content_of state.latest elem) ∷ (own_replies decision number next events ++ commit_reply final ∷ [])
-            ≡ o.reply ∷ replies decision o.state (filter (is_own number) events ++ Commit number ∷ [])) (sym step_there)
-            (λ i. Content (content i) ∷ rest i)
+        ≡ o.reply ∷ replies decision o.state (filter (is_own number) events ++ Commit number ∷ [])) (sym step_there)
+        (λ i. Content (content i) ∷ rest i)
 
     own_stage : (other : ℕ) (txn : Txn) → other ≡ number → Own (open_step decision state other session (Stage other txn)) (Stage other txn) events session
     own_stage other txn same = λ os leaves still decided found.
@@ -153,11 +153,11 @@ module _ (decision : Graph → Txn → Result Graph Rejection) (number : ℕ) wh
         let next : State = with_session state other new in
         let final : State = state_after decision next events in
         let step_there : step decision (mirror final os) (Stage other txn) ≡ open_step decision (mirror final os) other (moved final session) (Stage other txn) =
-            ap (step_at decision (mirror final os) (Stage other txn)) (found_there other same final os (moved final session) found) in
+        ap (step_at decision (mirror final os) (Stage other txn)) (found_there other same final os (moved final session) found) in
         let rest = later next new (insert_entry nat_cmp os other (moved final new)) (put_sound other same new) (put_open other same new) within leaves still decided (put_found other same os (moved final new)) in
         subst (λ (o : Outcome). Staged (length (session.staged ++ txn.ops)) ∷ (own_replies decision number next events ++ commit_reply final ∷ [])
-            ≡ o.reply ∷ replies decision o.state (filter (is_own number) events ++ Commit number ∷ [])) (sym step_there)
-            (λ i. Staged (length (session.staged ++ txn.ops)) ∷ rest i)
+        ≡ o.reply ∷ replies decision o.state (filter (is_own number) events ++ Commit number ∷ [])) (sym step_there)
+        (λ i. Staged (length (session.staged ++ txn.ops)) ∷ rest i)
 
     own_first : (event : Event) → is_own number event ≡ true → Own (step decision state event) event events session
     own_first (Begin other) own = absurd (true≢false (sym own))
@@ -178,8 +178,8 @@ module _ (decision : Graph → Txn → Result Graph Rejection) (number : ℕ) wh
       is_decision (commit_reply (state_after decision (step decision state event).state events)) ≡ true →
       lookup (is_at (nat_cmp number)) os ≡ Some (moved (state_after decision (step decision state event).state events) session) →
       (if own then (step decision state event).reply ∷ own_replies decision number (step decision state event).state events
-        else own_replies decision number (step decision state event).state events)
-        ++ commit_reply (state_after decision (step decision state event).state events) ∷ []
+      else own_replies decision number (step decision state event).state events)
+      ++ commit_reply (state_after decision (step decision state event).state events) ∷ []
       ≡ replies decision (mirror (state_after decision (step decision state event).state events) os) (cond own (event ∷ filter (is_own number) events) (filter (is_own number) events) ++ Commit number ∷ [])
 
   mirrored : (events : List Event) (state : State) (session : Session) → Mirrors state events session
@@ -193,7 +193,7 @@ module _ (decision : Graph → Txn → Result Graph Rejection) (number : ℕ) wh
           let parts = and_parts _ _ leaves in
           let more : length state.earlier ≤ length (step decision state event).state.earlier = commits_grow decision state event sound in
           later (step decision state event).state session os (step_sound decision state event sound)
-              (others decision number state session sound is_open event foreign parts.0) (omega arith) parts.1 still decided found
+          (others decision number state session sound is_open event foreign parts.0) (omega arith) parts.1 still decided found
 
   -- ---- the whole run
 
@@ -219,19 +219,19 @@ module _ (decision : Graph → Txn → Result Graph Rejection) (number : ℕ) wh
       let final_sound : IsSound final = run_sound decision during opened opened_sound in
       let last : Session = after number (fresh state) during in
       let there : session_at final number ≡ Some last = tracked decision number during opened (fresh state) opened_sound is_open leaves in
-      let none : least_change final (fresh state).began (watched last) ≡ None =
-          ap (λ (n : ℕ). least_change final n (watched last)) (sym (began_stays number during (fresh state))) ∙ unchanged final last there decided in
+      let none : least_after (last_of final) (fresh state).began (watched last) ≡ None =
+      ap (λ (n : ℕ). least_after (last_of final) n (watched last)) (sym (began_stays number during (fresh state))) ∙ unchanged final last there decided in
       let out : State = without_session final number in
       let gone : session_at out number ≡ None = lookup-remove_key_same nat_cmp_total number final.sessions final_sound.ascending in
       let one_less : length out.sessions + 1 ≡ length final.sessions =
-          ap (λ (b : Bool). length out.sessions + cond b 1 0) (sym (ap is_some there)) ∙ length-remove_entry nat_cmp_total number final.sessions final_sound.ascending in
+      ap (λ (b : Bool). length out.sessions + cond b 1 0) (sym (ap is_some there)) ∙ length-remove_entry nat_cmp_total number final.sessions final_sound.ascending in
       let few : length final.sessions ≤ 1000 = final_sound.few in
       let rest = mirrored during opened (fresh state) (insert_entry nat_cmp out.sessions number (moved final (fresh state))) opened_sound is_open (omega arith) leaves
-          (λ elem read. still_each final (fresh state).began elem last.read (flat_map named last.staged) none read) decided
-          (lookup-insert_entry_same nat_cmp_total number (moved final (fresh state)) out.sessions) in
+      (λ elem read. still_each final (fresh state).began elem last.read (flat_map named last.staged) none read) decided
+      (lookup-insert_entry_same nat_cmp_total number (moved final (fresh state)) out.sessions) in
       subst (λ (o : Outcome). Began ∷ (own_replies decision number opened during ++ commit_reply final ∷ [])
-          ≡ o.reply ∷ replies decision o.state (filter (is_own number) during ++ Commit number ∷ [])) (sym (begins out gone (omega arith)))
-          (ap (λ (l : List Reply). Began ∷ l) rest)
+      ≡ o.reply ∷ replies decision o.state (filter (is_own number) during ++ Commit number ∷ [])) (sym (begins out gone (omega arith)))
+      (ap (λ (l : List Reply). Began ∷ l) rest)
 
   begun_ends : (state : State) (during : List Event) → IsSound state → Ends (begun state number) during
   begun_ends state during sound = by (nat_le 1000 (length state.sessions)) refl

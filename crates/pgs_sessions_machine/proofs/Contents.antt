@@ -1,9 +1,7 @@
 -- Contents that are told alike are equal, and which commit changed an element last comes no later than the last commit.
-use Rattle.std.proofs.Common.{◌≡◌, ℕ, ◌+◌, ◌<◌, ◌≤◌, Bool, ◌&&◌, true, false, cond, List, [], ◌∷◌, length, Option, Some, None, refl, sym, ap, ◌∙◌, arith}
-use Rattle.std.specs.Prelude.{if◌then◌else◌, nat_lt, nat_eq}
-use Rattle.std.specs.Cmp.Lexicographic.{pointwise}
-use Rattle.std.specs.Ordering.{eq_by_cmp}
-use Rattle.std.proofs.lemmas.Bool.{and_parts, eqb-true, le-ltb, ltb-true}
+use Rattle.std.proofs.Common.{◌≡◌, ℕ, ◌+◌, ◌≤◌, Bool, true, false, List, [], ◌∷◌, length, Some, None, refl, ap, arith}
+use Rattle.std.specs.Prelude.{if◌then◌else◌}
+use Rattle.std.proofs.lemmas.Bool.{and_parts, eqb-true, le-ltb}
 use Rattle.pgs_base.specs.declared.element.Elem.{Elem}
 use Rattle.pgs_base.specs.declared.row.NodeRow.{NodeRow}
 use Rattle.pgs_base.specs.declared.row.EdgeRow.{EdgeRow}
@@ -12,8 +10,8 @@ use Rattle.pgs_base.specs.Graph.{Graph}
 use Rattle.pgs_base.specs.OrderLaws.{props_eq_decides, labels_eq_decides}
 use Rattle.pgs_sessions_machine.specs.declared.event.Content.{Content}
 use Rattle.pgs_sessions_machine.specs.declared.event.Content.TheVariants.{Absent, Node, Edge}
-use Rattle.pgs_sessions_machine.specs.Content.{content_of, carries_same, is_same_content, is_kept, last_change}
-use Rattle.pgs_sessions_machine.specs.Machine.{State, if_after, later_change}
+use Rattle.pgs_sessions_machine.specs.Content.{carries_same, is_same_content, is_kept, last_change}
+use Rattle.pgs_sessions_machine.specs.Machine.{if_after}
 
 carried : (labels : List (List ℕ)) (props : List (List ℕ × Value)) (labels' : List (List ℕ)) (props' : List (List ℕ × Value)) →
     carries_same labels props labels' props' ≡ true → (labels ≡ labels') × (props ≡ props')

@@ -3,7 +3,7 @@ use Rattle.std.proofs.Common.{◌≡◌, ℕ, ◌+◌, ◌<◌, ◌≤◌, ◌�
 use Rattle.std.specs.Prelude.{if◌then◌else◌, nat_lt, nat_le}
 use Rattle.std.specs.Cmp.{nat_cmp_total}
 use Rattle.std.specs.List.Sorted.{IsStrictlySortedBy}
-use Rattle.std.specs.Map.{keys_of, lookup, remove_entry}
+use Rattle.std.specs.Map.{keys_of}
 use Rattle.std.specs.Ordering.{nat_cmp}
 use Rattle.std.specs.BTreeMap.{is_at, insert_entry}
 use Rattle.std.proofs.lemmas.Bool.{leb-false, lt-ltb}
@@ -16,7 +16,7 @@ use Rattle.pgs_violation.specs.declared.rejection.Rejection.{Rejection}
 use Rattle.pgs_sessions_machine.specs.declared.event.Event.{Event}
 use Rattle.pgs_sessions_machine.specs.declared.event.Event.TheVariants.{Begin, Read, Stage, Commit, Abort}
 use Rattle.pgs_sessions_machine.specs.Content.{content_of, is_kept, last_change}
-use Rattle.pgs_sessions_machine.specs.Machine.{Session, State, Outcome, session_at, with_session, without_session, if_after, later_change, least_change, watched, decided, committed, open_step, begun, closed_step, number_of, step_at, step, state_after}
+use Rattle.pgs_sessions_machine.specs.Machine.{Session, State, session_at, with_session, without_session, if_after, last_of, least_after, watched, decided, committed, begun, number_of, step_at, step, state_after}
 use Rattle.pgs_sessions_machine.proofs.Contents.{content_same}
 
 -- the sessions stand by ascending number, and there are at most 1,000
@@ -34,12 +34,12 @@ stays state = inl (refl, refl)
 pub with_sound : (state : State) (number : ℕ) (session : Session) → IsSound state →
     (is_some (session_at state number) ≡ true) ⊎ (length state.sessions < 1000) → IsSound (with_session state number session)
 with_sound state number session sound room = record {
-    ascending = ascending-insert_entry nat_cmp_total number session state.sessions sound.ascending;
-    few = ⊎_elim
-        (λ there. let e = length-insert_entry nat_cmp_total number state.sessions sound.ascending session ∙ ap (λ b. cond b (length state.sessions) (length state.sessions + 1)) there in let few = sound.few in omega arith)
-        (λ less. by (is_some (session_at state number)) less (length-insert_entry nat_cmp_total number state.sessions sound.ascending session))
-        room;
-  }
+  ascending = ascending-insert_entry nat_cmp_total number session state.sessions sound.ascending;
+  few = ⊎_elim
+      (λ there. let e = length-insert_entry nat_cmp_total number state.sessions sound.ascending session ∙ ap (λ b. cond b (length state.sessions) (length state.sessions + 1)) there in let few = sound.few in omega arith)
+      (λ less. by (is_some (session_at state number)) less (length-insert_entry nat_cmp_total number state.sessions sound.ascending session))
+      room;
+}
   where
     by : (b : Bool) → length state.sessions < 1000 → length (insert_entry nat_cmp state.sessions number session) ≡ cond b (length state.sessions) (length state.sessions + 1) →
         length (insert_entry nat_cmp state.sessions number session) ≤ 1000
@@ -48,9 +48,9 @@ with_sound state number session sound room = record {
 
 pub without_sound : (state : State) (number : ℕ) → IsSound state → IsSound (without_session state number)
 without_sound state number sound = record {
-    ascending = ascending-remove_entry nat_cmp_total (is_at (nat_cmp number)) state.sessions sound.ascending;
-    few = let e = length-remove_entry nat_cmp_total number state.sessions sound.ascending in let few = sound.few in omega arith;
-  }
+  ascending = ascending-remove_entry nat_cmp_total (is_at (nat_cmp number)) state.sessions sound.ascending;
+  few = let e = length-remove_entry nat_cmp_total number state.sessions sound.ascending in let few = sound.few in omega arith;
+}
 
 -- ---- a decision changes no session, and a state without a session has its graphs
 
@@ -64,9 +64,9 @@ decided_grows state (Err rejection) = stays state
 
 sound_by : (old new : State) → new.sessions ≡ old.sessions → IsSound old → IsSound new
 sound_by old new e sound = record {
-    ascending = subst (λ (sessions : List (ℕ × Session)). IsStrictlySortedBy nat_cmp (keys_of sessions)) (sym e) sound.ascending;
-    few = subst (λ (sessions : List (ℕ × Session)). length sessions ≤ 1000) (sym e) sound.few;
-  }
+  ascending = subst (λ (sessions : List (ℕ × Session)). IsStrictlySortedBy nat_cmp (keys_of sessions)) (sym e) sound.ascending;
+  few = subst (λ (sessions : List (ℕ × Session)). length sessions ≤ 1000) (sym e) sound.few;
+}
 
 module _ (decision : Graph → Txn → Result Graph Rejection) where
   pub committed_open : (state : State) (session : Session) (change : Option (Elem × ℕ)) → (committed decision state session change).state.sessions ≡ state.sessions
@@ -104,9 +104,10 @@ module _ (decision : Graph → Txn → Result Graph Rejection) where
       by (Stage number txn) (Some session) e = (with_sound state number _ sound (inl (ap is_some e)), inl (refl, refl))
       by (Commit number) (Some session) e =
           let out : State = without_session state number in
-          let change : Option (Elem × ℕ) = least_change state session.began (watched session) in
-          (sound_by out (committed decision out session change).state (committed_open out session change) (without_sound state number sound),
-           committed_grows out session change)
+          let change : Option (Elem × ℕ) = least_after (last_of state) session.began (watched session) in (
+            sound_by out (committed decision out session change).state (committed_open out session change) (without_sound state number sound),
+            committed_grows out session change,
+          )
       by (Abort number) (Some session) e = (without_sound state number sound, inl (refl, refl))
 
   pub step_sound : (state : State) (event : Event) → IsSound state → IsSound (step decision state event).state
@@ -118,11 +119,15 @@ module _ (decision : Graph → Txn → Result Graph Rejection) where
 
 -- ---- what no later commit changed
 
+-- the last commit that changed an element, where it comes after so many others
+abbrev pub later_change : State → ℕ → Elem → Option ℕ
+later_change state began elem = if_after began (last_of state elem)
+
 back : (old new : State) → Grows old new → (n : ℕ) (elem : Elem) → n ≤ length old.earlier → later_change new n elem ≡ None →
     (later_change old n elem ≡ None) × (content_of old.latest elem ≡ content_of new.latest elem)
 back old new (inl same) n elem within h =
     let e : last_change elem new.latest new.earlier ≡ last_change elem old.latest old.earlier =
-        ap (λ (g : Graph). last_change elem g new.earlier) same.0 ∙ ap (last_change elem old.latest) same.1 in
+    ap (λ (g : Graph). last_change elem g new.earlier) same.0 ∙ ap (last_change elem old.latest) same.1 in
     (ap (if_after n) (sym e) ∙ h, ap (λ (g : Graph). content_of g elem) (sym same.0))
 back old new (inr one) n elem within h =
     by (is_kept old.latest new.latest elem) refl (ap (λ (l : List Graph). if_after n (last_change elem new.latest l)) (sym one) ∙ h)

@@ -1,11 +1,11 @@
 -- What events leave of one session that stays open.
-use Rattle.std.proofs.Common.{◌≡◌, ℕ, ◌+◌, ◌==◌, ◌<◌, ◌≤◌, ◌⊎◌, inl, inr, Bool, ◌||◌, true, false, true≢false, not, cond, List, [], ◌∷◌, ◌++◌, length, Option, Some, None, is_some, refl, sym, ap, subst, ◌∙◌, arith, Result, Ordering, is_eq}
-use Rattle.std.specs.Prelude.{if◌then◌else◌, nat_le, filter, flat_map}
+use Rattle.std.proofs.Common.{◌≡◌, ℕ, Bool, true, false, true≢false, List, [], ◌∷◌, ◌++◌, length, Option, Some, None, refl, sym, ap, ◌∙◌, Result, is_eq}
+use Rattle.std.specs.Prelude.{if◌then◌else◌, nat_le}
 use Rattle.std.specs.Cmp.{nat_cmp_total, tied_itself, Equal-is}
 use Rattle.std.specs.List.{list_all, list_any}
-use Rattle.std.specs.Map.{lookup, remove_entry}
+use Rattle.std.specs.Map.{lookup}
 use Rattle.std.specs.Ordering.{nat_cmp}
-use Rattle.std.specs.BTreeMap.{is_at, insert_entry}
+use Rattle.std.specs.BTreeMap.{is_at}
 use Rattle.std.specs.BTreeSet.{insert_key}
 use Rattle.std.proofs.lemmas.Bool.{and_parts, eqb-false, eqb-true, false_from_ne_true, not-true, or_right, or_left}
 use Rattle.std.proofs.lemmas.Map.Lookups.{exact_unsigned}
@@ -19,7 +19,7 @@ use Rattle.pgs_violation.specs.declared.rejection.Rejection.{Rejection}
 use Rattle.pgs_sessions_machine.specs.declared.event.Event.{Event}
 use Rattle.pgs_sessions_machine.specs.declared.event.Event.TheVariants.{Begin, Read, Stage, Commit, Abort}
 use Rattle.pgs_sessions_machine.specs.Alone.{is_own, leaves_open}
-use Rattle.pgs_sessions_machine.specs.Machine.{Session, State, Outcome, session_at, with_session, without_session, least_change, watched, committed, begun, open_step, number_of, step_at, step, state_after}
+use Rattle.pgs_sessions_machine.specs.Machine.{Session, State, session_at, with_session, without_session, last_of, least_after, watched, begun, number_of, step_at, step, state_after}
 use Rattle.pgs_sessions_machine.proofs.Histories.{IsSound, committed_open, step_sound}
 
 -- a session after a read or a stage of its own
@@ -106,7 +106,7 @@ module _ (decision : Graph → Txn → Result Graph Rejection) (number : ℕ) (s
       by (Read other elem) foreign leaves (Some found) e = other_with state number other _ (eqb-false other number foreign) ∙ is_open
       by (Stage other txn) foreign leaves (Some found) e = other_with state number other _ (eqb-false other number foreign) ∙ is_open
       by (Commit other) foreign leaves (Some found) e =
-          ap (lookup (is_at (nat_cmp number))) (committed_open decision (without_session state other) found (least_change state found.began (watched found)))
+          ap (lookup (is_at (nat_cmp number))) (committed_open decision (without_session state other) found (least_after (last_of state) found.began (watched found)))
           ∙ other_without state number other sound (eqb-false other number (not-true _ leaves)) ∙ is_open
       by (Abort other) foreign leaves (Some found) e = other_without state number other sound (eqb-false other number (not-true _ leaves)) ∙ is_open
 
@@ -139,4 +139,4 @@ tracked decision number [] state session sound is_open leaves = is_open
 tracked decision number (event ∷ events) state session sound is_open leaves =
     let parts = and_parts _ _ leaves in
     tracked decision number events (step decision state event).state _ (step_sound decision state event sound)
-        (one_kept decision number state session sound is_open event parts.0) parts.1
+    (one_kept decision number state session sound is_open event parts.0) parts.1

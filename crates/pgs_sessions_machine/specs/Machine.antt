@@ -1,5 +1,5 @@
 -- The machine of sessions over a list of events. How a transaction is decided on a graph is a parameter.
-use Rattle.std.specs.Prelude.{ℕ, ◌+◌, Bool, List, [], ◌∷◌, ◌++◌, length, nat_le, nat_lt, Option, Some, None, is_some, Result, Ok, Err, flat_map, if◌then◌else◌}
+use Rattle.std.specs.Prelude.{ℕ, ◌+◌, List, [], ◌∷◌, ◌++◌, length, nat_le, nat_lt, Option, Some, None, Result, Ok, Err, flat_map, if◌then◌else◌}
 use Rattle.std.specs.Ordering.{nat_cmp, is_gt}
 use Rattle.std.specs.BTreeMap.{is_at, insert_entry}
 use Rattle.std.specs.BTreeSet.{insert_key}
@@ -74,10 +74,6 @@ abbrev pub if_after : ℕ → Option ℕ → Option ℕ
 if_after began None = None
 if_after began (Some commit) = if nat_lt began commit then Some commit else None
 
--- the last commit that changed an element, where it comes after so many others
-abbrev pub later_change : State → ℕ → Elem → Option ℕ
-later_change state began elem = if_after began (last_change elem state.latest state.earlier)
-
 -- a change of an element, or another change where that is of a lesser element
 abbrev pub lesser : Elem × ℕ → Option (Elem × ℕ) → Elem × ℕ
 lesser change None = change
@@ -88,10 +84,14 @@ abbrev pub least_of : Elem → Option ℕ → Option (Elem × ℕ) → Option (E
 least_of elem None rest = rest
 least_of elem (Some commit) rest = Some (lesser (elem, commit) rest)
 
--- the least of some elements that was changed after so many commits, with the last commit that changed it
-abbrev pub least_change : State → ℕ → List Elem → Option (Elem × ℕ)
-least_change state began [] = None
-least_change state began (elem ∷ elems) = least_of elem (later_change state began elem) (least_change state began elems)
+-- by the last commit that changed each element: the least of some elements that was changed after so many commits, with that commit
+abbrev pub least_after : (Elem → Option ℕ) → ℕ → List Elem → Option (Elem × ℕ)
+least_after last began [] = None
+least_after last began (elem ∷ elems) = least_of elem (if_after began (last elem)) (least_after last began elems)
+
+-- the last commit that changed an element
+abbrev pub last_of : State → Elem → Option ℕ
+last_of state elem = last_change elem state.latest state.earlier
 
 -- what a decision brings in a state
 abbrev pub decided : State → Result Graph Rejection → Outcome
@@ -119,7 +119,7 @@ module _ (decision : Graph → Txn → Result Graph Rejection) where
     state = with_session state number (record session { staged = session.staged ++ txn.ops });
   }
   open_step state number session (Commit _) =
-      committed (without_session state number) session (least_change state session.began (watched session))
+      committed (without_session state number) session (least_after (last_of state) session.began (watched session))
   open_step state number session (Abort _) = record { reply = Aborted; state = without_session state number }
 
 -- the Begin of a session that isn't open

@@ -1,7 +1,5 @@
 -- Events on which the machine is tried. Nodes are added under a schema that asks nothing.
 use Rattle.std.specs.Prelude.{ℕ, List, [], ◌∷◌, ◌++◌}
-use Rattle.pgs_base.specs.declared.element.Elem.{Elem}
-use Rattle.pgs_graph.specs.declared.operation.Op.{Op}
 use Rattle.pgs_syntax.specs.KeySamples.{the_node}
 use Rattle.pgs_syntax.specs.Samples.{keyed}
 use Rattle.pgs_violation.specs.Decision.{decide}
