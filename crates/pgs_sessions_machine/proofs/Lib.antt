@@ -1,4 +1,7 @@
+pub mod Alike
+pub mod Committing
 pub mod Contents
 pub mod Histories
-pub mod Alike
+pub mod Outdated
+pub mod Refused
 pub mod Tracked
