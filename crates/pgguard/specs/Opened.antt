@@ -7,7 +7,7 @@ use Rattle.std.specs.declared.io.Error.{Error}
 use Rattle.std.specs.declared.random_state.RandomState.{RandomState}
 use Rattle.pgs_base.specs.declared.seed.Seed.{Seed}
 use Rattle.pgs_base.specs.declared.seed.Seed.TheVariants.{Fixed, Random}
-use Rattle.pgs_feed.specs.Places.{fed}
+use Rattle.pgs_feed.specs.Places.{Place, fed}
 use Rattle.pgs_feed.specs.Seen.{feeds_in, places}
 use Rattle.pgs_run_words.specs.declared.command.Command.{Command}
 use Rattle.pgs_run_words.specs.declared.command.Command.TheVariants.{Load, Recover, Explain}
@@ -59,15 +59,19 @@ abbrev pub seed_of : Result RandomState Error → Seed
 seed_of (Ok keys) = Random keys
 seed_of (Err error) = Fixed
 
+-- a feed that took nothing that is told, and hasn't failed
+abbrev pub fed_none : Place
+fed_none = fed untold_bytes 0
+
 -- What a run goes over for these words, before its first call: this reader and this writer, the areas of the store that they name, the
 -- feeds that they name, and these keys of hashing. No call was made, and none failed.
 pub record IsOpened {R W H L : Type 0} (areas : AreaGives H) (feeds : List ℕ → FileFeed L → Type 0) (words : List (List ℕ)) (reader : R)
     (writer : W) (drawn : Result RandomState Error) (outside : Outside R W H L) : Type 0 where
-  pub reader : outside.source.reader ≡ reader
-  pub read_faults : outside.source.faults ≡ 0
-  pub areas : AreAreasOf areas words outside.world.areas
-  pub writer : outside.world.writer ≡ writer
+  pub source : outside.source.reader ≡ reader
+  pub unread : outside.source.faults ≡ 0
+  pub files : AreAreasOf areas words outside.world.areas
+  pub output : outside.world.writer ≡ writer
   pub counts : outside.world.counts ≡ record { calls = 0; area_faults = 0; put_faults = 0; puts = 0 }
   pub seed : outside.world.seed ≡ seed_of drawn
-  pub feeds : AreFeedsOf feeds (files_of words) (feeds_of words) (feeds_in outside.feeds)
-  pub no_feed_failed : places (λ feed. untold_bytes) (λ feed. feed.faults) outside.feeds ≡ map (λ name. fed untold_bytes 0) (feeds_of words)
+  pub fed : AreFeedsOf feeds (files_of words) (feeds_of words) (feeds_in outside.feeds)
+  pub unfailed : places (λ feed. untold_bytes) (λ feed. feed.faults) outside.feeds ≡ map (λ name. fed_none) (feeds_of words)

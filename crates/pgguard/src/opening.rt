@@ -101,7 +101,7 @@ fn open_feeds<O: Opening>(
     names: &[&str],
 ) -> Result<FeedList<FileFeed<O::Line>>, Memory>
     ensures feeds { IfOk result (λ feeds. AreFeedsOf O.feed_gives (map (λ other. other.now) files.now) (map (λ other. other.now) names.now) (feeds_in feeds)) }
-    ensures places { let feed = ⟦<FileFeed<O::Line> as Feed>⟧ in IfOk result (λ feeds. places feed.taken feed.faults feeds ≡ map (λ name. fed untold_bytes 0) names.now) }
+    ensures places { let feed = ⟦<FileFeed<O::Line> as Feed>⟧ in IfOk result (λ feeds. places feed.taken feed.faults feeds ≡ map (λ name. fed untold_bytes 0) (map (λ other. other.now) names.now)) }
 {
     let mut earlier = Vec::with_capacity(alloc, files.len())?;
     earlier.extend_from_slice(files)?;
@@ -152,7 +152,7 @@ fn seed_of(drawn: io::Result<RandomState>) -> Seed
 }
 
 /// Opens what the words name, over a reader and a writer, with the keys of hashing that were drawn.
-pub fn open_outside<O: Opening, R: SteadyRead, W: SteadyWrite>(
+pub fn open_outside<O: Opening, R: SteadyRead + Drop, W: SteadyWrite + Drop>(
     system: &mut O,
     alloc: Global,
     words: &Words,

@@ -32,7 +32,7 @@ impl<R: SteadyRead, W: SteadyWrite, H: Handle, L: SteadyWrite + Drop> Ran<R, W, 
 
 /// Runs words over a reader, a writer and the files that they name: the program but for the system's handles. `Memory` where there was
 /// none to open them; nothing is put then.
-pub fn run_program<O: Opening, R: SteadyRead, W: SteadyWrite>(
+pub fn run_program<O: Opening, R: SteadyRead + Drop, W: SteadyWrite + Drop>(
     alloc: Global,
     words: &Words,
     system: &mut O,

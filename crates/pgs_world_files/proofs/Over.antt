@@ -37,10 +37,10 @@ module _ (bytes piece : List ℕ) (at : ℕ) (inside : at ≤ length bytes) wher
       let rest = drop (at + length piece) bytes in
       let front = take_at (take at bytes ++ piece) rest (at + length piece) front_size in
       let back : drop (at + length piece + length more) (written_over bytes at piece) ≡ drop (length more) rest =
-          sym (drop-drop (length more) (at + length piece) (written_over bytes at piece))
-          ∙ ap (drop (length more)) (drop_at (take at bytes ++ piece) rest (at + length piece) front_size) in
+      sym (drop-drop (length more) (at + length piece) (written_over bytes at piece))
+      ∙ ap (drop (length more)) (drop_at (take at bytes ++ piece) rest (at + length piece) front_size) in
       let same : drop (length more) rest ≡ drop (at + length (piece ++ more)) bytes =
-          drop-drop (length more) (at + length piece) bytes ∙ ap (λ n. drop n bytes) (omega (arith, length-append piece more)) in
+      drop-drop (length more) (at + length piece) bytes ∙ ap (λ n. drop n bytes) (omega (arith, length-append piece more)) in
       ap (λ (l : List ℕ). l ++ more ++ drop (at + length piece + length more) (written_over bytes at piece)) front
       ∙ ap (λ (l : List ℕ). take at bytes ++ piece ++ more ++ l) (back ∙ same)
       ∙ ap (λ (l : List ℕ). l ++ drop (at + length (piece ++ more)) bytes) (append_assoc (take at bytes) piece more)
@@ -60,8 +60,8 @@ module _ {H : Type 0} (bytes : H → List ℕ) (lengths : H → Result ℕ Error
     reads_there got after (read_some {bytes = first} {buf = buf} {count = count} {before = before} reading gave) =
         let more = take count buf in
         let there : more ≡ take (length more) (drop (length first) (drop at (bytes start))) =
-            over.read before after (at + length first) buf count gave ∙ ap (λ (l : List ℕ). take (length more) (drop (at + length first) l)) (read_keeps first before reading)
-            ∙ ap (take (length more)) (sym (drop-drop (length first) at (bytes start))) in
+        over.read before after (at + length first) buf count gave ∙ ap (λ (l : List ℕ). take (length more) (drop (at + length first) l)) (read_keeps first before reading)
+        ∙ ap (take (length more)) (sym (drop-drop (length first) at (bytes start))) in
         ap (λ (l : List ℕ). l ++ more) (reads_there first before reading) ∙ ap (λ (l : List ℕ). take (length first) (drop at (bytes start)) ++ l) there
         ∙ sym (take-add (length first) (length more) (drop at (bytes start))) ∙ ap (λ n. take n (drop at (bytes start))) (sym (length-append first more))
     reads_there got after (read_failed {before = before} reading gave) = reads_there got before reading
@@ -79,7 +79,7 @@ module _ {H : Type 0} (bytes : H → List ℕ) (lengths : H → Result ℕ Error
           let few : count ≤ length (drop d piece) = over.fits before after (at + d) (drop d piece) count gave in
           let left : length (drop d piece) ≡ length piece - d = length-drop d piece in
           let behind : at + d ≤ length (bytes before) =
-              subst (λ n. at + n ≤ length (bytes before)) size (subst (λ (l : List ℕ). at + length (take d piece) ≤ length l) (sym was.is) (behind_written (bytes start) (take d piece) at inside)) in
+          subst (λ n. at + n ≤ length (bytes before)) size (subst (λ (l : List ℕ). at + length (take d piece) ≤ length l) (sym was.is) (behind_written (bytes start) (take d piece) at inside)) in
           record {
             within = omega (arith, was.within);
             is = over.written before after (at + d) (drop d piece) count gave behind ∙ ap (λ (l : List ℕ). written_over l (at + d) (take count (drop d piece))) was.is

@@ -4,8 +4,9 @@ ghost use Rattle.pgs_world_files.specs.Calls.{AsksToAppend, AsksToPlace, HoldsNo
 
 use crate::store_head::is_of_others;
 use crate::system_file::{check_same, is_unsupported};
-use crate::{Access, AreaFile, FileCause, FileFeed, Found, OpenFault, Opening};
-use crate::{StoreFile, System, SystemFile};
+use crate::{
+    Access, AreaFile, FileCause, FileFeed, Found, OpenFault, Opening, StoreFile, System, SystemFile,
+};
 use pgs_base::Memory;
 use std::alloc::Global;
 use std::fs::{OpenOptions, TryLockError};

@@ -16,7 +16,7 @@ returns-clause-quiet g c =
       put_faults = c.counted.ensures.put_faults;
       puts = c.counted.ensures.puts;
     })
-    (length_stays g.H.Handle.contents g.H.Handle.length_gives g.H.Handle.read_gives g.H.Handle.write_gives g.H.Handle.cut_gives g.H.Handle.sync_gives g.H.Handle.tells g.met.H.Handle.over  (handle_in c.args.area c.args.self.now.areas) (handle_in c.args.area c.len-answer.new.self) c.len-answer.result c.len-answer.ensures.given)
+    (length_stays g.H.Handle.contents g.H.Handle.length_gives g.H.Handle.read_gives g.H.Handle.write_gives g.H.Handle.cut_gives g.H.Handle.sync_gives g.H.Handle.tells g.met.H.Handle.over (handle_in c.args.area c.args.self.now.areas) (handle_in c.args.area c.len-answer.new.self) c.len-answer.result c.len-answer.ensures.given)
 
 pub returns-clause-length : goal.returns-clause-length
 returns-clause-length g c =

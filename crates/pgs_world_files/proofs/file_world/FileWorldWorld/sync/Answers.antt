@@ -16,4 +16,4 @@ returns-clause-quiet g c =
       put_faults = c.counted.ensures.put_faults;
       puts = c.counted.ensures.puts;
     })
-    (sync_stays g.H.Handle.contents g.H.Handle.length_gives g.H.Handle.read_gives g.H.Handle.write_gives g.H.Handle.cut_gives g.H.Handle.sync_gives g.H.Handle.tells g.met.H.Handle.over  (handle_in c.args.area c.args.self.now.areas) (handle_in c.args.area c.sync-answer.new.self) c.sync-answer.result c.sync-answer.ensures.given)
+    (sync_stays g.H.Handle.contents g.H.Handle.length_gives g.H.Handle.read_gives g.H.Handle.write_gives g.H.Handle.cut_gives g.H.Handle.sync_gives g.H.Handle.tells g.met.H.Handle.over (handle_in c.args.area c.args.self.now.areas) (handle_in c.args.area c.sync-answer.new.self) c.sync-answer.result c.sync-answer.ensures.given)
