@@ -1,6 +1,7 @@
 use super::*;
 use pgs_world::Feed;
 use pgs_world_streams::Cause;
+use std::fs;
 use std::os::unix::fs::MetadataExt;
 use std::test::Fail;
 
