@@ -1,25 +1,24 @@
 //! The program: it makes the words, opens the files that they name, and calls `pgs_run::run` over standard input and output.
 //!
-//! What stands here is `run_program`, which is all but the system's handles and says what is put over a reader and a writer that tell
-//! their bytes; the opening of what the words name; and the line on standard error where a run ends without one on standard output. What a
-//! terminal, a pipe or a file holds is told by no clause: `pgs_world_streams` and `pgs_world_files` count their calls and faults.
+//! What stands here is `run_program`, which is all but the system's handles: it opens what the words name and runs them, and says of both
+//! all that is promised, over every reader, writer and opening; and the line on standard error where a run ends without one on standard
+//! output. What a terminal, a pipe or a file holds is told by no clause.
 #![tactic(auto)]
 
 mod ending;
 mod opening;
+mod outside;
 mod program;
 
 ghost use Rattle.std.specs.Prelude.{◌≡◌, ◌≢◌, ◌++◌, [], Ok, IsErr, IfErr, IfOk};
 ghost use Rattle.std.specs.IoError.{error_kind};
 ghost use Rattle.std.specs.Process.{exit_status};
 ghost use Rattle.std.specs.Vec.Iter.{into_iter_items};
-ghost use Rattle.pgs_base.specs.declared.seed.Seed.TheVariants as seeds;
 ghost use Rattle.pgs_run_base.specs.ExitStatus.{status_number};
 ghost use Rattle.pgguard.specs.Known.{words_behind};
 
 use ending::{Causes, tell_ending};
-use opening::{areas_of, feeds_of};
-use pgs_base::{Memory, Seed, Words};
+use pgs_base::{Memory, Words};
 use pgs_run::Status;
 use pgs_world_files::SystemOpening;
 use pgs_world_streams::{Cause, StandardNumbers};
@@ -70,34 +69,19 @@ fn words_of(alloc: Global, arguments: io::Result<Args>) -> Result<Words, Memory>
     }
 }
 
-// How the program's graphs hash: by keys that no one else knows, so that whoever chooses the numbers of nodes can't make them collide. Where
-// the system draws none, the fixed keys serve, since no answer depends on them.
-fn seed_of(drawn: io::Result<RandomState>) -> Seed
-    ensures drawn { IfOk drawn (λ keys. result ≡ seeds.Random keys) }
-    ensures fixed { IfErr drawn (λ _. result ≡ seeds.Fixed) }
-{
-    match drawn {
-        Ok(keys) => Seed::Random(keys),
-        Err(_) => Seed::Fixed,
-    }
-}
-
-// Opens what the words name, and runs them.
+// Opens what the words name, and runs them over the standard streams.
 fn run_words(rt: &HostRuntime, words: &Words) -> Result<(Status, Causes), Memory> {
-    let mut system = SystemOpening::new(rt);
-    let areas = areas_of(&mut system, rt.alloc(), words)?;
-    let mut feeds = feeds_of(&mut system, rt.alloc(), words)?;
-    let seed = seed_of(RandomState::new(rt));
-    let (status, _, causes) = run_program(
+    let mut system = SystemOpening::new(rt, rt.alloc());
+    let drawn = RandomState::new(rt);
+    let ran = run_program(
         rt.alloc(),
         words,
+        &mut system,
         rt.stdin(),
         rt.stdout(),
-        areas,
-        &mut feeds,
-        seed,
-    );
-    Ok((status, causes))
+        drawn,
+    )?;
+    Ok((ran.status, ran.causes()))
 }
 
 // Runs words, tells why they ended so, and gives the status.

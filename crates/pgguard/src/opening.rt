@@ -1,21 +1,25 @@
-//! The files that words name.
+//! The files that words name, and all that a run goes over.
 
-ghost use Rattle.std.specs.Prelude.{◌≡◌, [], ◌∷◌, ◌++◌, true, false, None, Some, map, IfOk, OnOk};
+ghost use Rattle.std.specs.Prelude.{◌≡◌, [], ◌∷◌, ◌++◌, Some, map, IfOk, OnOk};
 ghost use Rattle.std.specs.List.{list_any};
+ghost use Rattle.std.specs.Option.{unwrap_or};
 ghost use Rattle.std.specs.Str.{bytes_eq};
 ghost use Rattle.pgs_feed.specs.Places.{fed};
-ghost use Rattle.pgs_feed.specs.Seen.{places};
+ghost use Rattle.pgs_feed.specs.Seen.{feeds_in, places};
 ghost use Rattle.pgs_world_files.specs.Counted.{untold_bytes};
-ghost use Rattle.pgs_world_files.specs.Opened.{IsStoreOf};
-ghost use Rattle.pgs_run_words.specs.Words.{command_of, store_of, feeds_of};
-ghost use Rattle.pgguard.specs.Opened.{access_of, is_among};
+ghost use Rattle.pgs_run_words.specs.Words.{feeds_of, store_of};
+ghost use Rattle.pgguard.specs.Opened.{AreAreasOf, AreFeedsOf, IsFeedOf, IsOpened, access_of, files_of, is_among, seed_of};
 
-use pgs_base::{Memory, Words};
+use crate::outside::Outside;
+use pgs_base::{Memory, Seed, Words};
 use pgs_feed::FeedList;
 use pgs_run_words::{Command, command_of, feed_names, store_name};
 use pgs_world::Feed;
-use pgs_world_files::{Access, AreaFiles, FileFeed, Opening, file_name};
+use pgs_world_files::{Access, AreaFiles, FileFeed, FileWorld, Opening, file_name};
+use pgs_world_streams::{StdinSource, SteadyRead, SteadyWrite};
 use std::alloc::Global;
+use std::collections::hash_map::RandomState;
+use std::io;
 
 // What a command does with the files of its store.
 fn access_of(command: Option<Command>) -> Access
@@ -34,8 +38,7 @@ pub fn areas_of<O: Opening>(
     alloc: Global,
     words: &Words,
 ) -> Result<AreaFiles<O::Area>, Memory>
-    ensures absent { store_of words.now ≡ None → IfOk result (λ areas. (areas.a.handle ≡ None) × (areas.b.handle ≡ None)) }
-    ensures named { (name : _) → store_of words.now ≡ Some name → IfOk result (λ areas. IsStoreOf O.area_gives name (access_of (command_of words.now)) areas) }
+    ensures { IfOk result (AreAreasOf O.area_gives words.now) }
 {
     let access = access_of(command_of(alloc, words)?);
     match store_name(alloc, words)? {
@@ -64,8 +67,7 @@ fn feed_of<O: Opening>(
     earlier: &[&str],
     name: &str,
 ) -> Result<FileFeed<O::Line>, Memory>
-    ensures taken { is_among (map (λ other. other.now) earlier.now) name.now ≡ true → IfOk result (λ feed. feed.writer ≡ None) }
-    ensures opened { is_among (map (λ other. other.now) earlier.now) name.now ≡ false → IfOk result (λ feed. O.feed_gives name.now feed) }
+    ensures feed { IfOk result (IsFeedOf O.feed_gives (map (λ other. other.now) earlier.now) name.now) }
     ensures faults { IfOk result (λ feed. ⟦<FileFeed<O::Line> as Feed>⟧.faults feed ≡ 0) }
 {
     if is_among(earlier, name) {
@@ -81,12 +83,43 @@ fn add_feed<O: Opening>(
     earlier: &[&str],
     name: &str,
 ) -> Result<(), Memory>
-    ensures { let feed = ⟦<FileFeed<O::Line> as Feed>⟧ in OnOk result (places feed.taken feed.faults feeds.new ≡ places feed.taken feed.faults feeds.old ++ fed untold_bytes 0 ∷ []) }
+    ensures feed { OnOk result ((feed : _) × (feeds_in feeds.new ≡ feeds_in feeds.old ++ Some feed ∷ []) × IsFeedOf O.feed_gives (map (λ other. other.now) earlier.now) name.now feed) }
+    ensures places { let feed = ⟦<FileFeed<O::Line> as Feed>⟧ in OnOk result (places feed.taken feed.faults feeds.new ≡ places feed.taken feed.faults feeds.old ++ fed untold_bytes 0 ∷ []) }
 {
     let feed = feed_of(system, earlier, name)?;
     match feeds.subscribe(feed) {
         Ok(_) => Ok(()),
         Err(_) => Err(Memory),
+    }
+}
+
+// The feeds of these names behind others, in order.
+fn open_feeds<O: Opening>(
+    system: &mut O,
+    alloc: Global,
+    files: &[&str],
+    names: &[&str],
+) -> Result<FeedList<FileFeed<O::Line>>, Memory>
+    ensures feeds { IfOk result (λ feeds. AreFeedsOf O.feed_gives (map (λ other. other.now) files.now) (map (λ other. other.now) names.now) (feeds_in feeds)) }
+    ensures places { let feed = ⟦<FileFeed<O::Line> as Feed>⟧ in IfOk result (λ feeds. places feed.taken feed.faults feeds ≡ map (λ name. fed untold_bytes 0) (map (λ other. other.now) names.now)) }
+{
+    let mut earlier = Vec::with_capacity(alloc, files.len())?;
+    earlier.extend_from_slice(files)?;
+    let mut feeds = FeedList::new(alloc);
+    for name in names {
+        add_feed(system, &mut feeds, earlier.as_slice(), name)?;
+        earlier.push(*name)?;
+    }
+    Ok(feeds)
+}
+
+// The name of the store, or none.
+fn store_of<'a>(alloc: Global, words: &'a Words) -> Result<&'a str, Memory>
+    ensures { IfOk result (λ name. name.now ≡ unwrap_or (store_of words.entry.now) []) }
+{
+    match store_name(alloc, words)? {
+        Some(name) => Ok(name),
+        None => Ok(""),
     }
 }
 
@@ -97,19 +130,46 @@ pub fn feeds_of<O: Opening>(
     alloc: Global,
     words: &Words,
 ) -> Result<FeedList<FileFeed<O::Line>>, Memory>
-    ensures { let feed = ⟦<FileFeed<O::Line> as Feed>⟧ in IfOk result (λ feeds. places feed.taken feed.faults feeds ≡ map (λ name. fed untold_bytes 0) (feeds_of words.now)) }
+    ensures feeds { IfOk result (λ feeds. AreFeedsOf O.feed_gives (files_of words.now) (feeds_of words.now) (feeds_in feeds)) }
+    ensures places { let feed = ⟦<FileFeed<O::Line> as Feed>⟧ in IfOk result (λ feeds. places feed.taken feed.faults feeds ≡ map (λ name. fed untold_bytes 0) (feeds_of words.now)) }
 {
-    let store = store_name(alloc, words)?.unwrap_or("");
+    let store = store_of(alloc, words)?;
     let a = file_name(alloc, store, ".a")?;
     let b = file_name(alloc, store, ".b")?;
-    let mut earlier = Vec::new(alloc);
-    earlier.push(a.as_str())?;
-    earlier.push(b.as_str())?;
-    let mut feeds = FeedList::new(alloc);
     let names = feed_names(alloc, words)?;
-    for name in names.as_slice() {
-        add_feed(system, &mut feeds, earlier.as_slice(), name)?;
-        earlier.push(name)?;
+    open_feeds(system, alloc, &[a.as_str(), b.as_str()], names.as_slice())
+}
+
+// How the program's graphs hash: by keys that no one else knows, so that whoever chooses the numbers of nodes can't make them collide. Where
+// the system draws none, the fixed keys serve, since no answer depends on them.
+fn seed_of(drawn: io::Result<RandomState>) -> Seed
+    ensures { result ≡ seed_of drawn }
+{
+    match drawn {
+        Ok(keys) => Seed::Random(keys),
+        Err(_) => Seed::Fixed,
     }
-    Ok(feeds)
+}
+
+/// Opens what the words name, over a reader and a writer, with the keys of hashing that were drawn.
+pub fn open_outside<O: Opening, R: SteadyRead + Drop, W: SteadyWrite + Drop>(
+    system: &mut O,
+    alloc: Global,
+    words: &Words,
+    reader: R,
+    writer: W,
+    drawn: io::Result<RandomState>,
+) -> Result<Outside<R, W, O::Area, O::Line>, Memory>
+    ensures { IfOk result (IsOpened O.area_gives O.feed_gives words.now reader writer drawn) }
+{
+    let areas = areas_of(system, alloc, words)?;
+    let feeds = feeds_of(system, alloc, words)?;
+    let seed = seed_of(drawn);
+    let source = StdinSource::new(reader);
+    let world = FileWorld::new(areas, writer, seed);
+    Ok(Outside {
+        source,
+        world,
+        feeds,
+    })
 }

@@ -1,44 +1,54 @@
-ghost use Rattle.std.specs.Prelude.{◌≡◌, ◌⊎◌, ◌+◌, ◌^◌, List, ℕ, false, length, Some};
-ghost use Rattle.pgs_run_lines.specs.Pieces.{Shown};
-ghost use Rattle.pgs_run_words.specs.Words.{command_of};
-ghost use Rattle.pgs_run_base.specs.Areas.{Areas};
-ghost use Rattle.pgs_run_base.specs.Ending.{Ends};
-ghost use Rattle.pgs_run_base.specs.Run.{IsDisturbed};
-ghost use Rattle.pgs_run.specs.Command.{uses_areas};
-ghost use Rattle.pgs_run.specs.Told.{told};
+ghost use Rattle.std.specs.Prelude.{IfOk};
+ghost use Rattle.pgguard.specs.Program.{IsRunOf};
 
 use crate::ending::Causes;
-use pgs_base::{Seed, Words};
-use pgs_feed::FeedList;
+use crate::opening::open_outside;
+use crate::outside::Outside;
+use pgs_base::{Memory, Words};
 use pgs_run::{Status, run};
-use pgs_world::Feed;
-use pgs_world_files::{AreaFiles, FileWorld, Handle};
-use pgs_world_streams::{StdinSource, SteadyRead, SteadyWrite};
+use pgs_world_files::{Handle, Opening};
+use pgs_world_streams::{SteadyRead, SteadyWrite};
 use std::alloc::Global;
+use std::collections::hash_map::RandomState;
+use std::io;
 
-/// Runs words over a reader, a writer, the files of a store and feeds, and gives the writer back, and why its faults came: the program but
-/// for the system's handles. Where the words name no store, and the reader and the writer tell their bytes, what is written is what `told` tells.
-pub fn run_program<R: SteadyRead + Drop, W: SteadyWrite, H: Handle, F: Feed>(
+/// How a run ended, and what it went over.
+#[derive(Drop)]
+pub struct Ran<R: SteadyRead, W: SteadyWrite, H: Handle, L: SteadyWrite + Drop> {
+    pub status: Status,
+    pub outside: Outside<R, W, H, L>,
+}
+
+impl<R: SteadyRead, W: SteadyWrite, H: Handle, L: SteadyWrite + Drop> Ran<R, W, H, L> {
+    /// Why its faults came.
+    pub fn causes(&self) -> Causes {
+        Causes {
+            source: self.outside.source.cause(),
+            area: self.outside.world.area_cause(),
+            output: self.outside.world.put_cause(),
+        }
+    }
+}
+
+/// Runs words over a reader, a writer and the files that they name: the program but for the system's handles. `Memory` where there was
+/// none to open them; nothing is put then.
+pub fn run_program<O: Opening, R: SteadyRead + Drop, W: SteadyWrite + Drop>(
     alloc: Global,
     words: &Words,
+    system: &mut O,
     reader: R,
     writer: W,
-    areas: AreaFiles<H>,
-    feeds: &mut FeedList<F>,
-    seed: Seed,
-) -> (Status, W, Causes)
-    ensures shown { (input start : List ℕ) (any : Areas) → R.remaining reader ≡ Some input → W.contents writer ≡ Some start → uses_areas (command_of words.now) ≡ false
-        → (puts : ℕ) × Ends (record { output = Some start; puts = 0 }) (told words.now input any (2 ^ 40) 0) result.0 (record { output = W.contents result.1; puts = puts }) }
-    ensures exact { (input : List ℕ) (any : Areas) → R.remaining reader ≡ Some input → uses_areas (command_of words.now) ≡ false
-        → IsDisturbed result.0 ⊎ (result.0 ≡ (told words.now input any (2 ^ 40) 0).status) }
+    drawn: io::Result<RandomState>,
+) -> Result<Ran<R, W, O::Area, O::Line>, Memory>
+    ensures { IfOk result (IsRunOf O.area_gives O.feed_gives (record { remaining = R.remaining; tells_output = W.tells; written = W.contents; tells_bytes = O.Area.tells; bytes = O.Area.contents }) words.now reader writer drawn) }
 {
-    let mut source = StdinSource::new(reader);
-    let mut world = FileWorld::new(areas, writer, seed);
-    let status = run(alloc, words, &mut source, &mut world, feeds);
-    let causes = Causes {
-        source: source.cause(),
-        area: world.area_cause(),
-        output: world.put_cause(),
-    };
-    (status, world.into_writer(), causes)
+    let mut outside = open_outside(system, alloc, words, reader, writer, drawn)?;
+    let status = run(
+        alloc,
+        words,
+        &mut outside.source,
+        &mut outside.world,
+        &mut outside.feeds,
+    );
+    Ok(Ran { status, outside })
 }

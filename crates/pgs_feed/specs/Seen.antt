@@ -12,3 +12,7 @@ place_seen taken faults slot = place_of (option_map (λ feed. record { taken = t
 -- the places that the list gave, in order
 abbrev pub places : {F : Type 0} → (F → Option (List ℕ)) → (F → ℕ) → FeedList F → List Place
 places taken faults list = map (place_seen taken faults) list.slots.items
+
+-- the feeds by place; none where it was dropped
+abbrev pub feeds_in : {F : Type 0} → FeedList F → List (Option F)
+feeds_in list = map (λ slot. slot.feed) list.slots.items

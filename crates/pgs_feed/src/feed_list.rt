@@ -1,8 +1,8 @@
-ghost use Rattle.std.specs.Prelude.{◌≡◌, [], ◌∷◌, ◌++◌, length, slice_get, IfOk, IfErr, OnOk, OnErr, option_and_then};
+ghost use Rattle.std.specs.Prelude.{◌≡◌, [], ◌∷◌, ◌++◌, Some, length, slice_get, IfOk, IfErr, OnOk, OnErr, option_and_then};
 ghost use Rattle.std.specs.List.{AllZip};
 ghost use Rattle.std.specs.Option.{option_map};
 ghost use Rattle.pgs_feed.specs.Places.{Delivers, RaisesLost, fed, lost_count, is_there, taken_at, without};
-ghost use Rattle.pgs_feed.specs.Seen.{places};
+ghost use Rattle.pgs_feed.specs.Seen.{feeds_in, places};
 
 use crate::Slot;
 use pgs_base::Memory;
@@ -30,6 +30,7 @@ impl<F: Feed> FeedList<F> {
     pub fn subscribe(&mut self, feed: F) -> Result<usize, (F, Memory)>
         ensures place { IfOk result (λ place. place ≡ length (places F.taken F.faults self.old)) }
         ensures subscribed { let seen = places F.taken F.faults in OnOk result (seen self.new ≡ seen self.old ++ fed (F.taken feed) (F.faults feed) ∷ []) }
+        ensures feed { OnOk result (feeds_in self.new ≡ feeds_in self.old ++ Some feed ∷ []) }
         ensures unchanged { OnErr result (places F.taken F.faults self.new ≡ places F.taken F.faults self.old) }
         ensures handed_back { IfErr result (λ refused. refused.0 ≡ feed) }
     {

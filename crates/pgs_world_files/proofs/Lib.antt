@@ -1,1 +1,3 @@
+pub mod Over
 pub mod Views
+pub mod Worlds

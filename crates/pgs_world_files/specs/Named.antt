@@ -1,8 +1,13 @@
 -- What a sync of a file with a name answers, by what the system gave.
-use Rattle.std.specs.Prelude.{◌⊎◌, Bool, true, false}
+use Rattle.std.specs.Prelude.{◌⊎◌, Bool, true, false, IsTrue}
+use Rattle.std.proofs.lemmas.Bool.{false≢true}
 use Rattle.pgs_world_streams.specs.Given.{BareCall}
 
 -- The bytes were synced, and then the file was found to be the one of its name. Else the sync failed, or another file was found.
 abbrev pub SyncIs : {F : Type 0} → BareCall F → BareCall F → F → Bool → F → Type 0
 SyncIs {F} syncs names old true new = (mid : F) × syncs old true mid × names mid true new
 SyncIs {F} syncs names old false new = ((mid : F) × syncs old false mid) ⊎ ((mid : F) × syncs old true mid × names mid false new)
+
+-- of a file that tells nothing anything can be said of what it tells
+pub tells_nothing : {P : Type 0} → IsTrue false → P
+tells_nothing tells = absurd (false≢true tells)

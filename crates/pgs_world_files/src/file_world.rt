@@ -4,7 +4,7 @@ ghost use Rattle.pgs_world.specs.Count.{Rose, raised};
 ghost use Rattle.pgs_world.specs.Disk.{written_over, IsSameBeside, Writes, Cuts, Puts};
 ghost use Rattle.pgs_world.specs.Moment.{Passes, StopsBy, IsQuiet, ShowsOne, IsSynced, MakesNoPut};
 ghost use Rattle.pgs_world.specs.World.{output_of, part, other, Adds, AddsFront};
-ghost use Rattle.pgs_world_files.specs.Counted.{view_of};
+ghost use Rattle.pgs_world_files.specs.Counted.{seen};
 ghost use Rattle.pgs_world_files.specs.Handles.{LengthIs, ReadIs, WriteIs, CallIs, IfOpen, handle_in};
 ghost use Rattle.pgs_world_streams.specs.Pieces.{AppendsFront, PutIs};
 
@@ -17,10 +17,10 @@ use pgs_world_streams::{Cause, SteadyWrite, write_whole};
 #[cfg(test)]
 mod tests;
 
-/// A world over two files and a writer. It tells the output where the writer tells, and nothing of its areas; it counts its
+/// A world over two files and a writer. It tells the output where the writer tells, and its areas where the files tell; it counts its
 /// calls, its faults and its puts, and keeps the causes of the last faults.
 ///
-/// No clause says what a file holds, or what of it a stop leaves: that rests on the system.
+/// A file of the system tells nothing: no clause says what it holds. Nor does one say what a stop leaves of any file.
 #[derive(Drop)]
 pub struct FileWorld<W: SteadyWrite, H: Handle> {
     areas: AreaFiles<H>,
@@ -36,6 +36,8 @@ impl<W: SteadyWrite, H: Handle> FileWorld<W, H> {
     pub fn new(areas: AreaFiles<H>, writer: W, seed: Seed) -> FileWorld<W, H>
         ensures areas { result.areas ≡ areas }
         ensures writer { result.writer ≡ writer }
+        ensures seed { result.seed ≡ seed }
+        ensures counts { result.counts ≡ record { calls = 0; area_faults = 0; put_faults = 0; puts = 0 } }
         ensures output { output_of (⟦<FileWorld<W, H> as World>⟧.view result) ≡ W.contents writer }
         ensures area_faults { (⟦<FileWorld<W, H> as World>⟧.view result).area_faults ≡ 0 }
         ensures put_faults { (⟦<FileWorld<W, H> as World>⟧.view result).put_faults ≡ 0 }
@@ -86,8 +88,8 @@ impl<W: SteadyWrite, H: Handle> FileWorld<W, H> {
         ensures moment { Rose self.old.counts.calls self.new.counts.calls }
         ensures put_faults { self.new.counts.put_faults ≡ self.old.counts.put_faults }
         ensures puts { self.new.counts.puts ≡ self.old.counts.puts }
-        ensures quiet { IsQuiet (view_of W.tells (W.contents self.old.writer) self.old.counts) (view_of W.tells (W.contents self.new.writer) self.new.counts) }
-        ensures passes { Passes (view_of W.tells (W.contents self.old.writer) self.old.counts) (view_of W.tells (W.contents self.new.writer) self.new.counts) }
+        ensures calls { self.old.counts.calls ≤ self.new.counts.calls }
+        ensures area_faults { self.old.counts.area_faults ≤ self.new.counts.area_faults }
     {
         match answer {
             Ok(value) => {
@@ -118,11 +120,11 @@ impl<W: SteadyWrite, H: Handle> FileWorld<W, H> {
 }
 
 impl<W: SteadyWrite, H: Handle> World for FileWorld<W, H> {
-    ghost use Rattle.pgs_world_files.specs.Counted.{view_of, timed_view};
+    ghost use Rattle.pgs_world_files.specs.Counted.{bytes_of, seen, timed_view};
 
-    ghost view = { λ world. view_of W.tells (W.contents world.writer) world.counts };
+    ghost view = { seen W.tells W.contents H.tells H.contents };
 
-    ghost timed = { λ world. timed_view W.tells (W.contents world.writer) world.counts };
+    ghost timed = { λ world. timed_view H.tells (bytes_of H.tells H.contents world.areas) W.tells (W.contents world.writer) world.counts };
 
     /// The length of an area, in bytes. More than 2^40 are a fault.
     fn len(&mut self, area: Area) -> Result<u64, AreaFault>
@@ -132,14 +134,14 @@ impl<W: SteadyWrite, H: Handle> World for FileWorld<W, H> {
         ensures raised { OnErr result (self.new.counts.area_faults ≡ raised self.old.counts.area_faults) }
 
         // What every world says.
-        ensures length { IfOk result (λ count. IsTrue (view_of W.tells (W.contents self.old.writer) self.old.counts).tells_bytes → count ≡ length (part area (view_of W.tells (W.contents self.old.writer) self.old.counts).shown)) }
+        ensures length { IfOk result (λ count. IsTrue (seen W.tells W.contents H.tells H.contents self.old).tells_bytes → count ≡ length (part area (seen W.tells W.contents H.tells H.contents self.old).shown)) }
         ensures limit { IfOk result (λ count. count ≤ 2 ^ 40) }
-        ensures quiet { IsQuiet (view_of W.tells (W.contents self.old.writer) self.old.counts) (view_of W.tells (W.contents self.new.writer) self.new.counts) }
-        ensures moment { Rose (view_of W.tells (W.contents self.old.writer) self.old.counts).moment (view_of W.tells (W.contents self.new.writer) self.new.counts).moment }
-        ensures image { ShowsOne (view_of W.tells (W.contents self.new.writer) self.new.counts) }
-        ensures cause { OnErr result (Rose (view_of W.tells (W.contents self.old.writer) self.old.counts).area_faults (view_of W.tells (W.contents self.new.writer) self.new.counts).area_faults) }
-        ensures no_cause { OnOk result ((view_of W.tells (W.contents self.new.writer) self.new.counts).area_faults ≡ (view_of W.tells (W.contents self.old.writer) self.old.counts).area_faults) }
-        ensures no_put { MakesNoPut (view_of W.tells (W.contents self.old.writer) self.old.counts) (view_of W.tells (W.contents self.new.writer) self.new.counts) }
+        ensures quiet { IsQuiet (seen W.tells W.contents H.tells H.contents self.old) (seen W.tells W.contents H.tells H.contents self.new) }
+        ensures moment { Rose (seen W.tells W.contents H.tells H.contents self.old).moment (seen W.tells W.contents H.tells H.contents self.new).moment }
+        ensures image { ShowsOne (seen W.tells W.contents H.tells H.contents self.new) }
+        ensures cause { OnErr result (Rose (seen W.tells W.contents H.tells H.contents self.old).area_faults (seen W.tells W.contents H.tells H.contents self.new).area_faults) }
+        ensures no_cause { OnOk result ((seen W.tells W.contents H.tells H.contents self.new).area_faults ≡ (seen W.tells W.contents H.tells H.contents self.old).area_faults) }
+        ensures no_put { MakesNoPut (seen W.tells W.contents H.tells H.contents self.old) (seen W.tells W.contents H.tells H.contents self.new) }
     {
         let answer = self.areas.len(area);
         self.counted(answer)
@@ -147,20 +149,20 @@ impl<W: SteadyWrite, H: Handle> World for FileWorld<W, H> {
 
     /// Fills the buffer with the bytes of an area from a place on. A range past the end, or past 2^40, is a fault.
     fn read_at(&mut self, area: Area, at: u64, buf: &mut [u8]) -> Result<(), AreaFault>
-        requires { IsTrue (view_of W.tells (W.contents self.old.writer) self.old.counts).tells_bytes → at + length buf.old ≤ length (part area (view_of W.tells (W.contents self.old.writer) self.old.counts).shown) }
+        requires { IsTrue (seen W.tells W.contents H.tells H.contents self.old).tells_bytes → at + length buf.old ≤ length (part area (seen W.tells W.contents H.tells H.contents self.old).shown) }
         ensures given { IfOpen (λ old answer new. ReadIs H.read_gives old at buf.new answer new) (handle_in area self.old.areas) result (handle_in area self.new.areas) }
         ensures beside_handle { handle_in (other area) self.new.areas ≡ handle_in (other area) self.old.areas }
         ensures writer { self.new.writer ≡ self.old.writer }
         ensures raised { OnErr result (self.new.counts.area_faults ≡ raised self.old.counts.area_faults) }
 
         // What every world says.
-        ensures bytes { OnOk result (IsTrue (view_of W.tells (W.contents self.old.writer) self.old.counts).tells_bytes → buf.new ≡ take (length buf.old) (drop at (part area (view_of W.tells (W.contents self.old.writer) self.old.counts).shown))) }
-        ensures quiet { IsQuiet (view_of W.tells (W.contents self.old.writer) self.old.counts) (view_of W.tells (W.contents self.new.writer) self.new.counts) }
-        ensures moment { Rose (view_of W.tells (W.contents self.old.writer) self.old.counts).moment (view_of W.tells (W.contents self.new.writer) self.new.counts).moment }
-        ensures image { ShowsOne (view_of W.tells (W.contents self.new.writer) self.new.counts) }
-        ensures cause { OnErr result (Rose (view_of W.tells (W.contents self.old.writer) self.old.counts).area_faults (view_of W.tells (W.contents self.new.writer) self.new.counts).area_faults) }
-        ensures no_cause { OnOk result ((view_of W.tells (W.contents self.new.writer) self.new.counts).area_faults ≡ (view_of W.tells (W.contents self.old.writer) self.old.counts).area_faults) }
-        ensures no_put { MakesNoPut (view_of W.tells (W.contents self.old.writer) self.old.counts) (view_of W.tells (W.contents self.new.writer) self.new.counts) }
+        ensures bytes { OnOk result (IsTrue (seen W.tells W.contents H.tells H.contents self.old).tells_bytes → buf.new ≡ take (length buf.old) (drop at (part area (seen W.tells W.contents H.tells H.contents self.old).shown))) }
+        ensures quiet { IsQuiet (seen W.tells W.contents H.tells H.contents self.old) (seen W.tells W.contents H.tells H.contents self.new) }
+        ensures moment { Rose (seen W.tells W.contents H.tells H.contents self.old).moment (seen W.tells W.contents H.tells H.contents self.new).moment }
+        ensures image { ShowsOne (seen W.tells W.contents H.tells H.contents self.new) }
+        ensures cause { OnErr result (Rose (seen W.tells W.contents H.tells H.contents self.old).area_faults (seen W.tells W.contents H.tells H.contents self.new).area_faults) }
+        ensures no_cause { OnOk result ((seen W.tells W.contents H.tells H.contents self.new).area_faults ≡ (seen W.tells W.contents H.tells H.contents self.old).area_faults) }
+        ensures no_put { MakesNoPut (seen W.tells W.contents H.tells H.contents self.old) (seen W.tells W.contents H.tells H.contents self.new) }
     {
         let answer = self.areas.read_at(area, at, buf);
         self.counted(answer)
@@ -168,23 +170,23 @@ impl<W: SteadyWrite, H: Handle> World for FileWorld<W, H> {
 
     /// Writes all bytes from a place of an area on. A write past 2^40 bytes is a fault, and nothing is written.
     fn write_at(&mut self, area: Area, at: u64, bytes: &[u8]) -> Result<(), AreaFault>
-        requires { IsTrue (view_of W.tells (W.contents self.old.writer) self.old.counts).tells_bytes → at ≤ length (part area (view_of W.tells (W.contents self.old.writer) self.old.counts).shown) }
+        requires { IsTrue (seen W.tells W.contents H.tells H.contents self.old).tells_bytes → at ≤ length (part area (seen W.tells W.contents H.tells H.contents self.old).shown) }
         ensures given { IfOpen (λ old answer new. WriteIs H.write_gives old at bytes.now answer new) (handle_in area self.old.areas) result (handle_in area self.new.areas) }
         ensures beside_handle { handle_in (other area) self.new.areas ≡ handle_in (other area) self.old.areas }
         ensures writer { self.new.writer ≡ self.old.writer }
         ensures raised { OnErr result (self.new.counts.area_faults ≡ raised self.old.counts.area_faults) }
 
         // What every world says.
-        ensures written { OnOk result (IsTrue (view_of W.tells (W.contents self.old.writer) self.old.counts).tells_bytes → part area (view_of W.tells (W.contents self.new.writer) self.new.counts).shown ≡ written_over (part area (view_of W.tells (W.contents self.old.writer) self.old.counts).shown) at bytes.now) }
+        ensures written { OnOk result (IsTrue (seen W.tells W.contents H.tells H.contents self.old).tells_bytes → part area (seen W.tells W.contents H.tells H.contents self.new).shown ≡ written_over (part area (seen W.tells W.contents H.tells H.contents self.old).shown) at bytes.now) }
         ensures limit { OnOk result (at + length bytes.now ≤ 2 ^ 40) }
-        ensures beside { IsSameBeside area (view_of W.tells (W.contents self.old.writer) self.old.counts).shown (view_of W.tells (W.contents self.new.writer) self.new.counts).shown }
-        ensures stops { StopsBy (Writes area at (length bytes.now)) (view_of W.tells (W.contents self.old.writer) self.old.counts) (view_of W.tells (W.contents self.new.writer) self.new.counts) }
-        ensures passes { Passes (view_of W.tells (W.contents self.old.writer) self.old.counts) (view_of W.tells (W.contents self.new.writer) self.new.counts) }
-        ensures moment { Rose (view_of W.tells (W.contents self.old.writer) self.old.counts).moment (view_of W.tells (W.contents self.new.writer) self.new.counts).moment }
-        ensures image { ShowsOne (view_of W.tells (W.contents self.new.writer) self.new.counts) }
-        ensures cause { OnErr result (Rose (view_of W.tells (W.contents self.old.writer) self.old.counts).area_faults (view_of W.tells (W.contents self.new.writer) self.new.counts).area_faults) }
-        ensures no_cause { OnOk result ((view_of W.tells (W.contents self.new.writer) self.new.counts).area_faults ≡ (view_of W.tells (W.contents self.old.writer) self.old.counts).area_faults) }
-        ensures no_put { MakesNoPut (view_of W.tells (W.contents self.old.writer) self.old.counts) (view_of W.tells (W.contents self.new.writer) self.new.counts) }
+        ensures beside { IsSameBeside area (seen W.tells W.contents H.tells H.contents self.old).shown (seen W.tells W.contents H.tells H.contents self.new).shown }
+        ensures stops { StopsBy (Writes area at (length bytes.now)) (seen W.tells W.contents H.tells H.contents self.old) (seen W.tells W.contents H.tells H.contents self.new) }
+        ensures passes { Passes (seen W.tells W.contents H.tells H.contents self.old) (seen W.tells W.contents H.tells H.contents self.new) }
+        ensures moment { Rose (seen W.tells W.contents H.tells H.contents self.old).moment (seen W.tells W.contents H.tells H.contents self.new).moment }
+        ensures image { ShowsOne (seen W.tells W.contents H.tells H.contents self.new) }
+        ensures cause { OnErr result (Rose (seen W.tells W.contents H.tells H.contents self.old).area_faults (seen W.tells W.contents H.tells H.contents self.new).area_faults) }
+        ensures no_cause { OnOk result ((seen W.tells W.contents H.tells H.contents self.new).area_faults ≡ (seen W.tells W.contents H.tells H.contents self.old).area_faults) }
+        ensures no_put { MakesNoPut (seen W.tells W.contents H.tells H.contents self.old) (seen W.tells W.contents H.tells H.contents self.new) }
     {
         let answer = self.areas.write_at(area, at, bytes);
         self.counted(answer)
@@ -192,22 +194,22 @@ impl<W: SteadyWrite, H: Handle> World for FileWorld<W, H> {
 
     /// Cuts an area to a length.
     fn cut(&mut self, area: Area, len: u64) -> Result<(), AreaFault>
-        requires { IsTrue (view_of W.tells (W.contents self.old.writer) self.old.counts).tells_bytes → len ≤ length (part area (view_of W.tells (W.contents self.old.writer) self.old.counts).shown) }
+        requires { IsTrue (seen W.tells W.contents H.tells H.contents self.old).tells_bytes → len ≤ length (part area (seen W.tells W.contents H.tells H.contents self.old).shown) }
         ensures given { IfOpen (CallIs (λ old succeeds new. H.cut_gives old len succeeds new)) (handle_in area self.old.areas) result (handle_in area self.new.areas) }
         ensures beside_handle { handle_in (other area) self.new.areas ≡ handle_in (other area) self.old.areas }
         ensures writer { self.new.writer ≡ self.old.writer }
         ensures raised { OnErr result (self.new.counts.area_faults ≡ raised self.old.counts.area_faults) }
 
         // What every world says.
-        ensures cut { OnOk result (IsTrue (view_of W.tells (W.contents self.old.writer) self.old.counts).tells_bytes → part area (view_of W.tells (W.contents self.new.writer) self.new.counts).shown ≡ take len (part area (view_of W.tells (W.contents self.old.writer) self.old.counts).shown)) }
-        ensures beside { IsSameBeside area (view_of W.tells (W.contents self.old.writer) self.old.counts).shown (view_of W.tells (W.contents self.new.writer) self.new.counts).shown }
-        ensures stops { StopsBy (Cuts area len) (view_of W.tells (W.contents self.old.writer) self.old.counts) (view_of W.tells (W.contents self.new.writer) self.new.counts) }
-        ensures passes { Passes (view_of W.tells (W.contents self.old.writer) self.old.counts) (view_of W.tells (W.contents self.new.writer) self.new.counts) }
-        ensures moment { Rose (view_of W.tells (W.contents self.old.writer) self.old.counts).moment (view_of W.tells (W.contents self.new.writer) self.new.counts).moment }
-        ensures image { ShowsOne (view_of W.tells (W.contents self.new.writer) self.new.counts) }
-        ensures cause { OnErr result (Rose (view_of W.tells (W.contents self.old.writer) self.old.counts).area_faults (view_of W.tells (W.contents self.new.writer) self.new.counts).area_faults) }
-        ensures no_cause { OnOk result ((view_of W.tells (W.contents self.new.writer) self.new.counts).area_faults ≡ (view_of W.tells (W.contents self.old.writer) self.old.counts).area_faults) }
-        ensures no_put { MakesNoPut (view_of W.tells (W.contents self.old.writer) self.old.counts) (view_of W.tells (W.contents self.new.writer) self.new.counts) }
+        ensures cut { OnOk result (IsTrue (seen W.tells W.contents H.tells H.contents self.old).tells_bytes → part area (seen W.tells W.contents H.tells H.contents self.new).shown ≡ take len (part area (seen W.tells W.contents H.tells H.contents self.old).shown)) }
+        ensures beside { IsSameBeside area (seen W.tells W.contents H.tells H.contents self.old).shown (seen W.tells W.contents H.tells H.contents self.new).shown }
+        ensures stops { StopsBy (Cuts area len) (seen W.tells W.contents H.tells H.contents self.old) (seen W.tells W.contents H.tells H.contents self.new) }
+        ensures passes { Passes (seen W.tells W.contents H.tells H.contents self.old) (seen W.tells W.contents H.tells H.contents self.new) }
+        ensures moment { Rose (seen W.tells W.contents H.tells H.contents self.old).moment (seen W.tells W.contents H.tells H.contents self.new).moment }
+        ensures image { ShowsOne (seen W.tells W.contents H.tells H.contents self.new) }
+        ensures cause { OnErr result (Rose (seen W.tells W.contents H.tells H.contents self.old).area_faults (seen W.tells W.contents H.tells H.contents self.new).area_faults) }
+        ensures no_cause { OnOk result ((seen W.tells W.contents H.tells H.contents self.new).area_faults ≡ (seen W.tells W.contents H.tells H.contents self.old).area_faults) }
+        ensures no_put { MakesNoPut (seen W.tells W.contents H.tells H.contents self.old) (seen W.tells W.contents H.tells H.contents self.new) }
     {
         let answer = self.areas.cut(area, len);
         self.counted(answer)
@@ -221,13 +223,13 @@ impl<W: SteadyWrite, H: Handle> World for FileWorld<W, H> {
         ensures raised { OnErr result (self.new.counts.area_faults ≡ raised self.old.counts.area_faults) }
 
         // What every world says.
-        ensures synced { OnOk result (IsSynced area (view_of W.tells (W.contents self.new.writer) self.new.counts)) }
-        ensures quiet { IsQuiet (view_of W.tells (W.contents self.old.writer) self.old.counts) (view_of W.tells (W.contents self.new.writer) self.new.counts) }
-        ensures moment { Rose (view_of W.tells (W.contents self.old.writer) self.old.counts).moment (view_of W.tells (W.contents self.new.writer) self.new.counts).moment }
-        ensures image { ShowsOne (view_of W.tells (W.contents self.new.writer) self.new.counts) }
-        ensures cause { OnErr result (Rose (view_of W.tells (W.contents self.old.writer) self.old.counts).area_faults (view_of W.tells (W.contents self.new.writer) self.new.counts).area_faults) }
-        ensures no_cause { OnOk result ((view_of W.tells (W.contents self.new.writer) self.new.counts).area_faults ≡ (view_of W.tells (W.contents self.old.writer) self.old.counts).area_faults) }
-        ensures no_put { MakesNoPut (view_of W.tells (W.contents self.old.writer) self.old.counts) (view_of W.tells (W.contents self.new.writer) self.new.counts) }
+        ensures synced { OnOk result (IsSynced area (seen W.tells W.contents H.tells H.contents self.new)) }
+        ensures quiet { IsQuiet (seen W.tells W.contents H.tells H.contents self.old) (seen W.tells W.contents H.tells H.contents self.new) }
+        ensures moment { Rose (seen W.tells W.contents H.tells H.contents self.old).moment (seen W.tells W.contents H.tells H.contents self.new).moment }
+        ensures image { ShowsOne (seen W.tells W.contents H.tells H.contents self.new) }
+        ensures cause { OnErr result (Rose (seen W.tells W.contents H.tells H.contents self.old).area_faults (seen W.tells W.contents H.tells H.contents self.new).area_faults) }
+        ensures no_cause { OnOk result ((seen W.tells W.contents H.tells H.contents self.new).area_faults ≡ (seen W.tells W.contents H.tells H.contents self.old).area_faults) }
+        ensures no_put { MakesNoPut (seen W.tells W.contents H.tells H.contents self.old) (seen W.tells W.contents H.tells H.contents self.new) }
     {
         let answer = self.areas.sync(area);
         self.counted(answer)
@@ -244,20 +246,20 @@ impl<W: SteadyWrite, H: Handle> World for FileWorld<W, H> {
         ensures raised { OnErr result (self.new.counts.put_faults ≡ raised self.old.counts.put_faults) }
 
         // What every world says.
-        ensures whole { OnOk result (Adds (output_of (view_of W.tells (W.contents self.old.writer) self.old.counts)) (output_of (view_of W.tells (W.contents self.new.writer) self.new.counts)) piece.now) }
-        ensures front { OnErr result (AddsFront (output_of (view_of W.tells (W.contents self.old.writer) self.old.counts)) (output_of (view_of W.tells (W.contents self.new.writer) self.new.counts)) piece.now) }
-        ensures cause { OnErr result (Rose (view_of W.tells (W.contents self.old.writer) self.old.counts).put_faults (view_of W.tells (W.contents self.new.writer) self.new.counts).put_faults) }
-        ensures faults_stay { (view_of W.tells (W.contents self.old.writer) self.old.counts).put_faults ≤ (view_of W.tells (W.contents self.new.writer) self.new.counts).put_faults }
-        ensures a { (view_of W.tells (W.contents self.new.writer) self.new.counts).shown.a ≡ (view_of W.tells (W.contents self.old.writer) self.old.counts).shown.a }
-        ensures b { (view_of W.tells (W.contents self.new.writer) self.new.counts).shown.b ≡ (view_of W.tells (W.contents self.old.writer) self.old.counts).shown.b }
-        ensures stops { StopsBy (Puts piece.now) (view_of W.tells (W.contents self.old.writer) self.old.counts) (view_of W.tells (W.contents self.new.writer) self.new.counts) }
-        ensures passes { Passes (view_of W.tells (W.contents self.old.writer) self.old.counts) (view_of W.tells (W.contents self.new.writer) self.new.counts) }
-        ensures moment { Rose (view_of W.tells (W.contents self.old.writer) self.old.counts).moment (view_of W.tells (W.contents self.new.writer) self.new.counts).moment }
-        ensures image { ShowsOne (view_of W.tells (W.contents self.new.writer) self.new.counts) }
-        ensures counted { OnOk result ((view_of W.tells (W.contents self.new.writer) self.new.counts).puts ≡ (view_of W.tells (W.contents self.old.writer) self.old.counts).puts + 1) }
-        ensures not_counted { OnErr result ((view_of W.tells (W.contents self.new.writer) self.new.counts).puts ≡ (view_of W.tells (W.contents self.old.writer) self.old.counts).puts) }
-        ensures no_cause { OnOk result ((view_of W.tells (W.contents self.new.writer) self.new.counts).put_faults ≡ (view_of W.tells (W.contents self.old.writer) self.old.counts).put_faults) }
-        ensures no_area { (view_of W.tells (W.contents self.new.writer) self.new.counts).area_faults ≡ (view_of W.tells (W.contents self.old.writer) self.old.counts).area_faults }
+        ensures whole { OnOk result (Adds (output_of (seen W.tells W.contents H.tells H.contents self.old)) (output_of (seen W.tells W.contents H.tells H.contents self.new)) piece.now) }
+        ensures front { OnErr result (AddsFront (output_of (seen W.tells W.contents H.tells H.contents self.old)) (output_of (seen W.tells W.contents H.tells H.contents self.new)) piece.now) }
+        ensures cause { OnErr result (Rose (seen W.tells W.contents H.tells H.contents self.old).put_faults (seen W.tells W.contents H.tells H.contents self.new).put_faults) }
+        ensures faults_stay { (seen W.tells W.contents H.tells H.contents self.old).put_faults ≤ (seen W.tells W.contents H.tells H.contents self.new).put_faults }
+        ensures a { (seen W.tells W.contents H.tells H.contents self.new).shown.a ≡ (seen W.tells W.contents H.tells H.contents self.old).shown.a }
+        ensures b { (seen W.tells W.contents H.tells H.contents self.new).shown.b ≡ (seen W.tells W.contents H.tells H.contents self.old).shown.b }
+        ensures stops { StopsBy (Puts piece.now) (seen W.tells W.contents H.tells H.contents self.old) (seen W.tells W.contents H.tells H.contents self.new) }
+        ensures passes { Passes (seen W.tells W.contents H.tells H.contents self.old) (seen W.tells W.contents H.tells H.contents self.new) }
+        ensures moment { Rose (seen W.tells W.contents H.tells H.contents self.old).moment (seen W.tells W.contents H.tells H.contents self.new).moment }
+        ensures image { ShowsOne (seen W.tells W.contents H.tells H.contents self.new) }
+        ensures counted { OnOk result ((seen W.tells W.contents H.tells H.contents self.new).puts ≡ (seen W.tells W.contents H.tells H.contents self.old).puts + 1) }
+        ensures not_counted { OnErr result ((seen W.tells W.contents H.tells H.contents self.new).puts ≡ (seen W.tells W.contents H.tells H.contents self.old).puts) }
+        ensures no_cause { OnOk result ((seen W.tells W.contents H.tells H.contents self.new).put_faults ≡ (seen W.tells W.contents H.tells H.contents self.old).put_faults) }
+        ensures no_area { (seen W.tells W.contents H.tells H.contents self.new).area_faults ≡ (seen W.tells W.contents H.tells H.contents self.old).area_faults }
     {
         if self.counts.puts == u64::MAX {
             return Err(self.put_fault());
@@ -274,7 +276,9 @@ impl<W: SteadyWrite, H: Handle> World for FileWorld<W, H> {
         }
     }
 
-    fn seed(&self) -> Seed {
+    fn seed(&self) -> Seed
+        ensures { result ≡ self.now.seed }
+    {
         self.seed
     }
 }

@@ -1,14 +1,22 @@
-ghost use Rattle.std.specs.Prelude.{ℕ, List, Bool, Result, ⊤, is_ok, length, ◌≡◌};
+ghost use Rattle.std.specs.Prelude.{ℕ, List, [], Bool, Result, ⊤, IsTrue, false, is_ok};
 ghost use Rattle.std.specs.Io.{ReadsAtMost, WritesAtMost};
 ghost use Rattle.std.specs.declared.io.Error.{Error};
+ghost use Rattle.pgs_world_files.specs.Contents.{IsOver};
 
 use std::io;
 
 /// An open file, read and written at places.
 ///
 /// Each call is one call on the file, and its answer is a fact (`read_gives` and the others) that code which is
-/// generic over handles can't make up: so it invents no fault, and leaves out no write and no sync.
+/// generic over handles can't make up: so it invents no fault, and leaves out no write and no sync. A file that tells its bytes says by a
+/// law (`over`) what each answer says of them.
 pub trait Handle: Drop {
+    /// Whether it tells the bytes that it holds.
+    ghost tells: { Bool } = { false };
+
+    /// The bytes that it holds, where it tells them.
+    ghost contents: { Self → List ℕ } = { λ _. [] };
+
     /// What a question for the length answered.
     ghost length_gives: { Self → Result ℕ Error → Self → Type 0 } = { λ _ _ _. ⊤ };
 
@@ -45,4 +53,7 @@ pub trait Handle: Drop {
     /// Waits until what was written stands on the disk.
     fn sync_once(&mut self) -> io::Result<()>
         ensures gives { sync_gives self.old (is_ok result) self.new };
+
+    /// Where it tells its bytes, each answer is one about them.
+    ghost over: { IsTrue tells → IsOver contents length_gives read_gives write_gives cut_gives sync_gives };
 }

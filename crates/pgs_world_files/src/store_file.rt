@@ -45,7 +45,9 @@ impl<F: NamedFile> StoreFile<F> {
 }
 
 impl<F: NamedFile> Handle for StoreFile<F> {
-    ghost use Rattle.pgs_world_files.specs.Named.{SyncIs};
+    ghost use Rattle.pgs_world_files.specs.Named.{SyncIs, tells_nothing};
+
+    ghost over = { tells_nothing };
 
     ghost length_gives = { λ old answer new. F.length_gives old.file answer new.file };
 

@@ -1,19 +1,18 @@
-ghost use Rattle.std.specs.Prelude.{◌≡◌};
-ghost use Rattle.std.specs.Option.{unwrap_or};
-ghost use Rattle.std.specs.Path.{path_bytes, path_parent};
+ghost use Rattle.std.specs.Prelude.{◌≡◌, true, false, Ok, IfOk, OnOk};
+ghost use Rattle.std.specs.Path.{path_bytes};
+ghost use Rattle.pgs_world_files.specs.Calls.{AsksToAppend, AsksToPlace, HoldsNoOthers, IsFolderSynced, IsLocked, IsOpenBehind, IsOpenFor, IsOpenedBy, folder_of};
 
-use crate::identity::Identity;
-use crate::named_file::{check_same, is_unsupported};
 use crate::store_head::is_of_others;
-use crate::{Access, AreaFile, FileCause, FileFeed, OpenFault, Opening, StoreFile, SystemFile};
+use crate::system_file::{check_same, is_unsupported};
+use crate::{
+    Access, AreaFile, FileCause, FileFeed, Found, OpenFault, Opening, StoreFile, System, SystemFile,
+};
 use pgs_base::Memory;
-use pgs_world_streams::is_above_standard;
 use std::alloc::Global;
-use std::fs::{self, File, TryLockError};
-use std::io::{self, ErrorKind};
-use std::os::unix::fs::{FileExt, OpenOptionsExt};
-use std::path::Path;
-use std::rt::Files;
+use std::fs::{OpenOptions, TryLockError};
+use std::io::ErrorKind;
+use std::os::unix::fs::OpenOptionsExt;
+use std::path::{AsPath, Path};
 
 #[cfg(test)]
 mod tests;
@@ -23,147 +22,270 @@ const RIGHTS: u32 = 0o600;
 
 /// The system's files. It knows which files it has opened, so that no two of them are one file.
 #[derive(Drop)]
-pub struct SystemOpening<'a, R: Files<File = File> + AllocGlobal> {
-    rt: &'a R,
-    opened: Vec<Identity>,
+pub struct SystemOpening<'a, S: System> {
+    system: &'a S,
+    alloc: Global,
+    opened: Vec<Found>,
 }
 
-impl<'a, R: Files<File = File> + AllocGlobal> SystemOpening<'a, R> {
+impl<'a, S: System> SystemOpening<'a, S> {
     /// No file is open yet.
-    pub fn new(rt: &'a R) -> SystemOpening<'a, R> {
+    pub fn new(system: &'a S, alloc: Global) -> SystemOpening<'a, S> {
         SystemOpening {
-            rt,
-            opened: Vec::new(rt.alloc()),
+            system,
+            alloc,
+            opened: Vec::new(alloc),
         }
     }
 
-    // Tests an open file: its number, its kind, and that it is none of those that are open. Then it is one of them.
-    fn admit(&mut self, file: &File) -> Result<(), OpenFault> {
-        if !is_above_standard(file) {
+    // Tests an open file: its number, and that it is none of those that are open. Then it is one of them.
+    fn admit(&mut self, file: &S::File) -> Result<Found, OpenFault>
+        ensures above { OnOk result (S.facts.above file.now) }
+        ensures found { IfOk result (λ found. S.facts.found file.now (Ok found)) }
+    {
+        if !self.system.is_above_standard(file) {
             return Err(OpenFault::File(FileCause::StandardNumber));
         }
-        let found = Identity::of(&file.metadata()?);
-        if self.opened.contains(&found) {
+        let found = self.system.found(file)?;
+        if self.opened.iter().any(|other| other.is_same(found)) {
             return Err(OpenFault::File(FileCause::Twice));
         }
         match self.opened.push(found) {
-            Ok(()) => Ok(()),
+            Ok(()) => Ok(found),
             Err(_) => Err(OpenFault::Memory),
         }
     }
 
     // The file of a name, locked for the access, its folder synced, and still the one of its name.
-    fn open_store_file(&mut self, name: &str, access: Access) -> Result<(File, bool), OpenFault> {
-        let (file, reads_only) = open_regular(self.rt, name, access)?;
-        self.admit(&file)?;
-        if !file.metadata()?.is_file() {
+    fn open_store_file(&mut self, name: &str, access: Access) -> Result<(S::File, bool), OpenFault>
+        ensures { IfOk result (λ opened. IsOpenFor S.facts name.now access opened.0 opened.1) }
+    {
+        let (file, reads_only) = open_regular(self.system, name, access)?;
+        let found = self.admit(&file)?;
+        if !found.is_regular {
             return Err(OpenFault::File(FileCause::NotRegular));
         }
-        lock(&file, access)?;
-        check_same(self.rt, &file, name)?;
-        sync_folder(self.rt, name)?;
-        if access == Access::Make && holds_others(&file)? {
-            return Err(OpenFault::File(FileCause::Others));
-        }
+        lock(self.system, &file, access)?;
+        check_same(self.system, &file, name)?;
+        sync_folder(self.system, name)?;
+        check_use(self.system, &file, found, access)?;
         Ok((file, reads_only))
     }
 
-    fn open_end(&mut self, name: &str) -> Result<File, OpenFault> {
-        let file = File::options()
-            .append(true)
-            .create(true)
-            .open(self.rt, name)?;
-        self.admit(&file)?;
+    fn open_end(&mut self, name: &str) -> Result<S::File, OpenFault>
+        ensures { IfOk result (λ file. IsOpenBehind S.facts name.now file) }
+    {
+        let how = to_append();
+        let file = self.system.open(&how, name)?;
+        let _admitted = self.admit(&file)?;
         Ok(file)
     }
 }
 
 // The folder that a file stands in.
 fn folder_of(name: Path<'_>) -> Path<'_>
-    ensures { path_bytes result ≡ unwrap_or (path_parent (path_bytes name.entry)) (path_bytes name.entry) }
+    ensures { path_bytes result ≡ folder_of (path_bytes name.entry) }
 {
     name.parent().unwrap_or(name)
 }
 
+// Options to read, and to write unless it is for reading alone.
+fn to_place(reads_only: bool) -> OpenOptions
+    ensures { AsksToPlace result reads_only }
+{
+    let mut how = OpenOptions::new();
+    how.read(true).write(!reads_only);
+    how
+}
+
+// Options to make the file where it is absent. What is there stays.
+fn to_make() -> OpenOptions
+    ensures { AsksToPlace result false }
+{
+    let mut how = OpenOptions::new();
+    how.mode(RIGHTS);
+    how.read(true).write(true).append(false);
+    how.create(true).truncate(false).create_new(false);
+    how
+}
+
+// Options to write behind the end, and to make the file where it is absent.
+fn to_append() -> OpenOptions
+    ensures { AsksToAppend result }
+{
+    let mut how = OpenOptions::new();
+    how.append(true).create(true);
+    how
+}
+
 // Opens a regular file, and makes it empty where it is absent; and says whether it is open for reading alone. The kind is asked before,
 // since to open a pipe may wait.
-fn open_regular<R: Files<File = File>>(
-    rt: &R,
+fn open_regular<S: System>(
+    system: &S,
     name: &str,
     access: Access,
-) -> Result<(File, bool), OpenFault> {
-    match fs::metadata(rt, name) {
-        Ok(found) if found.is_file() => open_present(rt, name, access),
-        Ok(_) => Err(OpenFault::File(FileCause::NotRegular)),
-        Err(error) if error.kind() == ErrorKind::NotFound => Ok((make(rt, name)?, false)),
-        Err(error) => Err(OpenFault::from(error)),
+) -> Result<(S::File, bool), OpenFault>
+    ensures { IfOk result (λ opened. IsOpenedBy S.facts name.now access opened.0 opened.1) }
+{
+    match system.find(name) {
+        Ok(found) => {
+            if found.is_regular {
+                return open_present(system, name, access);
+            }
+            Err(OpenFault::File(FileCause::NotRegular))
+        }
+        Err(error) => match error.kind() {
+            ErrorKind::NotFound => open_absent(system, name, access),
+            _ => Err(OpenFault::from(error)),
+        },
     }
+}
+
+// Opens a file for reading alone.
+fn open_to_read<S: System>(system: &S, name: &str) -> Result<(S::File, bool), OpenFault>
+    ensures { IfOk result (λ opened. IsOpenedBy S.facts name.now Access.Read opened.0 opened.1) }
+{
+    let how = to_place(true);
+    let file = system.open(&how, name)?;
+    Ok((file, true))
+}
+
+// Opens a file that is absent, and so makes it.
+fn open_absent<S: System>(
+    system: &S,
+    name: &str,
+    access: Access,
+) -> Result<(S::File, bool), OpenFault>
+    ensures { IfOk result (λ opened. IsOpenedBy S.facts name.now access opened.0 opened.1) }
+{
+    let how = to_make();
+    let file = system.open(&how, name)?;
+    Ok((file, false))
 }
 
 // Opens a file for reading and writing, and where that can't be, and it is to be read, for reading alone.
-fn open_present<R: Files<File = File>>(
-    rt: &R,
+fn open_present<S: System>(
+    system: &S,
     name: &str,
     access: Access,
-) -> Result<(File, bool), OpenFault> {
-    match File::options().read(true).write(true).open(rt, name) {
+) -> Result<(S::File, bool), OpenFault>
+    ensures { IfOk result (λ opened. IsOpenedBy S.facts name.now access opened.0 opened.1) }
+{
+    let how = to_place(false);
+    match system.open(&how, name) {
         Ok(file) => Ok((file, false)),
-        Err(_) if access == Access::Read => Ok((File::open(rt, name)?, true)),
-        Err(error) => Err(OpenFault::from(error)),
+        Err(error) => match access {
+            Access::Read => open_to_read(system, name),
+            Access::Write => Err(OpenFault::from(error)),
+            Access::Make => Err(OpenFault::from(error)),
+        },
     }
 }
 
-fn make<R: Files<File = File>>(rt: &R, name: &str) -> io::Result<File> {
-    File::options()
-        .read(true)
-        .write(true)
-        .create(true)
-        .truncate(false)
-        .mode(RIGHTS)
-        .open(rt, name)
+// Why a lock wasn't taken.
+fn lock_fault(error: TryLockError) -> OpenFault {
+    match error {
+        TryLockError::WouldBlock => OpenFault::File(FileCause::Locked),
+        TryLockError::Error(error) => OpenFault::from(error),
+    }
+}
+
+fn lock_shared<S: System>(system: &S, file: &S::File) -> Result<(), OpenFault>
+    ensures { OnOk result (S.facts.shared file.now) }
+{
+    match system.lock_shared(file) {
+        Ok(()) => Ok(()),
+        Err(error) => Err(lock_fault(error)),
+    }
+}
+
+fn lock_alone<S: System>(system: &S, file: &S::File) -> Result<(), OpenFault>
+    ensures { OnOk result (S.facts.alone file.now) }
+{
+    match system.lock_alone(file) {
+        Ok(()) => Ok(()),
+        Err(error) => Err(lock_fault(error)),
+    }
 }
 
 // Takes the lock of an access without waiting.
-fn lock(file: &File, access: Access) -> Result<(), OpenFault> {
-    let answer = match access {
-        Access::Read => file.try_lock_shared(),
-        Access::Write | Access::Make => file.try_lock(),
-    };
-    match answer {
-        Ok(()) => Ok(()),
-        Err(TryLockError::WouldBlock) => Err(OpenFault::File(FileCause::Locked)),
-        Err(TryLockError::Error(error)) => Err(OpenFault::from(error)),
+fn lock<S: System>(system: &S, file: &S::File, access: Access) -> Result<(), OpenFault>
+    ensures { OnOk result (IsLocked S.facts access file.now) }
+{
+    match access {
+        Access::Read => lock_shared(system, file),
+        Access::Write => lock_alone(system, file),
+        Access::Make => lock_alone(system, file),
     }
 }
 
 // Syncs the folder where a file really lies, so that the file itself outlasts a stop: also where the file was there before, since the
 // run that made it may have been stopped. Some systems sync no folder.
-fn sync_folder<R: Files<File = File> + AllocGlobal>(rt: &R, name: &str) -> Result<(), OpenFault> {
-    let real = fs::canonicalize(rt, name)?;
-    match fs::open(rt, folder_of(real.as_path()))?.sync_all() {
-        Err(error) if !is_unsupported(&error) => Err(OpenFault::from(error)),
-        _ => Ok(()),
+fn sync_folder<S: System>(system: &S, name: &str) -> Result<(), OpenFault>
+    ensures { OnOk result (IsFolderSynced S.facts name.now) }
+{
+    let real = system.real_path(name)?;
+    let folder = folder_of(real.as_path());
+    let how = to_place(true);
+    let names = system.open(&how, folder.path_text())?;
+    match system.sync_names(&names) {
+        Ok(()) => Ok(()),
+        Err(error) => {
+            if is_unsupported(&error) {
+                return Ok(());
+            }
+            Err(OpenFault::from(error))
+        }
     }
 }
 
-// Whether a file's first bytes are those of something else.
-fn holds_others(file: &File) -> io::Result<bool> {
+// An error where a file's first bytes are those of something else.
+fn check_free<S: System>(system: &S, file: &S::File, found: Found) -> Result<(), OpenFault>
+    ensures { OnOk result (HoldsNoOthers S.facts file.now) }
+{
     let mut head = [0; 8];
-    let len = file.metadata()?.len().min(8) as usize;
-    let front = &mut head[..len];
-    file.read_exact_at(front, 0)?;
-    Ok(is_of_others(front))
+    let len = found.len.min(8) as usize;
+    let count = system.read_head(file, &mut head)?;
+    if count < len {
+        return Err(OpenFault::File(FileCause::Short));
+    }
+    if is_of_others(&head[..count]) {
+        return Err(OpenFault::File(FileCause::Others));
+    }
+    Ok(())
 }
 
-impl<'a, R: Files<File = File> + AllocGlobal> Opening for SystemOpening<'a, R> {
-    type Area = StoreFile<SystemFile<'a, R>>;
+// The same, where a store is made.
+fn check_use<S: System>(
+    system: &S,
+    file: &S::File,
+    found: Found,
+    access: Access,
+) -> Result<(), OpenFault>
+    ensures { OnOk result (access ≡ Access.Make → HoldsNoOthers S.facts file.now) }
+{
+    match access {
+        Access::Make => check_free(system, file, found),
+        Access::Read => Ok(()),
+        Access::Write => Ok(()),
+    }
+}
 
-    type Line = File;
+impl<'a, S: System> Opening for SystemOpening<'a, S> {
+    type Area = StoreFile<SystemFile<'a, S>>;
+
+    type Line = S::File;
+
+    ghost use Rattle.pgs_world_files.specs.SystemFiles.{IsSystemArea, IsSystemFeed};
+
+    ghost area_gives = { IsSystemArea S.facts };
+
+    ghost feed_gives = { IsSystemFeed S.facts };
 
     fn open_area(&mut self, name: String, access: Access) -> Result<AreaFile<Self::Area>, Memory> {
         match self.open_store_file(name.as_str(), access) {
             Ok((file, reads_only)) => {
-                let file = SystemFile::new(self.rt, name, file, reads_only);
+                let file = SystemFile::new(self.system, name, file, reads_only);
                 Ok(AreaFile::new(StoreFile::new(file)))
             }
             Err(OpenFault::File(cause)) => Ok(AreaFile::absent(Some(cause))),
@@ -171,7 +293,7 @@ impl<'a, R: Files<File = File> + AllocGlobal> Opening for SystemOpening<'a, R> {
         }
     }
 
-    fn open_feed(&mut self, name: &str) -> Result<FileFeed<File>, Memory> {
+    fn open_feed(&mut self, name: &str) -> Result<FileFeed<S::File>, Memory> {
         match self.open_end(name) {
             Ok(file) => Ok(FileFeed::new(file)),
             Err(OpenFault::File(_)) => Ok(FileFeed::absent()),

@@ -27,7 +27,7 @@ fn world_at<'a>(
     alloc: Global,
     store: &str,
 ) -> Result<FileWorld<Vec<u8>, System<'a>>, Memory> {
-    let mut system = SystemOpening::new(rt);
+    let mut system = SystemOpening::new(rt, rt.alloc());
     let areas = AreaFiles::open(&mut system, alloc, store, Access::Write)?;
     Ok(FileWorld::new(areas, Vec::new(alloc), Seed::Fixed))
 }

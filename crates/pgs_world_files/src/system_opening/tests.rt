@@ -1,6 +1,7 @@
 use super::*;
 use pgs_world::Feed;
 use pgs_world_streams::Cause;
+use std::fs;
 use std::os::unix::fs::MetadataExt;
 use std::test::Fail;
 
@@ -8,7 +9,7 @@ type Area<'a> = AreaFile<StoreFile<SystemFile<'a, HostRuntime>>>;
 
 /// The area in the file of a name, opened by a run of its own.
 fn opened<'a>(rt: &'a HostRuntime, name: &str, access: Access) -> Result<Area<'a>, Memory> {
-    SystemOpening::new(rt).open_area(String::from_str(rt.alloc(), name)?, access)
+    SystemOpening::new(rt, rt.alloc()).open_area(String::from_str(rt.alloc(), name)?, access)
 }
 
 /// Why a second run can't open the file that a first has open.
@@ -107,7 +108,7 @@ fn a_feed_stands_behind_an_earlier_run_and_is_no_file_of_this(rt: HostRuntime) -
     let _absent = fs::remove_file(&rt, "feed.out");
     fs::write(&rt, "feed.out", "0\n")?;
     fs::hard_link(&rt, "feed.out", "link.out")?;
-    let mut system = SystemOpening::new(&rt);
+    let mut system = SystemOpening::new(&rt, rt.alloc());
     let seen = [
         put_two(&mut system, "feed.out")?,
         put_two(&mut system, "link.out")?,

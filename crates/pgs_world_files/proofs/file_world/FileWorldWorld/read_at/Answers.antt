@@ -1,0 +1,34 @@
+use Rattle.std.proofs.Common.{refl, ap, length, rules}
+use Rattle.pgs_world_files.specs.Handles.{handle_in}
+use Rattle.pgs_world_files.proofs.Over.{read_stays, read_told}
+use Rattle.pgs_world_files.proofs.Worlds.{Called, passes_called, quiet_called, beside_called, read_called}
+use Rattle.pgs_world_files.proofs.file_world.FileWorldWorld.read_at.Goals as goal
+
+pub returns-clause-quiet : goal.returns-clause-quiet
+returns-clause-quiet g c =
+    quiet_called g.W.SteadyWrite.tells g.W.Write.contents g.H.Handle.tells g.H.Handle.contents c.args.area c.args.self.now c.counted.new.self c.read_at-answer.new.self
+    (record {
+      areas = c.counted.ensures.areas;
+      beside = c.read_at-answer.ensures.beside;
+      writer = c.counted.ensures.writer;
+      calls = c.counted.ensures.calls;
+      area_faults = c.counted.ensures.area_faults;
+      put_faults = c.counted.ensures.put_faults;
+      puts = c.counted.ensures.puts;
+    })
+    (read_stays g.H.Handle.contents g.H.Handle.length_gives g.H.Handle.read_gives g.H.Handle.write_gives g.H.Handle.cut_gives g.H.Handle.sync_gives g.H.Handle.tells g.met.H.Handle.over c.args.at c.read_at-answer.new.buf (handle_in c.args.area c.args.self.now.areas) (handle_in c.args.area c.read_at-answer.new.self) c.read_at-answer.result c.read_at-answer.ensures.given)
+
+pub returns-clause-bytes : goal.returns-clause-bytes
+returns-clause-bytes g c =
+    read_called g.W.SteadyWrite.tells g.W.Write.contents g.H.Handle.tells g.H.Handle.contents c.args.area c.args.self.now c.counted.new.self c.read_at-answer.new.self
+    (record {
+      areas = c.counted.ensures.areas;
+      beside = c.read_at-answer.ensures.beside;
+      writer = c.counted.ensures.writer;
+      calls = c.counted.ensures.calls;
+      area_faults = c.counted.ensures.area_faults;
+      put_faults = c.counted.ensures.put_faults;
+      puts = c.counted.ensures.puts;
+    })
+    g.H.Handle.length_gives g.H.Handle.read_gives g.H.Handle.write_gives g.H.Handle.cut_gives g.H.Handle.sync_gives g.met.H.Handle.over
+    c.args.at (length c.args.buf.now) c.read_at-answer.new.buf (search rules) c.read_at-answer.result c.counted.result c.counted.ensures.answer c.read_at-answer.ensures.given

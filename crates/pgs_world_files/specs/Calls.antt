@@ -1,0 +1,151 @@
+-- What the calls of the system answered, and what an open file of a store rests on.
+use Rattle.std.specs.Prelude.{◌≡◌, ◌⊎◌, ℕ, ◌==◌, Bool, true, false, not, ◌&&◌, List, take, Option, Some, None, Result, Ok, Err, ⊤}
+use Rattle.std.specs.Fs.{asks_read, asks_write, asks_append, asks_truncate, asks_create, asks_create_new}
+use Rattle.std.specs.IoError.{error_kind}
+use Rattle.std.specs.Option.{unwrap_or}
+use Rattle.std.specs.Path.{path_parent}
+use Rattle.std.specs.declared.fs.options.OpenOptions.{OpenOptions}
+use Rattle.std.specs.declared.io.Error.{Error}
+use Rattle.std.specs.declared.io.ErrorKind.{ErrorKind}
+use Rattle.std.specs.declared.io.ErrorKind.TheVariants.{InvalidInput, Unsupported}
+use Rattle.pgs_world_files.specs.declared.access.Access.{Access}
+use Rattle.pgs_world_files.specs.declared.access.Access.TheVariants.{Read, Make}
+use Rattle.pgs_world_files.specs.declared.found.Found.{Found}
+use Rattle.pgs_world_files.specs.Head.{is_of_others}
+
+-- Each fact is one answer: a call on an open file names it before, and after where the call may change it. An answer without an error
+-- is None.
+pub record Facts (F : Type 0) : Type 1 where
+  -- an open of a name by these options gave this file
+  pub opened : OpenOptions → List ℕ → F → Type 0
+  -- which file a name is of
+  pub named : List ℕ → Result Found Error → Type 0
+  -- the name without links on its way
+  pub real : List ℕ → List ℕ → Type 0
+  -- which file an open one is, and that its number is above those of the standard streams
+  pub found : F → Result Found Error → Type 0
+  pub above : F → Type 0
+  -- it is locked against everybody, or beside readers
+  pub alone : F → Type 0
+  pub shared : F → Type 0
+  -- a sync of a folder
+  pub folder : F → Option Error → Type 0
+  -- a read of the first bytes: the buffer after it, and the answer
+  pub head : F → List ℕ → Result ℕ Error → Type 0
+  -- a question for the length, a read and a write at a place, a cut to a length and whether it succeeded, a sync
+  pub length : F → Result ℕ Error → F → Type 0
+  pub read : F → ℕ → List ℕ → Result ℕ Error → F → Type 0
+  pub write : F → ℕ → List ℕ → Result ℕ Error → F → Type 0
+  pub cut : F → ℕ → Bool → F → Type 0
+  pub sync : F → Option Error → F → Type 0
+
+-- a system of which nothing is said
+abbrev pub no_facts : {F : Type 0} → Facts F
+no_facts = record {
+  opened = λ _ _ _. ⊤;
+  named = λ _ _. ⊤;
+  real = λ _ _. ⊤;
+  found = λ _ _. ⊤;
+  above = λ _. ⊤;
+  alone = λ _. ⊤;
+  shared = λ _. ⊤;
+  folder = λ _ _. ⊤;
+  head = λ _ _ _. ⊤;
+  length = λ _ _ _. ⊤;
+  read = λ _ _ _ _ _. ⊤;
+  write = λ _ _ _ _ _. ⊤;
+  cut = λ _ _ _ _. ⊤;
+  sync = λ _ _ _. ⊤;
+}
+
+-- two answers are of one file, which has a name
+abbrev pub is_same : Found → Found → Bool
+is_same one other = one.has_name && other.has_name && one.device == other.device && one.number == other.number
+
+-- the system says that it can't do this here at all
+abbrev pub IsUnsupported : Error → Type 0
+IsUnsupported error = (error_kind error ≡ InvalidInput) ⊎ (error_kind error ≡ Unsupported)
+
+-- whether the file of a name was found to be this open one; else a question failed, or it is another
+abbrev pub NameIs : {F : Type 0} → Facts F → List ℕ → F → Bool → Type 0
+NameIs facts name file true =
+    (this : Found) × (there : Found) × facts.found file (Ok this) × facts.named name (Ok there) × (is_same this there ≡ true)
+NameIs facts name file false =
+    ((error : Error) × facts.found file (Err error))
+    ⊎ (((error : Error) × facts.named name (Err error))
+    ⊎ ((this : Found) × (there : Found) × facts.found file (Ok this) × facts.named name (Ok there) × (is_same this there ≡ false)))
+
+-- what stands before the last slash of a name
+abbrev pub folder_of : List ℕ → List ℕ
+folder_of name = unwrap_or (path_parent name) name
+
+-- nothing of a file that is there is taken away, nor is it asked to be new
+pub record KeepsBytes (how : OpenOptions) : Type 0 where
+  pub no_truncate : asks_truncate how ≡ false
+  pub no_new : asks_create_new how ≡ false
+
+-- to read, and to write unless it is open for reading alone; at places, not behind the end
+pub record AsksToPlace (how : OpenOptions) (reads_only : Bool) : Type 0 where
+  pub keeps : KeepsBytes how
+  pub read : asks_read how ≡ true
+  pub write : asks_write how ≡ not reads_only
+  pub no_append : asks_append how ≡ false
+
+-- behind the end
+pub record AsksToAppend (how : OpenOptions) : Type 0 where
+  pub keeps : KeepsBytes how
+  pub append : asks_append how ≡ true
+  pub create : asks_create how ≡ true
+
+-- it was opened for an access so that nothing of it was lost
+pub record IsOpenedBy {F : Type 0} (facts : Facts F) (name : List ℕ) (access : Access) (file : F) (reads_only : Bool) : Type 0 where
+  pub how : OpenOptions
+  pub opened : facts.opened how name file
+  pub asks : AsksToPlace how reads_only
+  pub reads : reads_only ≡ true → access ≡ Read
+
+-- the lock of an access: readers share it, others have it alone
+abbrev pub IsLocked : {F : Type 0} → Facts F → Access → F → Type 0
+IsLocked facts Read file = facts.shared file
+IsLocked facts access file = facts.alone file
+
+-- The folder in which the file of a name really lies was opened and synced, or the system syncs no folder there.
+pub record IsFolderSynced {F : Type 0} (facts : Facts F) (name : List ℕ) : Type 0 where
+  pub real : List ℕ
+  pub is_real : facts.real name real
+  pub how : OpenOptions
+  pub folder : F
+  pub opened : facts.opened how (folder_of real) folder
+  pub synced : facts.folder folder None ⊎ ((error : Error) × facts.folder folder (Some error) × IsUnsupported error)
+
+-- its first bytes were read, and aren't something else's
+pub record HoldsNoOthers {F : Type 0} (facts : Facts F) (file : F) : Type 0 where
+  pub buf : List ℕ
+  pub count : ℕ
+  pub head : facts.head file buf (Ok count)
+  pub free : is_of_others (take count buf) ≡ false
+
+-- The file of a name, open for an access: opened so that nothing of it was lost, under a number above those of the standard streams, a
+-- regular file, locked, then still the one of its name, its folder synced; and where a store is made, no file of something else.
+pub record IsOpenFor {F : Type 0} (facts : Facts F) (name : List ℕ) (access : Access) (file : F) (reads_only : Bool) : Type 0 where
+  pub opened : IsOpenedBy facts name access file reads_only
+  pub above : facts.above file
+  pub regular : (found : Found) × facts.found file (Ok found) × (found.is_regular ≡ true)
+  pub locked : IsLocked facts access file
+  pub named : NameIs facts name file true
+  pub folder : IsFolderSynced facts name
+  pub free : access ≡ Make → HoldsNoOthers facts file
+
+-- The file of a name, open behind its end.
+pub record IsOpenBehind {F : Type 0} (facts : Facts F) (name : List ℕ) (file : F) : Type 0 where
+  pub how : OpenOptions
+  pub opened : facts.opened how name file
+  pub asks : AsksToAppend how
+  pub above : facts.above file
+
+-- Whether a sync succeeded. A file that is open for reading alone may lie where the system knows no sync: nothing can have been written
+-- there, and that is no fault.
+abbrev pub AnswersSync : {F : Type 0} → Facts F → (reads_only : Bool) → F → Bool → F → Type 0
+AnswersSync facts reads_only old true new =
+    facts.sync old None new ⊎ ((reads_only ≡ true) × (error : Error) × facts.sync old (Some error) new × IsUnsupported error)
+AnswersSync facts reads_only old false new = (error : Error) × facts.sync old (Some error) new

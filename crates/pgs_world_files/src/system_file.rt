@@ -1,0 +1,144 @@
+ghost use Rattle.std.specs.Prelude.{◌≡◌, IsTrue, is_ok};
+ghost use Rattle.pgs_world_files.specs.Calls.{IsUnsupported, NameIs};
+
+use crate::{NamedFile, System};
+use std::fs::OpenOptions;
+use std::io::{self, ErrorKind};
+
+/// A file of the system. `again` is the same file, opened once more to be written.
+#[derive(Drop)]
+pub struct SystemFile<'a, S: System> {
+    system: &'a S,
+    name: String,
+    file: S::File,
+    reads_only: bool,
+    again: Option<S::File>,
+}
+
+impl<'a, S: System> SystemFile<'a, S> {
+    /// An open file of that name. `reads_only` where it is open for reading alone.
+    pub(crate) fn new(
+        system: &'a S,
+        name: String,
+        file: S::File,
+        reads_only: bool,
+    ) -> SystemFile<'a, S>
+        ensures name { result.name ≡ name }
+        ensures file { result.file ≡ file }
+        ensures reads_only { result.reads_only ≡ reads_only }
+    {
+        SystemFile {
+            system,
+            name,
+            file,
+            reads_only,
+            again: None,
+        }
+    }
+}
+
+/// Whether the system says that it can't do this here at all.
+pub(crate) fn is_unsupported(error: &io::Error) -> bool
+    ensures { IsTrue result → IsUnsupported error.now }
+{
+    match error.kind() {
+        ErrorKind::InvalidInput => true,
+        ErrorKind::Unsupported => true,
+        _ => false,
+    }
+}
+
+/// An error where the file of a name isn't the one that is open.
+pub(crate) fn check_same<S: System>(system: &S, file: &S::File, name: &str) -> io::Result<()>
+    ensures { NameIs S.facts name.now file.now (is_ok result) }
+{
+    let this = system.found(file)?;
+    let there = match system.find(name) {
+        Ok(there) => there,
+        Err(error) => return Err(absent_as_replaced(error)),
+    };
+    if this.is_same(there) {
+        return Ok(());
+    }
+    Err(io::Error::from(ErrorKind::StaleNetworkFileHandle))
+}
+
+// The error of a name that has no file is that of one that has another.
+fn absent_as_replaced(error: io::Error) -> io::Error {
+    match error.kind() {
+        ErrorKind::NotFound => io::Error::from(ErrorKind::StaleNetworkFileHandle),
+        _ => error,
+    }
+}
+
+impl<'a, S: System> NamedFile for SystemFile<'a, S> {
+    ghost use Rattle.std.specs.Option.{unwrap_or};
+    ghost use Rattle.std.specs.Prelude.{string_bytes};
+    ghost use Rattle.pgs_world_files.specs.Calls.{AnswersSync, NameIs};
+
+    ghost length_gives = { λ old answer new. S.facts.length old.file answer new.file };
+
+    ghost read_gives = { λ old at buf answer new. S.facts.read old.file at buf answer new.file };
+
+    ghost write_gives = { λ old at bytes answer new. S.facts.write (unwrap_or old.again old.file) at bytes answer (unwrap_or new.again new.file) };
+
+    ghost cut_gives = { λ old len succeeds new. S.facts.cut old.file len succeeds new.file };
+
+    ghost sync_gives = { λ old succeeds new. AnswersSync S.facts old.reads_only old.file succeeds new.file };
+
+    ghost name_gives = { λ old succeeds new. NameIs S.facts (string_bytes old.name) old.file succeeds };
+
+    fn ask_length(&mut self) -> io::Result<u64> {
+        self.system.length(&mut self.file)
+    }
+
+    fn read_from(&mut self, at: u64, buf: &mut [u8]) -> io::Result<usize> {
+        self.system.read_at(&mut self.file, at, buf)
+    }
+
+    fn write_from(&mut self, at: u64, bytes: &[u8]) -> io::Result<usize> {
+        match &mut self.again {
+            Some(file) => self.system.write_at(file, at, bytes),
+            None => self.system.write_at(&mut self.file, at, bytes),
+        }
+    }
+
+    fn cut_to(&mut self, len: u64) -> io::Result<()> {
+        self.system.set_len(&mut self.file, len)
+    }
+
+    // A file system that can't be written may know no sync.
+    fn sync_bytes(&mut self) -> io::Result<()> {
+        match self.system.sync_data(&mut self.file) {
+            Ok(()) => Ok(()),
+            Err(error) => {
+                if self.reads_only && is_unsupported(&error) {
+                    return Ok(());
+                }
+                Err(error)
+            }
+        }
+    }
+
+    fn check_name(&mut self) -> io::Result<()> {
+        check_same(self.system, &self.file, self.name.as_str())
+    }
+
+    fn open_to_write(&mut self) {
+        if !self.reads_only {
+            return;
+        }
+        let mut how = OpenOptions::new();
+        how.read(true).write(true);
+        let Ok(again) = self.system.open(&how, self.name.as_str()) else {
+            return;
+        };
+        if !self.system.is_above_standard(&again) {
+            return;
+        }
+        match (self.system.found(&self.file), self.system.found(&again)) {
+            (Ok(one), Ok(other)) if one.is_same(other) => self.again = Some(again),
+            _ => {}
+        }
+    }
+}
