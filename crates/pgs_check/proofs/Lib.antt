@@ -1,0 +1,9 @@
+pub mod Bounds
+pub mod Covered
+pub mod Entered
+pub mod Firsts
+pub mod Indexed
+pub mod KeyFirst
+pub mod Shared
+pub mod Steps
+pub mod Types

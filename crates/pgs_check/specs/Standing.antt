@@ -46,7 +46,7 @@ index_changed index changes = record index { rows = rows_changed index.rows chan
 -- other element has the same before and after.
 pub record AreRows (number : ℕ) (before after : Elem → Option (List (List Part))) (rows : List KeyChange) : Type 0 where
   pub elems : List Elem
-  pub rows : rows ≡ map (change_of number after) elems
+  pub are : rows ≡ map (change_of number after) elems
   pub ascending : ascends elem_cmp elems ≡ true
   pub others : (elem : Elem) → is_one_of elems elem ≡ false → before elem ≡ after elem
 

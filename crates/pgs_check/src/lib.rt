@@ -16,3 +16,9 @@ mod untyped;
 
 pub use checking::{CheckFault, check};
 pub use untyped::check_types;
+
+#[cfg(test)]
+mod trial {
+    #[test]
+    fn nothing() {}
+}

@@ -105,7 +105,8 @@ pub(crate) fn first_found(
     ensures { IfOk result (λ found. found ≡ first_found rule number rows.now) }
 {
     for row in rows {
-        if let Some(violation) = found_in(alloc, rule, number, row)? {
+        let found = found_in(alloc, rule, number, row)?;
+        if let Some(violation) = found {
             return Ok(Some(violation));
         }
     }

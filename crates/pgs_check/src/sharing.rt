@@ -22,6 +22,7 @@ use std::collections::BTreeMap;
 use std::sync::ledger::Ledger;
 
 /// The owners of the key values of an exclusive key, of this number, before a change, and the elements that the change may alter.
+#[derive(Clone, Copy)]
 pub(crate) struct Owners<'a> {
     pub(crate) index: &'a KeyIndex,
     pub(crate) number: u32,
@@ -63,7 +64,9 @@ impl<'a> Owners<'a> {
             × (is_one_of self.now.changed.now elem ≡ false)) ↔ (result ≡ Some elem) }
         ensures tick { steps.new ≡ steps.old + 1 }
     {
-        let owner = self.index.owner_of(self.number, tuple, steps)?;
+        let Some(owner) = self.index.owner_of(self.number, tuple, steps) else {
+            return None;
+        };
         if is_one_of(self.changed, owner) {
             None
         } else {
@@ -110,7 +113,8 @@ impl<'a> Owners<'a> {
     {
         let mut found = None;
         for row in rows {
-            found = self.with_owners_of(alloc, row.elem, found, tuples_of(row), steps)?;
+            let tuples = tuples_of(row);
+            found = self.with_owners_of(alloc, row.elem, found, tuples, steps)?;
         }
         Ok(found)
     }

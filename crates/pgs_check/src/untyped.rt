@@ -1,10 +1,10 @@
 //! 25 and 26 of a changed graph, found among the elements of the delta and the edges at its nodes.
 
-ghost use Rattle.std.specs.Prelude.{◌≡◌, ◌+◌, ◌*◌, ◌≤◌, ◌++◌, ℕ, true, [], ◌∷◌, length, filter_map, flat_map, slice_get};
+ghost use Rattle.std.specs.Prelude.{◌≡◌, ◌+◌, ◌*◌, ◌≤◌, ℕ, true, cond, [], ◌∷◌, length, filter_map, flat_map, slice_get};
 ghost use Rattle.std.specs.Map.{keys_of};
 ghost use Rattle.pgs_base.specs.Pair.{pair_of};
 ghost use Rattle.pgs_graph.specs.Changed.{changed, is_sound};
-ghost use Rattle.pgs_graph.specs.Reads.{edge_row, out_edges_of, in_edges_of};
+ghost use Rattle.pgs_graph.specs.Reads.{edge_row, out_edges_of, in_edges_of, degree_of};
 ghost use Rattle.pgs_overlay.specs.Standing.{row_count};
 ghost use Rattle.pgs_syntax.specs.Typed.{is_typed_edge};
 ghost use Rattle.pgs_check.specs.Untyped.{HaveDegreesWithin, untyped_violations, untyped_change, is_untyped_edge, is_found_before, least_edge, edges_at, touched_edges};
@@ -145,26 +145,48 @@ fn least_changed<G: GraphRead, L: Ledger>(
     ensures no_step_back { steps.old ≤ steps.new }
     ensures cost { steps.new ≤ steps.old + 3 * length changes.now }
 {
-    for (id, _) in changes {
-        found = lesser_untyped(graph, compiled, found, *id, steps);
+    for change in changes {
+        let id = change.0;
+        found = lesser_untyped(graph, compiled, found, id, steps);
     }
     found
 }
 
-// What was found, or the least of the edges that go out of a node and aren't typed.
-fn least_outgoing<G: GraphRead, L: Ledger>(
+// The edge at a place among those that go out of a node, or that come in at it.
+fn edge_along<G: GraphRead, L: Ledger>(
+    graph: &G,
+    node: NodeId,
+    forward: bool,
+    nth: usize,
+    steps: &mut Steps<L>,
+) -> Option<EdgeId>
+    ensures value { result ≡ slice_get (cond forward (out_edges_of (G.meaning graph.now) node) (in_edges_of (G.meaning graph.now) node)) nth }
+    ensures tick { steps.new ≡ steps.old + 1 }
+    ensures few { length (cond forward (out_edges_of (G.meaning graph.now) node) (in_edges_of (G.meaning graph.now) node)) ≤ 18446744073709551616 }
+{
+    if forward {
+        graph.out_edge(node, nth, steps)
+    } else {
+        graph.in_edge(node, nth, steps)
+    }
+}
+
+// What was found, or the least of the edges that go out of a node, or that come in at it, and aren't typed.
+fn least_along<G: GraphRead, L: Ledger>(
     graph: &G,
     compiled: &Compiled,
     mut found: Option<EdgeId>,
     node: NodeId,
+    forward: bool,
     steps: &mut Steps<L>,
 ) -> Option<EdgeId>
-    ensures least { result ≡ least_edge (is_untyped_edge compiled.now (G.meaning graph.now)) found (out_edges_of (G.meaning graph.now) node) }
+    ensures least { result ≡ least_edge (is_untyped_edge compiled.now (G.meaning graph.now)) found
+        (cond forward (out_edges_of (G.meaning graph.now) node) (in_edges_of (G.meaning graph.now) node)) }
     ensures no_step_back { steps.old ≤ steps.new }
-    ensures cost { steps.new ≤ steps.old + 4 * length (out_edges_of (G.meaning graph.now) node) + 1 }
+    ensures cost { steps.new ≤ steps.old + 4 * length (cond forward (out_edges_of (G.meaning graph.now) node) (in_edges_of (G.meaning graph.now) node)) + 1 }
 {
     for nth in 0..=usize::MAX {
-        match graph.out_edge(node, nth, steps) {
+        match edge_along(graph, node, forward, nth, steps) {
             Some(id) => found = lesser_untyped(graph, compiled, found, id, steps),
             None => return found,
         }
@@ -172,25 +194,20 @@ fn least_outgoing<G: GraphRead, L: Ledger>(
     found
 }
 
-// What was found, or the least of the edges that come in at a node and aren't typed.
-fn least_incoming<G: GraphRead, L: Ledger>(
+// What was found, or the least of the edges at a node that aren't typed.
+fn least_at<G: GraphRead, L: Ledger>(
     graph: &G,
     compiled: &Compiled,
-    mut found: Option<EdgeId>,
+    found: Option<EdgeId>,
     node: NodeId,
     steps: &mut Steps<L>,
 ) -> Option<EdgeId>
-    ensures least { result ≡ least_edge (is_untyped_edge compiled.now (G.meaning graph.now)) found (in_edges_of (G.meaning graph.now) node) }
+    ensures least { result ≡ least_edge (is_untyped_edge compiled.now (G.meaning graph.now)) found (edges_at (G.meaning graph.now) node) }
     ensures no_step_back { steps.old ≤ steps.new }
-    ensures cost { steps.new ≤ steps.old + 4 * length (in_edges_of (G.meaning graph.now) node) + 1 }
+    ensures cost { steps.new ≤ steps.old + (4 * degree_of (G.meaning graph.now) node + 2) }
 {
-    for nth in 0..=usize::MAX {
-        match graph.in_edge(node, nth, steps) {
-            Some(id) => found = lesser_untyped(graph, compiled, found, id, steps),
-            None => return found,
-        }
-    }
-    found
+    let outgoing = least_along(graph, compiled, found, node, true, steps);
+    least_along(graph, compiled, outgoing, node, false, steps)
 }
 
 // What was found, or the least of the edges at the nodes of changes that aren't typed.
@@ -207,9 +224,9 @@ fn least_at_changed<G: GraphRead, L: Ledger>(
     ensures cost { (most : ℕ) → HaveDegreesWithin (G.meaning graph.now) (keys_of changes.now) most →
         steps.new ≤ steps.old + length changes.now * (4 * most + 2) }
 {
-    for (id, _) in changes {
-        found = least_outgoing(graph, compiled, found, *id, steps);
-        found = least_incoming(graph, compiled, found, *id, steps);
+    for change in changes {
+        let node = change.0;
+        found = least_at(graph, compiled, found, node, steps);
     }
     found
 }
