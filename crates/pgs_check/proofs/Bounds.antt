@@ -61,3 +61,10 @@ module _ (most edges : ℕ) where
       let types_most : 4 * u * (most + 2) ≤ 4 * u * x = mul-le-mul_left (4 * u) low_x in
       let read_most : 2 * u * 1 ≤ 2 * u * x = mul-le-mul_left (2 * u) (omega arith) in
       omega arith
+
+-- the edges of a delta, and those at its nodes
+pub types_sum : (most nodes edges n e : ℕ) → n ≡ nodes → e ≡ edges → (start changed all : ℕ) → changed ≤ start + 3 * e → all ≤ changed + n * (4 * most + 2) →
+    all ≤ start + 4 * (nodes + edges) * (most + 2)
+types_sum most nodes edges n e one two start changed all first second =
+    let moved : n * (4 * most + 2) ≡ nodes * (4 * most + 2) = ap (λ k. k * (4 * most + 2)) one in
+    omega arith

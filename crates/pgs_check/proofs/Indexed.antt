@@ -224,7 +224,7 @@ exclusive_key (key ∷ keys) zero h = (key, refl, h)
 exclusive_key (key ∷ keys) (suc place) h = exclusive_key keys place h
 
 -- an exclusive key without violations has no 29
-shared_nothing : (resolved : Resolved) (h : Graph) (number : ℕ) (key : Key) → key.qualifiers.exclusive ≡ true → key_violations resolved h number key ≡ [] →
+pub shared_nothing : (resolved : Resolved) (h : Graph) (number : ℕ) (key : Key) → key.qualifiers.exclusive ≡ true → key_violations resolved h number key ≡ [] →
     filter_map (exclusive_violation number (scope_of resolved h key) (key_values resolved h key)) (scope_of resolved h key) ≡ []
 shared_nothing resolved h number key asked none =
     let scope = scope_of resolved h key in

@@ -250,8 +250,8 @@ module _ (resolved : Resolved) (g h : Graph) (before : is_graph g ≡ true) (aft
 
   -- ---- all violations of the key
 
-  module _ (index : KeyRows) (stands : (elem : Elem) → values_at index number elem ≡ old elem) (owner : List Part → Option Elem) (owns : IsOwner index number elems owner)
-      (none : key_violations resolved g number key ≡ []) where
+  module _ (index : KeyRows) (stands : (elem : Elem) → values_at index number elem ≡ old elem) (owner : List Part → Option Elem)
+      (owns : key.qualifiers.exclusive ≡ true → IsOwner index number elems owner) (none : key_violations resolved g number key ≡ []) where
     abbrev missing : Graph → List Violation
     missing graph = where_asked key.qualifiers.mandatory (filter_map (mandatory_violation number (key_values resolved graph key)) (scope_of resolved graph key))
 
@@ -275,7 +275,7 @@ module _ (resolved : Resolved) (g h : Graph) (before : is_graph g ≡ true) (aft
         let one = no_front (missing g) (several g) two.0 in
         let a = first_asked key.qualifiers.mandatory (first_found rules.Mandatory number rows) _ (λ asked. rule_first rules.Mandatory (asked_none _ _ one.0 asked)) in
         let b = first_asked key.qualifiers.singleton (first_found rules.Singleton number rows) _ (λ asked. rule_first rules.Singleton (asked_none _ _ one.1 asked)) in
-        let c = first_asked key.qualifiers.exclusive (least_shared number owner rows) _ (λ asked. least_is_first index stands owner owns (asked_none _ _ two.1 asked)) in
+        let c = first_asked key.qualifiers.exclusive (least_shared number owner rows) _ (λ asked. least_is_first index stands owner (owns asked) (asked_none _ _ two.1 asked)) in
         let d = first_counts key.qualifiers.count three.1 in
         first_append (missing h ++ several h ++ shared h) (where_bounded key.qualifiers.count (counts h))
         ∙ ap (λ o. first_or o (slice_get (where_bounded key.qualifiers.count (counts h)) 0))

@@ -1,5 +1,5 @@
 -- One turn more of a pass over a list: what is found so far, and what it has taken.
-use Rattle.std.proofs.Common.{◌≡◌, ℕ, zero, suc, ◌+◌, ◌*◌, ◌<◌, ◌≤◌, Bool, List, [], ◌∷◌, ◌++◌, take, drop, drop-cons, get_or, length, slice_get, append-nil, append_assoc, Option, Some, None, refl, sym, ◌∙◌, ap, arith}
+use Rattle.std.proofs.Common.{◌≡◌, ℕ, zero, suc, ◌+◌, ◌*◌, ◌<◌, ◌≤◌, Bool, List, [], ◌∷◌, ◌++◌, map, take, drop, drop-cons, get_or, length, slice_get, append-nil, append_assoc, Option, Some, None, refl, sym, ◌∙◌, ap, arith}
 use Rattle.std.specs.Prelude.{Contains, filter_map, flat_map}
 use Rattle.std.specs.Map.{keys_of}
 use Rattle.std.proofs.Math.Nat.{mul-le-mul_right}
@@ -166,3 +166,20 @@ sum_last f xs x = sum_by-append f xs (x ∷ []) ∙ ap (λ n. sum_by f xs + n) (
   where
     one : {X : Type 0} (f : X → ℕ) (x : X) → sum_by f (x ∷ []) ≡ f x
     one f x = let cons = sum_by-cons f x [] in omega (arith, cons)
+
+-- ---- rows that are put last
+
+pub map_next : {X Y : Type 0} (f : X → Y) (xs : List X) (i : ℕ) (d : X) → i < length xs → (before after : List Y) (y : Y) → after ≡ before ++ y ∷ [] → y ≡ f (get_or xs i d) →
+    before ≡ map f (take i xs) → after ≡ map f (take (i + 1) xs)
+map_next f xs i d below before after y put is so_far =
+    put ∙ ap (λ ys. ys ++ y ∷ []) so_far ∙ ap (λ z. map f (take i xs) ++ z ∷ []) is
+    ∙ sym (ap (map f) (take_more xs i d below) ∙ map_append f (take i xs) (get_or xs i d ∷ []))
+  where
+    map_append : {X Y : Type 0} (f : X → Y) (xs ys : List X) → map f (xs ++ ys) ≡ map f xs ++ map f ys
+    map_append f [] ys = refl
+    map_append f (x ∷ xs) ys = ap (λ rest. f x ∷ rest) (map_append f xs ys)
+
+pub rate_from : {X : Type 0} (rate i : ℕ) (f : X → ℕ) (before after : List X) (x : X) → after ≡ before ++ x ∷ [] → sum_by f before ≤ i * rate → f x ≤ rate →
+    sum_by f after ≤ (i + 1) * rate
+rate_from rate i f before after x put most few =
+    let last = ap (sum_by f) put ∙ sum_last f before x in omega arith

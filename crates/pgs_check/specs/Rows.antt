@@ -54,9 +54,14 @@ first_outside (Some bounds) number rows = first_found (rules.Count bounds) numbe
 abbrev pub least_shared : ℕ → (List Part → Option Elem) → List KeyChange → Option Violation
 least_shared number owner rows = with_earlier number (λ tuple. None) (with_owners number owner None rows) rows
 
--- the first violation of a key of this number that rows make
+-- the first 29 or 39 of a key of this number that rows make, the first 28 before these, and the first violation of all
+abbrev pub first_shared : Qualifiers → ℕ → (List Part → Option Elem) → List KeyChange → Option Violation
+first_shared asked number owner rows = first_or (first_if asked.exclusive (least_shared number owner rows)) (first_outside asked.count number rows)
+
+abbrev pub first_several : Qualifiers → ℕ → (List Part → Option Elem) → List KeyChange → Option Violation
+first_several asked number owner rows =
+    first_or (first_if asked.singleton (first_found rules.Singleton number rows)) (first_shared asked number owner rows)
+
 abbrev pub first_of_rows : Qualifiers → ℕ → (List Part → Option Elem) → List KeyChange → Option Violation
 first_of_rows asked number owner rows =
-    first_or (first_if asked.mandatory (first_found rules.Mandatory number rows))
-    (first_or (first_if asked.singleton (first_found rules.Singleton number rows))
-    (first_or (first_if asked.exclusive (least_shared number owner rows)) (first_outside asked.count number rows)))
+    first_or (first_if asked.mandatory (first_found rules.Mandatory number rows)) (first_several asked number owner rows)

@@ -1,6 +1,6 @@
 //! The first violation of a changed graph, or the changes of the index that stands for it.
 
-ghost use Rattle.std.specs.Prelude.{◌≡◌, ◌+◌, ◌*◌, ◌^◌, ◌≤◌, ◌++◌, ℕ, true, false, [], Some, None, List as Items, length, map, slice_get, IfErr, IfOk, OnOk};
+ghost use Rattle.std.specs.Prelude.{◌≡◌, ◌+◌, ◌*◌, ◌^◌, ◌≤◌, ◌++◌, ℕ, true, false, [], Some, None, Option, List as Items, length, map, slice_get, IfErr, IfOk, OnOk};
 ghost use Rattle.std.specs.List.{All, sum_by};
 ghost use Rattle.pgs_base.specs.Graph.{Graph, is_graph};
 ghost use Rattle.pgs_base.specs.declared.part.Part.{Part};
@@ -18,7 +18,7 @@ ghost use Rattle.pgs_keyindex.specs.Rows.{IsOwned, is_exclusive, rows_changed};
 ghost use Rattle.pgs_keyindex.specs.Standing.{StandsFor, key_at, values_in_scope};
 ghost use Rattle.pgs_check.specs.Clashes.{IsOwner, tuples_of};
 ghost use Rattle.pgs_check.specs.Costs.{HaveEdgesWithin};
-ghost use Rattle.pgs_check.specs.Rows.{first_of_rows, change_of};
+ghost use Rattle.pgs_check.specs.Rows.{first_outside, first_shared, first_several, first_of_rows, change_of};
 ghost use Rattle.pgs_check.specs.Standing.{IsFirst, IsFirstOf, AreRows, AreChanges, ChangeEachOnce, index_changed};
 
 use crate::check_types;
@@ -48,14 +48,81 @@ pub enum CheckFault {
 }
 
 impl From<Memory> for CheckFault {
-    ghost from_gives = { λ memory fault. fault ≡ CheckFault.Memory };
+    ghost use Rattle.std.specs.Prelude.{◌≡◌};
+    ghost use Rattle.pgs_check.specs.declared.checking.CheckFault.TheVariants as faults;
 
-    fn from(_memory: Memory) -> CheckFault {
+    ghost from_gives = { λ _ e. e ≡ faults.Memory };
+
+    fn from(_: Memory) -> CheckFault {
         CheckFault::Memory
     }
 }
 
-// The first violation of a key of this number that rows make.
+// The first 39 that rows make, where a key has bounds.
+fn first_outside(
+    alloc: Global,
+    bounds: Option<(u32, u32)>,
+    number: u32,
+    rows: &[KeyChange],
+) -> Result<Option<Violation>, Memory>
+    ensures { IfOk result (λ found. found ≡ first_outside bounds number rows.now) }
+{
+    match bounds {
+        Some(bounds) => first_found(alloc, Rule::Count(bounds), number, rows),
+        None => Ok(None),
+    }
+}
+
+// The first 29 or 39 of a key that rows make.
+fn first_shared<L: Ledger>(
+    alloc: Global,
+    owners: &Owners<'_>,
+    asked: Qualifiers,
+    rows: &[KeyChange],
+    steps: &mut Steps<L>,
+) -> Result<Option<Violation>, Memory>
+    requires exclusive { asked.exclusive ≡ true → is_exclusive owners.now.index.now.exclusive owners.now.number ≡ true }
+    requires ascending { ascends elem_cmp owners.now.changed.now ≡ true }
+    ensures first { (owner : Items Part → Option Elem) →
+        (asked.exclusive ≡ true → IsOwner owners.now.index.now.rows owners.now.number owners.now.changed.now owner) →
+        IfOk result (λ found. found ≡ first_shared asked owners.now.number owner rows.now) }
+    ensures no_step_back { steps.old ≤ steps.new }
+    ensures cost { steps.new ≤ steps.old + sum_by (λ row. length (tuples_of row)) rows.now }
+{
+    if !asked.exclusive {
+        return first_outside(alloc, asked.count, owners.number, rows);
+    }
+    let shared = owners.least_shared(alloc, rows, steps)?;
+    match shared {
+        Some(found) => Ok(Some(found)),
+        None => first_outside(alloc, asked.count, owners.number, rows),
+    }
+}
+
+// The first 28, 29 or 39 of a key that rows make.
+fn first_several<L: Ledger>(
+    alloc: Global,
+    owners: &Owners<'_>,
+    asked: Qualifiers,
+    rows: &[KeyChange],
+    steps: &mut Steps<L>,
+) -> Result<Option<Violation>, Memory>
+    requires exclusive { asked.exclusive ≡ true → is_exclusive owners.now.index.now.exclusive owners.now.number ≡ true }
+    requires ascending { ascends elem_cmp owners.now.changed.now ≡ true }
+    ensures first { (owner : Items Part → Option Elem) →
+        (asked.exclusive ≡ true → IsOwner owners.now.index.now.rows owners.now.number owners.now.changed.now owner) →
+        IfOk result (λ found. found ≡ first_several asked owners.now.number owner rows.now) }
+    ensures no_step_back { steps.old ≤ steps.new }
+    ensures cost { steps.new ≤ steps.old + sum_by (λ row. length (tuples_of row)) rows.now }
+{
+    let several = first_if(alloc, asked.singleton, Rule::Singleton, owners.number, rows)?;
+    match several {
+        Some(found) => Ok(Some(found)),
+        None => first_shared(alloc, owners, asked, rows, steps),
+    }
+}
+
+// The first violation of a key that rows make.
 fn first_of_rows<L: Ledger>(
     alloc: Global,
     owners: &Owners<'_>,
@@ -65,26 +132,16 @@ fn first_of_rows<L: Ledger>(
 ) -> Result<Option<Violation>, Memory>
     requires exclusive { asked.exclusive ≡ true → is_exclusive owners.now.index.now.exclusive owners.now.number ≡ true }
     requires ascending { ascends elem_cmp owners.now.changed.now ≡ true }
-    ensures first { (owner : Items Part → Option Elem) → IsOwner owners.now.index.now.rows owners.now.number owners.now.changed.now owner →
+    ensures first { (owner : Items Part → Option Elem) →
+        (asked.exclusive ≡ true → IsOwner owners.now.index.now.rows owners.now.number owners.now.changed.now owner) →
         IfOk result (λ found. found ≡ first_of_rows asked owners.now.number owner rows.now) }
     ensures no_step_back { steps.old ≤ steps.new }
     ensures cost { steps.new ≤ steps.old + sum_by (λ row. length (tuples_of row)) rows.now }
 {
-    let number = owners.number;
-    if let Some(found) = first_if(alloc, asked.mandatory, Rule::Mandatory, number, rows)? {
-        return Ok(Some(found));
-    }
-    if let Some(found) = first_if(alloc, asked.singleton, Rule::Singleton, number, rows)? {
-        return Ok(Some(found));
-    }
-    if asked.exclusive {
-        if let Some(found) = owners.least_shared(alloc, rows, steps)? {
-            return Ok(Some(found));
-        }
-    }
-    match asked.count {
-        Some(bounds) => first_found(alloc, Rule::Count(bounds), number, rows),
-        None => Ok(None),
+    let missing = first_if(alloc, asked.mandatory, Rule::Mandatory, owners.number, rows)?;
+    match missing {
+        Some(found) => Ok(Some(found)),
+        None => first_several(alloc, owners, asked, rows, steps),
     }
 }
 
@@ -124,7 +181,9 @@ fn check_key<L: Ledger>(
         number,
         changed: elems,
     };
-    match first_of_rows(alloc, &owners, key.key().qualifiers, rows.as_slice(), steps)? {
+    let asked = key.key().qualifiers;
+    let found = first_of_rows(alloc, &owners, asked, rows.as_slice(), steps)?;
+    match found {
         Some(violation) => Err(CheckFault::Violated(violation)),
         None => Ok(rows),
     }

@@ -1,6 +1,6 @@
 //! 29: changed elements that share a key value with each other, or with an element that isn't changed.
 
-ghost use Rattle.std.specs.Prelude.{◌≡◌, ◌↔◌, ◌+◌, ◌≤◌, ℕ, true, false, cond, None, Some, List as Items, length, IfOk, OnOk, MatchResult};
+ghost use Rattle.std.specs.Prelude.{◌≡◌, ◌↔◌, ◌+◌, ◌≤◌, ℕ, true, false, cond, None, Some, Option, List as Items, length, IfOk, OnOk, MatchResult};
 ghost use Rattle.std.specs.BTreeMap as tree;
 ghost use Rattle.std.specs.List.{list_any, sum_by};
 
@@ -92,7 +92,8 @@ impl<'a> Owners<'a> {
     {
         for tuple in tuples {
             let owner = self.unchanged(tuple, steps);
-            found = with_holder(alloc, self.number, elem, found, tuple, owner)?;
+            let least = with_holder(alloc, self.number, elem, found, tuple, owner)?;
+            found = least;
         }
         Ok(found)
     }
@@ -114,7 +115,8 @@ impl<'a> Owners<'a> {
         let mut found = None;
         for row in rows {
             let tuples = tuples_of(row);
-            found = self.with_owners_of(alloc, row.elem, found, tuples, steps)?;
+            let least = self.with_owners_of(alloc, row.elem, found, tuples, steps)?;
+            found = least;
         }
         Ok(found)
     }
@@ -152,7 +154,8 @@ fn with_holders<'a>(
 {
     for tuple in tuples {
         let holder = table.get(&tuple).copied();
-        found = with_holder(alloc, number, elem, found, tuple, holder)?;
+        let least = with_holder(alloc, number, elem, found, tuple, holder)?;
+        found = least;
     }
     Ok(found)
 }
@@ -184,7 +187,8 @@ fn with_earlier(
     let mut table = BTreeMap::new(alloc);
     for row in rows {
         let tuples = tuples_of(row);
-        found = with_holders(alloc, &table, number, row.elem, found, tuples)?;
+        let least = with_holders(alloc, &table, number, row.elem, found, tuples)?;
+        found = least;
         enter(&mut table, row.elem, tuples)?;
     }
     Ok(found)

@@ -1,12 +1,13 @@
 //! 25 and 26 of a changed graph, found among the elements of the delta and the edges at its nodes.
 
-ghost use Rattle.std.specs.Prelude.{◌≡◌, ◌+◌, ◌*◌, ◌≤◌, ℕ, true, cond, [], ◌∷◌, length, filter_map, flat_map, slice_get};
+ghost use Rattle.std.specs.Prelude.{◌≡◌, ◌+◌, ◌*◌, ◌≤◌, ℕ, true, cond, [], ◌∷◌, None, length, filter_map, flat_map, slice_get, option_map};
 ghost use Rattle.std.specs.Map.{keys_of};
 ghost use Rattle.pgs_base.specs.Pair.{pair_of};
 ghost use Rattle.pgs_graph.specs.Changed.{changed, is_sound};
 ghost use Rattle.pgs_graph.specs.Reads.{edge_row, out_edges_of, in_edges_of, degree_of};
 ghost use Rattle.pgs_overlay.specs.Standing.{row_count};
 ghost use Rattle.pgs_syntax.specs.Typed.{is_typed_edge};
+ghost use Rattle.pgs_violation.specs.declared.violation.Violation.TheVariants.{UntypedEdge};
 ghost use Rattle.pgs_check.specs.Untyped.{HaveDegreesWithin, untyped_violations, untyped_change, is_untyped_edge, is_found_before, least_edge, edges_at, touched_edges};
 
 use pgs_base::{EdgeId, EdgeRow, NodeId, NodeRow, Steps};
@@ -231,6 +232,32 @@ fn least_at_changed<G: GraphRead, L: Ledger>(
     found
 }
 
+// The least of the edges that a delta touches and that aren't typed.
+fn least_untyped<G: GraphRead, L: Ledger>(
+    graph: &G,
+    compiled: &Compiled,
+    delta: &Delta,
+    steps: &mut Steps<L>,
+) -> Option<EdgeId>
+    ensures least { result ≡ least_edge (is_untyped_edge compiled.now (G.meaning graph.now)) None (touched_edges (G.meaning graph.now) delta.now) }
+    ensures no_step_back { steps.old ≤ steps.new }
+    ensures cost { (most : ℕ) → HaveDegreesWithin (G.meaning graph.now) (keys_of delta.now.nodes) most →
+        steps.new ≤ steps.old + 4 * row_count delta.now * (most + 2) }
+{
+    let changed = least_changed(graph, compiled, None, delta.edges.as_slice(), steps);
+    least_at_changed(graph, compiled, changed, delta.nodes.as_slice(), steps)
+}
+
+// 26 for an edge, where there is one.
+fn untyped_edge(edge: Option<EdgeId>) -> Option<Violation>
+    ensures { result ≡ option_map UntypedEdge edge }
+{
+    match edge {
+        Some(edge) => Some(Violation::UntypedEdge { edge }),
+        None => None,
+    }
+}
+
 /// The first 25 or 26 of a changed graph: the least of its nodes that aren't typed, and else the least of its edges. `None` exactly
 /// where there is none, so always where the guard isn't strict. It asks that the graph before had none, and that `new` is its overlay
 /// by the sound delta. It takes no memory. The rule is `untyped_violations` in `specs/Untyped.antt` of `pgs_check`.
@@ -257,11 +284,8 @@ pub fn check_types<L: Ledger>(
     }
     // The count's clause says that what is read is a graph.
     old.count();
-    let nodes = delta.nodes.as_slice();
-    if let Some(violation) = first_untyped_change(compiled, nodes) {
-        return Some(violation);
+    match first_untyped_change(compiled, delta.nodes.as_slice()) {
+        Some(violation) => Some(violation),
+        None => untyped_edge(least_untyped(new, compiled, delta, steps)),
     }
-    let found = least_changed(new, compiled, None, delta.edges.as_slice(), steps);
-    let edge = least_at_changed(new, compiled, found, nodes, steps)?;
-    Some(Violation::UntypedEdge { edge })
 }

@@ -28,8 +28,8 @@ returns-in-None-clause-least g c =
     least_done (is_untyped_edge c.args.compiled.now graph) ids c.loop-nth.nth (past_end ids c.loop-nth.nth (sym c.in-None.ensures.value)) c.args.found c.loop-nth.found
     c.loop-nth.invariant.so_far
 
-pub returns-clause-least : goal.returns-clause-least
-returns-clause-least g c =
+pub returns-in-Some-clause-least : goal.returns-in-Some-clause-least
+returns-in-Some-clause-least g c =
     let graph = g.G.GraphRead.meaning c.args.graph.now in
     let ids = cond c.args.forward (out_edges_of graph c.args.node) (in_edges_of graph c.args.node) in
     let place = at_place ids c.loop-nth.nth c.in-Some.id (sym c.in-Some.ensures.value) in
@@ -37,3 +37,13 @@ returns-clause-least g c =
     least_done (is_untyped_edge c.args.compiled.now graph) ids (c.loop-nth.nth + 1) end c.args.found c.lesser_untyped-found.result
     (least_step (is_untyped_edge c.args.compiled.now graph) ids c.loop-nth.nth c.in-Some.id (sym place.1) place.0 c.args.found c.loop-nth.found
     c.lesser_untyped-found.result c.lesser_untyped-found.ensures.least c.loop-nth.invariant.so_far)
+
+pub returns-in-Some-clause-cost : goal.returns-in-Some-clause-cost
+returns-in-Some-clause-cost g c =
+    let graph = g.G.GraphRead.meaning c.args.graph.now in
+    let ids = cond c.args.forward (out_edges_of graph c.args.node) (in_edges_of graph c.args.node) in
+    let place = at_place ids c.loop-nth.nth c.in-Some.id (sym c.in-Some.ensures.value) in
+    let below : c.loop-nth.nth < length ids = place.0 in
+    let tick = c.edge_along.ensures.tick in
+    let before = c.loop-nth.invariant.cost in
+    omega (arith, c.lesser_untyped-found.ensures.at_most)

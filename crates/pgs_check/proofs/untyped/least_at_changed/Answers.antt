@@ -35,4 +35,4 @@ returns-clause-least g c =
 
 pub returns-clause-cost : goal.returns-clause-cost
 returns-clause-cost g c = λ most within.
-    rate_all (4 * most + 2) c.args.changes.now c.loop-change.change-index c.loop-change.auto.change-end c.args.steps.now c.loop-change.steps (c.loop-change.invariant.cost most within)
+    rate_all (4 * most + 2) c.args.changes.now c.loop-change.change-index c.loop-change.auto.change-index-end c.args.steps.now c.loop-change.steps (c.loop-change.invariant.cost most within)

@@ -16,11 +16,11 @@ loop-row-preserved g c =
     let before = c.loop-row.invariant.cost in
     record {
       so_far = λ owner owns.
-          owners_step number owner (with_owners number owner None rows) rows i row c.row-item.is c.loop-row-test.true c.loop-row.found c.in_ok-found.found
-          (c.in_ok-found.ensures.least owner owns ∙ ap (with_holders number owner row.elem c.loop-row.found) c.tuples_of-tuples.ensures)
+          owners_step number owner (with_owners number owner None rows) rows i row c.row-item.is c.loop-row-test.true c.loop-row.found c.in_ok-least.least
+          (c.in_ok-least.ensures.least owner owns ∙ ap (with_holders number owner row.elem c.loop-row.found) c.tuples_of-tuples.ensures)
           (c.loop-row.invariant.so_far owner owns);
       no_step_back = omega arith;
-      cost = omega (arith, c.with_owners_of-found.ensures.cost);
+      cost = omega (arith, c.with_owners_of.ensures.cost);
     }
 
 pub returns-clause-least : goal.returns-clause-least
