@@ -1,5 +1,6 @@
 -- What is found first, and else what is found after.
-use Rattle.std.proofs.Common.{◌≡◌, Bool, true, false, Option, Some, None, Result, IfOk, refl, sym, ap, subst}
+use Rattle.std.proofs.Common.{◌≡◌, Bool, true, Option, Some, None, Result, sym, ap, subst}
+use Rattle.std.specs.Prelude.{IfOk}
 use Rattle.pgs_violation.specs.declared.violation.Violation.{Violation}
 use Rattle.pgs_check.specs.Rows.{first_if, first_or}
 
@@ -12,6 +13,3 @@ or_next r first after none is = subst (λ x. IfOk r (λ found. found ≡ x)) (sy
 
 pub asked_is : (asked : Bool) (found : Option Violation) → asked ≡ true → first_if asked found ≡ found
 asked_is asked found is = ap (λ b. first_if b found) is
-
-pub not_asked : (asked : Bool) (found : Option Violation) → asked ≡ false → first_if asked found ≡ None
-not_asked asked found is = ap (λ b. first_if b found) is

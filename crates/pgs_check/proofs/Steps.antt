@@ -118,7 +118,7 @@ module _ {K V : Type 0} where
       at (x ∷ es) zero below = refl
       at (x ∷ es) (suc i) below = at es i (omega arith)
 
-  count_keys : (es : List (K × V)) → length (keys_of es) ≡ length es
+  pub count_keys : (es : List (K × V)) → length (keys_of es) ≡ length es
   count_keys [] = refl
   count_keys (e ∷ es) = ap suc (count_keys es)
 
@@ -183,3 +183,6 @@ pub rate_from : {X : Type 0} (rate i : ℕ) (f : X → ℕ) (before after : List
     sum_by f after ≤ (i + 1) * rate
 rate_from rate i f before after x put most few =
     let last = ap (sum_by f) put ∙ sum_last f before x in omega arith
+
+pub few_all : {X : Type 0} (rate : ℕ) (xs : List X) (i : ℕ) → i ≤ length xs → (now : ℕ) → now ≤ i * rate → now ≤ length xs * rate
+few_all rate xs i within now before = let most = mul-le-mul_right rate within in omega arith

@@ -1,10 +1,9 @@
 -- What a whole check takes, by the degrees near a delta.
-use Rattle.std.proofs.Common.{◌≡◌, ◌×◌, ℕ, zero, suc, ◌+◌, ◌*◌, ◌^◌, ◌≤◌, true, List, [], ◌∷◌, ◌++◌, map, length, refl, sym, ◌∙◌, ap, subst, ⊎_elim, eq-eqb, arith}
+use Rattle.std.proofs.Common.{◌≡◌, ℕ, zero, suc, ◌+◌, ◌*◌, ◌^◌, ◌≤◌, true, List, [], ◌∷◌, ◌++◌, map, length, refl, sym, ◌∙◌, ap, subst, ⊎_elim, eq-eqb, arith}
 use Rattle.std.specs.Prelude.{Contains, filter, ◌==◌}
 use Rattle.std.specs.Map.{keys_of}
-use Rattle.std.proofs.Math.Nat.{mul-le-mul_left, mul-le-mul_right}
+use Rattle.std.proofs.Math.Nat.{mul-le-mul_right}
 use Rattle.std.proofs.lemmas.Bool.{or_left}
-use Rattle.std.proofs.lemmas.List.{length-append, length-map}
 use Rattle.std.proofs.lemmas.List.Elements.{Contains-append_left}
 use Rattle.pgs_base.specs.declared.element.NodeId.{NodeId}
 use Rattle.pgs_base.specs.declared.element.EdgeId.{EdgeId}
@@ -23,6 +22,7 @@ use Rattle.pgs_check_affected.specs.Touched.{is_beside, touched, is_near, AreSpa
 use Rattle.pgs_check.specs.Untyped.{HaveDegreesWithin}
 use Rattle.pgs_check.proofs.Bounds.{whole_most}
 use Rattle.pgs_check.proofs.KeyFirst.{there_listed}
+use Rattle.pgs_check.proofs.Steps.{count_keys}
 
 near_itself : (g h : Graph) (id : NodeId) (n : ℕ) → is_near g h n (Node id) id ≡ true
 near_itself g h id zero = or_left (is_at_element g (Node id) id) (is_at_element h (Node id) id) (eq-eqb id.0 id.0 refl)
@@ -57,7 +57,7 @@ module _ (g h : Graph) (delta : Delta) (edges most : ℕ) (sparse : AreSparse g 
   elems_count : length (elems_of delta) ≡ row_count delta
   elems_count =
       count_append (map (λ id. Node id) (keys_of delta.nodes)) (map (λ id. Edge id) (keys_of delta.edges))
-      ∙ (λ i. (count_map (λ id. Node id) (keys_of delta.nodes) ∙ count_map (λ e. e.0) delta.nodes) i + (count_map (λ id. Edge id) (keys_of delta.edges) ∙ count_map (λ e. e.0) delta.edges) i)
+      ∙ (λ i. (count_map (λ id. Node id) (keys_of delta.nodes) ∙ count_keys delta.nodes) i + (count_map (λ id. Edge id) (keys_of delta.edges) ∙ count_keys delta.edges) i)
 
   elems_within : length (elems_of delta) ≤ u
   elems_within = let all = count_append (elems_of delta) (filter (is_beside g (elems_of delta)) (elements g true)) in omega arith

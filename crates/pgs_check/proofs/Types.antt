@@ -336,11 +336,7 @@ module _ (resolved : Resolved) (delta : Delta) where
       untyped_violations resolved g ≡ [] → (node : Option Violation) (edge : Option EdgeId) →
       node ≡ slice_get (filter_map (untyped_change resolved) delta.nodes) 0 → edge ≡ least_touched new →
       first_or node (option_map UntypedEdge edge) ≡ slice_get (untyped_violations resolved new) 0
-  types_are g graph sound new is strict none node edge one two =
+  types_are g graph sound new is strict none of_nodes edge one two =
       (λ i. first_or (one i) (option_map UntypedEdge (two i)))
       ∙ ap (λ x. first_or (slice_get (filter_map (untyped_change resolved) delta.nodes) 0) (option_map UntypedEdge (least_touched x))) is
       ∙ sym (types_first resolved g graph delta sound strict none) ∙ ap (λ x. slice_get (untyped_violations resolved x) 0) (sym is)
-
-pub not_strict : (resolved : Resolved) (new : Graph) → resolved.guard.strict ≡ false → None ≡ slice_get (untyped_violations resolved new) 0
-not_strict resolved new loose =
-    ap (λ b. slice_get (where_asked b (filter_map (untyped_node resolved) new.nodes ++ filter_map (untyped_edge resolved new) new.edges)) 0) (sym loose)

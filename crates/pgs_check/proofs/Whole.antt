@@ -1,12 +1,7 @@
 -- What no violation of types and of keys says of a graph, and the first violation of either.
-use Rattle.std.proofs.Common.{◌≡◌, ℕ, ◌+◌, ◌*◌, ◌^◌, ◌≤◌, true, List, [], ◌++◌, map, length, Option, Some, None, slice_get, refl, sym, ◌∙◌, ap, subst, arith}
-use Rattle.std.specs.Prelude.{Contains}
-use Rattle.std.specs.Map.{keys_of}
-use Rattle.std.specs.BTreeMap.{is_at}
-use Rattle.std.proofs.lemmas.List.{length-append, length-map}
+use Rattle.std.proofs.Common.{◌≡◌, true, List, [], ◌++◌, Some, slice_get, ◌∙◌, ap}
 use Rattle.pgs_base.specs.Graph.{Graph}
 use Rattle.pgs_syntax.specs.declared.resolved.Resolved.{Resolved}
-use Rattle.pgs_syntax.specs.Join.{is_empty}
 use Rattle.pgs_violation.specs.declared.violation.Violation.{Violation}
 use Rattle.pgs_violation.specs.declared.violation.Verdict.TheVariants.{Refused}
 use Rattle.pgs_violation.specs.Violations.{keys_violations, violations, verdict, conforms}

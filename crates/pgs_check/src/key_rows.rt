@@ -2,7 +2,6 @@
 
 ghost use Rattle.std.specs.Prelude.{◌≡◌, ◌+◌, ◌*◌, ◌^◌, ◌≤◌, ℕ, true, map, length, IfOk};
 ghost use Rattle.std.specs.List.{All, sum_by};
-
 ghost use Rattle.pgs_syntax.specs.Valid.{is_valid_key_of};
 ghost use Rattle.pgs_match.specs.Near.{IsSparse};
 ghost use Rattle.pgs_match.specs.Planned.{most_edges};

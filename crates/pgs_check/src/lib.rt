@@ -16,9 +16,3 @@ mod untyped;
 
 pub use checking::{CheckFault, check};
 pub use untyped::check_types;
-
-#[cfg(test)]
-mod trial {
-    #[test]
-    fn nothing() {}
-}

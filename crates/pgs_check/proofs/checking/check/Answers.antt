@@ -116,4 +116,4 @@ returns-clause-cost g c = λ edges most few sparse.
 
 pub returns-in_err-change-clause-violated : goal.returns-in_err-change-clause-violated
 returns-in_err-change-clause-violated g c =
-    let p = err_from_is_err_and c.from_residual-in_err-change.result c.from_residual-in_err-change.ensures.1 in rw (p.1, p.2) tt
+    let p = err_from_is_err_and c.from_residual.result c.from_residual.ensures.1 in rw (p.1, p.2) tt

@@ -1,4 +1,4 @@
-use Rattle.std.proofs.Common.{◌≡◌, ◌+◌, ◌*◌, ◌^◌, ◌≤◌, List, length, sym, ap, subst, ◌∙◌, arith}
+use Rattle.std.proofs.Common.{◌≡◌, ◌+◌, ◌*◌, ◌^◌, ◌≤◌, true, length, sym, ap, subst, ◌∙◌, arith}
 use Rattle.std.specs.List.{All, sum_by}
 use Rattle.std.proofs.lemmas.Result.{err_from_is_err_and}
 use Rattle.pgs_base.specs.declared.element.Elem.{Elem}
@@ -51,8 +51,8 @@ returns-in-Some-clause-violated g c =
     (c.in_ok-changed.ensures.holds elem (ap (λ xs. is_one_of xs elem) (sym c.as_slice-elems.ensures) ∙ beside)))
     c.as_slice.result.now (c.as_slice.ensures.value ∙ c.in_ok-rows.ensures.rows) c.key.result.now.qualifiers (ap (λ (k : Key). k.qualifiers) c.key.ensures) c.in_ok-found.found c.in_ok-found.ensures.first ∙ c.in-Some.is
 
-pub returns-in-None-clause-none : goal.returns-in-None-clause-none
-returns-in-None-clause-none g c =
+pub returns-clause-none : goal.returns-clause-none
+returns-clause-none g c =
     let elems = c.as_slice-elems.result.now in
     let resolved = c.args.compiled.now in
     let order = ap (ascends elem_cmp) c.as_slice-elems.ensures ∙ c.in_ok-changed.ensures.ascending in
@@ -62,8 +62,8 @@ returns-in-None-clause-none g c =
     (c.in_ok-changed.ensures.holds elem (ap (λ xs. is_one_of xs elem) (sym c.as_slice-elems.ensures) ∙ beside)))
     c.as_slice.result.now (c.as_slice.ensures.value ∙ c.in_ok-rows.ensures.rows) c.key.result.now.qualifiers (ap (λ (k : Key). k.qualifiers) c.key.ensures) c.in_ok-found.found c.in_ok-found.ensures.first c.in-None.is
 
-pub returns-in-None-clause-rows : goal.returns-in-None-clause-rows
-returns-in-None-clause-rows g c =
+pub returns-clause-rows : goal.returns-clause-rows
+returns-clause-rows g c =
     let elems = c.as_slice-elems.result.now in
     let resolved = c.args.compiled.now in
     let order = ap (ascends elem_cmp) c.as_slice-elems.ensures ∙ c.in_ok-changed.ensures.ascending in
@@ -101,8 +101,8 @@ returns-in-Some-clause-cost g c = λ edges most within sparse.
     (c.affected.ensures.cost edges most within sparse) (c.key_rows.ensures.cost most near) c.first_of_rows.ensures.cost
     (subst (λ n. n ≤ length c.as_slice-elems.result.now * (most + 2) ^ most_edges c.args.key.now) (sym items) (c.in_ok-rows.ensures.few most near))
 
-pub returns-in-None-clause-cost : goal.returns-in-None-clause-cost
-returns-in-None-clause-cost g c = λ edges most within sparse.
+pub returns-clause-cost : goal.returns-clause-cost
+returns-clause-cost g c = λ edges most within sparse.
     let u = length (touched c.args.change.now.before c.args.change.now.elems) in
     let same = c.as_slice-elems.ensures in
     let near = subst (All (λ elem. IsSparse c.args.new.now (most_edges c.args.key.now) elem most)) (sym same)
@@ -117,7 +117,7 @@ returns-in-None-clause-cost g c = λ edges most within sparse.
 
 pub returns-in_err-changed-clause-violated : goal.returns-in_err-changed-clause-violated
 returns-in_err-changed-clause-violated g c =
-    let p = err_from_is_err_and c.from_residual-in_err-changed.result c.from_residual-in_err-changed.ensures.1 in rw (p.1, p.2) tt
+    let p = err_from_is_err_and c.from_residual.result c.from_residual.ensures.1 in rw (p.1, p.2) tt
 
 pub returns-in_err-rows-clause-violated : goal.returns-in_err-rows-clause-violated
 returns-in_err-rows-clause-violated g c =

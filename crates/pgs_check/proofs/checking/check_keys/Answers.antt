@@ -58,7 +58,7 @@ loop-place-preserved g c =
 
 pub returns-in_err-rows-clause-violated : goal.returns-in_err-rows-clause-violated
 returns-in_err-rows-clause-violated g c =
-    let p = err_from_is_err_and c.from_residual-in_err-rows.result c.from_residual-in_err-rows.ensures.1 in
+    let p = err_from_is_err_and c.from_residual.result c.from_residual.ensures.1 in
     rw (p.1, p.2)
     (first_passed_on (key_violations c.args.compiled.now c.args.new.now (c.loop-place.place + 1) c.index-keys-place.result) _ c.in_err-rows.field-0.0
     (λ v first. ap (λ keys. slice_get (keys_violations c.args.compiled.now c.args.new.now 1 keys) 0) (sym c.requires.keys)

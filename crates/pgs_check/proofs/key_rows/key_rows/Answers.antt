@@ -4,7 +4,7 @@ use Rattle.pgs_match.specs.Planned.{most_edges}
 use Rattle.pgs_keyindex.specs.Standing.{values_in_scope}
 use Rattle.pgs_check.specs.Clashes.{tuples_of}
 use Rattle.pgs_check.specs.Rows.{change_of}
-use Rattle.pgs_check.proofs.Steps.{map_next, rate_more, rate_all, rate_from, sum_last}
+use Rattle.pgs_check.proofs.Steps.{map_next, rate_more, rate_all, rate_from, few_all}
 use Rattle.pgs_check.proofs.key_rows.key_rows.Goals as goal
 
 pub loop-elem-preserved : goal.loop-elem-preserved
@@ -30,7 +30,7 @@ returns-clause-cost g c = λ most each.
 
 pub returns-clause-few : goal.returns-clause-few
 returns-clause-few g c = λ most each.
-    rate_all ((most + 2) ^ most_edges c.args.key.now) c.args.elems.now c.loop-elem.elem-index c.loop-elem.auto.elem-index-end 0
+    few_all ((most + 2) ^ most_edges c.args.key.now) c.args.elems.now c.loop-elem.elem-index c.loop-elem.auto.elem-index-end
     (sum_by (λ row. length (tuples_of row)) c.loop-elem.rows.items) (c.loop-elem.invariant.few most each)
 
 pub returns-in_err-row-clause-cost : goal.returns-in_err-row-clause-cost
