@@ -1,6 +1,6 @@
 -- What is found first, and else what is found after.
-use Rattle.std.proofs.Common.{◌≡◌, Bool, true, Option, Some, None, Result, sym, ap, subst}
-use Rattle.std.specs.Prelude.{IfOk}
+use Rattle.std.proofs.Common.{◌≡◌, Bool, true, false, Option, Some, None, Result, refl, sym, ap, subst, true≢false}
+use Rattle.std.specs.Prelude.{IfOk, not}
 use Rattle.pgs_violation.specs.declared.violation.Violation.{Violation}
 use Rattle.pgs_check.specs.Rows.{first_if, first_or}
 
@@ -13,3 +13,7 @@ or_next r first after none is = subst (λ x. IfOk r (λ found. found ≡ x)) (sy
 
 pub asked_is : (asked : Bool) (found : Option Violation) → asked ≡ true → first_if asked found ≡ found
 asked_is asked found is = ap (λ b. first_if b found) is
+
+pub is_asked : (asked : Bool) → not asked ≡ false → asked ≡ true
+is_asked true is = refl
+is_asked false is = absurd (true≢false is)
