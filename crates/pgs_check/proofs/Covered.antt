@@ -1,10 +1,9 @@
 -- What the passes over rows find: nothing that they see is less, and what they find is seen.
-use Rattle.std.proofs.Common.{◌≡◌, ℕ, Bool, true, false, cond, ⊎_elim, List, [], ◌∷◌, map, Option, Some, None, refl, sym, ◌∙◌, ap, subst, true≢false, arith, Ordering, Less, Equal, Greater, is_lt}
+use Rattle.std.proofs.Common.{◌≡◌, ℕ, Bool, true, false, cond, ⊎_elim, List, [], ◌∷◌, map, Option, Some, None, refl, sym, ◌∙◌, ap, subst, true≢false, arith, Less, Greater, is_lt}
 use Rattle.std.specs.Prelude.{Contains, not}
 use Rattle.std.specs.Ordering.{ordering_then, ordering_reverse}
 use Rattle.std.specs.Option.{option_map_or}
 use Rattle.std.specs.Cmp.{tied_itself}
-use Rattle.std.specs.List.{list_all}
 use Rattle.std.proofs.lemmas.Bool.{and_parts}
 use Rattle.pgs_base.specs.declared.element.Elem.{Elem}
 use Rattle.pgs_base.specs.declared.part.Part.{Part}

@@ -1,5 +1,5 @@
 -- Rows of changed elements, key by key, make an index stand for the changed graph.
-use Rattle.std.proofs.Common.{◌≡◌, ℕ, zero, suc, ◌+◌, ◌<◌, ◌≤◌, Bool, true, false, cond, ◌⊎◌, inl, inr, ⊎_elim, List, [], ◌∷◌, ◌++◌, map, length, Option, Some, None, slice_get, refl, sym, ◌∙◌, ap, subst, true≢false, arith, Ordering, Less, Equal, Greater, is_lt, is_eq}
+use Rattle.std.proofs.Common.{◌≡◌, ℕ, zero, suc, ◌+◌, ◌<◌, ◌≤◌, Bool, true, false, cond, ◌⊎◌, inl, inr, ⊎_elim, List, [], ◌∷◌, ◌++◌, map, length, Option, Some, slice_get, refl, sym, ◌∙◌, ap, subst, true≢false, arith, Ordering, Less, Equal, Greater, is_lt, is_eq}
 use Rattle.std.specs.Prelude.{Contains, filter_map}
 use Rattle.std.specs.Ordering.{nat_cmp, bool_cmp, ordering_then, ordering_reverse}
 use Rattle.std.specs.Option.{option_map_or}
@@ -10,8 +10,6 @@ use Rattle.std.specs.List.Sorted.{IsStrictlySortedBy}
 use Rattle.std.specs.Map.{keys_of}
 use Rattle.std.proofs.lemmas.Bool.{and_parts, and_from, cases_order}
 use Rattle.std.proofs.lemmas.List.Elements.{Contains-append_left, Contains-append_right, Contains-append_cases}
-use Rattle.std.proofs.lemmas.List.Folds.{list_all-append}
-use Rattle.std.proofs.lemmas.Map.Lookups.{exact_unsigned}
 use Rattle.std.proofs.lemmas.Option.{slice_get_within}
 use Rattle.pgs_base.specs.declared.element.Elem.{Elem}
 use Rattle.pgs_base.specs.declared.element.Elem.TheVariants.{Node, Edge}
@@ -37,7 +35,7 @@ use Rattle.pgs_check_affected.specs.Local.{is_one_of}
 use Rattle.pgs_check.specs.Rows.{change_of}
 use Rattle.pgs_check.specs.Standing.{member_of_change, ChangeEachOnce, AreRows, AreChanges, index_changed}
 use Rattle.pgs_check.proofs.KeyFirst.{listed_there, row_there, row_from, no_front}
-use Rattle.pgs_check.proofs.Shared.{Values, holds, IsSharing, shared_none}
+use Rattle.pgs_check.proofs.Shared.{Values, holds, shared_none}
 
 -- ---- changes ascend
 

@@ -1,6 +1,6 @@
 -- The first violation of a key in the changed graph is the first that the rows of changed elements make.
-use Rattle.std.proofs.Common.{◌≡◌, ◌↔◌, ℕ, Bool, true, false, cond, ◌⊎◌, inl, inr, ⊎_elim, List, [], ◌∷◌, ◌++◌, map, Option, Some, None, is_some, slice_get, refl, sym, ◌∙◌, ap, subst, true≢false, arith, Ordering, Less, Equal, Greater, is_lt}
-use Rattle.std.specs.Prelude.{Contains, filter_map, option_and_then, if◌then◌else◌}
+use Rattle.std.proofs.Common.{◌≡◌, ℕ, Bool, true, false, ⊎_elim, List, [], ◌∷◌, ◌++◌, map, Option, Some, None, is_some, slice_get, refl, sym, ◌∙◌, ap, subst, true≢false, arith, Ordering, Less, Equal, Greater, is_lt}
+use Rattle.std.specs.Prelude.{Contains, filter_map, option_and_then}
 use Rattle.std.specs.Option.{option_map_or}
 use Rattle.std.specs.Ordering.{ordering_reverse}
 use Rattle.std.specs.List.{cons_option}
@@ -12,7 +12,6 @@ use Rattle.pgs_base.specs.OrderLaws.{elem_cmp_total, exact_elem}
 use Rattle.std.specs.Cmp.{Equal-is, eq_by_cmp_equiv}
 use Rattle.std.proofs.lemmas.Map.Views.{Contains-from_any, list_any-from_Contains}
 use Rattle.pgs_syntax.specs.declared.key.Key.{Key}
-use Rattle.pgs_syntax.specs.declared.key.Qualifiers.{Qualifiers}
 use Rattle.pgs_syntax.specs.declared.resolved.Resolved.{Resolved}
 use Rattle.pgs_syntax.specs.KeyValues.{scope_of, key_values}
 use Rattle.pgs_syntax.specs.Matches.{same_elem}
@@ -28,10 +27,10 @@ use Rattle.pgs_keyindex.specs.Standing.{values_in_scope}
 use Rattle.pgs_check_affected.specs.Local.{is_one_of}
 use Rattle.pgs_check.specs.declared.rule.Rule.{Rule}
 use Rattle.pgs_check.specs.declared.rule.Rule.TheVariants as rules
-use Rattle.pgs_check.specs.Clashes.{clash, clash_by, tuples_of, with_owners, with_earlier, IsOwner}
+use Rattle.pgs_check.specs.Clashes.{clash, clash_by, tuples_of, with_owners, IsOwner}
 use Rattle.pgs_check.specs.Rows.{change_of, found_by, found_in, first_found, first_if, first_or, first_outside, least_shared, first_of_rows}
 use Rattle.pgs_check.proofs.Firsts.{first_append, none_given, same_first}
-use Rattle.pgs_check.proofs.Shared.{Values, holds, IsSharing, row_found, row_given, holds_found, shared_first, none_shared, shared_none}
+use Rattle.pgs_check.proofs.Shared.{Values, holds, IsSharing, row_found, row_given, shared_first, none_shared, shared_none}
 use Rattle.pgs_check.proofs.Covered.{covers, covers_found, owners_cover, owners_all, earlier_keeps, earlier_covers, earlier_all, clash_sooner, clash_later, elems_of}
 
 -- ---- small steps

@@ -1,5 +1,5 @@
 -- Each tuple of an exclusive key has one owner beside the changed elements, or none.
-use Rattle.std.proofs.Common.{◌≡◌, ◌↔◌, ℕ, zero, suc, ◌+◌, ◌≤◌, Bool, true, false, cond, ⊎_elim, List, [], ◌∷◌, length, slice_get, Option, Some, None, is_some, refl, sym, ◌∙◌, ap, subst, true≢false, arith, Ordering, Less, Equal, Greater}
+use Rattle.std.proofs.Common.{◌≡◌, ℕ, zero, suc, Bool, true, false, cond, ⊎_elim, List, [], ◌∷◌, slice_get, Option, Some, refl, sym, ◌∙◌, ap, true≢false, Ordering, Less, Equal, Greater}
 use Rattle.std.specs.Prelude.{Contains, ◌&&◌, not, find, filter_map}
 use Rattle.std.specs.Ordering.{ordering_reverse}
 use Rattle.std.specs.Option.{option_map_or}

@@ -1,7 +1,7 @@
 -- The first 29 of a key is that of the least two elements that share a key value, with the least value that they share.
-use Rattle.std.proofs.Common.{◌≡◌, ◌↔◌, ℕ, Bool, true, false, cond, ◌⊎◌, inl, inr, ⊎_elim, List, [], ◌∷◌, Option, Some, None, is_some, slice_get, refl, sym, ◌∙◌, ap, subst, true≢false, Ordering, Less, Equal, Greater, is_lt}
+use Rattle.std.proofs.Common.{◌≡◌, ℕ, Bool, true, false, cond, ◌⊎◌, inl, inr, ⊎_elim, List, [], ◌∷◌, Option, Some, None, is_some, slice_get, refl, sym, ◌∙◌, ap, true≢false, Ordering, Less, Equal, Greater, is_lt}
 use Rattle.std.specs.Prelude.{Contains, find, filter_map, option_map, option_and_then, if◌then◌else◌}
-use Rattle.std.specs.Ordering.{nat_cmp, ordering_then, ordering_reverse}
+use Rattle.std.specs.Ordering.{ordering_then, ordering_reverse}
 use Rattle.std.specs.Option.{option_map_or}
 use Rattle.std.specs.BTreeMap.{is_at}
 use Rattle.std.specs.Cmp.{IsTotalOrder, nat_cmp_total, tied_itself}

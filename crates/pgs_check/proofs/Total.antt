@@ -1,23 +1,20 @@
 -- What a whole check takes, by the degrees near a delta.
 use Rattle.std.proofs.Common.{◌≡◌, ℕ, zero, suc, ◌+◌, ◌*◌, ◌^◌, ◌≤◌, true, List, [], ◌∷◌, ◌++◌, map, length, refl, sym, ◌∙◌, ap, subst, ⊎_elim, eq-eqb, arith}
-use Rattle.std.specs.Prelude.{Contains, filter, ◌==◌}
+use Rattle.std.specs.Prelude.{Contains, filter}
 use Rattle.std.specs.Map.{keys_of}
 use Rattle.std.proofs.Math.Nat.{mul-le-mul_right}
 use Rattle.std.proofs.lemmas.Bool.{or_left}
 use Rattle.std.proofs.lemmas.List.Elements.{Contains-append_left}
 use Rattle.pgs_base.specs.declared.element.NodeId.{NodeId}
-use Rattle.pgs_base.specs.declared.element.EdgeId.{EdgeId}
 use Rattle.pgs_base.specs.declared.element.Elem.{Elem}
 use Rattle.pgs_base.specs.declared.element.Elem.TheVariants.{Node, Edge}
 use Rattle.pgs_base.specs.Graph.{Graph}
 use Rattle.pgs_graph.specs.declared.delta.Delta.{Delta}
-use Rattle.pgs_graph.specs.Reads.{degree_of}
 use Rattle.pgs_overlay.specs.Standing.{row_count}
 use Rattle.pgs_syntax.specs.Matches.{elements}
 use Rattle.pgs_syntax.proofs.Members.{contains_none, contains_cases, contains_later}
 use Rattle.pgs_match.specs.Near.{is_at_element}
 use Rattle.pgs_check_affected.specs.Changes.{elems_of}
-use Rattle.pgs_check_affected.specs.Local.{is_one_of}
 use Rattle.pgs_check_affected.specs.Touched.{is_beside, touched, is_near, AreSparse}
 use Rattle.pgs_check.specs.Untyped.{HaveDegreesWithin}
 use Rattle.pgs_check.proofs.Bounds.{whole_most}

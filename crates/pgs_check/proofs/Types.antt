@@ -1,12 +1,12 @@
 -- An element that a sound delta doesn't name and, for an edge, whose ends it doesn't name, is typed before and after it or neither; so the
 -- first 25 and 26 are found among the others.
-use Rattle.std.proofs.Common.{◌≡◌, ℕ, Bool, true, false, cond, ◌⊎◌, inl, inr, ⊎_elim, List, [], ◌∷◌, ◌++◌, map, Option, Some, None, is_some, slice_get, refl, sym, ◌∙◌, ap, subst, true≢false, eq-eqb, arith, Ordering, Less, Equal, Greater, is_lt}
-use Rattle.std.specs.Prelude.{Contains, ◌==◌, filter, filter_map, flat_map, option_map, option_and_then, not, if◌then◌else◌}
+use Rattle.std.proofs.Common.{◌≡◌, Bool, true, false, ⊎_elim, List, [], ◌∷◌, ◌++◌, Option, Some, None, is_some, slice_get, refl, sym, ◌∙◌, ap, subst, true≢false, eq-eqb, arith, Ordering, Less, Equal, Greater, is_lt}
+use Rattle.std.specs.Prelude.{Contains, filter, filter_map, flat_map, option_map, option_and_then, not, if◌then◌else◌}
 use Rattle.std.specs.BTreeMap.{is_at}
 use Rattle.std.specs.Option.{option_map_or}
 use Rattle.std.specs.Ordering.{ordering_reverse}
 use Rattle.std.specs.Cmp.{IsTotalOrder, Equal-is, eq_by_cmp_equiv, tied_itself}
-use Rattle.std.specs.List.{cons_option, list_any}
+use Rattle.std.specs.List.{cons_option}
 use Rattle.std.specs.List.Sorted.{IsStrictlySortedBy}
 use Rattle.std.specs.Map.{lookup, keys_of}
 use Rattle.std.proofs.lemmas.List.Elements.{Contains-append_left, Contains-append_right}
@@ -18,7 +18,6 @@ use Rattle.pgs_base.specs.declared.element.EdgeId.{EdgeId}
 use Rattle.pgs_base.specs.declared.row.NodeRow.{NodeRow}
 use Rattle.pgs_base.specs.declared.row.EdgeRow.{EdgeRow}
 use Rattle.pgs_base.specs.Graph.{Graph, node_cmp, edge_cmp, node_at, edge_at, is_graph}
-use Rattle.pgs_base.specs.Order.{ascends}
 use Rattle.pgs_base.specs.Pair.{pair_of}
 use Rattle.pgs_base.proofs.Ascending.{ascends_decides}
 use Rattle.pgs_base.proofs.Lookups.{found_at_place}
@@ -27,11 +26,9 @@ use Rattle.pgs_graph.specs.declared.scan.End.{End}
 use Rattle.pgs_graph.specs.declared.scan.End.TheVariants.{Source, Target}
 use Rattle.pgs_graph.specs.Changed.{changed, is_sound, after_changes}
 use Rattle.pgs_graph.specs.Reads.{end_of, ends_at, edges_with, out_edges_of, in_edges_of}
-use Rattle.pgs_graph.proofs.Deltas.{node_cmp_total, edge_cmp_total, exact_node, exact_edge, ascending_nodes, ascending_edges, ascending_changed_nodes, ascending_changed_edges, changed_graph, node_after, edge_after}
+use Rattle.pgs_graph.proofs.Deltas.{node_cmp_total, edge_cmp_total, exact_node, exact_edge, ascending_nodes, ascending_edges, ascending_changed_nodes, changed_graph, node_after, edge_after}
 use Rattle.pgs_syntax.specs.declared.resolved.Resolved.{Resolved}
-use Rattle.pgs_syntax.specs.Join.{Triple}
-use Rattle.pgs_syntax.specs.Least.{IsLeast}
-use Rattle.pgs_syntax.specs.Typed.{is_typed_node, is_typed_triple, is_typed_edge, triple_at}
+use Rattle.pgs_syntax.specs.Typed.{is_typed_triple, is_typed_edge, triple_at}
 use Rattle.pgs_syntax.proofs.Members.{contains_none, contains_cases, contains_first, contains_later, kept_given, is_less}
 use Rattle.pgs_violation.specs.declared.violation.Violation.{Violation}
 use Rattle.pgs_violation.specs.declared.violation.Violation.TheVariants.{UntypedEdge}

@@ -1,5 +1,5 @@
 -- 25 and 26: the violations of no key; which elements of a changed graph can make one, and the first that does.
-use Rattle.std.specs.Prelude.{◌≤◌, ◌++◌, ℕ, Bool, false, List, [], ◌∷◌, Option, Some, None, Contains, option_and_then, is_some, filter_map, flat_map, not, if◌then◌else◌}
+use Rattle.std.specs.Prelude.{◌≤◌, ◌++◌, ℕ, Bool, false, List, [], ◌∷◌, Option, Some, Contains, option_and_then, is_some, filter_map, flat_map, not, if◌then◌else◌}
 use Rattle.std.specs.Option.{option_map_or}
 use Rattle.std.specs.Ordering.{is_lt}
 use Rattle.std.specs.Map.{keys_of}

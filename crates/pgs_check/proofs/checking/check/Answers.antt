@@ -1,5 +1,4 @@
-use Rattle.std.proofs.Common.{◌≡◌, ◌+◌, ◌*◌, ◌^◌, ◌≤◌, [], None, length, slice_get, sym, ap, subst, ◌∙◌, arith}
-use Rattle.std.specs.Map.{keys_of}
+use Rattle.std.proofs.Common.{◌+◌, ◌*◌, ◌^◌, ◌≤◌, length, sym, ap, subst, ◌∙◌}
 use Rattle.std.proofs.lemmas.Result.{err_from_is_err_and}
 use Rattle.pgs_base.specs.Graph.{is_graph}
 use Rattle.pgs_graph.proofs.Deltas.{changed_graph}

@@ -1,8 +1,6 @@
-use Rattle.std.proofs.Common.{◌≡◌, ◌+◌, ◌*◌, ◌^◌, ◌≤◌, true, length, sym, ap, subst, ◌∙◌, arith}
+use Rattle.std.proofs.Common.{◌≡◌, ◌+◌, ◌*◌, ◌^◌, ◌≤◌, true, length, sym, ap, subst, ◌∙◌}
 use Rattle.std.specs.List.{All, sum_by}
 use Rattle.std.proofs.lemmas.Result.{err_from_is_err_and}
-use Rattle.pgs_base.specs.declared.element.Elem.{Elem}
-use Rattle.pgs_base.specs.Graph.{Graph}
 use Rattle.pgs_base.specs.Order.{ascends, elem_cmp}
 use Rattle.pgs_syntax.specs.declared.key.Key.{Key}
 use Rattle.pgs_match.specs.Near.{IsSparse}

@@ -1,9 +1,9 @@
-use Rattle.std.proofs.Common.{◌≡◌, ◌+◌, ◌*◌, ◌^◌, ◌≤◌, [], ◌++◌, length, slice_get, refl, sym, ap, subst, ◌∙◌, arith}
+use Rattle.std.proofs.Common.{◌≡◌, ◌+◌, ◌*◌, ◌^◌, length, slice_get, refl, sym, ap, subst, ◌∙◌, arith}
 use Rattle.std.proofs.lemmas.Result.{err_from_is_err_and}
 use Rattle.pgs_violation.specs.Violations.{key_violations, keys_violations}
 use Rattle.pgs_keyindex.specs.Standing.{key_at}
 use Rattle.pgs_check_affected.specs.Touched.{touched}
-use Rattle.pgs_check.specs.Standing.{AreChanges, IsFirstOf}
+use Rattle.pgs_check.specs.Standing.{AreChanges}
 use Rattle.pgs_check.proofs.Indexed.{no_changes, more_changes, key_none}
 use Rattle.pgs_check.proofs.KeyList.{valid_key, key_number, passed_key, first_key, no_keys_left}
 use Rattle.pgs_check.proofs.OneKey.{first_passed_on}

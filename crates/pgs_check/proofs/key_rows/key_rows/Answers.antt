@@ -1,4 +1,4 @@
-use Rattle.std.proofs.Common.{◌≡◌, ◌+◌, ◌*◌, ◌^◌, ◌≤◌, length, map, take, arith}
+use Rattle.std.proofs.Common.{◌+◌, ◌*◌, ◌^◌, length, arith}
 use Rattle.std.specs.List.{sum_by}
 use Rattle.pgs_match.specs.Planned.{most_edges}
 use Rattle.pgs_keyindex.specs.Standing.{values_in_scope}

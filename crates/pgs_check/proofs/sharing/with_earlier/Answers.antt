@@ -1,4 +1,4 @@
-use Rattle.std.proofs.Common.{List, Option, ◌≡◌, ◌∙◌, sym, ap, cond, Some, None, refl}
+use Rattle.std.proofs.Common.{List, Option, ◌∙◌, ap, cond, Some, None, refl}
 use Rattle.std.specs.BTreeMap as tree
 use Rattle.std.specs.Map.{lookup}
 use Rattle.std.specs.BTreeMap.{is_at}
@@ -6,7 +6,7 @@ use Rattle.pgs_base.specs.declared.element.Elem.{Elem}
 use Rattle.pgs_base.specs.declared.part.Part.{Part}
 use Rattle.pgs_base.specs.Order.{tuple_cmp}
 use Rattle.pgs_keyindex.specs.Rows.{has_tuple}
-use Rattle.pgs_check.specs.Clashes.{with_earlier, with_holders, tuples_of}
+use Rattle.pgs_check.specs.Clashes.{with_earlier, with_holders}
 use Rattle.pgs_check.proofs.Steps.{earlier_step, earlier_done}
 use Rattle.pgs_check.proofs.sharing.with_earlier.Goals as goal
 

@@ -1,4 +1,4 @@
-use Rattle.std.proofs.Common.{◌<◌, length, arith}
+use Rattle.std.proofs.Common.{arith}
 use Rattle.std.specs.Map.{keys_of}
 use Rattle.pgs_check.specs.Untyped.{is_untyped_edge}
 use Rattle.pgs_check.proofs.Steps.{least_step, least_done, key_at_place, keys_below, keys_end}

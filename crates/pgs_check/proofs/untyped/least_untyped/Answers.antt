@@ -1,8 +1,7 @@
-use Rattle.std.proofs.Common.{◌≡◌, ◌+◌, ◌*◌, ◌≤◌, None, length, ap, sym, subst, ◌∙◌}
+use Rattle.std.proofs.Common.{None, length, ap, sym, subst, ◌∙◌}
 use Rattle.std.specs.Prelude.{Contains, flat_map}
 use Rattle.std.specs.Map.{keys_of}
-use Rattle.pgs_overlay.specs.Standing.{row_count}
-use Rattle.pgs_check.specs.Untyped.{is_untyped_edge, least_edge, edges_at, HaveDegreesWithin}
+use Rattle.pgs_check.specs.Untyped.{is_untyped_edge, least_edge, edges_at}
 use Rattle.pgs_check.proofs.Steps.{least_append}
 use Rattle.pgs_check.proofs.Bounds.{types_sum}
 use Rattle.pgs_check.proofs.untyped.least_untyped.Goals as goal

@@ -1,5 +1,4 @@
-use Rattle.std.proofs.Common.{◌≡◌, ◌+◌, ◌≤◌, ◌∙◌, ap, None, length, take, arith}
-use Rattle.std.specs.List.{sum_by}
+use Rattle.std.proofs.Common.{◌∙◌, ap, None, length, arith}
 use Rattle.std.proofs.lemmas.List.Sums.{sum_by-take-le}
 use Rattle.pgs_check.specs.Clashes.{tuples_of, with_holders, with_owners}
 use Rattle.pgs_check.proofs.Steps.{owners_step, owners_done, sum_next}
