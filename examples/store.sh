@@ -233,14 +233,15 @@ limited() { (trap '' XFSZ; ulimit -f 8; exec "$program" apply whole <many.txt); 
 ends "a limit on the size of files" 5 "whole.a: reaches the limit on a file's size" limited
 seq 1 1000 >report.a
 cp report.a report.txt
-ends "load over a file of something else" 5 "report.a: is a file of something else" "$program" load report
+made() { "$program" load "$1" <kept_schema.txt; }
+ends "load over a file of something else" 5 "report.a: is a file of something else" made report
 holds "that file stands" cmp -s report.a report.txt
 mkfifo pipe.a
 ends "a pipe as a store's file" 5 "pipe.a: is not a regular file" "$program" apply pipe
 ln -s /dev/null device.a
-ends "a device as a store's file" 5 "device.a: is not a regular file" "$program" load device
+ends "a device as a store's file" 5 "device.a: is not a regular file" made device
 mkdir folder.a
-ends "a folder as a store's file" 5 "folder.a: is not a regular file" "$program" load folder
+ends "a folder as a store's file" 5 "folder.a: is not a regular file" made folder
 ends "a store in no folder" 5 "missing/s.a: no such file or folder" "$program" recover missing/s
 printf 'words refused 35\n' >refused.txt
 for word in '' help --help -h; do

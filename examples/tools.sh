@@ -10,6 +10,8 @@ work=$(mktemp -d) || exit 1
 trap 'rm -rf "$work"' EXIT
 cd "$work" || exit 1
 different=0
+# What is said of a command, whose own output may go into a file.
+exec 5>&1
 
 # Says whether a command ended with a status: ends NAME STATUS COMMAND..
 ends() {
@@ -18,9 +20,9 @@ ends() {
   "$@"
   found=$?
   if [ "$found" = "$wanted" ]; then
-    echo "$name: as expected"
+    echo "$name: as expected" >&5
   else
-    echo "$name: different, status $found"
+    echo "$name: different, status $found" >&5
     different=1
   fi
 }

@@ -1,0 +1,46 @@
+-- What the calls of a check of one key take, at each of its exits.
+use Rattle.std.proofs.Common.{ℕ, ◌+◌, ◌*◌, ◌^◌, ◌≤◌, List, arith}
+use Rattle.std.specs.List.{All}
+use Rattle.std.proofs.Math.Nat.{mul-le-mul_left}
+use Rattle.pgs_base.specs.declared.element.Elem.{Elem}
+use Rattle.pgs_base.specs.Graph.{Graph}
+use Rattle.pgs_match.specs.Near.{IsSparse}
+use Rattle.pgs_match.proofs.Nearby.{within_less}
+use Rattle.pgs_check_affected.specs.Touched.{IsSparseInBoth}
+use Rattle.pgs_check.proofs.Bounds.{power_more, low, high, key_most}
+
+-- what is sparse within more edges is within fewer
+pub fewer_edges : (g h : Graph) (less more most : ℕ) → less ≤ more → (elems : List Elem) → All (λ elem. IsSparseInBoth g h more elem most) elems →
+    All (λ elem. IsSparse h less elem most) elems
+fewer_edges g h less more most within elems sparse = λ k d below id near.
+    (sparse k d below).1 id (within_less h _ less more id within near)
+
+module _ (most own edges : ℕ) (within : own ≤ edges) (u count : ℕ) (few : count ≤ 80 * u * (most + 2) ^ edges) where
+  rows_more : count * (32 * (most + 2) ^ (own + 1)) ≤ count * (32 * high most edges)
+  rows_more =
+      let power = power_more most (own + 1) (edges + 1) (omega arith) in
+      mul-le-mul_left count (omega arith)
+
+  owners_more : count * (most + 2) ^ own ≤ count * low most edges
+  owners_more = mul-le-mul_left count (power_more most own edges within)
+
+  pub whole_key : (start searched rows owned sum : ℕ) → searched ≤ start + 1280 * u * (most + 2) ^ (edges + 1) → rows ≤ searched + count * (32 * (most + 2) ^ (own + 1)) →
+      owned ≤ rows + sum → sum ≤ count * (most + 2) ^ own → owned ≤ start + 2048 * u * (most + 2) ^ (2 * edges + 2)
+  whole_key start searched rows owned sum one two three own_most =
+      let more = rows_more in
+      let most_owned = owners_more in
+      let all = key_most most edges u count (1280 * u * (most + 2) ^ (edges + 1)) (count * (32 * (most + 2) ^ (own + 1))) sum (omega arith) few more (omega arith) in
+      omega arith
+
+  pub rows_only : (start searched rows : ℕ) → searched ≤ start + 1280 * u * (most + 2) ^ (edges + 1) → rows ≤ searched + count * (32 * (most + 2) ^ (own + 1)) →
+      rows ≤ start + 2048 * u * (most + 2) ^ (2 * edges + 2)
+  rows_only start searched rows one two =
+      let more = rows_more in
+      let all = key_most most edges u count (1280 * u * (most + 2) ^ (edges + 1)) (count * (32 * (most + 2) ^ (own + 1))) 0 (omega arith) few more (omega arith) in
+      omega arith
+
+pub search_only : (most edges u start searched : ℕ) → searched ≤ start + 1280 * u * (most + 2) ^ (edges + 1) →
+    searched ≤ start + 2048 * u * (most + 2) ^ (2 * edges + 2)
+search_only most edges u start searched one =
+    let all = key_most most edges u 0 (1280 * u * (most + 2) ^ (edges + 1)) 0 0 (omega arith) (omega arith) (omega arith) (omega arith) in
+    omega arith

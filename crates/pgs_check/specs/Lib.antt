@@ -1,0 +1,5 @@
+pub mod Clashes
+pub mod Costs
+pub mod Rows
+pub mod Standing
+pub mod Untyped

@@ -1,0 +1,194 @@
+//! 29: changed elements that share a key value with each other, or with an element that isn't changed.
+
+ghost use Rattle.std.specs.Prelude.{◌≡◌, ◌↔◌, ◌+◌, ◌≤◌, ℕ, true, false, cond, None, Some, Option, List as Items, length, IfOk, OnOk, MatchResult};
+ghost use Rattle.std.specs.BTreeMap as tree;
+ghost use Rattle.std.specs.List.{list_any, sum_by};
+ghost use Rattle.pgs_base.specs.declared.element.Elem.{Elem};
+ghost use Rattle.pgs_base.specs.declared.part.Part.{Part};
+ghost use Rattle.pgs_base.specs.Order.{ascends, elem_cmp, tuple_cmp};
+ghost use Rattle.pgs_base.specs.Places.{IsKeyAt, IsKeyGap};
+ghost use Rattle.pgs_check_affected.specs.Local.{is_one_of};
+ghost use Rattle.pgs_keyindex.specs.Rows.{has_tuple, has_value, is_exclusive};
+ghost use Rattle.pgs_check.specs.Clashes.{IsOwner, tuples_of, with_holders, with_owners, with_earlier};
+ghost use Rattle.pgs_check.specs.Rows.{least_shared};
+
+use crate::clash::with_holder;
+use pgs_base::{Elem, Memory, Steps, Tuple};
+use pgs_keyindex::{KeyChange, KeyIndex};
+use pgs_violation::Violation;
+use std::alloc::Global;
+use std::collections::BTreeMap;
+use std::sync::ledger::Ledger;
+
+/// The owners of the key values of an exclusive key, of this number, before a change, and the elements that the change may alter.
+#[derive(Clone, Copy)]
+pub(crate) struct Owners<'a> {
+    pub(crate) index: &'a KeyIndex,
+    pub(crate) number: u32,
+    pub(crate) changed: &'a [Elem],
+}
+
+/// The key values of a row.
+fn tuples_of(row: &KeyChange) -> &[Tuple]
+    ensures { result.now ≡ tuples_of row.now }
+{
+    match &row.values {
+        Some(tuples) => tuples.as_slice(),
+        None => &[],
+    }
+}
+
+// Where an element stands among those that ascend, or would stand.
+fn place_of(elems: &[Elem], elem: Elem) -> Result<usize, usize>
+    requires { ascends elem_cmp elems.now ≡ true }
+    ensures { MatchResult result (IsKeyAt elem_cmp elem elems.now) (IsKeyGap elem_cmp elem elems.now) }
+{
+    elems.binary_search(&elem)
+}
+
+// Whether an element is one of those that ascend.
+fn is_one_of(elems: &[Elem], elem: Elem) -> bool
+    requires { ascends elem_cmp elems.now ≡ true }
+    ensures { result ≡ is_one_of elems.now elem }
+{
+    place_of(elems, elem).is_ok()
+}
+
+impl<'a> Owners<'a> {
+    // The owner of a tuple, where it has one that isn't changed. One look-up.
+    fn unchanged<L: Ledger>(&self, tuple: &Tuple, steps: &mut Steps<L>) -> Option<Elem>
+        requires exclusive { is_exclusive self.now.index.now.exclusive self.now.number ≡ true }
+        requires ascending { ascends elem_cmp self.now.changed.now ≡ true }
+        ensures owner { (elem : Elem) → ((has_value self.now.index.now.rows self.now.number elem tuple.now ≡ true)
+            × (is_one_of self.now.changed.now elem ≡ false)) ↔ (result ≡ Some elem) }
+        ensures tick { steps.new ≡ steps.old + 1 }
+    {
+        let Some(owner) = self.index.owner_of(self.number, tuple, steps) else {
+            return None;
+        };
+        if is_one_of(self.changed, owner) {
+            None
+        } else {
+            Some(owner)
+        }
+    }
+
+    // What was found, or the least that an element makes with the unchanged owners of its tuples.
+    fn with_owners_of<L: Ledger>(
+        &self,
+        alloc: Global,
+        elem: Elem,
+        mut found: Option<Violation>,
+        tuples: &[Tuple],
+        steps: &mut Steps<L>,
+    ) -> Result<Option<Violation>, Memory>
+        requires exclusive { is_exclusive self.now.index.now.exclusive self.now.number ≡ true }
+        requires ascending { ascends elem_cmp self.now.changed.now ≡ true }
+        ensures least { (owner : Items Part → Option Elem) → IsOwner self.now.index.now.rows self.now.number self.now.changed.now owner →
+            IfOk result (λ least. least ≡ with_holders self.now.number owner elem found tuples.now) }
+        ensures no_step_back { steps.old ≤ steps.new }
+        ensures cost { steps.new ≤ steps.old + length tuples.now }
+    {
+        for tuple in tuples {
+            let owner = self.unchanged(tuple, steps);
+            let least = with_holder(alloc, self.number, elem, found, tuple, owner)?;
+            found = least;
+        }
+        Ok(found)
+    }
+
+    // The least that rows make with the unchanged owners of their tuples.
+    fn with_owners<L: Ledger>(
+        &self,
+        alloc: Global,
+        rows: &[KeyChange],
+        steps: &mut Steps<L>,
+    ) -> Result<Option<Violation>, Memory>
+        requires exclusive { is_exclusive self.now.index.now.exclusive self.now.number ≡ true }
+        requires ascending { ascends elem_cmp self.now.changed.now ≡ true }
+        ensures least { (owner : Items Part → Option Elem) → IsOwner self.now.index.now.rows self.now.number self.now.changed.now owner →
+            IfOk result (λ least. least ≡ with_owners self.now.number owner None rows.now) }
+        ensures no_step_back { steps.old ≤ steps.new }
+        ensures cost { steps.new ≤ steps.old + sum_by (λ row. length (tuples_of row)) rows.now }
+    {
+        let mut found = None;
+        for row in rows {
+            let tuples = tuples_of(row);
+            let least = self.with_owners_of(alloc, row.elem, found, tuples, steps)?;
+            found = least;
+        }
+        Ok(found)
+    }
+
+    /// The least violation that rows make by their key values, with the unchanged owners of these and among each other. One look-up for
+    /// each key value.
+    pub(crate) fn least_shared<L: Ledger>(
+        &self,
+        alloc: Global,
+        rows: &[KeyChange],
+        steps: &mut Steps<L>,
+    ) -> Result<Option<Violation>, Memory>
+        requires exclusive { is_exclusive self.now.index.now.exclusive self.now.number ≡ true }
+        requires ascending { ascends elem_cmp self.now.changed.now ≡ true }
+        ensures least { (owner : Items Part → Option Elem) → IsOwner self.now.index.now.rows self.now.number self.now.changed.now owner →
+            IfOk result (λ least. least ≡ least_shared self.now.number owner rows.now) }
+        ensures no_step_back { steps.old ≤ steps.new }
+        ensures cost { steps.new ≤ steps.old + sum_by (λ row. length (tuples_of row)) rows.now }
+    {
+        let found = self.with_owners(alloc, rows, steps)?;
+        with_earlier(alloc, self.number, found, rows)
+    }
+}
+
+// What was found, or the least that an element makes with those that a table has for its tuples.
+fn with_holders<'a>(
+    alloc: Global,
+    table: &BTreeMap<&'a Tuple, Elem>,
+    number: u32,
+    elem: Elem,
+    mut found: Option<Violation>,
+    tuples: &'a [Tuple],
+) -> Result<Option<Violation>, Memory>
+    ensures { IfOk result (λ least. least ≡ with_holders number (λ q. tree.get_by (λ k. tuple_cmp q k.now) table.now) elem found tuples.now) }
+{
+    for tuple in tuples {
+        let holder = table.get(&tuple).copied();
+        let least = with_holder(alloc, number, elem, found, tuple, holder)?;
+        found = least;
+    }
+    Ok(found)
+}
+
+// Makes an element the holder of each of its tuples.
+fn enter<'a>(
+    table: &mut BTreeMap<&'a Tuple, Elem>,
+    elem: Elem,
+    tuples: &'a [Tuple],
+) -> Result<(), Memory>
+    ensures { OnOk result ((q : Items Part) → tree.get_by (λ k. tuple_cmp q k.now) table.new
+        ≡ cond (has_tuple q tuples.now) (Some elem) (tree.get_by (λ k. tuple_cmp q k.now) table.old)) }
+{
+    for tuple in tuples {
+        table.insert(tuple, elem)?;
+    }
+    Ok(())
+}
+
+// What was found, or the least that rows make among each other. One table serves all rows: it has the last row before with each tuple.
+fn with_earlier(
+    alloc: Global,
+    number: u32,
+    mut found: Option<Violation>,
+    rows: &[KeyChange],
+) -> Result<Option<Violation>, Memory>
+    ensures { IfOk result (λ least. least ≡ with_earlier number (λ q. None) found rows.now) }
+{
+    let mut table = BTreeMap::new(alloc);
+    for row in rows {
+        let tuples = tuples_of(row);
+        let least = with_holders(alloc, &table, number, row.elem, found, tuples)?;
+        found = least;
+        enter(&mut table, row.elem, tuples)?;
+    }
+    Ok(found)
+}

@@ -1,0 +1,291 @@
+//! 25 and 26 of a changed graph, found among the elements of the delta and the edges at its nodes.
+
+ghost use Rattle.std.specs.Prelude.{◌≡◌, ◌+◌, ◌*◌, ◌≤◌, ℕ, true, cond, [], ◌∷◌, None, length, filter_map, flat_map, slice_get, option_map};
+ghost use Rattle.std.specs.Map.{keys_of};
+ghost use Rattle.pgs_base.specs.Pair.{pair_of};
+ghost use Rattle.pgs_graph.specs.Changed.{changed, is_sound};
+ghost use Rattle.pgs_graph.specs.Reads.{edge_row, out_edges_of, in_edges_of, degree_of};
+ghost use Rattle.pgs_overlay.specs.Standing.{row_count};
+ghost use Rattle.pgs_syntax.specs.Typed.{is_typed_edge};
+ghost use Rattle.pgs_violation.specs.declared.violation.Violation.TheVariants.{UntypedEdge};
+ghost use Rattle.pgs_check.specs.Untyped.{HaveDegreesWithin, untyped_violations, untyped_change, is_untyped_edge, is_found_before, least_edge, edges_at, touched_edges};
+
+use pgs_base::{EdgeId, EdgeRow, NodeId, NodeRow, Steps};
+use pgs_conform::{Compiled, Pair, edge_typed, node_typed};
+use pgs_graph::{Delta, EdgeRef, GraphRead, NodeRef};
+use pgs_overlay::Overlay;
+use pgs_tables::Tables;
+use pgs_violation::Violation;
+use std::sync::ledger::Ledger;
+
+// 25 for a node that a change leaves untyped. No look-up.
+fn untyped_change(compiled: &Compiled, change: &(NodeId, Option<NodeRow>)) -> Option<Violation>
+    ensures { result ≡ untyped_change compiled.now change.now }
+{
+    let Some(row) = &change.1 else {
+        return None;
+    };
+    let own = Pair {
+        labels: &row.labels,
+        props: &row.props,
+    };
+    if node_typed(compiled, &own) {
+        None
+    } else {
+        Some(Violation::UntypedNode { node: change.0 })
+    }
+}
+
+// 25 for the first node that changes leave untyped. No look-up.
+fn first_untyped_change(
+    compiled: &Compiled,
+    changes: &[(NodeId, Option<NodeRow>)],
+) -> Option<Violation>
+    ensures { result ≡ slice_get (filter_map (untyped_change compiled.now) changes.now) 0 }
+{
+    for change in changes {
+        if let Some(violation) = untyped_change(compiled, change) {
+            return Some(violation);
+        }
+    }
+    None
+}
+
+// What a node carries, as a pair.
+fn pair_of(node: NodeRef<'_>) -> Pair<'_>
+    ensures { result ≡ pair_of node.entry.labels.now node.entry.props.now }
+{
+    Pair {
+        labels: node.labels,
+        props: node.props,
+    }
+}
+
+// Whether an edge is typed, by the pairs of its ends in the graph and its own.
+fn is_edge_typed<G: GraphRead, L: Ledger>(
+    graph: &G,
+    compiled: &Compiled,
+    edge: EdgeRef<'_>,
+    steps: &mut Steps<L>,
+) -> bool
+    ensures typed { result ≡ is_typed_edge compiled.now (G.meaning graph.now)
+        (edge_row edge.entry.source edge.entry.target edge.entry.labels.now edge.entry.props.now) }
+    ensures no_step_back { steps.old ≤ steps.new }
+    ensures at_most { steps.new ≤ steps.old + 2 }
+{
+    let Some(source) = graph.node(edge.source, steps) else {
+        return false;
+    };
+    let Some(target) = graph.node(edge.target, steps) else {
+        return false;
+    };
+    let own = Pair {
+        labels: edge.labels,
+        props: edge.props,
+    };
+    edge_typed(compiled, &pair_of(source), &own, &pair_of(target))
+}
+
+// Whether the edge of a number is there and isn't typed.
+fn is_untyped_edge<G: GraphRead, L: Ledger>(
+    graph: &G,
+    compiled: &Compiled,
+    id: EdgeId,
+    steps: &mut Steps<L>,
+) -> bool
+    ensures untyped { result ≡ is_untyped_edge compiled.now (G.meaning graph.now) id }
+    ensures no_step_back { steps.old ≤ steps.new }
+    ensures at_most { steps.new ≤ steps.old + 3 }
+{
+    let Some(edge) = graph.edge(id, steps) else {
+        return false;
+    };
+    !is_edge_typed(graph, compiled, edge, steps)
+}
+
+// Whether the edge that was found is this one, or one of a lesser number.
+fn is_found_before(found: Option<EdgeId>, id: EdgeId) -> bool
+    ensures { result ≡ is_found_before found id }
+{
+    match found {
+        Some(least) => !(id < least),
+        None => false,
+    }
+}
+
+// What was found, or the edge of a lesser number where it isn't typed.
+fn lesser_untyped<G: GraphRead, L: Ledger>(
+    graph: &G,
+    compiled: &Compiled,
+    found: Option<EdgeId>,
+    id: EdgeId,
+    steps: &mut Steps<L>,
+) -> Option<EdgeId>
+    ensures least { result ≡ least_edge (is_untyped_edge compiled.now (G.meaning graph.now)) found (id ∷ []) }
+    ensures no_step_back { steps.old ≤ steps.new }
+    ensures at_most { steps.new ≤ steps.old + 3 }
+{
+    if is_found_before(found, id) {
+        found
+    } else if is_untyped_edge(graph, compiled, id, steps) {
+        Some(id)
+    } else {
+        found
+    }
+}
+
+// What was found, or the least of the edges that changes name and that aren't typed.
+fn least_changed<G: GraphRead, L: Ledger>(
+    graph: &G,
+    compiled: &Compiled,
+    mut found: Option<EdgeId>,
+    changes: &[(EdgeId, Option<EdgeRow>)],
+    steps: &mut Steps<L>,
+) -> Option<EdgeId>
+    ensures least { result ≡ least_edge (is_untyped_edge compiled.now (G.meaning graph.now)) found (keys_of changes.now) }
+    ensures no_step_back { steps.old ≤ steps.new }
+    ensures cost { steps.new ≤ steps.old + 3 * length changes.now }
+{
+    for change in changes {
+        let id = change.0;
+        found = lesser_untyped(graph, compiled, found, id, steps);
+    }
+    found
+}
+
+// The edge at a place among those that go out of a node, or that come in at it.
+fn edge_along<G: GraphRead, L: Ledger>(
+    graph: &G,
+    node: NodeId,
+    forward: bool,
+    nth: usize,
+    steps: &mut Steps<L>,
+) -> Option<EdgeId>
+    ensures value { result ≡ slice_get (cond forward (out_edges_of (G.meaning graph.now) node) (in_edges_of (G.meaning graph.now) node)) nth }
+    ensures tick { steps.new ≡ steps.old + 1 }
+    ensures few { length (cond forward (out_edges_of (G.meaning graph.now) node) (in_edges_of (G.meaning graph.now) node)) ≤ 18446744073709551616 }
+{
+    if forward {
+        graph.out_edge(node, nth, steps)
+    } else {
+        graph.in_edge(node, nth, steps)
+    }
+}
+
+// What was found, or the least of the edges that go out of a node, or that come in at it, and aren't typed.
+fn least_along<G: GraphRead, L: Ledger>(
+    graph: &G,
+    compiled: &Compiled,
+    mut found: Option<EdgeId>,
+    node: NodeId,
+    forward: bool,
+    steps: &mut Steps<L>,
+) -> Option<EdgeId>
+    ensures least { result ≡ least_edge (is_untyped_edge compiled.now (G.meaning graph.now)) found
+        (cond forward (out_edges_of (G.meaning graph.now) node) (in_edges_of (G.meaning graph.now) node)) }
+    ensures no_step_back { steps.old ≤ steps.new }
+    ensures cost { steps.new ≤ steps.old + 4 * length (cond forward (out_edges_of (G.meaning graph.now) node) (in_edges_of (G.meaning graph.now) node)) + 1 }
+{
+    for nth in 0..=usize::MAX {
+        match edge_along(graph, node, forward, nth, steps) {
+            Some(id) => found = lesser_untyped(graph, compiled, found, id, steps),
+            None => return found,
+        }
+    }
+    found
+}
+
+// What was found, or the least of the edges at a node that aren't typed.
+fn least_at<G: GraphRead, L: Ledger>(
+    graph: &G,
+    compiled: &Compiled,
+    found: Option<EdgeId>,
+    node: NodeId,
+    steps: &mut Steps<L>,
+) -> Option<EdgeId>
+    ensures least { result ≡ least_edge (is_untyped_edge compiled.now (G.meaning graph.now)) found (edges_at (G.meaning graph.now) node) }
+    ensures no_step_back { steps.old ≤ steps.new }
+    ensures cost { steps.new ≤ steps.old + (4 * degree_of (G.meaning graph.now) node + 2) }
+{
+    let outgoing = least_along(graph, compiled, found, node, true, steps);
+    least_along(graph, compiled, outgoing, node, false, steps)
+}
+
+// What was found, or the least of the edges at the nodes of changes that aren't typed.
+fn least_at_changed<G: GraphRead, L: Ledger>(
+    graph: &G,
+    compiled: &Compiled,
+    mut found: Option<EdgeId>,
+    changes: &[(NodeId, Option<NodeRow>)],
+    steps: &mut Steps<L>,
+) -> Option<EdgeId>
+    ensures least { result ≡ least_edge (is_untyped_edge compiled.now (G.meaning graph.now)) found
+        (flat_map (edges_at (G.meaning graph.now)) (keys_of changes.now)) }
+    ensures no_step_back { steps.old ≤ steps.new }
+    ensures cost { (most : ℕ) → HaveDegreesWithin (G.meaning graph.now) (keys_of changes.now) most →
+        steps.new ≤ steps.old + length changes.now * (4 * most + 2) }
+{
+    for change in changes {
+        let node = change.0;
+        found = least_at(graph, compiled, found, node, steps);
+    }
+    found
+}
+
+// The least of the edges that a delta touches and that aren't typed.
+fn least_untyped<G: GraphRead, L: Ledger>(
+    graph: &G,
+    compiled: &Compiled,
+    delta: &Delta,
+    steps: &mut Steps<L>,
+) -> Option<EdgeId>
+    ensures least { result ≡ least_edge (is_untyped_edge compiled.now (G.meaning graph.now)) None (touched_edges (G.meaning graph.now) delta.now) }
+    ensures no_step_back { steps.old ≤ steps.new }
+    ensures cost { (most : ℕ) → HaveDegreesWithin (G.meaning graph.now) (keys_of delta.now.nodes) most →
+        steps.new ≤ steps.old + 4 * row_count delta.now * (most + 2) }
+{
+    let changed = least_changed(graph, compiled, None, delta.edges.as_slice(), steps);
+    least_at_changed(graph, compiled, changed, delta.nodes.as_slice(), steps)
+}
+
+// 26 for an edge, where there is one.
+fn untyped_edge(edge: Option<EdgeId>) -> Option<Violation>
+    ensures { result ≡ option_map UntypedEdge edge }
+{
+    match edge {
+        Some(edge) => Some(Violation::UntypedEdge { edge }),
+        None => None,
+    }
+}
+
+/// The first 25 or 26 of a changed graph: the least of its nodes that aren't typed, and else the least of its edges. `None` exactly
+/// where there is none, so always where the guard isn't strict. It asks that the graph before had none, and that `new` is its overlay
+/// by the sound delta. It takes no memory. The rule is `untyped_violations` in `specs/Untyped.antt` of `pgs_check`.
+///
+/// It looks at the elements of the delta and at the edges of the new graph at its nodes: it takes at most 4 * m * (d + 2) look-ups, for
+/// m rows of the delta and any d that the in-degree plus out-degree of none of these nodes passes.
+pub fn check_types<L: Ledger>(
+    old: &Tables,
+    compiled: &Compiled,
+    new: &Overlay<'_>,
+    delta: &Delta,
+    steps: &mut Steps<L>,
+) -> Option<Violation>
+    requires sound { is_sound old.now.graph delta.now ≡ true }
+    requires overlay { new.now ≡ changed old.now.graph delta.now }
+    requires typed { untyped_violations compiled.now old.now.graph ≡ [] }
+    ensures first { result ≡ slice_get (untyped_violations compiled.now new.now) 0 }
+    ensures no_step_back { steps.old ≤ steps.new }
+    ensures cost { (most : ℕ) → HaveDegreesWithin new.now (keys_of delta.now.nodes) most →
+        steps.new ≤ steps.old + 4 * row_count delta.now * (most + 2) }
+{
+    if !compiled.resolved().guard.strict {
+        return None;
+    }
+    // The count's clause says that what is read is a graph.
+    old.count();
+    match first_untyped_change(compiled, delta.nodes.as_slice()) {
+        Some(violation) => Some(violation),
+        None => untyped_edge(least_untyped(new, compiled, delta, steps)),
+    }
+}

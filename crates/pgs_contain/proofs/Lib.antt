@@ -1,0 +1,6 @@
+pub mod Framing
+pub mod Known
+pub mod Parts
+pub mod Plain
+pub mod Letters
+pub mod Whole

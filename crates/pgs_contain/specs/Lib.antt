@@ -1,0 +1,5 @@
+pub mod Contained
+pub mod Frames
+pub mod Known
+pub mod Regions
+pub mod Rows

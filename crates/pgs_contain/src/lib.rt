@@ -1,0 +1,21 @@
+//! Is a type of one schema contained in another? It is where whatever fits it is typed in the other; else the answer is outside.
+//!
+//! Both types are shapes. The labels of what may be outside are settled at once: where a shape is free in labels, one further
+//! label that neither schema names meets no closed shape, and no open one needs more. What may stand at its keys is a region, and
+//! from it each shape of the other schema is taken in turn (`regions`). What is left, in its plainest form, is outside.
+//! The rule stands in `specs/Contained.antt`: it speaks of all pairs, and of no shapes.
+#![tactic(auto)]
+
+mod contained;
+mod frame;
+mod options;
+mod outside;
+mod regions;
+mod shapes;
+mod strange;
+mod typed;
+mod vocabulary;
+mod witness;
+
+pub use contained::contained_node;
+pub use outside::{Outside, OwnedPair};

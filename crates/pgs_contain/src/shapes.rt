@@ -1,0 +1,60 @@
+//! Are the pairs of some shapes in others?
+
+ghost use Rattle.std.specs.Prelude.{◌≡◌, true, ◌∷◌, [], IfOk, MatchOption};
+ghost use Rattle.std.specs.List.{list_all};
+ghost use Rattle.pgs_contain.specs.Contained.{pair_in};
+ghost use Rattle.pgs_contain.specs.Frames.{is_known, IsInOthers, AreInOthers, IsOutOfOthers};
+
+use crate::OwnedPair;
+use crate::frame::{frame_of, regions_of};
+use crate::regions::left_of;
+use crate::vocabulary::{Vocabulary, vocabulary_of};
+use crate::witness::plain_pair;
+use pgs_base::Memory;
+use pgs_conform::Shape;
+use std::alloc::Global;
+
+// A pair of a shape that is in none of others. `None` exactly where there is none.
+fn outside_of_shape(
+    alloc: Global,
+    shape: &Shape,
+    others: &[Shape],
+    words: &Vocabulary,
+) -> Result<Option<OwnedPair>, Memory>
+    requires own { is_known words.now.labels words.now.keys shape.now ≡ true }
+    requires others { list_all (is_known words.now.labels words.now.keys) others.now ≡ true }
+    ensures { IfOk result (λ answer. MatchOption answer (IsInOthers shape.now others.now)
+        (λ own. IsOutOfOthers (shape.now ∷ []) others.now (pair_in own))) }
+{
+    let frame = frame_of(alloc, shape, words)?;
+    let _keys = frame.keys.as_slice();
+    let taken = regions_of(alloc, others, &frame)?;
+    let left = left_of(alloc, frame.region.as_slice(), taken.as_slice())?;
+    match left {
+        None => Ok(None),
+        Some(found) => {
+            let own = plain_pair(alloc, &frame, found.as_slice())?;
+            Ok(Some(own))
+        }
+    }
+}
+
+/// A pair of some shapes that is in none of others. `None` exactly where there is none.
+pub(crate) fn outside_of_shapes(
+    alloc: Global,
+    shapes: &[Shape],
+    others: &[Shape],
+) -> Result<Option<OwnedPair>, Memory>
+    ensures { IfOk result (λ answer. MatchOption answer (AreInOthers shapes.now others.now)
+        (λ own. IsOutOfOthers shapes.now others.now (pair_in own))) }
+{
+    let words = vocabulary_of(alloc, shapes, others)?;
+    for shape in shapes {
+        let found = outside_of_shape(alloc, shape, others, &words)?;
+        match found {
+            Some(own) => return Ok(Some(own)),
+            None => {}
+        }
+    }
+    Ok(None)
+}

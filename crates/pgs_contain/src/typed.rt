@@ -1,0 +1,58 @@
+//! The shapes of all types of a guard that are not abstract.
+
+ghost use Rattle.std.specs.Prelude.{◌≡◌, ◌||◌, true, IfOk, OnOk};
+ghost use Rattle.pgs_base.specs.declared.row.NodeRow.{NodeRow};
+ghost use Rattle.pgs_base.specs.Pair.{is_pair};
+ghost use Rattle.pgs_syntax.specs.Typed.{is_typed_node, types_node};
+ghost use Rattle.pgs_conform.specs.Shapes.{in_some, Denotes};
+
+use pgs_base::{List, Memory};
+use pgs_conform::{Compiled, Shape};
+use pgs_product::copy_shape;
+use pgs_syntax::TypeNo;
+use std::alloc::Global;
+
+// Puts shapes last.
+fn push_shapes(alloc: Global, shapes: &[Shape], all: &mut Vec<Shape>) -> Result<(), Memory>
+    ensures { OnOk result ((p : NodeRow) → in_some all.new.items p ≡ (in_some all.old.items p || in_some shapes.now p)) }
+{
+    for shape in shapes {
+        let copy = copy_shape(alloc, shape)?;
+        all.push(copy)?;
+    }
+    Ok(())
+}
+
+// Puts the shapes of a node type last, where it isn't abstract.
+fn push_type(
+    alloc: Global,
+    schema: &Compiled,
+    type_no: TypeNo,
+    all: &mut Vec<Shape>,
+) -> Result<(), Memory>
+    ensures { OnOk result ((p : NodeRow) → is_pair p ≡ true →
+        in_some all.new.items p ≡ (in_some all.old.items p || types_node schema.now p type_no)) }
+{
+    let TypeNo::Node(number) = type_no else {
+        return Ok(());
+    };
+    match schema.resolved().nodes.at(number as usize) {
+        Some(node_type) if !node_type.hidden => {
+            push_shapes(alloc, schema.shapes_of_node(number).as_slice(), all)?;
+            Ok(())
+        }
+        _ => Ok(()),
+    }
+}
+
+/// The shapes of all node types of the guard that are not abstract: they denote which nodes are typed.
+pub(crate) fn typed_shapes(alloc: Global, schema: &Compiled) -> Result<List<Shape>, Memory>
+    ensures { IfOk result (λ shapes. Denotes shapes (is_typed_node schema.now)) }
+{
+    let mut all = Vec::new(alloc);
+    let types = schema.resolved().guard.types.as_slice();
+    for type_no in types {
+        push_type(alloc, schema, *type_no, &mut all)?;
+    }
+    Ok(List::from_vec(all))
+}
