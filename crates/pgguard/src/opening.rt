@@ -88,9 +88,10 @@ fn add_feed<O: Opening>(
 {
     let feed = feed_of(system, earlier, name)?;
     match feeds.subscribe(feed) {
-        Ok(_) => Ok(()),
-        Err(_) => Err(Memory),
+        Ok(_) => {}
+        Err(_) => return Err(Memory),
     }
+    Ok(())
 }
 
 // The feeds of these names behind others, in order.
