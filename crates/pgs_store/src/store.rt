@@ -47,10 +47,12 @@ impl Model for Store {
 }
 
 impl Store {
-    /// How many transactions were committed.
+    /// How many transactions were committed. The journal ends below 2^40, and so they are fewer than 2^64 - 1.
     pub fn commits(&self) -> u64
         ensures commits { result ≡ self.now.guard.commits }
         ensures bounded { self.now.guard.commits ≤ (self.now.journal.epoch - 1) * 2 ^ 40 + self.now.journal.end }
+        ensures end { self.now.journal.end < 2 ^ 40 }
+        ensures below { result < 2 ^ 64 - 1 }
     {
         self.guard.commits()
     }
