@@ -96,7 +96,9 @@ impl Store {
         ensures stops { self.old.failed ≡ false → IsTrue (W.view world.old).honest → IsTrue (W.view world.old).tells_bytes
             → EachSince (IsAppliedIn self.old.guard self.old.journal txn.now) (W.view world.old) (W.view world.new) }
         ensures beside { StaysBeside self.old.journal.area (W.view world.old) (W.view world.new) }
+        // What it counts: nothing where the store failed before, since then nothing is decided.
         ensures no_step_back { steps.old ≤ steps.new }
+        ensures no_step { self.old.failed ≡ true → steps.new ≡ steps.old }
     {
         if self.failed {
             return Err(ApplyFault::NeedsReopen);
