@@ -1,5 +1,5 @@
 -- What a stop while a first store is made leaves, and what stands after it.
-use Rattle.std.proofs.Common.{◌≡◌, true, Err, inl, inr, ⊎_elim, ℕ, ◌<◌, ◌^◌, IsTrue, List, [], ◌∷◌, Some, sym, ◌∙◌, ap, subst}
+use Rattle.std.proofs.Common.{◌≡◌, false, Err, refl, inl, inr, ⊎_elim, ℕ, ◌<◌, ◌^◌, IsTrue, List, [], ◌∷◌, Some, sym, ◌∙◌, ap, subst}
 use Rattle.pgs_base.specs.declared.limits.Limits.{Limits}
 use Rattle.pgs_base.specs.Graph.{Graph, empty_graph}
 use Rattle.pgs_codec.specs.declared.command.Command.TheVariants.{Schema}
@@ -86,9 +86,10 @@ occupied_answer limits text AlreadyStore old now has occupied = (has, occupied)
 occupied_answer limits text Foreign old now has occupied = (has, occupied)
 occupied_answer limits text (SchemaRefused fault) old now has occupied = absurd occupied
 
-pub not_of_text : (fault : LoadFault) (old : View) → IsOccupied old fault → is_of_text fault ≡ true → ⊥
-not_of_text Memory old occupied is = cc
-not_of_text DiskFault old occupied is = cc
-not_of_text AlreadyStore old occupied is = cc
-not_of_text Foreign old occupied is = cc
-not_of_text (SchemaRefused fault) old occupied is = occupied
+-- and it isn't for the text
+pub not_of_text : (fault : LoadFault) (old : View) → IsOccupied old fault → is_of_text fault ≡ false
+not_of_text Memory old occupied = refl
+not_of_text DiskFault old occupied = refl
+not_of_text AlreadyStore old occupied = refl
+not_of_text Foreign old occupied = refl
+not_of_text (SchemaRefused fault) old occupied = absurd occupied

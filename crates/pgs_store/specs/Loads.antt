@@ -35,6 +35,11 @@ abbrev pub is_refused : {T : Type 0} → Result T LoadFault → Bool
 is_refused (Ok done) = false
 is_refused (Err fault) = is_of_text fault
 
+-- something may have been written: the store was made, or an area failed
+abbrev pub is_written : {T : Type 0} → Result T LoadFault → Bool
+is_written (Ok done) = true
+is_written (Err fault) = is_of_area fault
+
 -- both areas, as far as the world tells its bytes
 abbrev pub Finds : View → (Choice → Type 0) → Type 0
 Finds view P = IsTrue view.tells_bytes → P (choice_of view.shown.a view.shown.b)

@@ -1,9 +1,11 @@
-ghost use Rattle.std.specs.Prelude.{◌≡◌, ◌∷◌, [], true, Some, IsTrue, IfOk, IfErr, OnOk};
+ghost use Rattle.std.specs.Prelude.{◌≡◌, ◌∷◌, [], true, false, Some, IsTrue, IfOk, IfErr, OnOk};
+ghost use Rattle.pgs_base.specs.Graph.{empty_graph};
 ghost use Rattle.pgs_codec.specs.declared.command.Command.TheVariants.{Schema as SchemaCommand};
 ghost use Rattle.pgs_codec.specs.Payload.{payload_of};
 ghost use Rattle.pgs_codec.specs.Reading.{decoded};
 ghost use Rattle.pgs_journal.specs.Format.{First, IsFrames};
-ghost use Rattle.pgs_store.specs.Loads.{FindsNone, IsOccupied, Loads, is_disk_fault, is_refused};
+ghost use Rattle.pgs_resolve.specs.SchemaOf.{schema, schema_of};
+ghost use Rattle.pgs_store.specs.Loads.{FindsNone, IsOccupied, Loads, is_disk_fault, is_refused, is_written};
 ghost use Rattle.pgs_store.specs.Stored.{IsLoadedIn};
 ghost use Rattle.pgs_store.specs.World.{StaysBeside, CountsFault};
 ghost use Rattle.pgs_world.specs.declared.area.Area.TheVariants.{A};
@@ -18,12 +20,13 @@ use pgs_snapshot::{ChooseFault, choose_area};
 use pgs_world::{Area, World};
 use std::alloc::Global;
 
-// The frame of a schema's text.
-fn schema_frame(alloc: Global, text: &[u8]) -> Result<Vec<u8>, Memory>
-    ensures frames { IfOk result (λ frame. IsFrames First (payload_of (SchemaCommand text.now) ∷ []) frame.items) }
-    ensures decoded { OnOk result (decoded (payload_of (SchemaCommand text.now)) ≡ Some (SchemaCommand text.now)) }
+// The frame of a guard's schema text.
+fn schema_frame(alloc: Global, guard: &Guard) -> Result<Vec<u8>, Memory>
+    ensures frames { IfOk result (λ frame. IsFrames First (payload_of (SchemaCommand guard.now.text) ∷ []) frame.items) }
+    ensures decoded { OnOk result (decoded (payload_of (SchemaCommand guard.now.text)) ≡ Some (SchemaCommand guard.now.text)) }
+    ensures schema { schema_of guard.now.text ≡ schema guard.now.schema }
 {
-    let text = List::from_slice(alloc, text)?;
+    let text = List::from_slice(alloc, guard.schema_text())?;
     let frame = record_frame(alloc, &Command::Schema(text))?;
     Ok(frame.into_vec())
 }
@@ -51,8 +54,8 @@ impl Store {
     /// store; after `Ok` they are it in every image.
     ///
     /// 10 to 19 `Schema` exactly where the text is no schema, before any call on the world. Then 31 `AlreadyStore` exactly where an
-    /// area is a store, and 32 `Foreign` exactly where none is and one is foreign; then nothing is written. `DiskFault` comes only
-    /// where the count of area faults rose; `Memory` may come wherever there is none.
+    /// area is a store, and 32 `Foreign` exactly where none is and one is foreign. `DiskFault` comes only where the count of area
+    /// faults rose; `Memory` may come wherever there is none. After each of these but `DiskFault` nothing was written.
     pub fn load<W: World>(
         alloc: Global,
         text: &[u8],
@@ -65,12 +68,33 @@ impl Store {
         ensures faults { CountsFault (is_disk_fault result) (W.view world.old) (W.view world.new) }
         // What it leaves of the world, at every moment.
         ensures kept { (FindsNone (W.view world.old) → ⊥) → IsQuiet (W.view world.old) (W.view world.new) }
+        ensures unwritten { is_written result ≡ false → IsQuiet (W.view world.old) (W.view world.new) }
         ensures stops { FindsNone (W.view world.old) → IsSettled (W.view world.old)
             → EachSince (IsLoadedIn limits text.now) (W.view world.old) (W.view world.new) }
         ensures beside { StaysBeside A (W.view world.old) (W.view world.new) }
     {
         let guard = Guard::with_seed(alloc, text, limits, world.seed())?;
-        let frame = schema_frame(alloc, text)?;
+        Store::create(alloc, guard, world)
+    }
+
+    /// The same of a guard that took no transaction yet: the store of its text, which holds it. So what is to be answered can be made
+    /// before anything is written.
+    pub fn create<W: World>(alloc: Global, guard: Guard, world: &mut W) -> Result<Store, LoadFault>
+        requires empty { guard.graph ≡ empty_graph }
+        requires unchanged { guard.commits ≡ 0 }
+        // What it answers, and the store that is made.
+        ensures answer { Loads result guard.limits guard.text (W.view world.old) (W.view world.new) }
+        ensures guard { IfOk result (λ store. store.guard ≡ guard) }
+        ensures unrefused { is_refused result ≡ false }
+        ensures faults { CountsFault (is_disk_fault result) (W.view world.old) (W.view world.new) }
+        // What it leaves of the world, at every moment.
+        ensures kept { (FindsNone (W.view world.old) → ⊥) → IsQuiet (W.view world.old) (W.view world.new) }
+        ensures unwritten { is_written result ≡ false → IsQuiet (W.view world.old) (W.view world.new) }
+        ensures stops { FindsNone (W.view world.old) → IsSettled (W.view world.old)
+            → EachSince (IsLoadedIn guard.limits guard.text) (W.view world.old) (W.view world.new) }
+        ensures beside { StaysBeside A (W.view world.old) (W.view world.new) }
+    {
+        let frame = schema_frame(alloc, &guard)?;
         refuse_occupied(alloc, world)?;
         match Journal::create(world, Area::A, 1, frame.as_slice()) {
             Ok(journal) => Ok(Store {

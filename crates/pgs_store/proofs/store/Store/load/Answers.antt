@@ -1,104 +1,25 @@
-use Rattle.std.proofs.Common.{◌≡◌, ◌+◌, ◌∷◌, [], ℕ, List, length, refl, sym, ◌∙◌, ap, subst, arith}
-use Rattle.std.proofs.lemmas.Result.{err_from_is_err_and}
-use Rattle.pgs_codec.specs.declared.command.Command.TheVariants.{Schema as SchemaCommand}
-use Rattle.pgs_codec.specs.Payload.{payload_of}
-use Rattle.pgs_journal.specs.declared.journal.Journal.{Journal}
-use Rattle.pgs_journal.specs.Format.{First, Holds, IsFrames}
-use Rattle.pgs_store.specs.State.{GuardState}
-use Rattle.pgs_store.specs.Stored.{StandsOn, opened, first_journal}
-use Rattle.pgs_world.specs.declared.area.Area.TheVariants.{A}
-use Rattle.pgs_world.specs.World.{part}
-use Rattle.pgs_store.proofs.Applied.{small_first, same_journal}
-use Rattle.pgs_store.proofs.Composed.{then_beside}
-use Rattle.pgs_store.proofs.Loaded.{load_stops, load_stands, just_made, occupied_answer, not_of_text}
+use Rattle.std.proofs.Common.{◌≡◌, List, ℕ, true, false, refl, sym, subst, ◌∙◌}
+use Rattle.pgs_base.specs.declared.limits.Limits.{Limits}
+use Rattle.pgs_store.specs.Loads.{Loads}
+use Rattle.pgs_store.specs.Stored.{IsLoadedIn}
+use Rattle.pgs_world.specs.Moment.{EachSince}
 use Rattle.pgs_store.proofs.store.Store.load.Goals as goal
 
-pub returns-in_err-frame-clause-answer : goal.returns-in_err-frame-clause-answer
-returns-in_err-frame-clause-answer g c =
-    let p = err_from_is_err_and c.from_residual-in_err-frame.result c.from_residual-in_err-frame.ensures.1 in rw (p.1, p.2) tt
-
-pub returns-in_err-frame-clause-faults : goal.returns-in_err-frame-clause-faults
-returns-in_err-frame-clause-faults g c =
-    let p = err_from_is_err_and c.from_residual-in_err-frame.result c.from_residual-in_err-frame.ensures.1 in rw (p.1, p.2)
-
-pub returns-in_err-refuse_occupied-clause-answer : goal.returns-in_err-refuse_occupied-clause-answer
-returns-in_err-refuse_occupied-clause-answer g c =
-    let p = err_from_is_err_and c.from_residual-in_err-refuse_occupied.result c.from_residual-in_err-refuse_occupied.ensures.1 in
-    rw (p.1, p.2)
-    (occupied_answer c.args.limits c.args.text.now c.in_err-refuse_occupied.field-0.0 (g.W.World.view c.args.world.now) (g.W.World.view c.refuse_occupied.new.world)
-    (c.in_ok-guard.guard.schema, c.in_ok-guard.ensures.schema) c.in_err-refuse_occupied.ensures.occupied)
-
-pub returns-in_err-refuse_occupied-clause-early : goal.returns-in_err-refuse_occupied-clause-early
-returns-in_err-refuse_occupied-clause-early g c =
-    let p = err_from_is_err_and c.from_residual-in_err-refuse_occupied.result c.from_residual-in_err-refuse_occupied.ensures.1 in
-    rw (p.1, p.2) (λ is. absurd (not_of_text c.in_err-refuse_occupied.field-0.0 (g.W.World.view c.args.world.now) c.in_err-refuse_occupied.ensures.occupied is))
-
-pub returns-in_err-refuse_occupied-clause-faults : goal.returns-in_err-refuse_occupied-clause-faults
-returns-in_err-refuse_occupied-clause-faults g c =
-    let p = err_from_is_err_and c.from_residual-in_err-refuse_occupied.result c.from_residual-in_err-refuse_occupied.ensures.1 in
-    rw (p.1, p.2) c.in_err-refuse_occupied.ensures.faults
-
-pub create-requires-clause-frames : goal.create-requires-clause-frames
-create-requires-clause-frames g c =
-    (payload_of (SchemaCommand c.args.text.now) ∷ [], rw c.as_slice.ensures.value c.in_ok-frame.ensures.frames)
-
-pub returns-in-Ok-clause-answer : goal.returns-in-Ok-clause-answer
-returns-in-Ok-clause-answer g c =
-    let payload = payload_of (SchemaCommand c.args.text.now) in
-    let frames : IsFrames First (payload ∷ []) c.as_slice.result.now = rw c.as_slice.ensures.value c.in_ok-frame.ensures.frames in
-    let made = c.in_ok-guard.ensures in
-    let end = c.in-Ok.journal.end in
+pub returns-clause-answer : goal.returns-clause-answer
+returns-clause-answer g c =
     let old = g.W.World.view c.args.world.now in
     let new = g.W.World.view c.create.new.world in
-    let quiet = c.refuse_occupied.ensures.quiet in
-    let guard : c.in_ok-guard.guard ≡ opened c.args.text.now c.in_ok-guard.guard.schema c.args.limits = just_made c.in_ok-guard.guard c.args.text.now c.args.limits made.text made.limits made.empty made.commits in
-    let journal : c.in-Ok.journal ≡ first_journal end =
-    same_journal (first_journal end) c.in-Ok.journal (ap (λ (j : Journal). j.area) c.in-Ok.ensures.journal) (ap (λ (j : Journal). j.epoch) c.in-Ok.ensures.journal) end refl in
-    let stands = load_stands c.args.limits c.args.text.now c.in_ok-guard.guard.schema payload end made.schema c.in_ok-frame.ensures.decoded (omega (arith, c.in-Ok.ensures.within))
-    old (g.W.World.view c.refuse_occupied.new.world) new c.in_ok-refuse_occupied.ensures.free quiet c.create.ensures.passes
-    (c.in-Ok.ensures.holds (payload ∷ []) frames) c.create.ensures.beside c.in_ok-refuse_occupied.ensures.settled c.in-Ok.ensures.settled in
-    record {
-      resolved = c.in_ok-guard.guard.schema;
-      of_text = made.schema;
-      guard = guard;
-      journal = journal;
-      whole = refl;
-      free = c.in_ok-refuse_occupied.ensures.free;
-      stands =
-          subst (λ (s : GuardState). StandsOn s c.in-Ok.journal new) (sym guard)
-          (subst (λ (j : Journal). StandsOn (opened c.args.text.now c.in_ok-guard.guard.schema c.args.limits) j new) (sym journal) stands);
-    }
+    let made = c.in_ok-guard.ensures in
+    subst (λ (l : Limits). Loads c.create.result l c.args.text.now old new) made.limits
+    (subst (λ (t : List ℕ). Loads c.create.result c.in_ok-guard.guard.limits t old new) made.text c.create.ensures.answer)
 
-pub returns-in-Ok-clause-stops : goal.returns-in-Ok-clause-stops
-returns-in-Ok-clause-stops g c = λ free settled.
-    let payload = payload_of (SchemaCommand c.args.text.now) in
-    let first = c.as_slice.result.now in
-    let frames : IsFrames First (payload ∷ []) first = rw c.as_slice.ensures.value c.in_ok-frame.ensures.frames in
-    let vec = c.in_ok-frame.frame in
-    load_stops c.args.limits c.args.text.now c.in_ok-guard.guard.schema payload (16 + length first) c.in_ok-guard.ensures.schema c.in_ok-frame.ensures.decoded
-    (small_first first vec.items vec.len vec.cap c.as_slice.ensures.value vec.ok.0 vec.ok.1 vec.small)
-    (g.W.World.view c.args.world.now) (g.W.World.view c.refuse_occupied.new.world) (g.W.World.view c.create.new.world) free settled c.refuse_occupied.ensures.quiet c.create.ensures.passes
-    (c.create.ensures.stops (payload ∷ []) frames)
+pub returns-clause-early : goal.returns-clause-early
+returns-clause-early g c = λ is. absurd (let no : true ≡ false = sym is ∙ c.create.ensures.unrefused in cc)
 
-pub returns-in-Ok-clause-beside : goal.returns-in-Ok-clause-beside
-returns-in-Ok-clause-beside g c =
-    let quiet = c.refuse_occupied.ensures in
-    let made = c.create.ensures in
-    then_beside A (g.W.World.view c.args.world.now) (g.W.World.view c.refuse_occupied.new.world) (g.W.World.view c.create.new.world) quiet.quiet quiet.no_put made.passes made.beside made.stops_beside made.no_put
-
-pub returns-in-Err-clause-stops : goal.returns-in-Err-clause-stops
-returns-in-Err-clause-stops g c = λ free settled.
-    let payload = payload_of (SchemaCommand c.args.text.now) in
-    let first = c.as_slice.result.now in
-    let frames : IsFrames First (payload ∷ []) first = rw c.as_slice.ensures.value c.in_ok-frame.ensures.frames in
-    let vec = c.in_ok-frame.frame in
-    load_stops c.args.limits c.args.text.now c.in_ok-guard.guard.schema payload (16 + length first) c.in_ok-guard.ensures.schema c.in_ok-frame.ensures.decoded
-    (small_first first vec.items vec.len vec.cap c.as_slice.ensures.value vec.ok.0 vec.ok.1 vec.small)
-    (g.W.World.view c.args.world.now) (g.W.World.view c.refuse_occupied.new.world) (g.W.World.view c.create.new.world) free settled c.refuse_occupied.ensures.quiet c.create.ensures.passes
-    (c.create.ensures.stops (payload ∷ []) frames)
-
-pub returns-in-Err-clause-beside : goal.returns-in-Err-clause-beside
-returns-in-Err-clause-beside g c =
-    let quiet = c.refuse_occupied.ensures in
-    let made = c.create.ensures in
-    then_beside A (g.W.World.view c.args.world.now) (g.W.World.view c.refuse_occupied.new.world) (g.W.World.view c.create.new.world) quiet.quiet quiet.no_put made.passes made.beside made.stops_beside made.no_put
+pub returns-clause-stops : goal.returns-clause-stops
+returns-clause-stops g c = λ free settled.
+    let old = g.W.World.view c.args.world.now in
+    let new = g.W.World.view c.create.new.world in
+    let made = c.in_ok-guard.ensures in
+    subst (λ (l : Limits). EachSince (IsLoadedIn l c.args.text.now) old new) made.limits
+    (subst (λ (t : List ℕ). EachSince (IsLoadedIn c.in_ok-guard.guard.limits t) old new) made.text (c.create.ensures.stops free settled))

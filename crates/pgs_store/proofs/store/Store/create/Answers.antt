@@ -1,0 +1,108 @@
+use Rattle.std.proofs.Common.{◌≡◌, ◌+◌, ◌∷◌, [], ℕ, List, length, refl, sym, ◌∙◌, ap, subst, arith}
+use Rattle.std.proofs.lemmas.Result.{err_from_is_err_and}
+use Rattle.pgs_codec.specs.declared.command.Command.TheVariants.{Schema as SchemaCommand}
+use Rattle.pgs_codec.specs.Payload.{payload_of}
+use Rattle.pgs_journal.specs.declared.journal.Journal.{Journal}
+use Rattle.pgs_journal.specs.Format.{First, Holds, IsFrames}
+use Rattle.pgs_store.specs.State.{GuardState}
+use Rattle.pgs_store.specs.Stored.{StandsOn, opened, first_journal}
+use Rattle.pgs_world.specs.declared.area.Area.TheVariants.{A}
+use Rattle.pgs_world.specs.World.{part}
+use Rattle.pgs_store.proofs.Applied.{small_first, same_journal}
+use Rattle.pgs_store.proofs.Composed.{then_beside}
+use Rattle.pgs_store.proofs.Loaded.{load_stops, load_stands, just_made, occupied_answer, not_of_text}
+use Rattle.pgs_store.proofs.store.Store.create.Goals as goal
+
+pub returns-in_err-frame-clause-answer : goal.returns-in_err-frame-clause-answer
+returns-in_err-frame-clause-answer g c =
+    let p = err_from_is_err_and c.from_residual.result c.from_residual.ensures.1 in rw (p.1, p.2) tt
+
+pub returns-in_err-frame-clause-unrefused : goal.returns-in_err-frame-clause-unrefused
+returns-in_err-frame-clause-unrefused g c =
+    let p = err_from_is_err_and c.from_residual.result c.from_residual.ensures.1 in rw (p.1, p.2) refl
+
+pub returns-in_err-frame-clause-faults : goal.returns-in_err-frame-clause-faults
+returns-in_err-frame-clause-faults g c =
+    let p = err_from_is_err_and c.from_residual.result c.from_residual.ensures.1 in rw (p.1, p.2)
+
+pub returns-in_err-refuse_occupied-clause-answer : goal.returns-in_err-refuse_occupied-clause-answer
+returns-in_err-refuse_occupied-clause-answer g c =
+    let p = err_from_is_err_and c.from_residual-in_err-refuse_occupied.result c.from_residual-in_err-refuse_occupied.ensures.1 in
+    rw (p.1, p.2)
+    (occupied_answer c.args.guard.limits c.args.guard.text c.in_err-refuse_occupied.field-0.0 (g.W.World.view c.args.world.now) (g.W.World.view c.refuse_occupied.new.world)
+    (c.args.guard.schema, c.in_ok-frame.ensures.schema) c.in_err-refuse_occupied.ensures.occupied)
+
+pub returns-in_err-refuse_occupied-clause-unrefused : goal.returns-in_err-refuse_occupied-clause-unrefused
+returns-in_err-refuse_occupied-clause-unrefused g c =
+    let p = err_from_is_err_and c.from_residual-in_err-refuse_occupied.result c.from_residual-in_err-refuse_occupied.ensures.1 in
+    rw (p.1, p.2) (not_of_text c.in_err-refuse_occupied.field-0.0 (g.W.World.view c.args.world.now) c.in_err-refuse_occupied.ensures.occupied)
+
+pub returns-in_err-refuse_occupied-clause-faults : goal.returns-in_err-refuse_occupied-clause-faults
+returns-in_err-refuse_occupied-clause-faults g c =
+    let p = err_from_is_err_and c.from_residual-in_err-refuse_occupied.result c.from_residual-in_err-refuse_occupied.ensures.1 in
+    rw (p.1, p.2) c.in_err-refuse_occupied.ensures.faults
+
+pub create-requires-clause-frames : goal.create-requires-clause-frames
+create-requires-clause-frames g c =
+    (payload_of (SchemaCommand c.args.guard.text) ∷ [], rw c.as_slice.ensures.value c.in_ok-frame.ensures.frames)
+
+pub returns-in-Ok-clause-answer : goal.returns-in-Ok-clause-answer
+returns-in-Ok-clause-answer g c =
+    let payload = payload_of (SchemaCommand c.args.guard.text) in
+    let frames : IsFrames First (payload ∷ []) c.as_slice.result.now = rw c.as_slice.ensures.value c.in_ok-frame.ensures.frames in
+    let of_text = c.in_ok-frame.ensures.schema in
+    let end = c.in-Ok.journal.end in
+    let old = g.W.World.view c.args.world.now in
+    let new = g.W.World.view c.create.new.world in
+    let quiet = c.refuse_occupied.ensures.quiet in
+    let guard : c.args.guard ≡ opened c.args.guard.text c.args.guard.schema c.args.guard.limits = just_made c.args.guard c.args.guard.text c.args.guard.limits refl refl c.requires.empty c.requires.unchanged in
+    let journal : c.in-Ok.journal ≡ first_journal end =
+    same_journal (first_journal end) c.in-Ok.journal (ap (λ (j : Journal). j.area) c.in-Ok.ensures.journal) (ap (λ (j : Journal). j.epoch) c.in-Ok.ensures.journal) end refl in
+    let stands = load_stands c.args.guard.limits c.args.guard.text c.args.guard.schema payload end of_text c.in_ok-frame.ensures.decoded (omega (arith, c.in-Ok.ensures.within))
+    old (g.W.World.view c.refuse_occupied.new.world) new c.in_ok-refuse_occupied.ensures.free quiet c.create.ensures.passes
+    (c.in-Ok.ensures.holds (payload ∷ []) frames) c.create.ensures.beside c.in_ok-refuse_occupied.ensures.settled c.in-Ok.ensures.settled in
+    record {
+      resolved = c.args.guard.schema;
+      of_text = of_text;
+      guard = guard;
+      journal = journal;
+      whole = refl;
+      free = c.in_ok-refuse_occupied.ensures.free;
+      stands =
+          subst (λ (s : GuardState). StandsOn s c.in-Ok.journal new) (sym guard)
+          (subst (λ (j : Journal). StandsOn (opened c.args.guard.text c.args.guard.schema c.args.guard.limits) j new) (sym journal) stands);
+    }
+
+pub returns-in-Ok-clause-stops : goal.returns-in-Ok-clause-stops
+returns-in-Ok-clause-stops g c = λ free settled.
+    let payload = payload_of (SchemaCommand c.args.guard.text) in
+    let first = c.as_slice.result.now in
+    let frames : IsFrames First (payload ∷ []) first = rw c.as_slice.ensures.value c.in_ok-frame.ensures.frames in
+    let vec = c.in_ok-frame.frame in
+    load_stops c.args.guard.limits c.args.guard.text c.args.guard.schema payload (16 + length first) c.in_ok-frame.ensures.schema c.in_ok-frame.ensures.decoded
+    (small_first first vec.items vec.len vec.cap c.as_slice.ensures.value vec.ok.0 vec.ok.1 vec.small)
+    (g.W.World.view c.args.world.now) (g.W.World.view c.refuse_occupied.new.world) (g.W.World.view c.create.new.world) free settled c.refuse_occupied.ensures.quiet c.create.ensures.passes
+    (c.create.ensures.stops (payload ∷ []) frames)
+
+pub returns-in-Ok-clause-beside : goal.returns-in-Ok-clause-beside
+returns-in-Ok-clause-beside g c =
+    let quiet = c.refuse_occupied.ensures in
+    let made = c.create.ensures in
+    then_beside A (g.W.World.view c.args.world.now) (g.W.World.view c.refuse_occupied.new.world) (g.W.World.view c.create.new.world) quiet.quiet quiet.no_put made.passes made.beside made.stops_beside made.no_put
+
+pub returns-in-Err-clause-stops : goal.returns-in-Err-clause-stops
+returns-in-Err-clause-stops g c = λ free settled.
+    let payload = payload_of (SchemaCommand c.args.guard.text) in
+    let first = c.as_slice.result.now in
+    let frames : IsFrames First (payload ∷ []) first = rw c.as_slice.ensures.value c.in_ok-frame.ensures.frames in
+    let vec = c.in_ok-frame.frame in
+    load_stops c.args.guard.limits c.args.guard.text c.args.guard.schema payload (16 + length first) c.in_ok-frame.ensures.schema c.in_ok-frame.ensures.decoded
+    (small_first first vec.items vec.len vec.cap c.as_slice.ensures.value vec.ok.0 vec.ok.1 vec.small)
+    (g.W.World.view c.args.world.now) (g.W.World.view c.refuse_occupied.new.world) (g.W.World.view c.create.new.world) free settled c.refuse_occupied.ensures.quiet c.create.ensures.passes
+    (c.create.ensures.stops (payload ∷ []) frames)
+
+pub returns-in-Err-clause-beside : goal.returns-in-Err-clause-beside
+returns-in-Err-clause-beside g c =
+    let quiet = c.refuse_occupied.ensures in
+    let made = c.create.ensures in
+    then_beside A (g.W.World.view c.args.world.now) (g.W.World.view c.refuse_occupied.new.world) (g.W.World.view c.create.new.world) quiet.quiet quiet.no_put made.passes made.beside made.stops_beside made.no_put
