@@ -1,0 +1,6 @@
+pub mod Committed
+pub mod Differing
+pub mod Entries
+pub mod Kept
+pub mod Lesser
+pub mod Stepping

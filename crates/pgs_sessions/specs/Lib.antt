@@ -1,0 +1,6 @@
+pub mod Changes
+pub mod Committing
+pub mod Differing
+pub mod Least
+pub mod Open
+pub mod State
