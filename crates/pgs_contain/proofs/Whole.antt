@@ -26,7 +26,7 @@ use Rattle.pgs_contain.proofs.Plain.{plainest_may, rows_ascend, rows_apart, rows
 pub props_up : (p : NodeRow) → is_pair p ≡ true → ascends name_cmp (keys_of p.props) ≡ true
 props_up p pair = (and_parts _ _ (and_parts _ _ (and_parts _ _ pair).1).0).0
 
-false_from : (b : Bool) → (b ≡ true → ⊥) → b ≡ false
+pub false_from : (b : Bool) → (b ≡ true → ⊥) → b ≡ false
 false_from true h = absurd (h refl)
 false_from false h = refl
 

@@ -13,9 +13,10 @@ mod outside;
 mod regions;
 mod shapes;
 mod strange;
+mod triples;
 mod typed;
 mod vocabulary;
 mod witness;
 
-pub use contained::contained_node;
+pub use contained::contained;
 pub use outside::{Outside, OwnedPair};
