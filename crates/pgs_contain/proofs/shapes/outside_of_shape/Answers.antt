@@ -23,4 +23,4 @@ returns c =
     c.as_slice.ensures c.as_slice-2.ensures c.in_ok-taken.ensures c.requires.own (and_parts _ _ c.as_slice-keys.ensures.names).0
     c.in-Some.found c.as_slice-in-Some.result.now
     (MatchOption-at_some (IsCovered c.as_slice.result.now c.as_slice-2.result.now) (IsLeft c.as_slice.result.now c.as_slice-2.result.now) c.in-Some.found c.in-Some.is c.in_ok-left.ensures)
-    c.as_slice-in-Some.ensures (pair_in c.in_ok-own.own) c.in_ok-own.ensures
+    c.as_slice-in-Some.ensures (pair_in c.in_ok-own-in-Some.own) c.in_ok-own-in-Some.ensures

@@ -53,4 +53,4 @@ returns c =
       same_regions triple words.labels words.keys words.label words.key new frames framed c.args.others.now c.in_ok-taken.taken given c.as_slice-given.ensures c.in_ok-taken.ensures in
     let left = MatchOption-at_some (IsCovered whole given) (IsLeft whole given) c.in-Some.found c.in-Some.is c.in_ok-left.ensures in
     frames_outside triple words.labels words.keys words.label words.key new frames framed c.args.others.now whole given c.requires.others made same c.requires.own
-    c.in-Some.found c.as_slice-part.result.now left c.as_slice-part.ensures c.facts.ensures c.in_ok-own.own c.in_ok-own.ensures
+    c.in-Some.found c.as_slice-part.result.now left c.as_slice-part.ensures c.facts.ensures c.in_ok-own-in-Some.own c.in_ok-own-in-Some.ensures
