@@ -58,9 +58,9 @@ labels_in true asked other more_other label ls own met new =
     labels_meet_from other more_other ls
     (λ l. (
       λ i.
-        (labels_met asked true ls own l).0
-        (had l label asked ((labels_met other more_other (put_name asked label) met l).0 i)
-        (λ same. true≢false (sym i ∙ ap (λ z. has_name z other) (sym (one_name label l same)) ∙ new))),
+          (labels_met asked true ls own l).0
+          (had l label asked ((labels_met other more_other (put_name asked label) met l).0 i)
+          (λ same. true≢false (sym i ∙ ap (λ z. has_name z other) (sym (one_name label l same)) ∙ new))),
       λ there. or_left more_other (has_name l other) free,
     ))
   where

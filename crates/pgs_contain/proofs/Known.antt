@@ -104,17 +104,22 @@ pub shapes_known : (labels keys new_labels new_keys start_labels start_keys : Na
     (is_known new_labels new_keys shape ≡ true) × Grows labels new_labels × Grows keys new_keys →
     (list_all (is_known labels keys) (take i shapes) ≡ true) × Grows start_labels labels × Grows start_keys keys →
     (list_all (is_known new_labels new_keys) (take (i + 1) shapes) ≡ true) × Grows start_labels new_labels × Grows start_keys new_keys
-shapes_known labels keys new_labels new_keys start_labels start_keys shapes i shape lt is own before =
-    (ap (list_all (is_known new_labels new_keys)) (take_more shapes i shape lt ∙ ap (λ s. take i shapes ++ s ∷ []) (sym is))
-    ∙ all_push (is_known new_labels new_keys) (take i shapes) shape (all_known_still labels keys new_labels new_keys (take i shapes) own.1 own.2 before.0) own.0,
-    grows_on start_labels labels new_labels before.1 own.1, grows_on start_keys keys new_keys before.2 own.2)
+shapes_known labels keys new_labels new_keys start_labels start_keys shapes i shape lt is own before = (
+  ap (list_all (is_known new_labels new_keys)) (take_more shapes i shape lt ∙ ap (λ s. take i shapes ++ s ∷ []) (sym is))
+      ∙ all_push (is_known new_labels new_keys) (take i shapes) shape (all_known_still labels keys new_labels new_keys (take i shapes) own.1 own.2 before.0) own.0,
+  grows_on start_labels labels new_labels before.1 own.1,
+  grows_on start_keys keys new_keys before.2 own.2,
+)
 
 pub learnt_shape : (shape : Shape) (labels keys new_labels new_keys names : Names) (entries : Keys) → names ≡ shape.labels → entries ≡ shape.keys →
     ((l : List ℕ) → has_name l new_labels ≡ (has_name l labels || has_name l names)) → ((l : List ℕ) → has_name l new_keys ≡ (has_name l keys || has_name l (keys_of entries))) →
     (is_known new_labels new_keys shape ≡ true) × Grows labels new_labels × Grows keys new_keys
-learnt_shape shape labels keys new_labels new_keys names entries same_names same_entries of_labels of_keys =
-    (shape_known shape labels keys new_labels new_keys (λ l. of_labels l ∙ ap (λ ns. has_name l labels || has_name l ns) same_names)
-    (λ l. of_keys l ∙ ap (λ es. has_name l keys || has_name l (keys_of es)) same_entries), grown labels new_labels names of_labels, grown keys new_keys (keys_of entries) of_keys)
+learnt_shape shape labels keys new_labels new_keys names entries same_names same_entries of_labels of_keys = (
+  shape_known shape labels keys new_labels new_keys (λ l. of_labels l ∙ ap (λ ns. has_name l labels || has_name l ns) same_names)
+      (λ l. of_keys l ∙ ap (λ es. has_name l keys || has_name l (keys_of es)) same_entries),
+  grown labels new_labels names of_labels,
+  grown keys new_keys (keys_of entries) of_keys,
+)
 
 -- what shapes and others name
 pub all_learnt : (first second : List Shape) (labels keys labels_now keys_now labels_kept keys_kept start_labels start_keys : Names) →

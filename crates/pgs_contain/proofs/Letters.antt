@@ -11,7 +11,6 @@ use Rattle.pgs_contain.specs.Known.{begins_with, count_beginning, doubled}
 
 -- ---- how many go on
 
-
 two_letters : (c : ℕ) (x y : Bool) → (97 == c) ≡ x → (98 == c) ≡ y → cond (x && true) 1 0 + cond (y && true) 1 0 ≤ 1
 two_letters c true true e f = let a = eqb-true 97 c e in let b = eqb-true 98 c f in absurd (omega (arith, a, b))
 two_letters c true false e f = omega arith

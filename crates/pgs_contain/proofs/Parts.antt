@@ -297,10 +297,10 @@ part_found region first taken (x ∷ xs) parts i part found some is same made lt
       possible = own.possible;
       inside = λ v there. (in_part v there).0;
       outside =
-        λ v there.
-        same v (in_part v there).0
-        ∙ or_from (in_region x v) (in_some_region xs v) (ap (λ r. in_region r v) (sym is) ∙ (in_part v there).1)
-        (ap (λ ps. in_some_region ps v) (sym (later_is x xs)) ∙ own.outside v there);
+          λ v there.
+          same v (in_part v there).0
+          ∙ or_from (in_region x v) (in_some_region xs v) (ap (λ r. in_region r v) (sym is) ∙ (in_part v there).1)
+          (ap (λ ps. in_some_region ps v) (sym (later_is x xs)) ∙ own.outside v there);
     }
   where
     in_part : (v : Point) → in_region found v ≡ true → (in_region region v ≡ true) × (in_region first v ≡ false)

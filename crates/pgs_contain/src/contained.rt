@@ -23,7 +23,11 @@ fn contained_node(
         (λ own. IsNodeOutside first.now number second.now (pair_in own))) }
 {
     let others = typed_shapes(alloc, second)?;
-    let answer = outside_of_shapes(alloc, first.shapes_of_node(number).as_slice(), others.as_slice())?;
+    let answer = outside_of_shapes(
+        alloc,
+        first.shapes_of_node(number).as_slice(),
+        others.as_slice(),
+    )?;
     Ok(answer)
 }
 

@@ -106,7 +106,12 @@ fn frame_options(shape: &Shape, key: &Name, name: &Name) -> Options
 }
 
 // What may stand at the keys of the frame.
-fn frame_region(alloc: Global, shape: &Shape, key: &Name, names: &[Name]) -> Result<List<Options>, Memory>
+fn frame_region(
+    alloc: Global,
+    shape: &Shape,
+    key: &Name,
+    names: &[Name],
+) -> Result<List<Options>, Memory>
     ensures { IfOk result (λ region. region ≡ map (frame_options shape.now.more_keys shape.now.keys key.now) names.now) }
 {
     let mut region = Vec::with_capacity(alloc, names.len())?;
@@ -161,7 +166,8 @@ fn labels_meet(shape: &Shape, labels: &Labels) -> bool
 fn are_optional(keys: &[(Name, Options)], names: &Labels) -> bool
     ensures { result ≡ list_all (λ (key : Items ℕ × KeyOptions). key.1.absent || has_name key.0 names.now) keys.now }
 {
-    keys.iter().all(|key| key.1.absent || names.contains(&key.0))
+    keys.iter()
+        .all(|key| key.1.absent || names.contains(&key.0))
 }
 
 // Whether another shape may have a pair of the frame.
@@ -172,7 +178,11 @@ pub(crate) fn may_have(shape: &Shape, frame: &Frame) -> bool
 }
 
 /// What another shape says of the keys of the frame.
-pub(crate) fn options_of(alloc: Global, shape: &Shape, keys: &[Name]) -> Result<List<Options>, Memory>
+pub(crate) fn options_of(
+    alloc: Global,
+    shape: &Shape,
+    keys: &[Name],
+) -> Result<List<Options>, Memory>
     ensures { IfOk result (λ region. region ≡ options_of shape.now keys.now) }
 {
     let mut region = Vec::with_capacity(alloc, keys.len())?;
@@ -183,7 +193,11 @@ pub(crate) fn options_of(alloc: Global, shape: &Shape, keys: &[Name]) -> Result<
 }
 
 /// What the shapes that may have a pair of the frame say of its keys.
-pub(crate) fn regions_of(alloc: Global, shapes: &[Shape], frame: &Frame) -> Result<List<List<Options>>, Memory>
+pub(crate) fn regions_of(
+    alloc: Global,
+    shapes: &[Shape],
+    frame: &Frame,
+) -> Result<List<List<Options>>, Memory>
     ensures { IfOk result (λ regions. (v : Point) → in_some_region regions v ≡ in_some_of shapes.now frame.now.labels frame.now.keys v) }
 {
     let mut regions = Vec::new(alloc);

@@ -107,7 +107,11 @@ fn push_wrong(
 }
 
 // What another region leaves of one, in parts: each is wrong for the other at one key.
-fn parts_left(alloc: Global, region: &[Options], taken: &[Options]) -> Result<List<List<Options>>, Memory>
+fn parts_left(
+    alloc: Global,
+    region: &[Options],
+    taken: &[Options],
+) -> Result<List<List<Options>>, Memory>
     requires { length region.now ≡ length taken.now }
     ensures { IfOk result (λ parts. (v : Point) →
         in_some_region parts v ≡ (in_region region.now v && not (in_region taken.now v))) }

@@ -5,11 +5,11 @@ ghost use Rattle.std.specs.List.{list_all};
 ghost use Rattle.pgs_contain.specs.Contained.{pair_in};
 ghost use Rattle.pgs_contain.specs.Frames.{is_known, IsInOthers, AreInOthers, IsOutOfOthers};
 
+use crate::OwnedPair;
 use crate::frame::{frame_of, regions_of};
 use crate::regions::left_of;
 use crate::vocabulary::{Vocabulary, vocabulary_of};
 use crate::witness::plain_pair;
-use crate::OwnedPair;
 use pgs_base::Memory;
 use pgs_conform::Shape;
 use std::alloc::Global;

@@ -76,7 +76,11 @@ fn learn_shapes(
 }
 
 // What is known, with a label and a key that are not.
-pub(crate) fn with_strange(alloc: Global, labels: Labels, keys: Labels) -> Result<Vocabulary, Memory>
+pub(crate) fn with_strange(
+    alloc: Global,
+    labels: Labels,
+    keys: Labels,
+) -> Result<Vocabulary, Memory>
     ensures { IfOk result (λ words. (words.labels ≡ labels) × (words.keys ≡ keys)) }
 {
     let label = strange(alloc, labels.as_slice())?;
@@ -90,7 +94,11 @@ pub(crate) fn with_strange(alloc: Global, labels: Labels, keys: Labels) -> Resul
 }
 
 /// What shapes and others name.
-pub(crate) fn vocabulary_of(alloc: Global, first: &[Shape], second: &[Shape]) -> Result<Vocabulary, Memory>
+pub(crate) fn vocabulary_of(
+    alloc: Global,
+    first: &[Shape],
+    second: &[Shape],
+) -> Result<Vocabulary, Memory>
     ensures { IfOk result (λ words. (list_all (is_known words.labels words.keys) first.now ≡ true)
         × (list_all (is_known words.labels words.keys) second.now ≡ true)) }
 {

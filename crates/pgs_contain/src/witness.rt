@@ -69,7 +69,11 @@ fn push_plainest(
 }
 
 // The plainest that may stand at keys.
-fn plain_rows(alloc: Global, keys: &[Name], region: &[Options]) -> Result<Vec<(Name, Value)>, Memory>
+fn plain_rows(
+    alloc: Global,
+    keys: &[Name],
+    region: &[Options],
+) -> Result<Vec<(Name, Value)>, Memory>
     ensures { IfOk result (λ rows. rows.items ≡ plain_rows keys.now region.now) }
 {
     let mut rows = Vec::new(alloc);
@@ -95,7 +99,11 @@ fn plain_props(alloc: Global, keys: &Labels, region: &[Options]) -> Result<Props
 }
 
 /// The plainest pair of a frame, of what is left of its region.
-pub(crate) fn plain_pair(alloc: Global, frame: &Frame, region: &[Options]) -> Result<OwnedPair, Memory>
+pub(crate) fn plain_pair(
+    alloc: Global,
+    frame: &Frame,
+    region: &[Options],
+) -> Result<OwnedPair, Memory>
     ensures { IfOk result (λ own. (is_pair (pair_in own) ≡ true) × (own.labels ≡ frame.now.labels)
         × (own.props ≡ plain_rows frame.now.keys region.now)) }
 {

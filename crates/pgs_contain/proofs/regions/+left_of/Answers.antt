@@ -1,5 +1,4 @@
 use Rattle.std.proofs.Common.{ap, sym, ◌∙◌, length}
-use Rattle.pgs_contain.specs.Regions.{in_some_region}
 use Rattle.pgs_contain.proofs.Parts.{lies_in_one_points, none_met, first_length}
 use Rattle.pgs_contain.proofs.regions.+left_of.Goals as goal
 

@@ -1,5 +1,5 @@
-use Rattle.std.proofs.Common.{◌≡◌, ◌<◌, true, length, take}
-use Rattle.pgs_contain.specs.Regions.{Point, in_region, in_some_region}
+use Rattle.std.proofs.Common.{◌≡◌, true, length, take}
+use Rattle.pgs_contain.specs.Regions.{Point, in_some_region}
 use Rattle.pgs_contain.proofs.regions.+left_of.Given as goal
 
 abbrev pub decreases-left_of : goal.decreases-left_of
