@@ -1,5 +1,5 @@
 -- What is in a shape, by what stands at the keys of a frame.
-use Rattle.std.proofs.Common.{◌≡◌, ℕ, Bool, true, false, ◌&&◌, ◌||◌, cond, List, [], ◌∷◌, map, Option, Some, None, is_some, unwrap_or, refl, sym, ◌∙◌, ap, true≢false, ⊎_elim, if◌then◌else◌}
+use Rattle.std.proofs.Common.{◌≡◌, ℕ, Bool, true, false, ◌&&◌, ◌||◌, List, [], ◌∷◌, map, Option, Some, None, is_some, unwrap_or, refl, sym, ◌∙◌, ap, true≢false, ⊎_elim, if◌then◌else◌}
 use Rattle.std.specs.Cmp.Lexicographic.{nat_list_cmp_total}
 use Rattle.std.specs.List.{list_all}
 use Rattle.std.specs.Map.{keys_of, lookup}
@@ -16,7 +16,7 @@ use Rattle.pgs_syntax.proofs.Parts.{one_name}
 use Rattle.pgs_conform.specs.declared.options.Options.{Options}
 use Rattle.pgs_conform.specs.Shapes.{admits, admits_kind, labels_meet, props_meet}
 use Rattle.pgs_product.specs.JoinedOptions.{free_options, options_at}
-use Rattle.pgs_product.proofs.Asked.{own_name, all_has, labels_met, labels_meet_from, has_found, entries_found, found_entries, props_met, props_meet_from}
+use Rattle.pgs_product.proofs.Asked.{own_name, labels_met, labels_meet_from, has_found, entries_found, found_entries, props_met, props_meet_from}
 use Rattle.pgs_product.proofs.United.{name_cmp}
 use Rattle.pgs_contain.specs.Frames.{Names, Keys, text_alone, frame_labels, frame_keys, frame_options}
 use Rattle.pgs_contain.specs.Regions.{Point, in_region}

@@ -1,7 +1,7 @@
 -- The plainest properties: what stands at each key, and that they are in the region.
-use Rattle.std.proofs.Common.{◌≡◌, ℕ, suc, Bool, true, false, ◌&&◌, ◌||◌, cond, List, [], ◌∷◌, map, length, Option, Some, None, refl, sym, ◌∙◌, ap, true≢false, is_lt, is_eq, arith, pos, Ordering, Less, Equal, Greater}
+use Rattle.std.proofs.Common.{◌≡◌, ℕ, Bool, true, false, ◌||◌, cond, List, [], ◌∷◌, map, length, Option, Some, None, refl, sym, ◌∙◌, ap, true≢false, is_lt, is_eq, arith, pos, Ordering, Less, Equal, Greater}
 use Rattle.std.specs.List.{list_all}
-use Rattle.std.specs.Map.{keys_of, lookup}
+use Rattle.std.specs.Map.{keys_of}
 use Rattle.std.proofs.lemmas.Bool.{and_parts, and_from, or_left, or_right, or_parts, or_from}
 use Rattle.std.proofs.lemmas.Option.{same_Some, none-some}
 use Rattle.pgs_base.specs.declared.value.Value.{Value}

@@ -1,27 +1,27 @@
 -- A shape whose region is covered by others has no pair outside of them, and what is left of its region gives one.
 use Rattle.std.proofs.Common.{◌≡◌, ℕ, ◌+◌, ◌<◌, ◌++◌, take, get_or, Bool, true, false, ◌&&◌, ◌||◌, List, [], ◌∷◌, map, length, suc, Option, Some, None, MatchOption, refl, sym, ◌∙◌, ap, true≢false, ⊎_elim}
-use Rattle.std.specs.List.{list_any, list_all}
+use Rattle.std.specs.List.{list_all}
 use Rattle.std.specs.Map.{keys_of}
-use Rattle.std.proofs.lemmas.Bool.{and_parts, and_from, or_cases, or_left, or_right, or_from}
+use Rattle.std.proofs.lemmas.Bool.{and_parts, and_from, or_cases, or_left, or_right}
 use Rattle.std.proofs.lemmas.Option.{MatchOption-at_some, MatchOption-at_none}
 use Rattle.std.proofs.Math.Bool.{or-false}
 use Rattle.std.proofs.lemmas.List.{take_more, length-map}
 use Rattle.std.proofs.lemmas.List.Folds.{list_any-append, list_any_at}
 use Rattle.pgs_base.specs.declared.row.NodeRow.{NodeRow}
 use Rattle.pgs_base.specs.Order.{ascends}
-use Rattle.pgs_base.specs.Pair.{has_name, is_pair, pair_of, value_at}
+use Rattle.pgs_base.specs.Pair.{has_name, is_pair, value_at}
 use Rattle.pgs_conform.specs.declared.options.Options.{Options}
 use Rattle.pgs_conform.specs.declared.shape.Shape.{Shape}
-use Rattle.pgs_conform.specs.Shapes.{labels_meet, props_meet, in_shape, in_some, Denotes}
+use Rattle.pgs_conform.specs.Shapes.{labels_meet, in_shape, in_some, Denotes}
 use Rattle.pgs_product.proofs.United.{name_cmp}
 use Rattle.pgs_product.proofs.Asked.{all_has}
 use Rattle.pgs_contain.specs.declared.outside.OwnedPair.{OwnedPair}
-use Rattle.pgs_contain.specs.Contained.{is_plain, is_plain_value, pair_in}
+use Rattle.pgs_contain.specs.Contained.{is_plain_value, pair_in}
 use Rattle.pgs_contain.specs.Frames.{Names, frame_labels, frame_keys, frame_options, options_of, may_have, in_some_of, is_known, IsInOthers, AreInOthers, IsOutOfOthers}
 use Rattle.pgs_contain.specs.Regions.{Point, plainest, in_region, in_some_region, is_possible, IsCovered, IsLeft}
 use Rattle.pgs_contain.specs.Rows.{plain_rows}
 use Rattle.pgs_contain.proofs.Framing.{labels_in, own_labels, own_point, own_point_in, props_in, frame_point, AreAll, props_own, others_may, others_have}
-use Rattle.pgs_contain.proofs.Plain.{plainest_may, rows_ascend, rows_apart, rows_in, rows_plain}
+use Rattle.pgs_contain.proofs.Plain.{plainest_may, rows_apart, rows_in, rows_plain}
 
 pub props_up : (p : NodeRow) → is_pair p ≡ true → ascends name_cmp (keys_of p.props) ≡ true
 props_up p pair = (and_parts _ _ (and_parts _ _ (and_parts _ _ pair).1).0).0

@@ -1,12 +1,10 @@
 -- The frame of a shape: the labels that what is outside may have, the keys at which values may stand in it, and what may stand at
 -- each. Where the shape is free in labels, or in keys, one is added that no shape names.
-use Rattle.std.specs.Prelude.{◌≡◌, ℕ, Bool, true, false, ◌&&◌, ◌||◌, List, [], Option, Some, map, if◌then◌else◌}
+use Rattle.std.specs.Prelude.{◌≡◌, ℕ, Bool, true, false, ◌&&◌, ◌||◌, List, map, if◌then◌else◌}
 use Rattle.std.specs.List.{list_any, list_all}
 use Rattle.std.specs.Map.{keys_of}
 use Rattle.pgs_base.specs.declared.row.NodeRow.{NodeRow}
-use Rattle.pgs_base.specs.declared.value.Value.{Value}
-use Rattle.pgs_base.specs.declared.value.Value.TheVariants as values
-use Rattle.pgs_base.specs.Pair.{same_name, has_name, put_name, value_at, is_pair}
+use Rattle.pgs_base.specs.Pair.{same_name, has_name, put_name, is_pair}
 use Rattle.pgs_conform.specs.declared.options.Options.{Options}
 use Rattle.pgs_conform.specs.declared.shape.Shape.{Shape}
 use Rattle.pgs_conform.specs.Shapes.{labels_meet, in_shape, in_some}

@@ -1,5 +1,5 @@
 -- Names among which more are known later; and how many of names begin with some bytes.
-use Rattle.std.specs.Prelude.{◌≡◌, ℕ, zero, suc, ◌+◌, ◌*◌, Bool, true, false, ◌&&◌, List, [], ◌∷◌, ◌==◌, count_by}
+use Rattle.std.specs.Prelude.{◌≡◌, ℕ, zero, suc, ◌*◌, Bool, true, false, ◌&&◌, List, [], ◌∷◌, ◌==◌, count_by}
 use Rattle.pgs_base.specs.Pair.{has_name}
 
 -- what was known is known still
