@@ -1,5 +1,5 @@
 -- Lines of commits that were accepted in order, arranged anyhow, lead to the graph after some first ones.
-use Rattle.std.proofs.Common.{◌≡◌, ℕ, zero, suc, ◌+◌, ◌^◌, ◌<◌, ◌≤◌, Bool, true, false, ◌==◌, ◌&&◌, nat_le, nat_lt, List, [], ◌∷◌, length, take, Option, Some, None, is_some, Result, Ok, Err, refl, sym, ap, ◌∙◌, subst, arith}
+use Rattle.std.proofs.Common.{◌≡◌, ℕ, zero, suc, ◌+◌, ◌<◌, ◌≤◌, Bool, true, false, ◌==◌, nat_le, nat_lt, List, [], ◌∷◌, length, take, Option, Some, None, is_some, Result, Ok, Err, refl, sym, ap, ◌∙◌, subst, arith}
 use Rattle.std.specs.Prelude.{slice_get}
 use Rattle.std.specs.List.{list_all}
 use Rattle.std.proofs.lemmas.Bool.{and_parts}
@@ -21,7 +21,7 @@ use Rattle.pgs_json.proofs.Commits.{written_commit_line}
 use Rattle.pgs_run_lines.specs.Input.{lines_of}
 use Rattle.pgs_follow.specs.declared.fault.FollowFault.{FollowFault}
 use Rattle.pgs_follow.specs.declared.fault.FollowFault.TheVariants.{LineTooLong, BadLine, Gap, BadCommit}
-use Rattle.pgs_follow.specs.Followed.{Followed, nothing_followed, faulted, committed, after_commit, after_reading, after_line, after_lines, with_rest, followed}
+use Rattle.pgs_follow.specs.Followed.{Followed, nothing_followed, committed, after_commit, after_line, after_lines, with_rest, followed}
 use Rattle.pgs_follow.specs.Arranged.{after_all, IsHistory, IsFeedLine, AreFeedLines, IsGapOrLongRest, FollowsFirst}
 use Rattle.pgs_follow.proofs.Following.{of_ended, followed_is}
 

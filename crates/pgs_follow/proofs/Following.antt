@@ -1,5 +1,5 @@
 -- How what is followed goes on when more bytes come.
-use Rattle.std.proofs.Common.{◌≡◌, ℕ, ◌+◌, ◌<◌, ◌≤◌, Bool, true, false, ◌==◌, nat_lt, ◌⊎◌, inl, inr, List, [], ◌∷◌, ◌++◌, length, Option, Some, None, is_some, Result, Ok, Err, refl, sym, ap, ◌∙◌, append_assoc, length-append, arith}
+use Rattle.std.proofs.Common.{◌≡◌, ℕ, ◌+◌, ◌<◌, Bool, true, false, ◌==◌, nat_lt, ◌⊎◌, inl, inr, List, [], ◌∷◌, ◌++◌, length, Option, Some, None, is_some, Err, refl, sym, ap, ◌∙◌, append_assoc, length-append, arith}
 use Rattle.std.proofs.lemmas.Bool.{lt-ltb}
 use Rattle.std.proofs.lemmas.Bool.Decides.{nat_tests}
 use Rattle.pgs_base.specs.declared.limits.Limits.{Limits}
@@ -10,7 +10,7 @@ use Rattle.pgs_run_lines.proofs.Cutting.{fed, extended, lines_of_fed, lines_of_e
 use Rattle.pgs_run_lines.proofs.Cutting as cutting
 use Rattle.pgs_follow.specs.declared.fault.FollowFault.TheVariants.{LineTooLong}
 use Rattle.pgs_follow.specs.declared.fault.FollowFault.{FollowFault}
-use Rattle.pgs_follow.specs.Followed.{Followed, nothing_followed, faulted, after_reading, after_line, after_lines, with_rest, followed}
+use Rattle.pgs_follow.specs.Followed.{Followed, nothing_followed, faulted, after_line, after_lines, with_rest, followed}
 
 -- ---- after a fault
 

@@ -1,8 +1,8 @@
 -- What a follower stands for once it took a piece.
-use Rattle.std.proofs.Common.{◌≡◌, ℕ, zero, suc, ◌+◌, ◌<◌, ◌≤◌, Bool, true, false, ◌==◌, List, [], ◌∷◌, ◌++◌, length, take, drop, Option, Some, None, is_some, refl, sym, ap, ◌∙◌, subst, length-take, arith}
+use Rattle.std.proofs.Common.{◌≡◌, ℕ, suc, ◌+◌, ◌<◌, Bool, true, false, ◌==◌, List, [], ◌∷◌, ◌++◌, length, take, drop, Option, Some, None, is_some, refl, sym, ap, ◌∙◌, length-take, arith}
 use Rattle.pgs_base.specs.declared.limits.Limits.{Limits}
 use Rattle.pgs_run_lines.specs.Input.{Lines, lines_of, has_no_feed, IsLineEnd}
-use Rattle.pgs_run_lines.proofs.Cutting.{fed, extended, lines_of_extended}
+use Rattle.pgs_run_lines.proofs.Cutting.{lines_of_extended}
 use Rattle.pgs_follow.specs.declared.fault.FollowFault.{FollowFault}
 use Rattle.pgs_follow.specs.Followed.{Followed, after_line, with_rest, followed, rest_of, nothing_followed}
 use Rattle.pgs_follow.specs.Standing.{FollowerState, StandsFor, through_feed, rest_in}

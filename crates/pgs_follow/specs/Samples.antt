@@ -4,7 +4,7 @@ use Rattle.pgs_base.specs.declared.element.NodeId.{NodeId}
 use Rattle.pgs_base.specs.declared.limits.Limits.{Limits}
 use Rattle.pgs_base.specs.declared.row.NodeRow.{NodeRow}
 use Rattle.pgs_graph.specs.declared.operation.Op.{Op}
-use Rattle.pgs_graph.specs.declared.operation.Op.TheVariants.{AddNode, RemoveNode}
+use Rattle.pgs_graph.specs.declared.operation.Op.TheVariants.{AddNode}
 use Rattle.pgs_json.specs.Canonical.{text_of_txn}
 
 abbrev pub few : Limits

@@ -1,5 +1,5 @@
 -- What contracts see of a follower, and of which bytes it stands for what is followed of them.
-use Rattle.std.specs.Prelude.{◌≡◌, ℕ, suc, List, [], ◌∷◌, length, Option, None, is_some, ◌==◌, if◌then◌else◌}
+use Rattle.std.specs.Prelude.{◌≡◌, ℕ, suc, List, [], ◌∷◌, length, None, is_some, ◌==◌, if◌then◌else◌}
 use Rattle.pgs_base.specs.declared.limits.Limits.{Limits}
 use Rattle.pgs_run_lines.specs.Input.{lines_of}
 use Rattle.pgs_follow.specs.Followed.{Followed, followed}

@@ -1,4 +1,4 @@
-use Rattle.std.proofs.Common.{◌≡◌, ◌++◌, List, ℕ, true, false, is_some, length, take, sym, subst, ◌∙◌, arith}
+use Rattle.std.proofs.Common.{◌≡◌, ◌++◌, List, ℕ, false, is_some, length, take, sym, subst, ◌∙◌, arith}
 use Rattle.std.proofs.lemmas.List.{take_all}
 use Rattle.pgs_follow.specs.Standing.{StandsFor}
 use Rattle.pgs_follow.proofs.Standing.{stands_ended, stands_kept, stands_on, through_end, through_all, front_ended}
