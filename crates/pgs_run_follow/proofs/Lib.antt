@@ -1,0 +1,4 @@
+pub mod FollowEnds
+pub mod Machine
+pub mod Putting
+pub mod Refusing

@@ -1,0 +1,5 @@
+pub mod Ending
+pub mod ExitStatus
+pub mod Following
+pub mod Texts
+pub mod Told
