@@ -4,6 +4,7 @@ pub mod Disk
 pub mod Held
 pub mod History
 pub mod Left
+pub mod Made
 pub mod MemArea
 pub mod MemFeed
 pub mod MemSource

@@ -1,5 +1,6 @@
-ghost use Rattle.std.specs.Prelude.{◌≡◌, ◌<◌, ◌≤◌, List, ℕ, length, take, Option, Ok, IfOk, OnOk, OnErr};
+ghost use Rattle.std.specs.Prelude.{◌≡◌, ◌<◌, ◌≤◌, List, ℕ, length, take, Option, Ok, IfOk, OnOk, OnErr, ⊤};
 ghost use Rattle.pgs_world.specs.Count.{Rose};
+ghost use Rattle.pgs_world.specs.Made.{Read, read_of};
 ghost use Rattle.pgs_world.specs.Source.{Takes, IsAtEnd};
 
 use crate::SourceFault;
@@ -12,6 +13,9 @@ pub trait Source {
     /// How often a read failed.
     ghost faults: { Self → ℕ };
 
+    /// A read that was made: what it asked for and what it gave.
+    ghost made: { Self → Read → Self → Type 0 } = { λ _ _ _. ⊤ };
+
     /// Takes the next bytes into the front of the buffer, and says how many. 0 for a buffer that isn't
     /// empty is the end of the input. After `SourceFault` the bytes left are as they were, and the
     /// count of faults rose; else that count is as it was.
@@ -22,5 +26,6 @@ pub trait Source {
         ensures kept { OnErr result (left self.new ≡ left self.old) }
         ensures cause { OnErr result (Rose (faults self.old) (faults self.new)) }
         ensures no_cause { OnOk result (faults self.new ≡ faults self.old) }
-        ensures faults_stay { faults self.old ≤ faults self.new };
+        ensures faults_stay { faults self.old ≤ faults self.new }
+        ensures made { made self.old (read_of (length buf.old) result) self.new };
 }

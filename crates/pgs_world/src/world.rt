@@ -1,6 +1,8 @@
-ghost use Rattle.std.specs.Prelude.{◌≡◌, ◌+◌, ◌^◌, ◌≤◌, length, take, drop, IsTrue, IfOk, OnOk, OnErr};
+ghost use Rattle.std.specs.Prelude.{◌≡◌, ◌+◌, ◌^◌, ◌≤◌, length, take, drop, IsTrue, IfOk, OnOk, OnErr, is_err, ⊤};
 ghost use Rattle.pgs_world.specs.Count.{Rose};
 ghost use Rattle.pgs_world.specs.Disk.{written_over, IsSameBeside, Writes, Cuts, Puts};
+ghost use Rattle.pgs_world.specs.Made.{Call};
+ghost use Rattle.pgs_world.specs.Made.Call.{OnArea, Put};
 ghost use Rattle.pgs_world.specs.Moment.{IsTimed, Passes, StopsBy, IsQuiet, ShowsOne, IsSynced, MakesNoPut};
 ghost use Rattle.pgs_world.specs.World.{View, output_of, part, Adds, AddsFront};
 
@@ -15,6 +17,9 @@ pub trait World {
     /// What contracts see of the world.
     ghost view: { Self → View };
 
+    /// A call that was made: on which area, or which piece was put, and whether it failed.
+    ghost made: { Self → Call → Self → Type 0 } = { λ _ _ _. ⊤ };
+
     /// The length of an area, in bytes. An area of more than 2^40 bytes is a fault.
     fn len(&mut self, area: Area) -> Result<u64, AreaFault>
         ensures length { IfOk result (λ count. IsTrue (view self.old).tells_bytes → count ≡ length (part area (view self.old).shown)) }
@@ -24,7 +29,8 @@ pub trait World {
         ensures image { ShowsOne (view self.new) }
         ensures cause { OnErr result (Rose (view self.old).area_faults (view self.new).area_faults) }
         ensures no_cause { OnOk result ((view self.new).area_faults ≡ (view self.old).area_faults) }
-        ensures no_put { MakesNoPut (view self.old) (view self.new) };
+        ensures no_put { MakesNoPut (view self.old) (view self.new) }
+        ensures made { made self.old (OnArea area (is_err result)) self.new };
 
     /// Fills the buffer with the bytes of an area from a place on. Where the length is told, no caller may ask
     /// for a range outside the area; where it isn't, an implementation should make such a range a fault.
@@ -36,7 +42,8 @@ pub trait World {
         ensures image { ShowsOne (view self.new) }
         ensures cause { OnErr result (Rose (view self.old).area_faults (view self.new).area_faults) }
         ensures no_cause { OnOk result ((view self.new).area_faults ≡ (view self.old).area_faults) }
-        ensures no_put { MakesNoPut (view self.old) (view self.new) };
+        ensures no_put { MakesNoPut (view self.old) (view self.new) }
+        ensures made { made self.old (OnArea area (is_err result)) self.new };
 
     /// Writes over what is there, and past the end. Until a sync of the area, a stop may leave any bytes in
     /// the range and any length between the old and the new one. A write past 2^40 bytes is a fault. After
@@ -52,7 +59,8 @@ pub trait World {
         ensures image { ShowsOne (view self.new) }
         ensures cause { OnErr result (Rose (view self.old).area_faults (view self.new).area_faults) }
         ensures no_cause { OnOk result ((view self.new).area_faults ≡ (view self.old).area_faults) }
-        ensures no_put { MakesNoPut (view self.old) (view self.new) };
+        ensures no_put { MakesNoPut (view self.old) (view self.new) }
+        ensures made { made self.old (OnArea area (is_err result)) self.new };
 
     /// Cuts an area to a length. Until a sync of the area, a stop may leave any bytes behind the cut, up to
     /// the old length. After a fault the bytes are as if part of it had been done.
@@ -66,7 +74,8 @@ pub trait World {
         ensures image { ShowsOne (view self.new) }
         ensures cause { OnErr result (Rose (view self.old).area_faults (view self.new).area_faults) }
         ensures no_cause { OnOk result ((view self.new).area_faults ≡ (view self.old).area_faults) }
-        ensures no_put { MakesNoPut (view self.old) (view self.new) };
+        ensures no_put { MakesNoPut (view self.old) (view self.new) }
+        ensures made { made self.old (OnArea area (is_err result)) self.new };
 
     /// After it, a stop leaves of the area what a read gives.
     fn sync(&mut self, area: Area) -> Result<(), AreaFault>
@@ -76,7 +85,8 @@ pub trait World {
         ensures image { ShowsOne (view self.new) }
         ensures cause { OnErr result (Rose (view self.old).area_faults (view self.new).area_faults) }
         ensures no_cause { OnOk result ((view self.new).area_faults ≡ (view self.old).area_faults) }
-        ensures no_put { MakesNoPut (view self.old) (view self.new) };
+        ensures no_put { MakesNoPut (view self.old) (view self.new) }
+        ensures made { made self.old (OnArea area (is_err result)) self.new };
 
     /// Puts the piece at the end of the output; the count of puts is then one more. After `PutFault` some front
     /// of the piece may have been put, the count of put faults rose, and the count of puts is as it was. A stop
@@ -96,7 +106,8 @@ pub trait World {
         ensures counted { OnOk result ((view self.new).puts ≡ (view self.old).puts + 1) }
         ensures not_counted { OnErr result ((view self.new).puts ≡ (view self.old).puts) }
         ensures no_cause { OnOk result ((view self.new).put_faults ≡ (view self.old).put_faults) }
-        ensures no_area { (view self.new).area_faults ≡ (view self.old).area_faults };
+        ensures no_area { (view self.new).area_faults ≡ (view self.old).area_faults }
+        ensures made { made self.old (Put piece.now (is_err result)) self.new };
 
     /// How the tables of a graph that is kept with this world hash. No contract depends on it.
     fn seed(&self) -> Seed {
