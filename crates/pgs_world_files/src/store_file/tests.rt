@@ -19,7 +19,11 @@ impl NamedFile for Failing {
     fn read_from(&mut self, at: u64, buf: &mut [u8]) -> io::Result<usize> {
         match buf.first_mut() {
             Some(place) => {
-                *place = (at / 512) as u8;
+                *place = match at / 512 {
+                    0 => 0,
+                    1 => 1,
+                    _ => 2,
+                };
                 Ok(1)
             }
             None => Ok(0),
