@@ -10,3 +10,4 @@ mod Trees
 mod Reading
 mod FormParts
 mod FormLoops
+pub mod Commits

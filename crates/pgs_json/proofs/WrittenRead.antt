@@ -32,7 +32,7 @@ use Rattle.pgs_json.proofs.Spelt.{Spelt, deeper, read_spelt, spelt_string, spelt
 use Rattle.pgs_json.proofs.Parts.{is_prop, name_utf8, spelt_parts, value_data, spelt_value, value_read, labels_data, spelt_labels, labels_read, own_set, props_data, spelt_props, props_read, own_map}
 use Rattle.pgs_json.proofs.ToldKinds.{op_of_told}
 
-ascii : (name : List ℕ) → are_ascii name ≡ true → IsUtf8 name
+pub ascii : (name : List ℕ) → are_ascii name ≡ true → IsUtf8 name
 ascii name e = IsUtf8-are_ascii name e
 
 abbrev pub id_data : ℕ → Data
@@ -209,11 +209,11 @@ op_read (UnlabelEdge id label) h = rw (and_parts (is_element_number id.0) (is_na
 
 -- ---- transactions
 
-all_ops : (ops : List Op) → list_all is_well_formed_op ops ≡ true → AllSpelt op_text op_data 3 ops
+pub all_ops : (ops : List Op) → list_all is_well_formed_op ops ≡ true → AllSpelt op_text op_data 3 ops
 all_ops [] h = tt
 all_ops (op ∷ ops) h = let a = and_parts (is_well_formed_op op) _ h in (spelt_op op a.0, all_ops ops a.1)
 
-ops_read : (ops : List Op) → list_all is_well_formed_op ops ≡ true → each_item op_of (items_of (map op_data ops)) ≡ Some ops
+pub ops_read : (ops : List Op) → list_all is_well_formed_op ops ≡ true → each_item op_of (items_of (map op_data ops)) ≡ Some ops
 ops_read [] h = refl
 ops_read (op ∷ ops) h =
     let a = and_parts (is_well_formed_op op) _ h in

@@ -1,4 +1,5 @@
 pub mod Canonical
+pub mod Commit
 pub mod Digits
 pub mod Form
 pub mod Kinds

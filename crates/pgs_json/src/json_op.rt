@@ -199,8 +199,9 @@ fn some_ops(alloc: Global, items: &[Json<'_>]) -> Result<List<Op>, Unread>
     Ok(ops)
 }
 
+/// The operations that a JSON value is.
 #[tactic(auto, unfolding(crate::specs::Form::ops_of))]
-fn ops(alloc: Global, value: &Json<'_>) -> Result<List<Op>, Unread>
+pub fn ops(alloc: Global, value: &Json<'_>) -> Result<List<Op>, Unread>
     ensures { Gives (λ x. x) result (ops_of (view value.now)) }
 {
     match value.as_array() {

@@ -7,6 +7,7 @@ ghost use Rattle.pgs_graph.specs.declared.operation.Op.TheVariants.{AddNode, Add
 ghost use Rattle.pgs_graph.specs.declared.operation.Txn.{Txn};
 ghost use Rattle.serde_json.specs.Data.{string, array, item, no_items};
 ghost use Rattle.pgs_json.specs.Form.{labels_of};
+ghost use Rattle.pgs_json.specs.Commit.{commit_of};
 ghost use Rattle.pgs_json.specs.Line.{txn_of};
 ghost use Rattle.pgs_json.specs.Canonical.{text_of_txn};
 
@@ -144,4 +145,14 @@ pub fn written_and_read()
 pub fn labels_in_another_order()
     ensures { (a b : List ℕ) → labels_of (array (item (string a) (item (string b) no_items)))
         ≡ labels_of (array (item (string b) (item (string a) no_items))) }
+{}
+
+/// Lines of a feed.
+pub fn lines_of_a_feed()
+    ensures first { commit_of (codes "{\"commit\":1,\"ops\":[{\"add_node\":1}]}")
+        ≡ Some (1, record { ops = AddNode (record { 0 = 1 }) [] [] ∷ [] }) }
+    ensures members_in_any_order { commit_of (codes "{\"ops\":[],\"commit\":18446744073709551615}") ≡ Some (18446744073709551615, record { ops = [] }) }
+    ensures no_number { commit_of (codes "{\"ops\":[]}") ≡ None }
+    ensures zero { commit_of (codes "{\"commit\":0,\"ops\":[]}") ≡ None }
+    ensures other_member { commit_of (codes "{\"commit\":1,\"ops\":[],\"at\":2}") ≡ None }
 {}

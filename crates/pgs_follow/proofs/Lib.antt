@@ -1,0 +1,3 @@
+pub mod Arrangements
+pub mod Following
+pub mod Standing

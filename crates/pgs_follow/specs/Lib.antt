@@ -1,0 +1,4 @@
+pub mod Arranged
+pub mod Followed
+pub mod Samples
+pub mod Standing
