@@ -11,14 +11,16 @@ use Rattle.pgs_run_lines.proofs.Causes.{world_same}
 use Rattle.pgs_run_lines.proofs.RunEnds.{within_unread}
 use Rattle.pgs_run_lines.proofs.Showing.{shows_none}
 use Rattle.pgs_run_words.specs.declared.command.Command.{Command}
+use Rattle.pgs_world.specs.Moment.{IsSettled}
 use Rattle.pgs_world.specs.World.{View}
 use Rattle.pgs_run_base.specs.declared.status.Status.{Status}
 use Rattle.pgs_run_base.specs.declared.status.Status.TheVariants.{Accepted, Refused, BadWords, SchemaRefused, StoreRefused, DiskFault, ReadFault, PutFault, Memory, InputTooLong}
 use Rattle.pgs_run_base.specs.Areas.{Areas, areas_of}
 use Rattle.pgs_run_base.specs.Ending.{Ends}
 use Rattle.pgs_run_base.specs.Run.{IsRead, EndsAs, HasCommandCause, TakesWithin}
+use Rattle.pgs_run_base.proofs.Images.{images_areas, settled_images}
 use Rattle.pgs_run.specs.Command.{reads_source, uses_areas, IsTold}
-use Rattle.pgs_run.specs.Leaving.{Leaves, Feeds}
+use Rattle.pgs_run.specs.Leaving.{Leaves, Feeds, ReadsInVain}
 use Rattle.pgs_run_gen.specs.Answer.{IsAnswer as IsGenAnswer}
 use Rattle.pgs_run_saved.specs.Opening.{IsAnswer}
 use Rattle.pgs_run.specs.Run.{HasRunCause, RefusesWords}
@@ -26,17 +28,17 @@ use Rattle.pgs_run.specs.Runs.{SourceState, Setting, Runs}
 use Rattle.pgs_run.specs.Told.{told_command, told_of_words}
 
 -- the cause that a command's own clause tells
-pub cause_of : (command : Command) (old new : Faults) (status : Status) → HasCommandCause (reads_source (Some command)) (uses_areas (Some command)) old new status → HasRunCause (Some command) old new status
-cause_of command old new Accepted cause = cause
-cause_of command old new Refused cause = cause
-cause_of command old new BadWords cause = absurd cause
-cause_of command old new SchemaRefused cause = cause
-cause_of command old new StoreRefused cause = cause
-cause_of command old new DiskFault cause = cause
-cause_of command old new ReadFault cause = cause
-cause_of command old new PutFault cause = cause
-cause_of command old new Memory cause = cause
-cause_of command old new InputTooLong cause = cause
+pub cause_of : (command : Command) (old new : Faults) (status : Status) → (status ≡ InputTooLong → reads_source (Some command) ≡ true) → HasCommandCause (reads_source (Some command)) (uses_areas (Some command)) old new status → HasRunCause (Some command) old new status
+cause_of command old new Accepted long cause = cause
+cause_of command old new Refused long cause = cause
+cause_of command old new BadWords long cause = absurd cause
+cause_of command old new SchemaRefused long cause = cause
+cause_of command old new StoreRefused long cause = cause
+cause_of command old new DiskFault long cause = cause
+cause_of command old new ReadFault long cause = cause
+cause_of command old new PutFault long cause = cause
+cause_of command old new Memory long cause = cause
+cause_of command old new InputTooLong long cause = (long refl, cause)
 
 -- the statuses of a run that reads nothing
 abbrev pub IsUnread : Status → Type 0
@@ -81,16 +83,18 @@ unread_refused status (inr (inr is)) = ((λ fault. cc), (λ cut. cc))
 pub runs_alone : (command : Option Command) (budget : ℕ) (source : SourceState) (old new : View) (before after : List Place) (status : Status) → reads_source command ≡ false → IsUnread status
     → ((input : List ℕ) → IsTold command source.left old input → Ends (shown_of old) (told_command command input (areas_of old) budget (lost_count after)) status (shown_of new))
     → HasRunCause command (faults_of source.faults old) (faults_of source.faults new) status
-    → Leaves command source.left (lost_count after) old new → Feeds command source.left old new before after status
+    → Leaves command source.left (lost_count after) old new status → (IsSettled old → (status ≡ DiskFault → ⊥) → IsSettled new) → Feeds command source.left old new before after status
     → Runs command budget (record { source = source; view = old; places = before }) (record { source = source; view = new; places = after }) status
-runs_alone command budget source old new before after status alone unread shown cause leaves fed = record {
+runs_alone command budget source old new before after status alone unread shown cause leaves settles fed = record {
   ends = λ input known left_is. ends_unread (λ bytes. told_command command input (areas_of old) bytes (lost_count after)) (shown_of old) source.left (shown_of new) input budget status left_is unread (shown input known);
   takes = λ input rest left_all left_is. takes_unread source.left input rest budget status left_all left_is unread;
   alone = λ input known reads. shown input known;
   unread = λ reads. refl;
   read_to_end = λ reads. let no = sym alone ∙ reads in cc;
   cause = cause;
+  in_vain = λ vain. refl;
   leaves = leaves;
+  settles = settles;
   fed = fed;
 }
 
@@ -101,16 +105,19 @@ pub runs_reading : (command : Command) (budget : ℕ) (old new : Setting) (statu
     → ((input rest : List ℕ) → old.source.left ≡ Some input → new.source.left ≡ Some rest → TakesWithin input budget rest status)
     → IsRead new.source.left status
     → HasCommandCause true (uses_areas (Some command)) (faults_of old.source.faults old.view) (faults_of new.source.faults new.view) status
-    → Leaves (Some command) old.source.left (lost_count new.places) old.view new.view → Feeds (Some command) old.source.left old.view new.view old.places new.places status
+    → (ReadsInVain (Some command) old.view status → new.source ≡ old.source) → Leaves (Some command) old.source.left (lost_count new.places) old.view new.view status
+    → (IsSettled old.view → (status ≡ DiskFault → ⊥) → IsSettled new.view) → Feeds (Some command) old.source.left old.view new.view old.places new.places status
     → Runs (Some command) budget old new status
-runs_reading command budget old new status reads ends takes read cause leaves fed = record {
+runs_reading command budget old new status reads ends takes read cause in_vain leaves settles fed = record {
   ends = ends;
   takes = takes;
   alone = λ input known no. let e = sym reads ∙ no in cc;
   unread = λ no. let e = sym reads ∙ no in cc;
   read_to_end = λ r. read;
-  cause = cause_of command (faults_of old.source.faults old.view) (faults_of new.source.faults new.view) status (subst (λ (b : Bool). HasCommandCause b (uses_areas (Some command)) (faults_of old.source.faults old.view) (faults_of new.source.faults new.view) status) (sym reads) cause);
+  cause = cause_of command (faults_of old.source.faults old.view) (faults_of new.source.faults new.view) status (λ long. reads) (subst (λ (b : Bool). HasCommandCause b (uses_areas (Some command)) (faults_of old.source.faults old.view) (faults_of new.source.faults new.view) status) (sym reads) cause);
+  in_vain = in_vain;
   leaves = leaves;
+  settles = settles;
   fed = fed;
 }
 
@@ -131,14 +138,14 @@ pub runs_refused : (budget : ℕ) (source : SourceState) (old new : View) (place
     → Runs None budget (record { source = source; view = old; places = places }) (record { source = source; view = new; places = places }) status
 runs_refused budget source old new places status areas ends =
     runs_alone None budget source old new places places status refl (unread_refused status (refuses_by old new status ends)) (λ input known. refused_shown old new status ends)
-    (refused_cause source.faults old new status ends) areas refl
+    (refused_cause source.faults old new status ends) areas (λ settled no. settled_images old new settled (images_areas old new areas)) refl
 
 -- no piece was put
 pub none_first : (start : Shown) (pieces : List (List ℕ)) → ShowsFirst start pieces start
 none_first start pieces = record { first = []; later = pieces; parts = refl; shows = shows_none start }
 
 -- no memory, before anything was done
-pub runs_memory : (command : Option Command) (budget : ℕ) (source : SourceState) (view : View) (places : List Place) → Leaves command source.left (lost_count places) view view → Feeds command source.left view view places places Memory
+pub runs_memory : (command : Option Command) (budget : ℕ) (source : SourceState) (view : View) (places : List Place) → Leaves command source.left (lost_count places) view view Memory → Feeds command source.left view view places places Memory
     → Runs command budget (record { source = source; view = view; places = places }) (record { source = source; view = view; places = places }) Memory
 runs_memory command budget source view places leaves fed = record {
   ends = λ input known left_is. ends_unread _ (shown_of view) source.left (shown_of view) input budget Memory left_is ((λ e. cc), (λ e. cc)) (none_first (shown_of view) _);
@@ -147,6 +154,8 @@ runs_memory command budget source view places leaves fed = record {
   unread = λ reads. refl;
   read_to_end = λ reads. tt;
   cause = refl;
+  in_vain = λ vain. refl;
   leaves = leaves;
+  settles = λ settled no. settled;
   fed = fed;
 }

@@ -85,7 +85,7 @@ told_read command before now DiskFault cause other = cause.1.1
 told_read command before now ReadFault cause other = absurd (other refl)
 told_read command before now PutFault cause other = cause.1
 told_read command before now Memory cause other = ap (λ (f : Faults). f.reads) cause
-told_read command before now InputTooLong cause other = ap (λ (f : Faults). f.reads) cause
+told_read command before now InputTooLong cause other = ap (λ (f : Faults). f.reads) cause.1
 
 told_put : (command : Option Command) (before now : Faults) (status : Status) → HasRunCause command before now status → (status ≡ PutFault → ⊥) → now.puts ≡ before.puts
 told_put command before now Accepted cause other = ap (λ (f : Faults). f.puts) cause
@@ -97,7 +97,7 @@ told_put command before now DiskFault cause other = cause.1.2
 told_put command before now ReadFault cause other = cause.1.2
 told_put command before now PutFault cause other = absurd (other refl)
 told_put command before now Memory cause other = ap (λ (f : Faults). f.puts) cause
-told_put command before now InputTooLong cause other = ap (λ (f : Faults). f.puts) cause
+told_put command before now InputTooLong cause other = ap (λ (f : Faults). f.puts) cause.1
 
 told_area : (command : Option Command) (before now : Faults) (status : Status) → HasRunCause command before now status → (status ≡ DiskFault → ⊥) → now.areas ≡ before.areas
 told_area command before now Accepted cause other = ap (λ (f : Faults). f.areas) cause
@@ -109,7 +109,7 @@ told_area command before now DiskFault cause other = absurd (other refl)
 told_area command before now ReadFault cause other = cause.1.1
 told_area command before now PutFault cause other = cause.2
 told_area command before now Memory cause other = ap (λ (f : Faults). f.areas) cause
-told_area command before now InputTooLong cause other = ap (λ (f : Faults). f.areas) cause
+told_area command before now InputTooLong cause other = ap (λ (f : Faults). f.areas) cause.1
 
 -- ---- all of it
 
@@ -130,6 +130,8 @@ promised words budget old new status runs refused = record {
   complete = λ input known named short schema store none.
       complete_of words (areas_of old.view) (shown_of old.view) (shown_of new.view) input budget (lost_count new.places) status (faults_in old) (faults_in new) named short schema store none runs.cause
       (shown words budget old new status runs input known);
+  in_vain = runs.in_vain;
   leaves = runs.leaves;
+  settles = runs.settles;
   fed = runs.fed;
 }

@@ -1,7 +1,9 @@
 -- What each command does with its source and with the areas.
-use Rattle.std.specs.Prelude.{◌≡◌, ℕ, ◌≤◌, Bool, true, false, List, Option, Some, None, IsTrue}
+use Rattle.std.specs.Prelude.{◌≡◌, ℕ, ◌≤◌, Bool, true, false, List, Option, Some, None, Ok, IsTrue}
 use Rattle.pgs_run_words.specs.declared.command.Command.{Command}
 use Rattle.pgs_run_words.specs.declared.command.Command.TheVariants.{Try, Validate, Load, Apply, Recover, Explain, Gen, Checkpoint}
+use Rattle.pgs_run_base.specs.Answers.{schema_answer}
+use Rattle.pgs_syntax.specs.declared.resolved.Resolved.{Resolved}
 use Rattle.pgs_world.specs.World.{View}
 
 -- whether it reads its source; refused words don't
@@ -26,7 +28,12 @@ abbrev pub IsInRange : Command → Type 0
 IsInRange (Gen start count) = count ≤ 500000
 IsInRange command = Unit {0}
 
--- The source tells this input, where the command reads it, and the world tells its bytes, where the command uses the areas.
+-- what is told rests on the areas: where the command uses them, but for a text that `load` refuses
+abbrev pub AsksAreas : Option Command → (input : List ℕ) → Type 0
+AsksAreas (Some Load) input = (schema : Resolved) × (schema_answer input ≡ Ok schema)
+AsksAreas command input = uses_areas command ≡ true
+
+-- The source tells this input, where the command reads it, and the world tells its bytes, where what is told rests on the areas.
 pub record IsTold (command : Option Command) (left : Option (List ℕ)) (view : View) (input : List ℕ) : Type 0 where
   pub source : reads_source command ≡ true → left ≡ Some input
-  pub bytes : uses_areas command ≡ true → IsTrue view.tells_bytes
+  pub bytes : AsksAreas command input → IsTrue view.tells_bytes

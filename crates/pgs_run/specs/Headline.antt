@@ -5,13 +5,14 @@ use Rattle.pgs_run_lines.specs.Ending.{Faults, faults_of}
 use Rattle.pgs_run_lines.specs.Machine.{Told}
 use Rattle.pgs_run_lines.specs.Pieces.{shown_of, ShowsAll}
 use Rattle.pgs_run_words.specs.Words.{command_of}
+use Rattle.pgs_world.specs.Moment.{IsSettled}
 use Rattle.pgs_run_base.specs.declared.status.Status.{Status}
 use Rattle.pgs_run_base.specs.declared.status.Status.TheVariants.{SchemaRefused, StoreRefused, DiskFault, ReadFault, PutFault}
 use Rattle.pgs_run_base.specs.Areas.{areas_of}
 use Rattle.pgs_run_base.specs.Ending.{Ends}
 use Rattle.pgs_run_base.specs.Run.{IsRead, IsDisturbed, IsComplete, TakesWithin}
 use Rattle.pgs_run.specs.Command.{reads_source, IsTold}
-use Rattle.pgs_run.specs.Leaving.{Leaves, Feeds}
+use Rattle.pgs_run.specs.Leaving.{Leaves, Feeds, ReadsInVain}
 use Rattle.pgs_run.specs.Run.{HasRunCause, RefusesWords, IsUndisturbed}
 use Rattle.pgs_run.specs.Runs.{Setting}
 use Rattle.pgs_run.specs.Told.{told}
@@ -20,7 +21,7 @@ use Rattle.pgs_run.specs.Told.{told}
 abbrev pub telling : List (List ℕ) → Setting → Setting → List ℕ → ℕ → Told Status
 telling words old new input bytes = told words input (areas_of old.view) bytes (lost_count new.places)
 
--- the source tells this input, where it is read, and the world tells its bytes, where the areas are used
+-- the source tells this input, where it is read, and the world tells its bytes, where what is told rests on them
 abbrev pub Knows : List (List ℕ) → Setting → List ℕ → Type 0
 Knows words old input = IsTold (command_of words) old.source.left old.view input
 
@@ -39,6 +40,8 @@ pub record KeepsPromise (words : List (List ℕ)) (budget : ℕ) (old new : Sett
   pub takes : (input rest : List ℕ) → old.source.left ≡ Some input → new.source.left ≡ Some rest → TakesWithin input budget rest status
   pub words_alone : reads_source (command_of words) ≡ false → new.source.left ≡ old.source.left
   pub words_no_fault : reads_source (command_of words) ≡ false → new.source.faults ≡ old.source.faults
+  -- Where `apply` finds no store, nothing is read.
+  pub in_vain : ReadsInVain (command_of words) old.view status → new.source ≡ old.source
   -- When each answer comes.
   pub no_command : command_of words ≡ None → RefusesWords status
   pub read_to_end : reads_source (command_of words) ≡ true → IsRead new.source.left status
@@ -55,6 +58,8 @@ pub record KeepsPromise (words : List (List ℕ)) (budget : ℕ) (old new : Sett
       → ((telling words old new input budget).status ≡ SchemaRefused → ⊥) → ((telling words old new input budget).status ≡ StoreRefused → ⊥)
       → IsUndisturbed (command_of words) (faults_in old) (faults_in new)
       → IsComplete (shown_of old.view) (telling words old new input budget) status (shown_of new.view)
-  -- What a stop during the run leaves of both areas, and what the feeds took.
-  pub leaves : Leaves (command_of words) old.source.left (lost_count new.places) old.view new.view
+  -- What a stop during the run leaves of both areas, and what there is at its end. Unless an area failed, nothing is pending then.
+  pub leaves : Leaves (command_of words) old.source.left (lost_count new.places) old.view new.view status
+  pub settles : IsSettled old.view → (status ≡ DiskFault → ⊥) → IsSettled new.view
+  -- What the feeds took; of `apply`, also what was put and what is saved.
   pub fed : Feeds (command_of words) old.source.left old.view new.view old.places new.places status

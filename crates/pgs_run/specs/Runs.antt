@@ -4,13 +4,15 @@ use Rattle.pgs_feed.specs.Places.{Place, lost_count}
 use Rattle.pgs_run_lines.specs.Ending.{faults_of}
 use Rattle.pgs_run_lines.specs.Pieces.{shown_of}
 use Rattle.pgs_run_words.specs.declared.command.Command.{Command}
+use Rattle.pgs_world.specs.Moment.{IsSettled}
 use Rattle.pgs_world.specs.World.{View}
 use Rattle.pgs_run_base.specs.declared.status.Status.{Status}
+use Rattle.pgs_run_base.specs.declared.status.Status.TheVariants.{DiskFault}
 use Rattle.pgs_run_base.specs.Areas.{areas_of}
 use Rattle.pgs_run_base.specs.Ending.{Ends}
 use Rattle.pgs_run_base.specs.Run.{IsRead, EndsAs, TakesWithin}
 use Rattle.pgs_run.specs.Command.{reads_source, IsTold}
-use Rattle.pgs_run.specs.Leaving.{Leaves, Feeds}
+use Rattle.pgs_run.specs.Leaving.{Leaves, Feeds, ReadsInVain}
 use Rattle.pgs_run.specs.Run.{HasRunCause}
 use Rattle.pgs_run.specs.Told.{told_command}
 
@@ -39,5 +41,7 @@ pub record Runs (command : Option Command) (budget : ℕ) (old new : Setting) (s
   pub unread : reads_source command ≡ false → new.source ≡ old.source
   pub read_to_end : reads_source command ≡ true → IsRead new.source.left status
   pub cause : HasRunCause command (faults_of old.source.faults old.view) (faults_of new.source.faults new.view) status
-  pub leaves : Leaves command old.source.left (lost_count new.places) old.view new.view
+  pub in_vain : ReadsInVain command old.view status → new.source ≡ old.source
+  pub leaves : Leaves command old.source.left (lost_count new.places) old.view new.view status
+  pub settles : IsSettled old.view → (status ≡ DiskFault → ⊥) → IsSettled new.view
   pub fed : Feeds command old.source.left old.view new.view old.places new.places status

@@ -19,11 +19,14 @@ use Rattle.pgs_violation.specs.declared.rejection.Rejection.{Rejection}
 use Rattle.pgs_violation.specs.Violations.{verdict}
 use Rattle.pgs_world.specs.Count.{Rose}
 use Rattle.pgs_world.specs.Moment.{EachSince, IsTimed}
-use Rattle.pgs_world.specs.World.{Triple, View}
+use Rattle.pgs_world.specs.declared.area.Area.{Area}
+use Rattle.pgs_world.specs.World.{Triple, View, other}
 use Rattle.pgs_answer.specs.Lines.{committed_line, feed_line}
 use Rattle.pgs_answer.specs.Refusals.{rejection_text}
 use Rattle.pgs_run_base.specs.declared.status.Status.{Status}
+use Rattle.pgs_run_base.specs.Images.{KeepsArea}
 use Rattle.pgs_run_base.specs.Session.{standard, decision_on}
+use Rattle.pgs_run_base.proofs.Images.{area_beside}
 use Rattle.pgs_run_apply.specs.Asking.{Asks, IsDoneBy, is_early}
 use Rattle.pgs_run_apply.specs.Outcome.{IsPast, IsLeftBy, Takes, refusing, deciding}
 use Rattle.pgs_run_apply.proofs.Putting.{PutsPiece}
@@ -35,28 +38,33 @@ use Rattle.pgs_run_apply.proofs.Taken.{IsReady, take_none, take_put}
 
 -- ---- at every moment of the call
 
-applied_left : (s : ApplyState) (txn : Txn) (decision : Result Graph Rejection) (out : List ℕ) (c : Triple) → decision ≡ decided s.guard txn
-    → c.output ≡ out → IsAppliedIn s.guard s.journal txn c → IsLeftBy s (deciding s txn decision) out c
-applied_left s txn decision out c same is applied =
+applied_left : (s : ApplyState) (txn : Txn) (decision : Result Graph Rejection) (tells : Bool) (out : List ℕ) (c : Triple)
+    → decision ≡ decided s.guard txn → (IsTrue tells → c.output ≡ out) → IsAppliedIn s.guard s.journal txn c
+    → IsLeftBy s (deciding s txn decision) tells out c
+applied_left s txn decision tells out c same is applied =
     ⊎_elim (λ before. inl (is, (s.journal.end, before)))
-    (λ after. inr (subst (λ (d : Result Graph Rejection). IsPast (deciding s txn d) out c) (sym (same ∙ after.1)) (past after.0 after.2))) applied
+    (λ after. inr (subst (λ (d : Result Graph Rejection). IsPast (deciding s txn d) tells out c) (sym (same ∙ after.1)) (past after.0 after.2))) applied
   where
-    past : (graph : Graph) → IsSavedIn (committed s.guard graph) (longer s.journal txn) c → IsPast (deciding s txn (Ok graph)) out c
+    past : (graph : Graph) → IsSavedIn (committed s.guard graph) (longer s.journal txn) c → IsPast (deciding s txn (Ok graph)) tells out c
     past graph saved = record {
       front = [];
       back = committed_line (s.number + 1) (s.guard.commits + 1);
       piece = refl;
-      out = is ∙ sym (append-nil out);
+      out = λ output. is output ∙ sym (append-nil out);
       saved = ((longer s.journal txn).end, saved);
     }
 
 asked_left : (s : ApplyState) (txn : Txn) (decision : Result Graph Rejection) (old mid : View) → decision ≡ decided s.guard txn → IsTimed old
     → (IsTrue old.honest → IsTrue old.tells_bytes → EachSince (IsAppliedIn s.guard s.journal txn) old mid) → StaysBeside s.journal.area old mid
-    → IsTrue old.honest → IsTrue old.tells_bytes → IsTrue old.tells_output
-    → EachSince (IsLeftBy s (deciding s txn decision) old.shown.output) old mid
-asked_left s txn decision old mid same timed stops beside honest told output = λ c left.
+    → IsTrue old.honest → IsTrue old.tells_bytes → EachSince (IsLeftBy s (deciding s txn decision) old.tells_output old.shown.output) old mid
+asked_left s txn decision old mid same timed stops beside honest told = λ c left.
     let from = beside.stops honest c left in
-    applied_left s txn decision old.shown.output c same (from.2.output ∙ timed.output honest output from.0 from.1) (stops honest told c left)
+    applied_left s txn decision old.tells_output old.shown.output c same (λ output. from.2.output ∙ timed.output honest output from.0 from.1)
+    (stops honest told c left)
+
+-- the other area is left alone
+kept_beside : (area : Area) (old mid : View) → StaysBeside area old mid → KeepsArea (other area) old mid
+kept_beside area old mid beside = area_beside area old mid beside.passes beside.shown beside.stops
 
 -- ---- the store's answers
 
@@ -77,6 +85,7 @@ module _ (before : StoreState) (number : ℕ) (refused : Bool) (txn : Txn) where
     shown = same_shown before.journal.area old mid beside;
     faults = same_faults old mid done.area_faults beside.no_put.put_faults;
     stops = asked_left at txn (Ok done.graph) old mid (sym done.accepted) timed stops beside;
+    beside = kept_beside before.journal.area old mid beside;
   }
 
   -- the transaction is done, feeds were given its line, and its verdict line was put
@@ -109,6 +118,7 @@ module _ (before : StoreState) (number : ℕ) (refused : Bool) (txn : Txn) where
       faults = (rose, refl, beside.no_put.put_faults);
     };
     stops = asked_left at txn asked old mid (same_decision at txn holds.limits) timed stops beside;
+    beside = kept_beside before.journal.area old mid beside;
   }
 
   -- the transaction is rejected

@@ -1,6 +1,8 @@
 -- What the opening of a store leaves, which only reads.
-use Rattle.std.proofs.Common.{◌≡◌, inl, ℕ, List, [], IsTrue, refl, sym, ap, subst, ◌∙◌}
+use Rattle.std.proofs.Common.{◌≡◌, ◌⊎◌, inl, ⊎_elim, ℕ, List, [], IsTrue, refl, sym, ap, subst, ◌∙◌}
 use Rattle.std.proofs.lemmas.List.{append-nil}
+use Rattle.pgs_feed.specs.Places.{Place}
+use Rattle.pgs_feed.proofs.Given.{given_none}
 use Rattle.pgs_run_lines.specs.Pieces.{Shown, ShowsAll, shown_of}
 use Rattle.pgs_run_lines.proofs.Showing.{shows_none}
 use Rattle.pgs_snapshot.specs.Choice.{chosen_area, chosen_epoch}
@@ -8,12 +10,16 @@ use Rattle.pgs_snapshot.specs.Saved.{saved}
 use Rattle.pgs_world.specs.Moment.{IsTimed, IsQuiet, IsSettled, MakesNoPut, EachSince}
 use Rattle.pgs_world.specs.World.{View, Triple}
 use Rattle.pgs_world.proofs.Moments.{each_quiet}
+use Rattle.pgs_run_base.specs.declared.status.Status.{Status}
+use Rattle.pgs_run_base.specs.declared.status.Status.TheVariants.{DiskFault, Memory}
+use Rattle.pgs_run_base.specs.Images.{KeepsImages}
 use Rattle.pgs_run_base.specs.Session.{Standing, standard}
+use Rattle.pgs_run_base.proofs.Images.{each_images}
 use Rattle.pgs_run_saved.specs.Refusing.{SavedStore}
 use Rattle.pgs_run_apply.proofs.Conforming.{saved_conforms}
 use Rattle.pgs_run_saved.proofs.Shown.{shown_quiet}
-use Rattle.pgs_run_apply.specs.Run.{Saves, SavesAt, IsEven, IsAppliedAt}
-use Rattle.pgs_run_apply.specs.Told.{start, all_lines}
+use Rattle.pgs_run_apply.specs.Run.{Saves, SavesAt, SavesOn, IsAppliedAt, IsDecided, IsGrown, IsPutBy}
+use Rattle.pgs_run_apply.specs.Told.{start, after, all_lines}
 
 -- ---- what is saved
 
@@ -28,14 +34,48 @@ pub saves_start : (it : SavedStore) (triple : Triple) → Saves it triple → Sa
 saves_start it triple known =
     record { saves = known.saves; conforms = saved_conforms standard triple.a triple.b it.text it.commits it.graph it.schema known.saves known.schema }
 
-pub even_start : (old new : View) (it : SavedStore) (input : List ℕ) → IsQuiet old new → MakesNoPut old new → Saves it old.shown → IsEven it input (shown_of old) (shown_of new) new.shown
-even_start old new it input quiet none known = record {
+-- the same images save the same, and choose the same
+pub saves_on_same : (it : SavedStore) (at : Standing) (was triple same : Triple) → same.a ≡ triple.a → same.b ≡ triple.b → SavesOn it at was triple → SavesOn it at was same
+saves_on_same it at was triple same a b saves = record {
+  saves = saves_same it at triple same a b saves.saves;
+  area = ap (λ (x : List ℕ). chosen_area x same.b) a ∙ ap (λ (x : List ℕ). chosen_area triple.a x) b ∙ saves.area;
+  epoch = ap (λ (x : List ℕ). chosen_epoch x same.b) a ∙ ap (λ (x : List ℕ). chosen_epoch triple.a x) b ∙ saves.epoch;
+}
+
+-- at the start
+saves_on_start : (it : SavedStore) (was triple : Triple) → triple.a ≡ was.a → triple.b ≡ was.b → Saves it was → SavesOn it (start it) was triple
+saves_on_start it was triple a b known =
+    saves_on_same it (start it) was was triple a b (record { saves = saves_start it was known; area = refl; epoch = refl })
+
+-- a run that did nothing but read, and ended with one of these statuses
+pub decided_start : (it : SavedStore) (input : List ℕ) (lost : ℕ) (old new : View) (places : List Place) (status : Status) → (status ≡ DiskFault) ⊎ (status ≡ Memory) → IsQuiet old new → MakesNoPut old new
+    → Saves it old.shown → IsDecided it input lost old new places places status
+decided_start it input lost old new places status is quiet none known = record {
   until = [];
   later = all_lines input;
   parts = refl;
-  shows = subst (λ (s : Shown). ShowsAll (shown_of old) [] s) (sym (shown_quiet old new quiet none)) (shows_none (shown_of old));
-  saves = subst (λ (t : Triple). SavesAt it (start it) t) (sym quiet.shown) (saves_start it old.shown known);
+  put = ⊎_elim (λ fault. subst (λ (s : Status). IsPutBy it [] (all_lines input) lost (shown_of old) (shown_of new) s) (sym fault) nothing)
+      (λ memory. subst (λ (s : Status). IsPutBy it [] (all_lines input) lost (shown_of old) (shown_of new) s) (sym memory) nothing) is;
+  given = given_none places;
+  saves = λ _. saves_on_start it old.shown new.shown (ap (λ (t : Triple). t.a) quiet.shown) (ap (λ (t : Triple). t.b) quiet.shown) known;
 }
+  where
+    nothing : ShowsAll (shown_of old) [] (shown_of new)
+    nothing = subst (λ (s : Shown). ShowsAll (shown_of old) [] s) (sym (shown_quiet old new quiet none)) (shows_none (shown_of old))
+
+-- ---- images alone
+
+pub grown_same : (it : SavedStore) (was d c : Triple) → c.a ≡ d.a → c.b ≡ d.b → IsGrown it was d → IsGrown it was c
+grown_same it was d c a b grown = record { lines = grown.lines; saves = saves_on_same it (after it grown.lines) was d c a b grown.saves }
+
+-- before the first line
+pub grown_start : (old : View) (it : SavedStore) → IsSettled old → Saves it old.shown → (c : Triple) → old.may_leave c → IsGrown it old.shown c
+grown_start old it settled known c left =
+    record { lines = []; saves = saves_on_start it old.shown c (settled.a c left) (settled.b c left) known }
+
+pub grown_kept : (old new : View) (it : SavedStore) → IsSettled old → KeepsImages old new → Saves it old.shown → EachSince (IsGrown it old.shown) old new
+grown_kept old new it settled kept known =
+    each_images old new (IsGrown it old.shown) settled.honest (grown_same it old.shown) kept (grown_start old it settled known)
 
 -- ---- what a stop leaves
 

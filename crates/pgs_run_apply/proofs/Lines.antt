@@ -1,5 +1,5 @@
 -- What a taker says of a line that it took.
-use Rattle.std.proofs.Common.{◌≡◌, ◌∙◌, inl, inr, ⊎_elim, ℕ, ◌+◌, ◌<◌, ◌^◌, List, [], ◌∷◌, length, Result, Ok, Err, IsTrue, refl, sym, ap, subst, arith}
+use Rattle.std.proofs.Common.{◌≡◌, ◌∙◌, inl, inr, ⊎_elim, ℕ, ◌+◌, ◌<◌, ◌^◌, Bool, List, [], ◌∷◌, length, Result, Ok, Err, IsTrue, refl, sym, ap, subst, arith}
 use Rattle.std.specs.Prelude.{OnOk, IfErr}
 use Rattle.std.proofs.lemmas.List.{append-nil}
 use Rattle.pgs_feed.specs.Given.{AreGiven}
@@ -36,23 +36,25 @@ one_stopped s now line (stops.Ended status) old new T taken = absurd taken
 one_stopped s now line stops.ReadFault old new T taken = taken
 one_stopped s now line stops.AreaFault old new T taken = record { shows = taken.shows; given = taken.given }
 one_stopped s now line stops.PutFault old new T taken = record {
+  holds = taken.holds;
   puts = subst (λ (pieces : List (List ℕ)). new.view.puts + 1 ≡ old.view.puts + length pieces) (sym (append-nil (pieces_at s line))) taken.puts;
   given = subst (λ (lines : List (List ℕ)). AreGiven lines old.kept new.kept) (sym (append-nil (outcome_of s line).given)) taken.given;
 }
 one_stopped s now line stops.Memory old new T taken = record { holds = taken.holds; shows = taken.shows; given = taken.given }
 
-one_left : (s : ApplyState) (line out : List ℕ) (c : Triple) → IsLeftBy s (outcome_of s line) out c → IsLeft s (line ∷ []) out c
-one_left s line out c left =
+one_left : (s : ApplyState) (line : List ℕ) (tells : Bool) (out : List ℕ) (c : Triple) → IsLeftBy s (outcome_of s line) tells out c
+    → IsLeft s (line ∷ []) tells out c
+one_left s line tells out c left =
     ⊎_elim
-    (λ before. let here : IsLeft s (line ∷ []) out c = record {
+    (λ before. let here : IsLeft s (line ∷ []) tells out c = record {
       until = [];
       later = line ∷ [];
       parts = refl;
       front = [];
-      out = before.0 ∙ sym (append-nil out);
+      out = λ output. before.0 output ∙ sym (append-nil out);
       state = inl (refl, before.1);
     } in here)
-    (λ past. let here : IsLeft s (line ∷ []) out c = record {
+    (λ past. let here : IsLeft s (line ∷ []) tells out c = record {
       until = [];
       later = line ∷ [];
       parts = refl;
@@ -62,11 +64,11 @@ one_left s line out c left =
     } in here) left
 
 one_left_since : (s : ApplyState) (line : List ℕ) (old new : View)
-    → (IsTrue old.honest → IsTrue old.tells_bytes → IsTrue old.tells_output → EachSince (IsLeftBy s (outcome_of s line) old.shown.output) old new)
-    → IsTrue old.honest → IsTrue old.tells_bytes → IsTrue old.tells_output → EachSince (IsLeft s (line ∷ []) old.shown.output) old new
-one_left_since s line old new stops honest told output =
-    each_weaker old new (IsLeftBy s (outcome_of s line) old.shown.output) (IsLeft s (line ∷ []) old.shown.output) (one_left s line old.shown.output)
-    (stops honest told output)
+    → (IsTrue old.honest → IsTrue old.tells_bytes → EachSince (IsLeftBy s (outcome_of s line) old.tells_output old.shown.output) old new)
+    → IsTrue old.honest → IsTrue old.tells_bytes → EachSince (IsLeft s (line ∷ []) old.tells_output old.shown.output) old new
+one_left_since s line old new stops honest told =
+    each_weaker old new (IsLeftBy s (outcome_of s line) old.tells_output old.shown.output) (IsLeft s (line ∷ []) old.tells_output old.shown.output)
+    (one_left s line old.tells_output old.shown.output) (stops honest told)
 
 -- ---- an ended line
 
@@ -107,7 +109,8 @@ line_reached s now line (Ok done) old new taken = one_done s now line old new ta
 line_reached {T = T} s now line (Err stop) old new taken = ([], line, refl, one_stopped s now line stop old new T taken)
 
 line_seen : {T : Type 0} (s : ApplyState) (line : List ℕ) (result : Result T (Stop Status)) (old new : View)
-    → EachSince (IsLeft s (line ∷ []) old.shown.output) old new → EachSince (IsLeft s (seen (line ∷ []) (extent_of result)) old.shown.output) old new
+    → EachSince (IsLeft s (line ∷ []) old.tells_output old.shown.output) old new
+    → EachSince (IsLeft s (seen (line ∷ []) (extent_of result)) old.tells_output old.shown.output) old new
 line_seen s line (Ok done) old new stops = stops
 line_seen s line (Err stop) old new stops = stops
 
@@ -116,8 +119,8 @@ pub line_allows : {T : Type 0} (s now : ApplyState) (line : List ℕ) (result : 
 line_allows s now line result old new takes = record {
   passes = takes.passes;
   reached = line_reached s now line result old new takes.taken;
-  stops = λ honest told output.
-      line_seen s line result old.view new.view (one_left_since s line old.view new.view takes.stops honest told output);
+  stops = λ honest told. line_seen s line result old.view new.view (one_left_since s line old.view new.view takes.stops honest told);
+  beside = takes.beside;
 }
 
 pub line_cause : {T : Type 0} (s now : ApplyState) (line : List ℕ) (result : Result T (Stop Status)) (old new : Scene (List Place))
@@ -147,6 +150,7 @@ end_allows s now rest done status old new takes = record {
   passes = takes.passes;
   reached = one_done s now rest old new takes.taken;
   stops = one_left_since s rest old.view new.view takes.stops;
+  beside = takes.beside;
 }
 
 pub end_ends : {T : Type 0} (s now : ApplyState) (rest : List ℕ) (done : T) (status : Status) (old new : Scene (List Place))
@@ -162,6 +166,7 @@ stop_allows {T = T} s now rest stop old new takes = record {
   passes = takes.passes;
   reached = one_stopped s now rest stop old new T takes.taken;
   stops = one_left_since s rest old.view new.view takes.stops;
+  beside = takes.beside;
 }
 
 ends_stopped : (T : Type 0) (s now : ApplyState) (rest : List ℕ) (stop : Stop Status) (old new : Scene (List Place))

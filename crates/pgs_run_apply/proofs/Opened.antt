@@ -1,4 +1,4 @@
--- What is said of a run on an opened store: what a stop leaves, what feeds took, and what is saved after want of memory.
+-- What is said of a run on an opened store: what a stop leaves, and how it ends.
 use Rattle.std.proofs.Common.{◌≡◌, ◌⊎◌, inl, inr, ⊎_elim, ℕ, zero, suc, ◌+◌, ◌≤◌, Bool, true, false, nat_le, List, [], ◌∷◌, ◌++◌, length, Option, Some, None, Result, Ok, IsTrue, refl, sym, ap, subst, ◌∙◌, append_assoc, length-append, arith}
 use Rattle.std.proofs.lemmas.List.{append-nil}
 use Rattle.std.specs.List.{concat}
@@ -14,22 +14,24 @@ use Rattle.pgs_run_lines.specs.Input.{kept_of}
 use Rattle.pgs_run_lines.specs.Machine.{Scene, Extent, Told, scene_of}
 use Rattle.pgs_run_lines.specs.Pieces.{Shown, ShowsAll, shown_of}
 use Rattle.pgs_run_lines.specs.Replies.{PutsReply}
-use Rattle.pgs_run_lines.proofs.Showing.{torn_puts}
-use Rattle.pgs_run_lines.specs.Run.{EndsBy}
+use Rattle.pgs_run_lines.proofs.Showing.{shows_on, torn_puts}
+use Rattle.pgs_run_lines.specs.Run.{EndsBy, Allows}
 use Rattle.pgs_snapshot.specs.Choice.{chosen_area, chosen_epoch}
 use Rattle.pgs_store.specs.Stored.{StoreState}
 use Rattle.pgs_world.specs.Disk.{Puts}
-use Rattle.pgs_world.specs.Moment.{IsTimed, IsQuiet, IsSettled, MakesNoPut, Passes, EachSince}
+use Rattle.pgs_world.specs.Moment.{IsTimed, IsQuiet, IsSettled, Passes, EachSince, StopsBy}
 use Rattle.pgs_world.specs.Source.{Takes, IsAtEnd}
 use Rattle.pgs_world.specs.World.{View, Triple}
 use Rattle.pgs_world.proofs.Moments.{passes_on, each_on, each_weaker, each_now, each_quiet, each_step, shown_added}
 use Rattle.pgs_run_base.specs.declared.status.Status.{Status}
-use Rattle.pgs_run_base.specs.declared.status.Status.TheVariants.{Accepted, Refused, PutFault, Memory, InputTooLong}
+use Rattle.pgs_run_base.specs.declared.status.Status.TheVariants.{Accepted, Refused, DiskFault, PutFault, Memory, InputTooLong}
 use Rattle.pgs_run_base.specs.Answers.{schema_answer}
 use Rattle.pgs_run_base.specs.Ending.{status_at}
+use Rattle.pgs_run_base.specs.Images.{KeepsImages}
 use Rattle.pgs_run_base.specs.Input.{text_limit, is_skipped}
 use Rattle.pgs_run_base.specs.Pieces.{pieces_in}
 use Rattle.pgs_run_base.specs.Session.{standard, every_verdict, verdict_line, answer_to, pieces_of_line}
+use Rattle.pgs_run_base.proofs.Images.{images_quiet, images_areas}
 use Rattle.pgs_violation.specs.Violations.{verdict}
 use Rattle.pgs_run_saved.specs.Opening.{saved_in}
 use Rattle.pgs_run_saved.specs.Refusing.{SavedStore}
@@ -37,14 +39,15 @@ use Rattle.pgs_run_apply.specs.Applying.{applying, seen, Applies, IsDone as AreD
 use Rattle.pgs_run_apply.specs.Ending.{is_done, last_piece, StaysStill, EndsRun}
 use Rattle.pgs_run_apply.specs.Following.{all_append, pieces_cons, pieces_append}
 use Rattle.pgs_run_apply.specs.Left.{IsLeft, IsSavedAt, state_after_all, pieces_at, pieces_from}
-use Rattle.pgs_run_apply.specs.Run.{Saves, SavesAt, SavesAll, IsAppliedAt, IsCounted, FeedsTook, IsEven}
+use Rattle.pgs_run_apply.specs.Rule.{applies_rule}
+use Rattle.pgs_run_apply.specs.Run.{Saves, SavesOn, SavesAll, IsAppliedAt, IsDecided, IsPutBy}
 use Rattle.pgs_run_apply.specs.State.{ApplyState, HoldsStore, standing_of, state_after}
 use Rattle.pgs_run_apply.specs.Told.{after, verdicts, all_lines, lost_pieces, told_whole, told_input}
-use Rattle.pgs_run_apply.proofs.Beginning.{quiet_applied, saves_same}
+use Rattle.pgs_run_apply.proofs.Beginning.{quiet_applied, saves_same, saves_on_same}
 use Rattle.pgs_run_apply.proofs.Standings.{first_state}
-use Rattle.pgs_run_apply.proofs.Kept.{Went, AreCounted, IsEven as MayEnd, IsExtent, went_reached, went_input, left_input, seen_of}
-use Rattle.pgs_run_apply.proofs.RunEnds.{IsDone, IsOwn, still_shown, uncut, own_of, done_last, left_done, lost_is}
-use Rattle.pgs_run_apply.proofs.Saving.{Chooses, chooses, saves_at, chooses_at, applied_at, left_applied}
+use Rattle.pgs_run_apply.proofs.Kept.{Went, WentBy, went_reached, went_input, left_input, seen_of}
+use Rattle.pgs_run_apply.proofs.RunEnds.{IsDone, IsOwn, still_shown, uncut, own_of, done_is, done_last, left_done, lost_is}
+use Rattle.pgs_run_apply.proofs.Saving.{Chooses, saves_at, saves_on, chooses_at, applied_at, left_applied}
 
 -- ---- lines that tell nothing
 
@@ -78,104 +81,132 @@ whole_state s all until later before now parts some whole =
 pub record Ran (s : ApplyState) (input : List ℕ) (stop : Stop Status) (old new : Scene (List Place)) : Type 0 where
   pub passes : Passes old.view new.view
   pub went : Went s (all_lines input) stop old new
-  pub stops : IsTrue old.view.honest → IsTrue old.view.tells_bytes → IsTrue old.view.tells_output
-      → EachSince (IsLeft s (all_lines input) old.view.shown.output) old.view new.view
+  pub stops : IsTrue old.view.honest → IsTrue old.view.tells_bytes
+      → EachSince (IsLeft s (all_lines input) old.view.tells_output old.view.shown.output) old.view new.view
 
-pub ran : (s : ApplyState) (input bytes : List ℕ) (before left : Option (List ℕ)) (lines later : List (List ℕ)) (stop : Stop Status) (extent : Extent Status) (old new : Scene (List Place)) → before ≡ Some input → Takes before left bytes
-    → (kept_of text_limit bytes).ended ≡ lines ++ later → IsExtent extent (kept_of text_limit bytes).rest stop later left → Applies s lines extent old new → Ran s input stop old new
-ran s input bytes before left lines later stop extent old new is taken parts end allowed =
-    let at = seen_of input bytes before left is taken lines later stop extent parts end in
+pub ran : (s : ApplyState) (input : List ℕ) (budget : ℕ) (before left : Option (List ℕ)) (stop : Stop Status) (old new : Scene (List Place)) → before ≡ Some input → Allows applying applies_rule text_limit s budget before left stop old new
+    → Ran s input stop old new
+ran s input budget before left stop old new is allows =
+    let allowed = allows.allowed in
+    let at = seen_of input allows.bytes before left is allows.taken s budget allows.lines allows.later stop allows.extent allows.parts allows.far in
     record {
       passes = allowed.passes;
-      went = went_input s input (seen lines extent) stop old new at (went_reached s lines stop old new extent (kept_of text_limit bytes).rest later left end allowed.reached);
-      stops = λ honest bytes output. each_weaker old.view new.view (IsLeft s (seen lines extent) old.view.shown.output) (IsLeft s (all_lines input) old.view.shown.output) (λ c so. left_input s input (seen lines extent) old.view.shown.output c at so) (allowed.stops honest bytes output);
+      went = went_input s input (seen allows.lines allows.extent) stop old new at (went_reached s old new budget left allows.bytes allows.lines allows.later stop allows.extent allows.far allowed.reached);
+      stops = λ honest bytes.
+          each_weaker old.view new.view (IsLeft s (seen allows.lines allows.extent) old.view.tells_output old.view.shown.output) (IsLeft s (all_lines input) old.view.tells_output old.view.shown.output)
+          (λ c so. left_input s input stop (seen allows.lines allows.extent) old.view.tells_output old.view.shown.output c at so) (allowed.stops honest bytes);
     }
 
 -- ---- the last piece
 
--- the status is one of a whole input, and the piece was put or its put failed
-record IsPut (lost : ℕ) (stop : Stop Status) (old : View) (result : Status) (new : View) : Type 0 where
+-- the input was read to its end, and then the last piece was put, where there is one
+pub record IsWhole (lost : ℕ) (stop : Stop Status) (old : View) (result : Status) (new : View) : Type 0 where
   pub status : Status
   pub is : stop ≡ stops.Ended status
   pub done : IsDone status
-  pub piece : List ℕ
-  pub last : lost_pieces lost ≡ piece ∷ []
-  pub put : PutsReply piece status PutFault old result new
+  pub ends : EndsRun (last_piece true lost) status old result new
 
--- nothing was put, and the status is as it was, or want of memory came behind a whole input
-abbrev IsUnput : Stop Status → View → Status → View → Type 0
-IsUnput stop old result new = StaysStill old new × ((result ≡ status_at stop) ⊎ ((result ≡ Memory) × MayEnd stop))
+-- a stop, or the end of the budget
+abbrev pub IsOther : Stop Status → Type 0
+IsOther (stops.Ended status) = status ≡ InputTooLong
+IsOther stops.ReadFault = Unit {0}
+IsOther stops.AreaFault = Unit {0}
+IsOther stops.PutFault = Unit {0}
+IsOther stops.Memory = Unit {0}
 
-some_piece : (lost : ℕ) (piece : List ℕ) → last_piece true lost ≡ Some piece → lost_pieces lost ≡ piece ∷ []
-some_piece lost piece is = lost_is lost ∙ ap pieces_in is
+-- nothing more was put, and the status is as it was
+abbrev pub IsUnput : Stop Status → View → Status → View → Type 0
+IsUnput stop old result new = StaysStill old new × (result ≡ status_at stop) × IsOther stop
 
-by_piece : (lost : ℕ) (status : Status) (last : Option (List ℕ)) (old new : View) (result : Status) → last_piece true lost ≡ last → IsDone status → EndsRun last status old result new → IsUnput (stops.Ended status) old result new ⊎ IsPut lost (stops.Ended status) old result new
-by_piece lost status None old new result is done ends = inl (ends.1, inl ends.0)
-by_piece lost status (Some piece) old new result is done (inl none) = inl (none.1, inr (none.0, tt))
-by_piece lost status (Some piece) old new result is done (inr put) =
-    inr (record { status = status; is = refl; done = done; piece = piece; last = some_piece lost piece is; put = put })
-
-by_own : (lost budget : ℕ) (before left : Option (List ℕ)) (status : Status) (old new : View) (result : Status) → IsOwn budget before left status → EndsRun (last_piece (is_done (stops.Ended status)) lost) status old result new → IsUnput (stops.Ended status) old result new ⊎ IsPut lost (stops.Ended status) old result new
-by_own lost budget before left status old new result (inl done) ends = by_piece lost status (last_piece true lost) old new result refl done.0 (done_last lost status old new result done.0 ends)
+by_own : (lost budget : ℕ) (before left : Option (List ℕ)) (status : Status) (old new : View) (result : Status) → IsOwn budget before left status → EndsRun (last_piece (is_done (stops.Ended status)) lost) status old result new
+    → IsUnput (stops.Ended status) old result new ⊎ IsWhole lost (stops.Ended status) old result new
+by_own lost budget before left status old new result (inl done) ends =
+    inr (record { status = status; is = refl; done = done.0; ends = done_last lost status old new result done.0 ends })
 by_own lost budget before left status old new result (inr cut) ends =
-    let kept = left_done lost status old new result cut.0 ends in inl (kept.still, inl kept.is)
+    let kept = left_done lost status old new result cut.0 ends in inl (kept.still, kept.is, cut.0)
 
-last_of : (lost budget : ℕ) (before left : Option (List ℕ)) (stop : Stop Status) (old new : View) (result : Status) → EndsBy applying budget before left stop → EndsRun (last_piece (is_done stop) lost) (status_at stop) old result new → IsUnput stop old result new ⊎ IsPut lost stop old result new
+pub last_of : (lost budget : ℕ) (before left : Option (List ℕ)) (stop : Stop Status) (old new : View) (result : Status) → EndsBy applying budget before left stop → EndsRun (last_piece (is_done stop) lost) (status_at stop) old result new
+    → IsUnput stop old result new ⊎ IsWhole lost stop old result new
 last_of lost budget before left (stops.Ended status) old new result by ends = by_own lost budget before left status old new result (own_of budget before left status by) ends
-last_of lost budget before left stops.ReadFault old new result by ends = inl (ends.1, inl ends.0)
-last_of lost budget before left stops.AreaFault old new result by ends = inl (ends.1, inl ends.0)
-last_of lost budget before left stops.PutFault old new result by ends = inl (ends.1, inl ends.0)
-last_of lost budget before left stops.Memory old new result by ends = inl (ends.1, inl ends.0)
+last_of lost budget before left stops.ReadFault old new result by ends = inl (ends.1, ends.0, tt)
+last_of lost budget before left stops.AreaFault old new result by ends = inl (ends.1, ends.0, tt)
+last_of lost budget before left stops.PutFault old new result by ends = inl (ends.1, ends.0, tt)
+last_of lost budget before left stops.Memory old new result by ends = inl (ends.1, ends.0, tt)
 
--- whatever was put last, the world went on
-pub last_passes : (lost : ℕ) (stop : Stop Status) (old : View) (result : Status) (new : View) → EndsRun (last_piece (is_done stop) lost) (status_at stop) old result new → Passes old new
-last_passes lost stop old result new ends = by_last (last_piece (is_done stop) lost) ends
-  where
-    by_last : (last : Option (List ℕ)) → EndsRun last (status_at stop) old result new → Passes old new
-    by_last None at = at.1.quiet.passes
-    by_last (Some piece) (inl none) = none.1.quiet.passes
-    by_last (Some piece) (inr put) = put.areas.passes
+-- whatever was put last, both images are kept
+pub last_images : (last : Option (List ℕ)) (status : Status) (old : View) (result : Status) (new : View) → EndsRun last status old result new → KeepsImages old new
+last_images None status old result new at = images_quiet old new at.1.quiet
+last_images (Some piece) status old result new (inl none) = images_quiet old new none.1.quiet
+last_images (Some piece) status old result new (inr put) = images_areas old new put.areas
 
--- ---- what feeds took
+-- ---- how far it came, by its stop
 
-counted_unput : (stop : Stop Status) (result : Status) (before now pieces last : ℕ) → (result ≡ status_at stop) ⊎ ((result ≡ Memory) × MayEnd stop) → AreCounted stop before now pieces → IsCounted before now pieces last result
-counted_unput stop result before now pieces last is (inl all) = inl all
-counted_unput stop result before now pieces last (inl is) (inr torn) = inr (inl (is ∙ ap status_at torn.0, torn.1))
-counted_unput stop result before now pieces last (inr memory) (inr torn) = absurd (subst MayEnd torn.0 memory.1)
+given_of : (s : ApplyState) (until : List (List ℕ)) (stop : Stop Status) (old new : Scene (List Place)) → WentBy s until stop old new → AreGiven (given_by s until) old.kept new.kept
+given_of s until (stops.Ended status) old new went = went.given
+given_of s until stops.ReadFault old new went = went.given
+given_of s until stops.AreaFault old new went = went.given
+given_of s until stops.PutFault old new went = went.given
+given_of s until stops.Memory old new went = went.given
 
-counted_whole : (status : Status) (stop : Stop Status) (before now pieces : ℕ) → stop ≡ stops.Ended status → AreCounted stop before now pieces → now ≡ before + pieces
-counted_whole status stop before now pieces is (inl all) = all
-counted_whole status stop before now pieces is (inr torn) = absurd (let e : stops.Ended status ≡ stops.PutFault = sym is ∙ torn.0 in cc)
+holds_of : (s : ApplyState) (until : List (List ℕ)) (stop : Stop Status) (old new : Scene (List Place)) → (stop ≡ stops.AreaFault → ⊥) → WentBy s until stop old new → HoldsStore (state_after_all s until) new.view
+holds_of s until (stops.Ended status) old new no went = went.holds
+holds_of s until stops.ReadFault old new no went = went.holds
+holds_of s until stops.AreaFault old new no went = absurd (no refl)
+holds_of s until stops.PutFault old new no went = went.holds
+holds_of s until stops.Memory old new no went = went.holds
 
-counted_put : (lost : ℕ) (stop : Stop Status) (old new : View) (result : Status) (before pieces : ℕ) → IsPut lost stop old result new → AreCounted stop before old.puts pieces → IsCounted before new.puts pieces (length (lost_pieces lost)) result
-counted_put lost stop old new result before pieces at counted =
-    let all = counted_whole at.status stop before old.puts pieces at.is counted in
-    let one : length (lost_pieces lost) ≡ 1 = ap length at.last in
-    ⊎_elim
-    (λ whole. let puts = whole.1.puts in inr (inr (omega arith)))
-    (λ torn. let puts = torn_puts (shown_of old) (shown_of new) at.piece torn.1 in inl (omega arith))
-    at.put.ends
+-- an area that failed is told
+pub struck_last : (lost : ℕ) (stop : Stop Status) (old new : View) (result : Status) → stop ≡ stops.AreaFault → EndsRun (last_piece (is_done stop) lost) (status_at stop) old result new → result ≡ DiskFault
+struck_last lost stop old new result is last =
+    let at = subst (λ (s : Stop Status). EndsRun (last_piece (is_done s) lost) (status_at s) old result new) is last in at.0
 
--- ---- where the run ended by itself, or for want of memory
+-- ---- what was put
 
-ends_even : (stop : Stop Status) → status_at stop ≡ Memory → MayEnd stop
-ends_even (stops.Ended status) is = tt
-ends_even stops.ReadFault is = cc
-ends_even stops.AreaFault is = cc
-ends_even stops.PutFault is = cc
-ends_even stops.Memory is = tt
+module _ (it : SavedStore) (until later : List (List ℕ)) (lost : ℕ) (start : Shown) where
+  abbrev PutBy : Shown → Status → Type 0
+  PutBy now status = IsPutBy it until later lost start now status
 
-unput_even : (stop : Stop Status) (old new : View) (result : Status) → result ≡ Memory → IsUnput stop old result new → MayEnd stop
-unput_even stop old new result memory (same, inl is) = ends_even stop (sym is ∙ memory)
-unput_even stop old new result memory (same, inr none) = none.1
+  put_as : (now : Shown) (status so : Status) → status ≡ so → PutBy now so → PutBy now status
+  put_as now status so is put = subst (λ (s : Status). PutBy now s) (sym is) put
 
-not_memory : (status : Status) → IsDone status → status ≡ Memory → ⊥
-not_memory status (inl is) memory = cc
-not_memory status (inr is) memory = cc
+  -- behind a whole input
+  put_done : (now : Shown) (status : Status) → IsDone status → later ≡ [] → ShowsAll start (verdicts it until ++ lost_pieces lost) now → PutBy now status
+  put_done now status (inl is) none shows = put_as now status Accepted is (none, shows)
+  put_done now status (inr is) none shows = put_as now status Refused is (none, shows)
 
-put_no_memory : (lost : ℕ) (stop : Stop Status) (old new : View) (result : Status) → result ≡ Memory → IsPut lost stop old result new → ⊥
-put_no_memory lost stop old new result memory at =
-    ⊎_elim (λ whole. not_memory at.status at.done (sym whole.0 ∙ memory)) (λ torn. let e : PutFault ≡ Memory = sym torn.0 ∙ memory in cc) at.put.ends
+  put_whole : (old new : View) (status result : Status) (last : Option (List ℕ)) → last_piece true lost ≡ last → IsDone status → later ≡ [] → ShowsAll start (verdicts it until) (shown_of old) → EndsRun last status old result new → PutBy (shown_of new) result
+  put_whole old new status result None e done none shows ends =
+      let no : lost_pieces lost ≡ [] = lost_is lost ∙ ap pieces_in e in
+      put_as (shown_of new) result status ends.0
+      (put_done (shown_of new) status done none
+      (subst (λ (now : Shown). ShowsAll start (verdicts it until ++ lost_pieces lost) now) (sym (still_shown old new ends.1))
+      (subst (λ (pieces : List (List ℕ)). ShowsAll start pieces (shown_of old)) (sym (ap (λ (last : List (List ℕ)). verdicts it until ++ last) no ∙ append-nil (verdicts it until))) shows)))
+  put_whole old new status result (Some piece) e done none shows (inl memory) =
+      put_as (shown_of new) result Memory memory.0 (subst (λ (now : Shown). ShowsAll start (verdicts it until) now) (sym (still_shown old new memory.1)) shows)
+  put_whole old new status result (Some piece) e done none shows (inr put) =
+      let one : lost_pieces lost ≡ piece ∷ [] = lost_is lost ∙ ap pieces_in e in
+      ⊎_elim
+      (λ whole.
+      put_as (shown_of new) result status whole.0
+      (put_done (shown_of new) status done none
+      (subst (λ (last : List (List ℕ)). ShowsAll start (verdicts it until ++ last) (shown_of new)) (sym one) (shows_on start (shown_of old) (shown_of new) (verdicts it until) (piece ∷ []) shows whole.1))))
+      (λ torn.
+      let same = torn_puts (shown_of old) (shown_of new) piece torn.1 in
+      let before = shows.puts in
+      let count : length (verdicts it until ++ lost_pieces lost) ≡ length (verdicts it until) + 1 =
+      ap (λ (last : List (List ℕ)). length (verdicts it until ++ last)) one ∙ length-append (verdicts it until) (piece ∷ []) in
+      put_as (shown_of new) result PutFault torn.0 (inr (none, omega (arith, same, before, count))))
+      put.ends
+
+-- a stop, or the end of the budget
+put_other : (it : StoreState) (until later : List (List ℕ)) (lost : ℕ) (stop : Stop Status) (old new : Scene (List Place)) → IsOther stop → WentBy (first_state it) until stop old new
+    → IsPutBy (saved_in it) until later lost (shown_of old.view) (shown_of new.view) (status_at stop)
+put_other it until later lost (stops.Ended status) old new is went =
+    subst (λ (s : Status). IsPutBy (saved_in it) until later lost (shown_of old.view) (shown_of new.view) s) (sym is) went.shows
+put_other it until later lost stops.ReadFault old new is went = went.shows
+put_other it until later lost stops.AreaFault old new is went = went.shows
+put_other it until later lost stops.PutFault old new is went = inl went.puts
+put_other it until later lost stops.Memory old new is went = went.shows
 
 -- the images hold the store
 held : (s : ApplyState) (view : View) → IsTrue view.tells_bytes → HoldsStore s view → IsSavedAt s view.shown
@@ -202,55 +233,43 @@ IsShown shown triple = (triple.a ≡ shown.a) × (triple.b ≡ shown.b) × (trip
 -- ---- all of it
 
 module _ (it : StoreState) (limits : it.guard.limits ≡ standard) (of_text : schema_answer it.guard.text ≡ Ok it.guard.schema) (input : List ℕ) (budget : ℕ) (before left : Option (List ℕ)) (lost : ℕ) (stop : Stop Status) (result : Status) (old : View) (mid now : Scene (List Place)) (new : View) (run : Ran (first_state it) input stop mid now) (by : EndsBy applying budget before left stop) (last : EndsRun (last_piece (is_done stop) lost) (status_at stop) now.view result new) where
-  pub opened_fed : mid.view.puts ≡ old.puts → FeedsTook (saved_in it) input lost old.puts new.puts mid.kept now.kept result
-  opened_fed puts = record {
+  -- how it ends
+  pub opened_decided : shown_of mid.view ≡ shown_of old → IsTrue now.view.tells_bytes → Chooses it.journal old.shown → IsDecided (saved_in it) input lost old new mid.kept now.kept result
+  opened_decided shown tells chosen = record {
     until = run.went.until;
     later = run.went.later;
     parts = run.went.parts;
-    given = run.went.given;
-    counted = ⊎_elim unput put (last_of lost budget before left stop now.view new result by last);
+    put = subst (λ (start : Shown). IsPutBy (saved_in it) run.went.until run.went.later lost start (shown_of new) result) shown
+        (⊎_elim unput whole (last_of lost budget before left stop now.view new result by last));
+    given = given_of (first_state it) run.went.until stop mid now run.went.went;
+    saves = saves;
   }
     where
-      counted : AreCounted stop old.puts now.view.puts (length (verdicts (saved_in it) run.went.until))
-      counted = subst (λ (n : ℕ). AreCounted stop n now.view.puts (length (verdicts (saved_in it) run.went.until))) puts run.went.counted
-
-      unput : IsUnput stop now.view result new → IsCounted old.puts new.puts (length (verdicts (saved_in it) run.went.until)) (length (lost_pieces lost)) result
+      unput : IsUnput stop now.view result new → IsPutBy (saved_in it) run.went.until run.went.later lost (shown_of mid.view) (shown_of new) result
       unput at =
-          subst (λ (n : ℕ). IsCounted old.puts n (length (verdicts (saved_in it) run.went.until)) (length (lost_pieces lost)) result) (sym at.0.no_put.puts)
-          (counted_unput stop result old.puts now.view.puts (length (verdicts (saved_in it) run.went.until)) (length (lost_pieces lost)) at.1 counted)
+          subst (λ (s : Shown). IsPutBy (saved_in it) run.went.until run.went.later lost (shown_of mid.view) s result) (sym (still_shown now.view new at.0))
+          (put_as (saved_in it) run.went.until run.went.later lost (shown_of mid.view) (shown_of now.view) result (status_at stop) at.1
+          (put_other it run.went.until run.went.later lost stop mid now at.2 run.went.went))
 
-      put : IsPut lost stop now.view result new → IsCounted old.puts new.puts (length (verdicts (saved_in it) run.went.until)) (length (lost_pieces lost)) result
-      put at = counted_put lost stop now.view new result old.puts (length (verdicts (saved_in it) run.went.until)) at counted
+      whole : IsWhole lost stop now.view result new → IsPutBy (saved_in it) run.went.until run.went.later lost (shown_of mid.view) (shown_of new) result
+      whole at =
+          let done = subst (λ (s : Stop Status). WentBy (first_state it) run.went.until s mid now) at.is run.went.went in
+          let ended : is_done stop ≡ true = ap is_done at.is ∙ done_is at.status at.done in
+          put_whole (saved_in it) run.went.until run.went.later lost (shown_of mid.view) now.view new at.status result (last_piece true lost) refl at.done (run.went.whole ended) done.shows at.ends
 
-  pub opened_even : shown_of mid.view ≡ shown_of old → IsTrue now.view.tells_bytes → result ≡ Memory → IsEven (saved_in it) input (shown_of old) (shown_of new) new.shown
-  opened_even shown tells memory =
-      ⊎_elim
-      (λ unput. still unput.0 (even (unput_even stop now.view new result memory unput)))
-      (λ put. absurd (put_no_memory lost stop now.view new result memory put))
-      (last_of lost budget before left stop now.view new result by last)
-    where
-      still : StaysStill now.view new → IsEven (saved_in it) input (shown_of old) (shown_of now.view) now.view.shown → IsEven (saved_in it) input (shown_of old) (shown_of new) new.shown
-      still same at =
-          subst (λ (s : Shown). IsEven (saved_in it) input (shown_of old) s new.shown) (sym (still_shown now.view new same))
-          (subst (λ (t : Triple). IsEven (saved_in it) input (shown_of old) (shown_of now.view) t) (sym same.quiet.shown) at)
-
-      even : MayEnd stop → IsEven (saved_in it) input (shown_of old) (shown_of now.view) now.view.shown
-      even ends =
-          let done = run.went.even ends in
-          record {
-            until = run.went.until;
-            later = run.went.later;
-            parts = run.went.parts;
-            shows = subst (λ (start : Shown). ShowsAll start (verdicts (saved_in it) run.went.until) (shown_of now.view)) shown done.shows;
-            saves = saves_at it limits of_text run.went.until now.view.shown (held (state_after_all (first_state it) run.went.until) now.view tells done.holds);
-          }
+      saves : (result ≡ DiskFault → ⊥) → SavesOn (saved_in it) (after (saved_in it) run.went.until) old.shown new.shown
+      saves no =
+          let holds = holds_of (first_state it) run.went.until stop mid now (λ is. no (struck_last lost stop now.view new result is last)) run.went.went in
+          let kept = last_images (last_piece (is_done stop) lost) (status_at stop) now.view result new last in
+          saves_on_same (saved_in it) (after (saved_in it) run.went.until) old.shown now.view.shown new.shown kept.a kept.b
+          (saves_on it limits of_text old.shown chosen now.view.shown run.went.until (held (state_after_all (first_state it) run.went.until) now.view tells holds))
 
   -- the last piece is put on the store after all lines
   module _ (quiet : IsQuiet old mid.view) (settled : IsSettled old) (tells : IsTrue old.tells_output) (chosen : Chooses it.journal old.shown) (ends : lines.Ends (shown_of mid.view) (told_input 0 input budget (saved_in it)) stop (shown_of now.view)) where
-    put_applied : IsPut lost stop now.view result new → EachSince (IsAppliedAt old.shown (saved_in it) input lost) now.view new
-    put_applied at =
-        each_step now.view new (Puts at.piece) (IsShown now.view.shown) (IsAppliedAt old.shown (saved_in it) input lost) honest
-        (λ d may. (still.a d may, still.b d may, run.passes.timed.output honest output d may)) follows at.put.stops
+    put_applied : (at : IsWhole lost stop now.view result new) (piece : List ℕ) → last_piece true lost ≡ Some piece → StopsBy (Puts piece) now.view new → EachSince (IsAppliedAt old.shown (saved_in it) input lost) now.view new
+    put_applied at piece is_last steps =
+        each_step now.view new (Puts piece) (IsShown now.view.shown) (IsAppliedAt old.shown (saved_in it) input lost) honest
+        (λ d may. (still.a d may, still.b d may, run.passes.timed.output honest output d may)) follows steps
       where
         honest : IsTrue now.view.honest
         honest = run.passes.honest ∙ (quiet.passes.honest ∙ settled.honest)
@@ -265,7 +284,7 @@ module _ (it : StoreState) (limits : it.guard.limits ≡ standard) (of_text : sc
         shows = whole_shown (shown_of mid.view) (shown_of now.view) input budget (saved_in it) at.status stop at.is at.done ends
 
         done : AreDone (first_state it) run.went.until mid now
-        done = run.went.even (subst MayEnd (sym at.is) tt)
+        done = subst (λ (s : Stop Status). WentBy (first_state it) run.went.until s mid now) at.is run.went.went
 
         holds : HoldsStore (state_after_all (first_state it) (all_lines input)) now.view
         holds = subst (λ (t : ApplyState). HoldsStore t now.view) (sym (whole_state (first_state it) (all_lines input) run.went.until run.went.later mid.view.puts now.view.puts run.went.parts done.shows.puts shows.puts)) done.holds
@@ -281,7 +300,7 @@ module _ (it : StoreState) (limits : it.guard.limits ≡ standard) (of_text : sc
             shown_added mid.view now.view (concat (verdicts (saved_in it) (all_lines input))) (quiet.passes.tells_output ∙ tells) output shows.output
             ∙ ap (λ (t : Triple). t.output ++ concat (verdicts (saved_in it) (all_lines input))) quiet.shown
 
-        follows : (d c : Triple) → IsShown now.view.shown d → Puts at.piece d c → IsAppliedAt old.shown (saved_in it) input lost c
+        follows : (d c : Triple) → IsShown now.view.shown d → Puts piece d c → IsAppliedAt old.shown (saved_in it) input lost c
         follows d c is put =
             applied_at it limits of_text old.shown chosen input lost c (all_lines input) [] put.front (sym (append-nil (all_lines input)))
             (put.added ∙ ap (λ (o : List ℕ). o ++ put.front) (is.2 ∙ shown) ∙ append_assoc old.shown.output (concat (verdicts (saved_in it) (all_lines input))) put.front)
@@ -289,15 +308,13 @@ module _ (it : StoreState) (limits : it.guard.limits ≡ standard) (of_text : sc
             (inr (inr (record {
               all = refl;
               back = put.back;
-              piece = at.last ∙ ap (λ (p : List ℕ). p ∷ []) put.parts;
+              piece = lost_is lost ∙ ap pieces_in is_last ∙ ap (λ (p : List ℕ). p ∷ []) put.parts;
               saves = saves_same (saved_in it) (after (saved_in it) (all_lines input)) now.view.shown c (put.a ∙ is.0) (put.b ∙ is.1) (saves_at it limits of_text (all_lines input) now.view.shown saved);
             })))
 
     pub opened_stops : IsTimed old → Saves (saved_in it) old.shown → EachSince (IsAppliedAt old.shown (saved_in it) input lost) old new
     opened_stops timed known =
-        ⊎_elim
-        (λ unput. each_on old now.view new (IsAppliedAt old.shown (saved_in it) input lost) passes unput.0.quiet.passes so_far (each_quiet now.view new (IsAppliedAt old.shown (saved_in it) input lost) (passes.honest ∙ settled.honest) unput.0.quiet (each_now old now.view (IsAppliedAt old.shown (saved_in it) input lost) passes so_far)))
-        (λ put. each_on old now.view new (IsAppliedAt old.shown (saved_in it) input lost) passes put.put.areas.passes so_far (put_applied put))
+        ⊎_elim (λ unput. nothing_more unput.0) (λ whole. behind whole (last_piece true lost) refl whole.ends)
         (last_of lost budget before left stop now.view new result by last)
       where
         passes : Passes old now.view
@@ -305,11 +322,22 @@ module _ (it : StoreState) (limits : it.guard.limits ≡ standard) (of_text : sc
 
         inside : EachSince (IsAppliedAt old.shown (saved_in it) input lost) mid.view now.view
         inside =
-            each_weaker mid.view now.view (IsLeft (first_state it) (all_lines input) mid.view.shown.output) (IsAppliedAt old.shown (saved_in it) input lost)
-            (λ c so. left_applied it limits of_text old.shown chosen input lost c (subst (λ (t : Triple). IsLeft (first_state it) (all_lines input) t.output c) quiet.shown so))
-            (run.stops (quiet.passes.honest ∙ settled.honest) (quiet.passes.tells_bytes ∙ settled.tells_bytes) (quiet.passes.tells_output ∙ tells))
+            each_weaker mid.view now.view (IsLeft (first_state it) (all_lines input) mid.view.tells_output mid.view.shown.output) (IsAppliedAt old.shown (saved_in it) input lost)
+            (λ c so. left_applied it limits of_text old.shown chosen input lost c mid.view.tells_output (quiet.passes.tells_output ∙ tells) (subst (λ (t : Triple). IsLeft (first_state it) (all_lines input) mid.view.tells_output t.output c) quiet.shown so))
+            (run.stops (quiet.passes.honest ∙ settled.honest) (quiet.passes.tells_bytes ∙ settled.tells_bytes))
 
         so_far : EachSince (IsAppliedAt old.shown (saved_in it) input lost) old now.view
         so_far =
             each_on old mid.view now.view (IsAppliedAt old.shown (saved_in it) input lost) quiet.passes run.passes
             (quiet_applied old mid.view (saved_in it) input lost timed tells settled quiet known) inside
+
+        nothing_more : StaysStill now.view new → EachSince (IsAppliedAt old.shown (saved_in it) input lost) old new
+        nothing_more still =
+            each_on old now.view new (IsAppliedAt old.shown (saved_in it) input lost) passes still.quiet.passes so_far
+            (each_quiet now.view new (IsAppliedAt old.shown (saved_in it) input lost) (passes.honest ∙ settled.honest) still.quiet (each_now old now.view (IsAppliedAt old.shown (saved_in it) input lost) passes so_far))
+
+        behind : (at : IsWhole lost stop now.view result new) (piece : Option (List ℕ)) → last_piece true lost ≡ piece → EndsRun piece at.status now.view result new → EachSince (IsAppliedAt old.shown (saved_in it) input lost) old new
+        behind at None is ends = nothing_more ends.1
+        behind at (Some piece) is (inl memory) = nothing_more memory.1
+        behind at (Some piece) is (inr put) =
+            each_on old now.view new (IsAppliedAt old.shown (saved_in it) input lost) passes put.areas.passes so_far (put_applied at piece is put.stops)

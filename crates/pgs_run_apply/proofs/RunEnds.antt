@@ -42,6 +42,10 @@ done_status : (refused : Bool) → IsDone (status_after refused)
 done_status true = inr refl
 done_status false = inl refl
 
+pub done_is : (status : Status) → IsDone status → is_done (stops.Ended status) ≡ true
+done_is status (inl is) = ap (λ (s : Status). is_done (stops.Ended s)) is
+done_is status (inr is) = ap (λ (s : Status). is_done (stops.Ended s)) is
+
 -- an end of the machine's own: the end of the input, or the end of the budget
 abbrev pub IsOwn : ℕ → Option (List ℕ) → Option (List ℕ) → Status → Type 0
 IsOwn budget before left status = (IsDone status × IsAtEnd left) ⊎ ((status ≡ InputTooLong) × EndsAtCut applying budget before left status)
@@ -188,7 +192,7 @@ module _ (start : Shown) (input : List ℕ) (budget : ℕ) (before left : Option
 -- ---- which status it is
 
 -- the answer is the status, or one of the last piece
-last_result : (last : Option (List ℕ)) (status result : Status) (old new : View) → EndsRun last status old result new → (result ≡ status) ⊎ ((result ≡ Memory) ⊎ (result ≡ PutFault))
+pub last_result : (last : Option (List ℕ)) (status result : Status) (old new : View) → EndsRun last status old result new → (result ≡ status) ⊎ ((result ≡ Memory) ⊎ (result ≡ PutFault))
 last_result None status result old new ends = inl ends.0
 last_result (Some piece) status result old new (inl none) = inr (inl none.0)
 last_result (Some piece) status result old new (inr put) = ⊎_elim (λ whole. inl whole.0) (λ torn. inr (inr torn.0)) put.ends

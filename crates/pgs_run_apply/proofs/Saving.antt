@@ -1,5 +1,5 @@
 -- What images save that hold the store of a state.
-use Rattle.std.proofs.Common.{◌≡◌, ◌⊎◌, inl, inr, ⊎_elim, ℕ, ◌+◌, List, [], ◌∷◌, ◌++◌, Option, Some, Result, Ok, Err, IsTrue, refl, sym, ap, subst, ◌∙◌}
+use Rattle.std.proofs.Common.{◌≡◌, ◌⊎◌, inl, inr, ⊎_elim, ℕ, ◌+◌, Bool, List, [], ◌∷◌, ◌++◌, Option, Some, Result, Ok, Err, IsTrue, refl, sym, ap, subst, ◌∙◌}
 use Rattle.std.specs.List.{concat}
 use Rattle.pgs_base.specs.declared.limits.Limits.{Limits}
 use Rattle.pgs_base.specs.Graph.{Graph}
@@ -21,7 +21,7 @@ use Rattle.pgs_run_saved.specs.Refusing.{SavedStore}
 use Rattle.pgs_run_apply.proofs.Conforming.{saved_conforms}
 use Rattle.pgs_run_apply.specs.Following.{all_append}
 use Rattle.pgs_run_apply.specs.Left.{IsLeft, IsWithin, IsSavedAt, state_after_all, pieces_from}
-use Rattle.pgs_run_apply.specs.Run.{Saves, SavesAt, SavesNext, SavesAll, IsAppliedAt}
+use Rattle.pgs_run_apply.specs.Run.{Saves, SavesAt, SavesOn, SavesNext, SavesAll, IsAppliedAt, IsGrown}
 use Rattle.pgs_run_apply.specs.State.{ApplyState, standing_of, state_after}
 use Rattle.pgs_run_apply.specs.Told.{start, after, verdicts, all_lines}
 use Rattle.pgs_run_apply.proofs.Standings.{first_state, stays_all, standing_all, pieces_behind}
@@ -102,11 +102,30 @@ module _ (it : StoreState) (limits : it.guard.limits ≡ standard) (of_text : sc
         )
 
     -- what a stop inside the lines leaves
-    pub left_applied : IsLeft (first_state it) (all_lines input) was.output triple → IsAppliedAt was (saved_in it) input lost triple
-    left_applied left =
+    pub left_applied : (tells : Bool) → IsTrue tells → IsLeft (first_state it) (all_lines input) tells was.output triple → IsAppliedAt was (saved_in it) input lost triple
+    left_applied tells told left =
         ⊎_elim
-        (λ even. applied_at left.until left.later left.front left.parts left.out (chooses_at left.until triple even.1) (inl (even.0, saves_at left.until triple even.1)))
-        (λ within. let next = next_at left.until left.later left.front within in applied_at left.until left.later left.front left.parts left.out next.1 (inr (inl next.0)))
+        (λ even. applied_at left.until left.later left.front left.parts (left.out told) (chooses_at left.until triple even.1) (inl (even.0, saves_at left.until triple even.1)))
+        (λ within. let next = next_at left.until left.later left.front within in applied_at left.until left.later left.front left.parts (left.out told) next.1 (inr (inl next.0)))
+        left.state
+
+  module _ (was : Triple) (chosen : Chooses it.journal was) (triple : Triple) where
+    -- the images hold the store of the state after lines
+    pub saves_on : (lines : List (List ℕ)) → IsSavedAt (state_after_all (first_state it) lines) triple → SavesOn (saved_in it) (after (saved_in it) lines) was triple
+    saves_on lines held =
+        let now = chooses_at lines triple held in
+        record { saves = saves_at lines triple held; area = now.area ∙ sym chosen.area; epoch = now.epoch ∙ sym chosen.epoch }
+
+    grown_at : (lines : List (List ℕ)) → IsSavedAt (state_after_all (first_state it) lines) triple → IsGrown (saved_in it) was triple
+    grown_at lines held = record { lines = lines; saves = saves_on lines held }
+
+    -- what a stop inside the lines leaves, whatever is told
+    pub left_grown : (lines : List (List ℕ)) (tells : Bool) (output : List ℕ) → IsLeft (first_state it) lines tells output triple → IsGrown (saved_in it) was triple
+    left_grown lines tells output left =
+        ⊎_elim (λ even. grown_at left.until even.1)
+        (λ within.
+        grown_at (left.until ++ within.line ∷ [])
+        (subst (λ (t : ApplyState). IsSavedAt t triple) (sym (all_append (first_state it) left.until (within.line ∷ []))) within.saved))
         left.state
 
 -- ---- the store that is known to be saved is the one that is opened

@@ -1,5 +1,5 @@
 -- The taking of a line, from what its calls do to the world.
-use Rattle.std.proofs.Common.{◌≡◌, ◌∙◌, inl, inr, ℕ, ◌+◌, List, [], ◌∷◌, ◌++◌, length, Result, Ok, Err, IsTrue, refl, sym, ap, subst, arith}
+use Rattle.std.proofs.Common.{◌≡◌, ◌∙◌, inl, inr, ℕ, ◌+◌, Bool, List, [], ◌∷◌, ◌++◌, length, Result, Ok, Err, IsTrue, refl, sym, ap, subst, arith}
 use Rattle.std.specs.Result.{IsErrAnd}
 use Rattle.std.proofs.lemmas.Result.{err_from_is_err_and}
 use Rattle.pgs_feed.specs.Given.{AreGiven}
@@ -15,9 +15,13 @@ use Rattle.pgs_store.specs.Stored.{ending_at}
 use Rattle.pgs_store.proofs.Applied.{same_images}
 use Rattle.pgs_world.specs.Disk.{Puts}
 use Rattle.pgs_world.specs.Moment.{EachSince, IsTimed, Passes, StopsBy}
-use Rattle.pgs_world.specs.World.{View}
+use Rattle.pgs_world.specs.declared.area.Area.{Area}
+use Rattle.pgs_world.specs.declared.area.Area.TheVariants.{A, B}
+use Rattle.pgs_world.specs.World.{View, other}
 use Rattle.pgs_world.proofs.Moments.{passes_none, passes_on, each_none, each_on, settled_put}
 use Rattle.pgs_answer.specs.Lines.{refused_line}
+use Rattle.pgs_run_base.specs.Images.{KeepsArea}
+use Rattle.pgs_run_base.proofs.Images.{area_none, area_on}
 use Rattle.pgs_run_base.specs.declared.status.Status.{Status}
 use Rattle.pgs_run_apply.specs.Following.{saved_here}
 use Rattle.pgs_run_apply.specs.Outcome.{Outcome, IsPast, IsLeftBy, IsTaken, Takes, skipping, refusing}
@@ -38,17 +42,32 @@ put_holds s piece result old new holds put = record {
   };
 }
 
-put_left : (s : ApplyState) (o : Outcome) (piece out : List ℕ) (old new : View) → o.pieces ≡ piece ∷ [] → old.shown.output ≡ out → IsTimed old
-    → HoldsStore o.state old → StopsBy (Puts piece) old new → IsTrue old.honest → IsTrue old.tells_bytes → IsTrue old.tells_output
-    → EachSince (IsLeftBy s o out) old new
-put_left s o piece out old new one is timed holds stops honest told output = λ c left.
+-- no area is written
+put_area : {T : Type 0} (area : Area) (piece : List ℕ) (result : Result T (Stop Status)) (old new : View) → PutsPiece piece result old new
+    → KeepsArea area old new
+put_area A piece result old new put = record {
+  shown = put.a;
+  passes = put.passes;
+  stops = λ honest c left. let from = put.stops honest c left in (from.0, from.1, from.2.a);
+}
+put_area B piece result old new put = record {
+  shown = put.b;
+  passes = put.passes;
+  stops = λ honest c left. let from = put.stops honest c left in (from.0, from.1, from.2.b);
+}
+
+put_left : (s : ApplyState) (o : Outcome) (piece out : List ℕ) (tells : Bool) (old new : View) → o.pieces ≡ piece ∷ [] → old.shown.output ≡ out
+    → (IsTrue tells → IsTrue old.tells_output) → IsTimed old → HoldsStore o.state old → StopsBy (Puts piece) old new → IsTrue old.honest
+    → IsTrue old.tells_bytes → EachSince (IsLeftBy s o tells out) old new
+put_left s o piece out tells old new one is still timed holds stops honest told = λ c left.
     let from = stops honest c left in
     let saved = saved_here o.state old holds honest told from.0 from.1 in
-    let past : IsPast o out c = record {
+    let past : IsPast o tells out c = record {
       front = from.2.front;
       back = from.2.back;
       piece = one ∙ ap (λ (bytes : List ℕ). bytes ∷ []) from.2.parts;
-      out = from.2.added ∙ ap (λ (bytes : List ℕ). bytes ++ from.2.front) (timed.output honest output from.0 from.1 ∙ is);
+      out = λ output.
+          from.2.added ∙ ap (λ (bytes : List ℕ). bytes ++ from.2.front) (timed.output honest (still output) from.0 from.1 ∙ is);
       saved = (saved.0, same_images o.state.guard (ending_at o.state.journal saved.0) from.0 c saved.1 from.2.a from.2.b);
     } in
     inr past
@@ -62,13 +81,14 @@ pub record IsReady (s : ApplyState) (o : Outcome) (old mid : View) : Type 0 wher
   pub output : mid.shown.output ≡ old.shown.output
   pub shown : shown_of mid ≡ shown_of old
   pub faults : faults_of 0 mid ≡ faults_of 0 old
-  pub stops : IsTrue old.honest → IsTrue old.tells_bytes → IsTrue old.tells_output → EachSince (IsLeftBy s o old.shown.output) old mid
+  pub stops : IsTrue old.honest → IsTrue old.tells_bytes → EachSince (IsLeftBy s o old.tells_output old.shown.output) old mid
+  pub beside : KeepsArea (other s.journal.area) old mid
 
 here_left : (s : ApplyState) (o : Outcome) (view : View) → IsTimed view → HoldsStore s view → IsTrue view.honest → IsTrue view.tells_bytes
-    → IsTrue view.tells_output → EachSince (IsLeftBy s o view.shown.output) view view
-here_left s o view timed holds honest told output =
-    each_none view (IsLeftBy s o view.shown.output) timed
-    (λ c left. inl (timed.output honest output c left, saved_here s view holds honest told c left))
+    → EachSince (IsLeftBy s o view.tells_output view.shown.output) view view
+here_left s o view timed holds honest told =
+    each_none view (IsLeftBy s o view.tells_output view.shown.output) timed
+    (λ c left. inl ((λ output. timed.output honest output c left), saved_here s view holds honest told c left))
 
 -- the store has nothing to do
 pub ready_none : (s : ApplyState) (o : Outcome) (view : View) → IsTimed view → HoldsStore s view → HoldsStore o.state view → IsReady s o view view
@@ -79,6 +99,7 @@ ready_none s o view timed before holds = record {
   shown = refl;
   faults = refl;
   stops = here_left s o view timed before;
+  beside = area_none (other s.journal.area) view timed;
 }
 
 -- ---- the line
@@ -97,11 +118,12 @@ taken_put s o piece (Ok done) now old mid new kept after one state given ready p
 taken_put s o piece (Err (stops.Ended status)) now old mid new kept after one state given ready put answer = answer
 taken_put s o piece (Err stops.ReadFault) now old mid new kept after one state given ready put answer = answer
 taken_put s o piece (Err stops.AreaFault) now old mid new kept after one state given ready put answer = absurd answer
-taken_put s o piece (Err stops.PutFault) now old mid new kept after one state given ready put answer =
+taken_put {T = T} s o piece (Err stops.PutFault) now old mid new kept after one state given ready put answer =
     let was : mid.puts ≡ old.puts = ap (λ (shown : Shown). shown.puts) ready.shown in
     let same : new.puts ≡ mid.puts = answer.1 in
     let count : length o.pieces ≡ 1 = ap length one in
     record {
+      holds = put_holds {T = T} o.state piece (Err stops.PutFault) mid new ready.holds put;
       shows = subst (λ (pieces : List (List ℕ)). ShowsTorn (shown_of old) pieces (shown_of new)) (sym one)
           (subst (λ (start : Shown). ShowsTorn start (piece ∷ []) (shown_of new)) ready.shown answer.0);
       puts = omega (arith, was, same, count);
@@ -119,9 +141,11 @@ take_put s o piece result now old mid new kept after one state given ready put =
     record {
       passes = passes_on old mid new p put.passes;
       taken = taken_put s o piece result now old mid new kept after one state given ready put put.answer;
-      stops = λ honest told output.
-          each_on old mid new (IsLeftBy s o old.shown.output) p put.passes (ready.stops honest told output)
-          (put_left s o piece old.shown.output mid new one ready.output p.timed ready.holds put.stops (p.honest ∙ honest) (p.tells_bytes ∙ told) (p.tells_output ∙ output));
+      stops = λ honest told.
+          each_on old mid new (IsLeftBy s o old.tells_output old.shown.output) p put.passes (ready.stops honest told)
+          (put_left s o piece old.shown.output old.tells_output mid new one ready.output (λ output. p.tells_output ∙ output) p.timed ready.holds put.stops
+          (p.honest ∙ honest) (p.tells_bytes ∙ told));
+      beside = area_on (other s.journal.area) old mid new ready.beside (put_area (other s.journal.area) piece result mid new put);
     }
 
 -- there was no memory
@@ -131,6 +155,7 @@ take_none s o now view kept timed holds = record {
   passes = passes_none view timed;
   taken = record { holds = holds; shows = shows_none (shown_of view); given = given_none kept; faults = refl };
   stops = here_left s o view timed holds;
+  beside = area_none (other s.journal.area) view timed;
 }
 
 -- a call that answers so
@@ -146,6 +171,7 @@ take_skipped s done view kept timed holds = record {
   passes = passes_none view timed;
   taken = record { state = refl; holds = holds; shows = shows_none (shown_of view); given = given_none kept; faults = refl };
   stops = here_left s (skipping s) view timed holds;
+  beside = area_none (other s.journal.area) view timed;
 }
 
 -- the line is refused

@@ -1,7 +1,6 @@
 -- What is said of a run whose store isn't opened.
 use Rattle.std.proofs.Common.{◌≡◌, ◌⊎◌, inl, inr, ⊎_elim, ℕ, ◌+◌, ◌≤◌, Bool, true, false, cond, List, [], ◌∷◌, ◌++◌, length, Option, Some, None, Result, Ok, Err, IsTrue, refl, sym, ap, subst, ◌∙◌, arith}
 use Rattle.pgs_feed.specs.Places.{Place}
-use Rattle.pgs_feed.proofs.Given.{given_none}
 use Rattle.pgs_run_lines.specs.Ending.{Faults, PutsRose, AreasRose, faults_of}
 use Rattle.pgs_run_lines.specs.declared.reply.Reply.{Reply}
 use Rattle.pgs_run_lines.specs.Machine.{Told}
@@ -26,9 +25,8 @@ use Rattle.pgs_run_saved.specs.Opening.{Opens, IsRefusal, IsToldOf, is_disk_faul
 use Rattle.pgs_run_saved.specs.Refusing.{SavedStore, told_of_areas}
 use Rattle.pgs_run_saved.proofs.Saving.{never_refused}
 use Rattle.pgs_run_saved.proofs.Shown.{shown_quiet, same_faults, beside_reads, put_after}
-use Rattle.pgs_run_apply.specs.Run.{Saves, FeedsTook, IsEven, IsAppliedAt}
-use Rattle.pgs_run_apply.specs.Told.{all_lines}
-use Rattle.pgs_run_apply.proofs.Beginning.{even_start, quiet_applied}
+use Rattle.pgs_run_apply.specs.Run.{Saves, IsAppliedAt, IsDecided}
+use Rattle.pgs_run_apply.proofs.Beginning.{decided_start, quiet_applied}
 
 -- ---- its status
 
@@ -185,16 +183,18 @@ saved_opens (unopened.Refused reply) old mid it tells known opens = absurd (neve
 saved_opens unopened.DiskFault old mid it tells known opens = refl
 saved_opens unopened.Memory old mid it tells known opens = refl
 
-module _ (reason : Unopened) (old mid new : View) (early : is_refusal reason ≡ false → new ≡ mid) (quiet : IsQuiet old mid) (none : MakesNoPut old mid) (it : SavedStore) (input : List ℕ) (result : Status) where
-  pub unopened_fed : (lost : ℕ) (places same : List Place) → same ≡ places → IsTrue old.tells_bytes → Saves it old.shown → Opens (Err reason) old mid → FeedsTook it input lost old.puts new.puts places same result
-  unopened_fed lost places same is tells known opens =
-      let puts : new.puts ≡ old.puts = ap (λ (v : View). v.puts) (early (saved_opens reason old mid it tells known opens)) ∙ none.puts in
-      subst (λ (now : List Place). FeedsTook it input lost old.puts new.puts places now result) (sym is)
-      (record { until = []; later = all_lines input; parts = refl; given = given_none places; counted = inl (omega arith) })
+-- an area failed, or there was no memory
+failed_by : (reason : Unopened) (old mid new : View) (result : Status) (it : SavedStore) → IsTrue old.tells_bytes → Saves it old.shown → Opens (Err reason) old mid → EndsUnopened reason mid result new → (result ≡ DiskFault) ⊎ (result ≡ Memory)
+failed_by (unopened.Refused reply) old mid new result it tells known opens ends = absurd (never_refused old it.text it.commits it.graph reply.line reply.status tells known.saves opens.1)
+failed_by unopened.DiskFault old mid new result it tells known opens ends = inl ends.0
+failed_by unopened.Memory old mid new result it tells known opens ends = inr ends.0
 
-  pub unopened_even : IsTrue old.tells_bytes → Saves it old.shown → Opens (Err reason) old mid → IsEven it input (shown_of old) (shown_of new) new.shown
-  unopened_even tells known opens =
-      subst (λ (v : View). IsEven it input (shown_of old) (shown_of v) v.shown) (sym (early (saved_opens reason old mid it tells known opens))) (even_start old mid it input quiet none known)
+module _ (reason : Unopened) (old mid new : View) (early : is_refusal reason ≡ false → new ≡ mid) (quiet : IsQuiet old mid) (none : MakesNoPut old mid) (it : SavedStore) (input : List ℕ) (result : Status) where
+  pub unopened_decided : (lost : ℕ) (places same : List Place) → same ≡ places → IsTrue old.tells_bytes → Saves it old.shown → Opens (Err reason) old mid → EndsUnopened reason mid result new → IsDecided it input lost old new places same result
+  unopened_decided lost places same is tells known opens ends =
+      subst (λ (now : List Place). IsDecided it input lost old new places now result) (sym is)
+      (subst (λ (v : View). IsDecided it input lost old v places places result) (sym (early (saved_opens reason old mid it tells known opens)))
+      (decided_start it input lost old mid places result (failed_by reason old mid new result it tells known opens ends) quiet none known))
 
   pub unopened_stops : (lost : ℕ) → IsTimed old → IsTrue old.tells_output → IsSettled old → Saves it old.shown → Opens (Err reason) old mid → EachSince (IsAppliedAt old.shown it input lost) old new
   unopened_stops lost timed tells settled known opens =

@@ -8,8 +8,10 @@ use Rattle.pgs_run_lines.specs.Machine.{Machine, Going, Scene, Extent, Whole, In
 use Rattle.pgs_run_lines.specs.Pieces.{ShowsAll, shown_of}
 use Rattle.pgs_violation.specs.Violations.{verdict}
 use Rattle.pgs_world.specs.Moment.{EachSince, Passes}
+use Rattle.pgs_world.specs.World.{other}
 use Rattle.pgs_run_base.specs.declared.status.Status.{Status}
 use Rattle.pgs_run_base.specs.declared.status.Status.TheVariants as statuses
+use Rattle.pgs_run_base.specs.Images.{KeepsArea}
 use Rattle.pgs_run_apply.specs.Committing.{feed_lines}
 use Rattle.pgs_run_apply.specs.Left.{IsLeft, state_after_all, pieces_at, pieces_from}
 use Rattle.pgs_run_apply.specs.State.{ApplyState, HoldsStore, standing_of, state_after}
@@ -53,8 +55,10 @@ pub record IsCutOff (s : ApplyState) (lines : List (List ℕ)) (old new : Scene 
   pub shows : ShowsAll (shown_of old.view) (pieces_from s lines) (shown_of new.view)
   pub given : AreGiven (given_by s lines) old.kept new.kept
 
--- these lines were done, but the put of the last one's piece failed: feeds were given what it commits
+-- these lines were done, but the put of the last one's piece failed: the store after it stands on the world, and feeds were given what
+-- it commits
 pub record IsTornOff (s : ApplyState) (lines : List (List ℕ)) (old new : Scene (List Place)) : Type 0 where
+  pub holds : HoldsStore (state_after_all s lines) new.view
   pub puts : new.view.puts + 1 ≡ old.view.puts + length (pieces_from s lines)
   pub given : AreGiven (given_by s lines) old.kept new.kept
 
@@ -79,5 +83,6 @@ pub record Applies (s : ApplyState) (lines : List (List ℕ)) (extent : Extent S
   pub passes : Passes old.view new.view
   pub reached : IsReached s lines extent old new
   -- at every moment
-  pub stops : IsTrue old.view.honest → IsTrue old.view.tells_bytes → IsTrue old.view.tells_output
-      → EachSince (IsLeft s (seen lines extent) old.view.shown.output) old.view new.view
+  pub stops : IsTrue old.view.honest → IsTrue old.view.tells_bytes
+      → EachSince (IsLeft s (seen lines extent) old.view.tells_output old.view.shown.output) old.view new.view
+  pub beside : KeepsArea (other s.journal.area) old.view new.view

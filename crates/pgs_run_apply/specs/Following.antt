@@ -68,6 +68,29 @@ pub schema_next : (s : ApplyState) (line : List ℕ) → (state_after s line).gu
 unfolding state_after
 schema_next s line = schema_if s (txn_answer line) (is_skipped line)
 
+-- ---- the area of the store stays
+
+area_decided : (s : ApplyState) (txn : Txn) (decision : Result Graph Rejection)
+    → (after_decision s txn decision).journal.area ≡ s.journal.area
+area_decided s txn (Ok g) = refl
+area_decided s txn (Err rejection) = refl
+
+area_answered : (s : ApplyState) (answer : Result Txn (List ℕ)) → (after_txn s answer).journal.area ≡ s.journal.area
+area_answered s (Ok txn) = area_decided s txn (decision_on (verdict s.guard.schema) s.guard.graph txn)
+area_answered s (Err text) = refl
+
+area_if : (s : ApplyState) (answer : Result Txn (List ℕ)) (blank : Bool) → (cond blank s (after_txn s answer)).journal.area ≡ s.journal.area
+area_if s answer true = refl
+area_if s answer false = area_answered s answer
+
+area_next : (s : ApplyState) (line : List ℕ) → (state_after s line).journal.area ≡ s.journal.area
+unfolding state_after
+area_next s line = area_if s (txn_answer line) (is_skipped line)
+
+pub area_all : (s : ApplyState) (lines : List (List ℕ)) → (state_after_all s lines).journal.area ≡ s.journal.area
+area_all s [] = refl
+area_all s (line ∷ lines) = area_all (state_after s line) lines ∙ area_next s line
+
 verdict_next : (s : ApplyState) (line : List ℕ) → verdict (state_after s line).guard.schema ≡ verdict s.guard.schema
 verdict_next s line = ap verdict (schema_next s line)
 
@@ -173,9 +196,9 @@ within_more s later more front c p = record {
 }
 
 -- what is left of lines is left of them and others
-pub left_more : (s : ApplyState) (xs ys : List (List ℕ)) (output : List ℕ) (c : Triple) → IsLeft s xs output c
-    → IsLeft s (xs ++ ys) output c
-left_more s xs ys output c p = record {
+pub left_more : (s : ApplyState) (xs ys : List (List ℕ)) (told : Bool) (output : List ℕ) (c : Triple) → IsLeft s xs told output c
+    → IsLeft s (xs ++ ys) told output c
+left_more s xs ys told output c p = record {
   until = p.until;
   later = p.later ++ ys;
   parts = ap (λ lines. lines ++ ys) p.parts ∙ append_assoc p.until p.later ys;
@@ -196,16 +219,19 @@ out_on s xs until output front =
     ∙ ap (λ (pieces : List (List ℕ)). output ++ (concat pieces ++ front)) (sym (pieces_append s xs until))))
 
 -- what is left of lines behind others
-pub left_on : (s : ApplyState) (xs ys : List (List ℕ)) (output : List ℕ) (c : Triple)
-    → IsLeft (state_after_all s xs) ys (output ++ concat (pieces_from s xs)) c → IsLeft s (xs ++ ys) output c
-left_on s xs ys output c p =
+pub left_on : (s : ApplyState) (xs ys : List (List ℕ)) (told still : Bool) (output mid : List ℕ) (c : Triple) → (IsTrue told → IsTrue still)
+    → (IsTrue told → mid ≡ output ++ concat (pieces_from s xs)) → IsLeft (state_after_all s xs) ys still mid c → IsLeft s (xs ++ ys) told output c
+left_on s xs ys told still output mid c stays added p =
     let same = sym (all_append s xs p.until) in
     record {
       until = xs ++ p.until;
       later = p.later;
       parts = ap (λ lines. xs ++ lines) p.parts ∙ sym (append_assoc xs p.until p.later);
       front = p.front;
-      out = p.out ∙ out_on s xs p.until output p.front;
+      out = λ tells.
+          p.out (stays tells)
+          ∙ (ap (λ (out : List ℕ). out ++ (concat (pieces_from (state_after_all s xs) p.until) ++ p.front)) (added tells)
+          ∙ out_on s xs p.until output p.front);
       state = ⊎_elim (λ done. inl (done.0, subst (λ (t : ApplyState). IsSavedAt t c) same done.1))
           (λ within. inr (subst (λ (t : ApplyState). IsWithin t p.later p.front c) same within)) p.state;
     }

@@ -1,5 +1,5 @@
 -- What a stop inside a run of `apply` leaves: the store after some first lines, or after one more, whose verdict line isn't out whole.
-use Rattle.std.specs.Prelude.{◌≡◌, ◌⊎◌, ℕ, List, [], ◌∷◌, ◌++◌}
+use Rattle.std.specs.Prelude.{◌≡◌, ◌⊎◌, ℕ, Bool, IsTrue, List, [], ◌∷◌, ◌++◌}
 use Rattle.std.specs.List.{concat}
 use Rattle.pgs_store.specs.Stored.{IsSavedIn, ending_at}
 use Rattle.pgs_violation.specs.Violations.{verdict}
@@ -32,11 +32,11 @@ pub record IsWithin (s : ApplyState) (later : List (List ℕ)) (front : List ℕ
   pub piece : pieces_at s line ≡ (front ++ back) ∷ []
   pub saved : IsSavedAt (state_after s line) triple
 
--- some first lines were done, and what they tell is out behind the output that there was
-pub record IsLeft (s : ApplyState) (lines : List (List ℕ)) (output : List ℕ) (triple : Triple) : Type 0 where
+-- Some first lines were done, and what they tell is out behind the output that there was, where that is told.
+pub record IsLeft (s : ApplyState) (lines : List (List ℕ)) (told : Bool) (output : List ℕ) (triple : Triple) : Type 0 where
   pub until : List (List ℕ)
   pub later : List (List ℕ)
   pub parts : lines ≡ until ++ later
   pub front : List ℕ
-  pub out : triple.output ≡ output ++ (concat (pieces_from s until) ++ front)
+  pub out : IsTrue told → triple.output ≡ output ++ (concat (pieces_from s until) ++ front)
   pub state : ((front ≡ []) × IsSavedAt (state_after_all s until) triple) ⊎ IsWithin (state_after_all s until) later front triple

@@ -1,5 +1,5 @@
 -- What a line comes to, and how far its taking came.
-use Rattle.std.specs.Prelude.{◌≡◌, ◌⊎◌, ℕ, ◌+◌, List, [], ◌∷◌, ◌++◌, length, Result, Ok, Err, IsTrue}
+use Rattle.std.specs.Prelude.{◌≡◌, ◌⊎◌, ℕ, ◌+◌, Bool, List, [], ◌∷◌, ◌++◌, length, Result, Ok, Err, IsTrue}
 use Rattle.pgs_base.specs.Graph.{Graph}
 use Rattle.pgs_feed.specs.Given.{AreGiven}
 use Rattle.pgs_feed.specs.Places.{Place}
@@ -12,10 +12,11 @@ use Rattle.pgs_run_lines.specs.Pieces.{shown_of, ShowsAll, ShowsTorn}
 use Rattle.pgs_violation.specs.declared.rejection.Rejection.{Rejection}
 use Rattle.pgs_violation.specs.Violations.{verdict}
 use Rattle.pgs_world.specs.Moment.{EachSince, Passes}
-use Rattle.pgs_world.specs.World.{Triple}
+use Rattle.pgs_world.specs.World.{Triple, other}
 use Rattle.pgs_answer.specs.Lines.{committed_line, refused_line, feed_line}
 use Rattle.pgs_answer.specs.Refusals.{rejection_text}
 use Rattle.pgs_run_base.specs.declared.status.Status.{Status}
+use Rattle.pgs_run_base.specs.Images.{KeepsArea}
 use Rattle.pgs_run_base.specs.Session.{standard, decision_on}
 use Rattle.pgs_run_apply.specs.Committing.{feed_lines_at}
 use Rattle.pgs_run_apply.specs.Left.{IsSavedAt, pieces_at}
@@ -52,16 +53,16 @@ outcome_of s line =
     record { state = state_after s line; pieces = pieces_at s line; given = feed_lines_at (verdict s.guard.schema) (standing_of s) line }
 
 -- the images hold the store after the line, and of its piece this front is out
-pub record IsPast (o : Outcome) (output : List ℕ) (triple : Triple) : Type 0 where
+pub record IsPast (o : Outcome) (told : Bool) (output : List ℕ) (triple : Triple) : Type 0 where
   pub front : List ℕ
   pub back : List ℕ
   pub piece : o.pieces ≡ (front ++ back) ∷ []
-  pub out : triple.output ≡ output ++ front
+  pub out : IsTrue told → triple.output ≡ output ++ front
   pub saved : IsSavedAt o.state triple
 
--- what a stop during the taking of a line leaves: all as it was, or the store after the line
-abbrev pub IsLeftBy : ApplyState → Outcome → List ℕ → Triple → Type 0
-IsLeftBy s o output triple = ((triple.output ≡ output) × IsSavedAt s triple) ⊎ IsPast o output triple
+-- what a stop during the taking of a line leaves: all as it was, or the store after the line; of the output where it is told
+abbrev pub IsLeftBy : ApplyState → Outcome → Bool → List ℕ → Triple → Type 0
+IsLeftBy s o told output triple = ((IsTrue told → triple.output ≡ output) × IsSavedAt s triple) ⊎ IsPast o told output triple
 
 -- the line was taken
 pub record IsWhole (o : Outcome) (now : ApplyState) (old new : Scene (List Place)) : Type 0 where
@@ -86,6 +87,7 @@ pub record IsStruck (old new : Scene (List Place)) : Type 0 where
 
 -- the put of its piece failed
 pub record IsTorn (o : Outcome) (old new : Scene (List Place)) : Type 0 where
+  pub holds : HoldsStore o.state new.view
   pub shows : ShowsTorn (shown_of old.view) o.pieces (shown_of new.view)
   pub puts : new.view.puts + 1 ≡ old.view.puts + length o.pieces
   pub given : AreGiven o.given old.kept new.kept
@@ -107,5 +109,6 @@ pub record Takes {T : Type 0} (s : ApplyState) (o : Outcome) (result : Result T 
   pub passes : Passes old.view new.view
   pub taken : IsTaken s o result now old new
   -- at every moment
-  pub stops : IsTrue old.view.honest → IsTrue old.view.tells_bytes → IsTrue old.view.tells_output
-      → EachSince (IsLeftBy s o old.view.shown.output) old.view new.view
+  pub stops : IsTrue old.view.honest → IsTrue old.view.tells_bytes
+      → EachSince (IsLeftBy s o old.view.tells_output old.view.shown.output) old.view new.view
+  pub beside : KeepsArea (other s.journal.area) old.view new.view

@@ -3,14 +3,14 @@ use Rattle.std.specs.Prelude.{◌≡◌, ◌⊎◌, ℕ, ◌+◌, List, [], ◌�
 use Rattle.std.specs.List.{concat}
 use Rattle.pgs_feed.specs.Given.{AreGiven}
 use Rattle.pgs_feed.specs.Places.{Place}
-use Rattle.pgs_run_lines.specs.Pieces.{Shown, ShowsAll}
+use Rattle.pgs_run_lines.specs.Pieces.{Shown, ShowsAll, shown_of}
 use Rattle.pgs_snapshot.specs.Choice.{chosen_area, chosen_epoch}
 use Rattle.pgs_snapshot.specs.Saved.{saved, store}
 use Rattle.pgs_violation.specs.declared.violation.Verdict.TheVariants.{Conforms}
 use Rattle.pgs_violation.specs.Violations.{verdict}
-use Rattle.pgs_world.specs.World.{Triple}
+use Rattle.pgs_world.specs.World.{Triple, View}
 use Rattle.pgs_run_base.specs.declared.status.Status.{Status}
-use Rattle.pgs_run_base.specs.declared.status.Status.TheVariants.{PutFault}
+use Rattle.pgs_run_base.specs.declared.status.Status.TheVariants.{Accepted, Refused, DiskFault, PutFault}
 use Rattle.pgs_run_base.specs.Answers.{schema_answer}
 use Rattle.pgs_run_base.specs.Session.{Standing, standard, every_verdict, pieces_of_line}
 use Rattle.pgs_run_saved.specs.Refusing.{SavedStore}
@@ -58,25 +58,35 @@ pub record IsAppliedAt (was : Triple) (it : SavedStore) (input : List ℕ) (lost
   pub area : chosen_area triple.a triple.b ≡ chosen_area was.a was.b
   pub epoch : chosen_epoch triple.a triple.b ≡ chosen_epoch was.a was.b
 
--- how many puts answered Ok, where the verdict lines of these lines were put: all; all but the last, whose put failed; or all, and then the
--- last piece, where feeds are lost
-abbrev pub IsCounted : (before now verdicts last : ℕ) → Status → Type 0
-IsCounted before now verdicts last status =
-    (now ≡ before + verdicts) ⊎ (((status ≡ PutFault) × (now + 1 ≡ before + verdicts)) ⊎ (now ≡ before + (verdicts + last)))
+-- The images save the store at this standing, in the area and of the epoch that were chosen.
+pub record SavesOn (it : SavedStore) (at : Standing) (was triple : Triple) : Type 0 where
+  pub saves : SavesAt it at triple
+  pub area : chosen_area triple.a triple.b ≡ chosen_area was.a was.b
+  pub epoch : chosen_epoch triple.a triple.b ≡ chosen_epoch was.a was.b
 
--- Feeds took exactly the feed lines of the accepted ones of some first lines, those whose verdict lines were put, also of one whose put
--- failed.
-pub record FeedsTook (it : SavedStore) (input : List ℕ) (lost : ℕ) (old_puts new_puts : ℕ) (old new : List Place) (status : Status) : Type 0 where
+-- they save the store after some lines, each decided on the graph after the accepted ones before it
+pub record IsGrown (it : SavedStore) (was triple : Triple) : Type 0 where
+  pub lines : List (List ℕ)
+  pub saves : SavesOn it (after it lines) was triple
+
+-- What was put where these first lines were decided, by the status. After a whole input they are all lines, and what they tell was put, and
+-- the last piece where feeds are lost. Where a put failed it was that of what the last of them tells, or behind all lines that of the last
+-- piece. Else exactly what they tell was put.
+abbrev pub IsPutBy : SavedStore → (until later : List (List ℕ)) → (lost : ℕ) → (start now : Shown) → Status → Type 0
+IsPutBy it until later lost start now Accepted = (later ≡ []) × ShowsAll start (verdicts it until ++ lost_pieces lost) now
+IsPutBy it until later lost start now Refused = (later ≡ []) × ShowsAll start (verdicts it until ++ lost_pieces lost) now
+IsPutBy it until later lost start now PutFault =
+    (now.puts + 1 ≡ start.puts + length (verdicts it until))
+    ⊎ ((later ≡ []) × (now.puts + 1 ≡ start.puts + length (verdicts it until ++ lost_pieces lost)))
+IsPutBy it until later lost start now status = ShowsAll start (verdicts it until) now
+
+-- How a run ends: some first lines were decided, those whose verdict lines were put, also one whose put failed. Feeds took exactly the feed
+-- lines of the accepted ones among them; and unless an area failed, the areas as read save the store after them.
+pub record IsDecided (it : SavedStore) (input : List ℕ) (lost : ℕ) (old new : View) (old_places new_places : List Place)
+    (status : Status) : Type 0 where
   pub until : List (List ℕ)
   pub later : List (List ℕ)
   pub parts : all_lines input ≡ until ++ later
-  pub given : AreGiven (feed_lines (verdict it.schema) (start it) until) old new
-  pub counted : IsCounted old_puts new_puts (length (verdicts it until)) (length (lost_pieces lost)) status
-
--- after want of memory what is saved is what the lines led to whose verdict lines were put
-pub record IsEven (it : SavedStore) (input : List ℕ) (start now : Shown) (triple : Triple) : Type 0 where
-  pub until : List (List ℕ)
-  pub later : List (List ℕ)
-  pub parts : all_lines input ≡ until ++ later
-  pub shows : ShowsAll start (verdicts it until) now
-  pub saves : SavesAt it (after it until) triple
+  pub put : IsPutBy it until later lost (shown_of old) (shown_of new) status
+  pub given : AreGiven (feed_lines (verdict it.schema) (start it) until) old_places new_places
+  pub saves : (status ≡ DiskFault → ⊥) → SavesOn it (after it until) old.shown new.shown

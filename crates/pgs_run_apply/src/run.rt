@@ -3,16 +3,19 @@ ghost use Rattle.pgs_feed.specs.Places.{lost_count};
 ghost use Rattle.pgs_feed.specs.Seen.{places};
 ghost use Rattle.pgs_run_lines.specs.Ending.{faults_of};
 ghost use Rattle.pgs_run_lines.specs.Pieces.{shown_of};
-ghost use Rattle.pgs_snapshot.specs.Saved.{saved, store};
+ghost use Rattle.pgs_snapshot.specs.Choice.{chosen_area};
+ghost use Rattle.pgs_world.specs.declared.area.Area.{Area};
 ghost use Rattle.pgs_world.specs.Moment.{EachSince, IsSettled, Passes};
+ghost use Rattle.pgs_world.specs.World.{other};
 ghost use Rattle.pgs_run_base.specs.Areas.{areas_of};
 ghost use Rattle.pgs_run_base.specs.Ending.{status_at as status_at_stop};
-ghost use Rattle.pgs_run_base.specs.Images.{KeepsImages};
+ghost use Rattle.pgs_run_base.specs.Images.{KeepsArea, KeepsImages};
 ghost use Rattle.pgs_run_base.specs.Run.{IsRead, EndsAs, HasCommandCause, TakesWithin};
 ghost use Rattle.pgs_run_base.specs.Session.{standard};
+ghost use Rattle.pgs_run_saved.specs.Opening.{IsRefusal};
 ghost use Rattle.pgs_run_saved.specs.Refusing.{SavedStore};
 ghost use Rattle.pgs_run_apply.specs.Ending.{EndsRun, is_done, last_piece};
-ghost use Rattle.pgs_run_apply.specs.Run.{Saves, IsAppliedAt, FeedsTook, IsEven};
+ghost use Rattle.pgs_run_apply.specs.Run.{Saves, IsAppliedAt, IsDecided, IsGrown};
 ghost use Rattle.pgs_run_apply.specs.Told.{told_apply};
 
 use crate::applying::Applying;
@@ -67,13 +70,23 @@ pub fn run_apply<S: Source, W: World, F: Feed>(
     ensures stops { (input : List ℕ) (it : SavedStore) → S.left source.old ≡ Some input → Saves it (W.view world.old).shown
         → IsTrue (W.view world.old).tells_output → IsSettled (W.view world.old)
         → EachSince (IsAppliedAt (W.view world.old).shown it input (lost_count (places F.taken F.faults feeds.new))) (W.view world.old) (W.view world.new) }
-    // What the feeds took.
-    ensures fed { IsTrue (W.view world.old).tells_bytes → (input : List ℕ) (it : SavedStore) → S.left source.old ≡ Some input → Saves it (W.view world.old).shown
-        → FeedsTook it input (lost_count (places F.taken F.faults feeds.new)) (W.view world.old).puts (W.view world.new).puts
+    // The same whatever source and output tell: the store after some lines, each decided on the graph after the accepted ones before it.
+    ensures grows { (it : SavedStore) → Saves it (W.view world.old).shown → IsSettled (W.view world.old)
+        → EachSince (IsGrown it (W.view world.old).shown) (W.view world.old) (W.view world.new) }
+    // The area that isn't chosen is left alone.
+    ensures beside { IsTrue (W.view world.old).tells_bytes → (area : Area)
+        → chosen_area (W.view world.old).shown.a (W.view world.old).shown.b ≡ Some area
+        → KeepsArea (other area) (W.view world.old) (W.view world.new) }
+    // Nothing is pending at the end, unless an area failed.
+    ensures settled { IsSettled (W.view world.old) → (result ≡ Status.DiskFault → ⊥) → IsSettled (W.view world.new) }
+    // How it ends: what was put, what the feeds took, and what is saved.
+    ensures decided { IsTrue (W.view world.old).tells_bytes → (input : List ℕ) (it : SavedStore) → S.left source.old ≡ Some input → Saves it (W.view world.old).shown
+        → IsDecided it input (lost_count (places F.taken F.faults feeds.new)) (W.view world.old) (W.view world.new)
         (places F.taken F.faults feeds.old) (places F.taken F.faults feeds.new) result }
-    // No want of memory comes between the journal and the verdict line.
-    ensures even { IsTrue (W.view world.old).tells_bytes → (input : List ℕ) (it : SavedStore) → S.left source.old ≡ Some input → Saves it (W.view world.old).shown
-        → result ≡ Status.Memory → IsEven it input (shown_of (W.view world.old)) (shown_of (W.view world.new)) (W.view world.new).shown }
+    // Where the store is refused, or nothing is saved, nothing is read.
+    ensures refused { IsRefusal result → source.new ≡ source.old }
+    ensures unread { IsTrue (W.view world.old).tells_bytes
+        → ((it : SavedStore) → Saves it (W.view world.old).shown → ⊥) → source.new ≡ source.old }
     // Where nothing is saved, nothing is written and no feed is given anything.
     ensures unsaved { IsTrue (W.view world.old).tells_bytes
         → ((it : SavedStore) → Saves it (W.view world.old).shown → ⊥)

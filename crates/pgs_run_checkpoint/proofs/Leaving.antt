@@ -14,7 +14,7 @@ use Rattle.pgs_world.proofs.Moments.{each_on}
 use Rattle.pgs_run_checkpoint.specs.Leaving.{IsNew, Leaves, told_in}
 
 -- the same images hold the same store
-same_by : (guard : GuardState) (journal : Journal) (payloads : List (List ℕ)) (old c : Triple) → IsSavedBy guard journal payloads old → c.a ≡ old.a → c.b ≡ old.b → IsSavedBy guard journal payloads c
+pub same_by : (guard : GuardState) (journal : Journal) (payloads : List (List ℕ)) (old c : Triple) → IsSavedBy guard journal payloads old → c.a ≡ old.a → c.b ≡ old.b → IsSavedBy guard journal payloads c
 same_by guard journal payloads old c saved a b =
     record { has = images_decide journal.area journal.epoch journal.end payloads old c saved.has a b; saves = saved.saves }
 

@@ -1,3 +1,4 @@
 pub mod Leaving
 pub mod Line
+pub mod Resting
 pub mod Stopped

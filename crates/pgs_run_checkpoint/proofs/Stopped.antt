@@ -36,7 +36,7 @@ module _ (it : StoreState) (old mid : View) (is : IsOpened it old mid) (quiet : 
   there : IsSavedIn it.guard it.journal old.shown
   there = subst (λ (t : Triple). IsSavedIn it.guard it.journal t) quiet.shown (is.stands.saved (quiet.passes.tells_bytes ∙ told))
 
-  was_area : chosen_area old.shown.a old.shown.b ≡ Some it.journal.area
+  pub was_area : chosen_area old.shown.a old.shown.b ≡ Some it.journal.area
   was_area = ap area_chosen there.1.has.choice
 
   was_epoch : chosen_epoch old.shown.a old.shown.b ≡ Some it.journal.epoch
@@ -62,7 +62,7 @@ unfolding saved
 saves_by guard journal payloads c within is =
     ap (saved_by standard) is.has.choice ∙ ap (λ (l : Limits). saved_of l payloads) (sym within) ∙ is.saves
 
-saves_renewed : (it : StoreState) (c : Triple) → it.guard.limits ≡ standard → IsRenewedIn it.guard it.journal c → saved standard c.a c.b ≡ store it.guard.text it.guard.commits it.guard.graph
+pub saves_renewed : (it : StoreState) (c : Triple) → it.guard.limits ≡ standard → IsRenewedIn it.guard it.journal c → saved standard c.a c.b ≡ store it.guard.text it.guard.commits it.guard.graph
 saves_renewed it c within is =
     ⊎_elim (λ before. saves_by it.guard it.journal before.0 c within before.1)
     (λ after. saves_by it.guard (next_journal it.journal after.0) (renewed it.guard) c within after.1) is
@@ -70,35 +70,35 @@ saves_renewed it c within is =
 same_records : (guard : GuardState) (text : List ℕ) (commits : ℕ) (graph : Graph) → store guard.text guard.commits guard.graph ≡ store text commits graph → renewed guard ≡ records_of text commits graph
 same_records guard text commits graph is = cc
 
-module _ (it : StoreState) (old mid : View) (text : List ℕ) (commits : ℕ) (graph : Graph) (is : IsOpened it old mid) (quiet : IsQuiet old mid) (settled : IsSettled old)
+module _ (it : StoreState) (old mid : View) (text : List ℕ) (commits : ℕ) (graph : Graph) (is : IsOpened it old mid) (quiet : IsQuiet old mid) (tells : IsTrue old.tells_bytes)
     (saves : saved standard old.shown.a old.shown.b ≡ store text commits graph) where
-  the_same : store it.guard.text it.guard.commits it.guard.graph ≡ store text commits graph
-  the_same = sym (is.saves settled.tells_bytes) ∙ saves
+  pub the_same : store it.guard.text it.guard.commits it.guard.graph ≡ store text commits graph
+  the_same = sym (is.saves tells) ∙ saves
 
-  is_renewed : (c : Triple) → IsNew it c → IsRenewed text commits graph old.shown c
+  pub is_renewed : (c : Triple) → IsNew it c → IsRenewed text commits graph old.shown c
   is_renewed c new = record {
     area = it.journal.area;
     epoch = it.journal.epoch;
     end = new.0;
-    was_area = was_area it old mid is quiet settled.tells_bytes;
-    was_epoch = was_epoch it old mid is quiet settled.tells_bytes;
+    was_area = was_area it old mid is quiet tells;
+    was_epoch = was_epoch it old mid is quiet tells;
     choice = new.1.has.choice
         ∙ ap (λ (records : List (List ℕ)). chosen (other it.journal.area) (it.journal.epoch + 1) new.0 records) (same_records it.guard text commits graph the_same);
   }
 
   as_before : (c : Triple) → IsSavedIn it.guard it.journal c → IsAsBefore old.shown c
   as_before c before = record {
-    area = ap area_chosen before.1.has.choice ∙ sym (was_area it old mid is quiet settled.tells_bytes);
-    epoch = ap epoch_chosen before.1.has.choice ∙ sym (was_epoch it old mid is quiet settled.tells_bytes);
+    area = ap area_chosen before.1.has.choice ∙ sym (was_area it old mid is quiet tells);
+    epoch = ap epoch_chosen before.1.has.choice ∙ sym (was_epoch it old mid is quiet tells);
   }
 
-  renews_left : (c : Triple) → Leaves it mid c → Renews old text commits graph c
-  renews_left c left = record {
+  renews_left : IsTrue old.honest → (c : Triple) → Leaves it mid c → Renews old text commits graph c
+  renews_left honest c left = record {
     puts = record {
       line = left.puts.line;
-      one = ap (λ (t : Told Status). t.pieces) (told_same it old mid is quiet settled.tells_bytes) ∙ left.puts.one;
+      one = ap (λ (t : Told Status). t.pieces) (told_same it old mid is quiet tells) ∙ left.puts.one;
       left = left.puts.left;
-      before = quiet_now old mid quiet settled.honest left.puts.left left.puts.before;
+      before = quiet_now old mid quiet honest left.puts.left left.puts.before;
       front = left.puts.front;
       back = left.puts.back;
       parts = left.puts.parts;
@@ -107,7 +107,7 @@ module _ (it : StoreState) (old mid : View) (text : List ℕ) (commits : ℕ) (g
     saves = saves_renewed it c is.limits left.store ∙ the_same;
     chosen_as = ⊎_elim (λ before. inl (as_before c before)) (λ after. inr (is_renewed c after)) left.store;
     whole = λ none accepted.
-        is_renewed c (left.whole none (ap (λ (t : Told Status). t.status) (sym (told_same it old mid is quiet settled.tells_bytes)) ∙ accepted));
+        is_renewed c (left.whole none (ap (λ (t : Told Status). t.status) (sym (told_same it old mid is quiet tells)) ∙ accepted));
   }
 
 -- ---- before the store is renewed
@@ -149,7 +149,7 @@ pub renews_opened : (it : StoreState) (old mid new : View) (text : List ℕ) (co
     → EachSince (Renews old text commits graph) old new
 renews_opened it old mid new text commits graph is quiet passes leaves settled saves =
     each_on old mid new (Renews old text commits graph) quiet.passes passes (renews_quiet old mid text commits graph settled saves quiet)
-    (λ c left. renews_left it old mid text commits graph is quiet settled saves c (leaves (quiet.passes.honest ∙ settled.honest) (quiet.passes.tells_bytes ∙ settled.tells_bytes) c left))
+    (λ c left. renews_left it old mid text commits graph is quiet settled.tells_bytes saves settled.honest c (leaves (quiet.passes.honest ∙ settled.honest) (quiet.passes.tells_bytes ∙ settled.tells_bytes) c left))
 
 -- no store that is saved is refused
 pub not_refused : (unopened : Unopened) (old mid : View) (text : List ℕ) (commits : ℕ) (graph : Graph) → Opens (Err unopened) old mid → IsTrue old.tells_bytes

@@ -7,7 +7,7 @@ ghost use Rattle.pgs_run_base.specs.Run.{HasCommandCause};
 ghost use Rattle.pgs_run_saved.specs.Opening.{IsAnswer, saved_in};
 ghost use Rattle.pgs_store.specs.Stored.{StandsOn};
 ghost use Rattle.pgs_world.specs.Moment.{EachSince, Passes};
-ghost use Rattle.pgs_run_checkpoint.specs.Leaving.{Leaves};
+ghost use Rattle.pgs_run_checkpoint.specs.Leaving.{Leaves, Rests};
 ghost use Rattle.pgs_run_checkpoint.specs.Told.{told_by};
 
 use crate::putting::refuse;
@@ -44,6 +44,7 @@ pub(crate) fn renew<W: World>(alloc: Global, world: &mut W, store: &mut Store) -
     ensures stops { IsTrue (W.view world.old).honest → IsTrue (W.view world.old).tells_bytes
         → EachSince (Leaves store.old (W.view world.old)) (W.view world.old) (W.view world.new) }
     ensures passes { Passes (W.view world.old) (W.view world.new) }
+    ensures rests { Rests store.old (W.view world.old) (W.view world.new) result }
 {
     let reply = match renewed_reply(alloc, store) {
         Ok(reply) => reply,

@@ -10,7 +10,7 @@ ghost use Rattle.pgs_run_base.specs.Session.{standard};
 ghost use Rattle.pgs_run_saved.specs.Opening.{IsAnswer};
 ghost use Rattle.pgs_snapshot.specs.Saved.{saved, store as saved_store};
 ghost use Rattle.pgs_world.specs.Moment.{EachSince, IsSettled, Passes};
-ghost use Rattle.pgs_run_checkpoint.specs.Renewing.{Renews};
+ghost use Rattle.pgs_run_checkpoint.specs.Renewing.{Renews, RestsRenewed};
 ghost use Rattle.pgs_run_checkpoint.specs.Told.{told_checkpoint};
 
 use crate::renewing::renew;
@@ -40,6 +40,8 @@ pub fn run_checkpoint<W: World>(alloc: Global, world: &mut W) -> Status
         → saved standard (W.view world.old).shown.a (W.view world.old).shown.b ≡ saved_store text commits graph → ⊥)
         → KeepsImages (W.view world.old) (W.view world.new) }
     ensures passes { Passes (W.view world.old) (W.view world.new) }
+    // What there is at its end.
+    ensures rests { RestsRenewed (W.view world.old) (W.view world.new) result }
 {
     match open_store(alloc, world) {
         Ok(mut store) => renew(alloc, world, &mut store),

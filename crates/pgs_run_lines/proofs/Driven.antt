@@ -85,7 +85,7 @@ module _ {E : Type 0} (m : Machine E) (rule : Rule m) (limit : ℕ) where
     later = ended;
     parts = refl;
     extent = Whole;
-    inside = inl refl;
+    inside = inr (refl, refl);
     shows = record { first = []; later = []; parts = refl; shows = shows_none (shown_of scene.view) };
     ends = tt;
     allowed = rule.none s scene timed holds;
@@ -108,7 +108,7 @@ module _ {E : Type 0} (m : Machine E) (rule : Rule m) (limit : ℕ) where
     later = [];
     parts = ap (λ (l : Lines). l.ended) is;
     extent = Inside stop;
-    inside = inr refl;
+    inside = inl refl;
     shows = subst (λ pieces. Shows (shown_of old.view) pieces stop (shown_of new.view)) (sym (append-nil (m.line s line).pieces)) shows;
     ends = ends;
     allowed = allowed;

@@ -11,10 +11,10 @@ use Rattle.pgs_run_lines.specs.declared.stop.Stop.TheVariants as stops
 use Rattle.pgs_run_lines.specs.Driving.{Runs, StopsAt}
 use Rattle.pgs_run_lines.specs.Ending.{Ends, faults_of, HasCause}
 use Rattle.pgs_run_lines.specs.Input.{kept_of}
-use Rattle.pgs_run_lines.specs.Machine.{Standing, Going, Ended, Machine, Rule, Scene, Whole, AtEnd, Told, after_lines, pieces_of_lines, told_at_end, status_at_cut, told_cut, told_by}
+use Rattle.pgs_run_lines.specs.Machine.{Standing, Going, Ended, Machine, Rule, Scene, Extent, Whole, AtEnd, Told, after_lines, pieces_of_lines, told_at_end, status_at_cut, told_cut, told_by}
 use Rattle.pgs_run_lines.specs.Pieces.{Shown, shown_of, ShowsAll}
 use Rattle.pgs_run_lines.specs.Reading.{StopsIn, Reads}
-use Rattle.pgs_run_lines.specs.Run.{EndsAs, EndsAtLine, EndsBy, Allows}
+use Rattle.pgs_run_lines.specs.Run.{EndsAs, EndsAtLine, EndsBy, IsBetween, IsToldBy, IsFar, Allows}
 use Rattle.pgs_run_lines.proofs.Budget.{by_whole, by_cut, tells_on, ended_by}
 use Rattle.pgs_run_lines.proofs.Causes.{no_rise}
 use Rattle.pgs_run_lines.proofs.ReadingOn.{none_taken}
@@ -169,7 +169,13 @@ module _ {E : Type 0} (m : Machine E) (rule : Rule m) (limit : ℕ) (s : m.State
 
   -- ---- what was done to the world
 
-  allows_at : (bytes : List ℕ) (stop : Stop E) (now : Scene rule.Kept) → Takes before left bytes → StopsAt m rule s start (kept_of limit bytes).ended stop now → Allows m rule limit s before left stop start now
+  abbrev Far : List ℕ → List (List ℕ) → List (List ℕ) → Stop E → Extent E → Type 0
+  Far bytes lines later stop extent = IsFar m limit s budget left bytes lines later stop extent
+
+  abbrev Allowed : Stop E → Scene rule.Kept → Type 0
+  Allowed stop now = Allows m rule limit s budget before left stop start now
+
+  allows_at : (bytes : List ℕ) (stop : Stop E) (now : Scene rule.Kept) → Takes before left bytes → StopsAt m rule s start (kept_of limit bytes).ended stop now → Allowed stop now
   allows_at bytes stop now taken at = record {
     bytes = bytes;
     taken = taken;
@@ -177,34 +183,46 @@ module _ {E : Type 0} (m : Machine E) (rule : Rule m) (limit : ℕ) (s : m.State
     later = at.later;
     parts = at.parts;
     extent = at.extent;
-    end = ⊎_elim inl (λ inside. inr (inl inside)) at.inside;
+    far = ⊎_elim (λ inside. subst (λ (extent : Extent E). Far bytes at.until at.later stop extent) (sym inside) (refl, at.ends))
+        (λ none. subst (λ (extent : Extent E). Far bytes at.until at.later stop extent) (sym none.0)
+        (subst (λ (why : Stop E). IsBetween m s budget bytes at.until at.later why) (sym none.1) tt))
+        at.inside;
     allowed = at.allowed;
   }
 
-  allows_runs : (bytes : List ℕ) (state : m.State) (line : List ℕ) (stop : Stop E) (now : Scene rule.Kept) → Takes before left bytes → Runs m rule limit s start bytes state line now → Allows m rule limit s before left stop start now
-  allows_runs bytes state line stop now taken runs = record {
+  allows_runs : (bytes : List ℕ) (state : m.State) (line : List ℕ) (stop : Stop E) (now : Scene rule.Kept) → Takes before left bytes → Runs m rule limit s start bytes state line now → IsBetween m s budget bytes (kept_of limit bytes).ended [] stop → Allowed stop now
+  allows_runs bytes state line stop now taken runs far = record {
     bytes = bytes;
     taken = taken;
     lines = (kept_of limit bytes).ended;
     later = [];
     parts = sym (append-nil (kept_of limit bytes).ended);
     extent = Whole;
-    end = inl refl;
+    far = far;
     allowed = runs.allowed;
   }
 
-  pub stopped_allows : (state : m.State) (line : List ℕ) (stop : Stop E) (now : Scene rule.Kept) → Reads m rule limit s start budget before left state line (Err stop) now → Allows m rule limit s before left stop start now
+  pub stopped_allows : (state : m.State) (line : List ℕ) (stop : Stop E) (now : Scene rule.Kept) → Reads m rule limit s start budget before left state line (Err stop) now → Allowed stop now
   stopped_allows state line (stops.Ended status) now r = allows_at r.bytes (stops.Ended status) now r.taken r.ends.1
-  stopped_allows state line stops.ReadFault now r = allows_runs r.bytes state line stops.ReadFault now r.taken r.ends.1
+  stopped_allows state line stops.ReadFault now r = allows_runs r.bytes state line stops.ReadFault now r.taken r.ends.1 refl
   stopped_allows state line stops.AreaFault now r = allows_at r.bytes stops.AreaFault now r.taken r.ends.1
   stopped_allows state line stops.PutFault now r = allows_at r.bytes stops.PutFault now r.taken r.ends.1
   stopped_allows state line stops.Memory now r = allows_at r.bytes stops.Memory now r.taken r.ends.1
 
-  pub cut_allows : (state : m.State) (line : List ℕ) (stop : Stop E) (now : Scene rule.Kept) → Reads m rule limit s start budget before left state line (Ok readings.Cut) now → Allows m rule limit s before left stop start now
-  cut_allows state line stop now r = allows_runs r.bytes state line stop now r.taken r.ends.1
+  pub cut_allows : (state : m.State) (line : List ℕ) (status : E) (now : Scene rule.Kept) → Reads m rule limit s start budget before left state line (Ok readings.Cut) now → status ≡ m.cut state → Allowed (stops.Ended status) now
+  cut_allows state line status now r same =
+      let runs = r.ends.1 in
+      allows_runs r.bytes state line (stops.Ended status) now r.taken runs (refl, r.ends.0, ap (status_at_cut m) runs.stands ∙ sym same)
 
-  pub whole_allows : (state : m.State) (line : List ℕ) (stop : Stop E) (mid now : Scene rule.Kept) → Reads m rule limit s start budget before left state line (Ok readings.Whole) mid → rule.allows state [] (AtEnd line stop) mid now → Allows m rule limit s before left stop start now
-  whole_allows state line stop mid now r end =
+  told_at : (told : Told E) (stop : Stop E) (old now : Shown) → Ends old told stop now → IsToldBy told stop
+  told_at told (stops.Ended status) old now ends = ends.1
+  told_at told stops.ReadFault old now ends = tt
+  told_at told stops.AreaFault old now ends = tt
+  told_at told stops.PutFault old now ends = tt
+  told_at told stops.Memory old now ends = tt
+
+  pub whole_allows : (state : m.State) (line : List ℕ) (stop : Stop E) (mid now : Scene rule.Kept) → Reads m rule limit s start budget before left state line (Ok readings.Whole) mid → Ends (shown_of mid.view) (m.rest state line) stop (shown_of now.view) → rule.allows state [] (AtEnd line stop) mid now → Allowed stop now
+  whole_allows state line stop mid now r ends end =
       let runs = r.ends.2 in
       let xs = (kept_of limit r.bytes).ended in
       record {
@@ -214,7 +232,7 @@ module _ {E : Type 0} (m : Machine E) (rule : Rule m) (limit : ℕ) (s : m.State
         later = [];
         parts = sym (append-nil xs);
         extent = AtEnd line stop;
-        end = inr (inr (ap (λ rest. AtEnd rest stop) runs.begun, refl, r.ends.1));
+        far = (refl, runs.begun, refl, r.ends.1, subst (λ (at : Standing m.State E). IsToldBy (told_at_end m at line) stop) (sym runs.stands) (told_at (m.rest state line) stop (shown_of mid.view) (shown_of now.view) ends));
         allowed = subst (λ lines. rule.allows s lines (AtEnd line stop) start now) (append-nil xs) (rule.on s state xs [] (AtEnd line stop) start mid now runs.stands runs.holds runs.allowed end);
       }
 
@@ -226,15 +244,15 @@ unread_ends m limit s start budget left input is = record {
   within = λ rest left_is. within_unread input rest budget left is left_is;
 }
 
-pub unread_allows : {E : Type 0} (m : Machine E) (rule : Rule m) (limit : ℕ) (s : m.State) (left : Option (List ℕ)) (stop : Stop E) (scene : Scene rule.Kept) → IsTimed scene.view → rule.holds s scene.view → Allows m rule limit s left left stop scene scene
-unread_allows m rule limit s left stop scene timed holds = record {
+pub unread_allows : {E : Type 0} (m : Machine E) (rule : Rule m) (limit : ℕ) (s : m.State) (budget : ℕ) (left : Option (List ℕ)) (scene : Scene rule.Kept) → IsTimed scene.view → rule.holds s scene.view → Allows m rule limit s budget left left stops.Memory scene scene
+unread_allows m rule limit s budget left scene timed holds = record {
   bytes = [];
   taken = none_taken left;
   lines = [];
   later = (kept_of limit []).ended;
   parts = refl;
   extent = Whole;
-  end = inl refl;
+  far = tt;
   allowed = rule.none s scene timed holds;
 }
 

@@ -35,6 +35,10 @@ pub record Runs {E : Type 0} (m : Machine E) (rule : Rule m) (limit : ℕ) (s : 
   pub shows : ShowsAll (shown_of start.view) (pieces_of_lines m (Going s) (kept_of limit seen).ended) (shown_of now.view)
   pub allowed : rule.allows s (kept_of limit seen).ended Whole start now
 
+-- how far lines were taken where the run stopped so among them: the last one gave the stop; want of memory may come between two lines too
+abbrev pub IsInside : {E : Type 0} → Stop E → Extent E → Type 0
+IsInside stop extent = (extent ≡ Inside stop) ⊎ ((extent ≡ Whole) × (stop ≡ stops.Memory))
+
 -- it was stopped after these of its lines, or inside the last of them
 pub record StopsAt {E : Type 0} (m : Machine E) (rule : Rule m) (s : m.State) (start : Scene rule.Kept) (ended : List (List ℕ))
     (stop : Stop E) (now : Scene rule.Kept) : Type 0 where
@@ -42,7 +46,7 @@ pub record StopsAt {E : Type 0} (m : Machine E) (rule : Rule m) (s : m.State) (s
   pub later : List (List ℕ)
   pub parts : ended ≡ until ++ later
   pub extent : Extent E
-  pub inside : (extent ≡ Whole) ⊎ (extent ≡ Inside stop)
+  pub inside : IsInside stop extent
   pub shows : Shows (shown_of start.view) (pieces_of_lines m (Going s) until) stop (shown_of now.view)
   pub ends : IsEndAt (after_lines m (Going s) until) stop
   pub allowed : rule.allows s until extent start now

@@ -3,9 +3,10 @@ use Rattle.std.specs.Prelude.{◌≡◌, ◌⊎◌, ℕ, ◌+◌, ◌-◌, ◌�
 use Rattle.pgs_world.specs.Source.{Takes, IsAtEnd}
 use Rattle.pgs_run_lines.specs.declared.stop.Stop.{Stop}
 use Rattle.pgs_run_lines.specs.declared.stop.Stop.TheVariants as stops
+use Rattle.pgs_run_lines.specs.Driving.{IsEndAt}
 use Rattle.pgs_run_lines.specs.Ending.{Ends}
 use Rattle.pgs_run_lines.specs.Input.{kept_of}
-use Rattle.pgs_run_lines.specs.Machine.{Ended, Machine, Rule, Scene, Extent, Whole, Inside, AtEnd, Told}
+use Rattle.pgs_run_lines.specs.Machine.{Going, Ended, Machine, Rule, Scene, Extent, Whole, Inside, AtEnd, Told, after_lines, status_at_cut, told_at_end}
 use Rattle.pgs_run_lines.specs.Pieces.{Shown, ShowsAll}
 
 -- A run of which this is told by its budget ended so over this input, with this left of it.
@@ -47,16 +48,41 @@ EndsBy m budget before left stops.AreaFault = Unit {0}
 EndsBy m budget before left stops.PutFault = Unit {0}
 EndsBy m budget before left stops.Memory = Unit {0}
 
--- What was done to the scene is what these lines of the bytes taken allow, by how far they were taken: all of them, or all but the
--- last, which gave the stop, or all, and then the end of the input, which gave it.
-pub record Allows {E : Type 0} (m : Machine E) (rule : Rule m) (limit : ℕ) (s : m.State) (before left : Option (List ℕ)) (stop : Stop E)
-    (old new : Scene rule.Kept) : Type 0 where
+-- behind all lines a read failed, or the budget was reached, which gave the status; want of memory may come between any two
+abbrev pub IsBetween : {E : Type 0} (m : Machine E) (s : m.State) (budget : ℕ) (bytes : List ℕ) (lines later : List (List ℕ)) → Stop E → Type 0
+IsBetween m s budget bytes lines later (stops.Ended status) =
+    (later ≡ []) × (length bytes ≡ budget) × (status_at_cut m (after_lines m (Going s) lines) ≡ status)
+IsBetween m s budget bytes lines later stops.ReadFault = later ≡ []
+IsBetween m s budget bytes lines later stops.AreaFault = ⊥
+IsBetween m s budget bytes lines later stops.PutFault = ⊥
+IsBetween m s budget bytes lines later stops.Memory = Unit {0}
+
+-- an end of the machine's own is the one that is told
+abbrev pub IsToldBy : {E : Type 0} → Told E → Stop E → Type 0
+IsToldBy told (stops.Ended status) = told.status ≡ status
+IsToldBy told stops.ReadFault = Unit {0}
+IsToldBy told stops.AreaFault = Unit {0}
+IsToldBy told stops.PutFault = Unit {0}
+IsToldBy told stops.Memory = Unit {0}
+
+-- How far the lines of the bytes that were taken were taken, where the run stopped so: all of them, or all but the last, which gave the
+-- stop, or all, and then the end of the input, which gave it.
+abbrev pub IsFar : {E : Type 0} (m : Machine E) (limit : ℕ) (s : m.State) (budget : ℕ) (left : Option (List ℕ)) (bytes : List ℕ)
+    (lines later : List (List ℕ)) → Stop E → Extent E → Type 0
+IsFar m limit s budget left bytes lines later stop Whole = IsBetween m s budget bytes lines later stop
+IsFar m limit s budget left bytes lines later stop (Inside at) = (at ≡ stop) × IsEndAt (after_lines m (Going s) lines) stop
+IsFar m limit s budget left bytes lines later stop (AtEnd rest at) =
+    (at ≡ stop) × (rest ≡ (kept_of limit bytes).rest) × (later ≡ []) × IsAtEnd left
+    × IsToldBy (told_at_end m (after_lines m (Going s) lines) rest) stop
+
+-- What was done to the scene is what these lines of the bytes taken allow, by how far they were taken.
+pub record Allows {E : Type 0} (m : Machine E) (rule : Rule m) (limit : ℕ) (s : m.State) (budget : ℕ) (before left : Option (List ℕ))
+    (stop : Stop E) (old new : Scene rule.Kept) : Type 0 where
   pub bytes : List ℕ
   pub taken : Takes before left bytes
   pub lines : List (List ℕ)
   pub later : List (List ℕ)
   pub parts : (kept_of limit bytes).ended ≡ lines ++ later
   pub extent : Extent E
-  pub end : (extent ≡ Whole)
-      ⊎ ((extent ≡ Inside stop) ⊎ ((extent ≡ AtEnd (kept_of limit bytes).rest stop) × (later ≡ []) × IsAtEnd left))
+  pub far : IsFar m limit s budget left bytes lines later stop extent
   pub allowed : rule.allows s lines extent old new

@@ -37,9 +37,9 @@ pub fn run_lines<T: LineTaker, S: Source, W: World>(
     // A fault comes only where its count rose, and each fault that came is the answer.
     ensures cause { HasCause (faults_of (S.faults source.old) (W.view world.old)) (faults_of (S.faults source.new) (W.view world.new)) result }
     ensures may { MayCome T.machine result }
-    // What was done to the world, also at every stop since the run's start, and to what the taker keeps, is what the machine's rule
-    // allows, by how far the lines were taken.
-    ensures allows { Allows T.machine T.rule limit (T.stands taker.old) (S.left source.old) (S.left source.new) result (scene_of (W.view world.old) (T.kept taker.old)) (scene_of (W.view world.new) (T.kept taker.new)) }
+    // How far the lines were taken: all of what was read, or up to the one that gave the stop. What was done to the world, also at
+    // every stop since the run's start, and to what the taker keeps, is what the machine's rule allows of these lines.
+    ensures allows { Allows T.machine T.rule limit (T.stands taker.old) budget (S.left source.old) (S.left source.new) result (scene_of (W.view world.old) (T.kept taker.old)) (scene_of (W.view world.new) (T.kept taker.new)) }
 {
     let mut bytes = match read_buffer(alloc) {
         Ok(bytes) => bytes,

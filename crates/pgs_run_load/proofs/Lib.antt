@@ -1,4 +1,5 @@
 pub mod LoadEnds
+pub mod Loads
 pub mod Machine
 pub mod Replied
 pub mod Stops

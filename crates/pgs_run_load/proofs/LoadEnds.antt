@@ -31,7 +31,7 @@ use Rattle.pgs_run_saved.specs.Opening.{IsAnswer}
 use Rattle.pgs_run_load.specs.declared.collecting.Collected.{Collected}
 use Rattle.pgs_run_load.specs.declared.collecting.Collected.TheVariants.{Text, Cut}
 use Rattle.pgs_run_load.specs.Collecting.{collecting, collected}
-use Rattle.pgs_run_load.specs.Loading.{IsLoadingAt}
+use Rattle.pgs_run_load.specs.Loading.{IsLoadingAt, IsMade}
 use Rattle.pgs_run_load.specs.Told.{told_text, told_load}
 use Rattle.pgs_run_load.proofs.Machine.{told_of, told_by_collecting}
 use Rattle.pgs_run_load.proofs.Stops.{starts_at}
@@ -229,3 +229,12 @@ pub stops_loaded : (old mid now : View) (input : List ℕ) → IsTimed old → F
 stops_loaded old mid now input timed free tells settled quiet passes each =
     each_on old mid now (IsLoadingAt old.shown input) quiet.passes passes (collects_at old mid input timed free tells settled quiet)
     (subst (λ t. EachSince (IsLoadingAt t input) mid now) quiet.shown each)
+
+-- where no text was collected, no store was made
+pub unmade : (input : List ℕ) (stop : Stop Collected) (status : Status) → collected stop ≡ Err status → MayCome collecting stop → IsMade input status → ⊥
+unmade input (stops.Ended (Text text)) status is may made = cc
+unmade input (stops.Ended Cut) status is may made = subst (IsMade input) (sym (same_status InputTooLong status is)) made
+unmade input stops.ReadFault status is may made = subst (IsMade input) (sym (same_status ReadFault status is)) made
+unmade input stops.AreaFault status is may made = absurd may
+unmade input stops.PutFault status is may made = absurd may
+unmade input stops.Memory status is may made = subst (IsMade input) (sym (same_status Memory status is)) made

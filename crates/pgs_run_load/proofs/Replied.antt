@@ -12,7 +12,7 @@ use Rattle.pgs_snapshot.specs.Choice.{Choice, choice_of}
 use Rattle.pgs_snapshot.specs.Choice as choices
 use Rattle.pgs_store.specs.declared.fault.LoadFault.{LoadFault}
 use Rattle.pgs_store.specs.declared.fault.LoadFault.TheVariants as faults
-use Rattle.pgs_store.specs.Loads.{Loads, IsStore, is_disk_fault}
+use Rattle.pgs_store.specs.Loads.{Loads, IsStore, is_disk_fault, is_of_area}
 use Rattle.pgs_store.specs.State.{GuardState}
 use Rattle.pgs_store.specs.Stored.{StoreState}
 use Rattle.pgs_store.specs.World.{CountsFault}
@@ -45,10 +45,10 @@ is_standard limits ops elements = ap (λ n. both n limits.elements) ops ∙ ap (
 -- ---- the reply is made
 
 -- a line with its status is the reply where it is so of the line; want of memory is no fault of an area
-pub replies_with : (loaded : Result StoreState LoadFault) (status : Status) (P : List ℕ → Type 0) (line : Result (List ℕ) NoMemory) (result : Result (Reply Status) Status)
-    → is_disk_fault loaded ≡ false → ((l : List ℕ) → P l → Replies (Ok (record { line = l; status = status })) loaded) → IfOk line P → result ≡ with_status line status → Replies result loaded
-replies_with loaded status P (Ok line) result no_fault follows is made = subst (λ r. Replies r loaded) (sym made) (follows line is)
-replies_with loaded status P (Err none) result no_fault follows is made = subst (λ r. Replies r loaded) (sym made) (rw no_fault refl)
+pub replies_with : (fault : LoadFault) (status : Status) (P : List ℕ → Type 0) (line : Result (List ℕ) NoMemory) (result : Result (Reply Status) Status)
+    → is_of_area fault ≡ false → ((l : List ℕ) → P l → Replies (Ok (record { line = l; status = status })) (Err fault)) → IfOk line P → result ≡ with_status line status → Replies result (Err fault)
+replies_with fault status P (Ok line) result no_fault follows is made = subst (λ r. Replies r (Err fault)) (sym made) (follows line is)
+replies_with fault status P (Err none) result no_fault follows is made = subst (λ r. Replies r (Err fault)) (sym made) (rw no_fault refl)
 
 -- ---- what is told
 
@@ -65,7 +65,7 @@ told_schema : (input : List ℕ) (areas : Areas) (resolved : Resolved) (choice :
 told_schema input areas resolved choice is found =
     ap (λ answer. told_under answer (λ s. told_choice s (choice_of areas.a areas.b))) is ∙ ap (told_choice resolved) found
 
-told_refused : (input : List ℕ) (areas : Areas) (text : List ℕ) → schema_answer input ≡ Err text → told_text input areas ≡ told_line (schema_refused_line text) SchemaRefused
+pub told_refused : (input : List ℕ) (areas : Areas) (text : List ℕ) → schema_answer input ≡ Err text → told_text input areas ≡ told_line (schema_refused_line text) SchemaRefused
 told_refused input areas text is = ap (λ answer. told_under answer (λ s. told_choice s (choice_of areas.a areas.b))) is
 
 told_store : (resolved : Resolved) (choice : Choice) → IsStore choice → told_choice resolved choice ≡ store_refused already_store_text
@@ -74,7 +74,7 @@ told_store resolved (choices.damaged area epoch number) is = refl
 told_store resolved choices.no_store is = absurd is
 told_store resolved choices.foreign is = absurd is
 
-same_line : (reply : Reply Status) (line : List ℕ) (status : Status) → reply.line ≡ line → reply.status ≡ status → told_line line status ≡ told_line reply.line reply.status
+pub same_line : (reply : Reply Status) (line : List ℕ) (status : Status) → reply.line ≡ line → reply.status ≡ status → told_line line status ≡ told_line reply.line reply.status
 same_line reply line status same is = ap (λ l. told_line l status) (sym same) ∙ ap (told_line reply.line) (sym is)
 
 -- a reply is what is told
@@ -94,9 +94,7 @@ tells_reply text input (Err faults.Foreign) reply old now front told loads repli
     let is : schema_answer input ≡ Ok loads.0.0 = answer_of_front text input front ∙ ap schema_or_text loads.0.1 in
     told_schema input (areas_of old) loads.0.0 choices.foreign is (loads.1 told)
     ∙ same_line reply (store_refused_line foreign_text) StoreRefused replies.0 replies.1
-tells_reply text input (Err (faults.Schema fault)) reply old now front told loads replies =
-    told_refused input (areas_of old) replies.0.text (answer_of_front text input front ∙ ap schema_or_text loads ∙ replies.0.refused)
-    ∙ same_line reply (schema_refused_line replies.0.text) SchemaRefused replies.0.is replies.1
+tells_reply text input (Err (faults.Schema fault)) reply old now front told loads replies = absurd replies
 tells_reply text input (Err faults.Memory) reply old now front told loads replies = absurd replies
 tells_reply text input (Err faults.DiskFault) reply old now front told loads replies = absurd replies
 
@@ -106,7 +104,7 @@ pub replied_status : (loaded : Result StoreState LoadFault) (reply : Reply Statu
 replied_status (Ok store) reply replies = subst (IsOwn true) (sym replies.1) tt
 replied_status (Err faults.AlreadyStore) reply replies = subst (IsOwn true) (sym replies.1) refl
 replied_status (Err faults.Foreign) reply replies = subst (IsOwn true) (sym replies.1) refl
-replied_status (Err (faults.Schema fault)) reply replies = subst (IsOwn true) (sym replies.1) tt
+replied_status (Err (faults.Schema fault)) reply replies = absurd replies
 replied_status (Err faults.Memory) reply replies = absurd replies
 replied_status (Err faults.DiskFault) reply replies = absurd replies
 
@@ -141,7 +139,7 @@ no_fault : (loaded : Result StoreState LoadFault) (reply : Reply Status) → Rep
 no_fault (Ok store) reply replies = refl
 no_fault (Err faults.AlreadyStore) reply replies = refl
 no_fault (Err faults.Foreign) reply replies = refl
-no_fault (Err (faults.Schema fault)) reply replies = refl
+no_fault (Err (faults.Schema fault)) reply replies = absurd replies
 no_fault (Err faults.Memory) reply replies = absurd replies
 no_fault (Err faults.DiskFault) reply replies = absurd replies
 

@@ -1,5 +1,5 @@
 -- What a stop leaves while a text is loaded: before the load, inside it, and inside the put of its line.
-use Rattle.std.proofs.Common.{◌≡◌, ◌⊎◌, inl, inr, ⊎_elim, ℕ, IsTrue, List, [], ◌++◌, Result, Ok, Err, sym, ap, subst, ◌∙◌}
+use Rattle.std.proofs.Common.{◌≡◌, ◌⊎◌, inl, inr, ⊎_elim, ℕ, IsTrue, List, [], ◌++◌, Result, Ok, Err, refl, sym, ap, subst, ◌∙◌}
 use Rattle.std.proofs.lemmas.List.{append-nil}
 use Rattle.pgs_base.specs.Graph.{empty_graph}
 use Rattle.pgs_resolve.specs.SchemaOf.{schema, schema_of}
@@ -25,20 +25,20 @@ use Rattle.pgs_run_base.specs.Session.{standard}
 use Rattle.pgs_run_base.specs.declared.status.Status.{Status}
 use Rattle.pgs_run_base.proofs.SameFronts.{whole_text}
 use Rattle.pgs_run_lines.specs.declared.reply.Reply.{Reply}
-use Rattle.pgs_run_load.specs.Loading.{IsNewStore, IsLoadingAt}
+use Rattle.pgs_run_load.specs.Loading.{IsNewStore, IsLoadingAt, IsLoading}
 use Rattle.pgs_run_load.specs.Replying.{Replies}
 use Rattle.pgs_run_load.specs.Told.{line_of}
 use Rattle.pgs_run_load.proofs.Replied.{answer_of_front}
 
 -- ---- images of the same areas
 
-same_saved : (c d : Triple) → c.a ≡ d.a → c.b ≡ d.b → saved standard c.a c.b ≡ saved standard d.a d.b
+pub same_saved : (c d : Triple) → c.a ≡ d.a → c.b ≡ d.b → saved standard c.a c.b ≡ saved standard d.a d.b
 same_saved c d a b = ap (λ x. saved standard x c.b) a ∙ ap (saved standard d.a) b
 
-same_choice : (c d : Triple) → c.a ≡ d.a → c.b ≡ d.b → choice_of c.a c.b ≡ choice_of d.a d.b
+pub same_choice : (c d : Triple) → c.a ≡ d.a → c.b ≡ d.b → choice_of c.a c.b ≡ choice_of d.a d.b
 same_choice c d a b = ap (λ x. choice_of x c.b) a ∙ ap (choice_of d.a) b
 
-same_new : (text : List ℕ) (c d : Triple) → c.a ≡ d.a → c.b ≡ d.b → IsNewStore text d → IsNewStore text c
+pub same_new : (text : List ℕ) (c d : Triple) → c.a ≡ d.a → c.b ≡ d.b → IsNewStore text d → IsNewStore text c
 same_new text c d a b new = record {
   saves = same_saved c d a b ∙ new.saves;
   area = ap area_chosen (same_choice c d a b) ∙ new.area;
@@ -109,10 +109,45 @@ made_at text input (Err faults.AlreadyStore) reply old mid front free told hones
     absurd (subst IsStore (free told) (loads.1 told))
 made_at text input (Err faults.Foreign) reply old mid front free told honest tells loads replies resolved is d left =
     let no : choices.foreign ≡ choices.no_store = sym (loads.1 told) ∙ free told in cc
-made_at text input (Err (faults.Schema fault)) reply old mid front free told honest tells loads replies resolved is d left =
-    let no : Ok resolved ≡ Err replies.0.text = sym is ∙ answer_of_front text input front ∙ ap schema_or_text loads ∙ replies.0.refused in cc
+made_at text input (Err (faults.Schema fault)) reply old mid front free told honest tells loads replies resolved is d left = absurd replies
 made_at text input (Err faults.Memory) reply old mid front free told honest tells loads replies resolved is d left = absurd replies
 made_at text input (Err faults.DiskFault) reply old mid front free told honest tells loads replies resolved is d left = absurd replies
+
+-- what is shown behind a load with a reply is the new store
+pub made_shown : (text input : List ℕ) (loaded : Result StoreState LoadFault) (reply : Reply Status) (old mid : View) → text ≡ text_front input → FindsNone old → IsTrue old.tells_bytes → IsTrue mid.tells_bytes
+    → Loads loaded standard text old mid → Replies (Ok reply) loaded → IsNewStore input mid.shown
+made_shown text input (Ok made) reply old mid front free told tells loads replies =
+    let saved : IsSavedIn (opened text loads.resolved standard) (first_journal made.journal.end) mid.shown =
+    subst (λ (g : GuardState). IsSavedIn g (first_journal made.journal.end) mid.shown) loads.guard
+    (subst (λ j. IsSavedIn made.guard j mid.shown) loads.journal (loads.stands.saved tells)) in
+    new_store text input loads.resolved made.journal.end mid.shown front loads.of_text saved
+made_shown text input (Err faults.AlreadyStore) reply old mid front free told tells loads replies = absurd (subst IsStore (free told) (loads.1 told))
+made_shown text input (Err faults.Foreign) reply old mid front free told tells loads replies =
+    let no : choices.foreign ≡ choices.no_store = sym (loads.1 told) ∙ free told in cc
+made_shown text input (Err (faults.Schema fault)) reply old mid front free told tells loads replies = absurd replies
+made_shown text input (Err faults.Memory) reply old mid front free told tells loads replies = absurd replies
+made_shown text input (Err faults.DiskFault) reply old mid front free told tells loads replies = absurd replies
+
+-- ---- whatever source and output tell
+
+answer_ok : (text : List ℕ) (resolved : Resolved) → schema_of text ≡ schema resolved → schema_answer text ≡ Ok resolved
+unfolding schema_answer
+answer_ok text resolved of_text = ap schema_or_text of_text
+
+pub loading_in : (text : List ℕ) (triple : Triple) → IsLoadedIn standard text triple → IsLoading triple
+loading_in text triple (inl none) = inl (chosen_saves standard triple.a triple.b choices.no_store none)
+loading_in text triple (inr (resolved, end, of_text, is)) =
+    let answer = answer_ok text resolved of_text in
+    inr (text, resolved, answer, new_store text text resolved end triple (sym (whole_text text resolved answer)) of_text is)
+
+pub loading_same : (d c : Triple) → c.a ≡ d.a → c.b ≡ d.b → IsLoading d → IsLoading c
+loading_same d c a b (inl none) = inl (same_saved c d a b ∙ none)
+loading_same d c a b (inr (text, resolved, answer, new)) = inr (text, resolved, answer, same_new text c d a b new)
+
+-- at the start nothing is saved
+pub loading_start : (old : View) → FindsNone old → IsSettled old → (c : Triple) → old.may_leave c → IsLoading c
+loading_start old free settled c left =
+    inl (chosen_saves standard c.a c.b choices.no_store (same_choice c old.shown (settled.a c left) (settled.b c left) ∙ free settled.tells_bytes))
 
 -- inside the put of the line
 pub puts_at : (was : Triple) (input line : List ℕ) (mid now : View) → IsTrue mid.honest → ((d : Triple) → mid.may_leave d → d.output ≡ was.output) → ((d : Triple) → mid.may_leave d → IsLoadingAt was input d)

@@ -3,10 +3,9 @@ use Rattle.std.specs.Prelude.{◌≡◌, ℕ, List, Result, Ok, Err, if◌then�
 use Rattle.pgs_base.specs.declared.memory.Memory.{Memory as NoMemory}
 use Rattle.pgs_run_lines.specs.declared.reply.Reply.{Reply}
 use Rattle.pgs_resolve.specs.SchemaOf.{Answer}
-use Rattle.pgs_schema.specs.Told.{answer_of}
 use Rattle.pgs_store.specs.declared.fault.LoadFault.{LoadFault}
 use Rattle.pgs_store.specs.declared.fault.LoadFault.TheVariants as faults
-use Rattle.pgs_store.specs.Loads.{is_disk_fault}
+use Rattle.pgs_store.specs.Loads.{is_of_area}
 use Rattle.pgs_store.specs.Stored.{StoreState}
 use Rattle.pgs_answer.specs.Lines.{schema_refused_line, store_refused_line}
 use Rattle.pgs_answer.specs.Refusals.{already_store_text, foreign_text}
@@ -30,12 +29,18 @@ pub record IsSchemaLine (answer : Answer) (line : List ℕ) : Type 0 where
 abbrev pub Says : Reply Status → List ℕ → Status → Type 0
 Says reply line status = (reply.line ≡ line) × (reply.status ≡ status)
 
--- the reply to a store that was made, or why none was; where an area failed, or there was no memory, a status alone
+-- the reply to a refused schema text
+abbrev pub RepliesRefused : Answer → Reply Status → Type 0
+RepliesRefused answer reply = IsSchemaLine answer reply.line × (reply.status ≡ SchemaRefused)
+
+-- The reply to a store that was made, or why none was; where an area failed, or there was no memory, a status alone. A store that was made
+-- always has its reply.
 abbrev pub Replies : Result (Reply Status) Status → Result StoreState LoadFault → Type 0
-Replies (Err status) loaded = status ≡ (if is_disk_fault loaded then DiskFault else Memory)
+Replies (Err status) (Ok store) = ⊥
+Replies (Err status) (Err fault) = status ≡ (if is_of_area fault then DiskFault else Memory)
 Replies (Ok reply) (Ok store) = Says reply (line_of store.guard.schema) Accepted
 Replies (Ok reply) (Err faults.AlreadyStore) = Says reply (store_refused_line already_store_text) StoreRefused
 Replies (Ok reply) (Err faults.Foreign) = Says reply (store_refused_line foreign_text) StoreRefused
-Replies (Ok reply) (Err (faults.Schema fault)) = IsSchemaLine (answer_of fault) reply.line × (reply.status ≡ SchemaRefused)
+Replies (Ok reply) (Err (faults.Schema fault)) = ⊥
 Replies (Ok reply) (Err faults.Memory) = ⊥
 Replies (Ok reply) (Err faults.DiskFault) = ⊥

@@ -1,10 +1,12 @@
 //! The one line that is put of a load, or why there is none.
 
-ghost use Rattle.std.specs.Prelude.{◌≡◌, IfOk};
+ghost use Rattle.std.specs.Prelude.{◌≡◌, false, IfOk};
 ghost use Rattle.pgs_answer.specs.Lines.{store_refused_line};
 ghost use Rattle.pgs_answer.specs.Refusals.{already_store_text, foreign_text};
-ghost use Rattle.pgs_schema.specs.Told.{answer_of};
-ghost use Rattle.pgs_run_load.specs.Replying.{IsSchemaLine, Replies, with_status};
+ghost use Rattle.pgs_resolve.specs.SchemaOf.{Answer};
+ghost use Rattle.pgs_schema.specs.Told.{IsRefused};
+ghost use Rattle.pgs_store.specs.Loads.{is_refused};
+ghost use Rattle.pgs_run_load.specs.Replying.{Replies, RepliesRefused, with_status};
 ghost use Rattle.pgs_run_load.specs.Told.{line_of};
 
 use pgs_answer::{
@@ -13,16 +15,16 @@ use pgs_answer::{
 use pgs_base::{Bytes, Memory};
 use pgs_run_base::{Status, refusal_of};
 use pgs_run_lines::Reply;
-use pgs_schema::{SchemaFault, SchemaUnread};
-use pgs_store::{LoadFault, Store};
+use pgs_schema::SchemaUnread;
+use pgs_store::{Guard, LoadFault, Store};
 use std::alloc::Global;
 
-// The line of a store that was made.
-fn line_of(alloc: Global, store: &Store) -> Result<Bytes, Memory>
-    ensures { IfOk result (λ line. line ≡ line_of store.now.guard.schema) }
+/// The line of the store that a guard becomes.
+pub fn line_of(alloc: Global, guard: &Guard) -> Result<Bytes, Memory>
+    ensures { IfOk result (λ line. line ≡ line_of guard.now.schema) }
 {
-    let guard = &store.compiled().resolved().guard;
-    loaded_line(alloc, guard.types.len() as u64, guard.keys.len() as u64)
+    let schema = &guard.compiled().resolved().guard;
+    loaded_line(alloc, schema.types.len() as u64, schema.keys.len() as u64)
 }
 
 // The line where an area is a store.
@@ -41,12 +43,16 @@ fn foreign_line(alloc: Global) -> Result<Bytes, Memory>
     store_refused_line(alloc, text.as_slice())
 }
 
-// The line of a refused schema text.
-fn schema_line(alloc: Global, fault: SchemaFault) -> Result<Bytes, Memory>
-    ensures { IfOk result (λ line. IsSchemaLine (answer_of fault) line) }
+/// The reply to a text that is no schema.
+pub fn refused_reply(alloc: Global, unread: SchemaUnread) -> Result<Reply<Status>, Memory>
+    ensures { (answer : Answer) → IsRefused answer unread → IfOk result (RepliesRefused answer) }
 {
-    let text = refusal_of(alloc, SchemaUnread::Schema(fault))?;
-    schema_refused_line(alloc, text.as_slice())
+    let text = refusal_of(alloc, unread)?;
+    let line = schema_refused_line(alloc, text.as_slice())?;
+    Ok(Reply {
+        line,
+        status: Status::SchemaRefused,
+    })
 }
 
 // A line with its status; a status alone where there was no memory for the line.
@@ -59,19 +65,26 @@ fn with_status(line: Result<Bytes, Memory>, status: Status) -> Result<Reply<Stat
     }
 }
 
-/// The reply to the loading of a text; a status alone where an area failed, and where there is no memory for the line.
-pub fn reply_to(alloc: Global, loaded: Result<Store, LoadFault>) -> Result<Reply<Status>, Status>
-    ensures { Replies result loaded }
+/// The reply to the saving of a new store, with the line that was made for it; a status alone where an area failed, and where there is
+/// no memory for the line of a refusal.
+pub fn reply_to(
+    alloc: Global,
+    line: Bytes,
+    saved: Result<Store, LoadFault>,
+) -> Result<Reply<Status>, Status>
+    requires line { IfOk saved (λ store. line ≡ line_of store.guard.schema) }
+    requires unrefused { is_refused saved ≡ false }
+    ensures { Replies result saved }
 {
-    match loaded {
-        Ok(store) => with_status(line_of(alloc, &store), Status::Accepted),
+    match saved {
+        Ok(_) => Ok(Reply {
+            line,
+            status: Status::Accepted,
+        }),
         Err(LoadFault::AlreadyStore) => with_status(occupied_line(alloc), Status::StoreRefused),
         Err(LoadFault::Foreign) => with_status(foreign_line(alloc), Status::StoreRefused),
-        Err(LoadFault::Schema(fault)) => with_status(
-            schema_line(alloc, fault),
-            Status::SchemaRefused,
-        ),
         Err(LoadFault::DiskFault) => Err(Status::DiskFault),
         Err(LoadFault::Memory) => Err(Status::Memory),
+        Err(LoadFault::Schema(_)) => unreachable!(),
     }
 }

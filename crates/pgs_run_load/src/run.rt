@@ -1,12 +1,14 @@
-ghost use Rattle.std.specs.Prelude.{◌≡◌, ◌≤◌, ◌^◌, List, ℕ, Some, true, IsTrue};
+ghost use Rattle.std.specs.Prelude.{◌≡◌, ◌≤◌, ◌^◌, List, ℕ, Some, Err, IsTrue};
 ghost use Rattle.pgs_run_lines.specs.Ending.{faults_of};
 ghost use Rattle.pgs_run_lines.specs.Pieces.{shown_of};
 ghost use Rattle.pgs_store.specs.Loads.{FindsNone};
 ghost use Rattle.pgs_world.specs.Moment.{EachSince, IsSettled, Passes};
+ghost use Rattle.pgs_world.specs.declared.area.Area.TheVariants.{B};
+ghost use Rattle.pgs_run_base.specs.Answers.{schema_answer};
 ghost use Rattle.pgs_run_base.specs.Areas.{areas_of};
-ghost use Rattle.pgs_run_base.specs.Images.{KeepsImages};
+ghost use Rattle.pgs_run_base.specs.Images.{IsUnwritten, KeepsArea, KeepsImages};
 ghost use Rattle.pgs_run_base.specs.Run.{IsRead, EndsAs, HasCommandCause, TakesWithin};
-ghost use Rattle.pgs_run_load.specs.Loading.{IsLoadingAt};
+ghost use Rattle.pgs_run_load.specs.Loading.{IsLoading, IsLoadingAt, IsMade, IsNewStore, TellsFor};
 ghost use Rattle.pgs_run_load.specs.Told.{told_load};
 
 use crate::collecting::{Collecting, text_of};
@@ -25,7 +27,8 @@ pub fn run_load<S: Source, W: World>(
     budget: u64,
 ) -> Status
     requires { budget ≤ 2 ^ 40 }
-    ensures ends { IsTrue (W.view world.old).tells_bytes → (input : List ℕ) → S.left source.old ≡ Some input
+    // A text that is no schema is refused whatever the areas hold, and whether or not they are told.
+    ensures ends { (input : List ℕ) → S.left source.old ≡ Some input → TellsFor input (W.view world.old)
         → EndsAs (told_load input (areas_of (W.view world.old))) (shown_of (W.view world.old)) input budget (S.left source.new) result (shown_of (W.view world.new)) }
     ensures takes { (input rest : List ℕ) → S.left source.old ≡ Some input → S.left source.new ≡ Some rest → TakesWithin input budget rest result }
     ensures read_to_end { IsRead (S.left source.new) result }
@@ -35,8 +38,18 @@ pub fn run_load<S: Source, W: World>(
     ensures loads { (input : List ℕ) → S.left source.old ≡ Some input → FindsNone (W.view world.old)
         → IsTrue (W.view world.old).tells_output → IsSettled (W.view world.old)
         → EachSince (IsLoadingAt (W.view world.old).shown input) (W.view world.old) (W.view world.new) }
-    // Where one isn't, nothing is written.
+    // The same whatever source and output tell.
+    ensures grows { FindsNone (W.view world.old) → IsSettled (W.view world.old) → EachSince IsLoading (W.view world.old) (W.view world.new) }
+    // Where one isn't, and where the text is no schema or memory is wanting, nothing is written; and area B never is.
     ensures occupied { (FindsNone (W.view world.old) → ⊥) → KeepsImages (W.view world.old) (W.view world.new) }
+    ensures unwritten { IsUnwritten result → KeepsImages (W.view world.old) (W.view world.new) }
+    ensures refused { (input why : List ℕ) → S.left source.old ≡ Some input → schema_answer input ≡ Err why
+        → KeepsImages (W.view world.old) (W.view world.new) }
+    ensures beside { KeepsArea B (W.view world.old) (W.view world.new) }
+    // What there is at its end.
+    ensures settled { IsSettled (W.view world.old) → (result ≡ Status.DiskFault → ⊥) → IsSettled (W.view world.new) }
+    ensures made { IsTrue (W.view world.old).tells_bytes → (input : List ℕ) → S.left source.old ≡ Some input → FindsNone (W.view world.old)
+        → IsMade input result → IsNewStore input (W.view world.new).shown }
 {
     let mut collecting = Collecting::new(alloc);
     let stop = run_lines(&mut collecting, alloc, source, world, TEXT_LIMIT, budget);

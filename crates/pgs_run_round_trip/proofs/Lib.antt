@@ -1,6 +1,8 @@
 pub mod Accepting
+pub mod AddUp
 pub mod Ahead
 pub mod Areas
+pub mod AtOnce
 pub mod Behind
 pub mod Conformed
 pub mod Cut

@@ -1,2 +1,3 @@
 pub mod DumpOps
 pub mod Lines
+pub mod Sequence

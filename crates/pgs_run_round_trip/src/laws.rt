@@ -1,15 +1,27 @@
 //! That the commands agree with one another on a saved store. The functions do nothing of their own; their contracts are the statements.
 
-ghost use Rattle.std.specs.Prelude.{◌≡◌, ◌<◌, ℕ, List, [], ◌∷◌, ◌++◌, length, slice_index, Some};
+ghost use Rattle.std.specs.Prelude.{◌≡◌, ◌<◌, ◌≤◌, ℕ, List, [], ◌∷◌, ◌++◌, length, slice_index, Some, Ok, IsTrue};
 ghost use Rattle.std.specs.List.{concat};
+ghost use Rattle.pgs_base.specs.declared.limits.Limits.{Limits};
+ghost use Rattle.pgs_base.specs.Graph.{Graph, element_count, empty_graph};
+ghost use Rattle.pgs_dump.specs.Lines.{graph_ops};
 ghost use Rattle.pgs_resolve.specs.SchemaOf.{schema, schema_of};
+ghost use Rattle.pgs_snapshot.specs.Saved.{saved, store};
+ghost use Rattle.pgs_violation.specs.Decision.{decide};
+ghost use Rattle.pgs_violation.specs.Violations.{verdict};
 ghost use Rattle.pgs_syntax.specs.declared.resolved.Resolved.{Resolved};
-ghost use Rattle.pgs_run_words.specs.declared.command.Command.TheVariants.{Recover, Validate};
+ghost use Rattle.pgs_run_words.specs.declared.command.Command.TheVariants.{Load, Recover, Validate};
 ghost use Rattle.pgs_run_words.specs.Words.{command_of};
+ghost use Rattle.pgs_run_lines.specs.Pieces.{ShowsAll, shown_of};
+ghost use Rattle.pgs_store.specs.Loads.{FindsNone};
+ghost use Rattle.pgs_world.specs.World.{View};
 ghost use Rattle.pgs_run_base.specs.declared.status.Status.TheVariants.{Accepted};
+ghost use Rattle.pgs_run_base.specs.Answers.{schema_answer};
 ghost use Rattle.pgs_run_base.specs.Areas.{Areas};
+ghost use Rattle.pgs_run_base.specs.Session.{standard};
 ghost use Rattle.pgs_run.specs.Told.{told};
 ghost use Rattle.pgs_run_round_trip.specs.Lines.{IsLineStart};
+ghost use Rattle.pgs_run_round_trip.specs.Sequence.{Deed, DoAll, Ran, told_sequence};
 
 /// No line of the text of a schema begins with two dashes, so none is the separator.
 pub fn no_dashes()
@@ -30,3 +42,23 @@ pub fn a_dump_is_read_back()
 {
     pgs_json::written_is_read();
 }
+
+/// The operations of a dump make its graph at once, too: all of them as one transaction, decided from the empty graph under the schema of
+/// the saved text and any limits that admit so many operations and elements, are accepted and give the graph that two areas of bytes save.
+pub fn a_dump_is_one_transaction()
+    ensures { (areas : Areas) (text : List ℕ) (commits : ℕ) (graph : Graph) (resolved : Resolved) (limits : Limits)
+        → ((i : ℕ) → slice_index areas.a i < 256) → ((i : ℕ) → slice_index areas.b i < 256)
+        → saved standard areas.a areas.b ≡ store text commits graph → schema_answer text ≡ Ok resolved
+        → length (graph_ops graph) ≤ limits.ops → element_count graph ≤ limits.elements
+        → decide limits (verdict resolved) empty_graph (record { ops = graph_ops graph }) ≡ Ok graph }
+{}
+
+/// Runs add up. Over one world that tells its bytes, whose areas are both free at first: `load` of a text that is a schema, then runs of
+/// `apply` and `checkpoint` in any order, then `recover`, each ended with 0 or 1, print what deciding the lines of all inputs in order
+/// prints: each run's lines numbered from 1, the commit numbers going on, and then the dump of the graph that they lead to.
+pub fn runs_add_up()
+    ensures { (text input : List ℕ) (schema : Resolved) (deeds : List Deed) (lost failed : ℕ) (first loaded last done : View)
+        → IsTrue first.tells_bytes → FindsNone first → schema_answer text ≡ Ok schema
+        → Ran Load text lost first loaded → DoAll deeds loaded last → Ran Recover input failed last done
+        → ShowsAll (shown_of first) (told_sequence text schema deeds) (shown_of done) }
+{}

@@ -1,9 +1,9 @@
-//! What `recover` tells of a saved store, read back by `validate`.
+//! What several runs say together: what `recover` tells of a saved store is read back by `validate`, and runs over one world add up.
 //!
 //! The one rule: a dump is an input whose transactions are accepted one by one, and make the graph that is saved. Nothing runs here;
-//! the statements are the contracts of `laws`, over what a run tells (`told` of `pgs_run`).
+//! the statements are the contracts of `laws`, over what a run tells (`told` of `pgs_run`) and over what is promised of it (`KeepsPromise`).
 #![tactic(auto)]
 
 mod laws;
 
-pub use laws::{a_dump_is_read_back, no_dashes};
+pub use laws::{a_dump_is_one_transaction, a_dump_is_read_back, no_dashes, runs_add_up};

@@ -1,14 +1,19 @@
-use Rattle.std.proofs.Common.{Some, refl, ap}
+use Rattle.std.proofs.Common.{Some, refl, ap, ⊎_elim, Option, List, ℕ}
+use Rattle.pgs_run.specs.Runs.{SourceState}
+use Rattle.pgs_run_base.proofs.Images.{images_areas, settled_images}
 use Rattle.pgs_run_words.specs.declared.command.Command.TheVariants.{Try, Validate, Load, Apply, Recover, Explain, Gen, Checkpoint}
 use Rattle.pgs_run.proofs.RunFacts.{runs_as, cause_of, takes_of, runs_alone, runs_reading, unread_answer, unread_gen}
 use Rattle.pgs_run.proofs.commands.run_command.Goals as goal
+
+abbrev state_of : Option (List ℕ) → ℕ → SourceState
+state_of left faults = record { left = left; faults = faults }
 
 pub returns-in-Try : goal.returns-in-Try
 returns-in-Try g c =
     runs_as (Some Try) (Some c.args.command) c.args.budget _ _ c.run_judging.result (ap Some c.in-Try.is)
     (runs_reading Try c.args.budget _ _ c.run_judging.result refl (λ input known is. c.run_judging.ensures.ends input is)
     (λ input rest is left_is. takes_of _ _ input rest c.args.budget _ c.run_judging.result _ left_is (c.run_judging.ensures.ends input is))
-    c.run_judging.ensures.read_to_end c.run_judging.ensures.cause c.run_judging.ensures.areas refl)
+    c.run_judging.ensures.read_to_end c.run_judging.ensures.cause (λ vain. absurd vain) c.run_judging.ensures.areas (λ settled no. settled_images _ _ settled (images_areas _ _ c.run_judging.ensures.areas)) refl)
 
 pub returns-in-Validate : goal.returns-in-Validate
 returns-in-Validate g c =
@@ -16,44 +21,53 @@ returns-in-Validate g c =
     runs_as (Some Validate) (Some c.args.command) c.args.budget _ _ r.result (ap Some c.in-Validate.is)
     (runs_reading Validate c.args.budget _ _ r.result refl (λ input known is. r.ensures.ends input is)
     (λ input rest is left_is. takes_of _ _ input rest c.args.budget _ r.result _ left_is (r.ensures.ends input is))
-    r.ensures.read_to_end r.ensures.cause r.ensures.areas refl)
+    r.ensures.read_to_end r.ensures.cause (λ vain. absurd vain) r.ensures.areas (λ settled no. settled_images _ _ settled (images_areas _ _ r.ensures.areas)) refl)
 
 pub returns-in-Load : goal.returns-in-Load
 returns-in-Load g c =
     let r = c.run_load in
     runs_as (Some Load) (Some c.args.command) c.args.budget _ _ r.result (ap Some c.in-Load.is)
-    (runs_reading Load c.args.budget _ _ r.result refl (λ input known is. r.ensures.ends (known.bytes refl) input is)
-    r.ensures.takes r.ensures.read_to_end r.ensures.cause
-    (record { passes = r.ensures.passes; stops = r.ensures.loads; occupied = r.ensures.occupied }) refl)
+    (runs_reading Load c.args.budget _ _ r.result refl (λ input known is. r.ensures.ends input is (λ schema good. known.bytes (schema, good)))
+    r.ensures.takes r.ensures.read_to_end r.ensures.cause (λ vain. absurd vain)
+    (record {
+      passes = r.ensures.passes;
+      stops = r.ensures.loads;
+      grows = r.ensures.grows;
+      occupied = r.ensures.occupied;
+      refused = r.ensures.refused;
+      unwritten = r.ensures.unwritten;
+      beside = r.ensures.beside;
+      made = r.ensures.made;
+    }) r.ensures.settled refl)
 
 pub returns-in-Recover : goal.returns-in-Recover
 returns-in-Recover g c =
     let r = c.run_reader in
     runs_as (Some Recover) (Some c.args.command) c.args.budget _ _ r.result (ap Some c.in-Recover.is)
     (runs_alone (Some Recover) c.args.budget _ _ _ _ _ r.result refl (unread_answer r.result r.ensures.answer) (λ input known. r.ensures.ends (known.bytes refl))
-    (cause_of Recover _ _ r.result (r.ensures.cause (g.S.Source.faults c.args.source.now))) r.ensures.images refl)
+    (cause_of Recover _ _ r.result (λ long. absurd ((unread_answer r.result r.ensures.answer).1 long)) (r.ensures.cause (g.S.Source.faults c.args.source.now))) r.ensures.images (λ settled no. settled_images _ _ settled r.ensures.images) refl)
 
 pub returns-in-Explain : goal.returns-in-Explain
 returns-in-Explain g c =
     let r = c.run_reader-in-Explain in
     runs_as (Some (Explain c.in-Explain.elem)) (Some c.args.command) c.args.budget _ _ r.result (ap Some c.in-Explain.is)
     (runs_alone (Some (Explain c.in-Explain.elem)) c.args.budget _ _ _ _ _ r.result refl (unread_answer r.result r.ensures.answer) (λ input known. r.ensures.ends (known.bytes refl))
-    (cause_of (Explain c.in-Explain.elem) _ _ r.result (r.ensures.cause (g.S.Source.faults c.args.source.now))) r.ensures.images refl)
+    (cause_of (Explain c.in-Explain.elem) _ _ r.result (λ long. absurd ((unread_answer r.result r.ensures.answer).1 long)) (r.ensures.cause (g.S.Source.faults c.args.source.now))) r.ensures.images (λ settled no. settled_images _ _ settled r.ensures.images) refl)
 
 pub returns-in-Gen : goal.returns-in-Gen
 returns-in-Gen g c =
     let r = c.run_gen in
     runs_as (Some (Gen c.in-Gen.start c.in-Gen.count)) (Some c.args.command) c.args.budget _ _ r.result (ap Some c.in-Gen.is)
     (runs_alone (Some (Gen c.in-Gen.start c.in-Gen.count)) c.args.budget _ _ _ _ _ r.result refl (unread_gen r.result r.ensures.answer) (λ input known. r.ensures.shown)
-    (cause_of (Gen c.in-Gen.start c.in-Gen.count) _ _ r.result (r.ensures.cause (g.S.Source.faults c.args.source.now))) r.ensures.areas refl)
+    (cause_of (Gen c.in-Gen.start c.in-Gen.count) _ _ r.result (λ long. absurd ((unread_gen r.result r.ensures.answer).1 long)) (r.ensures.cause (g.S.Source.faults c.args.source.now))) r.ensures.areas (λ settled no. settled_images _ _ settled (images_areas _ _ r.ensures.areas)) refl)
 
 pub returns-in-Checkpoint : goal.returns-in-Checkpoint
 returns-in-Checkpoint g c =
     let r = c.run_checkpoint in
     runs_as (Some Checkpoint) (Some c.args.command) c.args.budget _ _ r.result (ap Some c.in-Checkpoint.is)
     (runs_alone (Some Checkpoint) c.args.budget _ _ _ _ _ r.result refl (unread_answer r.result r.ensures.answer) (λ input known. r.ensures.ends (known.bytes refl))
-    (cause_of Checkpoint _ _ r.result (r.ensures.cause (g.S.Source.faults c.args.source.now)))
-    (record { passes = r.ensures.passes; stops = r.ensures.renews; unsaved = r.ensures.unsaved }) refl)
+    (cause_of Checkpoint _ _ r.result (λ long. absurd ((unread_answer r.result r.ensures.answer).1 long)) (r.ensures.cause (g.S.Source.faults c.args.source.now)))
+    (record { passes = r.ensures.passes; stops = r.ensures.renews; unsaved = r.ensures.unsaved; rests = r.ensures.rests }) r.ensures.rests.settled refl)
 
 pub returns-in-Apply : goal.returns-in-Apply
 returns-in-Apply g c =
@@ -61,5 +75,6 @@ returns-in-Apply g c =
     runs_as (Some Apply) (Some c.args.command) c.args.budget _ _ r.result (ap Some c.in-Apply.is)
     (runs_reading Apply c.args.budget _ _ r.result refl (λ input known is. r.ensures.ends (known.bytes refl) input is)
     r.ensures.takes r.ensures.read_to_end r.ensures.cause
-    (record { passes = r.ensures.passes; stops = r.ensures.stops; unsaved = r.ensures.unsaved })
-    (record { took = r.ensures.fed; even = r.ensures.even; unsaved = r.ensures.unfed }))
+    (λ vain. ap (λ source. state_of (g.S.Source.left source) (g.S.Source.faults source)) (⊎_elim (λ refused. r.ensures.refused refused) (λ none. r.ensures.unread none.0 none.1) vain))
+    (record { passes = r.ensures.passes; stops = r.ensures.stops; grows = r.ensures.grows; unsaved = r.ensures.unsaved; beside = r.ensures.beside })
+    r.ensures.settled (record { decided = r.ensures.decided; unsaved = r.ensures.unfed }))

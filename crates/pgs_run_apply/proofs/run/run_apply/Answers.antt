@@ -3,15 +3,17 @@ use Rattle.pgs_feed.specs.Places.{lost_count}
 use Rattle.pgs_feed.specs.Seen.{places}
 use Rattle.pgs_run_lines.specs.Machine.{scene_of}
 use Rattle.pgs_world.proofs.Moments.{passes_on}
-use Rattle.pgs_run_base.proofs.Images.{images_quiet, images_areas, images_on}
+use Rattle.pgs_world.specs.World.{other}
+use Rattle.pgs_run_base.proofs.Images.{images_quiet, images_areas, images_on, area_of_images, settled_images}
 use Rattle.pgs_run_saved.specs.Opening.{saved_in}
 use Rattle.pgs_run_base.specs.Ending.{status_at}
 use Rattle.pgs_run_apply.specs.Ending.{is_done}
 use Rattle.pgs_run_apply.specs.Seen.{state_of}
 use Rattle.pgs_run_apply.specs.Told.{told_input, told_apply}
-use Rattle.pgs_run_apply.proofs.Running.{running_ends, running_cause, running_passes, running_fed, running_even, running_stops, opened_saves, counted, first_room, first_holds}
+use Rattle.pgs_run_apply.proofs.Beginning.{grown_kept}
+use Rattle.pgs_run_apply.proofs.Running.{running_ends, running_cause, running_passes, running_beside, running_settled, running_grows, running_decided, running_stops, running_unrefused, opened_saves, counted, first_room, first_holds}
 use Rattle.pgs_run_apply.proofs.RunEnds.{apply_read, apply_takes}
-use Rattle.pgs_run_apply.proofs.Unopened.{unopened_ends, unopened_takes, unopened_read, unopened_cause, unopened_fed, unopened_even, unopened_stops}
+use Rattle.pgs_run_apply.proofs.Unopened.{unopened_ends, unopened_takes, unopened_read, unopened_cause, unopened_decided, unopened_stops}
 use Rattle.pgs_run_apply.proofs.run.run_apply.Goals as goal
 
 -- ---- no store was opened
@@ -42,15 +44,28 @@ returns-in-Err-clause-stops g c = λ input it is saves tells settled.
     let view = g.W.World.view in
     unopened_stops c.in-Err.unopened (view c.args.world.now) (view c.open_store.new.world) (view c.end_unopened.new.world) (λ early. ap view (c.end_unopened.ensures.early early)) c.open_store.ensures.quiet c.open_store.ensures.no_put it input c.end_unopened.result _ (g.met.W.World.timed c.args.world.now) tells settled saves c.in-Err.ensures.answer
 
-pub returns-in-Err-clause-fed : goal.returns-in-Err-clause-fed
-returns-in-Err-clause-fed g c = λ tells input it is saves.
+pub returns-in-Err-clause-grows : goal.returns-in-Err-clause-grows
+returns-in-Err-clause-grows g c = λ it saves settled.
     let view = g.W.World.view in
-    unopened_fed c.in-Err.unopened (view c.args.world.now) (view c.open_store.new.world) (view c.end_unopened.new.world) (λ early. ap view (c.end_unopened.ensures.early early)) c.open_store.ensures.quiet c.open_store.ensures.no_put it input c.end_unopened.result (lost_count (places g.F.Feed.taken g.F.Feed.faults c.args.feeds.now)) (places g.F.Feed.taken g.F.Feed.faults c.args.feeds.now) (places g.F.Feed.taken g.F.Feed.faults c.args.feeds.now) refl tells saves c.in-Err.ensures.answer
+    grown_kept (view c.args.world.now) (view c.end_unopened.new.world) it settled
+    (images_on (view c.args.world.now) (view c.open_store.new.world) (view c.end_unopened.new.world) (images_quiet (view c.args.world.now) (view c.open_store.new.world) c.open_store.ensures.quiet) (images_areas (view c.open_store.new.world) (view c.end_unopened.new.world) c.end_unopened.ensures.areas)) saves
 
-pub returns-in-Err-clause-even : goal.returns-in-Err-clause-even
-returns-in-Err-clause-even g c = λ tells input it is saves memory.
+pub returns-in-Err-clause-beside : goal.returns-in-Err-clause-beside
+returns-in-Err-clause-beside g c = λ tells area is.
     let view = g.W.World.view in
-    unopened_even c.in-Err.unopened (view c.args.world.now) (view c.open_store.new.world) (view c.end_unopened.new.world) (λ early. ap view (c.end_unopened.ensures.early early)) c.open_store.ensures.quiet c.open_store.ensures.no_put it input c.end_unopened.result tells saves c.in-Err.ensures.answer
+    area_of_images (other area) (view c.args.world.now) (view c.end_unopened.new.world)
+    (images_on (view c.args.world.now) (view c.open_store.new.world) (view c.end_unopened.new.world) (images_quiet (view c.args.world.now) (view c.open_store.new.world) c.open_store.ensures.quiet) (images_areas (view c.open_store.new.world) (view c.end_unopened.new.world) c.end_unopened.ensures.areas))
+
+pub returns-in-Err-clause-settled : goal.returns-in-Err-clause-settled
+returns-in-Err-clause-settled g c = λ settled no.
+    let view = g.W.World.view in
+    settled_images (view c.args.world.now) (view c.end_unopened.new.world) settled
+    (images_on (view c.args.world.now) (view c.open_store.new.world) (view c.end_unopened.new.world) (images_quiet (view c.args.world.now) (view c.open_store.new.world) c.open_store.ensures.quiet) (images_areas (view c.open_store.new.world) (view c.end_unopened.new.world) c.end_unopened.ensures.areas))
+
+pub returns-in-Err-clause-decided : goal.returns-in-Err-clause-decided
+returns-in-Err-clause-decided g c = λ tells input it is saves.
+    let view = g.W.World.view in
+    unopened_decided c.in-Err.unopened (view c.args.world.now) (view c.open_store.new.world) (view c.end_unopened.new.world) (λ early. ap view (c.end_unopened.ensures.early early)) c.open_store.ensures.quiet c.open_store.ensures.no_put it input c.end_unopened.result (lost_count (places g.F.Feed.taken g.F.Feed.faults c.args.feeds.now)) (places g.F.Feed.taken g.F.Feed.faults c.args.feeds.now) (places g.F.Feed.taken g.F.Feed.faults c.args.feeds.now) refl tells saves c.in-Err.ensures.answer c.end_unopened.ensures.ends
 
 pub returns-in-Err-clause-unsaved : goal.returns-in-Err-clause-unsaved
 returns-in-Err-clause-unsaved g c = λ tells none.
@@ -82,17 +97,37 @@ returns-clause-passes g c =
 pub returns-clause-stops : goal.returns-clause-stops
 returns-clause-stops g c = λ input it is saves tells settled.
     let view = g.W.World.view in
-    running_stops c.in-Ok.store (view c.args.world.now) (scene_of (view c.open_store.new.world) (places g.F.Feed.taken g.F.Feed.faults c.new-applying.result.feeds)) (scene_of (view c.run_lines-stop.new.world) (places g.F.Feed.taken g.F.Feed.faults c.run_lines-stop.new.taker.feeds)) (view c.end_run.new.world) c.in-Ok.ensures.answer c.open_store.ensures.quiet c.open_store.ensures.no_put _ c.new-applying.ensures.state _ c.args.budget _ _ c.run_lines-stop.result c.end_run.result c.run_lines-stop.ensures.by c.run_lines-stop.ensures.allows (counted (is_done c.run_lines-stop.result) c.lost.result _ (status_at c.run_lines-stop.result) (view c.run_lines-stop.new.world) (view c.end_run.new.world) c.end_run.result c.lost.ensures c.end_run.ensures) input is it saves settled.tells_bytes (g.met.W.World.timed c.args.world.now) tells settled (c.run_lines-stop.ensures.ends input is)
+    running_stops c.in-Ok.store (view c.args.world.now) (scene_of (view c.open_store.new.world) (places g.F.Feed.taken g.F.Feed.faults c.new-applying.result.feeds)) (scene_of (view c.run_lines-stop.new.world) (places g.F.Feed.taken g.F.Feed.faults c.run_lines-stop.new.taker.feeds)) (view c.end_run.new.world) c.in-Ok.ensures.answer c.open_store.ensures.quiet c.open_store.ensures.no_put _ c.new-applying.ensures.state _ c.args.budget _ _ c.run_lines-stop.result c.end_run.result c.run_lines-stop.ensures.by c.run_lines-stop.ensures.allows (counted (is_done c.run_lines-stop.result) c.lost.result _ (status_at c.run_lines-stop.result) (view c.run_lines-stop.new.world) (view c.end_run.new.world) c.end_run.result c.lost.ensures c.end_run.ensures) it saves settled.tells_bytes input is (g.met.W.World.timed c.args.world.now) tells settled (c.run_lines-stop.ensures.ends input is)
 
-pub returns-clause-fed : goal.returns-clause-fed
-returns-clause-fed g c = λ tells input it is saves.
+pub returns-clause-grows : goal.returns-clause-grows
+returns-clause-grows g c = λ it saves settled.
     let view = g.W.World.view in
-    running_fed c.in-Ok.store (view c.args.world.now) (scene_of (view c.open_store.new.world) (places g.F.Feed.taken g.F.Feed.faults c.new-applying.result.feeds)) (scene_of (view c.run_lines-stop.new.world) (places g.F.Feed.taken g.F.Feed.faults c.run_lines-stop.new.taker.feeds)) (view c.end_run.new.world) c.in-Ok.ensures.answer c.open_store.ensures.quiet c.open_store.ensures.no_put _ c.new-applying.ensures.state _ c.args.budget _ _ c.run_lines-stop.result c.end_run.result c.run_lines-stop.ensures.by c.run_lines-stop.ensures.allows (counted (is_done c.run_lines-stop.result) c.lost.result _ (status_at c.run_lines-stop.result) (view c.run_lines-stop.new.world) (view c.end_run.new.world) c.end_run.result c.lost.ensures c.end_run.ensures) input is it saves tells (places g.F.Feed.taken g.F.Feed.faults c.args.feeds.now) (places g.F.Feed.taken g.F.Feed.faults c.into_feeds.result) (ap (places g.F.Feed.taken g.F.Feed.faults) (c.new-applying.ensures.feeds ∙ c.replace-given.ensures.value)) (ap (places g.F.Feed.taken g.F.Feed.faults) (sym c.into_feeds.ensures))
+    running_grows c.in-Ok.store (view c.args.world.now) (scene_of (view c.open_store.new.world) (places g.F.Feed.taken g.F.Feed.faults c.new-applying.result.feeds)) (scene_of (view c.run_lines-stop.new.world) (places g.F.Feed.taken g.F.Feed.faults c.run_lines-stop.new.taker.feeds)) (view c.end_run.new.world) c.in-Ok.ensures.answer c.open_store.ensures.quiet c.open_store.ensures.no_put _ c.new-applying.ensures.state _ c.args.budget _ _ c.run_lines-stop.result c.end_run.result c.run_lines-stop.ensures.by c.run_lines-stop.ensures.allows (counted (is_done c.run_lines-stop.result) c.lost.result _ (status_at c.run_lines-stop.result) (view c.run_lines-stop.new.world) (view c.end_run.new.world) c.end_run.result c.lost.ensures c.end_run.ensures) it saves settled.tells_bytes settled
 
-pub returns-clause-even : goal.returns-clause-even
-returns-clause-even g c = λ tells input it is saves memory.
+pub returns-clause-beside : goal.returns-clause-beside
+returns-clause-beside g c = λ tells area is.
     let view = g.W.World.view in
-    running_even c.in-Ok.store (view c.args.world.now) (scene_of (view c.open_store.new.world) (places g.F.Feed.taken g.F.Feed.faults c.new-applying.result.feeds)) (scene_of (view c.run_lines-stop.new.world) (places g.F.Feed.taken g.F.Feed.faults c.run_lines-stop.new.taker.feeds)) (view c.end_run.new.world) c.in-Ok.ensures.answer c.open_store.ensures.quiet c.open_store.ensures.no_put _ c.new-applying.ensures.state _ c.args.budget _ _ c.run_lines-stop.result c.end_run.result c.run_lines-stop.ensures.by c.run_lines-stop.ensures.allows (counted (is_done c.run_lines-stop.result) c.lost.result _ (status_at c.run_lines-stop.result) (view c.run_lines-stop.new.world) (view c.end_run.new.world) c.end_run.result c.lost.ensures c.end_run.ensures) input is it saves tells memory
+    running_beside c.in-Ok.store (view c.args.world.now) (scene_of (view c.open_store.new.world) (places g.F.Feed.taken g.F.Feed.faults c.new-applying.result.feeds)) (scene_of (view c.run_lines-stop.new.world) (places g.F.Feed.taken g.F.Feed.faults c.run_lines-stop.new.taker.feeds)) (view c.end_run.new.world) c.in-Ok.ensures.answer c.open_store.ensures.quiet c.open_store.ensures.no_put _ c.new-applying.ensures.state _ c.args.budget _ _ c.run_lines-stop.result c.end_run.result c.run_lines-stop.ensures.by c.run_lines-stop.ensures.allows (counted (is_done c.run_lines-stop.result) c.lost.result _ (status_at c.run_lines-stop.result) (view c.run_lines-stop.new.world) (view c.end_run.new.world) c.end_run.result c.lost.ensures c.end_run.ensures) tells area is
+
+pub returns-clause-settled : goal.returns-clause-settled
+returns-clause-settled g c = λ settled no.
+    let view = g.W.World.view in
+    running_settled c.in-Ok.store (view c.args.world.now) (scene_of (view c.open_store.new.world) (places g.F.Feed.taken g.F.Feed.faults c.new-applying.result.feeds)) (scene_of (view c.run_lines-stop.new.world) (places g.F.Feed.taken g.F.Feed.faults c.run_lines-stop.new.taker.feeds)) (view c.end_run.new.world) c.in-Ok.ensures.answer c.open_store.ensures.quiet c.open_store.ensures.no_put _ c.new-applying.ensures.state _ c.args.budget _ _ c.run_lines-stop.result c.end_run.result c.run_lines-stop.ensures.by c.run_lines-stop.ensures.allows (counted (is_done c.run_lines-stop.result) c.lost.result _ (status_at c.run_lines-stop.result) (view c.run_lines-stop.new.world) (view c.end_run.new.world) c.end_run.result c.lost.ensures c.end_run.ensures) settled no
+
+pub returns-clause-decided : goal.returns-clause-decided
+returns-clause-decided g c = λ tells input it is saves.
+    let view = g.W.World.view in
+    running_decided c.in-Ok.store (view c.args.world.now) (scene_of (view c.open_store.new.world) (places g.F.Feed.taken g.F.Feed.faults c.new-applying.result.feeds)) (scene_of (view c.run_lines-stop.new.world) (places g.F.Feed.taken g.F.Feed.faults c.run_lines-stop.new.taker.feeds)) (view c.end_run.new.world) c.in-Ok.ensures.answer c.open_store.ensures.quiet c.open_store.ensures.no_put _ c.new-applying.ensures.state _ c.args.budget _ _ c.run_lines-stop.result c.end_run.result c.run_lines-stop.ensures.by c.run_lines-stop.ensures.allows (counted (is_done c.run_lines-stop.result) c.lost.result _ (status_at c.run_lines-stop.result) (view c.run_lines-stop.new.world) (view c.end_run.new.world) c.end_run.result c.lost.ensures c.end_run.ensures) it saves tells input is (places g.F.Feed.taken g.F.Feed.faults c.args.feeds.now) (places g.F.Feed.taken g.F.Feed.faults c.into_feeds.result) (ap (places g.F.Feed.taken g.F.Feed.faults) (c.new-applying.ensures.feeds ∙ c.replace-given.ensures.value)) (ap (places g.F.Feed.taken g.F.Feed.faults) (sym c.into_feeds.ensures))
+
+pub returns-clause-refused : goal.returns-clause-refused
+returns-clause-refused g c = λ refusal.
+    let view = g.W.World.view in
+    absurd (running_unrefused c.args.budget _ _ c.run_lines-stop.result _ (view c.run_lines-stop.new.world) (view c.end_run.new.world) c.end_run.result c.run_lines-stop.ensures.by (counted (is_done c.run_lines-stop.result) c.lost.result _ (status_at c.run_lines-stop.result) (view c.run_lines-stop.new.world) (view c.end_run.new.world) c.end_run.result c.lost.ensures c.end_run.ensures) refusal)
+
+pub returns-clause-unread : goal.returns-clause-unread
+returns-clause-unread g c = λ tells none.
+    let view = g.W.World.view in
+    absurd (none (saved_in c.in-Ok.store) (opened_saves c.in-Ok.store (view c.args.world.now) (view c.open_store.new.world) c.in-Ok.ensures.answer tells))
 
 pub returns-clause-unsaved : goal.returns-clause-unsaved
 returns-clause-unsaved g c = λ tells none.

@@ -8,6 +8,7 @@ use Rattle.pgs_world.proofs.Moments.{passes_on}
 use Rattle.pgs_run_checkpoint.specs.Renewing.{Renews}
 use Rattle.pgs_run_checkpoint.specs.Told.{told_checkpoint}
 use Rattle.pgs_run_checkpoint.proofs.Stopped.{ends_checkpoint, not_refused, renews_opened, renews_quiet}
+use Rattle.pgs_run_checkpoint.proofs.Resting.{rests_opened, rests_unopened}
 use Rattle.pgs_run_checkpoint.proofs.running.run_checkpoint.Goals as goal
 
 pub returns-in-Ok-clause-ends : goal.returns-in-Ok-clause-ends
@@ -51,3 +52,12 @@ returns-in-Err-clause-unsaved g c = λ told none.
     let mid = g.W.World.view c.open_store.new.world in
     let new = g.W.World.view c.end_unopened.new.world in
     images_on old mid new (images_quiet old mid c.open_store.ensures.quiet) (images_areas mid new c.end_unopened.ensures.areas)
+
+pub returns-in-Ok-clause-rests : goal.returns-in-Ok-clause-rests
+returns-in-Ok-clause-rests g c =
+    rests_opened c.in-Ok.store (g.W.World.view c.args.world.now) (g.W.World.view c.open_store.new.world) (g.W.World.view c.renew.new.world) c.renew.result c.in-Ok.ensures.answer c.open_store.ensures.quiet c.renew.ensures.rests
+
+pub returns-in-Err-clause-rests : goal.returns-in-Err-clause-rests
+returns-in-Err-clause-rests g c =
+    rests_unopened c.in-Err.unopened (g.W.World.view c.args.world.now) (g.W.World.view c.open_store.new.world) (g.W.World.view c.end_unopened.new.world) c.end_unopened.result c.in-Err.ensures.answer c.open_store.ensures.quiet c.end_unopened.ensures.ends
+    c.end_unopened.ensures.areas

@@ -10,7 +10,7 @@ pub returns-in-Err-clause-ends : goal.returns-in-Err-clause-ends
 returns-in-Err-clause-ends g c = λ input is. unread_ends g.T.LineTaker.machine c.args.limit _ (g.W.World.view c.args.world.now) c.args.budget _ input is
 
 pub returns-in-Err-clause-allows : goal.returns-in-Err-clause-allows
-returns-in-Err-clause-allows g c = unread_allows g.T.LineTaker.machine g.T.LineTaker.rule c.args.limit _ _ _ (scene_of (g.W.World.view c.args.world.now) (g.T.LineTaker.kept c.args.taker.now)) (g.met.W.World.timed c.args.world.now) c.requires.holds
+returns-in-Err-clause-allows g c = unread_allows g.T.LineTaker.machine g.T.LineTaker.rule c.args.limit _ c.args.budget _ (scene_of (g.W.World.view c.args.world.now) (g.T.LineTaker.kept c.args.taker.now)) (g.met.W.World.timed c.args.world.now) c.requires.holds
 
 pub returns-in-Whole-clause-ends : goal.returns-in-Whole-clause-ends
 returns-in-Whole-clause-ends g c = λ input is.
@@ -30,7 +30,8 @@ pub returns-in-Whole-clause-allows : goal.returns-in-Whole-clause-allows
 returns-in-Whole-clause-allows g c =
     let m = g.T.LineTaker.machine in
     let reads = reads_how m g.T.LineTaker.rule c.args.limit c.new-line.result.limit _ _ _ _ _ _ _ c.read_all-end.result c.in-Ok-end.end Whole _ c.new-line.ensures.limit c.in-Ok-end.is c.in-Whole.is c.read_all-end.ensures.reads in
-    whole_allows m g.T.LineTaker.rule c.args.limit _ _ c.args.budget _ _ _ _ c.end_input.result _ _ reads
+    let ends = subst (λ line. Ends (shown_of (g.W.World.view c.read_all-end.new.world)) (m.rest (g.T.LineTaker.stands c.read_all-end.new.taker) line) c.end_input.result (shown_of (g.W.World.view c.end_input.new.world))) c.as_slice.ensures.bytes c.end_input.ensures.ends in
+    whole_allows m g.T.LineTaker.rule c.args.limit _ _ c.args.budget _ _ _ _ c.end_input.result (scene_of (g.W.World.view c.read_all-end.new.world) (g.T.LineTaker.kept c.read_all-end.new.taker)) (scene_of (g.W.World.view c.end_input.new.world) (g.T.LineTaker.kept c.end_input.new.self)) reads ends
     (subst (λ line. g.T.LineTaker.rule.allows (g.T.LineTaker.stands c.read_all-end.new.taker) [] (AtEnd line c.end_input.result) (scene_of (g.W.World.view c.read_all-end.new.world) (g.T.LineTaker.kept c.read_all-end.new.taker)) (scene_of (g.W.World.view c.end_input.new.world) (g.T.LineTaker.kept c.end_input.new.self))) c.as_slice.ensures.bytes c.end_input.ensures.allows)
 
 pub returns-in-Ok-end-clause-ends : goal.returns-in-Ok-end-clause-ends
@@ -49,7 +50,7 @@ pub returns-in-Ok-end-clause-allows : goal.returns-in-Ok-end-clause-allows
 returns-in-Ok-end-clause-allows g c =
     let m = g.T.LineTaker.machine in
     let reads = reads_how m g.T.LineTaker.rule c.args.limit c.new-line.result.limit _ _ _ _ _ _ _ c.read_all-end.result c.in-Ok-end.end Cut _ c.new-line.ensures.limit c.in-Ok-end.is c.in-Cut.is c.read_all-end.ensures.reads in
-    cut_allows m g.T.LineTaker.rule c.args.limit _ _ c.args.budget _ _ _ _ _ _ reads
+    cut_allows m g.T.LineTaker.rule c.args.limit _ _ c.args.budget _ _ _ _ c.end_budget.result _ reads c.end_budget.ensures
 
 pub returns-clause-ends : goal.returns-clause-ends
 returns-clause-ends g c = λ input is.

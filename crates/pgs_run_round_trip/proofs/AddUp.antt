@@ -1,0 +1,243 @@
+-- Runs add up: what each leaves is what the next one begins with.
+use Rattle.std.proofs.Common.{◌≡◌, ◌⊎◌, inl, inr, ⊎_elim, ℕ, ◌+◌, ◌^◌, ◌==◌, Bool, true, false, cond, nat_le, IsTrue, List, [], ◌∷◌, ◌++◌, length, Option, Some, None, Result, Ok, refl, sym, ap, subst, ◌∙◌}
+use Rattle.std.proofs.lemmas.List.{append-nil}
+use Rattle.pgs_answer.specs.Lines.{checkpoint_line}
+use Rattle.pgs_feed.specs.Places.{lost_count}
+use Rattle.pgs_run_lines.specs.Machine.{Told}
+use Rattle.pgs_run_lines.specs.Pieces.{Shown, ShowsAll, shown_of}
+use Rattle.pgs_run_lines.proofs.Showing.{shows_none, shows_on}
+use Rattle.pgs_snapshot.specs.Choice.{choice_of, chosen_epoch, epoch_chosen, no_store}
+use Rattle.pgs_snapshot.specs.Saved.{SavedState, saved, store}
+use Rattle.pgs_store.specs.Loads.{FindsNone}
+use Rattle.pgs_syntax.specs.declared.resolved.Resolved.{Resolved}
+use Rattle.pgs_run_words.specs.declared.command.Command.{Command}
+use Rattle.pgs_run_words.specs.declared.command.Command.TheVariants.{Load, Apply, Recover, Checkpoint}
+use Rattle.pgs_run_words.specs.Words.{command_of}
+use Rattle.pgs_world.specs.World.{View}
+use Rattle.pgs_run_base.specs.declared.status.Status.{Status}
+use Rattle.pgs_run_base.specs.declared.status.Status.TheVariants.{Accepted, Refused, StoreRefused, DiskFault, InputTooLong}
+use Rattle.pgs_run_base.specs.Answers.{schema_answer}
+use Rattle.pgs_run_base.specs.Areas.{Areas, areas_of}
+use Rattle.pgs_run_base.specs.Ending.{Ends}
+use Rattle.pgs_run_apply.specs.Run.{Saves, IsDecided, IsPutBy}
+use Rattle.pgs_run_apply.specs.Told.{after, verdicts, all_lines, lost_pieces}
+use Rattle.pgs_run_checkpoint.specs.Told.{told_by, told_checkpoint}
+use Rattle.pgs_run_load.specs.Loading.{IsMade}
+use Rattle.pgs_run_load.specs.Told.{line_of, told_choice, told_load}
+use Rattle.pgs_run_recover.specs.Dump.{dump}
+use Rattle.pgs_run_saved.specs.Refusing.{SavedStore, told_of_areas, told_saved, told_under}
+use Rattle.pgs_run.specs.Command.{reads_source, IsTold}
+use Rattle.pgs_run.specs.Headline.{telling}
+use Rattle.pgs_run.specs.Leaving.{Feeds, Leaves}
+use Rattle.pgs_run.specs.Told.{told, told_command, told_dump}
+use Rattle.pgs_run_round_trip.specs.Sequence.{Applied, Deed, Does, DoAll, Ran, Renewed, after_deed, after_deeds, epoch_after, new_store, told_deed, told_deeds, told_sequence}
+
+-- ---- a run that ended with 0 or 1
+
+abbrev IsDone : Status → Type 0
+IsDone status = (status ≡ Accepted) ⊎ (status ≡ Refused)
+
+-- all that is told was put, and the status is the one told
+done_shows : (start now : Shown) (said : Told Status) (status : Status) → IsDone status → Ends start said status now → ShowsAll start said.pieces now × (said.status ≡ status)
+done_shows start now said status (inl is) ends =
+    let at = subst (λ (s : Status). Ends start said s now) is ends in (at.0, at.1 ∙ sym is)
+done_shows start now said status (inr is) ends =
+    let at = subst (λ (s : Status). Ends start said s now) is ends in (at.0, at.1 ∙ sym is)
+
+-- where the store of a view stands
+record Stands (it : SavedStore) (epoch : ℕ) (view : View) : Type 0 where
+  pub saves : Saves it view.shown
+  pub epoch_is : chosen_epoch view.shown.a view.shown.b ≡ Some epoch
+  pub tells : IsTrue view.tells_bytes
+
+-- a command's own of what is told
+told_as : (words : List (List ℕ)) (command : Command) (input : List ℕ) (areas : Areas) (budget lost : ℕ) → command_of words ≡ Some command → told words input areas budget lost ≡ told_command (Some command) input areas budget lost
+unfolding told
+told_as words command input areas budget lost is = ap (λ (c : Option Command). told_command c input areas budget lost) is
+
+-- what is told of a view that saves this store
+told_stands : (view : View) (it : SavedStore) (go : SavedStore → Told Status) → Saves it view.shown → told_of_areas (areas_of view) go ≡ go it
+unfolding told_of_areas
+told_stands view it go known =
+    ap (λ (s : SavedState). told_saved s go) known.saves
+    ∙ ap (λ (a : Result Resolved (List ℕ)). told_under a (λ schema. go (record { text = it.text; schema = schema; commits = it.commits; graph = it.graph }))) known.schema
+
+-- what a run puts that told this
+module _ (command : Command) (input : List ℕ) (lost : ℕ) (old new : View) (ran : Ran command input lost old new) where
+  said : Told Status
+  said = told_command (Some command) input (areas_of old) (2 ^ 40) lost
+
+  shows : IsTrue old.tells_bytes → ShowsAll (shown_of old) said.pieces (shown_of new) × (said.status ≡ ran.status)
+  shows tells =
+      let knows : IsTold (command_of ran.words) ran.before.source.left ran.before.view input = record {
+        source = λ reads. ran.source (subst (λ (c : Option Command). reads_source c ≡ true) ran.named reads);
+        bytes = λ asks. subst (λ (v : View). IsTrue v.tells_bytes) (sym ran.old_is) tells;
+      } in
+      let ends = ran.kept.shown input knows in
+      let same : telling ran.words ran.before ran.now input (2 ^ 40) ≡ said =
+      told_as ran.words command input (areas_of ran.before.view) (2 ^ 40) (lost_count ran.now.places) ran.named
+      ∙ ap (λ (v : View). told_command (Some command) input (areas_of v) (2 ^ 40) (lost_count ran.now.places)) ran.old_is
+      ∙ ap (λ (n : ℕ). told_command (Some command) input (areas_of old) (2 ^ 40) n) ran.lost_is in
+      done_shows (shown_of old) (shown_of new) said ran.status ran.done
+      (subst (λ (s : Shown). Ends s said ran.status (shown_of new)) (ap shown_of ran.old_is)
+      (subst (λ (s : Shown). Ends (shown_of ran.before.view) said ran.status s) (ap shown_of ran.new_is)
+      (subst (λ (t : Told Status). Ends (shown_of ran.before.view) t ran.status (shown_of ran.now.view)) same ends)))
+
+  left : Leaves (Some command) ran.before.source.left (lost_count ran.now.places) old new ran.status
+  left =
+      subst (λ (v : View). Leaves (Some command) ran.before.source.left (lost_count ran.now.places) v new ran.status) ran.old_is
+      (subst (λ (v : View). Leaves (Some command) ran.before.source.left (lost_count ran.now.places) ran.before.view v ran.status) ran.new_is
+      (subst (λ (c : Option Command). Leaves c ran.before.source.left (lost_count ran.now.places) ran.before.view ran.now.view ran.status) ran.named ran.kept.leaves))
+
+  fed : Feeds (Some command) ran.before.source.left old new ran.before.places ran.now.places ran.status
+  fed =
+      subst (λ (v : View). Feeds (Some command) ran.before.source.left v new ran.before.places ran.now.places ran.status) ran.old_is
+      (subst (λ (v : View). Feeds (Some command) ran.before.source.left ran.before.view v ran.before.places ran.now.places ran.status) ran.new_is
+      (subst (λ (c : Option Command). Feeds c ran.before.source.left ran.before.view ran.now.view ran.before.places ran.now.places ran.status) ran.named ran.kept.fed))
+
+  no_fault : ran.status ≡ DiskFault → ⊥
+  no_fault is = ⊎_elim (λ (e : ran.status ≡ Accepted). let no : Accepted ≡ DiskFault = sym e ∙ is in cc) (λ (e : ran.status ≡ Refused). let no : Refused ≡ DiskFault = sym e ∙ is in cc) ran.done
+
+-- ---- `load`
+
+load_if : (cut : Bool) (input : List ℕ) (areas : Areas) (schema : Resolved) (status : Status) → nat_le (2 ^ 40) (length input) ≡ cut → schema_answer input ≡ Ok schema → choice_of areas.a areas.b ≡ no_store → IsDone status
+    → (told_load input areas (2 ^ 40)).status ≡ status → told_load input areas (2 ^ 40) ≡ record { pieces = line_of schema ∷ []; status = Accepted }
+unfolding told_load
+load_if true input areas schema status e is free done same =
+    let cut : InputTooLong ≡ status = rw e at same in
+    absurd (⊎_elim (λ (d : status ≡ Accepted). let no : InputTooLong ≡ Accepted = cut ∙ d in cc) (λ (d : status ≡ Refused). let no : InputTooLong ≡ Refused = cut ∙ d in cc) done)
+load_if false input areas schema status e is free done same =
+    rw e (ap (λ (a : Result Resolved (List ℕ)). told_under a (λ s. told_choice s (choice_of areas.a areas.b))) is ∙ ap (told_choice schema) free)
+
+-- what a first run leads to
+record Leads (it : SavedStore) (epoch : ℕ) (pieces : List (List ℕ)) (old new : View) : Type 0 where
+  pub stands : Stands it epoch new
+  pub shown : ShowsAll (shown_of old) pieces (shown_of new)
+
+loads : (text : List ℕ) (schema : Resolved) (lost : ℕ) (old new : View) → IsTrue old.tells_bytes → FindsNone old → schema_answer text ≡ Ok schema → Ran Load text lost old new → Leads (new_store text schema) 1 (line_of schema ∷ []) old new
+loads text schema lost old new tells free is ran =
+    let done = shows Load text lost old new ran tells in
+    let told = load_if (nat_le (2 ^ 40) (length text)) text (areas_of old) schema ran.status refl is (free tells) ran.done done.1 in
+    let accepted : ran.status ≡ Accepted = sym done.1 ∙ ap (λ (t : Told Status). t.status) told in
+    let leaves = left Load text lost old new ran in
+    let made = leaves.made tells text (ran.source refl) free (subst (IsMade text) (sym accepted) tt) in
+    record {
+      stands = record {
+        saves = record { saves = made.saves; schema = is };
+        epoch_is = made.epoch;
+        tells = leaves.passes.tells_bytes ∙ tells;
+      };
+      shown = subst (λ (t : Told Status). ShowsAll (shown_of old) t.pieces (shown_of new)) told done.0;
+    }
+
+-- ---- `apply`
+
+put_all : (it : SavedStore) (input : List ℕ) (until later : List (List ℕ)) (lost : ℕ) (start now : Shown) (status : Status) → all_lines input ≡ until ++ later → IsDone status → IsPutBy it until later lost start now status
+    → (until ≡ all_lines input) × ShowsAll start (verdicts it (all_lines input) ++ lost_pieces lost) now
+put_all it input until later lost start now status parts (inl is) put =
+    let at = subst (λ (s : Status). IsPutBy it until later lost start now s) is put in
+    let same : until ≡ all_lines input = sym (append-nil until) ∙ ap (λ (xs : List (List ℕ)). until ++ xs) (sym at.0) ∙ sym parts in
+    (same, subst (λ (xs : List (List ℕ)). ShowsAll start (verdicts it xs ++ lost_pieces lost) now) same at.1)
+put_all it input until later lost start now status parts (inr is) put =
+    let at = subst (λ (s : Status). IsPutBy it until later lost start now s) is put in
+    let same : until ≡ all_lines input = sym (append-nil until) ∙ ap (λ (xs : List (List ℕ)). until ++ xs) (sym at.0) ∙ sym parts in
+    (same, subst (λ (xs : List (List ℕ)). ShowsAll start (verdicts it xs ++ lost_pieces lost) now) same at.1)
+
+applies : (it : SavedStore) (epoch : ℕ) (input : List ℕ) (lost : ℕ) (old new : View) → Stands it epoch old → Ran Apply input lost old new → Leads (after_deed it (Applied input lost)) epoch (told_deed it epoch (Applied input lost)) old new
+applies it epoch input lost old new stands ran =
+    let leaves = left Apply input lost old new ran in
+    let fed_by = fed Apply input lost old new ran in
+    let decided =
+    subst (λ (n : ℕ). IsDecided it input n old new ran.before.places ran.now.places ran.status) ran.lost_is
+    (fed_by.decided stands.tells input it (ran.source refl) stands.saves) in
+    let put = put_all it input decided.until decided.later lost (shown_of old) (shown_of new) ran.status decided.parts ran.done decided.put in
+    let saves = decided.saves (no_fault Apply input lost old new ran) in
+    record {
+      stands = record {
+        saves = record {
+          saves = saves.saves.saves ∙ ap (λ (xs : List (List ℕ)). store it.text (after it xs).commits (after it xs).graph) put.0;
+          schema = stands.saves.schema;
+        };
+        epoch_is = saves.epoch ∙ stands.epoch_is;
+        tells = leaves.passes.tells_bytes ∙ stands.tells;
+      };
+      shown = put.1;
+    }
+
+-- ---- `checkpoint`
+
+renewed_if : (last : Bool) (epoch : ℕ) (it : SavedStore) (status : Status) → (epoch == 16777215) ≡ last → IsDone status → (told_by (Some epoch) it).status ≡ status
+    → told_by (Some epoch) it ≡ record { pieces = checkpoint_line (epoch + 1) it.commits ∷ []; status = Accepted }
+renewed_if true epoch it status e done same =
+    let refused : StoreRefused ≡ status = rw e at same in
+    absurd (⊎_elim (λ (d : status ≡ Accepted). let no : StoreRefused ≡ Accepted = refused ∙ d in cc) (λ (d : status ≡ Refused). let no : StoreRefused ≡ Refused = refused ∙ d in cc) done)
+renewed_if false epoch it status e done same = rw e refl
+
+same_epoch : (x y : ℕ) → Some x ≡ Some y → x ≡ y
+same_epoch x y is = cc
+
+told_renewed : (it : SavedStore) (epoch : ℕ) (old : View) → Stands it epoch old → told_checkpoint (areas_of old) ≡ told_by (Some epoch) it
+unfolding told_checkpoint
+told_renewed it epoch old stands =
+    told_stands old it (told_by (chosen_epoch old.shown.a old.shown.b)) stands.saves ∙ ap (λ (e : Option ℕ). told_by e it) stands.epoch_is
+
+renews : (it : SavedStore) (epoch : ℕ) (input : List ℕ) (lost : ℕ) (old new : View) → Stands it epoch old → Ran Checkpoint input lost old new → Leads it (epoch + 1) (told_deed it epoch Renewed) old new
+renews it epoch input lost old new stands ran =
+    let done = shows Checkpoint input lost old new ran stands.tells in
+    let is = told_renewed it epoch old stands in
+    let told = renewed_if (epoch == 16777215) epoch it ran.status refl ran.done (ap (λ (t : Told Status). t.status) (sym is) ∙ done.1) in
+    let all : told_checkpoint (areas_of old) ≡ record { pieces = checkpoint_line (epoch + 1) it.commits ∷ []; status = Accepted } = is ∙ told in
+    let accepted : ran.status ≡ Accepted = sym done.1 ∙ ap (λ (t : Told Status). t.status) all in
+    let leaves = left Checkpoint input lost old new ran in
+    let new_epoch = leaves.rests.renewed stands.tells it.text it.commits it.graph stands.saves.saves accepted in
+    record {
+      stands = record {
+        saves = record {
+          saves = leaves.rests.kept stands.tells it.text it.commits it.graph stands.saves.saves (no_fault Checkpoint input lost old new ran);
+          schema = stands.saves.schema;
+        };
+        epoch_is = ap epoch_chosen new_epoch.choice
+            ∙ ap (λ (n : ℕ). Some (n + 1)) (same_epoch new_epoch.epoch epoch (sym new_epoch.was_epoch ∙ stands.epoch_is));
+        tells = leaves.passes.tells_bytes ∙ stands.tells;
+      };
+      shown = subst (λ (t : Told Status). ShowsAll (shown_of old) t.pieces (shown_of new)) all done.0;
+    }
+
+-- ---- one after another
+
+does : (it : SavedStore) (epoch : ℕ) (deed : Deed) (old new : View) → Stands it epoch old → Does deed old new → Leads (after_deed it deed) (epoch_after epoch deed) (told_deed it epoch deed) old new
+does it epoch (Applied input lost) old new stands ran = applies it epoch input lost old new stands ran
+does it epoch Renewed old new stands ran = renews it epoch ran.0 ran.1 old new stands ran.2
+
+-- what runs lead to, with the store's text and schema as they were
+record All (it : SavedStore) (pieces : List (List ℕ)) (old new : View) : Type 0 where
+  pub epoch : ℕ
+  pub stands : Stands it epoch new
+  pub shown : ShowsAll (shown_of old) pieces (shown_of new)
+
+do_all : (it : SavedStore) (epoch : ℕ) (deeds : List Deed) (old new : View) → Stands it epoch old → DoAll deeds old new → All (after_deeds it deeds) (told_deeds it epoch deeds) old new
+do_all it epoch [] old new stands same = record {
+  epoch = epoch;
+  stands = subst (λ (v : View). Stands it epoch v) (sym same) stands;
+  shown = subst (λ (v : View). ShowsAll (shown_of old) [] (shown_of v)) (sym same) (shows_none (shown_of old));
+}
+do_all it epoch (deed ∷ deeds) old new stands runs =
+    let first = does it epoch deed old runs.0 stands runs.1 in
+    let rest = do_all (after_deed it deed) (epoch_after epoch deed) deeds runs.0 new first.stands runs.2 in
+    record {
+      epoch = rest.epoch;
+      stands = rest.stands;
+      shown = shows_on (shown_of old) (shown_of runs.0) (shown_of new) (told_deed it epoch deed) (told_deeds (after_deed it deed) (epoch_after epoch deed) deeds) first.shown rest.shown;
+    }
+
+pub runs_add_up : (text input : List ℕ) (schema : Resolved) (deeds : List Deed) (lost failed : ℕ) (first mid last done : View) → IsTrue first.tells_bytes → FindsNone first → schema_answer text ≡ Ok schema
+    → Ran Load text lost first mid → DoAll deeds mid last → Ran Recover input failed last done → ShowsAll (shown_of first) (told_sequence text schema deeds) (shown_of done)
+runs_add_up text input schema deeds lost failed first mid last done tells free is loaded ran recovered =
+    let one = loads text schema lost first mid tells free is loaded in
+    let it = after_deeds (new_store text schema) deeds in
+    let all = do_all (new_store text schema) 1 deeds mid last one.stands ran in
+    let shown = shows Recover input failed last done recovered all.stands.tells in
+    let told : told_of_areas (areas_of last) told_dump ≡ told_dump it = told_stands last it told_dump all.stands.saves in
+    shows_on (shown_of first) (shown_of mid) (shown_of done) (line_of schema ∷ []) (told_deeds (new_store text schema) 1 deeds ++ dump it.text it.graph) one.shown
+    (shows_on (shown_of mid) (shown_of last) (shown_of done) (told_deeds (new_store text schema) 1 deeds) (dump it.text it.graph) all.shown
+    (subst (λ (t : Told Status). ShowsAll (shown_of last) t.pieces (shown_of done)) told shown.0))

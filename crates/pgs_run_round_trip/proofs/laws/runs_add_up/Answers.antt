@@ -1,0 +1,5 @@
+use Rattle.pgs_run_round_trip.proofs.AddUp.{runs_add_up}
+use Rattle.pgs_run_round_trip.proofs.laws.runs_add_up.Goals as goal
+
+pub returns : goal.returns
+returns c = runs_add_up

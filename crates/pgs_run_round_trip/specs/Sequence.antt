@@ -1,0 +1,83 @@
+-- Runs one after another over one world: what each does to the store that is saved, and what it prints.
+use Rattle.std.specs.Prelude.{◌≡◌, ◌⊎◌, ℕ, ◌+◌, ◌^◌, true, List, [], ◌∷◌, ◌++◌, Some}
+use Rattle.pgs_answer.specs.Lines.{checkpoint_line}
+use Rattle.pgs_base.specs.Graph.{empty_graph}
+use Rattle.pgs_feed.specs.Places.{lost_count}
+use Rattle.pgs_syntax.specs.declared.resolved.Resolved.{Resolved}
+use Rattle.pgs_run_words.specs.declared.command.Command.{Command}
+use Rattle.pgs_run_words.specs.declared.command.Command.TheVariants.{Load, Apply, Recover, Checkpoint}
+use Rattle.pgs_run_words.specs.Words.{command_of}
+use Rattle.pgs_world.specs.World.{View}
+use Rattle.pgs_run_base.specs.declared.status.Status.{Status}
+use Rattle.pgs_run_base.specs.declared.status.Status.TheVariants.{Accepted, Refused}
+use Rattle.pgs_run_apply.specs.Told.{after, verdicts, all_lines, lost_pieces}
+use Rattle.pgs_run_load.specs.Told.{line_of}
+use Rattle.pgs_run_recover.specs.Dump.{dump}
+use Rattle.pgs_run_saved.specs.Refusing.{SavedStore}
+use Rattle.pgs_run.specs.Command.{reads_source}
+use Rattle.pgs_run.specs.Headline.{KeepsPromise}
+use Rattle.pgs_run.specs.Runs.{Setting}
+
+-- a run between `load` and `recover`: of `apply` over this input, with so many feeds lost at its end; or of `checkpoint`
+pub data Deed : Type 0 where
+  Applied : (input : List ℕ) (lost : ℕ) → Deed
+  Renewed : Deed
+
+-- the empty store of a text
+abbrev pub new_store : List ℕ → Resolved → SavedStore
+new_store text schema = record { text = text; schema = schema; commits = 0; graph = empty_graph }
+
+-- the store after a run: each line is decided on the graph after the accepted ones before it
+abbrev pub after_deed : SavedStore → Deed → SavedStore
+after_deed it (Applied input lost) =
+    let at = after it (all_lines input) in record { text = it.text; schema = it.schema; commits = at.commits; graph = at.graph }
+after_deed it Renewed = it
+
+-- its epoch, which a checkpoint raises
+abbrev pub epoch_after : ℕ → Deed → ℕ
+epoch_after epoch (Applied input lost) = epoch
+epoch_after epoch Renewed = epoch + 1
+
+-- what a run prints: lines numbered from 1, commit numbers that go on
+abbrev pub told_deed : SavedStore → ℕ → Deed → List (List ℕ)
+told_deed it epoch (Applied input lost) = verdicts it (all_lines input) ++ lost_pieces lost
+told_deed it epoch Renewed = checkpoint_line (epoch + 1) it.commits ∷ []
+
+abbrev pub told_deeds : SavedStore → ℕ → List Deed → List (List ℕ)
+told_deeds it epoch [] = []
+told_deeds it epoch (deed ∷ deeds) = told_deed it epoch deed ++ told_deeds (after_deed it deed) (epoch_after epoch deed) deeds
+
+abbrev pub after_deeds : SavedStore → List Deed → SavedStore
+after_deeds it [] = it
+after_deeds it (deed ∷ deeds) = after_deeds (after_deed it deed) deeds
+
+-- what `load` of a text prints, then runs, then `recover`
+abbrev pub told_sequence : List ℕ → Resolved → List Deed → List (List ℕ)
+told_sequence text schema deeds =
+    let it = after_deeds (new_store text schema) deeds in
+    line_of schema ∷ (told_deeds (new_store text schema) 1 deeds ++ dump it.text it.graph)
+
+-- A run of the program that named this command, over a source that told this input where it is read, led from the one view of the world
+-- to the other and ended with 0 or 1. So many feeds were lost at its end.
+pub record Ran (command : Command) (input : List ℕ) (lost : ℕ) (old new : View) : Type 1 where
+  pub words : List (List ℕ)
+  pub named : command_of words ≡ Some command
+  pub before : Setting
+  pub now : Setting
+  pub status : Status
+  pub kept : KeepsPromise words (2 ^ 40) before now status
+  pub old_is : before.view ≡ old
+  pub new_is : now.view ≡ new
+  pub source : reads_source (Some command) ≡ true → before.source.left ≡ Some input
+  pub lost_is : lost_count now.places ≡ lost
+  pub done : (status ≡ Accepted) ⊎ (status ≡ Refused)
+
+-- a run of this kind
+abbrev pub Does : Deed → View → View → Type 1
+Does (Applied input lost) old new = Ran Apply input lost old new
+Does Renewed old new = (input : List ℕ) × (lost : ℕ) × Ran Checkpoint input lost old new
+
+-- these runs, one after another
+abbrev pub DoAll : List Deed → View → View → Type 1
+DoAll [] old new = new ≡ old
+DoAll (deed ∷ deeds) old new = (mid : View) × Does deed old mid × DoAll deeds mid new
