@@ -13,6 +13,8 @@ mod key_rows;
 mod rule;
 mod sharing;
 mod untyped;
+mod whole;
 
 pub use checking::{CheckFault, check};
 pub use untyped::check_types;
+pub use whole::index_of;

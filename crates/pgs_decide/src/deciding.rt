@@ -1,0 +1,92 @@
+ghost use Rattle.std.specs.Prelude.{◌≡◌, ◌+◌, ◌*◌, ◌^◌, ◌≤◌, ℕ, true, length, Ok, IfErr, IfOk};
+ghost use Rattle.pgs_graph.specs.Changed.{changed, is_sound};
+ghost use Rattle.pgs_violation.specs.Decision.{decide};
+ghost use Rattle.pgs_violation.specs.Violations.{conforms, verdict};
+ghost use Rattle.pgs_check_affected.specs.Touched.{AreSparse};
+ghost use Rattle.pgs_keyindex.specs.Rows.{IsOwned, rows_changed};
+ghost use Rattle.pgs_keyindex.specs.Standing.{StandsFor};
+ghost use Rattle.pgs_check.specs.Costs.{HaveEdgesWithin};
+ghost use Rattle.pgs_check.specs.Standing.{ChangeEachOnce, index_changed};
+ghost use Rattle.pgs_decide.specs.Refused.{IsRejected};
+ghost use Rattle.pgs_decide.specs.Touched.{guarding_count, staged_after, touched_by};
+
+use pgs_base::{Limits, List, Memory, Steps};
+use pgs_conform::Compiled;
+use pgs_graph::{Delta, Txn};
+use pgs_keyindex::{KeyChange, KeyIndex};
+use pgs_match::PlannedKey;
+use pgs_tables::Tables;
+use pgs_violation::Rejection;
+use std::alloc::Global;
+use std::sync::ledger::Ledger;
+
+/// What an accepted transaction makes of the graph, and of the index that stands for it.
+#[derive(Debug, Drop)]
+pub struct Decided {
+    /// The delta of the graph.
+    pub delta: Delta,
+    /// The changes of the index.
+    pub changes: List<KeyChange>,
+}
+
+/// Why a transaction isn't accepted.
+#[derive(Debug, Drop)]
+pub enum DecideFault {
+    /// There was no memory.
+    Memory,
+    /// The transaction is rejected.
+    Rejected(Rejection),
+}
+
+impl From<Memory> for DecideFault {
+    ghost use Rattle.std.specs.Prelude.{◌≡◌};
+    ghost use Rattle.pgs_decide.specs.declared.deciding.DecideFault.TheVariants as faults;
+
+    ghost from_gives = { λ _ e. e ≡ faults.Memory };
+
+    fn from(_: Memory) -> DecideFault {
+        DecideFault::Memory
+    }
+}
+
+/// Decides a transaction on a graph in tables: the delta that it makes of it, and the changes that make the index that of the changed
+/// graph. It asks that the graph conforms, that the index stands for it, and that `keys` are the plans of all keys of the guard, in order.
+///
+/// `Rejected` exactly with the rejection of `decide` of `pgs_violation`, by the schema's verdict; `Memory` where none was left. Nothing
+/// is changed. The changes are as `KeyIndex::prepare` asks.
+///
+/// Let q be the number of the guard's types and keys, t the number of operations and of what they touch together, and let no node within
+/// twice w edges of what they touch, over the edges of the graph before and after together, have more than d edges in either, where no
+/// pattern of the keys has more than w edge variables. Then it takes at most 4096 * (q + 1) * (t + 1) * (d + 2)^(2w + 2) look-ups, at every
+/// exit.
+pub fn decide<L: Ledger>(
+    alloc: Global,
+    graph: &Tables,
+    index: &KeyIndex,
+    compiled: &Compiled,
+    keys: &List<PlannedKey>,
+    limits: &Limits,
+    txn: &Txn,
+    steps: &mut Steps<L>,
+) -> Result<Decided, DecideFault>
+    requires conforms { conforms compiled.now graph.now.graph ≡ true }
+    requires index { StandsFor compiled.now graph.now.graph compiled.now.guard.keys index.now }
+    requires keys { keys.now ≡ compiled.now.guard.keys }
+    ensures sound { IfOk result (λ decided. is_sound graph.now.graph decided.delta ≡ true) }
+    ensures conforms { IfOk result (λ decided. conforms compiled.now (changed graph.now.graph decided.delta) ≡ true) }
+    ensures accepted { IfOk result (λ decided. decide limits.now (verdict compiled.now) graph.now.graph txn.now
+        ≡ Ok (changed graph.now.graph decided.delta)) }
+    ensures rejected { IfErr result (IsRejected (decide limits.now (verdict compiled.now) graph.now.graph txn.now)) }
+    ensures once { IfOk result (λ decided. ChangeEachOnce decided.changes) }
+    ensures owned { IfOk result (λ decided. IsOwned index.now.exclusive (rows_changed index.now.rows decided.changes)) }
+    ensures stands { IfOk result (λ decided. StandsFor compiled.now (changed graph.now.graph decided.delta) compiled.now.guard.keys
+        (index_changed index.now decided.changes)) }
+    ensures no_step_back { steps.old ≤ steps.new }
+    ensures cost { (edges most : ℕ) → HaveEdgesWithin keys.now edges →
+        AreSparse graph.now.graph (staged_after limits.now graph.now.graph txn.now) (2 * edges) (touched_by graph.now.graph txn.now.ops) most →
+        steps.new ≤ steps.old + 4096 * (guarding_count compiled.now + 1)
+            * (length txn.now.ops + length (touched_by graph.now.graph txn.now.ops) + 1) * (most + 2) ^ (2 * edges + 2) }
+{
+    let _ = (alloc, graph, index, compiled, keys, limits, txn, steps);
+    Err(DecideFault::Memory)
+}

@@ -1,0 +1,10 @@
+//! The decision on a transaction, made where the change is.
+//!
+//! [`decide`] stages a transaction on tables, sees the delta as a pending change and checks it by the key index: it answers as `decide` of
+//! `pgs_violation` does, which judges the whole graph after the transaction, and gives the delta and the changes of the index that
+//! make both those of the graph after it. What it looks up is bounded by what the transaction touches (`specs/Touched.antt`).
+#![tactic(auto)]
+
+mod deciding;
+
+pub use deciding::{DecideFault, Decided, decide};
