@@ -41,9 +41,9 @@ module _ {K : Type 0} where
   distinct_append eq laws [] ys first second apart = second
   distinct_append eq laws (x ∷ xs) ys first second apart = (
     all_append (λ y. eq x y ≡ false) xs ys first.0
-    (all_weaker (λ y. list_any (eq y) (x ∷ xs) ≡ false) (λ y. eq x y ≡ false) (λ y none. laws.symm x y ∙ (or_parts (eq y x) _ none).0) ys apart),
+        (all_weaker (λ y. list_any (eq y) (x ∷ xs) ≡ false) (λ y. eq x y ≡ false) (λ y none. laws.symm x y ∙ (or_parts (eq y x) _ none).0) ys apart),
     distinct_append eq laws xs ys first.1 second
-    (all_weaker (λ y. list_any (eq y) (x ∷ xs) ≡ false) (λ y. list_any (eq y) xs ≡ false) (λ y none. (or_parts (eq y x) _ none).1) ys apart),
+        (all_weaker (λ y. list_any (eq y) (x ∷ xs) ≡ false) (λ y. list_any (eq y) xs ≡ false) (λ y none. (or_parts (eq y x) _ none).1) ys apart),
   )
 
 -- ---- what a change touches
