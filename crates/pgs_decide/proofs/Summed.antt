@@ -32,9 +32,9 @@ module _ (most edges q n t : ℕ) where
       let first = part (n + 1) (n + t + 1) (most + 2) ((most + 2) ^ (2 * edges + 2)) q (omega arith) (degree_power most edges) in
       omega arith
 
-  pub all_parts : (m k u : ℕ) → m ≤ t → k ≤ q → u ≤ t → (start staged over after : ℕ) → staged ≤ start + 16 * (n + 1) * (most + 2) →
+  pub all_parts : (m k u : ℕ) → m ≤ t → k ≤ q → u ≤ t → (start staged after : ℕ) → staged ≤ start + 16 * (n + 1) * (most + 2) →
       after ≤ staged + (16 * (m + 1) * (most + 2) + 3072 * (k + 1) * (u + 1) * (most + 2) ^ (2 * edges + 2)) → after ≤ start + bound
-  all_parts m k u rows keys elems start staged over after one two =
+  all_parts m k u rows keys elems start staged after one two =
       let x = (most + 2) ^ (2 * edges + 2) in
       let first = part (n + 1) (n + t + 1) (most + 2) x q (omega arith) (degree_power most edges) in
       let second = part (m + 1) (n + t + 1) (most + 2) x q (omega arith) (degree_power most edges) in
