@@ -1,6 +1,6 @@
 -- An edge that the graph after a transaction has, and that no operation names, was there before, with its row.
 use Rattle.std.proofs.Common.{◌≡◌, ℕ, ◌+◌, Bool, true, false, ◌||◌, cond, not, ◌⊎◌, inl, inr, ⊎_elim, List, [], ◌∷◌, length, Option, Some, None, is_some, Result, Ok, Err, refl, sym, ◌∙◌, ap, subst, true≢false, Ordering, Less, Equal, Greater}
-use Rattle.std.specs.Prelude.{Contains, filter, nat_lt, if◌then◌else◌}
+use Rattle.std.specs.Prelude.{Contains, nat_lt, if◌then◌else◌}
 use Rattle.std.specs.Cmp.{Equal-is, eq_by_cmp_equiv}
 use Rattle.std.specs.Option.{option_map_or}
 use Rattle.std.specs.Ordering.{match_ordering}
@@ -24,10 +24,9 @@ use Rattle.pgs_graph.specs.declared.operation.Op.{Op}
 use Rattle.pgs_graph.specs.declared.operation.Op.TheVariants.{AddNode, AddEdge, RemoveNode, DetachNode, RemoveEdge, SetNode, UnsetNode, LabelNode, UnlabelNode, SetEdge, UnsetEdge, LabelEdge, UnlabelEdge}
 use Rattle.pgs_graph.specs.declared.operation.Txn.{Txn}
 use Rattle.pgs_graph.proofs.Deltas.{edge_cmp_total, exact_edge}
-use Rattle.pgs_syntax.specs.Matches.{same_elem}
-use Rattle.pgs_syntax.proofs.Members.{contains_none, contains_first, contains_later, contains_cases, kept_found}
+use Rattle.pgs_syntax.proofs.Members.{contains_first, contains_later, contains_cases, kept_found}
 use Rattle.pgs_violation.specs.declared.structural.Structural.{Structural}
-use Rattle.pgs_violation.specs.Staging.{◌>>=◌, StepFault, node_or_fault, edge_or_fault, is_small, put_node, put_edge, edges_at, detached, lone_node_removed, added_edge, step, going_on, after_ops, within_limit, staged}
+use Rattle.pgs_violation.specs.Staging.{◌>>=◌, StepFault, node_or_fault, edge_or_fault, is_small, put_node, put_edge, edges_at, detached, lone_node_removed, step, going_on, after_ops, within_limit, staged}
 use Rattle.pgs_check_affected.specs.Local.{is_one_of, has_touched_end}
 use Rattle.pgs_decide.specs.Touched.{element_of, named, touched_by}
 use Rattle.pgs_decide.proofs.Covered.{first_named, later_named, touched_given}

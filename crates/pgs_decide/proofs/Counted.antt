@@ -1,5 +1,5 @@
 -- In what a change touches no element stands twice, so that it is no longer than a list that holds all of it.
-use Rattle.std.proofs.Common.{◌≡◌, ℕ, ◌+◌, ◌≤◌, Bool, true, false, cond, List, [], ◌∷◌, ◌++◌, map, filter, length, refl, sym, ◌∙◌, ap, arith}
+use Rattle.std.proofs.Common.{◌≡◌, ◌≤◌, Bool, true, false, cond, List, [], ◌∷◌, ◌++◌, map, filter, length, refl, ◌∙◌, arith}
 use Rattle.std.specs.Cmp.{IsEquivalence, eq_by_cmp_equiv}
 use Rattle.std.specs.List.{AllByRecursion, IsDistinct, list_any}
 use Rattle.std.specs.Map.{keys_of}
@@ -17,7 +17,7 @@ use Rattle.pgs_base.specs.Order.{ascends, elem_cmp}
 use Rattle.pgs_base.specs.OrderLaws.{elem_cmp_total}
 use Rattle.pgs_base.proofs.Ascending.{ascends_decides}
 use Rattle.pgs_graph.specs.declared.delta.Delta.{Delta}
-use Rattle.pgs_syntax.specs.Matches.{elements, same_elem}
+use Rattle.pgs_syntax.specs.Matches.{elements}
 use Rattle.pgs_syntax.proofs.InOrder.{edges_ascend}
 use Rattle.pgs_check_affected.specs.Changes.{elems_of}
 use Rattle.pgs_check_affected.specs.Local.{is_one_of, has_touched_end}

@@ -1,11 +1,11 @@
 -- The degrees that bound the parts of a decision are among those near what is touched.
-use Rattle.std.proofs.Common.{◌≡◌, ℕ, zero, ◌≤◌, ◌==◌, Bool, true, false, ◌&&◌, ◌||◌, ⊎_elim, List, [], ◌∷◌, map, Option, Some, None, refl, sym, ◌∙◌, ap, true≢false, eq-eqb, le-leb, arith}
+use Rattle.std.proofs.Common.{◌≡◌, ℕ, ◌≤◌, Bool, true, false, ◌&&◌, ◌||◌, ⊎_elim, List, [], ◌∷◌, map, Option, Some, None, refl, sym, ◌∙◌, ap, true≢false, eq-eqb, le-leb, arith}
 use Rattle.std.specs.Prelude.{Contains, nat_le}
 use Rattle.std.specs.Cmp.{eq_by_cmp_equiv}
 use Rattle.std.specs.Option.{option_map_or}
 use Rattle.std.specs.BTreeMap.{is_at}
 use Rattle.std.specs.List.{list_any}
-use Rattle.std.specs.Map.{keys_of, lookup}
+use Rattle.std.specs.Map.{keys_of}
 use Rattle.std.proofs.lemmas.Bool.{and_parts, and_from, or_cases, or_left, or_right}
 use Rattle.std.proofs.lemmas.List.Folds.{list_any-append}
 use Rattle.std.proofs.lemmas.Map.Keys.{IsDistinct-from_sorted}
@@ -28,12 +28,12 @@ use Rattle.pgs_syntax.specs.Matches.{same_elem}
 use Rattle.pgs_syntax.proofs.Halves.{any_map}
 use Rattle.pgs_syntax.proofs.Members.{contains_none, contains_cases, contains_first, contains_later}
 use Rattle.pgs_match.specs.Near.{is_at_element}
-use Rattle.pgs_tables.specs.Adjacency.{is_end_of, ends_here, is_touched}
+use Rattle.pgs_tables.specs.Adjacency.{is_end_of, ends_here}
 use Rattle.pgs_txn.specs.Listing.{element_degree, has_degrees_upto}
 use Rattle.pgs_overlay.specs.Standing.{HasDegreesWithin}
 use Rattle.pgs_check_affected.specs.Changes.{elems_of}
 use Rattle.pgs_check_affected.specs.Local.{is_one_of}
-use Rattle.pgs_check_affected.specs.Touched.{touched, is_near, AreSparse}
+use Rattle.pgs_check_affected.specs.Touched.{touched, AreSparse}
 use Rattle.pgs_check_affected.proofs.Touching.{itself, own_touched, near_less}
 use Rattle.pgs_decide.specs.Touched.{element_of, named, touched_by}
 use Rattle.pgs_decide.proofs.Covered.{first_named, later_named}
