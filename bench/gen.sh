@@ -1,15 +1,17 @@
 #!/usr/bin/env bash
 # Times the program's generated workload: `gen START COUNT`, a transaction a node and an edge, each judged before it is taken. Beside it
-# stand the same transactions under the same constraints by plain Rust over the standard library's maps, which looks only at what a
-# transaction touches, and by SQLite in memory, by Python's sqlite3. For each it says how many transactions a second of processor time it
-# takes. The guard judges the whole graph after each transaction, so twice as many transactions take it about four times as long.
-# Usage: bench/gen.sh [COUNT..]
+# stand the same transactions under the same constraints by plain Rust over the standard library's maps, and by SQLite in memory, by
+# Python's sqlite3. For each it says how many transactions a second of processor time it takes, by the median of five turns in which the
+# three follow one another; how many times as long the program takes as each of the others; and how many times as long from the start by
+# which all edges lead to few persons (5) as from that by which they are spread (1000003). The bars are 2.5 times as many transactions as
+# SQLite, 2.5 times as long as plain Rust, and 1.5 times as long with few persons as with spread ones.
+# Usage: bench/gen.sh [COUNT..], 200,000 unless said
 set -eu
 shopt -s inherit_errexit
 top=$(cd "$(dirname "$(readlink -f "${BASH_SOURCE[0]}")")/.." && pwd)
 work=$(mktemp -d)
 trap 'rm -rf "$work"' EXIT
-[ $# -gt 0 ] || set -- 1000 2000 4000
+[ $# -gt 0 ] || set -- 200000
 cat >"$work/bare.rs" <<'E'
 // The workload over the standard library's maps: a transaction is a list of operations, which are checked first and then done.
 use std::collections::{BTreeMap, BTreeSet, HashMap};
@@ -123,31 +125,41 @@ print(f"gen committed={count} refused=0 nodes={nodes} edges={edges} in1={into_fi
 E
 rustc -O -A warnings -o "$work/bare" "$work/bare.rs"
 program=$("$top/tools/run" --path pgguard)
-# rate NAME LINE START COUNT PROGRAM..: how many transactions a second of processor time that is, of the least of three runs, without the
-# time that the program takes for none. Each run has to write the line.
-rate() {
+# compare COUNT PGGUARD BARE TABLES: the three programs, in turns, from both starts. Each has to write the line that the plain one writes.
+compare() {
   python3 - "$@" <<'E'
-import resource, subprocess, sys
-name, line, start, count, *program = sys.argv[1:]
+import resource, statistics, subprocess, sys
+count, pgguard, bare, tables = sys.argv[1:]
+programs = {"pgguard": [pgguard, "gen"], "Rust": [bare], "SQLite": ["python3", tables]}
 def used():
     spent = resource.getrusage(resource.RUSAGE_CHILDREN)
     return spent.ru_utime + spent.ru_stime
-def seconds(count, wanted):
+def run(name, start, count):
     before = used()
-    ended = subprocess.run([*program, start, count], capture_output=True, text=True)
-    if ended.returncode != 0 or (wanted and ended.stdout != wanted + "\n"):
-        sys.exit(f"{name} ended with {ended.returncode} and wrote {ended.stdout!r}, not {wanted!r}")
-    return used() - before
-spent = min(seconds(count, line) for _ in range(3)) - min(seconds("0", "") for _ in range(3))
-print(f"  {name:8}{int(count) / max(spent, 1e-6):9.0f} transactions a second, {spent:.3f} s")
+    ended = subprocess.run([*programs[name], start, count], capture_output=True, text=True)
+    if ended.returncode != 0:
+        sys.exit(f"{name} ended with {ended.returncode}")
+    return used() - before, ended.stdout
+def taken(start):
+    line = run("Rust", start, count)[1]
+    print(f"gen {start} {count}: {line[len('gen '):].rstrip()}")
+    spent = {name: [] for name in programs}
+    for _ in range(5):
+        for name in programs:
+            none, _ = run(name, start, "0")
+            seconds, told = run(name, start, count)
+            if told != line:
+                sys.exit(f"{name} wrote {told!r}, not {line!r}")
+            spent[name].append(max(seconds - none, 1e-6))
+    medians = {name: statistics.median(times) for name, times in spent.items()}
+    for name, median in medians.items():
+        print(f"  {name:8}{int(count) / median:9.0f} transactions a second, {median:.3f} s")
+    print(f"  {medians['SQLite'] / medians['pgguard']:.2f} times as many as SQLite, {medians['pgguard'] / medians['Rust']:.2f} times as long as plain Rust")
+    return medians["pgguard"]
+spread = taken("1000003")
+print(f"few persons take {taken('5') / spread:.2f} times as long as spread ones")
 E
 }
-for start in 1000003 5; do
-  for count in "$@"; do
-    line=$("$work/bare" "$start" "$count")
-    echo "gen $start $count: ${line#gen }"
-    rate pgguard "$line" "$start" "$count" "$program" gen
-    rate Rust "$line" "$start" "$count" "$work/bare"
-    rate SQLite "$line" "$start" "$count" python3 "$work/tables.py"
-  done
+for count in "$@"; do
+  compare "$count" "$program" "$work/bare" "$work/tables.py"
 done

@@ -13,6 +13,8 @@ mod lengths;
 #[cfg(test)]
 mod lines;
 #[cfg(test)]
+mod many_lines;
+#[cfg(test)]
 mod ran;
 #[cfg(test)]
 mod refusals;
