@@ -1,0 +1,6 @@
+pub mod FollowEnds
+pub mod Machine
+pub mod Promised
+pub mod Putting
+pub mod Refusing
+pub mod Words
