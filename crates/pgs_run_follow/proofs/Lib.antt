@@ -3,4 +3,3 @@ pub mod Machine
 pub mod Promised
 pub mod Putting
 pub mod Refusing
-pub mod Words

@@ -11,7 +11,7 @@ use Rattle.pgs_follow.specs.declared.fault.FollowFault.TheVariants.{LineTooLong}
 use Rattle.pgs_follow.specs.Followed.{Followed, nothing_followed, faulted, after_reading, after_line, after_lines, with_rest, followed, rest_of}
 use Rattle.pgs_run_follow.specs.declared.status.FollowStatus.{FollowStatus}
 use Rattle.pgs_run_follow.specs.declared.status.FollowStatus.TheVariants as statuses
-use Rattle.pgs_run_follow.specs.Following.{following, told_last}
+use Rattle.pgs_run_follow.specs.Following.{following, rest_after, told_last}
 use Rattle.pgs_run_follow.specs.Texts.{standard}
 use Rattle.pgs_run_follow.specs.Told.{told_of, told_follow}
 
@@ -37,8 +37,18 @@ lines_tell : (f : Followed) (lines : List (List ℕ)) → machine.pieces_of_line
 lines_tell f [] = refl
 lines_tell f (line ∷ lines) = lines_tell (after_line standard f (front_of 2097152 line)) lines
 
+-- after a fault the rest isn't told
+with_ended : (f : Followed) (rest : List ℕ) → is_some f.fault ≡ true → with_rest f rest ≡ f
+with_ended f rest e = rw e refl
+
+count_ended : (f : Followed) (rest : List ℕ) → is_some f.fault ≡ true → rest_after f rest ≡ 0
+count_ended f rest e = rw e refl
+
+told_ended : (f : Followed) (rest : List ℕ) → is_some f.fault ≡ true → told_last f rest ≡ told_of f 0
+told_ended f rest e = ap (λ (g : Followed). told_of g (rest_after g rest)) (with_ended f rest e) ∙ ap (told_of f) (count_ended f rest e)
+
 rest_by : (f : Followed) (rest : List ℕ) (ended : Bool) → is_some f.fault ≡ ended → told_last f (front_of 2097152 rest) ≡ told_last f rest
-rest_by f rest true e = rw e refl
+rest_by f rest true e = told_ended f (front_of 2097152 rest) e ∙ sym (told_ended f rest e)
 rest_by f rest false e =
     same_of_front 2097152 (told_last f) (told_of (faulted f (LineTooLong (f.lines + 1))) 0) rest (λ line long. rw (e, lt-ltb 2097152 (length line) long) refl)
 

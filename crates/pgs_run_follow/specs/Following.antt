@@ -45,7 +45,7 @@ PutsLast Whole old new = new ≡ old
 PutsLast (Inside stop) old new = new ≡ old
 PutsLast (AtEnd rest stop) old new = MayStop stop
 
-puts_last_on : (extent : Extent FollowStatus) (old mid new : Shown) → mid ≡ old → PutsLast extent mid new → PutsLast extent old new
+pub puts_last_on : (extent : Extent FollowStatus) (old mid new : Shown) → mid ≡ old → PutsLast extent mid new → PutsLast extent old new
 puts_last_on Whole old mid new p q = q ∙ p
 puts_last_on (Inside stop) old mid new p q = q ∙ p
 puts_last_on (AtEnd rest stop) old mid new p q = q

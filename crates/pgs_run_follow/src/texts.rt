@@ -1,6 +1,6 @@
 //! The texts of faults, and the lines that a run puts.
 
-ghost use Rattle.std.specs.Prelude.{◌≡◌, ◌++◌, IfOk, OnOk};
+ghost use Rattle.std.specs.Prelude.{◌≡◌, ◌++◌, decimal, IfOk, OnOk};
 ghost use Rattle.pgs_answer.specs.Refusals.{structural_text};
 ghost use Rattle.pgs_run_follow.specs.Texts.{standard, fault_text, fault_line, followed_line};
 
@@ -21,32 +21,51 @@ fn cause_text(alloc: Global, cause: Structural) -> Result<Bytes, Memory>
     structural_text(alloc, &cause, &Limits::standard())
 }
 
+// Puts a number between these texts last.
+fn push_between(
+    text: &mut TextBuffer,
+    before: &[u8],
+    number: u64,
+    behind: &[u8],
+) -> Result<(), Memory>
+    ensures { OnOk result (text.new ≡ text.old ++ (before.now ++ (decimal number ++ behind.now))) }
+{
+    text.push(before)?;
+    text.push_number(number)?;
+    text.push(behind)
+}
+
+// Puts the text of a commit ahead of its turn last.
+fn push_gap(
+    text: &mut TextBuffer,
+    before: &[u8],
+    expected: u64,
+    between: &[u8],
+    found: u64,
+) -> Result<(), Memory>
+    ensures { OnOk result (text.new ≡ text.old ++ (before.now ++ (decimal expected ++ (between.now ++ decimal found)))) }
+{
+    push_between(text, before, expected, between)?;
+    text.push_number(found)
+}
+
 // Puts the text of a fault last.
 fn push_fault(alloc: Global, text: &mut TextBuffer, fault: FollowFault) -> Result<(), Memory>
     ensures { OnOk result (text.new ≡ text.old ++ fault_text fault) }
 {
     match fault {
         FollowFault::LineTooLong { line } => {
-            text.push(b"47 line ")?;
-            text.push_number(line)?;
-            text.push(b" is too long")
+            push_between(text, b"47 line ", line, b" is too long")
         }
         FollowFault::BadLine { line } => {
-            text.push(b"48 line ")?;
-            text.push_number(line)?;
-            text.push(b" is not a commit")
+            push_between(text, b"48 line ", line, b" is not a commit")
         }
         FollowFault::Gap { expected, found } => {
-            text.push(b"49 expected ")?;
-            text.push_number(expected)?;
-            text.push(b", found ")?;
-            text.push_number(found)
+            push_gap(text, b"49 expected ", expected, b", found ", found)
         }
         FollowFault::BadCommit { commit, cause } => {
-            text.push(b"50 commit ")?;
-            text.push_number(commit)?;
-            text.push(b": ")?;
             let cause = cause_text(alloc, cause)?;
+            push_between(text, b"50 commit ", commit, b": ")?;
             text.push(cause.as_slice())
         }
     }
