@@ -1,5 +1,5 @@
 -- The machine tells what is told of an input within a budget.
-use Rattle.std.proofs.Common.{◌≡◌, ℕ, ◌+◌, ◌<◌, ◌≤◌, Bool, true, false, nat_le, nat_lt, cond, List, [], ◌∷◌, ◌++◌, length, map, take, is_some, Some, None, Result, Ok, Err, refl, sym, ap, ◌∙◌, arith}
+use Rattle.std.proofs.Common.{◌≡◌, ℕ, ◌+◌, ◌<◌, Bool, true, false, nat_le, List, [], ◌∷◌, ◌++◌, length, map, take, is_some, Err, refl, sym, ap, ◌∙◌}
 use Rattle.std.proofs.lemmas.Bool.{lt-ltb}
 use Rattle.pgs_json.specs.declared.commit_fault.CommitFault.TheVariants as commits
 use Rattle.pgs_json.specs.Commit.{read_commit_line}
@@ -8,7 +8,7 @@ use Rattle.pgs_run_lines.specs.Machine as machine
 use Rattle.pgs_run_lines.specs.Machine.{Told, Standing, Going, told_by, told_at_end, status_at_cut}
 use Rattle.pgs_run_lines.proofs.Fronts.{same_of_front}
 use Rattle.pgs_follow.specs.declared.fault.FollowFault.TheVariants.{LineTooLong}
-use Rattle.pgs_follow.specs.Followed.{Followed, nothing_followed, faulted, after_reading, after_line, after_lines, with_rest, followed, rest_of}
+use Rattle.pgs_follow.specs.Followed.{Followed, nothing_followed, faulted, after_line, after_lines, with_rest, followed, rest_of}
 use Rattle.pgs_run_follow.specs.declared.status.FollowStatus.{FollowStatus}
 use Rattle.pgs_run_follow.specs.declared.status.FollowStatus.TheVariants as statuses
 use Rattle.pgs_run_follow.specs.Following.{following, rest_after, told_last}

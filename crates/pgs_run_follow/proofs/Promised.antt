@@ -1,5 +1,5 @@
 -- All that is promised of a run, from what is said of its parts.
-use Rattle.std.proofs.Common.{◌≡◌, ◌⊎◌, inl, inr, ℕ, ◌<◌, true, false, List, length, Option, Some, refl, sym, subst, ◌∙◌}
+use Rattle.std.proofs.Common.{◌≡◌, ◌⊎◌, inl, inr, ℕ, true, false, List, Option, Some, refl, sym, subst, ◌∙◌}
 use Rattle.pgs_run_lines.specs.AreasKept.{KeepsAreas}
 use Rattle.pgs_run_lines.specs.Ending.{faults_of}
 use Rattle.pgs_run_lines.specs.Machine.{Told}

@@ -5,7 +5,7 @@ use Rattle.pgs_run_lines.specs.Pieces.{shown_of}
 use Rattle.pgs_run_lines.specs.Replies.{EndsReply}
 use Rattle.pgs_run_lines.proofs.Showing.{shows_none}
 use Rattle.pgs_run_follow.specs.declared.status.FollowStatus.{FollowStatus}
-use Rattle.pgs_run_follow.specs.declared.status.FollowStatus.TheVariants.{BadWords, PutFault, Memory}
+use Rattle.pgs_run_follow.specs.declared.status.FollowStatus.TheVariants.{BadWords, PutFault}
 use Rattle.pgs_run_follow.specs.Ending.{Ends}
 use Rattle.pgs_run_follow.specs.Told.{told}
 use Rattle.pgs_run_follow.proofs.Refusing.{told_refused, reply_ends, reply_refuses, reply_cause}
