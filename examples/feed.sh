@@ -17,6 +17,8 @@ program=$(readlink -f "$program") && follower=$(readlink -f "$follower") || exit
 work=$(mktemp -d) || exit 1
 cd "$work" || exit 1
 different=0
+# What is said of a command, whose own output may go into a file.
+exec 5>&1
 
 # ends NAME STATUS COMMAND..: says whether a command ended so
 ends() {
@@ -25,9 +27,9 @@ ends() {
   "$@"
   found=$?
   if [ "$found" = "$status" ]; then
-    echo "$name: as expected"
+    echo "$name: as expected" >&5
   else
-    echo "$name: different, status $found"
+    echo "$name: different, status $found" >&5
     different=1
   fi
 }
