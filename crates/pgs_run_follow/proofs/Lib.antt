@@ -1,0 +1,4 @@
+pub mod FollowEnds
+pub mod Machine
+pub mod Promised
+pub mod Refusing

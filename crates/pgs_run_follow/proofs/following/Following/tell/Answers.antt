@@ -1,0 +1,5 @@
+use Rattle.std.proofs.Common.{sym}
+use Rattle.pgs_run_follow.proofs.following.Following.tell.Goals as goal
+
+pub returns-clause-ends : goal.returns-clause-ends
+returns-clause-ends g c = rw (← c.self.view_is) (c.in-Ok.ensures.shows, sym (c.status_of.ensures c.args.rest))

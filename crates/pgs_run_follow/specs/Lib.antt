@@ -1,0 +1,6 @@
+pub mod Ending
+pub mod ExitStatus
+pub mod Following
+pub mod Promise
+pub mod Texts
+pub mod Told

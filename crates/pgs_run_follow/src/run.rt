@@ -1,0 +1,108 @@
+ghost use Rattle.std.specs.Prelude.{◌≡◌, ◌≤◌, ◌<◌, ◌^◌, List, ℕ, Some, false};
+ghost use Rattle.pgs_run_lines.specs.AreasKept.{KeepsAreas};
+ghost use Rattle.pgs_run_lines.specs.Ending.{faults_of};
+ghost use Rattle.pgs_run_lines.specs.Pieces.{shown_of};
+ghost use Rattle.pgs_run_follow.specs.Ending.{Ends, HasCause, IsRead, IsUnended, RefusesWords, TakesWithin};
+ghost use Rattle.pgs_run_follow.specs.Promise.{KeepsPromise, setting_of};
+ghost use Rattle.pgs_run_follow.specs.Told.{is_follow, told, told_follow};
+
+use crate::following::{Following, LONGEST};
+use crate::status::{FollowStatus, status_at};
+use pgs_answer::words_refused_line;
+use pgs_base::Words;
+use pgs_run_lines::{Reply, put_reply, run_lines};
+use pgs_world::{Source, World};
+use std::alloc::Global;
+
+/// The budget of a run of the program: 2^40 bytes.
+pub const BUDGET: u64 = 1 << 40;
+
+// Whether the words are the one word `follow`.
+fn is_follow(words: &Words) -> bool
+    ensures { result ≡ is_follow words.now }
+{
+    match words.at(0) {
+        Some(word) => words.len() == 1 && word == "follow",
+        None => false,
+    }
+}
+
+// Refuses the words.
+fn refuse_words<W: World>(alloc: Global, world: &mut W) -> FollowStatus
+    ensures ends { (input : List ℕ) (budget : ℕ) (words : List (List ℕ)) → is_follow words ≡ false
+        → Ends (shown_of (W.view world.old)) (told words input budget) result (shown_of (W.view world.new)) }
+    ensures answer { RefusesWords result }
+    ensures cause { (reads : ℕ) → HasCause (faults_of reads (W.view world.old)) (faults_of reads (W.view world.new)) result }
+    ensures areas { KeepsAreas (W.view world.old) (W.view world.new) }
+{
+    match words_refused_line(alloc) {
+        Ok(line) => put_reply(
+            world,
+            &Reply {
+                line,
+                status: FollowStatus::BadWords,
+            },
+        ),
+        Err(_) => FollowStatus::Memory,
+    }
+}
+
+// Follows the feed of an input.
+fn follow<S: Source, W: World>(
+    alloc: Global,
+    source: &mut S,
+    world: &mut W,
+    budget: u64,
+) -> FollowStatus
+    requires { budget ≤ 2 ^ 40 }
+    ensures ends { (input : List ℕ) → S.left source.old ≡ Some input
+        → Ends (shown_of (W.view world.old)) (told_follow input budget) result (shown_of (W.view world.new)) }
+    ensures silent { IsUnended result → shown_of (W.view world.new) ≡ shown_of (W.view world.old) }
+    ensures takes { (input rest : List ℕ) → S.left source.old ≡ Some input → S.left source.new ≡ Some rest → TakesWithin input budget rest result }
+    ensures reads { IsRead (S.left source.new) result }
+    ensures cause { HasCause (faults_of (S.faults source.old) (W.view world.old)) (faults_of (S.faults source.new) (W.view world.new)) result }
+    ensures areas { KeepsAreas (W.view world.old) (W.view world.new) }
+{
+    let mut following = Following::new(alloc);
+    let stop = run_lines(&mut following, alloc, source, world, LONGEST, budget);
+    status_at(stop)
+}
+
+/// Runs the program's words over an input, an output and a budget of bytes of the input, 1 to 2^40, and answers the status. The one word
+/// `follow` reads the feed to its end, and then puts the fault, if there is one, how far it came, and the graph (docs/DEFINITIONS.md,
+/// "A feed that is followed"); other words put one line and leave the source unread. A read asks for at most 65,536 bytes and never
+/// for more than is left of the budget; each line that is put is one `put`. What is promised of it, part by part, is `KeepsPromise`
+/// (specs/Promise.antt).
+pub fn run_follow_within<S: Source, W: World>(
+    alloc: Global,
+    words: &Words,
+    source: &mut S,
+    world: &mut W,
+    budget: u64,
+) -> FollowStatus
+    requires positive { 0 < budget }
+    requires within { budget ≤ 2 ^ 40 }
+    ensures { KeepsPromise words.now budget
+        (setting_of (S.left source.old) (S.faults source.old) (W.view world.old))
+        (setting_of (S.left source.new) (S.faults source.new) (W.view world.new)) result }
+{
+    if is_follow(words) {
+        follow(alloc, source, world, budget)
+    } else {
+        refuse_words(alloc, world)
+    }
+}
+
+/// Runs the program's words over an input and an output: `run_follow_within` with a budget of 2^40 bytes.
+pub fn run_follow<S: Source, W: World>(
+    alloc: Global,
+    words: &Words,
+    source: &mut S,
+    world: &mut W,
+) -> FollowStatus
+    ensures { KeepsPromise words.now (2 ^ 40)
+        (setting_of (S.left source.old) (S.faults source.old) (W.view world.old))
+        (setting_of (S.left source.new) (S.faults source.new) (W.view world.new)) result }
+{
+    run_follow_within(alloc, words, source, world, BUDGET)
+}
