@@ -26,7 +26,7 @@ abbrev pub no_session_text : ℕ → List ℕ
 no_session_text session = codes "43 no session " ++ decimal session
 
 unfoldable pub stale_text : Elem → ℕ → List ℕ
-stale_text elem commit = codes "44 " ++ (elem_text elem ++ (codes " changed at commit " ++ decimal commit))
+stale_text elem commit = codes "44 " ++ (elem_text elem ++ (codes " changed" ++ (codes " at commit " ++ decimal commit)))
 
 abbrev pub too_many_text : List ℕ
 too_many_text = codes "45 1000 sessions are open"

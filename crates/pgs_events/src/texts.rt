@@ -1,4 +1,4 @@
-ghost use Rattle.std.specs.Prelude.{◌≡◌, ◌++◌, IfOk, OnOk, codes, decimal};
+ghost use Rattle.std.specs.Prelude.{◌≡◌, ◌++◌, IfOk, OnOk, decimal};
 ghost use Rattle.pgs_events.specs.Events.{no_event_text};
 ghost use Rattle.pgs_events.specs.Replies.{already_open_text, no_session_text, stale_text, too_many_text};
 
@@ -30,12 +30,12 @@ pub fn no_session_text(alloc: Global, session: u64) -> Result<Bytes, Memory>
     Ok(text.into_bytes())
 }
 
-// Puts the number of a commit that changed something last.
-fn push_commit(text: &mut TextBuffer, commit: u64) -> Result<(), Memory>
-    ensures { OnOk result (text.new ≡ text.old ++ (codes " changed at commit " ++ decimal commit)) }
+// Puts words and a number last.
+fn push_counted(text: &mut TextBuffer, words: &[u8], number: u64) -> Result<(), Memory>
+    ensures { OnOk result (text.new ≡ text.old ++ (words.now ++ decimal number)) }
 {
-    text.push(b" changed at commit ")?;
-    text.push_number(commit)
+    text.push(words)?;
+    text.push_number(number)
 }
 
 /// Refusal 44: the least element that the session watched and that was changed since its Begin, and the last commit that changed it.
@@ -46,7 +46,8 @@ pub fn stale_text(alloc: Global, elem: Elem, commit: u64) -> Result<Bytes, Memor
     let mut text = TextBuffer::with_room(alloc, ROOM)?;
     text.push(b"44 ")?;
     text.push_elem(elem)?;
-    push_commit(&mut text, commit)?;
+    text.push(b" changed")?;
+    push_counted(&mut text, b" at commit ", commit)?;
     Ok(text.into_bytes())
 }
 

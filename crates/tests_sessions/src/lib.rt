@@ -1,4 +1,4 @@
-//! Tests of `pgs_sessions`: worked lists of events, each with the replies that it is to get.
+//! Tests of `pgs_sessions` and `pgs_run_sessions`: worked lists of events with the replies that they are to get, and worked runs.
 //!
 //! What each reply is stands in the contract of `Sessions::step`. That events are answered at all no contract says, and these tests show
 //! it: an update isn't lost, and write skew is refused.
@@ -8,3 +8,7 @@
 mod answering;
 #[cfg(test)]
 mod interleavings;
+#[cfg(test)]
+mod ran;
+#[cfg(test)]
+mod rows;
