@@ -1,0 +1,10 @@
+pub mod Following
+pub mod Fronts
+pub mod InBrief
+pub mod Machine
+pub mod OneWord
+pub mod Promised
+pub mod Room
+pub mod RunEnds
+pub mod SchemaEnds
+pub mod Telling

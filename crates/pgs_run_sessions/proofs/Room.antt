@@ -1,0 +1,28 @@
+-- Room for counting lines and commits.
+use Rattle.std.proofs.Common.{◌≡◌, ℕ, ◌+◌, ◌-◌, ◌<◌, ◌^◌, Bool, true, false, List, Result, Ok, Err, refl, arith}
+use Rattle.pgs_syntax.specs.declared.resolved.Resolved.{Resolved}
+use Rattle.pgs_run_base.specs.Answers.{schema_answer}
+use Rattle.pgs_run_base.specs.Input.{is_separator, is_skipped}
+use Rattle.pgs_run_base.specs.Part.{Part}
+use Rattle.pgs_run_sessions.specs.Running.{Stand, Schema, Lines, Refused, HasRoom, after_schema, after_end}
+use Rattle.pgs_run_sessions.proofs.Following.{IsCounted, counted_line}
+
+room_schema : (lines : ℕ) (schema : Result Resolved (List ℕ)) → lines + 1 < 2 ^ 64 → HasRoom lines (after_schema schema)
+room_schema lines (Ok schema) room = (omega arith, omega arith)
+room_schema lines (Err text) room = tt
+
+room_part : (lines : ℕ) (part : Part) (line : List ℕ) (separator : Bool) → is_separator line ≡ separator → lines + 1 < 2 ^ 64 → HasRoom lines (after_end (Schema part) line)
+room_part lines part line true e room = rw e (room_schema lines (schema_answer part.text) room)
+room_part lines part line false e room = rw e (omega arith)
+
+-- a line counts once at most
+pub room_end : (lines : ℕ) (stand : Stand) (line : List ℕ) → HasRoom (lines + 1) stand → HasRoom lines (after_end stand line)
+room_end lines (Schema part) line room = room_part lines part line (is_separator line) refl room
+room_end lines (Lines schema s) line room =
+    let n = 2 ^ 64 - 2 - lines in
+    let number = room.0 in
+    let commits = room.1 in
+    let before : IsCounted n s = record { lines = omega arith; commits = omega arith } in
+    let after = counted_line n schema s line (is_skipped line) refl before in
+    ((let h = after.lines in omega arith), (let h = after.commits in omega arith))
+room_end lines Refused line room = tt

@@ -1,0 +1,14 @@
+use Rattle.pgs_run_lines.specs.Pieces.{shown_of}
+use Rattle.pgs_run_sessions.specs.Running.{stand_of}
+use Rattle.pgs_run_sessions.proofs.RunEnds.{run_ends, run_read, run_cause}
+use Rattle.pgs_run_sessions.proofs.run.run_input.Goals as goal
+
+pub returns-clause-ends : goal.returns-clause-ends
+returns-clause-ends g c = λ input is.
+    run_ends (shown_of (g.W.World.view c.args.world.now)) _ input c.args.budget _ _ (stand_of c.new-taking.result.phase) c.run_lines-stop.result c.status_at.result is c.new-taking.ensures c.status_at.ensures c.run_lines-stop.ensures.by (c.run_lines-stop.ensures.ends input is)
+
+pub returns-clause-read_to_end : goal.returns-clause-read_to_end
+returns-clause-read_to_end g c = run_read c.args.budget _ _ c.run_lines-stop.result c.status_at.result c.status_at.ensures c.run_lines-stop.ensures.by
+
+pub returns-clause-cause : goal.returns-clause-cause
+returns-clause-cause g c = run_cause _ _ c.args.budget _ _ c.run_lines-stop.result c.status_at.result c.status_at.ensures c.run_lines-stop.ensures.by c.run_lines-stop.ensures.may c.run_lines-stop.ensures.cause

@@ -1,0 +1,8 @@
+pub mod Lines
+pub mod Opening
+pub mod Promise
+pub mod Running
+pub mod State
+pub mod Statuses
+pub mod Told
+pub mod Words

@@ -1,0 +1,7 @@
+pub mod Brief
+pub mod Committed
+pub mod Differing
+pub mod Entries
+pub mod Kept
+pub mod Lesser
+pub mod Stepping

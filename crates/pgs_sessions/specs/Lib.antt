@@ -1,0 +1,7 @@
+pub mod Changes
+pub mod Committing
+pub mod Differing
+pub mod Least
+pub mod Open
+pub mod State
+pub mod Summary
