@@ -24,7 +24,8 @@ use std::marker::Brand;
 use std::sync::ledger::{Blank, Ledger};
 use std::test::Fail;
 
-const SCHEMA: &str = "CREATE GRAPH TYPE g STRICT {(t: A {k INT}), (u: B OPEN {OPEN}), (:t)-[e: r {OPTIONAL k INT}]->(:t), (OPEN {OPEN})-[f: s {OPTIONAL k INT}]->(OPEN {OPEN}), FOR (x:t) EXCLUSIVE x.k, FOR (x:t)-[:r]->(y) MANDATORY z WITHIN (x)<-[:s]-(z), FOR (x)-[:r]->(x) SINGLETON y.k WITHIN (x)-[:s]->(y), FOR ()-[x:r]->() COUNT 1..1 OF x.k, FOR (x:t) COUNT 0..2 OF y WITHIN (x)-[:r]->(y), FOR ()-[x:s]->(y) EXCLUSIVE y.k, v WITHIN (v)-[x]->(y)};";
+const SCHEMA: &str =
+    "CREATE GRAPH TYPE g STRICT {(t: A {k INT}), (u: B OPEN {OPEN}), (:t)-[e: r {OPTIONAL k INT}]->(:t), (OPEN {OPEN})-[f: s {OPTIONAL k INT}]->(OPEN {OPEN}), FOR (x:t) EXCLUSIVE x.k, FOR (x:t)-[:r]->(y) MANDATORY z WITHIN (x)<-[:s]-(z), FOR (x)-[:r]->(x) SINGLETON y.k WITHIN (x)-[:s]->(y), FOR ()-[x:r]->() COUNT 1..1 OF x.k, FOR (x:t) COUNT 0..2 OF y WITHIN (x)-[:r]->(y), FOR ()-[x:s]->(y) EXCLUSIVE y.k, v WITHIN (v)-[x]->(y)};";
 
 /// How many changes were judged as by the list from scratch, how many otherwise, how many conform, and the numbers of the violations
 /// that came first, as bits.

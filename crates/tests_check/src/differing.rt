@@ -19,7 +19,8 @@ use std::marker::Brand;
 use std::sync::ledger::{Blank, Ledger};
 use std::test::Fail;
 
-const SCHEMA: &str = "CREATE GRAPH TYPE g LOOSE {ABSTRACT (t: A OPEN {k INT, OPEN}), ABSTRACT (:t)-[f OPEN {OPEN}]->(OPEN {OPEN}), ABSTRACT (OPEN {OPEN})-[h OPEN {OPEN}]->(:t), FOR (x:A) EXCLUSIVE x.k, FOR (x:t) MANDATORY y WITHIN (x)-[:r]->(y:A), FOR (x)-[:f]->() SINGLETON z.k WITHIN (x)-[:r]->()<-[:s]-(z), FOR (x)-[a]->()-[:r]->(x) MANDATORY b, y.k WITHIN (x)-[b]->(y)-[:s]->(x), FOR (x)-[a]->(x) SINGLETON b WITHIN (x)-[b]->(x), FOR ()-[x:r]->(:A) EXCLUSIVE u, v.k WITHIN (u)-[x]->(v)-[:s]->(), FOR (:t)-[x:f]->() SINGLETON x.k};";
+const SCHEMA: &str =
+    "CREATE GRAPH TYPE g LOOSE {ABSTRACT (t: A OPEN {k INT, OPEN}), ABSTRACT (:t)-[f OPEN {OPEN}]->(OPEN {OPEN}), ABSTRACT (OPEN {OPEN})-[h OPEN {OPEN}]->(:t), FOR (x:A) EXCLUSIVE x.k, FOR (x:t) MANDATORY y WITHIN (x)-[:r]->(y:A), FOR (x)-[:f]->() SINGLETON z.k WITHIN (x)-[:r]->()<-[:s]-(z), FOR (x)-[a]->()-[:r]->(x) MANDATORY b, y.k WITHIN (x)-[b]->(y)-[:s]->(x), FOR (x)-[a]->(x) SINGLETON b WITHIN (x)-[b]->(x), FOR ()-[x:r]->(:A) EXCLUSIVE u, v.k WITHIN (u)-[x]->(v)-[:s]->(), FOR (:t)-[x:f]->() SINGLETON x.k};";
 
 /// The keys of the schema, or those whose patterns are one edge alone.
 #[derive(Clone, Copy)]
@@ -89,8 +90,14 @@ fn count_number<L: Ledger>(
 {
     let node = Elem::Node(NodeId(number));
     let edge = Elem::Edge(EdgeId(number));
-    counts.count(differs(alloc, sides, key, node, steps)?, given.contains(&node));
-    counts.count(differs(alloc, sides, key, edge, steps)?, given.contains(&edge));
+    counts.count(
+        differs(alloc, sides, key, node, steps)?,
+        given.contains(&node),
+    );
+    counts.count(
+        differs(alloc, sides, key, edge, steps)?,
+        given.contains(&edge),
+    );
     Ok(())
 }
 
