@@ -18,9 +18,9 @@ pub const ELEMENTS: u64 = 8;
 
 const DIGITS: [&str; 8] = ["0", "1", "2", "3", "4", "5", "6", "7"];
 
-const NODE_LABELS: [&str; 4] = ["\"A\"", "\"A\"", "\"B\"", ""];
+const NODE_LABELS: [&str; 4] = ["\"A\"", "\"A\"", "\"B\"", "\"A\",\"B\""];
 
-const EDGE_LABELS: [&str; 3] = ["\"r\"", "\"r\"", "\"s\""];
+const EDGE_LABELS: [&str; 2] = ["\"r\"", "\"s\""];
 
 const VALUES: [&str; 6] = ["1", "2", "3", "4", "5", "6"];
 
@@ -63,7 +63,7 @@ impl Draw {
 
     // Writes what is done to a node: it is added, changed or detached, or detached and added again.
     fn put_node(&mut self, number: u64) {
-        match self.below(8) {
+        match self.below(16) {
             0 => {
                 self.put_op("set_node", number);
                 self.put_value();

@@ -25,7 +25,7 @@ use std::sync::ledger::{Blank, Ledger};
 use std::test::Fail;
 
 const SCHEMA: &str =
-    "CREATE GRAPH TYPE g STRICT {(t: A {k INT}), (u: B OPEN {OPEN}), (:t)-[e: r {OPTIONAL k INT}]->(:t), (OPEN {OPEN})-[f: s {OPTIONAL k INT}]->(OPEN {OPEN}), FOR (x:t) EXCLUSIVE x.k, FOR (x:t)-[:r]->(y) MANDATORY z WITHIN (x)<-[:s]-(z), FOR (x)-[:r]->(x) SINGLETON y.k WITHIN (x)-[:s]->(y), FOR ()-[x:r]->() COUNT 1..1 OF x.k, FOR (x:t) COUNT 0..2 OF y WITHIN (x)-[:r]->(y), FOR ()-[x:s]->(y) EXCLUSIVE y.k, v WITHIN (v)-[x]->(y)};";
+    "CREATE GRAPH TYPE g STRICT {(t: A {k INT}), (u: B OPEN {OPEN}), (:t)-[e: r {OPTIONAL k INT}]->(:t), (OPEN {OPEN})-[f: s {OPTIONAL k INT}]->(OPEN {OPEN}), FOR (x:t) EXCLUSIVE x.k, FOR (x)-[:s]->() MANDATORY y.k WITHIN (x)-[:s]->(y), FOR (x:t) SINGLETON y.k WITHIN (x)-[:r]->(y), FOR (x) COUNT 0..2 OF y WITHIN (x)-[:s]->(y), FOR ()-[x:s]->() EXCLUSIVE u, v WITHIN (u)-[x]->(v), FOR (x)-[:s]->()-[:s]->(x) SINGLETON b WITHIN (x)<-[b:s]-()};";
 
 /// How many changes were judged as by the list from scratch, how many otherwise, how many conform, and the numbers of the violations
 /// that came first, as bits.
@@ -263,7 +263,7 @@ fn tally_by<L: Ledger>(alloc: Global, schema: &Schema, blank: Blank) -> Result<T
     Ok(tally)
 }
 
-fn tally(alloc: Global) -> Result<Tally, Memory> {
+fn tallied(alloc: Global) -> Result<Tally, Memory> {
     let schema = schema(alloc, SCHEMA)?;
     tally_by::<Brand>(alloc, &schema, Blank::new(1))
 }
@@ -278,6 +278,6 @@ fn is_told(tally: Tally) -> bool {
 
 #[test]
 fn the_first_violation_is_that_of_the_list(rt: HostRuntime) -> Result<(), Fail> {
-    assert!(rt; is_told(tally(rt.alloc())?));
+    assert!(rt; is_told(tallied(rt.alloc())?));
     Ok(())
 }

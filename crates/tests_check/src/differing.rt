@@ -243,7 +243,7 @@ fn counts_by<L: Ledger>(
     Ok(counts)
 }
 
-fn counts(alloc: Global, keys: Keys) -> Result<Counts, Memory> {
+fn counted(alloc: Global, keys: Keys) -> Result<Counts, Memory> {
     let schema = schema(alloc, SCHEMA)?;
     counts_by::<Brand>(alloc, &schema, keys, Blank::new(1))
 }
@@ -255,12 +255,12 @@ fn is_told(counts: Counts, many: u64) -> bool {
 
 #[test]
 fn what_differs_is_given(rt: HostRuntime) -> Result<(), Fail> {
-    assert!(rt; is_told(counts(rt.alloc(), Keys::Listed)?, 500));
+    assert!(rt; is_told(counted(rt.alloc(), Keys::Listed)?, 500));
     Ok(())
 }
 
 #[test]
 fn what_differs_of_an_edge_alone_is_given(rt: HostRuntime) -> Result<(), Fail> {
-    assert!(rt; is_told(counts(rt.alloc(), Keys::Alone)?, 100));
+    assert!(rt; is_told(counted(rt.alloc(), Keys::Alone)?, 100));
     Ok(())
 }
