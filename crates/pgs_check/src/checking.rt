@@ -145,6 +145,33 @@ fn first_of_rows<L: Ledger>(
     }
 }
 
+// The first violation of a key that the rows of the changed elements make.
+fn first_of_changed<L: Ledger>(
+    alloc: Global,
+    index: &KeyIndex,
+    number: u32,
+    key: &PlannedKey,
+    changed: &[Elem],
+    rows: &[KeyChange],
+    steps: &mut Steps<L>,
+) -> Result<Option<Violation>, Memory>
+    requires exclusive { key.now.qualifiers.exclusive ≡ true → is_exclusive index.now.exclusive number ≡ true }
+    requires ascending { ascends elem_cmp changed.now ≡ true }
+    ensures first { (owner : Items Part → Option Elem) →
+        (key.now.qualifiers.exclusive ≡ true → IsOwner index.now.rows number changed.now owner) →
+        IfOk result (λ found. found ≡ first_of_rows key.now.qualifiers number owner rows.now) }
+    ensures no_step_back { steps.old ≤ steps.new }
+    ensures cost { steps.new ≤ steps.old + sum_by (λ row. length (tuples_of row)) rows.now }
+{
+    let owners = Owners {
+        index,
+        number,
+        changed,
+    };
+    let asked = key.key().qualifiers;
+    first_of_rows(alloc, &owners, asked, rows, steps)
+}
+
 // The rows of one key, of this number, where the changed graph doesn't violate it.
 fn check_key<L: Ledger>(
     alloc: Global,
@@ -176,13 +203,7 @@ fn check_key<L: Ledger>(
     let changed = change.affected(alloc, compiled, key, steps)?;
     let elems = changed.as_slice();
     let rows = key_rows(alloc, new, compiled, number, key, elems, steps)?;
-    let owners = Owners {
-        index,
-        number,
-        changed: elems,
-    };
-    let asked = key.key().qualifiers;
-    let found = first_of_rows(alloc, &owners, asked, rows.as_slice(), steps)?;
+    let found = first_of_changed(alloc, index, number, key, elems, rows.as_slice(), steps)?;
     match found {
         Some(violation) => Err(CheckFault::Violated(violation)),
         None => Ok(rows),

@@ -66,8 +66,8 @@ alone_few_steps most w start now cost = let some = one_power most (w + 1) (omega
 pub turn_more : (index power start now mid after : ℕ) → now ≤ start + index * (32 * power) → mid ≤ now + 16 * power → after ≤ mid + 16 * power → after ≤ start + (index + 1) * (32 * power)
 turn_more index power start now mid after a b c = omega arith
 
-pub known_more : (index power start now mid after : ℕ) → now ≤ start + 1280 * index * power → mid ≤ now + 640 * power → after ≤ mid + 640 * power → after ≤ start + 1280 * (index + 1) * power
-known_more index power start now mid after a b c = omega arith
+pub known_more : (index power start now after : ℕ) → now ≤ start + 1280 * index * power → after ≤ now + 1280 * power → after ≤ start + 1280 * (index + 1) * power
+known_more index power start now after a b = omega arith
 
 pub known_within : (index count power start now after : ℕ) → index < count → now ≤ start + 1280 * index * power → after ≤ now + 1280 * power → after ≤ start + 1280 * count * power
 known_within index count power start now after below a b =

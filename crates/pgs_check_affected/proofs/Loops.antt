@@ -43,10 +43,3 @@ flat_mapped f e (x ∷ xs) = ap (λ rest. f (e x) ++ rest) (flat_mapped f e xs)
 
 pub flat_all : {X Y : Type 0} (f : X → List Y) (xs : List X) (i : ℕ) → length xs ≤ i → flat_map f (take i xs) ≡ flat_map f xs
 flat_all f xs i end = ap (flat_map f) (take_whole xs i end)
-
--- two lists more
-pub flat_twice : {X Y : Type 0} (f : X → List Y) (first second : List Y) (now mid after : List Y) (xs : List X) (i : ℕ) (x : X) → i < length xs → get_or xs i x ≡ x →
-    f x ≡ first ++ second → now ≡ flat_map f (take i xs) → mid ≡ now ++ first → after ≡ mid ++ second → after ≡ flat_map f (take (i + 1) xs)
-flat_twice f first second now mid after xs i x below is both so_far one two =
-    two ∙ ap (λ ys. ys ++ second) one ∙ append_assoc now first second ∙ ap (λ ys. now ++ ys) (sym both)
-    ∙ ap (λ ys. ys ++ f x) so_far ∙ flat_more f xs i x below is

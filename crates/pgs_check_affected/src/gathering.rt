@@ -15,7 +15,7 @@ ghost use Rattle.pgs_match.specs.Reached.{reached};
 ghost use Rattle.pgs_match.specs.Tests.{own_passes};
 ghost use Rattle.pgs_check_affected.specs.declared.known.Known.{Known};
 ghost use Rattle.pgs_check_affected.specs.Changes.{known_in};
-ghost use Rattle.pgs_check_affected.specs.Found.{edges_at, found_alone, found_from, found_in, found};
+ghost use Rattle.pgs_check_affected.specs.Found.{edges_at, found_alone, found_from, found_in, found_by, found};
 ghost use Rattle.pgs_check_affected.specs.Local.{is_one_of};
 ghost use Rattle.pgs_check_affected.specs.Touched.{IsSparseInBoth, AreSparseInBoth};
 
@@ -106,6 +106,23 @@ fn add_edges_at<G: GraphRead, L: Ledger>(
         add_edges_along(graph, id, true, elems, steps)?;
         add_edges_along(graph, id, false, elems, steps)?;
     }
+    Ok(())
+}
+
+// Adds the edges at an element in both graphs.
+fn add_edges_at_both<G: GraphRead, H: GraphRead, L: Ledger>(
+    before: &G,
+    after: &H,
+    elem: Elem,
+    elems: &mut Vec<Elem>,
+    steps: &mut Steps<L>,
+) -> Result<(), Memory>
+    ensures edges { OnOk result (elems.new.items ≡ elems.old.items ++ (edges_at (G.meaning before.now) elem ++ edges_at (H.meaning after.now) elem)) }
+    ensures no_step_back { steps.old ≤ steps.new }
+    ensures cost { steps.new ≤ steps.old + length (edges_at (G.meaning before.now) elem) + length (edges_at (H.meaning after.now) elem) + 4 }
+{
+    add_edges_at(before, elem, elems, steps)?;
+    add_edges_at(after, elem, elems, steps)?;
     Ok(())
 }
 
@@ -216,8 +233,7 @@ impl<'a> Sought<'a> {
             elems.push(elem)?;
         }
         if is_edge(self.key.pattern(self.side)) {
-            add_edges_at(before, elem, elems, steps)?;
-            add_edges_at(after, elem, elems, steps)?;
+            add_edges_at_both(before, after, elem, elems, steps)?;
         }
         Ok(())
     }
@@ -260,6 +276,40 @@ fn is_edge(pattern: &Pattern) -> bool
     }
 }
 
+// Adds what is found in both patterns of a key from an element of a change.
+fn add_found_by<G: GraphRead, H: GraphRead, L: Ledger>(
+    alloc: Global,
+    before: &G,
+    after: &H,
+    known: &Known<'_>,
+    compiled: &Compiled,
+    key: &PlannedKey,
+    elems: &mut Vec<Elem>,
+    steps: &mut Steps<L>,
+) -> Result<(), Memory>
+    requires typed { is_valid_key_of compiled.now key.now ≡ true }
+    requires known { known.now ≡ known_in (G.meaning before.now) (H.meaning after.now) known.now.elem }
+    ensures elems { OnOk result (elems.new.items ≡ elems.old.items
+        ++ found_by compiled.now (G.meaning before.now) (H.meaning after.now) known.now.elem key.now) }
+    ensures no_step_back { steps.old ≤ steps.new }
+    ensures cost { (most : ℕ) → IsSparseInBoth (G.meaning before.now) (H.meaning after.now) (most_edges key.now) known.now.elem most →
+        steps.new ≤ steps.old + 1280 * (most + 2) ^ (most_edges key.now + 1) }
+{
+    let scope = Sought {
+        compiled,
+        key,
+        side: Side::Scope,
+    };
+    let descriptor = Sought {
+        compiled,
+        key,
+        side: Side::Descriptor,
+    };
+    scope.add_found(alloc, before, after, known, elems, steps)?;
+    descriptor.add_found(alloc, before, after, known, elems, steps)?;
+    Ok(())
+}
+
 /// What is found in both patterns of a key from the elements of a change.
 pub(crate) fn found_by_all<G: GraphRead, H: GraphRead, L: Ledger>(
     alloc: Global,
@@ -277,20 +327,9 @@ pub(crate) fn found_by_all<G: GraphRead, H: GraphRead, L: Ledger>(
     ensures cost { (most : ℕ) → AreSparseInBoth (G.meaning before.now) (H.meaning after.now) (most_edges key.now) (map (λ (one : Known). one.elem) known.now) most →
         steps.new ≤ steps.old + 1280 * length known.now * (most + 2) ^ (most_edges key.now + 1) }
 {
-    let scope = Sought {
-        compiled,
-        key,
-        side: Side::Scope,
-    };
-    let descriptor = Sought {
-        compiled,
-        key,
-        side: Side::Descriptor,
-    };
     let mut elems = Vec::new(alloc);
     for one in known {
-        scope.add_found(alloc, before, after, one, &mut elems, steps)?;
-        descriptor.add_found(alloc, before, after, one, &mut elems, steps)?;
+        add_found_by(alloc, before, after, one, compiled, key, &mut elems, steps)?;
     }
     Ok(elems)
 }

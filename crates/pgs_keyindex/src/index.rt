@@ -148,17 +148,7 @@ fn take_memory(table: &mut KeyTable, changes: &[KeyChange]) -> Result<(), Memory
     ensures room { OnOk result (list_all (has_room table.new) changes.now ≡ true) }
 {
     table.clear()?;
-    tidy_for(table, changes)?;
     make_room(table, changes)
-}
-
-fn tidy_for(table: &mut KeyTable, changes: &[KeyChange]) -> Result<(), Memory>
-    ensures { SameRows table.old table.new }
-{
-    for change in changes {
-        table.tidy_for(change)?;
-    }
-    Ok(())
 }
 
 fn make_room(table: &mut KeyTable, changes: &[KeyChange]) -> Result<(), Memory>

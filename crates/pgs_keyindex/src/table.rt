@@ -20,18 +20,15 @@ use pgs_tables::Numbered;
 use std::alloc::Global;
 use std::marker::Model;
 
-/// As many elements are listed at a digest before it is tried which of them still stand there.
-const CROWD: usize = 4;
-
 /// The rows of an index. Where a value of an exclusive key is looked for, the elements are listed that may have it; some of them may
-/// have lost it.
+/// have lost it, or not have got it. The digests at which that may be so since memory was taken last are kept.
 pub(crate) struct KeyTable {
     alloc: Global,
     seed: Seed,
     exclusive: List<bool>,
     rows: Numbered<Member, TupleSet>,
     holders: Numbered<Digest, Few>,
-    lost: usize,
+    unsure: Vec<Digest>,
 }
 
 impl Model for KeyTable {
@@ -53,7 +50,7 @@ impl Drop for KeyTable {
             exclusive: _,
             rows: _,
             holders: _,
-            lost: _,
+            unsure: _,
         } = self;
     }
 }
@@ -70,7 +67,7 @@ impl KeyTable {
             exclusive,
             rows: Numbered::new(alloc, seed),
             holders: Numbered::new(alloc, seed),
-            lost: 0,
+            unsure: Vec::new(alloc),
         }
     }
 
@@ -192,45 +189,37 @@ impl KeyTable {
         Ok(())
     }
 
-    fn tidy_all(&mut self) -> Result<(), Memory>
+    // The same at the digest that is kept at a place.
+    fn tidy_kept(&mut self, place: usize) -> Result<(), Memory>
         ensures { SameRows self.old self.new }
     {
-        let digests = self.holders.ids(self.alloc)?;
-        let digests = digests.as_slice();
-        for digest in digests {
-            self.tidy(*digest)?;
+        match self.unsure.get(place) {
+            Some(digest) => {
+                let digest = *digest;
+                self.tidy(digest)
+            }
+            None => Ok(()),
         }
+    }
+
+    fn tidy_all_kept(&mut self) -> Result<(), Memory>
+        ensures { SameRows self.old self.new }
+    {
+        for place in 0..self.unsure.len() {
+            self.tidy_kept(place)?;
+        }
+        self.unsure.clear();
         Ok(())
     }
 
-    /// Takes out the slots without a row, and what is listed without a value, where they are more than half of all.
+    /// Takes out the slots without a row where they are more than half of all, and what is listed without a value at the digests that are
+    /// kept.
     pub(crate) fn clear(&mut self) -> Result<(), Memory>
         ensures { SameRows self.old self.new }
     {
         self.rows.clear_slots();
-        if self.lost > self.holders.len() / 2 {
-            self.tidy_all()?;
-            self.holders.clear_slots();
-            self.lost = 0;
-        }
-        Ok(())
-    }
-
-    /// Takes out what is listed without a value, where the change's values are looked for and many are listed.
-    pub(crate) fn tidy_for(&mut self, change: &KeyChange) -> Result<(), Memory>
-        ensures { SameRows self.old self.new }
-    {
-        let Some(values) = &change.values else {
-            return Ok(());
-        };
-        let tuples = values.as_slice();
-        for tuple in tuples {
-            let digest = Digest::of(self.seed, change.key, tuple);
-            if listed(&self.holders, digest).len() > CROWD {
-                self.tidy(digest)?;
-            }
-        }
-        Ok(())
+        self.holders.clear_slots();
+        self.tidy_all_kept()
     }
 
     // Lists an element at a digest of an exclusive key.
@@ -239,10 +228,11 @@ impl KeyTable {
         ensures grows { Grows self.old self.new }
         ensures there { OnOk result (has_elem elem (listed_at self.new.holders.rows digest) ≡ true) }
     {
-        if has_elem(listed(&self.holders, digest), elem) {
+        let elems = listed(&self.holders, digest);
+        if has_elem(elems, elem) {
             return Ok(());
         }
-        let few = with_elem(self.alloc, listed(&self.holders, digest), elem)?;
+        let few = with_elem(self.alloc, elems, elem)?;
         self.holders.make_slot(digest)?;
         relist(&mut self.holders, digest, few);
         Ok(())
@@ -256,16 +246,33 @@ impl KeyTable {
     {
         let tuples = values.as_slice();
         for tuple in tuples {
-            self.list(Digest::of(self.seed, key, tuple), elem)?;
+            let digest = Digest::of(self.seed, key, tuple);
+            self.unsure.push(digest)?;
+            self.list(digest, elem)?;
         }
         Ok(())
     }
 
-    /// Takes all memory that a change needs: a slot for the row, and the element listed where its values are looked for.
+    // Keeps the digests of the values that an element has under an exclusive key.
+    fn keep_unsure(&mut self, key: u32, elem: Elem) -> Result<(), Memory>
+        ensures { self.new ≡ self.old }
+    {
+        if !self.is_exclusive(key) {
+            return Ok(());
+        }
+        match self.rows.get(Member::new(key, elem)) {
+            Some(values) => add_digests(&mut self.unsure, self.seed, key, values),
+            None => Ok(()),
+        }
+    }
+
+    /// Takes all memory that a change needs: a slot for the row, and the element listed where its values are looked for. The digests of
+    /// the values that it has before and after are kept.
     pub(crate) fn make_room(&mut self, change: &KeyChange) -> Result<(), Memory>
         ensures grows { Grows self.old self.new }
         ensures room { OnOk result (has_room self.new change.now ≡ true) }
     {
+        self.keep_unsure(change.key, change.elem)?;
         let Some(values) = &change.values else {
             return Ok(());
         };
@@ -276,14 +283,6 @@ impl KeyTable {
         Ok(())
     }
 
-    // How many values an element has.
-    fn count(&self, key: u32, elem: Elem) -> usize {
-        match self.values(key, elem) {
-            Some(values) => values.len(),
-            None => 0,
-        }
-    }
-
     /// Does a change for which there is room. It takes no memory.
     pub(crate) fn set(&mut self, change: KeyChange)
         requires { has_room self.old change ≡ true }
@@ -291,8 +290,6 @@ impl KeyTable {
         ensures room { KeepsRoom self.old self.new }
     {
         let KeyChange { key, elem, values } = change;
-        let lost = self.count(key, elem);
-        self.lost = self.lost.saturating_add(lost);
         match values {
             Some(values) => self.rows.put(Member::new(key, elem), values),
             None => {
@@ -300,4 +297,17 @@ impl KeyTable {
             }
         }
     }
+}
+
+// Adds the digests of values under a key.
+fn add_digests(
+    digests: &mut Vec<Digest>,
+    seed: Seed,
+    key: u32,
+    values: &TupleSet,
+) -> Result<(), Memory> {
+    for tuple in values.as_slice() {
+        digests.push(Digest::of(seed, key, tuple))?;
+    }
+    Ok(())
 }

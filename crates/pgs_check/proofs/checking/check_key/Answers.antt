@@ -1,8 +1,7 @@
-use Rattle.std.proofs.Common.{◌≡◌, ◌+◌, ◌*◌, ◌^◌, ◌≤◌, true, length, sym, ap, subst, ◌∙◌}
+use Rattle.std.proofs.Common.{◌≡◌, ◌+◌, ◌*◌, ◌^◌, ◌≤◌, true, length, refl, sym, ap, subst, ◌∙◌}
 use Rattle.std.specs.List.{All, sum_by}
 use Rattle.std.proofs.lemmas.Result.{err_from_is_err_and}
 use Rattle.pgs_base.specs.Order.{ascends, elem_cmp}
-use Rattle.pgs_syntax.specs.declared.key.Key.{Key}
 use Rattle.pgs_match.specs.Near.{IsSparse}
 use Rattle.pgs_match.specs.Planned.{most_edges}
 use Rattle.pgs_keyindex.specs.Rows.{is_exclusive}
@@ -14,13 +13,13 @@ use Rattle.pgs_check.proofs.OneKey.{found_first, nothing_found, rows_are}
 use Rattle.pgs_check.proofs.Owners.{exclusive_at}
 use Rattle.pgs_check.proofs.checking.check_key.Goals as goal
 
-pub first_of_rows-requires-clause-exclusive : goal.first_of_rows-requires-clause-exclusive
-first_of_rows-requires-clause-exclusive g c = λ asked.
+pub first_of_changed-requires-clause-exclusive : goal.first_of_changed-requires-clause-exclusive
+first_of_changed-requires-clause-exclusive g c = λ asked.
     subst (λ es. is_exclusive es c.args.number ≡ true) (sym c.requires.index.exclusive)
-    (exclusive_at c.args.compiled.now.guard.keys c.args.number c.args.key.now c.requires.number (ap (λ (k : Key). k.qualifiers.exclusive) (sym c.key.ensures) ∙ asked))
+    (exclusive_at c.args.compiled.now.guard.keys c.args.number c.args.key.now c.requires.number asked)
 
-pub first_of_rows-requires-clause-ascending : goal.first_of_rows-requires-clause-ascending
-first_of_rows-requires-clause-ascending g c = ap (ascends elem_cmp) c.as_slice-elems.ensures ∙ c.in_ok-changed.ensures.ascending
+pub first_of_changed-requires-clause-ascending : goal.first_of_changed-requires-clause-ascending
+first_of_changed-requires-clause-ascending g c = ap (ascends elem_cmp) c.as_slice-elems.ensures ∙ c.in_ok-changed.ensures.ascending
 
 pub returns-in_err-changed-clause-cost : goal.returns-in_err-changed-clause-cost
 returns-in_err-changed-clause-cost g c = λ edges most within sparse.
@@ -47,7 +46,7 @@ returns-in-Some-clause-violated g c =
     c.requires.number c.args.index.now c.requires.index c.requires.conforms elems order
     (λ elem beside. subst (λ x. HasOneRow resolved c.args.change.now.before x c.args.key.now elem) (sym c.requires.after)
     (c.in_ok-changed.ensures.holds elem (ap (λ xs. is_one_of xs elem) (sym c.as_slice-elems.ensures) ∙ beside)))
-    c.as_slice.result.now (c.as_slice.ensures.value ∙ c.in_ok-rows.ensures.rows) c.key.result.now.qualifiers (ap (λ (k : Key). k.qualifiers) c.key.ensures) c.in_ok-found.found c.in_ok-found.ensures.first ∙ c.in-Some.is
+    c.as_slice.result.now (c.as_slice.ensures.value ∙ c.in_ok-rows.ensures.rows) c.args.key.now.qualifiers refl c.in_ok-found.found c.in_ok-found.ensures.first ∙ c.in-Some.is
 
 pub returns-clause-none : goal.returns-clause-none
 returns-clause-none g c =
@@ -58,7 +57,7 @@ returns-clause-none g c =
     c.requires.number c.args.index.now c.requires.index c.requires.conforms elems order
     (λ elem beside. subst (λ x. HasOneRow resolved c.args.change.now.before x c.args.key.now elem) (sym c.requires.after)
     (c.in_ok-changed.ensures.holds elem (ap (λ xs. is_one_of xs elem) (sym c.as_slice-elems.ensures) ∙ beside)))
-    c.as_slice.result.now (c.as_slice.ensures.value ∙ c.in_ok-rows.ensures.rows) c.key.result.now.qualifiers (ap (λ (k : Key). k.qualifiers) c.key.ensures) c.in_ok-found.found c.in_ok-found.ensures.first c.in-None.is
+    c.as_slice.result.now (c.as_slice.ensures.value ∙ c.in_ok-rows.ensures.rows) c.args.key.now.qualifiers refl c.in_ok-found.found c.in_ok-found.ensures.first c.in-None.is
 
 pub returns-clause-rows : goal.returns-clause-rows
 returns-clause-rows g c =
@@ -81,8 +80,8 @@ returns-in_err-found-clause-cost g c = λ edges most within sparse.
     let items = ap (sum_by (λ row. length (tuples_of row))) c.as_slice.ensures.value in
     whole_key most (most_edges c.args.key.now) edges within u (length c.as_slice-elems.result.now)
     (subst (λ n. n ≤ 80 * u * (most + 2) ^ edges) (sym (ap length same)) (c.in_ok-changed.ensures.few edges most within sparse))
-    c.args.steps.now c.affected.new.steps c.key_rows.new.steps c.first_of_rows.new.steps (sum_by (λ row. length (tuples_of row)) c.as_slice.result.now)
-    (c.affected.ensures.cost edges most within sparse) (c.key_rows.ensures.cost most near) c.first_of_rows.ensures.cost
+    c.args.steps.now c.affected.new.steps c.key_rows.new.steps c.first_of_changed.new.steps (sum_by (λ row. length (tuples_of row)) c.as_slice.result.now)
+    (c.affected.ensures.cost edges most within sparse) (c.key_rows.ensures.cost most near) c.first_of_changed.ensures.cost
     (subst (λ n. n ≤ length c.as_slice-elems.result.now * (most + 2) ^ most_edges c.args.key.now) (sym items) (c.in_ok-rows.ensures.few most near))
 
 pub returns-in-Some-clause-cost : goal.returns-in-Some-clause-cost
@@ -95,8 +94,8 @@ returns-in-Some-clause-cost g c = λ edges most within sparse.
     let items = ap (sum_by (λ row. length (tuples_of row))) c.as_slice.ensures.value in
     whole_key most (most_edges c.args.key.now) edges within u (length c.as_slice-elems.result.now)
     (subst (λ n. n ≤ 80 * u * (most + 2) ^ edges) (sym (ap length same)) (c.in_ok-changed.ensures.few edges most within sparse))
-    c.args.steps.now c.affected.new.steps c.key_rows.new.steps c.first_of_rows.new.steps (sum_by (λ row. length (tuples_of row)) c.as_slice.result.now)
-    (c.affected.ensures.cost edges most within sparse) (c.key_rows.ensures.cost most near) c.first_of_rows.ensures.cost
+    c.args.steps.now c.affected.new.steps c.key_rows.new.steps c.first_of_changed.new.steps (sum_by (λ row. length (tuples_of row)) c.as_slice.result.now)
+    (c.affected.ensures.cost edges most within sparse) (c.key_rows.ensures.cost most near) c.first_of_changed.ensures.cost
     (subst (λ n. n ≤ length c.as_slice-elems.result.now * (most + 2) ^ most_edges c.args.key.now) (sym items) (c.in_ok-rows.ensures.few most near))
 
 pub returns-clause-cost : goal.returns-clause-cost
@@ -109,8 +108,8 @@ returns-clause-cost g c = λ edges most within sparse.
     let items = ap (sum_by (λ row. length (tuples_of row))) c.as_slice.ensures.value in
     whole_key most (most_edges c.args.key.now) edges within u (length c.as_slice-elems.result.now)
     (subst (λ n. n ≤ 80 * u * (most + 2) ^ edges) (sym (ap length same)) (c.in_ok-changed.ensures.few edges most within sparse))
-    c.args.steps.now c.affected.new.steps c.key_rows.new.steps c.first_of_rows.new.steps (sum_by (λ row. length (tuples_of row)) c.as_slice.result.now)
-    (c.affected.ensures.cost edges most within sparse) (c.key_rows.ensures.cost most near) c.first_of_rows.ensures.cost
+    c.args.steps.now c.affected.new.steps c.key_rows.new.steps c.first_of_changed.new.steps (sum_by (λ row. length (tuples_of row)) c.as_slice.result.now)
+    (c.affected.ensures.cost edges most within sparse) (c.key_rows.ensures.cost most near) c.first_of_changed.ensures.cost
     (subst (λ n. n ≤ length c.as_slice-elems.result.now * (most + 2) ^ most_edges c.args.key.now) (sym items) (c.in_ok-rows.ensures.few most near))
 
 pub returns-in_err-changed-clause-violated : goal.returns-in_err-changed-clause-violated

@@ -3,29 +3,22 @@ use Rattle.pgs_match.specs.Planned.{most_edges}
 use Rattle.pgs_check_affected.proofs.Counting.{edges_few}
 use Rattle.pgs_check_affected.proofs.gathering.Sought.add_alone.Goals as goal
 
-pub returns-in_err-add_edges_at-clause-cost : goal.returns-in_err-add_edges_at-clause-cost
-returns-in_err-add_edges_at-clause-cost g c = λ most sparse.
-    let w = most_edges c.args.self.now.key.now in
-    omega (arith, c.add_edges_at.ensures.cost, edges_few (g.G.GraphRead.meaning c.args.before.now) c.args.known.now.elem w most sparse.0)
-
-pub returns-in_err-add_edges_at-2-clause-cost : goal.returns-in_err-add_edges_at-2-clause-cost
-returns-in_err-add_edges_at-2-clause-cost g c = λ most sparse.
+pub returns-in_err-add_edges_at_both-clause-cost : goal.returns-in_err-add_edges_at_both-clause-cost
+returns-in_err-add_edges_at_both-clause-cost g c = λ most sparse.
     let w = most_edges c.args.self.now.key.now in
     omega (
       arith,
-      c.add_edges_at.ensures.cost,
-      c.add_edges_at-then-is_edge.ensures.cost,
+      c.add_edges_at_both.ensures.cost,
       edges_few (g.G.GraphRead.meaning c.args.before.now) c.args.known.now.elem w most sparse.0,
       edges_few (g.H.GraphRead.meaning c.args.after.now) c.args.known.now.elem w most sparse.1,
     )
 
-pub returns-in_ok-add_edges_at-2-clause-cost : goal.returns-in_ok-add_edges_at-2-clause-cost
-returns-in_ok-add_edges_at-2-clause-cost g c = λ most sparse.
+pub returns-in_ok-add_edges_at_both-clause-cost : goal.returns-in_ok-add_edges_at_both-clause-cost
+returns-in_ok-add_edges_at_both-clause-cost g c = λ most sparse.
     let w = most_edges c.args.self.now.key.now in
     omega (
       arith,
-      c.add_edges_at.ensures.cost,
-      c.add_edges_at-then-is_edge.ensures.cost,
+      c.add_edges_at_both.ensures.cost,
       edges_few (g.G.GraphRead.meaning c.args.before.now) c.args.known.now.elem w most sparse.0,
       edges_few (g.H.GraphRead.meaning c.args.after.now) c.args.known.now.elem w most sparse.1,
     )

@@ -1,0 +1,283 @@
+//! The check of drawn changes beside the list of all violations of the changed graph, and the index after each change that conforms
+//! beside the graph.
+
+ghost use Rattle.std.specs.Prelude.{◌≡◌, ◌<◌, true, IfOk, IfSome, OnOk};
+ghost use Rattle.pgs_graph.specs.Changed.{changed, is_sound};
+ghost use Rattle.pgs_keyindex.specs.Rows.{IsOwned, rows_changed};
+ghost use Rattle.pgs_syntax.specs.Valid.{is_valid_key_of};
+ghost use Rattle.tests_check.specs.Kept.{IsKept, Keeps};
+
+use crate::changes::{ELEMENTS, delta, schema};
+use pgs_base::{EdgeId, Elem, List, Memory, NodeId, Steps};
+use pgs_check::{CheckFault, check, check_types};
+use pgs_conform::Compiled;
+use pgs_graph::Delta;
+use pgs_keyindex::{KeyChange, KeyIndex};
+use pgs_match::{PlannedKey, in_scope, key_values};
+use pgs_overlay::Overlay;
+use pgs_schema::Schema;
+use pgs_scratch::violations;
+use pgs_tables::Tables;
+use pgs_violation::Violation;
+use std::alloc::Global;
+use std::marker::Brand;
+use std::sync::ledger::{Blank, Ledger};
+use std::test::Fail;
+
+const SCHEMA: &str =
+    "CREATE GRAPH TYPE g STRICT {(t: A {k INT}), (u: B OPEN {OPEN}), (:t)-[e: r {OPTIONAL k INT}]->(:t), (OPEN {OPEN})-[f: s {OPTIONAL k INT}]->(OPEN {OPEN}), FOR (x:t) EXCLUSIVE x.k, FOR (x)-[:s]->() MANDATORY y.k WITHIN (x)-[:s]->(y), FOR (x:t) SINGLETON y.k WITHIN (x)-[:r]->(y), FOR (x) COUNT 0..2 OF y WITHIN (x)-[:s]->(y), FOR ()-[x:s]->() EXCLUSIVE u, v WITHIN (u)-[x]->(v), FOR (x)-[:s]->()-[:s]->(x) SINGLETON b WITHIN (x)<-[b:s]-()};";
+
+/// How many changes were judged as by the list from scratch, how many otherwise, how many conform, and the numbers of the violations
+/// that came first, as bits.
+#[derive(Clone, Copy, Debug, PartialEq, Eq)]
+struct Tally {
+    alike: u32,
+    otherwise: u32,
+    conforming: u32,
+    numbers: u64,
+}
+
+impl Tally {
+    fn count(&mut self, is_alike: bool) {
+        if is_alike {
+            self.alike = self.alike.saturating_add(1);
+        } else {
+            self.otherwise = self.otherwise.saturating_add(1);
+        }
+    }
+
+    // Counts a change that was refused, by what was found and the list from scratch.
+    fn refuse(&mut self, found: &Violation, list: &[Violation]) {
+        self.count(is_first(Some(found), list));
+        self.numbers |= 1u64.wrapping_shl(u32::from(found.number()));
+    }
+
+    // Counts a change that conforms, by the list from scratch.
+    fn accept(&mut self, list: &[Violation]) {
+        self.count(list.is_empty());
+        self.conforming = self.conforming.saturating_add(1);
+    }
+}
+
+// Whether what is found is the first of a list, or nothing where the list is empty.
+fn is_first(found: Option<&Violation>, list: &[Violation]) -> bool {
+    match (found, list.first()) {
+        (Some(found), Some(first)) => *found == *first,
+        (None, None) => true,
+        _ => false,
+    }
+}
+
+// Whether the elements without a type are as a list has them.
+fn are_types_alike(found: &Option<Violation>, list: &[Violation]) -> bool {
+    match list.first() {
+        Some(first) if first.number() < 27 => is_first(found.as_ref(), list),
+        _ => found.is_none(),
+    }
+}
+
+// The changes of the index that a check of a change gives, where the changed graph conforms, told beside the list from scratch.
+fn checked<L: Ledger>(
+    alloc: Global,
+    schema: &Schema,
+    tables: &Tables,
+    index: &KeyIndex,
+    delta: &Delta,
+    tally: &mut Tally,
+    steps: &mut Steps<L>,
+) -> Result<Option<List<KeyChange>>, Memory>
+    requires sound { is_sound tables.now.graph delta.now ≡ true }
+    requires kept { IsKept schema.now.resolved tables.now.graph index.now }
+    ensures { IfOk result (λ changes. IfSome changes (Keeps schema.now.resolved (changed tables.now.graph delta.now) index.now)) }
+{
+    let new = Overlay::new(alloc, tables, delta, steps)?;
+    let compiled = schema.compiled();
+    let keys = schema.keys();
+    let list = violations(alloc, &new, compiled, keys, steps)?;
+    let untyped = check_types(tables, compiled, &new, delta, steps);
+    tally.count(are_types_alike(&untyped, list.as_slice()));
+    match check(alloc, tables, index, compiled, keys, &new, delta, steps) {
+        Ok(changes) => {
+            tally.accept(list.as_slice());
+            Ok(Some(changes))
+        }
+        Err(CheckFault::Violated(found)) => {
+            tally.refuse(&found, list.as_slice());
+            Ok(None)
+        }
+        Err(CheckFault::Memory) => Err(Memory),
+    }
+}
+
+// Puts in a delta and changes of the index.
+fn put(
+    tables: &mut Tables,
+    index: &mut KeyIndex,
+    delta: Delta,
+    changes: List<KeyChange>,
+) -> Result<(), Memory>
+    requires sound { is_sound tables.old.graph delta ≡ true }
+    requires owned { IsOwned index.old.exclusive (rows_changed index.old.rows changes) }
+    ensures graph { OnOk result (tables.new.graph ≡ changed tables.old.graph delta) }
+    ensures exclusive { OnOk result (index.new.exclusive ≡ index.old.exclusive) }
+    ensures rows { OnOk result (index.new.rows ≡ rows_changed index.old.rows changes) }
+{
+    let prepared = tables.prepare(delta)?;
+    let ready = index.prepare(changes)?;
+    tables.commit(prepared);
+    index.commit(ready);
+    Ok(())
+}
+
+// Whether an element has the row in the index that the graph gives it.
+fn is_indexed<L: Ledger>(
+    alloc: Global,
+    tables: &Tables,
+    index: &KeyIndex,
+    compiled: &Compiled,
+    key: &PlannedKey,
+    number: u32,
+    elem: Elem,
+    steps: &mut Steps<L>,
+) -> Result<bool, Memory>
+    requires { is_valid_key_of compiled.now key.now ≡ true }
+{
+    let is_inside = in_scope(tables, compiled, key, elem, steps);
+    let values = key_values(alloc, tables, compiled, key, elem, steps)?;
+    match index.values_of(number, elem, steps) {
+        Some(row) => Ok(is_inside && row.as_slice() == values.as_slice()),
+        None => Ok(!is_inside),
+    }
+}
+
+// Whether the elements of a number, of both kinds, have these rows.
+fn are_both_indexed<L: Ledger>(
+    alloc: Global,
+    tables: &Tables,
+    index: &KeyIndex,
+    compiled: &Compiled,
+    key: &PlannedKey,
+    number: u32,
+    id: u64,
+    steps: &mut Steps<L>,
+) -> Result<bool, Memory>
+    requires { is_valid_key_of compiled.now key.now ≡ true }
+{
+    let node = Elem::Node(NodeId(id));
+    let edge = Elem::Edge(EdgeId(id));
+    Ok(
+        is_indexed(alloc, tables, index, compiled, key, number, node, steps)?
+            && is_indexed(alloc, tables, index, compiled, key, number, edge, steps)?,
+    )
+}
+
+// How many numbers have elements with these rows.
+fn count_indexed<L: Ledger>(
+    alloc: Global,
+    tables: &Tables,
+    index: &KeyIndex,
+    compiled: &Compiled,
+    key: &PlannedKey,
+    number: u32,
+    steps: &mut Steps<L>,
+) -> Result<u64, Memory>
+    requires { is_valid_key_of compiled.now key.now ≡ true }
+{
+    let mut count = 0u64;
+    for id in 0..ELEMENTS {
+        if are_both_indexed(alloc, tables, index, compiled, key, number, id, steps)? {
+            count = count.saturating_add(1);
+        }
+    }
+    Ok(count)
+}
+
+// Tells for each key whether the index has the rows that the graph gives.
+fn tell_rows<L: Ledger>(
+    alloc: Global,
+    tables: &Tables,
+    index: &KeyIndex,
+    schema: &Schema,
+    tally: &mut Tally,
+    steps: &mut Steps<L>,
+) -> Result<(), Memory> {
+    let compiled = schema.compiled();
+    let mut number = 0u32;
+    for key in schema.keys().as_slice() {
+        number = number.saturating_add(1);
+        let count = count_indexed(alloc, tables, index, compiled, key, number, steps)?;
+        tally.count(count == ELEMENTS);
+    }
+    Ok(())
+}
+
+// Does the transaction of a number, where it can be done and the changed graph conforms.
+fn apply<L: Ledger>(
+    alloc: Global,
+    schema: &Schema,
+    tables: &mut Tables,
+    index: &mut KeyIndex,
+    number: u64,
+    tally: &mut Tally,
+    steps: &mut Steps<L>,
+) -> Result<(), Memory>
+    requires { IsKept schema.now.resolved tables.old.graph index.old }
+    ensures { OnOk result (IsKept schema.now.resolved tables.new.graph index.new) }
+{
+    let Some(delta) = delta(alloc, tables, number, steps)? else {
+        return Ok(());
+    };
+    let Some(changes) = checked(alloc, schema, tables, index, &delta, tally, steps)? else {
+        return Ok(());
+    };
+    put(tables, index, delta, changes)?;
+    tell_rows(alloc, tables, index, schema, tally, steps)
+}
+
+fn tally_by<L: Ledger>(alloc: Global, schema: &Schema, blank: Blank) -> Result<Tally, Memory>
+    requires name { blank.name ≡ L.name }
+    requires parts { blank.parts ≡ L.parts }
+    requires some { 0 < blank.parts }
+{
+    let mut steps: Steps<L> = Steps::begin(blank);
+    let mut tally = Tally {
+        alike: 0,
+        otherwise: 0,
+        conforming: 0,
+        numbers: 0,
+    };
+    let mut tables = Tables::new(alloc);
+    let keys = &schema.compiled().resolved().guard.keys;
+    let mut index = KeyIndex::new(alloc, keys)?;
+    for number in 0..1000 {
+        apply(
+            alloc,
+            schema,
+            &mut tables,
+            &mut index,
+            number,
+            &mut tally,
+            &mut steps,
+        )?;
+    }
+    Ok(tally)
+}
+
+fn tallied(alloc: Global) -> Result<Tally, Memory> {
+    let schema = schema(alloc, SCHEMA)?;
+    tally_by::<Brand>(alloc, &schema, Blank::new(1))
+}
+
+// 25 to 29, and 39.
+const ALL_NUMBERS: u64 = 0b1000_0000_0011_1110_0000_0000_0000_0000_0000_0000;
+
+// Each change is judged as by the list from scratch, each of the six violations comes first somewhere, and many changes conform.
+fn is_told(tally: Tally) -> bool {
+    tally.otherwise == 0 && tally.numbers == ALL_NUMBERS && tally.conforming >= 100
+}
+
+#[test]
+fn the_first_violation_is_that_of_the_list(rt: HostRuntime) -> Result<(), Fail> {
+    assert!(rt; is_told(tallied(rt.alloc())?));
+    Ok(())
+}
