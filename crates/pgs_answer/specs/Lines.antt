@@ -9,6 +9,10 @@ use Rattle.pgs_json.specs.Canonical.{text_of_txn}
 unfoldable pub schema_refused_line : List ℕ → List ℕ
 schema_refused_line text = codes "schema refused " ++ (text ++ codes "\n")
 
+-- the same of the second of two schemas
+unfoldable pub second_refused_line : List ℕ → List ℕ
+second_refused_line text = codes "second schema refused " ++ (text ++ codes "\n")
+
 abbrev pub store_refused_line : List ℕ → List ℕ
 store_refused_line text = codes "store refused " ++ (text ++ codes "\n")
 
@@ -68,3 +72,10 @@ gen_line committed refused nodes edges in1 =
 
 abbrev pub checkpoint_line : ℕ → ℕ → List ℕ
 checkpoint_line epoch commits = codes "checkpoint epoch=" ++ (decimal epoch ++ (codes " commits=" ++ (decimal commits ++ codes "\n")))
+
+-- a type that is contained in another schema, and one that isn't, with a transaction that adds what is outside
+unfoldable pub contained_line : List ℕ → List ℕ
+contained_line name = codes "contained " ++ (name ++ codes "\n")
+
+unfoldable pub outside_line : List ℕ → Txn → List ℕ
+outside_line name txn = codes "outside " ++ (name ++ (codes " " ++ (text_of_txn txn None ++ codes "\n")))

@@ -5,6 +5,7 @@
 //! whole line with its line feed. docs/FORMATS.md lists them with cause and cure. Each text is made in one buffer with room for it.
 #![tactic(auto)]
 
+mod contain_lines;
 mod dump_lines;
 mod rejection_texts;
 mod run_lines;
@@ -12,6 +13,7 @@ mod schema_texts;
 mod store_texts;
 mod txn_lines;
 
+pub use contain_lines::{contained_line, outside_line, second_refused_line};
 pub use dump_lines::{
     absent_line, key_scope_line, key_value_line, schema_line, separator_line, type_line,
 };

@@ -10,9 +10,11 @@ use Rattle.pgs_base.specs.Pair.{same_name, has_name, put_name}
 use Rattle.pgs_syntax.proofs.Parts.{one_name}
 use Rattle.pgs_conform.specs.declared.options.Options.{Options}
 use Rattle.pgs_conform.specs.declared.shape.Shape.{Shape}
+use Rattle.pgs_conform.specs.declared.shape.Triple.{Triple as ShapeTriple}
 use Rattle.pgs_product.proofs.Asked.{own_name, has_all}
 use Rattle.pgs_contain.specs.Frames.{Names, Keys, is_known}
 use Rattle.pgs_contain.specs.Known.{Grows}
+use Rattle.pgs_contain.specs.Threes.{is_known_three}
 use Rattle.pgs_contain.proofs.Framing.{has_put}
 
 pub same_bool : (a b : Bool) → (a ≡ true → b ≡ true) → (b ≡ true → a ≡ true) → a ≡ b
@@ -129,3 +131,45 @@ all_learnt first second labels keys labels_now keys_now labels_kept keys_kept st
   where
     same : (shapes : List Shape) → list_all (is_known labels_now keys_now) shapes ≡ true → list_all (is_known labels_kept keys_kept) shapes ≡ true
     same shapes h = ap (λ ls. list_all (is_known ls keys_kept) shapes) kept.0 ∙ ap (λ ks. list_all (is_known labels_now ks) shapes) kept.1 ∙ h
+
+-- ---- triples of shapes
+
+three_still : (labels keys new_labels new_keys : Names) → Grows labels new_labels → Grows keys new_keys → (shapes : ShapeTriple) → is_known_three labels keys shapes ≡ true →
+    is_known_three new_labels new_keys shapes ≡ true
+three_still labels keys new_labels new_keys more_labels more_keys shapes h =
+    let parts = and_parts _ _ h in
+    let ends = and_parts _ _ parts.0 in
+    let still = known_still labels keys new_labels new_keys more_labels more_keys in
+    and_from _ _ (and_from _ _ (still shapes.source ends.0) (still shapes.middle ends.1)) (still shapes.target parts.1)
+
+pub triple_learnt : (shapes : ShapeTriple) (l0 k0 l1 k1 l2 k2 l3 k3 : Names) → (is_known l1 k1 shapes.source ≡ true) × Grows l0 l1 × Grows k0 k1 →
+    (is_known l2 k2 shapes.middle ≡ true) × Grows l1 l2 × Grows k1 k2 → (is_known l3 k3 shapes.target ≡ true) × Grows l2 l3 × Grows k2 k3 →
+    (is_known_three l3 k3 shapes ≡ true) × Grows l0 l3 × Grows k0 k3
+triple_learnt shapes l0 k0 l1 k1 l2 k2 l3 k3 a b d = (
+  and_from _ _ (and_from _ _ (known_still l2 k2 l3 k3 d.1 d.2 shapes.source (known_still l1 k1 l2 k2 b.1 b.2 shapes.source a.0)) (known_still l2 k2 l3 k3 d.1 d.2 shapes.middle b.0)) d.0,
+  grows_on l0 l1 l3 a.1 (grows_on l1 l2 l3 b.1 d.1),
+  grows_on k0 k1 k3 a.2 (grows_on k1 k2 k3 b.2 d.2),
+)
+
+pub triples_known : (labels keys new_labels new_keys start_labels start_keys : Names) (triples : List ShapeTriple) (i : ℕ) (shapes : ShapeTriple) → i < length triples → shapes ≡ get_or triples i shapes →
+    (is_known_three new_labels new_keys shapes ≡ true) × Grows labels new_labels × Grows keys new_keys →
+    (list_all (is_known_three labels keys) (take i triples) ≡ true) × Grows start_labels labels × Grows start_keys keys →
+    (list_all (is_known_three new_labels new_keys) (take (i + 1) triples) ≡ true) × Grows start_labels new_labels × Grows start_keys new_keys
+triples_known labels keys new_labels new_keys start_labels start_keys triples i shapes lt is own before = (
+  ap (list_all (is_known_three new_labels new_keys)) (take_more triples i shapes lt ∙ ap (λ s. take i triples ++ s ∷ []) (sym is))
+      ∙ all_push (is_known_three new_labels new_keys) (take i triples) shapes
+      (all_weaker (is_known_three labels keys) (is_known_three new_labels new_keys) (take i triples) (three_still labels keys new_labels new_keys own.1 own.2) before.0) own.0,
+  grows_on start_labels labels new_labels before.1 own.1,
+  grows_on start_keys keys new_keys before.2 own.2,
+)
+
+pub all_triples_learnt : (first second : List ShapeTriple) (labels keys labels_now keys_now labels_kept keys_kept start_labels start_keys : Names) →
+    (list_all (is_known_three labels keys) first ≡ true) × Grows start_labels labels × Grows start_keys keys →
+    (list_all (is_known_three labels_now keys_now) second ≡ true) × Grows labels labels_now × Grows keys keys_now →
+    (labels_kept ≡ labels_now) × (keys_kept ≡ keys_now) →
+    (list_all (is_known_three labels_kept keys_kept) first ≡ true) × (list_all (is_known_three labels_kept keys_kept) second ≡ true)
+all_triples_learnt first second labels keys labels_now keys_now labels_kept keys_kept start_labels start_keys of_first of_second kept =
+    (same first (all_weaker (is_known_three labels keys) (is_known_three labels_now keys_now) first (three_still labels keys labels_now keys_now of_second.1 of_second.2) of_first.0), same second of_second.0)
+  where
+    same : (triples : List ShapeTriple) → list_all (is_known_three labels_now keys_now) triples ≡ true → list_all (is_known_three labels_kept keys_kept) triples ≡ true
+    same triples h = ap (λ ls. list_all (is_known_three ls keys_kept) triples) kept.0 ∙ ap (λ ks. list_all (is_known_three labels_now ks) triples) kept.1 ∙ h

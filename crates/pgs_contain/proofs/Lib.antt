@@ -3,4 +3,5 @@ pub mod Known
 pub mod Parts
 pub mod Plain
 pub mod Letters
+pub mod Three
 pub mod Whole

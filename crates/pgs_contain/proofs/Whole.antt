@@ -1,5 +1,5 @@
 -- A shape whose region is covered by others has no pair outside of them, and what is left of its region gives one.
-use Rattle.std.proofs.Common.{◌≡◌, ℕ, ◌+◌, ◌<◌, ◌++◌, take, get_or, Bool, true, false, ◌&&◌, ◌||◌, List, [], ◌∷◌, map, length, suc, Option, Some, None, MatchOption, refl, sym, ◌∙◌, ap, true≢false, ⊎_elim}
+use Rattle.std.proofs.Common.{◌≡◌, ℕ, ◌+◌, ◌<◌, ◌++◌, take, get_or, Bool, true, false, ◌&&◌, ◌||◌, List, [], ◌∷◌, map, length, suc, Option, Some, None, MatchOption, refl, sym, ◌∙◌, ap, subst, true≢false, ⊎_elim}
 use Rattle.std.specs.List.{list_all}
 use Rattle.std.specs.Map.{keys_of}
 use Rattle.std.proofs.lemmas.Bool.{and_parts, and_from, or_cases, or_left, or_right}
@@ -18,7 +18,7 @@ use Rattle.pgs_product.proofs.Asked.{all_has}
 use Rattle.pgs_contain.specs.declared.outside.OwnedPair.{OwnedPair}
 use Rattle.pgs_contain.specs.Contained.{is_plain_value, pair_in}
 use Rattle.pgs_contain.specs.Frames.{Names, frame_labels, frame_keys, frame_options, options_of, may_have, in_some_of, is_known, IsInOthers, AreInOthers, IsOutOfOthers}
-use Rattle.pgs_contain.specs.Regions.{Point, plainest, in_region, in_some_region, is_possible, IsCovered, IsLeft}
+use Rattle.pgs_contain.specs.Regions.{Point, plainest, in_region, in_some_region, is_possible, IsCovered, IsLeft, Leaves}
 use Rattle.pgs_contain.specs.Rows.{plain_rows}
 use Rattle.pgs_contain.proofs.Framing.{labels_in, own_labels, own_point, own_point_in, props_in, frame_point, AreAll, props_own, others_may, others_have}
 use Rattle.pgs_contain.proofs.Plain.{plainest_may, rows_apart, rows_in, rows_plain}
@@ -26,7 +26,7 @@ use Rattle.pgs_contain.proofs.Plain.{plainest_may, rows_apart, rows_in, rows_pla
 pub props_up : (p : NodeRow) → is_pair p ≡ true → ascends name_cmp (keys_of p.props) ≡ true
 props_up p pair = (and_parts _ _ (and_parts _ _ (and_parts _ _ pair).1).0).0
 
-false_from : (b : Bool) → (b ≡ true → ⊥) → b ≡ false
+pub false_from : (b : Bool) → (b ≡ true → ⊥) → b ≡ false
 false_from true h = absurd (h refl)
 false_from false h = refl
 
@@ -147,30 +147,39 @@ left_length region found taken left =
     let here = plainest_in found left.possible in
     point_length region (map plainest found) (left.inside (map plainest found) here) ∙ sym (point_length found (map plainest found) here)
 
+-- the same regions, as slices
+pub leaves_moved : (test : Point → Bool) (kept region : List Options) (taken given : List (List Options)) (left : Option (List Options)) → region ≡ kept → given ≡ taken →
+    ((v : Point) → in_some_region taken v ≡ test v) → MatchOption left (IsCovered region given) (IsLeft region given) → Leaves test kept left
+leaves_moved test kept region taken given left region_is given_is same is = record {
+  taken = given;
+  same = λ v. ap (λ ts. in_some_region ts v) given_is ∙ same v;
+  is = subst (λ (r : List Options). MatchOption left (IsCovered r given) (IsLeft r given)) region_is is;
+}
+
 -- ---- by the frame that the code makes
 
 module _ (shape : Shape) (labels keys : Names) (label key : List ℕ) (new : IsNew labels keys label key) (others : List Shape) (own_labels_kept own_keys_kept : Names)
-    (kept region : List Options) (taken given : List (List Options)) (known : list_all (is_known labels keys) others ≡ true)
+    (region : List Options) (taken : List (List Options)) (known : list_all (is_known labels keys) others ≡ true)
     (framed : (own_labels_kept ≡ frame_labels shape.more_labels shape.labels label) × (own_keys_kept ≡ frame_keys shape.more_keys shape.keys keys key)
-    × (kept ≡ map (frame_options shape.more_keys shape.keys key) own_keys_kept)) (region_is : region ≡ kept) (given_is : given ≡ taken)
+    × (region ≡ map (frame_options shape.more_keys shape.keys key) own_keys_kept))
     (same : (v : Point) → in_some_region taken v ≡ in_some_of others own_labels_kept own_keys_kept v) where
   made : region ≡ map (frame_options shape.more_keys shape.keys key) (frame_keys shape.more_keys shape.keys keys key)
-  made = region_is ∙ framed.2 ∙ ap (map (frame_options shape.more_keys shape.keys key)) framed.1
+  made = framed.2 ∙ ap (map (frame_options shape.more_keys shape.keys key)) framed.1
 
-  same_given : (v : Point) → in_some_region given v ≡ in_some_of others (frame_labels shape.more_labels shape.labels label) (frame_keys shape.more_keys shape.keys keys key) v
-  same_given v =
-      ap (λ ts. in_some_region ts v) given_is ∙ same v ∙ ap (λ ls. in_some_of others ls own_keys_kept v) framed.0
+  same_taken : (v : Point) → in_some_region taken v ≡ in_some_of others (frame_labels shape.more_labels shape.labels label) (frame_keys shape.more_keys shape.keys keys key) v
+  same_taken v =
+      same v ∙ ap (λ ls. in_some_of others ls own_keys_kept v) framed.0
       ∙ ap (λ ks. in_some_of others (frame_labels shape.more_labels shape.labels label) ks v) framed.1
 
-  pub shape_inside : IsCovered region given → IsInOthers shape others
-  shape_inside h = covered shape labels keys label key new others region given known made same_given h
+  pub shape_inside : IsCovered region taken → IsInOthers shape others
+  shape_inside h = covered shape labels keys label key new others region taken known made same_taken h
 
-  pub shape_outside : is_known labels keys shape ≡ true → ascends name_cmp own_keys_kept ≡ true → (found part : List Options) → IsLeft region given found → part ≡ found →
+  pub shape_outside : is_known labels keys shape ≡ true → ascends name_cmp own_keys_kept ≡ true → (found part : List Options) → IsLeft region taken found → part ≡ found →
       (p : NodeRow) → (is_pair p ≡ true) × (p.labels ≡ own_labels_kept) × (p.props ≡ plain_rows own_keys_kept part) → IsOutOfOthers (shape ∷ []) others p
   shape_outside own up found part left part_is p h =
-      left_out shape labels keys label key new others region found given own (ap (ascends name_cmp) (sym framed.1) ∙ up) made
-      (sym (length-map (frame_keys shape.more_keys shape.keys keys key) (frame_options shape.more_keys shape.keys key)) ∙ ap length (sym made) ∙ left_length region found given left)
-      same_given left p h.0 (h.1 ∙ framed.0) (h.2 ∙ ap (plain_rows own_keys_kept) part_is ∙ ap (λ ks. plain_rows ks found) framed.1)
+      left_out shape labels keys label key new others region found taken own (ap (ascends name_cmp) (sym framed.1) ∙ up) made
+      (sym (length-map (frame_keys shape.more_keys shape.keys keys key) (frame_options shape.more_keys shape.keys key)) ∙ ap length (sym made) ∙ left_length region found taken left)
+      same_taken left p h.0 (h.1 ∙ framed.0) (h.2 ∙ ap (plain_rows own_keys_kept) part_is ∙ ap (λ ks. plain_rows ks found) framed.1)
 
 -- ---- shapes that denote
 

@@ -3,3 +3,4 @@ pub mod Frames
 pub mod Known
 pub mod Regions
 pub mod Rows
+pub mod Threes

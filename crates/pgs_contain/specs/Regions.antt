@@ -1,5 +1,5 @@
 -- Regions: what may stand at each of some keys, key by key. What stands at them in a pair is a point, and a region is a set of points.
-use Rattle.std.specs.Prelude.{◌≡◌, Bool, true, false, ◌&&◌, ◌||◌, not, List, [], ◌∷◌, Option, Some, None, pos, if◌then◌else◌}
+use Rattle.std.specs.Prelude.{◌≡◌, Bool, true, false, ◌&&◌, ◌||◌, not, List, [], ◌∷◌, Option, Some, None, MatchOption, pos, if◌then◌else◌}
 use Rattle.std.specs.List.{list_any, list_all}
 use Rattle.pgs_base.specs.declared.value.Value.{Value}
 use Rattle.pgs_base.specs.declared.value.Value.TheVariants as values
@@ -73,6 +73,12 @@ pub record IsLeft (region : List Options) (taken : List (List Options)) (found :
   pub possible : list_all is_possible found ≡ true
   pub inside : (v : Point) → in_region found v ≡ true → in_region region v ≡ true
   pub outside : (v : Point) → in_region found v ≡ true → in_some_region taken v ≡ false
+
+-- The points that pass a test are those of some regions, and this is what they leave of a region: nothing, or a region.
+pub record Leaves (test : Point → Bool) (region : List Options) (answer : Option (List Options)) : Type 0 where
+  pub taken : List (List Options)
+  pub same : (v : Point) → in_some_region taken v ≡ test v
+  pub is : MatchOption answer (IsCovered region taken) (IsLeft region taken)
 
 -- the plainest that may stand at a key: nothing, else the empty text, 0, false or the first day
 abbrev pub plainest : Options → Option Value

@@ -1,8 +1,11 @@
 //! The frame of a shape: what labels and keys what is outside may have, and what may stand at each key.
 
-ghost use Rattle.std.specs.Prelude.{◌≡◌, ◌||◌, ℕ, List as Items, map, IfOk};
+ghost use Rattle.std.specs.Prelude.{◌≡◌, ◌||◌, true, ℕ, List as Items, map, IfOk};
 ghost use Rattle.std.specs.List.{list_all};
 ghost use Rattle.std.specs.Map.{keys_of};
+ghost use Rattle.std.specs.Ordering.{nat_cmp};
+ghost use Rattle.std.specs.Cmp.Lexicographic.{slice_cmp};
+ghost use Rattle.pgs_base.specs.Order.{ascends};
 ghost use Rattle.pgs_base.specs.Pair.{same_name, has_name};
 ghost use Rattle.pgs_conform.specs.declared.options.Options.{Options as KeyOptions};
 ghost use Rattle.pgs_conform.specs.Shapes.{labels_meet};
@@ -22,6 +25,15 @@ pub(crate) struct Frame {
     pub labels: Labels,
     pub keys: Labels,
     pub region: List<Options>,
+}
+
+impl Frame {
+    /// What each frame meets: its keys ascend. Nothing is done.
+    pub(crate) fn facts(&self)
+        ensures { ascends (slice_cmp nat_cmp) self.now.keys ≡ true }
+    {
+        let _keys = self.keys.as_slice();
+    }
 }
 
 // A text, and nothing else.

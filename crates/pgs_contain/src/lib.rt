@@ -6,16 +6,17 @@
 //! The rule stands in `specs/Contained.antt`: it speaks of all pairs, and of no shapes.
 #![tactic(auto)]
 
-mod contained;
+mod containment;
 mod frame;
 mod options;
 mod outside;
 mod regions;
 mod shapes;
 mod strange;
+mod triples;
 mod typed;
 mod vocabulary;
 mod witness;
 
-pub use contained::contained_node;
+pub use containment::contained;
 pub use outside::{Outside, OwnedPair};

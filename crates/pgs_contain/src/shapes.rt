@@ -3,16 +3,30 @@
 ghost use Rattle.std.specs.Prelude.{◌≡◌, true, ◌∷◌, [], IfOk, MatchOption};
 ghost use Rattle.std.specs.List.{list_all};
 ghost use Rattle.pgs_contain.specs.Contained.{pair_in};
-ghost use Rattle.pgs_contain.specs.Frames.{is_known, IsInOthers, AreInOthers, IsOutOfOthers};
+ghost use Rattle.pgs_contain.specs.Frames.{in_some_of, is_known, IsInOthers, AreInOthers, IsOutOfOthers};
+ghost use Rattle.pgs_contain.specs.Regions.{Leaves};
 
 use crate::OwnedPair;
-use crate::frame::{frame_of, regions_of};
+use crate::frame::{Frame, frame_of, regions_of};
 use crate::regions::left_of;
 use crate::vocabulary::{Vocabulary, vocabulary_of};
 use crate::witness::plain_pair;
-use pgs_base::Memory;
-use pgs_conform::Shape;
+use pgs_base::{List, Memory};
+use pgs_conform::{Options, Shape};
 use std::alloc::Global;
+
+// What other shapes leave of the region of a frame.
+fn left_in_frame(
+    alloc: Global,
+    frame: &Frame,
+    others: &[Shape],
+) -> Result<Option<List<Options>>, Memory>
+    ensures { IfOk result (Leaves (in_some_of others.now frame.now.labels frame.now.keys) frame.now.region) }
+{
+    let taken = regions_of(alloc, others, frame)?;
+    let left = left_of(alloc, frame.region.as_slice(), taken.as_slice())?;
+    Ok(left)
+}
 
 // A pair of a shape that is in none of others. `None` exactly where there is none.
 fn outside_of_shape(
@@ -27,9 +41,8 @@ fn outside_of_shape(
         (λ own. IsOutOfOthers (shape.now ∷ []) others.now (pair_in own))) }
 {
     let frame = frame_of(alloc, shape, words)?;
-    let _keys = frame.keys.as_slice();
-    let taken = regions_of(alloc, others, &frame)?;
-    let left = left_of(alloc, frame.region.as_slice(), taken.as_slice())?;
+    frame.facts();
+    let left = left_in_frame(alloc, &frame, others)?;
     match left {
         None => Ok(None),
         Some(found) => {

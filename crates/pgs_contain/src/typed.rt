@@ -1,13 +1,15 @@
-//! The shapes of all types of a guard that are not abstract.
+//! The shapes, and the triples of shapes, of all types of a guard that are not abstract.
 
 ghost use Rattle.std.specs.Prelude.{◌≡◌, ◌||◌, true, IfOk, OnOk};
 ghost use Rattle.pgs_base.specs.declared.row.NodeRow.{NodeRow};
 ghost use Rattle.pgs_base.specs.Pair.{is_pair};
-ghost use Rattle.pgs_syntax.specs.Typed.{is_typed_node, types_node};
-ghost use Rattle.pgs_conform.specs.Shapes.{in_some, Denotes};
+ghost use Rattle.pgs_syntax.specs.Join.{Triple as Pairs};
+ghost use Rattle.pgs_syntax.specs.Triples.{is_triple};
+ghost use Rattle.pgs_syntax.specs.Typed.{is_typed_node, is_typed_triple, types_node, types_edge};
+ghost use Rattle.pgs_conform.specs.Shapes.{in_some, in_triple, in_some_triple, Denotes, DenotesTriples};
 
 use pgs_base::{List, Memory};
-use pgs_conform::{Compiled, Shape};
+use pgs_conform::{Compiled, Shape, Triple};
 use pgs_product::copy_shape;
 use pgs_syntax::TypeNo;
 use std::alloc::Global;
@@ -53,6 +55,64 @@ pub(crate) fn typed_shapes(alloc: Global, schema: &Compiled) -> Result<List<Shap
     let types = schema.resolved().guard.types.as_slice();
     for type_no in types {
         push_type(alloc, schema, *type_no, &mut all)?;
+    }
+    Ok(List::from_vec(all))
+}
+
+// Puts triples of shapes last.
+fn push_triples(alloc: Global, triples: &[Triple], all: &mut Vec<Triple>) -> Result<(), Memory>
+    ensures { OnOk result ((t : Pairs) → in_some_triple all.new.items t ≡ (in_some_triple all.old.items t || in_some_triple triples.now t)) }
+{
+    for triple in triples {
+        let copy = copy_triple(alloc, triple)?;
+        all.push(copy)?;
+    }
+    Ok(())
+}
+
+fn copy_triple(alloc: Global, triple: &Triple) -> Result<Triple, Memory>
+    ensures { IfOk result (λ copy. (t : Pairs) → in_triple copy t ≡ in_triple triple.now t) }
+{
+    let source = copy_shape(alloc, &triple.source)?;
+    let middle = copy_shape(alloc, &triple.middle)?;
+    let target = copy_shape(alloc, &triple.target)?;
+    Ok(Triple {
+        source,
+        middle,
+        target,
+    })
+}
+
+// Puts the triples of shapes of an edge type last, where it isn't abstract.
+fn push_edge_type(
+    alloc: Global,
+    schema: &Compiled,
+    type_no: TypeNo,
+    all: &mut Vec<Triple>,
+) -> Result<(), Memory>
+    ensures { OnOk result ((t : Pairs) → is_triple t ≡ true →
+        in_some_triple all.new.items t ≡ (in_some_triple all.old.items t || types_edge schema.now t type_no)) }
+{
+    let TypeNo::Edge(number) = type_no else {
+        return Ok(());
+    };
+    match schema.resolved().edges.at(number as usize) {
+        Some(edge_type) if !edge_type.hidden => {
+            push_triples(alloc, schema.shapes_of_edge(number).as_slice(), all)?;
+            Ok(())
+        }
+        _ => Ok(()),
+    }
+}
+
+/// The triples of shapes of all edge types of the guard that are not abstract: they denote which edges are typed.
+pub(crate) fn typed_triples(alloc: Global, schema: &Compiled) -> Result<List<Triple>, Memory>
+    ensures { IfOk result (λ triples. DenotesTriples triples (is_typed_triple schema.now)) }
+{
+    let mut all = Vec::new(alloc);
+    let types = schema.resolved().guard.types.as_slice();
+    for type_no in types {
+        push_edge_type(alloc, schema, *type_no, &mut all)?;
     }
     Ok(List::from_vec(all))
 }

@@ -6,10 +6,11 @@ ghost use Rattle.std.specs.Map.{keys_of};
 ghost use Rattle.pgs_base.specs.Pair.{has_name};
 ghost use Rattle.pgs_contain.specs.Frames.{is_known};
 ghost use Rattle.pgs_contain.specs.Known.{Grows};
+ghost use Rattle.pgs_contain.specs.Threes.{is_known_three};
 
 use crate::strange::strange;
 use pgs_base::{Copyable, Labels, Memory, Name};
-use pgs_conform::{Options, Shape};
+use pgs_conform::{Options, Shape, Triple};
 use std::alloc::Global;
 
 /// The labels and keys that shapes name, and one of each that none of them names.
@@ -105,6 +106,53 @@ pub(crate) fn vocabulary_of(
     let mut keys = Labels::new(alloc);
     learn_shapes(alloc, first, &mut labels, &mut keys)?;
     learn_shapes(alloc, second, &mut labels, &mut keys)?;
+    let words = with_strange(alloc, labels, keys)?;
+    Ok(words)
+}
+
+// Puts in what a triple of shapes names.
+fn learn_triple(
+    alloc: Global,
+    triple: &Triple,
+    labels: &mut Labels,
+    keys: &mut Labels,
+) -> Result<(), Memory>
+    ensures { OnOk result ((is_known_three labels.new keys.new triple.now ≡ true) × Grows labels.old labels.new × Grows keys.old keys.new) }
+{
+    learn_shape(alloc, &triple.source, labels, keys)?;
+    learn_shape(alloc, &triple.middle, labels, keys)?;
+    learn_shape(alloc, &triple.target, labels, keys)?;
+    Ok(())
+}
+
+// Puts in what triples of shapes name.
+fn learn_triples(
+    alloc: Global,
+    triples: &[Triple],
+    labels: &mut Labels,
+    keys: &mut Labels,
+) -> Result<(), Memory>
+    ensures { OnOk result ((list_all (is_known_three labels.new keys.new) triples.now ≡ true) × Grows labels.old labels.new × Grows keys.old keys.new) }
+{
+    for triple in triples {
+        learn_triple(alloc, triple, labels, keys)?;
+    }
+    Ok(())
+}
+
+/// What triples of shapes and others name.
+pub(crate) fn vocabulary_of_triples(
+    alloc: Global,
+    first: &[Triple],
+    second: &[Triple],
+) -> Result<Vocabulary, Memory>
+    ensures { IfOk result (λ words. (list_all (is_known_three words.labels words.keys) first.now ≡ true)
+        × (list_all (is_known_three words.labels words.keys) second.now ≡ true)) }
+{
+    let mut labels = Labels::new(alloc);
+    let mut keys = Labels::new(alloc);
+    learn_triples(alloc, first, &mut labels, &mut keys)?;
+    learn_triples(alloc, second, &mut labels, &mut keys)?;
     let words = with_strange(alloc, labels, keys)?;
     Ok(words)
 }

@@ -1,0 +1,9 @@
+use Rattle.std.proofs.Common.{◌∙◌}
+use Rattle.pgs_contain.specs.Threes.{region_in}
+use Rattle.pgs_contain.proofs.Whole.{leaves_moved}
+use Rattle.pgs_contain.proofs.triples.left_in_frames.Goals as goal
+
+pub returns : goal.returns
+returns c =
+    leaves_moved _ (region_in c.args.frames.now) c.as_slice.result.now c.in_ok-taken.taken c.as_slice-2.result.now c.in_ok-left.left
+    (c.as_slice.ensures ∙ c.in_ok-region.ensures) c.as_slice-2.ensures c.in_ok-taken.ensures c.in_ok-left.ensures

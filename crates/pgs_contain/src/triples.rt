@@ -1,0 +1,223 @@
+//! Are the triples of pairs of some triples of shapes in others? The three regions of a triple stand one after another as one.
+
+ghost use Rattle.std.specs.Prelude.{◌≡◌, ◌+◌, ◌++◌, ◌∷◌, [], true, length, IfOk, MatchOption};
+ghost use Rattle.std.specs.List.{list_all};
+ghost use Rattle.std.specs.Ordering.{nat_cmp};
+ghost use Rattle.std.specs.Cmp.Lexicographic.{slice_cmp};
+ghost use Rattle.pgs_base.specs.Order.{ascends};
+ghost use Rattle.pgs_contain.specs.Regions.{Point, in_some_region, Leaves};
+ghost use Rattle.pgs_contain.specs.Threes.{three_of, region_in, AreFrames, ArePlainest, owned_triple, may_have_three, options_of_three, in_some_three, is_known_three, LeavesThree, IsInOtherTriples, AreInOtherTriples, IsOutOfOtherTriples};
+
+use crate::OwnedPair;
+use crate::frame::{Frame, frame_of, may_have, options_of};
+use crate::regions::left_of;
+use crate::vocabulary::{Vocabulary, vocabulary_of_triples};
+use crate::witness::plain_pair;
+use pgs_base::{List, Memory};
+use pgs_conform::{Options, Triple};
+use std::alloc::Global;
+
+/// The frames of a triple of shapes.
+#[derive(Debug, Drop)]
+pub(crate) struct Frames {
+    source: Frame,
+    middle: Frame,
+    target: Frame,
+}
+
+/// Pairs of an edge's source, of the edge itself and of its target.
+#[derive(Debug, Drop)]
+pub(crate) struct OwnedTriple {
+    pub source: OwnedPair,
+    pub middle: OwnedPair,
+    pub target: OwnedPair,
+}
+
+// The frames of a triple of shapes.
+fn frames_of(alloc: Global, triple: &Triple, words: &Vocabulary) -> Result<Frames, Memory>
+    ensures { IfOk result (λ frames. AreFrames triple.now words.now.keys words.now.label words.now.key frames) }
+{
+    let source = frame_of(alloc, &triple.source, words)?;
+    let middle = frame_of(alloc, &triple.middle, words)?;
+    let target = frame_of(alloc, &triple.target, words)?;
+    Ok(Frames {
+        source,
+        middle,
+        target,
+    })
+}
+
+impl Frames {
+    // What all frames meet: their keys ascend. Nothing is done.
+    fn facts(&self)
+        ensures { (ascends (slice_cmp nat_cmp) self.now.source.keys ≡ true) × (ascends (slice_cmp nat_cmp) self.now.middle.keys ≡ true)
+            × (ascends (slice_cmp nat_cmp) self.now.target.keys ≡ true) }
+    {
+        self.source.facts();
+        self.middle.facts();
+        self.target.facts();
+    }
+}
+
+// Three regions, one after another as one.
+fn joined(
+    alloc: Global,
+    source: &[Options],
+    middle: &[Options],
+    target: &[Options],
+) -> Result<List<Options>, Memory>
+    ensures { IfOk result (λ region. region ≡ source.now ++ (middle.now ++ target.now)) }
+{
+    let mut region = Vec::new(alloc);
+    region.extend_from_slice(source)?;
+    region.extend_from_slice(middle)?;
+    region.extend_from_slice(target)?;
+    Ok(List::from_vec(region))
+}
+
+// The regions of frames, one after another as one.
+fn region_in(alloc: Global, frames: &Frames) -> Result<List<Options>, Memory>
+    ensures { IfOk result (λ region. region ≡ region_in frames.now) }
+{
+    let region = joined(
+        alloc,
+        frames.source.region.as_slice(),
+        frames.middle.region.as_slice(),
+        frames.target.region.as_slice(),
+    )?;
+    Ok(region)
+}
+
+// Whether another triple of shapes may have a triple of pairs of the frames.
+fn may_have_three(triple: &Triple, frames: &Frames) -> bool
+    ensures { result ≡ may_have_three triple.now (three_of frames.now) }
+{
+    may_have(&triple.source, &frames.source)
+        && may_have(&triple.middle, &frames.middle)
+        && may_have(&triple.target, &frames.target)
+}
+
+// What another triple of shapes says of the keys of the frames.
+fn options_of_three(
+    alloc: Global,
+    triple: &Triple,
+    frames: &Frames,
+) -> Result<List<Options>, Memory>
+    ensures { IfOk result (λ region. region ≡ options_of_three triple.now (three_of frames.now)) }
+{
+    let source = options_of(alloc, &triple.source, frames.source.keys.as_slice())?;
+    let middle = options_of(alloc, &triple.middle, frames.middle.keys.as_slice())?;
+    let target = options_of(alloc, &triple.target, frames.target.keys.as_slice())?;
+    let region = joined(
+        alloc,
+        source.as_slice(),
+        middle.as_slice(),
+        target.as_slice(),
+    )?;
+    Ok(region)
+}
+
+// What the triples of shapes that may have a triple of pairs of the frames say of their keys.
+fn regions_of_triples(
+    alloc: Global,
+    triples: &[Triple],
+    frames: &Frames,
+) -> Result<List<List<Options>>, Memory>
+    ensures { IfOk result (λ regions. (v : Point) → in_some_region regions v ≡ in_some_three triples.now (three_of frames.now) v) }
+{
+    let mut regions = Vec::new(alloc);
+    for triple in triples {
+        if may_have_three(triple, frames) {
+            regions.push(options_of_three(alloc, triple, frames)?)?;
+        }
+    }
+    Ok(List::from_vec(regions))
+}
+
+// What other triples of shapes leave of the regions of frames.
+fn left_in_frames(
+    alloc: Global,
+    frames: &Frames,
+    others: &[Triple],
+) -> Result<Option<List<Options>>, Memory>
+    ensures { IfOk result (Leaves (in_some_three others.now (three_of frames.now)) (region_in frames.now)) }
+{
+    let taken = regions_of_triples(alloc, others, frames)?;
+    let region = region_in(alloc, frames)?;
+    let left = left_of(alloc, region.as_slice(), taken.as_slice())?;
+    Ok(left)
+}
+
+// The plainest pairs of the frames, of what is left of their regions: its parts are as long as their keys.
+fn plain_three(alloc: Global, frames: &Frames, found: &[Options]) -> Result<OwnedTriple, Memory>
+    requires { length found.now ≡ length frames.now.source.keys + (length frames.now.middle.keys + length frames.now.target.keys) }
+    ensures { IfOk result (λ own. ArePlainest frames.now found.now own) }
+{
+    let (first, later) = found.split_at(frames.source.keys.len());
+    let (second, third) = later.split_at(frames.middle.keys.len());
+    let source = plain_pair(alloc, &frames.source, first)?;
+    let middle = plain_pair(alloc, &frames.middle, second)?;
+    let target = plain_pair(alloc, &frames.target, third)?;
+    Ok(OwnedTriple {
+        source,
+        middle,
+        target,
+    })
+}
+
+// The plainest three pairs of what other triples of shapes leave of frames. `None` exactly where they leave nothing.
+fn outside_of_frames(
+    alloc: Global,
+    frames: &Frames,
+    others: &[Triple],
+) -> Result<Option<OwnedTriple>, Memory>
+    requires { length (region_in frames.now) ≡ length frames.now.source.keys + (length frames.now.middle.keys + length frames.now.target.keys) }
+    ensures { IfOk result (LeavesThree frames.now others.now) }
+{
+    let left = left_in_frames(alloc, frames, others)?;
+    match left {
+        None => Ok(None),
+        Some(found) => {
+            let own = plain_three(alloc, frames, found.as_slice())?;
+            Ok(Some(own))
+        }
+    }
+}
+
+// A triple of pairs of a triple of shapes that is in none of others. `None` exactly where there is none.
+fn outside_of_triple(
+    alloc: Global,
+    triple: &Triple,
+    others: &[Triple],
+    words: &Vocabulary,
+) -> Result<Option<OwnedTriple>, Memory>
+    requires own { is_known_three words.now.labels words.now.keys triple.now ≡ true }
+    requires others { list_all (is_known_three words.now.labels words.now.keys) others.now ≡ true }
+    ensures { IfOk result (λ answer. MatchOption answer (IsInOtherTriples triple.now others.now)
+        (λ own. IsOutOfOtherTriples (triple.now ∷ []) others.now (owned_triple own))) }
+{
+    let frames = frames_of(alloc, triple, words)?;
+    frames.facts();
+    let answer = outside_of_frames(alloc, &frames, others)?;
+    Ok(answer)
+}
+
+/// A triple of pairs of some triples of shapes that is in none of others. `None` exactly where there is none.
+pub(crate) fn outside_of_triples(
+    alloc: Global,
+    triples: &[Triple],
+    others: &[Triple],
+) -> Result<Option<OwnedTriple>, Memory>
+    ensures { IfOk result (λ answer. MatchOption answer (AreInOtherTriples triples.now others.now)
+        (λ own. IsOutOfOtherTriples triples.now others.now (owned_triple own))) }
+{
+    let words = vocabulary_of_triples(alloc, triples, others)?;
+    for triple in triples {
+        let found = outside_of_triple(alloc, triple, others, &words)?;
+        match found {
+            Some(own) => return Ok(Some(own)),
+            None => {}
+        }
+    }
+    Ok(None)
+}
