@@ -162,20 +162,20 @@ module _ (s : ApplyState) (old new : Scene (List Place)) where
   -- ---- the store stands on the world, unless an area failed
 
   stopped_holds : (before : List (List ℕ)) (last : List ℕ) (stop : Stop Status) → (stop ≡ stops.AreaFault → ⊥) → IsStopped s before last stop old new → (lines : List (List ℕ)) × HoldsStore (state_after_all s lines) new.view
-  stopped_holds before last (stops.Ended status) no done = (before ++ last ∷ [], done.holds)
-  stopped_holds before last stops.ReadFault no never = absurd never
-  stopped_holds before last stops.AreaFault no cut = absurd (no refl)
-  stopped_holds before last stops.PutFault no torn = (before ++ last ∷ [], torn.holds)
-  stopped_holds before last stops.Memory no done = (before, done.holds)
+  stopped_holds before last (stops.Ended status) alive done = (before ++ last ∷ [], done.holds)
+  stopped_holds before last stops.ReadFault alive never = absurd never
+  stopped_holds before last stops.AreaFault alive cut = absurd (alive refl)
+  stopped_holds before last stops.PutFault alive torn = (before ++ last ∷ [], torn.holds)
+  stopped_holds before last stops.Memory alive done = (before, done.holds)
 
   pub reached_holds : (budget : ℕ) (left : Option (List ℕ)) (bytes : List ℕ) (lines later : List (List ℕ)) (stop : Stop Status) (extent : Extent Status) → (stop ≡ stops.AreaFault → ⊥)
       → IsFar applying text_limit s budget left bytes lines later stop extent → IsReached s lines extent old new → (all : List (List ℕ)) × HoldsStore (state_after_all s all) new.view
-  reached_holds budget left bytes lines later stop Whole no far reached = (lines, reached.holds)
-  reached_holds budget left bytes lines later stop (Inside at) no far reached =
+  reached_holds budget left bytes lines later stop Whole alive far reached = (lines, reached.holds)
+  reached_holds budget left bytes lines later stop (Inside at) alive far reached =
       let inside = subst (λ (why : Stop Status). IsReached s lines (Inside why) old new) far.0 reached in
-      stopped_holds inside.0 inside.1 stop no inside.3
-  reached_holds budget left bytes lines later stop (AtEnd rest at) no far reached =
-      stopped_holds lines rest stop no (subst (λ (why : Stop Status). IsStopped s lines rest why old new) far.0 reached)
+      stopped_holds inside.0 inside.1 stop alive inside.3
+  reached_holds budget left bytes lines later stop (AtEnd rest at) alive far reached =
+      stopped_holds lines rest stop alive (subst (λ (why : Stop Status). IsStopped s lines rest why old new) far.0 reached)
 
 -- ---- what a stop leaves
 
@@ -237,7 +237,7 @@ module _ (input bytes : List ℕ) (before left : Option (List ℕ)) (told : befo
   -- some ended lines of the bytes taken
   seen_ended : (lines later : List (List ℕ)) (stop : Stop Status) → (kept_of text_limit bytes).ended ≡ lines ++ later → (is_done stop ≡ true → ⊥) → Seen input stop lines
   unfolding kept_of
-  seen_ended lines later stop parts no =
+  seen_ended lines later stop parts never =
       let rest = rest_of input bytes before left told taken in
       let at = split (lines_of bytes).ended lines later parts in
       let on = lines_of_goes_on bytes rest.rest in
@@ -248,7 +248,7 @@ module _ (input bytes : List ℕ) (before left : Option (List ℕ)) (told : befo
         parts = ap (λ (xs : List (List ℕ)). xs ++ last) (ap (λ (text : List ℕ). (lines_of text).ended) rest.parts ∙ on.is ∙ ap (λ (xs : List (List ℕ)). xs ++ on.later) at.parts)
             ∙ append_assoc (at.until ++ at.more) on.later last ∙ append_assoc at.until at.more (on.later ++ last);
         is = at.first_is;
-        all = λ done. absurd (no done);
+        all = λ done. absurd (never done);
       }
 
   -- all lines of the input

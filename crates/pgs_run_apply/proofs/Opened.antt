@@ -35,7 +35,7 @@ use Rattle.pgs_run_base.proofs.Images.{images_quiet, images_areas}
 use Rattle.pgs_violation.specs.Violations.{verdict}
 use Rattle.pgs_run_saved.specs.Opening.{saved_in}
 use Rattle.pgs_run_saved.specs.Refusing.{SavedStore}
-use Rattle.pgs_run_apply.specs.Applying.{applying, seen, Applies, IsDone as AreDone}
+use Rattle.pgs_run_apply.specs.Applying.{applying, given_by, seen, Applies, IsDone as AreDone}
 use Rattle.pgs_run_apply.specs.Ending.{is_done, last_piece, StaysStill, EndsRun}
 use Rattle.pgs_run_apply.specs.Following.{all_append, pieces_cons, pieces_append}
 use Rattle.pgs_run_apply.specs.Left.{IsLeft, IsSavedAt, state_after_all, pieces_at, pieces_from}
@@ -149,11 +149,11 @@ given_of s until stops.PutFault old new went = went.given
 given_of s until stops.Memory old new went = went.given
 
 holds_of : (s : ApplyState) (until : List (List ℕ)) (stop : Stop Status) (old new : Scene (List Place)) → (stop ≡ stops.AreaFault → ⊥) → WentBy s until stop old new → HoldsStore (state_after_all s until) new.view
-holds_of s until (stops.Ended status) old new no went = went.holds
-holds_of s until stops.ReadFault old new no went = went.holds
-holds_of s until stops.AreaFault old new no went = absurd (no refl)
-holds_of s until stops.PutFault old new no went = went.holds
-holds_of s until stops.Memory old new no went = went.holds
+holds_of s until (stops.Ended status) old new alive went = went.holds
+holds_of s until stops.ReadFault old new alive went = went.holds
+holds_of s until stops.AreaFault old new alive went = absurd (alive refl)
+holds_of s until stops.PutFault old new alive went = went.holds
+holds_of s until stops.Memory old new alive went = went.holds
 
 -- an area that failed is told
 pub struck_last : (lost : ℕ) (stop : Stop Status) (old new : View) (result : Status) → stop ≡ stops.AreaFault → EndsRun (last_piece (is_done stop) lost) (status_at stop) old result new → result ≡ DiskFault
@@ -258,8 +258,8 @@ module _ (it : StoreState) (limits : it.guard.limits ≡ standard) (of_text : sc
           put_whole (saved_in it) run.went.until run.went.later lost (shown_of mid.view) now.view new at.status result (last_piece true lost) refl at.done (run.went.whole ended) done.shows at.ends
 
       saves : (result ≡ DiskFault → ⊥) → SavesOn (saved_in it) (after (saved_in it) run.went.until) old.shown new.shown
-      saves no =
-          let holds = holds_of (first_state it) run.went.until stop mid now (λ is. no (struck_last lost stop now.view new result is last)) run.went.went in
+      saves alive =
+          let holds = holds_of (first_state it) run.went.until stop mid now (λ is. alive (struck_last lost stop now.view new result is last)) run.went.went in
           let kept = last_images (last_piece (is_done stop) lost) (status_at stop) now.view result new last in
           saves_on_same (saved_in it) (after (saved_in it) run.went.until) old.shown now.view.shown new.shown kept.a kept.b
           (saves_on it limits of_text old.shown chosen now.view.shown run.went.until (held (state_after_all (first_state it) run.went.until) now.view tells holds))

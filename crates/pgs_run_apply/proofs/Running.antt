@@ -134,10 +134,10 @@ module _ (it : StoreState) (old : View) (mid now : Scene (List Place)) (new : Vi
 
   -- nothing is pending at the end
   pub running_settled : IsSettled old → (result ≡ DiskFault → ⊥) → IsSettled new
-  running_settled settled no =
+  running_settled settled alive =
       let there =
       reached_holds s mid now budget left allows.bytes allows.lines allows.later stop allows.extent
-      (λ is. no (struck_last lost stop now.view new result is last)) allows.far allows.allowed.reached in
+      (λ is. alive (struck_last lost stop now.view new result is last)) allows.far allows.allowed.reached in
       settled_images now.view new
       (there.1.stands.settled (allows.allowed.passes.honest ∙ (quiet.passes.honest ∙ settled.honest))
       (allows.allowed.passes.tells_bytes ∙ (quiet.passes.tells_bytes ∙ settled.tells_bytes))) kept

@@ -1,5 +1,5 @@
 -- The taking of a line, from what its calls do to the world.
-use Rattle.std.proofs.Common.{◌≡◌, ◌∙◌, inl, inr, ℕ, ◌+◌, Bool, List, [], ◌∷◌, ◌++◌, length, Result, Ok, Err, IsTrue, refl, sym, ap, subst, arith}
+use Rattle.std.proofs.Common.{◌≡◌, ◌∙◌, inl, inr, ℕ, ◌+◌, Bool, List, [], ◌∷◌, ◌++◌, length, Result, Ok, Err, IsTrue, refl, sym, ap, ap₂, subst, arith}
 use Rattle.std.specs.Result.{IsErrAnd}
 use Rattle.std.proofs.lemmas.Result.{err_from_is_err_and}
 use Rattle.pgs_feed.specs.Given.{AreGiven}
@@ -20,9 +20,13 @@ use Rattle.pgs_world.specs.declared.area.Area.TheVariants.{A, B}
 use Rattle.pgs_world.specs.World.{View, other}
 use Rattle.pgs_world.proofs.Moments.{passes_none, passes_on, each_none, each_on, settled_put}
 use Rattle.pgs_answer.specs.Lines.{refused_line}
+use Rattle.pgs_answer.specs.Refusals.{rejection_text}
+use Rattle.pgs_base.specs.declared.limits.Limits.{Limits}
 use Rattle.pgs_run_base.specs.Images.{KeepsArea}
 use Rattle.pgs_run_base.proofs.Images.{area_none, area_on}
 use Rattle.pgs_run_base.specs.declared.status.Status.{Status}
+use Rattle.pgs_run_base.specs.Session.{standard}
+use Rattle.pgs_violation.specs.declared.rejection.Rejection.{Rejection}
 use Rattle.pgs_run_apply.specs.Following.{saved_here}
 use Rattle.pgs_run_apply.specs.Outcome.{Outcome, IsPast, IsLeftBy, IsTaken, Takes, skipping, refusing}
 use Rattle.pgs_run_apply.proofs.Putting.{IsPut, PutsPiece}
@@ -189,3 +193,12 @@ pub take_as : {T : Type 0} {s : ApplyState} {o other : Outcome} {result : Result
     → other ≡ o → Takes s o result now old new → Takes s other result now old new
 take_as {s = s} {result = result} {now = now} {old = old} {new = new} same taken =
     subst (λ (p : Outcome). Takes s p result now old new) (sym same) taken
+
+-- ---- a rejection
+
+-- the text by the limits of the program
+pub rejecting : (s : ApplyState) (rejection : Rejection) (limits : Limits) (said text : List ℕ) → limits.ops ≡ 10000 → limits.elements ≡ 1000000 → said ≡ text → text ≡ rejection_text rejection limits
+    → refusing s said ≡ refusing s (rejection_text rejection standard)
+rejecting s rejection limits said text ops elements is of_rejection =
+    let same : limits ≡ standard = ap₂ (λ (o e : ℕ). let made : Limits = record { ops = o; elements = e } in made) ops elements in
+    ap (refusing s) (is ∙ of_rejection ∙ ap (rejection_text rejection) same)

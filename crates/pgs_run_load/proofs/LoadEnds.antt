@@ -219,6 +219,10 @@ pub found_quiet : (old new : View) → IsQuiet old new → FindsNone old → Fin
 found_quiet old new quiet free told =
     subst (λ (t : Triple). choice_of t.a t.b ≡ no_store) (sym quiet.shown) (free (sym quiet.passes.tells_bytes ∙ told))
 
+pub found_back : (old new : View) → IsQuiet old new → FindsNone new → FindsNone old
+found_back old new quiet free told =
+    subst (λ (t : Triple). choice_of t.a t.b ≡ no_store) quiet.shown (free (quiet.passes.tells_bytes ∙ told))
+
 -- while the text is collected
 pub collects_at : (old mid : View) (input : List ℕ) → IsTimed old → FindsNone old → IsTrue old.tells_output → IsSettled old → IsQuiet old mid → EachSince (IsLoadingAt old.shown input) old mid
 collects_at old mid input timed free tells settled quiet = each_quiet old mid (IsLoadingAt old.shown input) settled.honest quiet (starts_at old input timed free tells settled)

@@ -77,7 +77,7 @@ pub fn reply_to(
     ensures { Replies result saved }
 {
     match saved {
-        Ok(_) => Ok(Reply {
+        Ok(_store) => Ok(Reply {
             line,
             status: Status::Accepted,
         }),
@@ -85,6 +85,6 @@ pub fn reply_to(
         Err(LoadFault::Foreign) => with_status(foreign_line(alloc), Status::StoreRefused),
         Err(LoadFault::DiskFault) => Err(Status::DiskFault),
         Err(LoadFault::Memory) => Err(Status::Memory),
-        Err(LoadFault::Schema(_)) => unreachable!(),
+        Err(LoadFault::Schema(_fault)) => unreachable!(),
     }
 }

@@ -11,7 +11,7 @@ use Rattle.pgs_run_base.proofs.Images.{area_of_images, area_on, images_on, image
 use Rattle.pgs_run_load.specs.Loading.{IsLoading}
 use Rattle.pgs_run_load.specs.Told.{told_text}
 use Rattle.pgs_run_load.proofs.Stops.{loading_start}
-use Rattle.pgs_run_load.proofs.LoadEnds.{unmade, whole_at, ends_loaded, ends_without_text, cause_loaded, found_quiet, collects_at, stops_loaded}
+use Rattle.pgs_run_load.proofs.LoadEnds.{unmade, whole_at, ends_loaded, ends_without_text, cause_loaded, found_back, found_quiet, collects_at, stops_loaded}
 use Rattle.pgs_run_load.proofs.run.run_load.Goals as goal
 
 pub returns-in-Ok-clause-ends : goal.returns-in-Ok-clause-ends
@@ -70,6 +70,13 @@ returns-in-Ok-clause-grows g c = λ free settled.
     let new = g.W.World.view c.load_text.new.world in
     each_on old mid new IsLoading quiet.passes c.load_text.ensures.passes (each_quiet old mid IsLoading settled.honest quiet (loading_start old free settled))
     (c.load_text.ensures.grows (found_quiet old mid quiet free) (settled_quiet old mid settled quiet))
+
+pub returns-in-Ok-clause-occupied : goal.returns-in-Ok-clause-occupied
+returns-in-Ok-clause-occupied g c = λ taken.
+    let old = g.W.World.view c.args.world.now in
+    let mid = g.W.World.view c.run_lines-stop.new.world in
+    let quiet = c.run_lines-stop.ensures.allows.allowed in
+    images_on old mid (g.W.World.view c.load_text.new.world) (images_quiet old mid quiet) (c.load_text.ensures.occupied (λ free. taken (found_back old mid quiet free)))
 
 pub returns-in-Ok-clause-unwritten : goal.returns-in-Ok-clause-unwritten
 returns-in-Ok-clause-unwritten g c = λ is.

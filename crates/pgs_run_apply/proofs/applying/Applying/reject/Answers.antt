@@ -1,9 +1,10 @@
+use Rattle.std.proofs.Common.{sym}
 use Rattle.pgs_answer.specs.Refusals.{rejection_text}
 use Rattle.pgs_feed.specs.Seen.{places}
 use Rattle.pgs_run_base.specs.Session.{standard}
 use Rattle.pgs_run_apply.specs.Outcome.{refusing}
 use Rattle.pgs_run_apply.specs.Seen.{state_of}
-use Rattle.pgs_run_apply.proofs.Taken.{take_untaken}
+use Rattle.pgs_run_apply.proofs.Taken.{rejecting, take_as, take_untaken}
 use Rattle.pgs_run_apply.proofs.applying.Applying.reject.Goals as goal
 
 pub returns-in_err-text : goal.returns-in_err-text
@@ -11,3 +12,9 @@ returns-in_err-text g c =
     let s = state_of c.args.self.now in
     take_untaken s (refusing s (rejection_text c.args.rejection.now standard)) c.from_residual.result s (g.W.World.view c.args.world.now)
     (places g.F.Feed.taken g.F.Feed.faults c.args.self.now.feeds) c.from_residual.ensures.1 (g.met.W.World.timed c.args.world.now) c.requires.holds
+
+pub returns : goal.returns
+returns g c =
+    take_as
+    (sym (rejecting (state_of c.args.self.now) c.args.rejection.now c.standard.result c.as_slice.result.now c.in_ok-text.text c.standard.ensures.ops c.standard.ensures.elements c.as_slice.ensures
+    c.in_ok-text.ensures)) c.refuse.ensures
