@@ -21,7 +21,7 @@ use std::alloc::Global;
 use std::sync::ledger::Ledger;
 
 /// What an accepted transaction makes of the graph, and of the index that stands for it.
-#[derive(Debug, Drop)]
+#[derive(Drop)]
 pub struct Decided {
     /// The delta of the graph.
     pub delta: Delta,
