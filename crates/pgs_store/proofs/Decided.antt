@@ -1,11 +1,16 @@
 -- A staged graph that conforms is one that a guard may have.
-use Rattle.std.proofs.Common.{◌≡◌, ℕ, ◌^◌, ◌<◌, ◌≤◌, Bool, true, false, IsTrue, Result, Ok, Err, refl, ap, subst, arith}
+use Rattle.std.proofs.Common.{◌≡◌, ℕ, ◌^◌, ◌<◌, ◌≤◌, Bool, true, false, IsTrue, List, Result, Ok, Err, refl, ◌∙◌, ap, subst, arith}
 use Rattle.std.specs.Prelude.{if◌then◌else◌, nat_lt, length}
+use Rattle.std.proofs.lemmas.Bool.{and_parts}
 use Rattle.std.proofs.lemmas.Bool.Decides.{nat_tests}
 use Rattle.pgs_base.specs.declared.limits.Limits.{Limits}
-use Rattle.pgs_base.specs.Graph.{Graph, element_count}
-use Rattle.pgs_codec.specs.declared.command.Command.TheVariants.{Txn as Transaction}
-use Rattle.pgs_codec.specs.Encodable.{is_sized}
+use Rattle.pgs_base.specs.declared.element.NodeId.{NodeId}
+use Rattle.pgs_base.specs.declared.element.EdgeId.{EdgeId}
+use Rattle.pgs_base.specs.declared.row.NodeRow.{NodeRow}
+use Rattle.pgs_base.specs.declared.row.EdgeRow.{EdgeRow}
+use Rattle.pgs_base.specs.Graph.{Graph, element_count, is_graph}
+use Rattle.pgs_codec.specs.declared.command.Command.TheVariants.{Snapshot, Txn as Transaction}
+use Rattle.pgs_codec.specs.Encodable.{is_sized, snapshot_graph}
 use Rattle.pgs_graph.specs.declared.operation.Txn.{Txn}
 use Rattle.pgs_records.specs.Small.{has_small_rows}
 use Rattle.pgs_records.proofs.Steps.{staged_small, staged_sized}
@@ -80,3 +85,9 @@ guarded resolved limits g h txn fine e small =
 pub sized : (resolved : Resolved) (limits : Limits) (g h : Graph) (txn : Txn) → limits.ops < 2 ^ 32 → decide limits (verdict resolved) g txn ≡ Ok h
     → IsTrue (is_sized (Transaction txn))
 sized resolved limits g h txn few e = staged_sized limits g h txn few (decided_staged limits (verdict resolved) g h txn e)
+
+-- the rows of a snapshot are small
+pub small_rows : (commits : ℕ) (nodes : List (NodeId × NodeRow)) (edges : List (EdgeId × EdgeRow)) (g : Graph) → g ≡ snapshot_graph nodes edges
+    → IsTrue (is_sized (Snapshot commits nodes edges)) → has_small_rows g ≡ true
+small_rows commits nodes edges g same sizes =
+    ap has_small_rows same ∙ (and_parts (has_small_rows (snapshot_graph nodes edges)) (is_graph (snapshot_graph nodes edges)) sizes).0
