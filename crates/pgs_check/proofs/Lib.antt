@@ -5,6 +5,7 @@ pub mod Covered
 pub mod ElemOrder
 pub mod Entered
 pub mod Firsts
+pub mod FromNothing
 pub mod Indexed
 pub mod KeyFirst
 pub mod KeyList

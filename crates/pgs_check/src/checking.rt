@@ -224,7 +224,7 @@ fn check_keys<L: Ledger>(
 }
 
 // Moves rows behind changes.
-fn append(changes: &mut Vec<KeyChange>, rows: &mut Vec<KeyChange>) -> Result<(), Memory>
+pub(crate) fn append(changes: &mut Vec<KeyChange>, rows: &mut Vec<KeyChange>) -> Result<(), Memory>
     ensures { OnOk result (changes.new.items ≡ changes.old.items ++ rows.old.items) }
 {
     changes.append(rows)?;
