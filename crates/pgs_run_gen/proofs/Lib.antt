@@ -1,4 +1,9 @@
+pub mod Accepting
+pub mod Conforming
 pub mod Decided
 pub mod Incoming
+pub mod Numbered
 pub mod Replied
+pub mod SchemaText
 pub mod Telling
+pub mod Typed

@@ -1,3 +1,4 @@
 pub mod Answer
+pub mod Persons
 pub mod Told
 pub mod Workload

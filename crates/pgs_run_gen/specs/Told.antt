@@ -1,17 +1,15 @@
 -- What a run tells that makes a workload from a number, and decides it.
-use Rattle.std.specs.Prelude.{ℕ, ◌==◌, List, [], ◌∷◌, length, Result, Ok, Err, if◌then◌else◌}
-use Rattle.pgs_answer.specs.Lines.{gen_line, schema_refused_line}
+use Rattle.std.specs.Prelude.{ℕ, ◌==◌, List, [], ◌∷◌, length, Result, if◌then◌else◌}
+use Rattle.pgs_answer.specs.Lines.{gen_line}
 use Rattle.pgs_base.specs.Graph.{Graph}
-use Rattle.pgs_gen.specs.Generated.{schema_text}
 use Rattle.pgs_graph.specs.Reads.{in_edges_of}
 use Rattle.pgs_run_lines.specs.Machine.{Told}
-use Rattle.pgs_syntax.specs.declared.resolved.Resolved.{Resolved}
 use Rattle.pgs_violation.specs.declared.rejection.Rejection.{Rejection}
 use Rattle.pgs_violation.specs.Violations.{verdict}
 use Rattle.pgs_run_base.specs.declared.status.Status.{Status}
-use Rattle.pgs_run_base.specs.declared.status.Status.TheVariants.{Accepted, Refused, SchemaRefused}
-use Rattle.pgs_run_base.specs.Answers.{schema_answer}
+use Rattle.pgs_run_base.specs.declared.status.Status.TheVariants.{Accepted, Refused}
 use Rattle.pgs_run_base.specs.Session.{standard}
+use Rattle.pgs_run_gen.specs.Persons.{persons}
 use Rattle.pgs_run_gen.specs.Workload.{decided, graph_left, accepted_of, rejected_of}
 
 -- the summary: how many transactions were accepted and rejected, how many nodes and edges the graph has, and how many edges come in
@@ -30,11 +28,6 @@ told_of made = record {
   status = status_of (rejected_of made);
 }
 
--- what is told under the schema of the workload's text; where that text has none, its refusal
-abbrev pub told_under : Result Resolved (List ℕ) → ℕ → ℕ → Told Status
-told_under (Ok resolved) start count = told_of (decided standard (verdict resolved) start count)
-told_under (Err text) start count = record { pieces = schema_refused_line text ∷ []; status = SchemaRefused }
-
 -- what the command tells of a start and a count
 unfoldable pub told_gen : ℕ → ℕ → Told Status
-told_gen start count = told_under (schema_answer schema_text) start count
+told_gen start count = told_of (decided standard (verdict persons) start count)
