@@ -1,6 +1,6 @@
 -- What a transaction touches, by its operations: the elements that they name as their own, and the edges at these nodes.
 use Rattle.std.specs.Prelude.{ℕ, ◌+◌, List, [], ◌∷◌, length, Result, Ok, Err}
-use Rattle.std.specs.BTreeMap.{insert_key}
+use Rattle.std.specs.BTreeSet.{insert_key}
 use Rattle.pgs_base.specs.declared.element.Elem.{Elem}
 use Rattle.pgs_base.specs.declared.element.Elem.TheVariants.{Node, Edge}
 use Rattle.pgs_base.specs.declared.limits.Limits.{Limits}

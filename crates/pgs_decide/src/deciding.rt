@@ -1,8 +1,14 @@
-ghost use Rattle.std.specs.Prelude.{◌≡◌, ◌+◌, ◌*◌, ◌^◌, ◌≤◌, ℕ, true, length, Ok, IfErr, IfOk};
+ghost use Rattle.std.specs.Prelude.{◌≡◌, ◌+◌, ◌*◌, ◌^◌, ◌≤◌, ℕ, true, length, Ok, IfErr, IfOk, OnOk};
+ghost use Rattle.pgs_base.specs.Graph.{Graph};
 ghost use Rattle.pgs_graph.specs.Changed.{changed, is_sound};
-ghost use Rattle.pgs_violation.specs.Decision.{decide};
+ghost use Rattle.pgs_violation.specs.declared.violation.Verdict.{Verdict};
+ghost use Rattle.pgs_violation.specs.Decision.{conforming, decide};
+ghost use Rattle.pgs_violation.specs.Staging.{staged};
 ghost use Rattle.pgs_violation.specs.Violations.{conforms, verdict};
-ghost use Rattle.pgs_check_affected.specs.Touched.{AreSparse};
+ghost use Rattle.pgs_txn.specs.Listing.{has_degrees_upto, lists_only};
+ghost use Rattle.pgs_overlay.specs.Standing.{row_count};
+ghost use Rattle.pgs_check_affected.specs.Changes.{elems_of};
+ghost use Rattle.pgs_check_affected.specs.Touched.{AreSparse, touched};
 ghost use Rattle.pgs_keyindex.specs.Rows.{IsOwned, rows_changed};
 ghost use Rattle.pgs_keyindex.specs.Standing.{StandsFor};
 ghost use Rattle.pgs_check.specs.Costs.{HaveEdgesWithin};
@@ -11,11 +17,14 @@ ghost use Rattle.pgs_decide.specs.Refused.{IsRejected};
 ghost use Rattle.pgs_decide.specs.Touched.{guarding_count, staged_after, touched_by};
 
 use pgs_base::{Limits, List, Memory, Steps};
+use pgs_check::{CheckFault, check};
 use pgs_conform::Compiled;
-use pgs_graph::{Delta, Txn};
+use pgs_graph::{Delta, GraphRead, Txn};
 use pgs_keyindex::{KeyChange, KeyIndex};
 use pgs_match::PlannedKey;
+use pgs_overlay::Overlay;
 use pgs_tables::Tables;
+use pgs_txn::{StageFault, stage};
 use pgs_violation::Rejection;
 use std::alloc::Global;
 use std::sync::ledger::Ledger;
@@ -46,6 +55,70 @@ impl From<Memory> for DecideFault {
 
     fn from(_: Memory) -> DecideFault {
         DecideFault::Memory
+    }
+}
+
+// Stages a transaction: the delta that it makes of a graph.
+fn staged_delta<L: Ledger>(
+    alloc: Global,
+    graph: &Tables,
+    limits: &Limits,
+    txn: &Txn,
+    steps: &mut Steps<L>,
+) -> Result<Delta, DecideFault>
+    ensures sound { IfOk result (λ delta. is_sound graph.now.graph delta ≡ true) }
+    ensures staged { IfOk result (λ delta. staged limits.now graph.now.graph txn.now ≡ Ok (changed graph.now.graph delta)) }
+    ensures lists_only { IfOk result (λ delta. lists_only graph.now.graph txn.now.ops delta ≡ true) }
+    ensures rejected { (judge : Graph → Verdict) → IfErr result (IsRejected (decide limits.now judge graph.now.graph txn.now)) }
+    ensures no_step_back { steps.old ≤ steps.new }
+    ensures cost { (most : ℕ) → has_degrees_upto graph.now.graph most txn.now.ops ≡ true →
+        steps.new ≤ steps.old + 16 * (length txn.now.ops + 1) * (most + 2) }
+{
+    match stage(alloc, graph, limits, txn, steps) {
+        Ok(delta) => Ok(delta),
+        Err(StageFault::Memory) => Err(DecideFault::Memory),
+        Err(StageFault::Refused(structural)) => {
+            Err(DecideFault::Rejected(Rejection::Structural(structural)))
+        }
+    }
+}
+
+// Checks a sound delta as a pending change of a graph that conforms: the changes of the index.
+fn checked_changes<L: Ledger>(
+    alloc: Global,
+    graph: &Tables,
+    index: &KeyIndex,
+    compiled: &Compiled,
+    keys: &List<PlannedKey>,
+    delta: &Delta,
+    steps: &mut Steps<L>,
+) -> Result<List<KeyChange>, DecideFault>
+    requires sound { is_sound graph.now.graph delta.now ≡ true }
+    requires conforms { conforms compiled.now graph.now.graph ≡ true }
+    requires index { StandsFor compiled.now graph.now.graph compiled.now.guard.keys index.now }
+    requires keys { keys.now ≡ compiled.now.guard.keys }
+    ensures conforms { OnOk result (conforms compiled.now (changed graph.now.graph delta.now) ≡ true) }
+    ensures rejected { IfErr result (IsRejected (conforming (changed graph.now.graph delta.now)
+        (verdict compiled.now (changed graph.now.graph delta.now)))) }
+    ensures once { IfOk result ChangeEachOnce }
+    ensures owned { IfOk result (λ changes. IsOwned index.now.exclusive (rows_changed index.now.rows changes)) }
+    ensures stands { IfOk result (λ changes. StandsFor compiled.now (changed graph.now.graph delta.now) compiled.now.guard.keys
+        (index_changed index.now changes)) }
+    ensures no_step_back { steps.old ≤ steps.new }
+    ensures cost { (edges most : ℕ) → HaveEdgesWithin keys.now edges →
+        AreSparse graph.now.graph (changed graph.now.graph delta.now) (2 * edges) (touched graph.now.graph (elems_of delta.now)) most →
+        steps.new ≤ steps.old + (16 * (row_count delta.now + 1) * (most + 2)
+        + 3072 * (length keys.now + 1) * (length (touched graph.now.graph (elems_of delta.now)) + 1) * (most + 2) ^ (2 * edges + 2)) }
+{
+    // The count's clause says that what is read is a graph.
+    graph.count();
+    let overlay = Overlay::new(alloc, graph, delta, steps)?;
+    match check(alloc, graph, index, compiled, keys, &overlay, delta, steps) {
+        Ok(changes) => Ok(changes),
+        Err(CheckFault::Memory) => Err(DecideFault::Memory),
+        Err(CheckFault::Violated(violation)) => {
+            Err(DecideFault::Rejected(Rejection::Violation(violation)))
+        }
     }
 }
 
@@ -85,8 +158,11 @@ pub fn decide<L: Ledger>(
     ensures cost { (edges most : ℕ) → HaveEdgesWithin keys.now edges →
         AreSparse graph.now.graph (staged_after limits.now graph.now.graph txn.now) (2 * edges) (touched_by graph.now.graph txn.now.ops) most →
         steps.new ≤ steps.old + 4096 * (guarding_count compiled.now + 1)
-            * (length txn.now.ops + length (touched_by graph.now.graph txn.now.ops) + 1) * (most + 2) ^ (2 * edges + 2) }
+        * (length txn.now.ops + length (touched_by graph.now.graph txn.now.ops) + 1) * (most + 2) ^ (2 * edges + 2) }
 {
-    let _ = (alloc, graph, index, compiled, keys, limits, txn, steps);
-    Err(DecideFault::Memory)
+    // The count's clause says that what is read is a graph.
+    graph.count();
+    let delta = staged_delta(alloc, graph, limits, txn, steps)?;
+    let changes = checked_changes(alloc, graph, index, compiled, keys, &delta, steps)?;
+    Ok(Decided { delta, changes })
 }

@@ -6,5 +6,6 @@
 #![tactic(auto)]
 
 mod deciding;
+pub mod laws;
 
 pub use deciding::{DecideFault, Decided, decide};

@@ -1,6 +1,7 @@
 //! The lines of the keys in whose scope an element is.
 
 ghost use Rattle.std.specs.Prelude.{◌≡◌, ◌<◌, ◌≤◌, length, map};
+ghost use Rattle.std.specs.Option.{option_copied};
 ghost use Rattle.pgs_answer.specs.Lines.{key_value_line};
 ghost use Rattle.pgs_run_lines.specs.Puts.{Puts};
 ghost use Rattle.pgs_store.specs.Explained.{key_values_of};
@@ -35,9 +36,9 @@ fn put_scope<W: World>(
     alloc: Global,
     world: &mut W,
     number: u32,
-    values: &Option<TupleSet>,
+    values: Option<&TupleSet>,
 ) -> Result<(), Stop<Status>>
-    ensures { Puts (W.view world.old) (key_lines number values.now) result (W.view world.new) }
+    ensures { Puts (W.view world.old) (key_lines number (option_copied values)) result (W.view world.new) }
 {
     match values {
         Some(values) => {
@@ -62,8 +63,8 @@ fn put_key<W: World, L: Ledger>(
     ensures { Puts (W.view world.old)
         (key_lines number (key_values_of store.now.guard.schema store.now.guard.graph number elem)) result (W.view world.new) }
 {
-    let values = store.key_values(number, elem, steps)?;
-    put_scope(alloc, world, number, &values)
+    let values = store.key_values(number, elem, steps);
+    put_scope(alloc, world, number, values)
 }
 
 /// Puts what the store says of an element under each key.

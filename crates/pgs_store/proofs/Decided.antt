@@ -1,19 +1,30 @@
 -- A staged graph that conforms is one that a guard may have.
-use Rattle.std.proofs.Common.{◌≡◌, ℕ, ◌≤◌, Bool, true, false, Result, Ok, Err, refl, ap, subst, arith}
+use Rattle.std.proofs.Common.{◌≡◌, ℕ, ◌^◌, ◌<◌, ◌≤◌, Bool, true, false, IsTrue, List, Result, Ok, Err, refl, ◌∙◌, ap, subst, arith}
 use Rattle.std.specs.Prelude.{if◌then◌else◌, nat_lt, length}
+use Rattle.std.proofs.lemmas.Bool.{and_parts}
 use Rattle.std.proofs.lemmas.Bool.Decides.{nat_tests}
 use Rattle.pgs_base.specs.declared.limits.Limits.{Limits}
-use Rattle.pgs_base.specs.Graph.{Graph, element_count}
+use Rattle.pgs_base.specs.declared.element.NodeId.{NodeId}
+use Rattle.pgs_base.specs.declared.element.EdgeId.{EdgeId}
+use Rattle.pgs_base.specs.declared.row.NodeRow.{NodeRow}
+use Rattle.pgs_base.specs.declared.row.EdgeRow.{EdgeRow}
+use Rattle.pgs_base.specs.Graph.{Graph, element_count, is_graph}
+use Rattle.pgs_codec.specs.declared.command.Command.TheVariants.{Snapshot, Txn as Transaction}
+use Rattle.pgs_codec.specs.Encodable.{is_sized, snapshot_graph}
 use Rattle.pgs_graph.specs.declared.operation.Txn.{Txn}
 use Rattle.pgs_records.specs.Small.{has_small_rows}
-use Rattle.pgs_records.proofs.Steps.{staged_small}
+use Rattle.pgs_records.proofs.Steps.{staged_small, staged_sized}
 use Rattle.pgs_store.specs.State.{IsGuarded}
 use Rattle.pgs_syntax.specs.declared.resolved.Resolved.{Resolved}
 use Rattle.pgs_violation.specs.declared.structural.Structural.{Structural}
 use Rattle.pgs_violation.specs.declared.structural.Structural.TheVariants.{TooManyElements, TooManyOps}
-use Rattle.pgs_violation.specs.declared.violation.Verdict.TheVariants.{Conforms}
+use Rattle.pgs_violation.specs.declared.rejection.Rejection.TheVariants.{Structural as ByStructure}
+use Rattle.pgs_violation.specs.declared.violation.Verdict.{Verdict}
+use Rattle.pgs_violation.specs.declared.violation.Verdict.TheVariants.{Conforms, Refused}
+use Rattle.pgs_violation.specs.Decision.{conforming, decide, judging}
 use Rattle.pgs_violation.specs.Staging.{◌>>=◌, after_ops, within_limit, staged}
-use Rattle.pgs_violation.specs.Violations.{verdict}
+use Rattle.pgs_violation.specs.Violations.{conforms, verdict, violations}
+use Rattle.pgs_violation.proofs.FirstOf.{empty_list, first_conforms}
 
 fits : (count most : ℕ) → nat_lt most count ≡ false → count ≤ most
 fits count most within = grind (arith, nat_tests)
@@ -41,10 +52,42 @@ staged_within limits g h txn e = by (nat_lt limits.ops (length txn.ops)) (after_
     by true r e = cc
     by false r e = done r e
 
-pub guarded : (resolved : Resolved) (limits : Limits) (g h : Graph) (txn : Txn) → verdict resolved h ≡ Conforms → staged limits g txn ≡ Ok h
+-- a graph that a decision gives is the staged one
+given : (next h : Graph) (over : Bool) (judgement : Verdict) → (if over then Err (ByStructure (TooManyElements (element_count next))) else conforming next judgement) ≡ Ok h
+    → next ≡ h
+given next h true judgement e = cc
+given next h false Conforms e = cc
+given next h false (Refused violation) e = cc
+
+pub decided_staged : (limits : Limits) (judge : Graph → Verdict) (g h : Graph) (txn : Txn) → decide limits judge g txn ≡ Ok h → staged limits g txn ≡ Ok h
+decided_staged limits judge g h txn e = by (staged limits g txn) e
+  where
+    by : (r : Result Graph Structural) → judging limits judge r ≡ Ok h → r ≡ Ok h
+    by (Ok next) e = ap Ok (given next h (nat_lt limits.elements (element_count next)) (judge next) e)
+    by (Err structural) e = cc
+
+pub conforms_by : (resolved : Resolved) (g : Graph) → conforms resolved g ≡ true → verdict resolved g ≡ Conforms
+conforms_by resolved g e = (first_conforms (violations resolved g)).1 ((empty_list (violations resolved g)).0 e)
+
+pub by_verdict : (resolved : Resolved) (g : Graph) → verdict resolved g ≡ Conforms → conforms resolved g ≡ true
+by_verdict resolved g e = (empty_list (violations resolved g)).1 ((first_conforms (violations resolved g)).0 e)
+
+pub guarded : (resolved : Resolved) (limits : Limits) (g h : Graph) (txn : Txn) → conforms resolved h ≡ true → decide limits (verdict resolved) g txn ≡ Ok h
     → has_small_rows g ≡ true → IsGuarded resolved limits h
-guarded resolved limits g h txn conforms e small = record {
-  conforms = conforms;
-  within = staged_within limits g h txn e;
-  small = staged_small limits g h txn e small;
-}
+guarded resolved limits g h txn fine e small =
+    let done = decided_staged limits (verdict resolved) g h txn e in
+    record {
+      conforms = conforms_by resolved h fine;
+      within = staged_within limits g h txn done;
+      small = staged_small limits g h txn done small;
+    }
+
+pub sized : (resolved : Resolved) (limits : Limits) (g h : Graph) (txn : Txn) → limits.ops < 2 ^ 32 → decide limits (verdict resolved) g txn ≡ Ok h
+    → IsTrue (is_sized (Transaction txn))
+sized resolved limits g h txn few e = staged_sized limits g h txn few (decided_staged limits (verdict resolved) g h txn e)
+
+-- the rows of a snapshot are small
+pub small_rows : (commits : ℕ) (nodes : List (NodeId × NodeRow)) (edges : List (EdgeId × EdgeRow)) (g : Graph) → g ≡ snapshot_graph nodes edges
+    → IsTrue (is_sized (Snapshot commits nodes edges)) → has_small_rows g ≡ true
+small_rows commits nodes edges g same sizes =
+    ap has_small_rows same ∙ (and_parts (has_small_rows (snapshot_graph nodes edges)) (is_graph (snapshot_graph nodes edges)) sizes).0

@@ -1,6 +1,6 @@
 -- The types that an element fits, by the pair of a node and by the triple of an edge.
 use Rattle.std.proofs.Common.{◌≡◌, ℕ, zero, suc, ◌<◌, ◌-◌, Bool, true, false, cond, List, [], ◌∷◌, filter, get_or, length, Option, Some, None, Result, IfOk, refl, sym, ◌∙◌, ap, ap₂, subst, arith}
-use Rattle.std.specs.Prelude.{option_and_then, slice_get}
+use Rattle.std.specs.Prelude.{option_and_then}
 use Rattle.std.specs.List.{list_all}
 use Rattle.std.specs.Option.{option_map_or}
 use Rattle.std.proofs.lemmas.Bool.{and_parts}
@@ -8,20 +8,18 @@ use Rattle.pgs_base.specs.declared.element.NodeId.{NodeId}
 use Rattle.pgs_base.specs.declared.element.EdgeId.{EdgeId}
 use Rattle.pgs_base.specs.declared.element.Elem.{Elem}
 use Rattle.pgs_base.specs.declared.element.Elem.TheVariants as elems
-use Rattle.pgs_base.specs.declared.part.Part.{Part}
 use Rattle.pgs_base.specs.declared.row.NodeRow.{NodeRow}
 use Rattle.pgs_base.specs.declared.row.EdgeRow.{EdgeRow}
 use Rattle.pgs_base.specs.Graph.{Graph, node_at, edge_at}
 use Rattle.pgs_base.specs.Pair.{pair_of}
 use Rattle.pgs_conform.specs.Shapes.{triple_of}
-use Rattle.pgs_syntax.specs.declared.key.Key.{Key}
 use Rattle.pgs_syntax.specs.declared.resolved.Resolved.{Resolved}
 use Rattle.pgs_syntax.specs.declared.resolved.TypeNo.{TypeNo}
 use Rattle.pgs_syntax.specs.declared.resolved.TypeNo.TheVariants.{Node, Edge}
 use Rattle.pgs_syntax.specs.Join.{Triple}
 use Rattle.pgs_syntax.specs.Typed.{triple_at}
-use Rattle.pgs_syntax.specs.Valid.{is_type, is_valid, is_valid_key_of}
-use Rattle.pgs_store.specs.Explained.{fits_type, types_of, values_in_scope, key_values_of}
+use Rattle.pgs_syntax.specs.Valid.{is_type, is_valid}
+use Rattle.pgs_store.specs.Explained.{fits_type, types_of}
 use Rattle.pgs_store.specs.Fits.{fits_as_node, fits_as_edge, edge_types_of}
 
 -- an answer that is one thing is one that is the same thing
@@ -39,21 +37,6 @@ pub type_there : (resolved : Resolved) → is_valid resolved ≡ true → (types
 type_there resolved valid types same place below d =
     each_passes (is_type resolved) types place d
     (ap (list_all (is_type resolved)) same ∙ (and_parts _ _ (and_parts _ _ (and_parts _ _ valid).0).0).1) below
-
--- so are its keys valid
-pub key_valid : (resolved : Resolved) → is_valid resolved ≡ true → (keys : List Key) → keys ≡ resolved.guard.keys → (place : ℕ) → place < length keys
-    → (key : Key) → key ≡ get_or keys place key → is_valid_key_of resolved key ≡ true
-key_valid resolved valid keys same place below key is =
-    ap (is_valid_key_of resolved) is
-    ∙ each_passes (is_valid_key_of resolved) keys place key (ap (list_all (is_valid_key_of resolved)) same ∙ (and_parts _ _ valid).1) below
-
--- the values under the key of a number are those under the key that stands there
-pub under_number : {E : Type 0} (r : Result (Option (List (List Part))) E) (resolved compiled : Resolved) (g : Graph) (number : ℕ) (key : Key) (elem : Elem)
-    → slice_get resolved.guard.keys (number - 1) ≡ Some key → compiled ≡ resolved → IfOk r (λ values. values ≡ values_in_scope compiled g key elem)
-    → IfOk r (λ values. values ≡ key_values_of resolved g number elem)
-under_number r resolved compiled g number key elem there same found =
-    ok_same r (values_in_scope compiled g key elem) (key_values_of resolved g number elem)
-    (ap (λ schema. values_in_scope schema g key elem) same ∙ sym (ap (option_and_then (λ k. values_in_scope resolved g k elem)) there)) found
 
 none_pass : {X : Type 0} (full : X → Bool) (xs : List X) → ((x : X) → full x ≡ false) → filter full xs ≡ []
 none_pass full [] fails = refl

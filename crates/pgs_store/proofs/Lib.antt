@@ -3,6 +3,7 @@ pub mod Bounds
 pub mod Composed
 pub mod Decided
 pub mod Fitting
+pub mod Indexed
 pub mod Loaded
 pub mod Opened
 pub mod Renewed

@@ -1,5 +1,5 @@
 -- How the replay of records goes on record by record, and what it comes to.
-use Rattle.std.proofs.Common.{◌≡◌, ℕ, zero, suc, ◌+◌, ◌-◌, ◌*◌, ◌^◌, ◌<◌, ◌≤◌, Bool, true, false, List, [], ◌∷◌, length, drop, get_or, Option, Some, None, Result, Ok, Err, refl, sym, ◌∙◌, ap, arith, add-one, drop-cons}
+use Rattle.std.proofs.Common.{◌≡◌, ℕ, zero, suc, ◌+◌, ◌-◌, ◌*◌, ◌^◌, ◌<◌, ◌≤◌, Bool, true, false, List, [], ◌∷◌, length, drop, get_or, Option, Some, None, Result, Ok, Err, refl, sym, ◌∙◌, ap, arith, add-one, drop-cons, length-drop}
 use Rattle.std.specs.Prelude.{if◌then◌else◌}
 use Rattle.pgs_base.specs.declared.limits.Limits.{Limits}
 use Rattle.pgs_base.specs.Graph.{Graph, empty_graph}
@@ -43,6 +43,23 @@ first_dropped : (payloads : List (List ℕ)) (place : ℕ) (payload : List ℕ) 
     → drop place payloads ≡ payload ∷ drop (place + 1) payloads
 first_dropped payloads place payload within here =
     rw (add-one, drop-cons payloads place payload) (ap (λ (p : List ℕ). p ∷ drop (suc place) payloads) here)
+
+-- of records that are left at a place, one is taken: the place is inside, the record stands there, and the rest is left at the next place
+pub taken_within : (payloads : List (List ℕ)) (place : ℕ) (payload : List ℕ) (rest : List (List ℕ)) → payload ∷ rest ≡ drop place payloads → place < length payloads
+taken_within payloads place payload rest left =
+    let count : suc (length rest) ≡ length payloads - place = ap length left ∙ length-drop place payloads in omega (arith, count)
+
+pub taken_here : (payloads : List (List ℕ)) (place : ℕ) (payload : List ℕ) (rest : List (List ℕ)) → payload ∷ rest ≡ drop place payloads → get_or payloads place payload ≡ payload
+taken_here [] zero payload rest left = cc
+taken_here [] (suc place) payload rest left = cc
+taken_here (first ∷ payloads) zero payload rest left = cc
+taken_here (first ∷ payloads) (suc place) payload rest left = taken_here payloads place payload rest left
+
+pub taken_rest : (payloads : List (List ℕ)) (place : ℕ) (payload : List ℕ) (rest : List (List ℕ)) → payload ∷ rest ≡ drop place payloads → rest ≡ drop (place + 1) payloads
+taken_rest payloads place payload rest left =
+    let split : payload ∷ rest ≡ payload ∷ drop (place + 1) payloads =
+    left ∙ first_dropped payloads place payload (taken_within payloads place payload rest left) (taken_here payloads place payload rest left) in
+    cc
 
 module _ (limits : Limits) (judge : Graph → Verdict) where
   number_on : (number : ℕ) (before : Replayed) (payloads : List (List ℕ)) → replay limits judge (suc number) before payloads ≡ replay limits judge (number + 1) before payloads

@@ -35,17 +35,18 @@ pub record IsCommitted (old new : GuardState) (before after : Journal) (txn : Tx
   pub journal : after ≡ longer before txn
   pub stands : StandsOn new after now
 
--- of a transaction that is accepted: it was committed, or nothing changed
-abbrev pub Journals : Result ℕ ApplyFault → GuardState → GuardState → Journal → Journal → Txn → Graph → View → Type 0
-Journals (Ok number) old new before after txn next now = IsCommitted old new before after txn next number now
-Journals (Err Memory) old new before after txn next now = (new ≡ old) × (after ≡ before)
-Journals (Err DiskFault) old new before after txn next now = (new ≡ old) × (after ≡ before)
-Journals (Err NeedsReopen) old new before after txn next now = ⊥
-Journals (Err (Rejected rejection)) old new before after txn next now = ⊥
-
 -- the decision on a transaction by a guard
 abbrev pub decided : GuardState → Txn → Result Graph Rejection
 decided guard txn = decide guard.limits (verdict guard.schema) guard.graph txn
+
+-- of a guard and its journal: the transaction was accepted and committed, or nothing changed
+abbrev pub Journals : Result ℕ ApplyFault → GuardState → GuardState → Journal → Journal → Txn → View → Type 0
+Journals (Ok number) old new before after txn now =
+    (decided old txn ≡ Ok new.graph) × IsCommitted old new before after txn new.graph number now
+Journals (Err Memory) old new before after txn now = (new ≡ old) × (after ≡ before)
+Journals (Err (Rejected rejection)) old new before after txn now = (new ≡ old) × (after ≡ before) × (decided old txn ≡ Err rejection)
+Journals (Err DiskFault) old new before after txn now = (new ≡ old) × (after ≡ before)
+Journals (Err NeedsReopen) old new before after txn now = ⊥
 
 -- An earlier call answered `DiskFault`, or none did and: the transaction was accepted and committed; there was no memory; it is
 -- rejected as it is decided; or an area failed, and only the mark is set.

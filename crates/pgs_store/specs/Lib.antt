@@ -1,5 +1,7 @@
 pub mod Applies
+pub mod Changing
 pub mod Checkpoints
+pub mod Costs
 pub mod Explained
 pub mod Fits
 pub mod Loads

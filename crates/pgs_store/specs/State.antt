@@ -2,6 +2,8 @@
 use Rattle.std.specs.Prelude.{◌≡◌, ◌≤◌, ℕ, List, true}
 use Rattle.pgs_base.specs.declared.limits.Limits.{Limits}
 use Rattle.pgs_base.specs.Graph.{Graph, element_count}
+use Rattle.pgs_keyindex.specs.Index.{IndexState}
+use Rattle.pgs_keyindex.specs.Standing.{StandsFor}
 use Rattle.pgs_records.specs.Small.{has_small_rows}
 use Rattle.pgs_syntax.specs.declared.resolved.Resolved.{Resolved}
 use Rattle.pgs_violation.specs.declared.violation.Verdict.TheVariants.{Conforms}
@@ -20,3 +22,8 @@ pub record IsGuarded (schema : Resolved) (limits : Limits) (graph : Graph) : Typ
   pub conforms : verdict schema graph ≡ Conforms
   pub within : element_count graph ≤ limits.elements
   pub small : has_small_rows graph ≡ true
+
+-- what holds of every guard: its graph is so, and its index stands for the graph under the keys of the guard
+pub record IsIndexed (schema : Resolved) (limits : Limits) (graph : Graph) (index : IndexState) : Type 0 where
+  pub guarded : IsGuarded schema limits graph
+  pub stands : StandsFor schema graph schema.guard.keys index

@@ -1,18 +1,16 @@
-//! What a graph says of one element under a schema: which types it fits, and which values it has under a key.
+//! Which types of a schema an element of a graph fits.
 
-ghost use Rattle.std.specs.Prelude.{◌≡◌, ◌-◌, ◌<◌, ◌≤◌, true, length, filter, slice_get, Some, IfOk};
+ghost use Rattle.std.specs.Prelude.{◌≡◌, ◌<◌, true, filter, IfOk};
 ghost use Rattle.pgs_base.specs.Pair.{pair_of};
 ghost use Rattle.pgs_conform.specs.Shapes.{triple_of};
 ghost use Rattle.pgs_graph.specs.Reads.{edge_row};
-ghost use Rattle.pgs_syntax.specs.Valid.{is_type, is_valid_key_of};
-ghost use Rattle.pgs_store.specs.Explained.{types_of, values_in_scope};
+ghost use Rattle.pgs_syntax.specs.Valid.{is_type};
+ghost use Rattle.pgs_store.specs.Explained.{types_of};
 ghost use Rattle.pgs_store.specs.Fits.{fits_as_node, fits_as_edge, edge_types_of};
 
-use pgs_base::{Elem, List, Memory, Steps, TupleSet};
+use pgs_base::{Elem, List, Memory, Steps};
 use pgs_conform::{Compiled, Pair, edge_fits, node_fits};
 use pgs_graph::{EdgeRef, GraphRead, NodeRef};
-use pgs_match::{PlannedKey, in_scope};
-use pgs_schema::Schema;
 use pgs_syntax::TypeNo;
 use std::alloc::Global;
 use std::marker::Brand;
@@ -151,37 +149,4 @@ pub(crate) fn types_of<G: GraphRead>(
     ensures { IfOk result (λ types. types ≡ types_of compiled.now (G.meaning graph.now) elem) }
 {
     types_by::<G, Brand>(alloc, graph, compiled, elem, Blank::new(1))
-}
-
-/// The plan of the guard's key of a number, from 1.
-pub(crate) fn planned_key(schema: &Schema, number: u32) -> &PlannedKey
-    requires from_one { 0 < number }
-    requires in_range { number ≤ length schema.now.resolved.guard.keys }
-    ensures key { slice_get schema.now.resolved.guard.keys (number - 1) ≡ Some result.now }
-    ensures valid { is_valid_key_of schema.now.resolved result.now ≡ true }
-{
-    let keys = schema.keys().as_slice();
-    schema.compiled();
-    &keys[number as usize - 1]
-}
-
-/// The values of an element under a key whose types are those of the schema, found by search. `None` exactly where the element isn't
-/// in the scope of the key.
-pub(crate) fn key_values<G: GraphRead, L: Ledger>(
-    alloc: Global,
-    graph: &G,
-    compiled: &Compiled,
-    key: &PlannedKey,
-    elem: Elem,
-    steps: &mut Steps<L>,
-) -> Result<Option<TupleSet>, Memory>
-    requires { is_valid_key_of compiled.now key.now ≡ true }
-    ensures values { IfOk result (λ values. values ≡ values_in_scope compiled.now (G.meaning graph.now) key.now elem) }
-    ensures no_step_back { steps.old ≤ steps.new }
-{
-    if !in_scope(graph, compiled, key, elem, steps) {
-        return Ok(None);
-    }
-    let values = pgs_match::key_values(alloc, graph, compiled, key, elem, steps)?;
-    Ok(Some(values))
 }

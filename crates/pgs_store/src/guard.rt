@@ -1,38 +1,42 @@
-ghost use Rattle.std.specs.Prelude.{◌≡◌, ◌+◌, ◌^◌, ◌<◌, ◌≤◌, true, length, Ok, IsTrue, IfOk, IfErr, OnOk, OnErr};
+ghost use Rattle.std.specs.Prelude.{◌≡◌, ◌+◌, ◌^◌, ◌<◌, ◌≤◌, true, length, Ok, IfOk, IfErr, OnOk, OnErr};
+ghost use Rattle.std.specs.Option.{option_copied};
 ghost use Rattle.pgs_base.specs.Graph.{empty_graph, is_graph};
-ghost use Rattle.pgs_codec.specs.declared.command.Command.TheVariants.{Txn as Transaction};
-ghost use Rattle.pgs_codec.specs.Encodable.{is_sized};
-ghost use Rattle.pgs_graph.specs.Changed.{changed, is_sound};
 ghost use Rattle.pgs_resolve.specs.SchemaOf.{schema, schema_of};
 ghost use Rattle.pgs_schema.specs.Told.{IsRefused};
 ghost use Rattle.pgs_violation.specs.Decision.{decide};
 ghost use Rattle.pgs_violation.specs.Violations.{verdict};
+ghost use Rattle.pgs_store.specs.Costs.{IsWithin};
 ghost use Rattle.pgs_store.specs.Explained.{types_of, key_values_of};
 ghost use Rattle.pgs_store.specs.Refused.{IsRejected};
 ghost use Rattle.pgs_store.specs.State.{IsGuarded};
 
-use crate::explaining::{key_values, planned_key, types_of};
-use crate::judging::judge;
+use crate::changing::{commit, prepare};
+use crate::explaining::types_of;
+use crate::judging::decided;
 use crate::{GuardFault, GuardRefusal};
 use pgs_base::{Elem, Limits, List, Memory, Seed, Steps, TupleSet};
 use pgs_conform::Compiled;
-use pgs_graph::{Delta, GraphRead, Txn};
+use pgs_graph::{GraphRead, Txn};
+use pgs_keyindex::KeyIndex;
 use pgs_schema::Schema;
 use pgs_syntax::TypeNo;
 use pgs_tables::Tables;
-use pgs_txn::{StageFault, stage};
-use pgs_violation::Rejection;
 use std::alloc::Global;
 use std::marker::Model;
 use std::sync::ledger::Ledger;
 
 /// A graph under a schema and limits, which it never breaks: transactions change it, and each that would break them is rejected.
 /// Contracts see the schema's text, the schema, the limits, the graph, and how many transactions were accepted.
+///
+/// It keeps an index that stands for the graph in every guard, whatever was called and answered: for each key of the schema it has
+/// exactly the elements of the key's scope with exactly their key values (`IsIndexed` in `specs/State.antt`). So a transaction is
+/// decided where its change is.
 pub struct Guard {
     pub(crate) alloc: Global,
     pub(crate) schema: Schema,
     pub(crate) limits: Limits,
     pub(crate) graph: Tables,
+    pub(crate) index: KeyIndex,
     pub(crate) commits: u64,
 }
 
@@ -44,6 +48,7 @@ impl Drop for Guard {
             schema: _,
             limits: _,
             graph: _,
+            index: _,
             commits: _,
         } = self;
     }
@@ -52,7 +57,7 @@ impl Drop for Guard {
 impl Model for Guard {
     ghost use Rattle.std.specs.Coded.{codes};
     ghost use Rattle.pgs_syntax.specs.contracts.resolved.Resolved as schemas;
-    ghost use Rattle.pgs_store.specs.State.{GuardState, IsGuarded};
+    ghost use Rattle.pgs_store.specs.State.{GuardState, IsIndexed};
 
     ghost Value = { GuardState };
 
@@ -66,7 +71,7 @@ impl Model for Guard {
       commits = guard.commits;
     } };
 
-    ghost invariant = { λ guard. IsGuarded guard.schema.resolved guard.limits guard.graph.graph };
+    ghost invariant = { λ guard. IsIndexed guard.schema.resolved guard.limits guard.graph.graph guard.index };
 }
 
 impl Guard {
@@ -98,11 +103,13 @@ impl Guard {
         ensures refused { IfErr result (IsRefused (schema_of text.now)) }
     {
         let schema = Schema::read(alloc, text)?;
+        let index = KeyIndex::with_seed(alloc, &schema.compiled().resolved().guard.keys, seed)?;
         Ok(Guard {
             alloc,
             schema,
             limits,
             graph: Tables::with_seed(alloc, seed),
+            index,
             commits: 0,
         })
     }
@@ -119,36 +126,13 @@ impl Guard {
         let _text = self.schema.text();
     }
 
-    // Decides a transaction: the delta that it makes of the graph, or why it is rejected.
-    pub(crate) fn decided<L: Ledger>(
-        &self,
-        txn: &Txn,
-        steps: &mut Steps<L>,
-    ) -> Result<Delta, GuardRefusal>
-        ensures sound { IfOk result (λ delta. is_sound self.now.graph delta ≡ true) }
-        ensures guarded { IfOk result (λ delta. IsGuarded self.now.schema self.now.limits (changed self.now.graph delta)) }
-        ensures accepted { IfOk result (λ delta. decide self.now.limits (verdict self.now.schema) self.now.graph txn.now
-            ≡ Ok (changed self.now.graph delta)) }
-        ensures rejected { IfErr result (IsRejected (decide self.now.limits (verdict self.now.schema) self.now.graph txn.now)) }
-        // So it can be journaled.
-        ensures sized { OnOk result (IsTrue (is_sized (Transaction txn.now))) }
-        ensures no_step_back { steps.old ≤ steps.new }
-    {
-        self.facts();
-        match stage(self.alloc, &self.graph, &self.limits, txn, steps) {
-            Ok(delta) => {
-                judge(self.alloc, &self.graph, &self.schema, &delta, steps)?;
-                Ok(delta)
-            }
-            Err(StageFault::Memory) => Err(GuardRefusal::Memory),
-            Err(StageFault::Refused(structural)) => {
-                Err(GuardRefusal::Rejected(Rejection::Structural(structural)))
-            }
-        }
-    }
-
     /// Decides a transaction on the graph, and does it where it is accepted: the commit number, from 1. Where it is rejected or there
     /// is no memory, the guard stays as it was. The rule is `decide` of `pgs_violation`, with the schema's verdict.
+    ///
+    /// It looks where the change is (`IsWithin` in `specs/Costs.antt`). Let q be the number of the guard's types and keys, t the number
+    /// of the transaction's operations and of what they touch together, w such that no pattern of the keys has more edge variables, and
+    /// d such that no node within 2w edges of what they touch, over the edges of the graph before and after together, has more edges in
+    /// either. Then it takes at most 4096 * (q + 1) * (t + 1) * (d + 2)^(2w + 2) look-ups, at every exit.
     pub fn apply<L: Ledger>(&mut self, txn: &Txn, steps: &mut Steps<L>) -> Result<u64, GuardRefusal>
         requires { self.old.commits < 18446744073709551615 }
         ensures number { IfOk result (λ number. number ≡ self.old.commits + 1) }
@@ -157,10 +141,19 @@ impl Guard {
         ensures kept { OnOk result (self.new ≡ record self.old { graph = self.new.graph; commits = self.old.commits + 1 }) }
         ensures unchanged { OnErr result (self.new ≡ self.old) }
         ensures no_step_back { steps.old ≤ steps.new }
+        ensures cost { IsWithin self.old txn.now steps.old steps.new }
     {
-        let delta = self.decided(txn, steps)?;
-        let prepared = self.graph.prepare(delta)?;
-        self.graph.commit(prepared);
+        let decided = decided(
+            self.alloc,
+            &self.schema,
+            &self.limits,
+            &self.graph,
+            &self.index,
+            txn,
+            steps,
+        )?;
+        let ready = prepare(&mut self.graph, &mut self.index, decided)?;
+        commit(&mut self.graph, &mut self.index, ready);
         self.commits += 1;
         Ok(self.commits)
     }
@@ -194,6 +187,7 @@ impl Guard {
     {
         &self.graph
     }
+
     /// The types of the schema's guard that an element fits, abstract ones too, in the guard's order; none where the element isn't in
     /// the graph. The rule is `types_of` in `specs/Explained.antt`.
     pub fn types_of(&self, elem: Elem) -> Result<List<TypeNo>, Memory>
@@ -202,27 +196,20 @@ impl Guard {
         types_of(self.alloc, &self.graph, self.schema.compiled(), elem)
     }
 
-    /// The values of an element under the key of a number, from 1. `None` exactly where the element isn't in the scope of the key. The
-    /// rule is `key_values_of` in `specs/Explained.antt`.
+    /// The values of an element under the key of a number, from 1, by at most two look-ups in the index. `None` exactly where the
+    /// element isn't in the scope of the key. The rule is `key_values_of` in `specs/Explained.antt`.
     pub fn key_values<L: Ledger>(
         &self,
         key: u32,
         elem: Elem,
         steps: &mut Steps<L>,
-    ) -> Result<Option<TupleSet>, Memory>
+    ) -> Option<&TupleSet>
         requires from_one { 0 < key }
         requires in_range { key ≤ length self.now.schema.guard.keys }
-        ensures values { IfOk result (λ values. values ≡ key_values_of self.now.schema self.now.graph key elem) }
+        ensures values { option_copied result ≡ key_values_of self.now.schema self.now.graph key elem }
         ensures no_step_back { steps.old ≤ steps.new }
+        ensures ticks { steps.new ≤ steps.old + 2 }
     {
-        let planned = planned_key(&self.schema, key);
-        key_values(
-            self.alloc,
-            &self.graph,
-            self.schema.compiled(),
-            planned,
-            elem,
-            steps,
-        )
+        self.index.values_of(key, elem, steps)
     }
 }

@@ -1,23 +1,74 @@
-//! How the graph after a change is judged. Whatever judges faster takes the place of `judge`, under the same contract.
+//! How a transaction is decided where its change is, and how the graph of a snapshot is judged from scratch.
 
-ghost use Rattle.std.specs.Prelude.{◌≡◌, ◌≤◌, true, slice_get, Ok, IfErr, OnOk};
+ghost use Rattle.std.specs.Prelude.{◌≡◌, ◌≤◌, true, slice_get, Ok, IsTrue, IfOk, IfErr, OnOk};
 ghost use Rattle.pgs_base.specs.Graph.{element_count};
+ghost use Rattle.pgs_check.specs.Standing.{ChangeEachOnce, index_changed};
+ghost use Rattle.pgs_codec.specs.declared.command.Command.TheVariants.{Txn as Transaction};
+ghost use Rattle.pgs_codec.specs.Encodable.{is_sized};
 ghost use Rattle.pgs_graph.specs.Changed.{changed, is_sound};
-ghost use Rattle.pgs_violation.specs.Decision.{conforming, judged};
+ghost use Rattle.pgs_keyindex.specs.Rows.{IsOwned, rows_changed};
+ghost use Rattle.pgs_keyindex.specs.Standing.{StandsFor};
+ghost use Rattle.pgs_violation.specs.Decision.{conforming, decide, judged};
 ghost use Rattle.pgs_violation.specs.declared.violation.Verdict.TheVariants.{Conforms};
 ghost use Rattle.pgs_violation.specs.Violations.{verdict};
+ghost use Rattle.pgs_store.specs.Costs.{TakesWithin};
 ghost use Rattle.pgs_store.specs.Refused.{IsRejected};
+ghost use Rattle.pgs_store.specs.State.{IsGuarded, IsIndexed};
 
 use crate::GuardRefusal;
 use pgs_base::{Limits, List, Steps};
-use pgs_graph::{Delta, GraphRead};
-use pgs_overlay::Overlay;
+use pgs_decide::{DecideFault, Decided, decide};
+use pgs_graph::{GraphRead, Txn};
+use pgs_keyindex::KeyIndex;
 use pgs_schema::Schema;
 use pgs_scratch::violations;
 use pgs_tables::Tables;
 use pgs_violation::{Rejection, Structural, Violation};
 use std::alloc::Global;
 use std::sync::ledger::Ledger;
+
+/// Decides a transaction on a guard's graph by its index: what it makes of both, or why it is rejected.
+pub(crate) fn decided<L: Ledger>(
+    alloc: Global,
+    schema: &Schema,
+    limits: &Limits,
+    graph: &Tables,
+    index: &KeyIndex,
+    txn: &Txn,
+    steps: &mut Steps<L>,
+) -> Result<Decided, GuardRefusal>
+    requires { IsIndexed schema.now.resolved limits.now graph.now.graph index.now }
+    ensures sound { IfOk result (λ decided. is_sound graph.now.graph decided.delta ≡ true) }
+    ensures guarded { IfOk result (λ decided. IsGuarded schema.now.resolved limits.now (changed graph.now.graph decided.delta)) }
+    ensures accepted { IfOk result (λ decided. decide limits.now (verdict schema.now.resolved) graph.now.graph txn.now
+        ≡ Ok (changed graph.now.graph decided.delta)) }
+    ensures rejected { IfErr result (IsRejected (decide limits.now (verdict schema.now.resolved) graph.now.graph txn.now)) }
+    // So it can be journaled.
+    ensures sized { OnOk result (IsTrue (is_sized (Transaction txn.now))) }
+    // What it makes of the index.
+    ensures once { IfOk result (λ decided. ChangeEachOnce decided.changes) }
+    ensures owned { IfOk result (λ decided. IsOwned index.now.exclusive (rows_changed index.now.rows decided.changes)) }
+    ensures stands { IfOk result (λ decided. StandsFor schema.now.resolved (changed graph.now.graph decided.delta)
+        schema.now.resolved.guard.keys (index_changed index.now decided.changes)) }
+    ensures no_step_back { steps.old ≤ steps.new }
+    ensures cost { TakesWithin schema.now.resolved limits.now graph.now.graph txn.now steps.old steps.new }
+{
+    let _most = limits.ops;
+    match decide(
+        alloc,
+        graph,
+        index,
+        schema.compiled(),
+        schema.keys(),
+        limits,
+        txn,
+        steps,
+    ) {
+        Ok(decided) => Ok(decided),
+        Err(DecideFault::Memory) => Err(GuardRefusal::Memory),
+        Err(DecideFault::Rejected(rejection)) => Err(GuardRefusal::Rejected(rejection)),
+    }
+}
 
 // The first of a list of violations.
 fn first(found: List<Violation>) -> Option<Violation>
@@ -44,25 +95,7 @@ fn judge_graph<G: GraphRead, L: Ledger>(
     }
 }
 
-/// Judges the graph that a sound delta makes of tables, which stay as they are.
-pub(crate) fn judge<L: Ledger>(
-    alloc: Global,
-    graph: &Tables,
-    schema: &Schema,
-    delta: &Delta,
-    steps: &mut Steps<L>,
-) -> Result<(), GuardRefusal>
-    requires { is_sound graph.now.graph delta.now ≡ true }
-    ensures conforms { OnOk result (verdict schema.now.resolved (changed graph.now.graph delta.now) ≡ Conforms) }
-    ensures rejected { IfErr result (IsRejected
-        (conforming (changed graph.now.graph delta.now) (verdict schema.now.resolved (changed graph.now.graph delta.now)))) }
-    ensures no_step_back { steps.old ≤ steps.new }
-{
-    let overlay = Overlay::new(alloc, graph, delta, steps)?;
-    judge_graph(alloc, &overlay, schema, steps)
-}
-
-/// Judges the graph of tables: whether it is within the limits, and then whether it conforms.
+/// Judges the graph of tables from scratch: whether it is within the limits, and then whether it conforms.
 pub(crate) fn judge_tables<L: Ledger>(
     alloc: Global,
     graph: &Tables,

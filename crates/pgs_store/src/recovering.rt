@@ -14,10 +14,11 @@ ghost use Rattle.pgs_world.specs.Moment.{IsQuiet, MakesNoPut};
 use crate::judging::judge_tables;
 use crate::{Guard, GuardRefusal, RecoverFault, Store};
 use pgs_base::{Bytes, EdgeId, EdgeRow, Limits, List, Memory, NodeId, NodeRow, Seed, Steps};
+use pgs_check::index_of;
 use pgs_codec::{Command, decode};
 use pgs_journal::Journal;
 use pgs_records::tables_of;
-use pgs_snapshot::choose_area;
+use pgs_snapshot::{Chosen, choose_area};
 use pgs_world::World;
 use std::alloc::Global;
 use std::marker::Brand;
@@ -36,7 +37,7 @@ fn text_in(alloc: Global, payloads: &[Bytes]) -> Result<Bytes, Memory>
     }
 }
 
-// Takes the graph of a snapshot for the guard's own, where it conforms and is within the limits.
+// Takes the graph of a snapshot for the guard's own, where it conforms and is within the limits, with the index of all of it.
 fn restore<L: Ledger>(
     guard: &mut Guard,
     seed: Seed,
@@ -52,7 +53,16 @@ fn restore<L: Ledger>(
 {
     let tables = tables_of(guard.alloc, seed, nodes, edges)?;
     judge_tables(guard.alloc, &tables, &guard.schema, &guard.limits, steps)?;
+    let index = index_of(
+        guard.alloc,
+        &tables,
+        guard.schema.compiled(),
+        guard.schema.keys(),
+        seed,
+        steps,
+    )?;
     guard.graph = tables;
+    guard.index = index;
     guard.commits = commits;
     Ok(())
 }
@@ -98,25 +108,28 @@ fn untaken(number: u64, refusal: GuardRefusal) -> RecoverFault
     }
 }
 
-// Replays the records behind the first, in order.
+// Replays the records behind the first, in order. Each is given up when it has been replayed.
 fn replay<L: Ledger>(
     alloc: Global,
     guard: &mut Guard,
     seed: Seed,
-    payloads: &[Bytes],
+    payloads: List<Bytes>,
     steps: &mut Steps<L>,
 ) -> Result<(), RecoverFault>
     requires empty { guard.old.commits ≡ 0 }
-    requires bounded { (epoch end : ℕ) × IsBoundedStore epoch end payloads.now }
-    ensures replayed { OnOk result (replay_of guard.old.limits (verdict guard.old.schema) 2 (replayed_in guard.old) (drop 1 payloads.now)
+    requires bounded { (epoch end : ℕ) × IsBoundedStore epoch end payloads }
+    ensures replayed { OnOk result (replay_of guard.old.limits (verdict guard.old.schema) 2 (replayed_in guard.old) (drop 1 payloads)
         ≡ Ok (replayed_in guard.new)) }
     ensures rejected { IfErr result (IsUnreplayed
-        (replay_of guard.old.limits (verdict guard.old.schema) 2 (replayed_in guard.old) (drop 1 payloads.now))) }
+        (replay_of guard.old.limits (verdict guard.old.schema) 2 (replayed_in guard.old) (drop 1 payloads))) }
     ensures kept { OnOk result (guard.new ≡ replayed_to guard.old (replayed_in guard.new)) }
 {
-    for place in 1..payloads.len() {
-        let number = place as u64 + 1;
-        match take_record(alloc, guard, seed, payloads[place].as_slice(), steps) {
+    let mut records = payloads.into_vec().into_iter();
+    let _schema = records.next();
+    let mut number = 1;
+    for payload in records {
+        number += 1;
+        match take_record(alloc, guard, seed, payload.as_slice(), steps) {
             Ok(()) => {}
             Err(refusal) => return Err(untaken(number, refusal)),
         }
@@ -129,28 +142,29 @@ fn recovered<L: Ledger>(
     alloc: Global,
     limits: Limits,
     seed: Seed,
-    payloads: &[Bytes],
+    payloads: List<Bytes>,
     blank: Blank,
 ) -> Result<Guard, RecoverFault>
-    requires bounded { (epoch end : ℕ) × IsBoundedStore epoch end payloads.now }
+    requires bounded { (epoch end : ℕ) × IsBoundedStore epoch end payloads }
     requires name { blank.name ≡ L.name }
     requires parts { blank.parts ≡ L.parts }
     requires some { 0 < blank.parts }
-    ensures recovered { IfOk result (λ guard. saved_of limits payloads.now ≡ store guard.text guard.commits guard.graph) }
+    ensures recovered { IfOk result (λ guard. saved_of limits payloads ≡ store guard.text guard.commits guard.graph) }
     ensures limits { IfOk result (λ guard. guard.limits ≡ limits) }
-    ensures refused { IfErr result (IsUnrecovered (saved_of limits payloads.now)) }
+    ensures refused { IfErr result (IsUnrecovered (saved_of limits payloads)) }
     ensures judged { is_disk_fault result ≡ false }
 {
     let mut steps: Steps<L> = Steps::begin(blank);
-    let text = text_in(alloc, payloads)?;
+    let text = text_in(alloc, payloads.as_slice())?;
     let mut guard = Guard::with_seed(alloc, text.as_slice(), limits, seed)?;
     replay(alloc, &mut guard, seed, payloads, &mut steps)?;
     Ok(guard)
 }
 
 impl Store {
-    /// The store that is saved in both areas: the records of the chosen one are replayed, and each transaction and the graph of a
-    /// snapshot is judged again. Both areas and the output are what they were at every moment.
+    /// The store that is saved in both areas: the records of the chosen one are replayed, each transaction is decided again as by
+    /// `apply`, and the graph of a snapshot is judged from scratch, once. Both areas and the output are what they were at every moment.
+    /// The records are in memory when the replay begins, and each is given up when it has been replayed.
     ///
     /// 30 `NoStore` exactly where no area is a store and none is foreign, 32 `Foreign` exactly where no area is a store and one is
     /// foreign, 33 `BadRecord` exactly where the chosen store is damaged at that record; then the schema refusals 10 to 19 of the
@@ -167,15 +181,16 @@ impl Store {
         ensures no_put { MakesNoPut (W.view world.old) (W.view world.new) }
     {
         let chosen = choose_area(alloc, world)?;
-        let payloads = chosen.payloads.as_slice();
+        let Chosen {
+            area,
+            epoch,
+            end,
+            payloads,
+        } = chosen;
         let guard = recovered::<Brand>(alloc, limits, world.seed(), payloads, Blank::new(1))?;
         Ok(Store {
             guard,
-            journal: Journal {
-                area: chosen.area,
-                epoch: chosen.epoch,
-                end: chosen.end,
-            },
+            journal: Journal { area, epoch, end },
             failed: false,
         })
     }

@@ -1,4 +1,5 @@
 ghost use Rattle.std.specs.Prelude.{◌≡◌, ◌+◌, ◌-◌, ◌*◌, ◌^◌, ◌<◌, ◌≤◌, length, IsTrue, IfOk};
+ghost use Rattle.std.specs.Option.{option_copied};
 ghost use Rattle.pgs_journal.specs.Format.{is_epoch};
 ghost use Rattle.pgs_resolve.specs.SchemaOf.{schema, schema_of};
 ghost use Rattle.pgs_store.specs.Explained.{types_of, key_values_of};
@@ -14,7 +15,7 @@ use std::marker::Model;
 use std::sync::ledger::Ledger;
 
 /// A guard with a journal: each transaction that it takes is on the disk before it is answered. Contracts see the guard, the journal
-/// and whether an earlier call answered `DiskFault`.
+/// and whether an earlier call answered `DiskFault`. Its guard's index stands for the graph, as in every guard, whatever the world did.
 pub struct Store {
     pub(crate) guard: Guard,
     pub(crate) journal: Journal,
@@ -102,17 +103,18 @@ impl Store {
         self.guard.types_of(elem)
     }
 
-    /// The values of an element under the key of a number, from 1, as `Guard::key_values` gives them.
+    /// The values of an element under the key of a number, from 1, as `Guard::key_values` gives them, by at most two look-ups.
     pub fn key_values<L: Ledger>(
         &self,
         key: u32,
         elem: Elem,
         steps: &mut Steps<L>,
-    ) -> Result<Option<TupleSet>, Memory>
+    ) -> Option<&TupleSet>
         requires from_one { 0 < key }
         requires in_range { key ≤ length self.now.guard.schema.guard.keys }
-        ensures values { IfOk result (λ values. values ≡ key_values_of self.now.guard.schema self.now.guard.graph key elem) }
+        ensures values { option_copied result ≡ key_values_of self.now.guard.schema self.now.guard.graph key elem }
         ensures no_step_back { steps.old ≤ steps.new }
+        ensures ticks { steps.new ≤ steps.old + 2 }
     {
         self.guard.key_values(key, elem, steps)
     }

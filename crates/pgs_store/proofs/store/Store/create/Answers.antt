@@ -106,3 +106,9 @@ returns-in-Err-clause-beside g c =
     let quiet = c.refuse_occupied.ensures in
     let made = c.create.ensures in
     then_beside A (g.W.World.view c.args.world.now) (g.W.World.view c.refuse_occupied.new.world) (g.W.World.view c.create.new.world) quiet.quiet quiet.no_put made.passes made.beside made.stops_beside made.no_put
+
+pub returns-in-Ok-clause-kept : goal.returns-in-Ok-clause-kept
+returns-in-Ok-clause-kept g c = λ occupied. absurd (occupied c.in_ok-refuse_occupied.ensures.free)
+
+pub returns-in-Err-clause-kept : goal.returns-in-Err-clause-kept
+returns-in-Err-clause-kept g c = λ occupied. absurd (occupied c.in_ok-refuse_occupied.ensures.free)

@@ -22,8 +22,7 @@ returns-in_err-guard-clause-answer g c =
     rw (p.1, p.2)
     (λ told.
     subst (λ (s : SavedState). IsUnrecovered s c.in_err-guard.field-0.0)
-    (ap (saved_of c.args.limits) c.as_slice-payloads.ensures
-    ∙ sym (chosen_saves c.args.limits shown.a shown.b (choices.chosen it.area it.epoch it.end it.payloads) (c.in_ok-chosen.ensures.chosen told)))
+    (sym (chosen_saves c.args.limits shown.a shown.b (choices.chosen it.area it.epoch it.end it.payloads) (c.in_ok-chosen.ensures.chosen told)))
     c.in_err-guard.ensures.refused)
 
 pub invariant_of-result : goal.invariant_of-result
@@ -34,8 +33,7 @@ invariant_of-result g c =
     record {
       epoch = bounds.numbered;
       end = bounds.end_below;
-      most = commits_within c.args.limits it.epoch it.end it.payloads guard.text guard.commits guard.graph bounds
-          (ap (saved_of c.args.limits) (sym c.as_slice-payloads.ensures) ∙ c.in_ok-guard.ensures.recovered);
+      most = commits_within c.args.limits it.epoch it.end it.payloads guard.text guard.commits guard.graph bounds c.in_ok-guard.ensures.recovered;
     }
 
 pub returns-clause-answer : goal.returns-clause-answer
@@ -44,7 +42,7 @@ returns-clause-answer g c =
     let guard = c.in_ok-guard.guard in
     let old = g.W.World.view c.args.world.now in
     let quiet = c.choose_area.ensures.quiet in
-    let saves = ap (saved_of c.args.limits) (sym c.as_slice-payloads.ensures) ∙ c.in_ok-guard.ensures.recovered in
+    let saves = c.in_ok-guard.ensures.recovered in
     record {
       limits_kept = c.in_ok-guard.ensures.limits;
       whole = refl;

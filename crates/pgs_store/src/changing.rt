@@ -1,0 +1,56 @@
+//! What was decided, done to a graph in tables and to the index that stands for it. All memory is taken for both before either changes.
+
+ghost use Rattle.std.specs.Prelude.{◌≡◌, true, IfOk};
+ghost use Rattle.pgs_graph.specs.Changed.{changed, is_sound};
+ghost use Rattle.pgs_keyindex.specs.Rows.{IsOwned, rows_changed};
+ghost use Rattle.pgs_store.specs.Changing.{AreReady, IsReadyOf};
+
+use pgs_base::Memory;
+use pgs_decide::Decided;
+use pgs_keyindex::{KeyIndex, KeyReady};
+use pgs_tables::{Prepared, Tables};
+
+/// A change for which the tables and the index have taken all memory.
+#[derive(Drop)]
+pub(crate) struct Ready {
+    tables: Prepared,
+    rows: KeyReady,
+}
+
+/// Takes all memory that a change of the graph and of the index needs, so that `commit` needs none. Both stay as they are.
+pub(crate) fn prepare(
+    tables: &mut Tables,
+    index: &mut KeyIndex,
+    decided: Decided,
+) -> Result<Ready, Memory>
+    requires sound { is_sound tables.old.graph decided.delta ≡ true }
+    requires owned { IsOwned index.old.exclusive (rows_changed index.old.rows decided.changes) }
+    ensures graph { tables.new.graph ≡ tables.old.graph }
+    ensures exclusive { index.new.exclusive ≡ index.old.exclusive }
+    ensures rows { index.new.rows ≡ index.old.rows }
+    ensures ready { IfOk result (AreReady tables.new index.new) }
+    ensures whole { IfOk result (IsReadyOf decided) }
+{
+    let Decided { delta, changes } = decided;
+    let prepared = tables.prepare(delta)?;
+    let rows = index.prepare(changes)?;
+    Ok(Ready {
+        tables: prepared,
+        rows,
+    })
+}
+
+/// Does a change that the tables and the index are ready for. It takes no memory and can't be refused.
+pub(crate) fn commit(tables: &mut Tables, index: &mut KeyIndex, ready: Ready)
+    requires { AreReady tables.old index.old ready }
+    ensures graph { tables.new.graph ≡ changed tables.old.graph ready.tables.delta }
+    ensures exclusive { index.new.exclusive ≡ index.old.exclusive }
+    ensures rows { index.new.rows ≡ rows_changed index.old.rows ready.rows.changes }
+{
+    let Ready {
+        tables: prepared,
+        rows,
+    } = ready;
+    tables.commit(prepared);
+    index.commit(rows);
+}
