@@ -4,19 +4,17 @@ use Rattle.std.specs.Prelude.{slice_get, filter, if◌then◌else◌}
 use Rattle.std.specs.List.{list_any, list_all}
 use Rattle.std.proofs.lemmas.Bool.{and_parts, leb-true}
 use Rattle.pgs_base.specs.declared.element.Elem.{Elem}
-use Rattle.pgs_base.specs.Graph.{Graph, empty_graph}
+use Rattle.pgs_base.specs.Graph.{empty_graph}
 use Rattle.pgs_syntax.specs.declared.key.Key.{Key}
-use Rattle.pgs_syntax.specs.declared.pattern.Pattern.{Pattern}
 use Rattle.pgs_syntax.specs.declared.resolved.Resolved.{Resolved}
 use Rattle.pgs_syntax.specs.KeyValues.{starts_at, is_in_scope, key_values}
 use Rattle.pgs_syntax.specs.Matches.{matches, assignments, holds}
-use Rattle.pgs_syntax.specs.Valid.{is_valid, is_valid_key, is_valid_key_of, is_valid_pattern}
-use Rattle.pgs_violation.specs.declared.violation.Violation.{Violation}
+use Rattle.pgs_syntax.specs.Valid.{is_valid, is_valid_key_of}
 use Rattle.pgs_violation.specs.Violations.{where_asked, where_bounded, key_violations, keys_violations, violations, conforms}
 use Rattle.pgs_violation.proofs.FirstOf.{empty_list}
 use Rattle.pgs_match.proofs.Values.{scope_valid}
 use Rattle.pgs_keyindex.specs.Index.{IndexState}
-use Rattle.pgs_keyindex.specs.Standing.{StandsFor, key_at, exclusive_keys, values_in_scope}
+use Rattle.pgs_keyindex.specs.Standing.{key_at, exclusive_keys}
 use Rattle.pgs_keyindex.specs.Rows.{KeyRows, values_at}
 use Rattle.tests_check.specs.Kept.{IsKept}
 

@@ -1,19 +1,16 @@
-//! The check of drawn changes beside the list of all violations of the changed graph, and the index after each change that conforms
-//! beside the graph.
+//! The check of drawn changes beside the list of all violations of the changed graph.
 
 ghost use Rattle.std.specs.Prelude.{◌≡◌, ◌<◌, true, IfOk, IfSome, OnOk};
 ghost use Rattle.pgs_graph.specs.Changed.{changed, is_sound};
 ghost use Rattle.pgs_keyindex.specs.Rows.{IsOwned, rows_changed};
-ghost use Rattle.pgs_syntax.specs.Valid.{is_valid_key_of};
+ghost use Rattle.pgs_violation.specs.Violations.{conforms};
 ghost use Rattle.tests_check.specs.Kept.{IsKept, Keeps};
 
-use crate::changes::{ELEMENTS, delta, schema};
-use pgs_base::{EdgeId, Elem, List, Memory, NodeId, Steps};
+use crate::changes::{delta, schema};
+use pgs_base::{List, Memory, Steps};
 use pgs_check::{CheckFault, check, check_types};
-use pgs_conform::Compiled;
 use pgs_graph::Delta;
 use pgs_keyindex::{KeyChange, KeyIndex};
-use pgs_match::{PlannedKey, in_scope, key_values};
 use pgs_overlay::Overlay;
 use pgs_schema::Schema;
 use pgs_scratch::violations;
@@ -76,7 +73,65 @@ fn are_types_alike(found: &Option<Violation>, list: &[Violation]) -> bool {
     }
 }
 
-// The changes of the index that a check of a change gives, where the changed graph conforms, told beside the list from scratch.
+// Tells of the elements without a type in a changed graph, beside the list from scratch.
+fn tell_types<L: Ledger>(
+    schema: &Schema,
+    tables: &Tables,
+    new: &Overlay<'_>,
+    delta: &Delta,
+    list: &[Violation],
+    tally: &mut Tally,
+    steps: &mut Steps<L>,
+)
+    requires sound { is_sound tables.now.graph delta.now ≡ true }
+    requires overlay { new.now ≡ changed tables.now.graph delta.now }
+    requires conforms { conforms schema.now.resolved tables.now.graph ≡ true }
+{
+    let untyped = check_types(tables, schema.compiled(), new, delta, steps);
+    tally.count(are_types_alike(&untyped, list));
+}
+
+// The changes of the index that a check gives, where the changed graph conforms, told beside the list from scratch.
+fn answered<L: Ledger>(
+    alloc: Global,
+    schema: &Schema,
+    tables: &Tables,
+    index: &KeyIndex,
+    new: &Overlay<'_>,
+    delta: &Delta,
+    list: &[Violation],
+    tally: &mut Tally,
+    steps: &mut Steps<L>,
+) -> Result<Option<List<KeyChange>>, Memory>
+    requires sound { is_sound tables.now.graph delta.now ≡ true }
+    requires overlay { new.now ≡ changed tables.now.graph delta.now }
+    requires kept { IsKept schema.now.resolved tables.now.graph index.now }
+    ensures { IfOk result (λ changes. IfSome changes (Keeps schema.now.resolved new.now index.now)) }
+{
+    let compiled = schema.compiled();
+    match check(
+        alloc,
+        tables,
+        index,
+        compiled,
+        schema.keys(),
+        new,
+        delta,
+        steps,
+    ) {
+        Ok(changes) => {
+            tally.accept(list);
+            Ok(Some(changes))
+        }
+        Err(CheckFault::Violated(found)) => {
+            tally.refuse(&found, list);
+            Ok(None)
+        }
+        Err(CheckFault::Memory) => Err(Memory),
+    }
+}
+
+// The same for a delta.
 fn checked<L: Ledger>(
     alloc: Global,
     schema: &Schema,
@@ -91,22 +146,12 @@ fn checked<L: Ledger>(
     ensures { IfOk result (λ changes. IfSome changes (Keeps schema.now.resolved (changed tables.now.graph delta.now) index.now)) }
 {
     let new = Overlay::new(alloc, tables, delta, steps)?;
-    let compiled = schema.compiled();
-    let keys = schema.keys();
-    let list = violations(alloc, &new, compiled, keys, steps)?;
-    let untyped = check_types(tables, compiled, &new, delta, steps);
-    tally.count(are_types_alike(&untyped, list.as_slice()));
-    match check(alloc, tables, index, compiled, keys, &new, delta, steps) {
-        Ok(changes) => {
-            tally.accept(list.as_slice());
-            Ok(Some(changes))
-        }
-        Err(CheckFault::Violated(found)) => {
-            tally.refuse(&found, list.as_slice());
-            Ok(None)
-        }
-        Err(CheckFault::Memory) => Err(Memory),
-    }
+    let list = violations(alloc, &new, schema.compiled(), schema.keys(), steps)?;
+    let list = list.as_slice();
+    tell_types(schema, tables, &new, delta, list, tally, steps);
+    answered(
+        alloc, schema, tables, index, &new, delta, list, tally, steps,
+    )
 }
 
 // Puts in a delta and changes of the index.
@@ -129,88 +174,6 @@ fn put(
     Ok(())
 }
 
-// Whether an element has the row in the index that the graph gives it.
-fn is_indexed<L: Ledger>(
-    alloc: Global,
-    tables: &Tables,
-    index: &KeyIndex,
-    compiled: &Compiled,
-    key: &PlannedKey,
-    number: u32,
-    elem: Elem,
-    steps: &mut Steps<L>,
-) -> Result<bool, Memory>
-    requires { is_valid_key_of compiled.now key.now ≡ true }
-{
-    let is_inside = in_scope(tables, compiled, key, elem, steps);
-    let values = key_values(alloc, tables, compiled, key, elem, steps)?;
-    match index.values_of(number, elem, steps) {
-        Some(row) => Ok(is_inside && row.as_slice() == values.as_slice()),
-        None => Ok(!is_inside),
-    }
-}
-
-// Whether the elements of a number, of both kinds, have these rows.
-fn are_both_indexed<L: Ledger>(
-    alloc: Global,
-    tables: &Tables,
-    index: &KeyIndex,
-    compiled: &Compiled,
-    key: &PlannedKey,
-    number: u32,
-    id: u64,
-    steps: &mut Steps<L>,
-) -> Result<bool, Memory>
-    requires { is_valid_key_of compiled.now key.now ≡ true }
-{
-    let node = Elem::Node(NodeId(id));
-    let edge = Elem::Edge(EdgeId(id));
-    Ok(
-        is_indexed(alloc, tables, index, compiled, key, number, node, steps)?
-            && is_indexed(alloc, tables, index, compiled, key, number, edge, steps)?,
-    )
-}
-
-// How many numbers have elements with these rows.
-fn count_indexed<L: Ledger>(
-    alloc: Global,
-    tables: &Tables,
-    index: &KeyIndex,
-    compiled: &Compiled,
-    key: &PlannedKey,
-    number: u32,
-    steps: &mut Steps<L>,
-) -> Result<u64, Memory>
-    requires { is_valid_key_of compiled.now key.now ≡ true }
-{
-    let mut count = 0u64;
-    for id in 0..ELEMENTS {
-        if are_both_indexed(alloc, tables, index, compiled, key, number, id, steps)? {
-            count = count.saturating_add(1);
-        }
-    }
-    Ok(count)
-}
-
-// Tells for each key whether the index has the rows that the graph gives.
-fn tell_rows<L: Ledger>(
-    alloc: Global,
-    tables: &Tables,
-    index: &KeyIndex,
-    schema: &Schema,
-    tally: &mut Tally,
-    steps: &mut Steps<L>,
-) -> Result<(), Memory> {
-    let compiled = schema.compiled();
-    let mut number = 0u32;
-    for key in schema.keys().as_slice() {
-        number = number.saturating_add(1);
-        let count = count_indexed(alloc, tables, index, compiled, key, number, steps)?;
-        tally.count(count == ELEMENTS);
-    }
-    Ok(())
-}
-
 // Does the transaction of a number, where it can be done and the changed graph conforms.
 fn apply<L: Ledger>(
     alloc: Global,
@@ -230,8 +193,7 @@ fn apply<L: Ledger>(
     let Some(changes) = checked(alloc, schema, tables, index, &delta, tally, steps)? else {
         return Ok(());
     };
-    put(tables, index, delta, changes)?;
-    tell_rows(alloc, tables, index, schema, tally, steps)
+    put(tables, index, delta, changes)
 }
 
 fn tally_by<L: Ledger>(alloc: Global, schema: &Schema, blank: Blank) -> Result<Tally, Memory>
