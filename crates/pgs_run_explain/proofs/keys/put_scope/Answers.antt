@@ -7,7 +7,7 @@ pub returns-in_err-put_made-in-Some : goal.returns-in_err-put_made-in-Some
 returns-in_err-put_made-in-Some g c =
     rw c.in-Some.is
     (exits c.from_residual.result c.from_residual.ensures.1
-    (stops_in (map (key_value_line c.args.number) c.in-Some.values)
+    (stops_in (map (key_value_line c.args.number) c.in-Some.values.now)
     (c.in_err-put_made-in-Some.ensures (key_scope_line c.args.number) c.key_scope_line.ensures)))
 
 pub returns-in_ok-put_made-in-Some : goal.returns-in_ok-put_made-in-Some
