@@ -1,0 +1,5 @@
+pub mod Answered
+pub mod Machine
+pub mod RunEnds
+pub mod SchemaEnds
+pub mod Telling

@@ -1,0 +1,7 @@
+use Rattle.std.proofs.Common.{take}
+use Rattle.pgs_run_contain.specs.Running.{TellsAll}
+use Rattle.pgs_run_contain.proofs.types.put_types.Given as goal
+
+abbrev pub invariant-loop-number : goal.invariant-loop-number
+invariant-loop-number g l =
+    TellsAll l.first l.second (take l.number-index l.numbers) l.some (g.W.World.view l.fn.world) (g.W.World.view l.world)

@@ -1,0 +1,18 @@
+//! The command `contain`: is each type of one schema contained in another? Its input is the first schema text, a line `---` and the
+//! second schema text.
+//!
+//! The one rule: `told_contain` (`specs/Told.antt`) says what it tells of an input within a budget, by the answers to the types. Of these
+//! it is only said that each is right: what is outside is any pair or triple that is (`specs/Running.antt`). The reading of both texts is
+//! one machine over lines (`specs/Comparing.antt`), which `pgs_run_lines` runs; it ends with both schemas, and then each type that
+//! isn't abstract has its line, put as soon as it is made.
+#![tactic(auto)]
+
+mod answer;
+mod comparing;
+mod ending;
+mod judging;
+mod phase;
+mod run;
+mod types;
+
+pub use run::run_contain;

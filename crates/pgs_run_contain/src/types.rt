@@ -1,0 +1,124 @@
+//! The lines of the types of the first guard.
+
+ghost use Rattle.std.specs.Prelude.{◌≡◌, ◌∷◌, [], true, Some, IsSome, option_map};
+ghost use Rattle.pgs_contain.specs.Contained.{has_type};
+ghost use Rattle.pgs_run_contain.specs.Answers.{shown_name, listed_name};
+ghost use Rattle.pgs_run_contain.specs.Running.{Tells, TellsTypes, status_by};
+
+use crate::answer::answer_line;
+use pgs_base::Name;
+use pgs_conform::Compiled;
+use pgs_contain::contained;
+use pgs_run_base::{Status, status_at};
+use pgs_run_lines::{Stop, put_made};
+use pgs_syntax::{Resolved, TypeNo};
+use pgs_world::World;
+use std::alloc::Global;
+
+fn shown_name(hidden: bool, name: &Name) -> Option<&Name>
+    ensures { option_map (λ name. name.now) result ≡ shown_name hidden name.now }
+{
+    if hidden { None } else { Some(name) }
+}
+
+// The name of a type that is there and isn't abstract.
+fn listed_name(resolved: &Resolved, number: TypeNo) -> Option<&Name>
+    ensures name { option_map (λ name. name.now) result ≡ listed_name resolved.now number }
+    ensures there { IsSome result → has_type resolved.now number ≡ true }
+{
+    match number {
+        TypeNo::Node(place) => match resolved.nodes.at(place as usize) {
+            Some(found) => shown_name(found.hidden, &found.name),
+            None => None,
+        },
+        TypeNo::Edge(place) => match resolved.edges.at(place as usize) {
+            Some(found) => shown_name(found.hidden, &found.name),
+            None => None,
+        },
+    }
+}
+
+// Puts the line of a type that has this name: whether something is outside.
+fn put_answer<W: World>(
+    alloc: Global,
+    world: &mut W,
+    first: &Compiled,
+    second: &Compiled,
+    number: TypeNo,
+    name: &Name,
+) -> Result<bool, Stop<Status>>
+    requires there { has_type first.now number ≡ true }
+    requires named { listed_name first.now number ≡ Some name.now }
+    ensures { Tells first.now second.now (number ∷ []) result (W.view world.old) (W.view world.new) }
+{
+    let answer = match contained(alloc, first, number, second) {
+        Ok(answer) => answer,
+        Err(_) => return Err(Stop::Memory),
+    };
+    let some = answer.is_some();
+    match put_made(world, answer_line(alloc, name, answer)) {
+        Ok(()) => Ok(some),
+        Err(stop) => Err(stop),
+    }
+}
+
+// Puts the line of a type, where it isn't abstract: whether something is outside.
+fn put_type<W: World>(
+    alloc: Global,
+    world: &mut W,
+    first: &Compiled,
+    second: &Compiled,
+    number: TypeNo,
+) -> Result<bool, Stop<Status>>
+    ensures { Tells first.now second.now (number ∷ []) result (W.view world.old) (W.view world.new) }
+{
+    match listed_name(first.resolved(), number) {
+        Some(name) => put_answer(alloc, world, first, second, number, name),
+        None => Ok(false),
+    }
+}
+
+// Puts the lines of types: whether something is outside of one.
+fn put_types<W: World>(
+    alloc: Global,
+    world: &mut W,
+    first: &Compiled,
+    second: &Compiled,
+    numbers: &[TypeNo],
+) -> Result<bool, Stop<Status>>
+    ensures { Tells first.now second.now numbers.now result (W.view world.old) (W.view world.new) }
+{
+    let mut some = false;
+    for number in numbers {
+        match put_type(alloc, world, first, second, *number) {
+            Ok(one) => some |= one,
+            Err(stop) => return Err(stop),
+        }
+    }
+    Ok(some)
+}
+
+// The status by whether something is outside, or by the stop.
+fn status_by(told: Result<bool, Stop<Status>>) -> Status
+    ensures { result ≡ status_by told }
+{
+    match told {
+        Ok(true) => Status::Refused,
+        Ok(false) => Status::Accepted,
+        Err(stop) => status_at(stop),
+    }
+}
+
+/// Puts a line for each type of the first guard that isn't abstract, in its order, and gives the status.
+pub(crate) fn put_guard<W: World>(
+    alloc: Global,
+    world: &mut W,
+    first: &Compiled,
+    second: &Compiled,
+) -> Status
+    ensures { TellsTypes first.now second.now (W.view world.old) result (W.view world.new) }
+{
+    let numbers = first.resolved().guard.types.as_slice();
+    let told = put_types(alloc, world, first, second, numbers);
+    status_by(told)
+}

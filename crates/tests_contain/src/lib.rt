@@ -1,0 +1,8 @@
+//! Tests of `pgs_contain`, over schemas by their texts. What the calls answer is proved where they stand; that they ever answer no
+//! contract says, and these tests show it.
+#![tactic(auto)]
+
+#[cfg(test)]
+mod reading;
+#[cfg(test)]
+mod worked;
