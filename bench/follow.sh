@@ -64,7 +64,7 @@ fn line(alloc: Global, feed: &str, number: u64, count: u64) -> Result<String, Al
     let place = if feed == "repeats" { 1 } else { number };
     let operation = operation(alloc, feed, place, count)?;
     let operation = operation.as_str();
-    format!(in alloc; "{{\"commit\":{place},\"ops\":[{operation}]}}")
+    format!(in alloc; "{{\"commit\":{place},\"ops\":[{operation}]}}\n")
 }
 
 // How many lines a feed has.
@@ -93,7 +93,10 @@ fn lines(alloc: Global, feed: &str, count: u64) -> Result<Vec<String>, AllocErro
 fn read_all(alloc: Global, lines: &[String]) -> Result<u64, Memory> {
     let mut taken: u64 = 0;
     for line in lines {
-        match read_commit(alloc, line.as_bytes()) {
+        let Some((_, line)) = line.as_bytes().split_last() else {
+            continue;
+        };
+        match read_commit(alloc, line) {
             Ok(_) => taken = taken.saturating_add(1),
             Err(CommitFault::Memory) => return Err(Memory),
             Err(_) => {}
@@ -108,9 +111,6 @@ fn follow_all(alloc: Global, lines: &[String]) -> Result<u64, Memory> {
     for line in lines {
         if follower.lines() < 1_000_000_000 {
             follower.push(line.as_bytes())?;
-        }
-        if follower.lines() < 1_000_000_000 {
-            follower.push(b"\n")?;
         }
     }
     Ok(follower.lines())
