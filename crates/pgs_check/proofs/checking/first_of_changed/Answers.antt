@@ -1,4 +1,4 @@
-use Rattle.std.proofs.Common.{◌≡◌, true, List, Option, IfOk, sym, ap, ◌∙◌, subst}
+use Rattle.std.proofs.Common.{◌≡◌, IfOk, sym, ap, ◌∙◌, subst}
 use Rattle.pgs_syntax.specs.declared.key.Key.{Key}
 use Rattle.pgs_check.specs.Rows.{first_of_rows}
 use Rattle.pgs_check.proofs.checking.first_of_changed.Goals as goal
