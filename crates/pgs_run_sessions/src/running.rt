@@ -54,6 +54,7 @@ impl Drop for Running {
 
 impl Running {
     /// Before the first line, under the schema of a text.
+    #[tactic(auto, unfolding(pgs_run_base::specs::Answers::schema_answer))]
     pub fn open(alloc: Global, text: &[u8], seed: Seed) -> Result<Running, OpenFault>
         ensures schema { IfOk result (λ s. schema_answer text.now ≡ Ok (schema_in s)) }
         ensures standing { IfOk result (λ s. standing_in s ≡ first brief_sessions.begin) }

@@ -1,9 +1,13 @@
-use Rattle.std.proofs.Common.{sym, ap, ◌∙◌}
+use Rattle.std.proofs.Common.{true, [], sym, ap, subst, ◌∙◌}
+use Rattle.pgs_run_lines.specs.declared.stop.Stop.TheVariants as stops
+use Rattle.pgs_run_lines.specs.Ending.{Ends}
 use Rattle.pgs_run_lines.specs.Pieces.{shown_of}
+use Rattle.pgs_run_base.specs.declared.status.Status.{Status}
 use Rattle.pgs_run_base.specs.Answers.{schema_answer}
 use Rattle.pgs_run_sessions.specs.Running.{stand_of}
-use Rattle.pgs_run_sessions.specs.State.{schema_in, standing_in}
-use Rattle.pgs_run_sessions.proofs.SchemaEnds.{schema_stop, schema_ends, schema_refused}
+use Rattle.pgs_run_sessions.specs.State.{schema_in, standing_in, brief_sessions}
+use Rattle.pgs_run_sessions.specs.Told.{told_schema}
+use Rattle.pgs_run_sessions.proofs.SchemaEnds.{schema_stop, schema_ends}
 use Rattle.pgs_run_sessions.proofs.taking.end_schema.Goals as goal
 
 pub returns-in-Err-put_any-clause-ends : goal.returns-in-Err-put_any-clause-ends
@@ -11,7 +15,10 @@ returns-in-Err-put_any-clause-ends g c =
     schema_stop (schema_answer c.args.text.now) _ c.in-Err-put_any.stop (shown_of (g.W.World.view c.args.world.now)) (shown_of (g.W.World.view c.put_any.new.world)) c.in-Ok.ensures.piece c.in-Err-put_any.ensures.fault c.in-Err-put_any.ensures.shows
 
 pub returns-in-Lines-clause-ends : goal.returns-in-Lines-clause-ends
-returns-in-Lines-clause-ends g c = ?
-
-pub returns-in_default-clause-ends : goal.returns-in_default-clause-ends
-returns-in_default-clause-ends g c = ?
+returns-in-Lines-clause-ends g c =
+    let start = shown_of (g.W.World.view c.args.world.now) in
+    let now = shown_of (g.W.World.view c.put_any.new.world) in
+    let told = told_schema brief_sessions true (schema_answer c.args.text.now) [] in
+    subst (λ (s : Status). Ends start told (stops.Ended s) now) (sym c.status_after.ensures)
+    (schema_ends (schema_answer c.args.text.now) (schema_in c.in-Lines.running) (standing_in c.in-Lines.running) c.is_refused.result _ start now
+    (ap stand_of (sym c.in-Lines.is) ∙ c.in-Ok.ensures.phase) c.is_refused.ensures c.in-Ok.ensures.piece c.in-Ok-put_any.ensures.shows)
