@@ -1,7 +1,6 @@
 //! The lines of the keys in whose scope an element is.
 
-ghost use Rattle.std.specs.Prelude.{◌≡◌, ◌<◌, ◌≤◌, length, map};
-ghost use Rattle.std.specs.Option.{option_copied};
+ghost use Rattle.std.specs.Prelude.{◌≡◌, ◌<◌, ◌≤◌, Some, length, map};
 ghost use Rattle.pgs_answer.specs.Lines.{key_value_line};
 ghost use Rattle.pgs_run_lines.specs.Puts.{Puts};
 ghost use Rattle.pgs_store.specs.Explained.{key_values_of};
@@ -31,22 +30,17 @@ fn put_values<W: World>(
     Ok(())
 }
 
-// Puts the lines of a key of a number, by the values under it of an element that is in its scope.
+// Puts the lines of a key of a number in whose scope an element is, by the element's values under it.
 fn put_scope<W: World>(
     alloc: Global,
     world: &mut W,
     number: u32,
-    values: Option<&TupleSet>,
+    values: &TupleSet,
 ) -> Result<(), Stop<Status>>
-    ensures { Puts (W.view world.old) (key_lines number (option_copied values)) result (W.view world.new) }
+    ensures { Puts (W.view world.old) (key_lines number (Some values.now)) result (W.view world.new) }
 {
-    match values {
-        Some(values) => {
-            put_made(world, key_scope_line(alloc, number))?;
-            put_values(alloc, world, number, values.as_slice())
-        }
-        None => Ok(()),
-    }
+    put_made(world, key_scope_line(alloc, number))?;
+    put_values(alloc, world, number, values.as_slice())
 }
 
 // Puts what the store says of an element under the key of a number, from 1.
@@ -63,8 +57,10 @@ fn put_key<W: World, L: Ledger>(
     ensures { Puts (W.view world.old)
         (key_lines number (key_values_of store.now.guard.schema store.now.guard.graph number elem)) result (W.view world.new) }
 {
-    let values = store.key_values(number, elem, steps);
-    put_scope(alloc, world, number, values)
+    match store.key_values(number, elem, steps) {
+        Some(values) => put_scope(alloc, world, number, values),
+        None => Ok(()),
+    }
 }
 
 /// Puts what the store says of an element under each key.

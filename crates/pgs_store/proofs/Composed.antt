@@ -1,10 +1,10 @@
 -- A call that only reads, and then a call that writes one area.
-use Rattle.std.proofs.Common.{◌≡◌, refl, sym, ◌∙◌, ap, subst}
+use Rattle.std.proofs.Common.{refl, sym, ◌∙◌, subst}
 use Rattle.pgs_world.specs.declared.area.Area.{Area}
 use Rattle.pgs_world.specs.Disk.{IsSameBeside}
 use Rattle.pgs_world.specs.Moment.{IsTimed, Passes, StopsBy, IsQuiet, MakesNoPut}
 use Rattle.pgs_world.specs.World.{Triple, View}
-use Rattle.pgs_world.proofs.Moments.{passes_none, passes_on, quiet_none, quiet_stops}
+use Rattle.pgs_world.proofs.Moments.{passes_on, quiet_none, quiet_stops}
 use Rattle.pgs_store.specs.World.{StaysBeside}
 
 same_beside : (area : Area) (triple : Triple) → IsSameBeside area triple triple

@@ -1,12 +1,11 @@
 -- The types that an element fits, by the pair of a node and by the triple of an edge.
-use Rattle.std.proofs.Common.{◌≡◌, ℕ, zero, suc, ◌<◌, ◌-◌, Bool, true, false, cond, List, [], ◌∷◌, filter, get_or, length, Option, Some, None, Result, IfOk, refl, sym, ◌∙◌, ap, ap₂, subst, arith}
+use Rattle.std.proofs.Common.{◌≡◌, ℕ, zero, suc, ◌<◌, Bool, true, false, cond, List, [], ◌∷◌, filter, get_or, length, Option, Some, None, Result, IfOk, refl, ◌∙◌, ap, ap₂, subst, arith}
 use Rattle.std.specs.Prelude.{option_and_then}
 use Rattle.std.specs.List.{list_all}
 use Rattle.std.specs.Option.{option_map_or}
 use Rattle.std.proofs.lemmas.Bool.{and_parts}
 use Rattle.pgs_base.specs.declared.element.NodeId.{NodeId}
 use Rattle.pgs_base.specs.declared.element.EdgeId.{EdgeId}
-use Rattle.pgs_base.specs.declared.element.Elem.{Elem}
 use Rattle.pgs_base.specs.declared.element.Elem.TheVariants as elems
 use Rattle.pgs_base.specs.declared.row.NodeRow.{NodeRow}
 use Rattle.pgs_base.specs.declared.row.EdgeRow.{EdgeRow}
@@ -16,7 +15,6 @@ use Rattle.pgs_conform.specs.Shapes.{triple_of}
 use Rattle.pgs_syntax.specs.declared.resolved.Resolved.{Resolved}
 use Rattle.pgs_syntax.specs.declared.resolved.TypeNo.{TypeNo}
 use Rattle.pgs_syntax.specs.declared.resolved.TypeNo.TheVariants.{Node, Edge}
-use Rattle.pgs_syntax.specs.Join.{Triple}
 use Rattle.pgs_syntax.specs.Typed.{triple_at}
 use Rattle.pgs_syntax.specs.Valid.{is_type, is_valid}
 use Rattle.pgs_store.specs.Explained.{fits_type, types_of}

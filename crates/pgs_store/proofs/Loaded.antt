@@ -15,13 +15,13 @@ use Rattle.pgs_store.specs.declared.fault.LoadFault.{LoadFault}
 use Rattle.pgs_store.specs.declared.fault.LoadFault.TheVariants.{Memory, DiskFault, AlreadyStore, Foreign, Schema as SchemaRefused}
 use Rattle.pgs_store.specs.Loads.{FindsNone, HasSchema, IsOccupied, Loads, is_of_text}
 use Rattle.pgs_store.specs.State.{GuardState}
-use Rattle.pgs_store.specs.Stored.{IsSavedIn, StandsOn, IsLoadedIn, opened, first_journal}
+use Rattle.pgs_store.specs.Stored.{StandsOn, IsLoadedIn, opened, first_journal}
 use Rattle.pgs_syntax.specs.declared.resolved.Resolved.{Resolved}
 use Rattle.pgs_world.specs.declared.area.Area.TheVariants.{A}
 use Rattle.pgs_world.specs.Disk.{IsSameBeside}
-use Rattle.pgs_world.specs.Moment.{IsTimed, Passes, StopsBy, EachSince, IsQuiet, IsSynced, IsSettled}
+use Rattle.pgs_world.specs.Moment.{Passes, StopsBy, EachSince, IsQuiet, IsSynced, IsSettled}
 use Rattle.pgs_world.specs.World.{Triple, View}
-use Rattle.pgs_world.proofs.Moments.{each_none, each_on, each_quiet, each_step, settled_quiet, synced_settled}
+use Rattle.pgs_world.proofs.Moments.{each_on, each_quiet, each_step, settled_quiet, synced_settled}
 
 abbrev is_free : Triple → Type 0
 is_free triple = choice_of triple.a triple.b ≡ no_store

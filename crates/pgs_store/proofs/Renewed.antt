@@ -1,6 +1,6 @@
 -- What a stop during a checkpoint leaves of a store, and what stands after it.
-use Rattle.std.proofs.Common.{◌≡◌, inl, inr, ⊎_elim, ℕ, ◌+◌, ◌-◌, ◌*◌, ◌^◌, ◌<◌, ◌≤◌, Bool, ◌&&◌, true, false, IsTrue, List, [], ◌∷◌, Some, Ok, refl, sym, ◌∙◌, ap, subst, arith}
-use Rattle.std.specs.Prelude.{if◌then◌else◌, nat_lt}
+use Rattle.std.proofs.Common.{◌≡◌, inl, inr, ⊎_elim, ℕ, ◌+◌, ◌-◌, ◌*◌, ◌^◌, ◌<◌, ◌≤◌, true, false, IsTrue, Some, Ok, sym, ◌∙◌, ap, arith}
+use Rattle.std.specs.Prelude.{nat_lt}
 use Rattle.std.proofs.lemmas.Bool.{and_from}
 use Rattle.std.proofs.lemmas.Bool.Decides.{nat_tests}
 use Rattle.pgs_base.specs.declared.limits.Limits.{Limits}
@@ -15,14 +15,12 @@ use Rattle.pgs_journal.specs.Stops.{Turns, Creates}
 use Rattle.pgs_records.specs.Small.{has_small_rows}
 use Rattle.pgs_resolve.specs.SchemaOf.{schema, schema_of}
 use Rattle.pgs_snapshot.specs.Saved.{saved_of, store}
-use Rattle.pgs_snapshot.specs.Standing.{HasStore}
 use Rattle.pgs_snapshot.proofs.Fitness.{checkpoint_fit}
 use Rattle.pgs_snapshot.proofs.Histories.{snapshot_saves}
 use Rattle.pgs_snapshot.proofs.Stores.{checkpoint_left, next_chosen, same_other}
 use Rattle.pgs_store.specs.State.{GuardState, IsGuarded}
 use Rattle.pgs_store.specs.Stored.{IsSavedBy, IsSavedIn, IsRenewedIn, StandsOn, next_journal, renewed, snapshot_of}
 use Rattle.pgs_syntax.specs.declared.resolved.Resolved.{Resolved}
-use Rattle.pgs_violation.specs.declared.violation.Verdict.TheVariants.{Conforms}
 use Rattle.pgs_violation.specs.Decision.{conforming, judged}
 use Rattle.pgs_violation.specs.Violations.{verdict}
 use Rattle.pgs_world.specs.Disk.{IsSameBeside}

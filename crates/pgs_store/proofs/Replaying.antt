@@ -8,7 +8,6 @@ use Rattle.pgs_codec.specs.declared.command.Command.TheVariants.{Schema, Txn as 
 use Rattle.pgs_codec.specs.Encodable.{snapshot_graph}
 use Rattle.pgs_codec.specs.Reading.{decoded}
 use Rattle.pgs_journal.specs.Area.{is_fit, first_unfit}
-use Rattle.pgs_journal.specs.Bounds.{IsBoundedStore}
 use Rattle.pgs_resolve.specs.SchemaOf.{Answer, schema, schema_of}
 use Rattle.pgs_schema.specs.declared.fault.SchemaFault.{SchemaFault}
 use Rattle.pgs_schema.specs.declared.fault.SchemaFault.TheVariants as schema_faults
@@ -17,8 +16,8 @@ use Rattle.pgs_schema.specs.declared.fault.SchemaUnread.TheVariants as unreads
 use Rattle.pgs_schema.specs.Told.{IsRefused, answer_of}
 use Rattle.pgs_snapshot.specs.Choice.{Choice, choice_of}
 use Rattle.pgs_snapshot.specs.Choice as choices
-use Rattle.pgs_snapshot.specs.Saved.{Replayed, History, accepted, after_record, and_then, replay, saved_by, saved_history, saved_of, saved_under, saved, start, store, text_of, bad_schema, bad_history}
-use Rattle.pgs_snapshot.specs.Standing.{HasStore, Refuses}
+use Rattle.pgs_snapshot.specs.Saved.{Replayed, History, accepted, after_record, and_then, replay, saved_by, saved_history, saved_of, saved_under, saved, start, store, text_of, bad_schema}
+use Rattle.pgs_snapshot.specs.Standing.{Refuses}
 use Rattle.pgs_snapshot.specs.declared.choose_fault.ChooseFault.{ChooseFault}
 use Rattle.pgs_snapshot.specs.declared.choose_fault.ChooseFault.TheVariants as choosing
 use Rattle.pgs_snapshot.proofs.Fitness.{snapshot_within}
@@ -35,7 +34,6 @@ use Rattle.pgs_violation.specs.declared.rejection.Rejection.{Rejection}
 use Rattle.pgs_violation.specs.declared.violation.Verdict.{Verdict}
 use Rattle.pgs_violation.specs.Decision.{decide, judged}
 use Rattle.pgs_violation.specs.Violations.{verdict}
-use Rattle.pgs_world.specs.World.{Triple}
 
 -- ---- one record
 

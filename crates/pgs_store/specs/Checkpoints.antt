@@ -1,8 +1,5 @@
 -- What `Store::checkpoint` answers, and what becomes of the store.
-use Rattle.std.specs.Prelude.{◌≡◌, ℕ, ◌+◌, Bool, true, false, IsTrue, List, [], ◌∷◌, Result, Ok, Err}
-use Rattle.pgs_codec.specs.declared.command.Command.{Command}
-use Rattle.pgs_codec.specs.declared.command.Command.TheVariants as commands
-use Rattle.pgs_codec.specs.Payload.{payload_of}
+use Rattle.std.specs.Prelude.{◌≡◌, ℕ, ◌+◌, Bool, true, false, IsTrue, Result, Ok, Err}
 use Rattle.pgs_journal.specs.declared.journal.Journal.{Journal}
 use Rattle.pgs_store.specs.declared.fault.CheckpointFault.{CheckpointFault}
 use Rattle.pgs_store.specs.declared.fault.CheckpointFault.TheVariants.{Memory, DiskFault, NeedsReopen, EpochsSpent}

@@ -1,7 +1,7 @@
 -- What `Store::load` answers.
 use Rattle.std.specs.Prelude.{◌≡◌, ℕ, Bool, true, false, IsTrue, List, Result, Ok, Err}
 use Rattle.pgs_base.specs.declared.limits.Limits.{Limits}
-use Rattle.pgs_resolve.specs.SchemaOf.{Answer, schema, schema_of}
+use Rattle.pgs_resolve.specs.SchemaOf.{schema, schema_of}
 use Rattle.pgs_schema.specs.Told.{answer_of}
 use Rattle.pgs_snapshot.specs.Choice.{Choice, choice_of}
 use Rattle.pgs_snapshot.specs.Choice as choices

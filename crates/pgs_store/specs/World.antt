@@ -1,5 +1,5 @@
 -- What the calls of a store leave of a world.
-use Rattle.std.specs.Prelude.{◌≡◌, Bool, true, false, refl}
+use Rattle.std.specs.Prelude.{◌≡◌, Bool, true, false}
 use Rattle.pgs_world.specs.declared.area.Area.{Area}
 use Rattle.pgs_world.specs.Count.{Rose}
 use Rattle.pgs_world.specs.Disk.{IsSameBeside}

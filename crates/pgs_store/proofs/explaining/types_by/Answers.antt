@@ -1,4 +1,4 @@
-use Rattle.std.proofs.Common.{refl, sym, ◌∙◌}
+use Rattle.std.proofs.Common.{refl, sym}
 use Rattle.pgs_store.proofs.Fitting.{ok_same, types_of_node, types_of_edge}
 use Rattle.pgs_store.proofs.explaining.types_by.Goals as goal
 

@@ -1,10 +1,6 @@
-use Rattle.std.proofs.Common.{rules, ◌≡◌, ◌+◌, ◌*◌, ◌^◌, ◌<◌, ◌≤◌, ℕ, true, Ok, length, List, refl, sym, ◌∙◌, ap, subst}
-use Rattle.pgs_check.specs.Costs.{HaveEdgesWithin}
-use Rattle.pgs_check.specs.Standing.{index_changed}
-use Rattle.pgs_decide.specs.Touched.{guarding_count, touched_by}
+use Rattle.std.proofs.Common.{rules, ◌≡◌, ◌^◌, ◌<◌, true, Ok, sym, subst}
 use Rattle.pgs_graph.specs.Changed.{changed}
 use Rattle.pgs_keyindex.specs.Standing.{StandsFor}
-use Rattle.pgs_syntax.specs.declared.key.Key.{Key}
 use Rattle.pgs_syntax.specs.declared.resolved.Resolved.{Resolved}
 use Rattle.pgs_violation.specs.Decision.{decide}
 use Rattle.pgs_violation.specs.Violations.{conforms, verdict}

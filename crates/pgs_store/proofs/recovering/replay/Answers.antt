@@ -1,4 +1,4 @@
-use Rattle.std.proofs.Common.{rules, ◌≡◌, ◌+◌, ◌<◌, ◌∷◌, ℕ, List, Ok, length, drop, refl, sym, ◌∙◌, ap, arith}
+use Rattle.std.proofs.Common.{rules, ◌≡◌, ◌+◌, ◌∷◌, ℕ, List, Ok, drop, refl, sym, ◌∙◌, ap, arith}
 use Rattle.pgs_base.specs.declared.limits.Limits.{Limits}
 use Rattle.pgs_codec.specs.Reading.{decoded}
 use Rattle.pgs_snapshot.specs.Saved.{after_record}
@@ -7,7 +7,7 @@ use Rattle.pgs_store.specs.State.{GuardState}
 use Rattle.pgs_syntax.specs.declared.resolved.Resolved.{Resolved}
 use Rattle.pgs_violation.specs.Violations.{verdict}
 use Rattle.pgs_store.proofs.Bounds.{room}
-use Rattle.pgs_store.proofs.Replaying.{goes_on, ends_at, few_on, fit_at, taken_within, taken_here, taken_rest}
+use Rattle.pgs_store.proofs.Replaying.{goes_on, few_on, fit_at, taken_within, taken_here, taken_rest}
 use Rattle.pgs_store.proofs.recovering.replay.Goals as goal
 
 pub take_record-requires : goal.take_record-requires

@@ -1,4 +1,4 @@
-use Rattle.std.proofs.Common.{◌≡◌, ◌≤◌, ◌∙◌, length, sym, ap, subst}
+use Rattle.std.proofs.Common.{◌≤◌, ◌∙◌, length, sym, ap, subst}
 use Rattle.pgs_store.specs.Explained.{key_values_of}
 use Rattle.pgs_store.specs.State.{GuardState}
 use Rattle.pgs_store.proofs.Indexed.{under_number}

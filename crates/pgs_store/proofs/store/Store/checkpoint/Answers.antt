@@ -1,4 +1,4 @@
-use Rattle.std.proofs.Common.{◌≡◌, ◌+◌, ℕ, List, false, IsTrue, length, refl, sym, ◌∙◌, ap, subst, arith}
+use Rattle.std.proofs.Common.{◌≡◌, ◌+◌, false, IsTrue, length, refl, sym, ◌∙◌, ap, subst, arith}
 use Rattle.pgs_journal.specs.declared.journal.Journal.{Journal}
 use Rattle.pgs_journal.specs.Format.{First, Holds, IsFrames}
 use Rattle.pgs_journal.specs.Stops.{Turns, Creates}

@@ -1,13 +1,12 @@
-use Rattle.std.proofs.Common.{◌≡◌, ◌+◌, ◌∷◌, [], ℕ, List, length, refl, sym, ◌∙◌, ap, subst, arith}
+use Rattle.std.proofs.Common.{◌≡◌, ◌+◌, ◌∷◌, [], length, refl, sym, ap, subst, arith}
 use Rattle.std.proofs.lemmas.Result.{err_from_is_err_and}
 use Rattle.pgs_codec.specs.declared.command.Command.TheVariants.{Schema as SchemaCommand}
 use Rattle.pgs_codec.specs.Payload.{payload_of}
 use Rattle.pgs_journal.specs.declared.journal.Journal.{Journal}
-use Rattle.pgs_journal.specs.Format.{First, Holds, IsFrames}
+use Rattle.pgs_journal.specs.Format.{First, IsFrames}
 use Rattle.pgs_store.specs.State.{GuardState}
 use Rattle.pgs_store.specs.Stored.{StandsOn, opened, first_journal}
 use Rattle.pgs_world.specs.declared.area.Area.TheVariants.{A}
-use Rattle.pgs_world.specs.World.{part}
 use Rattle.pgs_store.proofs.Applied.{small_first, same_journal}
 use Rattle.pgs_store.proofs.Composed.{then_beside}
 use Rattle.pgs_store.proofs.Loaded.{load_stops, load_stands, just_made, occupied_answer, not_of_text}
