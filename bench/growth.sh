@@ -199,7 +199,7 @@ fn grown(rt: &HostRuntime, persons: u64, turns: u64) -> Result<Times, Memory> {
 }
 
 fn median(times: &mut Vec<u64>) -> u64 {
-    times.sort();
+    times.sort_unstable();
     let middle = times.len() / 2;
     match times.get(middle) {
         Some(time) => *time,

@@ -1,7 +1,7 @@
 //! Great transactions, and then thousands of small ones, by one store.
 
 use crate::ran::words_of;
-use pgs_base::{List, Memory};
+use pgs_base::{Copyable, List, Memory};
 use pgs_feed::FeedList;
 use pgs_gen::{generate, schema};
 use pgs_graph::Txn;
@@ -29,8 +29,8 @@ fn joined(alloc: Global, first: u64, count: u64) -> Result<Txn, Memory> {
     for place in 0..count {
         let number = first.saturating_add(place).max(1).min(500_000);
         let txn = generate(alloc, START, number)?;
-        for op in txn.ops.into_vec() {
-            ops.push(op)?;
+        for op in txn.ops.as_slice() {
+            ops.push(op.copy(alloc)?)?;
         }
     }
     Ok(Txn {
