@@ -1,11 +1,11 @@
 -- The facts of a run, from those of its command.
-use Rattle.std.proofs.Common.{◌≡◌, ◌⊎◌, ℕ, ◌-◌, Bool, true, false, List, [], length, Option, Some, None, refl, sym, ap, subst, inl, inr, ◌∙◌}
+use Rattle.std.proofs.Common.{◌≡◌, ℕ, Bool, true, false, List, [], Option, Some, None, refl, sym, subst, inl, inr, ◌∙◌}
 use Rattle.pgs_feed.specs.Places.{Place, lost_count}
 use Rattle.pgs_answer.specs.Lines.{words_refused_line}
 use Rattle.pgs_run_lines.specs.AreasKept.{KeepsAreas}
 use Rattle.pgs_run_lines.specs.Ending.{Faults, faults_of}
 use Rattle.pgs_run_lines.specs.Machine.{Told}
-use Rattle.pgs_run_lines.specs.Pieces.{Shown, ShowsAll, ShowsFirst, shown_of}
+use Rattle.pgs_run_lines.specs.Pieces.{Shown, ShowsFirst, shown_of}
 use Rattle.pgs_run_lines.specs.Replies.{EndsReply}
 use Rattle.pgs_run_lines.proofs.Causes.{world_same}
 use Rattle.pgs_run_lines.proofs.RunEnds.{within_unread}
@@ -15,7 +15,7 @@ use Rattle.pgs_world.specs.Moment.{IsSettled}
 use Rattle.pgs_world.specs.World.{View}
 use Rattle.pgs_run_base.specs.declared.status.Status.{Status}
 use Rattle.pgs_run_base.specs.declared.status.Status.TheVariants.{Accepted, Refused, BadWords, SchemaRefused, StoreRefused, DiskFault, ReadFault, PutFault, Memory, InputTooLong}
-use Rattle.pgs_run_base.specs.Areas.{Areas, areas_of}
+use Rattle.pgs_run_base.specs.Areas.{areas_of}
 use Rattle.pgs_run_base.specs.Ending.{Ends}
 use Rattle.pgs_run_base.specs.Run.{IsRead, EndsAs, HasCommandCause, TakesWithin}
 use Rattle.pgs_run_base.proofs.Images.{images_areas, settled_images}

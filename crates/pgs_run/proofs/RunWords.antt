@@ -1,7 +1,7 @@
 -- The clauses of a run of words, from the facts of its command.
-use Rattle.std.proofs.Common.{◌≡◌, ◌⊎◌, ℕ, ◌-◌, ◌<◌, Bool, true, false, List, [], length, Option, Some, None, refl, sym, ap, subst, inl, inr, ◌∙◌}
+use Rattle.std.proofs.Common.{◌≡◌, ◌⊎◌, ℕ, ◌-◌, ◌<◌, Bool, true, false, List, length, Option, Some, None, refl, sym, ap, inl, inr}
 use Rattle.pgs_feed.specs.Places.{lost_count}
-use Rattle.pgs_run_lines.specs.Ending.{Faults, faults_of}
+use Rattle.pgs_run_lines.specs.Ending.{Faults}
 use Rattle.pgs_run_lines.specs.Machine.{Told}
 use Rattle.pgs_run_lines.specs.Pieces.{Shown, ShowsAll, shown_of}
 use Rattle.pgs_run_words.specs.declared.command.Command.{Command}
@@ -9,7 +9,7 @@ use Rattle.pgs_run_base.specs.declared.status.Status.{Status}
 use Rattle.pgs_run_base.specs.declared.status.Status.TheVariants.{Accepted, Refused, BadWords, SchemaRefused, StoreRefused, DiskFault, ReadFault, PutFault, Memory, InputTooLong}
 use Rattle.pgs_run_base.specs.Areas.{Areas, areas_of}
 use Rattle.pgs_run_base.specs.Ending.{Ends}
-use Rattle.pgs_run_base.specs.Run.{EndsAs, IsDisturbed, IsComplete}
+use Rattle.pgs_run_base.specs.Run.{IsDisturbed, IsComplete}
 use Rattle.pgs_run_words.specs.Words.{command_of}
 use Rattle.pgs_run.specs.Command.{reads_source, IsTold}
 use Rattle.pgs_run.specs.Headline.{KeepsPromise, faults_in, telling}

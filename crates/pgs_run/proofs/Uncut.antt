@@ -1,5 +1,5 @@
 -- What a command tells of an input below the budget isn't cut.
-use Rattle.std.proofs.Common.{◌≡◌, ℕ, ◌+◌, ◌<◌, ◌==◌, Bool, true, false, cond, nat_le, List, [], ◌∷◌, length, Option, Some, None, Result, Ok, Err, refl, sym, ap, ◌∙◌, arith}
+use Rattle.std.proofs.Common.{◌≡◌, ℕ, ◌+◌, ◌<◌, ◌==◌, Bool, true, false, cond, nat_le, List, [], ◌∷◌, length, Option, Some, None, Result, Ok, Err, refl, arith}
 use Rattle.std.specs.Option.{is_some}
 use Rattle.std.proofs.lemmas.Bool.Decides.{nat_tests}
 use Rattle.pgs_answer.specs.Lines.{checkpoint_line, absent_line}
@@ -22,7 +22,7 @@ use Rattle.pgs_run_base.specs.Session.{standard}
 use Rattle.pgs_run_apply.specs.Told.{status_after, after, all_lines, told_input, told_apply}
 use Rattle.pgs_run_checkpoint.specs.Told.{told_by, told_checkpoint}
 use Rattle.pgs_run_gen.proofs.Telling as workload
-use Rattle.pgs_run_load.specs.Told.{told_choice, told_text, told_load}
+use Rattle.pgs_run_load.specs.Told.{told_choice, told_load}
 use Rattle.pgs_run_saved.specs.Refusing.{SavedStore, store_refused, told_under, told_saved, told_of_areas}
 use Rattle.pgs_run_try.specs.declared.judging.Judging.TheVariants.{EachLine, AtEnd}
 use Rattle.pgs_run_try.proofs.TryEnds.{never_cut}

@@ -1,7 +1,7 @@
 -- What a run leaves that did nothing, or no more than to put.
 use Rattle.std.proofs.Common.{◌≡◌, ℕ, List, Option, Some, None, refl, inr}
 use Rattle.pgs_feed.specs.Places.{Place, lost_count}
-use Rattle.pgs_run_lines.specs.AreasKept.{KeepsAreas, keeps_none}
+use Rattle.pgs_run_lines.specs.AreasKept.{keeps_none}
 use Rattle.pgs_run_words.specs.declared.command.Command.{Command}
 use Rattle.pgs_run_words.specs.declared.command.Command.TheVariants.{Try, Validate, Load, Apply, Recover, Explain, Gen, Checkpoint}
 use Rattle.pgs_world.specs.Moment.{IsTimed}

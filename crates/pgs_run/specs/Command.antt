@@ -1,5 +1,5 @@
 -- What each command does with its source and with the areas.
-use Rattle.std.specs.Prelude.{◌≡◌, ℕ, ◌≤◌, Bool, true, false, List, Option, Some, None, Ok, IsTrue}
+use Rattle.std.specs.Prelude.{◌≡◌, ℕ, ◌≤◌, Bool, true, false, List, Option, Some, Ok, IsTrue}
 use Rattle.pgs_run_words.specs.declared.command.Command.{Command}
 use Rattle.pgs_run_words.specs.declared.command.Command.TheVariants.{Try, Validate, Load, Apply, Recover, Explain, Gen, Checkpoint}
 use Rattle.pgs_run_base.specs.Answers.{schema_answer}

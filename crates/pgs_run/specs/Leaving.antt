@@ -1,5 +1,5 @@
 -- What a run leaves of the world at every moment and at its end, and what its feeds took, by the command.
-use Rattle.std.specs.Prelude.{◌≡◌, ◌⊎◌, ℕ, List, Option, Some, None, Ok, Err, IsTrue}
+use Rattle.std.specs.Prelude.{◌≡◌, ◌⊎◌, ℕ, List, Option, Some, Err, IsTrue}
 use Rattle.pgs_base.specs.Graph.{Graph}
 use Rattle.pgs_feed.specs.Places.{Place, lost_count}
 use Rattle.pgs_run_lines.specs.AreasKept.{KeepsAreas}

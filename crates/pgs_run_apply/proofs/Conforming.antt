@@ -10,7 +10,7 @@ use Rattle.pgs_graph.specs.declared.operation.Txn.{Txn}
 use Rattle.pgs_resolve.specs.SchemaOf.{Answer, longer_than_allowed, begins_no_item, is_no_statement, refused, has_wide_type, schema, schema_of}
 use Rattle.pgs_snapshot.specs.Choice.{Choice, choice_of}
 use Rattle.pgs_snapshot.specs.Choice as choices
-use Rattle.pgs_snapshot.specs.Saved.{SavedState, Replayed, History, accepted, after_record, and_then, replay, saved_by, saved_history, saved_of, saved_under, saved, start, store, text_of}
+use Rattle.pgs_snapshot.specs.Saved.{Replayed, History, accepted, after_record, and_then, replay, saved_by, saved_history, saved_of, saved_under, saved, start, store, text_of}
 use Rattle.pgs_store.proofs.Opened.{empty_conforms}
 use Rattle.pgs_store.proofs.Replaying.{chosen_saves}
 use Rattle.pgs_syntax.specs.declared.resolved.Resolved.{Resolved}

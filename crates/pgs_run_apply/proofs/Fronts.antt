@@ -9,7 +9,7 @@ use Rattle.pgs_violation.specs.declared.violation.Verdict.{Verdict}
 use Rattle.pgs_violation.specs.Violations.{verdict}
 use Rattle.pgs_run_base.specs.Answers.{txn_answer}
 use Rattle.pgs_run_base.specs.Input.{text_limit, text_front, is_skipped}
-use Rattle.pgs_run_base.specs.Session.{Standing, Telling, every_verdict, after_line, after_lines, pieces_of_line, pieces_of_lines}
+use Rattle.pgs_run_base.specs.Session.{Standing, Telling, every_verdict, after_line, pieces_of_line, pieces_of_lines}
 use Rattle.pgs_run_base.proofs.SameFronts.{after_front, pieces_of_front}
 use Rattle.pgs_run_apply.specs.Applying.{given_by}
 use Rattle.pgs_run_apply.specs.Committing.{feed_lines_at, feed_lines}

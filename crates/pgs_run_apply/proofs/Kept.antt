@@ -1,5 +1,5 @@
 -- What is known by the fronts of lines is known by the lines.
-use Rattle.std.proofs.Common.{◌≡◌, inl, inr, ⊎_elim, ℕ, ◌+◌, Bool, true, false, List, [], ◌∷◌, ◌++◌, length, map, Option, Some, refl, sym, ap, subst, ◌∙◌, append_assoc}
+use Rattle.std.proofs.Common.{◌≡◌, inl, inr, ⊎_elim, ℕ, ◌+◌, Bool, true, List, [], ◌∷◌, ◌++◌, length, map, Option, Some, refl, sym, ap, subst, ◌∙◌, append_assoc}
 use Rattle.std.proofs.lemmas.Bool.{false≢true}
 use Rattle.std.proofs.lemmas.List.{append-nil, map-append}
 use Rattle.std.specs.List.{concat}
@@ -22,7 +22,7 @@ use Rattle.pgs_run_base.specs.declared.status.Status.TheVariants.{InputTooLong}
 use Rattle.pgs_run_base.specs.Input.{text_limit, text_front}
 use Rattle.pgs_run_base.specs.Session.{every_verdict}
 use Rattle.pgs_run_base.proofs.SameFronts.{pieces_of_front}
-use Rattle.pgs_run_apply.specs.Applying.{applying, seen, given_by, IsDone, IsCutOff, IsTornOff, IsStopped, IsReached}
+use Rattle.pgs_run_apply.specs.Applying.{applying, seen, IsDone, IsCutOff, IsTornOff, IsStopped, IsReached}
 use Rattle.pgs_run_apply.specs.Ending.{is_done}
 use Rattle.pgs_run_apply.specs.Following.{lead, left_more}
 use Rattle.pgs_run_apply.specs.Left.{IsLeft, IsWithin, IsSavedAt, state_after_all, pieces_at, pieces_from}

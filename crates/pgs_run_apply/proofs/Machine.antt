@@ -12,7 +12,7 @@ use Rattle.pgs_run_base.specs.Session as session
 use Rattle.pgs_run_apply.specs.Applying.{applying}
 use Rattle.pgs_run_apply.specs.Following.{lead, all_append, pieces_cons}
 use Rattle.pgs_run_apply.specs.Left.{state_after_all, pieces_at, pieces_from}
-use Rattle.pgs_run_apply.specs.State.{ApplyState, standing_of, state_after}
+use Rattle.pgs_run_apply.specs.State.{ApplyState, state_after}
 use Rattle.pgs_run_apply.specs.Told.{verdicts, all_lines, status_after, told_whole, told_input}
 use Rattle.pgs_run_saved.specs.Opening.{saved_in}
 use Rattle.pgs_run_apply.proofs.Standings.{first_state, standing_all, pieces_last}

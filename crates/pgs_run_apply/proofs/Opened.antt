@@ -1,26 +1,21 @@
 -- What is said of a run on an opened store: what a stop leaves, and how it ends.
-use Rattle.std.proofs.Common.{◌≡◌, ◌⊎◌, inl, inr, ⊎_elim, ℕ, zero, suc, ◌+◌, ◌≤◌, Bool, true, false, nat_le, List, [], ◌∷◌, ◌++◌, length, Option, Some, None, Result, Ok, IsTrue, refl, sym, ap, subst, ◌∙◌, append_assoc, length-append, arith}
+use Rattle.std.proofs.Common.{◌≡◌, ◌⊎◌, inl, inr, ⊎_elim, ℕ, ◌+◌, Bool, true, false, nat_le, List, [], ◌∷◌, ◌++◌, length, Option, Some, None, Ok, IsTrue, refl, sym, ap, subst, ◌∙◌, append_assoc, length-append, arith}
 use Rattle.std.proofs.lemmas.List.{append-nil}
 use Rattle.std.specs.List.{concat}
-use Rattle.pgs_answer.specs.Lines.{feeds_lost_line}
-use Rattle.pgs_base.specs.declared.limits.Limits.{Limits}
 use Rattle.pgs_feed.specs.Given.{AreGiven}
 use Rattle.pgs_feed.specs.Places.{Place}
 use Rattle.pgs_journal.specs.declared.journal.Journal.{Journal}
 use Rattle.pgs_run_lines.specs.declared.stop.Stop.{Stop}
 use Rattle.pgs_run_lines.specs.declared.stop.Stop.TheVariants as stops
 use Rattle.pgs_run_lines.specs.Ending as lines
-use Rattle.pgs_run_lines.specs.Input.{kept_of}
-use Rattle.pgs_run_lines.specs.Machine.{Scene, Extent, Told, scene_of}
+use Rattle.pgs_run_lines.specs.Machine.{Scene, Told}
 use Rattle.pgs_run_lines.specs.Pieces.{Shown, ShowsAll, shown_of}
-use Rattle.pgs_run_lines.specs.Replies.{PutsReply}
 use Rattle.pgs_run_lines.proofs.Showing.{shows_on, torn_puts}
 use Rattle.pgs_run_lines.specs.Run.{EndsBy, Allows}
 use Rattle.pgs_snapshot.specs.Choice.{chosen_area, chosen_epoch}
 use Rattle.pgs_store.specs.Stored.{StoreState}
 use Rattle.pgs_world.specs.Disk.{Puts}
 use Rattle.pgs_world.specs.Moment.{IsTimed, IsQuiet, IsSettled, Passes, EachSince, StopsBy}
-use Rattle.pgs_world.specs.Source.{Takes, IsAtEnd}
 use Rattle.pgs_world.specs.World.{View, Triple}
 use Rattle.pgs_world.proofs.Moments.{passes_on, each_on, each_weaker, each_now, each_quiet, each_step, shown_added}
 use Rattle.pgs_run_base.specs.declared.status.Status.{Status}
@@ -30,17 +25,17 @@ use Rattle.pgs_run_base.specs.Ending.{status_at}
 use Rattle.pgs_run_base.specs.Images.{KeepsImages}
 use Rattle.pgs_run_base.specs.Input.{text_limit, is_skipped}
 use Rattle.pgs_run_base.specs.Pieces.{pieces_in}
-use Rattle.pgs_run_base.specs.Session.{standard, every_verdict, verdict_line, answer_to, pieces_of_line}
+use Rattle.pgs_run_base.specs.Session.{standard, every_verdict, pieces_of_line}
 use Rattle.pgs_run_base.proofs.Images.{images_quiet, images_areas}
 use Rattle.pgs_violation.specs.Violations.{verdict}
 use Rattle.pgs_run_saved.specs.Opening.{saved_in}
 use Rattle.pgs_run_saved.specs.Refusing.{SavedStore}
-use Rattle.pgs_run_apply.specs.Applying.{applying, given_by, seen, Applies, IsDone as AreDone}
+use Rattle.pgs_run_apply.specs.Applying.{applying, given_by, seen, IsDone as AreDone}
 use Rattle.pgs_run_apply.specs.Ending.{is_done, last_piece, StaysStill, EndsRun}
 use Rattle.pgs_run_apply.specs.Following.{all_append, pieces_cons, pieces_append}
 use Rattle.pgs_run_apply.specs.Left.{IsLeft, IsSavedAt, state_after_all, pieces_at, pieces_from}
 use Rattle.pgs_run_apply.specs.Rule.{applies_rule}
-use Rattle.pgs_run_apply.specs.Run.{Saves, SavesOn, SavesAll, IsAppliedAt, IsDecided, IsPutBy}
+use Rattle.pgs_run_apply.specs.Run.{Saves, SavesOn, IsAppliedAt, IsDecided, IsPutBy}
 use Rattle.pgs_run_apply.specs.State.{ApplyState, HoldsStore, standing_of, state_after}
 use Rattle.pgs_run_apply.specs.Told.{after, verdicts, all_lines, lost_pieces, told_whole, told_input}
 use Rattle.pgs_run_apply.proofs.Beginning.{quiet_applied, saves_same, saves_on_same}

@@ -1,5 +1,5 @@
 -- The status of a run on an opened store, by how its run over lines ended and what was put last.
-use Rattle.std.proofs.Common.{◌≡◌, ◌⊎◌, inl, inr, ⊎_elim, ℕ, ◌+◌, ◌-◌, ◌≤◌, ◌<◌, ◌==◌, Bool, true, false, not, nat_le, cond, List, [], ◌∷◌, ◌++◌, length, Option, Some, None, refl, sym, ap, subst, ◌∙◌, arith}
+use Rattle.std.proofs.Common.{◌≡◌, ◌⊎◌, inl, inr, ⊎_elim, ℕ, ◌+◌, ◌-◌, ◌≤◌, ◌==◌, Bool, true, false, not, nat_le, cond, List, [], ◌∷◌, ◌++◌, length, Option, Some, None, refl, sym, ap, subst, ◌∙◌, arith}
 use Rattle.std.proofs.lemmas.Bool.Decides.{nat_tests}
 use Rattle.std.proofs.lemmas.List.{append-nil}
 use Rattle.pgs_answer.specs.Lines.{feeds_lost_line}
@@ -7,10 +7,10 @@ use Rattle.pgs_run_lines.specs.declared.stop.Stop.{Stop}
 use Rattle.pgs_run_lines.specs.declared.stop.Stop.TheVariants as stops
 use Rattle.pgs_run_lines.specs.Ending as lines
 use Rattle.pgs_run_lines.specs.Ending.{Faults, HasCause, PutsRose, faults_of}
-use Rattle.pgs_run_lines.specs.Machine.{Told, Standing, Going, Ended, told_by}
+use Rattle.pgs_run_lines.specs.Machine.{Told, Going, Ended, told_by}
 use Rattle.pgs_run_lines.specs.Pieces.{Shown, ShowsAll, ShowsFirst, ShowsTorn, shown_of}
 use Rattle.pgs_run_lines.specs.Run as over
-use Rattle.pgs_run_lines.specs.Run.{EndsBy, EndsAtLine, EndsAtEnd, EndsAtCut}
+use Rattle.pgs_run_lines.specs.Run.{EndsBy, EndsAtLine, EndsAtCut}
 use Rattle.pgs_run_lines.proofs.RunEnds.{taken_length}
 use Rattle.pgs_run_lines.proofs.Showing.{shows_on, torn_on, all_first, first_of_more, torn_of_more}
 use Rattle.pgs_store.specs.Stored.{StoreState}

@@ -1,29 +1,28 @@
 -- What images save that hold the store of a state.
-use Rattle.std.proofs.Common.{◌≡◌, ◌⊎◌, inl, inr, ⊎_elim, ℕ, ◌+◌, Bool, List, [], ◌∷◌, ◌++◌, Option, Some, Result, Ok, Err, IsTrue, refl, sym, ap, subst, ◌∙◌}
+use Rattle.std.proofs.Common.{◌≡◌, ◌⊎◌, inl, inr, ⊎_elim, ℕ, ◌+◌, Bool, List, [], ◌∷◌, ◌++◌, Some, Ok, IsTrue, sym, ap, subst, ◌∙◌}
 use Rattle.std.specs.List.{concat}
 use Rattle.pgs_base.specs.declared.limits.Limits.{Limits}
 use Rattle.pgs_base.specs.Graph.{Graph}
 use Rattle.pgs_journal.specs.declared.journal.Journal.{Journal}
 use Rattle.pgs_snapshot.specs.Choice.{chosen_area, chosen_epoch, area_chosen, epoch_chosen}
 use Rattle.pgs_snapshot.specs.Choice as choices
-use Rattle.pgs_snapshot.specs.Saved.{SavedState, saved, store}
+use Rattle.pgs_snapshot.specs.Saved.{saved, store}
 use Rattle.pgs_store.specs.State.{GuardState}
 use Rattle.pgs_store.specs.Stored.{StoreState, IsSavedIn, ending_at}
 use Rattle.pgs_store.proofs.Replaying.{chosen_saves}
 use Rattle.pgs_syntax.specs.declared.resolved.Resolved.{Resolved}
-use Rattle.pgs_violation.specs.Violations.{verdict}
 use Rattle.pgs_world.specs.declared.area.Area.{Area}
 use Rattle.pgs_world.specs.World.{Triple}
 use Rattle.pgs_run_base.specs.Answers.{schema_answer}
-use Rattle.pgs_run_base.specs.Session.{Standing, standard, every_verdict, pieces_of_line}
+use Rattle.pgs_run_base.specs.Session.{Standing, standard}
 use Rattle.pgs_run_saved.specs.Opening.{saved_in}
 use Rattle.pgs_run_saved.specs.Refusing.{SavedStore}
 use Rattle.pgs_run_apply.proofs.Conforming.{saved_conforms}
 use Rattle.pgs_run_apply.specs.Following.{all_append}
-use Rattle.pgs_run_apply.specs.Left.{IsLeft, IsWithin, IsSavedAt, state_after_all, pieces_from}
+use Rattle.pgs_run_apply.specs.Left.{IsLeft, IsWithin, IsSavedAt, state_after_all}
 use Rattle.pgs_run_apply.specs.Run.{Saves, SavesAt, SavesOn, SavesNext, SavesAll, IsAppliedAt, IsGrown}
-use Rattle.pgs_run_apply.specs.State.{ApplyState, standing_of, state_after}
-use Rattle.pgs_run_apply.specs.Told.{start, after, verdicts, all_lines}
+use Rattle.pgs_run_apply.specs.State.{ApplyState, standing_of}
+use Rattle.pgs_run_apply.specs.Told.{after, verdicts, all_lines}
 use Rattle.pgs_run_apply.proofs.Standings.{first_state, stays_all, standing_all, pieces_behind}
 
 -- what is saved, and what is chosen

@@ -1,7 +1,7 @@
 -- What is said of a run whose store isn't opened.
-use Rattle.std.proofs.Common.{◌≡◌, ◌⊎◌, inl, inr, ⊎_elim, ℕ, ◌+◌, ◌≤◌, Bool, true, false, cond, List, [], ◌∷◌, ◌++◌, length, Option, Some, None, Result, Ok, Err, IsTrue, refl, sym, ap, subst, ◌∙◌, arith}
+use Rattle.std.proofs.Common.{◌≡◌, ◌⊎◌, inl, inr, ℕ, true, false, List, [], ◌∷◌, Option, Some, Err, IsTrue, refl, sym, subst, ◌∙◌}
 use Rattle.pgs_feed.specs.Places.{Place}
-use Rattle.pgs_run_lines.specs.Ending.{Faults, PutsRose, AreasRose, faults_of}
+use Rattle.pgs_run_lines.specs.Ending.{Faults, faults_of}
 use Rattle.pgs_run_lines.specs.declared.reply.Reply.{Reply}
 use Rattle.pgs_run_lines.specs.Machine.{Told}
 use Rattle.pgs_run_lines.specs.Pieces.{Shown, ShowsAll, ShowsFirst, ShowsTorn, shown_of}
@@ -10,9 +10,8 @@ use Rattle.pgs_run_lines.proofs.RunEnds.{within_unread}
 use Rattle.pgs_run_lines.proofs.Showing.{shows_none}
 use Rattle.pgs_store.specs.Stored.{StoreState}
 use Rattle.pgs_store.specs.World.{CountsFault}
-use Rattle.pgs_world.specs.Count.{Rose}
 use Rattle.pgs_world.specs.Moment.{IsTimed, IsQuiet, IsSettled, MakesNoPut, EachSince}
-use Rattle.pgs_world.specs.World.{View, Triple, output_of}
+use Rattle.pgs_world.specs.World.{View}
 use Rattle.pgs_run_base.specs.declared.status.Status.{Status}
 use Rattle.pgs_run_base.specs.declared.status.Status.TheVariants.{Accepted, Refused, BadWords, SchemaRefused, StoreRefused, DiskFault, ReadFault, PutFault, Memory, InputTooLong}
 use Rattle.pgs_run_base.specs.Areas.{areas_of}
@@ -21,7 +20,7 @@ use Rattle.pgs_run_base.specs.Run.{IsRead, EndsAs, HasCommandCause, TakesWithin}
 use Rattle.pgs_run_saved.specs.declared.opening.Unopened.{Unopened}
 use Rattle.pgs_run_saved.specs.declared.opening.Unopened.TheVariants as unopened
 use Rattle.pgs_run_saved.specs.Ending.{EndsUnopened, PutsNothing, is_refusal}
-use Rattle.pgs_run_saved.specs.Opening.{Opens, IsRefusal, IsToldOf, is_disk_fault}
+use Rattle.pgs_run_saved.specs.Opening.{Opens, IsRefusal, is_disk_fault}
 use Rattle.pgs_run_saved.specs.Refusing.{SavedStore, told_of_areas}
 use Rattle.pgs_run_saved.proofs.Saving.{never_refused}
 use Rattle.pgs_run_saved.proofs.Shown.{shown_quiet, same_faults, beside_reads, put_after}

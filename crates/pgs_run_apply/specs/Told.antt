@@ -1,5 +1,5 @@
 -- What the command `apply` tells of an input within a budget: pieces of output, and a status.
-use Rattle.std.specs.Prelude.{ℕ, ◌==◌, Bool, true, false, List, [], ◌∷◌, ◌++◌, length, take, nat_le, if◌then◌else◌}
+use Rattle.std.specs.Prelude.{ℕ, ◌==◌, Bool, false, List, [], ◌∷◌, ◌++◌, length, take, nat_le, if◌then◌else◌}
 use Rattle.pgs_run_lines.specs.Input.{lines_of}
 use Rattle.pgs_run_lines.specs.Machine.{Told}
 use Rattle.pgs_violation.specs.Violations.{verdict}

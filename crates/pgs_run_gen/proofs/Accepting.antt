@@ -11,23 +11,22 @@ use Rattle.pgs_base.specs.declared.element.Elem.TheVariants.{Node, Edge}
 use Rattle.pgs_base.specs.declared.element.NodeId.{NodeId}
 use Rattle.pgs_base.specs.declared.row.EdgeRow.{EdgeRow}
 use Rattle.pgs_base.specs.declared.row.NodeRow.{NodeRow}
-use Rattle.pgs_base.specs.Graph.{Graph, edge_at, edge_cmp, element_count, empty_graph, node_at, node_cmp}
+use Rattle.pgs_base.specs.Graph.{Graph, edge_cmp, element_count, node_at, node_cmp}
 use Rattle.pgs_gen.specs.Generated.{generated, known_by, knowing, person}
 use Rattle.pgs_graph.specs.declared.operation.Op.{Op}
-use Rattle.pgs_graph.specs.declared.operation.Txn.{Txn}
 use Rattle.pgs_violation.specs.declared.rejection.Rejection.{Rejection}
 use Rattle.pgs_violation.specs.declared.rejection.Rejection.TheVariants.{Structural as ByStructure}
 use Rattle.pgs_violation.specs.declared.structural.Cause.TheVariants.{AlreadyThere, NoNode}
 use Rattle.pgs_violation.specs.declared.structural.Structural.{Structural}
 use Rattle.pgs_violation.specs.declared.structural.Structural.TheVariants.{TooManyElements, TooManyOps}
 use Rattle.pgs_violation.specs.Decision.{conforming, decide, graph_after, judged, judging}
-use Rattle.pgs_violation.specs.Staging.{◌>>=◌, StepFault, Unable, after_ops, found_or, going_on, staged, step, within_limit}
+use Rattle.pgs_violation.specs.Staging.{◌>>=◌, StepFault, Unable, after_ops, found_or, going_on, step, within_limit}
 use Rattle.pgs_violation.specs.Violations.{verdict}
 use Rattle.pgs_run_base.specs.Session.{standard}
 use Rattle.pgs_run_gen.specs.Persons.{persons}
 use Rattle.pgs_run_gen.specs.Workload.{accepted_of, decided, graph_left, rejected_of}
 use Rattle.pgs_run_gen.proofs.Conforming.{edge_id, edge_row, graph_conforms, graph_to, known_before, node_id, node_row}
-use Rattle.pgs_run_gen.proofs.Decided.{accepted_more, decided_more, decided_none, graph_more, rejected_more}
+use Rattle.pgs_run_gen.proofs.Decided.{accepted_more, graph_more, rejected_more}
 use Rattle.pgs_run_gen.proofs.Numbered.{Each, IsOther, IsUpTo, absent, each_so, found, length_numbers, numbers, numbers_up_to, others, others_up_to, put_last}
 
 abbrev node_entry : ℕ → NodeId × NodeRow

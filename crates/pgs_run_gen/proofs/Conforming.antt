@@ -1,10 +1,9 @@
 -- The graph of a workload has no violations.
-use Rattle.std.proofs.Common.{◌≡◌, ℕ, pos, ◌+◌, ◌-◌, ◌*◌, ◌%◌, ◌≤◌, ◌<◌, ◌^◌, ◌&&◌, ◌||◌, Bool, true, false, cond, List, [], ◌∷◌, ◌++◌, length, map, filter, Option, Some, None, Ordering, Less, Equal, Greater, is_lt, is_eq, codes, refl, sym, ap, ap₂, subst, ◌∙◌, arith}
+use Rattle.std.proofs.Common.{◌≡◌, ℕ, pos, ◌+◌, ◌-◌, ◌*◌, ◌%◌, ◌≤◌, ◌<◌, ◌^◌, ◌&&◌, ◌||◌, true, false, cond, List, [], ◌∷◌, ◌++◌, map, filter, Option, Some, None, Ordering, Less, Equal, Greater, is_lt, is_eq, codes, refl, sym, ap, ap₂, ◌∙◌, arith}
 use Rattle.std.specs.Prelude.{decimal, slice_get, option_map, option_and_then, filter_map}
-use Rattle.std.specs.BTreeMap.{is_at}
 use Rattle.std.specs.Cmp.{nat_cmp_is}
 use Rattle.std.specs.Cmp.Lexicographic.{slice_cmp}
-use Rattle.std.specs.List.{list_any, list_all, find, cons_option}
+use Rattle.std.specs.List.{list_any, list_all, cons_option}
 use Rattle.std.specs.Option.{option_map_or}
 use Rattle.std.specs.Ordering.{nat_cmp, int_cmp, ordering_then}
 use Rattle.std.proofs.Math.Nat.{mod-lt}
@@ -23,21 +22,21 @@ use Rattle.pgs_base.specs.declared.row.NodeRow.{NodeRow}
 use Rattle.pgs_base.specs.declared.value.Value.{Value}
 use Rattle.pgs_base.specs.declared.value.Value.TheVariants.{Text, Int}
 use Rattle.pgs_base.specs.Graph.{Graph, node_at, node_cmp}
-use Rattle.pgs_base.specs.Order.{elem_cmp, part_cmp, tuple_cmp, value_cmp}
+use Rattle.pgs_base.specs.Order.{elem_cmp, value_cmp}
 use Rattle.pgs_base.specs.Pair.{pair_of, value_at}
 use Rattle.pgs_gen.specs.Generated.{address, known_by}
 use Rattle.pgs_syntax.specs.declared.pattern.Atom.TheVariants.{FitsNode}
 use Rattle.pgs_syntax.specs.Fitting.{fits_node}
 use Rattle.pgs_syntax.specs.Join.{Triple, is_empty}
 use Rattle.pgs_syntax.specs.KeyValues.{as_set, is_in_scope, key_values, scope_of, starts_at, tuple_of}
-use Rattle.pgs_syntax.specs.Matches.{assignments, elements, holds, is_node_of_type, matches, same_elem}
-use Rattle.pgs_syntax.specs.Typed.{is_typed_edge, is_typed_node, is_typed_triple, triple_at}
+use Rattle.pgs_syntax.specs.Matches.{assignments, elements, holds, matches}
+use Rattle.pgs_syntax.specs.Typed.{is_typed_edge, is_typed_triple}
 use Rattle.pgs_violation.specs.declared.violation.Verdict.TheVariants.{Conforms}
 use Rattle.pgs_violation.specs.declared.violation.Violation.{Violation}
 use Rattle.pgs_violation.specs.declared.violation.Violation.TheVariants.{Exclusive, Mandatory, UntypedEdge, UntypedNode}
 use Rattle.pgs_violation.specs.Violations.{exclusive_violation, first_of, key_violations, mandatory_violation, shared_tuple, sharing, singleton_violation, two_least, untyped_edge, untyped_node, verdict, violations}
 use Rattle.pgs_run_gen.specs.Persons.{identified_by, persons}
-use Rattle.pgs_run_gen.proofs.Numbered.{Each, IsOther, IsUpTo, any_kept, each_so, entry, flat_ones, found, kept_all, kept_none, map_map, none_kept, none_of, numbers, numbers_up_to, other_number, others, others_up_to, picked, same_number}
+use Rattle.pgs_run_gen.proofs.Numbered.{IsOther, IsUpTo, any_kept, each_so, flat_ones, found, kept_all, kept_none, map_map, none_kept, none_of, numbers, numbers_up_to, other_number, others, others_up_to, picked, same_number}
 use Rattle.pgs_run_gen.proofs.Typed.{knowing_typed, person_fits, person_row, person_typed}
 
 -- ---- the graph

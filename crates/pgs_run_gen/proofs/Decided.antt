@@ -1,7 +1,6 @@
 -- One more transaction of a workload, decided after those before it.
-use Rattle.std.proofs.Common.{◌≡◌, ℕ, suc, ◌+◌, ◌≤◌, Bool, true, false, not, cond, List, [], ◌∷◌, ◌++◌, length, map, Result, refl, sym, ap, ap₂, ◌∙◌, subst, arith}
+use Rattle.std.proofs.Common.{◌≡◌, ℕ, suc, ◌+◌, ◌≤◌, Bool, true, false, not, cond, List, [], ◌∷◌, ◌++◌, length, refl, sym, ap, ap₂, ◌∙◌, subst, arith}
 use Rattle.std.specs.Prelude.{count_by, fold}
-use Rattle.std.specs.List.{range_with_len}
 use Rattle.std.specs.Result.{is_ok}
 use Rattle.std.proofs.lemmas.List.FromFn.{map-range_with_len_more, length-map-range_with_len}
 use Rattle.std.proofs.lemmas.List.Sums.{count_by-le-length, fold-append, sum_by-append, sum_by-cons}
@@ -9,7 +8,6 @@ use Rattle.pgs_base.specs.declared.limits.Limits.{Limits}
 use Rattle.pgs_base.specs.Graph.{Graph, empty_graph}
 use Rattle.pgs_gen.specs.Generated.{generated}
 use Rattle.pgs_graph.specs.declared.operation.Txn.{Txn}
-use Rattle.pgs_violation.specs.declared.rejection.Rejection.{Rejection}
 use Rattle.pgs_violation.specs.declared.violation.Verdict.{Verdict}
 use Rattle.pgs_violation.specs.Decision.{decide, decisions, graph_after}
 use Rattle.pgs_run_gen.specs.Workload.{workload, decided, graph_left, accepted_of, rejected_of}

@@ -1,6 +1,5 @@
 -- No more edges come in at a node than there are.
-use Rattle.std.proofs.Common.{◌≡◌, ℕ, ◌≤◌, List, length, filter, ◌∙◌, subst, sym}
-use Rattle.std.specs.Map.{keys_of}
+use Rattle.std.proofs.Common.{◌≤◌, length, filter, ◌∙◌, subst, sym}
 use Rattle.std.proofs.lemmas.List.Sums.{length-filter, count_by-le-length}
 use Rattle.std.proofs.lemmas.Map.Entries.{length-keys_of}
 use Rattle.pgs_base.specs.declared.element.NodeId.{NodeId}

@@ -104,7 +104,6 @@ pub text_has_schema : schema_of schema_text ≡ schema persons
 unfolding first_too_wide block.hidden-the_row-Spec-0 hidden
 text_has_schema = is_computed schema_text (schema persons) (of_script persons_found persons_resolved refl)
 
-
 pub text_answered : schema_answer schema_text ≡ Ok persons
 unfolding schema_answer
 text_answered = ap schema_or_text text_has_schema

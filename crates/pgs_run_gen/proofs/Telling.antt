@@ -1,8 +1,8 @@
 -- What is told of a workload: all its transactions are accepted.
-use Rattle.std.proofs.Common.{◌≡◌, ℕ, ◌≤◌, Bool, true, false, cond, List, [], ◌∷◌, sym, ap, ap₂, subst, ◌∙◌}
+use Rattle.std.proofs.Common.{◌≡◌, ℕ, ◌≤◌, Bool, true, false, cond, List, sym, ap, ap₂, subst, ◌∙◌}
 use Rattle.std.specs.Prelude.{◌==◌}
 use Rattle.pgs_base.specs.declared.limits.Limits.{Limits}
-use Rattle.pgs_resolve.specs.SchemaOf.{Answer, schema, schema_of}
+use Rattle.pgs_resolve.specs.SchemaOf.{schema, schema_of}
 use Rattle.pgs_schema.specs.declared.fault.SchemaFault.{SchemaFault}
 use Rattle.pgs_schema.specs.declared.fault.SchemaFault.TheVariants as faults
 use Rattle.pgs_schema.specs.declared.fault.SchemaUnread.{SchemaUnread}

@@ -1,9 +1,9 @@
 -- What the loading of a text does, by what its calls did.
-use Rattle.std.proofs.Common.{◌≡◌, ◌⊎◌, inl, inr, ⊎_elim, ℕ, Bool, true, false, cond, IsTrue, List, [], ◌∷◌, Result, Ok, Err, refl, sym, ap, subst, ◌∙◌}
-use Rattle.pgs_resolve.specs.SchemaOf.{Answer, schema, schema_of}
+use Rattle.std.proofs.Common.{◌≡◌, inl, inr, ℕ, Bool, true, false, cond, IsTrue, List, [], Result, Ok, Err, refl, sym, ap, subst, ◌∙◌}
+use Rattle.pgs_resolve.specs.SchemaOf.{schema, schema_of}
 use Rattle.pgs_run_lines.specs.declared.reply.Reply.{Reply}
 use Rattle.pgs_run_lines.specs.AreasKept.{KeepsAreas}
-use Rattle.pgs_run_lines.specs.Ending.{Faults, faults_of}
+use Rattle.pgs_run_lines.specs.Ending.{faults_of}
 use Rattle.pgs_run_lines.specs.Machine.{Told}
 use Rattle.pgs_run_lines.specs.Pieces.{Shown, ShowsAll, ShowsFirst, shown_of}
 use Rattle.pgs_run_lines.specs.Replies.{EndsReply}
@@ -17,10 +17,10 @@ use Rattle.pgs_syntax.specs.declared.resolved.Resolved.{Resolved}
 use Rattle.pgs_world.specs.declared.area.Area.TheVariants.{A, B}
 use Rattle.pgs_world.specs.Disk.{Puts}
 use Rattle.pgs_world.specs.Moment.{EachSince, IsQuiet, IsSettled, IsTimed, StopsBy}
-use Rattle.pgs_world.specs.World.{Triple, View}
+use Rattle.pgs_world.specs.World.{View}
 use Rattle.pgs_world.proofs.Moments.{each_none, each_now, each_on, each_weaker, passes_none, passes_on, settled_quiet}
 use Rattle.pgs_run_base.specs.declared.status.Status.{Status}
-use Rattle.pgs_run_base.specs.declared.status.Status.TheVariants.{Accepted, Refused, BadWords, SchemaRefused, StoreRefused, DiskFault, ReadFault, PutFault, Memory, InputTooLong}
+use Rattle.pgs_run_base.specs.declared.status.Status.TheVariants.{SchemaRefused, DiskFault, PutFault, Memory}
 use Rattle.pgs_run_base.specs.Answers.{schema_or_text, schema_answer}
 use Rattle.pgs_run_base.specs.Areas.{areas_of}
 use Rattle.pgs_run_base.specs.Ending.{Ends}
@@ -32,7 +32,7 @@ use Rattle.pgs_run_base.proofs.Images.{images_none, images_quiet, images_areas, 
 use Rattle.pgs_run_base.proofs.Replied.{IsOwn, reply_cause}
 use Rattle.pgs_run_saved.specs.Opening.{IsAnswer}
 use Rattle.pgs_answer.specs.Lines.{schema_refused_line}
-use Rattle.pgs_run_load.specs.Loading.{IsLoadingAt, IsLoading, IsMade, IsNewStore, LoadsText, TellsFor}
+use Rattle.pgs_run_load.specs.Loading.{IsLoadingAt, IsLoading, IsMade, LoadsText}
 use Rattle.pgs_run_load.specs.Replying.{Replies, RepliesRefused}
 use Rattle.pgs_run_load.specs.Told.{told_text}
 use Rattle.pgs_run_load.proofs.Replied.{answer_of_front, cause_reply, ends_reply, replied_status, same_faults, same_line, shown_same, tells_reply, told_line, told_refused}

@@ -1,5 +1,5 @@
 -- What a stop leaves while a text is loaded: before the load, inside it, and inside the put of its line.
-use Rattle.std.proofs.Common.{◌≡◌, ◌⊎◌, inl, inr, ⊎_elim, ℕ, IsTrue, List, [], ◌++◌, Result, Ok, Err, refl, sym, ap, subst, ◌∙◌}
+use Rattle.std.proofs.Common.{◌≡◌, ◌⊎◌, inl, inr, ⊎_elim, ℕ, IsTrue, List, [], ◌++◌, Result, Ok, Err, sym, ap, subst, ◌∙◌}
 use Rattle.std.proofs.lemmas.List.{append-nil}
 use Rattle.pgs_base.specs.Graph.{empty_graph}
 use Rattle.pgs_resolve.specs.SchemaOf.{schema, schema_of}

@@ -1,5 +1,5 @@
 -- Runs add up: what each leaves is what the next one begins with.
-use Rattle.std.proofs.Common.{◌≡◌, ◌⊎◌, inl, inr, ⊎_elim, ℕ, ◌+◌, ◌^◌, ◌==◌, Bool, true, false, cond, nat_le, IsTrue, List, [], ◌∷◌, ◌++◌, length, Option, Some, None, Result, Ok, refl, sym, ap, subst, ◌∙◌}
+use Rattle.std.proofs.Common.{◌≡◌, ◌⊎◌, inl, inr, ⊎_elim, ℕ, ◌+◌, ◌^◌, ◌==◌, Bool, true, false, nat_le, IsTrue, List, [], ◌∷◌, ◌++◌, length, Option, Some, Result, Ok, refl, sym, ap, subst, ◌∙◌}
 use Rattle.std.proofs.lemmas.List.{append-nil}
 use Rattle.pgs_answer.specs.Lines.{checkpoint_line}
 use Rattle.pgs_feed.specs.Places.{lost_count}
@@ -7,7 +7,7 @@ use Rattle.pgs_run_lines.specs.Machine.{Told}
 use Rattle.pgs_run_lines.specs.Pieces.{Shown, ShowsAll, shown_of}
 use Rattle.pgs_run_lines.proofs.Showing.{shows_none, shows_on}
 use Rattle.pgs_snapshot.specs.Choice.{choice_of, chosen_epoch, epoch_chosen, no_store}
-use Rattle.pgs_snapshot.specs.Saved.{SavedState, saved, store}
+use Rattle.pgs_snapshot.specs.Saved.{SavedState, store}
 use Rattle.pgs_store.specs.Loads.{FindsNone}
 use Rattle.pgs_syntax.specs.declared.resolved.Resolved.{Resolved}
 use Rattle.pgs_run_words.specs.declared.command.Command.{Command}
@@ -26,8 +26,7 @@ use Rattle.pgs_run_load.specs.Loading.{IsMade}
 use Rattle.pgs_run_load.specs.Told.{line_of, told_choice, told_load}
 use Rattle.pgs_run_recover.specs.Dump.{dump}
 use Rattle.pgs_run_saved.specs.Refusing.{SavedStore, told_of_areas, told_saved, told_under}
-use Rattle.pgs_run.specs.Command.{reads_source, IsTold}
-use Rattle.pgs_run.specs.Headline.{telling}
+use Rattle.pgs_run.specs.Command.{reads_source, AsksAreas, IsTold}
 use Rattle.pgs_run.specs.Leaving.{Feeds, Leaves}
 use Rattle.pgs_run.specs.Told.{told, told_command, told_dump}
 use Rattle.pgs_run_round_trip.specs.Sequence.{Applied, Deed, Does, DoAll, Ran, Renewed, after_deed, after_deeds, epoch_after, new_store, told_deed, told_deeds, told_sequence}
@@ -51,7 +50,7 @@ record Stands (it : SavedStore) (epoch : ℕ) (view : View) : Type 0 where
   pub tells : IsTrue view.tells_bytes
 
 -- a command's own of what is told
-told_as : (words : List (List ℕ)) (command : Command) (input : List ℕ) (areas : Areas) (budget lost : ℕ) → command_of words ≡ Some command → told words input areas budget lost ≡ told_command (Some command) input areas budget lost
+pub told_as : (words : List (List ℕ)) (command : Command) (input : List ℕ) (areas : Areas) (budget lost : ℕ) → command_of words ≡ Some command → told words input areas budget lost ≡ told_command (Some command) input areas budget lost
 unfolding told
 told_as words command input areas budget lost is = ap (λ (c : Option Command). told_command c input areas budget lost) is
 
@@ -64,36 +63,26 @@ told_stands view it go known =
 
 -- what a run puts that told this
 module _ (command : Command) (input : List ℕ) (lost : ℕ) (old new : View) (ran : Ran command input lost old new) where
-  said : Told Status
+  abbrev said : Told Status
   said = told_command (Some command) input (areas_of old) (2 ^ 40) lost
 
-  shows : IsTrue old.tells_bytes → ShowsAll (shown_of old) said.pieces (shown_of new) × (said.status ≡ ran.status)
+  pub shows : (AsksAreas (Some command) input → IsTrue old.tells_bytes) → ShowsAll (shown_of old) said.pieces (shown_of new) × (said.status ≡ ran.status)
   shows tells =
-      let knows : IsTold (command_of ran.words) ran.before.source.left ran.before.view input = record {
+      let knows : IsTold (command_of ran.words) ran.source_before.left old input = record {
         source = λ reads. ran.source (subst (λ (c : Option Command). reads_source c ≡ true) ran.named reads);
-        bytes = λ asks. subst (λ (v : View). IsTrue v.tells_bytes) (sym ran.old_is) tells;
+        bytes = λ asks. tells (subst (λ (c : Option Command). AsksAreas c input) ran.named asks);
       } in
-      let ends = ran.kept.shown input knows in
-      let same : telling ran.words ran.before ran.now input (2 ^ 40) ≡ said =
-      told_as ran.words command input (areas_of ran.before.view) (2 ^ 40) (lost_count ran.now.places) ran.named
-      ∙ ap (λ (v : View). told_command (Some command) input (areas_of v) (2 ^ 40) (lost_count ran.now.places)) ran.old_is
+      let same : told ran.words input (areas_of old) (2 ^ 40) (lost_count ran.places_now) ≡ said =
+      told_as ran.words command input (areas_of old) (2 ^ 40) (lost_count ran.places_now) ran.named
       ∙ ap (λ (n : ℕ). told_command (Some command) input (areas_of old) (2 ^ 40) n) ran.lost_is in
       done_shows (shown_of old) (shown_of new) said ran.status ran.done
-      (subst (λ (s : Shown). Ends s said ran.status (shown_of new)) (ap shown_of ran.old_is)
-      (subst (λ (s : Shown). Ends (shown_of ran.before.view) said ran.status s) (ap shown_of ran.new_is)
-      (subst (λ (t : Told Status). Ends (shown_of ran.before.view) t ran.status (shown_of ran.now.view)) same ends)))
+      (subst (λ (t : Told Status). Ends (shown_of old) t ran.status (shown_of new)) same (ran.kept.shown input knows))
 
-  left : Leaves (Some command) ran.before.source.left (lost_count ran.now.places) old new ran.status
-  left =
-      subst (λ (v : View). Leaves (Some command) ran.before.source.left (lost_count ran.now.places) v new ran.status) ran.old_is
-      (subst (λ (v : View). Leaves (Some command) ran.before.source.left (lost_count ran.now.places) ran.before.view v ran.status) ran.new_is
-      (subst (λ (c : Option Command). Leaves c ran.before.source.left (lost_count ran.now.places) ran.before.view ran.now.view ran.status) ran.named ran.kept.leaves))
+  pub left : Leaves (Some command) ran.source_before.left (lost_count ran.places_now) old new ran.status
+  left = subst (λ (c : Option Command). Leaves c ran.source_before.left (lost_count ran.places_now) old new ran.status) ran.named ran.kept.leaves
 
-  fed : Feeds (Some command) ran.before.source.left old new ran.before.places ran.now.places ran.status
-  fed =
-      subst (λ (v : View). Feeds (Some command) ran.before.source.left v new ran.before.places ran.now.places ran.status) ran.old_is
-      (subst (λ (v : View). Feeds (Some command) ran.before.source.left ran.before.view v ran.before.places ran.now.places ran.status) ran.new_is
-      (subst (λ (c : Option Command). Feeds c ran.before.source.left ran.before.view ran.now.view ran.before.places ran.now.places ran.status) ran.named ran.kept.fed))
+  fed : Feeds (Some command) ran.source_before.left old new ran.places_before ran.places_now ran.status
+  fed = subst (λ (c : Option Command). Feeds c ran.source_before.left old new ran.places_before ran.places_now ran.status) ran.named ran.kept.fed
 
   no_fault : ran.status ≡ DiskFault → ⊥
   no_fault is = ⊎_elim (λ (e : ran.status ≡ Accepted). let no : Accepted ≡ DiskFault = sym e ∙ is in cc) (λ (e : ran.status ≡ Refused). let no : Refused ≡ DiskFault = sym e ∙ is in cc) ran.done
@@ -116,7 +105,7 @@ record Leads (it : SavedStore) (epoch : ℕ) (pieces : List (List ℕ)) (old new
 
 loads : (text : List ℕ) (schema : Resolved) (lost : ℕ) (old new : View) → IsTrue old.tells_bytes → FindsNone old → schema_answer text ≡ Ok schema → Ran Load text lost old new → Leads (new_store text schema) 1 (line_of schema ∷ []) old new
 loads text schema lost old new tells free is ran =
-    let done = shows Load text lost old new ran tells in
+    let done = shows Load text lost old new ran (λ asks. tells) in
     let told = load_if (nat_le (2 ^ 40) (length text)) text (areas_of old) schema ran.status refl is (free tells) ran.done done.1 in
     let accepted : ran.status ≡ Accepted = sym done.1 ∙ ap (λ (t : Told Status). t.status) told in
     let leaves = left Load text lost old new ran in
@@ -148,7 +137,7 @@ applies it epoch input lost old new stands ran =
     let leaves = left Apply input lost old new ran in
     let fed_by = fed Apply input lost old new ran in
     let decided =
-    subst (λ (n : ℕ). IsDecided it input n old new ran.before.places ran.now.places ran.status) ran.lost_is
+    subst (λ (n : ℕ). IsDecided it input n old new ran.places_before ran.places_now ran.status) ran.lost_is
     (fed_by.decided stands.tells input it (ran.source refl) stands.saves) in
     let put = put_all it input decided.until decided.later lost (shown_of old) (shown_of new) ran.status decided.parts ran.done decided.put in
     let saves = decided.saves (no_fault Apply input lost old new ran) in
@@ -183,7 +172,7 @@ told_renewed it epoch old stands =
 
 renews : (it : SavedStore) (epoch : ℕ) (input : List ℕ) (lost : ℕ) (old new : View) → Stands it epoch old → Ran Checkpoint input lost old new → Leads it (epoch + 1) (told_deed it epoch Renewed) old new
 renews it epoch input lost old new stands ran =
-    let done = shows Checkpoint input lost old new ran stands.tells in
+    let done = shows Checkpoint input lost old new ran (λ asks. stands.tells) in
     let is = told_renewed it epoch old stands in
     let told = renewed_if (epoch == 16777215) epoch it ran.status refl ran.done (ap (λ (t : Told Status). t.status) (sym is) ∙ done.1) in
     let all : told_checkpoint (areas_of old) ≡ record { pieces = checkpoint_line (epoch + 1) it.commits ∷ []; status = Accepted } = is ∙ told in
@@ -215,29 +204,32 @@ record All (it : SavedStore) (pieces : List (List ℕ)) (old new : View) : Type 
   pub stands : Stands it epoch new
   pub shown : ShowsAll (shown_of old) pieces (shown_of new)
 
-do_all : (it : SavedStore) (epoch : ℕ) (deeds : List Deed) (old new : View) → Stands it epoch old → DoAll deeds old new → All (after_deeds it deeds) (told_deeds it epoch deeds) old new
-do_all it epoch [] old new stands same = record {
-  epoch = epoch;
-  stands = subst (λ (v : View). Stands it epoch v) (sym same) stands;
-  shown = subst (λ (v : View). ShowsAll (shown_of old) [] (shown_of v)) (sym same) (shows_none (shown_of old));
-}
-do_all it epoch (deed ∷ deeds) old new stands runs =
-    let first = does it epoch deed old runs.0 stands runs.1 in
-    let rest = do_all (after_deed it deed) (epoch_after epoch deed) deeds runs.0 new first.stands runs.2 in
-    record {
-      epoch = rest.epoch;
-      stands = rest.stands;
-      shown = shows_on (shown_of old) (shown_of runs.0) (shown_of new) (told_deed it epoch deed) (told_deeds (after_deed it deed) (epoch_after epoch deed) deeds) first.shown rest.shown;
-    }
+module _ {W : Type 0} (view : W → View) where
+  do_all : (it : SavedStore) (epoch : ℕ) (deeds : List Deed) (old new : W) → Stands it epoch (view old) → DoAll view deeds old new
+      → All (after_deeds it deeds) (told_deeds it epoch deeds) (view old) (view new)
+  do_all it epoch [] old new stands same = record {
+    epoch = epoch;
+    stands = subst (λ (v : View). Stands it epoch v) (sym same) stands;
+    shown = subst (λ (v : View). ShowsAll (shown_of (view old)) [] (shown_of v)) (sym same) (shows_none (shown_of (view old)));
+  }
+  do_all it epoch (deed ∷ deeds) old new stands runs =
+      let first = does it epoch deed (view old) (view runs.0) stands runs.1 in
+      let rest = do_all (after_deed it deed) (epoch_after epoch deed) deeds runs.0 new first.stands runs.2 in
+      record {
+        epoch = rest.epoch;
+        stands = rest.stands;
+        shown = shows_on (shown_of (view old)) (shown_of (view runs.0)) (shown_of (view new)) (told_deed it epoch deed) (told_deeds (after_deed it deed) (epoch_after epoch deed) deeds) first.shown rest.shown;
+      }
 
-pub runs_add_up : (text input : List ℕ) (schema : Resolved) (deeds : List Deed) (lost failed : ℕ) (first mid last done : View) → IsTrue first.tells_bytes → FindsNone first → schema_answer text ≡ Ok schema
-    → Ran Load text lost first mid → DoAll deeds mid last → Ran Recover input failed last done → ShowsAll (shown_of first) (told_sequence text schema deeds) (shown_of done)
-runs_add_up text input schema deeds lost failed first mid last done tells free is loaded ran recovered =
-    let one = loads text schema lost first mid tells free is loaded in
-    let it = after_deeds (new_store text schema) deeds in
-    let all = do_all (new_store text schema) 1 deeds mid last one.stands ran in
-    let shown = shows Recover input failed last done recovered all.stands.tells in
-    let told : told_of_areas (areas_of last) told_dump ≡ told_dump it = told_stands last it told_dump all.stands.saves in
-    shows_on (shown_of first) (shown_of mid) (shown_of done) (line_of schema ∷ []) (told_deeds (new_store text schema) 1 deeds ++ dump it.text it.graph) one.shown
-    (shows_on (shown_of mid) (shown_of last) (shown_of done) (told_deeds (new_store text schema) 1 deeds) (dump it.text it.graph) all.shown
-    (subst (λ (t : Told Status). ShowsAll (shown_of last) t.pieces (shown_of done)) told shown.0))
+  pub runs_add_up : (text input : List ℕ) (schema : Resolved) (deeds : List Deed) (lost failed : ℕ) (first loaded last done : W) → IsTrue (view first).tells_bytes → FindsNone (view first)
+      → schema_answer text ≡ Ok schema → Ran Load text lost (view first) (view loaded) → DoAll view deeds loaded last → Ran Recover input failed (view last) (view done)
+      → ShowsAll (shown_of (view first)) (told_sequence text schema deeds) (shown_of (view done))
+  runs_add_up text input schema deeds lost failed first loaded last done tells free is one_ran ran recovered =
+      let one = loads text schema lost (view first) (view loaded) tells free is one_ran in
+      let it = after_deeds (new_store text schema) deeds in
+      let all = do_all (new_store text schema) 1 deeds loaded last one.stands ran in
+      let shown = shows Recover input failed (view last) (view done) recovered (λ asks. all.stands.tells) in
+      let told : told_of_areas (areas_of (view last)) told_dump ≡ told_dump it = told_stands (view last) it told_dump all.stands.saves in
+      shows_on (shown_of (view first)) (shown_of (view loaded)) (shown_of (view done)) (line_of schema ∷ []) (told_deeds (new_store text schema) 1 deeds ++ dump it.text it.graph) one.shown
+      (shows_on (shown_of (view loaded)) (shown_of (view last)) (shown_of (view done)) (told_deeds (new_store text schema) 1 deeds) (dump it.text it.graph) all.shown
+      (subst (λ (t : Told Status). ShowsAll (shown_of (view last)) t.pieces (shown_of (view done))) told shown.0))

@@ -1,5 +1,5 @@
 -- The operations of a dump, all of them one transaction, make its graph from the empty graph.
-use Rattle.std.proofs.Common.{◌≡◌, ℕ, ◌+◌, ◌≤◌, Bool, true, false, List, [], ◌∷◌, length, Result, Ok, Err, refl, sym, ap, ◌∙◌, arith}
+use Rattle.std.proofs.Common.{◌≡◌, ℕ, ◌+◌, ◌≤◌, Bool, true, false, List, [], ◌∷◌, length, Result, Ok, Err, refl, ap, ◌∙◌}
 use Rattle.std.specs.Prelude.{if◌then◌else◌, nat_lt}
 use Rattle.std.proofs.lemmas.Bool.{and_parts, le-ltb}
 use Rattle.pgs_base.specs.declared.limits.Limits.{Limits}
@@ -15,7 +15,7 @@ use Rattle.pgs_violation.specs.declared.structural.Structural.{Structural}
 use Rattle.pgs_violation.specs.declared.structural.Structural.TheVariants.{TooManyElements, TooManyOps}
 use Rattle.pgs_violation.specs.declared.violation.Verdict.{Verdict}
 use Rattle.pgs_violation.specs.declared.violation.Verdict.TheVariants.{Conforms}
-use Rattle.pgs_violation.specs.Decision.{conforming, decide, judged, judging}
+use Rattle.pgs_violation.specs.Decision.{conforming, decide, judging}
 use Rattle.pgs_violation.specs.Staging.{◌>>=◌, StepFault, after_ops, going_on, step, within_limit}
 use Rattle.pgs_violation.specs.Violations.{verdict}
 use Rattle.pgs_run_base.specs.Answers.{schema_answer}

@@ -18,6 +18,7 @@ pub mod OpLines
 pub mod PairsInKeys
 pub mod PairsInStatements
 pub mod PairsInTypes
+pub mod ReadAgain
 pub mod ReadBack
 pub mod Rebuilt
 pub mod Saved

@@ -2,10 +2,10 @@
 use Rattle.std.specs.Prelude.{◌≡◌, ◌⊎◌, ℕ, ◌+◌, ◌^◌, true, List, [], ◌∷◌, ◌++◌, Some}
 use Rattle.pgs_answer.specs.Lines.{checkpoint_line}
 use Rattle.pgs_base.specs.Graph.{empty_graph}
-use Rattle.pgs_feed.specs.Places.{lost_count}
+use Rattle.pgs_feed.specs.Places.{Place, lost_count}
 use Rattle.pgs_syntax.specs.declared.resolved.Resolved.{Resolved}
 use Rattle.pgs_run_words.specs.declared.command.Command.{Command}
-use Rattle.pgs_run_words.specs.declared.command.Command.TheVariants.{Load, Apply, Recover, Checkpoint}
+use Rattle.pgs_run_words.specs.declared.command.Command.TheVariants.{Apply, Checkpoint}
 use Rattle.pgs_run_words.specs.Words.{command_of}
 use Rattle.pgs_world.specs.World.{View}
 use Rattle.pgs_run_base.specs.declared.status.Status.{Status}
@@ -16,7 +16,7 @@ use Rattle.pgs_run_recover.specs.Dump.{dump}
 use Rattle.pgs_run_saved.specs.Refusing.{SavedStore}
 use Rattle.pgs_run.specs.Command.{reads_source}
 use Rattle.pgs_run.specs.Headline.{KeepsPromise}
-use Rattle.pgs_run.specs.Runs.{Setting}
+use Rattle.pgs_run.specs.Runs.{SourceState}
 
 -- a run between `load` and `recover`: of `apply` over this input, with so many feeds lost at its end; or of `checkpoint`
 pub data Deed : Type 0 where
@@ -57,27 +57,28 @@ told_sequence text schema deeds =
     let it = after_deeds (new_store text schema) deeds in
     line_of schema ∷ (told_deeds (new_store text schema) 1 deeds ++ dump it.text it.graph)
 
--- A run of the program that named this command, over a source that told this input where it is read, led from the one view of the world
+-- A run of the program that named this command, over a source that told this input where it is read, led from the one view of a world
 -- to the other and ended with 0 or 1. So many feeds were lost at its end.
-pub record Ran (command : Command) (input : List ℕ) (lost : ℕ) (old new : View) : Type 1 where
+pub record Ran (command : Command) (input : List ℕ) (lost : ℕ) (old new : View) : Type 0 where
   pub words : List (List ℕ)
   pub named : command_of words ≡ Some command
-  pub before : Setting
-  pub now : Setting
+  pub source_before : SourceState
+  pub source_now : SourceState
+  pub places_before : List Place
+  pub places_now : List Place
   pub status : Status
-  pub kept : KeepsPromise words (2 ^ 40) before now status
-  pub old_is : before.view ≡ old
-  pub new_is : now.view ≡ new
-  pub source : reads_source (Some command) ≡ true → before.source.left ≡ Some input
-  pub lost_is : lost_count now.places ≡ lost
+  pub kept : KeepsPromise words (2 ^ 40) (record { source = source_before; view = old; places = places_before })
+      (record { source = source_now; view = new; places = places_now }) status
+  pub source : reads_source (Some command) ≡ true → source_before.left ≡ Some input
+  pub lost_is : lost_count places_now ≡ lost
   pub done : (status ≡ Accepted) ⊎ (status ≡ Refused)
 
 -- a run of this kind
-abbrev pub Does : Deed → View → View → Type 1
+abbrev pub Does : Deed → View → View → Type 0
 Does (Applied input lost) old new = Ran Apply input lost old new
 Does Renewed old new = (input : List ℕ) × (lost : ℕ) × Ran Checkpoint input lost old new
 
--- these runs, one after another
-abbrev pub DoAll : List Deed → View → View → Type 1
-DoAll [] old new = new ≡ old
-DoAll (deed ∷ deeds) old new = (mid : View) × Does deed old mid × DoAll deeds mid new
+-- these runs, one after another, over worlds of one kind
+abbrev pub DoAll : {W : Type 0} (view : W → View) → List Deed → W → W → Type 0
+DoAll {W} view [] old new = view new ≡ view old
+DoAll {W} view (deed ∷ deeds) old new = (mid : W) × Does deed (view old) (view mid) × DoAll view deeds mid new

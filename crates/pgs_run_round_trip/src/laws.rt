@@ -1,6 +1,6 @@
 //! That the commands agree with one another on a saved store. The functions do nothing of their own; their contracts are the statements.
 
-ghost use Rattle.std.specs.Prelude.{◌≡◌, ◌<◌, ◌≤◌, ℕ, List, [], ◌∷◌, ◌++◌, length, slice_index, Some, Ok, IsTrue};
+ghost use Rattle.std.specs.Prelude.{◌≡◌, ◌<◌, ◌≤◌, ◌^◌, ℕ, List, [], ◌∷◌, ◌++◌, length, slice_index, Some, Ok, IsTrue};
 ghost use Rattle.std.specs.List.{concat};
 ghost use Rattle.pgs_base.specs.declared.limits.Limits.{Limits};
 ghost use Rattle.pgs_base.specs.Graph.{Graph, element_count, empty_graph};
@@ -14,7 +14,6 @@ ghost use Rattle.pgs_run_words.specs.declared.command.Command.TheVariants.{Load,
 ghost use Rattle.pgs_run_words.specs.Words.{command_of};
 ghost use Rattle.pgs_run_lines.specs.Pieces.{ShowsAll, shown_of};
 ghost use Rattle.pgs_store.specs.Loads.{FindsNone};
-ghost use Rattle.pgs_world.specs.World.{View};
 ghost use Rattle.pgs_run_base.specs.declared.status.Status.TheVariants.{Accepted};
 ghost use Rattle.pgs_run_base.specs.Answers.{schema_answer};
 ghost use Rattle.pgs_run_base.specs.Areas.{Areas};
@@ -22,6 +21,8 @@ ghost use Rattle.pgs_run_base.specs.Session.{standard};
 ghost use Rattle.pgs_run.specs.Told.{told};
 ghost use Rattle.pgs_run_round_trip.specs.Lines.{IsLineStart};
 ghost use Rattle.pgs_run_round_trip.specs.Sequence.{Deed, DoAll, Ran, told_sequence};
+
+use pgs_world::World;
 
 /// No line of the text of a schema begins with two dashes, so none is the separator.
 pub fn no_dashes()
@@ -53,12 +54,26 @@ pub fn a_dump_is_one_transaction()
         → decide limits (verdict resolved) empty_graph (record { ops = graph_ops graph }) ≡ Ok graph }
 {}
 
+/// What a run of `recover` printed, a run of `validate` takes as its input: over two areas of bytes that the world tells, where `recover`
+/// ends with 0 and `validate` with 0 or 1, it ends with 0 and prints nothing. The two may run over different worlds.
+pub fn a_dump_is_validated<V: World, W: World>()
+    ensures { (input dump : List ℕ) (lost failed : ℕ) (first last : V) (old done : W)
+        → ((i : ℕ) → slice_index (V.view first).shown.a i < 256) → ((i : ℕ) → slice_index (V.view first).shown.b i < 256)
+        → IsTrue (V.view first).tells_bytes → IsTrue (V.view first).tells_output
+        → (recovered : Ran Recover input lost (V.view first) (V.view last)) → recovered.status ≡ Accepted
+        → (V.view last).shown.output ≡ (V.view first).shown.output ++ dump → length dump < 2 ^ 40
+        → (validated : Ran Validate dump failed (W.view old) (W.view done))
+        → (validated.status ≡ Accepted) × ShowsAll (shown_of (W.view old)) [] (shown_of (W.view done)) }
+{
+    pgs_json::written_is_read();
+}
+
 /// Runs add up. Over one world that tells its bytes, whose areas are both free at first: `load` of a text that is a schema, then runs of
 /// `apply` and `checkpoint` in any order, then `recover`, each ended with 0 or 1, print what deciding the lines of all inputs in order
 /// prints: each run's lines numbered from 1, the commit numbers going on, and then the dump of the graph that they lead to.
-pub fn runs_add_up()
-    ensures { (text input : List ℕ) (schema : Resolved) (deeds : List Deed) (lost failed : ℕ) (first loaded last done : View)
-        → IsTrue first.tells_bytes → FindsNone first → schema_answer text ≡ Ok schema
-        → Ran Load text lost first loaded → DoAll deeds loaded last → Ran Recover input failed last done
-        → ShowsAll (shown_of first) (told_sequence text schema deeds) (shown_of done) }
+pub fn runs_add_up<W: World>()
+    ensures { (text input : List ℕ) (schema : Resolved) (deeds : List Deed) (lost failed : ℕ) (first loaded last done : W)
+        → IsTrue (W.view first).tells_bytes → FindsNone (W.view first) → schema_answer text ≡ Ok schema
+        → Ran Load text lost (W.view first) (W.view loaded) → DoAll W.view deeds loaded last → Ran Recover input failed (W.view last) (W.view done)
+        → ShowsAll (shown_of (W.view first)) (told_sequence text schema deeds) (shown_of (W.view done)) }
 {}

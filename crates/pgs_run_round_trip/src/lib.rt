@@ -6,4 +6,6 @@
 
 mod laws;
 
-pub use laws::{a_dump_is_one_transaction, a_dump_is_read_back, no_dashes, runs_add_up};
+pub use laws::{
+    a_dump_is_one_transaction, a_dump_is_read_back, a_dump_is_validated, no_dashes, runs_add_up,
+};

@@ -1,4 +1,4 @@
-use Rattle.std.proofs.Common.{sym, subst, ◌∙◌}
+use Rattle.std.proofs.Common.{subst, ◌∙◌}
 use Rattle.pgs_run_load.proofs.Loads.{untouched}
 use Rattle.pgs_run_load.proofs.Replied.{is_standard}
 use Rattle.pgs_run_load.specs.Loading.{LoadsText}

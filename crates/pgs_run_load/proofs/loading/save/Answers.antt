@@ -1,8 +1,6 @@
-use Rattle.std.proofs.Common.{◌≡◌, ◌∙◌, Ok, Err, refl, sym, ap, subst}
-use Rattle.pgs_store.specs.declared.fault.LoadFault.TheVariants as faults
+use Rattle.std.proofs.Common.{subst}
 use Rattle.pgs_store.specs.Loads.{Loads}
 use Rattle.pgs_store.specs.Stored.{IsLoadedIn}
-use Rattle.pgs_store.specs.State.{GuardState}
 use Rattle.pgs_world.specs.Moment.{EachSince}
 use Rattle.pgs_run_load.proofs.Loads.{failed_load, replied_text}
 use Rattle.pgs_run_load.proofs.loading.save.Goals as goal
