@@ -78,10 +78,8 @@ fn total(feed: &str, count: u64) -> u64 {
 
 fn lines(alloc: Global, feed: &str, count: u64) -> Result<Vec<String>, AllocError> {
     let mut all = Vec::new(alloc);
-    let mut number = 0;
-    while number < total(feed, count) {
-        number = number.saturating_add(1);
-        match all.push(line(alloc, feed, number, count)?) {
+    for before in 0..total(feed, count) {
+        match all.push(line(alloc, feed, before.saturating_add(1), count)?) {
             Ok(()) => {}
             Err(_) => return Err(AllocError),
         }
