@@ -4,4 +4,5 @@ pub mod Differing
 pub mod Entries
 pub mod Kept
 pub mod Lesser
+pub mod Starting
 pub mod Stepping
