@@ -71,8 +71,13 @@ fn words_of(alloc: Global, arguments: io::Result<Args>) -> Result<Words, Memory>
 // Runs words over the standard streams, tells why they ended so, and gives the status.
 fn run_and_tell(rt: &HostRuntime, words: &Words, numbers: &StandardNumbers) -> SessionStatus {
     let drawn = RandomState::new(rt);
-    let ran: Ran<Stdin, Stdout, StoreFile<SystemFile<'_, HostRuntime>>> =
-        run_program(rt.alloc(), words, rt.stdin(), rt.stdout(), drawn);
+    let ran: Ran<Stdin, Stdout, StoreFile<SystemFile<'_, HostRuntime>>> = run_program(
+        rt.alloc(),
+        words,
+        rt.stdin(),
+        rt.stdout(),
+        drawn,
+    );
     let mut causes = ran.causes();
     if numbers.input_was_closed() {
         causes.source = Some(Cause::NotOpen);

@@ -123,6 +123,9 @@ fn the_budget_cuts_the_input(rt: HostRuntime) -> Result<(), Fail> {
         budget: 50,
         ..quiet(65_536)
     };
-    assert_eq!(rt; ends_so(rt.alloc(), setting, "1 began 1\n2 began 2\n", 9)?, true);
+    assert_eq!(rt;
+        ends_so(rt.alloc(), setting, "1 began 1\n2 began 2\n", 9)?,
+        true
+    );
     Ok(())
 }
