@@ -209,8 +209,8 @@ module _ {W : Type 0} (view : W → View) where
       → All (after_deeds it deeds) (told_deeds it epoch deeds) (view old) (view new)
   do_all it epoch [] old new stands same = record {
     epoch = epoch;
-    stands = subst (λ (v : View). Stands it epoch v) (sym same) stands;
-    shown = subst (λ (v : View). ShowsAll (shown_of (view old)) [] (shown_of v)) (sym same) (shows_none (shown_of (view old)));
+    stands = subst (λ (w : W). Stands it epoch (view w)) (sym same) stands;
+    shown = subst (λ (w : W). ShowsAll (shown_of (view old)) [] (shown_of (view w))) (sym same) (shows_none (shown_of (view old)));
   }
   do_all it epoch (deed ∷ deeds) old new stands runs =
       let first = does it epoch deed (view old) (view runs.0) stands runs.1 in

@@ -80,5 +80,5 @@ Does Renewed old new = (input : List ℕ) × (lost : ℕ) × Ran Checkpoint inpu
 
 -- these runs, one after another, over worlds of one kind
 abbrev pub DoAll : {W : Type 0} (view : W → View) → List Deed → W → W → Type 0
-DoAll {W} view [] old new = view new ≡ view old
+DoAll {W} view [] old new = new ≡ old
 DoAll {W} view (deed ∷ deeds) old new = (mid : W) × Does deed (view old) (view mid) × DoAll view deeds mid new
