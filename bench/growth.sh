@@ -72,7 +72,7 @@ fn mail(alloc: Global, letter: &str, number: u64) -> Result<Value, Memory> {
 
 fn person(alloc: Global, number: u64) -> Result<Op, Memory> {
     let mut props = Props::new(alloc);
-    props.set(name(alloc, b"id")?, Value::Int(number as i64))?;
+    props.set(name(alloc, b"id")?, Value::Int((number % 1_000_000_000) as i64))?;
     props.set(name(alloc, b"mail")?, mail(alloc, "u", number)?)?;
     Ok(Op::AddNode { id: NodeId(number), labels: label(alloc, b"Person")?, props })
 }
