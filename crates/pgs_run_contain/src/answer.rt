@@ -1,6 +1,6 @@
 //! The line of the answer to a type.
 
-ghost use Rattle.std.specs.Prelude.{◌≡◌, IfOk, List as Items, ℕ};
+ghost use Rattle.std.specs.Prelude.{◌≡◌, IfOk};
 ghost use Rattle.pgs_contain.specs.declared.outside.Outside.TheVariants.{Node, Edge};
 ghost use Rattle.pgs_graph.specs.declared.operation.Op.TheVariants.{AddNode, AddEdge};
 ghost use Rattle.pgs_run_contain.specs.Answers.{txn_of, answer_line};
