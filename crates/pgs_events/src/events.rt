@@ -51,11 +51,7 @@ fn read_event(rest: &[u8]) -> Option<Event>
 }
 
 // The stage of the transaction of a text, or why it is none.
-fn staged_txn(
-    alloc: Global,
-    session: u64,
-    json: &[u8],
-) -> Result<Result<Event, Bytes>, Memory>
+fn staged_txn(alloc: Global, session: u64, json: &[u8]) -> Result<Result<Event, Bytes>, Memory>
     ensures { IfOk result (λ answer. answer ≡ staging session (txn_answer json.now)) }
 {
     match txn_of(alloc, json)? {

@@ -22,7 +22,7 @@ returns-clause-answer g c =
     let inside = c.self.inside in
     let old : SessionsState = record { guard = inside.guard; nodes = inside.changes.nodes.rows; edges = inside.changes.edges.rows; sessions = inside.sessions } in
     let follows = subst (λ (s : Session). Follows inside.guard c.decide.new.guard inside.changes c.decide.new.changes c.in_ok-reply.reply (decide inside.guard.limits (verdict inside.guard.schema) inside.guard.graph (record { ops = s.staged })))
-        c.session.view_is c.in_ok-reply.ensures.decision in
+    c.session.view_is c.in_ok-reply.ensures.decision in
     subst (λ (s : SessionsState). IsTaken (Commit c.args.number) s c.in_ok-reply.reply (left old c.args.number c.decide.new.guard c.decide.new.changes c.close-open.new.self)) c.self.view_is
     (decided_commit old c.args.number inside.changes c.decide.new.changes refl refl c.decide.new.guard c.close-open.new.self c.in-Some.session.now c.in_ok-reply.reply (sym c.in-Some.ensures) (sym c.in_default-stale.is ∙ c.stale.ensures)
     c.close-open.ensures.sessions follows)
