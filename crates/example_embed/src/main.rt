@@ -4,6 +4,7 @@
 ghost use Rattle.std.specs.Prelude.{◌≡◌, ◌<◌};
 
 use pgs_base::{Limits, Steps};
+use pgs_graph::Txn;
 use pgs_json::read_txn;
 use pgs_store::{Guard, GuardRefusal};
 use pgs_violation::{Rejection, Violation};
@@ -21,48 +22,51 @@ const LINES: [&[u8]; 3] = [
     br#"{"ops":[{"add_node":2,"labels":["Person"],"props":{"mail":"bob@x.org"}}]}"#,
 ];
 
-// What is told of a violation: a caller goes by the variants that it cares for.
-fn tell(rt: &impl Print, violation: Violation) -> io::Result<()> {
-    match violation {
-        Violation::Exclusive { key, .. } => println!(rt;
-            "refused: the value of key {key} is taken"
-        ),
-        _ => println!(rt; "refused: the graph would not conform"),
-    }
-}
-
-// Decides one line on the graph so far.
-fn decide<L: Ledger>(
-    rt: &impl Print,
-    alloc: Global,
-    guard: &mut Guard,
-    line: &[u8],
-    blank: Blank,
-) -> io::Result<()>
+// Applies a transaction, and counts look-ups on the ledger of the blank.
+fn apply_counted<L: Ledger>(guard: &mut Guard, txn: &Txn, blank: Blank) -> Result<u64, GuardRefusal>
     requires name { blank.name ≡ L.name }
     requires parts { blank.parts ≡ L.parts }
     requires some { 0 < blank.parts }
+    requires number { guard.old.commits < 18446744073709551615 }
 {
     let mut steps: Steps<L> = Steps::begin(blank);
+    guard.apply(txn, &mut steps)
+}
+
+// The same, where no one asks for the count.
+fn apply(guard: &mut Guard, txn: &Txn) -> Result<u64, GuardRefusal>
+    requires { guard.old.commits < 18446744073709551615 }
+{
+    apply_counted::<Brand>(guard, txn, Blank::new(1))
+}
+
+// Decides a line, where it is a transaction and a commit number is left.
+fn decide(alloc: Global, guard: &mut Guard, line: &[u8]) -> Option<Result<u64, GuardRefusal>> {
     match read_txn(alloc, line) {
-        Ok(txn) if guard.commits() < u64::MAX => match guard.apply(&txn, &mut steps) {
-            Ok(number) => println!(rt; "committed {number}"),
-            Err(GuardRefusal::Rejected(Rejection::Violation(violation))) => tell(rt, violation),
-            Err(_) => println!(rt; "refused for another reason"),
-        },
-        _ => println!(rt; "no transaction, or no number is left"),
+        Ok(txn) if guard.commits() < u64::MAX => Some(apply(guard, &txn)),
+        _ => None,
+    }
+}
+
+// What is told of a refusal: a caller goes by the variants that it cares for.
+fn reason(refusal: &GuardRefusal) -> &'static str {
+    match refusal {
+        GuardRefusal::Rejected(Rejection::Violation(Violation::Exclusive { .. })) =>
+            "mail is taken",
+        GuardRefusal::Rejected(_) => "not so",
+        GuardRefusal::Memory => "no memory",
     }
 }
 
 fn main(rt: HostRuntime) -> io::Result<()> {
-    let alloc = rt.alloc();
-    match Guard::new(alloc, SCHEMA, Limits::standard()) {
-        Ok(mut guard) => {
-            for line in LINES {
-                decide::<Brand>(&rt, alloc, &mut guard, line, Blank::new(1))?;
+    if let Ok(mut guard) = Guard::new(rt.alloc(), SCHEMA, Limits::standard()) {
+        for line in LINES {
+            match decide(rt.alloc(), &mut guard, line) {
+                Some(Ok(number)) => println!(rt; "committed {number}")?,
+                Some(Err(refusal)) => println!(rt; "refused: {}", reason(&refusal))?,
+                None => println!(rt; "no transaction")?,
             }
-            Ok(())
         }
-        Err(_) => println!(rt; "the text is no schema"),
     }
+    Ok(())
 }
