@@ -1,15 +1,18 @@
 #!/usr/bin/env bash
 # Runs the commands that docs/GUIDE.md shows, in their order and in one folder, and compares what they print with what it shows. Ends with 1 where one
 # differs. A block that needs a program that isn't installed, or a database that isn't there, is named and passed over.
-# Usage: examples/guide.sh; with PGGUARD=FILE in the environment that executable is run.
+# Usage: examples/guide.sh; with PGGUARD=FILE, PGFOLLOW=FILE and PGSESSION=FILE in the environment these executables are run.
 set -u
 here=$(cd "$(dirname "$(readlink -f "${BASH_SOURCE[0]}")")/.." && pwd)
-program=$(readlink -f "${PGGUARD:-$("$here/tools/run" --path pgguard)}") || exit 1
 work=$(mktemp -d) || exit 1
 trap 'rm -rf "$work"' EXIT
 ln -s "$here/examples" "$here/tools" "$work/"
-printf '#!/bin/sh\nexec %q "$@"\n' "$program" >"$work/pgguard"
-chmod +x "$work/pgguard"
+for name in pgguard pgfollow pgsession; do
+  given=${name^^}
+  program=$(readlink -f "${!given:-$("$here/tools/run" --path "$name")}") || exit 1
+  printf '#!/bin/sh\nexec %q "$@"\n' "$program" >"$work/$name"
+  chmod +x "$work/$name"
+done
 exec python3 - "$here" "$work" <<'PYTHON'
 """Takes the guide's fenced blocks apart: one marked `sh` is run, and the block behind it, marked `output`, is what it prints. Without such a block it
 prints what the example beside its input is known to print, or nothing."""
