@@ -22,8 +22,10 @@ ended() {
 }
 
 for example in "$here"/sessions/*/; do
+  name=sessions/$(basename "$example")
+  status=$(<"$example/status.txt")
   "$program" run <"$example/input.txt" >"$work/found"
-  ended "sessions/$(basename "$example")" "$(cat "$example/status.txt")" "$example/output.txt"
+  ended "$name" "$status" "$example/output.txt"
 done
 
 printf 'words refused 35\n' >"$work/words"
