@@ -6,7 +6,6 @@
 #![tactic(auto)]
 
 mod ending;
-mod no_file;
 mod program;
 
 ghost use Rattle.std.specs.Prelude.{◌≡◌, ◌≢◌, ◌++◌, [], Ok, IsErr, IfErr, IfOk};
@@ -17,9 +16,9 @@ ghost use Rattle.pgs_run_follow.specs.ExitStatus.{status_number};
 ghost use Rattle.pgfollow.specs.Known.{words_behind};
 
 use ending::{Causes, tell_ending};
-use no_file::NoFile;
 use pgs_base::{Memory, Words};
 use pgs_run_follow::FollowStatus;
+use pgs_world_files::{StoreFile, SystemFile};
 use pgs_world_streams::{Cause, StandardNumbers};
 use program::run_program;
 use std::alloc::Global;
@@ -69,7 +68,12 @@ fn words_of(alloc: Global, arguments: io::Result<Args>) -> Result<Words, Memory>
 
 // Runs words over the standard streams, tells why they ended so, and gives the status.
 fn run_and_tell(rt: &HostRuntime, words: &Words, numbers: &StandardNumbers) -> FollowStatus {
-    let ran = run_program::<NoFile, Stdin, Stdout>(rt.alloc(), words, rt.stdin(), rt.stdout());
+    let ran = run_program::<StoreFile<SystemFile<'_, HostRuntime>>, Stdin, Stdout>(
+        rt.alloc(),
+        words,
+        rt.stdin(),
+        rt.stdout(),
+    );
     let mut causes = ran.causes();
     if numbers.input_was_closed() {
         causes.source = Some(Cause::NotOpen);
