@@ -1,12 +1,12 @@
 #!/usr/bin/env bash
 # Times a follower of a feed beside the reading of its lines alone (`read_commit`): a feed of COUNT commits that each add a node; one that adds
-# COUNT edges among a fourth as many nodes, and then detaches these; and one of COUNT lines of commit 1, all but the first of which are passed
-# over. For each it says how often the time of reading the time of following is, without the dump. The plain graph is built anew by each
-# change, so twice as many commits take about four times as long. It makes a small program over pgs_follow in a folder of its own, and builds
-# it, proving what is below where no check has kept it.
-# Usage: bench/follow.sh [COUNT], 5,000 where none is given
+# COUNT edges among a fourth as many nodes, and then detaches these; one that adds COUNT edges out of one node to a fourth as many; and one of
+# COUNT lines of commit 1, all but the first of which are passed over. For each it says how often the time of reading the time of following
+# is, without the dump. A change of the plain graph costs what it touches, so twice as many commits take little more than twice as long. It
+# makes a small program over pgs_follow in a folder of its own, and builds it, proving what is below where no check has kept it.
+# Usage: bench/follow.sh [COUNT], 200,000 where none is given
 source "$(dirname "$(readlink -f "${BASH_SOURCE[0]}")")/common.bash"
-count=${1:-5000}
+count=${1:-200000}
 take pgs_base pgs_json pgs_follow
 echo 'feeding: pgs_base pgs_json pgs_follow' >>"$work/crates.txt"
 mkdir -p "$work/crates/feeding/src"
@@ -31,32 +31,32 @@ fn fourth(count: u64) -> u64 {
     count.checked_div(4).unwrap_or(0).max(1)
 }
 
-// An edge among so many nodes.
-fn edge(alloc: Global, number: u64, nodes: u64) -> Result<String, AllocError> {
-    let from = number.checked_rem(nodes).unwrap_or(0).saturating_add(1);
+// An edge among so many nodes; of the hub it goes out of the first.
+fn edge(alloc: Global, feed: &str, number: u64, nodes: u64) -> Result<String, AllocError> {
+    let from = if feed == "hub" { 1 } else { number.checked_rem(nodes).unwrap_or(0).saturating_add(1) };
     let to = number.saturating_mul(7).checked_rem(nodes).unwrap_or(0).saturating_add(1);
     format!(in alloc; "{{\"add_edge\":{number},\"from\":{from},\"labels\":[\"knows\"],\"props\":{{}},\"to\":{to}}}")
 }
 
 // The operation of a commit, from 1, of nodes, edges among them, and detaches.
-fn detaching(alloc: Global, number: u64, count: u64) -> Result<String, AllocError> {
+fn detaching(alloc: Global, feed: &str, number: u64, count: u64) -> Result<String, AllocError> {
     let nodes = fourth(count);
     if number <= nodes {
         return addition(alloc, number);
     }
     let place = number.saturating_sub(nodes);
     if place <= count {
-        return edge(alloc, place, nodes);
+        return edge(alloc, feed, place, nodes);
     }
     let node = place.saturating_sub(count);
     format!(in alloc; "{{\"detach_node\":{node}}}")
 }
 
 fn operation(alloc: Global, feed: &str, number: u64, count: u64) -> Result<String, AllocError> {
-    if feed == "detaches" {
-        detaching(alloc, number, count)
-    } else {
+    if feed == "commits" || feed == "repeats" {
         addition(alloc, number)
+    } else {
+        detaching(alloc, feed, number, count)
     }
 }
 
@@ -71,6 +71,8 @@ fn line(alloc: Global, feed: &str, number: u64, count: u64) -> Result<String, Al
 fn total(feed: &str, count: u64) -> u64 {
     if feed == "detaches" {
         count.saturating_add(fourth(count).saturating_mul(2))
+    } else if feed == "hub" {
+        count.saturating_add(fourth(count))
     } else {
         count
     }
@@ -149,7 +151,7 @@ fn main(rt: HostRuntime) -> ExitCode {
 }
 E
 build feeding commits make 1
-for feed in commits detaches repeats; do
+for feed in commits detaches hub repeats; do
   made=$(milliseconds "$built" "$feed" make "$count")
   read=$(milliseconds "$built" "$feed" read "$count")
   followed=$(milliseconds "$built" "$feed" follow "$count")

@@ -1,6 +1,6 @@
 #!/usr/bin/env bash
 # Takes a store on real files through its life: load, apply with mistakes among the lines, recover, validate of what recover printed, explain,
-# checkpoint, apply again; the last epoch, and other bytes beside a store; closed streams, locks, missing rights, a full disk, files of
+# checkpoint, apply again; a store of the first format, and another schema over a store; the last epoch, and other bytes beside a store; closed streams, locks, missing rights, a full disk, files of
 # something else, a file that is taken away, feeds; the order of syncs, where strace is there; then a run that is killed in the middle, and
 # one that goes on behind it. Compares what is printed and each exit status. Ends with 1 where one differs.
 # Usage: examples/store.sh; with PGGUARD=FILE in the environment that executable is run.
@@ -90,6 +90,42 @@ runs "recover beside another program's bytes" 0 one.txt nothing recover open
 runs "checkpoint over another program's bytes" 0 renewed.txt nothing checkpoint open
 runs "recover after that checkpoint" 0 one.txt nothing recover open
 
+# A store of the first format, as an earlier program wrote it: it is read, goes on in its own form, has no place for another schema, and is moved over by a
+# checkpoint. Of an area of a later program the older one beside it is read, and both together are another program's.
+printf 'store refused 41 format 1, make a checkpoint first\n' >old_format.txt
+printf '1 committed 10\n' >tenth.txt
+printf 'checkpoint epoch=2 commits=10\n' >moved.txt
+printf 'evolved types=9 keys=3\n' >evolved.txt
+printf 'evolve refused 25 node n2 fits no type\n' >violated.txt
+printf "store refused 32 another program's file\n" >others.txt
+printf '{"ops":[{"set_node":2,"key":"name","value":"Rob"}]}\n' >rename.txt
+sed 's/"set_node":2,"value":"Bob"/"set_node":2,"value":"Rob"/' "$here/store/dump.txt" >renamed.txt
+sed 's/OPTIONAL born DATE/OPTIONAL born DATE, OPTIONAL phone STRING/' "$here/store/schema.txt" >phone.txt
+sed "s/mail STRING/mail STRING, desk INT/" "$here/store/schema.txt" >desk.txt
+cp "$here/store/format_1.a" old.a
+: >old.b
+runs "recover of format 1" 0 "$here/store/dump.txt" nothing recover old
+runs "evolve of format 1" 4 old_format.txt phone.txt evolve old
+runs "apply to format 1" 0 tenth.txt rename.txt apply old
+holds "format 1 goes on as format 1" eval '[ "$(head -c 8 old.a | tail -c 7)" = PGSGRD1 ] && [ ! -s old.b ]'
+runs "recover of what goes on" 0 renamed.txt nothing recover old
+runs "checkpoint of format 1" 0 moved.txt nothing checkpoint old
+holds "a checkpoint is of format 2" eval '[ "$(head -c 8 old.b | tail -c 7)" = PGSGRD2 ]'
+runs "recover of what was moved" 0 renamed.txt nothing recover old
+runs "evolve to what doesn't conform" 1 violated.txt desk.txt evolve old
+runs "recover after a refused evolve" 0 renamed.txt nothing recover old
+runs "evolve" 0 evolved.txt phone.txt evolve old
+"$program" recover old >phone_dump.txt
+holds "the new schema is stored" eval '[ "$(sed "/^---$/,\$d" phone_dump.txt)" = "$(cat phone.txt)" ] && cmp -s <(sed -n "/^---$/,\$p" renamed.txt) <(sed -n "/^---$/,\$p" phone_dump.txt)'
+cp old.a late.a
+{ printf '\001PGSGRD9\000\000\000\000\000\000\000\011'; tail -c +17 old.b; } >late.b
+runs "recover beside a later format" 0 renamed.txt nothing recover late
+runs "checkpoint over a later format" 0 moved.txt nothing checkpoint late
+cp late.b late.a
+printf 'PGSGRD9' | dd of=late.a bs=1 seek=1 conv=notrunc 2>/dev/null
+cp late.a late.b
+runs "both of a later format" 4 others.txt nothing recover late
+
 # What the system makes of a run: `ends NAME STATUS LINE COMMAND..` runs a command of the shell, and compares its status and its line on
 # standard error, without the program's name.
 ends() {
@@ -120,13 +156,18 @@ fresh after
 "$program" recover after >before_dump.txt
 "$program" apply after <line.txt >after.txt
 "$program" recover after >after_dump.txt
+{ cat kept_schema.txt; printf '\n---\n'; cat kept_schema.txt; } >two_schemas.txt
+printf 'CREATE GRAPH TYPE g LOOSE {};' >loose_schema.txt
+fresh loose
+"$program" evolve loose <loose_schema.txt >loose.txt
+"$program" recover loose >loose_dump.txt
 "$program" load whole <kept_schema.txt >whole.txt
 "$program" recover whole >whole_dump.txt
 
 # The words of each command, and its input.
 words() {
   case $1 in
-    try | validate) echo "$1" ;;
+    try | validate | contain) echo "$1" ;;
     load) echo "load made" ;;
     explain) echo "explain closed n1" ;;
     gen) echo "gen 5 6" ;;
@@ -136,7 +177,9 @@ words() {
 input() {
   case $1 in
     try | validate) echo "$here/fraud/input.txt" ;;
+    contain) echo two_schemas.txt ;;
     load) echo kept_schema.txt ;;
+    evolve) echo loose_schema.txt ;;
     *) echo line.txt ;;
   esac
 }
@@ -148,6 +191,7 @@ stands() {
     load) dump=whole_dump.txt && { [ ! -s made.a ] && [ ! -s made.b ] || "$program" recover made 2>&1 | cmp -s - "$dump"; } ;;
     apply) "$program" recover closed >now.txt && { cmp -s now.txt before_dump.txt || cmp -s now.txt after_dump.txt; } ;;
     checkpoint) "$program" recover closed | cmp -s - before_dump.txt ;;
+    evolve) "$program" recover closed >now.txt && { cmp -s now.txt before_dump.txt || cmp -s now.txt loose_dump.txt; } ;;
     *) cmp -s closed.a kept.a && cmp -s closed.b kept.b ;;
   esac
 }
@@ -172,13 +216,13 @@ closed() {
   status=$?
   case "$command $streams" in
     *' 2') holds "$command with $streams closed" eval '[ "$status" = "$wanted" ] && cmp -s found.txt wanted.txt && stands "$command"' ;;
-    'try <'* | 'validate <'* | 'load <'* | 'apply <'*) holds "$command with $streams closed" eval '[ "$status" = 6 ] && stands "$command"' ;;
+    'try <'* | 'validate <'* | 'contain <'* | 'load <'* | 'apply <'* | 'evolve <'*) holds "$command with $streams closed" eval '[ "$status" = 6 ] && stands "$command"' ;;
     *' <') holds "$command with $streams closed" eval '[ "$status" = "$wanted" ] && cmp -s found.txt wanted.txt && stands "$command"' ;;
     'validate '*) holds "$command with $streams closed" eval '[ "$status" = 7 ] || [ ! -s wanted.txt ]' ;;
     *) holds "$command with $streams closed" eval '[ "$status" = 7 ] && stands "$command"' ;;
   esac
 }
-for command in try validate load apply recover explain gen checkpoint; do
+for command in try validate contain load apply recover explain gen checkpoint evolve; do
   for streams in '<' '>' '2' '<>2'; do
     closed "$command" "$streams"
   done

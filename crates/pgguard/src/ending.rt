@@ -19,6 +19,8 @@ const USAGE: &str = "usage:
   pgguard explain NAME ELEM              prints types and key values of an element, n1 or e1
   pgguard gen START COUNT                decides so many transactions that are made from a number
   pgguard checkpoint NAME                writes the store whole into its other file
+  pgguard evolve NAME < SCHEMA           puts the store under another schema, where its graph conforms to it
+  pgguard contain < SCHEMAS              tells whether each type of a schema is contained in a second one, behind a line ---
 docs/GUIDE.md teaches all of them, docs/FORMATS.md has every printed text
 ";
 

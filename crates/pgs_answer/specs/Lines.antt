@@ -31,6 +31,12 @@ violation_line text = codes "violation " ++ (text ++ codes "\n")
 abbrev pub loaded_line : ℕ → ℕ → List ℕ
 loaded_line types keys = codes "loaded types=" ++ (decimal types ++ (codes " keys=" ++ (decimal keys ++ codes "\n")))
 
+abbrev pub evolved_line : ℕ → ℕ → List ℕ
+evolved_line types keys = codes "evolved types=" ++ (decimal types ++ (codes " keys=" ++ (decimal keys ++ codes "\n")))
+
+abbrev pub evolve_refused_line : List ℕ → List ℕ
+evolve_refused_line text = codes "evolve refused " ++ (text ++ codes "\n")
+
 abbrev pub feeds_lost_line : ℕ → List ℕ
 feeds_lost_line lost = codes "feeds lost=" ++ (decimal lost ++ codes "\n")
 

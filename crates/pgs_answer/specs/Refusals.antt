@@ -120,3 +120,6 @@ bad_history_text number rejection limits = codes "34 record " ++ (decimal number
 
 abbrev pub epochs_spent_text : List ℕ
 epochs_spent_text = codes "37 no epoch is left"
+
+abbrev pub old_format_text : List ℕ
+old_format_text = codes "41 format 1, make a checkpoint first"

@@ -21,8 +21,9 @@ pub use rejection_texts::{
     line_too_long_text, rejection_text, structural_text, unreadable_text, violation_text,
 };
 pub use run_lines::{
-    checkpoint_line, committed_line, feeds_lost_line, gen_line, loaded_line, refused_line,
-    schema_refused_line, store_refused_line, violation_line, words_refused_line,
+    checkpoint_line, committed_line, evolve_refused_line, evolved_line, feeds_lost_line, gen_line,
+    loaded_line, refused_line, schema_refused_line, store_refused_line, violation_line,
+    words_refused_line,
 };
 pub use schema_texts::{
     bad_key_text, cycle_text, duplicate_text, kind_text, lex_text, no_graph_type_text, syntax_text,
@@ -30,6 +31,6 @@ pub use schema_texts::{
 };
 pub use store_texts::{
     already_store_text, bad_history_text, bad_record_text, epochs_spent_text, foreign_text,
-    no_store_text,
+    no_store_text, old_format_text,
 };
 pub use txn_lines::{feed_line, txn_line};

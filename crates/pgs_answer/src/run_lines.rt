@@ -1,5 +1,5 @@
 ghost use Rattle.std.specs.Prelude.{◌≡◌, ◌++◌, decimal, IfOk, OnOk};
-ghost use Rattle.pgs_answer.specs.Lines.{schema_refused_line, store_refused_line, words_refused_line, committed_line, refused_line, violation_line, loaded_line, feeds_lost_line, graph_counts, gen_line, checkpoint_line};
+ghost use Rattle.pgs_answer.specs.Lines.{schema_refused_line, store_refused_line, words_refused_line, committed_line, refused_line, violation_line, loaded_line, evolved_line, evolve_refused_line, feeds_lost_line, graph_counts, gen_line, checkpoint_line};
 
 use pgs_base::{Bytes, Memory};
 use pgs_base_text::TextBuffer;
@@ -91,6 +91,28 @@ pub fn loaded_line(alloc: Global, types: u64, keys: u64) -> Result<Bytes, Memory
     let mut line = TextBuffer::with_room(alloc, ROOM)?;
     push_count(&mut line, b"loaded types=", types)?;
     push_count(&mut line, b" keys=", keys)?;
+    line.push(b"\n")?;
+    Ok(line.into_bytes())
+}
+
+/// The line of a store under another schema: how many types and keys its guard has.
+pub fn evolved_line(alloc: Global, types: u64, keys: u64) -> Result<Bytes, Memory>
+    ensures { IfOk result (λ line. line ≡ evolved_line types keys) }
+{
+    let mut line = TextBuffer::with_room(alloc, ROOM)?;
+    push_count(&mut line, b"evolved types=", types)?;
+    push_count(&mut line, b" keys=", keys)?;
+    line.push(b"\n")?;
+    Ok(line.into_bytes())
+}
+
+/// The line of a schema that is refused for a violation of the graph.
+pub fn evolve_refused_line(alloc: Global, text: &[u8]) -> Result<Bytes, Memory>
+    ensures { IfOk result (λ line. line ≡ evolve_refused_line text.now) }
+{
+    let mut line = TextBuffer::with_room(alloc, text.len().saturating_add(ROOM))?;
+    line.push(b"evolve refused ")?;
+    line.push(text)?;
     line.push(b"\n")?;
     Ok(line.into_bytes())
 }

@@ -1,5 +1,5 @@
 ghost use Rattle.std.specs.Prelude.{◌≡◌, IfOk};
-ghost use Rattle.pgs_answer.specs.Refusals.{no_store_text, already_store_text, foreign_text, bad_record_text, bad_history_text, epochs_spent_text};
+ghost use Rattle.pgs_answer.specs.Refusals.{no_store_text, already_store_text, foreign_text, bad_record_text, bad_history_text, epochs_spent_text, old_format_text};
 
 use crate::rejection_texts::push_rejection;
 use pgs_base::{Bytes, Limits, Memory};
@@ -64,4 +64,11 @@ pub fn epochs_spent_text(alloc: Global) -> Result<Bytes, Memory>
     ensures { IfOk result (λ text. text ≡ epochs_spent_text) }
 {
     Bytes::from_slice(alloc, b"37 no epoch is left")
+}
+
+/// Refusal 41: the store is of the first format, which has no later schemas.
+pub fn old_format_text(alloc: Global) -> Result<Bytes, Memory>
+    ensures { IfOk result (λ text. text ≡ old_format_text) }
+{
+    Bytes::from_slice(alloc, b"41 format 1, make a checkpoint first")
 }

@@ -1,5 +1,5 @@
 -- The table of owners after a tuple, and after the first tuples of a row.
-use Rattle.std.proofs.Common.{◌≡◌, ℕ, ◌+◌, ◌<◌, Bool, true, false, cond, List, [], ◌∷◌, ◌++◌, take, get_or, length, Option, Some, refl, sym, ap, ◌∙◌, subst}
+use Rattle.std.proofs.Common.{◌≡◌, ℕ, ◌+◌, ◌<◌, Bool, true, false, cond, List, [], ◌∷◌, ◌++◌, take, get_or, length, Option, Some, None, refl, sym, ap, ◌∙◌, subst, arith}
 use Rattle.std.specs.Prelude.{◌||◌}
 use Rattle.std.specs.Borrow.{Bor}
 use Rattle.std.specs.BTreeMap as tree
@@ -9,9 +9,13 @@ use Rattle.std.specs.Map.{lookup, KeepsOthers, IsKeyTest, AreApart}
 use Rattle.std.specs.List.{list_any}
 use Rattle.std.proofs.lemmas.List.{take_more}
 use Rattle.std.proofs.lemmas.List.Folds.{list_any-append}
+use Rattle.pgs_base.specs.declared.element.Elem.{Elem}
 use Rattle.pgs_base.specs.declared.part.Part.{Part}
 use Rattle.pgs_base.specs.Order.{tuple_cmp}
 use Rattle.pgs_base.specs.OrderLaws.{tuple_cmp_total, exact_tuple}
+use Rattle.pgs_violation.specs.declared.violation.Violation.{Violation}
+use Rattle.pgs_keyindex.specs.declared.change.KeyChange.{KeyChange}
+use Rattle.pgs_check.specs.Clashes.{tuples_of, with_holders, with_earlier}
 
 same_tuple : (a b : List Part) → is_at (tuple_cmp a) b ≡ true → a ≡ b
 same_tuple a b h = exact_tuple a b ((Equal-is (tuple_cmp a b)).0 h)
@@ -59,3 +63,14 @@ module _ {X : Type 0} (items tuples : List (List Part)) (same : items ≡ tuples
       one_entered t m n w put q ∙ ap (cond (p t) (Some w)) (so_far q) ∙ nested (list_any p (take i tuples)) (p t) (Some w) (at start q)
       ∙ ap (λ b. cond b (Some w) (at start q))
       (ap (λ b. list_any p (take i tuples) || b) (sym (or_false (p t))) ∙ sym (list_any-append p (take i tuples) (t ∷ [])) ∙ ap (list_any p) (sym longer))
+
+-- ---- what a row alone makes with those before it
+
+none_held : (number : ℕ) (elem : Elem) (found : Option Violation) (tuples : List (List Part)) → with_holders number (λ tuple. None) elem found tuples ≡ found
+none_held number elem found [] = refl
+none_held number elem found (tuple ∷ tuples) = none_held number elem found tuples
+
+pub alone_earlier : (number : ℕ) (found : Option Violation) (rows : List KeyChange) → length rows < 2 → with_earlier number (λ tuple. None) found rows ≡ found
+alone_earlier number found [] few = refl
+alone_earlier number found (row ∷ []) few = none_held number row.elem found (tuples_of row)
+alone_earlier number found (row ∷ other ∷ rows) few = absurd (omega arith)

@@ -20,6 +20,11 @@ use Rattle.pgs_check.specs.Rows.{change_of}
 use Rattle.pgs_check.specs.declared.checking.CheckFault.{CheckFault}
 use Rattle.pgs_check.specs.declared.checking.CheckFault.TheVariants.{Memory, Violated}
 
+-- a violation that is answered is the one that was found
+abbrev pub IsFound : Option Violation → CheckFault → Type 0
+IsFound found Memory = Unit {0}
+IsFound found (Violated violation) = found ≡ Some violation
+
 -- a violation that is answered is the first of a list
 abbrev pub IsFirstOf : List Violation → CheckFault → Type 0
 IsFirstOf list Memory = Unit {0}

@@ -19,7 +19,7 @@ ghost use Rattle.pgs_keyindex.specs.Standing.{StandsFor, key_at, values_in_scope
 ghost use Rattle.pgs_check.specs.Clashes.{IsOwner, tuples_of};
 ghost use Rattle.pgs_check.specs.Costs.{HaveEdgesWithin};
 ghost use Rattle.pgs_check.specs.Rows.{first_outside, first_shared, first_several, first_of_rows, change_of};
-ghost use Rattle.pgs_check.specs.Standing.{IsFirst, IsFirstOf, AreRows, AreChanges, ChangeEachOnce, index_changed};
+ghost use Rattle.pgs_check.specs.Standing.{IsFirst, IsFirstOf, IsFound, AreRows, AreChanges, ChangeEachOnce, index_changed};
 
 use crate::check_types;
 use crate::key_rows::key_rows;
@@ -172,8 +172,37 @@ fn first_of_changed<L: Ledger>(
     first_of_rows(alloc, &owners, asked, rows, steps)
 }
 
-// The rows of one key, of this number, where the changed graph doesn't violate it.
-fn check_key<L: Ledger>(
+// The rows of the changed elements, where they make no violation of the key.
+fn kept_rows<L: Ledger>(
+    alloc: Global,
+    index: &KeyIndex,
+    number: u32,
+    key: &PlannedKey,
+    changed: &[Elem],
+    rows: Vec<KeyChange>,
+    steps: &mut Steps<L>,
+) -> Result<Vec<KeyChange>, CheckFault>
+    requires exclusive { key.now.qualifiers.exclusive ≡ true → is_exclusive index.now.exclusive number ≡ true }
+    requires ascending { ascends elem_cmp changed.now ≡ true }
+    ensures violated { (owner : Items Part → Option Elem) →
+        (key.now.qualifiers.exclusive ≡ true → IsOwner index.now.rows number changed.now owner) →
+        IfErr result (IsFound (first_of_rows key.now.qualifiers number owner rows.items)) }
+    ensures none { (owner : Items Part → Option Elem) →
+        (key.now.qualifiers.exclusive ≡ true → IsOwner index.now.rows number changed.now owner) →
+        OnOk result (first_of_rows key.now.qualifiers number owner rows.items ≡ None) }
+    ensures kept { IfOk result (λ kept. kept.items ≡ rows.items) }
+    ensures no_step_back { steps.old ≤ steps.new }
+    ensures cost { steps.new ≤ steps.old + sum_by (λ row. length (tuples_of row)) rows.items }
+{
+    let found = first_of_changed(alloc, index, number, key, changed, rows.as_slice(), steps)?;
+    match found {
+        Some(violation) => Err(CheckFault::Violated(violation)),
+        None => Ok(rows),
+    }
+}
+
+// The rows of one key, of this number, from the elements that the change affects, where the changed graph doesn't violate it.
+fn check_affected<L: Ledger>(
     alloc: Global,
     index: &KeyIndex,
     compiled: &Compiled,
@@ -203,10 +232,42 @@ fn check_key<L: Ledger>(
     let changed = change.affected(alloc, compiled, key, steps)?;
     let elems = changed.as_slice();
     let rows = key_rows(alloc, new, compiled, number, key, elems, steps)?;
-    let found = first_of_changed(alloc, index, number, key, elems, rows.as_slice(), steps)?;
-    match found {
-        Some(violation) => Err(CheckFault::Violated(violation)),
-        None => Ok(rows),
+    kept_rows(alloc, index, number, key, elems, rows, steps)
+}
+
+// The rows of one key, of this number, where the changed graph doesn't violate it. No list is made where the change can't alter anything
+// under the key.
+fn check_key<L: Ledger>(
+    alloc: Global,
+    index: &KeyIndex,
+    compiled: &Compiled,
+    number: u32,
+    key: &PlannedKey,
+    change: &Change<'_>,
+    new: &Overlay<'_>,
+    steps: &mut Steps<L>,
+) -> Result<Vec<KeyChange>, CheckFault>
+    requires typed { is_valid_key_of compiled.now key.now ≡ true }
+    requires number { key_at compiled.now.guard.keys number ≡ Some key.now }
+    requires before { is_graph change.now.before ≡ true }
+    requires after { new.now ≡ change.now.after }
+    requires index { StandsFor compiled.now change.now.before compiled.now.guard.keys index.now }
+    requires conforms { key_violations compiled.now change.now.before number key.now ≡ [] }
+    ensures violated { IfErr result (IsFirstOf (key_violations compiled.now new.now number key.now)) }
+    ensures none { OnOk result (key_violations compiled.now new.now number key.now ≡ []) }
+    ensures rows { IfOk result (λ rows. AreRows number (values_in_scope compiled.now change.now.before key.now)
+        (values_in_scope compiled.now new.now key.now) rows.items) }
+    ensures no_step_back { steps.old ≤ steps.new }
+    ensures cost { (edges most : ℕ) → most_edges key.now ≤ edges →
+        AreSparse change.now.before change.now.after (2 * edges) (touched change.now.before change.now.elems) most →
+        steps.new ≤ steps.old + 2048 * length (touched change.now.before change.now.elems) * (most + 2) ^ (2 * edges + 2) }
+{
+    if change.can_alter(compiled, key) {
+        check_affected(alloc, index, compiled, number, key, change, new, steps)
+    } else {
+        // The count's clause says that what is read is a graph.
+        new.count();
+        Ok(Vec::new(alloc))
     }
 }
 

@@ -136,6 +136,10 @@ impl<'a> Owners<'a> {
         ensures cost { steps.new ≤ steps.old + sum_by (λ row. length (tuples_of row)) rows.now }
     {
         let found = self.with_owners(alloc, rows, steps)?;
+        // A row alone has none before it.
+        if rows.len() < 2 {
+            return Ok(found);
+        }
         with_earlier(alloc, self.number, found, rows)
     }
 }

@@ -55,7 +55,7 @@ contains_it xs x some =
 pub has_it : (xs : List Elem) (x : Elem) → Contains xs x → is_one_of xs x ≡ true
 has_it xs x it = list_any_at (same_elem x) xs it.0 x it.1 (ap (same_elem x) it.2 ∙ itself x)
 
-any_slice : (test : Elem → Bool) (xs : List Elem) → list_any test xs ≡ true → (var : ℕ) × (x : Elem) × (slice_get xs var ≡ Some x) × (test x ≡ true) × (var < length xs)
+pub any_slice : (test : Elem → Bool) (xs : List Elem) → list_any test xs ≡ true → (var : ℕ) × (x : Elem) × (slice_get xs var ≡ Some x) × (test x ≡ true) × (var < length xs)
 any_slice test [] some = absurd (true≢false (sym some))
 any_slice test (x ∷ xs) some =
     ⊎_elim (λ here. (0, x, refl, here, omega arith))
@@ -139,7 +139,7 @@ module _ (resolved : Resolved) (g : Graph) (pattern : Pattern) where
       by true first form = or_right _ _ (subst (λ e. list_any (same_elem e) (elements g true) ≡ true) (sym form.2) (edge_there g form.0 form.1 form.3))
       by false first form = or_left _ _ (subst (λ e. list_any (same_elem e) (elements g false) ≡ true) (sym form.2) (node_there g form.0 form.1 form.3))
 
-  stands_itself : (var : ℕ) (elem : Elem) (elems : List Elem) → slice_get elems var ≡ Some elem → stands_at var elem elems ≡ true
+  pub stands_itself : (var : ℕ) (elem : Elem) (elems : List Elem) → slice_get elems var ≡ Some elem → stands_at var elem elems ≡ true
   stands_itself var elem elems at = ap (λ o. option_map_or (same_elem elem) o false) at ∙ itself elem
 
   reached_has : (var : ℕ) (elem first : Elem) (elems : List Elem) → is_match resolved g pattern elems ≡ true → slice_get elems var ≡ Some elem → slice_get elems 0 ≡ Some first →

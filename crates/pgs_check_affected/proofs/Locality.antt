@@ -205,7 +205,7 @@ module _ (touched : Elem → Bool) (g h : Graph) (agree : AgreeBut touched g h) 
         by true c is h = h
         by false c is h = absurd (true≢false (sym is))
 
-    untouched_ends : (var : ℕ) (id : EdgeId) (row : EdgeRow) → is_edge_var pattern.edge_vars var ≡ true →
+    pub untouched_ends : (var : ℕ) (id : EdgeId) (row : EdgeRow) → is_edge_var pattern.edge_vars var ≡ true →
         slice_get elems var ≡ Some (Edge id) → edge_at g id ≡ Some row → UntouchedEnds row
     untouched_ends var id row kind at row_at = ⊎_elim (λ one. alone var id row kind one at row_at) from_atoms
         (or_cases (length pattern.edge_vars == 1)
@@ -296,7 +296,7 @@ match_same resolved touched g h agree pattern valid elems out =
 
 module _ (resolved : Resolved) (touched : Elem → Bool) (g h : Graph) (agree : AgreeBut touched g h) (elem : Elem) where
   -- a match that starts at an element at which no match binds a touched one
-  free : (pattern : Pattern) → binds_touched resolved touched g pattern elem ≡ false → (elems : List Elem) → is_match resolved g pattern elems ≡ true → starts_at elem elems ≡ true →
+  pub free : (pattern : Pattern) → binds_touched resolved touched g pattern elem ≡ false → (elems : List Elem) → is_match resolved g pattern elems ≡ true → starts_at elem elems ≡ true →
       list_any (may_differ touched g pattern) elems ≡ false
   free pattern none elems match starts =
       false_from_ne_true _ (λ some. both_ways _ none

@@ -1,5 +1,6 @@
 pub mod Changes
 pub mod Found
 pub mod Local
+pub mod Met
 pub mod Touched
 pub mod Samples

@@ -1,5 +1,5 @@
 -- When two graphs agree but for some elements, and which elements of a match can make it differ between them.
-use Rattle.std.specs.Prelude.{◌≡◌, Bool, false, ◌&&◌, ◌||◌, ◌==◌, List, length}
+use Rattle.std.specs.Prelude.{◌≡◌, ◌⊎◌, Bool, false, ◌&&◌, ◌||◌, ◌==◌, List, length}
 use Rattle.std.specs.Option.{option_map_or}
 use Rattle.std.specs.List.{list_any}
 use Rattle.pgs_base.specs.declared.element.NodeId.{NodeId}
@@ -48,3 +48,8 @@ binds_touched resolved touched g pattern elem =
 pub record HasOneRow (resolved : Resolved) (g h : Graph) (key : Key) (elem : Elem) : Type 0 where
   pub place : is_in_scope resolved g key elem ≡ is_in_scope resolved h key elem
   pub values : key_values resolved g key elem ≡ key_values resolved h key elem
+
+-- an element is outside the scope of a key in both graphs, or has one place in it and one set of key values in both
+abbrev pub IsAlike : Resolved → Graph → Graph → Key → Elem → Type 0
+IsAlike resolved g h key elem =
+    ((is_in_scope resolved g key elem ≡ false) × (is_in_scope resolved h key elem ≡ false)) ⊎ HasOneRow resolved g h key elem

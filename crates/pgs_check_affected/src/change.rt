@@ -3,17 +3,19 @@
 ghost use Rattle.std.specs.Prelude.{◌≡◌, ◌+◌, ◌*◌, ◌^◌, ◌≤◌, ◌++◌, ℕ, true, false, List as Items, length, map, IfOk, OnOk};
 ghost use Rattle.std.specs.List.{All};
 ghost use Rattle.std.specs.Map.{keys_of};
+ghost use Rattle.pgs_base.specs.declared.element.Elem.{Elem};
 ghost use Rattle.pgs_base.specs.Order.{ascends, elem_cmp};
 ghost use Rattle.pgs_graph.specs.Changed.{changed, is_sound};
 ghost use Rattle.pgs_syntax.specs.Matches.{carried};
 ghost use Rattle.pgs_syntax.specs.Valid.{is_valid_key_of};
 ghost use Rattle.pgs_match.specs.Planned.{most_edges};
 ghost use Rattle.pgs_check_affected.specs.Changes.{elems_of, known_in};
-ghost use Rattle.pgs_check_affected.specs.Local.{is_one_of, HasOneRow};
+ghost use Rattle.pgs_check_affected.specs.Local.{is_one_of, HasOneRow, IsAlike};
 ghost use Rattle.pgs_check_affected.specs.Touched.{touched, AreSparse, IsSparseInBoth, AreSparseInBoth};
 
 use crate::Known;
 use crate::gathering::{found_by_all, in_order};
+use crate::meeting::can_meet;
 use pgs_base::{EdgeId, EdgeRow, Elem, List, Memory, NodeId, NodeRow, Steps};
 use pgs_conform::{Compiled, Pair};
 use pgs_graph::{Delta, GraphRead};
@@ -171,6 +173,16 @@ impl<'a> Change<'a> {
             after,
             known: List::from_vec(known),
         })
+    }
+
+    /// Whether the change can alter a place in a key's scope, or the key values of an element there. Where it can't, each element is
+    /// outside the scope in both graphs, or has the same place and the same key values in both. The key's types are those of the schema.
+    /// It compares the rows of the change's elements with what the patterns ask of their variables, and takes no look-up and no memory.
+    pub fn can_alter(&self, compiled: &Compiled, key: &PlannedKey) -> bool
+        requires { is_valid_key_of compiled.now key.now ≡ true }
+        ensures { result ≡ false → (elem : Elem) → IsAlike compiled.now self.now.before self.now.after key.now elem }
+    {
+        can_meet(self.known.as_slice(), compiled, key)
     }
 
     /// The elements whose place in a key's scope or whose key values the change may alter, ascending and each once: every other element

@@ -126,17 +126,17 @@ fn add_edges_at_both<G: GraphRead, H: GraphRead, L: Ledger>(
     Ok(())
 }
 
-// A pattern of a key whose types are those of a schema.
+/// A pattern of a key whose types are those of a schema.
 #[derive(Clone, Copy)]
-struct Sought<'a> {
-    compiled: &'a Compiled,
-    key: &'a PlannedKey,
-    side: Side,
+pub(crate) struct Sought<'a> {
+    pub(crate) compiled: &'a Compiled,
+    pub(crate) key: &'a PlannedKey,
+    pub(crate) side: Side,
 }
 
 impl<'a> Sought<'a> {
-    // Whether an element's own row passes what the pattern asks of a variable. It takes no look-up.
-    fn passes(&self, var: u32, elem: Elem, own: &Option<Pair<'_>>) -> bool
+    /// Whether an element's own row passes what the pattern asks of a variable. It takes no look-up.
+    pub(crate) fn passes(&self, var: u32, elem: Elem, own: &Option<Pair<'_>>) -> bool
         requires { is_valid_key_of self.now.compiled.now self.now.key.now ≡ true }
         ensures { result ≡ option_map_or (own_passes self.now.compiled.now (pattern_of self.now.side self.now.key.now) var elem) own.now false }
     {
@@ -266,8 +266,8 @@ impl<'a> Sought<'a> {
     }
 }
 
-// Whether variable 0 of a pattern is an edge.
-fn is_edge(pattern: &Pattern) -> bool
+/// Whether variable 0 of a pattern is an edge.
+pub(crate) fn is_edge(pattern: &Pattern) -> bool
     ensures { result ≡ option_map_or (λ is_edge. is_edge) (slice_get pattern.now.edge_vars 0) false }
 {
     match pattern.edge_vars.at(0) {

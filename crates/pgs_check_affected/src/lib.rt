@@ -11,6 +11,7 @@ mod change;
 mod gathering;
 mod known;
 pub mod laws;
+mod meeting;
 pub mod samples;
 
 pub use affecting::affected;

@@ -38,11 +38,11 @@ ops_exact : IsExact ops_field (λ ops. ltb (length ops) (2 ^ 32) && list_all is_
 ops_exact = refit (counted_exact op_exact w32 (2 ^ 32) (2 ^ 32) four_bytes) (λ ops. ltb (length ops) (2 ^ 32) && list_all is_op ops)
     (λ ops e. below (length ops) (2 ^ 32) (list_all is_op ops) e) (λ ops e. below_again (length ops) (2 ^ 32) (list_all is_op ops) e)
 
-nodes_exact : IsExact nodes_field (λ nodes. ltb (length nodes) (2 ^ 64) && list_all is_node nodes) (counted_at w64 (2 ^ 64) node_at)
+pub nodes_exact : IsExact nodes_field (λ nodes. ltb (length nodes) (2 ^ 64) && list_all is_node nodes) (counted_at w64 (2 ^ 64) node_at)
 nodes_exact = refit (counted_exact node_exact w64 (2 ^ 64) (2 ^ 64) eight_bytes) (λ nodes. ltb (length nodes) (2 ^ 64) && list_all is_node nodes)
     (λ nodes e. below (length nodes) (2 ^ 64) (list_all is_node nodes) e) (λ nodes e. below_again (length nodes) (2 ^ 64) (list_all is_node nodes) e)
 
-edges_exact : IsExact edges_field (λ edges. ltb (length edges) (2 ^ 64) && list_all is_edge edges) (counted_at w64 (2 ^ 64) edge_at)
+pub edges_exact : IsExact edges_field (λ edges. ltb (length edges) (2 ^ 64) && list_all is_edge edges) (counted_at w64 (2 ^ 64) edge_at)
 edges_exact = refit (counted_exact edge_exact w64 (2 ^ 64) (2 ^ 64) eight_bytes) (λ edges. ltb (length edges) (2 ^ 64) && list_all is_edge edges)
     (λ edges e. below (length edges) (2 ^ 64) (list_all is_edge edges) e) (λ edges e. below_again (length edges) (2 ^ 64) (list_all is_edge edges) e)
 

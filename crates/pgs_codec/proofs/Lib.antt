@@ -7,4 +7,7 @@ pub mod Ops
 pub mod Ordering
 pub mod Sizes
 pub mod Snapshots
+pub mod SnapshotWalk
 pub mod Texts
+pub mod Walked
+pub mod Walks

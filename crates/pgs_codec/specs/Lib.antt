@@ -4,3 +4,4 @@ pub mod Payload
 pub mod Places
 pub mod Reading
 pub mod Unread
+pub mod Walking

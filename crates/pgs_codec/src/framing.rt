@@ -1,19 +1,31 @@
-ghost use Rattle.std.specs.Prelude.{◌≡◌, IfOk};
+ghost use Rattle.std.specs.Prelude.{◌≡◌, ◌++◌, IfOk, OnOk};
+ghost use Rattle.byteorder.specs.Endian.{big_bytes};
 ghost use Rattle.pgs_codec.specs.Frame.{framed};
 
 use byteorder::{BigEndian, ByteOrder};
 use pgs_base::{Bytes, List, Memory};
 use std::alloc::Global;
 
-/// A payload as it is appended to a journal: eight bytes of its length, the payload, and the closed gate of the record after it.
-/// `Memory` where there was none left.
-pub fn frame(alloc: Global, payload: &[u8]) -> Result<Bytes, Memory>
-    ensures { IfOk result (λ frame. frame ≡ framed payload.now) }
+/// Puts the eight bytes of a number last, the highest first.
+fn push_number(number: u64, out: &mut Vec<u8>) -> Result<(), Memory>
+    ensures { OnOk result (out.new.items ≡ out.old.items ++ big_bytes 8 number) }
 {
-    let mut length = [0; 8];
-    BigEndian::write_u64(&mut length, payload.len() as u64);
-    let mut frame = Vec::with_capacity(alloc, payload.len().saturating_add(9))?;
-    frame.extend_from_slice(&length)?;
+    let mut bytes = [0; 8];
+    BigEndian::write_u64(&mut bytes, number);
+    out.extend_from_slice(&bytes)?;
+    Ok(())
+}
+
+/// A payload as it is appended to a journal: the record's number where its format has one, eight bytes of the payload's length, the
+/// payload, and the closed gate of the record after it. `Memory` where there was none left.
+pub fn frame(alloc: Global, payload: &[u8], number: Option<u64>) -> Result<Bytes, Memory>
+    ensures { IfOk result (λ frame. frame ≡ framed number payload.now) }
+{
+    let mut frame = Vec::with_capacity(alloc, payload.len().saturating_add(17))?;
+    if let Some(number) = number {
+        push_number(number, &mut frame)?;
+    }
+    push_number(payload.len() as u64, &mut frame)?;
     frame.extend_from_slice(payload)?;
     frame.push(0)?;
     Ok(List::from_vec(frame))

@@ -2,7 +2,8 @@
 //!
 //! The one rule: each command has exactly one payload, and `decode` is the inverse of `encode`. The payload of a command stands field
 //! by field in `specs/Payload.antt`, what has a payload in `specs/Encodable.antt`; `decoded` in `specs/Reading.antt` reads from left
-//! to right. A layer above encodes, frames and decodes; it never looks into a payload.
+//! to right. `payload_kind` tells what `decode` would find without building it. A layer above encodes, frames and decodes; it never looks
+//! into a payload.
 #![tactic(auto)]
 
 mod command;
@@ -17,8 +18,10 @@ mod reader;
 mod row;
 mod unread;
 mod value;
+mod walking;
 
 pub use command::Command;
 pub use decoding::decode;
 pub use encoding::encode;
 pub use framing::frame;
+pub use walking::{PayloadKind, payload_kind};

@@ -1,9 +1,9 @@
 ghost use Rattle.std.specs.Prelude.{◌≡◌, ◌==◌, [], length};
 ghost use Rattle.std.specs.Int.{w16, w32, w64};
 ghost use Rattle.pgs_codec.specs.Reading.{bytes_at, byte_at, number_at};
-ghost use Rattle.pgs_codec.specs.Unread.{Reads};
+ghost use Rattle.pgs_codec.specs.Unread.{Sees};
 
-use crate::unread::Unread;
+use crate::unread::Unfit;
 
 /// The bytes of a payload that are still to be read. After an error it isn't used again.
 #[derive(Drop)]
@@ -37,11 +37,11 @@ impl<'a> Reader<'a> {
 
     /// The next bytes, so many of them.
     #[tactic(auto, unfolding(crate::specs::Reading::bytes_at))]
-    pub(crate) fn bytes(&mut self, count: usize) -> Result<&'a [u8], Unread>
-        ensures { Reads (λ taken. taken.now) result self.new.rest.now (bytes_at count self.old.rest.now) }
+    pub(crate) fn bytes(&mut self, count: usize) -> Result<&'a [u8], Unfit>
+        ensures { Sees (λ taken. taken.now) result self.new.rest.now (bytes_at count self.old.rest.now) }
     {
         if self.rest.len() < count {
-            return Err(Unread::Unfit);
+            return Err(Unfit);
         }
         let (taken, rest) = self.rest.split_at(count);
         self.rest = rest;
@@ -50,11 +50,11 @@ impl<'a> Reader<'a> {
 
     /// The next byte.
     #[tactic(auto, unfolding(crate::specs::Reading::byte_at))]
-    pub(crate) fn byte(&mut self) -> Result<u8, Unread>
-        ensures { Reads (λ byte. byte) result self.new.rest.now (byte_at self.old.rest.now) }
+    pub(crate) fn byte(&mut self) -> Result<u8, Unfit>
+        ensures { Sees (λ byte. byte) result self.new.rest.now (byte_at self.old.rest.now) }
     {
         match self.rest {
-            [] => Err(Unread::Unfit),
+            [] => Err(Unfit),
             [byte, rest @ ..] => {
                 self.rest = rest;
                 Ok(*byte)
@@ -64,8 +64,8 @@ impl<'a> Reader<'a> {
 
     /// A number of two bytes.
     #[tactic(auto, unfolding(crate::specs::Reading::number_at, crate::specs::Reading::bytes_at))]
-    pub(crate) fn number16(&mut self) -> Result<u16, Unread>
-        ensures { Reads (λ number. number) result self.new.rest.now (number_at w16 self.old.rest.now) }
+    pub(crate) fn number16(&mut self) -> Result<u16, Unfit>
+        ensures { Sees (λ number. number) result self.new.rest.now (number_at w16 self.old.rest.now) }
     {
         let taken = self.bytes(2)?;
         Ok(u16::from_be_bytes([taken[0], taken[1]]))
@@ -73,8 +73,8 @@ impl<'a> Reader<'a> {
 
     /// A number of four bytes.
     #[tactic(auto, unfolding(crate::specs::Reading::number_at, crate::specs::Reading::bytes_at))]
-    pub(crate) fn number32(&mut self) -> Result<u32, Unread>
-        ensures { Reads (λ number. number) result self.new.rest.now (number_at w32 self.old.rest.now) }
+    pub(crate) fn number32(&mut self) -> Result<u32, Unfit>
+        ensures { Sees (λ number. number) result self.new.rest.now (number_at w32 self.old.rest.now) }
     {
         let taken = self.bytes(4)?;
         Ok(u32::from_be_bytes([taken[0], taken[1], taken[2], taken[3]]))
@@ -82,8 +82,8 @@ impl<'a> Reader<'a> {
 
     /// A number of eight bytes.
     #[tactic(auto, unfolding(crate::specs::Reading::number_at, crate::specs::Reading::bytes_at))]
-    pub(crate) fn number64(&mut self) -> Result<u64, Unread>
-        ensures { Reads (λ number. number) result self.new.rest.now (number_at w64 self.old.rest.now) }
+    pub(crate) fn number64(&mut self) -> Result<u64, Unfit>
+        ensures { Sees (λ number. number) result self.new.rest.now (number_at w64 self.old.rest.now) }
     {
         let taken = self.bytes(8)?;
         Ok(u64::from_be_bytes([

@@ -1,8 +1,12 @@
 ghost use Rattle.std.specs.Prelude.{◌≡◌};
-ghost use Rattle.pgs_codec.specs.declared.unread.Unread.TheVariants.{Memory as OutOfMemory};
+ghost use Rattle.pgs_codec.specs.declared.unread.Unread.TheVariants.{Memory as OutOfMemory, Unfit as NotFit};
 
 use pgs_base::Memory;
 use std::alloc::AllocFailed;
+
+/// The bytes are not those of what is read.
+#[derive(Clone, Copy, Debug, PartialEq, Eq)]
+pub(crate) struct Unfit;
 
 /// Why nothing was read.
 #[derive(Clone, Copy, Debug, PartialEq, Eq)]
@@ -11,6 +15,14 @@ pub(crate) enum Unread {
     Memory,
     /// The bytes are not those of what is read.
     Unfit,
+}
+
+impl From<Unfit> for Unread {
+    ghost from_gives = { λ _ e. e ≡ NotFit };
+
+    fn from(_: Unfit) -> Unread {
+        Unread::Unfit
+    }
 }
 
 impl From<Memory> for Unread {

@@ -5,11 +5,11 @@ ghost use Rattle.pgs_base.specs.Value.{is_text, is_value};
 ghost use Rattle.pgs_codec.specs.Encodable.{is_date};
 ghost use Rattle.pgs_codec.specs.Payload.{name_field, text_field, day_field, value_field};
 ghost use Rattle.pgs_codec.specs.Reading.{name_at, text_at, truth_at, day_at, value_at};
-ghost use Rattle.pgs_codec.specs.Unread.{Reads};
+ghost use Rattle.pgs_codec.specs.Unread.{Reads, Sees};
 
 use crate::field::Field;
 use crate::reader::Reader;
-use crate::unread::Unread;
+use crate::unread::{Unfit, Unread};
 use pgs_base::{Day, Memory, Name, Text, Value};
 use std::alloc::Global;
 use std::str;
@@ -62,27 +62,23 @@ fn read_text(alloc: Global, reader: &mut Reader<'_>) -> Result<Text, Unread>
 }
 
 #[tactic(auto, unfolding(crate::specs::Reading::truth_at, crate::specs::Reading::tested_at))]
-fn read_truth(reader: &mut Reader<'_>) -> Result<u8, Unread>
-    ensures { Reads (λ truth. truth) result reader.new.rest.now (truth_at reader.old.rest.now) }
+pub(crate) fn read_truth(reader: &mut Reader<'_>) -> Result<u8, Unfit>
+    ensures { Sees (λ truth. truth) result reader.new.rest.now (truth_at reader.old.rest.now) }
 {
     let truth = reader.byte()?;
-    if truth <= 1 {
-        Ok(truth)
-    } else {
-        Err(Unread::Unfit)
-    }
+    if truth <= 1 { Ok(truth) } else { Err(Unfit) }
 }
 
 #[tactic(auto, unfolding(crate::specs::Reading::day_at, crate::specs::Reading::day_parts_at, crate::specs::Reading::tested_at, crate::specs::Reading::named_at, crate::specs::Reading::pair_at))]
-fn read_day(reader: &mut Reader<'_>) -> Result<Day, Unread>
-    ensures { Reads (λ day. day) result reader.new.rest.now (day_at reader.old.rest.now) }
+pub(crate) fn read_day(reader: &mut Reader<'_>) -> Result<Day, Unfit>
+    ensures { Sees (λ day. day) result reader.new.rest.now (day_at reader.old.rest.now) }
 {
     let year = reader.number16()?;
     let month = reader.byte()?;
     let day = reader.byte()?;
     match Day::new(year, month, day) {
         Some(day) => Ok(day),
-        None => Err(Unread::Unfit),
+        None => Err(Unfit),
     }
 }
 

@@ -1,4 +1,5 @@
 pub mod Framing
+pub mod Holding
 pub mod Known
 pub mod Parts
 pub mod Plain

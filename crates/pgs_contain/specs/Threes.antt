@@ -14,7 +14,7 @@ use Rattle.pgs_contain.specs.declared.triples.OwnedTriple.{OwnedTriple}
 use Rattle.pgs_contain.specs.declared.outside.OwnedPair.{OwnedPair}
 use Rattle.pgs_contain.specs.Contained.{is_plain, pair_in, triple_in}
 use Rattle.pgs_contain.specs.Frames.{Names, frame_labels, frame_keys, frame_options, may_have, options_of, is_known}
-use Rattle.pgs_contain.specs.Regions.{Point, in_region, in_some_region, IsCovered, IsLeft}
+use Rattle.pgs_contain.specs.Regions.{Point, in_region, in_some_region, lies_in, IsCovered, IsLeft}
 use Rattle.pgs_contain.specs.Rows.{plain_rows}
 
 -- the labels and the keys of three frames
@@ -74,6 +74,13 @@ three_of frames = record {
 -- the regions of frames, one after another as one
 abbrev pub region_in : Frames → List Options
 region_in frames = frames.source.region ++ (frames.middle.region ++ frames.target.region)
+
+-- whether a triple of shapes has each triple of pairs of frames: each of their regions lies within what it says of the keys
+abbrev pub has_frames : Frames → ShapeTriple → Bool
+has_frames frames shapes =
+    may_have_three shapes (three_of frames) && lies_in frames.source.region (options_of shapes.source frames.source.keys)
+    && lies_in frames.middle.region (options_of shapes.middle frames.middle.keys)
+    && lies_in frames.target.region (options_of shapes.target frames.target.keys)
 
 -- a frame is that of a shape, where keys and a further label and key are given
 abbrev pub IsFrame : Shape → Names → List ℕ → List ℕ → Frame → Type 0

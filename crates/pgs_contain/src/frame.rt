@@ -11,8 +11,9 @@ ghost use Rattle.pgs_conform.specs.declared.options.Options.{Options as KeyOptio
 ghost use Rattle.pgs_conform.specs.Shapes.{labels_meet};
 ghost use Rattle.pgs_product.specs.JoinedOptions.{options_at};
 ghost use Rattle.pgs_contain.specs.Frames.{text_alone, frame_labels, frame_keys, frame_options, options_of, may_have, in_some_of};
-ghost use Rattle.pgs_contain.specs.Regions.{Point, in_some_region};
+ghost use Rattle.pgs_contain.specs.Regions.{Point, in_some_region, lies_in};
 
+use crate::options::is_within;
 use crate::vocabulary::Vocabulary;
 use pgs_base::{Copyable, Labels, List, Memory, Name};
 use pgs_conform::{Options, Shape};
@@ -187,6 +188,28 @@ pub(crate) fn may_have(shape: &Shape, frame: &Frame) -> bool
     ensures { result ≡ may_have shape.now frame.now.labels frame.now.keys }
 {
     labels_meet(shape, &frame.labels) && are_optional(shape.keys.as_slice(), &frame.keys)
+}
+
+/// Whether what may stand at each key lies within what another shape says of it.
+pub(crate) fn lies_in_shape(region: &[Options], keys: &[Name], shape: &Shape) -> bool
+    ensures { result ≡ lies_in region.now (options_of shape.now keys.now) }
+{
+    let mut left = region;
+    let mut names = keys;
+    while let [own, owns @ ..] = left {
+        let [name, later @ ..] = names else {
+            return false;
+        };
+        if !is_within(
+            *own,
+            options_at(shape.keys.as_slice(), shape.more_keys, name),
+        ) {
+            return false;
+        }
+        left = owns;
+        names = later;
+    }
+    names.is_empty()
 }
 
 /// What another shape says of the keys of the frame.

@@ -1,15 +1,15 @@
 //! Are the triples of pairs of some triples of shapes in others? The three regions of a triple stand one after another as one.
 
 ghost use Rattle.std.specs.Prelude.{◌≡◌, ◌+◌, ◌++◌, ◌∷◌, [], true, length, IfOk, MatchOption};
-ghost use Rattle.std.specs.List.{list_all};
+ghost use Rattle.std.specs.List.{list_all, list_any};
 ghost use Rattle.std.specs.Ordering.{nat_cmp};
 ghost use Rattle.std.specs.Cmp.Lexicographic.{slice_cmp};
 ghost use Rattle.pgs_base.specs.Order.{ascends};
 ghost use Rattle.pgs_contain.specs.Regions.{Point, in_some_region, Leaves};
-ghost use Rattle.pgs_contain.specs.Threes.{three_of, region_in, AreFrames, ArePlainest, owned_triple, may_have_three, options_of_three, in_some_three, is_known_three, LeavesThree, IsInOtherTriples, AreInOtherTriples, IsOutOfOtherTriples};
+ghost use Rattle.pgs_contain.specs.Threes.{three_of, region_in, AreFrames, ArePlainest, owned_triple, may_have_three, options_of_three, in_some_three, is_known_three, LeavesThree, has_frames, IsInOtherTriples, AreInOtherTriples, IsOutOfOtherTriples};
 
 use crate::OwnedPair;
-use crate::frame::{Frame, frame_of, may_have, options_of};
+use crate::frame::{Frame, frame_of, lies_in_shape, may_have, options_of};
 use crate::regions::left_of;
 use crate::vocabulary::{Vocabulary, vocabulary_of_triples};
 use crate::witness::plain_pair;
@@ -134,7 +134,36 @@ fn regions_of_triples(
     Ok(List::from_vec(regions))
 }
 
-// What other triples of shapes leave of the regions of frames.
+// Whether a triple of shapes has each triple of pairs of frames.
+fn has_frames(triple: &Triple, frames: &Frames) -> bool
+    ensures { result ≡ has_frames frames.now triple.now }
+{
+    may_have_three(triple, frames)
+        && lies_in_shape(
+            frames.source.region.as_slice(),
+            frames.source.keys.as_slice(),
+            &triple.source,
+        )
+        && lies_in_shape(
+            frames.middle.region.as_slice(),
+            frames.middle.keys.as_slice(),
+            &triple.middle,
+        )
+        && lies_in_shape(
+            frames.target.region.as_slice(),
+            frames.target.keys.as_slice(),
+            &triple.target,
+        )
+}
+
+// Whether one of some triples of shapes has each triple of pairs of frames.
+fn one_has_frames(triples: &[Triple], frames: &Frames) -> bool
+    ensures { result ≡ list_any (has_frames frames.now) triples.now }
+{
+    triples.iter().any(|triple| has_frames(triple, frames))
+}
+
+// What other triples of shapes leave of the regions of frames. Mostly one of them has all, and then no region is made.
 fn left_in_frames(
     alloc: Global,
     frames: &Frames,
@@ -142,6 +171,9 @@ fn left_in_frames(
 ) -> Result<Option<List<Options>>, Memory>
     ensures { IfOk result (Leaves (in_some_three others.now (three_of frames.now)) (region_in frames.now)) }
 {
+    if one_has_frames(others, frames) {
+        return Ok(None);
+    }
     let taken = regions_of_triples(alloc, others, frames)?;
     let region = region_in(alloc, frames)?;
     let left = left_of(alloc, region.as_slice(), taken.as_slice())?;

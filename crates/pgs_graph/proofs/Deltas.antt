@@ -37,7 +37,7 @@ absent_below {cmp = cmp} total q k tie (entry ∷ entries) below =
     rw other (absent_below total q k tie entries below.1)
 
 module _ {K V : Type 0} {cmp : K → K → Ordering} (total : IsTotalOrder cmp) where
-  lookup-entry_changed : (q k : K) (w : Option V) (entries : List (K × V)) → IsStrictlySortedBy cmp (keys_of entries) →
+  pub lookup-entry_changed : (q k : K) (w : Option V) (entries : List (K × V)) → IsStrictlySortedBy cmp (keys_of entries) →
       lookup (is_at (cmp q)) (entry_changed cmp entries k w) ≡ cond (is_at (cmp k) q) w (lookup (is_at (cmp q)) entries)
   lookup-entry_changed q k (Some v) entries sorted = lookup-insert_entry total q k v entries
   lookup-entry_changed q k None entries sorted = lookup-remove_key total q k entries sorted

@@ -1,3 +1,4 @@
 pub mod Deltas
 pub mod EdgesWith
-pub mod OneChange
+pub mod EdgeLists
+pub mod Relisted

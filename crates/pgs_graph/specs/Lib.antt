@@ -1,4 +1,4 @@
 pub mod Changed
-pub mod Merging
+pub mod Lists
 pub mod Operations
 pub mod Reads

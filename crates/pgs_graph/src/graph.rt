@@ -1,24 +1,30 @@
-ghost use Rattle.std.specs.Prelude.{◌≡◌, ◌+◌, ◌≤◌, true, [], length, IfOk, OnOk, OnErr, vec_len, vec_capacity};
-ghost use Rattle.std.specs.List.Sorted.{IsStrictlySortedBy};
+ghost use Rattle.std.specs.Prelude.{◌≡◌, ◌+◌, true, slice_get, OnOk, OnErr};
+ghost use Rattle.std.specs.List.{list_all};
 ghost use Rattle.std.specs.Map.{keys_of};
+ghost use Rattle.std.proofs.lemmas.Map.Lookups.{CmpEqualImpliesEq};
 ghost use Rattle.pgs_base.specs.Graph.{empty_graph};
-ghost use Rattle.pgs_graph.specs.Changed.{entries_changed, changed, is_sound};
+ghost use Rattle.pgs_base_slots.specs.Slots.{has_slot, present};
+ghost use Rattle.pgs_graph.specs.Changed.{entry_changed, entries_changed, changed, is_sound};
+ghost use Rattle.pgs_graph.specs.Lists.{listed};
 
-use crate::merging::merged;
-use crate::scan::{End, keys, nth_edge};
+use crate::relist::{EdgeLists, relist_edges};
+use crate::scan::End;
 use crate::{Delta, EdgeRef, GraphRead, NodeRef};
-use pgs_base::{Copyable, EdgeId, EdgeRow, List, Memory, NodeId, NodeRow, Rows, Steps};
+use pgs_base::{Copyable, EdgeId, EdgeRow, List, Memory, NodeId, NodeRow, Steps};
+use pgs_base_slots::Slots;
 use std::alloc::Global;
+use std::fmt::{self, Debug, Formatter, Write};
 use std::marker::Model;
-use std::mem;
 use std::sync::ledger::Ledger;
 
-/// A property graph as two lists of rows by ascending number. Contracts see the graph of the definitions.
-#[derive(Debug)]
+/// A property graph: rows by number, and at each node the lists of its edges. Contracts see the graph of the definitions, which is two
+/// lists of rows by ascending number.
 pub struct Graph {
     alloc: Global,
-    nodes: Rows<NodeId, NodeRow>,
-    edges: Rows<EdgeId, EdgeRow>,
+    nodes: Slots<NodeId, NodeRow>,
+    edges: Slots<EdgeId, EdgeRow>,
+    outgoing: EdgeLists,
+    incoming: EdgeLists,
 }
 
 // Dropped by one function of this crate, so that those above need not prove anew how a graph is taken apart.
@@ -28,19 +34,32 @@ impl Drop for Graph {
             alloc: _,
             nodes: _,
             edges: _,
+            outgoing: _,
+            incoming: _,
         } = self;
     }
 }
 
+impl Debug for Graph {
+    fn fmt<W: Write>(&self, f: &mut Formatter<W>) -> fmt::Result {
+        f.debug_struct("Graph")
+            .field("nodes", &self.nodes)
+            .field("edges", &self.edges)
+            .finish_non_exhaustive()
+    }
+}
+
 impl Model for Graph {
-    ghost use Rattle.std.specs.Prelude.{◌≡◌, true};
-    ghost use Rattle.pgs_base.specs.Graph.{Graph as Meaning, is_graph};
+    ghost use Rattle.pgs_base.specs.Graph.{Graph as Meaning};
+    ghost use Rattle.pgs_base_slots.specs.Slots.{present};
+    ghost use Rattle.pgs_graph.specs.Lists.{AreParts};
 
     ghost Value = { Meaning };
 
-    ghost view = { λ graph. record { nodes = graph.nodes; edges = graph.edges } };
+    ghost view = { λ graph. record { nodes = present graph.nodes; edges = present graph.edges } };
 
-    ghost invariant = { λ graph. is_graph (record { nodes = graph.nodes; edges = graph.edges }) ≡ true };
+    ghost invariant = { λ graph. AreParts (record { nodes = present graph.nodes; edges = present graph.edges }) (present graph.outgoing)
+        (present graph.incoming) };
 }
 
 impl Graph {
@@ -50,8 +69,10 @@ impl Graph {
     {
         Graph {
             alloc,
-            nodes: Rows::new(alloc),
-            edges: Rows::new(alloc),
+            nodes: Slots::new(alloc),
+            edges: Slots::new(alloc),
+            outgoing: Slots::new(alloc),
+            incoming: Slots::new(alloc),
         }
     }
 
@@ -62,49 +83,78 @@ impl Graph {
         ensures err { OnErr result (self.new ≡ self.old) }
     {
         let Delta { nodes, edges } = delta;
-        let node_room = room_for(self.alloc, self.nodes.len(), nodes.len())?;
-        let edge_room = room_for(self.alloc, self.edges.len(), edges.len())?;
-        change_rows(&mut self.nodes, nodes, self.alloc, node_room);
-        change_rows(&mut self.edges, edges, self.alloc, edge_room);
+        let changes = edges.as_slice();
+        let outgoing = relist_edges(
+            self.alloc,
+            End::Source,
+            &self.outgoing,
+            &self.edges,
+            changes,
+        )?;
+        let incoming = relist_edges(
+            self.alloc,
+            End::Target,
+            &self.incoming,
+            &self.edges,
+            changes,
+        )?;
+        self.nodes.make_slots(nodes.as_slice())?;
+        self.edges.make_slots(changes)?;
+        self.outgoing.make_slots(outgoing.as_slice())?;
+        self.incoming.make_slots(incoming.as_slice())?;
+        change_rows(&mut self.nodes, nodes);
+        change_rows(&mut self.edges, edges);
+        change_rows(&mut self.outgoing, outgoing);
+        change_rows(&mut self.incoming, incoming);
         Ok(())
     }
 }
 
-// An empty vector with room for so many rows and changes.
-fn room_for<T: Drop>(alloc: Global, rows: usize, changes: usize) -> Result<Vec<T>, Memory>
-    ensures empty { IfOk result (λ room. room.items ≡ []) }
-    ensures enough { IfOk result (λ room. vec_len room + rows + changes ≤ vec_capacity room) }
+// Does changes of rows whose keys have slots. It takes no memory.
+fn change_rows<K: Ord + Copy + Drop, V: Drop>(rows: &mut Slots<K, V>, changes: List<(K, Option<V>)>)
+    requires exact { CmpEqualImpliesEq K.cmp }
+    requires there { list_all (has_slot K.cmp rows.old) (keys_of changes) ≡ true }
+    ensures { present rows.new ≡ entries_changed K.cmp (present rows.old) changes }
 {
-    match rows.checked_add(changes) {
-        Some(all) => Ok(Vec::with_capacity(alloc, all)?),
-        None => Err(Memory),
+    for (key, row) in changes.into_vec() {
+        change_row(rows, key, row);
     }
 }
 
-// Does changes of ascending keys, in a vector that has room for all rows and changes.
-fn change_rows<K: Ord + Drop, V: Drop>(
-    rows: &mut Rows<K, V>,
-    changes: List<(K, Option<V>)>,
-    alloc: Global,
-    room: Vec<(K, V)>,
-)
-    requires ascending { IsStrictlySortedBy K.cmp (keys_of changes) }
-    requires empty { room.items ≡ [] }
-    requires enough { vec_len room + length rows.old + length changes ≤ vec_capacity room }
-    ensures { rows.new ≡ entries_changed K.cmp rows.old changes }
+fn change_row<K: Ord + Copy + Drop, V: Drop>(rows: &mut Slots<K, V>, key: K, row: Option<V>)
+    requires exact { CmpEqualImpliesEq K.cmp }
+    requires there { has_slot K.cmp rows.old key ≡ true }
+    ensures rows { present rows.new ≡ entry_changed K.cmp (present rows.old) key row }
+    ensures slots { keys_of rows.new ≡ keys_of rows.old }
 {
-    let old = mem::replace(rows, Rows::new(alloc));
-    *rows = Rows::from_vec(merged(old.into_vec(), changes.into_vec(), room));
+    match row {
+        Some(row) => rows.put(key, row),
+        None => rows.take(key),
+    }
+}
+
+// The edge at a place among those that are listed at a node.
+fn nth_edge(lists: &EdgeLists, id: NodeId, nth: usize) -> Option<EdgeId>
+    ensures { result ≡ slice_get (listed (present lists.now) id) nth }
+{
+    match lists.get(&id) {
+        Some(list) => list.at(nth),
+        None => None,
+    }
 }
 
 impl Copyable for Graph {
     fn copy(&self, alloc: Global) -> Result<Graph, Memory> {
         let nodes = self.nodes.copy(alloc)?;
         let edges = self.edges.copy(alloc)?;
+        let outgoing = self.outgoing.copy(alloc)?;
+        let incoming = self.incoming.copy(alloc)?;
         Ok(Graph {
             alloc,
             nodes,
             edges,
+            outgoing,
+            incoming,
         })
     }
 }
@@ -138,12 +188,12 @@ impl GraphRead for Graph {
 
     fn out_edge<L: Ledger>(&self, id: NodeId, nth: usize, steps: &mut Steps<L>) -> Option<EdgeId> {
         steps.tick();
-        nth_edge(self.edges.as_slice(), End::Source, id, nth)
+        nth_edge(&self.outgoing, id, nth)
     }
 
     fn in_edge<L: Ledger>(&self, id: NodeId, nth: usize, steps: &mut Steps<L>) -> Option<EdgeId> {
         steps.tick();
-        nth_edge(self.edges.as_slice(), End::Target, id, nth)
+        nth_edge(&self.incoming, id, nth)
     }
 
     fn node_ids<L: Ledger>(
@@ -151,7 +201,9 @@ impl GraphRead for Graph {
         alloc: Global,
         steps: &mut Steps<L>,
     ) -> Result<List<NodeId>, Memory> {
-        keys(alloc, self.nodes.as_slice(), steps)
+        let ids = self.nodes.keys(alloc)?;
+        tick_each(steps, ids.len());
+        Ok(ids)
     }
 
     fn edge_ids<L: Ledger>(
@@ -159,12 +211,22 @@ impl GraphRead for Graph {
         alloc: Global,
         steps: &mut Steps<L>,
     ) -> Result<List<EdgeId>, Memory> {
-        keys(alloc, self.edges.as_slice(), steps)
+        let ids = self.edges.keys(alloc)?;
+        tick_each(steps, ids.len());
+        Ok(ids)
     }
 
     fn count(&self) -> u64 {
-        let nodes = self.nodes.as_slice();
-        let edges = self.edges.as_slice();
-        nodes.len() as u64 + edges.len() as u64
+        self.nodes.len() as u64 + self.edges.len() as u64
+    }
+}
+
+fn tick_each<L: Ledger>(steps: &mut Steps<L>, times: usize)
+    ensures { steps.new ≡ steps.old + times }
+{
+    let mut left = times;
+    while left > 0 {
+        steps.tick();
+        left -= 1;
     }
 }

@@ -8,9 +8,9 @@
 mod delta;
 mod graph;
 pub mod laws;
-mod merging;
 mod operation;
 mod read;
+mod relist;
 mod scan;
 
 pub use delta::Delta;

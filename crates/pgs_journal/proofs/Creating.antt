@@ -1,5 +1,5 @@
 -- What a stop leaves of an area while a store is made in it.
-use Rattle.std.proofs.Common.{◌≡◌, ◌⊎◌, inl, inr, ⊎_elim, ℕ, ◌+◌, ◌≤◌, ◌<◌, Bool, true, false, not, ◌||◌, nat_lt, IsTrue, List, [], ◌∷◌, ◌++◌, length, take, drop, refl, sym, ◌∙◌, ap, arith, append_assoc, length-append}
+use Rattle.std.proofs.Common.{◌≡◌, ◌⊎◌, inl, inr, ⊎_elim, ℕ, ◌+◌, ◌≤◌, ◌<◌, Bool, true, false, not, ◌||◌, nat_lt, IsTrue, List, [], ◌∷◌, ◌++◌, length, take, drop, Some, refl, sym, ◌∙◌, ap, subst, arith, append_assoc, length-append}
 use Rattle.std.proofs.lemmas.Bool.Decides.{nat_tests}
 use Rattle.std.proofs.lemmas.List.{append-nil, take_all, drop_all, take-take, drop_at}
 use Rattle.pgs_world.specs.declared.area.Area.{Area}
@@ -7,10 +7,12 @@ use Rattle.pgs_world.specs.Disk.{written_over, IsTorn, IsSameBeside, Writes, Cut
 use Rattle.pgs_world.specs.Moment.{Passes, StopsBy, IsSynced}
 use Rattle.pgs_world.specs.World.{Triple, View, part}
 use Rattle.pgs_journal.specs.Area.{opens, is_empty_or_open, is_no_store}
-use Rattle.pgs_journal.specs.Format.{First, is_open, is_epoch, head_body, open_records, Holds, IsFrames}
+use Rattle.pgs_journal.specs.declared.format.Format.TheVariants.{Second}
+use Rattle.pgs_journal.specs.Format.{is_open, is_epoch, head_body, open_records, Holds, IsFrames}
 use Rattle.pgs_journal.specs.Stops.{Turns, Closes, KeepsGate, Creates}
 use Rattle.pgs_journal.proofs.Composing.{stops_then, stops_weaker, beside_on}
 use Rattle.pgs_journal.proofs.Images.{one_byte, open_is_one}
+use Rattle.pgs_journal.proofs.Written.{few_in}
 
 or_true : (b : Bool) → (b || true) ≡ true
 or_true true = refl
@@ -53,33 +55,39 @@ written_at_end at old piece is =
     ∙ ap (λ (l : List ℕ). old ++ piece ++ l) (drop_all (at + length piece) old (omega (arith, is))) ∙ append-nil (old ++ piece)
 
 -- the store that stands behind an open gate
-pub holds-new : (epoch : ℕ) (payloads : List (List ℕ)) (first image : List ℕ) → IsTrue (is_epoch epoch) → IsFrames First payloads first → image ≡ 1 ∷ (head_body First epoch ++ 1 ∷ first) → Holds First epoch payloads (16 + length first) image
-holds-new epoch payloads first image numbered frames is =
+pub holds-new : (epoch : ℕ) (payloads : List (List ℕ)) (next : ℕ) (first image : List ℕ) → IsTrue (is_epoch epoch) → IsFrames payloads next first → image ≡ 1 ∷ (head_body Second epoch ++ 1 ∷ first) → Holds (Some (length payloads + 1)) epoch payloads (16 + length first) image
+holds-new epoch payloads next first image numbered frames is =
     record {
       gate = 0;
       rest = [];
-      bytes = is ∙ ap (λ (l : List ℕ). 1 ∷ (head_body First epoch ++ l)) frames ∙ ap (λ (l : List ℕ). 1 ∷ l) (sym (append_assoc (head_body First epoch) (open_records First 1 payloads) (0 ∷ [])));
+      bytes = is ∙ ap (λ (l : List ℕ). 1 ∷ (head_body Second epoch ++ l)) frames.spelled ∙ ap (λ (l : List ℕ). 1 ∷ l) (sym (append_assoc (head_body Second epoch) (open_records Second 1 payloads) (0 ∷ [])));
       closed = refl;
-      place = omega (arith, ap length frames, length-append (open_records First 1 payloads) (0 ∷ []));
+      place = omega (arith, ap length frames.spelled, length-append (open_records Second 1 payloads) (0 ∷ []));
+      follows = refl;
       numbered = numbered;
     }
 
 -- any byte may stand at the gate before a store
-pub opens_torn : (epoch : ℕ) (payloads : List (List ℕ)) (first gate old new : List ℕ) → IsTrue (is_epoch epoch) → IsFrames First payloads first → length gate ≡ 1 → old ≡ gate ++ (head_body First epoch ++ 1 ∷ first) → IsTorn 0 1 old new
-    → (is_no_store new ≡ true) ⊎ Holds First epoch payloads (16 + length first) new
-opens_torn epoch payloads first gate old new numbered frames one is torn =
-    let byte = one_byte 0 old new torn (omega (arith, ap length is, length-append gate (head_body First epoch ++ 1 ∷ first), one)) in
-    some byte.0 (byte.1 ∙ ap (λ (l : List ℕ). byte.0 ∷ l) (ap (λ (l : List ℕ). drop 1 l) is ∙ drop_at gate (head_body First epoch ++ 1 ∷ first) 1 one)) (is_open byte.0) refl
+pub opens_torn : (epoch : ℕ) (payloads : List (List ℕ)) (next : ℕ) (first gate old new : List ℕ) → IsTrue (is_epoch epoch) → IsFrames payloads next first → length gate ≡ 1 → old ≡ gate ++ (head_body Second epoch ++ 1 ∷ first) → IsTorn 0 1 old new
+    → (is_no_store new ≡ true) ⊎ Holds (Some (length payloads + 1)) epoch payloads (16 + length first) new
+opens_torn epoch payloads next first gate old new numbered frames one is torn =
+    let byte = one_byte 0 old new torn (omega (arith, ap length is, length-append gate (head_body Second epoch ++ 1 ∷ first), one)) in
+    some byte.0 (byte.1 ∙ ap (λ (l : List ℕ). byte.0 ∷ l) (ap (λ (l : List ℕ). drop 1 l) is ∙ drop_at gate (head_body Second epoch ++ 1 ∷ first) 1 one)) (is_open byte.0) refl
   where
-    some : (x : ℕ) → new ≡ x ∷ (head_body First epoch ++ 1 ∷ first) → (b : Bool) → is_open x ≡ b → (is_no_store new ≡ true) ⊎ Holds First epoch payloads (16 + length first) new
-    some x is true opened_now = inr (holds-new epoch payloads first new numbered frames (is ∙ ap (λ y. y ∷ (head_body First epoch ++ 1 ∷ first)) (open_is_one x opened_now)))
+    some : (x : ℕ) → new ≡ x ∷ (head_body Second epoch ++ 1 ∷ first) → (b : Bool) → is_open x ≡ b → (is_no_store new ≡ true) ⊎ Holds (Some (length payloads + 1)) epoch payloads (16 + length first) new
+    some x is true opened_now = inr (holds-new epoch payloads next first new numbered frames (is ∙ ap (λ y. y ∷ (head_body Second epoch ++ 1 ∷ first)) (open_is_one x opened_now)))
     some x is false closed = inl (no_store_closed new (ap opens is ∙ closed))
 
 -- the store once its gate was written
-pub holds-opened : (epoch : ℕ) (payloads : List (List ℕ)) (first gate old new : List ℕ) → IsTrue (is_epoch epoch) → IsFrames First payloads first → length gate ≡ 1 → old ≡ gate ++ (head_body First epoch ++ 1 ∷ first) → new ≡ written_over old 0 (1 ∷ [])
-    → Holds First epoch payloads (16 + length first) new
-holds-opened epoch payloads first gate old new numbered frames one is written =
-    holds-new epoch payloads first new numbered frames (written ∙ ap (λ (l : List ℕ). 1 ∷ l) (ap (λ (l : List ℕ). drop 1 l) is ∙ drop_at gate (head_body First epoch ++ 1 ∷ first) 1 one))
+pub holds-opened : (epoch : ℕ) (payloads : List (List ℕ)) (next : ℕ) (first gate old new : List ℕ) → IsTrue (is_epoch epoch) → IsFrames payloads next first → length gate ≡ 1 → old ≡ gate ++ (head_body Second epoch ++ 1 ∷ first) → new ≡ written_over old 0 (1 ∷ [])
+    → Holds (Some next) epoch payloads (16 + length first) new
+holds-opened epoch payloads next first gate old new numbered frames one is written =
+    subst (λ n. Holds (Some n) epoch payloads (16 + length first) new) (sym frames.follows)
+    (holds-new epoch payloads next first new numbered frames (written ∙ ap (λ (l : List ℕ). 1 ∷ l) (ap (λ (l : List ℕ). drop 1 l) is ∙ drop_at gate (head_body Second epoch ++ 1 ∷ first) 1 one)))
+
+-- the number behind the records of these frames stays within the end: each takes at least one byte
+pub frames-within : (payloads : List (List ℕ)) (next : ℕ) (first : List ℕ) → IsFrames payloads next first → next ≤ 16 + length first
+frames-within payloads next first frames = omega (arith, frames.follows, few_in Second 1 payloads, ap length frames.spelled, length-append (open_records Second 1 payloads) (0 ∷ []))
 
 pub gate_on : (area : Area) (d e c : Triple) → Turns area KeepsGate d e → Turns area KeepsGate e c → Turns area KeepsGate d c
 gate_on area d e c one two = record { image = two.image ∙ one.image; same = beside_on area d e c one.same two.same }
@@ -94,14 +102,14 @@ gate_write area at count d c behind write =
 
 -- the steps after the first: each leaves no store or the new one
 module _ (area : Area) (epoch : ℕ) (payloads : List (List ℕ)) (end : ℕ) where
-  pub first_step : (d c : Triple) → Turns area Closes d c → Turns area (Creates First epoch payloads end) d c
+  pub first_step : (d c : Triple) → Turns area Closes d c → Turns area (Creates epoch payloads end) d c
   first_step d c closes = record { image = ⊎_elim (λ same. inl same) (λ none. inr (inl none)) closes.image; same = closes.same }
 
   pub next_step : (old mid new : View) (step : Triple → Triple → Type 0) → ((e c : Triple) → step e c → IsSameBeside area e c)
-      → (IsTrue mid.honest → (e c : Triple) → mid.may_leave e → step e c → (is_no_store (part area c) ≡ true) ⊎ Holds First epoch payloads end (part area c))
-      → Passes old mid → Passes mid new → StopsBy (Turns area (Creates First epoch payloads end)) old mid → StopsBy step mid new → StopsBy (Turns area (Creates First epoch payloads end)) old new
+      → (IsTrue mid.honest → (e c : Triple) → mid.may_leave e → step e c → (is_no_store (part area c) ≡ true) ⊎ Holds (Some (length payloads + 1)) epoch payloads end (part area c))
+      → Passes old mid → Passes mid new → StopsBy (Turns area (Creates epoch payloads end)) old mid → StopsBy step mid new → StopsBy (Turns area (Creates epoch payloads end)) old new
   next_step old mid new step same makes p q before after honest c left =
-      stops_then old mid new (Turns area (Creates First epoch payloads end)) step (Turns area (Creates First epoch payloads end)) p q (λ d t first. first)
+      stops_then old mid new (Turns area (Creates epoch payloads end)) step (Turns area (Creates epoch payloads end)) p q (λ d t first. first)
       (λ d e t first left then. record { image = inr (makes (p.honest ∙ honest) e t left then); same = beside_on area d e t first.same (same e t then) }) before after honest c left
 
 -- a step that keeps a closed gate
@@ -113,11 +121,11 @@ pub closing : (area : Area) (shown d c : Triple) → is_empty_or_open (part area
 closing area shown d c must is write = record { image = closes_torn (part area d) (part area c) (ap is_empty_or_open is ∙ must) write.torn; same = write.same }
 
 -- the head and the records, behind one byte
-pub store_written : (epoch : ℕ) (first old mid new head : List ℕ) → length old ≡ 1 → head ≡ head_body First epoch ++ 1 ∷ [] → mid ≡ written_over old 1 head → new ≡ written_over mid 17 first → new ≡ old ++ (head_body First epoch ++ 1 ∷ first)
+pub store_written : (epoch : ℕ) (first old mid new head : List ℕ) → length old ≡ 1 → head ≡ head_body Second epoch ++ 1 ∷ [] → mid ≡ written_over old 1 head → new ≡ written_over mid 17 first → new ≡ old ++ (head_body Second epoch ++ 1 ∷ first)
 store_written epoch first old mid new head one is written then =
     let front = written ∙ written_at_end 1 old head one ∙ ap (λ (l : List ℕ). old ++ l) is in
-    then ∙ written_at_end 17 mid first (omega (arith, ap length front, length-append old (head_body First epoch ++ 1 ∷ []), one)) ∙ ap (λ (l : List ℕ). l ++ first) front
-    ∙ append_assoc old (head_body First epoch ++ 1 ∷ []) first
+    then ∙ written_at_end 17 mid first (omega (arith, ap length front, length-append old (head_body Second epoch ++ 1 ∷ []), one)) ∙ ap (λ (l : List ℕ). l ++ first) front
+    ∙ append_assoc old (head_body Second epoch ++ 1 ∷ []) first
 
 -- two writes behind the gate keep it
 pub both_writes : (area : Area) (head first : ℕ) (old mid new : View) → Passes old mid → Passes mid new → StopsBy (Writes area 1 head) old mid → StopsBy (Writes area 17 first) mid new → StopsBy (Turns area KeepsGate) old new
@@ -126,22 +134,22 @@ both_writes area head first old mid new p q one two =
     (λ d e c write left then. gate_on area d e c (gate_write area 1 head d e (omega arith) write) (gate_write area 17 first e c (omega arith) then)) one two
 
 -- the four steps, each after those before it
-module _ (area : Area) (epoch : ℕ) (payloads : List (List ℕ)) (first : List ℕ) (numbered : IsTrue (is_epoch epoch)) (frames : IsFrames First payloads first) where
+module _ (area : Area) (epoch : ℕ) (payloads : List (List ℕ)) (next : ℕ) (first : List ℕ) (numbered : IsTrue (is_epoch epoch)) (frames : IsFrames payloads next first) where
   abbrev Made : View → View → Type 0
-  Made old new = StopsBy (Turns area (Creates First epoch payloads (16 + length first))) old new
+  Made old new = StopsBy (Turns area (Creates epoch payloads (16 + length first))) old new
 
   pub made_cut : (old mid new : View) → IsTrue old.tells_bytes → Passes old mid → Passes mid new → IsSynced area mid → opens (part area mid.shown) ≡ false → StopsBy (Turns area Closes) old mid → StopsBy (Cuts area 1) mid new → Made old new
   made_cut old mid new told p q synced closed before after =
       next_step area epoch payloads (16 + length first) old mid new (Cuts area 1) (λ e c cut. cut.same)
-      (λ honest e c left cut. keeps_closed area mid.shown e c (Holds First epoch payloads (16 + length first) (part area c)) closed (synced honest (p.tells_bytes ∙ told) e left) cut.short.front) p q
-      (stops_weaker old mid (Turns area Closes) (Turns area (Creates First epoch payloads (16 + length first))) (first_step area epoch payloads (16 + length first)) before) after
+      (λ honest e c left cut. keeps_closed area mid.shown e c (Holds (Some (length payloads + 1)) epoch payloads (16 + length first) (part area c)) closed (synced honest (p.tells_bytes ∙ told) e left) cut.short.front) p q
+      (stops_weaker old mid (Turns area Closes) (Turns area (Creates epoch payloads (16 + length first))) (first_step area epoch payloads (16 + length first)) before) after
 
   pub made_written : (old mid new : View) → IsTrue old.tells_bytes → Passes old mid → Passes mid new → IsSynced area mid → opens (part area mid.shown) ≡ false → Made old mid → StopsBy (Turns area KeepsGate) mid new → Made old new
   made_written old mid new told p q synced closed before after =
       next_step area epoch payloads (16 + length first) old mid new (Turns area KeepsGate) (λ e c turns. turns.same)
-      (λ honest e c left turns. keeps_closed area mid.shown e c (Holds First epoch payloads (16 + length first) (part area c)) closed (synced honest (p.tells_bytes ∙ told) e left) turns.image) p q before after
+      (λ honest e c left turns. keeps_closed area mid.shown e c (Holds (Some (length payloads + 1)) epoch payloads (16 + length first) (part area c)) closed (synced honest (p.tells_bytes ∙ told) e left) turns.image) p q before after
 
-  pub made_opened : (old mid new : View) (gate : List ℕ) → IsTrue old.tells_bytes → Passes old mid → Passes mid new → IsSynced area mid → length gate ≡ 1 → part area mid.shown ≡ gate ++ (head_body First epoch ++ 1 ∷ first) → Made old mid → StopsBy (Writes area 0 1) mid new → Made old new
+  pub made_opened : (old mid new : View) (gate : List ℕ) → IsTrue old.tells_bytes → Passes old mid → Passes mid new → IsSynced area mid → length gate ≡ 1 → part area mid.shown ≡ gate ++ (head_body Second epoch ++ 1 ∷ first) → Made old mid → StopsBy (Writes area 0 1) mid new → Made old new
   made_opened old mid new gate told p q synced one is before after =
       next_step area epoch payloads (16 + length first) old mid new (Writes area 0 1) (λ e c write. write.same)
-      (λ honest e c left write. opens_torn epoch payloads first gate (part area e) (part area c) numbered frames one (synced honest (p.tells_bytes ∙ told) e left ∙ is) write.torn) p q before after
+      (λ honest e c left write. opens_torn epoch payloads next first gate (part area e) (part area c) numbered frames one (synced honest (p.tells_bytes ∙ told) e left ∙ is) write.torn) p q before after

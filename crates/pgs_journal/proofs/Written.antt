@@ -1,5 +1,5 @@
 -- What was written as a store is read as it.
-use Rattle.std.proofs.Common.{◌≡◌, ℕ, zero, suc, ◌+◌, ◌-◌, ◌≤◌, ◌<◌, ◌^◌, Bool, true, false, ◌||◌, ◌&&◌, nat_lt, IsTrue, List, [], ◌∷◌, ◌++◌, length, take, drop, Some, None, refl, sym, ◌∙◌, ap, arith, add-one, append_assoc, length-append, if◌then◌else◌}
+use Rattle.std.proofs.Common.{◌≡◌, ℕ, zero, suc, ◌+◌, ◌-◌, ◌≤◌, ◌<◌, ◌^◌, Bool, true, false, ◌||◌, ◌&&◌, nat_lt, nat_eq, IsTrue, List, [], ◌∷◌, ◌++◌, length, take, drop, Some, None, refl, sym, ◌∙◌, ap, arith, add-one, append_assoc, length-append, if◌then◌else◌}
 use Rattle.std.specs.declared.option.Option.{Option}
 use Rattle.std.proofs.lemmas.Bool.Decides.{nat_tests}
 use Rattle.std.proofs.lemmas.List.{append-nil}
@@ -7,10 +7,12 @@ use Rattle.std.proofs.Math.Seq.{take-append_seam, drop-append_seam}
 use Rattle.byteorder.specs.Endian.{big_bytes, big_number}
 use Rattle.byteorder.specs.Numbers.{big_number-reads_back}
 use Rattle.pgs_journal.specs.declared.area_state.AreaState.{AreaState}
-use Rattle.pgs_journal.specs.declared.area_state.AreaState.TheVariants.{NoStore, Foreign, Damaged, Store}
-use Rattle.pgs_journal.specs.Area.{epoch_of, has_head, first_unfit, is_fit, is_sound, has_some, judged, store_of, state_within, area_state}
-use Rattle.pgs_journal.specs.Format.{First, is_open, is_epoch, open_records, opened, Holds}
-use Rattle.pgs_journal.specs.Reading.{Next, Closed, Torn, Whole, Found, record_of, next_of, after_one, found_at, records_within, records_in}
+use Rattle.pgs_journal.specs.declared.area_state.AreaState.TheVariants.{NoStore, Damaged, Store}
+use Rattle.pgs_journal.specs.declared.format.Format.{Format}
+use Rattle.pgs_journal.specs.declared.format.Format.TheVariants.{First, Second}
+use Rattle.pgs_journal.specs.Area.{epoch_of, format_in, head_format, first_unfit, is_fit, is_sound, has_some, judged, store_of, state_within, state_with, area_state}
+use Rattle.pgs_journal.specs.Format.{is_open, is_epoch, head_body, record_body, open_records, opened, format_of, next_after, Holds}
+use Rattle.pgs_journal.specs.Reading.{Next, Closed, Torn, Whole, Found, sized, record_of, next_of, after_one, found_at, records_within, records_in}
 
 is_less : (m n : ℕ) → m < n → nat_lt m n ≡ true
 is_less m n lt = grind (arith, nat_tests)
@@ -18,9 +20,12 @@ is_less m n lt = grind (arith, nat_tests)
 not_less : (m n : ℕ) → n ≤ m → nat_lt m n ≡ false
 not_less m n le = grind (arith, nat_tests)
 
--- a record that stands whole behind its open gate
-pub whole : (number : ℕ) (payload behind : List ℕ) → length payload < 256 ^ 8 → 1 ≤ length behind → record_of First number (big_bytes 8 (length payload) ++ (payload ++ behind)) ≡ Whole payload behind
-whole number payload behind small some =
+is_same : (n : ℕ) → nat_eq n n ≡ true
+is_same n = grind (arith, nat_tests)
+
+-- a payload that stands whole behind its length
+whole_sized : (payload behind : List ℕ) → length payload < 256 ^ 8 → 1 ≤ length behind → sized (big_bytes 8 (length payload) ++ (payload ++ behind)) ≡ Whole payload behind
+whole_sized payload behind small some =
     let size : big_number 8 (big_bytes 8 (length payload) ++ (payload ++ behind)) ≡ length payload = big_number-reads_back 8 (length payload) (payload ++ behind) small in
     ap (λ n. if nat_lt (8 + n) (length (big_bytes 8 (length payload) ++ (payload ++ behind))) then Whole (take n (payload ++ behind)) (drop (8 + n) (big_bytes 8 (length payload) ++ (payload ++ behind))) else Torn) size
     ∙ ap (λ (b : Bool). if b then Whole (take (length payload) (payload ++ behind)) (drop (8 + length payload) (big_bytes 8 (length payload) ++ (payload ++ behind))) else Torn)
@@ -32,6 +37,15 @@ whole number payload behind small some =
     behind_both a b c eight =
         ap (λ (l : List ℕ). drop (8 + length b) l) (sym (append_assoc a b c)) ∙ ap (λ n. drop n (a ++ b ++ c)) (sym (length-append a b ∙ ap (λ n. n + length b) eight)) ∙ drop-append_seam (a ++ b) c
 
+-- a record that stands whole behind its open gate
+pub whole : (format : Format) (number : ℕ) (payload behind : List ℕ) → number < 256 ^ 8 → length payload < 256 ^ 8 → 1 ≤ length behind → record_of format number (record_body format number payload ++ behind) ≡ Whole payload behind
+whole First number payload behind few small some = ap sized (append_assoc (big_bytes 8 (length payload)) payload behind) ∙ whole_sized payload behind small some
+whole Second number payload behind few small some =
+    let all = big_bytes 8 (length payload) ++ payload ++ behind in
+    let read : big_number 8 (big_bytes 8 number ++ all) ≡ number = big_number-reads_back 8 number all few in
+    ap (λ n. if nat_eq n number then sized all else Torn) read ∙ ap (λ (b : Bool). if b then sized all else Torn) (is_same number)
+    ∙ ap sized (append_assoc (big_bytes 8 (length payload)) payload behind) ∙ whole_sized payload behind small some
+
 -- each payload has a length of eight bytes
 abbrev pub AreSmall : List (List ℕ) → Type 0
 AreSmall [] = Unit {0}
@@ -42,121 +56,153 @@ abbrev pub prepend : List (List ℕ) → Found → Found
 prepend payloads found = record { payloads = payloads ++ found.payloads; ended = found.ended }
 
 -- records that stand with open gates are read, and then what is behind them
-records_behind : (total most number next : ℕ) (payloads : List (List ℕ)) (tail : List ℕ) → AreSmall payloads → 1 ≤ length tail → total ≡ length payloads + most → next ≡ number + length payloads
-    → records_within First total number (open_records First number payloads ++ tail) ≡ prepend payloads (records_within First most next tail)
-records_behind total most number next [] tail small some all is =
-    let same : total ≡ most = omega arith in
-    let here : number ≡ next = omega arith in
-    ap (λ n. records_within First n number tail) same ∙ ap (λ n. records_within First most n tail) here
-records_behind zero most number next (payload ∷ payloads) tail small some all is = absurd (omega arith)
-records_behind (suc total) most number next (payload ∷ payloads) tail small some all is =
-    let behind = open_records First (suc number) payloads ++ tail in
-    ap (λ (l : List ℕ). found_at (record_of First number l) (λ rest. records_within First total (suc number) rest))
-    (append_assoc (big_bytes 8 (length payload) ++ payload) (open_records First (suc number) payloads) tail ∙ append_assoc (big_bytes 8 (length payload)) payload behind)
-    ∙ ap (λ (n : Next). found_at n (λ rest. records_within First total (suc number) rest)) (whole number payload behind small.0 (omega (arith, length-append (open_records First (suc number) payloads) tail)))
-    ∙ ap (after_one payload) (records_behind total most (suc number) next payloads tail small.1 some (omega arith) (omega arith))
+records_behind : (format : Format) (total most number next : ℕ) (payloads : List (List ℕ)) (tail : List ℕ) → AreSmall payloads → next < 256 ^ 8 → 1 ≤ length tail → total ≡ length payloads + most → next ≡ number + length payloads
+    → records_within format total number (open_records format number payloads ++ tail) ≡ prepend payloads (records_within format most next tail)
+records_behind format total most number next [] tail small few some all is =
+    let same : total ≡ most = omega (arith, all) in
+    let here : number ≡ next = omega (arith, is) in
+    ap (λ n. records_within format n number tail) same ∙ ap (λ n. records_within format most n tail) here
+records_behind format zero most number next (payload ∷ payloads) tail small few some all is = absurd (omega (arith, all))
+records_behind format (suc total) most number next (payload ∷ payloads) tail small few some all is =
+    let behind = open_records format (suc number) payloads ++ tail in
+    ap (λ (l : List ℕ). found_at (record_of format number l) (λ rest. records_within format total (suc number) rest))
+    (append_assoc (record_body format number payload) (open_records format (suc number) payloads) tail)
+    ∙ ap (λ (n : Next). found_at n (λ rest. records_within format total (suc number) rest))
+    (whole format number payload behind (omega (arith, is, few)) small.0 (omega (arith, some, length-append (open_records format (suc number) payloads) tail)))
+    ∙ ap (after_one payload) (records_behind format total most (suc number) next payloads tail small.1 few some (omega (arith, all)) (omega (arith, is)))
+
+-- a record takes more bytes than its payload
+size_in : (format : Format) (number : ℕ) (payload : List ℕ) → 8 + length payload ≤ length (record_body format number payload)
+size_in First number payload = omega (arith, length-append (big_bytes 8 (length payload)) payload)
+size_in Second number payload = omega (arith, length-append (big_bytes 8 number) (big_bytes 8 (length payload) ++ payload), length-append (big_bytes 8 (length payload)) payload)
 
 -- payloads are shorter than their records, and no more than the bytes of these
-small_in : (number : ℕ) (payloads : List (List ℕ)) → length (open_records First number payloads) < 256 ^ 8 → AreSmall payloads
-small_in number [] fits = tt
-small_in number (payload ∷ payloads) fits =
-    let size = length-append payload (open_records First (suc number) payloads) in
-    (omega (arith, fits, size), small_in (suc number) payloads (omega (arith, fits, size)))
+small_in : (format : Format) (number : ℕ) (payloads : List (List ℕ)) → length (open_records format number payloads) < 256 ^ 8 → AreSmall payloads
+small_in format number [] fits = tt
+small_in format number (payload ∷ payloads) fits =
+    let size = length-append (record_body format number payload) (open_records format (suc number) payloads) in
+    (omega (arith, fits, size, size_in format number payload), small_in format (suc number) payloads (omega (arith, fits, size)))
 
-pub few_in : (number : ℕ) (payloads : List (List ℕ)) → length payloads ≤ length (open_records First number payloads)
-few_in number [] = omega arith
-few_in number (payload ∷ payloads) = omega (arith, few_in (suc number) payloads, length-append payload (open_records First (suc number) payloads))
+pub few_in : (format : Format) (number : ℕ) (payloads : List (List ℕ)) → length payloads ≤ length (open_records format number payloads)
+few_in format number [] = omega arith
+few_in format number (payload ∷ payloads) =
+    omega (arith, few_in format (suc number) payloads, length-append (record_body format number payload) (open_records format (suc number) payloads))
 
 -- the number of the first unfit record, where some first ones are fit
-pub unfit_on : (epoch number next : ℕ) (payloads more : List (List ℕ)) → next ≡ number + length payloads → first_unfit epoch number payloads ≡ None
-    → first_unfit epoch number (payloads ++ more) ≡ first_unfit epoch next more
-unfit_on epoch number next [] more is fit = let same : number ≡ next = omega arith in ap (λ n. first_unfit epoch n more) same
-unfit_on epoch number next (payload ∷ payloads) more is fit = at (is_fit epoch number payload) fit (λ rest. unfit_on epoch (suc number) next payloads more (omega arith) rest)
+pub unfit_on : (format : Format) (epoch number next : ℕ) (payloads more : List (List ℕ)) → next ≡ number + length payloads → first_unfit format epoch number payloads ≡ None
+    → first_unfit format epoch number (payloads ++ more) ≡ first_unfit format epoch next more
+unfit_on format epoch number next [] more is fit = let same : number ≡ next = omega (arith, is) in ap (λ n. first_unfit format epoch n more) same
+unfit_on format epoch number next (payload ∷ payloads) more is fit = at (is_fit format epoch number payload) fit (λ rest. unfit_on format epoch (suc number) next payloads more (omega (arith, is)) rest)
   where
-    at : (b : Bool) → (if b then first_unfit epoch (suc number) payloads else Some number) ≡ None
-        → (first_unfit epoch (suc number) payloads ≡ None → first_unfit epoch (suc number) (payloads ++ more) ≡ first_unfit epoch next more)
-        → (if b then first_unfit epoch (suc number) (payloads ++ more) else Some number) ≡ first_unfit epoch next more
+    at : (b : Bool) → (if b then first_unfit format epoch (suc number) payloads else Some number) ≡ None
+        → (first_unfit format epoch (suc number) payloads ≡ None → first_unfit format epoch (suc number) (payloads ++ more) ≡ first_unfit format epoch next more)
+        → (if b then first_unfit format epoch (suc number) (payloads ++ more) else Some number) ≡ first_unfit format epoch next more
     at true rest go = go rest
     at false rest go = absurd (let o : Option ℕ = None in let h : Some number ≡ o = rest in cc)
 
+-- the parts of a head that stands with some bytes behind it
+head_length : (format : Format) (epoch : ℕ) (behind : List ℕ) → length (1 ∷ (head_body format epoch ++ behind)) ≡ 16 + length behind
+head_length First epoch behind = omega arith
+head_length Second epoch behind = omega arith
+
+head_opens : (format : Format) (epoch : ℕ) (behind : List ℕ) → format_in (1 ∷ (head_body format epoch ++ behind)) ≡ Some format
+head_opens First epoch behind = refl
+head_opens Second epoch behind = refl
+
+head_epoch : (format : Format) (epoch : ℕ) (behind : List ℕ) → epoch < 256 ^ 8 → epoch_of (1 ∷ (head_body format epoch ++ behind)) ≡ epoch
+head_epoch First epoch behind small = big_number-reads_back 8 epoch behind small
+head_epoch Second epoch behind small = big_number-reads_back 8 epoch behind small
+
+head_behind : (format : Format) (epoch : ℕ) (behind : List ℕ) → drop 16 (1 ∷ (head_body format epoch ++ behind)) ≡ behind
+head_behind First epoch behind = refl
+head_behind Second epoch behind = refl
+
+-- such an area is a store, whatever is behind the head
+pub state_behind : (format : Format) (epoch : ℕ) (behind : List ℕ) → IsTrue (is_epoch epoch) → epoch < 256 ^ 8 → 1 ≤ length behind
+    → area_state (1 ∷ (head_body format epoch ++ behind)) ≡ state_within format epoch (records_in format behind)
+state_behind format epoch behind numbered small some =
+    let all = 1 ∷ (head_body format epoch ++ behind) in
+    let read = head_epoch format epoch behind small in
+    ap (λ (b : Bool). if (b || false) then NoStore else state_with (head_format all) all) (not_less (length all) 17 (omega (arith, head_length format epoch behind, some)))
+    ∙ ap (λ (o : Option Format). state_with o all) (ap (λ e. if is_epoch e then format_in all else None) read ∙ ap (λ (b : Bool). if b then format_in all else None) numbered ∙ head_opens format epoch behind)
+    ∙ ap (λ e. state_within format e (records_in format (drop 16 all))) read ∙ ap (λ (l : List ℕ). state_within format epoch (records_in format l)) (head_behind format epoch behind)
+
 -- An area of an open head, whole and fit records with open gates, and some bytes behind them.
-pub record Opened (epoch : ℕ) (payloads : List (List ℕ)) (tail : List ℕ) : Type 0 where
+pub record Opened (format : Format) (epoch : ℕ) (payloads : List (List ℕ)) (tail : List ℕ) : Type 0 where
   pub numbered : IsTrue (is_epoch epoch)
   pub epoch_small : epoch < 256 ^ 8
-  pub small : length (opened First epoch payloads) < 256 ^ 8
+  pub small : length (opened format epoch payloads) < 256 ^ 8
   pub some : 1 ≤ length tail
-  pub fit : first_unfit epoch 1 payloads ≡ None
+  pub fit : first_unfit format epoch 1 payloads ≡ None
 
-module _ (epoch : ℕ) (payloads : List (List ℕ)) (tail : List ℕ) (is : Opened epoch payloads tail) where
+module _ (format : Format) (epoch : ℕ) (payloads : List (List ℕ)) (tail : List ℕ) (is : Opened format epoch payloads tail) where
   abbrev all : List ℕ
-  all = opened First epoch payloads ++ tail
+  all = opened format epoch payloads ++ tail
 
   abbrev behind_head : List ℕ
-  behind_head = open_records First 1 payloads ++ tail
+  behind_head = open_records format 1 payloads ++ tail
 
   -- how many records there could be behind those
   abbrev left : ℕ
   left = length behind_head - length payloads
 
-  found_behind : records_in First behind_head ≡ prepend payloads (records_within First (suc left) (suc (length payloads)) tail)
-  found_behind =
-      records_behind (suc (length behind_head)) (suc left) 1 (suc (length payloads)) payloads tail (small_in 1 payloads (omega (arith, is.small))) is.some
-      (omega (arith, few_in 1 payloads, length-append (open_records First 1 payloads) tail)) (omega arith)
+  small_behind : 16 + length (open_records format 1 payloads) < 256 ^ 8
+  small_behind = omega (arith, is.small, head_length format epoch (open_records format 1 payloads))
 
-  state_opened : area_state First all ≡ state_within First epoch (prepend payloads (records_within First (suc left) (suc (length payloads)) tail))
+  found_behind : records_in format behind_head ≡ prepend payloads (records_within format (suc left) (suc (length payloads)) tail)
+  found_behind =
+      records_behind format (suc (length behind_head)) (suc left) 1 (suc (length payloads)) payloads tail (small_in format 1 payloads (omega (arith, small_behind)))
+      (omega (arith, few_in format 1 payloads, small_behind)) is.some (omega (arith, few_in format 1 payloads, length-append (open_records format 1 payloads) tail)) (omega arith)
+
+  state_opened : area_state all ≡ state_within format epoch (prepend payloads (records_within format (suc left) (suc (length payloads)) tail))
   state_opened =
-      ap (λ (b : Bool). if (b || false) then NoStore else (if has_head First all then state_within First (epoch_of all) (records_in First (drop 16 all)) else Foreign))
-      (not_less (length all) 17 (omega (arith, length-append (open_records First 1 payloads) tail, is.some)))
-      ∙ ap (λ e. if is_epoch e then state_within First e (records_in First behind_head) else Foreign) read
-      ∙ ap (λ (b : Bool). if b then state_within First epoch (records_in First behind_head) else Foreign) is.numbered
-      ∙ ap (λ f. state_within First epoch f) found_behind
-    where
-      read : big_number 8 (big_bytes 8 epoch ++ behind_head) ≡ epoch
-      read = big_number-reads_back 8 epoch behind_head is.epoch_small
+      ap (λ (l : List ℕ). area_state (1 ∷ l)) (append_assoc (head_body format epoch) (open_records format 1 payloads) tail)
+      ∙ state_behind format epoch behind_head is.numbered is.epoch_small (omega (arith, length-append (open_records format 1 payloads) tail, is.some)) ∙ ap (λ f. state_within format epoch f) found_behind
 
   -- what is read behind them at this gate
   abbrev at_gate : Next → AreaState
-  at_gate next = state_within First epoch (prepend payloads (found_at next (λ rest. records_within First left (suc (suc (length payloads))) rest)))
+  at_gate next = state_within format epoch (prepend payloads (found_at next (λ rest. records_within format left (suc (suc (length payloads))) rest)))
 
-  all_payloads : (ended : Bool) → state_within First epoch (prepend payloads (record { payloads = []; ended = ended })) ≡ (if ended && has_some payloads then Store epoch (length (opened First epoch payloads)) payloads else Damaged epoch (length payloads + 1))
+  -- the store of all of them
+  abbrev all_stored : AreaState
+  all_stored = Store epoch (length (opened format epoch payloads)) (next_after format payloads) payloads
+
+  all_payloads : (ended : Bool) → state_within format epoch (prepend payloads (record { payloads = []; ended = ended })) ≡ (if ended && has_some payloads then all_stored else Damaged epoch (length payloads + 1))
   all_payloads ended =
-      ap (λ (ps : List (List ℕ)). state_within First epoch (record { payloads = ps; ended = ended })) (append-nil payloads)
-      ∙ ap (λ o. judged o epoch (store_of First epoch (record { payloads = payloads; ended = ended }))) is.fit
+      ap (λ (ps : List (List ℕ)). state_within format epoch (record { payloads = ps; ended = ended })) (append-nil payloads)
+      ∙ ap (λ o. judged o epoch (store_of format epoch (record { payloads = payloads; ended = ended }))) is.fit
 
   -- a closed gate behind some records
-  pub store_read : next_of First (suc (length payloads)) tail ≡ Closed → has_some payloads ≡ true → area_state First all ≡ Store epoch (length (opened First epoch payloads)) payloads
-  store_read closed some =
-      state_opened ∙ ap at_gate closed ∙ all_payloads true
-      ∙ ap (λ (b : Bool). if b then Store epoch (length (opened First epoch payloads)) payloads else Damaged epoch (length payloads + 1)) some
+  pub store_read : next_of format (suc (length payloads)) tail ≡ Closed → has_some payloads ≡ true → area_state all ≡ Store epoch (length (opened format epoch payloads)) (next_after format payloads) payloads
+  store_read closed some = state_opened ∙ ap at_gate closed ∙ all_payloads true ∙ ap (λ (b : Bool). if b then all_stored else Damaged epoch (length payloads + 1)) some
 
   -- a closed gate behind none
-  pub none_read : next_of First (suc (length payloads)) tail ≡ Closed → has_some payloads ≡ false → area_state First all ≡ Damaged epoch (length payloads + 1)
-  none_read closed none =
-      state_opened ∙ ap at_gate closed ∙ all_payloads true
-      ∙ ap (λ (b : Bool). if b then Store epoch (length (opened First epoch payloads)) payloads else Damaged epoch (length payloads + 1)) none
+  pub none_read : next_of format (suc (length payloads)) tail ≡ Closed → has_some payloads ≡ false → area_state all ≡ Damaged epoch (length payloads + 1)
+  none_read closed none = state_opened ∙ ap at_gate closed ∙ all_payloads true ∙ ap (λ (b : Bool). if b then all_stored else Damaged epoch (length payloads + 1)) none
 
   -- a damaged record behind them
-  pub damaged_read : is_sound epoch (suc (length payloads)) (next_of First (suc (length payloads)) tail) ≡ false → area_state First all ≡ Damaged epoch (length payloads + 1)
-  damaged_read unsound = state_opened ∙ at (next_of First (suc (length payloads)) tail) unsound
+  pub damaged_read : is_sound format epoch (suc (length payloads)) (next_of format (suc (length payloads)) tail) ≡ false → area_state all ≡ Damaged epoch (length payloads + 1)
+  damaged_read unsound = state_opened ∙ at (next_of format (suc (length payloads)) tail) unsound
     where
-      at : (next : Next) → is_sound epoch (suc (length payloads)) next ≡ false → at_gate next ≡ Damaged epoch (length payloads + 1)
+      at : (next : Next) → is_sound format epoch (suc (length payloads)) next ≡ false → at_gate next ≡ Damaged epoch (length payloads + 1)
       at Closed wrong = absurd (let h : true ≡ false = wrong in cc)
       at Torn wrong = all_payloads false
       at (Whole payload rest) unfit =
-          let more = (records_within First left (suc (suc (length payloads))) rest).payloads in
-          ap (λ o. judged o epoch (store_of First epoch (prepend payloads (after_one payload (records_within First left (suc (suc (length payloads))) rest)))))
-          (unfit_on epoch 1 (suc (length payloads)) payloads (payload ∷ more) (omega arith) is.fit
-          ∙ ap (λ (b : Bool). if b then first_unfit epoch (suc (suc (length payloads))) more else Some (suc (length payloads))) unfit)
+          let more = (records_within format left (suc (suc (length payloads))) rest).payloads in
+          ap (λ o. judged o epoch (store_of format epoch (prepend payloads (after_one payload (records_within format left (suc (suc (length payloads))) rest)))))
+          (unfit_on format epoch 1 (suc (length payloads)) payloads (payload ∷ more) (omega arith) is.fit
+          ∙ ap (λ (b : Bool). if b then first_unfit format epoch (suc (suc (length payloads))) more else Some (suc (length payloads))) unfit)
           ∙ ap (λ n. Damaged epoch n) (sym (add-one (length payloads)))
 
 -- a closed gate ends the reading
-pub closed_next : (number gate : ℕ) (rest : List ℕ) → is_open gate ≡ false → next_of First number (gate ∷ rest) ≡ Closed
-closed_next number gate rest closed = ap (λ (b : Bool). if b then record_of First number rest else Closed) closed
+pub closed_next : (format : Format) (number gate : ℕ) (rest : List ℕ) → is_open gate ≡ false → next_of format number (gate ∷ rest) ≡ Closed
+closed_next format number gate rest closed = ap (λ (b : Bool). if b then record_of format number rest else Closed) closed
 
 -- an area that holds fit records is read as a store of them
-pub holds-read : (epoch : ℕ) (payloads : List (List ℕ)) (end : ℕ) (image : List ℕ) → Holds First epoch payloads end image → end < 256 ^ 8 → epoch < 256 ^ 8 → has_some payloads ≡ true → first_unfit epoch 1 payloads ≡ None → area_state First image ≡ Store epoch end payloads
-holds-read epoch payloads end image h fits small some fit =
-    ap (area_state First) h.bytes
-    ∙ store_read epoch payloads (h.gate ∷ h.rest) (record { numbered = h.numbered; epoch_small = small; small = omega (arith, fits, h.place); some = omega arith; fit = fit })
-    (closed_next (suc (length payloads)) h.gate h.rest h.closed) some
-    ∙ ap (λ n. Store epoch n payloads) (sym h.place)
+pub holds-read : (next : Option ℕ) (epoch : ℕ) (payloads : List (List ℕ)) (end : ℕ) (image : List ℕ) → Holds next epoch payloads end image → end < 256 ^ 8 → epoch < 256 ^ 8 → has_some payloads ≡ true → first_unfit (format_of next) epoch 1 payloads ≡ None
+    → area_state image ≡ Store epoch end next payloads
+holds-read next epoch payloads end image h fits small some fit =
+    ap area_state h.bytes
+    ∙ store_read (format_of next) epoch payloads (h.gate ∷ h.rest) (record { numbered = h.numbered; epoch_small = small; small = omega (arith, fits, h.place); some = omega arith; fit = fit })
+    (closed_next (format_of next) (suc (length payloads)) h.gate h.rest h.closed) some
+    ∙ ap (λ n. Store epoch n (next_after (format_of next) payloads) payloads) (sym h.place) ∙ ap (λ (o : Option ℕ). Store epoch end o payloads) (sym h.follows)

@@ -1,22 +1,29 @@
 -- How the records of an area are read from its first gate on.
-use Rattle.std.specs.Prelude.{ℕ, zero, suc, ◌+◌, Bool, true, false, List, [], ◌∷◌, length, take, drop, nat_lt, if◌then◌else◌}
+use Rattle.std.specs.Prelude.{ℕ, zero, suc, ◌+◌, Bool, true, false, List, [], ◌∷◌, length, take, drop, nat_eq, nat_lt, if◌then◌else◌}
 use Rattle.byteorder.specs.Endian.{big_number}
-use Rattle.pgs_journal.specs.Format.{Format, First, is_open}
+use Rattle.pgs_journal.specs.declared.format.Format.{Format}
+use Rattle.pgs_journal.specs.declared.format.Format.TheVariants.{First, Second}
+use Rattle.pgs_journal.specs.Format.{is_open}
 
 -- what stands at a gate
 pub data Next : Type 0 where
   -- it is closed
   Closed : Next
-  -- an open record that isn't whole
+  -- an open record that isn't whole, or that bears another number than its place
   Torn : Next
   -- a whole record, and what begins at the gate behind it
   Whole : (payload rest : List ℕ) → Next
 
--- the record behind an open gate: whole where the gate behind it is inside too
-abbrev pub record_of : Format → ℕ → List ℕ → Next
-record_of First number bytes =
+-- a length and so many bytes: whole where the gate behind them is inside too
+abbrev pub sized : List ℕ → Next
+sized bytes =
     let size = big_number 8 bytes in
     if nat_lt (8 + size) (length bytes) then Whole (take size (drop 8 bytes)) (drop (8 + size) bytes) else Torn
+
+-- the record behind an open gate, at the place of this number
+abbrev pub record_of : Format → ℕ → List ℕ → Next
+record_of First number bytes = sized bytes
+record_of Second number bytes = if nat_eq (big_number 8 bytes) number then sized (drop 8 bytes) else Torn
 
 abbrev pub next_of : Format → ℕ → List ℕ → Next
 next_of format number [] = Closed

@@ -3,8 +3,9 @@ use Rattle.std.specs.Prelude.{◌≡◌, ℕ, ◌+◌, ◌≤◌, ◌<◌, true,
 use Rattle.pgs_world.specs.declared.area.Area.{Area}
 use Rattle.pgs_world.specs.World.{View, part}
 use Rattle.pgs_journal.specs.declared.area_state.AreaState.{AreaState}
+use Rattle.pgs_journal.specs.declared.format.Format.{Format}
 use Rattle.pgs_journal.specs.Area.{is_fit, area_state, HoldsStore}
-use Rattle.pgs_journal.specs.Format.{First, is_epoch, record_body, opened}
+use Rattle.pgs_journal.specs.Format.{is_epoch, record_body, opened}
 
 -- where the world tells its bytes, an area has so many
 abbrev pub HasLength : View → Area → ℕ → Type 0
@@ -22,19 +23,19 @@ pub record Decide (view : View) (area : Area) (len at : ℕ) (P : List ℕ → T
   pub inside : at + length bytes ≤ len
   pub decide : (rest : List ℕ) → at + length rest ≡ len → take (length bytes) rest ≡ bytes → P rest
 
--- The first 17 bytes of an area: an open gate, the head of a store of this epoch, and the first record's gate.
-pub record IsFront (epoch : ℕ) (front : List ℕ) : Type 0 where
+-- The first 17 bytes of an area: an open gate, the head of a store of this format and epoch, and the first record's gate.
+pub record IsFront (format : Format) (epoch : ℕ) (front : List ℕ) : Type 0 where
   pub numbered : IsTrue (is_epoch epoch)
-  pub spelled : front ≡ opened First epoch [] ++ slice_index front 16 ∷ []
+  pub spelled : front ≡ opened format epoch [] ++ slice_index front 16 ∷ []
 
 -- A record of this number and the gate behind it stand in an area of this length, behind an open gate before this place, and the
 -- record is fit for its place.
-pub record IsRead (view : View) (area : Area) (len epoch number at : ℕ) (payload : List ℕ) (gate : ℕ) : Type 0 where
-  pub stand : Stand view area at (record_body First number payload ++ gate ∷ [])
-  pub inside : at + length (record_body First number payload) < len
-  pub fit : is_fit epoch number payload ≡ true
+pub record IsRead (view : View) (area : Area) (len : ℕ) (format : Format) (epoch number at : ℕ) (payload : List ℕ) (gate : ℕ) : Type 0 where
+  pub stand : Stand view area at (record_body format number payload ++ gate ∷ [])
+  pub inside : at + length (record_body format number payload) < len
+  pub fit : is_fit format epoch number payload ≡ true
 
 -- an area of these bytes is in this state, and where that is a store, they hold its records
 pub record IsStateOf (it : AreaState) (image : List ℕ) : Type 0 where
-  pub state : it ≡ area_state First image
-  pub holds : HoldsStore First it image
+  pub state : it ≡ area_state image
+  pub holds : HoldsStore it image

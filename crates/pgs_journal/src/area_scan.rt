@@ -1,7 +1,6 @@
 ghost use Rattle.std.specs.Prelude.{◌≡◌, ◌≤◌, ◌^◌, List, ℕ, length, IsTrue, Err, IfOk};
 ghost use Rattle.pgs_journal.specs.Area.{area_state, HoldsStore};
 ghost use Rattle.pgs_journal.specs.Bounds.{IsBounded};
-ghost use Rattle.pgs_journal.specs.Format.{First};
 ghost use Rattle.pgs_journal.specs.Seen.{HasLength, Stand, Decide, IsStateOf};
 ghost use Rattle.pgs_world.specs.Count.{Rose};
 ghost use Rattle.pgs_world.specs.Moment.{IsQuiet, ShowsOne, MakesNoPut};
@@ -34,10 +33,11 @@ fn scan_behind<W: World>(
     match front.head() {
         Head::NoStore => Ok(AreaState::NoStore),
         Head::Foreign => Ok(AreaState::Foreign),
-        Head::Store { epoch } => {
+        Head::Store { format, epoch } => {
             let records = RecordReader {
                 area: front.area,
                 len: front.len,
+                format,
                 epoch,
             };
             records.read_all(alloc, world, front.bytes[16])
@@ -53,10 +53,10 @@ fn scan_behind<W: World>(
 /// `Memory` may come wherever there is none. `AreaFault` comes only where the count of area faults rose.
 pub fn scan<W: World>(alloc: Global, world: &mut W, area: Area) -> Result<AreaState, ScanFault>
     // It is what the area is, where the world tells its bytes, and on every world what some bytes are, within bounds.
-    ensures state { IfOk result (λ state. IsTrue (W.view world.old).tells_bytes → state ≡ area_state First (part area (W.view world.old).shown)) }
-    ensures found { IfOk result (λ state. (image : List ℕ) × (length image ≤ 2 ^ 40) × (state ≡ area_state First image)) }
+    ensures state { IfOk result (λ state. IsTrue (W.view world.old).tells_bytes → state ≡ area_state (part area (W.view world.old).shown)) }
+    ensures found { IfOk result (λ state. (image : List ℕ) × (length image ≤ 2 ^ 40) × (state ≡ area_state image)) }
     // Where it is a store, the area holds the records, as `Journal::append` asks it of this epoch and this end.
-    ensures holds { IfOk result (λ state. IsTrue (W.view world.new).tells_bytes → HoldsStore First state (part area (W.view world.new).shown)) }
+    ensures holds { IfOk result (λ state. IsTrue (W.view world.new).tells_bytes → HoldsStore state (part area (W.view world.new).shown)) }
     ensures bounds { IfOk result IsBounded }
     ensures quiet { IsQuiet (W.view world.old) (W.view world.new) }
     ensures image { ShowsOne (W.view world.new) }

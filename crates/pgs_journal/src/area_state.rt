@@ -17,6 +17,8 @@ pub enum AreaState {
         epoch: u64,
         /// The place of the closed gate behind the last record.
         end: u64,
+        /// The number of the record behind the last one in the second format, `None` in the first.
+        next: Option<u64>,
         /// The payloads of the records, in order.
         payloads: List<Bytes>,
     },

@@ -1,12 +1,13 @@
 ghost use Rattle.std.specs.Prelude.{◌≡◌, ◌≤◌, ◌^◌, ℕ, length, Some, None, IsTrue, IfOk, OnOk, OnErr, if◌then◌else◌};
-ghost use Rattle.pgs_journal.specs.Area.{has_head, epoch_of, head_of, head_in};
-ghost use Rattle.pgs_journal.specs.Format.{First};
+ghost use Rattle.pgs_journal.specs.declared.format.Format.{Format};
+ghost use Rattle.pgs_journal.specs.Area.{epoch_of, format_in, head_format, head_with, head_of, head_in};
 ghost use Rattle.pgs_journal.specs.Seen.{HasLength, Stand, IsFront};
 ghost use Rattle.pgs_journal.specs.declared.head.Head.TheVariants as heads;
 ghost use Rattle.pgs_world.specs.Count.{Rose};
 ghost use Rattle.pgs_world.specs.Moment.{IsQuiet, ShowsOne, MakesNoPut};
 ghost use Rattle.pgs_world.specs.World.{part};
 
+use crate::Format;
 use crate::journal::OPEN;
 use byteorder::{BigEndian, ByteOrder};
 use pgs_world::{Area, AreaFault, World};
@@ -21,8 +22,8 @@ pub enum Head {
     NoStore,
     /// Its gate is open, and its head is no store's.
     Foreign,
-    /// It is a store of this epoch, whole or damaged.
-    Store { epoch: u64 },
+    /// It is a store of this format and epoch, whole or damaged.
+    Store { format: Format, epoch: u64 },
 }
 
 /// An area's length, and its first 17 bytes where it has so many: its gate, its head and the first record's gate.
@@ -33,32 +34,40 @@ pub(crate) struct Front {
     pub(crate) bytes: [u8; 17],
 }
 
-/// The epoch of a head that is one of this program.
-fn head_epoch(front: &[u8]) -> Option<u64>
+/// The format whose seven bytes stand behind the gate.
+fn format_in(front: &[u8]) -> Option<Format>
     requires { 17 ≤ length front.now }
-    ensures { result ≡ (if has_head First front.now then Some (epoch_of front.now) else None) }
+    ensures { result ≡ format_in front.now }
+{
+    match &front[1..8] {
+        b"PGSGRD1" => Some(Format::First),
+        b"PGSGRD2" => Some(Format::Second),
+        _ => None,
+    }
+}
+
+/// What the head behind an open gate says.
+fn head_behind(front: &[u8]) -> Head
+    requires { length front.now ≡ 17 }
+    ensures head { result ≡ head_with (head_format front.now) (epoch_of front.now) }
 {
     let epoch = BigEndian::read_u64(&front[8..]);
-    if &front[1..8] == b"PGSGRD1".as_slice() && (1..=LAST_EPOCH).contains(&epoch) {
-        Some(epoch)
-    } else {
-        None
+    match format_in(front) {
+        Some(format) if (1..=LAST_EPOCH).contains(&epoch) => Head::Store { format, epoch },
+        _ => Head::Foreign,
     }
 }
 
 /// What a head says, by the first 17 bytes of its area.
 fn head_of(front: &[u8]) -> Head
     requires { length front.now ≡ 17 }
-    ensures head { result ≡ head_of First front.now }
-    ensures begins { (epoch : ℕ) → result ≡ heads.Store epoch → IsFront epoch front.now }
+    ensures head { result ≡ head_of front.now }
+    ensures begins { (format : Format) (epoch : ℕ) → result ≡ heads.Store format epoch → IsFront format epoch front.now }
 {
     if front[0] != OPEN {
         return Head::NoStore;
     }
-    match head_epoch(front) {
-        Some(epoch) => Head::Store { epoch },
-        None => Head::Foreign,
-    }
+    head_behind(front)
 }
 
 impl Front {
@@ -86,8 +95,8 @@ impl Front {
 
     /// What the head says.
     pub(crate) fn head(&self) -> Head
-        ensures head { result ≡ head_in First self.now.len self.now.bytes }
-        ensures begins { (epoch : ℕ) → result ≡ heads.Store epoch → IsFront epoch self.now.bytes }
+        ensures head { result ≡ head_in self.now.len self.now.bytes }
+        ensures begins { (format : Format) (epoch : ℕ) → result ≡ heads.Store format epoch → IsFront format epoch self.now.bytes }
     {
         if self.len < 17 {
             return Head::NoStore;
@@ -100,7 +109,7 @@ impl Front {
 ///
 /// `AreaFault` comes only where the count of area faults rose.
 pub fn read_head<W: World>(world: &mut W, area: Area) -> Result<Head, AreaFault>
-    ensures head { IfOk result (λ head. IsTrue (W.view world.old).tells_bytes → head ≡ head_of First (part area (W.view world.old).shown)) }
+    ensures head { IfOk result (λ head. IsTrue (W.view world.old).tells_bytes → head ≡ head_of (part area (W.view world.old).shown)) }
     ensures quiet { IsQuiet (W.view world.old) (W.view world.new) }
     ensures image { ShowsOne (W.view world.new) }
     ensures cause { OnErr result (Rose (W.view world.old).area_faults (W.view world.new).area_faults) }

@@ -1,6 +1,6 @@
-ghost use Rattle.std.specs.Prelude.{◌≡◌, ◌+◌, ◌<◌, ◌^◌, ◌++◌, ◌∷◌, [], List, ℕ, length, IsTrue, IfOk, OnOk, OnErr};
+ghost use Rattle.std.specs.Prelude.{◌≡◌, ◌+◌, ◌≤◌, ◌<◌, ◌^◌, ◌++◌, ◌∷◌, [], List, ℕ, length, Some, IsTrue, IfOk, OnOk, OnErr};
 ghost use Rattle.pgs_codec.specs.Frame.{framed};
-ghost use Rattle.pgs_journal.specs.Format.{First, is_epoch, Holds, IsFrames};
+ghost use Rattle.pgs_journal.specs.Format.{advanced, is_epoch, Holds, IsFrames, IsNextWithin};
 ghost use Rattle.pgs_journal.specs.Stops.{Turns, Appends, Creates};
 ghost use Rattle.pgs_world.specs.Count.{Rose};
 ghost use Rattle.pgs_world.specs.Disk.{IsSameBeside};
@@ -20,12 +20,23 @@ pub struct Journal {
     pub epoch: u64,
     /// The place of the closed gate behind the last record.
     pub end: u64,
+    /// The number of the next record in the second format, `None` in the first.
+    pub next: Option<u64>,
+}
+
+/// The next number after one record more. It is in range, since the journal ends below 2^40 and its next number is at most that.
+fn number_after(next: Option<u64>, end: u64) -> Option<u64>
+    requires end { end < 2 ^ 40 }
+    requires within { IsNextWithin next end }
+    ensures { result ≡ advanced next }
+{
+    next.map(|number| number + 1)
 }
 
 impl Journal {
-    /// Makes a store of this epoch in an area, whose records are those of the frames, one after the other, and whose journal
-    /// ends behind them. A stop during the call leaves of the area what it was, no store, or the new store, also where the
-    /// call fails. It takes no memory.
+    /// Makes a store of this epoch in an area, in the second format, whose records are those of the frames, one after the other,
+    /// and whose journal ends behind them: the next record has the number `next`. A stop during the call leaves of the area
+    /// what it was, no store, or the new store, also where the call fails. It takes no memory.
     ///
     /// `AreaFault` comes only where the count of area faults rose.
     pub fn create<W: World>(
@@ -33,23 +44,27 @@ impl Journal {
         area: Area,
         epoch: u64,
         first: &[u8],
+        next: u64,
     ) -> Result<Journal, AreaFault>
         requires epoch { IsTrue (is_epoch epoch) }
-        requires frames { (payloads : List (List ℕ)) × IsFrames First payloads first.now }
+        requires some { 2 ≤ next }
+        requires frames { (payloads : List (List ℕ)) × IsFrames payloads next first.now }
 
         // After Ok the area is the new store, and it is on the disk.
-        ensures holds { (payloads : List (List ℕ)) → IsFrames First payloads first.now
+        ensures holds { (payloads : List (List ℕ)) → IsFrames payloads next first.now
             → IfOk result (λ journal. IsTrue (W.view world.old).tells_bytes
-            → Holds First epoch payloads journal.end (part area (W.view world.new).shown)) }
+            → Holds journal.next epoch payloads journal.end (part area (W.view world.new).shown)) }
         ensures synced { OnOk result (IsSynced area (W.view world.new)) }
         ensures settled { OnOk result (IsSettled (W.view world.old) → IsSettled (W.view world.new)) }
-        ensures journal { IfOk result (λ journal. journal ≡ record { area = area; epoch = epoch; end = 16 + length first.now }) }
+        ensures journal { IfOk result (λ journal. journal
+            ≡ record { area = area; epoch = epoch; end = 16 + length first.now; next = Some next }) }
         ensures within { IfOk result (λ journal. journal.end < 2 ^ 40) }
+        ensures next_within { IfOk result (λ journal. next ≤ journal.end) }
 
         // What a stop leaves at any moment of the call, where the area was synced.
-        ensures stops { (payloads : List (List ℕ)) → IsFrames First payloads first.now
+        ensures stops { (payloads : List (List ℕ)) → IsFrames payloads next first.now
             → IsTrue (W.view world.old).tells_bytes → IsSynced area (W.view world.old)
-            → StopsBy (Turns area (Creates First epoch payloads (16 + length first.now))) (W.view world.old) (W.view world.new) }
+            → StopsBy (Turns area (Creates epoch payloads (16 + length first.now))) (W.view world.old) (W.view world.new) }
         ensures stops_beside { StopsBy (IsSameBeside area) (W.view world.old) (W.view world.new) }
         ensures beside { IsSameBeside area (W.view world.old).shown (W.view world.new).shown }
 
@@ -67,35 +82,41 @@ impl Journal {
             area,
             epoch,
             end: 16 + first.len() as u64,
+            next: Some(next),
         })
     }
 
-    /// Appends a record, framed: at `Ok` it is on the disk, and the journal ends behind it. A stop during the call leaves
-    /// the records from before it, with the new one or without, also where the call fails. It takes no memory.
+    /// Appends a record, framed with the next number: at `Ok` it is on the disk, and the journal ends behind it. A stop during
+    /// the call leaves the records from before it, with the new one or without, also where the call fails. It takes no memory.
     ///
     /// `AreaFault` comes only where the count of area faults rose. The value isn't used again after it.
     pub fn append<W: World>(&mut self, world: &mut W, frame: &[u8]) -> Result<(), AreaFault>
-        requires framed { (payload : List ℕ) × (frame.now ≡ framed payload) }
+        requires framed { (payload : List ℕ) × (frame.now ≡ framed self.old.next payload) }
         requires within { self.old.end < 2 ^ 40 }
+        requires next_within { IsNextWithin self.old.next self.old.end }
         requires holds { IsTrue (W.view world.old).tells_bytes
-            → (payloads : List (List ℕ)) × Holds First self.old.epoch payloads self.old.end (part self.old.area (W.view world.old).shown) }
+            → (payloads : List (List ℕ))
+            × Holds self.old.next self.old.epoch payloads self.old.end (part self.old.area (W.view world.old).shown) }
 
         // After Ok the area holds the new record, and it is on the disk.
-        ensures holds { (payload : List ℕ) (payloads : List (List ℕ)) → frame.now ≡ framed payload
-            → Holds First self.old.epoch payloads self.old.end (part self.old.area (W.view world.old).shown)
+        ensures holds { (payload : List ℕ) (payloads : List (List ℕ)) → frame.now ≡ framed self.old.next payload
+            → Holds self.old.next self.old.epoch payloads self.old.end (part self.old.area (W.view world.old).shown)
             → OnOk result (IsTrue (W.view world.old).tells_bytes
-            → Holds First self.new.epoch (payloads ++ payload ∷ []) self.new.end (part self.new.area (W.view world.new).shown)) }
+            → Holds self.new.next self.new.epoch (payloads ++ payload ∷ []) self.new.end (part self.new.area (W.view world.new).shown)) }
         ensures synced { OnOk result (IsSynced self.old.area (W.view world.new)) }
         ensures settled { OnOk result (IsSettled (W.view world.old) → IsSettled (W.view world.new)) }
         ensures area { self.new.area ≡ self.old.area }
         ensures epoch { self.new.epoch ≡ self.old.epoch }
         ensures end { OnOk result (self.new.end ≡ self.old.end + length frame.now) }
+        ensures next { OnOk result (self.new.next ≡ advanced self.old.next) }
         ensures within { OnOk result (self.new.end < 2 ^ 40) }
+        ensures next_within { OnOk result (IsNextWithin self.new.next self.new.end) }
         ensures kept { OnErr result (self.new ≡ self.old) }
 
         // What a stop leaves at any moment of the call.
-        ensures stops { (payload : List ℕ) → frame.now ≡ framed payload → IsTrue (W.view world.old).tells_bytes
-            → StopsBy (Turns self.old.area (Appends First self.old.epoch self.old.end payload)) (W.view world.old) (W.view world.new) }
+        ensures stops { (payload : List ℕ) → frame.now ≡ framed self.old.next payload → IsTrue (W.view world.old).tells_bytes
+            → StopsBy (Turns self.old.area (Appends self.old.next self.old.epoch self.old.end payload))
+            (W.view world.old) (W.view world.new) }
         ensures stops_beside { StopsBy (IsSameBeside self.old.area) (W.view world.old) (W.view world.new) }
         ensures beside { IsSameBeside self.old.area (W.view world.old).shown (W.view world.new).shown }
 
@@ -107,6 +128,7 @@ impl Journal {
     {
         write_synced(world, self.area, self.end + 1, frame)?;
         write_synced(world, self.area, self.end, &[OPEN])?;
+        self.next = number_after(self.next, self.end);
         self.end += frame.len() as u64;
         Ok(())
     }

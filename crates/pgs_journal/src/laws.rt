@@ -1,21 +1,21 @@
 //! What the definitions of bytes and of areas have to do with each other. The functions do nothing; their contracts are the
 //! statements.
 
-ghost use Rattle.std.specs.Prelude.{◌≡◌, ◌<◌, ◌^◌, ℕ, List, true, None, slice_index};
+ghost use Rattle.std.specs.Prelude.{◌≡◌, ◌<◌, ◌^◌, ℕ, List, true, Option, None, slice_index};
 ghost use Rattle.pgs_journal.specs.Area.{area_state, first_unfit, has_some};
-ghost use Rattle.pgs_journal.specs.Format.{First, Holds};
+ghost use Rattle.pgs_journal.specs.Format.{format_of, Holds};
 ghost use Rattle.pgs_journal.specs.declared.area_state.AreaState.TheVariants as areas;
 
 /// An area that holds records, each fit for its place, is read as a store of them, whatever stands behind its closed gate.
 pub fn held_records_are_read()
-    ensures { (epoch end : ℕ) (payloads : List (List ℕ)) (image : List ℕ) → Holds First epoch payloads end image → end < 2 ^ 64
-        → has_some payloads ≡ true → first_unfit epoch 1 payloads ≡ None → area_state First image ≡ areas.Store epoch end payloads }
+    ensures { (epoch end : ℕ) (next : Option ℕ) (payloads : List (List ℕ)) (image : List ℕ) → Holds next epoch payloads end image → end < 2 ^ 64
+        → has_some payloads ≡ true → first_unfit (format_of next) epoch 1 payloads ≡ None → area_state image ≡ areas.Store epoch end next payloads }
 {}
 
 /// The other way round: an area of bytes that is read as a store holds its records, and each is fit for its place.
 pub fn read_records_are_held()
-    ensures held { (epoch end : ℕ) (payloads : List (List ℕ)) (image : List ℕ) → ((i : ℕ) → slice_index image i < 256)
-        → area_state First image ≡ areas.Store epoch end payloads → Holds First epoch payloads end image }
-    ensures fit { (epoch end : ℕ) (payloads : List (List ℕ)) (image : List ℕ) → ((i : ℕ) → slice_index image i < 256)
-        → area_state First image ≡ areas.Store epoch end payloads → (has_some payloads ≡ true) × (first_unfit epoch 1 payloads ≡ None) }
+    ensures held { (epoch end : ℕ) (next : Option ℕ) (payloads : List (List ℕ)) (image : List ℕ) → ((i : ℕ) → slice_index image i < 256)
+        → area_state image ≡ areas.Store epoch end next payloads → Holds next epoch payloads end image }
+    ensures fit { (epoch end : ℕ) (next : Option ℕ) (payloads : List (List ℕ)) (image : List ℕ) → ((i : ℕ) → slice_index image i < 256)
+        → area_state image ≡ areas.Store epoch end next payloads → (has_some payloads ≡ true) × (first_unfit (format_of next) epoch 1 payloads ≡ None) }
 {}

@@ -7,6 +7,7 @@
 
 mod area_scan;
 mod area_state;
+mod format;
 mod head;
 mod journal;
 pub mod laws;
@@ -17,6 +18,7 @@ mod steps;
 
 pub use area_scan::scan;
 pub use area_state::AreaState;
+pub use format::Format;
 pub use head::{Head, read_head};
 pub use journal::Journal;
 pub use scan_fault::ScanFault;

@@ -1,31 +1,38 @@
-ghost use Rattle.std.specs.Prelude.{◌≡◌, ◌+◌, ◌≤◌, ◌<◌, ◌^◌, ℕ, List, ◌++◌, ◌∷◌, [], length, true, false, Err, IsTrue, IfOk, OnOk, OnErr};
+ghost use Rattle.std.specs.Prelude.{◌≡◌, ◌+◌, ◌≤◌, ◌<◌, ◌^◌, ℕ, List, ◌++◌, ◌∷◌, [], length, take, true, false, Err, IsTrue, IfOk, OnOk, OnErr};
 ghost use Rattle.std.specs.Option.{MatchOption};
 ghost use Rattle.byteorder.specs.Endian.{big_bytes, big_number};
+ghost use Rattle.pgs_codec.specs.Frame.{number_field};
 ghost use Rattle.pgs_journal.specs.Area.{is_fit, is_sound};
-ghost use Rattle.pgs_journal.specs.Format.{First, is_epoch, opened};
+ghost use Rattle.pgs_journal.specs.Format.{field_bytes, is_epoch, opened, record_number};
 ghost use Rattle.pgs_journal.specs.Reading.{record_of, Torn};
 ghost use Rattle.pgs_journal.specs.Seen.{HasLength, Stand, Decide, IsRead, IsStateOf};
 ghost use Rattle.pgs_world.specs.Count.{Rose};
 ghost use Rattle.pgs_world.specs.Moment.{IsQuiet, ShowsOne, MakesNoPut};
 
 use crate::journal::OPEN;
-use crate::{AreaState, ScanFault};
+use crate::{AreaState, Format, ScanFault};
 use byteorder::{BigEndian, ByteOrder};
 use pgs_base::{Bytes, List, Memory};
-use pgs_codec::{Command, decode};
+use pgs_codec::{PayloadKind, payload_kind};
 use pgs_world::{Area, AreaFault, World};
 use std::alloc::Global;
 
 /// Whether a payload is fit for its place.
 #[tactic(auto, unfolding(crate::specs::Area::is_fit))]
-fn fits(alloc: Global, epoch: u64, number: u64, payload: &[u8]) -> Result<bool, Memory>
+fn fits(
+    alloc: Global,
+    format: Format,
+    epoch: u64,
+    number: u64,
+    payload: &[u8],
+) -> Result<bool, Memory>
     requires { IsTrue (is_epoch epoch) }
-    ensures { IfOk result (λ fits. fits ≡ is_fit epoch number payload.now) }
+    ensures { IfOk result (λ fits. fits ≡ is_fit format epoch number payload.now) }
 {
-    match decode(alloc, payload)? {
-        Some(Command::Schema(_)) => Ok(number == 1),
-        Some(Command::Txn(_)) => Ok(number != 1),
-        Some(Command::Snapshot { commits, .. }) => {
+    match payload_kind(alloc, payload)? {
+        Some(PayloadKind::Schema) => Ok(number == 1 || format == Format::Second),
+        Some(PayloadKind::Txn) => Ok(number != 1),
+        Some(PayloadKind::Snapshot { commits }) => {
             Ok(number == 2 && commits <= (epoch - 1) * (1 << 40))
         }
         None => Ok(false),
@@ -41,6 +48,20 @@ fn number_of(bytes: &[u8]) -> u64
     BigEndian::read_u64(bytes)
 }
 
+/// The length that the fields of a record give, where they bear its number.
+fn size_in(format: Format, number: u64, fields: &[u8]) -> Option<u64>
+    requires { length fields.now ≡ field_bytes format }
+    ensures { MatchOption result
+        ((rest : List ℕ) → take (length fields.now) rest ≡ fields.now → record_of format number rest ≡ Torn)
+        (λ size. fields.now ≡ number_field (record_number format number) ++ big_bytes 8 size) }
+{
+    match format {
+        Format::First => Some(number_of(fields)),
+        Format::Second if number_of(&fields[..8]) == number => Some(number_of(&fields[8..])),
+        Format::Second => None,
+    }
+}
+
 /// As many zeros.
 fn zeros(alloc: Global, count: usize) -> Result<Vec<u8>, Memory>
     ensures { IfOk result (λ bytes. length bytes.items ≡ count) }
@@ -48,36 +69,48 @@ fn zeros(alloc: Global, count: usize) -> Result<Vec<u8>, Memory>
     Ok(vec![in alloc; 0; count]?)
 }
 
-/// Reads the records of an area whose head is that of a store of this epoch.
+/// Reads the records of an area whose head is that of a store of this format and epoch.
 #[derive(Clone, Copy, Debug)]
 pub(crate) struct RecordReader {
     pub(crate) area: Area,
     pub(crate) len: u64,
+    pub(crate) format: Format,
     pub(crate) epoch: u64,
 }
 
 impl RecordReader {
-    /// How long the payload is of the record whose gate, an open one, stands before this place; `None` where the record isn't whole.
-    fn size_at<W: World>(&self, world: &mut W, at: u64) -> Result<Option<u64>, AreaFault>
+    /// How long the payload is of the record of this number whose gate, an open one, stands before this place; `None` where the
+    /// record isn't whole or bears another number.
+    fn size_at<W: World>(
+        &self,
+        world: &mut W,
+        at: u64,
+        number: u64,
+    ) -> Result<Option<u64>, AreaFault>
         requires at { at ≤ self.now.len }
         requires len { HasLength (W.view world.old) self.now.area self.now.len }
         ensures size { IfOk result (λ found. MatchOption found
-            (Decide (W.view world.old) self.now.area self.now.len at (λ rest. (number : ℕ) → record_of First number rest ≡ Torn))
-            (λ size. (at + 8 + size < self.now.len) × Stand (W.view world.old) self.now.area at (big_bytes 8 size))) }
+            (Decide (W.view world.old) self.now.area self.now.len at (λ rest. record_of self.now.format number rest ≡ Torn))
+            (λ size. (at + field_bytes self.now.format + size < self.now.len)
+            × Stand (W.view world.old) self.now.area at (number_field (record_number self.now.format number) ++ big_bytes 8 size))) }
         ensures quiet { IsQuiet (W.view world.old) (W.view world.new) }
         ensures image { ShowsOne (W.view world.old) → ShowsOne (W.view world.new) }
         ensures cause { OnErr result (Rose (W.view world.old).area_faults (W.view world.new).area_faults) }
         ensures no_cause { OnOk result ((W.view world.new).area_faults ≡ (W.view world.old).area_faults) }
         ensures no_put { MakesNoPut (W.view world.old) (W.view world.new) }
     {
+        let wanted = self.format.field_bytes();
         let left = self.len - at;
-        if left <= 8 {
+        if left <= wanted {
             return Ok(None);
         }
-        let mut bytes = [0; 8];
-        world.read_at(self.area, at, &mut bytes)?;
-        let size = number_of(&bytes);
-        if size >= left - 8 {
+        let mut bytes = [0; 16];
+        let fields = &mut bytes[..wanted as usize];
+        world.read_at(self.area, at, fields)?;
+        let Some(size) = size_in(self.format, number, fields) else {
+            return Ok(None);
+        };
+        if size >= left - wanted {
             return Ok(None);
         }
         Ok(Some(size))
@@ -122,19 +155,20 @@ impl RecordReader {
         requires epoch { IsTrue (is_epoch self.now.epoch) }
         requires len { HasLength (W.view world.old) self.now.area self.now.len }
         ensures record { IfOk result (λ found. MatchOption found
-            (Decide (W.view world.old) self.now.area self.now.len at (λ rest. is_sound self.now.epoch number (record_of First number rest) ≡ false))
-            (λ read. IsRead (W.view world.old) self.now.area self.now.len self.now.epoch number at read.0 read.1)) }
+            (Decide (W.view world.old) self.now.area self.now.len at (λ rest. is_sound self.now.format self.now.epoch number (record_of self.now.format number rest) ≡ false))
+            (λ read. IsRead (W.view world.old) self.now.area self.now.len self.now.format self.now.epoch number at read.0 read.1)) }
         ensures quiet { IsQuiet (W.view world.old) (W.view world.new) }
         ensures image { ShowsOne (W.view world.old) → ShowsOne (W.view world.new) }
         ensures cause { result ≡ Err ScanFault.AreaFault → Rose (W.view world.old).area_faults (W.view world.new).area_faults }
         ensures no_cause { (result ≡ Err ScanFault.AreaFault → ⊥) → (W.view world.new).area_faults ≡ (W.view world.old).area_faults }
         ensures no_put { MakesNoPut (W.view world.old) (W.view world.new) }
     {
-        let Some(size) = self.size_at(world, at)? else {
+        let Some(size) = self.size_at(world, at, number)? else {
             return Ok(None);
         };
-        let (payload, gate) = self.payload_at(alloc, world, at + 8, size)?;
-        if fits(alloc, self.epoch, number, payload.as_slice())? {
+        let behind = at + self.format.field_bytes();
+        let (payload, gate) = self.payload_at(alloc, world, behind, size)?;
+        if fits(alloc, self.format, self.epoch, number, payload.as_slice())? {
             Ok(Some((payload, gate)))
         } else {
             Ok(None)
@@ -152,7 +186,7 @@ impl RecordReader {
         requires limit { self.now.len ≤ 2 ^ 40 }
         requires epoch { IsTrue (is_epoch self.now.epoch) }
         requires len { HasLength (W.view world.old) self.now.area self.now.len }
-        requires front { Stand (W.view world.old) self.now.area 0 (opened First self.now.epoch [] ++ gate ∷ []) }
+        requires front { Stand (W.view world.old) self.now.area 0 (opened self.now.format self.now.epoch [] ++ gate ∷ []) }
         requires image { ShowsOne (W.view world.old) }
         ensures decided { IfOk result (λ state. Decide (W.view world.old) self.now.area self.now.len 0 (IsStateOf state)) }
         ensures quiet { IsQuiet (W.view world.old) (W.view world.new) }
@@ -172,7 +206,7 @@ impl RecordReader {
                     number,
                 });
             };
-            at += 9 + payload.len() as u64;
+            at += 1 + self.format.field_bytes() + payload.len() as u64;
             gate = behind;
             if payloads.push(payload).is_err() {
                 return Err(ScanFault::Memory);
@@ -187,6 +221,7 @@ impl RecordReader {
         Ok(AreaState::Store {
             epoch: self.epoch,
             end: at,
+            next: self.format.numbered(payloads.len() as u64 + 1),
             payloads: List::from_vec(payloads),
         })
     }

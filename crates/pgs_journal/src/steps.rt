@@ -2,7 +2,8 @@
 
 ghost use Rattle.std.specs.Prelude.{◌≡◌, ◌+◌, ◌≤◌, ◌^◌, ◌++◌, ◌∷◌, [], false, length, IsTrue, IfOk, OnOk, OnErr};
 ghost use Rattle.pgs_journal.specs.Area.{opens, is_empty_or_open};
-ghost use Rattle.pgs_journal.specs.Format.{First, head_body};
+ghost use Rattle.pgs_journal.specs.declared.format.Format.TheVariants.{Second};
+ghost use Rattle.pgs_journal.specs.Format.{head_body};
 ghost use Rattle.pgs_journal.specs.Stops.{Turns, Closes, KeepsGate};
 ghost use Rattle.pgs_world.specs.Count.{Rose};
 ghost use Rattle.pgs_world.specs.Disk.{IsSameBeside};
@@ -18,7 +19,8 @@ const CLOSED: u8 = 0;
 
 /// Whether an area is empty or its gate is open.
 fn must_close<W: World>(world: &mut W, area: Area) -> Result<bool, AreaFault>
-    ensures answer { IfOk result (λ must. IsTrue (W.view world.old).tells_bytes → must ≡ is_empty_or_open (part area (W.view world.old).shown)) }
+    ensures answer { IfOk result (λ must. IsTrue (W.view world.old).tells_bytes
+        → must ≡ is_empty_or_open (part area (W.view world.old).shown)) }
     ensures quiet { IsQuiet (W.view world.old) (W.view world.new) }
     ensures image { ShowsOne (W.view world.new) }
     ensures cause { OnErr result (Rose (W.view world.old).area_faults (W.view world.new).area_faults) }
@@ -56,11 +58,11 @@ pub(crate) fn close_gate<W: World>(world: &mut W, area: Area) -> Result<(), Area
     Ok(())
 }
 
-/// A head behind its gate, and an open gate.
+/// A head of the second format behind its gate, and an open gate.
 fn head_bytes(epoch: u64) -> [u8; 16]
-    ensures { result ≡ head_body First epoch ++ 1 ∷ [] }
+    ensures { result ≡ head_body Second epoch ++ 1 ∷ [] }
 {
-    let mut head = *b"PGSGRD1\0\0\0\0\0\0\0\0\x01";
+    let mut head = *b"PGSGRD2\0\0\0\0\0\0\0\0\x01";
     BigEndian::write_u64(&mut head[7..15], epoch);
     head
 }
@@ -74,7 +76,7 @@ pub(crate) fn write_store<W: World>(
 ) -> Result<(), AreaFault>
     requires { IsTrue (W.view world.old).tells_bytes → length (part area (W.view world.old).shown) ≡ 1 }
     ensures written { OnOk result (IsTrue (W.view world.old).tells_bytes
-        → part area (W.view world.new).shown ≡ part area (W.view world.old).shown ++ (head_body First epoch ++ 1 ∷ first.now)) }
+        → part area (W.view world.new).shown ≡ part area (W.view world.old).shown ++ (head_body Second epoch ++ 1 ∷ first.now)) }
     ensures limit { OnOk result (17 + length first.now ≤ 2 ^ 40) }
     ensures synced { OnOk result (IsSynced area (W.view world.new)) }
     ensures settled { OnOk result (IsSettled (W.view world.old) → IsSettled (W.view world.new)) }

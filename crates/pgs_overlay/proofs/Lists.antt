@@ -7,7 +7,7 @@ use Rattle.pgs_base.specs.declared.element.NodeId.{NodeId}
 use Rattle.pgs_base.specs.Graph.{Graph, edge_cmp, is_graph, element_count}
 use Rattle.pgs_graph.specs.Reads.{ends_at}
 use Rattle.pgs_graph.proofs.Deltas.{ascending_edges}
-use Rattle.pgs_tables.proofs.EdgeLists.{ascending-edges_with}
+use Rattle.pgs_graph.proofs.EdgeLists.{ascending-edges_with}
 use Rattle.pgs_overlay.specs.declared.side.Side.{Side}
 use Rattle.pgs_overlay.specs.Sides.{end_at, edges_at}
 

@@ -16,7 +16,8 @@ use Rattle.pgs_graph.specs.declared.scan.End.{End}
 use Rattle.pgs_graph.specs.Reads.{end_of, edges_with}
 use Rattle.pgs_graph.specs.Changed.{entry_changed, entries_changed, after_changes}
 use Rattle.pgs_graph.proofs.Deltas.{edge_cmp_total, exact_edge, ascending_edges, ascending-entry_changed, ascending-entries_changed, lookup-entries_changed}
-use Rattle.pgs_tables.proofs.EdgeLists.{has_end, edited-changed, any-edges_with, ascending-edges_with}
+use Rattle.pgs_graph.specs.Lists.{has_end}
+use Rattle.pgs_graph.proofs.EdgeLists.{edited-changed, any-edges_with, ascending-edges_with}
 use Rattle.pgs_overlay.specs.declared.side.Side.{Side}
 use Rattle.pgs_overlay.specs.declared.edited_list.EditedList.{EditedList}
 use Rattle.pgs_overlay.specs.Edited.{IsEditedAt}

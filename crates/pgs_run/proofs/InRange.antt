@@ -4,7 +4,7 @@ use Rattle.std.specs.Prelude.{nat_le, option_map, option_and_then}
 use Rattle.std.proofs.lemmas.Bool.{leb-true}
 use Rattle.pgs_base.specs.declared.element.Elem.{Elem}
 use Rattle.pgs_run_words.specs.declared.command.Command.{Command}
-use Rattle.pgs_run_words.specs.declared.command.Command.TheVariants.{Try, Validate, Load, Apply, Recover, Explain, Gen, Checkpoint}
+use Rattle.pgs_run_words.specs.declared.command.Command.TheVariants.{Try, Validate, Load, Apply, Recover, Explain, Gen, Checkpoint, Contain, Evolve}
 use Rattle.pgs_run_words.specs.declared.command_word.CommandWord.{CommandWord}
 use Rattle.pgs_run_words.specs.declared.command_word.CommandWord.TheVariants as words
 use Rattle.pgs_run_words.specs.Further.{are_plain}
@@ -64,6 +64,11 @@ in_command words.Gen further = generated_few further
 in_command words.Checkpoint [] = tt
 in_command words.Checkpoint (name ∷ []) = tt
 in_command words.Checkpoint (name ∷ word ∷ further) = tt
+in_command words.Evolve [] = tt
+in_command words.Evolve (name ∷ []) = tt
+in_command words.Evolve (name ∷ word ∷ further) = tt
+in_command words.Contain [] = tt
+in_command words.Contain (word ∷ further) = tt
 
 by_word : (word : Option CommandWord) (further : List (List ℕ)) → IfSome (option_and_then (λ w. command_in w further) word) HasFew
 by_word None further = tt
@@ -86,6 +91,8 @@ few_in_range Recover few = tt
 few_in_range (Explain elem) few = tt
 few_in_range (Gen start count) few = few
 few_in_range Checkpoint few = tt
+few_in_range Contain few = tt
+few_in_range Evolve few = tt
 
 all_in_range : (command : Option Command) → IfSome command HasFew → IfSome command IsInRange
 all_in_range None few = tt

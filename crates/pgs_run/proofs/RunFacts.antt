@@ -1,5 +1,5 @@
 -- The facts of a run, from those of its command.
-use Rattle.std.proofs.Common.{◌≡◌, ℕ, Bool, true, false, List, [], Option, Some, None, refl, sym, subst, inl, inr, ◌∙◌}
+use Rattle.std.proofs.Common.{◌≡◌, ℕ, Bool, true, false, List, [], Option, Some, None, refl, sym, subst, inl, inr, ⊎_elim, ◌∙◌}
 use Rattle.pgs_feed.specs.Places.{Place, lost_count}
 use Rattle.pgs_answer.specs.Lines.{words_refused_line}
 use Rattle.pgs_run_lines.specs.AreasKept.{KeepsAreas}
@@ -11,6 +11,7 @@ use Rattle.pgs_run_lines.proofs.Causes.{world_same}
 use Rattle.pgs_run_lines.proofs.RunEnds.{within_unread}
 use Rattle.pgs_run_lines.proofs.Showing.{shows_none}
 use Rattle.pgs_run_words.specs.declared.command.Command.{Command}
+use Rattle.pgs_run_words.specs.declared.command.Command.TheVariants.{Try, Validate, Load, Apply, Recover, Explain, Gen, Checkpoint, Contain, Evolve}
 use Rattle.pgs_world.specs.Moment.{IsSettled}
 use Rattle.pgs_world.specs.World.{View}
 use Rattle.pgs_run_base.specs.declared.status.Status.{Status}
@@ -21,11 +22,16 @@ use Rattle.pgs_run_base.specs.Run.{IsRead, EndsAs, HasCommandCause, TakesWithin}
 use Rattle.pgs_run_base.proofs.Images.{images_areas, settled_images}
 use Rattle.pgs_run.specs.Command.{reads_source, uses_areas, IsTold}
 use Rattle.pgs_run.specs.Leaving.{Leaves, Feeds, ReadsInVain}
+use Rattle.pgs_run_contain.specs.declared.ending.Ending.{Ending}
+use Rattle.pgs_run_contain.specs.declared.ending.Ending.TheVariants as endings
+use Rattle.pgs_run_contain.specs.Answers.{Answer, listed}
+use Rattle.pgs_run_contain.specs.Running.{AnsweredAt, RunsAs}
+use Rattle.pgs_run_contain.specs.Told.{told_contain, told_texts}
 use Rattle.pgs_run_gen.specs.Answer.{IsAnswer as IsGenAnswer}
 use Rattle.pgs_run_saved.specs.Opening.{IsAnswer}
 use Rattle.pgs_run.specs.Run.{HasRunCause, RefusesWords}
 use Rattle.pgs_run.specs.Runs.{SourceState, Setting, Runs}
-use Rattle.pgs_run.specs.Told.{told_command, told_of_words}
+use Rattle.pgs_run.specs.Told.{told_command, told_of_words, AreAnswers}
 
 -- the cause that a command's own clause tells
 pub cause_of : (command : Command) (old new : Faults) (status : Status) → (status ≡ InputTooLong → reads_source (Some command) ≡ true) → HasCommandCause (reads_source (Some command)) (uses_areas (Some command)) old new status → HasRunCause (Some command) old new status
@@ -79,14 +85,83 @@ unread_refused status (inl is) = ((λ fault. cc), (λ cut. cc))
 unread_refused status (inr (inl is)) = ((λ fault. cc), (λ cut. cc))
 unread_refused status (inr (inr is)) = ((λ fault. cc), (λ cut. cc))
 
+-- ---- answers
+
+-- a command that reads nothing answers nothing
+unasked : (command : Option Command) (left : Option (List ℕ)) (budget : ℕ) (status : Status) → reads_source command ≡ false → AreAnswers command left budget [] status
+unasked None left budget status alone = tt
+unasked (Some Try) left budget status alone = tt
+unasked (Some Validate) left budget status alone = tt
+unasked (Some Load) left budget status alone = tt
+unasked (Some Apply) left budget status alone = tt
+unasked (Some Recover) left budget status alone = tt
+unasked (Some (Explain elem)) left budget status alone = tt
+unasked (Some (Gen start count)) left budget status alone = tt
+unasked (Some Checkpoint) left budget status alone = tt
+unasked (Some Evolve) left budget status alone = tt
+unasked (Some Contain) left budget status alone = absurd (let no : true ≡ false = alone in cc)
+
+-- for want of memory no type has an answer
+unanswered_at : (ending : Ending) → AnsweredAt ending [] Memory
+unanswered_at (endings.Fit first second) = record {
+  answered = [];
+  later = listed first first.guard.types;
+  parts = refl;
+  right = tt;
+  whole = λ done. absurd (⊎_elim (λ (e : Memory ≡ Accepted). cc) (λ (e : Memory ≡ Refused). cc) done);
+}
+unanswered_at endings.Refused = tt
+unanswered_at endings.Cut = tt
+
+unanswered : (command : Option Command) (left : Option (List ℕ)) (budget : ℕ) → AreAnswers command left budget [] Memory
+unanswered None left budget = tt
+unanswered (Some Try) left budget = tt
+unanswered (Some Validate) left budget = tt
+unanswered (Some Load) left budget = tt
+unanswered (Some Apply) left budget = tt
+unanswered (Some Recover) left budget = tt
+unanswered (Some (Explain elem)) left budget = tt
+unanswered (Some (Gen start count)) left budget = tt
+unanswered (Some Checkpoint) left budget = tt
+unanswered (Some Evolve) left budget = tt
+unanswered (Some Contain) left budget = λ input is. unanswered_at (told_texts input budget).status
+
+-- a run of `contain`, by its answers
+pub record RunsBy (start : Shown) (before : Option (List ℕ)) (budget : ℕ) (left : Option (List ℕ)) (status : Status) (now : Shown) : Type 0 where
+  pub answers : List Answer
+  pub right : AreAnswers (Some Contain) before budget answers status
+  pub ends : (input : List ℕ) → before ≡ Some input → EndsAs (told_contain answers input) start input budget left status now
+
+same_text : (x y : List ℕ) → Some x ≡ Some y → x ≡ y
+same_text x y is = cc
+
+-- its input has the answers
+pub runs_by : (start : Shown) (before : Option (List ℕ)) (budget : ℕ) (left : Option (List ℕ)) (status : Status) (now : Shown) → ((input : List ℕ) → before ≡ Some input → RunsAs start input budget left status now) → RunsBy start before budget left status now
+runs_by start None budget left status now runs = record {
+  answers = [];
+  right = λ input is. absurd (let no : None ≡ Some input = is in cc);
+  ends = λ input is. absurd (let no : None ≡ Some input = is in cc);
+}
+runs_by start (Some text) budget left status now runs =
+    let ran = runs text refl in
+    record {
+      answers = ran.answers;
+      right = λ input is. subst (λ (t : List ℕ). AnsweredAt (told_texts t budget).status ran.answers status) (same_text text input is) ran.right;
+      ends = λ input is. subst (λ (t : List ℕ). EndsAs (told_contain ran.answers t) start t budget left status now) (same_text text input is) ran.ends;
+    }
+
+-- ---- the facts of a run
+
 -- a command that reads nothing, or refused words
 pub runs_alone : (command : Option Command) (budget : ℕ) (source : SourceState) (old new : View) (before after : List Place) (status : Status) → reads_source command ≡ false → IsUnread status
-    → ((input : List ℕ) → IsTold command source.left old input → Ends (shown_of old) (told_command command input (areas_of old) budget (lost_count after)) status (shown_of new))
+    → ((input : List ℕ) → IsTold command source.left old input → Ends (shown_of old) (told_command command input (areas_of old) budget (lost_count after) []) status (shown_of new))
     → HasRunCause command (faults_of source.faults old) (faults_of source.faults new) status
     → Leaves command source.left (lost_count after) old new status → (IsSettled old → (status ≡ DiskFault → ⊥) → IsSettled new) → Feeds command source.left old new before after status
     → Runs command budget (record { source = source; view = old; places = before }) (record { source = source; view = new; places = after }) status
 runs_alone command budget source old new before after status alone unread shown cause leaves settles fed = record {
-  ends = λ input known left_is. ends_unread (λ bytes. told_command command input (areas_of old) bytes (lost_count after)) (shown_of old) source.left (shown_of new) input budget status left_is unread (shown input known);
+  answers = [];
+  right = unasked command source.left budget status alone;
+  ends = λ input known left_is. ends_unread (λ bytes. told_command command input (areas_of old) bytes (lost_count after) []) (shown_of old) source.left (shown_of new) input budget status left_is unread (shown input known);
   takes = λ input rest left_all left_is. takes_unread source.left input rest budget status left_all left_is unread;
   alone = λ input known reads. shown input known;
   unread = λ reads. refl;
@@ -99,16 +174,18 @@ runs_alone command budget source old new before after status alone unread shown 
 }
 
 -- a command that reads its source
-pub runs_reading : (command : Command) (budget : ℕ) (old new : Setting) (status : Status) → reads_source (Some command) ≡ true
+pub runs_reading : (command : Command) (budget : ℕ) (old new : Setting) (status : Status) (answers : List Answer) → AreAnswers (Some command) old.source.left budget answers status → reads_source (Some command) ≡ true
     → ((input : List ℕ) → IsTold (Some command) old.source.left old.view input → old.source.left ≡ Some input
-    → EndsAs (λ bytes. told_command (Some command) input (areas_of old.view) bytes (lost_count new.places)) (shown_of old.view) input budget new.source.left status (shown_of new.view))
+    → EndsAs (λ bytes. told_command (Some command) input (areas_of old.view) bytes (lost_count new.places) answers) (shown_of old.view) input budget new.source.left status (shown_of new.view))
     → ((input rest : List ℕ) → old.source.left ≡ Some input → new.source.left ≡ Some rest → TakesWithin input budget rest status)
     → IsRead new.source.left status
     → HasCommandCause true (uses_areas (Some command)) (faults_of old.source.faults old.view) (faults_of new.source.faults new.view) status
     → (ReadsInVain (Some command) old.view status → new.source ≡ old.source) → Leaves (Some command) old.source.left (lost_count new.places) old.view new.view status
     → (IsSettled old.view → (status ≡ DiskFault → ⊥) → IsSettled new.view) → Feeds (Some command) old.source.left old.view new.view old.places new.places status
     → Runs (Some command) budget old new status
-runs_reading command budget old new status reads ends takes read cause in_vain leaves settles fed = record {
+runs_reading command budget old new status answers right reads ends takes read cause in_vain leaves settles fed = record {
+  answers = answers;
+  right = right;
   ends = ends;
   takes = takes;
   alone = λ input known no. let e = sym reads ∙ no in cc;
@@ -148,6 +225,8 @@ none_first start pieces = record { first = []; later = pieces; parts = refl; sho
 pub runs_memory : (command : Option Command) (budget : ℕ) (source : SourceState) (view : View) (places : List Place) → Leaves command source.left (lost_count places) view view Memory → Feeds command source.left view view places places Memory
     → Runs command budget (record { source = source; view = view; places = places }) (record { source = source; view = view; places = places }) Memory
 runs_memory command budget source view places leaves fed = record {
+  answers = [];
+  right = unanswered command source.left budget;
   ends = λ input known left_is. ends_unread _ (shown_of view) source.left (shown_of view) input budget Memory left_is ((λ e. cc), (λ e. cc)) (none_first (shown_of view) _);
   takes = λ input rest left_all left_is. takes_unread source.left input rest budget Memory left_all left_is ((λ e. cc), (λ e. cc));
   alone = λ input known reads. none_first (shown_of view) _;

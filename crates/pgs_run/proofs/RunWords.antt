@@ -10,6 +10,7 @@ use Rattle.pgs_run_base.specs.declared.status.Status.TheVariants.{Accepted, Refu
 use Rattle.pgs_run_base.specs.Areas.{Areas, areas_of}
 use Rattle.pgs_run_base.specs.Ending.{Ends}
 use Rattle.pgs_run_base.specs.Run.{IsDisturbed, IsComplete}
+use Rattle.pgs_run_contain.specs.Answers.{Answer}
 use Rattle.pgs_run_words.specs.Words.{command_of}
 use Rattle.pgs_run.specs.Command.{reads_source, IsTold}
 use Rattle.pgs_run.specs.Headline.{KeepsPromise, faults_in, telling}
@@ -21,17 +22,17 @@ use Rattle.pgs_run.proofs.Uncut.{IsUncut, uncut_command}
 module _ (words : List (List ℕ)) (budget : ℕ) (old new : Setting) (status : Status) (runs : Runs (command_of words) budget old new status) (input : List ℕ) (known : IsTold (command_of words) old.source.left old.view input) where
   -- what is told of these words
   tell : ℕ → Told Status
-  tell bytes = told words input (areas_of old.view) bytes (lost_count new.places)
+  tell bytes = told words input (areas_of old.view) bytes (lost_count new.places) runs.answers
 
-  shown_by : (reads : Bool) → reads_source (command_of words) ≡ reads → Ends (shown_of old.view) (told words input (areas_of old.view) budget (lost_count new.places)) status (shown_of new.view)
+  shown_by : (reads : Bool) → reads_source (command_of words) ≡ reads → Ends (shown_of old.view) (told words input (areas_of old.view) budget (lost_count new.places) runs.answers) status (shown_of new.view)
   unfolding told
   shown_by true is = (runs.ends input known (known.source is)).shown
   shown_by false is = runs.alone input known is
 
-  pub shown : Ends (shown_of old.view) (told words input (areas_of old.view) budget (lost_count new.places)) status (shown_of new.view)
+  pub shown : Ends (shown_of old.view) (told words input (areas_of old.view) budget (lost_count new.places) runs.answers) status (shown_of new.view)
   shown = shown_by (reads_source (command_of words)) refl
 
-  pub read_fault : (rest : List ℕ) → old.source.left ≡ Some input → new.source.left ≡ Some rest → status ≡ ReadFault → ShowsAll (shown_of old.view) (told words input (areas_of old.view) (length input - length rest) (lost_count new.places)).pieces (shown_of new.view)
+  pub read_fault : (rest : List ℕ) → old.source.left ≡ Some input → new.source.left ≡ Some rest → status ≡ ReadFault → ShowsAll (shown_of old.view) (told words input (areas_of old.view) (length input - length rest) (lost_count new.places) runs.answers).pieces (shown_of new.view)
   unfolding told
   read_fault rest left left_is fault = (runs.ends input known left).read_fault rest left_is fault
 
@@ -62,16 +63,16 @@ complete_by command start now told Memory old new cut schema store none cause en
 complete_by command start now told ReadFault old new cut schema store none cause ends = absurd (none.reads cause.0 cause.1.0)
 complete_by command start now told DiskFault old new cut schema store none cause ends = absurd (none.areas cause.0 cause.1.0)
 
-complete_named : (command : Option Command) (areas : Areas) (start now : Shown) (input : List ℕ) (budget lost : ℕ) (status : Status) (old new : Faults) → (command ≡ None → ⊥) → (reads_source command ≡ true → length input < budget) → ((told_command command input areas budget lost).status ≡ SchemaRefused → ⊥) → ((told_command command input areas budget lost).status ≡ StoreRefused → ⊥) → IsUndisturbed command old new → HasRunCause command old new status → Ends start (told_command command input areas budget lost) status now → IsComplete start (told_command command input areas budget lost) status now
-complete_named None areas start now input budget lost status old new named short schema store none cause ends = absurd (named refl)
-complete_named (Some command) areas start now input budget lost status old new named short schema store none cause ends =
-    complete_by command start now (told_command (Some command) input areas budget lost) status old new (uncut_command command input areas budget lost short) schema store none cause ends
+complete_named : (command : Option Command) (areas : Areas) (start now : Shown) (input : List ℕ) (budget lost : ℕ) (answers : List Answer) (status : Status) (old new : Faults) → (command ≡ None → ⊥) → (reads_source command ≡ true → length input < budget) → ((told_command command input areas budget lost answers).status ≡ SchemaRefused → ⊥) → ((told_command command input areas budget lost answers).status ≡ StoreRefused → ⊥) → IsUndisturbed command old new → HasRunCause command old new status → Ends start (told_command command input areas budget lost answers) status now → IsComplete start (told_command command input areas budget lost answers) status now
+complete_named None areas start now input budget lost answers status old new named short schema store none cause ends = absurd (named refl)
+complete_named (Some command) areas start now input budget lost answers status old new named short schema store none cause ends =
+    complete_by command start now (told_command (Some command) input areas budget lost answers) status old new (uncut_command command input areas budget lost answers short) schema store none cause ends
 
 -- an input below the budget is run to its end
-pub complete_of : (words : List (List ℕ)) (areas : Areas) (start now : Shown) (input : List ℕ) (budget lost : ℕ) (status : Status) (old new : Faults) → (command_of words ≡ None → ⊥) → (reads_source (command_of words) ≡ true → length input < budget) → ((told words input areas budget lost).status ≡ SchemaRefused → ⊥) → ((told words input areas budget lost).status ≡ StoreRefused → ⊥) → IsUndisturbed (command_of words) old new → HasRunCause (command_of words) old new status → Ends start (told words input areas budget lost) status now → IsComplete start (told words input areas budget lost) status now
+pub complete_of : (words : List (List ℕ)) (areas : Areas) (start now : Shown) (input : List ℕ) (budget lost : ℕ) (answers : List Answer) (status : Status) (old new : Faults) → (command_of words ≡ None → ⊥) → (reads_source (command_of words) ≡ true → length input < budget) → ((told words input areas budget lost answers).status ≡ SchemaRefused → ⊥) → ((told words input areas budget lost answers).status ≡ StoreRefused → ⊥) → IsUndisturbed (command_of words) old new → HasRunCause (command_of words) old new status → Ends start (told words input areas budget lost answers) status now → IsComplete start (told words input areas budget lost answers) status now
 unfolding told
-complete_of words areas start now input budget lost status old new named short schema store none cause ends =
-    complete_named (command_of words) areas start now input budget lost status old new named short schema store none cause ends
+complete_of words areas start now input budget lost answers status old new named short schema store none cause ends =
+    complete_named (command_of words) areas start now input budget lost answers status old new named short schema store none cause ends
 
 -- ---- a fault is told
 
@@ -115,6 +116,8 @@ told_area command before now InputTooLong cause other = ap (λ (f : Faults). f.a
 
 pub promised : (words : List (List ℕ)) (budget : ℕ) (old new : Setting) (status : Status) → Runs (command_of words) budget old new status → (command_of words ≡ None → RefusesWords status) → KeepsPromise words budget old new status
 promised words budget old new status runs refused = record {
+  answers = runs.answers;
+  right = runs.right;
   shown = shown words budget old new status runs;
   read_fault = λ input rest known is left_is fault. read_fault words budget old new status runs input known rest is left_is fault;
   takes = runs.takes;
@@ -126,9 +129,9 @@ promised words budget old new status runs refused = record {
   read_fault_told = told_read (command_of words) (faults_in old) (faults_in new) status runs.cause;
   put_fault_told = told_put (command_of words) (faults_in old) (faults_in new) status runs.cause;
   area_fault_told = told_area (command_of words) (faults_in old) (faults_in new) status runs.cause;
-  exact = λ input known. exact_of (shown_of old.view) (shown_of new.view) (telling words old new input budget) status (shown words budget old new status runs input known);
+  exact = λ input known. exact_of (shown_of old.view) (shown_of new.view) (telling words old new runs.answers input budget) status (shown words budget old new status runs input known);
   complete = λ input known named short schema store none.
-      complete_of words (areas_of old.view) (shown_of old.view) (shown_of new.view) input budget (lost_count new.places) status (faults_in old) (faults_in new) named short schema store none runs.cause
+      complete_of words (areas_of old.view) (shown_of old.view) (shown_of new.view) input budget (lost_count new.places) runs.answers status (faults_in old) (faults_in new) named short schema store none runs.cause
       (shown words budget old new status runs input known);
   in_vain = runs.in_vain;
   leaves = runs.leaves;

@@ -3,7 +3,7 @@ use Rattle.std.proofs.Common.{◌≡◌, ℕ, List, Option, Some, None, refl, in
 use Rattle.pgs_feed.specs.Places.{Place, lost_count}
 use Rattle.pgs_run_lines.specs.AreasKept.{keeps_none}
 use Rattle.pgs_run_words.specs.declared.command.Command.{Command}
-use Rattle.pgs_run_words.specs.declared.command.Command.TheVariants.{Try, Validate, Load, Apply, Recover, Explain, Gen, Checkpoint}
+use Rattle.pgs_run_words.specs.declared.command.Command.TheVariants.{Try, Validate, Load, Apply, Recover, Explain, Gen, Checkpoint, Contain, Evolve}
 use Rattle.pgs_world.specs.Moment.{IsTimed}
 use Rattle.pgs_world.specs.declared.area.Area.TheVariants.{B}
 use Rattle.pgs_world.specs.World.{View, other}
@@ -12,6 +12,7 @@ use Rattle.pgs_run_base.proofs.Images.{area_none, images_none}
 use Rattle.pgs_run_base.specs.declared.status.Status.TheVariants.{Accepted, Memory}
 use Rattle.pgs_run_apply.proofs.Beginning.{decided_start, grown_kept, quiet_applied}
 use Rattle.pgs_run_checkpoint.proofs.Stopped.{renews_quiet}
+use Rattle.pgs_run_evolve.proofs.Unmoved.{evolved_none}
 use Rattle.pgs_run_load.specs.Loading.{IsLoading, IsLoadingAt}
 use Rattle.pgs_run_load.proofs.Stops.{loading_start, starts_at}
 use Rattle.pgs_run.specs.Leaving.{Leaves, LeavesLoaded, LeavesApplied, LeavesRenewed, Feeds, FeedsApplied}
@@ -62,6 +63,8 @@ leaves_none (Some Recover) left lost view timed = images_none view timed
 leaves_none (Some (Explain elem)) left lost view timed = images_none view timed
 leaves_none (Some (Gen start count)) left lost view timed = keeps_none view timed
 leaves_none (Some Checkpoint) left lost view timed = renewed_none view timed
+leaves_none (Some Contain) left lost view timed = keeps_none view timed
+leaves_none (Some Evolve) left lost view timed = evolved_none left view timed
 
 applied_feeds : (left : Option (List ℕ)) (view : View) (places : List Place) → IsTimed view → FeedsApplied left view view places places Memory
 applied_feeds left view places timed = record {
@@ -80,3 +83,5 @@ feeds_none (Some Recover) left view places timed = refl
 feeds_none (Some (Explain elem)) left view places timed = refl
 feeds_none (Some (Gen start count)) left view places timed = refl
 feeds_none (Some Checkpoint) left view places timed = refl
+feeds_none (Some Contain) left view places timed = refl
+feeds_none (Some Evolve) left view places timed = refl

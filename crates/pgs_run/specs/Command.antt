@@ -1,7 +1,7 @@
 -- What each command does with its source and with the areas.
 use Rattle.std.specs.Prelude.{◌≡◌, ℕ, ◌≤◌, Bool, true, false, List, Option, Some, Ok, IsTrue}
 use Rattle.pgs_run_words.specs.declared.command.Command.{Command}
-use Rattle.pgs_run_words.specs.declared.command.Command.TheVariants.{Try, Validate, Load, Apply, Recover, Explain, Gen, Checkpoint}
+use Rattle.pgs_run_words.specs.declared.command.Command.TheVariants.{Try, Validate, Load, Apply, Recover, Explain, Gen, Checkpoint, Contain, Evolve}
 use Rattle.pgs_run_base.specs.Answers.{schema_answer}
 use Rattle.pgs_syntax.specs.declared.resolved.Resolved.{Resolved}
 use Rattle.pgs_world.specs.World.{View}
@@ -12,6 +12,8 @@ reads_source (Some Try) = true
 reads_source (Some Validate) = true
 reads_source (Some Load) = true
 reads_source (Some Apply) = true
+reads_source (Some Contain) = true
+reads_source (Some Evolve) = true
 reads_source command = false
 
 -- whether it uses the areas
@@ -21,6 +23,7 @@ uses_areas (Some Apply) = true
 uses_areas (Some Recover) = true
 uses_areas (Some (Explain elem)) = true
 uses_areas (Some Checkpoint) = true
+uses_areas (Some Evolve) = true
 uses_areas command = false
 
 -- a workload has at most 500,000 transactions

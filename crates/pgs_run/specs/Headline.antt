@@ -11,15 +11,17 @@ use Rattle.pgs_run_base.specs.declared.status.Status.TheVariants.{SchemaRefused,
 use Rattle.pgs_run_base.specs.Areas.{areas_of}
 use Rattle.pgs_run_base.specs.Ending.{Ends}
 use Rattle.pgs_run_base.specs.Run.{IsRead, IsDisturbed, IsComplete, TakesWithin}
+use Rattle.pgs_run_contain.specs.Answers.{Answer}
 use Rattle.pgs_run.specs.Command.{reads_source, IsTold}
 use Rattle.pgs_run.specs.Leaving.{Leaves, Feeds, ReadsInVain}
 use Rattle.pgs_run.specs.Run.{HasRunCause, RefusesWords, IsUndisturbed}
 use Rattle.pgs_run.specs.Runs.{Setting}
-use Rattle.pgs_run.specs.Told.{told}
+use Rattle.pgs_run.specs.Told.{told, AreAnswers}
 
--- what is told of the words, of this input within so many bytes: the areas are those of the start, the lost feeds those of the end
-abbrev pub telling : List (List ℕ) → Setting → Setting → List ℕ → ℕ → Told Status
-telling words old new input bytes = told words input (areas_of old.view) bytes (lost_count new.places)
+-- what is told of the words by these answers, of this input within so many bytes: the areas are those of the start, the lost feeds those
+-- of the end
+abbrev pub telling : List (List ℕ) → Setting → Setting → List Answer → List ℕ → ℕ → Told Status
+telling words old new answers input bytes = told words input (areas_of old.view) bytes (lost_count new.places) answers
 
 -- the source tells this input, where it is read, and the world tells its bytes, where what is told rests on them
 abbrev pub Knows : List (List ℕ) → Setting → List ℕ → Type 0
@@ -30,12 +32,16 @@ abbrev pub faults_in : Setting → Faults
 faults_in at = faults_of at.source.faults at.view
 
 pub record KeepsPromise (words : List (List ℕ)) (budget : ℕ) (old new : Setting) (status : Status) : Type 0 where
+  -- There are answers by which all of this holds. They are right: `contain` tells that a type is contained where it is, and else tells
+  -- something that is outside.
+  pub answers : List Answer
+  pub right : AreAnswers (command_of words) old.source.left budget answers status
   -- What the world shows, by the status. With 0 to 4 and 9 it is all that is told, each piece one put that answered Ok, and the
   -- status is the one told. Where nothing is read, nothing is asked of the source.
-  pub shown : (input : List ℕ) → Knows words old input → Ends (shown_of old.view) (telling words old new input budget) status (shown_of new.view)
+  pub shown : (input : List ℕ) → Knows words old input → Ends (shown_of old.view) (telling words old new answers input budget) status (shown_of new.view)
   -- With 6 it is some first pieces, whole: all that is told with the number of bytes that the reads gave in the budget's place.
   pub read_fault : (input rest : List ℕ) → Knows words old input → old.source.left ≡ Some input → new.source.left ≡ Some rest → status ≡ ReadFault
-      → ShowsAll (shown_of old.view) (telling words old new input (length input - length rest)).pieces (shown_of new.view)
+      → ShowsAll (shown_of old.view) (telling words old new answers input (length input - length rest)).pieces (shown_of new.view)
   -- What is read: never more than the budget, and nothing where the command doesn't read its source or the words are refused.
   pub takes : (input rest : List ℕ) → old.source.left ≡ Some input → new.source.left ≡ Some rest → TakesWithin input budget rest status
   pub words_alone : reads_source (command_of words) ≡ false → new.source.left ≡ old.source.left
@@ -51,13 +57,13 @@ pub record KeepsPromise (words : List (List ℕ)) (budget : ℕ) (old new : Sett
   pub put_fault_told : (status ≡ PutFault → ⊥) → new.view.put_faults ≡ old.view.put_faults
   pub area_fault_told : (status ≡ DiskFault → ⊥) → new.view.area_faults ≡ old.view.area_faults
   -- Without a fault and want of memory the status is the one told.
-  pub exact : (input : List ℕ) → Knows words old input → IsDisturbed status ⊎ (status ≡ (telling words old new input budget).status)
+  pub exact : (input : List ℕ) → Knows words old input → IsDisturbed status ⊎ (status ≡ (telling words old new answers input budget).status)
   -- An input below the budget, whose schema and store aren't refused, over a source and a world that don't fail, is run to its end.
   pub complete : (input : List ℕ) → Knows words old input
       → (command_of words ≡ None → ⊥) → (reads_source (command_of words) ≡ true → length input < budget)
-      → ((telling words old new input budget).status ≡ SchemaRefused → ⊥) → ((telling words old new input budget).status ≡ StoreRefused → ⊥)
+      → ((telling words old new answers input budget).status ≡ SchemaRefused → ⊥) → ((telling words old new answers input budget).status ≡ StoreRefused → ⊥)
       → IsUndisturbed (command_of words) (faults_in old) (faults_in new)
-      → IsComplete (shown_of old.view) (telling words old new input budget) status (shown_of new.view)
+      → IsComplete (shown_of old.view) (telling words old new answers input budget) status (shown_of new.view)
   -- What a stop during the run leaves of both areas, and what there is at its end. Unless an area failed, nothing is pending then.
   pub leaves : Leaves (command_of words) old.source.left (lost_count new.places) old.view new.view status
   pub settles : IsSettled old.view → (status ≡ DiskFault → ⊥) → IsSettled new.view

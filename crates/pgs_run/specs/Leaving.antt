@@ -7,7 +7,7 @@ use Rattle.pgs_snapshot.specs.Choice.{chosen_area}
 use Rattle.pgs_snapshot.specs.Saved.{saved, store}
 use Rattle.pgs_store.specs.Loads.{FindsNone}
 use Rattle.pgs_run_words.specs.declared.command.Command.{Command}
-use Rattle.pgs_run_words.specs.declared.command.Command.TheVariants.{Load, Apply, Recover, Explain, Checkpoint}
+use Rattle.pgs_run_words.specs.declared.command.Command.TheVariants.{Load, Apply, Recover, Explain, Checkpoint, Evolve}
 use Rattle.pgs_world.specs.declared.area.Area.{Area}
 use Rattle.pgs_world.specs.declared.area.Area.TheVariants.{B}
 use Rattle.pgs_world.specs.Moment.{EachSince, IsSettled, Passes}
@@ -18,6 +18,7 @@ use Rattle.pgs_run_base.specs.Images.{IsUnwritten, KeepsArea, KeepsImages}
 use Rattle.pgs_run_base.specs.Session.{standard}
 use Rattle.pgs_run_apply.specs.Run.{Saves, IsAppliedAt, IsDecided, IsGrown}
 use Rattle.pgs_run_checkpoint.specs.Renewing.{Renews, RestsRenewed}
+use Rattle.pgs_run_evolve.specs.Leaving.{LeavesEvolved, SavesAs}
 use Rattle.pgs_run_load.specs.Loading.{IsLoading, IsLoadingAt, IsMade, IsNewStore}
 use Rattle.pgs_run_saved.specs.Opening.{IsRefusal}
 use Rattle.pgs_run_saved.specs.Refusing.{SavedStore}
@@ -69,6 +70,7 @@ Leaves (Some (Explain elem)) left lost old new status = KeepsImages old new
 Leaves (Some Load) left lost old new status = LeavesLoaded left old new status
 Leaves (Some Apply) left lost old new status = LeavesApplied left lost old new
 Leaves (Some Checkpoint) left lost old new status = LeavesRenewed old new status
+Leaves (Some Evolve) left lost old new status = LeavesEvolved left old new status
 Leaves command left lost old new status = KeepsAreas old new
 
 -- How `apply` ends: what was put, what the feeds took, and what is saved.
@@ -82,7 +84,8 @@ abbrev pub Feeds : Option Command → Option (List ℕ) → View → View → Li
 Feeds (Some Apply) left old new before after status = FeedsApplied left old new before after status
 Feeds command left old new before after status = after ≡ before
 
--- `apply` has nothing to read its source for: the areas are refused, or they save no store
+-- `apply` has nothing to read its source for: the areas are refused, or they save no store; and `evolve`: they save none
 abbrev pub ReadsInVain : Option Command → View → Status → Type 0
 ReadsInVain (Some Apply) old status = IsRefusal status ⊎ (IsTrue old.tells_bytes × SavesNone old)
+ReadsInVain (Some Evolve) old status = IsTrue old.tells_bytes × ((text : List ℕ) (commits : ℕ) (graph : Graph) → SavesAs old text commits graph → ⊥)
 ReadsInVain command old status = ⊥

@@ -11,10 +11,11 @@ use Rattle.pgs_run_base.specs.declared.status.Status.TheVariants.{DiskFault}
 use Rattle.pgs_run_base.specs.Areas.{areas_of}
 use Rattle.pgs_run_base.specs.Ending.{Ends}
 use Rattle.pgs_run_base.specs.Run.{IsRead, EndsAs, TakesWithin}
+use Rattle.pgs_run_contain.specs.Answers.{Answer}
 use Rattle.pgs_run.specs.Command.{reads_source, IsTold}
 use Rattle.pgs_run.specs.Leaving.{Leaves, Feeds, ReadsInVain}
 use Rattle.pgs_run.specs.Run.{HasRunCause}
-use Rattle.pgs_run.specs.Told.{told_command}
+use Rattle.pgs_run.specs.Told.{told_command, AreAnswers}
 
 -- what is left of a source, and how many of its reads failed
 pub record SourceState : Type 0 where
@@ -32,12 +33,14 @@ setting_of left faults view places = record { source = record { left = left; fau
 
 -- The command ran so within the budget, from the one setting to the other.
 pub record Runs (command : Option Command) (budget : ℕ) (old new : Setting) (status : Status) : Type 0 where
+  pub answers : List Answer
+  pub right : AreAnswers command old.source.left budget answers status
   pub ends : (input : List ℕ) → IsTold command old.source.left old.view input → old.source.left ≡ Some input
-      → EndsAs (λ bytes. told_command command input (areas_of old.view) bytes (lost_count new.places))
+      → EndsAs (λ bytes. told_command command input (areas_of old.view) bytes (lost_count new.places) answers)
       (shown_of old.view) input budget new.source.left status (shown_of new.view)
   pub takes : (input rest : List ℕ) → old.source.left ≡ Some input → new.source.left ≡ Some rest → TakesWithin input budget rest status
   pub alone : (input : List ℕ) → IsTold command old.source.left old.view input → reads_source command ≡ false
-      → Ends (shown_of old.view) (told_command command input (areas_of old.view) budget (lost_count new.places)) status (shown_of new.view)
+      → Ends (shown_of old.view) (told_command command input (areas_of old.view) budget (lost_count new.places) answers) status (shown_of new.view)
   pub unread : reads_source command ≡ false → new.source ≡ old.source
   pub read_to_end : reads_source command ≡ true → IsRead new.source.left status
   pub cause : HasRunCause command (faults_of old.source.faults old.view) (faults_of new.source.faults new.view) status

@@ -7,6 +7,8 @@ use pgs_feed::FeedList;
 use pgs_run_apply::run_apply;
 use pgs_run_base::Status;
 use pgs_run_checkpoint::run_checkpoint;
+use pgs_run_contain::run_contain;
+use pgs_run_evolve::run_evolve;
 use pgs_run_explain::Explaining;
 use pgs_run_gen::run_gen;
 use pgs_run_load::run_load;
@@ -41,5 +43,7 @@ pub fn run_command<S: Source, W: World, F: Feed>(
         Command::Explain { elem } => run_reader(alloc, world, &Explaining { elem }),
         Command::Gen { start, count } => run_gen(alloc, world, start, count),
         Command::Checkpoint => run_checkpoint(alloc, world),
+        Command::Contain => run_contain(alloc, source, world, budget),
+        Command::Evolve => run_evolve(alloc, source, world, budget),
     }
 }

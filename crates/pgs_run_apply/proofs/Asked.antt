@@ -3,6 +3,7 @@ use Rattle.std.proofs.Common.{◌≡◌, ◌∙◌, inl, inr, ⊎_elim, ℕ, ◌
 use Rattle.std.proofs.lemmas.List.{append-nil}
 use Rattle.std.specs.List.{AllZip}
 use Rattle.pgs_base.specs.Graph.{Graph}
+use Rattle.pgs_codec.specs.declared.command.Command.TheVariants.{Txn as Transaction}
 use Rattle.pgs_feed.specs.Given.{AreGiven}
 use Rattle.pgs_feed.specs.Places.{Place, Delivers}
 use Rattle.pgs_feed.proofs.Given.{given_line, given_none}
@@ -42,16 +43,16 @@ applied_left : (s : ApplyState) (txn : Txn) (decision : Result Graph Rejection) 
     → decision ≡ decided s.guard txn → (IsTrue tells → c.output ≡ out) → IsAppliedIn s.guard s.journal txn c
     → IsLeftBy s (deciding s txn decision) tells out c
 applied_left s txn decision tells out c same is applied =
-    ⊎_elim (λ before. inl (is, (s.journal.end, before)))
+    ⊎_elim (λ before. inl (is, before))
     (λ after. inr (subst (λ (d : Result Graph Rejection). IsPast (deciding s txn d) tells out c) (sym (same ∙ after.1)) (past after.0 after.2))) applied
   where
-    past : (graph : Graph) → IsSavedIn (committed s.guard graph) (longer s.journal txn) c → IsPast (deciding s txn (Ok graph)) tells out c
+    past : (graph : Graph) → IsSavedIn (committed s.guard graph) (longer s.journal (Transaction txn)) c → IsPast (deciding s txn (Ok graph)) tells out c
     past graph saved = record {
       front = [];
       back = committed_line (s.number + 1) (s.guard.commits + 1);
       piece = refl;
       out = λ output. is output ∙ sym (append-nil out);
-      saved = ((longer s.journal txn).end, saved);
+      saved = saved;
     }
 
 asked_left : (s : ApplyState) (txn : Txn) (decision : Result Graph Rejection) (old mid : View) → decision ≡ decided s.guard txn → IsTimed old

@@ -16,7 +16,7 @@ use Rattle.pgs_run_base.specs.Images.{KeepsImages}
 use Rattle.pgs_run_base.specs.Session.{Standing, standard}
 use Rattle.pgs_run_base.proofs.Images.{each_images}
 use Rattle.pgs_run_saved.specs.Refusing.{SavedStore}
-use Rattle.pgs_run_apply.proofs.Conforming.{saved_conforms}
+use Rattle.pgs_run_saved.proofs.Conforming.{saved_conforms}
 use Rattle.pgs_run_saved.proofs.Shown.{shown_quiet}
 use Rattle.pgs_run_apply.specs.Run.{Saves, SavesAt, SavesOn, IsAppliedAt, IsDecided, IsGrown, IsPutBy}
 use Rattle.pgs_run_apply.specs.Told.{start, after, all_lines}

@@ -1,6 +1,5 @@
 pub mod Asked
 pub mod Beginning
-pub mod Conforming
 pub mod Fronts
 pub mod Kept
 pub mod Lines

@@ -205,7 +205,7 @@ put_other it until later lost stops.Memory old new is went = went.shows
 
 -- the images hold the store
 held : (s : ApplyState) (view : View) → IsTrue view.tells_bytes → HoldsStore s view → IsSavedAt s view.shown
-held s view tells holds = (s.journal.end, holds.stands.saved tells)
+held s view tells holds = holds.stands.saved tells
 
 chooses_same : (journal : Journal) (triple same : Triple) → same.a ≡ triple.a → same.b ≡ triple.b → Chooses journal triple → Chooses journal same
 chooses_same journal triple same a b chosen = record {

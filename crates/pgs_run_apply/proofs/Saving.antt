@@ -1,5 +1,5 @@
 -- What images save that hold the store of a state.
-use Rattle.std.proofs.Common.{◌≡◌, ◌⊎◌, inl, inr, ⊎_elim, ℕ, ◌+◌, Bool, List, [], ◌∷◌, ◌++◌, Some, Ok, IsTrue, sym, ap, subst, ◌∙◌}
+use Rattle.std.proofs.Common.{◌≡◌, ◌⊎◌, inl, inr, ⊎_elim, ℕ, Bool, List, [], ◌∷◌, ◌++◌, Some, Ok, IsTrue, sym, ap, subst, ◌∙◌}
 use Rattle.std.specs.List.{concat}
 use Rattle.pgs_base.specs.declared.limits.Limits.{Limits}
 use Rattle.pgs_base.specs.Graph.{Graph}
@@ -8,8 +8,7 @@ use Rattle.pgs_snapshot.specs.Choice.{chosen_area, chosen_epoch, area_chosen, ep
 use Rattle.pgs_snapshot.specs.Choice as choices
 use Rattle.pgs_snapshot.specs.Saved.{saved, store}
 use Rattle.pgs_store.specs.State.{GuardState}
-use Rattle.pgs_store.specs.Stored.{StoreState, IsSavedIn, ending_at}
-use Rattle.pgs_store.proofs.Replaying.{chosen_saves}
+use Rattle.pgs_store.specs.Stored.{StoreState, IsSavedIn}
 use Rattle.pgs_syntax.specs.declared.resolved.Resolved.{Resolved}
 use Rattle.pgs_world.specs.declared.area.Area.{Area}
 use Rattle.pgs_world.specs.World.{Triple}
@@ -17,7 +16,7 @@ use Rattle.pgs_run_base.specs.Answers.{schema_answer}
 use Rattle.pgs_run_base.specs.Session.{Standing, standard}
 use Rattle.pgs_run_saved.specs.Opening.{saved_in}
 use Rattle.pgs_run_saved.specs.Refusing.{SavedStore}
-use Rattle.pgs_run_apply.proofs.Conforming.{saved_conforms}
+use Rattle.pgs_run_saved.proofs.Conforming.{chosen_saves, saved_conforms}
 use Rattle.pgs_run_apply.specs.Following.{all_append}
 use Rattle.pgs_run_apply.specs.Left.{IsLeft, IsWithin, IsSavedAt, state_after_all}
 use Rattle.pgs_run_apply.specs.Run.{Saves, SavesAt, SavesOn, SavesNext, SavesAll, IsAppliedAt, IsGrown}
@@ -28,7 +27,7 @@ use Rattle.pgs_run_apply.proofs.Standings.{first_state, stays_all, standing_all,
 -- what is saved, and what is chosen
 saved_in_images : (guard : GuardState) (journal : Journal) (triple : Triple) → IsSavedIn guard journal triple → saved guard.limits triple.a triple.b ≡ store guard.text guard.commits guard.graph
 saved_in_images guard journal triple is =
-    chosen_saves guard.limits triple.a triple.b (choices.chosen journal.area journal.epoch journal.end is.0) is.1.has.choice ∙ is.1.saves
+    chosen_saves guard.limits triple.a triple.b (choices.chosen journal.area journal.epoch journal.end journal.next is.0) is.1.has.choice ∙ is.1.saves
 
 -- the images hold some store of this area and epoch
 pub record Chooses (journal : Journal) (triple : Triple) : Type 0 where
@@ -53,7 +52,7 @@ module _ (it : StoreState) (limits : it.guard.limits ≡ standard) (of_text : sc
       let standing : standing_of t ≡ at = standing_all s lines in
       let saves : saved standard triple.a triple.b ≡ store it.guard.text at.commits at.graph =
       ap (λ (l : Limits). saved l triple.a triple.b) (sym (stays.limits ∙ limits))
-      ∙ saved_in_images t.guard (ending_at t.journal is.0) triple is.1
+      ∙ saved_in_images t.guard t.journal triple is
       ∙ store_as t.guard.text it.guard.text t.guard.commits at.commits t.guard.graph at.graph stays.text (ap (λ (u : Standing). u.commits) standing) (ap (λ (u : Standing). u.graph) standing) in
       record { saves = saves; conforms = saved_conforms standard triple.a triple.b it.guard.text at.commits at.graph it.guard.schema saves of_text }
 
@@ -63,7 +62,7 @@ module _ (it : StoreState) (limits : it.guard.limits ≡ standard) (of_text : sc
       let s = first_state it in
       let t = state_after_all s lines in
       let stays = stays_all s lines in
-      let chosen = chooses t.guard (ending_at t.journal is.0) triple is.1 in
+      let chosen = chooses t.guard t.journal triple is in
       record {
         area = chosen.area ∙ ap (λ (area : Area). Some area) stays.area;
         epoch = chosen.epoch ∙ ap (λ (epoch : ℕ). Some epoch) stays.epoch;

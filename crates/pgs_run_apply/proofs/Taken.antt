@@ -11,8 +11,7 @@ use Rattle.pgs_run_lines.specs.Ending.{Faults, PutsRose, faults_of}
 use Rattle.pgs_run_lines.specs.Machine.{Scene, scene_of}
 use Rattle.pgs_run_lines.specs.Pieces.{Shown, ShowsAll, ShowsTorn, shown_of}
 use Rattle.pgs_run_lines.proofs.Showing.{shows_none}
-use Rattle.pgs_store.specs.Stored.{ending_at}
-use Rattle.pgs_store.proofs.Applied.{same_images}
+use Rattle.pgs_run_saved.proofs.Images.{same_images}
 use Rattle.pgs_world.specs.Disk.{Puts}
 use Rattle.pgs_world.specs.Moment.{EachSince, IsTimed, Passes, StopsBy}
 use Rattle.pgs_world.specs.declared.area.Area.{Area}
@@ -72,7 +71,7 @@ put_left s o piece out tells old new one is still timed holds stops honest told 
       piece = one ∙ ap (λ (bytes : List ℕ). bytes ∷ []) from.2.parts;
       out = λ output.
           from.2.added ∙ ap (λ (bytes : List ℕ). bytes ++ from.2.front) (timed.output honest (still output) from.0 from.1 ∙ is);
-      saved = (saved.0, same_images o.state.guard (ending_at o.state.journal saved.0) from.0 c saved.1 from.2.a from.2.b);
+      saved = same_images o.state.guard o.state.journal from.0 c saved from.2.a from.2.b;
     } in
     inr past
 

@@ -1,6 +1,7 @@
 -- What the store of a run answers to a transaction, and what becomes of it.
 use Rattle.std.specs.Prelude.{◌≡◌, Bool, true, false, Option, Some, None, Result, Ok, Err}
 use Rattle.pgs_base.specs.Graph.{Graph}
+use Rattle.pgs_codec.specs.declared.command.Command.TheVariants.{Txn as Transaction}
 use Rattle.pgs_graph.specs.declared.operation.Txn.{Txn}
 use Rattle.pgs_run_lines.specs.declared.stop.Stop.{Stop}
 use Rattle.pgs_run_lines.specs.declared.stop.Stop.TheVariants as stops
@@ -25,8 +26,8 @@ is_early (Err stops.Memory) = true
 pub record IsDoneBy (before after : StoreState) (txn : Txn) (old new : View) : Type 0 where
   pub graph : Graph
   pub accepted : decided before.guard txn ≡ Ok graph
-  pub store : after ≡ record before { guard = committed before.guard graph; journal = longer before.journal txn }
-  pub stands : StandsOn (committed before.guard graph) (longer before.journal txn) new
+  pub store : after ≡ record before { guard = committed before.guard graph; journal = longer before.journal (Transaction txn) }
+  pub stands : StandsOn (committed before.guard graph) (longer before.journal (Transaction txn)) new
   pub area_faults : new.area_faults ≡ old.area_faults
 
 -- it is done, or rejected; an area failed, or there was no memory

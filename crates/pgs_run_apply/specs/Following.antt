@@ -11,7 +11,7 @@ use Rattle.pgs_run_lines.proofs.Showing.{shows_on}
 use Rattle.pgs_feed.specs.Given.{AreGiven}
 use Rattle.pgs_feed.specs.Places.{Place}
 use Rattle.pgs_feed.proofs.Given.{given_on}
-use Rattle.pgs_store.proofs.Applied.{same_images}
+use Rattle.pgs_run_saved.proofs.Images.{same_images}
 use Rattle.pgs_violation.specs.declared.rejection.Rejection.{Rejection}
 use Rattle.pgs_violation.specs.declared.violation.Verdict.{Verdict}
 use Rattle.pgs_violation.specs.Violations.{verdict}
@@ -182,7 +182,7 @@ pub saved_here : (s : ApplyState) (view : View) → HoldsStore s view → IsTrue
     → view.may_leave c → IsSavedAt s c
 saved_here s view holds honest told c left =
     let settled = holds.stands.settled honest told in
-    (s.journal.end, same_images s.guard s.journal view.shown c (holds.stands.saved told) (settled.a c left) (settled.b c left))
+    same_images s.guard s.journal view.shown c (holds.stands.saved told) (settled.a c left) (settled.b c left)
 
 within_more : (s : ApplyState) (later more : List (List ℕ)) (front : List ℕ) (c : Triple) → IsWithin s later front c
     → IsWithin s (later ++ more) front c

@@ -1,7 +1,7 @@
 -- What a stop inside a run of `apply` leaves: the store after some first lines, or after one more, whose verdict line isn't out whole.
 use Rattle.std.specs.Prelude.{◌≡◌, ◌⊎◌, ℕ, Bool, IsTrue, List, [], ◌∷◌, ◌++◌}
 use Rattle.std.specs.List.{concat}
-use Rattle.pgs_store.specs.Stored.{IsSavedIn, ending_at}
+use Rattle.pgs_store.specs.Stored.{IsSavedIn}
 use Rattle.pgs_violation.specs.Violations.{verdict}
 use Rattle.pgs_world.specs.World.{Triple}
 use Rattle.pgs_run_base.specs.Session.{every_verdict, pieces_of_line, pieces_of_lines}
@@ -19,9 +19,9 @@ pieces_at s line = pieces_of_line every_verdict (verdict s.guard.schema) (standi
 abbrev pub pieces_from : ApplyState → List (List ℕ) → List (List ℕ)
 pieces_from s lines = pieces_of_lines every_verdict (verdict s.guard.schema) (standing_of s) lines
 
--- the images hold the store of this state, in its area and of its epoch
+-- the images hold the store of this state
 abbrev pub IsSavedAt : ApplyState → Triple → Type 0
-IsSavedAt s triple = (end : ℕ) × IsSavedIn s.guard (ending_at s.journal end) triple
+IsSavedAt s triple = IsSavedIn s.guard s.journal triple
 
 -- the images hold the store after the next line too, and of that line's piece this front is out
 pub record IsWithin (s : ApplyState) (later : List (List ℕ)) (front : List ℕ) (triple : Triple) : Type 0 where

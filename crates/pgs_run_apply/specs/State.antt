@@ -1,6 +1,7 @@
 -- Where a run of `apply` stands between two lines: the store, and what was counted.
 use Rattle.std.specs.Prelude.{◌≡◌, ℕ, ◌+◌, Bool, true, false, List, Result, Ok, Err, if◌then◌else◌}
 use Rattle.pgs_base.specs.Graph.{Graph}
+use Rattle.pgs_codec.specs.declared.command.Command.TheVariants.{Txn as Transaction}
 use Rattle.pgs_graph.specs.declared.operation.Txn.{Txn}
 use Rattle.pgs_journal.specs.declared.journal.Journal.{Journal}
 use Rattle.pgs_store.specs.State.{GuardState}
@@ -33,7 +34,7 @@ with_refusal s = record s { number = s.number + 1; refused = true }
 abbrev pub with_commit : ApplyState → Txn → Graph → ApplyState
 with_commit s txn g = record {
   guard = committed s.guard g;
-  journal = longer s.journal txn;
+  journal = longer s.journal (Transaction txn);
   failed = s.failed;
   number = s.number + 1;
   refused = s.refused;

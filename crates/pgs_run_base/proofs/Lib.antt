@@ -5,3 +5,5 @@ pub mod ReadLines
 pub mod Replied
 pub mod SameFronts
 pub mod Separating
+pub mod WholeInput
+pub mod WholeText

@@ -1,5 +1,5 @@
 -- What a line gives, as its reader answers it.
-use Rattle.std.proofs.Common.{◌≡◌, ℕ, Bool, true, false, cond, nat_lt, List, [], length, Option, Some, None, Result, Ok, Err, refl, ap}
+use Rattle.std.proofs.Common.{◌≡◌, ℕ, Bool, true, false, cond, nat_lt, List, [], length, Option, Some, None, Result, Ok, Err, ap}
 use Rattle.pgs_graph.specs.declared.operation.Txn.{Txn}
 use Rattle.pgs_json.specs.Line.{txn_of, or_unreadable, read_line}
 use Rattle.pgs_json.specs.declared.line_fault.LineFault.{LineFault}

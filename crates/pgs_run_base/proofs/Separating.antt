@@ -1,5 +1,5 @@
 -- How the schema part and the transaction lines grow when more lines come.
-use Rattle.std.proofs.Common.{◌≡◌, ℕ, suc, ◌≤◌, Bool, true, false, ◌||◌, List, [], ◌∷◌, ◌++◌, length, cond, refl, sym, ap, ◌∙◌, append_assoc, arith}
+use Rattle.std.proofs.Common.{◌≡◌, ℕ, Bool, true, false, ◌||◌, List, [], ◌∷◌, ◌++◌, cond, refl, sym, ap, ◌∙◌, append_assoc}
 use Rattle.std.specs.List.{list_any, join_with_byte}
 use Rattle.pgs_run_base.specs.Input.{is_separator, before_separator, after_separator}
 use Rattle.pgs_run_base.specs.Part.{has_none}

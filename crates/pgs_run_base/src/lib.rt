@@ -6,6 +6,7 @@
 //! which tells what it does in these words; `pgs_run` runs the words of a command line.
 #![tactic(auto)]
 
+mod collecting;
 mod lines;
 mod putting;
 mod schema_answer;
@@ -13,6 +14,7 @@ mod schema_part;
 mod status;
 mod txn_answer;
 
+pub use collecting::{Collected, Collecting, text_of};
 pub use lines::{TEXT_LIMIT, is_separator};
 pub use putting::put_any;
 pub use schema_answer::{refusal_of, schema_of};

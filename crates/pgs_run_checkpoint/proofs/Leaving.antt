@@ -3,9 +3,8 @@ use Rattle.std.proofs.Common.{◌≡◌, inl, inr, ℕ, IsTrue, List, [], ◌∷
 use Rattle.std.proofs.lemmas.List.{append-nil}
 use Rattle.pgs_journal.specs.declared.journal.Journal.{Journal}
 use Rattle.pgs_run_base.specs.declared.status.Status.TheVariants.{Accepted}
-use Rattle.pgs_snapshot.proofs.Stores.{images_decide}
-use Rattle.pgs_store.specs.State.{GuardState}
-use Rattle.pgs_store.specs.Stored.{StoreState, StandsOn, IsRenewedIn, IsSavedBy, IsSavedIn, next_journal, renewed}
+use Rattle.pgs_run_saved.proofs.Images.{same_by, same_images}
+use Rattle.pgs_store.specs.Stored.{StoreState, StandsOn, IsRenewedIn, IsSavedBy, next_journal, renewed}
 use Rattle.pgs_store.specs.World.{StaysBeside}
 use Rattle.pgs_world.specs.Disk.{Puts}
 use Rattle.pgs_world.specs.Moment.{EachSince, IsSettled, IsTimed, Passes, StopsBy}
@@ -13,15 +12,7 @@ use Rattle.pgs_world.specs.World.{Triple, View, other}
 use Rattle.pgs_world.proofs.Moments.{each_on}
 use Rattle.pgs_run_checkpoint.specs.Leaving.{IsNew, Leaves, told_in}
 
--- the same images hold the same store
-pub same_by : (guard : GuardState) (journal : Journal) (payloads : List (List ℕ)) (old c : Triple) → IsSavedBy guard journal payloads old → c.a ≡ old.a → c.b ≡ old.b → IsSavedBy guard journal payloads c
-same_by guard journal payloads old c saved a b =
-    record { has = images_decide journal.area journal.epoch journal.end payloads old c saved.has a b; saves = saved.saves }
-
 module _ (it : StoreState) (line : List ℕ) (one : (told_in it).pieces ≡ line ∷ []) (some : (told_in it).status ≡ Accepted → line ≡ [] → ⊥) where
-  same_store : (old c : Triple) → IsSavedIn it.guard it.journal old → c.a ≡ old.a → c.b ≡ old.b → IsSavedIn it.guard it.journal c
-  same_store old c saved a b = (saved.0, same_by it.guard it.journal saved.0 old c saved.1 a b)
-
   -- nothing of the line was put
   unput : (start : View) (left c : Triple) → start.may_leave left → c.output ≡ left.output → IsRenewedIn it.guard it.journal c → Leaves it start c
   unput start left c before same store = record {
@@ -40,7 +31,7 @@ module _ (it : StoreState) (line : List ℕ) (one : (told_in it).pieces ≡ line
   }
 
   as_it_was : (view : View) (c : Triple) → StandsOn it.guard it.journal view → IsTrue view.honest → IsTrue view.tells_bytes → c.a ≡ view.shown.a → c.b ≡ view.shown.b → IsRenewedIn it.guard it.journal c
-  as_it_was view c stands honest told a b = inl (same_store view.shown c (stands.saved told) a b)
+  as_it_was view c stands honest told a b = inl (same_images it.guard it.journal view.shown c (stands.saved told) a b)
 
   -- before the first call on the world
   pub leaves_none : (view : View) → IsTimed view → StandsOn it.guard it.journal view → IsTrue view.honest → IsTrue view.tells_bytes → EachSince (Leaves it view) view view

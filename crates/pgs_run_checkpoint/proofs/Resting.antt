@@ -1,20 +1,19 @@
 -- What there is at the end of a run.
-use Rattle.std.proofs.Common.{◌≡◌, ◌⊎◌, inl, inr, ⊎_elim, ℕ, ◌+◌, IsTrue, List, [], ◌∷◌, Some, Err, refl, sym, ◌∙◌, ap, ap₂, subst}
-use Rattle.pgs_base.specs.Graph.{Graph}
+use Rattle.std.proofs.Common.{◌≡◌, inl, inr, ℕ, IsTrue, List, Some, Err, refl, sym, ◌∙◌, ap₂, subst}
 use Rattle.pgs_journal.specs.declared.journal.Journal.{Journal}
 use Rattle.pgs_run_lines.specs.AreasKept.{KeepsAreas}
 use Rattle.pgs_run_lines.specs.Replies.{EndsReply}
 use Rattle.pgs_run_base.specs.declared.status.Status.{Status}
-use Rattle.pgs_run_base.specs.declared.status.Status.TheVariants.{Accepted, StoreRefused, DiskFault, PutFault, Memory}
+use Rattle.pgs_run_base.specs.declared.status.Status.TheVariants.{Accepted, DiskFault, PutFault, Memory}
 use Rattle.pgs_run_base.specs.Images.{IsUnwritten, KeepsArea, KeepsImages}
 use Rattle.pgs_run_base.specs.Session.{standard}
 use Rattle.pgs_run_base.proofs.Images.{images_none, images_quiet, images_areas, images_on, area_none, area_on, area_of_images, area_beside, settled_images}
+use Rattle.pgs_run_saved.proofs.Images.{same_by, same_images}
 use Rattle.pgs_run_saved.specs.declared.opening.Unopened.{Unopened}
 use Rattle.pgs_run_saved.specs.declared.opening.Unopened.TheVariants as unopened
 use Rattle.pgs_run_saved.specs.Ending.{EndsUnopened}
 use Rattle.pgs_run_saved.specs.Opening.{IsOpened, IsRefusal, Opens}
-use Rattle.pgs_snapshot.specs.Choice.{chosen_area}
-use Rattle.pgs_snapshot.specs.Saved.{saved, store}
+use Rattle.pgs_snapshot.specs.Saved.{saved}
 use Rattle.pgs_store.specs.Stored.{StoreState, StandsOn, IsSavedBy, next_journal, renewed}
 use Rattle.pgs_store.specs.World.{StaysBeside}
 use Rattle.pgs_world.specs.declared.area.Area.{Area}
@@ -24,7 +23,6 @@ use Rattle.pgs_world.specs.World.{View, other}
 use Rattle.pgs_run_checkpoint.specs.Leaving.{IsNew, Rests}
 use Rattle.pgs_run_checkpoint.specs.Putting.{EndsRefused}
 use Rattle.pgs_run_checkpoint.specs.Renewing.{RestsRenewed}
-use Rattle.pgs_run_checkpoint.proofs.Leaving.{same_by}
 use Rattle.pgs_run_checkpoint.proofs.Stopped.{is_renewed, saves_renewed, the_same, was_area}
 
 -- ---- an opened store
@@ -88,7 +86,7 @@ rests_spent it line result old new stands ends areas = record {
   unwritten = λ is. images_areas old new areas;
   beside = area_of_images it.journal.area old new (images_areas old new areas);
   settled = λ honest tells no. settled_images old new (stands.settled honest tells) (images_areas old new areas);
-  kept = λ tells no. let saved = stands.saved tells in inl (saved.0, same_by it.guard it.journal saved.0 old.shown new.shown saved.1 areas.a areas.b);
+  kept = λ tells no. inl (same_images it.guard it.journal old.shown new.shown (stands.saved tells) areas.a areas.b);
   renewed = λ tells accepted. absurd (never_accepted line result old new ends accepted);
 }
 

@@ -83,7 +83,7 @@ module _ (it : StoreState) (old mid : View) (text : List ℕ) (commits : ℕ) (g
     was_area = was_area it old mid is quiet tells;
     was_epoch = was_epoch it old mid is quiet tells;
     choice = new.1.has.choice
-        ∙ ap (λ (records : List (List ℕ)). chosen (other it.journal.area) (it.journal.epoch + 1) new.0 records) (same_records it.guard text commits graph the_same);
+        ∙ ap (λ (records : List (List ℕ)). chosen (other it.journal.area) (it.journal.epoch + 1) new.0 (Some 3) records) (same_records it.guard text commits graph the_same);
   }
 
   as_before : (c : Triple) → IsSavedIn it.guard it.journal c → IsAsBefore old.shown c

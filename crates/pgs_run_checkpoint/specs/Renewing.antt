@@ -25,14 +25,14 @@ pub record IsAsBefore (start c : Triple) : Type 0 where
   pub area : chosen_area c.a c.b ≡ chosen_area start.a start.b
   pub epoch : chosen_epoch c.a c.b ≡ chosen_epoch start.a start.b
 
--- the other area is chosen, with the next epoch, and its records are the new ones
+-- the other area is chosen, with the next epoch, and its records are the new ones, in the second format
 pub record IsRenewed (text : List ℕ) (commits : ℕ) (graph : Graph) (start c : Triple) : Type 0 where
   pub area : Area
   pub epoch : ℕ
   pub end : ℕ
   pub was_area : chosen_area start.a start.b ≡ Some area
   pub was_epoch : chosen_epoch start.a start.b ≡ Some epoch
-  pub choice : choice_of c.a c.b ≡ chosen (other area) (epoch + 1) end (records_of text commits graph)
+  pub choice : choice_of c.a c.b ≡ chosen (other area) (epoch + 1) end (Some 3) (records_of text commits graph)
 
 -- Of a world that showed the start, a stop leaves what was saved there, and a front of the line that is told. What is chosen is as at
 -- the start, or renewed; and it is renewed where the whole line of a checkpoint is in the output.

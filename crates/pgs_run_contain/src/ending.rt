@@ -2,7 +2,7 @@ use pgs_conform::Compiled;
 
 /// How the reading of both texts ends.
 #[derive(Drop)]
-pub(crate) enum Ending {
+pub enum Ending {
     /// Both are schemas.
     Fit { first: Compiled, second: Compiled },
     /// One of them is refused, and its line is put.

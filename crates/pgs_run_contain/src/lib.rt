@@ -15,4 +15,5 @@ mod phase;
 mod run;
 mod types;
 
+pub use ending::Ending;
 pub use run::run_contain;

@@ -1,5 +1,4 @@
 pub mod LoadEnds
 pub mod Loads
-pub mod Machine
 pub mod Replied
 pub mod Stops

@@ -69,7 +69,7 @@ pub told_refused : (input : List ℕ) (areas : Areas) (text : List ℕ) → sche
 told_refused input areas text is = ap (λ answer. told_under answer (λ s. told_choice s (choice_of areas.a areas.b))) is
 
 told_store : (resolved : Resolved) (choice : Choice) → IsStore choice → told_choice resolved choice ≡ store_refused already_store_text
-told_store resolved (choices.chosen area epoch end payloads) is = refl
+told_store resolved (choices.chosen area epoch end next payloads) is = refl
 told_store resolved (choices.damaged area epoch number) is = refl
 told_store resolved choices.no_store is = absurd is
 told_store resolved choices.foreign is = absurd is

@@ -1,5 +1,5 @@
 -- What a stop leaves while a text is loaded: before the load, inside it, and inside the put of its line.
-use Rattle.std.proofs.Common.{◌≡◌, ◌⊎◌, inl, inr, ⊎_elim, ℕ, IsTrue, List, [], ◌++◌, Result, Ok, Err, sym, ap, subst, ◌∙◌}
+use Rattle.std.proofs.Common.{◌≡◌, ◌⊎◌, inl, inr, ⊎_elim, ℕ, IsTrue, List, [], ◌++◌, Some, Result, Ok, Err, sym, ap, subst, ◌∙◌}
 use Rattle.std.proofs.lemmas.List.{append-nil}
 use Rattle.pgs_base.specs.Graph.{empty_graph}
 use Rattle.pgs_resolve.specs.SchemaOf.{schema, schema_of}
@@ -12,7 +12,7 @@ use Rattle.pgs_store.specs.Loads.{FindsNone, Loads, IsStore}
 use Rattle.pgs_store.specs.State.{GuardState}
 use Rattle.pgs_store.specs.Stored.{StoreState, IsSavedIn, IsLoadedIn, opened, first_journal}
 use Rattle.pgs_store.specs.World.{StaysBeside}
-use Rattle.pgs_store.proofs.Replaying.{chosen_saves}
+use Rattle.pgs_run_saved.proofs.Conforming.{chosen_saves}
 use Rattle.pgs_syntax.specs.declared.resolved.Resolved.{Resolved}
 use Rattle.pgs_world.specs.declared.area.Area.TheVariants.{A}
 use Rattle.pgs_world.specs.Disk.{Puts}
@@ -54,7 +54,7 @@ new_store text input resolved end triple front of_text is =
     let whole : text ≡ input = front ∙ whole_text input resolved (answer_of_front text input front ∙ ap schema_or_text of_text) in
     record {
       saves =
-          chosen_saves standard triple.a triple.b (choices.chosen A 1 end is.0) is.1.has.choice ∙ is.1.saves
+          chosen_saves standard triple.a triple.b (choices.chosen A 1 end (Some 2) is.0) is.1.has.choice ∙ is.1.saves
           ∙ ap (λ t. store t 0 empty_graph) whole;
       area = ap area_chosen is.1.has.choice;
       epoch = ap epoch_chosen is.1.has.choice;

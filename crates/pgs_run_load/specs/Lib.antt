@@ -1,4 +1,3 @@
-pub mod Collecting
 pub mod Loading
 pub mod Replying
 pub mod Told

@@ -18,7 +18,7 @@ line_of schema = loaded_line (length schema.guard.types) (length schema.guard.ke
 
 -- what two areas tell where this schema is to be loaded: a store is left alone, and so is another program's file
 abbrev pub told_choice : Resolved → Choice → Told Status
-told_choice schema (choices.chosen area epoch end payloads) = store_refused already_store_text
+told_choice schema (choices.chosen area epoch end next payloads) = store_refused already_store_text
 told_choice schema (choices.damaged area epoch number) = store_refused already_store_text
 told_choice schema choices.foreign = store_refused foreign_text
 told_choice schema choices.no_store = record { pieces = line_of schema ∷ []; status = Accepted }

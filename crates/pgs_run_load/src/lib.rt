@@ -1,10 +1,9 @@
 //! The command `load`: the whole input is a schema, of which the empty store is made in area A with epoch 1.
 //!
 //! The one rule: what is put is what `told_load` tells (`specs/Told.antt`): the text is judged first, and then the two areas. The text
-//! is collected by a machine over lines (`specs/Collecting.antt`), which keeps no more of it than a schema text may have and one byte.
+//! is collected by the machine over lines of `pgs_run_base`, which keeps no more of it than a schema text may have and one byte.
 #![tactic(auto)]
 
-mod collecting;
 mod loading;
 mod replying;
 mod run;

@@ -11,9 +11,8 @@ ghost use Rattle.pgs_run_base.specs.Run.{IsRead, EndsAs, HasCommandCause, TakesW
 ghost use Rattle.pgs_run_load.specs.Loading.{IsLoading, IsLoadingAt, IsMade, IsNewStore, TellsFor};
 ghost use Rattle.pgs_run_load.specs.Told.{told_load};
 
-use crate::collecting::{Collecting, text_of};
 use crate::loading::load_text;
-use pgs_run_base::{Status, TEXT_LIMIT};
+use pgs_run_base::{Collecting, Status, TEXT_LIMIT, text_of};
 use pgs_run_lines::run_lines;
 use pgs_world::{Source, World};
 use std::alloc::Global;

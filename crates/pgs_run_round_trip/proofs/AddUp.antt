@@ -1,27 +1,37 @@
 -- Runs add up: what each leaves is what the next one begins with.
-use Rattle.std.proofs.Common.{◌≡◌, ◌⊎◌, inl, inr, ⊎_elim, ℕ, ◌+◌, ◌^◌, ◌==◌, Bool, true, false, nat_le, IsTrue, List, [], ◌∷◌, ◌++◌, length, Option, Some, Result, Ok, refl, sym, ap, subst, ◌∙◌}
+use Rattle.std.proofs.Common.{◌≡◌, ◌⊎◌, inl, inr, ⊎_elim, ℕ, ◌+◌, ◌^◌, ◌==◌, Bool, true, false, nat_le, IsTrue, List, [], ◌∷◌, ◌++◌, length, Option, Some, None, Result, Ok, Err, refl, sym, ap, ap₂, subst, ◌∙◌}
 use Rattle.std.proofs.lemmas.List.{append-nil}
 use Rattle.pgs_answer.specs.Lines.{checkpoint_line}
 use Rattle.pgs_feed.specs.Places.{lost_count}
 use Rattle.pgs_run_lines.specs.Machine.{Told}
 use Rattle.pgs_run_lines.specs.Pieces.{Shown, ShowsAll, shown_of}
 use Rattle.pgs_run_lines.proofs.Showing.{shows_none, shows_on}
-use Rattle.pgs_snapshot.specs.Choice.{choice_of, chosen_epoch, epoch_chosen, no_store}
-use Rattle.pgs_snapshot.specs.Saved.{SavedState, store}
+use Rattle.pgs_base.specs.Graph.{Graph}
+use Rattle.pgs_snapshot.specs.Choice.{choice_of, chosen_epoch, chosen_next, epoch_chosen, no_store}
+use Rattle.pgs_snapshot.specs.Saved.{SavedState, saved, store}
 use Rattle.pgs_store.specs.Loads.{FindsNone}
 use Rattle.pgs_syntax.specs.declared.resolved.Resolved.{Resolved}
+use Rattle.pgs_violation.specs.declared.violation.Verdict.{Verdict}
+use Rattle.pgs_violation.specs.declared.violation.Verdict.TheVariants.{Conforms, Refused as Violated}
+use Rattle.pgs_violation.specs.Violations.{verdict}
 use Rattle.pgs_run_words.specs.declared.command.Command.{Command}
-use Rattle.pgs_run_words.specs.declared.command.Command.TheVariants.{Load, Apply, Recover, Checkpoint}
+use Rattle.pgs_run_words.specs.declared.command.Command.TheVariants.{Load, Apply, Recover, Checkpoint, Evolve}
 use Rattle.pgs_run_words.specs.Words.{command_of}
 use Rattle.pgs_world.specs.World.{View}
 use Rattle.pgs_run_base.specs.declared.status.Status.{Status}
-use Rattle.pgs_run_base.specs.declared.status.Status.TheVariants.{Accepted, Refused, StoreRefused, DiskFault, InputTooLong}
+use Rattle.pgs_run_base.specs.declared.status.Status.TheVariants.{Accepted, Refused, SchemaRefused, StoreRefused, DiskFault, InputTooLong}
 use Rattle.pgs_run_base.specs.Answers.{schema_answer}
 use Rattle.pgs_run_base.specs.Areas.{Areas, areas_of}
 use Rattle.pgs_run_base.specs.Ending.{Ends}
+use Rattle.pgs_run_base.specs.Images.{IsUnwritten}
+use Rattle.pgs_run_base.specs.Session.{standard}
 use Rattle.pgs_run_apply.specs.Run.{Saves, IsDecided, IsPutBy}
 use Rattle.pgs_run_apply.specs.Told.{after, verdicts, all_lines, lost_pieces}
 use Rattle.pgs_run_checkpoint.specs.Told.{told_by, told_checkpoint}
+use Rattle.pgs_run_contain.specs.Answers.{Answer}
+use Rattle.pgs_run_evolve.specs.Leaving.{LeavesEvolved}
+use Rattle.pgs_run_evolve.specs.Leaving.{IsMade as MadeAt}
+use Rattle.pgs_run_evolve.specs.Told.{told_evolve, told_input, told_text, told_verdict}
 use Rattle.pgs_run_load.specs.Loading.{IsMade}
 use Rattle.pgs_run_load.specs.Told.{line_of, told_choice, told_load}
 use Rattle.pgs_run_recover.specs.Dump.{dump}
@@ -29,7 +39,7 @@ use Rattle.pgs_run_saved.specs.Refusing.{SavedStore, told_of_areas, told_saved, 
 use Rattle.pgs_run.specs.Command.{reads_source, AsksAreas, IsTold}
 use Rattle.pgs_run.specs.Leaving.{Feeds, Leaves}
 use Rattle.pgs_run.specs.Told.{told, told_command, told_dump}
-use Rattle.pgs_run_round_trip.specs.Sequence.{Applied, Deed, Does, DoAll, Ran, Renewed, after_deed, after_deeds, epoch_after, new_store, told_deed, told_deeds, told_sequence}
+use Rattle.pgs_run_round_trip.specs.Sequence.{Applied, Deed, Does, DoAll, Evolved, Ran, Renewed, after_deed, after_deeds, epoch_after, new_store, told_deed, told_deeds, told_sequence, under_text, under_verdict}
 
 -- ---- a run that ended with 0 or 1
 
@@ -50,9 +60,9 @@ record Stands (it : SavedStore) (epoch : ℕ) (view : View) : Type 0 where
   pub tells : IsTrue view.tells_bytes
 
 -- a command's own of what is told
-pub told_as : (words : List (List ℕ)) (command : Command) (input : List ℕ) (areas : Areas) (budget lost : ℕ) → command_of words ≡ Some command → told words input areas budget lost ≡ told_command (Some command) input areas budget lost
+pub told_as : (words : List (List ℕ)) (command : Command) (input : List ℕ) (areas : Areas) (budget lost : ℕ) (answers : List Answer) → command_of words ≡ Some command → told words input areas budget lost answers ≡ told_command (Some command) input areas budget lost answers
 unfolding told
-told_as words command input areas budget lost is = ap (λ (c : Option Command). told_command c input areas budget lost) is
+told_as words command input areas budget lost answers is = ap (λ (c : Option Command). told_command c input areas budget lost answers) is
 
 -- what is told of a view that saves this store
 told_stands : (view : View) (it : SavedStore) (go : SavedStore → Told Status) → Saves it view.shown → told_of_areas (areas_of view) go ≡ go it
@@ -64,7 +74,7 @@ told_stands view it go known =
 -- what a run puts that told this
 module _ (command : Command) (input : List ℕ) (lost : ℕ) (old new : View) (ran : Ran command input lost old new) where
   abbrev said : Told Status
-  said = told_command (Some command) input (areas_of old) (2 ^ 40) lost
+  said = told_command (Some command) input (areas_of old) (2 ^ 40) lost ran.kept.answers
 
   pub shows : (AsksAreas (Some command) input → IsTrue old.tells_bytes) → ShowsAll (shown_of old) said.pieces (shown_of new) × (said.status ≡ ran.status)
   shows tells =
@@ -72,9 +82,9 @@ module _ (command : Command) (input : List ℕ) (lost : ℕ) (old new : View) (r
         source = λ reads. ran.source (subst (λ (c : Option Command). reads_source c ≡ true) ran.named reads);
         bytes = λ asks. tells (subst (λ (c : Option Command). AsksAreas c input) ran.named asks);
       } in
-      let same : told ran.words input (areas_of old) (2 ^ 40) (lost_count ran.places_now) ≡ said =
-      told_as ran.words command input (areas_of old) (2 ^ 40) (lost_count ran.places_now) ran.named
-      ∙ ap (λ (n : ℕ). told_command (Some command) input (areas_of old) (2 ^ 40) n) ran.lost_is in
+      let same : told ran.words input (areas_of old) (2 ^ 40) (lost_count ran.places_now) ran.kept.answers ≡ said =
+      told_as ran.words command input (areas_of old) (2 ^ 40) (lost_count ran.places_now) ran.kept.answers ran.named
+      ∙ ap (λ (n : ℕ). told_command (Some command) input (areas_of old) (2 ^ 40) n ran.kept.answers) ran.lost_is in
       done_shows (shown_of old) (shown_of new) said ran.status ran.done
       (subst (λ (t : Told Status). Ends (shown_of old) t ran.status (shown_of new)) same (ran.kept.shown input knows))
 
@@ -192,13 +202,86 @@ renews it epoch input lost old new stands ran =
       shown = subst (λ (t : Told Status). ShowsAll (shown_of old) t.pieces (shown_of new)) all done.0;
     }
 
+-- ---- `evolve`
+
+-- a status that is neither 0 nor 1
+never_done : (so status : Status) → (so ≡ Accepted → ⊥) → (so ≡ Refused → ⊥) → so ≡ status → IsDone status → ⊥
+never_done so status not_accepted not_refused same (inl is) = not_accepted (same ∙ is)
+never_done so status not_accepted not_refused same (inr is) = not_refused (same ∙ is)
+
+too_long : (status : Status) → InputTooLong ≡ status → IsDone status → ⊥
+too_long status same done = never_done InputTooLong status (λ e. let no : InputTooLong ≡ Accepted = e in cc) (λ e. let no : InputTooLong ≡ Refused = e in cc) same done
+
+store_refused : (status : Status) → StoreRefused ≡ status → IsDone status → ⊥
+store_refused status same done = never_done StoreRefused status (λ e. let no : StoreRefused ≡ Accepted = e in cc) (λ e. let no : StoreRefused ≡ Refused = e in cc) same done
+
+schema_refused : (status : Status) → SchemaRefused ≡ status → IsDone status → ⊥
+schema_refused status same done = never_done SchemaRefused status (λ e. let no : SchemaRefused ≡ Accepted = e in cc) (λ e. let no : SchemaRefused ≡ Refused = e in cc) same done
+
+-- the input wasn't cut, and the store is of the second format
+evolve_if : (cut : Bool) (next : Option ℕ) (input : List ℕ) (graph : Graph) (status : Status) → nat_le (2 ^ 40) (length input) ≡ cut → IsDone status → (told_input input (2 ^ 40) next graph).status ≡ status
+    → told_input input (2 ^ 40) next graph ≡ told_text input graph
+evolve_if true next input graph status e done same = absurd (too_long status (rw e at same) done)
+evolve_if false None input graph status e done same = absurd (store_refused status (rw e at same) done)
+evolve_if false (Some number) input graph status e done same = rw e refl
+
+told_evolved : (it : SavedStore) (input : List ℕ) (old : View) → Saves it old.shown → told_evolve input (areas_of old) (2 ^ 40) ≡ told_input input (2 ^ 40) (chosen_next old.shown.a old.shown.b) it.graph
+unfolding told_evolve
+told_evolved it input old known = told_stands old it (λ (s : SavedStore). told_input input (2 ^ 40) (chosen_next old.shown.a old.shown.b) s.graph) known
+
+module _ (it : SavedStore) (epoch : ℕ) (input : List ℕ) (lost : ℕ) (old new : View) (stands : Stands it epoch old) (ran : Ran Evolve input lost old new) where
+  leaves : LeavesEvolved ran.source_before.left old new ran.status
+  leaves = left Evolve input lost old new ran
+
+  -- the schema is in force
+  in_force : (schema : Resolved) → schema_answer input ≡ Ok schema → ran.status ≡ Accepted → Stands (record { text = input; schema = schema; commits = it.commits; graph = it.graph }) epoch new
+  in_force schema is accepted =
+      let next = chosen_next old.shown.a old.shown.b in
+      let made = leaves.made stands.tells input it.text it.commits it.graph (ran.source refl) stands.saves.saves (subst (MadeAt next input it.graph) (sym accepted) tt) in
+      record {
+        saves = record { saves = made.under.saves; schema = is };
+        epoch_is = made.under.epoch ∙ stands.epoch_is;
+        tells = leaves.passes.tells_bytes ∙ stands.tells;
+      }
+
+  -- the graph has a violation under it
+  as_it_was : ran.status ≡ Refused → Stands it epoch new
+  as_it_was refused =
+      let kept = leaves.unwritten (subst IsUnwritten (sym refused) tt) in
+      record {
+        saves = record { saves = ap₂ (saved standard) kept.a kept.b ∙ stands.saves.saves; schema = stands.saves.schema };
+        epoch_is = ap₂ chosen_epoch kept.a kept.b ∙ stands.epoch_is;
+        tells = leaves.passes.tells_bytes ∙ stands.tells;
+      }
+
+  by_verdict : (schema : Resolved) (found : Verdict) → schema_answer input ≡ Ok schema → (told_verdict schema found).status ≡ ran.status → Stands (under_verdict it input schema found) epoch new
+  by_verdict schema Conforms is same = in_force schema is (sym same)
+  by_verdict schema (Violated violation) is same = as_it_was (sym same)
+
+  by_answer : (answer : Result Resolved (List ℕ)) → schema_answer input ≡ answer → (told_under answer (λ schema. told_verdict schema (verdict schema it.graph))).status ≡ ran.status → Stands (under_text it input answer) epoch new
+  by_answer (Ok schema) is same = by_verdict schema (verdict schema it.graph) is same
+  by_answer (Err text) is same = absurd (schema_refused ran.status same ran.done)
+
+  evolves : Leads (after_deed it (Evolved input)) epoch (told_deed it epoch (Evolved input)) old new
+  evolves =
+      let done = shows Evolve input lost old new ran (λ asks. stands.tells) in
+      let said = told_evolved it input old stands.saves in
+      let told : told_evolve input (areas_of old) (2 ^ 40) ≡ told_text input it.graph = said
+      ∙ evolve_if (nat_le (2 ^ 40) (length input)) (chosen_next old.shown.a old.shown.b) input it.graph ran.status refl ran.done
+      (ap (λ (t : Told Status). t.status) (sym said) ∙ done.1) in
+      record {
+        stands = by_answer (schema_answer input) refl (ap (λ (t : Told Status). t.status) (sym told) ∙ done.1);
+        shown = subst (λ (t : Told Status). ShowsAll (shown_of old) t.pieces (shown_of new)) told done.0;
+      }
+
 -- ---- one after another
 
 does : (it : SavedStore) (epoch : ℕ) (deed : Deed) (old new : View) → Stands it epoch old → Does deed old new → Leads (after_deed it deed) (epoch_after epoch deed) (told_deed it epoch deed) old new
 does it epoch (Applied input lost) old new stands ran = applies it epoch input lost old new stands ran
 does it epoch Renewed old new stands ran = renews it epoch ran.0 ran.1 old new stands ran.2
+does it epoch (Evolved input) old new stands ran = evolves it epoch input ran.0 old new stands ran.1
 
--- what runs lead to, with the store's text and schema as they were
+-- what runs lead to
 record All (it : SavedStore) (pieces : List (List ℕ)) (old new : View) : Type 0 where
   pub epoch : ℕ
   pub stands : Stands it epoch new

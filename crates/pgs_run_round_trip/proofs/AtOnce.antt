@@ -20,7 +20,7 @@ use Rattle.pgs_violation.specs.Staging.{◌>>=◌, StepFault, after_ops, going_o
 use Rattle.pgs_violation.specs.Violations.{verdict}
 use Rattle.pgs_run_base.specs.Answers.{schema_answer}
 use Rattle.pgs_run_base.specs.Session.{standard}
-use Rattle.pgs_run_apply.proofs.Conforming.{saved_conforms}
+use Rattle.pgs_run_saved.proofs.Conforming.{saved_conforms}
 use Rattle.pgs_run_try.specs.Judging.{judges_nothing}
 use Rattle.pgs_run_round_trip.specs.DumpOps.{txn_of_op}
 use Rattle.pgs_run_round_trip.proofs.Rebuilt.{Builds, HasSmallRows, rebuilt}

@@ -21,10 +21,10 @@ use Rattle.pgs_run_round_trip.proofs.Validated.{nothing_told}
 
 module _ (reads : AreReadBack) (input dump : List ℕ) (lost failed : ℕ) (first last old now : View) (recovered : Ran Recover input lost first last) (validated : Ran Validate dump failed old now) where
   abbrev said : Told Status
-  said = told recovered.words input (areas_of first) (2 ^ 40) lost
+  said = told recovered.words input (areas_of first) (2 ^ 40) lost recovered.kept.answers
 
-  own : said ≡ told_command (Some Recover) input (areas_of first) (2 ^ 40) lost
-  own = told_as recovered.words Recover input (areas_of first) (2 ^ 40) lost recovered.named
+  own : said ≡ told_command (Some Recover) input (areas_of first) (2 ^ 40) lost recovered.kept.answers
+  own = told_as recovered.words Recover input (areas_of first) (2 ^ 40) lost recovered.kept.answers recovered.named
 
   pub read_again : IsBytes first.shown.a → IsBytes first.shown.b → IsTrue first.tells_bytes → IsTrue first.tells_output → recovered.status ≡ Accepted
       → last.shown.output ≡ first.shown.output ++ dump → length dump < 2 ^ 40
@@ -34,13 +34,13 @@ module _ (reads : AreReadBack) (input dump : List ℕ) (lost failed : ℕ) (firs
       let kept = left Recover input lost first last recovered in
       let all : dump ≡ concat said.pieces =
       append_cancel_left first.shown.output dump (concat said.pieces)
-      (sym out ∙ shown_added first last (concat (told_command (Some Recover) input (areas_of first) (2 ^ 40) lost).pieces) output (kept.passes.tells_output ∙ output) shown.0.output
+      (sym out ∙ shown_added first last (concat (told_command (Some Recover) input (areas_of first) (2 ^ 40) lost recovered.kept.answers).pieces) output (kept.passes.tells_output ∙ output) shown.0.output
       ∙ ap (λ (t : Told Status). first.shown.output ++ concat t.pieces) (sym own)) in
-      let nothing : told validated.words dump (areas_of old) (2 ^ 40) failed ≡ nothing_told =
-      ap (λ (bytes : List ℕ). told validated.words bytes (areas_of old) (2 ^ 40) failed) all
-      ∙ dump_is_read_back reads recovered.words validated.words input (areas_of first) (areas_of old) (2 ^ 40) lost (2 ^ 40) failed a b recovered.named validated.named
+      let nothing : told validated.words dump (areas_of old) (2 ^ 40) failed validated.kept.answers ≡ nothing_told =
+      ap (λ (bytes : List ℕ). told validated.words bytes (areas_of old) (2 ^ 40) failed validated.kept.answers) all
+      ∙ dump_is_read_back reads recovered.words validated.words input (areas_of first) (areas_of old) (2 ^ 40) lost (2 ^ 40) failed recovered.kept.answers validated.kept.answers a b recovered.named validated.named
       (ap (λ (t : Told Status). t.status) own ∙ shown.1 ∙ accepted) (subst (λ (bytes : List ℕ). length bytes < 2 ^ 40) all short) in
       let taken = shows Validate dump failed old now validated (λ asks. absurd (false≢true asks)) in
-      let is : told_command (Some Validate) dump (areas_of old) (2 ^ 40) failed ≡ nothing_told =
-      sym (told_as validated.words Validate dump (areas_of old) (2 ^ 40) failed validated.named) ∙ nothing in
+      let is : told_command (Some Validate) dump (areas_of old) (2 ^ 40) failed validated.kept.answers ≡ nothing_told =
+      sym (told_as validated.words Validate dump (areas_of old) (2 ^ 40) failed validated.kept.answers validated.named) ∙ nothing in
       (sym taken.1 ∙ ap (λ (t : Told Status). t.status) is, subst (λ (t : Told Status). ShowsAll (shown_of old) t.pieces (shown_of now)) is taken.0)

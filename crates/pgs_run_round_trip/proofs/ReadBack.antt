@@ -14,8 +14,9 @@ use Rattle.pgs_run_base.specs.declared.status.Status.TheVariants.{Accepted}
 use Rattle.pgs_run_base.specs.Answers.{schema_answer}
 use Rattle.pgs_run_base.specs.Areas.{Areas}
 use Rattle.pgs_run_base.specs.Session.{standard}
-use Rattle.pgs_run_apply.proofs.Conforming.{saved_conforms}
+use Rattle.pgs_run_saved.proofs.Conforming.{saved_conforms}
 use Rattle.pgs_dump.specs.Lines.{graph_ops}
+use Rattle.pgs_run_contain.specs.Answers.{Answer}
 use Rattle.pgs_run_recover.specs.Dump.{dump}
 use Rattle.pgs_run_saved.specs.Refusing.{told_of_areas}
 use Rattle.pgs_run_try.specs.declared.judging.Judging.TheVariants.{AtEnd}
@@ -61,24 +62,24 @@ module _ (reads : AreReadBack) (areas : Areas) (a : IsBytes areas.a) (b : IsByte
 
 -- ---- the two runs
 
-recovers : (words : List (List ℕ)) (input : List ℕ) (areas : Areas) (budget lost : ℕ) → command_of words ≡ Some Recover
-    → told words input areas budget lost ≡ told_of_areas areas told_dump
+recovers : (words : List (List ℕ)) (input : List ℕ) (areas : Areas) (budget lost : ℕ) (answers : List Answer) → command_of words ≡ Some Recover
+    → told words input areas budget lost answers ≡ told_of_areas areas told_dump
 unfolding told
-recovers words input areas budget lost is = ap (λ (c : Option Command). told_command c input areas budget lost) is
+recovers words input areas budget lost answers is = ap (λ (c : Option Command). told_command c input areas budget lost answers) is
 
-validates : (words : List (List ℕ)) (input : List ℕ) (areas : Areas) (budget lost : ℕ) → command_of words ≡ Some Validate
-    → told words input areas budget lost ≡ told_judging AtEnd input budget
+validates : (words : List (List ℕ)) (input : List ℕ) (areas : Areas) (budget lost : ℕ) (answers : List Answer) → command_of words ≡ Some Validate
+    → told words input areas budget lost answers ≡ told_judging AtEnd input budget
 unfolding told
-validates words input areas budget lost is = ap (λ (c : Option Command). told_command c input areas budget lost) is
+validates words input areas budget lost answers is = ap (λ (c : Option Command). told_command c input areas budget lost answers) is
 
-pub dump_is_read_back : AreReadBack → (words other : List (List ℕ)) (input : List ℕ) (areas any : Areas) (budget lost limit failed : ℕ)
+pub dump_is_read_back : AreReadBack → (words other : List (List ℕ)) (input : List ℕ) (areas any : Areas) (budget lost limit failed : ℕ) (answers others : List Answer)
     → IsBytes areas.a → IsBytes areas.b → command_of words ≡ Some Recover → command_of other ≡ Some Validate
-    → (told words input areas budget lost).status ≡ Accepted
-    → length (concat (told words input areas budget lost).pieces) < limit
-    → told other (concat (told words input areas budget lost).pieces) any limit failed ≡ nothing_told
-dump_is_read_back reads words other input areas any budget lost limit failed a b recover validate accepted below =
-    let same = recovers words input areas budget lost recover in
-    validates other (concat (told words input areas budget lost).pieces) any limit failed validate
+    → (told words input areas budget lost answers).status ≡ Accepted
+    → length (concat (told words input areas budget lost answers).pieces) < limit
+    → told other (concat (told words input areas budget lost answers).pieces) any limit failed others ≡ nothing_told
+dump_is_read_back reads words other input areas any budget lost limit failed answers others a b recover validate accepted below =
+    let same = recovers words input areas budget lost answers recover in
+    validates other (concat (told words input areas budget lost answers).pieces) any limit failed others validate
     ∙ ap (λ (said : Told Status). told_judging AtEnd (concat said.pieces) limit) same
     ∙ recovered_accepted reads areas a b limit
     (ap (λ (said : Told Status). said.status) (sym same) ∙ accepted)

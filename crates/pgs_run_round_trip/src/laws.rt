@@ -18,6 +18,7 @@ ghost use Rattle.pgs_run_base.specs.declared.status.Status.TheVariants.{Accepted
 ghost use Rattle.pgs_run_base.specs.Answers.{schema_answer};
 ghost use Rattle.pgs_run_base.specs.Areas.{Areas};
 ghost use Rattle.pgs_run_base.specs.Session.{standard};
+ghost use Rattle.pgs_run_contain.specs.Answers.{Answer};
 ghost use Rattle.pgs_run.specs.Told.{told};
 ghost use Rattle.pgs_run_round_trip.specs.Lines.{IsLineStart};
 ghost use Rattle.pgs_run_round_trip.specs.Sequence.{Deed, DoAll, Ran, told_sequence};
@@ -32,14 +33,14 @@ pub fn no_dashes()
 
 /// What `recover` tells of a saved store, `validate` reads back: within its budget it takes the dump as its input, tells nothing of
 /// it, and accepts it. So each line of a dump is a transaction that is accepted, and together they make a graph that conforms. The
-/// areas are bytes, and the input of `recover`, its budget, the areas of `validate` and the lost feeds don't matter.
+/// areas are bytes, and the input of `recover`, its budget, the areas of `validate`, the lost feeds and answers don't matter.
 pub fn a_dump_is_read_back()
-    ensures { (words other : List (List ℕ)) (input : List ℕ) (areas any : Areas) (budget lost limit failed : ℕ)
+    ensures { (words other : List (List ℕ)) (input : List ℕ) (areas any : Areas) (budget lost limit failed : ℕ) (answers others : List Answer)
         → ((i : ℕ) → slice_index areas.a i < 256) → ((i : ℕ) → slice_index areas.b i < 256)
         → command_of words ≡ Some Recover → command_of other ≡ Some Validate
-        → (told words input areas budget lost).status ≡ Accepted
-        → length (concat (told words input areas budget lost).pieces) < limit
-        → told other (concat (told words input areas budget lost).pieces) any limit failed ≡ record { pieces = []; status = Accepted } }
+        → (told words input areas budget lost answers).status ≡ Accepted
+        → length (concat (told words input areas budget lost answers).pieces) < limit
+        → told other (concat (told words input areas budget lost answers).pieces) any limit failed others ≡ record { pieces = []; status = Accepted } }
 {
     pgs_json::written_is_read();
 }
@@ -69,8 +70,9 @@ pub fn a_dump_is_validated<V: World, W: World>()
 }
 
 /// Runs add up. Over one world that tells its bytes, whose areas are both free at first: `load` of a text that is a schema, then runs of
-/// `apply` and `checkpoint` in any order, then `recover`, each ended with 0 or 1, print what deciding the lines of all inputs in order
-/// prints: each run's lines numbered from 1, the commit numbers going on, and then the dump of the graph that they lead to.
+/// `apply`, `checkpoint` and `evolve` in any order, then `recover`, each ended with 0 or 1, print what deciding the lines of all inputs in
+/// order prints: each run's lines numbered from 1, the commit numbers going on; of `evolve` the line of the schema that is in force from
+/// then on, or of the first violation under it; and then the dump of the graph that they lead to, under the last schema.
 pub fn runs_add_up<W: World>()
     ensures { (text input : List ℕ) (schema : Resolved) (deeds : List Deed) (lost failed : ℕ) (first loaded last done : W)
         → IsTrue (W.view first).tells_bytes → FindsNone (W.view first) → schema_answer text ≡ Ok schema

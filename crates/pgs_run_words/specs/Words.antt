@@ -7,7 +7,7 @@ use Rattle.std.specs.Str.{bytes_eq}
 use Rattle.pgs_base.specs.declared.element.Elem.{Elem}
 use Rattle.pgs_base.specs.declared.element.Elem.TheVariants.{Node, Edge}
 use Rattle.pgs_run_words.specs.declared.command.Command.{Command}
-use Rattle.pgs_run_words.specs.declared.command.Command.TheVariants.{Try, Validate, Load, Apply, Recover, Explain, Gen, Checkpoint}
+use Rattle.pgs_run_words.specs.declared.command.Command.TheVariants.{Try, Validate, Load, Apply, Recover, Explain, Gen, Checkpoint, Contain, Evolve}
 use Rattle.pgs_run_words.specs.declared.command_word.CommandWord.{CommandWord}
 use Rattle.pgs_run_words.specs.declared.command_word.CommandWord.TheVariants as words
 use Rattle.pgs_run_words.specs.Further.{are_plain}
@@ -71,6 +71,8 @@ command_in words.Recover = named Recover
 command_in words.Explain = explained
 command_in words.Gen = generated
 command_in words.Checkpoint = named Checkpoint
+command_in words.Contain = alone Contain
+command_in words.Evolve = named Evolve
 
 -- ---- all words
 
@@ -79,7 +81,7 @@ abbrev pub command_words : List (List ℕ × CommandWord)
 command_words =
     (codes "try", words.Try) ∷ (codes "validate", words.Validate) ∷ (codes "load", words.Load) ∷ (codes "apply", words.Apply)
     ∷ (codes "recover", words.Recover) ∷ (codes "explain", words.Explain) ∷ (codes "gen", words.Gen)
-    ∷ (codes "checkpoint", words.Checkpoint) ∷ []
+    ∷ (codes "checkpoint", words.Checkpoint) ∷ (codes "contain", words.Contain) ∷ (codes "evolve", words.Evolve) ∷ []
 
 -- the command of the first row that has the word
 abbrev pub found_in : List (List ℕ × CommandWord) → List ℕ → Option CommandWord
@@ -102,6 +104,7 @@ abbrev pub has_store : Command → Bool
 has_store Try = false
 has_store Validate = false
 has_store (Gen start count) = false
+has_store Contain = false
 has_store _ = true
 
 abbrev pub has_feeds : Command → Bool

@@ -19,4 +19,8 @@ pub enum Command {
     Gen { start: u64, count: u64 },
     /// `checkpoint NAME`: a store written whole into its other area.
     Checkpoint,
+    /// `contain`: two schemas; whether each type of the first is contained in the second.
+    Contain,
+    /// `evolve NAME`: another schema over a store whose graph conforms to it.
+    Evolve,
 }

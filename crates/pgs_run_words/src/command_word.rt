@@ -13,10 +13,12 @@ pub enum CommandWord {
     Explain,
     Gen,
     Checkpoint,
+    Contain,
+    Evolve,
 }
 
 /// All first words.
-const COMMAND_WORDS: [(&str, CommandWord); 8] = [
+const COMMAND_WORDS: [(&str, CommandWord); 10] = [
     ("try", CommandWord::Try),
     ("validate", CommandWord::Validate),
     ("load", CommandWord::Load),
@@ -25,6 +27,8 @@ const COMMAND_WORDS: [(&str, CommandWord); 8] = [
     ("explain", CommandWord::Explain),
     ("gen", CommandWord::Gen),
     ("checkpoint", CommandWord::Checkpoint),
+    ("contain", CommandWord::Contain),
+    ("evolve", CommandWord::Evolve),
 ];
 
 fn first_row(rows: &[(&str, CommandWord)], word: &str) -> Option<CommandWord>

@@ -111,5 +111,7 @@ pub fn command_in<'a>(
         CommandWord::Explain => explained(alloc, further),
         CommandWord::Gen => generated(alloc, further),
         CommandWord::Checkpoint => named(alloc, Command::Checkpoint, further),
+        CommandWord::Contain => alone(alloc, Command::Contain, further),
+        CommandWord::Evolve => named(alloc, Command::Evolve, further),
     }
 }

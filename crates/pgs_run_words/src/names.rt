@@ -11,9 +11,9 @@ fn has_store(command: &Command) -> bool
     ensures { result ≡ has_store command.now }
 {
     match command {
-        Command::Try | Command::Validate | Command::Gen { .. } => false,
+        Command::Try | Command::Validate | Command::Gen { .. } | Command::Contain => false,
         Command::Load | Command::Apply | Command::Recover => true,
-        Command::Explain { .. } | Command::Checkpoint => true,
+        Command::Explain { .. } | Command::Checkpoint | Command::Evolve => true,
     }
 }
 

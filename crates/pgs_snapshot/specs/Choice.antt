@@ -7,7 +7,6 @@ use Rattle.pgs_journal.specs.declared.area_state.AreaState.TheVariants.{NoStore,
 use Rattle.pgs_journal.specs.declared.head.Head.{Head}
 use Rattle.pgs_journal.specs.declared.head.Head.TheVariants as heads
 use Rattle.pgs_journal.specs.Area.{area_state}
-use Rattle.pgs_journal.specs.Format.{First}
 
 -- what two areas are together
 pub data Choice : Type 0 where
@@ -17,15 +16,15 @@ pub data Choice : Type 0 where
   foreign : Choice
   -- the store of this area is chosen, and damaged at the record of this number
   damaged : (area : Area) (epoch number : ℕ) → Choice
-  -- the store of this area is chosen, and its records are whole and fit
-  chosen : (area : Area) (epoch end : ℕ) (payloads : List (List ℕ)) → Choice
+  -- the store of this area is chosen, and its records are whole and fit; the next one has this number in the second format
+  chosen : (area : Area) (epoch end : ℕ) (next : Option ℕ) (payloads : List (List ℕ)) → Choice
 
 -- the epoch of a store, whole or damaged
 abbrev pub store_epoch : AreaState → Option ℕ
 store_epoch NoStore = None
 store_epoch Foreign = None
 store_epoch (Damaged epoch number) = Some epoch
-store_epoch (Store epoch end payloads) = Some epoch
+store_epoch (Store epoch end next payloads) = Some epoch
 
 -- the area whose store has the greater epoch, A where both are equal
 abbrev pub greater : Option ℕ → Option ℕ → Option Area
@@ -39,13 +38,13 @@ abbrev pub taken : Area → AreaState → Choice
 taken area NoStore = no_store
 taken area Foreign = foreign
 taken area (Damaged epoch number) = damaged area epoch number
-taken area (Store epoch end payloads) = chosen area epoch end payloads
+taken area (Store epoch end next payloads) = chosen area epoch end next payloads
 
 abbrev pub is_foreign : AreaState → Bool
 is_foreign NoStore = false
 is_foreign Foreign = true
 is_foreign (Damaged epoch number) = false
-is_foreign (Store epoch end payloads) = false
+is_foreign (Store epoch end next payloads) = false
 
 -- what two areas are, of which none is a store
 abbrev pub without_store : AreaState → AreaState → Choice
@@ -61,19 +60,19 @@ choice a b = choice_in a b (greater (store_epoch a) (store_epoch b))
 
 -- the choice of two images
 unfoldable pub choice_of : List ℕ → List ℕ → Choice
-choice_of a b = choice (area_state First a) (area_state First b)
+choice_of a b = choice (area_state a) (area_state b)
 
 -- the epoch of the store that a head is of
 abbrev pub head_epoch : Head → Option ℕ
 head_epoch heads.NoStore = None
 head_epoch heads.Foreign = None
-head_epoch (heads.Store epoch) = Some epoch
+head_epoch (heads.Store format epoch) = Some epoch
 
 -- the head is none of a store, behind an open gate
 abbrev pub is_foreign_head : Head → Bool
 is_foreign_head heads.NoStore = false
 is_foreign_head heads.Foreign = true
-is_foreign_head (heads.Store epoch) = false
+is_foreign_head (heads.Store format epoch) = false
 
 -- the area of the store with the greater epoch, by the heads of both
 abbrev pub leading : Head → Head → Option Area
@@ -88,13 +87,20 @@ abbrev pub area_chosen : Choice → Option Area
 area_chosen no_store = None
 area_chosen foreign = None
 area_chosen (damaged area epoch number) = Some area
-area_chosen (chosen area epoch end payloads) = Some area
+area_chosen (chosen area epoch end next payloads) = Some area
 
 abbrev pub epoch_chosen : Choice → Option ℕ
 epoch_chosen no_store = None
 epoch_chosen foreign = None
 epoch_chosen (damaged area epoch number) = Some epoch
-epoch_chosen (chosen area epoch end payloads) = Some epoch
+epoch_chosen (chosen area epoch end next payloads) = Some epoch
+
+-- the next number of the chosen store, where it is whole and of the second format
+abbrev pub next_chosen : Choice → Option ℕ
+next_chosen no_store = None
+next_chosen foreign = None
+next_chosen (damaged area epoch number) = None
+next_chosen (chosen area epoch end next payloads) = next
 
 -- the same of two images
 abbrev pub chosen_area : List ℕ → List ℕ → Option Area
@@ -102,3 +108,6 @@ chosen_area a b = area_chosen (choice_of a b)
 
 abbrev pub chosen_epoch : List ℕ → List ℕ → Option ℕ
 chosen_epoch a b = epoch_chosen (choice_of a b)
+
+abbrev pub chosen_next : List ℕ → List ℕ → Option ℕ
+chosen_next a b = next_chosen (choice_of a b)

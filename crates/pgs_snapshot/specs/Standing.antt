@@ -1,8 +1,10 @@
 -- What a call on two areas finds, and what holds of the images then.
-use Rattle.std.specs.Prelude.{◌≡◌, ℕ, Bool, true, false, List, Result, Ok, Err}
+use Rattle.std.specs.Prelude.{◌≡◌, ℕ, Bool, true, false, List, Option, Some, None, Result, Ok, Err}
+use Rattle.pgs_codec.specs.declared.command.Command.{Command}
+use Rattle.pgs_codec.specs.declared.command.Command.TheVariants.{Schema, Snapshot, Txn}
 use Rattle.pgs_world.specs.declared.area.Area.{Area}
 use Rattle.pgs_world.specs.World.{Triple, part}
-use Rattle.pgs_journal.specs.Format.{First, Holds}
+use Rattle.pgs_journal.specs.Format.{Holds}
 use Rattle.pgs_snapshot.specs.Choice.{Choice, choice_of}
 use Rattle.pgs_snapshot.specs.Choice as choices
 use Rattle.pgs_snapshot.specs.declared.choosing.Chosen.{Chosen}
@@ -10,9 +12,17 @@ use Rattle.pgs_snapshot.specs.declared.choose_fault.ChooseFault.{ChooseFault}
 use Rattle.pgs_snapshot.specs.declared.choose_fault.ChooseFault.TheVariants as faults
 
 -- of both images of a triple this store is chosen, and its area holds its records, as an append to it asks
-pub record HasStore (area : Area) (epoch end : ℕ) (payloads : List (List ℕ)) (triple : Triple) : Type 0 where
-  pub choice : choice_of triple.a triple.b ≡ choices.chosen area epoch end payloads
-  pub holds : Holds First epoch payloads end (part area triple)
+pub record HasStore (area : Area) (epoch end : ℕ) (next : Option ℕ) (payloads : List (List ℕ)) (triple : Triple) : Type 0 where
+  pub choice : choice_of triple.a triple.b ≡ choices.chosen area epoch end next payloads
+  pub holds : Holds next epoch payloads end (part area triple)
+
+-- what may be appended to a store with this next number: a transaction or, in the second format, a schema
+abbrev pub IsAppendable : Option ℕ → Option Command → Type 0
+IsAppendable next (Some (Txn txn)) = Unit {0}
+IsAppendable (Some number) (Some (Schema text)) = Unit {0}
+IsAppendable None (Some (Schema text)) = ⊥
+IsAppendable next (Some (Snapshot commits nodes edges)) = ⊥
+IsAppendable next None = ⊥
 
 -- damaged at the record of this number
 abbrev pub IsDamagedAt : ℕ → Choice → Type 0

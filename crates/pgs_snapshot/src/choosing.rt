@@ -19,6 +19,8 @@ pub struct Chosen {
     pub epoch: u64,
     /// The place of the closed gate behind the last record.
     pub end: u64,
+    /// The number of the record behind the last one in the second format, `None` in the first.
+    pub next: Option<u64>,
     /// The payloads of the records, in order.
     pub payloads: List<Bytes>,
 }
@@ -29,7 +31,7 @@ fn head_epoch(head: Head) -> Option<u64>
 {
     match head {
         Head::NoStore | Head::Foreign => None,
-        Head::Store { epoch } => Some(epoch),
+        Head::Store { epoch, .. } => Some(epoch),
     }
 }
 
@@ -79,10 +81,10 @@ fn leading(a: Head, b: Head) -> Result<Area, ChooseFault>
 /// The store of an area of this state.
 fn store_in(area: Area, state: AreaState) -> Result<Chosen, ChooseFault>
     requires { IsBounded state }
-    ensures chosen { IfOk result (λ it. taken area state ≡ choices.chosen it.area it.epoch it.end it.payloads) }
+    ensures chosen { IfOk result (λ it. taken area state ≡ choices.chosen it.area it.epoch it.end it.next it.payloads) }
     ensures refused { IfErr result (λ fault. Refuses fault (taken area state)) }
     ensures read { is_read result ≡ true }
-    ensures bounds { IfOk result (λ it. IsBoundedStore it.epoch it.end it.payloads) }
+    ensures bounds { IfOk result (λ it. IsBoundedStore it.epoch it.end it.next it.payloads) }
 {
     match state {
         AreaState::NoStore => Err(ChooseFault::NoStore),
@@ -91,11 +93,13 @@ fn store_in(area: Area, state: AreaState) -> Result<Chosen, ChooseFault>
         AreaState::Store {
             epoch,
             end,
+            next,
             payloads,
         } => Ok(Chosen {
             area,
             epoch,
             end,
+            next,
             payloads,
         }),
     }
@@ -104,12 +108,12 @@ fn store_in(area: Area, state: AreaState) -> Result<Chosen, ChooseFault>
 /// The store of two areas, with no sync. Of each the head is read, and then the chosen one is scanned.
 fn read_chosen<W: World>(alloc: Global, world: &mut W) -> Result<Chosen, ChooseFault>
     ensures chosen { IfOk result (λ it. IsTrue (W.view world.old).tells_bytes
-        → choice_of (W.view world.old).shown.a (W.view world.old).shown.b ≡ choices.chosen it.area it.epoch it.end it.payloads) }
+        → choice_of (W.view world.old).shown.a (W.view world.old).shown.b ≡ choices.chosen it.area it.epoch it.end it.next it.payloads) }
     ensures refused { IfErr result (λ fault. IsTrue (W.view world.old).tells_bytes
         → Refuses fault (choice_of (W.view world.old).shown.a (W.view world.old).shown.b)) }
     ensures stands { IfOk result (λ it. IsTrue (W.view world.new).tells_bytes
-        → HasStore it.area it.epoch it.end it.payloads (W.view world.new).shown) }
-    ensures bounds { IfOk result (λ it. IsBoundedStore it.epoch it.end it.payloads) }
+        → HasStore it.area it.epoch it.end it.next it.payloads (W.view world.new).shown) }
+    ensures bounds { IfOk result (λ it. IsBoundedStore it.epoch it.end it.next it.payloads) }
     ensures quiet { IsQuiet (W.view world.old) (W.view world.new) }
     ensures image { ShowsOne (W.view world.new) }
     ensures cause { result ≡ Err ChooseFault.DiskFault → Rose (W.view world.old).area_faults (W.view world.new).area_faults }
@@ -136,13 +140,13 @@ fn read_chosen<W: World>(alloc: Global, world: &mut W) -> Result<Chosen, ChooseF
 pub fn choose_area<W: World>(alloc: Global, world: &mut W) -> Result<Chosen, ChooseFault>
     // It is what the definition says of both areas, where the world tells its bytes.
     ensures chosen { IfOk result (λ it. IsTrue (W.view world.old).tells_bytes
-        → choice_of (W.view world.old).shown.a (W.view world.old).shown.b ≡ choices.chosen it.area it.epoch it.end it.payloads) }
+        → choice_of (W.view world.old).shown.a (W.view world.old).shown.b ≡ choices.chosen it.area it.epoch it.end it.next it.payloads) }
     ensures refused { IfErr result (λ fault. IsTrue (W.view world.old).tells_bytes
         → Refuses fault (choice_of (W.view world.old).shown.a (W.view world.old).shown.b)) }
     // The areas are so now, and the chosen one holds the records, as `Journal::append` asks it of this epoch and this end.
     ensures stands { IfOk result (λ it. IsTrue (W.view world.new).tells_bytes
-        → HasStore it.area it.epoch it.end it.payloads (W.view world.new).shown) }
-    ensures bounds { IfOk result (λ it. IsBoundedStore it.epoch it.end it.payloads) }
+        → HasStore it.area it.epoch it.end it.next it.payloads (W.view world.new).shown) }
+    ensures bounds { IfOk result (λ it. IsBoundedStore it.epoch it.end it.next it.payloads) }
     ensures settled { is_read result ≡ true → IsTrue (W.view world.old).honest → IsTrue (W.view world.old).tells_bytes
         → IsSettled (W.view world.new) }
     ensures quiet { IsQuiet (W.view world.old) (W.view world.new) }

@@ -21,7 +21,7 @@ use Rattle.pgs_violation.specs.declared.structural.Structural.TheVariants.{TooMa
 use Rattle.pgs_violation.specs.declared.rejection.Rejection.TheVariants.{Structural as ByStructure}
 use Rattle.pgs_violation.specs.declared.violation.Verdict.{Verdict}
 use Rattle.pgs_violation.specs.declared.violation.Verdict.TheVariants.{Conforms, Refused}
-use Rattle.pgs_violation.specs.Decision.{conforming, decide, judging}
+use Rattle.pgs_violation.specs.Decision.{conforming, decide, judged, judging}
 use Rattle.pgs_violation.specs.Staging.{◌>>=◌, after_ops, within_limit, staged}
 use Rattle.pgs_violation.specs.Violations.{conforms, verdict, violations}
 use Rattle.pgs_violation.proofs.FirstOf.{empty_list, first_conforms}
@@ -91,3 +91,12 @@ pub small_rows : (commits : ℕ) (nodes : List (NodeId × NodeRow)) (edges : Lis
     → IsTrue (is_sized (Snapshot commits nodes edges)) → has_small_rows g ≡ true
 small_rows commits nodes edges g same sizes =
     ap has_small_rows same ∙ (and_parts (has_small_rows (snapshot_graph nodes edges)) (is_graph (snapshot_graph nodes edges)) sizes).0
+
+-- ---- a graph that is judged again
+
+not_over : (count most : ℕ) → count ≤ most → nat_lt most count ≡ false
+not_over count most within = grind (arith, nat_tests)
+
+-- a graph that a guard may have is accepted
+pub judged_within : (resolved : Resolved) (limits : Limits) (g : Graph) → IsGuarded resolved limits g → judged limits (verdict resolved) g ≡ Ok g
+judged_within resolved limits g guarded = rw (not_over (element_count g) limits.elements guarded.within) (ap (conforming g) guarded.conforms)

@@ -2,6 +2,7 @@ pub mod Applied
 pub mod Bounds
 pub mod Composed
 pub mod Decided
+pub mod Evolved
 pub mod Fitting
 pub mod Indexed
 pub mod Loaded

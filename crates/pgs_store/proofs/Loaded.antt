@@ -4,7 +4,7 @@ use Rattle.pgs_base.specs.declared.limits.Limits.{Limits}
 use Rattle.pgs_base.specs.Graph.{Graph, empty_graph}
 use Rattle.pgs_codec.specs.declared.command.Command.TheVariants.{Schema}
 use Rattle.pgs_codec.specs.Reading.{decoded}
-use Rattle.pgs_journal.specs.Format.{First, Holds}
+use Rattle.pgs_journal.specs.Format.{Holds}
 use Rattle.pgs_journal.specs.Stops.{Turns, Creates}
 use Rattle.pgs_resolve.specs.SchemaOf.{schema, schema_of}
 use Rattle.pgs_snapshot.specs.Choice.{choice_of, no_store}
@@ -37,23 +37,23 @@ unwritten limits text old new free settled quiet =
 
 module _ (limits : Limits) (text : List ℕ) (resolved : Resolved) (payload : List ℕ) (end : ℕ)
     (of_text : schema_of text ≡ schema resolved) (read : decoded payload ≡ Some (Schema text)) (small : end < 2 ^ 64) where
-  create_stops : (old new : Triple) → is_free old → Turns A (Creates First 1 (payload ∷ []) end) old new → IsLoadedIn limits text new
+  create_stops : (old new : Triple) → is_free old → Turns A (Creates 1 (payload ∷ []) end) old new → IsLoadedIn limits text new
   create_stops old new free turns =
       ⊎_elim (λ none. inl none)
       (λ has. inr (resolved, end, of_text, (payload ∷ [], record { has = has; saves = first_saves limits payload text resolved read of_text })))
       (first_left (payload ∷ []) end old new free (first_fit 1 payload text read) small turns)
 
   pub load_stops : (old mid new : View) → FindsNone old → IsSettled old → IsQuiet old mid → Passes mid new
-      → (IsTrue mid.tells_bytes → IsSynced A mid → StopsBy (Turns A (Creates First 1 (payload ∷ []) end)) mid new) → EachSince (IsLoadedIn limits text) old new
+      → (IsTrue mid.tells_bytes → IsSynced A mid → StopsBy (Turns A (Creates 1 (payload ∷ []) end)) mid new) → EachSince (IsLoadedIn limits text) old new
   load_stops old mid new free settled quiet passes stops =
       let there = settled_quiet old mid settled quiet in
       let none = subst is_free (sym quiet.shown) (free settled.tells_bytes) in
       each_on old mid new (IsLoadedIn limits text) quiet.passes passes (unwritten limits text old mid free settled quiet)
-      (each_step mid new (Turns A (Creates First 1 (payload ∷ []) end)) is_free (IsLoadedIn limits text) there.honest
+      (each_step mid new (Turns A (Creates 1 (payload ∷ []) end)) is_free (IsLoadedIn limits text) there.honest
       (λ d left. same_free mid.shown d none (there.a d left) (there.b d left)) create_stops (stops there.tells_bytes (synced_settled A mid there)))
 
   pub load_stands : (old mid new : View) → FindsNone old → IsQuiet old mid → Passes mid new
-      → (IsTrue mid.tells_bytes → Holds First 1 (payload ∷ []) end new.shown.a) → IsSameBeside A mid.shown new.shown
+      → (IsTrue mid.tells_bytes → Holds (Some 2) 1 (payload ∷ []) end new.shown.a) → IsSameBeside A mid.shown new.shown
       → (IsTrue old.honest → IsTrue old.tells_bytes → IsSettled mid) → (IsSettled mid → IsSettled new) → StandsOn (opened text resolved limits) (first_journal end) new
   load_stands old mid new free quiet passes holds same settled kept = record {
     saved = λ told.
@@ -62,7 +62,7 @@ module _ (limits : Limits) (text : List ℕ) (resolved : Resolved) (payload : Li
         let none = subst is_free (sym quiet.shown) (free before) in (
           payload ∷ [],
           record {
-            has = first_chosen (payload ∷ []) end mid.shown new.shown none (holds middle) (first_fit 1 payload text read) small same;
+            has = first_chosen (Some 2) (payload ∷ []) end mid.shown new.shown none (holds middle) (first_fit 1 payload text read) small same;
             saves = first_saves limits payload text resolved read of_text;
           },
         );

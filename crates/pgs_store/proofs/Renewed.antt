@@ -1,40 +1,30 @@
 -- What a stop during a checkpoint leaves of a store, and what stands after it.
-use Rattle.std.proofs.Common.{◌≡◌, inl, inr, ⊎_elim, ℕ, ◌+◌, ◌-◌, ◌*◌, ◌^◌, ◌<◌, ◌≤◌, true, false, IsTrue, Some, Ok, sym, ◌∙◌, ap, arith}
-use Rattle.std.specs.Prelude.{nat_lt}
+use Rattle.std.proofs.Common.{◌≡◌, inl, inr, ⊎_elim, ℕ, ◌+◌, ◌-◌, ◌*◌, ◌^◌, ◌<◌, ◌≤◌, true, IsTrue, Some, sym, ◌∙◌, arith}
 use Rattle.std.proofs.lemmas.Bool.{and_from}
 use Rattle.std.proofs.lemmas.Bool.Decides.{nat_tests}
-use Rattle.pgs_base.specs.declared.limits.Limits.{Limits}
-use Rattle.pgs_base.specs.Graph.{Graph, element_count, is_graph}
+use Rattle.pgs_base.specs.Graph.{is_graph}
 use Rattle.pgs_codec.specs.declared.command.Command.TheVariants.{Schema}
 use Rattle.pgs_codec.specs.Encodable.{is_sized}
 use Rattle.pgs_codec.specs.Payload.{payload_of}
 use Rattle.pgs_codec.specs.Reading.{decoded}
 use Rattle.pgs_journal.specs.declared.journal.Journal.{Journal}
-use Rattle.pgs_journal.specs.Format.{First, Holds, is_epoch}
+use Rattle.pgs_journal.specs.declared.format.Format.TheVariants.{Second}
+use Rattle.pgs_journal.specs.Format.{Holds, is_epoch}
 use Rattle.pgs_journal.specs.Stops.{Turns, Creates}
 use Rattle.pgs_records.specs.Small.{has_small_rows}
 use Rattle.pgs_resolve.specs.SchemaOf.{schema, schema_of}
 use Rattle.pgs_snapshot.specs.Saved.{saved_of, store}
-use Rattle.pgs_snapshot.proofs.Fitness.{checkpoint_fit}
+use Rattle.pgs_snapshot.proofs.Fitness.{AreFit, checkpoint_fit}
 use Rattle.pgs_snapshot.proofs.Histories.{snapshot_saves}
 use Rattle.pgs_snapshot.proofs.Stores.{checkpoint_left, next_chosen, same_other}
 use Rattle.pgs_store.specs.State.{GuardState, IsGuarded}
 use Rattle.pgs_store.specs.Stored.{IsSavedBy, IsSavedIn, IsRenewedIn, StandsOn, next_journal, renewed, snapshot_of}
-use Rattle.pgs_syntax.specs.declared.resolved.Resolved.{Resolved}
-use Rattle.pgs_violation.specs.Decision.{conforming, judged}
-use Rattle.pgs_violation.specs.Violations.{verdict}
 use Rattle.pgs_world.specs.Disk.{IsSameBeside}
 use Rattle.pgs_world.specs.Moment.{Passes, StopsBy, EachSince, IsSynced, IsSettled}
 use Rattle.pgs_world.specs.World.{Triple, View, part, other}
 use Rattle.pgs_world.proofs.Moments.{each_step, synced_settled}
 use Rattle.pgs_store.proofs.Applied.{same_images}
-
-not_over : (count most : ℕ) → count ≤ most → nat_lt most count ≡ false
-not_over count most within = grind (arith, nat_tests)
-
--- the graph of a guard is accepted again
-accepted_again : (resolved : Resolved) (limits : Limits) (g : Graph) → IsGuarded resolved limits g → judged limits (verdict resolved) g ≡ Ok g
-accepted_again resolved limits g guarded = rw (not_over (element_count g) limits.elements guarded.within) (ap (conforming g) guarded.conforms)
+use Rattle.pgs_store.proofs.Decided.{judged_within}
 
 module _ (guard : GuardState) (journal : Journal) (size : ℕ)
     (of_text : schema_of guard.text ≡ schema guard.schema)
@@ -46,44 +36,46 @@ module _ (guard : GuardState) (journal : Journal) (size : ℕ)
   saves : saved_of guard.limits (renewed guard) ≡ store guard.text guard.commits guard.graph
   saves =
       snapshot_saves guard.limits (payload_of (Schema guard.text)) (payload_of (snapshot_of guard)) guard.text guard.commits guard.graph.nodes guard.graph.edges guard.schema
-      first second of_text (accepted_again guard.schema guard.limits guard.graph guarded)
+      first second of_text (judged_within guard.schema guard.limits guard.graph guarded)
 
-  renewed_stops : (old new : Triple) → IsSavedIn guard journal old → Turns (other journal.area) (Creates First (journal.epoch + 1) (renewed guard) size) old new
+  fit : AreFit Second (journal.epoch + 1) (renewed guard)
+  fit =
+      checkpoint_fit journal.epoch (payload_of (Schema guard.text)) (payload_of (snapshot_of guard)) guard.text guard.commits guard.graph.nodes guard.graph.edges
+      first second few
+
+  renewed_stops : (old new : Triple) → IsSavedIn guard journal old → Turns (other journal.area) (Creates (journal.epoch + 1) (renewed guard) size) old new
       → IsRenewedIn guard journal new
   renewed_stops old new saved turns =
-      let fit = checkpoint_fit journal.epoch (payload_of (Schema guard.text)) (payload_of (snapshot_of guard)) guard.text guard.commits guard.graph.nodes guard.graph.edges first second few in
       ⊎_elim (λ before. inl (saved.0, record { has = before; saves = saved.1.saves }))
       (λ after. inr (size, record { has = after; saves = saves }))
-      (checkpoint_left journal.area journal.epoch journal.end size saved.0 (renewed guard) old new saved.1.has fit small turns)
+      (checkpoint_left journal.area journal.epoch journal.end size journal.next saved.0 (renewed guard) old new saved.1.has fit small turns)
 
-  renewed_done : (old new : Triple) → IsSavedIn guard journal old → Holds First (journal.epoch + 1) (renewed guard) size (part (other journal.area) new)
+  renewed_done : (old new : Triple) → IsSavedIn guard journal old → Holds (Some 3) (journal.epoch + 1) (renewed guard) size (part (other journal.area) new)
       → IsSameBeside (other journal.area) old new → IsSavedBy guard (next_journal journal size) (renewed guard) new
-  renewed_done old new saved holds same =
-      let fit = checkpoint_fit journal.epoch (payload_of (Schema guard.text)) (payload_of (snapshot_of guard)) guard.text guard.commits guard.graph.nodes guard.graph.edges first second few in
-      record {
-        has = next_chosen journal.area journal.epoch journal.end size saved.0 (renewed guard) old new saved.1.has
-            (sym (same_other journal.area new) ∙ same.beside ∙ same_other journal.area old) holds fit small;
-        saves = saves;
-      }
+  renewed_done old new saved holds same = record {
+    has = next_chosen journal.area journal.epoch journal.end size journal.next (Some 3) saved.0 (renewed guard) old new saved.1.has
+        (sym (same_other journal.area new) ∙ same.beside ∙ same_other journal.area old) holds fit small;
+    saves = saves;
+  }
 
   pub stops_renewed : (old new : View) → StandsOn guard journal old → IsTrue old.honest → IsTrue old.tells_bytes
-      → (IsTrue old.tells_bytes → IsSynced (other journal.area) old → StopsBy (Turns (other journal.area) (Creates First (journal.epoch + 1) (renewed guard) size)) old new)
+      → (IsTrue old.tells_bytes → IsSynced (other journal.area) old → StopsBy (Turns (other journal.area) (Creates (journal.epoch + 1) (renewed guard) size)) old new)
       → EachSince (IsRenewedIn guard journal) old new
   stops_renewed old new stands honest told stops =
       let settled = stands.settled honest told in
-      each_step old new (Turns (other journal.area) (Creates First (journal.epoch + 1) (renewed guard) size)) (IsSavedIn guard journal) (IsRenewedIn guard journal) honest
+      each_step old new (Turns (other journal.area) (Creates (journal.epoch + 1) (renewed guard) size)) (IsSavedIn guard journal) (IsRenewedIn guard journal) honest
       (λ d left. same_images guard journal old.shown d (stands.saved told) (settled.a d left) (settled.b d left)) renewed_stops
       (stops told (synced_settled (other journal.area) old settled))
 
   pub alone_renewed : (old new : View) → StandsOn guard journal old → Passes old new
-      → (IsTrue old.tells_bytes → Holds First (journal.epoch + 1) (renewed guard) size (part (other journal.area) new.shown))
+      → (IsTrue old.tells_bytes → Holds (Some 3) (journal.epoch + 1) (renewed guard) size (part (other journal.area) new.shown))
       → IsSameBeside (other journal.area) old.shown new.shown → IsTrue new.tells_bytes → IsSavedBy guard (next_journal journal size) (renewed guard) new.shown
   alone_renewed old new stands passes holds same told =
       let before = sym passes.tells_bytes ∙ told in
       renewed_done old.shown new.shown (stands.saved before) (holds before) same
 
   pub stands_renewed : (old new : View) → StandsOn guard journal old → Passes old new
-      → (IsTrue old.tells_bytes → Holds First (journal.epoch + 1) (renewed guard) size (part (other journal.area) new.shown))
+      → (IsTrue old.tells_bytes → Holds (Some 3) (journal.epoch + 1) (renewed guard) size (part (other journal.area) new.shown))
       → IsSameBeside (other journal.area) old.shown new.shown → (IsSettled old → IsSettled new) → StandsOn guard (next_journal journal size) new
   stands_renewed old new stands passes holds same settled = record {
     saved = λ told. (renewed guard, alone_renewed old new stands passes holds same told);

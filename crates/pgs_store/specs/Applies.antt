@@ -1,6 +1,7 @@
 -- What `Store::apply` answers, and what becomes of the store.
 use Rattle.std.specs.Prelude.{◌≡◌, ℕ, ◌+◌, Bool, true, false, Result, Ok, Err}
 use Rattle.pgs_base.specs.Graph.{Graph}
+use Rattle.pgs_codec.specs.declared.command.Command.TheVariants.{Txn as Transaction}
 use Rattle.pgs_graph.specs.declared.operation.Txn.{Txn}
 use Rattle.pgs_journal.specs.declared.journal.Journal.{Journal}
 use Rattle.pgs_store.specs.declared.fault.ApplyFault.{ApplyFault}
@@ -32,7 +33,7 @@ is_early (Err (Rejected rejection)) = true
 pub record IsCommitted (old new : GuardState) (before after : Journal) (txn : Txn) (next : Graph) (number : ℕ) (now : View) : Type 0 where
   pub numbered : number ≡ old.commits + 1
   pub guard : new ≡ committed old next
-  pub journal : after ≡ longer before txn
+  pub journal : after ≡ longer before (Transaction txn)
   pub stands : StandsOn new after now
 
 -- the decision on a transaction by a guard

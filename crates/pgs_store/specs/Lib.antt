@@ -2,6 +2,7 @@ pub mod Applies
 pub mod Changing
 pub mod Checkpoints
 pub mod Costs
+pub mod Evolves
 pub mod Explained
 pub mod Fits
 pub mod Loads

@@ -49,7 +49,7 @@ FindsNone view = Finds view (λ found. found ≡ choices.no_store)
 
 -- an area is a store, whole or damaged
 abbrev pub IsStore : Choice → Type 0
-IsStore (choices.chosen area epoch end payloads) = Unit {0}
+IsStore (choices.chosen area epoch end next payloads) = Unit {0}
 IsStore (choices.damaged area epoch number) = Unit {0}
 IsStore choices.no_store = ⊥
 IsStore choices.foreign = ⊥

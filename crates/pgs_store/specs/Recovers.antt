@@ -2,11 +2,14 @@
 use Rattle.std.specs.Prelude.{◌≡◌, ℕ, Bool, true, false, IsTrue, Result, Ok, Err}
 use Rattle.pgs_base.specs.declared.limits.Limits.{Limits}
 use Rattle.pgs_schema.specs.Told.{answer_of}
-use Rattle.pgs_snapshot.specs.Saved.{History, Replayed, SavedState, saved, store}
+use Rattle.pgs_snapshot.specs.Saved.{History, RecordFault, Replayed, SavedState, refused, rejected, saved, store}
 use Rattle.pgs_snapshot.specs.Saved as states
 use Rattle.pgs_store.specs.declared.fault.GuardRefusal.{GuardRefusal}
-use Rattle.pgs_store.specs.declared.fault.GuardRefusal.TheVariants as refusals
+use Rattle.pgs_store.specs.declared.fault.GuardRefusal.TheVariants as guards
 use Rattle.pgs_store.specs.declared.fault.RecoverFault.{RecoverFault}
+use Rattle.pgs_store.specs.declared.fault.SchemaRefusal.{SchemaRefusal}
+use Rattle.pgs_store.specs.declared.fault.SchemaRefusal.TheVariants as refusals
+use Rattle.pgs_violation.specs.declared.rejection.Rejection.TheVariants.{Violation as ByViolation}
 use Rattle.pgs_store.specs.declared.fault.RecoverFault.TheVariants.{Memory, DiskFault, NoStore, Foreign, BadRecord, BadHistory, Schema}
 use Rattle.pgs_store.specs.State.{GuardState}
 use Rattle.pgs_store.specs.Stored.{StoreState, StandsOn}
@@ -26,20 +29,35 @@ abbrev pub is_disk_fault : {T : Type 0} → Result T RecoverFault → Bool
 is_disk_fault (Ok done) = false
 is_disk_fault (Err fault) = is_of_area fault
 
--- the refusal of the record of this number
-abbrev pub of_record : ℕ → GuardRefusal → RecoverFault
-of_record number refusals.Memory = Memory
-of_record number (refusals.Rejected rejection) = BadHistory number rejection
+-- a guard's refusal of the record of this number, and what is said of its schema, as faults
+abbrev pub of_refusal : ℕ → GuardRefusal → RecoverFault
+of_refusal number guards.Memory = Memory
+of_refusal number (guards.Rejected rejection) = BadHistory number rejection
 
--- a record is rejected by the replay
+abbrev pub of_schema_refusal : ℕ → SchemaRefusal → RecoverFault
+of_schema_refusal number refusals.Memory = Memory
+of_schema_refusal number (refusals.Schema fault) = Schema fault
+of_schema_refusal number (refusals.Violated violation) = BadHistory number (ByViolation violation)
+
+-- why the record of this number isn't taken, as a fault
+abbrev pub IsUntaken : ℕ → Result Replayed RecordFault → RecoverFault → Type 0
+IsUntaken number after (BadHistory at rejection) = (at ≡ number) × (after ≡ Err (rejected rejection))
+IsUntaken number after (Schema fault) = after ≡ Err (refused (answer_of fault))
+IsUntaken number after Memory = Unit {0}
+IsUntaken number after DiskFault = ⊥
+IsUntaken number after NoStore = ⊥
+IsUntaken number after Foreign = ⊥
+IsUntaken number after (BadRecord at) = ⊥
+
+-- a record isn't taken by the replay
 abbrev pub IsUnreplayed : History → RecoverFault → Type 0
-IsUnreplayed history (BadHistory number rejection) = history ≡ Err (number, rejection)
+IsUnreplayed history (BadHistory number rejection) = history ≡ Err (number, rejected rejection)
+IsUnreplayed history (Schema fault) = (number : ℕ) × (history ≡ Err (number, refused (answer_of fault)))
 IsUnreplayed history Memory = Unit {0}
 IsUnreplayed history DiskFault = ⊥
 IsUnreplayed history NoStore = ⊥
 IsUnreplayed history Foreign = ⊥
 IsUnreplayed history (BadRecord number) = ⊥
-IsUnreplayed history (Schema fault) = ⊥
 
 -- nothing is saved, for this reason
 abbrev pub IsUnrecovered : SavedState → RecoverFault → Type 0
@@ -53,11 +71,7 @@ IsUnrecovered state DiskFault = Unit {0}
 
 -- where the replay of a store's records stands
 abbrev pub replayed_in : GuardState → Replayed
-replayed_in guard = record { commits = guard.commits; graph = guard.graph }
-
--- the same guard with what records lead to
-abbrev pub replayed_to : GuardState → Replayed → GuardState
-replayed_to guard replayed = record guard { graph = replayed.graph; commits = replayed.commits }
+replayed_in guard = record { text = guard.text; schema = guard.schema; commits = guard.commits; graph = guard.graph }
 
 -- what is saved is recovered, and it stands on the world
 pub record IsRecovered (limits : Limits) (it : StoreState) (old now : View) : Type 0 where

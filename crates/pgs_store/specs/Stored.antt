@@ -1,5 +1,5 @@
 -- What contracts see of a store, what holds of every store, and what it is to stand on a world.
-use Rattle.std.specs.Prelude.{◌≡◌, ◌⊎◌, ℕ, ◌+◌, ◌-◌, ◌*◌, ◌^◌, ◌≤◌, ◌<◌, Bool, IsTrue, List, [], ◌∷◌, length, Ok}
+use Rattle.std.specs.Prelude.{◌≡◌, ◌⊎◌, ℕ, ◌+◌, ◌-◌, ◌*◌, ◌^◌, ◌≤◌, ◌<◌, Bool, IsTrue, List, [], ◌∷◌, length, Some, Ok}
 use Rattle.pgs_base.specs.declared.limits.Limits.{Limits}
 use Rattle.pgs_base.specs.Graph.{Graph, empty_graph}
 use Rattle.pgs_codec.specs.declared.command.Command.{Command}
@@ -8,12 +8,13 @@ use Rattle.pgs_codec.specs.Frame.{framed}
 use Rattle.pgs_codec.specs.Payload.{payload_of}
 use Rattle.pgs_graph.specs.declared.operation.Txn.{Txn}
 use Rattle.pgs_journal.specs.declared.journal.Journal.{Journal}
-use Rattle.pgs_journal.specs.Format.{is_epoch}
+use Rattle.pgs_journal.specs.Format.{advanced, is_epoch, IsNextWithin}
 use Rattle.pgs_resolve.specs.SchemaOf.{schema, schema_of}
 use Rattle.pgs_snapshot.specs.Choice.{choice_of, no_store}
 use Rattle.pgs_snapshot.specs.Saved.{saved_of, store}
 use Rattle.pgs_snapshot.specs.Standing.{HasStore}
 use Rattle.pgs_syntax.specs.declared.resolved.Resolved.{Resolved}
+use Rattle.pgs_violation.specs.declared.violation.Verdict.TheVariants.{Conforms}
 use Rattle.pgs_violation.specs.Decision.{decide}
 use Rattle.pgs_violation.specs.Violations.{verdict}
 use Rattle.pgs_world.specs.declared.area.Area.TheVariants.{A}
@@ -27,16 +28,18 @@ pub record StoreState : Type 0 where
   pub journal : Journal
   pub failed : Bool
 
--- the epoch is one of those that there are, the journal ends inside an area, and there are no more commits than so many stores may have
+-- the epoch is one of those that there are, the journal ends inside an area, its next number is no greater than its end, and there are
+-- no more commits than so many stores may have
 pub record IsBounded (journal : Journal) (commits : ℕ) : Type 0 where
   pub epoch : IsTrue (is_epoch journal.epoch)
   pub end : journal.end < 2 ^ 40
+  pub next : IsNextWithin journal.next journal.end
   pub most : commits ≤ (journal.epoch - 1) * 2 ^ 40 + journal.end
 
 -- Of a triple's images the journal's area is chosen, with its epoch and end and these records, which lead to the guard's text,
 -- commits and graph.
 pub record IsSavedBy (guard : GuardState) (journal : Journal) (payloads : List (List ℕ)) (triple : Triple) : Type 0 where
-  pub has : HasStore journal.area journal.epoch journal.end payloads triple
+  pub has : HasStore journal.area journal.epoch journal.end journal.next payloads triple
   pub saves : saved_of guard.limits payloads ≡ store guard.text guard.commits guard.graph
 
 -- the same with some records
@@ -52,31 +55,42 @@ pub record StandsOn (guard : GuardState) (journal : Journal) (view : View) : Typ
 abbrev pub committed : GuardState → Graph → GuardState
 committed guard graph = record guard { graph = graph; commits = guard.commits + 1 }
 
--- a journal that ends elsewhere
-abbrev pub ending_at : Journal → ℕ → Journal
-ending_at journal end = record journal { end = end }
+-- how many bytes the record of a command takes in a journal, behind its gate and with the gate behind it
+abbrev pub record_length : Journal → Command → ℕ
+record_length journal command = length (framed journal.next (payload_of command))
 
--- how many bytes the record of a transaction takes in a journal
-abbrev pub record_length : Txn → ℕ
-record_length txn = length (framed (payload_of (Transaction txn)))
-
--- the journal with the record of a transaction more, in the same area and of the same epoch
-abbrev pub longer : Journal → Txn → Journal
-longer journal txn = ending_at journal (journal.end + record_length txn)
+-- the journal with the record of a command more, in the same area and of the same epoch
+abbrev pub longer : Journal → Command → Journal
+longer journal command = record journal { end = journal.end + record_length journal command; next = advanced journal.next }
 
 -- what a stop during `apply` leaves: the store as it was, or with the transaction accepted and its record behind the others
 abbrev pub IsAppliedIn : GuardState → Journal → Txn → Triple → Type 0
 IsAppliedIn guard journal txn triple =
     IsSavedIn guard journal triple
     ⊎ ((graph : Graph) × (decide guard.limits (verdict guard.schema) guard.graph txn ≡ Ok graph)
-    × IsSavedIn (committed guard graph) (longer journal txn) triple)
+    × IsSavedIn (committed guard graph) (longer journal (Transaction txn)) triple)
+
+-- a guard under another schema: the graph and the commits stay
+abbrev pub evolved : GuardState → List ℕ → Resolved → GuardState
+evolved guard text resolved = record guard { text = text; schema = resolved }
+
+-- the text is a schema's, under which the graph of a guard conforms
+abbrev pub IsConforming : GuardState → List ℕ → Resolved → Type 0
+IsConforming guard text resolved = (schema_of text ≡ schema resolved) × (verdict resolved guard.graph ≡ Conforms)
+
+-- what a stop during `evolve` leaves: the store as it was, or under the new schema with its record behind the others
+abbrev pub IsEvolvedIn : GuardState → Journal → List ℕ → Triple → Type 0
+IsEvolvedIn guard journal text triple =
+    IsSavedIn guard journal triple
+    ⊎ ((resolved : Resolved) × IsConforming guard text resolved
+    × IsSavedIn (evolved guard text resolved) (longer journal (Schema text)) triple)
 
 -- a guard of a text's schema that was just made, and the journal of a first store
 abbrev pub opened : List ℕ → Resolved → Limits → GuardState
 opened text resolved limits = record { text = text; schema = resolved; limits = limits; graph = empty_graph; commits = 0 }
 
 abbrev pub first_journal : ℕ → Journal
-first_journal end = record { area = A; epoch = 1; end = end }
+first_journal end = record { area = A; epoch = 1; end = end; next = Some 2 }
 
 -- what a stop during `load` leaves: no store, or the empty store of the text in area A, of epoch 1
 abbrev pub IsLoadedIn : Limits → List ℕ → Triple → Type 0
@@ -92,9 +106,9 @@ snapshot_of guard = Snapshot guard.commits guard.graph.nodes guard.graph.edges
 abbrev pub renewed : GuardState → List (List ℕ)
 renewed guard = payload_of (Schema guard.text) ∷ payload_of (snapshot_of guard) ∷ []
 
--- the journal in the other area, of the next epoch
+-- the journal of these records in the other area, of the next epoch
 abbrev pub next_journal : Journal → ℕ → Journal
-next_journal journal end = record { area = other journal.area; epoch = journal.epoch + 1; end = end }
+next_journal journal end = record { area = other journal.area; epoch = journal.epoch + 1; end = end; next = Some 3 }
 
 -- what a stop during `checkpoint` leaves: the store as it was, or the same by the new records in the other area, of the next epoch
 abbrev pub IsRenewedIn : GuardState → Journal → Triple → Type 0

@@ -1,23 +1,35 @@
-ghost use Rattle.std.specs.Prelude.{◌≡◌, ◌≤◌, true, false, Some, IsTrue, IfOk, OnOk};
+ghost use Rattle.std.specs.Prelude.{◌≡◌, ◌≤◌, true, false, Some, Ok, IsTrue, IfOk, IfErr, OnOk};
+ghost use Rattle.pgs_check.specs.Standing.{index_changed};
 ghost use Rattle.pgs_codec.specs.declared.command.Command.TheVariants.{Txn as Transaction};
 ghost use Rattle.pgs_codec.specs.Encodable.{is_sized};
 ghost use Rattle.pgs_codec.specs.Frame.{framed};
 ghost use Rattle.pgs_codec.specs.Payload.{payload_of};
 ghost use Rattle.pgs_codec.specs.Reading.{decoded as decoded_by};
+ghost use Rattle.pgs_graph.specs.Changed.{changed, is_sound};
+ghost use Rattle.pgs_keyindex.specs.Rows.{IsOwned, rows_changed};
+ghost use Rattle.pgs_keyindex.specs.Standing.{StandsFor};
+ghost use Rattle.pgs_violation.specs.Decision.{decide};
+ghost use Rattle.pgs_violation.specs.Violations.{verdict};
 ghost use Rattle.pgs_store.specs.Applies.{Applies, Journals, is_disk_fault as is_fault_of_area, is_early};
-ghost use Rattle.pgs_store.specs.Costs.{IsWithin};
+ghost use Rattle.pgs_store.specs.Costs.{IsWithin, TakesWithin};
+ghost use Rattle.pgs_store.specs.Refused.{IsRejected};
+ghost use Rattle.pgs_store.specs.State.{IsGuarded, IsIndexed};
 ghost use Rattle.pgs_store.specs.Stored.{IsBounded, StandsOn, IsAppliedIn};
 ghost use Rattle.pgs_store.specs.World.{StaysBeside, CountsFault};
 ghost use Rattle.pgs_world.specs.Moment.{EachSince};
 
 use crate::changing::{commit, prepare};
 use crate::judging::decided;
-use crate::{ApplyFault, Guard, Store};
-use pgs_base::{Copyable, Memory, Steps};
+use crate::{ApplyFault, Guard, GuardRefusal, Store};
+use pgs_base::{Copyable, Limits, Memory, Steps};
 use pgs_codec::Command;
+use pgs_decide::Decided;
 use pgs_graph::Txn;
 use pgs_journal::Journal;
+use pgs_keyindex::KeyIndex;
 use pgs_records::record_frame;
+use pgs_schema::Schema;
+use pgs_tables::Tables;
 use pgs_world::World;
 use std::alloc::Global;
 use std::sync::ledger::Ledger;
@@ -28,15 +40,47 @@ fn is_disk_fault(answer: &Result<u64, ApplyFault>) -> bool
     matches!(answer, Err(ApplyFault::DiskFault))
 }
 
-// The frame of a transaction.
-fn txn_frame(alloc: Global, txn: &Txn) -> Result<Vec<u8>, Memory>
+// The frame of a transaction, as it is appended to a journal whose next record has this number, or none.
+fn txn_frame(alloc: Global, txn: &Txn, number: Option<u64>) -> Result<Vec<u8>, Memory>
     requires { IsTrue (is_sized (Transaction txn.now)) }
-    ensures frame { IfOk result (λ frame. frame.items ≡ framed (payload_of (Transaction txn.now))) }
+    ensures frame { IfOk result (λ frame. frame.items ≡ framed number (payload_of (Transaction txn.now))) }
     ensures decoded { OnOk result (decoded_by (payload_of (Transaction txn.now)) ≡ Some (Transaction txn.now)) }
 {
     let copy = txn.copy(alloc)?;
-    let frame = record_frame(alloc, &Command::Txn(copy))?;
+    let frame = record_frame(alloc, &Command::Txn(copy), number)?;
     Ok(frame.into_vec())
+}
+
+// Decides a transaction on a guard's graph by its index, and makes the frame of its record, which has this number or none.
+fn framed_decision<L: Ledger>(
+    alloc: Global,
+    schema: &Schema,
+    limits: &Limits,
+    graph: &Tables,
+    index: &KeyIndex,
+    txn: &Txn,
+    number: Option<u64>,
+    steps: &mut Steps<L>,
+) -> Result<(Decided, Vec<u8>), GuardRefusal>
+    requires { IsIndexed schema.now.resolved limits.now graph.now.graph index.now }
+    // What was decided.
+    ensures sound { IfOk result (λ it. is_sound graph.now.graph it.0.delta ≡ true) }
+    ensures guarded { IfOk result (λ it. IsGuarded schema.now.resolved limits.now (changed graph.now.graph it.0.delta)) }
+    ensures accepted { IfOk result (λ it. decide limits.now (verdict schema.now.resolved) graph.now.graph txn.now
+        ≡ Ok (changed graph.now.graph it.0.delta)) }
+    ensures rejected { IfErr result (IsRejected (decide limits.now (verdict schema.now.resolved) graph.now.graph txn.now)) }
+    ensures owned { IfOk result (λ it. IsOwned index.now.exclusive (rows_changed index.now.rows it.0.changes)) }
+    ensures stands { IfOk result (λ it. StandsFor schema.now.resolved (changed graph.now.graph it.0.delta)
+        schema.now.resolved.guard.keys (index_changed index.now it.0.changes)) }
+    ensures no_step_back { steps.old ≤ steps.new }
+    ensures cost { TakesWithin schema.now.resolved limits.now graph.now.graph txn.now steps.old steps.new }
+    // Its record.
+    ensures frame { IfOk result (λ it. it.1.items ≡ framed number (payload_of (Transaction txn.now))) }
+    ensures decoded { OnOk result (decoded_by (payload_of (Transaction txn.now)) ≡ Some (Transaction txn.now)) }
+{
+    let decided = decided(alloc, schema, limits, graph, index, txn, steps)?;
+    let frame = txn_frame(alloc, txn, number)?;
+    Ok((decided, frame))
 }
 
 // Decides a transaction, journals it where it is accepted, and then does it. All memory is taken before the first call on the world.
@@ -60,16 +104,16 @@ fn journaled<W: World, L: Ledger>(
     ensures cost { IsWithin guard.old txn.now steps.old steps.new }
 {
     guard.facts();
-    let decided = decided(
+    let (decided, frame) = framed_decision(
         guard.alloc,
         &guard.schema,
         &guard.limits,
         &guard.graph,
         &guard.index,
         txn,
+        journal.next,
         steps,
     )?;
-    let frame = txn_frame(guard.alloc, txn)?;
     let ready = prepare(&mut guard.graph, &mut guard.index, decided)?;
     match journal.append(world, frame.as_slice()) {
         Ok(()) => {

@@ -11,10 +11,26 @@ use pgs_keyindex::{KeyIndex, KeyReady};
 use pgs_tables::{Prepared, Tables};
 
 /// A change for which the tables and the index have taken all memory.
-#[derive(Drop)]
 pub(crate) struct Ready {
     tables: Prepared,
     rows: KeyReady,
+}
+
+// Dropped by one function of this crate, so that those above need not prove anew how a change is taken apart.
+impl Drop for Ready {
+    fn drop(self) {
+        let Ready { tables: _, rows: _ } = self;
+    }
+}
+
+impl Ready {
+    fn into_parts(self) -> (Prepared, KeyReady)
+        ensures tables { result.0 ≡ self.tables }
+        ensures rows { result.1 ≡ self.rows }
+    {
+        let Ready { tables, rows } = self;
+        (tables, rows)
+    }
 }
 
 /// Takes all memory that a change of the graph and of the index needs, so that `commit` needs none. Both stay as they are.
@@ -47,10 +63,7 @@ pub(crate) fn commit(tables: &mut Tables, index: &mut KeyIndex, ready: Ready)
     ensures exclusive { index.new.exclusive ≡ index.old.exclusive }
     ensures rows { index.new.rows ≡ rows_changed index.old.rows ready.rows.changes }
 {
-    let Ready {
-        tables: prepared,
-        rows,
-    } = ready;
+    let (prepared, rows) = ready.into_parts();
     tables.commit(prepared);
     index.commit(rows);
 }

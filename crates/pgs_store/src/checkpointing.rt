@@ -3,7 +3,7 @@ ghost use Rattle.pgs_codec.specs.declared.command.Command.TheVariants.{Schema as
 ghost use Rattle.pgs_codec.specs.Encodable.{is_sized};
 ghost use Rattle.pgs_codec.specs.Payload.{payload_of};
 ghost use Rattle.pgs_codec.specs.Reading.{decoded};
-ghost use Rattle.pgs_journal.specs.Format.{First, IsFrames};
+ghost use Rattle.pgs_journal.specs.Format.{IsFrames};
 ghost use Rattle.pgs_store.specs.Checkpoints.{Checkpoints, is_disk_fault, is_early};
 ghost use Rattle.pgs_store.specs.Stored.{StandsOn, IsRenewedIn, renewed, snapshot_of as snapshot_in};
 ghost use Rattle.pgs_store.specs.World.{StaysBeside, CountsFault};
@@ -58,22 +58,32 @@ fn snapshot_of<L: Ledger>(guard: &Guard, blank: Blank) -> Result<Command, Memory
     })
 }
 
-// The frames of the records with which the store of a guard begins anew.
+// The frames of the records with which the store of a guard begins anew, of which this is the first.
+fn frames_with(guard: &Guard, schema: &Command) -> Result<Vec<u8>, Memory>
+    requires { schema.now ≡ SchemaCommand guard.now.text }
+    ensures frames { IfOk result (λ first. IsFrames (renewed guard.now) 3 first.items) }
+    ensures schema { OnOk result (decoded (payload_of (SchemaCommand guard.now.text)) ≡ Some (SchemaCommand guard.now.text)) }
+    ensures snapshot { OnOk result (decoded (payload_of (snapshot_in guard.now)) ≡ Some (snapshot_in guard.now)) }
+{
+    let snapshot = snapshot_of::<Brand>(guard, Blank::new(1))?;
+    let first = first_frames(guard.alloc, schema, &snapshot)?;
+    Ok(first.into_vec())
+}
+
+// The same of all of them.
 fn frames_of(guard: &Guard) -> Result<Vec<u8>, Memory>
-    ensures frames { IfOk result (λ first. IsFrames First (renewed guard.now) first.items) }
+    ensures frames { IfOk result (λ first. IsFrames (renewed guard.now) 3 first.items) }
     ensures schema { OnOk result (decoded (payload_of (SchemaCommand guard.now.text)) ≡ Some (SchemaCommand guard.now.text)) }
     ensures snapshot { OnOk result (decoded (payload_of (snapshot_in guard.now)) ≡ Some (snapshot_in guard.now)) }
 {
     let schema = schema_of(guard)?;
-    let snapshot = snapshot_of::<Brand>(guard, Blank::new(1))?;
-    let first = first_frames(guard.alloc, &schema, &snapshot)?;
-    Ok(first.into_vec())
+    frames_with(guard, &schema)
 }
 
 impl Store {
-    /// Saves the same in the other area, with the next epoch, whose records are the schema and the snapshot alone: that epoch. At
-    /// every moment of the call what is saved is what it was; the area and the epoch that are chosen are those from before or the
-    /// new ones, and after `Ok` the new ones in every image.
+    /// Saves the same in the other area, with the next epoch and in the second format, whose records are the schema in force and the
+    /// snapshot alone: that epoch. At every moment of the call what is saved is what it was; the area and the epoch that are chosen
+    /// are those from before or the new ones, and after `Ok` the new ones in every image.
     ///
     /// `NeedsReopen` exactly where an earlier call answered `DiskFault`. 37 `EpochsSpent` exactly at the last epoch. `Memory` always
     /// comes before the first call on the world. After these the store and the world are as they were. `DiskFault` comes only where
@@ -98,7 +108,7 @@ impl Store {
         self.guard.facts();
         let first = frames_of(&self.guard)?;
         let epoch = self.journal.epoch + 1;
-        match checkpoint(world, other(self.journal.area), epoch, first.as_slice()) {
+        match checkpoint(world, other(self.journal.area), epoch, first.as_slice(), 3) {
             Ok(journal) => {
                 self.journal = journal;
                 Ok(epoch)

@@ -1,6 +1,7 @@
 //! Which types of a schema an element of a graph fits.
 
 ghost use Rattle.std.specs.Prelude.{◌≡◌, ◌<◌, true, filter, IfOk};
+ghost use Rattle.pgs_base.specs.declared.element.Elem.TheVariants.{Node, Edge};
 ghost use Rattle.pgs_base.specs.Pair.{pair_of};
 ghost use Rattle.pgs_conform.specs.Shapes.{triple_of};
 ghost use Rattle.pgs_graph.specs.Reads.{edge_row};
@@ -8,7 +9,7 @@ ghost use Rattle.pgs_syntax.specs.Valid.{is_type};
 ghost use Rattle.pgs_store.specs.Explained.{types_of};
 ghost use Rattle.pgs_store.specs.Fits.{fits_as_node, fits_as_edge, edge_types_of};
 
-use pgs_base::{Elem, List, Memory, Steps};
+use pgs_base::{EdgeId, Elem, List, Memory, NodeId, Steps};
 use pgs_conform::{Compiled, Pair, edge_fits, node_fits};
 use pgs_graph::{EdgeRef, GraphRead, NodeRef};
 use pgs_syntax::TypeNo;
@@ -113,6 +114,38 @@ fn edge_types<G: GraphRead, L: Ledger>(
     triple_types(alloc, compiled, &pair_of(source), &own, &pair_of(target))
 }
 
+// The types of the guard that the node of a number fits; none where it isn't in the graph.
+fn types_at_node<G: GraphRead, L: Ledger>(
+    alloc: Global,
+    graph: &G,
+    compiled: &Compiled,
+    id: NodeId,
+    steps: &mut Steps<L>,
+) -> Result<List<TypeNo>, Memory>
+    ensures { IfOk result (λ types. types ≡ types_of compiled.now (G.meaning graph.now) (Node id)) }
+{
+    match graph.node(id, steps) {
+        Some(node) => node_types(alloc, compiled, &pair_of(node)),
+        None => Ok(List::new(alloc)),
+    }
+}
+
+// The types of the guard that the edge of a number fits; none where it isn't in the graph.
+fn types_at_edge<G: GraphRead, L: Ledger>(
+    alloc: Global,
+    graph: &G,
+    compiled: &Compiled,
+    id: EdgeId,
+    steps: &mut Steps<L>,
+) -> Result<List<TypeNo>, Memory>
+    ensures { IfOk result (λ types. types ≡ types_of compiled.now (G.meaning graph.now) (Edge id)) }
+{
+    match graph.edge(id, steps) {
+        Some(edge) => edge_types(alloc, graph, compiled, edge, steps),
+        None => Ok(List::new(alloc)),
+    }
+}
+
 // The types of the guard that an element fits, by a counter of the ledger.
 fn types_by<G: GraphRead, L: Ledger>(
     alloc: Global,
@@ -128,14 +161,8 @@ fn types_by<G: GraphRead, L: Ledger>(
 {
     let mut steps: Steps<L> = Steps::begin(blank);
     match elem {
-        Elem::Node(id) => match graph.node(id, &mut steps) {
-            Some(node) => node_types(alloc, compiled, &pair_of(node)),
-            None => Ok(List::new(alloc)),
-        },
-        Elem::Edge(id) => match graph.edge(id, &mut steps) {
-            Some(edge) => edge_types(alloc, graph, compiled, edge, &mut steps),
-            None => Ok(List::new(alloc)),
-        },
+        Elem::Node(id) => types_at_node(alloc, graph, compiled, id, &mut steps),
+        Elem::Edge(id) => types_at_edge(alloc, graph, compiled, id, &mut steps),
     }
 }
 

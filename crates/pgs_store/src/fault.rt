@@ -1,7 +1,7 @@
 use pgs_base::Memory;
 use pgs_schema::{SchemaFault, SchemaUnread};
 use pgs_snapshot::ChooseFault;
-use pgs_violation::Rejection;
+use pgs_violation::{Rejection, Violation};
 
 /// Why there is no guard: there was no memory, or the text is no schema.
 pub type GuardFault = SchemaUnread;
@@ -54,9 +54,9 @@ pub enum RecoverFault {
     Foreign,
     /// 33: the chosen store is damaged at this record.
     BadRecord { number: u64 },
-    /// 34: this record is the first whose transaction, or whose snapshot's graph, is rejected.
+    /// 34: this record is the first that is rejected: its transaction, its snapshot's graph, or the graph so far under its schema.
     BadHistory { number: u64, rejection: Rejection },
-    /// 10 to 19: the stored text is no schema.
+    /// 10 to 19: a stored text, the first or a later one, is no schema.
     Schema(SchemaFault),
 }
 
@@ -84,6 +84,34 @@ pub enum CheckpointFault {
     NeedsReopen,
     /// 37: the store has the last epoch.
     EpochsSpent,
+}
+
+/// Why a graph isn't put under another schema.
+#[derive(Debug, Drop)]
+pub(crate) enum SchemaRefusal {
+    /// There was no memory.
+    Memory,
+    /// The text is no schema.
+    Schema(SchemaFault),
+    /// The graph's first violation under it.
+    Violated(Violation),
+}
+
+/// Why a store wasn't put under another schema.
+#[derive(Debug, Drop)]
+pub enum EvolveFault {
+    /// There was no memory. It comes before the first call on the world.
+    Memory,
+    /// A call on an area failed: the count of area faults rose. The schema may be in the areas or not.
+    DiskFault,
+    /// An earlier call on this store answered `DiskFault`, so it has to be recovered.
+    NeedsReopen,
+    /// 41: the chosen area is of the first format, which has no later schemas. A checkpoint makes a store of the second.
+    OldFormat,
+    /// 10 to 19: the text is no schema.
+    Schema(SchemaFault),
+    /// 25 to 29 and 39: the graph's first violation under the schema.
+    Violated(Violation),
 }
 
 impl From<Memory> for ApplyFault {
@@ -186,5 +214,70 @@ impl From<Memory> for CheckpointFault {
 
     fn from(_: Memory) -> CheckpointFault {
         CheckpointFault::Memory
+    }
+}
+
+impl From<Memory> for SchemaRefusal {
+    ghost use Rattle.std.specs.Prelude.{◌≡◌};
+    ghost use Rattle.pgs_store.specs.declared.fault.SchemaRefusal.TheVariants as faults;
+
+    ghost from_gives = { λ _ e. e ≡ faults.Memory };
+
+    fn from(_: Memory) -> SchemaRefusal {
+        SchemaRefusal::Memory
+    }
+}
+
+impl From<SchemaUnread> for SchemaRefusal {
+    ghost use Rattle.std.specs.Prelude.{◌≡◌};
+    ghost use Rattle.pgs_store.specs.Unread.{of_schema};
+
+    ghost from_gives = { λ unread e. e ≡ of_schema unread };
+
+    fn from(unread: SchemaUnread) -> SchemaRefusal {
+        match unread {
+            SchemaUnread::Memory => SchemaRefusal::Memory,
+            SchemaUnread::Schema(fault) => SchemaRefusal::Schema(fault),
+        }
+    }
+}
+
+impl From<Memory> for EvolveFault {
+    ghost use Rattle.std.specs.Prelude.{◌≡◌};
+    ghost use Rattle.pgs_store.specs.declared.fault.EvolveFault.TheVariants as faults;
+
+    ghost from_gives = { λ _ e. e ≡ faults.Memory };
+
+    fn from(_: Memory) -> EvolveFault {
+        EvolveFault::Memory
+    }
+}
+
+impl From<SchemaUnread> for EvolveFault {
+    ghost use Rattle.std.specs.Prelude.{◌≡◌};
+    ghost use Rattle.pgs_store.specs.Unread.{of_evolve};
+
+    ghost from_gives = { λ unread e. e ≡ of_evolve unread };
+
+    fn from(unread: SchemaUnread) -> EvolveFault {
+        match unread {
+            SchemaUnread::Memory => EvolveFault::Memory,
+            SchemaUnread::Schema(fault) => EvolveFault::Schema(fault),
+        }
+    }
+}
+
+impl From<SchemaRefusal> for EvolveFault {
+    ghost use Rattle.std.specs.Prelude.{◌≡◌};
+    ghost use Rattle.pgs_store.specs.Evolves.{of_refusal};
+
+    ghost from_gives = { λ refusal e. e ≡ of_refusal refusal };
+
+    fn from(refusal: SchemaRefusal) -> EvolveFault {
+        match refusal {
+            SchemaRefusal::Memory => EvolveFault::Memory,
+            SchemaRefusal::Schema(fault) => EvolveFault::Schema(fault),
+            SchemaRefusal::Violated(violation) => EvolveFault::Violated(violation),
+        }
     }
 }

@@ -12,11 +12,11 @@ ghost use Rattle.pgs_violation.specs.Decision.{conforming, decide, judged};
 ghost use Rattle.pgs_violation.specs.declared.violation.Verdict.TheVariants.{Conforms};
 ghost use Rattle.pgs_violation.specs.Violations.{verdict};
 ghost use Rattle.pgs_store.specs.Costs.{TakesWithin};
-ghost use Rattle.pgs_store.specs.Refused.{IsRejected};
+ghost use Rattle.pgs_store.specs.Refused.{IsRejected, verdict_by};
 ghost use Rattle.pgs_store.specs.State.{IsGuarded, IsIndexed};
 
 use crate::GuardRefusal;
-use pgs_base::{Limits, List, Steps};
+use pgs_base::{Limits, List, Memory, Steps};
 use pgs_decide::{DecideFault, Decided, decide};
 use pgs_graph::{GraphRead, Txn};
 use pgs_keyindex::KeyIndex;
@@ -77,6 +77,20 @@ fn first(found: List<Violation>) -> Option<Violation>
     found.into_vec().into_iter().next()
 }
 
+/// The first violation of a graph under a schema, judged from scratch.
+pub(crate) fn first_violation<G: GraphRead, L: Ledger>(
+    alloc: Global,
+    graph: &G,
+    schema: &Schema,
+    steps: &mut Steps<L>,
+) -> Result<Option<Violation>, Memory>
+    ensures verdict { IfOk result (λ found. verdict schema.now.resolved (G.meaning graph.now) ≡ verdict_by found) }
+    ensures no_step_back { steps.old ≤ steps.new }
+{
+    let found = violations(alloc, graph, schema.compiled(), schema.keys(), steps)?;
+    Ok(first(found))
+}
+
 // Judges a graph from scratch, by its first violation.
 fn judge_graph<G: GraphRead, L: Ledger>(
     alloc: Global,
@@ -88,8 +102,7 @@ fn judge_graph<G: GraphRead, L: Ledger>(
     ensures rejected { IfErr result (IsRejected (conforming (G.meaning graph.now) (verdict schema.now.resolved (G.meaning graph.now)))) }
     ensures no_step_back { steps.old ≤ steps.new }
 {
-    let found = violations(alloc, graph, schema.compiled(), schema.keys(), steps)?;
-    match first(found) {
+    match first_violation(alloc, graph, schema, steps)? {
         None => Ok(()),
         Some(violation) => Err(GuardRefusal::Rejected(Rejection::Violation(violation))),
     }

@@ -6,12 +6,13 @@
 //!
 //! A [`Store`] is a guard with a journal. The one rule: a transaction is on the disk before it is in the graph, and what is saved in
 //! both areas is always the guard's text, commits and graph (`specs/Stored.antt`). What its calls answer stands in `specs/Applies.antt`,
-//! `specs/Loads.antt`, `specs/Recovers.antt` and `specs/Checkpoints.antt`. A layer above prints the answers.
+//! `specs/Loads.antt`, `specs/Recovers.antt`, `specs/Checkpoints.antt` and `specs/Evolves.antt`. A layer above prints the answers.
 #![tactic(auto)]
 
 mod applying;
 mod changing;
 mod checkpointing;
+mod evolving;
 mod explaining;
 mod fault;
 mod guard;
@@ -21,6 +22,8 @@ mod loading;
 mod recovering;
 mod store;
 
-pub use fault::{ApplyFault, CheckpointFault, GuardFault, GuardRefusal, LoadFault, RecoverFault};
+pub use fault::{
+    ApplyFault, CheckpointFault, EvolveFault, GuardFault, GuardRefusal, LoadFault, RecoverFault,
+};
 pub use guard::Guard;
 pub use store::Store;

@@ -3,8 +3,8 @@ ghost use Rattle.pgs_base.specs.Graph.{empty_graph};
 ghost use Rattle.pgs_codec.specs.declared.command.Command.TheVariants.{Schema as SchemaCommand};
 ghost use Rattle.pgs_codec.specs.Payload.{payload_of};
 ghost use Rattle.pgs_codec.specs.Reading.{decoded};
-ghost use Rattle.pgs_journal.specs.Format.{First, IsFrames};
-ghost use Rattle.pgs_resolve.specs.SchemaOf.{schema, schema_of};
+ghost use Rattle.pgs_codec.specs.Frame.{framed};
+ghost use Rattle.pgs_journal.specs.Format.{IsFrames};
 ghost use Rattle.pgs_store.specs.Loads.{FindsNone, IsOccupied, Loads, is_disk_fault, is_refused, is_written};
 ghost use Rattle.pgs_store.specs.Stored.{IsLoadedIn};
 ghost use Rattle.pgs_store.specs.World.{StaysBeside, CountsFault};
@@ -20,14 +20,19 @@ use pgs_snapshot::{ChooseFault, choose_area};
 use pgs_world::{Area, World};
 use std::alloc::Global;
 
-// The frame of a guard's schema text.
-fn schema_frame(alloc: Global, guard: &Guard) -> Result<Vec<u8>, Memory>
-    ensures frames { IfOk result (λ frame. IsFrames First (payload_of (SchemaCommand guard.now.text) ∷ []) frame.items) }
-    ensures decoded { OnOk result (decoded (payload_of (SchemaCommand guard.now.text)) ≡ Some (SchemaCommand guard.now.text)) }
-    ensures schema { schema_of guard.now.text ≡ schema guard.now.schema }
+/// The frame of a schema's text, as it is appended to a journal whose next record has this number, or none.
+pub(crate) fn schema_frame(
+    alloc: Global,
+    text: &[u8],
+    number: Option<u64>,
+) -> Result<Vec<u8>, Memory>
+    ensures frame { IfOk result (λ frame. frame.items ≡ framed number (payload_of (SchemaCommand text.now))) }
+    ensures first { number ≡ Some 1
+        → IfOk result (λ frame. IsFrames (payload_of (SchemaCommand text.now) ∷ []) 2 frame.items) }
+    ensures decoded { OnOk result (decoded (payload_of (SchemaCommand text.now)) ≡ Some (SchemaCommand text.now)) }
 {
-    let text = List::from_slice(alloc, guard.schema_text())?;
-    let frame = record_frame(alloc, &Command::Schema(text))?;
+    let text = List::from_slice(alloc, text)?;
+    let frame = record_frame(alloc, &Command::Schema(text), number)?;
     Ok(frame.into_vec())
 }
 
@@ -35,7 +40,8 @@ fn schema_frame(alloc: Global, guard: &Guard) -> Result<Vec<u8>, Memory>
 fn refuse_occupied<W: World>(alloc: Global, world: &mut W) -> Result<(), LoadFault>
     ensures free { OnOk result (FindsNone (W.view world.old)) }
     ensures occupied { IfErr result (IsOccupied (W.view world.old)) }
-    ensures settled { OnOk result (IsTrue (W.view world.old).honest → IsTrue (W.view world.old).tells_bytes → IsSettled (W.view world.new)) }
+    ensures settled { OnOk result (IsTrue (W.view world.old).honest → IsTrue (W.view world.old).tells_bytes
+        → IsSettled (W.view world.new)) }
     ensures quiet { IsQuiet (W.view world.old) (W.view world.new) }
     ensures faults { CountsFault (is_disk_fault result) (W.view world.old) (W.view world.new) }
     ensures no_put { MakesNoPut (W.view world.old) (W.view world.new) }
@@ -50,8 +56,8 @@ fn refuse_occupied<W: World>(alloc: Global, world: &mut W) -> Result<(), LoadFau
 }
 
 impl Store {
-    /// Makes the empty store of a schema's text in area A, with epoch 1. At every moment of the call the areas are no store, or that
-    /// store; after `Ok` they are it in every image.
+    /// Makes the empty store of a schema's text in area A, with epoch 1, in the second format. At every moment of the call the areas
+    /// are no store, or that store; after `Ok` they are it in every image.
     ///
     /// 10 to 19 `Schema` exactly where the text is no schema, before any call on the world. Then 31 `AlreadyStore` exactly where an
     /// area is a store, and 32 `Foreign` exactly where none is and one is foreign. `DiskFault` comes only where the count of area
@@ -94,9 +100,9 @@ impl Store {
             → EachSince (IsLoadedIn guard.limits guard.text) (W.view world.old) (W.view world.new) }
         ensures beside { StaysBeside A (W.view world.old) (W.view world.new) }
     {
-        let frame = schema_frame(alloc, &guard)?;
+        let frame = schema_frame(alloc, guard.schema_text(), Some(1))?;
         refuse_occupied(alloc, world)?;
-        match Journal::create(world, Area::A, 1, frame.as_slice()) {
+        match Journal::create(world, Area::A, 1, frame.as_slice(), 2) {
             Ok(journal) => Ok(Store {
                 guard,
                 journal,

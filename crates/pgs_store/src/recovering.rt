@@ -1,24 +1,34 @@
-ghost use Rattle.std.specs.Prelude.{◌≡◌, ◌<◌, ◌≤◌, ℕ, false, Ok, drop, IsTrue, IfOk, IfErr, OnOk};
+ghost use Rattle.std.specs.Prelude.{◌≡◌, ◌<◌, ◌≤◌, ℕ, Option, Some, true, false, Ok, drop, IsTrue, IfOk, IfErr, OnOk};
+ghost use Rattle.pgs_base.specs.Graph.{element_count, empty_graph, is_graph};
 ghost use Rattle.pgs_codec.specs.declared.command.Command.TheVariants.{Snapshot as SnapshotCommand};
 ghost use Rattle.pgs_codec.specs.Encodable.{is_sized, snapshot_graph};
 ghost use Rattle.pgs_codec.specs.Reading.{decoded};
 ghost use Rattle.pgs_journal.specs.Bounds.{IsBoundedStore};
-ghost use Rattle.pgs_snapshot.specs.Saved.{after_record, replay as replay_of, saved_of, store, text_of};
-ghost use Rattle.pgs_store.specs.Recovers.{IsUnrecovered, IsUnreplayed, Recovers, is_disk_fault, of_record, replayed_in, replayed_to};
+ghost use Rattle.pgs_snapshot.specs.Saved.{after_record, replay as replay_of, saved_of, store, text_of, under_schema};
+ghost use Rattle.pgs_store.specs.Recovers.{IsUnrecovered, IsUnreplayed, IsUntaken, Recovers, is_disk_fault};
+ghost use Rattle.pgs_store.specs.Recovers.{of_refusal, of_schema_refusal, replayed_in};
+ghost use Rattle.pgs_resolve.specs.SchemaOf.{schema, schema_of};
 ghost use Rattle.pgs_store.specs.Refused.{IsRejected};
 ghost use Rattle.pgs_store.specs.World.{CountsFault};
+ghost use Rattle.pgs_keyindex.specs.Standing.{StandsFor};
+ghost use Rattle.pgs_violation.specs.declared.violation.Verdict.TheVariants.{Conforms};
 ghost use Rattle.pgs_violation.specs.Decision.{judged};
 ghost use Rattle.pgs_violation.specs.Violations.{verdict};
 ghost use Rattle.pgs_world.specs.Moment.{IsQuiet, MakesNoPut};
 
+use crate::evolving::renewal_of;
+use crate::fault::SchemaRefusal;
 use crate::judging::judge_tables;
 use crate::{Guard, GuardRefusal, RecoverFault, Store};
 use pgs_base::{Bytes, EdgeId, EdgeRow, Limits, List, Memory, NodeId, NodeRow, Seed, Steps};
 use pgs_check::index_of;
 use pgs_codec::{Command, decode};
 use pgs_journal::Journal;
+use pgs_keyindex::KeyIndex;
 use pgs_records::tables_of;
 use pgs_snapshot::{Chosen, choose_area};
+use pgs_tables::Tables;
+use pgs_violation::Rejection;
 use pgs_world::World;
 use std::alloc::Global;
 use std::marker::Brand;
@@ -37,19 +47,22 @@ fn text_in(alloc: Global, payloads: &[Bytes]) -> Result<Bytes, Memory>
     }
 }
 
-// Takes the graph of a snapshot for the guard's own, where it conforms and is within the limits, with the index of all of it.
-fn restore<L: Ledger>(
-    guard: &mut Guard,
+// The graph of a snapshot in tables, where it conforms and is within the limits, and the index of all of it.
+fn judged_tables<L: Ledger>(
+    guard: &Guard,
     seed: Seed,
-    commits: u64,
     nodes: List<(NodeId, NodeRow)>,
     edges: List<(EdgeId, EdgeRow)>,
     steps: &mut Steps<L>,
-) -> Result<(), GuardRefusal>
-    requires { IsTrue (is_sized (SnapshotCommand commits nodes edges)) }
-    ensures accepted { OnOk result (judged guard.old.limits (verdict guard.old.schema) (snapshot_graph nodes edges) ≡ Ok (snapshot_graph nodes edges)) }
-    ensures restored { OnOk result (guard.new ≡ record guard.old { graph = snapshot_graph nodes edges; commits = commits }) }
-    ensures rejected { IfErr result (IsRejected (judged guard.old.limits (verdict guard.old.schema) (snapshot_graph nodes edges))) }
+) -> Result<(Tables, KeyIndex), GuardRefusal>
+    requires { is_graph (snapshot_graph nodes edges) ≡ true }
+    ensures graph { IfOk result (λ it. it.0.graph ≡ snapshot_graph nodes edges) }
+    ensures conforms { OnOk result (verdict guard.now.schema (snapshot_graph nodes edges) ≡ Conforms) }
+    ensures within { OnOk result (element_count (snapshot_graph nodes edges) ≤ guard.now.limits.elements) }
+    ensures stands { IfOk result (λ it. StandsFor guard.now.schema (snapshot_graph nodes edges) guard.now.schema.guard.keys it.1) }
+    ensures accepted { OnOk result (judged guard.now.limits (verdict guard.now.schema) (snapshot_graph nodes edges)
+        ≡ Ok (snapshot_graph nodes edges)) }
+    ensures rejected { IfErr result (IsRejected (judged guard.now.limits (verdict guard.now.schema) (snapshot_graph nodes edges))) }
 {
     let tables = tables_of(guard.alloc, seed, nodes, edges)?;
     judge_tables(guard.alloc, &tables, &guard.schema, &guard.limits, steps)?;
@@ -61,50 +74,128 @@ fn restore<L: Ledger>(
         seed,
         steps,
     )?;
+    Ok((tables, index))
+}
+
+// Takes the graph of a snapshot for the guard's own, where it conforms and is within the limits, with the index of all of it.
+fn restore<L: Ledger>(
+    guard: &mut Guard,
+    seed: Seed,
+    commits: u64,
+    nodes: List<(NodeId, NodeRow)>,
+    edges: List<(EdgeId, EdgeRow)>,
+    steps: &mut Steps<L>,
+) -> Result<(), GuardRefusal>
+    requires { IsTrue (is_sized (SnapshotCommand commits nodes edges)) }
+    ensures accepted { OnOk result (judged guard.old.limits (verdict guard.old.schema) (snapshot_graph nodes edges)
+        ≡ Ok (snapshot_graph nodes edges)) }
+    ensures restored { OnOk result (guard.new ≡ record guard.old { graph = snapshot_graph nodes edges; commits = commits }) }
+    ensures rejected { IfErr result (IsRejected (judged guard.old.limits (verdict guard.old.schema) (snapshot_graph nodes edges))) }
+{
+    let (tables, index) = judged_tables(guard, seed, nodes, edges, steps)?;
     guard.graph = tables;
     guard.index = index;
     guard.commits = commits;
     Ok(())
 }
 
-// Does what a record behind the first says.
-fn take_record<L: Ledger>(
-    alloc: Global,
-    guard: &mut Guard,
-    seed: Seed,
-    payload: &[u8],
-    steps: &mut Steps<L>,
-) -> Result<(), GuardRefusal>
-    requires { guard.old.commits < 18446744073709551615 }
-    ensures taken { OnOk result (after_record guard.old.limits (verdict guard.old.schema) (replayed_in guard.old) (decoded payload.now)
-        ≡ Ok (replayed_in guard.new)) }
-    ensures rejected { IfErr result (IsRejected
-        (after_record guard.old.limits (verdict guard.old.schema) (replayed_in guard.old) (decoded payload.now))) }
-    ensures kept { OnOk result (guard.new ≡ replayed_to guard.old (replayed_in guard.new)) }
-{
-    match decode(alloc, payload)? {
-        Some(Command::Txn(txn)) => match guard.apply(&txn, steps) {
-            Ok(_) => Ok(()),
-            Err(refusal) => Err(refusal),
-        },
-        Some(
-            Command::Snapshot {
-                commits,
-                nodes,
-                edges,
-            },
-        ) => restore(guard, seed, commits, nodes, edges, steps),
-        _ => Ok(()),
-    }
-}
-
-// Why the record of this number isn't taken.
+// Why the record of this number isn't taken, by a guard's refusal.
 fn untaken(number: u64, refusal: GuardRefusal) -> RecoverFault
-    ensures { result ≡ of_record number refusal }
+    ensures { result ≡ of_refusal number refusal }
 {
     match refusal {
         GuardRefusal::Memory => RecoverFault::Memory,
         GuardRefusal::Rejected(rejection) => RecoverFault::BadHistory { number, rejection },
+    }
+}
+
+// The same by what is said of a later schema.
+fn unrenewed(number: u64, refusal: SchemaRefusal) -> RecoverFault
+    ensures { result ≡ of_schema_refusal number refusal }
+{
+    match refusal {
+        SchemaRefusal::Memory => RecoverFault::Memory,
+        SchemaRefusal::Schema(fault) => RecoverFault::Schema(fault),
+        SchemaRefusal::Violated(violation) => RecoverFault::BadHistory {
+            number,
+            rejection: Rejection::Violation(violation),
+        },
+    }
+}
+
+// Puts the guard under the schema of a later record.
+fn take_schema<L: Ledger>(
+    guard: &mut Guard,
+    seed: Seed,
+    text: &[u8],
+    steps: &mut Steps<L>,
+) -> Result<(), SchemaRefusal>
+    ensures taken { OnOk result (under_schema guard.old.limits (replayed_in guard.old) text.now (schema_of text.now)
+        ≡ Ok (replayed_in guard.new)) }
+    ensures untaken { IfErr result (λ refusal. (number : ℕ) →
+        IsUntaken number (under_schema guard.old.limits (replayed_in guard.old) text.now (schema_of text.now))
+        (of_schema_refusal number refusal)) }
+    ensures limits { OnOk result (guard.new.limits ≡ guard.old.limits) }
+{
+    // The graph is within the limits.
+    guard.facts();
+    let schema = guard.read(text)?;
+    let renewal = renewal_of(guard, seed, schema, steps)?;
+    guard.renew(renewal);
+    Ok(())
+}
+
+// Does what a command of the record of this number, behind the first, says.
+fn take_command<L: Ledger>(
+    guard: &mut Guard,
+    seed: Seed,
+    number: u64,
+    command: Command,
+    steps: &mut Steps<L>,
+) -> Result<(), RecoverFault>
+    requires few { guard.old.commits < 18446744073709551615 }
+    requires sized { IsTrue (is_sized command) }
+    ensures taken { OnOk result (after_record guard.old.limits (replayed_in guard.old) (Some command) ≡ Ok (replayed_in guard.new)) }
+    ensures untaken { IfErr result (IsUntaken number (after_record guard.old.limits (replayed_in guard.old) (Some command))) }
+    ensures limits { OnOk result (guard.new.limits ≡ guard.old.limits) }
+{
+    match command {
+        Command::Txn(txn) => match guard.apply(&txn, steps) {
+            Ok(_) => Ok(()),
+            Err(refusal) => Err(untaken(number, refusal)),
+        },
+        Command::Snapshot {
+            commits,
+            nodes,
+            edges,
+        } => match restore(guard, seed, commits, nodes, edges, steps) {
+            Ok(()) => Ok(()),
+            Err(refusal) => Err(untaken(number, refusal)),
+        },
+        Command::Schema(text) => match take_schema(guard, seed, text.as_slice(), steps) {
+            Ok(()) => Ok(()),
+            Err(refusal) => Err(unrenewed(number, refusal)),
+        },
+    }
+}
+
+// Does what the record of this number, behind the first, says.
+fn take_record<L: Ledger>(
+    alloc: Global,
+    guard: &mut Guard,
+    seed: Seed,
+    number: u64,
+    payload: &[u8],
+    steps: &mut Steps<L>,
+) -> Result<(), RecoverFault>
+    requires { guard.old.commits < 18446744073709551615 }
+    ensures taken { OnOk result (after_record guard.old.limits (replayed_in guard.old) (decoded payload.now) ≡ Ok (replayed_in guard.new)) }
+    ensures untaken { IfErr result (IsUntaken number (after_record guard.old.limits (replayed_in guard.old) (decoded payload.now))) }
+    ensures limits { OnOk result (guard.new.limits ≡ guard.old.limits) }
+{
+    match decode(alloc, payload)? {
+        Some(command) => take_command(guard, seed, number, command, steps),
+        None => Ok(()),
     }
 }
 
@@ -117,24 +208,43 @@ fn replay<L: Ledger>(
     steps: &mut Steps<L>,
 ) -> Result<(), RecoverFault>
     requires empty { guard.old.commits ≡ 0 }
-    requires bounded { (epoch end : ℕ) × IsBoundedStore epoch end payloads }
-    ensures replayed { OnOk result (replay_of guard.old.limits (verdict guard.old.schema) 2 (replayed_in guard.old) (drop 1 payloads)
+    requires bounded { (epoch end : ℕ) × (next : Option ℕ) × IsBoundedStore epoch end next payloads }
+    ensures replayed { OnOk result (replay_of guard.old.limits 2 (replayed_in guard.old) (drop 1 payloads)
         ≡ Ok (replayed_in guard.new)) }
-    ensures rejected { IfErr result (IsUnreplayed
-        (replay_of guard.old.limits (verdict guard.old.schema) 2 (replayed_in guard.old) (drop 1 payloads))) }
-    ensures kept { OnOk result (guard.new ≡ replayed_to guard.old (replayed_in guard.new)) }
+    ensures untaken { IfErr result (IsUnreplayed (replay_of guard.old.limits 2 (replayed_in guard.old) (drop 1 payloads))) }
+    ensures limits { OnOk result (guard.new.limits ≡ guard.old.limits) }
 {
     let mut records = payloads.into_vec().into_iter();
     let _schema = records.next();
     let mut number = 1;
     for payload in records {
         number += 1;
-        match take_record(alloc, guard, seed, payload.as_slice(), steps) {
+        match take_record(alloc, guard, seed, number, payload.as_slice(), steps) {
             Ok(()) => {}
-            Err(refusal) => return Err(untaken(number, refusal)),
+            Err(fault) => return Err(fault),
         }
     }
     Ok(())
+}
+
+// The guard of the text of a store's first record.
+fn first_guard(
+    alloc: Global,
+    limits: Limits,
+    seed: Seed,
+    payloads: &[Bytes],
+) -> Result<Guard, RecoverFault>
+    ensures text { IfOk result (λ guard. guard.text ≡ text_of payloads.now) }
+    ensures schema { IfOk result (λ guard. schema_of guard.text ≡ schema guard.schema) }
+    ensures limits { IfOk result (λ guard. guard.limits ≡ limits) }
+    ensures empty { IfOk result (λ guard. guard.graph ≡ empty_graph) }
+    ensures commits { IfOk result (λ guard. guard.commits ≡ 0) }
+    ensures refused { IfErr result (IsUnrecovered (saved_of limits payloads.now)) }
+    ensures judged { is_disk_fault result ≡ false }
+{
+    let text = text_in(alloc, payloads)?;
+    let guard = Guard::with_seed(alloc, text.as_slice(), limits, seed)?;
+    Ok(guard)
 }
 
 // The guard that the records of a store lead to.
@@ -145,7 +255,7 @@ fn recovered<L: Ledger>(
     payloads: List<Bytes>,
     blank: Blank,
 ) -> Result<Guard, RecoverFault>
-    requires bounded { (epoch end : ℕ) × IsBoundedStore epoch end payloads }
+    requires bounded { (epoch end : ℕ) × (next : Option ℕ) × IsBoundedStore epoch end next payloads }
     requires name { blank.name ≡ L.name }
     requires parts { blank.parts ≡ L.parts }
     requires some { 0 < blank.parts }
@@ -155,21 +265,21 @@ fn recovered<L: Ledger>(
     ensures judged { is_disk_fault result ≡ false }
 {
     let mut steps: Steps<L> = Steps::begin(blank);
-    let text = text_in(alloc, payloads.as_slice())?;
-    let mut guard = Guard::with_seed(alloc, text.as_slice(), limits, seed)?;
+    let mut guard = first_guard(alloc, limits, seed, payloads.as_slice())?;
     replay(alloc, &mut guard, seed, payloads, &mut steps)?;
     Ok(guard)
 }
 
 impl Store {
     /// The store that is saved in both areas: the records of the chosen one are replayed, each transaction is decided again as by
-    /// `apply`, and the graph of a snapshot is judged from scratch, once. Both areas and the output are what they were at every moment.
-    /// The records are in memory when the replay begins, and each is given up when it has been replayed.
+    /// `apply`, the graph of a snapshot is judged from scratch, once, and under each later schema the graph so far. Both areas and the
+    /// output are what they were at every moment. The records are in memory when the replay begins, and each is given up when it has
+    /// been replayed.
     ///
     /// 30 `NoStore` exactly where no area is a store and none is foreign, 32 `Foreign` exactly where no area is a store and one is
-    /// foreign, 33 `BadRecord` exactly where the chosen store is damaged at that record; then the schema refusals 10 to 19 of the
-    /// stored text; then 34 `BadHistory` exactly where that record is the first to be rejected. `DiskFault` comes only where the
-    /// count of area faults rose; `Memory` may come wherever there is none.
+    /// foreign, 33 `BadRecord` exactly where the chosen store is damaged at that record; else the first fault in the order of records:
+    /// a schema refusal 10 to 19 of a stored text, or 34 `BadHistory` with the record's number and rejection. `DiskFault` comes only
+    /// where the count of area faults rose; `Memory` may come wherever there is none.
     pub fn recover<W: World>(
         alloc: Global,
         limits: Limits,
@@ -185,12 +295,18 @@ impl Store {
             area,
             epoch,
             end,
+            next,
             payloads,
         } = chosen;
         let guard = recovered::<Brand>(alloc, limits, world.seed(), payloads, Blank::new(1))?;
         Ok(Store {
             guard,
-            journal: Journal { area, epoch, end },
+            journal: Journal {
+                area,
+                epoch,
+                end,
+                next,
+            },
             failed: false,
         })
     }

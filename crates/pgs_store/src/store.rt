@@ -1,5 +1,5 @@
 ghost use Rattle.std.specs.Prelude.{◌≡◌, ◌+◌, ◌-◌, ◌*◌, ◌^◌, ◌<◌, ◌≤◌, length, IsTrue, IfOk};
-ghost use Rattle.std.specs.Option.{option_copied};
+ghost use Rattle.std.specs.Option.{is_some, option_copied};
 ghost use Rattle.pgs_journal.specs.Format.{is_epoch};
 ghost use Rattle.pgs_resolve.specs.SchemaOf.{schema, schema_of};
 ghost use Rattle.pgs_store.specs.Explained.{types_of, key_values_of};
@@ -71,6 +71,13 @@ impl Store {
         ensures numbered { IsTrue (is_epoch self.now.journal.epoch) }
     {
         self.journal.epoch
+    }
+
+    /// Whether the store is of the second format, which has schemas at later places, so that `evolve` may succeed.
+    pub fn takes_schemas(&self) -> bool
+        ensures { result ≡ is_some self.now.journal.next }
+    {
+        self.journal.next.is_some()
     }
 
     /// The schema's text.

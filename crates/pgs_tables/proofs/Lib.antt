@@ -1,5 +1,4 @@
 pub mod Committed
-pub mod EdgeLists
 pub mod Ends
 pub mod Folded
 pub mod Relisted

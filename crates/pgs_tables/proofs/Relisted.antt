@@ -12,14 +12,15 @@ use Rattle.pgs_base.specs.Graph.{node_cmp, edge_cmp}
 use Rattle.pgs_graph.specs.declared.scan.End.TheVariants.{Source, Target}
 use Rattle.pgs_graph.specs.Reads.{edges_with}
 use Rattle.pgs_graph.specs.Changed.{entry_changed, entries_changed}
+use Rattle.pgs_graph.specs.Lists.{list_edited, edited_with}
 use Rattle.pgs_graph.proofs.Deltas.{edge_cmp_total, ascending-entry_changed}
+use Rattle.pgs_graph.proofs.EdgeLists.{edited-changed}
 use Rattle.pgs_tables.proofs.Rows.{lookup-changed}
 use Rattle.pgs_tables.specs.declared.edit.Side.{Side}
 use Rattle.pgs_tables.specs.declared.edit.Side.TheVariants.{Out, In}
 use Rattle.pgs_tables.specs.declared.node_edges.NodeEdges.{NodeEdges}
 use Rattle.pgs_tables.specs.Adjacency.{is_end_of}
-use Rattle.pgs_tables.specs.Relists.{list_edited, side_edited, relisted, relisted_ends, relisted_change}
-use Rattle.pgs_tables.proofs.EdgeLists.{edited_with, edited-changed}
+use Rattle.pgs_tables.specs.Relists.{side_edited, relisted, relisted_ends, relisted_change}
 
 nat_tied : (a b : ℕ) → is_eq (nat_cmp a b) ≡ (a == b)
 nat_tied a b = search rules

@@ -14,7 +14,7 @@ use Rattle.std.proofs.lemmas.Map.Made.{is_some-lookup}
 use Rattle.pgs_base.proofs.Ascending.{ascending-insert_entry, ascending_none}
 use Rattle.pgs_base.proofs.Lookups.{lookup-insert_entry, lookup-remove_key, same_entries, length-insert_entry, remove_entry_absent}
 use Rattle.pgs_graph.specs.Changed.{entry_changed}
-use Rattle.pgs_graph.specs.Merging.{left_at}
+use Rattle.pgs_base_slots.specs.Slots.{left_at}
 use Rattle.pgs_graph.proofs.Deltas.{ascending-entry_changed}
 use Rattle.pgs_tables.proofs.Keys.{sorted_keys}
 use Rattle.pgs_tables.specs.Slots.{by_key, present, row_count}

@@ -1,23 +1,18 @@
 -- What becomes of the edges at a node, edge by edge of a delta, while its new lists are made.
 use Rattle.std.specs.Prelude.{Bool, true, false, ◌&&◌, cond, List, Option, Some, None, unwrap_or, fold}
 use Rattle.std.specs.BTreeMap.{is_at}
-use Rattle.std.specs.BTreeSet.{insert_key}
-use Rattle.std.specs.Set.{remove_key}
 use Rattle.std.specs.Map.{lookup}
 use Rattle.pgs_base.specs.declared.element.NodeId.{NodeId}
 use Rattle.pgs_base.specs.declared.element.EdgeId.{EdgeId}
 use Rattle.pgs_base.specs.declared.row.NodeRow.{NodeRow}
 use Rattle.pgs_base.specs.declared.row.EdgeRow.{EdgeRow}
-use Rattle.pgs_base.specs.Graph.{Graph, node_cmp, edge_cmp, edge_at}
+use Rattle.pgs_base.specs.Graph.{Graph, node_cmp, edge_at}
+use Rattle.pgs_graph.specs.Lists.{list_edited}
 use Rattle.pgs_tables.specs.declared.edit.Side.{Side}
 use Rattle.pgs_tables.specs.declared.edit.Side.TheVariants.{Out, In}
 use Rattle.pgs_tables.specs.declared.edit.Edit.{Edit}
 use Rattle.pgs_tables.specs.declared.node_edges.NodeEdges.{NodeEdges}
 use Rattle.pgs_tables.specs.Adjacency.{node_edges}
-
--- a list with an edge put in or taken out
-abbrev pub list_edited : Bool → EdgeId → List EdgeId → List EdgeId
-list_edited adds edge list = cond adds (insert_key edge_cmp list edge) (remove_key (is_at (edge_cmp edge)) list)
 
 -- the edges at a node after an edit on one side
 abbrev pub side_edited : Side → Bool → EdgeId → NodeEdges → NodeEdges

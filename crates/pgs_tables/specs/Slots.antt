@@ -6,7 +6,7 @@ use Rattle.std.specs.List.{list_any, IsDistinct}
 use Rattle.std.specs.Map.{keys_of, lookup, set_value}
 use Rattle.indexmap.specs.Layout.{set_value_at}
 use Rattle.std.specs.BTreeMap.{is_at, insert_entry}
-use Rattle.pgs_graph.specs.Merging.{left_at}
+use Rattle.pgs_base_slots.specs.Slots.{left_at}
 
 pub record Slots (K V : Type 0) : Type 0 where
   pub rows : List (K × V)

@@ -1,6 +1,7 @@
 ghost use Rattle.std.specs.Prelude.{◌≡◌, IfOk};
+ghost use Rattle.pgs_graph.specs.Lists.{list_edited};
 ghost use Rattle.pgs_tables.specs.Adjacency.{no_edges};
-ghost use Rattle.pgs_tables.specs.Relists.{list_edited, edges_edited};
+ghost use Rattle.pgs_tables.specs.Relists.{edges_edited};
 
 use crate::edit::{Edit, Side};
 use pgs_base::{Copyable, EdgeId, Memory, NodeRow};

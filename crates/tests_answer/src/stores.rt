@@ -3,7 +3,7 @@
 use crate::sample::add_text;
 use pgs_answer::{
     already_store_text, bad_history_text, bad_record_text, epochs_spent_text, foreign_text,
-    no_store_text,
+    no_store_text, old_format_text,
 };
 use pgs_base::{Limits, NodeId};
 use pgs_violation::{Rejection, Violation};
@@ -26,6 +26,7 @@ fn texts(alloc: Global) -> Result<String, Fail> {
     add_text(&mut out, bad_record_text(alloc, 2))?;
     add_history(alloc, &mut out)?;
     add_text(&mut out, epochs_spent_text(alloc))?;
+    add_text(&mut out, old_format_text(alloc))?;
     Ok(out)
 }
 
@@ -35,6 +36,7 @@ const TEXTS: &str = "30 no store
 33 record 2 is damaged
 34 record 2: 25 node n1 fits no type
 37 no epoch is left
+41 format 1, make a checkpoint first
 ";
 
 #[test]

@@ -1,5 +1,5 @@
-//! Tests of the public calls of `pgs_graph`: a small graph that is changed, copied and read through the trait. What is expected was
-//! written by hand.
+//! Tests of the public calls of `pgs_graph`: a small graph that is changed, copied and read through the trait, where what is expected was
+//! written by hand; and graphs of thousands of rows beside two lists of rows.
 //! Nothing but tests stands here.
 #![tactic(auto)]
 
@@ -8,6 +8,10 @@ mod changes;
 #[cfg(test)]
 mod copies;
 #[cfg(test)]
+mod drawn;
+#[cfg(test)]
 mod reads;
 #[cfg(test)]
 mod sample;
+#[cfg(test)]
+mod two_lists;

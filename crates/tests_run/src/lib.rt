@@ -5,6 +5,8 @@
 #[cfg(test)]
 mod budgets;
 #[cfg(test)]
+mod contain;
+#[cfg(test)]
 mod feeds;
 #[cfg(test)]
 mod keys;

@@ -4,7 +4,7 @@ use std::alloc::Global;
 use std::test::Fail;
 
 /// Words with a comma behind each, and what they are read as, with the name of a store and the number of feeds.
-const LINES: [(&str, &str); 22] = [
+const LINES: [(&str, &str); 26] = [
     ("try,", "try in nothing with 0"),
     ("validate,", "validate in nothing with 0"),
     ("load,shop,", "load in shop with 0"),
@@ -21,12 +21,16 @@ const LINES: [(&str, &str); 22] = [
         "gen 5 500000 in nothing with 0",
     ),
     ("checkpoint,shop,", "checkpoint in shop with 0"),
+    ("evolve,shop,", "evolve in shop with 0"),
+    ("contain,", "contain in nothing with 0"),
     ("", "refused in nothing with 0"),
     ("aply,s,", "refused in nothing with 0"),
     ("apply,", "refused in nothing with 0"),
     ("apply,-x,", "refused in nothing with 0"),
     ("apply,shop,,", "refused in nothing with 0"),
     ("try,more,", "refused in nothing with 0"),
+    ("contain,shop,", "refused in nothing with 0"),
+    ("evolve,shop,more,", "refused in nothing with 0"),
     ("load,shop,more,", "refused in nothing with 0"),
     ("explain,s,x1,", "refused in nothing with 0"),
     (
@@ -62,6 +66,8 @@ fn command(alloc: Global, command: Option<Command>) -> Result<String, Memory> {
         Some(Command::Apply) => format!(in alloc; "apply")?,
         Some(Command::Recover) => format!(in alloc; "recover")?,
         Some(Command::Checkpoint) => format!(in alloc; "checkpoint")?,
+        Some(Command::Evolve) => format!(in alloc; "evolve")?,
+        Some(Command::Contain) => format!(in alloc; "contain")?,
         Some(Command::Explain { elem }) => {
             let elem = element(alloc, elem)?;
             format!(in alloc; "explain {elem}")?

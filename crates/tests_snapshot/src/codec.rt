@@ -307,18 +307,28 @@ fn rows_have_at_most_64_labels_and_256_properties(rt: HostRuntime) -> Result<(),
     Ok(())
 }
 
-/// The frame of a command's payload.
-fn framed(alloc: Global, text: &[u8]) -> Result<Bytes, Memory> {
+/// The frame of a schema's payload, as a record of this number or of none.
+fn framed(alloc: Global, text: &[u8], number: Option<u64>) -> Result<Bytes, Memory> {
     let payload = encode(alloc, &Command::Schema(List::from_slice(alloc, text)?))?;
-    frame(alloc, payload.as_slice())
+    frame(alloc, payload.as_slice(), number)
 }
 
 #[test]
 fn a_schema_is_framed(rt: HostRuntime) -> Result<(), Fail> {
-    let bytes = framed(rt.alloc(), b"CREATE GRAPH TYPE g LOOSE {};")?;
+    let bytes = framed(rt.alloc(), b"CREATE GRAPH TYPE g LOOSE {};", None)?;
     assert_eq!(rt;
         bytes.as_slice(),
         b"\0\0\0\0\0\0\0\x1e\x01CREATE GRAPH TYPE g LOOSE {};\0".as_slice()
+    );
+    Ok(())
+}
+
+#[test]
+fn a_numbered_schema_is_framed(rt: HostRuntime) -> Result<(), Fail> {
+    let bytes = framed(rt.alloc(), b"CREATE GRAPH TYPE g LOOSE {};", Some(258))?;
+    assert_eq!(rt;
+        bytes.as_slice(),
+        b"\0\0\0\0\0\0\x01\x02\0\0\0\0\0\0\0\x1e\x01CREATE GRAPH TYPE g LOOSE {};\0".as_slice()
     );
     Ok(())
 }
@@ -354,7 +364,7 @@ const TXN: &[u8] = b"\x03\0\0\0\x01\x01\0\0\0\0\0\0\0\x01\0\0\0\0";
 fn a_transaction_of_one_node_has_its_bytes(rt: HostRuntime) -> Result<(), Fail> {
     let found = numbers_in(rt.alloc(), TXN)?;
     assert_eq!(rt; found, Some((1, 0, 0)));
-    let bytes = frame(rt.alloc(), TXN)?;
+    let bytes = frame(rt.alloc(), TXN, None)?;
     assert_eq!(rt;
         bytes.as_slice(),
         b"\0\0\0\0\0\0\0\x12\x03\0\0\0\x01\x01\0\0\0\0\0\0\0\x01\0\0\0\0\0".as_slice()

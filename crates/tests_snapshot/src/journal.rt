@@ -1,21 +1,26 @@
 //! A store that is made and takes one record, stopped after each number of calls, with each kind of leaving.
 
-ghost use Rattle.std.specs.Prelude.{◌≡◌, ◌∷◌, []};
+ghost use Rattle.std.specs.Prelude.{◌≡◌, ◌∷◌, [], Some};
 ghost use Rattle.pgs_codec.specs.Frame.{framed};
-ghost use Rattle.pgs_journal.specs.Format.{First, IsFrames};
+ghost use Rattle.pgs_journal.specs.Format.{IsFrames};
 ghost use Rattle.pgs_journal.specs.Samples.{schema_payload, txn_payload};
 
 use pgs_base::{Bytes, List, Memory};
+use pgs_codec::frame;
 use pgs_journal::{AreaState, Journal, ScanFault, scan};
 use pgs_world::{Area, Leave, MemWorld, World};
 use std::alloc::Global;
 use std::test::Fail;
 
-/// The schema `CREATE GRAPH TYPE g LOOSE {};`, framed.
-const SCHEMA: &[u8] = b"\0\0\0\0\0\0\0\x1e\x01CREATE GRAPH TYPE g LOOSE {};\0";
+/// The schema `CREATE GRAPH TYPE g LOOSE {};`, framed as record 1.
+const SCHEMA: &[u8] = b"\0\0\0\0\0\0\0\x01\0\0\0\0\0\0\0\x1e\x01CREATE GRAPH TYPE g LOOSE {};\0";
 
-/// A transaction that adds node 1, framed.
-const TXN: &[u8] = b"\0\0\0\0\0\0\0\x12\x03\0\0\0\x01\x01\0\0\0\0\0\0\0\x01\0\0\0\0\0";
+/// The payload of a transaction that adds node 1.
+const PAYLOAD: &[u8] = b"\x03\0\0\0\x01\x01\0\0\0\0\0\0\0\x01\0\0\0\0";
+
+/// The same transaction, framed as record 2.
+const TXN: &[u8] =
+    b"\0\0\0\0\0\0\0\x02\0\0\0\0\0\0\0\x12\x03\0\0\0\x01\x01\0\0\0\0\0\0\0\x01\0\0\0\0\0";
 
 /// What an area is, as a number: 0 for no store, else the number of its records; 90 to 92 for the rest.
 fn number_of(state: &AreaState) -> u64 {
@@ -29,28 +34,38 @@ fn number_of(state: &AreaState) -> u64 {
 
 /// Makes a store in area A and appends a record.
 fn make<W: World>(world: &mut W, first: &[u8], frame: &[u8]) -> bool
-    requires first { IsFrames First (schema_payload ∷ []) first.now }
-    requires frame { frame.now ≡ framed txn_payload }
+    requires first { IsFrames (schema_payload ∷ []) 2 first.now }
+    requires frame { frame.now ≡ framed (Some 2) txn_payload }
 {
-    match Journal::create(world, Area::A, 1, first) {
+    match Journal::create(world, Area::A, 1, first, 2) {
         Ok(mut journal) => journal.append(world, frame).is_ok(),
         Err(_) => false,
     }
 }
 
 /// Reads the store of area A, and appends a record to what was read.
-fn append_to_read<W: World>(alloc: Global, world: &mut W, frame: &[u8]) -> Result<bool, ScanFault>
-    requires { frame.now ≡ framed txn_payload }
-{
-    let AreaState::Store { epoch, end, .. } = scan(alloc, world, Area::A)? else {
+fn append_to_read<W: World>(
+    alloc: Global,
+    world: &mut W,
+    payload: &[u8],
+) -> Result<bool, ScanFault> {
+    let AreaState::Store {
+        epoch,
+        end,
+        next,
+        ..
+    } = scan(alloc, world, Area::A)?
+    else {
         return Ok(false);
     };
+    let frame = frame(alloc, payload, next)?;
     let mut journal = Journal {
         area: Area::A,
         epoch,
         end,
+        next,
     };
-    Ok(journal.append(world, frame).is_ok())
+    Ok(journal.append(world, frame.as_slice()).is_ok())
 }
 
 /// What is read of area A once the world stopped after so many calls and left its bytes so.
@@ -115,22 +130,54 @@ fn read_of(alloc: Global, bytes: &[u8]) -> Result<u64, Memory> {
     scanned(alloc, a, List::new(alloc))
 }
 
-const LOADED: &[u8] =
+/// A store of the first format of a schema, without the gate behind it.
+const FIRST: &[u8] =
     b"\x01PGSGRD1\0\0\0\0\0\0\0\x01\x01\0\0\0\0\0\0\0\x1e\x01CREATE GRAPH TYPE g LOOSE {};";
+
+/// The same in the second format.
+const SECOND: &[u8] =
+    b"\x01PGSGRD2\0\0\0\0\0\0\0\x01\x01\0\0\0\0\0\0\0\x01\0\0\0\0\0\0\0\x1e\x01CREATE GRAPH TYPE g LOOSE {};";
+
+/// One area behind another.
+fn with(alloc: Global, front: &[u8], behind: &str) -> Result<Bytes, Memory> {
+    let mut bytes = Vec::from_slice(alloc, front)?;
+    bytes.extend_from_slice(behind.as_bytes())?;
+    Ok(List::from_vec(bytes))
+}
 
 #[test]
 fn areas_are_read_as_what_they_are(rt: HostRuntime) -> Result<(), Fail> {
-    for (behind, want) in [
-        ("\x00", 1),
-        ("\x07", 1),
-        ("\x01\0\0\0\0\0\0\0\x12\x03\0\0\0\x01\x01\0\0", 92),
-        ("\x01\x7f\u{0}\0\0\0\0\0\0\0", 92),
-        ("", 91),
+    for (front, behind, want) in [
+        (FIRST, "\x00", 1),
+        (FIRST, "\x07", 1),
+        (FIRST, "\x01\0\0\0\0\0\0\0\x05\x03\0\0\0\0\0", 2),
+        (FIRST, "\x01\0\0\0\0\0\0\0\x12\x03\0\0\0\x01\x01\0\0", 92),
+        (FIRST, "\x01\x7f\u{0}\0\0\0\0\0\0\0", 92),
+        (FIRST, "\x01\0\0\0\0\0\0\0\x02\x01a\0", 92),
+        (FIRST, "", 91),
+        (SECOND, "\x00", 1),
+        (SECOND, "\x07", 1),
+        (
+            SECOND,
+            "\x01\0\0\0\0\0\0\0\x02\0\0\0\0\0\0\0\x05\x03\0\0\0\0\0",
+            2,
+        ),
+        (
+            SECOND,
+            "\x01\0\0\0\0\0\0\0\x03\0\0\0\0\0\0\0\x05\x03\0\0\0\0\0",
+            92,
+        ),
+        (
+            SECOND,
+            "\x01\0\0\0\0\0\0\0\x02\0\0\0\0\0\0\0\x12\x03\0\0\0\x01\x01\0\0",
+            92,
+        ),
+        (SECOND, "\x01\0\0\0\0\0\0\0\x02\0\0\0\0\0\0\0\x02\x01a\0", 2),
+        (SECOND, "", 91),
     ] {
-        let mut bytes = Vec::new(rt.alloc());
-        bytes.extend_from_slice(LOADED)?;
-        bytes.extend_from_slice(behind.as_bytes())?;
-        assert_eq!(rt; read_of(rt.alloc(), &bytes)?, want, "{behind:?}");
+        let bytes = with(rt.alloc(), front, behind)?;
+        let found = scanned(rt.alloc(), bytes, List::new(rt.alloc()))?;
+        assert_eq!(rt; found, want, "{behind:?}");
     }
     Ok(())
 }
@@ -143,8 +190,11 @@ fn other_areas_are_no_store_or_foreign(rt: HostRuntime) -> Result<(), Fail> {
         ("\x01xxxxxxxxxxxxxxxx", 90),
         ("\x01xxxxxxxxxxxxxxx", 0),
         ("\x00xxxxxxxxxxxxxxxx", 0),
+        ("\x01PGSGRD3\0\0\0\0\0\0\0\x01\0", 90),
     ] {
-        assert_eq!(rt; read_of(rt.alloc(), bytes.as_bytes())?, want, "{bytes:?}");
+        let bytes = with(rt.alloc(), b"", bytes)?;
+        let found = scanned(rt.alloc(), bytes, List::new(rt.alloc()))?;
+        assert_eq!(rt; found, want);
     }
     Ok(())
 }
@@ -153,7 +203,7 @@ fn other_areas_are_no_store_or_foreign(rt: HostRuntime) -> Result<(), Fail> {
 fn read_after_append(alloc: Global) -> Result<u64, ScanFault> {
     let empty = List::new(alloc);
     let mut world = MemWorld::new(alloc, List::new(alloc), List::new(alloc), 256, empty)?;
-    if !make(&mut world, SCHEMA, TXN) || !append_to_read(alloc, &mut world, TXN)? {
+    if !make(&mut world, SCHEMA, TXN) || !append_to_read(alloc, &mut world, PAYLOAD)? {
         return Ok(98);
     }
     Ok(number_of(&scan(alloc, &mut world, Area::A)?))
@@ -162,4 +212,21 @@ fn read_after_append(alloc: Global) -> Result<u64, ScanFault> {
 #[test]
 fn a_store_that_was_read_takes_a_record(rt: HostRuntime) {
     assert_eq!(rt; read_after_append(rt.alloc()), Ok(3));
+}
+
+/// What is read of a store of these bytes that was read and then takes one record more.
+fn read_one_longer(alloc: Global, front: &[u8]) -> Result<u64, ScanFault> {
+    let a = with(alloc, front, "\x00")?;
+    let mut world = MemWorld::new(alloc, a, List::new(alloc), 256, List::new(alloc))?;
+    if !append_to_read(alloc, &mut world, PAYLOAD)? {
+        return Ok(98);
+    }
+    Ok(number_of(&scan(alloc, &mut world, Area::A)?))
+}
+
+#[test]
+fn a_store_of_either_format_takes_a_record(rt: HostRuntime) {
+    for front in [FIRST, SECOND] {
+        assert_eq!(rt; read_one_longer(rt.alloc(), front), Ok(2));
+    }
 }

@@ -28,15 +28,27 @@ fn no_more_is_read_of_what_is_no_store(rt: HostRuntime) -> Result<(), Fail> {
         ("\x01PGSGRD1xxxxxxxx", 1),
         ("\x00PGSGRD1xxxxxxxxxxxxxxxxxxxxxxxxxxxx", 2),
         ("\x01PGSGRD2xxxxxxxxxxxxxxxxxxxxxxxxxxxx", 2),
+        ("\x01PGSGRD3\0\0\0\0\0\0\0\x01\x01xxxxxxxxxxxx", 2),
     ] {
         assert_eq!(rt; calls_of(rt.alloc(), bytes.as_bytes())?, want, "{bytes:?}");
     }
     Ok(())
 }
 
-/// A store of a schema, without the gate behind it.
-const LOADED: &[u8] =
+/// A store of the first format of a schema, without the gate behind it.
+const FIRST: &[u8] =
     b"\x01PGSGRD1\0\0\0\0\0\0\0\x01\x01\0\0\0\0\0\0\0\x1e\x01CREATE GRAPH TYPE g LOOSE {};";
+
+/// The same in the second format.
+const SECOND: &[u8] =
+    b"\x01PGSGRD2\0\0\0\0\0\0\0\x01\x01\0\0\0\0\0\0\0\x01\0\0\0\0\0\0\0\x1e\x01CREATE GRAPH TYPE g LOOSE {};";
+
+/// The same for an area of these bytes, one behind the other.
+fn calls_of_both(alloc: Global, front: &[u8], behind: &str) -> Result<u64, Memory> {
+    let mut bytes = Vec::from_slice(alloc, front)?;
+    bytes.extend_from_slice(behind.as_bytes())?;
+    calls_of(alloc, &bytes)
+}
 
 #[test]
 fn no_more_is_read_than_the_records(rt: HostRuntime) -> Result<(), Fail> {
@@ -51,10 +63,24 @@ fn no_more_is_read_than_the_records(rt: HostRuntime) -> Result<(), Fail> {
         ("\x01\x7f\0\0\0\0\0\0\0\x03\0\0\0\0\0", 5),
         ("\x01\0\0\0\0\0\0\0\x05", 4),
     ] {
-        let mut bytes = Vec::new(rt.alloc());
-        bytes.extend_from_slice(LOADED)?;
-        bytes.extend_from_slice(behind.as_bytes())?;
-        assert_eq!(rt; calls_of(rt.alloc(), &bytes)?, want, "{behind:?}");
+        let calls = calls_of_both(rt.alloc(), FIRST, behind)?;
+        assert_eq!(rt; calls, want, "{behind:?}");
+    }
+    Ok(())
+}
+
+#[test]
+fn no_more_is_read_than_the_numbered_records(rt: HostRuntime) -> Result<(), Fail> {
+    for (behind, want) in [
+        ("\x00", 4),
+        ("\x00\0\0\0\0\0\0\0\x02\0\0\0\0\0\0\0\x05\x03\0\0\0\0\0", 4),
+        ("\x01\0\0\0\0\0\0\0\x02\0\0\0\0\0\0\0\x05\x03\0\0\0\0\0", 6),
+        ("\x01\0\0\0\0\0\0\0\x03\0\0\0\0\0\0\0\x05\x03\0\0\0\0\0", 5),
+        ("\x01\0\0\0\0\0\0\0\x02\x7f\0\0\0\0\0\0\0\x03\0\0\0\0\0", 5),
+        ("\x01\0\0\0\0\0\0\0\x02\0\0\0\0\0\0\0\x05", 4),
+    ] {
+        let calls = calls_of_both(rt.alloc(), SECOND, behind)?;
+        assert_eq!(rt; calls, want, "{behind:?}");
     }
     Ok(())
 }

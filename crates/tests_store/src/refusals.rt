@@ -1,6 +1,6 @@
 //! Areas of which no store is recovered, and stores that refuse a call.
 
-use crate::scenario::{SCHEMA, recovered, renewal};
+use crate::scenario::{SCHEMA, evolution, recovered, renewal};
 use pgs_base::{Limits, List, Memory};
 use pgs_store::{LoadFault, Store};
 use pgs_world::MemWorld;
@@ -20,6 +20,18 @@ const NO_SCHEMA: &[u8] = b"\x01PGSGRD1\0\0\0\0\0\0\0\x01\x01\0\0\0\0\0\0\0\x02\x
 
 const TORN: &[u8] = b"\x01PGSGRD1\0\0\0\0\0\0\0\x01\x01\0\0\0\0\0\0\0\x1e\x01CREATE";
 
+/// In the second format: a loose schema, a transaction that adds node 1, and a schema that has no type for it.
+const UNTYPED_LATER: &[u8] =
+    b"\x01PGSGRD2\0\0\0\0\0\0\0\x01\x01\0\0\0\0\0\0\0\x01\0\0\0\0\0\0\0\x1e\x01CREATE GRAPH TYPE g LOOSE {};\x01\0\0\0\0\0\0\0\x02\0\0\0\0\0\0\0\x12\x03\0\0\0\x01\x01\0\0\0\0\0\0\0\x01\0\0\0\0\x01\0\0\0\0\0\0\0\x03\0\0\0\0\0\0\0\x1f\x01CREATE GRAPH TYPE g STRICT {};\0";
+
+/// In the second format: a loose schema, and a text that is no schema.
+const NO_LATER_SCHEMA: &[u8] =
+    b"\x01PGSGRD2\0\0\0\0\0\0\0\x01\x01\0\0\0\0\0\0\0\x01\0\0\0\0\0\0\0\x1e\x01CREATE GRAPH TYPE g LOOSE {};\x01\0\0\0\0\0\0\0\x02\0\0\0\0\0\0\0\x02\x01#\0";
+
+/// The same with another number at the second record.
+const MISNUMBERED: &[u8] =
+    b"\x01PGSGRD2\0\0\0\0\0\0\0\x01\x01\0\0\0\0\0\0\0\x01\0\0\0\0\0\0\0\x1e\x01CREATE GRAPH TYPE g LOOSE {};\x01\0\0\0\0\0\0\0\x03\0\0\0\0\0\0\0\x02\x01#\0";
+
 const FOREIGN: &[u8] = b"\x01xxxxxxxxxxxxxxxx";
 
 fn recovered_of(alloc: Global, a: &[u8]) -> Result<u64, Memory> {
@@ -34,14 +46,14 @@ const RECOVERED: &[Row] = &[
     (b"\x01", 30_000),
     (FOREIGN, 32_000),
     (TORN, 33_001),
-    (NO_SCHEMA, 10_000),
+    (NO_SCHEMA, 11_000),
     (UNTYPED, 34_002),
     (LAST, 167_772_150),
 ];
 
 /// The first row of which something else is recovered.
-fn wrong_recovery(alloc: Global) -> Result<Option<usize>, Memory> {
-    for (place, row) in RECOVERED.iter().enumerate() {
+fn wrong_recovery(alloc: Global, rows: &[Row]) -> Result<Option<usize>, Memory> {
+    for (place, row) in rows.iter().enumerate() {
         if recovered_of(alloc, row.0)? != row.1 {
             return Ok(Some(place));
         }
@@ -51,7 +63,19 @@ fn wrong_recovery(alloc: Global) -> Result<Option<usize>, Memory> {
 
 #[test]
 fn what_is_no_store_is_refused(rt: HostRuntime) -> Result<(), Fail> {
-    assert_eq!(rt; wrong_recovery(rt.alloc())?, None);
+    assert_eq!(rt; wrong_recovery(rt.alloc(), RECOVERED)?, None);
+    Ok(())
+}
+
+const RECOVERED_LATER: &[Row] = &[
+    (UNTYPED_LATER, 34_003),
+    (NO_LATER_SCHEMA, 10_000),
+    (MISNUMBERED, 33_002),
+];
+
+#[test]
+fn a_later_schema_is_judged_again(rt: HostRuntime) -> Result<(), Fail> {
+    assert_eq!(rt; wrong_recovery(rt.alloc(), RECOVERED_LATER)?, None);
     Ok(())
 }
 
@@ -98,5 +122,16 @@ fn renewal_of(alloc: Global, a: &[u8]) -> Result<u64, Memory> {
 #[test]
 fn the_last_epoch_is_spent(rt: HostRuntime) -> Result<(), Fail> {
     assert_eq!(rt; renewal_of(rt.alloc(), LAST)?, 37_000);
+    Ok(())
+}
+
+fn evolution_of(alloc: Global, a: &[u8]) -> Result<u64, Memory> {
+    let a = List::from_slice(alloc, a)?;
+    evolution(alloc, a, "#")
+}
+
+#[test]
+fn the_first_format_takes_no_later_schema(rt: HostRuntime) -> Result<(), Fail> {
+    assert_eq!(rt; evolution_of(rt.alloc(), LAST)?, 41_000);
     Ok(())
 }

@@ -7,7 +7,7 @@ use std::alloc::Global;
 use std::test::Fail;
 
 /// The number of a refusal.
-fn number(fault: &SchemaFault) -> u8 {
+pub fn number_of(fault: &SchemaFault) -> u8 {
     match fault {
         SchemaFault::Lex { .. } => 10,
         SchemaFault::Syntax { .. } => 11,
@@ -27,7 +27,7 @@ fn refusal(alloc: Global, text: &[u8]) -> Result<u8, Memory> {
     match Guard::new(alloc, text, Limits::standard()) {
         Ok(_) => Ok(0),
         Err(GuardFault::Memory) => Err(Memory),
-        Err(GuardFault::Schema(fault)) => Ok(number(&fault)),
+        Err(GuardFault::Schema(fault)) => Ok(number_of(&fault)),
     }
 }
 

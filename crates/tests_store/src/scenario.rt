@@ -3,10 +3,11 @@
 ghost use Rattle.std.specs.Prelude.{◌≡◌, ◌<◌, false};
 ghost use Rattle.pgs_store.specs.Stored.{StandsOn};
 
+use crate::refused_schemas::number_of as schema_number_of;
 use pgs_base::{Bytes, Labels, Limits, List, Memory, NodeId, Props, Steps};
 use pgs_graph::{GraphRead, Op, Txn};
-use pgs_store::{ApplyFault, CheckpointFault, RecoverFault, Store};
-use pgs_violation::{Rejection, Structural};
+use pgs_store::{ApplyFault, CheckpointFault, EvolveFault, RecoverFault, Store};
+use pgs_violation::{Rejection, Structural, Violation};
 use pgs_world::{MemWorld, World};
 use std::alloc::Global;
 use std::marker::Brand;
@@ -14,10 +15,11 @@ use std::sync::ledger::{Blank, Ledger};
 
 pub const SCHEMA: &str = "CREATE GRAPH TYPE g LOOSE {};";
 
-/// A call on a store: a transaction that adds nodes of these numbers, or a checkpoint.
+/// A call on a store: a transaction that adds nodes of these numbers, a checkpoint, or another schema.
 pub enum Call {
     Add(&'static [u64]),
     Checkpoint,
+    Evolve(&'static str),
 }
 
 /// The transaction that adds nodes of these numbers.
@@ -63,6 +65,22 @@ fn epoch_of(answer: &Result<u64, CheckpointFault>) -> u64 {
     }
 }
 
+/// 0 where the schema was taken, or for a refusal 1,000 times its number and the node that it tells.
+fn evolution_of(answer: &Result<(), EvolveFault>) -> u64 {
+    match answer {
+        Ok(()) => 0,
+        Err(EvolveFault::Memory) => 99_000,
+        Err(EvolveFault::DiskFault) => 4_000,
+        Err(EvolveFault::NeedsReopen) => 5_000,
+        Err(EvolveFault::OldFormat) => 41_000,
+        Err(EvolveFault::Schema(fault)) => u64::from(schema_number_of(fault)) * 1_000,
+        Err(EvolveFault::Violated(Violation::UntypedNode { node })) => {
+            node.0.saturating_add(25_000)
+        }
+        Err(EvolveFault::Violated(_)) => 97_000,
+    }
+}
+
 /// What a store answers to a transaction.
 fn applied<W: World, L: Ledger>(
     store: &mut Store,
@@ -86,6 +104,15 @@ fn renewed<W: World>(store: &mut Store, world: &mut W) -> u64
     epoch_of(&answer)
 }
 
+/// What a store answers to another schema.
+fn evolved<W: World>(store: &mut Store, world: &mut W, schema: &str) -> u64
+    requires { store.old.failed ≡ false → StandsOn store.old.guard store.old.journal (W.view world.old) }
+    ensures { store.new.failed ≡ false → StandsOn store.new.guard store.new.journal (W.view world.new) }
+{
+    let answer = store.evolve(world, schema.as_bytes());
+    evolution_of(&answer)
+}
+
 /// What a store answers to a call.
 fn answered<W: World, L: Ledger>(
     alloc: Global,
@@ -103,6 +130,7 @@ fn answered<W: World, L: Ledger>(
             Ok(applied(store, world, &txn, steps))
         }
         Call::Checkpoint => Ok(renewed(store, world)),
+        Call::Evolve(schema) => Ok(evolved(store, world, schema)),
     }
 }
 
@@ -159,11 +187,12 @@ pub fn answers(
     answers_by::<MemWorld, Brand>(alloc, limits, world, calls, Blank::new(1))
 }
 
-/// Ten times the epoch of a store and its commits.
+/// A million times the number of the schema's types, ten times the epoch of a store, and its commits.
 fn told(store: &Store) -> u64 {
-    store
-        .epoch()
-        .saturating_mul(10)
+    let types = store.compiled().resolved().guard.types.len() as u64;
+    types
+        .saturating_mul(1_000_000)
+        .saturating_add(store.epoch().saturating_mul(10))
         .saturating_add(store.commits())
 }
 
@@ -176,12 +205,12 @@ fn refusal_of(fault: &RecoverFault) -> u64 {
         RecoverFault::Foreign => 32_000,
         RecoverFault::BadRecord { number } => number.saturating_add(33_000),
         RecoverFault::BadHistory { number, .. } => number.saturating_add(34_000),
-        RecoverFault::Schema(_) => 10_000,
+        RecoverFault::Schema(fault) => u64::from(schema_number_of(fault)) * 1_000,
     }
 }
 
-/// What is recovered of two areas: ten times the epoch and the number of commits, or for a refusal 1,000 times its number and the
-/// number of the record.
+/// What is recovered of two areas: a million times the number of the schema's types, ten times the epoch, and the number of commits,
+/// or for a refusal 1,000 times its number and the number of the record.
 pub fn recovered(alloc: Global, a: Bytes, b: Bytes) -> Result<u64, Memory> {
     let mut world = MemWorld::new(alloc, a, b, 256, List::new(alloc))?;
     match Store::recover(alloc, Limits::standard(), &mut world) {
@@ -202,4 +231,18 @@ fn renewal_over<W: World>(alloc: Global, world: &mut W) -> u64 {
 pub fn renewal(alloc: Global, a: Bytes) -> Result<u64, Memory> {
     let mut world = MemWorld::new(alloc, a, List::new(alloc), 256, List::new(alloc))?;
     Ok(renewal_over(alloc, &mut world))
+}
+
+/// What is answered to another schema by the store that is recovered, or why there is none.
+fn evolution_over<W: World>(alloc: Global, world: &mut W, schema: &str) -> u64 {
+    match Store::recover(alloc, Limits::standard(), world) {
+        Ok(mut store) => evolved(&mut store, world, schema),
+        Err(fault) => refusal_of(&fault),
+    }
+}
+
+/// The same over an area and an empty one.
+pub fn evolution(alloc: Global, a: Bytes, schema: &str) -> Result<u64, Memory> {
+    let mut world = MemWorld::new(alloc, a, List::new(alloc), 256, List::new(alloc))?;
+    Ok(evolution_over(alloc, &mut world, schema))
 }

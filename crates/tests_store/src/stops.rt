@@ -1,4 +1,4 @@
-//! Each stop of a store that is loaded, takes a transaction and is checkpointed, with each leaving.
+//! Each stop of a store that is loaded, takes a transaction and is checkpointed or takes another schema, with each leaving.
 
 use crate::scenario::{Call, answers, recovered};
 use pgs_base::{Limits, List, Memory};
@@ -8,10 +8,10 @@ use std::test::Fail;
 
 const CALLS: &[Call] = &[Call::Add(&[1]), Call::Checkpoint];
 
-/// What is recovered once the world stopped after so many calls and left its bytes so.
-fn left_after(alloc: Global, calls: u64, how: Leave) -> Result<u64, Memory> {
+/// What is recovered once the world stopped after so many calls on it, made by these calls on the store, and left its bytes so.
+fn left_after(alloc: Global, on: &[Call], calls: u64, how: Leave) -> Result<u64, Memory> {
     let mut world = MemWorld::stopping(alloc, List::new(alloc), List::new(alloc), 512, calls)?;
-    answers(alloc, Limits::standard(), &mut world, CALLS)?;
+    answers(alloc, Limits::standard(), &mut world, on)?;
     let (a, b, _) = world.left(alloc, how)?;
     recovered(alloc, a, b)
 }
@@ -39,9 +39,9 @@ const STOPS: [Row; 7] = [
 ];
 
 /// Whether these states are recovered after so many calls, each with its leaving.
-fn leaves(alloc: Global, calls: u64, states: &[u64; 5]) -> Result<bool, Memory> {
+fn leaves(alloc: Global, on: &[Call], calls: u64, states: &[u64; 5]) -> Result<bool, Memory> {
     for (how, state) in WAYS.iter().zip(states) {
-        if left_after(alloc, calls, *how)? != *state {
+        if left_after(alloc, on, calls, *how)? != *state {
             return Ok(false);
         }
     }
@@ -49,9 +49,9 @@ fn leaves(alloc: Global, calls: u64, states: &[u64; 5]) -> Result<bool, Memory> 
 }
 
 /// The first number of calls of a row after which something else is recovered.
-fn wrong_stop(alloc: Global, row: &Row) -> Result<Option<u64>, Memory> {
+fn wrong_stop(alloc: Global, on: &[Call], row: &Row) -> Result<Option<u64>, Memory> {
     for calls in row.0..=row.1 {
-        if !leaves(alloc, calls, &row.2)? {
+        if !leaves(alloc, on, calls, &row.2)? {
             return Ok(Some(calls));
         }
     }
@@ -59,9 +59,9 @@ fn wrong_stop(alloc: Global, row: &Row) -> Result<Option<u64>, Memory> {
 }
 
 /// The first of all rows.
-fn first_wrong_stop(alloc: Global) -> Result<Option<u64>, Memory> {
-    for row in STOPS.iter() {
-        if let Some(calls) = wrong_stop(alloc, row)? {
+fn first_wrong_stop(alloc: Global, on: &[Call], rows: &[Row]) -> Result<Option<u64>, Memory> {
+    for row in rows {
+        if let Some(calls) = wrong_stop(alloc, on, row)? {
             return Ok(Some(calls));
         }
     }
@@ -70,7 +70,26 @@ fn first_wrong_stop(alloc: Global) -> Result<Option<u64>, Memory> {
 
 #[test]
 fn each_stop_leaves_the_state_before_or_after(rt: HostRuntime) -> Result<(), Fail> {
-    assert_eq!(rt; first_wrong_stop(rt.alloc())?, None);
+    assert_eq!(rt; first_wrong_stop(rt.alloc(), CALLS, &STOPS)?, None);
+    Ok(())
+}
+
+const SCHEMAS: &[Call] = &[
+    Call::Add(&[1]),
+    Call::Evolve("CREATE GRAPH TYPE g STRICT {(t)};"),
+];
+
+/// The store of the first schema after no commit and after one, and the store of the second after one.
+const SCHEMA_STOPS: [Row; 4] = [
+    (14, 16, [10; 5]),
+    (18, 20, [11; 5]),
+    (21, 21, [11, 1_000_011, 11, 1_000_011, 11]),
+    (22, 24, [1_000_011; 5]),
+];
+
+#[test]
+fn each_stop_leaves_the_schema_before_or_after(rt: HostRuntime) -> Result<(), Fail> {
+    assert_eq!(rt; first_wrong_stop(rt.alloc(), SCHEMAS, &SCHEMA_STOPS)?, None);
     Ok(())
 }
 
@@ -89,6 +108,6 @@ fn sizes(alloc: Global) -> Result<(usize, usize), Memory> {
 
 #[test]
 fn the_worked_store_has_its_bytes(rt: HostRuntime) -> Result<(), Fail> {
-    assert_eq!(rt; sizes(rt.alloc())?, (83, 102));
+    assert_eq!(rt; sizes(rt.alloc())?, (99, 118));
     Ok(())
 }

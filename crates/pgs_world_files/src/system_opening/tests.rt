@@ -50,10 +50,14 @@ fn a_new_store_goes_over_no_file_of_something_else(rt: HostRuntime) -> Result<()
         cause_over(&rt, b"1\n2\n", Access::Make)?,
         cause_over(&rt, b"1\n2\n", Access::Read)?,
         cause_over(&rt, b"#PGSGRD1", Access::Make)?,
+        cause_over(&rt, b"#PGSGRD2", Access::Make)?,
         cause_over(&rt, b"#", Access::Make)?,
         cause_over(&rt, b"\0\n", Access::Make)?,
     ];
-    assert_eq!(rt; seen, [Some(FileCause::Others), None, None, None, None]);
+    assert_eq!(rt;
+        seen,
+        [Some(FileCause::Others), None, None, None, None, None]
+    );
     Ok(())
 }
 

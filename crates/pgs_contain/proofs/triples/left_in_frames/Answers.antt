@@ -1,7 +1,11 @@
-use Rattle.std.proofs.Common.{◌∙◌}
+use Rattle.std.proofs.Common.{◌∙◌, sym}
 use Rattle.pgs_contain.specs.Threes.{region_in}
+use Rattle.pgs_contain.proofs.Holding.{covered_by_one}
 use Rattle.pgs_contain.proofs.Whole.{leaves_moved}
 use Rattle.pgs_contain.proofs.triples.left_in_frames.Goals as goal
+
+pub returns-then-one_has_frames : goal.returns-then-one_has_frames
+returns-then-one_has_frames c = covered_by_one c.args.frames.now c.args.others.now (sym c.one_has_frames.ensures ∙ c.if-one_has_frames.true)
 
 pub returns : goal.returns
 returns c =

@@ -2,8 +2,8 @@ use Rattle.std.proofs.Common.{sym, ◌∙◌, arith, rules}
 use Rattle.pgs_journal.proofs.Heads.{front_of_store}
 use Rattle.pgs_journal.proofs.head.head_of.Goals as goal
 
-pub returns-in-Some-clause-head : goal.returns-in-Some-clause-head
-returns-in-Some-clause-head c = search rules
+pub returns-clause-head : goal.returns-clause-head
+returns-clause-head c = search rules
 
-pub returns-in-Some-clause-begins : goal.returns-in-Some-clause-begins
-returns-in-Some-clause-begins c = λ epoch is. front_of_store c.args.front.now epoch c.requires (λ i. omega (arith, c.type_inv.front i)) (sym (returns-in-Some-clause-head c) ∙ is)
+pub returns-clause-begins : goal.returns-clause-begins
+returns-clause-begins c = λ format epoch is. front_of_store c.args.front.now format epoch c.requires (λ i. omega (arith, c.type_inv.front i)) (sym (returns-clause-head c) ∙ is)

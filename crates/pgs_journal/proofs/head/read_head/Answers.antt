@@ -1,6 +1,5 @@
-use Rattle.std.proofs.Common.{◌≡◌, List, ℕ, ◌∙◌}
+use Rattle.std.proofs.Common.{◌≡◌, ◌∙◌}
 use Rattle.pgs_journal.specs.Area.{head_in, head_of}
-use Rattle.pgs_journal.specs.Format.{First}
 use Rattle.pgs_journal.proofs.Heads.{head_decided}
 use Rattle.pgs_journal.proofs.Seeing.{decided_shown}
 use Rattle.pgs_journal.proofs.head.read_head.Goals as goal
@@ -12,5 +11,5 @@ returns-clause-head g c =
     let read = c.in_ok-front.ensures in
     λ told.
     c.head.ensures.head
-    ∙ decided_shown view c.args.area front.len (λ image. head_in First front.len front.bytes ≡ head_of First image) read.len
+    ∙ decided_shown view c.args.area front.len (λ image. head_in front.len front.bytes ≡ head_of image) read.len
     (head_decided view c.args.area front.len front.bytes read.size read.bytes) told

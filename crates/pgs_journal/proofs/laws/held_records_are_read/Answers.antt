@@ -8,5 +8,5 @@ below : (epoch : ℕ) → IsTrue (is_epoch epoch) → epoch ≤ 16777215
 below epoch numbered = grind (arith, nat_tests)
 
 pub returns : goal.returns
-returns c = λ epoch end payloads image holds small some fit.
-    holds-read epoch payloads end image holds (omega (arith, small)) (omega (arith, below epoch holds.numbered)) some fit
+returns c = λ epoch end next payloads image holds small some fit.
+    holds-read next epoch payloads end image holds (omega (arith, small)) (omega (arith, below epoch holds.numbered)) some fit

@@ -1,8 +1,8 @@
-use Rattle.std.proofs.Common.{Some, refl, ap, ⊎_elim, Option, List, ℕ}
+use Rattle.std.proofs.Common.{Some, refl, ap, ⊎_elim, Option, List, [], ℕ}
 use Rattle.pgs_run.specs.Runs.{SourceState}
 use Rattle.pgs_run_base.proofs.Images.{images_areas, settled_images}
-use Rattle.pgs_run_words.specs.declared.command.Command.TheVariants.{Try, Validate, Load, Apply, Recover, Explain, Gen, Checkpoint}
-use Rattle.pgs_run.proofs.RunFacts.{runs_as, cause_of, takes_of, runs_alone, runs_reading, unread_answer, unread_gen}
+use Rattle.pgs_run_words.specs.declared.command.Command.TheVariants.{Try, Validate, Load, Apply, Recover, Explain, Gen, Checkpoint, Contain, Evolve}
+use Rattle.pgs_run.proofs.RunFacts.{runs_as, cause_of, takes_of, runs_alone, runs_reading, runs_by, unread_answer, unread_gen}
 use Rattle.pgs_run.proofs.commands.run_command.Goals as goal
 
 abbrev state_of : Option (List ℕ) → ℕ → SourceState
@@ -11,7 +11,7 @@ state_of left faults = record { left = left; faults = faults }
 pub returns-in-Try : goal.returns-in-Try
 returns-in-Try g c =
     runs_as (Some Try) (Some c.args.command) c.args.budget _ _ c.run_judging.result (ap Some c.in-Try.is)
-    (runs_reading Try c.args.budget _ _ c.run_judging.result refl (λ input known is. c.run_judging.ensures.ends input is)
+    (runs_reading Try c.args.budget _ _ c.run_judging.result [] tt refl (λ input known is. c.run_judging.ensures.ends input is)
     (λ input rest is left_is. takes_of _ _ input rest c.args.budget _ c.run_judging.result _ left_is (c.run_judging.ensures.ends input is))
     c.run_judging.ensures.read_to_end c.run_judging.ensures.cause (λ vain. absurd vain) c.run_judging.ensures.areas (λ settled no. settled_images _ _ settled (images_areas _ _ c.run_judging.ensures.areas)) refl)
 
@@ -19,7 +19,7 @@ pub returns-in-Validate : goal.returns-in-Validate
 returns-in-Validate g c =
     let r = c.run_judging-in-Validate in
     runs_as (Some Validate) (Some c.args.command) c.args.budget _ _ r.result (ap Some c.in-Validate.is)
-    (runs_reading Validate c.args.budget _ _ r.result refl (λ input known is. r.ensures.ends input is)
+    (runs_reading Validate c.args.budget _ _ r.result [] tt refl (λ input known is. r.ensures.ends input is)
     (λ input rest is left_is. takes_of _ _ input rest c.args.budget _ r.result _ left_is (r.ensures.ends input is))
     r.ensures.read_to_end r.ensures.cause (λ vain. absurd vain) r.ensures.areas (λ settled no. settled_images _ _ settled (images_areas _ _ r.ensures.areas)) refl)
 
@@ -27,7 +27,7 @@ pub returns-in-Load : goal.returns-in-Load
 returns-in-Load g c =
     let r = c.run_load in
     runs_as (Some Load) (Some c.args.command) c.args.budget _ _ r.result (ap Some c.in-Load.is)
-    (runs_reading Load c.args.budget _ _ r.result refl (λ input known is. r.ensures.ends input is (λ schema good. known.bytes (schema, good)))
+    (runs_reading Load c.args.budget _ _ r.result [] tt refl (λ input known is. r.ensures.ends input is (λ schema good. known.bytes (schema, good)))
     r.ensures.takes r.ensures.read_to_end r.ensures.cause (λ vain. absurd vain)
     (record {
       passes = r.ensures.passes;
@@ -69,11 +69,29 @@ returns-in-Checkpoint g c =
     (cause_of Checkpoint _ _ r.result (λ long. absurd ((unread_answer r.result r.ensures.answer).1 long)) (r.ensures.cause (g.S.Source.faults c.args.source.now)))
     (record { passes = r.ensures.passes; stops = r.ensures.renews; unsaved = r.ensures.unsaved; rests = r.ensures.rests }) r.ensures.rests.settled refl)
 
+pub returns-in-Contain : goal.returns-in-Contain
+returns-in-Contain g c =
+    let r = c.run_contain in
+    let by = runs_by _ (g.S.Source.left c.args.source.now) c.args.budget _ r.result _ r.ensures.ends in
+    runs_as (Some Contain) (Some c.args.command) c.args.budget _ _ r.result (ap Some c.in-Contain.is)
+    (runs_reading Contain c.args.budget _ _ r.result by.answers by.right refl (λ input known is. by.ends input is)
+    (λ input rest is left_is. takes_of _ _ input rest c.args.budget _ r.result _ left_is (by.ends input is))
+    r.ensures.read_to_end r.ensures.cause (λ vain. absurd vain) r.ensures.areas (λ settled no. settled_images _ _ settled (images_areas _ _ r.ensures.areas)) refl)
+
+pub returns-in-Evolve : goal.returns-in-Evolve
+returns-in-Evolve g c =
+    let r = c.run_evolve in
+    runs_as (Some Evolve) (Some c.args.command) c.args.budget _ _ r.result (ap Some c.in-Evolve.is)
+    (runs_reading Evolve c.args.budget _ _ r.result [] tt refl (λ input known is. r.ensures.ends (known.bytes refl) input is)
+    r.ensures.takes r.ensures.read_to_end r.ensures.cause
+    (λ vain. ap (λ source. state_of (g.S.Source.left source) (g.S.Source.faults source)) (r.ensures.unread vain.0 vain.1))
+    r.ensures.leaves r.ensures.settled refl)
+
 pub returns-in-Apply : goal.returns-in-Apply
 returns-in-Apply g c =
     let r = c.run_apply in
     runs_as (Some Apply) (Some c.args.command) c.args.budget _ _ r.result (ap Some c.in-Apply.is)
-    (runs_reading Apply c.args.budget _ _ r.result refl (λ input known is. r.ensures.ends (known.bytes refl) input is)
+    (runs_reading Apply c.args.budget _ _ r.result [] tt refl (λ input known is. r.ensures.ends (known.bytes refl) input is)
     r.ensures.takes r.ensures.read_to_end r.ensures.cause
     (λ vain. ap (λ source. state_of (g.S.Source.left source) (g.S.Source.faults source)) (⊎_elim (λ refused. r.ensures.refused refused) (λ none. r.ensures.unread none.0 none.1) vain))
     (record { passes = r.ensures.passes; stops = r.ensures.stops; grows = r.ensures.grows; unsaved = r.ensures.unsaved; beside = r.ensures.beside })

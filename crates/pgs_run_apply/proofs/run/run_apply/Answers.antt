@@ -13,7 +13,8 @@ use Rattle.pgs_run_apply.specs.Told.{told_input, told_apply}
 use Rattle.pgs_run_apply.proofs.Beginning.{grown_kept}
 use Rattle.pgs_run_apply.proofs.Running.{running_ends, running_cause, running_passes, running_beside, running_settled, running_grows, running_decided, running_stops, running_unrefused, opened_saves, counted, first_room, first_holds}
 use Rattle.pgs_run_apply.proofs.RunEnds.{apply_read, apply_takes}
-use Rattle.pgs_run_apply.proofs.Unopened.{unopened_ends, unopened_takes, unopened_read, unopened_cause, unopened_decided, unopened_stops}
+use Rattle.pgs_run_saved.proofs.Unread.{unopened_ends, unopened_takes, unopened_read, unopened_cause}
+use Rattle.pgs_run_apply.proofs.Unopened.{unopened_decided, unopened_stops}
 use Rattle.pgs_run_apply.proofs.run.run_apply.Goals as goal
 
 -- ---- no store was opened

@@ -11,7 +11,8 @@ use Rattle.pgs_run_base.proofs.Images.{area_of_images, area_on, images_on, image
 use Rattle.pgs_run_load.specs.Loading.{IsLoading}
 use Rattle.pgs_run_load.specs.Told.{told_text}
 use Rattle.pgs_run_load.proofs.Stops.{loading_start}
-use Rattle.pgs_run_load.proofs.LoadEnds.{unmade, whole_at, ends_loaded, ends_without_text, cause_loaded, found_back, found_quiet, collects_at, stops_loaded}
+use Rattle.pgs_run_base.proofs.WholeInput.{cause_with_text, whole_at}
+use Rattle.pgs_run_load.proofs.LoadEnds.{unmade, ends_loaded, ends_unloaded, found_back, found_quiet, collects_at, stops_loaded}
 use Rattle.pgs_run_load.proofs.run.run_load.Goals as goal
 
 pub returns-in-Ok-clause-ends : goal.returns-in-Ok-clause-ends
@@ -30,7 +31,7 @@ returns-in-Ok-clause-ends g c = λ input is told.
 pub returns-in-Ok-clause-cause : goal.returns-in-Ok-clause-cause
 returns-in-Ok-clause-cause g c =
     let reads = g.S.Source.faults c.run_lines-stop.new.source in
-    cause_loaded _ (faults_of reads (g.W.World.view c.run_lines-stop.new.world)) _ c.run_lines-stop.result c.in-Ok.text c.load_text.result (sym c.text_of.ensures ∙ c.in-Ok.is) c.run_lines-stop.ensures.cause (c.load_text.ensures.cause reads)
+    cause_with_text _ (faults_of reads (g.W.World.view c.run_lines-stop.new.world)) _ c.run_lines-stop.result c.in-Ok.text c.load_text.result (sym c.text_of.ensures ∙ c.in-Ok.is) c.run_lines-stop.ensures.cause (c.load_text.ensures.cause reads)
 
 pub returns-in-Ok-clause-loads : goal.returns-in-Ok-clause-loads
 returns-in-Ok-clause-loads g c = λ input is free tells settled.
@@ -43,7 +44,7 @@ returns-in-Ok-clause-loads g c = λ input is free tells settled.
 
 pub returns-clause-ends : goal.returns-clause-ends
 returns-clause-ends g c = λ input is told.
-    ends_without_text input (areas_of (g.W.World.view c.args.world.now)) c.args.budget _ _ c.new-collecting.result.part c.run_lines-stop.result c.in-Err.status (shown_of (g.W.World.view c.args.world.now)) (shown_of (g.W.World.view c.run_lines-stop.new.world)) c.new-collecting.ensures is (sym c.text_of.ensures ∙ c.in-Err.is) c.run_lines-stop.ensures.by c.run_lines-stop.ensures.may (c.run_lines-stop.ensures.ends input is)
+    ends_unloaded input (areas_of (g.W.World.view c.args.world.now)) c.args.budget _ _ c.new-collecting.result.part c.run_lines-stop.result c.in-Err.status (shown_of (g.W.World.view c.args.world.now)) (shown_of (g.W.World.view c.run_lines-stop.new.world)) c.new-collecting.ensures is (sym c.text_of.ensures ∙ c.in-Err.is) c.run_lines-stop.ensures.by c.run_lines-stop.ensures.may (c.run_lines-stop.ensures.ends input is)
 
 pub returns-clause-loads : goal.returns-clause-loads
 returns-clause-loads g c = λ input is free tells settled.
@@ -57,7 +58,7 @@ returns-in-Ok-clause-takes g c = λ input rest is left_is. record {
 
 pub returns-clause-takes : goal.returns-clause-takes
 returns-clause-takes g c = λ input rest is left_is.
-    let ends = ends_without_text input (areas_of (g.W.World.view c.args.world.now)) c.args.budget _ _ c.new-collecting.result.part c.run_lines-stop.result c.in-Err.status (shown_of (g.W.World.view c.args.world.now)) (shown_of (g.W.World.view c.run_lines-stop.new.world)) c.new-collecting.ensures is (sym c.text_of.ensures ∙ c.in-Err.is) c.run_lines-stop.ensures.by c.run_lines-stop.ensures.may (c.run_lines-stop.ensures.ends input is) in
+    let ends = ends_unloaded input (areas_of (g.W.World.view c.args.world.now)) c.args.budget _ _ c.new-collecting.result.part c.run_lines-stop.result c.in-Err.status (shown_of (g.W.World.view c.args.world.now)) (shown_of (g.W.World.view c.run_lines-stop.new.world)) c.new-collecting.ensures is (sym c.text_of.ensures ∙ c.in-Err.is) c.run_lines-stop.ensures.by c.run_lines-stop.ensures.may (c.run_lines-stop.ensures.ends input is) in
     record { within = ends.within rest left_is; too_long = ends.too_long rest left_is }
 
 -- ---- what is left, and what there is at the end

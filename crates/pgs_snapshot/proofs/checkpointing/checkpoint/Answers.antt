@@ -1,5 +1,5 @@
 use Rattle.std.proofs.Common.{List, ℕ, Result, Ok, Err, IfOk, OnOk, sym, subst, ◌∙◌}
-use Rattle.pgs_journal.specs.Format.{First, Holds}
+use Rattle.pgs_journal.specs.Format.{Holds}
 use Rattle.pgs_snapshot.proofs.checkpointing.checkpoint.Goals as goal
 
 both_of : {T E : Type 0} (r : Result T E) (P Q : T → Type 0) (S : Type 0) → ((x : T) → P x → S → Q x) → IfOk r P → OnOk r S → IfOk r Q
@@ -10,6 +10,6 @@ pub returns-clause-every_image : goal.returns-clause-every_image
 returns-clause-every_image g c = λ payloads frames.
     both_of c.create.result _ _ _
     (λ journal holds synced honest told triple left.
-    subst (λ (image : List ℕ). Holds First c.args.epoch payloads journal.end image)
+    subst (λ (image : List ℕ). Holds journal.next c.args.epoch payloads journal.end image)
     (sym (synced (c.create.ensures.passes.honest ∙ honest) (c.create.ensures.passes.tells_bytes ∙ told) triple left)) (holds told))
     (c.create.ensures.holds payloads frames) c.create.ensures.synced

@@ -1,4 +1,5 @@
 use Rattle.std.proofs.Common.{◌≡◌, IsTrue, Some, List, ℕ, sym, ◌∙◌, ap, subst}
+use Rattle.std.specs.declared.option.Option.{Option}
 use Rattle.std.proofs.lemmas.Result.{IfOk-weaker, IfErr-weaker, err_from_is_err_and}
 use Rattle.pgs_world.specs.declared.area.Area.{Area}
 use Rattle.pgs_world.specs.declared.area.Area.TheVariants.{A, B}
@@ -8,7 +9,7 @@ use Rattle.pgs_world.proofs.Moments.{quiet_on}
 use Rattle.pgs_journal.specs.declared.area_state.AreaState.{AreaState}
 use Rattle.pgs_journal.specs.declared.head.Head.{Head}
 use Rattle.pgs_journal.specs.Area.{area_state, head_of, HoldsStore}
-use Rattle.pgs_journal.specs.Format.{First, Holds}
+use Rattle.pgs_journal.specs.Format.{Holds}
 use Rattle.pgs_snapshot.specs.Choice.{choice_of, chosen, leading, taken}
 use Rattle.pgs_snapshot.specs.Standing.{Refuses}
 use Rattle.pgs_snapshot.proofs.Choices.{taken_area}
@@ -16,23 +17,23 @@ use Rattle.pgs_snapshot.proofs.Heads.{AreHeads, leading_choice, headless_choice}
 use Rattle.pgs_snapshot.proofs.choosing.read_chosen.Goals as goal
 
 -- heads that were read one after the other
-heads_read : (first one : View) → IsQuiet first one → (a b : Head) → (IsTrue first.tells_bytes → a ≡ head_of First (part A first.shown)) → (IsTrue one.tells_bytes → b ≡ head_of First (part B one.shown)) → IsTrue first.tells_bytes
+heads_read : (first one : View) → IsQuiet first one → (a b : Head) → (IsTrue first.tells_bytes → a ≡ head_of (part A first.shown)) → (IsTrue one.tells_bytes → b ≡ head_of (part B one.shown)) → IsTrue first.tells_bytes
     → AreHeads a b first.shown
 heads_read first one q a b of_a of_b told =
-    record { of_a = of_a told; of_b = of_b (q.passes.tells_bytes ∙ told) ∙ ap (λ (t : Triple). head_of First t.b) q.shown }
+    record { of_a = of_a told; of_b = of_b (q.passes.tells_bytes ∙ told) ∙ ap (λ (t : Triple). head_of t.b) q.shown }
 
 -- and the area that was scanned behind them
 scanned : (first two : View) → IsQuiet first two → (a b : Head) (area : Area) (state : AreaState) → (IsTrue first.tells_bytes → AreHeads a b first.shown) → leading a b ≡ Some area
-    → (IsTrue two.tells_bytes → state ≡ area_state First (part area two.shown)) → IsTrue first.tells_bytes → choice_of first.shown.a first.shown.b ≡ taken area state
+    → (IsTrue two.tells_bytes → state ≡ area_state (part area two.shown)) → IsTrue first.tells_bytes → choice_of first.shown.a first.shown.b ≡ taken area state
 scanned first two q a b area state are leads is told =
     leading_choice a b first.shown (are told) area leads
-    ∙ ap (taken area) (sym (is (q.passes.tells_bytes ∙ told) ∙ ap (λ (t : Triple). area_state First (part area t)) q.shown))
+    ∙ ap (taken area) (sym (is (q.passes.tells_bytes ∙ told) ∙ ap (λ (t : Triple). area_state (part area t)) q.shown))
 
-holds_taken : (area at : Area) (state : AreaState) (epoch end : ℕ) (payloads : List (List ℕ)) (triple : Triple) → taken area state ≡ chosen at epoch end payloads
-    → HoldsStore First state (part area triple) → Holds First epoch payloads end (part at triple)
-holds_taken area at state epoch end payloads triple is holds =
-    let found = taken_area area at state epoch end payloads is in
-    subst (λ (x : Area). Holds First epoch payloads end (part x triple)) found.0 (subst (λ (s : AreaState). HoldsStore First s (part area triple)) found.1 holds)
+holds_taken : (area at : Area) (state : AreaState) (epoch end : ℕ) (next : Option ℕ) (payloads : List (List ℕ)) (triple : Triple) → taken area state ≡ chosen at epoch end next payloads
+    → HoldsStore state (part area triple) → Holds next epoch payloads end (part at triple)
+holds_taken area at state epoch end next payloads triple is holds =
+    let found = taken_area area at state epoch end next payloads is in
+    subst (λ (x : Area). Holds next epoch payloads end (part x triple)) found.0 (subst (λ (s : AreaState). HoldsStore s (part area triple)) found.1 holds)
 
 pub returns-in_err-b-clause-quiet : goal.returns-in_err-b-clause-quiet
 returns-in_err-b-clause-quiet g c =
@@ -102,9 +103,9 @@ returns-clause-stands g c =
     (λ it is now.
     record {
       choice =
-          subst (λ (t : Triple). choice_of t.a t.b ≡ chosen it.area it.epoch it.end it.payloads) (sym all.shown)
+          subst (λ (t : Triple). choice_of t.a t.b ≡ chosen it.area it.epoch it.end it.next it.payloads) (sym all.shown)
           (scanned first two q c.in_ok-a.a c.in_ok-b.b c.in_ok-area.area c.in_ok-state.state
           (heads_read first one c.read_head.ensures.quiet c.in_ok-a.a c.in_ok-b.b c.in_ok-a.ensures.head c.in_ok-b.ensures.head) c.in_ok-area.ensures.leads c.in_ok-state.ensures.state (sym all.passes.tells_bytes ∙ now)
           ∙ is);
-      holds = holds_taken c.in_ok-area.area it.area c.in_ok-state.state it.epoch it.end it.payloads three.shown is (c.in_ok-state.ensures.holds now);
+      holds = holds_taken c.in_ok-area.area it.area c.in_ok-state.state it.epoch it.end it.next it.payloads three.shown is (c.in_ok-state.ensures.holds now);
     }) c.store_in.ensures.chosen

@@ -8,4 +8,4 @@ returns-clause-choice c = λ limits a b. refl
 
 pub returns-clause-store : goal.returns-clause-store
 unfolding saved
-returns-clause-store c = λ limits area epoch end payloads triple has. ap (saved_by limits) has.choice
+returns-clause-store c = λ limits area epoch end next payloads triple has. ap (saved_by limits) has.choice

@@ -7,7 +7,7 @@ use Rattle.pgs_journal.proofs.records.RecordReader.read_all.Given as goal
 abbrev pub invariant-loop-gate : goal.invariant-loop-gate
 invariant-loop-gate g l =
     record {
-      at : IsAt (g.W.World.view l.fn.world) l.self.area l.self.len l.self.epoch l.at l.payloads.items l.gate;
+      at : IsAt (g.W.World.view l.fn.world) l.self.area l.self.len l.self.format l.self.epoch l.at l.payloads.items l.gate;
       quiet : IsQuiet (g.W.World.view l.fn.world) (g.W.World.view l.world);
       image : ShowsOne (g.W.World.view l.world);
       faults : (g.W.World.view l.world).area_faults ≡ (g.W.World.view l.fn.world).area_faults;

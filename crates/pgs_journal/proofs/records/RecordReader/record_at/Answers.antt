@@ -1,13 +1,14 @@
-use Rattle.std.proofs.Common.{◌+◌, ◌++◌, ◌∷◌, [], sym, ◌∙◌, ap}
+use Rattle.std.proofs.Common.{◌+◌, ◌++◌, ◌∷◌, [], sym, ◌∙◌, ap, subst, arith}
 use Rattle.pgs_journal.specs.Area.{is_fit}
+use Rattle.pgs_journal.specs.Seen.{Stand}
 use Rattle.pgs_journal.proofs.Seeing.{stand_back}
 use Rattle.pgs_journal.proofs.Stepping.{torn_unsound, record_read, unfit_unsound}
 use Rattle.pgs_journal.proofs.records.RecordReader.record_at.Goals as goal
 
 pub returns-in_default-clause-record : goal.returns-in_default-clause-record
 returns-in_default-clause-record g c =
-    torn_unsound (g.W.World.view c.args.world.now) c.args.self.now.area c.args.self.now.len c.args.at c.args.self.now.epoch c.args.number
-    (rw c.in_default.is at c.in_ok-size.ensures.size)
+    let self = c.args.self.now in
+    torn_unsound (g.W.World.view c.args.world.now) self.area self.len c.args.at self.format c.args.number self.epoch (rw c.in_default.is at c.in_ok-size.ensures.size)
 
 pub returns-then-branch-clause-record : goal.returns-then-branch-clause-record
 returns-then-branch-clause-record g c =
@@ -18,9 +19,10 @@ returns-then-branch-clause-record g c =
     let gate = c.in_ok-payload.gate in
     let read = c.in_ok-payload.ensures in
     let size = rw c.in-Some.is at c.in_ok-size.ensures.size in
-    record_read view self.area self.len c.args.at c.args.number c.in-Some.size payload gate read.size size.0 size.1
-    (stand_back view mid self.area (c.args.at + 8) (payload ++ gate ∷ []) c.size_at.ensures.quiet read.stand) self.epoch
-    (ap (is_fit self.epoch c.args.number) (sym c.as_slice.ensures) ∙ sym c.in_ok-fits.ensures ∙ c.if-branch.true)
+    record_read view self.area self.len c.args.at self.format c.args.number c.in-Some.size payload gate read.size size.0 size.1
+    (subst (λ n. Stand view self.area (c.args.at + n) (payload ++ gate ∷ [])) c.field_bytes.ensures
+    (stand_back view mid self.area (c.args.at + c.field_bytes.result) (payload ++ gate ∷ []) c.size_at.ensures.quiet read.stand)) self.epoch
+    (ap (is_fit self.format self.epoch c.args.number) (sym c.as_slice.ensures) ∙ sym c.in_ok-fits.ensures ∙ c.if-branch.true)
 
 pub returns-else-branch-clause-record : goal.returns-else-branch-clause-record
 returns-else-branch-clause-record g c =
@@ -31,6 +33,7 @@ returns-else-branch-clause-record g c =
     let gate = c.in_ok-payload.gate in
     let read = c.in_ok-payload.ensures in
     let size = rw c.in-Some.is at c.in_ok-size.ensures.size in
-    unfit_unsound view self.area self.len c.args.at c.args.number c.in-Some.size payload gate read.size size.0 size.1
-    (stand_back view mid self.area (c.args.at + 8) (payload ++ gate ∷ []) c.size_at.ensures.quiet read.stand) self.epoch c.requires.limit
-    (ap (is_fit self.epoch c.args.number) (sym c.as_slice.ensures) ∙ sym c.in_ok-fits.ensures ∙ c.if-branch.false)
+    unfit_unsound view self.area self.len c.args.at self.format c.args.number c.in-Some.size payload gate read.size size.0 size.1
+    (subst (λ n. Stand view self.area (c.args.at + n) (payload ++ gate ∷ [])) c.field_bytes.ensures
+    (stand_back view mid self.area (c.args.at + c.field_bytes.result) (payload ++ gate ∷ []) c.size_at.ensures.quiet read.stand)) self.epoch
+    (omega arith) c.requires.limit (ap (is_fit self.format self.epoch c.args.number) (sym c.as_slice.ensures) ∙ sym c.in_ok-fits.ensures ∙ c.if-branch.false)

@@ -1,6 +1,6 @@
-use Rattle.std.proofs.Common.{◌≡◌, ◌+◌, false, IsTrue, length, refl, sym, ◌∙◌, ap, subst, arith}
+use Rattle.std.proofs.Common.{◌≡◌, ◌+◌, ℕ, false, IsTrue, Option, Some, length, refl, sym, ◌∙◌, ap, subst, arith}
 use Rattle.pgs_journal.specs.declared.journal.Journal.{Journal}
-use Rattle.pgs_journal.specs.Format.{First, Holds, IsFrames}
+use Rattle.pgs_journal.specs.Format.{Holds, IsFrames}
 use Rattle.pgs_journal.specs.Stops.{Turns, Creates}
 use Rattle.pgs_store.specs.Checkpoints.{IsRenewed}
 use Rattle.pgs_store.specs.Stored.{StoreState, StandsOn, IsSavedBy, IsRenewedIn, next_journal, renewed}
@@ -23,15 +23,18 @@ returns-in-Ok-clause-answer g c =
     let vec = c.in_ok-first.first in
     let old = g.W.World.view c.args.world.now in
     let new = g.W.World.view c.checkpoint.new.world in
-    let frames : IsFrames First (renewed guard) first = rw c.as_slice.ensures.value c.in_ok-first.ensures.frames in
+    let frames : IsFrames (renewed guard) 3 first = rw c.as_slice.ensures.value c.in_ok-first.ensures.frames in
     let few = few_before journal.epoch journal.end guard.commits c.self.invariant.epoch c.self.invariant.end c.self.invariant.most in
     let stands = subst (λ (s : StoreState). s.failed ≡ false → StandsOn s.guard s.journal old) (sym c.self.view_is) c.requires.stands c.if-self.false in
     let end = c.in-Ok.journal.end in
     let is = c.in-Ok.ensures.journal in
     let after : c.in-Ok.journal ≡ next_journal journal end =
-    same_journal (next_journal journal end) c.in-Ok.journal (ap (λ (j : Journal). j.area) is ∙ c.other.ensures) (ap (λ (j : Journal). j.epoch) is) end refl in
+    same_journal (next_journal journal end) c.in-Ok.journal (ap (λ (j : Journal). j.area) is ∙ c.other.ensures) (ap (λ (j : Journal). j.epoch) is) refl
+    (ap (λ (j : Journal). j.next) is) in
     let holds = λ (told : IsTrue old.tells_bytes).
-    subst (λ (a : Area). Holds First (journal.epoch + 1) (renewed guard) end (part a new.shown)) c.other.ensures (c.in-Ok.ensures.holds (renewed guard) frames told) in
+    subst (λ (a : Area). Holds (Some 3) (journal.epoch + 1) (renewed guard) end (part a new.shown)) c.other.ensures
+    (subst (λ (n : Option ℕ). Holds n (journal.epoch + 1) (renewed guard) end (part c.other.result new.shown)) (ap (λ (j : Journal). j.next) is)
+    (c.in-Ok.ensures.holds (renewed guard) frames told)) in
     let same = subst (λ (a : Area). IsSameBeside a old.shown new.shown) c.other.ensures c.checkpoint.ensures.beside in
     subst (λ (s : StoreState). (s.failed ≡ false) × (c.self.inside.failed ≡ false) × (guard ≡ s.guard) × IsRenewed s.guard s.journal c.in-Ok.journal (journal.epoch + 1) new) c.self.view_is (
       c.if-self.false,
@@ -59,14 +62,14 @@ returns-in-Ok-clause-stops g c =
     let vec = c.in_ok-first.first in
     let old = g.W.World.view c.args.world.now in
     let new = g.W.World.view c.checkpoint.new.world in
-    let frames : IsFrames First (renewed guard) first = rw c.as_slice.ensures.value c.in_ok-first.ensures.frames in
+    let frames : IsFrames (renewed guard) 3 first = rw c.as_slice.ensures.value c.in_ok-first.ensures.frames in
     let few = few_before journal.epoch journal.end guard.commits c.self.invariant.epoch c.self.invariant.end c.self.invariant.most in
     let stands = subst (λ (s : StoreState). s.failed ≡ false → StandsOn s.guard s.journal old) (sym c.self.view_is) c.requires.stands c.if-self.false in
     subst (λ (s : StoreState). s.failed ≡ false → IsTrue old.honest → IsTrue old.tells_bytes → EachSince (IsRenewedIn s.guard s.journal) old new) c.self.view_is
     (λ whole honest told.
     stops_renewed guard journal (16 + length first) c.facts.ensures.schema c.facts.ensures.guarded c.in_ok-first.ensures.schema c.in_ok-first.ensures.snapshot few
     (small_first first vec.items vec.len vec.cap c.as_slice.ensures.value vec.ok.0 vec.ok.1 vec.small) old new stands honest told
-    (subst (λ (a : Area). IsTrue old.tells_bytes → IsSynced a old → StopsBy (Turns a (Creates First (journal.epoch + 1) (renewed guard) (16 + length first))) old new) c.other.ensures
+    (subst (λ (a : Area). IsTrue old.tells_bytes → IsSynced a old → StopsBy (Turns a (Creates (journal.epoch + 1) (renewed guard) (16 + length first))) old new) c.other.ensures
     (c.checkpoint.ensures.stops (renewed guard) frames)))
 
 pub returns-clause-stops : goal.returns-clause-stops
@@ -77,12 +80,12 @@ returns-clause-stops g c =
     let vec = c.in_ok-first.first in
     let old = g.W.World.view c.args.world.now in
     let new = g.W.World.view c.checkpoint.new.world in
-    let frames : IsFrames First (renewed guard) first = rw c.as_slice.ensures.value c.in_ok-first.ensures.frames in
+    let frames : IsFrames (renewed guard) 3 first = rw c.as_slice.ensures.value c.in_ok-first.ensures.frames in
     let few = few_before journal.epoch journal.end guard.commits c.self.invariant.epoch c.self.invariant.end c.self.invariant.most in
     let stands = subst (λ (s : StoreState). s.failed ≡ false → StandsOn s.guard s.journal old) (sym c.self.view_is) c.requires.stands c.if-self.false in
     subst (λ (s : StoreState). s.failed ≡ false → IsTrue old.honest → IsTrue old.tells_bytes → EachSince (IsRenewedIn s.guard s.journal) old new) c.self.view_is
     (λ whole honest told.
     stops_renewed guard journal (16 + length first) c.facts.ensures.schema c.facts.ensures.guarded c.in_ok-first.ensures.schema c.in_ok-first.ensures.snapshot few
     (small_first first vec.items vec.len vec.cap c.as_slice.ensures.value vec.ok.0 vec.ok.1 vec.small) old new stands honest told
-    (subst (λ (a : Area). IsTrue old.tells_bytes → IsSynced a old → StopsBy (Turns a (Creates First (journal.epoch + 1) (renewed guard) (16 + length first))) old new) c.other.ensures
+    (subst (λ (a : Area). IsTrue old.tells_bytes → IsSynced a old → StopsBy (Turns a (Creates (journal.epoch + 1) (renewed guard) (16 + length first))) old new) c.other.ensures
     (c.checkpoint.ensures.stops (renewed guard) frames)))

@@ -1,9 +1,10 @@
-use Rattle.std.proofs.Common.{◌≡◌, ◌+◌, ◌∷◌, [], length, refl, sym, ap, subst, arith}
+use Rattle.std.proofs.Common.{◌≡◌, ◌+◌, ◌∷◌, [], ℕ, List, Option, Some, length, refl, sym, ap, subst, arith}
 use Rattle.std.proofs.lemmas.Result.{err_from_is_err_and}
 use Rattle.pgs_codec.specs.declared.command.Command.TheVariants.{Schema as SchemaCommand}
 use Rattle.pgs_codec.specs.Payload.{payload_of}
+use Rattle.pgs_codec.specs.Reading.{decoded}
 use Rattle.pgs_journal.specs.declared.journal.Journal.{Journal}
-use Rattle.pgs_journal.specs.Format.{First, IsFrames}
+use Rattle.pgs_journal.specs.Format.{Holds, IsFrames}
 use Rattle.pgs_store.specs.State.{GuardState}
 use Rattle.pgs_store.specs.Stored.{StandsOn, opened, first_journal}
 use Rattle.pgs_world.specs.declared.area.Area.TheVariants.{A}
@@ -29,7 +30,7 @@ returns-in_err-refuse_occupied-clause-answer g c =
     let p = err_from_is_err_and c.from_residual-in_err-refuse_occupied.result c.from_residual-in_err-refuse_occupied.ensures.1 in
     rw (p.1, p.2)
     (occupied_answer c.args.guard.limits c.args.guard.text c.in_err-refuse_occupied.field-0.0 (g.W.World.view c.args.world.now) (g.W.World.view c.refuse_occupied.new.world)
-    (c.args.guard.schema, c.in_ok-frame.ensures.schema) c.in_err-refuse_occupied.ensures.occupied)
+    (c.args.guard.schema, c.schema_text.ensures.schema) c.in_err-refuse_occupied.ensures.occupied)
 
 pub returns-in_err-refuse_occupied-clause-unrefused : goal.returns-in_err-refuse_occupied-clause-unrefused
 returns-in_err-refuse_occupied-clause-unrefused g c =
@@ -43,23 +44,28 @@ returns-in_err-refuse_occupied-clause-faults g c =
 
 pub create-requires-clause-frames : goal.create-requires-clause-frames
 create-requires-clause-frames g c =
-    (payload_of (SchemaCommand c.args.guard.text) ∷ [], rw c.as_slice.ensures.value c.in_ok-frame.ensures.frames)
+    (payload_of (SchemaCommand c.schema_text.result.now) ∷ [], rw c.as_slice.ensures.value (c.in_ok-frame.ensures.first refl))
 
 pub returns-in-Ok-clause-answer : goal.returns-in-Ok-clause-answer
 returns-in-Ok-clause-answer g c =
     let payload = payload_of (SchemaCommand c.args.guard.text) in
-    let frames : IsFrames First (payload ∷ []) c.as_slice.result.now = rw c.as_slice.ensures.value c.in_ok-frame.ensures.frames in
-    let of_text = c.in_ok-frame.ensures.schema in
+    let first = c.as_slice.result.now in
+    let frames : IsFrames (payload ∷ []) 2 first =
+    subst (λ (t : List ℕ). IsFrames (payload_of (SchemaCommand t) ∷ []) 2 first) c.schema_text.ensures.text (rw c.as_slice.ensures.value (c.in_ok-frame.ensures.first refl)) in
+    let read = subst (λ (t : List ℕ). decoded (payload_of (SchemaCommand t)) ≡ Some (SchemaCommand t)) c.schema_text.ensures.text c.in_ok-frame.ensures.decoded in
+    let of_text = c.schema_text.ensures.schema in
     let end = c.in-Ok.journal.end in
     let old = g.W.World.view c.args.world.now in
     let new = g.W.World.view c.create.new.world in
     let quiet = c.refuse_occupied.ensures.quiet in
     let guard : c.args.guard ≡ opened c.args.guard.text c.args.guard.schema c.args.guard.limits = just_made c.args.guard c.args.guard.text c.args.guard.limits refl refl c.requires.empty c.requires.unchanged in
     let journal : c.in-Ok.journal ≡ first_journal end =
-    same_journal (first_journal end) c.in-Ok.journal (ap (λ (j : Journal). j.area) c.in-Ok.ensures.journal) (ap (λ (j : Journal). j.epoch) c.in-Ok.ensures.journal) end refl in
-    let stands = load_stands c.args.guard.limits c.args.guard.text c.args.guard.schema payload end of_text c.in_ok-frame.ensures.decoded (omega (arith, c.in-Ok.ensures.within))
+    same_journal (first_journal end) c.in-Ok.journal (ap (λ (j : Journal). j.area) c.in-Ok.ensures.journal) (ap (λ (j : Journal). j.epoch) c.in-Ok.ensures.journal) refl
+    (ap (λ (j : Journal). j.next) c.in-Ok.ensures.journal) in
+    let stands = load_stands c.args.guard.limits c.args.guard.text c.args.guard.schema payload end of_text read (omega (arith, c.in-Ok.ensures.within))
     old (g.W.World.view c.refuse_occupied.new.world) new c.in_ok-refuse_occupied.ensures.free quiet c.create.ensures.passes
-    (c.in-Ok.ensures.holds (payload ∷ []) frames) c.create.ensures.beside c.in_ok-refuse_occupied.ensures.settled c.in-Ok.ensures.settled in
+    (λ told. subst (λ (n : Option ℕ). Holds n 1 (payload ∷ []) end new.shown.a) (ap (λ (j : Journal). j.next) c.in-Ok.ensures.journal) (c.in-Ok.ensures.holds (payload ∷ []) frames told))
+    c.create.ensures.beside c.in_ok-refuse_occupied.ensures.settled c.in-Ok.ensures.settled in
     record {
       resolved = c.args.guard.schema;
       of_text = of_text;
@@ -76,9 +82,11 @@ pub returns-in-Ok-clause-stops : goal.returns-in-Ok-clause-stops
 returns-in-Ok-clause-stops g c = λ free settled.
     let payload = payload_of (SchemaCommand c.args.guard.text) in
     let first = c.as_slice.result.now in
-    let frames : IsFrames First (payload ∷ []) first = rw c.as_slice.ensures.value c.in_ok-frame.ensures.frames in
+    let frames : IsFrames (payload ∷ []) 2 first =
+    subst (λ (t : List ℕ). IsFrames (payload_of (SchemaCommand t) ∷ []) 2 first) c.schema_text.ensures.text (rw c.as_slice.ensures.value (c.in_ok-frame.ensures.first refl)) in
+    let read = subst (λ (t : List ℕ). decoded (payload_of (SchemaCommand t)) ≡ Some (SchemaCommand t)) c.schema_text.ensures.text c.in_ok-frame.ensures.decoded in
     let vec = c.in_ok-frame.frame in
-    load_stops c.args.guard.limits c.args.guard.text c.args.guard.schema payload (16 + length first) c.in_ok-frame.ensures.schema c.in_ok-frame.ensures.decoded
+    load_stops c.args.guard.limits c.args.guard.text c.args.guard.schema payload (16 + length first) c.schema_text.ensures.schema read
     (small_first first vec.items vec.len vec.cap c.as_slice.ensures.value vec.ok.0 vec.ok.1 vec.small)
     (g.W.World.view c.args.world.now) (g.W.World.view c.refuse_occupied.new.world) (g.W.World.view c.create.new.world) free settled c.refuse_occupied.ensures.quiet c.create.ensures.passes
     (c.create.ensures.stops (payload ∷ []) frames)
@@ -93,9 +101,11 @@ pub returns-in-Err-clause-stops : goal.returns-in-Err-clause-stops
 returns-in-Err-clause-stops g c = λ free settled.
     let payload = payload_of (SchemaCommand c.args.guard.text) in
     let first = c.as_slice.result.now in
-    let frames : IsFrames First (payload ∷ []) first = rw c.as_slice.ensures.value c.in_ok-frame.ensures.frames in
+    let frames : IsFrames (payload ∷ []) 2 first =
+    subst (λ (t : List ℕ). IsFrames (payload_of (SchemaCommand t) ∷ []) 2 first) c.schema_text.ensures.text (rw c.as_slice.ensures.value (c.in_ok-frame.ensures.first refl)) in
+    let read = subst (λ (t : List ℕ). decoded (payload_of (SchemaCommand t)) ≡ Some (SchemaCommand t)) c.schema_text.ensures.text c.in_ok-frame.ensures.decoded in
     let vec = c.in_ok-frame.frame in
-    load_stops c.args.guard.limits c.args.guard.text c.args.guard.schema payload (16 + length first) c.in_ok-frame.ensures.schema c.in_ok-frame.ensures.decoded
+    load_stops c.args.guard.limits c.args.guard.text c.args.guard.schema payload (16 + length first) c.schema_text.ensures.schema read
     (small_first first vec.items vec.len vec.cap c.as_slice.ensures.value vec.ok.0 vec.ok.1 vec.small)
     (g.W.World.view c.args.world.now) (g.W.World.view c.refuse_occupied.new.world) (g.W.World.view c.create.new.world) free settled c.refuse_occupied.ensures.quiet c.create.ensures.passes
     (c.create.ensures.stops (payload ∷ []) frames)

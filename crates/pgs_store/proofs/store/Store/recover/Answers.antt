@@ -22,7 +22,7 @@ returns-in_err-guard-clause-answer g c =
     rw (p.1, p.2)
     (λ told.
     subst (λ (s : SavedState). IsUnrecovered s c.in_err-guard.field-0.0)
-    (sym (chosen_saves c.args.limits shown.a shown.b (choices.chosen it.area it.epoch it.end it.payloads) (c.in_ok-chosen.ensures.chosen told)))
+    (sym (chosen_saves c.args.limits shown.a shown.b (choices.chosen it.area it.epoch it.end it.next it.payloads) (c.in_ok-chosen.ensures.chosen told)))
     c.in_err-guard.ensures.refused)
 
 pub invariant_of-result : goal.invariant_of-result
@@ -33,7 +33,8 @@ invariant_of-result g c =
     record {
       epoch = bounds.numbered;
       end = bounds.end_below;
-      most = commits_within c.args.limits it.epoch it.end it.payloads guard.text guard.commits guard.graph bounds c.in_ok-guard.ensures.recovered;
+      next = bounds.next_within;
+      most = commits_within c.args.limits it.epoch it.end it.next it.payloads guard.text guard.commits guard.graph bounds c.in_ok-guard.ensures.recovered;
     }
 
 pub returns-clause-answer : goal.returns-clause-answer
@@ -47,7 +48,7 @@ returns-clause-answer g c =
       limits_kept = c.in_ok-guard.ensures.limits;
       whole = refl;
       saves = λ told.
-          chosen_saves c.args.limits old.shown.a old.shown.b (choices.chosen it.area it.epoch it.end it.payloads) (c.in_ok-chosen.ensures.chosen told) ∙ saves;
+          chosen_saves c.args.limits old.shown.a old.shown.b (choices.chosen it.area it.epoch it.end it.next it.payloads) (c.in_ok-chosen.ensures.chosen told) ∙ saves;
       stands = record {
         saved = λ told. (
           it.payloads,

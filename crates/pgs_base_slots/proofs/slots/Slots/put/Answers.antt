@@ -1,0 +1,8 @@
+use Rattle.std.proofs.Common.{◌∙◌, ap}
+use Rattle.pgs_base_slots.specs.Slots.{present}
+use Rattle.pgs_base_slots.proofs.Present.{present-put}
+use Rattle.pgs_base_slots.proofs.slots.Slots.put.Goals as goal
+
+pub returns-clause-rows : goal.returns-clause-rows
+returns-clause-rows g c =
+    ap present c.fill.ensures.entries ∙ present-put g.met.K.Ord.total c.args.key c.requires.exact c.args.row c.args.self.now c.fill.ensures.ascending

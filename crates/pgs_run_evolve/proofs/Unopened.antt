@@ -1,0 +1,44 @@
+-- What is left where no store was opened.
+use Rattle.std.proofs.Common.{◌≡◌, ℕ, false, List, Option, Err, IsTrue, refl, sym, subst}
+use Rattle.pgs_base.specs.Graph.{Graph}
+use Rattle.pgs_run_lines.specs.AreasKept.{KeepsAreas}
+use Rattle.pgs_run_base.specs.declared.status.Status.{Status}
+use Rattle.pgs_run_base.proofs.Images.{images_areas, images_on, images_quiet}
+use Rattle.pgs_run_saved.specs.declared.opening.Unopened.{Unopened}
+use Rattle.pgs_run_saved.specs.declared.opening.Unopened.TheVariants as unopened
+use Rattle.pgs_run_saved.specs.Ending.{EndsUnopened, is_refusal}
+use Rattle.pgs_run_saved.specs.Opening.{Opens}
+use Rattle.pgs_run_saved.proofs.Saving.{never_refused}
+use Rattle.pgs_snapshot.specs.Choice.{chosen_next}
+use Rattle.pgs_world.specs.Moment.{EachSince, IsQuiet, IsTimed}
+use Rattle.pgs_world.specs.World.{View}
+use Rattle.pgs_world.proofs.Moments.{each_quiet}
+use Rattle.pgs_run_evolve.specs.Evolving.{IsEvolvingAt}
+use Rattle.pgs_run_evolve.specs.Leaving.{LeavesEvolved, IsMade, SavesAs, kept_of}
+use Rattle.pgs_run_evolve.proofs.Kept.{starts_at}
+use Rattle.pgs_run_evolve.proofs.Leaving.{leaves_kept}
+
+-- what is saved isn't refused
+not_refused : (reason : Unopened) (old mid : View) (before : List ℕ) (commits : ℕ) (graph : Graph) → Opens (Err reason) old mid → IsTrue old.tells_bytes → SavesAs old before commits graph → is_refusal reason ≡ false
+not_refused (unopened.Refused reply) old mid before commits graph opens tells saves = absurd (never_refused old before commits graph reply.line reply.status tells saves opens.1)
+not_refused unopened.DiskFault old mid before commits graph opens tells saves = refl
+not_refused unopened.Memory old mid before commits graph opens tells saves = refl
+
+-- then an area failed, or there was no memory
+unmade : (reason : Unopened) (old mid new : View) (result : Status) (before : List ℕ) (commits : ℕ) (graph : Graph) → Opens (Err reason) old mid → EndsUnopened reason mid result new → IsTrue old.tells_bytes
+    → SavesAs old before commits graph → (next : Option ℕ) (input : List ℕ) → IsMade next input graph result → ⊥
+unmade (unopened.Refused reply) old mid new result before commits graph opens ends tells saves next input made =
+    absurd (never_refused old before commits graph reply.line reply.status tells saves opens.1)
+unmade unopened.DiskFault old mid new result before commits graph opens ends tells saves next input made = subst (IsMade next input graph) ends.0 made
+unmade unopened.Memory old mid new result before commits graph opens ends tells saves next input made = subst (IsMade next input graph) ends.0 made
+
+pub leaves_unopened : (left : Option (List ℕ)) (reason : Unopened) (old mid new : View) (result : Status) → IsTimed old → Opens (Err reason) old mid → IsQuiet old mid → EndsUnopened reason mid result new → KeepsAreas mid new
+    → (is_refusal reason ≡ false → new ≡ mid) → LeavesEvolved left old new result
+leaves_unopened left reason old mid new result timed opens quiet ends areas early =
+    leaves_kept left old new result (images_on old mid new (images_quiet old mid quiet) (images_areas mid new areas))
+    (λ input before commits graph is saves tells settled.
+    let P = IsEvolvingAt (kept_of old commits graph) before input in
+    subst (λ (v : View). EachSince P old v) (sym (early (not_refused reason old mid before commits graph opens settled.tells_bytes saves)))
+    (each_quiet old mid P settled.honest quiet (starts_at old before commits graph saves input timed tells settled)))
+    (λ tells input before commits graph is saves made.
+    unmade reason old mid new result before commits graph opens ends tells saves (chosen_next old.shown.a old.shown.b) input made)

@@ -1,4 +1,0 @@
-use Rattle.pgs_store.proofs.checkpointing.frames_of.Given as goal
-
-abbrev pub ghosts-snapshot_of : goal.ghosts-snapshot_of
-ghosts-snapshot_of a = record { name = a.blank.name; parts = a.blank.parts }
