@@ -5,6 +5,8 @@ from graph_lines import Fault, NAME, is_day
 
 MOST_BYTES, LAST_EPOCH = 2**40, 2**24 - 1
 WORDS = {b"PGSGRD1": 1, b"PGSGRD2": 2}
+# The bytes before a record's payload, by the format: its gate, in format 2 its number, and the payload's length.
+RECORD_HEADS = {1: 9, 2: 17}
 KINDS = {
     1: "add_node", 2: "add_edge", 3: "remove_node", 4: "detach_node", 5: "remove_edge",
     6: "set_node", 7: "unset_node", 8: "label_node", 9: "unlabel_node",
@@ -149,7 +151,7 @@ class Area:
         self.read_records(image)
 
     def read_records(self, image):
-        head = 9 if self.format == 1 else 17
+        head = RECORD_HEADS[self.format]
         while image[self.end] == 1:
             number = len(self.commands) + 1
             start = self.end + head

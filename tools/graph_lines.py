@@ -1,5 +1,6 @@
 """Transactions as lines of JSON, read and written as docs/FORMATS.md says. What the tools of this folder share; not a tool itself."""
 import json
+import os
 import re
 import sys
 
@@ -16,19 +17,30 @@ class Fault(Exception):
         super().__init__(f"{place}: {text}")
 
 
+class Missing(Exception):
+    """A program that isn't installed."""
+
+
 def run(main):
-    """Runs a tool: a fault is one line on standard error and status 1, a closed pipe ends it."""
+    """Runs a tool: a fault is one line on standard error and status 1, a program that is missing 77, a closed pipe ends it."""
     try:
-        sys.exit(main() or 0)
+        if sys.stdout is None:
+            raise Fault("standard output", "is not open")
+        sys.stdout.reconfigure(encoding="utf-8", newline="\n")
+        main()
+        sys.stdout.flush()
+    except Missing as missing:
+        print(f"{tool_name()}: {missing} isn't installed", file=sys.stderr)
+        sys.exit(77)
     except Fault as fault:
         print(f"{tool_name()}: {fault}", file=sys.stderr)
         sys.exit(1)
     except OSError as error:
-        if isinstance(error, BrokenPipeError):
-            sys.stderr.close()
-            sys.exit(1)
-        print(f"{tool_name()}: {error.filename or 'output'}: {error.strerror}", file=sys.stderr)
-        sys.exit(1)
+        if not isinstance(error, BrokenPipeError):
+            print(f"{tool_name()}: {error.filename or 'output'}: {error.strerror}", file=sys.stderr)
+        sys.stderr.flush()
+        # What couldn't be written is left: else the interpreter tries it again at its end.
+        os._exit(1)
     except KeyboardInterrupt:
         sys.exit(130)
 
@@ -211,8 +223,14 @@ def written(value):
     return json.dumps(value, ensure_ascii=False, sort_keys=True, separators=(",", ":")).encode("utf-8")
 
 
+def shortest(op):
+    """An operation without the members that may be left out: a feed always has them, so its line may be longer than a transaction's may."""
+    return {name: value for name, value in op.items() if value or name not in ("labels", "props")}
+
+
 def txn_line(ops):
-    return b'{"ops":[' + b",".join(map(written, ops)) + b"]}\n"
+    """A transaction's line, which is no longer than any other line of this transaction."""
+    return b'{"ops":[' + b",".join(written(shortest(op)) for op in ops) + b"]}\n"
 
 
 def feed_line(commit, ops):
@@ -263,18 +281,17 @@ def added(op, lines):
 
 
 def read_dump(path):
-    """The schema's text, None where there is no line `---`, and then each operation of each line with its place."""
-    text, ops = [], []
-    lines = list(numbered(path))
-    bare = [line.rstrip(b"\r") for _, line, _ in lines]
-    first = 0
-    if b"---" in bare:
-        at = bare.index(b"---")
-        text = b"\n".join(line for _, line, _ in lines[:at])
-        first = at + 1
-    else:
-        text = None
-    for place, line, _ in lines[first:]:
-        if not is_blank(line):
-            ops.extend((place, op) for op in read_txn(line, place))
-    return text, ops
+    """Each operation of each line with its place. Where the first line isn't JSON, a schema's text comes first, up to a line `---`."""
+    in_schema = begun = False
+    for place, line, _ in numbered(path):
+        if is_blank(line):
+            continue
+        if not begun:
+            begun, in_schema = True, not line.lstrip().startswith(b"{")
+        if in_schema:
+            in_schema = line.rstrip(b"\r") != b"---"
+            continue
+        for op in read_txn(line, place):
+            yield place, op
+    if in_schema:
+        raise Fault("standard input" if path == "-" else path, "no line `---` behind the schema, and no operations")

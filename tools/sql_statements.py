@@ -7,6 +7,8 @@ from graph_lines import Fault, kind_of
 
 TABLES = """\\set ON_ERROR_STOP on
 SET client_min_messages = warning;
+SET client_encoding = 'UTF8';
+SET standard_conforming_strings = on;
 CREATE TABLE IF NOT EXISTS graph_node (id numeric(20) PRIMARY KEY, labels text[] NOT NULL, props jsonb NOT NULL);
 CREATE TABLE IF NOT EXISTS graph_edge (id numeric(20) PRIMARY KEY, source numeric(20) NOT NULL, target numeric(20) NOT NULL,
   labels text[] NOT NULL, props jsonb NOT NULL);
