@@ -63,7 +63,7 @@ def statement(op):
         change = f"props = props - {literal(op['key'])}"
     elif kind.startswith("label"):
         label = literal(op["label"])
-        change = f"labels = ARRAY(SELECT DISTINCT unnest(labels || {label}) ORDER BY 1)"
+        change = f'labels = ARRAY(SELECT DISTINCT label COLLATE "C" FROM unnest(array_append(labels, {label})) AS label ORDER BY 1)'
     else:
         change = f"labels = array_remove(labels, {literal(op['label'])})"
     return f"UPDATE {table} SET {change} WHERE id = {number};"
