@@ -1,3 +1,4 @@
+# shellcheck shell=bash
 # A PostgreSQL server of one's own, in a folder and on a socket alone. To be sourced; what examples/sql.sh and examples/guide.sh share.
 
 # The folder of the server's programs: the last one that is installed, nothing where none is.
