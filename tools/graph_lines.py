@@ -49,6 +49,10 @@ def tool_name():
     return sys.argv[0].rsplit("/", 1)[-1]
 
 
+def counted(commits):
+    return "1 commit" if commits == 1 else f"{commits} commits"
+
+
 def opened(path):
     """A file's lines as bytes, and its name for messages; `-` is standard input."""
     if path == "-":
