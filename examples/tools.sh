@@ -8,6 +8,8 @@ tools="$here/../tools"
 program=$(readlink -f "${PGGUARD:-$("$tools/run" --path pgguard)}") || exit 1
 follow=$(readlink -f "${PGFOLLOW:-$("$tools/run" --path pgfollow)}") || exit 1
 export PGGUARD=$program
+# Where python3 is a script that looks for the right one, it does so once, and not for each tool.
+PATH=$(dirname "$(python3 -c 'import sys; print(sys.executable)')"):$PATH
 work=$(mktemp -d) || exit 1
 trap 'rm -rf "$work"' EXIT
 cd "$work" || exit 1
@@ -15,6 +17,9 @@ different=0
 passed=0
 # What is said of a command, whose own output may go into a file.
 exec 5>&1
+# The tools of PostgreSQL have a check of their own, which goes along.
+"$here/sql.sh" >sql.txt 2>&1 &
+sql=$!
 
 # Says whether a command ended with a status: ends NAME STATUS COMMAND..
 ends() {
@@ -291,6 +296,7 @@ ends "and goes on" 0 "$program" apply restored_old/old <rename.txt >verdicts.txt
 refuses "backup goes over nothing" 1 'kept/bank.a: is there already' "$tools/backup" bank kept
 mkfifo lines.fifo
 "$program" apply bank <lines.fifo >held.txt &
+writer=$!
 exec 3>lines.fifo
 # A verdict says that the run has the files.
 echo '{}' >&3
@@ -302,7 +308,7 @@ refuses "backup beside a running apply" 1 'bank.a: locked by another run' "$tool
 refuses "journal-to-feed beside it" 1 'bank.a: locked by another run' "$tools/journal-to-feed" bank
 refuses "store-info beside it" 1 'bank.a: locked by another run' "$tools/store-info" bank
 exec 3>&-
-wait
+wait "$writer"
 head -c -3 bank.a >short.a
 cp bank.b short.b
 refuses "backup of a damaged store" 1 'short.a: record 2 is damaged' "$tools/backup" short other
@@ -349,8 +355,9 @@ else
   echo "the picture: passed over, graphviz isn't installed"
   passed=1
 fi
-"$here/sql.sh"
+wait "$sql"
 found=$?
+cat sql.txt
 [ "$found" = 77 ] && passed=1
 [ "$found" = 0 ] || [ "$found" = 77 ] || different=1
 [ "$different" = 1 ] && exit 1
