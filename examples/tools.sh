@@ -126,6 +126,15 @@ ends "csv-to-lines with a map" 0 "$tools/csv-to-lines" --nodes persons.csv --edg
 ends "csv-to-lines goes on" 0 "$tools/csv-to-lines" --nodes more.csv --edges more_knows.csv --map map.json >>mapped.txt
 ends "apply of both" 0 "$program" apply any <mapped.txt >verdicts.txt
 ends "the graph of both" 0 cmp any_wanted.txt <(operations any)
+# Ids that are numbers stay; with a map others come behind them, as do edges without an id.
+printf 'id,labels\n7,P\n9,P\n' >plain.csv
+printf 'id,from,to,labels\n,7,9,k\n5,9,7,k\n' >plain_edges.csv
+printf 'id,labels\nx,P\n' >other.csv
+printf 'from,to,labels\nx,7,k\n' >other_edges.csv
+ends "csv-to-lines of numbers" 0 "$tools/csv-to-lines" --nodes plain.csv --edges plain_edges.csv --map plain.json >plain.txt
+ends "and of other ids behind them" 0 "$tools/csv-to-lines" --nodes other.csv --edges other_edges.csv --map plain.json >>plain.txt
+ends "their numbers" 0 test "$(grep -o '"add_[a-z]*":[0-9]*,\|"from":[0-9]*\|"to":[0-9]*' plain.txt | tr -d '\n' | tr -d '"' | sed 's/add_//g; s/,/ /g')" = \
+  "node:7 node:9 edge:6 from:7to:9edge:5 from:9to:7node:10 edge:7 from:10to:7"
 printf 'id,labels,age:int\n1,P,1.5\n' >bad.csv
 refuses "csv-to-lines refuses a fraction" 1 'bad.csv:2, age: "1.5" is no whole number' "$tools/csv-to-lines" --nodes bad.csv
 printf 'id,labels,age:float\n1,P,1.5\n' >kind.csv
@@ -190,6 +199,7 @@ ends "feed-to-lines" 0 "$tools/feed-to-lines" twice.jsonl >feed_lines.txt
 ends "apply of the feed's lines" 0 "$program" apply follower <feed_lines.txt >verdicts.txt
 "$program" recover follower >follower.txt </dev/null
 ends "the feed gives the same dump" 0 cmp dump.txt follower.txt
+ends "feed-to-lines from 3 on" 0 cmp <(head -n 4 feed_lines.txt | tail -n 2) <("$tools/feed-to-lines" --from 3 feed.jsonl)
 sed 2d feed.jsonl >gap.jsonl
 ends "feed-to-lines stops at a gap" 1 "$tools/feed-to-lines" gap.jsonl >feed_lines.txt 2>told.txt
 ends "and says which" 0 grep -q 'gap.jsonl:2: expected commit 2, found 3' told.txt
