@@ -175,13 +175,15 @@ ends "its lines are within the limits" 0 within long_lines.txt
 ends "its lines are taken" 0 "$program" apply long <long_lines.txt >verdicts.txt
 ends "all properties are there" 0 test "$(operations long | grep -o '"set_node":1\|"set_edge":1' | sort | uniq -c | tr -d ' \n')" = '40"set_edge":120"set_node":1'
 
-# A large graph whose keys hold of no part of it: it comes in under a graph type without keys, and is then put under its schema.
+# A large graph, of more operations than a line may have, whose keys hold of no part of it: it comes in under a graph type without keys, and is then put under
+# its schema.
 network="$here/ldbc/schema.txt"
-python3 "$here/ldbc/data.py" 1 >network_lines.txt
+python3 "$here/ldbc/data.py" 1 300 >network_lines.txt
 loose network
 { "$program" apply network <network_lines.txt && "$program" evolve network <"$network"; } >verdicts.txt
 "$program" recover network >network.txt </dev/null
 ends "dump-to-lines of a large graph" 0 "$tools/dump-to-lines" network.txt >moved_lines.txt
+ends "in more than one line" 0 test "$(wc -l <moved_lines.txt)" = 2
 ends "its lines are within the limits" 0 within moved_lines.txt
 "$program" load guarded <"$network" >/dev/null
 ends "under its keys they aren't taken" 1 "$program" apply guarded <moved_lines.txt >verdicts.txt
