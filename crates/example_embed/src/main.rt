@@ -2,13 +2,11 @@
 #![tactic(auto)]
 
 ghost use Rattle.std.specs.Prelude.{◌≡◌, ◌<◌};
-
 use pgs_base::{Limits, Steps};
 use pgs_graph::Txn;
 use pgs_json::read_txn;
 use pgs_store::{Guard, GuardRefusal};
 use pgs_violation::{Rejection, Violation};
-use std::alloc::Global;
 use std::io;
 use std::marker::Brand;
 use std::sync::ledger::{Blank, Ledger};
@@ -23,7 +21,7 @@ const LINES: [&[u8]; 3] = [
 ];
 
 // Applies a transaction, and counts look-ups on the ledger of the blank.
-fn apply_counted<L: Ledger>(guard: &mut Guard, txn: &Txn, blank: Blank) -> Result<u64, GuardRefusal>
+fn apply<L: Ledger>(guard: &mut Guard, txn: &Txn, blank: Blank) -> Result<u64, GuardRefusal>
     requires name { blank.name ≡ L.name }
     requires parts { blank.parts ≡ L.parts }
     requires some { 0 < blank.parts }
@@ -31,21 +29,6 @@ fn apply_counted<L: Ledger>(guard: &mut Guard, txn: &Txn, blank: Blank) -> Resul
 {
     let mut steps: Steps<L> = Steps::begin(blank);
     guard.apply(txn, &mut steps)
-}
-
-// The same, where no one asks for the count.
-fn apply(guard: &mut Guard, txn: &Txn) -> Result<u64, GuardRefusal>
-    requires { guard.old.commits < 18446744073709551615 }
-{
-    apply_counted::<Brand>(guard, txn, Blank::new(1))
-}
-
-// Decides a line, where it is a transaction and a commit number is left.
-fn decide(alloc: Global, guard: &mut Guard, line: &[u8]) -> Option<Result<u64, GuardRefusal>> {
-    match read_txn(alloc, line) {
-        Ok(txn) if guard.commits() < u64::MAX => Some(apply(guard, &txn)),
-        _ => None,
-    }
 }
 
 // What is told of a refusal: a caller goes by the variants that it cares for.
@@ -59,13 +42,17 @@ fn reason(refusal: &GuardRefusal) -> &'static str {
 }
 
 fn main(rt: HostRuntime) -> io::Result<()> {
-    if let Ok(mut guard) = Guard::new(rt.alloc(), SCHEMA, Limits::standard()) {
-        for line in LINES {
-            match decide(rt.alloc(), &mut guard, line) {
-                Some(Ok(number)) => println!(rt; "committed {number}")?,
-                Some(Err(refusal)) => println!(rt; "refused: {}", reason(&refusal))?,
-                None => println!(rt; "no transaction")?,
-            }
+    let Ok(mut guard) = Guard::new(rt.alloc(), SCHEMA, Limits::standard()) else {
+        return Ok(());
+    };
+    for line in LINES {
+        match read_txn(rt.alloc(), line) {
+            Ok(txn) if guard.commits() < u64::MAX =>
+                match apply::<Brand>(&mut guard, &txn, Blank::new(1)) {
+                    Ok(number) => println!(rt; "committed {number}")?,
+                    Err(refusal) => println!(rt; "refused: {}", reason(&refusal))?,
+                },
+            _ => println!(rt; "no transaction")?,
         }
     }
     Ok(())

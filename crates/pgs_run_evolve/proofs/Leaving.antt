@@ -15,7 +15,7 @@ use Rattle.pgs_world.specs.Moment.{EachSince, IsQuiet, IsSettled, IsTimed, Stops
 use Rattle.pgs_world.specs.World.{Triple, View, other}
 use Rattle.pgs_world.proofs.Moments.{each_on, each_quiet, passes_on, settled_quiet}
 use Rattle.pgs_run_evolve.specs.Evolving.{IsEvolving, IsEvolvingAt, IsRenewed}
-use Rattle.pgs_run_evolve.specs.Leaving.{LeavesEvolved, IsMade, SavesAs, kept_of}
+use Rattle.pgs_run_evolve.specs.Leaving.{LeavesEvolved, IsConforming, IsMade, SavesAs, kept_of}
 use Rattle.pgs_run_evolve.proofs.Kept.{evolving_whole, renewed_whole, same_evolving, same_under, settled_under, starts_at}
 use Rattle.pgs_run_evolve.proofs.Lines.{IsUnlike}
 
@@ -39,6 +39,7 @@ leaves_kept left old new status kept stops unmade = record {
   unsaved = λ tells none. kept;
   old_format = λ tells none. kept;
   unwritten = λ is. kept;
+  refused = λ tells input before commits graph is saves unfit. kept;
   beside = λ tells area is. area_of_images (other area) old new kept;
   made = λ tells input before commits graph is saves made. absurd (unmade tells input before commits graph is saves made);
 }
@@ -98,6 +99,8 @@ leaves_on left old mid new status timed quiet later = record {
       images_on old mid new kept
       (later.old_format (quiet.passes.tells_bytes ∙ tells) (subst (λ (t : Triple). chosen_next t.a t.b ≡ None) (sym quiet.shown) none));
   unwritten = λ is. images_on old mid new kept (later.unwritten is);
+  refused = λ tells input before commits graph is saves unfit.
+      images_on old mid new kept (later.refused (quiet.passes.tells_bytes ∙ tells) input before commits graph is (there before commits graph saves) unfit);
   beside = λ tells area is.
       area_on (other area) old mid new (area_of_images (other area) old mid kept)
       (later.beside (quiet.passes.tells_bytes ∙ tells) area (subst (λ (t : Triple). chosen_area t.a t.b ≡ Some area) (sym quiet.shown) is));
@@ -130,6 +133,9 @@ made_front next input graph ReadFault made = absurd made
 made_front next input graph Memory made = absurd made
 made_front next input graph InputTooLong made = absurd made
 
+conforming_front : (input : List ℕ) (graph : Graph) → IsConforming (text_front input) graph → IsConforming input graph
+conforming_front input graph conforming = (conforming.0, sym (schema_of_front input) ∙ conforming.1, conforming.2)
+
 -- what is left where the front was the text is left where the input was
 pub leaves_whole : (left : Option (List ℕ)) (text : List ℕ) (old new : View) (status : Status) → ((input : List ℕ) → left ≡ Some input → text ≡ text_front input) → LeavesEvolved (Some text) old new status
     → LeavesEvolved left old new status
@@ -143,6 +149,9 @@ leaves_whole left text old new status front leaves = record {
   unsaved = leaves.unsaved;
   old_format = leaves.old_format;
   unwritten = leaves.unwritten;
+  refused = λ tells input before commits graph is saves unfit.
+      leaves.refused tells text before commits graph refl saves
+      (λ conforming. unfit (conforming_front input graph (subst (λ (t : List ℕ). IsConforming t graph) (front input is) conforming)));
   beside = leaves.beside;
   made = λ tells input before commits graph is saves made.
       let next = chosen_next old.shown.a old.shown.b in

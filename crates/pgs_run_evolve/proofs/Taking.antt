@@ -23,7 +23,7 @@ use Rattle.pgs_run_saved.specs.Opening.{IsAnswer}
 use Rattle.pgs_run_saved.specs.Refusing.{told_under}
 use Rattle.pgs_run_saved.proofs.Shown.{same_faults, same_shown, shows_no_piece}
 use Rattle.pgs_snapshot.specs.Choice.{chosen_area, chosen_next}
-use Rattle.pgs_store.specs.Evolves.{IsEvolved, IsNumbered, IsViolated}
+use Rattle.pgs_store.specs.Evolves.{IsEvolved, IsFitting, IsNumbered, IsViolated}
 use Rattle.pgs_store.specs.State.{GuardState}
 use Rattle.pgs_store.specs.Stored.{StoreState, IsEvolvedIn, IsSavedIn, evolved, longer}
 use Rattle.pgs_store.specs.Stored.{IsConforming as Conforming}
@@ -250,9 +250,17 @@ module _ (it : StoreState) (text : List ℕ) (old mid : View) (timed : IsTimed o
   shown : shown_of mid ≡ shown_of old
   shown = same_shown old mid beside.passes.tells_output beside.shown.output beside.no_put.puts
 
+  -- the graph conforms to the text, and so does what is saved
+  fits_saved : IsTrue old.tells_bytes → (resolved : Resolved) → Conforming it.guard text resolved → (input before : List ℕ) (commits : ℕ) (graph : Graph) → Some text ≡ Some input
+      → SavesAs old before commits graph → IsConforming input graph
+  fits_saved tells resolved conforming input before commits graph is saves =
+      let same : text ≡ input = cc in
+      subst (λ (t : List ℕ). IsConforming t graph) same
+      (as_saved it old ready.limits ready.stands tells before commits graph saves (λ t n g. IsConforming text g) (resolved, read_answer text text resolved refl conforming.0, conforming.1))
+
   -- an area failed
-  pub takes_failed : (told : Told Status) → CountsFault true old mid → Takes told text old mid DiskFault
-  takes_failed told rose = record {
+  pub takes_failed : (told : Told Status) → CountsFault true old mid → IsFitting it.guard text → Takes told text old mid DiskFault
+  takes_failed told rose fits = record {
     ends = subst (λ (s : Shown). ShowsFirst (shown_of old) told.pieces s) (sym shown) (shows_no_piece (shown_of old) told.pieces);
     answer = tt;
     cause = λ reads. (refl, (rose, refl, beside.no_put.put_faults));
@@ -267,6 +275,7 @@ module _ (it : StoreState) (text : List ℕ) (old mid : View) (timed : IsTimed o
       unsaved = λ tells none. absurd (never_unsaved tells none);
       old_format = λ tells none. absurd (never_old tells none);
       unwritten = λ is. absurd is;
+      refused = λ tells input before commits graph is saves unfit. absurd (unfit (fits_saved tells fits.0 fits.1 input before commits graph is saves));
       beside = λ tells area is. subst (λ (a : Area). KeepsArea (other a) old mid) (same_area tells area is) other_area;
       made = λ tells input before commits graph is saves made. absurd made;
     };
@@ -337,6 +346,8 @@ module _ (it : StoreState) (text : List ℕ) (old mid : View) (timed : IsTimed o
         unsaved = λ tells none. absurd (never_unsaved tells none);
         old_format = λ tells none. absurd (never_old tells none);
         unwritten = λ unwritten. absurd (written result put.ends unwritten);
+        refused = λ tells input before commits graph input_is saves unfit.
+            absurd (unfit (fits_saved tells done.resolved done.conforming input before commits graph input_is saves));
         beside = λ tells area area_is.
             subst (λ (a : Area). KeepsArea (other a) old new) (same_area tells area area_is)
             (area_on (other it.journal.area) old mid new other_area (area_of_images (other it.journal.area) mid new (images_areas mid new put.areas)));

@@ -47,6 +47,9 @@ pub record LeavesEvolved (left : Option (List ℕ)) (old new : View) (status : S
       → KeepsImages old new
   pub old_format : IsTrue old.tells_bytes → chosen_next old.shown.a old.shown.b ≡ None → KeepsImages old new
   pub unwritten : IsUnwritten status → KeepsImages old new
+  -- nothing is written where the input isn't a schema to which the graph conforms
+  pub refused : IsTrue old.tells_bytes → (input before : List ℕ) (commits : ℕ) (graph : Graph) → left ≡ Some input
+      → SavesAs old before commits graph → (IsConforming input graph → ⊥) → KeepsImages old new
   -- the area that isn't chosen is left alone
   pub beside : IsTrue old.tells_bytes → (area : Area) → chosen_area old.shown.a old.shown.b ≡ Some area → KeepsArea (other area) old new
   -- at the end the new schema is in force, where its line was put, or its put failed

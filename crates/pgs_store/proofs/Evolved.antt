@@ -33,7 +33,7 @@ evolves (Ok done) old guard journal text now opened is = (opened, refl, is)
 evolves (Err Memory) old guard journal text now opened is = (opened, unmarked old guard journal opened is.0 is.1)
 evolves (Err (Schema fault)) old guard journal text now opened is = (opened, unmarked old guard journal opened is.0 is.1, is.2)
 evolves (Err (Violated violation)) old guard journal text now opened is = (opened, unmarked old guard journal opened is.0 is.1, is.2)
-evolves (Err DiskFault) old guard journal text now opened is = (opened, same_store old guard journal true is.0 is.1)
+evolves (Err DiskFault) old guard journal text now opened is = (opened, same_store old guard journal true is.0 is.1, is.2)
 evolves (Err NeedsReopen) old guard journal text now opened is = absurd is
 evolves (Err OldFormat) old guard journal text now opened is = absurd is
 

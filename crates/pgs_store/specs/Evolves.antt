@@ -52,13 +52,17 @@ pub record IsEvolved (old new : GuardState) (before after : Journal) (text : Lis
   pub journal : after ≡ longer before (commands.Schema text)
   pub stands : StandsOn new after now
 
+-- the text is a schema's, to which the graph of a guard conforms
+abbrev pub IsFitting : GuardState → List ℕ → Type 0
+IsFitting guard text = (resolved : Resolved) × IsConforming guard text resolved
+
 -- of a guard and its journal: the schema is in force, or nothing changed
 abbrev pub Renews : Result (Unit {0}) EvolveFault → GuardState → GuardState → Journal → Journal → List ℕ → View → Type 0
 Renews (Ok done) old new before after text now = IsEvolved old new before after text now
 Renews (Err Memory) old new before after text now = (new ≡ old) × (after ≡ before)
 Renews (Err (Schema fault)) old new before after text now = (new ≡ old) × (after ≡ before) × (schema_of text ≡ answer_of fault)
 Renews (Err (Violated violation)) old new before after text now = (new ≡ old) × (after ≡ before) × IsViolated old text violation
-Renews (Err DiskFault) old new before after text now = (new ≡ old) × (after ≡ before)
+Renews (Err DiskFault) old new before after text now = (new ≡ old) × (after ≡ before) × IsFitting old text
 Renews (Err NeedsReopen) old new before after text now = ⊥
 Renews (Err OldFormat) old new before after text now = ⊥
 
@@ -72,7 +76,8 @@ pub record IsOpen (store : StoreState) : Type 0 where
   pub numbered : IsNumbered store.journal
 
 -- An earlier call answered `DiskFault`, or none did and: the store is of the first format; or it is of the second and: the text is no
--- schema; the graph has a violation under it; there was no memory; an area failed, and only the mark is set; or the schema is in force.
+-- schema; the graph has a violation under it; there was no memory; an area failed, the graph conforms to the schema, and only the mark is
+-- set; or the schema is in force.
 abbrev pub Evolves : Result (Unit {0}) EvolveFault → StoreState → StoreState → List ℕ → View → Type 0
 Evolves (Ok done) old new text now =
     IsOpen old × (new.failed ≡ false) × IsEvolved old.guard new.guard old.journal new.journal text now
@@ -81,4 +86,4 @@ Evolves (Err OldFormat) old new text now = (old.failed ≡ false) × (old.journa
 Evolves (Err (Schema fault)) old new text now = IsOpen old × (new ≡ old) × (schema_of text ≡ answer_of fault)
 Evolves (Err (Violated violation)) old new text now = IsOpen old × (new ≡ old) × IsViolated old.guard text violation
 Evolves (Err Memory) old new text now = IsOpen old × (new ≡ old)
-Evolves (Err DiskFault) old new text now = IsOpen old × (new ≡ record old { failed = true })
+Evolves (Err DiskFault) old new text now = IsOpen old × (new ≡ record old { failed = true }) × IsFitting old.guard text

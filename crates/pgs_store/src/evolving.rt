@@ -170,7 +170,8 @@ impl Store {
     /// The first that applies: `NeedsReopen` exactly where an earlier call answered `DiskFault`; 41 `OldFormat` exactly where the chosen
     /// area is of the first format; `Schema` (10 to 19) exactly where the text is no schema; `Violated` exactly with the first violation
     /// of the graph under the schema. `Memory` always comes before the first call on the world. After these the store and the world are
-    /// as they were. `DiskFault` comes only where the count of area faults rose; the readers then show the schema from before.
+    /// as they were. `DiskFault` comes only where the graph conforms to the schema of the text and the count of area faults rose; the
+    /// readers then show the schema from before.
     pub fn evolve<W: World>(&mut self, world: &mut W, schema: &[u8]) -> Result<(), EvolveFault>
         requires stands { self.old.failed ≡ false → StandsOn self.old.guard self.old.journal (W.view world.old) }
         // What it answers, and what becomes of the store.

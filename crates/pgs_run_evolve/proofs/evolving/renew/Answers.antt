@@ -55,6 +55,7 @@ returns-in-Err-DiskFault g c =
     let text = c.args.schema.text in
     takes_failed it text (g.W.World.view c.args.world.now) (g.W.World.view c.evolve_to.new.world) (g.met.W.World.timed c.args.world.now) c.requires.ready c.requires.numbered c.evolve_to.ensures.beside
     (c.evolve_to.ensures.stops c.requires.ready.whole) (told_text text it.guard.graph) (rw c.in-Err-DiskFault.field-0-is at c.in-Err-DiskFault.ensures.faults)
+    (rw c.in-Err-DiskFault.field-0-is at c.in-Err-DiskFault.ensures.answer).2
 
 pub returns-in-Err-Memory : goal.returns-in-Err-Memory
 returns-in-Err-Memory g c =

@@ -1,4 +1,4 @@
-use Rattle.std.proofs.Common.{◌≡◌, ◌+◌, ◌∷◌, ◌++◌, [], ℕ, List, length, sym, ◌∙◌, ap, subst}
+use Rattle.std.proofs.Common.{◌≡◌, ◌+◌, ◌∷◌, ◌++◌, [], ℕ, List, length, refl, rules, sym, ◌∙◌, ap, subst}
 use Rattle.pgs_codec.specs.declared.command.Command.TheVariants.{Schema as SchemaCommand}
 use Rattle.pgs_codec.specs.Payload.{payload_of}
 use Rattle.pgs_journal.specs.declared.journal.Journal.{Journal}
@@ -58,6 +58,11 @@ returns-in-Ok-clause-stops g c = λ honest told.
     (g.W.World.view c.args.world.now) (g.W.World.view c.append.new.world)
     (λ triple. in_force guard journal text resolved triple (made.schema, made.indexed.guarded.conforms)) c.requires.stands
     honest told (c.append.ensures.stops payload frame told)
+
+pub returns-in-Err-clause-answer : goal.returns-in-Err-clause-answer
+returns-in-Err-clause-answer g c =
+    let made = c.in_ok-renewal.ensures in
+    (refl, search rules, c.args.schema.resolved, made.schema, made.indexed.guarded.conforms)
 
 pub returns-in-Err-clause-stops : goal.returns-in-Err-clause-stops
 returns-in-Err-clause-stops g c = λ honest told.
