@@ -9,6 +9,7 @@ pub mod FromNothing
 pub mod Indexed
 pub mod KeyFirst
 pub mod KeyList
+pub mod Least
 pub mod OneKey
 pub mod Owned
 pub mod Owners

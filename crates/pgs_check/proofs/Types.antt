@@ -37,6 +37,7 @@ use Rattle.pgs_check.specs.Untyped.{untyped_violations, untyped_change, untyped_
 use Rattle.pgs_check.specs.Rows.{first_or}
 use Rattle.pgs_check.proofs.Firsts.{first_append, none_given, nothing_given, least_is_first, same_first}
 use Rattle.pgs_check.proofs.KeyFirst.{same_given, no_front}
+use Rattle.pgs_check.proofs.Least.{Below, all_below, least_passes}
 use Rattle.pgs_check.proofs.Shared.{not_less}
 
 -- ---- what each row gives, found by its key
@@ -201,81 +202,6 @@ module _ (resolved : Resolved) (g : Graph) (graph : is_graph g ≡ true) (delta 
             let row = some_and (give_edge h id) (edge_at h id) gives in
             whole row.0 row.1 (sym (edge_after g delta id graph sound ∙ ap (λ o. after_changes o (edge_at g id)) is) ∙ row.1)
 
-    -- ---- the least of them
-
-    module _ (test : EdgeId → Bool) where
-      abbrev next : Option EdgeId → EdgeId → Option EdgeId
-      next found id = if is_found_before found id then found else if test id then Some id else found
-
-      -- nothing that passes is less than what is found
-      abbrev Below : Option EdgeId → EdgeId → Type 0
-      Below None id = ⊥
-      Below (Some least) id = is_lt (edge_cmp id least) ≡ false
-
-      itself : (id : EdgeId) → is_lt (edge_cmp id id) ≡ false
-      itself id = ap is_lt (tied_itself edge_cmp_total id)
-
-      turned : (a b : EdgeId) → is_lt (edge_cmp a b) ≡ true → is_lt (edge_cmp b a) ≡ false
-      turned a b less = by (edge_cmp a b) refl less
-        where
-          by : (o : Ordering) → edge_cmp a b ≡ o → is_lt o ≡ true → is_lt (edge_cmp b a) ≡ false
-          by Less is h = ap is_lt (edge_cmp_total.antisymm b a ∙ ap ordering_reverse is)
-          by Equal is h = absurd (true≢false (sym h))
-          by Greater is h = absurd (true≢false (sym h))
-
-      lower : (id least z : EdgeId) → is_lt (edge_cmp id least) ≡ true → is_lt (edge_cmp z least) ≡ false → is_lt (edge_cmp z id) ≡ false
-      lower id least z less above = by (is_lt (edge_cmp z id)) refl
-        where
-          by : (b : Bool) → is_lt (edge_cmp z id) ≡ b → is_lt (edge_cmp z id) ≡ false
-          by false is = is
-          by true is =
-              absurd (true≢false (sym (ap is_lt (edge_cmp_total.trans z id least (is_less _ is) (is_less _ less))) ∙ above))
-
-      next_below : (found : Option EdgeId) (id z : EdgeId) → Below found z → Below (next found id) z
-      next_below None id z below = absurd below
-      next_below (Some least) id z below = by (is_lt (edge_cmp id least)) refl (test id)
-        where
-          by : (b : Bool) → is_lt (edge_cmp id least) ≡ b → (c : Bool) → Below (if not b then Some least else if c then Some id else Some least) z
-          by false is c = below
-          by true is true = lower id least z is below
-          by true is false = below
-
-      next_own : (found : Option EdgeId) (id : EdgeId) → test id ≡ true → Below (next found id) id
-      next_own None id passes = subst (λ b. Below (if b then Some id else None) id) (sym passes) (itself id)
-      next_own (Some least) id passes = by (is_lt (edge_cmp id least)) refl
-        where
-          by : (b : Bool) → is_lt (edge_cmp id least) ≡ b → Below (if not b then Some least else if test id then Some id else Some least) id
-          by false is = is
-          by true is = subst (λ c. Below (if c then Some id else Some least) id) (sym passes) (itself id)
-
-      keeps_below : (found : Option EdgeId) (ids : List EdgeId) (z : EdgeId) → Below found z → Below (least_edge test found ids) z
-      keeps_below found [] z below = below
-      keeps_below found (id ∷ ids) z below = keeps_below (next found id) ids z (next_below found id z below)
-
-      all_below : (found : Option EdgeId) (ids : List EdgeId) (z : EdgeId) → Contains ids z → test z ≡ true → Below (least_edge test found ids) z
-      all_below found [] z has passes = absurd (contains_none z has)
-      all_below found (id ∷ ids) z has passes =
-          ⊎_elim (λ (same : id ≡ z). keeps_below (next found id) ids z (subst (λ x. Below (next found x) z) (sym same) (next_own found z passes)))
-          (λ later. all_below (next found id) ids z later passes) (contains_cases id ids z has)
-
-      abbrev Passes : Option EdgeId → Type 0
-      Passes found = (id : EdgeId) → found ≡ Some id → test id ≡ true
-
-      next_passes : (found : Option EdgeId) (id : EdgeId) → Passes found → Passes (next found id)
-      next_passes found id one = by (is_found_before found id) (test id) refl
-        where
-          by : (b c : Bool) → test id ≡ c → Passes (if b then found else if c then Some id else found)
-          by true c is = one
-          by false true is = λ z e. let same : id ≡ z = cc in ap test (sym same) ∙ is
-          by false false is = one
-
-      least_passes : (found : Option EdgeId) (ids : List EdgeId) → Passes found → Passes (least_edge test found ids)
-      least_passes found [] one = one
-      least_passes found (id ∷ ids) one = least_passes (next found id) ids (next_passes found id one)
-
-      none_passes : (id : EdgeId) → least_edge test None candidates ≡ Some id → test id ≡ true
-      none_passes = least_passes None candidates (λ id e. cc)
-
     -- what an edge that isn't typed gives
     untyped_is : (id : EdgeId) → is_untyped_edge resolved h id ≡ true → untyped_edge_at resolved h id ≡ Some (UntypedEdge id)
     untyped_is id gives = by (edge_at h id) gives
@@ -302,7 +228,7 @@ module _ (resolved : Resolved) (g : Graph) (graph : is_graph g ≡ true) (delta 
             ap (λ vs. slice_get vs 0) (nothing_given (untyped_edge_at resolved h) (keys_of h.edges)
             (λ z v has gives. subst (λ o. Below (is_untyped_edge resolved h) o z) is (all z (ap is_some gives))))
         by (Some id) is =
-            let passes = none_passes (is_untyped_edge resolved h) id is in
+            let passes = least_passes (is_untyped_edge resolved h) None candidates (λ one e. cc) id is in
             least_is_first edge_cmp_total (untyped_edge_at resolved h) (keys_of h.edges) id
             ((ascends_decides edge_cmp (keys_of h.edges)).1 (ascending_edges h after)) (record {
               is = (edge_there h id passes, passes);

@@ -1,5 +1,5 @@
 -- 25 and 26: the violations of no key; which elements of a changed graph can make one, and the first that does.
-use Rattle.std.specs.Prelude.{◌≤◌, ◌++◌, ℕ, Bool, false, List, [], ◌∷◌, Option, Some, Contains, option_and_then, is_some, filter_map, flat_map, not, if◌then◌else◌}
+use Rattle.std.specs.Prelude.{◌≡◌, ◌≤◌, ◌++◌, ℕ, Bool, true, false, List, [], ◌∷◌, Option, Some, Contains, option_and_then, is_some, filter_map, flat_map, not, if◌then◌else◌}
 use Rattle.std.specs.Option.{option_map_or}
 use Rattle.std.specs.Ordering.{is_lt}
 use Rattle.std.specs.Map.{keys_of}
@@ -39,6 +39,10 @@ is_found_before found id = option_map_or (λ least. not (is_lt (edge_cmp id leas
 abbrev pub least_edge : (EdgeId → Bool) → Option EdgeId → List EdgeId → Option EdgeId
 least_edge test found [] = found
 least_edge test found (id ∷ ids) = least_edge test (if is_found_before found id then found else if test id then Some id else found) ids
+
+-- what was found is, or goes before, each edge of a list that passes a test
+abbrev pub IsSettled : (EdgeId → Bool) → Option EdgeId → List EdgeId → Type 0
+IsSettled test found ids = (id : EdgeId) → Contains ids id → test id ≡ true → is_found_before found id ≡ true
 
 -- the edges at a node, those that go out first
 abbrev pub edges_at : Graph → NodeId → List EdgeId

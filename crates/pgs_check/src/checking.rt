@@ -36,6 +36,7 @@ use pgs_syntax::Qualifiers;
 use pgs_tables::Tables;
 use pgs_violation::Violation;
 use std::alloc::Global;
+use std::mem;
 use std::sync::ledger::Ledger;
 
 /// Why a check gives no changes.
@@ -305,11 +306,15 @@ fn check_keys<L: Ledger>(
     Ok(changes)
 }
 
-// Moves rows behind changes.
+// Moves rows behind changes. Those of the first key are taken as they are.
 pub(crate) fn append(changes: &mut Vec<KeyChange>, rows: &mut Vec<KeyChange>) -> Result<(), Memory>
     ensures { OnOk result (changes.new.items ≡ changes.old.items ++ rows.old.items) }
 {
-    changes.append(rows)?;
+    if changes.is_empty() {
+        mem::swap(changes, rows);
+    } else {
+        changes.append(rows)?;
+    }
     Ok(())
 }
 

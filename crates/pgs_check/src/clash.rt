@@ -66,14 +66,11 @@ pub(crate) fn with_holder(
     elem: Elem,
     found: Option<Violation>,
     tuple: &Tuple,
-    holder: Option<Elem>,
+    holder: Elem,
 ) -> Result<Option<Violation>, Memory>
-    ensures { IfOk result (λ least. least ≡ with_holder number elem found tuple.now holder) }
+    ensures { IfOk result (λ least. least ≡ with_holder number elem found tuple.now (Some holder)) }
 {
-    let Some(other) = holder else {
-        return Ok(found);
-    };
-    match clash(alloc, number, tuple, elem, other)? {
+    match clash(alloc, number, tuple, elem, holder)? {
         Some(further) => Ok(lesser(found, further)),
         None => Ok(found),
     }

@@ -1,14 +1,15 @@
 //! 25 and 26 of a changed graph, found among the elements of the delta and the edges at its nodes.
 
-ghost use Rattle.std.specs.Prelude.{◌≡◌, ◌+◌, ◌*◌, ◌≤◌, ℕ, true, cond, [], ◌∷◌, None, length, filter_map, flat_map, slice_get, option_map};
+ghost use Rattle.std.specs.Prelude.{◌≡◌, ◌+◌, ◌*◌, ◌≤◌, ℕ, true, cond, [], ◌∷◌, None, length, filter_map, flat_map, slice_get, option_map, Contains};
 ghost use Rattle.std.specs.Map.{keys_of};
+ghost use Rattle.pgs_base.specs.Graph.{edge_cmp};
 ghost use Rattle.pgs_base.specs.Pair.{pair_of};
 ghost use Rattle.pgs_graph.specs.Changed.{changed, is_sound};
 ghost use Rattle.pgs_graph.specs.Reads.{edge_row, out_edges_of, in_edges_of, degree_of};
 ghost use Rattle.pgs_overlay.specs.Standing.{row_count};
 ghost use Rattle.pgs_syntax.specs.Typed.{is_typed_edge};
 ghost use Rattle.pgs_violation.specs.declared.violation.Violation.TheVariants.{UntypedEdge};
-ghost use Rattle.pgs_check.specs.Untyped.{HaveDegreesWithin, untyped_violations, untyped_change, is_untyped_edge, is_found_before, least_edge, edges_at, touched_edges};
+ghost use Rattle.pgs_check.specs.Untyped.{HaveDegreesWithin, IsSettled, untyped_violations, untyped_change, is_untyped_edge, is_found_before, least_edge, edges_at, touched_edges};
 
 use pgs_base::{EdgeId, EdgeRow, NodeId, NodeRow, Steps};
 use pgs_conform::{Compiled, Pair, edge_typed, node_typed};
@@ -16,6 +17,7 @@ use pgs_graph::{Delta, EdgeRef, GraphRead, NodeRef};
 use pgs_overlay::Overlay;
 use pgs_tables::Tables;
 use pgs_violation::Violation;
+use std::cmp::Ordering;
 use std::sync::ledger::Ledger;
 
 // 25 for a node that a change leaves untyped. No look-up.
@@ -153,6 +155,39 @@ fn least_changed<G: GraphRead, L: Ledger>(
     found
 }
 
+// Whether an edge is seen to be one that changes name: so where their numbers ascend, whether it is. No look-up.
+fn is_named(changes: &[(EdgeId, Option<EdgeRow>)], id: EdgeId) -> bool
+    ensures { result ≡ true → Contains (keys_of changes.now) id }
+{
+    let place = changes.binary_search_by(
+        |change: &(EdgeId, Option<EdgeRow>)| -> Ordering
+            ensures { result ≡ edge_cmp change.now.0 id }
+        { change.0.cmp(&id) },
+    );
+    place.is_ok()
+}
+
+// What was found, or the edge of a lesser number where it isn't typed. An edge that the tested changes name isn't tested again.
+fn lesser_untested<G: GraphRead, L: Ledger>(
+    graph: &G,
+    compiled: &Compiled,
+    tested: &[(EdgeId, Option<EdgeRow>)],
+    found: Option<EdgeId>,
+    id: EdgeId,
+    steps: &mut Steps<L>,
+) -> Option<EdgeId>
+    requires { IsSettled (is_untyped_edge compiled.now (G.meaning graph.now)) found (keys_of tested.now) }
+    ensures least { result ≡ least_edge (is_untyped_edge compiled.now (G.meaning graph.now)) found (id ∷ []) }
+    ensures no_step_back { steps.old ≤ steps.new }
+    ensures at_most { steps.new ≤ steps.old + 3 }
+{
+    if is_named(tested, id) {
+        found
+    } else {
+        lesser_untyped(graph, compiled, found, id, steps)
+    }
+}
+
 // The edge at a place among those that go out of a node, or that come in at it.
 fn edge_along<G: GraphRead, L: Ledger>(
     graph: &G,
@@ -172,15 +207,18 @@ fn edge_along<G: GraphRead, L: Ledger>(
     }
 }
 
-// What was found, or the least of the edges that go out of a node, or that come in at it, and aren't typed.
+// What was found, or the least of the edges that go out of a node, or that come in at it, and aren't typed. Those that the tested changes
+// name aren't tested again, here and in what follows.
 fn least_along<G: GraphRead, L: Ledger>(
     graph: &G,
     compiled: &Compiled,
+    tested: &[(EdgeId, Option<EdgeRow>)],
     mut found: Option<EdgeId>,
     node: NodeId,
     forward: bool,
     steps: &mut Steps<L>,
 ) -> Option<EdgeId>
+    requires { IsSettled (is_untyped_edge compiled.now (G.meaning graph.now)) found (keys_of tested.now) }
     ensures least { result ≡ least_edge (is_untyped_edge compiled.now (G.meaning graph.now)) found
         (cond forward (out_edges_of (G.meaning graph.now) node) (in_edges_of (G.meaning graph.now) node)) }
     ensures no_step_back { steps.old ≤ steps.new }
@@ -188,7 +226,7 @@ fn least_along<G: GraphRead, L: Ledger>(
 {
     for nth in 0..=usize::MAX {
         match edge_along(graph, node, forward, nth, steps) {
-            Some(id) => found = lesser_untyped(graph, compiled, found, id, steps),
+            Some(id) => found = lesser_untested(graph, compiled, tested, found, id, steps),
             None => return found,
         }
     }
@@ -199,26 +237,30 @@ fn least_along<G: GraphRead, L: Ledger>(
 fn least_at<G: GraphRead, L: Ledger>(
     graph: &G,
     compiled: &Compiled,
+    tested: &[(EdgeId, Option<EdgeRow>)],
     found: Option<EdgeId>,
     node: NodeId,
     steps: &mut Steps<L>,
 ) -> Option<EdgeId>
+    requires { IsSettled (is_untyped_edge compiled.now (G.meaning graph.now)) found (keys_of tested.now) }
     ensures least { result ≡ least_edge (is_untyped_edge compiled.now (G.meaning graph.now)) found (edges_at (G.meaning graph.now) node) }
     ensures no_step_back { steps.old ≤ steps.new }
     ensures cost { steps.new ≤ steps.old + (4 * degree_of (G.meaning graph.now) node + 2) }
 {
-    let outgoing = least_along(graph, compiled, found, node, true, steps);
-    least_along(graph, compiled, outgoing, node, false, steps)
+    let outgoing = least_along(graph, compiled, tested, found, node, true, steps);
+    least_along(graph, compiled, tested, outgoing, node, false, steps)
 }
 
 // What was found, or the least of the edges at the nodes of changes that aren't typed.
 fn least_at_changed<G: GraphRead, L: Ledger>(
     graph: &G,
     compiled: &Compiled,
+    tested: &[(EdgeId, Option<EdgeRow>)],
     mut found: Option<EdgeId>,
     changes: &[(NodeId, Option<NodeRow>)],
     steps: &mut Steps<L>,
 ) -> Option<EdgeId>
+    requires { IsSettled (is_untyped_edge compiled.now (G.meaning graph.now)) found (keys_of tested.now) }
     ensures least { result ≡ least_edge (is_untyped_edge compiled.now (G.meaning graph.now)) found
         (flat_map (edges_at (G.meaning graph.now)) (keys_of changes.now)) }
     ensures no_step_back { steps.old ≤ steps.new }
@@ -227,7 +269,7 @@ fn least_at_changed<G: GraphRead, L: Ledger>(
 {
     for change in changes {
         let node = change.0;
-        found = least_at(graph, compiled, found, node, steps);
+        found = least_at(graph, compiled, tested, found, node, steps);
     }
     found
 }
@@ -244,8 +286,9 @@ fn least_untyped<G: GraphRead, L: Ledger>(
     ensures cost { (most : ℕ) → HaveDegreesWithin (G.meaning graph.now) (keys_of delta.now.nodes) most →
         steps.new ≤ steps.old + 4 * row_count delta.now * (most + 2) }
 {
-    let changed = least_changed(graph, compiled, None, delta.edges.as_slice(), steps);
-    least_at_changed(graph, compiled, changed, delta.nodes.as_slice(), steps)
+    let edges = delta.edges.as_slice();
+    let changed = least_changed(graph, compiled, None, edges, steps);
+    least_at_changed(graph, compiled, edges, changed, delta.nodes.as_slice(), steps)
 }
 
 // 26 for an edge, where there is one.

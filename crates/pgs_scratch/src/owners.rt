@@ -40,29 +40,38 @@ fn nearer<'a>(
     }
 }
 
-// The nearest owner of some of the tuples, with the first tuple that it has.
-fn nearest<'a>(table: &BTreeMap<&'a Tuple, Elem>, tuples: &'a [Tuple]) -> Option<(Elem, &'a Tuple)>
-    ensures { option_map with_tuple result ≡ nearest (λ q. tree.get_by (λ k. tuple_cmp q k.now) table.now) None tuples.now }
+// Makes a row the owner of each of its tuples, and gives the nearest of the owners before, with the first tuple that it had. One look-up
+// for each tuple. No tuple of the row is another one, so none of these owners is the row itself.
+fn enter<'a>(
+    table: &mut BTreeMap<&'a Tuple, Elem>,
+    row: &'a KeyRow,
+) -> Result<Option<(Elem, &'a Tuple)>, Memory>
+    ensures nearest { IfOk result (λ found. option_map with_tuple found
+        ≡ nearest (λ q. tree.get_by (λ k. tuple_cmp q k.now) table.old) None row.now.tuples) }
+    ensures owners { OnOk result ((q : Items Part) → tree.get_by (λ k. tuple_cmp q k.now) table.new
+        ≡ cond (list_any (tree.is_at (tuple_cmp q)) row.now.tuples) (Some row.now.elem) (tree.get_by (λ k. tuple_cmp q k.now) table.old)) }
 {
     let mut found = None;
-    for tuple in tuples {
-        let owner = table.get(&tuple).copied();
+    for tuple in row.tuples.as_slice() {
+        let owner = table.insert(tuple, row.elem)?;
         found = nearer(found, owner, tuple);
     }
-    found
+    Ok(found)
 }
 
-// 29 for a row, by the table of the rows after it.
+// 29 for a row, by the table of the rows after it, in which the row becomes the owner of each of its tuples.
 fn first_sharer<'a>(
     alloc: Global,
     number: u32,
     row: &'a KeyRow,
-    table: &BTreeMap<&'a Tuple, Elem>,
+    table: &mut BTreeMap<&'a Tuple, Elem>,
 ) -> Result<Option<Violation>, Memory>
-    ensures { IfOk result (λ found. found ≡ option_map (λ sharer. Exclusive number row.now.elem sharer.0 sharer.1)
-        (nearest (λ q. tree.get_by (λ k. tuple_cmp q k.now) table.now) None row.now.tuples)) }
+    ensures first { IfOk result (λ found. found ≡ option_map (λ sharer. Exclusive number row.now.elem sharer.0 sharer.1)
+        (nearest (λ q. tree.get_by (λ k. tuple_cmp q k.now) table.old) None row.now.tuples)) }
+    ensures owners { OnOk result ((q : Items Part) → tree.get_by (λ k. tuple_cmp q k.now) table.new
+        ≡ cond (list_any (tree.is_at (tuple_cmp q)) row.now.tuples) (Some row.now.elem) (tree.get_by (λ k. tuple_cmp q k.now) table.old)) }
 {
-    match nearest(table, row.tuples.as_slice()) {
+    match enter(table, row)? {
         Some((second, tuple)) => {
             let tuple = tuple.copy(alloc)?;
             Ok(Some(Violation::Exclusive {
@@ -74,17 +83,6 @@ fn first_sharer<'a>(
         }
         None => Ok(None),
     }
-}
-
-// Makes a row the owner of each of its tuples.
-fn enter<'a>(table: &mut BTreeMap<&'a Tuple, Elem>, row: &'a KeyRow) -> Result<(), Memory>
-    ensures { OnOk result ((q : Items Part) → tree.get_by (λ k. tuple_cmp q k.now) table.new
-        ≡ cond (list_any (tree.is_at (tuple_cmp q)) row.now.tuples) (Some row.now.elem) (tree.get_by (λ k. tuple_cmp q k.now) table.old)) }
-{
-    for tuple in row.tuples.as_slice() {
-        table.insert(tuple, row.elem)?;
-    }
-    Ok(())
 }
 
 /// 29 for each row that shares a key value with a later one, the last first. The rows ascend. One table serves all rows: it is gone
@@ -101,9 +99,8 @@ pub(crate) fn shared_values(
     let mut found = Vec::new(alloc);
     for place in (0..rows.len()).rev() {
         let row = &rows[place];
-        let violation = first_sharer(alloc, number, row, &table)?;
+        let violation = first_sharer(alloc, number, row, &mut table)?;
         add(&mut found, violation)?;
-        enter(&mut table, row)?;
     }
     Ok(found)
 }

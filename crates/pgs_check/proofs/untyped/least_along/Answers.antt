@@ -1,9 +1,18 @@
-use Rattle.std.proofs.Common.{◌<◌, ◌+◌, ◌≤◌, cond, length, sym, arith}
+use Rattle.std.proofs.Common.{◌<◌, ◌+◌, ◌≤◌, cond, length, take, sym, arith}
+use Rattle.std.specs.Map.{keys_of}
 use Rattle.pgs_graph.specs.Reads.{out_edges_of, in_edges_of}
 use Rattle.pgs_match.proofs.Along.{at_place, past_end}
 use Rattle.pgs_check.specs.Untyped.{is_untyped_edge}
+use Rattle.pgs_check.proofs.Least.{still_settled}
 use Rattle.pgs_check.proofs.Steps.{least_step, least_done}
 use Rattle.pgs_check.proofs.untyped.least_along.Goals as goal
+
+pub lesser_untested-requires : goal.lesser_untested-requires
+lesser_untested-requires g c =
+    let graph = g.G.GraphRead.meaning c.args.graph.now in
+    let ids = cond c.args.forward (out_edges_of graph c.args.node) (in_edges_of graph c.args.node) in
+    still_settled (is_untyped_edge c.args.compiled.now graph) (keys_of c.args.tested.now) c.args.found c.loop-nth.found (take c.loop-nth.nth ids) c.requires
+    c.loop-nth.invariant.so_far
 
 pub loop-nth-preserved : goal.loop-nth-preserved
 loop-nth-preserved g c =
@@ -15,7 +24,7 @@ loop-nth-preserved g c =
     let before = c.loop-nth.invariant in
     record {
       so_far = least_step (is_untyped_edge c.args.compiled.now graph) ids c.loop-nth.nth c.in-Some.id (sym place.1) place.0 c.args.found c.loop-nth.found
-          c.lesser_untyped-found.result c.lesser_untyped-found.ensures.least c.loop-nth.invariant.so_far;
+          c.lesser_untested-found.result c.lesser_untested-found.ensures.least c.loop-nth.invariant.so_far;
       within = omega arith;
       no_step_back = omega arith;
       cost = omega arith;
@@ -34,9 +43,9 @@ returns-in-Some-clause-least g c =
     let ids = cond c.args.forward (out_edges_of graph c.args.node) (in_edges_of graph c.args.node) in
     let place = at_place ids c.loop-nth.nth c.in-Some.id (sym c.in-Some.ensures.value) in
     let end : length ids ≤ c.loop-nth.nth + 1 = omega (arith, c.edge_along.ensures.few) in
-    least_done (is_untyped_edge c.args.compiled.now graph) ids (c.loop-nth.nth + 1) end c.args.found c.lesser_untyped-found.result
+    least_done (is_untyped_edge c.args.compiled.now graph) ids (c.loop-nth.nth + 1) end c.args.found c.lesser_untested-found.result
     (least_step (is_untyped_edge c.args.compiled.now graph) ids c.loop-nth.nth c.in-Some.id (sym place.1) place.0 c.args.found c.loop-nth.found
-    c.lesser_untyped-found.result c.lesser_untyped-found.ensures.least c.loop-nth.invariant.so_far)
+    c.lesser_untested-found.result c.lesser_untested-found.ensures.least c.loop-nth.invariant.so_far)
 
 pub returns-in-Some-clause-cost : goal.returns-in-Some-clause-cost
 returns-in-Some-clause-cost g c =
@@ -46,4 +55,4 @@ returns-in-Some-clause-cost g c =
     let below : c.loop-nth.nth < length ids = place.0 in
     let tick = c.edge_along.ensures.tick in
     let before = c.loop-nth.invariant.cost in
-    omega (arith, c.lesser_untyped-found.ensures.at_most)
+    omega (arith, c.lesser_untested-found.ensures.at_most)

@@ -1,10 +1,17 @@
-use Rattle.std.proofs.Common.{◌+◌, ◌*◌, ◌≤◌, ap, ◌∙◌, sym, arith}
+use Rattle.std.proofs.Common.{◌+◌, ◌*◌, ◌≤◌, take, ap, ◌∙◌, sym, arith}
 use Rattle.std.specs.Prelude.{flat_map}
 use Rattle.std.specs.Map.{keys_of}
 use Rattle.pgs_graph.specs.Reads.{degree_of}
 use Rattle.pgs_check.specs.Untyped.{is_untyped_edge, least_edge, edges_at}
+use Rattle.pgs_check.proofs.Least.{still_settled}
 use Rattle.pgs_check.proofs.Steps.{least_append, key_at_place, keys_below, keys_end, key_there, flat_next, take_all, rate_more, rate_all}
 use Rattle.pgs_check.proofs.untyped.least_at_changed.Goals as goal
+
+pub least_at-found-requires : goal.least_at-found-requires
+least_at-found-requires g c =
+    let graph = g.G.GraphRead.meaning c.args.graph.now in
+    still_settled (is_untyped_edge c.args.compiled.now graph) (keys_of c.args.tested.now) c.args.found c.loop-change.found
+    (flat_map (edges_at graph) (take c.loop-change.change-index (keys_of c.args.changes.now))) c.requires c.loop-change.invariant.so_far
 
 pub loop-change-preserved : goal.loop-change-preserved
 loop-change-preserved g c =
