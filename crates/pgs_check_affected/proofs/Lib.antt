@@ -1,6 +1,7 @@
 pub mod Locality
 pub mod Touching
 pub mod Finding
+pub mod Ending
 pub mod Apart
 pub mod Counting
 pub mod Knowing

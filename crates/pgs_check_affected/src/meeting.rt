@@ -5,25 +5,69 @@ ghost use Rattle.std.specs.List.{All};
 ghost use Rattle.pgs_syntax.specs.Valid.{is_valid_key_of};
 ghost use Rattle.pgs_match.specs.Planned.{pattern_of};
 ghost use Rattle.pgs_check_affected.specs.Local.{is_edge_alone};
-ghost use Rattle.pgs_check_affected.specs.Met.{IsApart, PassesNone};
+ghost use Rattle.pgs_check_affected.specs.Met.{has_as_end, is_end_var, is_absent_in_one, is_looked_at, is_taken_at, IsApart, PassesNone};
 
 use crate::Known;
 use crate::gathering::{Sought, is_edge};
 use pgs_conform::Compiled;
 use pgs_match::{PlannedKey, Side};
-use pgs_syntax::Pattern;
+use pgs_syntax::{Atom, Pattern};
+
+// Whether an atom has a variable as an end of its edge.
+fn has_as_end(atom: &Atom, var: u32) -> bool
+    ensures { result ≡ has_as_end var atom.now }
+{
+    match atom {
+        Atom::Ends { source, target, .. } => *source == var || *target == var,
+        _ => false,
+    }
+}
+
+// Whether a variable is an end of some edge variable.
+fn is_end_var(pattern: &Pattern, var: u32) -> bool
+    ensures { result ≡ is_end_var pattern.now var }
+{
+    pattern
+        .atoms
+        .as_slice()
+        .iter()
+        .any(|atom| has_as_end(atom, var))
+}
+
+// Whether an element is absent from one of the two graphs.
+fn is_absent_in_one(known: &Known<'_>) -> bool
+    ensures { result ≡ is_absent_in_one known.now }
+{
+    known.before.is_none() || known.after.is_none()
+}
+
+// Whether an element is looked at for a variable. One that is absent from a graph isn't for an end of an edge variable: where it is there, a
+// match that binds it binds an edge at it, which is an element of the change too.
+fn is_looked_at(pattern: &Pattern, var: u32, known: &Known<'_>) -> bool
+    ensures { result ≡ is_looked_at pattern.now var known.now }
+{
+    !(is_absent_in_one(known) && is_end_var(pattern, var))
+}
 
 impl<'a> Sought<'a> {
-    // Whether an element's own row, in one of two graphs, passes what the pattern asks of some variable from a number on.
+    // Whether an element is looked at for a variable, and its own row, in one of two graphs, passes what the pattern asks of it.
+    fn takes_at(&self, known: &Known<'_>, var: u32) -> bool
+        requires { is_valid_key_of self.now.compiled.now self.now.key.now ≡ true }
+        ensures { result ≡ is_taken_at self.now.compiled.now (pattern_of self.now.side self.now.key.now) var known.now }
+    {
+        is_looked_at(self.key.pattern(self.side), var, known)
+            && (self.passes(var, known.elem, &known.before)
+                || self.passes(var, known.elem, &known.after))
+    }
+
+    // Whether some variable of the pattern, from a number on, takes an element.
     fn takes(&self, known: &Known<'_>, first: u32) -> bool
         requires { is_valid_key_of self.now.compiled.now self.now.key.now ≡ true }
         ensures { result ≡ false → PassesNone self.now.compiled.now (pattern_of self.now.side self.now.key.now) first known.now }
     {
         let vars = self.key.pattern(self.side).edge_vars.len();
         for var in first..vars as u32 {
-            if self.passes(var, known.elem, &known.before)
-                || self.passes(var, known.elem, &known.after)
-            {
+            if self.takes_at(known, var) {
                 return true;
             }
         }
@@ -31,7 +75,7 @@ impl<'a> Sought<'a> {
     }
 }
 
-// Whether an element's own row, in one of two graphs, passes what the scope asks of some variable, or the descriptor of one behind x.
+// Whether some variable of the scope takes an element, or one behind x of the descriptor.
 fn is_taken(known: &Known<'_>, compiled: &Compiled, key: &PlannedKey) -> bool
     requires { is_valid_key_of compiled.now key.now ≡ true }
     ensures { result ≡ false → IsApart compiled.now key.now known.now }
