@@ -420,7 +420,8 @@ fn rows(index: &mut Index, first: u64, count: u64) {
     for place in 0..count { index.set(Elem::Node(mixed(place)), tuple(first + place)); }
 }
 
-// The place of the first group of a map's table, by the last bits of a hash's two halves; a table of 20,000 rows tells no more apart.
+// The place of the first group of a map's table, by the last bits of a hash's two halves; a table of 20,000 rows tells no more apart. An
+// element is hashed as its number and then twice the key's, with one more for an edge; a digest as one number with the key in its high half.
 const BITS: u64 = (1 << 12) - 1;
 
 fn group(hash: u64) -> u64 { (hash ^ (hash >> 32)) & BITS }
@@ -431,7 +432,7 @@ fn hashed(write: impl Fn(&mut DefaultHasher)) -> u64 {
     hasher.finish()
 }
 
-fn element_group(number: u64) -> u64 { group(hashed(|hasher| { 1u32.hash(hasher); false.hash(hasher); number.hash(hasher) })) }
+fn element_group(number: u64) -> u64 { group(hashed(|hasher| { number.hash(hasher); 2u64.hash(hasher) })) }
 
 // The bytes of a text, made without `format!`, since so many are tried.
 fn text_bytes(mut number: u64) -> [u8; 20] {
@@ -446,7 +447,7 @@ fn text_bytes(mut number: u64) -> [u8; 20] {
 
 fn text_group(number: u64) -> u64 {
     let digest = hashed(|hasher| std::str::from_utf8(&text_bytes(number)).unwrap().hash(hasher)) as u32;
-    group(hashed(|hasher| { 1u32.hash(hasher); digest.hash(hasher) }))
+    group(hashed(|hasher| (1u64 << 32 | u64::from(digest)).hash(hasher)))
 }
 
 fn print(count: usize, is_taken: impl Fn(u64) -> bool) {

@@ -1,4 +1,7 @@
-ghost use Rattle.std.specs.Prelude.{◌≡◌};
+ghost use Rattle.std.specs.Prelude.{◌≡◌, ◌+◌, ◌*◌, ◌^◌};
+ghost use Rattle.std.specs.Hash as fed;
+ghost use Rattle.std.specs.Cmp.Rules.{hashing};
+ghost use Rattle.std.proofs.Common.{rules};
 ghost use Rattle.pgs_keyindex.specs.Digests.{digest_of, fed_part, fed_value, hash_of};
 ghost use Rattle.pgs_keyindex.specs.MemberLaws.{exact_digest};
 
@@ -7,7 +10,7 @@ use pgs_tables::{Number, Numeric};
 use std::hash::{BuildHasher, DefaultHasher, Hash, Hasher};
 
 /// The digest of a tuple under a key. Others may have the same.
-#[derive(Clone, Copy, Debug, PartialEq, Eq, PartialOrd, Ord, Hash)]
+#[derive(Clone, Copy, Debug, PartialEq, Eq, PartialOrd, Ord)]
 pub(crate) struct Digest {
     pub(crate) key: u32,
     pub(crate) hash: u32,
@@ -59,6 +62,17 @@ fn feed_value(value: &Value, hasher: &mut DefaultHasher)
             day.month().hash(hasher);
             day.day().hash(hasher);
         }
+    }
+}
+
+// One write of one word. Digests that differ are written apart: the key is the high half, and the hash the low one.
+impl Hash for Digest {
+    ghost hash_input = { λ d. fed.u64 (d.key * 2 ^ 32 + d.hash) };
+
+    ghost respects_eq = { Prim.search (hashing, rules) };
+
+    fn hash<H: Hasher>(&self, state: &mut H) {
+        state.write_u64(u64::from(self.key) * (1 << 32) + u64::from(self.hash));
     }
 }
 

@@ -127,6 +127,7 @@ impl KeyIndex {
     {
         let KeyReady { changes } = ready;
         self.ready = None;
+        self.table.settle(changes.as_slice());
         put_changes(&mut self.table, changes.into_vec());
     }
 }

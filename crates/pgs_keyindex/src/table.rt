@@ -21,14 +21,16 @@ use std::alloc::Global;
 use std::marker::Model;
 
 /// The rows of an index. Where a value of an exclusive key is looked for, the elements are listed that may have it; some of them may
-/// have lost it, or not have got it. The digests at which that may be so since memory was taken last are kept.
+/// have lost it, or not have got it. The digests at which that may be so are kept: of the values that elements had when memory was taken
+/// last, and of those that they were to get, until they have got them.
 pub(crate) struct KeyTable {
     alloc: Global,
     seed: Seed,
     exclusive: List<bool>,
     rows: Numbered<Member, TupleSet>,
     holders: Numbered<Digest, Few>,
-    unsure: Vec<Digest>,
+    former: Vec<Digest>,
+    coming: Vec<Digest>,
 }
 
 impl Model for KeyTable {
@@ -50,7 +52,8 @@ impl Drop for KeyTable {
             exclusive: _,
             rows: _,
             holders: _,
-            unsure: _,
+            former: _,
+            coming: _,
         } = self;
     }
 }
@@ -67,7 +70,8 @@ impl KeyTable {
             exclusive,
             rows: Numbered::new(alloc, seed),
             holders: Numbered::new(alloc, seed),
-            unsure: Vec::new(alloc),
+            former: Vec::new(alloc),
+            coming: Vec::new(alloc),
         }
     }
 
@@ -189,15 +193,12 @@ impl KeyTable {
         Ok(())
     }
 
-    // The same at the digest that is kept at a place.
-    fn tidy_kept(&mut self, place: usize) -> Result<(), Memory>
+    // The same at a digest that is kept, where there is one.
+    fn tidy_kept(&mut self, kept: Option<Digest>) -> Result<(), Memory>
         ensures { SameRows self.old self.new }
     {
-        match self.unsure.get(place) {
-            Some(digest) => {
-                let digest = *digest;
-                self.tidy(digest)
-            }
+        match kept {
+            Some(digest) => self.tidy(digest),
             None => Ok(()),
         }
     }
@@ -205,10 +206,16 @@ impl KeyTable {
     fn tidy_all_kept(&mut self) -> Result<(), Memory>
         ensures { SameRows self.old self.new }
     {
-        for place in 0..self.unsure.len() {
-            self.tidy_kept(place)?;
+        for place in 0..self.former.len() {
+            let kept = self.former.get(place).copied();
+            self.tidy_kept(kept)?;
         }
-        self.unsure.clear();
+        for place in 0..self.coming.len() {
+            let kept = self.coming.get(place).copied();
+            self.tidy_kept(kept)?;
+        }
+        self.former.clear();
+        self.coming.clear();
         Ok(())
     }
 
@@ -228,12 +235,13 @@ impl KeyTable {
         ensures grows { Grows self.old self.new }
         ensures there { OnOk result (has_elem elem (listed_at self.new.holders.rows digest) ≡ true) }
     {
+        // The slot is made first, so that it is found again without hashing.
+        self.holders.make_slot(digest)?;
         let elems = listed(&self.holders, digest);
         if has_elem(elems, elem) {
             return Ok(());
         }
         let few = with_elem(self.alloc, elems, elem)?;
-        self.holders.make_slot(digest)?;
         relist(&mut self.holders, digest, few);
         Ok(())
     }
@@ -247,40 +255,51 @@ impl KeyTable {
         let tuples = values.as_slice();
         for tuple in tuples {
             let digest = Digest::of(self.seed, key, tuple);
-            self.unsure.push(digest)?;
+            self.coming.push(digest)?;
             self.list(digest, elem)?;
         }
         Ok(())
     }
 
     // Keeps the digests of the values that an element has under an exclusive key.
-    fn keep_unsure(&mut self, key: u32, elem: Elem) -> Result<(), Memory>
+    fn keep_former(&mut self, key: u32, elem: Elem) -> Result<(), Memory>
         ensures { self.new ≡ self.old }
     {
         if !self.is_exclusive(key) {
             return Ok(());
         }
         match self.rows.get(Member::new(key, elem)) {
-            Some(values) => add_digests(&mut self.unsure, self.seed, key, values),
+            Some(values) => add_digests(&mut self.former, self.seed, key, values),
             None => Ok(()),
         }
     }
 
     /// Takes all memory that a change needs: a slot for the row, and the element listed where its values are looked for. The digests of
-    /// the values that it has before and after are kept.
+    /// the values that it has before and after are kept. A slot is made before the row in it is looked for, which then is found without
+    /// hashing.
     pub(crate) fn make_room(&mut self, change: &KeyChange) -> Result<(), Memory>
         ensures grows { Grows self.old self.new }
         ensures room { OnOk result (has_room self.new change.now ≡ true) }
     {
-        self.keep_unsure(change.key, change.elem)?;
         let Some(values) = &change.values else {
-            return Ok(());
+            return self.keep_former(change.key, change.elem);
         };
         self.rows.make_slot(Member::new(change.key, change.elem))?;
+        self.keep_former(change.key, change.elem)?;
         if self.is_exclusive(change.key) {
             self.list_at_each(change.key, change.elem, values)?;
         }
         Ok(())
+    }
+
+    /// Forgets the digests that are kept of values that elements were to get by changes, all of which are now done: they have got them
+    /// then. Where a row may change twice the digests stay.
+    pub(crate) fn settle(&mut self, changes: &[KeyChange])
+        ensures { self.new ≡ self.old }
+    {
+        if ascend(changes) {
+            self.coming.clear();
+        }
     }
 
     /// Does a change for which there is room. It takes no memory.
@@ -297,6 +316,21 @@ impl KeyTable {
             }
         }
     }
+}
+
+// Whether changes ascend by key and element, so that each is of a row of its own.
+fn ascend(changes: &[KeyChange]) -> bool {
+    let mut before: Option<Member> = None;
+    for change in changes {
+        let member = Member::new(change.key, change.elem);
+        if let Some(before) = before {
+            if before.cmp(&member).is_ge() {
+                return false;
+            }
+        }
+        before = Some(member);
+    }
+    true
 }
 
 // Adds the digests of values under a key.
