@@ -12,5 +12,5 @@ loop-place-preserved c =
       so_far = row_found c.args.number rows c.requires place c.loop-place-test.true c.loop-place.auto.place row c.index-rows-place.is (λ q. tree.get_by (λ k. tuple_cmp q k.now) c.loop-place.table) c.loop-place.invariant.owners
           c.loop-place.found.items c.add.new.found.items c.in_ok-violation.violation c.loop-place.invariant.so_far c.in_ok-add.ensures c.in_ok-violation.ensures.first;
       owners = row_owns c.args.number rows c.requires place c.loop-place-test.true c.loop-place.auto.place row c.index-rows-place.is (λ q. tree.get_by (λ k. tuple_cmp q k.now) c.loop-place.table)
-          (λ q. tree.get_by (λ k. tuple_cmp q k.now) c.first_sharer-violation.new.table) c.loop-place.invariant.owners c.in_ok-violation.ensures.owners;
+          (λ q. tree.get_by (λ k. tuple_cmp q k.now) c.first_sharer.new.table) c.loop-place.invariant.owners c.in_ok-violation.ensures.owners;
     }
