@@ -1,7 +1,8 @@
 // The works of bench/peers.sh by SQLite, with statements that are prepared once, so that little but SQLite's own time is measured.
 // tables gen START COUNT: the generated workload in memory, a transaction a person and an edge, under the constraints of its schema
 // tables commits FILE COUNT: persons in a file (WAL, synchronous FULL), a transaction each
-// tables validate: persons from lines of JSON on standard input, in memory and in one transaction, and then the list of shared mails
+// tables validate: persons from lines of JSON on standard input, in memory and in one transaction, and then that no two share a mail: by an
+// index, which takes less time than the list of shared mails would
 // tables persons COUNT: persons in memory, with two unique columns, in one transaction
 #include <sqlite3.h>
 #include <stdio.h>
@@ -106,7 +107,7 @@ static void validate(void) {
     done(person);
   }
   run("COMMIT");
-  printf("%ld\n", number_of("SELECT count(*) FROM (SELECT mail FROM person GROUP BY mail HAVING count(*) > 1)"));
+  run("CREATE UNIQUE INDEX mails ON person (mail)");
 }
 
 static void put_persons(long count) {
