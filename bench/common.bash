@@ -30,7 +30,8 @@ take() {
   done
 }
 
-# build CRATE WORD..: proves and builds a program, with what is below where no check has kept it, and runs it once with the words
+# build CRATE WORD..: proves and builds a program, with what is below where no check has kept it, and runs it once with the words. Where
+# `keep` is the path of a file, the program is put there, and that is all.
 build() {
   local crate=$1
   shift
@@ -39,6 +40,7 @@ build() {
     tail -n 40 "$work/log" >&2
     exit 1
   }
+  [ -z "${keep-}" ] || { cp "$built" "$keep"; exit 0; }
 }
 
 # milliseconds COMMAND..: the processor's time of a program itself, the least of three, which other work on the machine changes least
