@@ -1,3 +1,6 @@
+pub mod AllListed
 pub mod Cycles
+pub mod Listing
 pub mod Members
+pub mod Named
 pub mod Trails

@@ -122,3 +122,49 @@ module _ (next : List ℕ → List (List ℕ)) where
 
     pub back_to : (name : List ℕ) → LeadsTo next name name → Contains (cyclic next names) name
     back_to name w = kept_given leads_back names name (named name names (there name name w)) (short name name w)
+
+  -- ---- a way that goes on has to turn back
+
+  pub after : (from via to : List ℕ) → LeadsTo next from via → Contains (next via) to → LeadsTo next from to
+  after from via to (step h) i = further h (step i)
+  after from via to (further {via = other} h rest) i = further h (after other via to rest i)
+
+  module _ (names : List (List ℕ)) (goes : (name : List ℕ) → has_name name names ≡ true → (to : List ℕ) × Contains (next name) to × (has_name to names ≡ true)) where
+    abbrev Back : Type 0
+    Back = (name : List ℕ) × LeadsTo next name name
+
+    turn : (left : ℕ) (before : List (List ℕ)) (at : List ℕ) → Apart (at ∷ before) → ((name : List ℕ) → Contains (at ∷ before) name → has_name name names ≡ true) →
+        ((name : List ℕ) → Contains before name → LeadsTo next name at) → length names ≤ left + length before → Back
+    turn zero before at apart among led short =
+        let most : length (at ∷ before) ≤ length names = few (at ∷ before) names apart among in absurd (omega arith)
+    turn (suc left) before at apart among led short =
+        let on = goes at (among at (contains_first at before)) in
+        by on.0 on.1 on.2 (has_name on.0 (at ∷ before)) refl (turn left (at ∷ before) on.0)
+      where
+        by : (to : List ℕ) → Contains (next at) to → has_name to names ≡ true → (b : Bool) → has_name to (at ∷ before) ≡ b →
+            (Apart (to ∷ at ∷ before) → ((name : List ℕ) → Contains (to ∷ at ∷ before) name → has_name name names ≡ true) →
+            ((name : List ℕ) → Contains (at ∷ before) name → LeadsTo next name to) → length names ≤ left + length (at ∷ before) → Back) → Back
+        by to goes_to there true e rest = elim (contains_cases at before to (named to (at ∷ before) e)) [
+          | inl same ↦ (at, subst (LeadsTo next at) (sym same) (step goes_to))
+          | inr old ↦ (to, after to at to (led to old) goes_to)
+        ]
+        by to goes_to there false e rest =
+            rest (e, apart)
+            (λ name i. elim (contains_cases to (at ∷ before) name i) [
+              | inl same ↦ ap (λ n. has_name n names) (sym same) ∙ there
+              | inr later ↦ among name later
+            ])
+            (λ name i. elim (contains_cases at before name i) [
+              | inl same ↦ subst (λ n. LeadsTo next n to) same (step goes_to)
+              | inr later ↦ after name at to (led name later) goes_to
+            ])
+            (omega arith)
+
+    -- where each of some names leads to one of them, one leads back to itself
+    pub some_back : (name : List ℕ) → has_name name names ≡ true → Back
+    some_back name there =
+        turn (length names) [] name (refl, tt)
+        (λ other i. elim (contains_cases name [] other i) [
+          | inl same ↦ ap (λ n. has_name n names) (sym same) ∙ there
+          | inr none ↦ absurd (contains_none other none)
+        ]) (λ other i. absurd (contains_none other i)) (omega arith)

@@ -1,11 +1,17 @@
 //! Laws of the definitions of resolution. The functions do nothing; their contracts are the statements.
 
-ghost use Rattle.std.specs.Prelude.{◌≡◌, ◌↔◌, ◌⊎◌, ℕ, List, Some, None, Contains};
+ghost use Rattle.std.specs.Prelude.{◌≡◌, ◌↔◌, ◌⊎◌, ◌++◌, ◌∷◌, ℕ, List, Some, None, Contains, map};
 ghost use Rattle.std.specs.Ordering.{nat_cmp};
 ghost use Rattle.std.specs.Cmp.Lexicographic.{slice_cmp};
+ghost use Rattle.pgs_syntax.specs.declared.element_type.EdgeType.{EdgeType};
+ghost use Rattle.pgs_syntax.specs.declared.element_type.NodeType.{NodeType};
 ghost use Rattle.pgs_syntax.specs.declared.script.Script.{Script};
+ghost use Rattle.pgs_syntax.specs.declared.specification.Leaf.{Leaf};
 ghost use Rattle.pgs_syntax.specs.Least.{IsLeast};
+ghost use Rattle.pgs_resolve_declared.specs.Declarations.{nodes_of, edges_of};
+ghost use Rattle.pgs_resolve_declared.specs.Order.{node_entry, edge_entry, numbering_of, resolved_nodes, resolved_edges};
 ghost use Rattle.pgs_resolve_declared.specs.Refused.{cyclic, cycle, named_by, imported_by};
+ghost use Rattle.pgs_resolve_laws.specs.Standing.{IsNext};
 ghost use Rattle.pgs_resolve_laws.specs.Ways.{LeadsTo, IsOnCycle, type_names, graph_names};
 
 /// A name is on a cycle, of naming or of imports, exactly where steps lead from it back to itself, however many they are.
@@ -20,4 +26,21 @@ pub fn a_cycle_is_a_way_back()
 pub fn the_least_name_on_a_cycle_is_told()
     ensures none { (script : Script) → (cycle script ≡ None) ↔ ((name : List ℕ) → IsOnCycle script name → ⊥) }
     ensures some { (script : Script) (name : List ℕ) → (cycle script ≡ Some name) ↔ IsLeast (slice_cmp nat_cmp) (IsOnCycle script) name }
+{}
+
+/// Wherever the list of node types, or that of edge types, is cut before a name, the type of that name is the least by its place of those
+/// that can follow: they aren't among those before it, and all types of their kind that they name are.
+pub fn each_next_type_is_the_least_that_can_follow()
+    ensures nodes { (script : Script) (before after : List (List ℕ)) (name : List ℕ) →
+        (numbering_of script).nodes ≡ before ++ name ∷ after → IsNext (map (node_entry script) (nodes_of script)) before name }
+    ensures edges { (script : Script) (before after : List (List ℕ)) (name : List ℕ) →
+        (numbering_of script).edges ≡ before ++ name ∷ after → IsNext (map (edge_entry script) (edges_of script)) before name }
+{}
+
+/// No type that is listed is dropped: the resolved node types, and the resolved edge types, have the names of their list in its order.
+pub fn no_listed_type_is_dropped()
+    ensures nodes { (script : Script) →
+        map (λ (type : NodeType Leaf). type.name) (resolved_nodes script (numbering_of script)) ≡ (numbering_of script).nodes }
+    ensures edges { (script : Script) →
+        map (λ (type : EdgeType Leaf). type.name) (resolved_edges script (numbering_of script)) ≡ (numbering_of script).edges }
 {}
