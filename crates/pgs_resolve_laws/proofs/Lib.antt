@@ -5,4 +5,5 @@ pub mod Members
 pub mod Named
 pub mod Resolved
 pub mod Trails
+pub mod Unrefused
 pub mod Walked

@@ -45,7 +45,7 @@ module _ {T : Type 0} (key : T → List ℕ) where
           ∙ ap (λ (n : List ℕ). n ∷ map of (filter_map resolved_of names)) (same it.0 ∙ it.2) ∙ ap (λ (ns : List (List ℕ)). name ∷ ns) rest
 
 module _ {T : Type 0} (key : T → List ℕ) (entry_of : T → Entry) (same : (type : T) → (entry_of type).name ≡ key type) where
-  names_same : (types : List T) → map (λ (entry : Entry). entry.name) (map entry_of types) ≡ map key types
+  pub names_same : (types : List T) → map (λ (entry : Entry). entry.name) (map entry_of types) ≡ map key types
   names_same [] = refl
   names_same (type ∷ types) = ap (λ (n : List ℕ). n ∷ map (λ (entry : Entry). entry.name) (map entry_of types)) (same type) ∙ ap (λ (ns : List (List ℕ)). key type ∷ ns) (names_same types)
 

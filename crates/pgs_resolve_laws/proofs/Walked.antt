@@ -21,7 +21,7 @@ use Rattle.pgs_resolve_laws.proofs.Named.{type_named}
 use Rattle.pgs_resolve_laws.proofs.Trails.{after}
 
 -- the first that passes a test passes it
-found_passes : {X : Type 0} (p : X → Bool) (xs : List X) (x : X) → find p xs ≡ Some x → p x ≡ true
+pub found_passes : {X : Type 0} (p : X → Bool) (xs : List X) (x : X) → find p xs ≡ Some x → p x ≡ true
 found_passes p [] x h = cc
 found_passes p (y ∷ ys) x h = by (p y) refl h (found_passes p ys x)
   where

@@ -1,17 +1,21 @@
 //! Laws of the definitions of resolution. The functions do nothing; their contracts are the statements.
 
-ghost use Rattle.std.specs.Prelude.{◌≡◌, ◌↔◌, ◌⊎◌, ◌++◌, ◌∷◌, ℕ, List, Some, None, Contains, map};
+ghost use Rattle.std.specs.Prelude.{◌≡◌, ◌↔◌, ◌⊎◌, ◌++◌, ◌∷◌, ℕ, List, Some, None, Ok, Contains, IsPermutation, map};
 ghost use Rattle.std.specs.Ordering.{nat_cmp};
 ghost use Rattle.std.specs.Cmp.Lexicographic.{slice_cmp};
 ghost use Rattle.pgs_syntax.specs.declared.element_type.EdgeType.{EdgeType};
 ghost use Rattle.pgs_syntax.specs.declared.element_type.NodeType.{NodeType};
+ghost use Rattle.pgs_syntax.specs.declared.resolved.Resolved.{Resolved};
+ghost use Rattle.pgs_syntax.specs.declared.script.GraphType.{GraphType};
 ghost use Rattle.pgs_syntax.specs.declared.script.Script.{Script};
 ghost use Rattle.pgs_syntax.specs.declared.specification.Leaf.{Leaf};
 ghost use Rattle.pgs_syntax.specs.Least.{IsLeast};
-ghost use Rattle.pgs_resolve_declared.specs.Declarations.{nodes_of, edges_of};
-ghost use Rattle.pgs_resolve_declared.specs.Order.{node_entry, edge_entry, numbering_of, resolved_nodes, resolved_edges};
+ghost use Rattle.pgs_resolve_declared.specs.Declarations.{nodes_of, edges_of, graphs_of};
+ghost use Rattle.pgs_resolve_declared.specs.Imports.{last_of, walked_graphs};
+ghost use Rattle.pgs_resolve_declared.specs.Order.{node_entry, edge_entry, numbering_of, resolved_node, resolved_edge, resolved_nodes, resolved_edges};
 ghost use Rattle.pgs_resolve_declared.specs.Refused.{cyclic, cycle, named_by, imported_by};
-ghost use Rattle.pgs_resolve_laws.specs.Standing.{IsNext};
+ghost use Rattle.pgs_resolve.specs.Resolution.{resolution};
+ghost use Rattle.pgs_resolve_laws.specs.Standing.{CanFollow, IsNext};
 ghost use Rattle.pgs_resolve_laws.specs.Ways.{LeadsTo, IsOnCycle, type_names, graph_names};
 
 /// A name is on a cycle, of naming or of imports, exactly where steps lead from it back to itself, however many they are.
@@ -43,4 +47,35 @@ pub fn no_listed_type_is_dropped()
         map (λ (type : NodeType Leaf). type.name) (resolved_nodes script (numbering_of script)) ≡ (numbering_of script).nodes }
     ensures edges { (script : Script) →
         map (λ (type : EdgeType Leaf). type.name) (resolved_edges script (numbering_of script)) ≡ (numbering_of script).edges }
+{}
+
+/// In a script that isn't refused each declared type stands exactly once in the list of its kind.
+pub fn each_declared_type_is_listed_once()
+    ensures nodes { (script : Script) (schema : Resolved) → resolution script ≡ Ok schema →
+        IsPermutation (map (λ (type : NodeType (List ℕ)). type.name) (nodes_of script)) (numbering_of script).nodes }
+    ensures edges { (script : Script) (schema : Resolved) → resolution script ≡ Ok schema →
+        IsPermutation (map (λ (type : EdgeType (List ℕ)). type.name) (edges_of script)) (numbering_of script).edges }
+{}
+
+/// The node types of a schema, and its edge types, are exactly those that its script declares, each resolved, in another order.
+pub fn each_declared_type_is_resolved_once()
+    ensures nodes { (script : Script) (schema : Resolved) → resolution script ≡ Ok schema →
+        IsPermutation (map (resolved_node (numbering_of script)) (nodes_of script)) schema.nodes }
+    ensures edges { (script : Script) (schema : Resolved) → resolution script ≡ Ok schema →
+        IsPermutation (map (resolved_edge (numbering_of script)) (edges_of script)) schema.edges }
+{}
+
+/// In a script that isn't refused the graph types that count are the last one and those to which imports lead from it, however many
+/// steps they are.
+pub fn what_is_imported_is_walked()
+    ensures { (script : Script) (schema : Resolved) → resolution script ≡ Ok schema → (last : GraphType) → last_of (graphs_of script) ≡ Some last →
+        (name : List ℕ) → Contains (map (λ (type : GraphType). type.name) (walked_graphs script)) name
+        ↔ ((name ≡ last.name) ⊎ LeadsTo (imported_by script) last.name name) }
+{}
+
+/// Each of them is walked once, and after all that it imports.
+pub fn each_import_is_walked_once_after_its_own()
+    ensures { (script : Script) (schema : Resolved) → resolution script ≡ Ok schema → (before after : List GraphType) (type : GraphType) →
+        walked_graphs script ≡ before ++ type ∷ after →
+        CanFollow (map (λ (type : GraphType). type.name) before) type.name type.imports }
 {}
