@@ -1,5 +1,5 @@
 -- The cycles of a script: where its names lead, and the least name on a cycle.
-use Rattle.std.proofs.Common.{◌≡◌, ℕ, Bool, true, false, cond, ◌||◌, ⊎_elim, ◌⊎◌, inl, inr, List, [], ◌∷◌, ◌++◌, map, Option, Some, None, is_some, refl, sym, ◌∙◌, ap, subst}
+use Rattle.std.proofs.Common.{◌≡◌, ℕ, Bool, true, false, cond, ⊎_elim, ◌⊎◌, inl, inr, List, [], ◌∷◌, ◌++◌, map, Option, Some, None, is_some, refl, sym, ◌∙◌, ap, subst}
 use Rattle.std.specs.Prelude.{Contains}
 use Rattle.std.specs.List.{find}
 use Rattle.std.specs.Option.{option_map_or}
@@ -18,7 +18,7 @@ use Rattle.pgs_syntax.specs.declared.script.GraphType.{GraphType}
 use Rattle.pgs_syntax.specs.declared.script.Script.{Script}
 use Rattle.pgs_syntax.specs.Least.{IsLeast}
 use Rattle.pgs_syntax.proofs.Members.{contains_first, contains_cases, contains_none, one_least}
-use Rattle.pgs_resolve_declared.specs.Declarations.{words_of, nodes_of, edges_of, graphs_of, node_named, edge_named}
+use Rattle.pgs_resolve_declared.specs.Declarations.{words_of, nodes_of, edges_of, graphs_of, edge_named}
 use Rattle.pgs_resolve_declared.specs.Refused.{named_by, imported_by, cyclic, lesser, least, cycle}
 use Rattle.pgs_resolve_declared.proofs.Firsts.{some_found}
 use Rattle.pgs_resolve_laws.specs.Ways.{LeadsTo, IsOnCycle, type_names, graph_names}

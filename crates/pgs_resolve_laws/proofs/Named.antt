@@ -1,5 +1,5 @@
 -- Types that are found by their names: none is dropped.
-use Rattle.std.proofs.Common.{◌≡◌, ℕ, Bool, true, false, cond, ◌||◌, ⊎_elim, List, [], ◌∷◌, length, map, Option, Some, None, refl, sym, ◌∙◌, ap, subst, true≢false}
+use Rattle.std.proofs.Common.{◌≡◌, ℕ, Bool, true, false, cond, ◌||◌, ⊎_elim, List, [], ◌∷◌, length, map, Option, Some, refl, sym, ◌∙◌, ap, subst, true≢false}
 use Rattle.std.specs.Prelude.{Contains, filter_map, option_map, find}
 use Rattle.std.specs.List.{cons_option}
 use Rattle.pgs_base.specs.Pair.{same_name, has_name}
@@ -11,7 +11,6 @@ use Rattle.pgs_syntax.proofs.Members.{contains_first, contains_later, contains_n
 use Rattle.pgs_resolve_declared.specs.Declarations.{nodes_of, edges_of}
 use Rattle.pgs_resolve_declared.specs.Order.{Entry, listing, node_entry, edge_entry, numbering_of, resolved_node, resolved_edge, resolved_nodes, resolved_edges}
 use Rattle.pgs_resolve_declared.proofs.Same.{one_name}
-use Rattle.pgs_resolve_declared.proofs.Walks.{map_through}
 use Rattle.pgs_resolve_laws.proofs.Listing.{listed_from}
 use Rattle.pgs_resolve_laws.proofs.Members.{has}
 

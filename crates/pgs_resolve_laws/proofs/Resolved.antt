@@ -1,5 +1,5 @@
 -- Types resolved in the order of their names: the same types, in another order.
-use Rattle.std.proofs.Common.{◌≡◌, ℕ, true, List, [], ◌∷◌, map, Option, Some, None, refl, sym, ◌∙◌, ap, subst}
+use Rattle.std.proofs.Common.{◌≡◌, ℕ, true, List, [], ◌∷◌, map, Option, Some, refl, sym, ◌∙◌, ap, subst}
 use Rattle.std.specs.Prelude.{Contains, IsPermutation, filter_map, option_map, find}
 use Rattle.std.specs.List.{cons_option}
 use Rattle.std.specs.Option.{option_map_or}

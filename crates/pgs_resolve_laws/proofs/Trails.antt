@@ -1,14 +1,14 @@
 -- Ways as lists of names, none of which stands twice, and ways of so many steps.
-use Rattle.std.proofs.Common.{◌≡◌, ℕ, zero, suc, ◌+◌, ◌-◌, ◌<◌, ◌≤◌, Bool, true, false, ◌||◌, ⊎_elim, ◌⊎◌, inl, inr, List, [], ◌∷◌, length, filter, refl, sym, ◌∙◌, ap, subst, true≢false, arith}
+use Rattle.std.proofs.Common.{◌≡◌, ℕ, zero, suc, ◌+◌, ◌-◌, ◌≤◌, Bool, true, false, ◌||◌, ⊎_elim, inl, inr, List, [], ◌∷◌, length, refl, sym, ◌∙◌, ap, subst, true≢false, arith}
 use Rattle.std.specs.Prelude.{Contains}
 use Rattle.std.specs.List.{list_any}
-use Rattle.std.proofs.lemmas.Bool.{or_cases, or_left, or_right, both_ways}
+use Rattle.std.proofs.lemmas.Bool.{or_cases, or_left, or_right}
 use Rattle.pgs_base.specs.Pair.{same_name, has_name}
-use Rattle.pgs_syntax.proofs.Members.{contains_first, contains_later, contains_cases, contains_none, kept_found, kept_given}
+use Rattle.pgs_syntax.proofs.Members.{contains_first, contains_cases, contains_none, kept_found, kept_given}
 use Rattle.pgs_resolve_declared.specs.Refused.{leads, cyclic}
 use Rattle.pgs_resolve_declared.proofs.Same.{one_name, itself}
 use Rattle.pgs_resolve_laws.specs.Ways.{LeadsTo, step, further}
-use Rattle.pgs_resolve_laws.proofs.Members.{any_given, any_found, named, has, Apart, few}
+use Rattle.pgs_resolve_laws.proofs.Members.{any_given, any_found, named, Apart, few}
 
 module _ (next : List ℕ → List (List ℕ)) where
   -- ---- a way as the list of the names on it

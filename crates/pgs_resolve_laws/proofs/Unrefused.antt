@@ -1,6 +1,6 @@
 -- A script that isn't refused: each type is listed once, and each import is walked.
-use Rattle.std.proofs.Common.{◌≡◌, ℕ, Bool, true, false, not, cond, ⊎_elim, ◌⊎◌, inl, inr, ◌≤◌, List, [], ◌∷◌, ◌++◌, length, map, filter, Option, Some, None, Ok, is_some, refl, sym, ◌∙◌, ap, subst, true≢false, arith}
-use Rattle.std.specs.Prelude.{Contains, IsPermutation, filter_map, option_map, find, flat_map}
+use Rattle.std.proofs.Common.{◌≡◌, ℕ, Bool, true, false, not, cond, ⊎_elim, ◌⊎◌, inl, inr, ◌≤◌, List, [], ◌∷◌, ◌++◌, length, map, filter, Option, Some, None, refl, sym, ◌∙◌, ap, subst, true≢false, arith}
+use Rattle.std.specs.Prelude.{Contains, IsPermutation, filter_map, find, flat_map}
 use Rattle.std.specs.List.{cons_option}
 use Rattle.std.specs.Option.{option_map_or}
 use Rattle.std.proofs.lemmas.Bool.{or_from, or_parts, false_from_ne_true}
@@ -9,12 +9,10 @@ use Rattle.std.proofs.lemmas.List.Elements.{Contains-append_left, Contains-appen
 use Rattle.pgs_base.specs.Pair.{same_name, has_name}
 use Rattle.pgs_syntax.specs.declared.element_type.EdgeType.{EdgeType}
 use Rattle.pgs_syntax.specs.declared.element_type.NodeType.{NodeType}
-use Rattle.pgs_syntax.specs.declared.resolved.Resolved.{Resolved}
 use Rattle.pgs_syntax.specs.declared.script.GraphType.{GraphType}
 use Rattle.pgs_syntax.specs.declared.script.Member.{Member}
 use Rattle.pgs_syntax.specs.declared.script.Member.TheVariants as members
 use Rattle.pgs_syntax.specs.declared.script.Script.{Script}
-use Rattle.pgs_syntax.specs.declared.specification.Leaf.{Leaf}
 use Rattle.pgs_syntax.specs.declared.specification.Spec.{Empty}
 use Rattle.pgs_syntax.proofs.Members.{contains_first, contains_later, contains_cases, contains_none, kept_found, kept_given, given_found}
 use Rattle.pgs_resolve_declared.specs.Declarations.{words_of, types_of, nodes_of, edges_of, graphs_of, node_in, edge_in, node_named, edge_named, graph_named, is_node_type, is_edge_type, is_graph_type}
@@ -22,19 +20,19 @@ use Rattle.pgs_resolve_declared.specs.Imports.{walked, last_of, walked_graphs}
 use Rattle.pgs_resolve_declared.specs.Order.{Entry, listing, node_entry, edge_entry, numbering_of, resolved_node, resolved_edge, resolved_nodes, resolved_edges}
 use Rattle.pgs_resolve_declared.specs.Refused.{named_by, imported_by, marks_of, seconds_after, duplicates, unknown_member, unknown_in, unknowns, cycle}
 use Rattle.pgs_resolve_declared.proofs.Firsts.{some_found}
-use Rattle.pgs_resolve_declared.proofs.Same.{one_name, in_turn}
+use Rattle.pgs_resolve_declared.proofs.Same.{one_name}
 use Rattle.pgs_resolve.specs.declared.fault.ResolveFault.{ResolveFault}
 use Rattle.pgs_resolve.specs.declared.fault.ResolveFault.TheVariants as faults
 use Rattle.pgs_resolve.specs.Guard.{name_of}
-use Rattle.pgs_resolve.specs.Resolution.{refusals, resolved, resolution}
+use Rattle.pgs_resolve.specs.Resolution.{refusals}
 use Rattle.pgs_resolve.proofs.Fresh.{In, Fresh, fresh_none, types_fresh, node_found, edge_found}
-use Rattle.pgs_resolve.proofs.Refusing.{not_refused, resolved_only}
+use Rattle.pgs_resolve.proofs.Refusing.{not_refused}
 use Rattle.pgs_resolve_laws.specs.Standing.{CanFollow}
 use Rattle.pgs_resolve_laws.specs.Ways.{LeadsTo, graph_names}
 use Rattle.pgs_resolve_laws.proofs.AllListed.{names_of, each_listed}
 use Rattle.pgs_resolve_laws.proofs.Cycles.{cycle_none}
-use Rattle.pgs_resolve_laws.proofs.Members.{named, has, none_at, Apart}
-use Rattle.pgs_resolve_laws.proofs.Named.{type_named, none_dropped, names_same}
+use Rattle.pgs_resolve_laws.proofs.Members.{has, Apart}
+use Rattle.pgs_resolve_laws.proofs.Named.{type_named, names_same}
 use Rattle.pgs_resolve_laws.proofs.Resolved.{resolved_permute}
 use Rattle.pgs_resolve_laws.proofs.Walked.{found_passes, walked_from, walked_to, walked_at, all_declared}
 

@@ -1,23 +1,18 @@
 -- Imports are walked once, each behind its own imports, and to the last of them.
-use Rattle.std.proofs.Common.{◌≡◌, ℕ, zero, suc, ◌+◌, ◌<◌, ◌≤◌, Bool, true, false, cond, ⊎_elim, ◌⊎◌, inl, inr, List, [], ◌∷◌, ◌++◌, length, map, Option, Some, None, refl, sym, ◌∙◌, ap, subst, true≢false, arith, append_assoc}
-use Rattle.std.specs.Prelude.{Contains, filter_map, find}
-use Rattle.std.specs.List.{fold, cons_option}
-use Rattle.std.specs.Option.{option_map_or}
-use Rattle.std.proofs.lemmas.Bool.{both_ways, false_from_ne_true}
-use Rattle.std.proofs.lemmas.List.{append-nil, map-append}
+use Rattle.std.proofs.Common.{◌≡◌, ℕ, zero, suc, ◌+◌, ◌≤◌, Bool, true, false, cond, ◌⊎◌, inl, inr, List, [], ◌∷◌, ◌++◌, length, Some, refl, sym, ◌∙◌, ap, subst, true≢false, arith, append_assoc}
+use Rattle.std.specs.Prelude.{Contains, find}
+use Rattle.std.specs.List.{fold}
+use Rattle.std.proofs.lemmas.Bool.{false_from_ne_true}
+use Rattle.std.proofs.lemmas.List.{append-nil}
 use Rattle.std.proofs.lemmas.List.Elements.{Contains-append_left, Contains-append_right, Contains-append_cases}
-use Rattle.pgs_base.specs.Pair.{same_name, has_name}
-use Rattle.pgs_syntax.specs.declared.script.GraphType.{GraphType}
+use Rattle.pgs_base.specs.Pair.{has_name}
 use Rattle.pgs_syntax.specs.declared.script.Script.{Script}
-use Rattle.pgs_syntax.proofs.Members.{contains_first, contains_later, contains_cases, contains_none, given_found}
-use Rattle.pgs_resolve_declared.specs.Declarations.{graphs_of, graph_named}
-use Rattle.pgs_resolve_declared.specs.Imports.{walked, last_of, walked_graphs}
+use Rattle.pgs_syntax.proofs.Members.{contains_first, contains_later, contains_cases, contains_none}
+use Rattle.pgs_resolve_declared.specs.Imports.{walked}
 use Rattle.pgs_resolve_declared.specs.Refused.{imported_by}
-use Rattle.pgs_resolve_declared.proofs.Same.{one_name, itself}
 use Rattle.pgs_resolve_laws.specs.Standing.{CanFollow}
 use Rattle.pgs_resolve_laws.specs.Ways.{LeadsTo, step, further, graph_names}
 use Rattle.pgs_resolve_laws.proofs.Members.{named, has, Apart, few}
-use Rattle.pgs_resolve_laws.proofs.Named.{type_named}
 use Rattle.pgs_resolve_laws.proofs.Trails.{after}
 
 -- the first that passes a test passes it

@@ -65,8 +65,8 @@ pub fn each_declared_type_is_resolved_once()
         IsPermutation (map (resolved_edge (numbering_of script)) (edges_of script)) schema.edges }
 {}
 
-/// In a script that isn't refused the graph types that count are the last one and those to which imports lead from it, however many
-/// steps they are.
+/// In a script that isn't refused the graph types that count are the last one and those to which imports lead from it, in however many
+/// steps.
 pub fn what_is_imported_is_walked()
     ensures { (script : Script) (schema : Resolved) → resolution script ≡ Ok schema → (last : GraphType) → last_of (graphs_of script) ≡ Some last →
         (name : List ℕ) → Contains (map (λ (type : GraphType). type.name) (walked_graphs script)) name
@@ -77,5 +77,5 @@ pub fn what_is_imported_is_walked()
 pub fn each_import_is_walked_once_after_its_own()
     ensures { (script : Script) (schema : Resolved) → resolution script ≡ Ok schema → (before after : List GraphType) (type : GraphType) →
         walked_graphs script ≡ before ++ type ∷ after →
-        CanFollow (map (λ (type : GraphType). type.name) before) type.name type.imports }
+        CanFollow (map (λ (other : GraphType). other.name) before) type.name type.imports }
 {}
