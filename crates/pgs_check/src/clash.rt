@@ -66,11 +66,14 @@ pub(crate) fn with_holder(
     elem: Elem,
     found: Option<Violation>,
     tuple: &Tuple,
-    holder: Elem,
+    holder: Option<Elem>,
 ) -> Result<Option<Violation>, Memory>
-    ensures { IfOk result (λ least. least ≡ with_holder number elem found tuple.now (Some holder)) }
+    ensures { IfOk result (λ least. least ≡ with_holder number elem found tuple.now holder) }
 {
-    match clash(alloc, number, tuple, elem, holder)? {
+    let Some(other) = holder else {
+        return Ok(found);
+    };
+    match clash(alloc, number, tuple, elem, other)? {
         Some(further) => Ok(lesser(found, further)),
         None => Ok(found),
     }

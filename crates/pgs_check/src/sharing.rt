@@ -90,9 +90,7 @@ impl<'a> Owners<'a> {
         ensures cost { steps.new ≤ steps.old + length tuples.now }
     {
         for tuple in tuples {
-            let Some(owner) = self.unchanged(tuple, steps) else {
-                continue;
-            };
+            let owner = self.unchanged(tuple, steps);
             let least = with_holder(alloc, self.number, elem, found, tuple, owner)?;
             found = least;
         }
@@ -158,10 +156,8 @@ fn with_holders<'a>(
     ensures { IfOk result (λ least. least ≡ with_holders number (λ q. tree.get_by (λ k. tuple_cmp q k.now) table.now) elem found tuples.now) }
 {
     for tuple in tuples {
-        let Some(holder) = table.get(&tuple) else {
-            continue;
-        };
-        let least = with_holder(alloc, number, elem, found, tuple, *holder)?;
+        let holder = table.get(&tuple).copied();
+        let least = with_holder(alloc, number, elem, found, tuple, holder)?;
         found = least;
     }
     Ok(found)

@@ -7,8 +7,8 @@ use Rattle.pgs_check.proofs.Least.{still_settled}
 use Rattle.pgs_check.proofs.Steps.{least_step, least_done}
 use Rattle.pgs_check.proofs.untyped.least_along.Goals as goal
 
-pub lesser_untested-requires : goal.lesser_untested-requires
-lesser_untested-requires g c =
+pub lesser_untested-found-requires : goal.lesser_untested-found-requires
+lesser_untested-found-requires g c =
     let graph = g.G.GraphRead.meaning c.args.graph.now in
     let ids = cond c.args.forward (out_edges_of graph c.args.node) (in_edges_of graph c.args.node) in
     still_settled (is_untyped_edge c.args.compiled.now graph) (keys_of c.args.tested.now) c.args.found c.loop-nth.found (take c.loop-nth.nth ids) c.requires
