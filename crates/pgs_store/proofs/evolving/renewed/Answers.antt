@@ -62,7 +62,7 @@ returns-in-Ok-clause-stops g c = λ honest told.
 pub returns-in-Err-clause-answer : goal.returns-in-Err-clause-answer
 returns-in-Err-clause-answer g c =
     let made = c.in_ok-renewal.ensures in
-    (refl, search rules, c.args.schema.resolved, made.schema, made.indexed.guarded.conforms)
+    (refl, search rules, (c.args.schema.resolved, (made.schema, made.indexed.guarded.conforms)))
 
 pub returns-in-Err-clause-stops : goal.returns-in-Err-clause-stops
 returns-in-Err-clause-stops g c = λ honest told.
