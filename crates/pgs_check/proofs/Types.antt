@@ -1,11 +1,10 @@
 -- An element that a sound delta doesn't name and, for an edge, whose ends it doesn't name, is typed before and after it or neither; so the
 -- first 25 and 26 are found among the others.
-use Rattle.std.proofs.Common.{◌≡◌, Bool, true, false, ⊎_elim, List, [], ◌∷◌, ◌++◌, Option, Some, None, is_some, slice_get, refl, sym, ◌∙◌, ap, subst, true≢false, eq-eqb, arith, Ordering, Less, Equal, Greater, is_lt}
-use Rattle.std.specs.Prelude.{Contains, filter, filter_map, flat_map, option_map, option_and_then, not, if◌then◌else◌}
+use Rattle.std.proofs.Common.{◌≡◌, Bool, true, false, ⊎_elim, List, [], ◌∷◌, ◌++◌, Option, Some, None, is_some, slice_get, refl, sym, ◌∙◌, ap, subst, true≢false, eq-eqb, arith, Ordering}
+use Rattle.std.specs.Prelude.{Contains, filter, filter_map, flat_map, option_map, option_and_then, if◌then◌else◌}
 use Rattle.std.specs.BTreeMap.{is_at}
 use Rattle.std.specs.Option.{option_map_or}
-use Rattle.std.specs.Ordering.{ordering_reverse}
-use Rattle.std.specs.Cmp.{IsTotalOrder, Equal-is, eq_by_cmp_equiv, tied_itself}
+use Rattle.std.specs.Cmp.{IsTotalOrder, Equal-is, eq_by_cmp_equiv}
 use Rattle.std.specs.List.{cons_option}
 use Rattle.std.specs.List.Sorted.{IsStrictlySortedBy}
 use Rattle.std.specs.Map.{lookup, keys_of}
@@ -29,11 +28,11 @@ use Rattle.pgs_graph.specs.Reads.{end_of, ends_at, edges_with, out_edges_of, in_
 use Rattle.pgs_graph.proofs.Deltas.{node_cmp_total, edge_cmp_total, exact_node, exact_edge, ascending_nodes, ascending_edges, ascending_changed_nodes, changed_graph, node_after, edge_after}
 use Rattle.pgs_syntax.specs.declared.resolved.Resolved.{Resolved}
 use Rattle.pgs_syntax.specs.Typed.{is_typed_triple, is_typed_edge, triple_at}
-use Rattle.pgs_syntax.proofs.Members.{contains_none, contains_cases, contains_first, contains_later, kept_given, is_less}
+use Rattle.pgs_syntax.proofs.Members.{contains_none, contains_cases, contains_first, contains_later, kept_given}
 use Rattle.pgs_violation.specs.declared.violation.Violation.{Violation}
 use Rattle.pgs_violation.specs.declared.violation.Violation.TheVariants.{UntypedEdge}
 use Rattle.pgs_violation.specs.Violations.{untyped_node, untyped_edge, where_asked}
-use Rattle.pgs_check.specs.Untyped.{untyped_violations, untyped_change, untyped_edge_at, is_untyped_edge, is_found_before, least_edge, edges_at, touched_edges}
+use Rattle.pgs_check.specs.Untyped.{untyped_violations, untyped_change, untyped_edge_at, is_untyped_edge, least_edge, edges_at, touched_edges}
 use Rattle.pgs_check.specs.Rows.{first_or}
 use Rattle.pgs_check.proofs.Firsts.{first_append, none_given, nothing_given, least_is_first, same_first}
 use Rattle.pgs_check.proofs.KeyFirst.{same_given, no_front}
