@@ -288,7 +288,14 @@ fn least_untyped<G: GraphRead, L: Ledger>(
 {
     let edges = delta.edges.as_slice();
     let changed = least_changed(graph, compiled, None, edges, steps);
-    least_at_changed(graph, compiled, edges, changed, delta.nodes.as_slice(), steps)
+    least_at_changed(
+        graph,
+        compiled,
+        edges,
+        changed,
+        delta.nodes.as_slice(),
+        steps,
+    )
 }
 
 // 26 for an edge, where there is one.
