@@ -2,6 +2,7 @@
 #![tactic(auto)]
 
 ghost use Rattle.std.specs.Prelude.{◌≡◌, ◌<◌};
+
 use pgs_base::{Limits, Steps};
 use pgs_graph::Txn;
 use pgs_json::read_txn;
@@ -47,11 +48,14 @@ fn main(rt: HostRuntime) -> io::Result<()> {
     };
     for line in LINES {
         match read_txn(rt.alloc(), line) {
-            Ok(txn) if guard.commits() < u64::MAX =>
-                match apply::<Brand>(&mut guard, &txn, Blank::new(1)) {
-                    Ok(number) => println!(rt; "committed {number}")?,
-                    Err(refusal) => println!(rt; "refused: {}", reason(&refusal))?,
-                },
+            Ok(txn) if guard.commits() < u64::MAX => match apply::<Brand>(
+                &mut guard,
+                &txn,
+                Blank::new(1),
+            ) {
+                Ok(number) => println!(rt; "committed {number}")?,
+                Err(refusal) => println!(rt; "refused: {}", reason(&refusal))?,
+            },
             _ => println!(rt; "no transaction")?,
         }
     }
