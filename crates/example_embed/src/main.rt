@@ -8,7 +8,6 @@ use pgs_graph::Txn;
 use pgs_json::read_txn;
 use pgs_store::{Guard, GuardRefusal};
 use pgs_violation::{Rejection, Violation};
-use std::io;
 use std::marker::Brand;
 use std::sync::ledger::{Blank, Ledger};
 
@@ -23,9 +22,7 @@ const LINES: [&[u8]; 3] = [
 
 // Applies a transaction, and counts look-ups on the ledger of the blank.
 fn apply<L: Ledger>(guard: &mut Guard, txn: &Txn, blank: Blank) -> Result<u64, GuardRefusal>
-    requires name { blank.name ≡ L.name }
-    requires parts { blank.parts ≡ L.parts }
-    requires some { 0 < blank.parts }
+    requires blank { (blank.name ≡ L.name) × (blank.parts ≡ L.parts) × (0 < blank.parts) }
     requires number { guard.old.commits < 18446744073709551615 }
 {
     let mut steps: Steps<L> = Steps::begin(blank);
@@ -42,7 +39,7 @@ fn reason(refusal: &GuardRefusal) -> &'static str {
     }
 }
 
-fn main(rt: HostRuntime) -> io::Result<()> {
+fn main(rt: HostRuntime) -> std::io::Result<()> {
     let Ok(mut guard) = Guard::new(rt.alloc(), SCHEMA, Limits::standard()) else {
         return Ok(());
     };
