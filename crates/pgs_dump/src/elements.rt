@@ -1,6 +1,7 @@
 //! The nodes and the edges of a graph, put element by element.
 
-ghost use Rattle.std.specs.Prelude.{◌≡◌, map};
+ghost use Rattle.std.specs.Prelude.{◌≡◌, map, true};
+ghost use Rattle.pgs_run_lines.specs.Calls.{stops_of_world};
 ghost use Rattle.pgs_base.specs.Pair.{pair_of};
 ghost use Rattle.pgs_graph.specs.Reads.{edge_row};
 ghost use Rattle.pgs_run_lines.specs.Puts.{Puts};
@@ -22,7 +23,8 @@ fn put_properties<E, W: World>(
     elem: Elem,
     properties: &[(Name, Value)],
 ) -> Result<(), Stop<E>>
-    ensures { Puts (W.view world.old) (set_lines elem properties.now) result (W.view world.new) }
+    ensures puts { Puts (W.view world.old) (set_lines elem properties.now) result (W.view world.new) }
+    ensures last { stops_of_world result ≡ true → W.failed world.new }
 {
     for property in properties {
         put_made(world, set_line(alloc, elem, property))?;
@@ -37,7 +39,8 @@ fn put_node<E, W: World>(
     id: NodeId,
     node: &NodeRef<'_>,
 ) -> Result<(), Stop<E>>
-    ensures { Puts (W.view world.old) (map op_line (node_ops (id, pair_of node.now.labels.now node.now.props.now))) result (W.view world.new) }
+    ensures puts { Puts (W.view world.old) (map op_line (node_ops (id, pair_of node.now.labels.now node.now.props.now))) result (W.view world.new) }
+    ensures last { stops_of_world result ≡ true → W.failed world.new }
 {
     put_made(world, add_node_line(alloc, id, node.labels))?;
     put_properties(alloc, world, Elem::Node(id), node.props.as_slice())
@@ -50,9 +53,10 @@ fn put_edge<E, W: World>(
     id: EdgeId,
     edge: &EdgeRef<'_>,
 ) -> Result<(), Stop<E>>
-    ensures { Puts (W.view world.old)
+    ensures puts { Puts (W.view world.old)
         (map op_line (edge_ops (id, edge_row edge.now.source edge.now.target edge.now.labels.now edge.now.props.now)))
         result (W.view world.new) }
+    ensures last { stops_of_world result ≡ true → W.failed world.new }
 {
     put_made(world, add_edge_line(alloc, id, edge))?;
     put_properties(alloc, world, Elem::Edge(id), edge.props.as_slice())
@@ -65,7 +69,8 @@ pub(crate) fn put_nodes<E, G: GraphRead, L: Ledger, W: World>(
     graph: &G,
     steps: &mut Steps<L>,
 ) -> Result<(), Stop<E>>
-    ensures { Puts (W.view world.old) (node_lines (G.meaning graph.now).nodes) result (W.view world.new) }
+    ensures puts { Puts (W.view world.old) (node_lines (G.meaning graph.now).nodes) result (W.view world.new) }
+    ensures last { stops_of_world result ≡ true → W.failed world.new }
 {
     let ids = graph.node_ids(alloc, steps)?;
     for id in ids.as_slice() {
@@ -84,7 +89,8 @@ pub(crate) fn put_edges<E, G: GraphRead, L: Ledger, W: World>(
     graph: &G,
     steps: &mut Steps<L>,
 ) -> Result<(), Stop<E>>
-    ensures { Puts (W.view world.old) (edge_lines (G.meaning graph.now).edges) result (W.view world.new) }
+    ensures puts { Puts (W.view world.old) (edge_lines (G.meaning graph.now).edges) result (W.view world.new) }
+    ensures last { stops_of_world result ≡ true → W.failed world.new }
 {
     let ids = graph.edge_ids(alloc, steps)?;
     for id in ids.as_slice() {

@@ -1,4 +1,5 @@
-ghost use Rattle.std.specs.Prelude.{◌≡◌, ◌<◌};
+ghost use Rattle.std.specs.Prelude.{◌≡◌, ◌<◌, true};
+ghost use Rattle.pgs_run_lines.specs.Calls.{stops_of_world};
 ghost use Rattle.pgs_run_lines.specs.Puts.{Puts};
 ghost use Rattle.pgs_dump.specs.Lines.{graph_lines};
 
@@ -21,7 +22,8 @@ fn put_counted<E, G: GraphRead, L: Ledger, W: World>(
     requires name { blank.name ≡ L.name }
     requires parts { blank.parts ≡ L.parts }
     requires some { 0 < blank.parts }
-    ensures { Puts (W.view world.old) (graph_lines (G.meaning graph.now)) result (W.view world.new) }
+    ensures puts { Puts (W.view world.old) (graph_lines (G.meaning graph.now)) result (W.view world.new) }
+    ensures last { stops_of_world result ≡ true → W.failed world.new }
 {
     let mut steps: Steps<L> = Steps::begin(blank);
     put_nodes(alloc, world, graph, &mut steps)?;
@@ -35,7 +37,8 @@ pub fn put_graph<E, G: GraphRead, W: World>(
     world: &mut W,
     graph: &G,
 ) -> Result<(), Stop<E>>
-    ensures { Puts (W.view world.old) (graph_lines (G.meaning graph.now)) result (W.view world.new) }
+    ensures puts { Puts (W.view world.old) (graph_lines (G.meaning graph.now)) result (W.view world.new) }
+    ensures last { stops_of_world result ≡ true → W.failed world.new }
 {
     put_counted::<E, G, Brand, W>(alloc, world, graph, Blank::new(1))
 }

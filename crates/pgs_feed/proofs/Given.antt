@@ -4,7 +4,7 @@ use Rattle.std.specs.List.{AllZip, concat}
 use Rattle.std.specs.Option.{option_map}
 use Rattle.std.proofs.lemmas.List.{append-nil}
 use Rattle.std.proofs.lemmas.List.Folds.{concat-append}
-use Rattle.pgs_world.specs.Count.{Rose}
+use Rattle.pgs_world.specs.Count.{RoseByOne}
 use Rattle.pgs_world.specs.World.{Adds, AddsFront}
 use Rattle.pgs_feed.specs.Places.{FeedState, Place, Fed, Lost, Dropped, TookLine, Failed, IsFed, Delivers}
 use Rattle.pgs_feed.specs.Given.{TookAll, FailedIn, TakesLines, IsGiven, AreGiven}
@@ -83,7 +83,7 @@ failed_on xs ys before mid after p q = record {
   later = q.later;
   parts = ap (λ more. xs ++ more) q.parts ∙ sym (append_assoc xs q.first ((q.front ++ q.back) ∷ q.later));
   added = adds_same before.taken after.taken (concat xs ++ (concat q.first ++ q.front)) (concat (xs ++ q.first) ++ q.front) (sym (append_assoc (concat xs) (concat q.first) q.front) ∙ ap (λ bytes. bytes ++ q.front) (sym (concat-append xs q.first))) (adds_on before.taken mid.taken after.taken (concat xs) (concat q.first ++ q.front) p.whole q.added);
-  fault = subst (λ (count : ℕ). Rose count after.faults) p.no_fault q.fault;
+  fault = subst (λ (count : ℕ). RoseByOne count after.faults) p.no_fault q.fault;
 }
 
 failed_more : (xs ys : List (List ℕ)) (before after : FeedState) → FailedIn xs before after → FailedIn (xs ++ ys) before after

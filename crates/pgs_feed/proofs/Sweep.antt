@@ -35,3 +35,12 @@ swept_all Q seen zero (x ∷ before) after swept past = absurd (omega arith)
 swept_all Q seen (suc n) [] after swept past = absurd swept
 swept_all Q seen (suc n) (x ∷ before) [] swept past = absurd swept
 swept_all Q seen (suc n) (x ∷ before) (y ∷ after) swept past = (swept.0, swept_all Q seen n before after swept.1 (omega arith))
+
+-- the same of the items themselves
+pub swept_whole : {X : Type 0} (R : X → X → Type 0) (n : ℕ) (before after : List X) → Swept R n before after → length before ≤ n
+    → AllZip R before after
+swept_whole R zero [] after swept past = subst (λ items. AllZip R [] items) (sym swept) tt
+swept_whole R zero (x ∷ before) after swept past = absurd (omega arith)
+swept_whole R (suc n) [] after swept past = absurd swept
+swept_whole R (suc n) (x ∷ before) [] swept past = absurd swept
+swept_whole R (suc n) (x ∷ before) (y ∷ after) swept past = (swept.0, swept_whole R n before after swept.1 (omega arith))

@@ -1,7 +1,7 @@
 -- What becomes of the places of a list of feeds to which lines were given, one after another.
 use Rattle.std.specs.Prelude.{◌≡◌, ℕ, List, [], ◌∷◌, ◌++◌}
 use Rattle.std.specs.List.{AllZip, concat}
-use Rattle.pgs_world.specs.Count.{Rose}
+use Rattle.pgs_world.specs.Count.{RoseByOne}
 use Rattle.pgs_world.specs.World.{Adds}
 use Rattle.pgs_feed.specs.Places.{FeedState, Place, Fed, Lost, Dropped}
 
@@ -18,7 +18,7 @@ pub record FailedIn (lines : List (List ℕ)) (before after : FeedState) : Type 
   pub later : List (List ℕ)
   pub parts : lines ≡ first ++ (front ++ back) ∷ later
   pub added : Adds before.taken after.taken (concat first ++ front)
-  pub fault : Rose before.faults after.faults
+  pub fault : RoseByOne before.faults after.faults
 
 -- a feed that was fed took the lines, or is lost
 abbrev pub TakesLines : List (List ℕ) → FeedState → Place → Type 0

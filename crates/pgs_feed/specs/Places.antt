@@ -1,7 +1,7 @@
 -- What contracts see of a list of feeds, and what its calls do.
 use Rattle.std.specs.Prelude.{◌≡◌, ◌+◌, ℕ, zero, suc, Bool, true, false, not, ◌&&◌, List, [], ◌∷◌, Option, Some, None}
 use Rattle.std.specs.List.{count_by, zip}
-use Rattle.pgs_world.specs.Count.{Rose}
+use Rattle.pgs_world.specs.Count.{RoseByOne}
 use Rattle.pgs_world.specs.World.{Adds, AddsFront}
 
 -- a feed: the bytes that it took, where it tells them, and how many of its puts failed
@@ -60,7 +60,7 @@ pub record TookLine (line : List ℕ) (before after : FeedState) : Type 0 where
 -- the feed failed: it took some front of the line, and its count of faults rose
 pub record Failed (line : List ℕ) (before after : FeedState) : Type 0 where
   pub front : AddsFront before.taken after.taken line
-  pub fault : Rose before.faults after.faults
+  pub fault : RoseByOne before.faults after.faults
 
 -- a feed that was fed takes the line, or is lost
 abbrev pub IsFed : List ℕ → FeedState → Place → Type 0

@@ -2,6 +2,7 @@ ghost use Rattle.std.specs.Prelude.{◌≡◌, [], ◌∷◌, ◌++◌, Some, le
 ghost use Rattle.std.specs.List.{AllZip};
 ghost use Rattle.std.specs.Option.{option_map};
 ghost use Rattle.pgs_feed.specs.Places.{Delivers, RaisesLost, fed, lost_count, is_there, taken_at, without};
+ghost use Rattle.pgs_feed.specs.Puts.{PutsOnceEach};
 ghost use Rattle.pgs_feed.specs.Seen.{feeds_in, places};
 
 use crate::Slot;
@@ -42,11 +43,12 @@ impl<F: Feed> FeedList<F> {
         Ok(place)
     }
 
-    /// Puts the line into each feed that hasn't failed, in order. A feed whose put fails is lost: it took some front of the line, and is
-    /// given no more. Every other place is as it was.
+    /// Puts the line into each feed that hasn't failed, in order, each by one put. A feed whose put fails is lost: it took some front of
+    /// the line, and is given no more. Every other place is as it was.
     pub fn deliver(&mut self, line: &[u8])
         ensures delivered { AllZip (Delivers line.now) (places F.taken F.faults self.old) (places F.taken F.faults self.new) }
         ensures raised { RaisesLost (places F.taken F.faults self.old) (places F.taken F.faults self.new) }
+        ensures puts { PutsOnceEach F.put_made line.now self.old self.new }
     {
         for place in 0..self.slots.len() {
             self.slots[place].deliver(line);

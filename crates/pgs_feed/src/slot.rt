@@ -1,6 +1,7 @@
 ghost use Rattle.std.specs.Prelude.{◌≡◌, Some, false};
 ghost use Rattle.std.specs.Option.{option_map};
 ghost use Rattle.pgs_feed.specs.Places.{Delivers, dropped, has_feed, taken_at};
+ghost use Rattle.pgs_feed.specs.Puts.{PutsOnce};
 ghost use Rattle.pgs_feed.specs.Seen.{place_seen};
 
 use pgs_world::Feed;
@@ -30,9 +31,10 @@ impl<F: Feed> Slot<F> {
         self.feed.as_ref()?.shown()
     }
 
-    /// Puts the line into the feed, unless it failed before or was dropped. It is lost exactly where this put fails.
+    /// Puts the line into the feed, by one put, unless it failed before or was dropped. It is lost exactly where this put fails.
     pub fn deliver(&mut self, line: &[u8])
-        ensures { Delivers line.now (place_seen F.taken F.faults self.old) (place_seen F.taken F.faults self.new) }
+        ensures delivers { Delivers line.now (place_seen F.taken F.faults self.old) (place_seen F.taken F.faults self.new) }
+        ensures puts { PutsOnce F.put_made line.now self.old self.new }
     {
         if self.is_lost {
             return;

@@ -2,7 +2,7 @@ ghost use Rattle.std.specs.Prelude.{◌≡◌, ◌≤◌, ◌^◌, List, ℕ, le
 ghost use Rattle.pgs_journal.specs.Area.{area_state, HoldsStore};
 ghost use Rattle.pgs_journal.specs.Bounds.{IsBounded};
 ghost use Rattle.pgs_journal.specs.Seen.{HasLength, Stand, Decide, IsStateOf};
-ghost use Rattle.pgs_world.specs.Count.{Rose};
+ghost use Rattle.pgs_world.specs.Count.{RoseByOne};
 ghost use Rattle.pgs_world.specs.Moment.{IsQuiet, ShowsOne, MakesNoPut};
 ghost use Rattle.pgs_world.specs.World.{part};
 
@@ -26,7 +26,8 @@ fn scan_behind<W: World>(
     ensures decided { IfOk result (λ state. Decide (W.view world.old) front.now.area front.now.len 0 (IsStateOf state)) }
     ensures quiet { IsQuiet (W.view world.old) (W.view world.new) }
     ensures image { ShowsOne (W.view world.new) }
-    ensures cause { result ≡ Err ScanFault.AreaFault → Rose (W.view world.old).area_faults (W.view world.new).area_faults }
+    ensures cause { result ≡ Err ScanFault.AreaFault → RoseByOne (W.view world.old).area_faults (W.view world.new).area_faults }
+    ensures last { result ≡ Err ScanFault.AreaFault → W.failed world.new }
     ensures no_cause { (result ≡ Err ScanFault.AreaFault → ⊥) → (W.view world.new).area_faults ≡ (W.view world.old).area_faults }
     ensures no_put { MakesNoPut (W.view world.old) (W.view world.new) }
 {
@@ -60,7 +61,8 @@ pub fn scan<W: World>(alloc: Global, world: &mut W, area: Area) -> Result<AreaSt
     ensures bounds { IfOk result IsBounded }
     ensures quiet { IsQuiet (W.view world.old) (W.view world.new) }
     ensures image { ShowsOne (W.view world.new) }
-    ensures cause { result ≡ Err ScanFault.AreaFault → Rose (W.view world.old).area_faults (W.view world.new).area_faults }
+    ensures cause { result ≡ Err ScanFault.AreaFault → RoseByOne (W.view world.old).area_faults (W.view world.new).area_faults }
+    ensures last { result ≡ Err ScanFault.AreaFault → W.failed world.new }
     ensures no_cause { (result ≡ Err ScanFault.AreaFault → ⊥) → (W.view world.new).area_faults ≡ (W.view world.old).area_faults }
     ensures no_put { MakesNoPut (W.view world.old) (W.view world.new) }
 {

@@ -3,7 +3,7 @@ ghost use Rattle.pgs_journal.specs.declared.format.Format.{Format};
 ghost use Rattle.pgs_journal.specs.Area.{epoch_of, format_in, head_format, head_with, head_of, head_in};
 ghost use Rattle.pgs_journal.specs.Seen.{HasLength, Stand, IsFront};
 ghost use Rattle.pgs_journal.specs.declared.head.Head.TheVariants as heads;
-ghost use Rattle.pgs_world.specs.Count.{Rose};
+ghost use Rattle.pgs_world.specs.Count.{RoseByOne};
 ghost use Rattle.pgs_world.specs.Moment.{IsQuiet, ShowsOne, MakesNoPut};
 ghost use Rattle.pgs_world.specs.World.{part};
 
@@ -80,7 +80,8 @@ impl Front {
         ensures bytes { IfOk result (λ front. 17 ≤ front.len → Stand (W.view world.old) area 0 front.bytes) }
         ensures quiet { IsQuiet (W.view world.old) (W.view world.new) }
         ensures image { ShowsOne (W.view world.new) }
-        ensures cause { OnErr result (Rose (W.view world.old).area_faults (W.view world.new).area_faults) }
+        ensures cause { OnErr result (RoseByOne (W.view world.old).area_faults (W.view world.new).area_faults) }
+        ensures last { OnErr result (W.failed world.new) }
         ensures no_cause { OnOk result ((W.view world.new).area_faults ≡ (W.view world.old).area_faults) }
         ensures no_put { MakesNoPut (W.view world.old) (W.view world.new) }
     {
@@ -112,7 +113,8 @@ pub fn read_head<W: World>(world: &mut W, area: Area) -> Result<Head, AreaFault>
     ensures head { IfOk result (λ head. IsTrue (W.view world.old).tells_bytes → head ≡ head_of (part area (W.view world.old).shown)) }
     ensures quiet { IsQuiet (W.view world.old) (W.view world.new) }
     ensures image { ShowsOne (W.view world.new) }
-    ensures cause { OnErr result (Rose (W.view world.old).area_faults (W.view world.new).area_faults) }
+    ensures cause { OnErr result (RoseByOne (W.view world.old).area_faults (W.view world.new).area_faults) }
+    ensures last { OnErr result (W.failed world.new) }
     ensures no_cause { OnOk result ((W.view world.new).area_faults ≡ (W.view world.old).area_faults) }
     ensures no_put { MakesNoPut (W.view world.old) (W.view world.new) }
 {

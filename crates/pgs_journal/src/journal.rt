@@ -2,7 +2,7 @@ ghost use Rattle.std.specs.Prelude.{◌≡◌, ◌+◌, ◌≤◌, ◌<◌, ◌^
 ghost use Rattle.pgs_codec.specs.Frame.{framed};
 ghost use Rattle.pgs_journal.specs.Format.{advanced, is_epoch, Holds, IsFrames, IsNextWithin};
 ghost use Rattle.pgs_journal.specs.Stops.{Turns, Appends, Creates};
-ghost use Rattle.pgs_world.specs.Count.{Rose};
+ghost use Rattle.pgs_world.specs.Count.{RoseByOne};
 ghost use Rattle.pgs_world.specs.Disk.{IsSameBeside};
 ghost use Rattle.pgs_world.specs.Moment.{Passes, StopsBy, ShowsOne, IsSynced, IsSettled, MakesNoPut};
 ghost use Rattle.pgs_world.specs.World.{part};
@@ -70,7 +70,8 @@ impl Journal {
 
         ensures passes { Passes (W.view world.old) (W.view world.new) }
         ensures image { ShowsOne (W.view world.new) }
-        ensures cause { OnErr result (Rose (W.view world.old).area_faults (W.view world.new).area_faults) }
+        ensures cause { OnErr result (RoseByOne (W.view world.old).area_faults (W.view world.new).area_faults) }
+        ensures last { OnErr result (W.failed world.new) }
         ensures no_cause { OnOk result ((W.view world.new).area_faults ≡ (W.view world.old).area_faults) }
         ensures no_put { MakesNoPut (W.view world.old) (W.view world.new) }
     {
@@ -122,7 +123,8 @@ impl Journal {
 
         ensures passes { Passes (W.view world.old) (W.view world.new) }
         ensures image { ShowsOne (W.view world.new) }
-        ensures cause { OnErr result (Rose (W.view world.old).area_faults (W.view world.new).area_faults) }
+        ensures cause { OnErr result (RoseByOne (W.view world.old).area_faults (W.view world.new).area_faults) }
+        ensures last { OnErr result (W.failed world.new) }
         ensures no_cause { OnOk result ((W.view world.new).area_faults ≡ (W.view world.old).area_faults) }
         ensures no_put { MakesNoPut (W.view world.old) (W.view world.new) }
     {

@@ -6,7 +6,7 @@ ghost use Rattle.pgs_journal.specs.Area.{is_fit, is_sound};
 ghost use Rattle.pgs_journal.specs.Format.{field_bytes, is_epoch, opened, record_number};
 ghost use Rattle.pgs_journal.specs.Reading.{record_of, Torn};
 ghost use Rattle.pgs_journal.specs.Seen.{HasLength, Stand, Decide, IsRead, IsStateOf};
-ghost use Rattle.pgs_world.specs.Count.{Rose};
+ghost use Rattle.pgs_world.specs.Count.{RoseByOne};
 ghost use Rattle.pgs_world.specs.Moment.{IsQuiet, ShowsOne, MakesNoPut};
 
 use crate::journal::OPEN;
@@ -95,7 +95,8 @@ impl RecordReader {
             × Stand (W.view world.old) self.now.area at (number_field (record_number self.now.format number) ++ big_bytes 8 size))) }
         ensures quiet { IsQuiet (W.view world.old) (W.view world.new) }
         ensures image { ShowsOne (W.view world.old) → ShowsOne (W.view world.new) }
-        ensures cause { OnErr result (Rose (W.view world.old).area_faults (W.view world.new).area_faults) }
+        ensures cause { OnErr result (RoseByOne (W.view world.old).area_faults (W.view world.new).area_faults) }
+        ensures last { OnErr result (W.failed world.new) }
         ensures no_cause { OnOk result ((W.view world.new).area_faults ≡ (W.view world.old).area_faults) }
         ensures no_put { MakesNoPut (W.view world.old) (W.view world.new) }
     {
@@ -131,7 +132,8 @@ impl RecordReader {
         ensures size { IfOk result (λ read. length read.0 ≡ size) }
         ensures quiet { IsQuiet (W.view world.old) (W.view world.new) }
         ensures image { ShowsOne (W.view world.old) → ShowsOne (W.view world.new) }
-        ensures cause { result ≡ Err ScanFault.AreaFault → Rose (W.view world.old).area_faults (W.view world.new).area_faults }
+        ensures cause { result ≡ Err ScanFault.AreaFault → RoseByOne (W.view world.old).area_faults (W.view world.new).area_faults }
+        ensures last { result ≡ Err ScanFault.AreaFault → W.failed world.new }
         ensures no_cause { (result ≡ Err ScanFault.AreaFault → ⊥) → (W.view world.new).area_faults ≡ (W.view world.old).area_faults }
         ensures no_put { MakesNoPut (W.view world.old) (W.view world.new) }
     {
@@ -159,7 +161,8 @@ impl RecordReader {
             (λ read. IsRead (W.view world.old) self.now.area self.now.len self.now.format self.now.epoch number at read.0 read.1)) }
         ensures quiet { IsQuiet (W.view world.old) (W.view world.new) }
         ensures image { ShowsOne (W.view world.old) → ShowsOne (W.view world.new) }
-        ensures cause { result ≡ Err ScanFault.AreaFault → Rose (W.view world.old).area_faults (W.view world.new).area_faults }
+        ensures cause { result ≡ Err ScanFault.AreaFault → RoseByOne (W.view world.old).area_faults (W.view world.new).area_faults }
+        ensures last { result ≡ Err ScanFault.AreaFault → W.failed world.new }
         ensures no_cause { (result ≡ Err ScanFault.AreaFault → ⊥) → (W.view world.new).area_faults ≡ (W.view world.old).area_faults }
         ensures no_put { MakesNoPut (W.view world.old) (W.view world.new) }
     {
@@ -191,7 +194,8 @@ impl RecordReader {
         ensures decided { IfOk result (λ state. Decide (W.view world.old) self.now.area self.now.len 0 (IsStateOf state)) }
         ensures quiet { IsQuiet (W.view world.old) (W.view world.new) }
         ensures image { ShowsOne (W.view world.new) }
-        ensures cause { result ≡ Err ScanFault.AreaFault → Rose (W.view world.old).area_faults (W.view world.new).area_faults }
+        ensures cause { result ≡ Err ScanFault.AreaFault → RoseByOne (W.view world.old).area_faults (W.view world.new).area_faults }
+        ensures last { result ≡ Err ScanFault.AreaFault → W.failed world.new }
         ensures no_cause { (result ≡ Err ScanFault.AreaFault → ⊥) → (W.view world.new).area_faults ≡ (W.view world.old).area_faults }
         ensures no_put { MakesNoPut (W.view world.old) (W.view world.new) }
     {

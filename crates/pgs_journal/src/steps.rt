@@ -5,7 +5,7 @@ ghost use Rattle.pgs_journal.specs.Area.{opens, is_empty_or_open};
 ghost use Rattle.pgs_journal.specs.declared.format.Format.TheVariants.{Second};
 ghost use Rattle.pgs_journal.specs.Format.{head_body};
 ghost use Rattle.pgs_journal.specs.Stops.{Turns, Closes, KeepsGate};
-ghost use Rattle.pgs_world.specs.Count.{Rose};
+ghost use Rattle.pgs_world.specs.Count.{RoseByOne};
 ghost use Rattle.pgs_world.specs.Disk.{IsSameBeside};
 ghost use Rattle.pgs_world.specs.Moment.{Passes, StopsBy, IsQuiet, ShowsOne, IsSynced, IsSettled, MakesNoPut};
 ghost use Rattle.pgs_world.specs.World.{part};
@@ -23,7 +23,8 @@ fn must_close<W: World>(world: &mut W, area: Area) -> Result<bool, AreaFault>
         → must ≡ is_empty_or_open (part area (W.view world.old).shown)) }
     ensures quiet { IsQuiet (W.view world.old) (W.view world.new) }
     ensures image { ShowsOne (W.view world.new) }
-    ensures cause { OnErr result (Rose (W.view world.old).area_faults (W.view world.new).area_faults) }
+    ensures cause { OnErr result (RoseByOne (W.view world.old).area_faults (W.view world.new).area_faults) }
+    ensures last { OnErr result (W.failed world.new) }
     ensures no_cause { OnOk result ((W.view world.new).area_faults ≡ (W.view world.old).area_faults) }
     ensures no_put { MakesNoPut (W.view world.old) (W.view world.new) }
 {
@@ -48,7 +49,8 @@ pub(crate) fn close_gate<W: World>(world: &mut W, area: Area) -> Result<(), Area
     ensures beside { IsSameBeside area (W.view world.old).shown (W.view world.new).shown }
     ensures passes { Passes (W.view world.old) (W.view world.new) }
     ensures image { ShowsOne (W.view world.new) }
-    ensures cause { OnErr result (Rose (W.view world.old).area_faults (W.view world.new).area_faults) }
+    ensures cause { OnErr result (RoseByOne (W.view world.old).area_faults (W.view world.new).area_faults) }
+    ensures last { OnErr result (W.failed world.new) }
     ensures no_cause { OnOk result ((W.view world.new).area_faults ≡ (W.view world.old).area_faults) }
     ensures no_put { MakesNoPut (W.view world.old) (W.view world.new) }
 {
@@ -84,7 +86,8 @@ pub(crate) fn write_store<W: World>(
     ensures beside { IsSameBeside area (W.view world.old).shown (W.view world.new).shown }
     ensures passes { Passes (W.view world.old) (W.view world.new) }
     ensures image { ShowsOne (W.view world.new) }
-    ensures cause { OnErr result (Rose (W.view world.old).area_faults (W.view world.new).area_faults) }
+    ensures cause { OnErr result (RoseByOne (W.view world.old).area_faults (W.view world.new).area_faults) }
+    ensures last { OnErr result (W.failed world.new) }
     ensures no_cause { OnOk result ((W.view world.new).area_faults ≡ (W.view world.old).area_faults) }
     ensures no_put { MakesNoPut (W.view world.old) (W.view world.new) }
 {

@@ -1,7 +1,7 @@
 -- The causes of a run's answers, by the command that its words name.
 use Rattle.std.specs.Prelude.{◌≡◌, ◌⊎◌, true, Option, None}
 use Rattle.pgs_run_lines.specs.Ending.{Faults, ReadsRose, AreasRose, PutsRose}
-use Rattle.pgs_world.specs.Count.{Rose}
+use Rattle.pgs_world.specs.Count.{RoseByOne}
 use Rattle.pgs_run_base.specs.declared.status.Status.{Status}
 use Rattle.pgs_run_base.specs.declared.status.Status.TheVariants.{BadWords, StoreRefused, DiskFault, ReadFault, PutFault, Memory, InputTooLong}
 use Rattle.pgs_run_words.specs.declared.command.Command.{Command}
@@ -25,6 +25,6 @@ RefusesWords status = (status ≡ BadWords) ⊎ ((status ≡ PutFault) ⊎ (stat
 
 -- no count rose of a fault that the command may meet
 pub record IsUndisturbed (command : Option Command) (before now : Faults) : Type 0 where
-  pub reads : reads_source command ≡ true → Rose before.reads now.reads → ⊥
-  pub areas : uses_areas command ≡ true → Rose before.areas now.areas → ⊥
-  pub puts : Rose before.puts now.puts → ⊥
+  pub reads : reads_source command ≡ true → RoseByOne before.reads now.reads → ⊥
+  pub areas : uses_areas command ≡ true → RoseByOne before.areas now.areas → ⊥
+  pub puts : RoseByOne before.puts now.puts → ⊥

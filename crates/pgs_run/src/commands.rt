@@ -1,4 +1,6 @@
-ghost use Rattle.std.specs.Prelude.{◌≤◌, ◌^◌, Some};
+ghost use Rattle.std.specs.Prelude.{◌≤◌, ◌^◌, Some, ◌≡◌, true};
+ghost use Rattle.pgs_run_lines.specs.Calls.{Reads};
+ghost use Rattle.pgs_run_base.specs.Calls.{fails_read, fails_world};
 ghost use Rattle.pgs_feed.specs.Seen.{places};
 ghost use Rattle.pgs_run.specs.Command.{IsInRange};
 ghost use Rattle.pgs_run.specs.Runs.{Runs, setting_of};
@@ -30,9 +32,11 @@ pub fn run_command<S: Source, W: World, F: Feed>(
 ) -> Status
     requires within { budget ≤ 2 ^ 40 }
     requires in_range { IsInRange command }
-    ensures { let seen = places F.taken F.faults in Runs (Some command) budget
+    ensures runs { let seen = places F.taken F.faults in Runs (Some command) budget
         (setting_of (S.left source.old) (S.faults source.old) (W.view world.old) (seen feeds.old))
         (setting_of (S.left source.new) (S.faults source.new) (W.view world.new) (seen feeds.new)) result }
+    ensures last { fails_world result ≡ true → W.failed world.new }
+    ensures calls { Reads S.read_made budget source.old (fails_read result) source.new }
 {
     match command {
         Command::Try => run_judging(alloc, Judging::EachLine, source, world, budget),

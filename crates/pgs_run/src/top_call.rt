@@ -1,4 +1,6 @@
-ghost use Rattle.std.specs.Prelude.{◌<◌, ◌≤◌, ◌^◌};
+ghost use Rattle.std.specs.Prelude.{◌<◌, ◌≤◌, ◌^◌, ◌≡◌, true};
+ghost use Rattle.pgs_run_lines.specs.Calls.{Reads};
+ghost use Rattle.pgs_run_base.specs.Calls.{fails_read, fails_world};
 ghost use Rattle.pgs_feed.specs.Seen.{places};
 ghost use Rattle.pgs_run.specs.Headline.{KeepsPromise};
 ghost use Rattle.pgs_run.specs.Runs.{setting_of};
@@ -27,9 +29,11 @@ pub fn run_within<S: Source, W: World, F: Feed>(
 ) -> Status
     requires positive { 0 < budget }
     requires within { budget ≤ 2 ^ 40 }
-    ensures { let seen = places F.taken F.faults in KeepsPromise words.now budget
+    ensures promise { let seen = places F.taken F.faults in KeepsPromise words.now budget
         (setting_of (S.left source.old) (S.faults source.old) (W.view world.old) (seen feeds.old))
         (setting_of (S.left source.new) (S.faults source.new) (W.view world.new) (seen feeds.new)) result }
+    ensures last { fails_world result ≡ true → W.failed world.new }
+    ensures calls { Reads S.read_made budget source.old (fails_read result) source.new }
 {
     run_words(alloc, words, source, world, feeds, budget)
 }
@@ -42,9 +46,11 @@ pub fn run<S: Source, W: World, F: Feed>(
     world: &mut W,
     feeds: &mut FeedList<F>,
 ) -> Status
-    ensures { let seen = places F.taken F.faults in KeepsPromise words.now (2 ^ 40)
+    ensures promise { let seen = places F.taken F.faults in KeepsPromise words.now (2 ^ 40)
         (setting_of (S.left source.old) (S.faults source.old) (W.view world.old) (seen feeds.old))
         (setting_of (S.left source.new) (S.faults source.new) (W.view world.new) (seen feeds.new)) result }
+    ensures last { fails_world result ≡ true → W.failed world.new }
+    ensures calls { Reads S.read_made (2 ^ 40) source.old (fails_read result) source.new }
 {
     run_within(alloc, words, source, world, feeds, BUDGET)
 }

@@ -1,4 +1,6 @@
-ghost use Rattle.std.specs.Prelude.{◌≡◌, ◌≤◌, ◌^◌, ℕ, List, Option, None, IfOk, IfSome};
+ghost use Rattle.std.specs.Prelude.{◌≡◌, ◌≤◌, ◌^◌, ℕ, List, Option, None, IfOk, IfSome, true};
+ghost use Rattle.pgs_run_lines.specs.Calls.{Reads};
+ghost use Rattle.pgs_run_base.specs.Calls.{fails_read, fails_world};
 ghost use Rattle.pgs_feed.specs.Places.{Place};
 ghost use Rattle.pgs_feed.specs.Seen.{places};
 ghost use Rattle.pgs_run_words.specs.Words.{command_of};
@@ -32,6 +34,7 @@ fn refuse_words<W: World>(alloc: Global, world: &mut W) -> Status
     ensures answer { RefusesWords result }
     ensures runs { (budget : ℕ) (left : Option (List ℕ)) (faults : ℕ) (places : List Place) → Runs None budget
         (setting_of left faults (W.view world.old) places) (setting_of left faults (W.view world.new) places) result }
+    ensures last { fails_world result ≡ true → W.failed world.new }
 {
     match words_refused_line(alloc) {
         Ok(line) => put_reply(
@@ -59,6 +62,8 @@ pub fn run_words<S: Source, W: World, F: Feed>(
     ensures runs { let seen = places F.taken F.faults in Runs (command_of words.now) budget
         (setting_of (S.left source.old) (S.faults source.old) (W.view world.old) (seen feeds.old))
         (setting_of (S.left source.new) (S.faults source.new) (W.view world.new) (seen feeds.new)) result }
+    ensures last { fails_world result ≡ true → W.failed world.new }
+    ensures calls { Reads S.read_made budget source.old (fails_read result) source.new }
 {
     match command_of(alloc, words) {
         Ok(Some(command)) => run_command(alloc, command, source, world, feeds, budget),

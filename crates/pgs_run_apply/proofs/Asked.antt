@@ -18,7 +18,7 @@ use Rattle.pgs_store.specs.Stored.{StoreState, IsAppliedIn, IsSavedIn, committed
 use Rattle.pgs_store.specs.World.{StaysBeside}
 use Rattle.pgs_violation.specs.declared.rejection.Rejection.{Rejection}
 use Rattle.pgs_violation.specs.Violations.{verdict}
-use Rattle.pgs_world.specs.Count.{Rose}
+use Rattle.pgs_world.specs.Count.{RoseByOne}
 use Rattle.pgs_world.specs.Moment.{EachSince, IsTimed}
 use Rattle.pgs_world.specs.declared.area.Area.{Area}
 use Rattle.pgs_world.specs.World.{Triple, View, other}
@@ -107,7 +107,7 @@ module _ (before : StoreState) (number : ℕ) (refused : Bool) (txn : Txn) where
 
   -- an area failed
   pub take_struck : {T : Type 0} (now : ApplyState) (old mid : View) (kept : List Place) → HoldsStore at old → IsTimed old
-      → Rose old.area_faults mid.area_faults
+      → RoseByOne old.area_faults mid.area_faults
       → (IsTrue old.honest → IsTrue old.tells_bytes → EachSince (IsAppliedIn before.guard before.journal txn) old mid)
       → StaysBeside before.journal.area old mid
       → Takes {T = T} at (deciding at txn asked) (Err stops.AreaFault) now (scene_of old kept) (scene_of mid kept)

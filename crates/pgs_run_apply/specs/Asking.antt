@@ -8,7 +8,7 @@ use Rattle.pgs_run_lines.specs.declared.stop.Stop.TheVariants as stops
 use Rattle.pgs_store.specs.Applies.{decided}
 use Rattle.pgs_store.specs.Stored.{StoreState, StandsOn, committed, longer}
 use Rattle.pgs_violation.specs.declared.rejection.Rejection.{Rejection}
-use Rattle.pgs_world.specs.Count.{Rose}
+use Rattle.pgs_world.specs.Count.{RoseByOne}
 use Rattle.pgs_world.specs.World.{View}
 use Rattle.pgs_run_base.specs.declared.status.Status.{Status}
 
@@ -36,6 +36,6 @@ Asks (Ok None) before after txn old new = IsDoneBy before after txn old new
 Asks (Ok (Some rejection)) before after txn old new = (decided before.guard txn ≡ Err rejection) × (after ≡ before)
 Asks (Err (stops.Ended status)) before after txn old new = ⊥
 Asks (Err stops.ReadFault) before after txn old new = ⊥
-Asks (Err stops.AreaFault) before after txn old new = Rose old.area_faults new.area_faults
+Asks (Err stops.AreaFault) before after txn old new = RoseByOne old.area_faults new.area_faults
 Asks (Err stops.PutFault) before after txn old new = ⊥
 Asks (Err stops.Memory) before after txn old new = after ≡ before

@@ -1,4 +1,5 @@
-ghost use Rattle.std.specs.Prelude.{◌≡◌, ◌+◌, ◌-◌, ◌^◌, ◌<◌, false, IfOk};
+ghost use Rattle.std.specs.Prelude.{◌≡◌, ◌+◌, ◌-◌, ◌^◌, ◌<◌, false, IfOk, true};
+ghost use Rattle.pgs_run_lines.specs.Calls.{stops_of_world};
 ghost use Rattle.pgs_answer.specs.Lines.{committed_line, feed_line};
 ghost use Rattle.pgs_answer.specs.Refusals.{rejection_text};
 ghost use Rattle.pgs_feed.specs.Seen.{places};
@@ -75,9 +76,10 @@ impl<F: Feed> Applying<F> {
     ) -> Result<(), Stop<Status>>
         requires room { self.old.number < 2 ^ 64 - 1 }
         requires holds { HoldsStore (state_of self.old) (W.view world.old) }
-        ensures { Takes (state_of self.old) (refusing (state_of self.old) text.now) result (state_of self.new)
+        ensures answer { Takes (state_of self.old) (refusing (state_of self.old) text.now) result (state_of self.new)
             (scene_of (W.view world.old) (places F.taken F.faults self.old.feeds))
             (scene_of (W.view world.new) (places F.taken F.faults self.new.feeds)) }
+        ensures last { stops_of_world result ≡ true → W.failed world.new }
     {
         let line = refused_line(alloc, self.number + 1, text)?;
         self.number += 1;
@@ -94,10 +96,11 @@ impl<F: Feed> Applying<F> {
     ) -> Result<(), Stop<Status>>
         requires room { self.old.number < 2 ^ 64 - 1 }
         requires holds { HoldsStore (state_of self.old) (W.view world.old) }
-        ensures { Takes (state_of self.old) (refusing (state_of self.old) (rejection_text rejection.now standard))
+        ensures answer { Takes (state_of self.old) (refusing (state_of self.old) (rejection_text rejection.now standard))
             result (state_of self.new)
             (scene_of (W.view world.old) (places F.taken F.faults self.old.feeds))
             (scene_of (W.view world.new) (places F.taken F.faults self.new.feeds)) }
+        ensures last { stops_of_world result ≡ true → W.failed world.new }
     {
         let text = rejection_text(alloc, rejection, &Limits::standard())?;
         self.refuse(alloc, world, text.as_slice())
@@ -113,11 +116,12 @@ impl<F: Feed> Applying<F> {
     ) -> Result<(), Stop<Status>>
         requires room { self.old.number < 2 ^ 64 - 1 }
         requires holds { HoldsStore (state_of self.old) (W.view world.old) }
-        ensures { Takes (state_of self.old)
+        ensures answer { Takes (state_of self.old)
             (deciding (state_of self.old) txn.now (decision_on (verdict self.old.store.guard.schema) self.old.store.guard.graph txn.now))
             result (state_of self.new)
             (scene_of (W.view world.old) (places F.taken F.faults self.old.feeds))
             (scene_of (W.view world.new) (places F.taken F.faults self.new.feeds)) }
+        ensures last { stops_of_world result ≡ true → W.failed world.new }
     {
         let (verdict, feed) = self.lines_of(alloc, txn)?;
         match ask(&mut self.store, world, txn) {
@@ -140,9 +144,10 @@ impl<F: Feed> Applying<F> {
     ) -> Result<(), Stop<Status>>
         requires room { self.old.number < 2 ^ 64 - 1 }
         requires holds { HoldsStore (state_of self.old) (W.view world.old) }
-        ensures { Takes (state_of self.old) (outcome_of (state_of self.old) line.now) result (state_of self.new)
+        ensures answer { Takes (state_of self.old) (outcome_of (state_of self.old) line.now) result (state_of self.new)
             (scene_of (W.view world.old) (places F.taken F.faults self.old.feeds))
             (scene_of (W.view world.new) (places F.taken F.faults self.new.feeds)) }
+        ensures last { stops_of_world result ≡ true → W.failed world.new }
     {
         if is_blank(line, TEXT_LIMIT) {
             return Ok(());

@@ -1,4 +1,5 @@
 ghost use Rattle.std.specs.Prelude.{◌≡◌, ◌<◌, true, false, IsTrue};
+ghost use Rattle.pgs_run_lines.specs.Calls.{stops_of_world};
 ghost use Rattle.pgs_store.specs.Applies.{Applies, is_disk_fault as is_fault_of_area, is_early as is_early_answer};
 ghost use Rattle.pgs_store.specs.Stored.{StandsOn, IsAppliedIn};
 ghost use Rattle.pgs_store.specs.World.{StaysBeside, CountsFault};
@@ -29,6 +30,7 @@ fn apply_counted<W: World, L: Ledger>(
     ensures answer { Applies result store.old store.new txn.now (W.view world.new) }
     ensures early { is_early_answer result ≡ true → world.new ≡ world.old }
     ensures faults { CountsFault (is_fault_of_area result) (W.view world.old) (W.view world.new) }
+    ensures last { is_fault_of_area result ≡ true → W.failed world.new }
     ensures stops { store.old.failed ≡ false → IsTrue (W.view world.old).honest → IsTrue (W.view world.old).tells_bytes
         → EachSince (IsAppliedIn store.old.guard store.old.journal txn.now) (W.view world.old) (W.view world.new) }
     ensures beside { StaysBeside store.old.journal.area (W.view world.old) (W.view world.new) }
@@ -52,6 +54,7 @@ pub fn ask<W: World>(
     ensures stops { IsTrue (W.view world.old).honest → IsTrue (W.view world.old).tells_bytes
         → EachSince (IsAppliedIn store.old.guard store.old.journal txn.now) (W.view world.old) (W.view world.new) }
     ensures beside { StaysBeside store.old.journal.area (W.view world.old) (W.view world.new) }
+    ensures last { stops_of_world result ≡ true → W.failed world.new }
 {
     match apply_counted::<W, Brand>(store, world, txn, Blank::new(1)) {
         Ok(_) => Ok(None),

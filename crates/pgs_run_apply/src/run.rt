@@ -1,4 +1,6 @@
 ghost use Rattle.std.specs.Prelude.{◌≡◌, ◌≤◌, ◌^◌, List, ℕ, Some, true, IsTrue};
+ghost use Rattle.pgs_run_lines.specs.Calls.{Reads, is_of_world};
+ghost use Rattle.pgs_run_base.specs.Calls.{fails_read, fails_world};
 ghost use Rattle.pgs_feed.specs.Places.{lost_count};
 ghost use Rattle.pgs_feed.specs.Seen.{places};
 ghost use Rattle.pgs_run_lines.specs.Ending.{faults_of};
@@ -36,7 +38,9 @@ fn is_whole(stop: Stop<Status>) -> bool
 
 // Ends a run: puts the number of the lost feeds behind a whole input, where there are any, and gives the status.
 fn end_run<W: World>(alloc: Global, world: &mut W, stop: Stop<Status>, lost: u64) -> Status
-    ensures { EndsRun (last_piece (is_done stop) lost) (status_at_stop stop) (W.view world.old) result (W.view world.new) }
+    requires { is_of_world stop ≡ true → W.failed world.old }
+    ensures ends { EndsRun (last_piece (is_done stop) lost) (status_at_stop stop) (W.view world.old) result (W.view world.new) }
+    ensures last { fails_world result ≡ true → W.failed world.new }
 {
     let status = status_at(stop);
     if lost == 0 || !is_whole(stop) {
@@ -94,6 +98,8 @@ pub fn run_apply<S: Source, W: World, F: Feed>(
     ensures unfed { IsTrue (W.view world.old).tells_bytes
         → ((it : SavedStore) → Saves it (W.view world.old).shown → ⊥)
         → places F.taken F.faults feeds.new ≡ places F.taken F.faults feeds.old }
+    ensures last { fails_world result ≡ true → W.failed world.new }
+    ensures calls { Reads S.read_made budget source.old (fails_read result) source.new }
 {
     let store = match open_store(alloc, world) {
         Ok(store) => store,

@@ -1,5 +1,6 @@
 pub mod Answers
 pub mod Areas
+pub mod Calls
 pub mod Collecting
 pub mod Ending
 pub mod ExitStatus

@@ -1,4 +1,5 @@
-ghost use Rattle.std.specs.Prelude.{◌≡◌, IfErr};
+ghost use Rattle.std.specs.Prelude.{◌≡◌, IfErr, true};
+ghost use Rattle.pgs_run_lines.specs.Calls.{stops_of_world};
 ghost use Rattle.pgs_run_lines.specs.AreasKept.{KeepsAreas};
 ghost use Rattle.pgs_run_lines.specs.Driving.{LineShows};
 ghost use Rattle.pgs_run_lines.specs.Ending.{HasAnyCause, faults_of};
@@ -16,6 +17,7 @@ pub fn put_any<W: World>(world: &mut W, piece: Option<Bytes>) -> Result<(), Stop
     ensures fault { IfErr result (λ stop. stop ≡ Stop.PutFault) }
     ensures cause { HasAnyCause (faults_of 0 (W.view world.old)) (faults_of 0 (W.view world.new)) result }
     ensures areas { KeepsAreas (W.view world.old) (W.view world.new) }
+    ensures last { stops_of_world result ≡ true → W.failed world.new }
 {
     match piece {
         Some(piece) => put_piece(world, piece.as_slice()),

@@ -1,4 +1,5 @@
-ghost use Rattle.std.specs.Prelude.{◌≡◌, IfOk};
+ghost use Rattle.std.specs.Prelude.{◌≡◌, IfOk, true};
+ghost use Rattle.pgs_run_base.specs.Calls.{fails_world};
 ghost use Rattle.pgs_answer.specs.Lines.{store_refused_line as refused_line};
 ghost use Rattle.pgs_answer.specs.Refusals.{epochs_spent_text as spent_text};
 ghost use Rattle.pgs_run_lines.specs.AreasKept.{KeepsAreas};
@@ -30,6 +31,7 @@ pub(crate) fn refuse<W: World>(alloc: Global, world: &mut W) -> Status
     ensures ends { EndsRefused (refused_line spent_text) (W.view world.old) result (W.view world.new) }
     ensures areas { KeepsAreas (W.view world.old) (W.view world.new) }
     ensures stops { StopsBy (Puts (refused_line spent_text)) (W.view world.old) (W.view world.new) }
+    ensures last { fails_world result ≡ true → W.failed world.new }
 {
     match spent_reply(alloc) {
         Ok(reply) => put_reply(world, &reply),

@@ -1,4 +1,5 @@
 ghost use Rattle.std.specs.Prelude.{◌≡◌, ◌+◌, ℕ, true, false, Some, IfOk, IsTrue};
+ghost use Rattle.pgs_run_base.specs.Calls.{fails_world};
 ghost use Rattle.pgs_answer.specs.Lines.{checkpoint_line};
 ghost use Rattle.pgs_run_lines.specs.Ending.{faults_of};
 ghost use Rattle.pgs_run_lines.specs.Pieces.{shown_of};
@@ -45,6 +46,7 @@ pub(crate) fn renew<W: World>(alloc: Global, world: &mut W, store: &mut Store) -
         → EachSince (Leaves store.old (W.view world.old)) (W.view world.old) (W.view world.new) }
     ensures passes { Passes (W.view world.old) (W.view world.new) }
     ensures rests { Rests store.old (W.view world.old) (W.view world.new) result }
+    ensures last { fails_world result ≡ true → W.failed world.new }
 {
     let reply = match renewed_reply(alloc, store) {
         Ok(reply) => reply,

@@ -1,4 +1,5 @@
 ghost use Rattle.std.specs.Prelude.{◌≡◌, ℕ, true, false, List, IsTrue};
+ghost use Rattle.pgs_run_base.specs.Calls.{fails_world};
 ghost use Rattle.pgs_base.specs.Graph.{Graph};
 ghost use Rattle.pgs_run_lines.specs.Ending.{faults_of};
 ghost use Rattle.pgs_run_lines.specs.Pieces.{shown_of};
@@ -42,6 +43,7 @@ pub fn run_checkpoint<W: World>(alloc: Global, world: &mut W) -> Status
     ensures passes { Passes (W.view world.old) (W.view world.new) }
     // What there is at its end.
     ensures rests { RestsRenewed (W.view world.old) (W.view world.new) result }
+    ensures last { fails_world result ≡ true → W.failed world.new }
 {
     match open_store(alloc, world) {
         Ok(mut store) => renew(alloc, world, &mut store),

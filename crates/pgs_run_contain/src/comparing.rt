@@ -1,4 +1,5 @@
 ghost use Rattle.std.specs.Prelude.{◌≡◌, [], true, IfErr};
+ghost use Rattle.pgs_run_lines.specs.Calls.{is_of_world, stops_of_world};
 ghost use Rattle.pgs_run_lines.specs.Areas.{keeps_areas};
 ghost use Rattle.pgs_run_lines.specs.AreasKept.{KeepsAreas};
 ghost use Rattle.pgs_run_lines.specs.Driving.{LineShows};
@@ -44,6 +45,7 @@ fn put_any<W: World>(world: &mut W, piece: Option<Bytes>) -> Result<(), Stop<End
     ensures fault { IfErr result (λ stop. stop ≡ Stop.PutFault) }
     ensures cause { HasAnyCause (faults_of 0 (W.view world.old)) (faults_of 0 (W.view world.new)) result }
     ensures areas { KeepsAreas (W.view world.old) (W.view world.new) }
+    ensures last { stops_of_world result ≡ true → W.failed world.new }
 {
     match piece {
         Some(piece) => put_piece(world, piece.as_slice()),
@@ -57,6 +59,7 @@ fn refuse_second<W: World>(alloc: Global, world: &mut W, text: &[u8]) -> Stop<En
     ensures cause { HasCause (faults_of 0 (W.view world.old)) (faults_of 0 (W.view world.new)) result }
     ensures may { MayStop result }
     ensures areas { KeepsAreas (W.view world.old) (W.view world.new) }
+    ensures last { is_of_world result ≡ true → W.failed world.new }
 {
     let line = match second_refused_line(alloc, text) {
         Ok(line) => line,
@@ -74,6 +77,7 @@ fn end_second<W: World>(alloc: Global, world: &mut W, first: Compiled, text: &[u
     ensures cause { HasCause (faults_of 0 (W.view world.old)) (faults_of 0 (W.view world.new)) result }
     ensures may { MayStop result }
     ensures areas { KeepsAreas (W.view world.old) (W.view world.new) }
+    ensures last { is_of_world result ≡ true → W.failed world.new }
 {
     match judged(alloc, text) {
         Ok(Ok(second)) => Stop::Ended(Ending::Fit { first, second }),
@@ -88,6 +92,7 @@ fn end_first<W: World>(alloc: Global, world: &mut W, text: &[u8]) -> Stop<Ending
     ensures cause { HasCause (faults_of 0 (W.view world.old)) (faults_of 0 (W.view world.new)) result }
     ensures may { MayStop result }
     ensures areas { KeepsAreas (W.view world.old) (W.view world.new) }
+    ensures last { is_of_world result ≡ true → W.failed world.new }
 {
     let (phase, piece) = match judge_first(alloc, text) {
         Ok(next) => next,
@@ -110,6 +115,7 @@ impl Comparing {
         ensures cause { HasCause (faults_of 0 (W.view world.old)) (faults_of 0 (W.view world.new)) result }
         ensures may { MayStop result }
         ensures areas { KeepsAreas (W.view world.old) (W.view world.new) }
+        ensures last { is_of_world result ≡ true → W.failed world.new }
     {
         match mem::replace(&mut self.phase, Phase::Refused) {
             Phase::First(part) => end_first(alloc, world, part.text()),

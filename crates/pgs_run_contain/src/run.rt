@@ -1,4 +1,6 @@
 ghost use Rattle.std.specs.Prelude.{◌≡◌, ◌≤◌, ◌^◌, List, ℕ, Some, true, false};
+ghost use Rattle.pgs_run_lines.specs.Calls.{Reads, is_of_world};
+ghost use Rattle.pgs_run_base.specs.Calls.{fails_read, fails_world};
 ghost use Rattle.pgs_run_lines.specs.AreasKept.{KeepsAreas};
 ghost use Rattle.pgs_run_lines.specs.Ending.{faults_of};
 ghost use Rattle.pgs_run_lines.specs.Pieces.{shown_of};
@@ -15,7 +17,9 @@ use std::alloc::Global;
 
 // Ends a run: behind two schemas the types are told.
 fn end_run<W: World>(alloc: Global, world: &mut W, stop: Stop<Ending>) -> Status
-    ensures { EndsRun stop (W.view world.old) result (W.view world.new) }
+    requires { is_of_world stop ≡ true → W.failed world.old }
+    ensures ends { EndsRun stop (W.view world.old) result (W.view world.new) }
+    ensures last { fails_world result ≡ true → W.failed world.new }
 {
     match stop {
         Stop::Ended(Ending::Fit { first, second }) => put_guard(alloc, world, &first, &second),
@@ -43,6 +47,8 @@ pub fn run_contain<S: Source, W: World>(
     ensures read_to_end { IsRead (S.left source.new) result }
     ensures cause { HasCommandCause true false (faults_of (S.faults source.old) (W.view world.old)) (faults_of (S.faults source.new) (W.view world.new)) result }
     ensures areas { KeepsAreas (W.view world.old) (W.view world.new) }
+    ensures last { fails_world result ≡ true → W.failed world.new }
+    ensures calls { Reads S.read_made budget source.old (fails_read result) source.new }
 {
     let mut comparing = Comparing::new(alloc);
     let stop = run_lines(&mut comparing, alloc, source, world, TEXT_LIMIT, budget);

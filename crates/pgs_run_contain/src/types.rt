@@ -1,6 +1,8 @@
 //! The lines of the types of the first guard.
 
 ghost use Rattle.std.specs.Prelude.{◌≡◌, ◌∷◌, [], true, Some, IsSome, option_map};
+ghost use Rattle.pgs_run_lines.specs.Calls.{stops_of_world};
+ghost use Rattle.pgs_run_base.specs.Calls.{fails_world};
 ghost use Rattle.pgs_contain.specs.Contained.{has_type};
 ghost use Rattle.pgs_run_contain.specs.Answers.{shown_name, listed_name};
 ghost use Rattle.pgs_run_contain.specs.Running.{Tells, TellsTypes, status_by};
@@ -49,7 +51,8 @@ fn put_answer<W: World>(
 ) -> Result<bool, Stop<Status>>
     requires there { has_type first.now number ≡ true }
     requires named { listed_name first.now number ≡ Some name.now }
-    ensures { Tells first.now second.now (number ∷ []) result (W.view world.old) (W.view world.new) }
+    ensures answer { Tells first.now second.now (number ∷ []) result (W.view world.old) (W.view world.new) }
+    ensures last { stops_of_world result ≡ true → W.failed world.new }
 {
     let answer = match contained(alloc, first, number, second) {
         Ok(answer) => answer,
@@ -70,7 +73,8 @@ fn put_type<W: World>(
     second: &Compiled,
     number: TypeNo,
 ) -> Result<bool, Stop<Status>>
-    ensures { Tells first.now second.now (number ∷ []) result (W.view world.old) (W.view world.new) }
+    ensures answer { Tells first.now second.now (number ∷ []) result (W.view world.old) (W.view world.new) }
+    ensures last { stops_of_world result ≡ true → W.failed world.new }
 {
     match listed_name(first.resolved(), number) {
         Some(name) => put_answer(alloc, world, first, second, number, name),
@@ -86,7 +90,8 @@ fn put_types<W: World>(
     second: &Compiled,
     numbers: &[TypeNo],
 ) -> Result<bool, Stop<Status>>
-    ensures { Tells first.now second.now numbers.now result (W.view world.old) (W.view world.new) }
+    ensures answer { Tells first.now second.now numbers.now result (W.view world.old) (W.view world.new) }
+    ensures last { stops_of_world result ≡ true → W.failed world.new }
 {
     let mut some = false;
     for number in numbers {
@@ -116,7 +121,8 @@ pub(crate) fn put_guard<W: World>(
     first: &Compiled,
     second: &Compiled,
 ) -> Status
-    ensures { TellsTypes first.now second.now (W.view world.old) result (W.view world.new) }
+    ensures answer { TellsTypes first.now second.now (W.view world.old) result (W.view world.new) }
+    ensures last { fails_world result ≡ true → W.failed world.new }
 {
     let numbers = first.resolved().guard.types.as_slice();
     let told = put_types(alloc, world, first, second, numbers);

@@ -1,6 +1,8 @@
 //! The text of an input, read whole, put into force on an opened store.
 
 ghost use Rattle.std.specs.Prelude.{◌≡◌, ◌≤◌, ◌^◌, List, ℕ, Some, Ok, true};
+ghost use Rattle.pgs_run_lines.specs.Calls.{Reads};
+ghost use Rattle.pgs_run_base.specs.Calls.{fails_read, fails_world};
 ghost use Rattle.pgs_run_base.specs.Answers.{schema_answer};
 ghost use Rattle.pgs_run_base.specs.Run.{IsRead, EndsAs, HasCommandCause, TakesWithin};
 ghost use Rattle.pgs_run_lines.specs.Ending.{faults_of};
@@ -24,7 +26,8 @@ fn renew<W: World>(alloc: Global, world: &mut W, store: &mut Store, schema: Sche
     requires ready { IsReady store.old (W.view world.old) }
     requires numbered { IsNumbered store.old.journal }
     requires read { schema_answer schema.text ≡ Ok schema.resolved }
-    ensures { Takes (told_text schema.text store.old.guard.graph) schema.text (W.view world.old) (W.view world.new) result }
+    ensures answer { Takes (told_text schema.text store.old.guard.graph) schema.text (W.view world.old) (W.view world.new) result }
+    ensures last { fails_world result ≡ true → W.failed world.new }
 {
     let reply = match evolved_reply(alloc, &schema) {
         Ok(reply) => reply,
@@ -44,7 +47,8 @@ fn renew<W: World>(alloc: Global, world: &mut W, store: &mut Store, schema: Sche
 // The same of a text of which this is the front.
 fn evolve_text<W: World>(alloc: Global, world: &mut W, store: &mut Store, text: &[u8]) -> Status
     requires ready { IsReady store.old (W.view world.old) }
-    ensures { Takes (told_new store.old.journal.next text.now store.old.guard.graph) text.now (W.view world.old) (W.view world.new) result }
+    ensures answer { Takes (told_new store.old.journal.next text.now store.old.guard.graph) text.now (W.view world.old) (W.view world.new) result }
+    ensures last { fails_world result ≡ true → W.failed world.new }
 {
     if !store.takes_schemas() {
         return refuse_old_format(alloc, world);
@@ -73,6 +77,8 @@ pub(crate) fn evolve_store<S: Source, W: World>(
     ensures cause { HasCommandCause true true (faults_of (S.faults source.old) (W.view world.old)) (faults_of (S.faults source.new) (W.view world.new)) result }
     ensures leaves { LeavesEvolved (S.left source.old) (W.view world.old) (W.view world.new) result }
     ensures settled { IsSettled (W.view world.old) → (result ≡ Status.DiskFault → ⊥) → IsSettled (W.view world.new) }
+    ensures last { fails_world result ≡ true → W.failed world.new }
+    ensures calls { Reads S.read_made budget source.old (fails_read result) source.new }
 {
     let mut collecting = Collecting::new(alloc);
     let stop = run_lines(&mut collecting, alloc, source, world, TEXT_LIMIT, budget);

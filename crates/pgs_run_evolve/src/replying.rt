@@ -1,6 +1,7 @@
 //! The one line that is put of an evolve.
 
-ghost use Rattle.std.specs.Prelude.{◌≡◌, List, ℕ, Err, IfOk, OnErr};
+ghost use Rattle.std.specs.Prelude.{◌≡◌, List, ℕ, Err, IfOk, OnErr, true};
+ghost use Rattle.pgs_run_base.specs.Calls.{fails_world};
 ghost use Rattle.pgs_answer.specs.Lines.{evolve_refused_line as violation_line, schema_refused_line as text_line, store_refused_line as store_line};
 ghost use Rattle.pgs_answer.specs.Refusals.{old_format_text as format_text, violation_text as text_of};
 ghost use Rattle.pgs_resolve.specs.SchemaOf.{Answer};
@@ -76,6 +77,7 @@ fn put_made<W: World>(world: &mut W, reply: Result<Reply<Status>, Memory>) -> St
     ensures puts { IfOk reply (λ r. PutsReply r.line r.status Status.PutFault (W.view world.old) result (W.view world.new)) }
     ensures memory { OnErr reply (result ≡ Status.Memory) }
     ensures early { OnErr reply (world.new ≡ world.old) }
+    ensures last { fails_world result ≡ true → W.failed world.new }
 {
     match reply {
         Ok(reply) => put_reply(world, &reply),
@@ -87,6 +89,7 @@ fn put_made<W: World>(world: &mut W, reply: Result<Reply<Status>, Memory>) -> St
 pub(crate) fn refuse_old_format<W: World>(alloc: Global, world: &mut W) -> Status
     ensures replies { Replies (store_line format_text) Status.StoreRefused (W.view world.old) result (W.view world.new) }
     ensures early { result ≡ Status.Memory → world.new ≡ world.old }
+    ensures last { fails_world result ≡ true → W.failed world.new }
 {
     put_made(world, old_format_reply(alloc))
 }
@@ -95,6 +98,7 @@ pub(crate) fn refuse_old_format<W: World>(alloc: Global, world: &mut W) -> Statu
 pub(crate) fn refuse_text<W: World>(alloc: Global, world: &mut W, unread: SchemaUnread) -> Status
     ensures replies { (answer : Answer) → IsRefused answer unread → RepliesRefused answer (W.view world.old) result (W.view world.new) }
     ensures early { result ≡ Status.Memory → world.new ≡ world.old }
+    ensures last { fails_world result ≡ true → W.failed world.new }
 {
     put_made(world, refused_reply(alloc, unread))
 }
@@ -107,6 +111,7 @@ pub(crate) fn refuse_violation<W: World>(
 ) -> Status
     ensures replies { Replies (violation_line (text_of violation.now)) Status.Refused (W.view world.old) result (W.view world.new) }
     ensures early { result ≡ Status.Memory → world.new ≡ world.old }
+    ensures last { fails_world result ≡ true → W.failed world.new }
 {
     put_made(world, violated_reply(alloc, violation))
 }

@@ -1,4 +1,6 @@
 ghost use Rattle.std.specs.Prelude.{◌≡◌, ◌≤◌, ◌^◌, List, ℕ, Some, true, IsTrue};
+ghost use Rattle.pgs_run_lines.specs.Calls.{Reads};
+ghost use Rattle.pgs_run_base.specs.Calls.{fails_read, fails_world};
 ghost use Rattle.pgs_base.specs.Graph.{Graph};
 ghost use Rattle.pgs_run_lines.specs.Ending.{faults_of};
 ghost use Rattle.pgs_run_lines.specs.Pieces.{shown_of};
@@ -40,6 +42,8 @@ pub fn run_evolve<S: Source, W: World>(
     // Where nothing is saved, nothing is read.
     ensures unread { IsTrue (W.view world.old).tells_bytes
         → ((text : List ℕ) (commits : ℕ) (graph : Graph) → SavesAs (W.view world.old) text commits graph → ⊥) → source.new ≡ source.old }
+    ensures last { fails_world result ≡ true → W.failed world.new }
+    ensures calls { Reads S.read_made budget source.old (fails_read result) source.new }
 {
     match open_store(alloc, world) {
         Ok(mut store) => evolve_store(alloc, source, world, &mut store, budget),

@@ -1,4 +1,5 @@
 ghost use Rattle.std.specs.Prelude.{◌≡◌, ◌<◌, is_some, true, IfOk};
+ghost use Rattle.pgs_run_lines.specs.Calls.{stops_of_world};
 ghost use Rattle.pgs_run_lines.specs.Puts.{Puts};
 ghost use Rattle.pgs_syntax.specs.Matches.{carried};
 ghost use Rattle.pgs_run_explain.specs.Explaining.{explained};
@@ -45,7 +46,8 @@ fn put_present<W: World, L: Ledger>(
     steps: &mut Steps<L>,
 ) -> Result<(), Stop<Status>>
     requires { is_some (carried store.now.guard.graph elem) ≡ true }
-    ensures { Puts (W.view world.old) (explained store.now.guard.schema store.now.guard.graph elem).pieces result (W.view world.new) }
+    ensures puts { Puts (W.view world.old) (explained store.now.guard.schema store.now.guard.graph elem).pieces result (W.view world.new) }
+    ensures last { stops_of_world result ≡ true → W.failed world.new }
 {
     let types = store.types_of(elem)?;
     put_types(alloc, world, store.compiled().resolved(), types.as_slice())?;
@@ -65,6 +67,7 @@ fn put_explained<W: World, L: Ledger>(
     requires some { 0 < blank.parts }
     ensures puts { Puts (W.view world.old) (explained store.now.guard.schema store.now.guard.graph elem).pieces result (W.view world.new) }
     ensures there { IfOk result (λ there. there ≡ is_some (carried store.now.guard.graph elem)) }
+    ensures last { stops_of_world result ≡ true → W.failed world.new }
 {
     let mut steps: Steps<L> = Steps::begin(blank);
     if is_there(store.graph(), elem, &mut steps) {

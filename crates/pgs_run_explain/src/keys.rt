@@ -1,6 +1,7 @@
 //! The lines of the keys in whose scope an element is.
 
-ghost use Rattle.std.specs.Prelude.{◌≡◌, ◌<◌, ◌≤◌, Some, length, map};
+ghost use Rattle.std.specs.Prelude.{◌≡◌, ◌<◌, ◌≤◌, Some, length, map, true};
+ghost use Rattle.pgs_run_lines.specs.Calls.{stops_of_world};
 ghost use Rattle.pgs_answer.specs.Lines.{key_value_line};
 ghost use Rattle.pgs_run_lines.specs.Puts.{Puts};
 ghost use Rattle.pgs_store.specs.Explained.{key_values_of};
@@ -22,7 +23,8 @@ fn put_values<W: World>(
     number: u32,
     values: &[Tuple],
 ) -> Result<(), Stop<Status>>
-    ensures { Puts (W.view world.old) (map (key_value_line number) values.now) result (W.view world.new) }
+    ensures puts { Puts (W.view world.old) (map (key_value_line number) values.now) result (W.view world.new) }
+    ensures last { stops_of_world result ≡ true → W.failed world.new }
 {
     for tuple in values {
         put_made(world, key_value_line(alloc, number, tuple))?;
@@ -37,7 +39,8 @@ fn put_scope<W: World>(
     number: u32,
     values: &TupleSet,
 ) -> Result<(), Stop<Status>>
-    ensures { Puts (W.view world.old) (key_lines number (Some values.now)) result (W.view world.new) }
+    ensures puts { Puts (W.view world.old) (key_lines number (Some values.now)) result (W.view world.new) }
+    ensures last { stops_of_world result ≡ true → W.failed world.new }
 {
     put_made(world, key_scope_line(alloc, number))?;
     put_values(alloc, world, number, values.as_slice())
@@ -54,8 +57,9 @@ fn put_key<W: World, L: Ledger>(
 ) -> Result<(), Stop<Status>>
     requires from_one { 0 < number }
     requires in_range { number ≤ length store.now.guard.schema.guard.keys }
-    ensures { Puts (W.view world.old)
+    ensures puts { Puts (W.view world.old)
         (key_lines number (key_values_of store.now.guard.schema store.now.guard.graph number elem)) result (W.view world.new) }
+    ensures last { stops_of_world result ≡ true → W.failed world.new }
 {
     match store.key_values(number, elem, steps) {
         Some(values) => put_scope(alloc, world, number, values),
@@ -71,8 +75,9 @@ pub(crate) fn put_keys<W: World, L: Ledger>(
     elem: Elem,
     steps: &mut Steps<L>,
 ) -> Result<(), Stop<Status>>
-    ensures { Puts (W.view world.old)
+    ensures puts { Puts (W.view world.old)
         (keys_lines store.now.guard.schema store.now.guard.graph elem (key_numbers store.now.guard.schema)) result (W.view world.new) }
+    ensures last { stops_of_world result ≡ true → W.failed world.new }
 {
     let count = store.compiled().resolved().guard.keys.len() as u32;
     for place in 0..count {

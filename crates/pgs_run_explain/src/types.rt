@@ -1,6 +1,7 @@
 //! The lines of the types that an element fits.
 
-ghost use Rattle.std.specs.Prelude.{◌≡◌, ◌∷◌, [], option_map};
+ghost use Rattle.std.specs.Prelude.{◌≡◌, ◌∷◌, [], option_map, true};
+ghost use Rattle.pgs_run_lines.specs.Calls.{stops_of_world};
 ghost use Rattle.pgs_run_lines.specs.Puts.{Puts};
 ghost use Rattle.pgs_run_explain.specs.Explaining.{named, type_lines};
 
@@ -35,7 +36,8 @@ fn put_type<W: World>(
     resolved: &Resolved,
     type_no: TypeNo,
 ) -> Result<(), Stop<Status>>
-    ensures { Puts (W.view world.old) (type_lines resolved.now (type_no ∷ [])) result (W.view world.new) }
+    ensures puts { Puts (W.view world.old) (type_lines resolved.now (type_no ∷ [])) result (W.view world.new) }
+    ensures last { stops_of_world result ≡ true → W.failed world.new }
 {
     match named(resolved, type_no) {
         Some((hidden, name)) => put_made(world, type_line(alloc, hidden, name)),
@@ -50,7 +52,8 @@ pub(crate) fn put_types<W: World>(
     resolved: &Resolved,
     types: &[TypeNo],
 ) -> Result<(), Stop<Status>>
-    ensures { Puts (W.view world.old) (type_lines resolved.now types.now) result (W.view world.new) }
+    ensures puts { Puts (W.view world.old) (type_lines resolved.now types.now) result (W.view world.new) }
+    ensures last { stops_of_world result ≡ true → W.failed world.new }
 {
     for type_no in types {
         put_type(alloc, world, resolved, *type_no)?;

@@ -11,7 +11,7 @@ use Rattle.pgs_run_lines.specs.Pieces.{Shown, ShowsAll, shown_of}
 use Rattle.pgs_run_lines.specs.Run as over
 use Rattle.pgs_run_lines.specs.Run.{Allows, EndsBy, EndsAtLine, EndsAtEnd, EndsAtCut, IsFar}
 use Rattle.pgs_run_lines.proofs.RunEnds.{taken_length, rest_of}
-use Rattle.pgs_world.specs.Count.{Rose}
+use Rattle.pgs_world.specs.Count.{RoseByOne}
 use Rattle.pgs_world.specs.Source.{Takes, IsAtEnd}
 use Rattle.pgs_follow.specs.Followed.{Followed, nothing_followed, after_line, followed, rest_of as rest_told, with_rest}
 use Rattle.pgs_run_follow.specs.declared.status.FollowStatus.{FollowStatus}
@@ -206,7 +206,7 @@ follow_silent f budget before left stop status old new same allows unended =
 
 -- ---- a feed below the budget
 
-complete_by : (start now : Shown) (told : Told FollowStatus) (status : FollowStatus) (old new : Faults) → IsDone told.status → (Rose old.reads new.reads → ⊥) → (Rose old.puts new.puts → ⊥)
+complete_by : (start now : Shown) (told : Told FollowStatus) (status : FollowStatus) (old new : Faults) → IsDone told.status → (RoseByOne old.reads new.reads → ⊥) → (RoseByOne old.puts new.puts → ⊥)
     → HasCause old new status → Ends start told status now → IsComplete start told status now
 complete_by start now told Accepted old new done reads puts cause ends = inr (inl refl, ends.0)
 complete_by start now told Refused old new done reads puts cause ends = inr (inr refl, ends.0)
@@ -218,7 +218,7 @@ complete_by start now told ReadFault old new done reads puts cause ends = absurd
 complete_by start now told PutFault old new done reads puts cause ends = absurd (puts cause.0)
 complete_by start now told Memory old new done reads puts cause ends = inl refl
 
-pub follow_complete : (start now : Shown) (input : List ℕ) (budget : ℕ) (status : FollowStatus) (old new : Faults) → length input < budget → (Rose old.reads new.reads → ⊥) → (Rose old.puts new.puts → ⊥)
+pub follow_complete : (start now : Shown) (input : List ℕ) (budget : ℕ) (status : FollowStatus) (old new : Faults) → length input < budget → (RoseByOne old.reads new.reads → ⊥) → (RoseByOne old.puts new.puts → ⊥)
     → HasCause old new status → Ends start (told_follow input budget) status now → IsComplete start (told_follow input budget) status now
 follow_complete start now input budget status old new short reads puts cause ends =
     complete_by start now (told_follow input budget) status old new (done_told input budget short) reads puts cause ends

@@ -3,7 +3,7 @@ use Rattle.std.specs.Prelude.{◌≡◌, ◌⊎◌, ℕ, ◌<◌, true, false, L
 use Rattle.pgs_run_lines.specs.AreasKept.{KeepsAreas}
 use Rattle.pgs_run_lines.specs.Ending.{Faults, faults_of}
 use Rattle.pgs_run_lines.specs.Pieces.{shown_of}
-use Rattle.pgs_world.specs.Count.{Rose}
+use Rattle.pgs_world.specs.Count.{RoseByOne}
 use Rattle.pgs_world.specs.World.{View}
 use Rattle.pgs_run_follow.specs.declared.status.FollowStatus.{FollowStatus}
 use Rattle.pgs_run_follow.specs.Ending.{Ends, HasCause, IsComplete, IsDisturbed, IsRead, IsUnended, RefusesWords, TakesWithin}
@@ -43,7 +43,7 @@ pub record KeepsPromise (words : List (List ℕ)) (budget : ℕ) (old new : Sett
   pub exact : (input : List ℕ) → Knows words old input → IsDisturbed status ⊎ (status ≡ (told words input budget).status)
   -- A feed below the budget, over a source and a world that don't fail, is followed to its end.
   pub complete : (input : List ℕ) → is_follow words ≡ true → old.left ≡ Some input → length input < budget
-      → (Rose old.faults new.faults → ⊥) → (Rose old.view.put_faults new.view.put_faults → ⊥)
+      → (RoseByOne old.faults new.faults → ⊥) → (RoseByOne old.view.put_faults new.view.put_faults → ⊥)
       → IsComplete (shown_of old.view) (told words input budget) status (shown_of new.view)
   -- Both areas, at every moment, and the count of their faults are as before.
   pub areas : KeepsAreas old.view new.view

@@ -1,4 +1,5 @@
-ghost use Rattle.std.specs.Prelude.{◌≡◌, ◌≤◌, ◌<◌, ◌-◌, ◌+◌, ◌^◌, ℕ, IfErr};
+ghost use Rattle.std.specs.Prelude.{◌≡◌, ◌≤◌, ◌<◌, ◌-◌, ◌+◌, ◌^◌, ℕ, IfErr, true};
+ghost use Rattle.pgs_run_lines.specs.Calls.{is_of_world, stops_of_world};
 ghost use Rattle.pgs_run_lines.specs.AreasKept.{KeepsAreas};
 ghost use Rattle.pgs_run_lines.specs.Driving.{LineLeads};
 ghost use Rattle.pgs_run_lines.specs.Ending.{Ends, HasCause, faults_of};
@@ -45,7 +46,8 @@ fn put_fault<W: World>(
     world: &mut W,
     progress: &Progress,
 ) -> Result<(), Stop<FollowStatus>>
-    ensures { Puts (W.view world.old) (fault_lines progress.now.followed.fault) result (W.view world.new) }
+    ensures puts { Puts (W.view world.old) (fault_lines progress.now.followed.fault) result (W.view world.new) }
+    ensures last { stops_of_world result ≡ true → W.failed world.new }
 {
     match progress.fault() {
         Some(fault) => put_made(world, fault_line(alloc, *fault)),
@@ -60,7 +62,8 @@ fn put_told<W: World>(
     progress: &Progress,
     rest: u64,
 ) -> Result<(), Stop<FollowStatus>>
-    ensures { Puts (W.view world.old) (told_of progress.now.followed rest).pieces result (W.view world.new) }
+    ensures puts { Puts (W.view world.old) (told_of progress.now.followed rest).pieces result (W.view world.new) }
+    ensures last { stops_of_world result ≡ true → W.failed world.new }
 {
     put_fault(alloc, world, progress)?;
     put_made(world, followed_line(alloc, progress.commits(), rest))?;
@@ -130,6 +133,7 @@ impl Following {
         ensures cause { HasCause (faults_of 0 (W.view world.old)) (faults_of 0 (W.view world.new)) result }
         ensures may { MayStop result }
         ensures areas { KeepsAreas (W.view world.old) (W.view world.new) }
+        ensures last { is_of_world result ≡ true → W.failed world.new }
     {
         match put_told(alloc, world, &self.progress, rest) {
             Ok(()) => {}

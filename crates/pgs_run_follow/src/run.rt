@@ -1,4 +1,6 @@
-ghost use Rattle.std.specs.Prelude.{◌≡◌, ◌≤◌, ◌<◌, ◌^◌, List, ℕ, Some, false};
+ghost use Rattle.std.specs.Prelude.{◌≡◌, ◌≤◌, ◌<◌, ◌^◌, List, ℕ, Some, false, true};
+ghost use Rattle.pgs_run_lines.specs.Calls.{Reads};
+ghost use Rattle.pgs_run_follow.specs.Calls.{fails_read, fails_world};
 ghost use Rattle.pgs_run_lines.specs.AreasKept.{KeepsAreas};
 ghost use Rattle.pgs_run_lines.specs.Ending.{faults_of};
 ghost use Rattle.pgs_run_lines.specs.Pieces.{shown_of};
@@ -34,6 +36,7 @@ fn refuse_words<W: World>(alloc: Global, world: &mut W) -> FollowStatus
     ensures answer { RefusesWords result }
     ensures cause { (reads : ℕ) → HasCause (faults_of reads (W.view world.old)) (faults_of reads (W.view world.new)) result }
     ensures areas { KeepsAreas (W.view world.old) (W.view world.new) }
+    ensures last { fails_world result ≡ true → W.failed world.new }
 {
     match words_refused_line(alloc) {
         Ok(line) => put_reply(
@@ -62,6 +65,8 @@ fn follow<S: Source, W: World>(
     ensures reads { IsRead (S.left source.new) result }
     ensures cause { HasCause (faults_of (S.faults source.old) (W.view world.old)) (faults_of (S.faults source.new) (W.view world.new)) result }
     ensures areas { KeepsAreas (W.view world.old) (W.view world.new) }
+    ensures last { fails_world result ≡ true → W.failed world.new }
+    ensures calls { Reads S.read_made budget source.old (fails_read result) source.new }
 {
     let mut following = Following::new(alloc);
     let stop = run_lines(&mut following, alloc, source, world, LONGEST, budget);
@@ -82,9 +87,11 @@ pub fn run_follow_within<S: Source, W: World>(
 ) -> FollowStatus
     requires positive { 0 < budget }
     requires within { budget ≤ 2 ^ 40 }
-    ensures { KeepsPromise words.now budget
+    ensures promise { KeepsPromise words.now budget
         (setting_of (S.left source.old) (S.faults source.old) (W.view world.old))
         (setting_of (S.left source.new) (S.faults source.new) (W.view world.new)) result }
+    ensures last { fails_world result ≡ true → W.failed world.new }
+    ensures calls { Reads S.read_made budget source.old (fails_read result) source.new }
 {
     if is_follow(words) {
         follow(alloc, source, world, budget)
@@ -100,9 +107,11 @@ pub fn run_follow<S: Source, W: World>(
     source: &mut S,
     world: &mut W,
 ) -> FollowStatus
-    ensures { KeepsPromise words.now (2 ^ 40)
+    ensures promise { KeepsPromise words.now (2 ^ 40)
         (setting_of (S.left source.old) (S.faults source.old) (W.view world.old))
         (setting_of (S.left source.new) (S.faults source.new) (W.view world.new)) result }
+    ensures last { fails_world result ≡ true → W.failed world.new }
+    ensures calls { Reads S.read_made (2 ^ 40) source.old (fails_read result) source.new }
 {
     run_follow_within(alloc, words, source, world, BUDGET)
 }

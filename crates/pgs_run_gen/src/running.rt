@@ -1,4 +1,5 @@
-ghost use Rattle.std.specs.Prelude.{◌≡◌, ◌<◌, ◌≤◌, ◌∷◌, [], ℕ, false, IfOk};
+ghost use Rattle.std.specs.Prelude.{◌≡◌, ◌<◌, ◌≤◌, ◌∷◌, [], ℕ, false, IfOk, true};
+ghost use Rattle.pgs_run_base.specs.Calls.{fails_world};
 ghost use Rattle.pgs_base.specs.Graph.{empty_graph};
 ghost use Rattle.pgs_run_lines.specs.AreasKept.{KeepsAreas};
 ghost use Rattle.pgs_run_lines.specs.Ending.{faults_of};
@@ -88,6 +89,7 @@ pub fn run_gen<W: World>(alloc: Global, world: &mut W, start: u64, count: u64) -
     ensures answer { IsAnswer result }
     ensures cause { (reads : ℕ) → HasCommandCause false false (faults_of reads (W.view world.old)) (faults_of reads (W.view world.new)) result }
     ensures areas { KeepsAreas (W.view world.old) (W.view world.new) }
+    ensures last { fails_world result ≡ true → W.failed world.new }
 {
     match reply_of(alloc, world.seed(), start, count) {
         Ok(reply) => put_reply(world, &reply),

@@ -1,6 +1,6 @@
 -- Causes of stops, one call after another.
 use Rattle.std.proofs.Common.{◌≡◌, ℕ, ◌+◌, ◌-◌, ◌≤◌, ◌^◌, min, refl, sym, ap, ◌∙◌, arith}
-use Rattle.pgs_world.specs.Count.{Rose}
+use Rattle.pgs_world.specs.Count.{RoseByOne, raised}
 use Rattle.pgs_world.specs.World.{View}
 use Rattle.pgs_run_lines.specs.declared.stop.Stop.{Stop}
 use Rattle.pgs_run_lines.specs.declared.stop.Stop.TheVariants as stops
@@ -15,8 +15,8 @@ cause_on before mid now stops.PutFault same cause = rw (sym same) cause
 cause_on before mid now stops.Memory same cause = cause ∙ same
 
 -- no read fails where nothing is read
-pub no_rise : (n : ℕ) → Rose n n → n ≡ 0 → ⊥
-no_rise n rose is = let h : min (n + 1) (2 ^ 64 - 1) ≤ n = rose in absurd (omega arith)
+pub no_rise : (n : ℕ) → RoseByOne n n → n ≡ 0 → ⊥
+no_rise n rose is = let h : n ≡ min (n + 1) (2 ^ 64 - 1) = rose in absurd (omega arith)
 
 -- the same faults of a world
 same_world : (reads : ℕ) (old new : View) → faults_of 0 new ≡ faults_of 0 old → faults_of reads new ≡ faults_of reads old

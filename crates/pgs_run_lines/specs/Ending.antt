@@ -1,6 +1,6 @@
 -- How a run ends: what the world shows, and the causes of its faults.
 use Rattle.std.specs.Prelude.{◌≡◌, ℕ, List, Result, Ok, Err}
-use Rattle.pgs_world.specs.Count.{Rose}
+use Rattle.pgs_world.specs.Count.{RoseByOne}
 use Rattle.pgs_world.specs.World.{View}
 use Rattle.pgs_run_lines.specs.declared.stop.Stop.{Stop}
 use Rattle.pgs_run_lines.specs.declared.stop.Stop.TheVariants as stops
@@ -35,13 +35,13 @@ faults_of reads view = record { reads = reads; areas = view.area_faults; puts = 
 
 -- one count of faults rose, and the others are as before
 abbrev pub ReadsRose : Faults → Faults → Type 0
-ReadsRose before now = Rose before.reads now.reads × (now.areas ≡ before.areas) × (now.puts ≡ before.puts)
+ReadsRose before now = RoseByOne before.reads now.reads × (now.areas ≡ before.areas) × (now.puts ≡ before.puts)
 
 abbrev pub AreasRose : Faults → Faults → Type 0
-AreasRose before now = Rose before.areas now.areas × (now.reads ≡ before.reads) × (now.puts ≡ before.puts)
+AreasRose before now = RoseByOne before.areas now.areas × (now.reads ≡ before.reads) × (now.puts ≡ before.puts)
 
 abbrev pub PutsRose : Faults → Faults → Type 0
-PutsRose before now = Rose before.puts now.puts × (now.reads ≡ before.reads) × (now.areas ≡ before.areas)
+PutsRose before now = RoseByOne before.puts now.puts × (now.reads ≡ before.reads) × (now.areas ≡ before.areas)
 
 -- a fault that stops the run came, and no other
 abbrev pub HasCause : {E : Type 0} → Faults → Faults → Stop E → Type 0

@@ -1,6 +1,7 @@
 pub mod Areas
 pub mod AreasKept
 pub mod Buffer
+pub mod Calls
 pub mod Driving
 pub mod Ending
 pub mod Input

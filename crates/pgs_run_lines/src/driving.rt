@@ -1,5 +1,6 @@
 ghost use Rattle.std.specs.Prelude.{◌≡◌, ◌≤◌, ◌+◌, ◌∷◌, ◌++◌, [], List, ℕ, length, IfErr, OnOk, true};
 ghost use Rattle.pgs_run_lines.specs.Buffer.{IsBegun};
+ghost use Rattle.pgs_run_lines.specs.Calls.{stops_of_world};
 ghost use Rattle.pgs_run_lines.specs.Driving.{TakesTo};
 ghost use Rattle.pgs_run_lines.specs.Ending.{HasAnyCause, faults_of};
 ghost use Rattle.pgs_run_lines.specs.Input.{has_no_feed};
@@ -31,6 +32,7 @@ fn take_line<T: LineTaker, W: World>(
     ensures room { OnOk result ((lines : ℕ) → T.machine.HasRoom (lines + 1) (T.stands taker.old) → T.machine.HasRoom lines (T.stands taker.new)) }
     ensures holds { OnOk result (T.rule.holds (T.stands taker.new) (W.view world.new)) }
     ensures cause { HasAnyCause (faults_of 0 (W.view world.old)) (faults_of 0 (W.view world.new)) result }
+    ensures last { stops_of_world result ≡ true → W.failed world.new }
     ensures may { IfErr result (MayCome T.machine) }
 {
     match buffer.push_all(part) {
@@ -62,6 +64,7 @@ pub fn take_bytes<T: LineTaker, W: World>(
     ensures room { OnOk result ((more : ℕ) → HasRoomFor T.machine (length bytes.now + more) (T.stands taker.old) → HasRoomFor T.machine more (T.stands taker.new)) }
     ensures holds { OnOk result (T.rule.holds (T.stands taker.new) (W.view world.new)) }
     ensures cause { HasAnyCause (faults_of 0 (W.view world.old)) (faults_of 0 (W.view world.new)) result }
+    ensures last { stops_of_world result ≡ true → W.failed world.new }
     ensures may { IfErr result (MayCome T.machine) }
 {
     let mut rest = bytes;

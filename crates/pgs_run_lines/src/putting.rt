@@ -1,5 +1,6 @@
-ghost use Rattle.std.specs.Prelude.{◌≡◌, ◌∷◌, [], ℕ, List, IfErr, IfOk};
+ghost use Rattle.std.specs.Prelude.{◌≡◌, ◌∷◌, [], ℕ, List, true, IfErr, IfOk};
 ghost use Rattle.pgs_run_lines.specs.AreasKept.{KeepsAreas};
+ghost use Rattle.pgs_run_lines.specs.Calls.{stops_of_world};
 ghost use Rattle.pgs_run_lines.specs.Driving.{LineShows};
 ghost use Rattle.pgs_run_lines.specs.Ending.{HasAnyCause, faults_of};
 ghost use Rattle.pgs_run_lines.specs.Pieces.{shown_of};
@@ -17,6 +18,7 @@ pub fn put_piece<E, W: World>(world: &mut W, piece: &[u8]) -> Result<(), Stop<E>
     ensures shows { LineShows (shown_of (W.view world.old)) (piece.now ∷ []) result (shown_of (W.view world.new)) }
     ensures fault { IfErr result (λ stop. stop ≡ Stop.PutFault) }
     ensures cause { HasAnyCause (faults_of 0 (W.view world.old)) (faults_of 0 (W.view world.new)) result }
+    ensures last { stops_of_world result ≡ true → W.failed world.new }
     ensures areas { KeepsAreas (W.view world.old) (W.view world.new) }
     ensures stops { StopsBy (PutsFront piece.now) (W.view world.old) (W.view world.new) }
 {
@@ -32,6 +34,7 @@ pub fn put_pieces<E, W: World>(world: &mut W, pieces: &[Bytes]) -> Result<(), St
     ensures shows { LineShows (shown_of (W.view world.old)) pieces.now result (shown_of (W.view world.new)) }
     ensures fault { IfErr result (λ stop. stop ≡ Stop.PutFault) }
     ensures cause { HasAnyCause (faults_of 0 (W.view world.old)) (faults_of 0 (W.view world.new)) result }
+    ensures last { stops_of_world result ≡ true → W.failed world.new }
     ensures areas { KeepsAreas (W.view world.old) (W.view world.new) }
 {
     for piece in pieces {
@@ -46,7 +49,8 @@ pub fn put_pieces<E, W: World>(world: &mut W, pieces: &[Bytes]) -> Result<(), St
 /// Puts a piece that was made, where there was memory for it. `PutFault` comes only where the count of put faults rose, and a front of
 /// the piece may then have been put; after `Memory` nothing was put. No other stop comes.
 pub fn put_made<E, W: World>(world: &mut W, made: Result<Bytes, Memory>) -> Result<(), Stop<E>>
-    ensures { (piece : List ℕ) → IfOk made (λ line. line ≡ piece) → Puts (W.view world.old) (piece ∷ []) result (W.view world.new) }
+    ensures puts { (piece : List ℕ) → IfOk made (λ line. line ≡ piece) → Puts (W.view world.old) (piece ∷ []) result (W.view world.new) }
+    ensures last { stops_of_world result ≡ true → W.failed world.new }
 {
     let piece = match made {
         Ok(piece) => piece,

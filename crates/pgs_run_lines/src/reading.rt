@@ -1,6 +1,8 @@
-ghost use Rattle.std.specs.Prelude.{◌≡◌, ◌<◌, ◌≤◌, ◌+◌, ◌^◌, [], Ok, length, take, IfOk, IfErr, OnErr, OnOk, vec_len};
-ghost use Rattle.pgs_world.specs.Count.{Rose};
+ghost use Rattle.std.specs.Prelude.{◌≡◌, ◌×◌, ◌<◌, ◌≤◌, ◌+◌, ◌^◌, ℕ, [], true, Ok, length, take, IfOk, IfErr, OnErr, OnOk, vec_len};
+ghost use Rattle.std.specs.Result.{result_ok};
+ghost use Rattle.pgs_world.specs.Count.{RoseByOne};
 ghost use Rattle.pgs_world.specs.Source.{Takes, IsAtEnd};
+ghost use Rattle.pgs_run_lines.specs.Calls.{MayAsk, Reads as Made, stops_of_source, stops_of_world};
 ghost use Rattle.pgs_run_lines.specs.Ending.{HasAnyCause, faults_of};
 ghost use Rattle.pgs_run_lines.specs.Machine.{HasRoomFor, scene_of};
 ghost use Rattle.pgs_run_lines.specs.May.{MayCome};
@@ -42,14 +44,15 @@ pub fn read_buffer(alloc: Global) -> Result<Vec<u8>, Memory>
 
 // Reads into the front of the buffer, and never more than is left of the budget.
 fn read_some<S: Source>(source: &mut S, buffer: &mut [u8], left: u64) -> Result<usize, SourceFault>
-    requires buffer { 0 < length buffer.old }
+    requires buffer { (0 < length buffer.old) × (length buffer.old ≤ 65536) }
     requires left { 0 < left }
+    ensures made { (asked : ℕ) × MayAsk left asked × S.read_made source.old asked (result_ok result) source.new }
     ensures within { IfOk result (λ count. count ≤ length buffer.new) }
     ensures budget { IfOk result (λ count. count ≤ left) }
     ensures taken { IfOk result (λ count. Takes (S.left source.old) (S.left source.new) (take count buffer.new)) }
     ensures end { result ≡ Ok 0 → IsAtEnd (S.left source.old) }
     ensures kept { OnErr result (S.left source.new ≡ S.left source.old) }
-    ensures cause { OnErr result (Rose (S.faults source.old) (S.faults source.new)) }
+    ensures cause { OnErr result (RoseByOne (S.faults source.old) (S.faults source.new)) }
     ensures no_cause { OnOk result (S.faults source.new ≡ S.faults source.old) }
 {
     let most = if left < buffer.len() as u64 {
@@ -70,7 +73,7 @@ pub fn read_all<T: LineTaker, S: Source, W: World>(
     bytes: &mut [u8],
     budget: u64,
 ) -> Result<End, Stop<T::Status>>
-    requires bytes { 0 < length bytes.old }
+    requires bytes { (0 < length bytes.old) × (length bytes.old ≤ 65536) }
     requires budget { budget ≤ 2 ^ 40 }
     requires line { line.old.bytes ≡ [] }
     requires room { HasRoomFor T.machine (budget + 1) (T.stands taker.old) }
@@ -79,6 +82,8 @@ pub fn read_all<T: LineTaker, S: Source, W: World>(
     ensures room { OnOk result (HasRoomFor T.machine 1 (T.stands taker.new)) }
     ensures holds { OnOk result (T.rule.holds (T.stands taker.new) (W.view world.new)) }
     ensures cause { HasAnyCause (faults_of (S.faults source.old) (W.view world.old)) (faults_of (S.faults source.new) (W.view world.new)) result }
+    ensures last { stops_of_world result ≡ true → W.failed world.new }
+    ensures calls { Made S.read_made budget source.old (stops_of_source result) source.new }
     ensures may { IfErr result (MayCome T.machine) }
 {
     let mut left = budget;

@@ -1,4 +1,4 @@
-ghost use Rattle.std.specs.Prelude.{◌≡◌};
+ghost use Rattle.std.specs.Prelude.{◌≡◌, ◌⊎◌};
 ghost use Rattle.pgs_run_lines.specs.AreasKept.{KeepsAreas};
 ghost use Rattle.pgs_run_lines.specs.Replies.{EndsReply};
 ghost use Rattle.pgs_world.specs.Disk.{Puts as PutsFront};
@@ -31,6 +31,7 @@ pub fn put_reply<E: RunStatus, W: World>(world: &mut W, reply: &Reply<E>) -> E
     ensures ends { EndsReply reply.now.line reply.now.status E.put_failed (W.view world.old) result (W.view world.new) }
     ensures stops { StopsBy (PutsFront reply.now.line) (W.view world.old) (W.view world.new) }
     ensures areas { KeepsAreas (W.view world.old) (W.view world.new) }
+    ensures last { (result ≡ reply.now.status) ⊎ W.failed world.new }
 {
     match put_piece::<E, W>(world, reply.line.as_slice()) {
         Ok(()) => reply.status,

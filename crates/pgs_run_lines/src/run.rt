@@ -1,4 +1,5 @@
-ghost use Rattle.std.specs.Prelude.{◌≡◌, ◌≤◌, ◌+◌, ◌^◌, List, ℕ, Some};
+ghost use Rattle.std.specs.Prelude.{◌≡◌, ◌≤◌, ◌+◌, ◌^◌, List, ℕ, Some, true};
+ghost use Rattle.pgs_run_lines.specs.Calls.{Reads, is_of_source, is_of_world};
 ghost use Rattle.pgs_run_lines.specs.Ending.{HasCause, faults_of};
 ghost use Rattle.pgs_run_lines.specs.Machine.{HasRoomFor, scene_of, told_by};
 ghost use Rattle.pgs_run_lines.specs.May.{MayCome};
@@ -15,7 +16,7 @@ use std::alloc::Global;
 /// Runs a command over the lines of an input: reads it within a budget of bytes, at most 2^40, takes its lines, of each no more
 /// than the limit, at most 2^40, and one byte, and ends it. A read asks for at most 65,536 bytes and never for more than is left
 /// of the budget. What is put, and the status of the machine's own, is what `told_by` tells (docs/DEFINITIONS.md, "A run over
-/// lines"). The first fault ends the run, and nothing more is put.
+/// lines"). The first fault ends the run: no call on the source or on the world comes behind it.
 pub fn run_lines<T: LineTaker, S: Source, W: World>(
     taker: &mut T,
     alloc: Global,
@@ -34,8 +35,12 @@ pub fn run_lines<T: LineTaker, S: Source, W: World>(
         → EndsAs (told_by T.machine limit (T.stands taker.old) input) (shown_of (W.view world.old)) input budget (S.left source.new) result (shown_of (W.view world.new)) }
     // Where an end of the machine's own comes from.
     ensures by { EndsBy T.machine budget (S.left source.old) (S.left source.new) result }
-    // A fault comes only where its count rose, and each fault that came is the answer.
+    // A fault comes only where its count rose, by one, and each fault that came is the answer.
     ensures cause { HasCause (faults_of (S.faults source.old) (W.view world.old)) (faults_of (S.faults source.new) (W.view world.new)) result }
+    // Behind a call on the world that failed there was no other.
+    ensures last { is_of_world result ≡ true → W.failed world.new }
+    // The reads: each of some bytes, and none behind the end of the input or a fault.
+    ensures calls { Reads S.read_made budget source.old (is_of_source result) source.new }
     ensures may { MayCome T.machine result }
     // How far the lines were taken: all of what was read, or up to the one that gave the stop. What was done to the world, also at
     // every stop since the run's start, and to what the taker keeps, is what the machine's rule allows of these lines.

@@ -1,5 +1,6 @@
-ghost use Rattle.std.specs.Prelude.{◌≡◌, ◌∷◌, [], ◌+◌, ℕ, IfErr, OnOk, Result};
+ghost use Rattle.std.specs.Prelude.{◌≡◌, ◌∷◌, [], ◌+◌, ℕ, true, IfErr, OnOk, Result};
 ghost use Rattle.pgs_world.specs.World.{View};
+ghost use Rattle.pgs_run_lines.specs.Calls.{is_of_world, stops_of_world};
 ghost use Rattle.pgs_run_lines.specs.Driving.{LineLeads, LineShows};
 ghost use Rattle.pgs_run_lines.specs.Ending.{Ends, HasCause, HasAnyCause, faults_of};
 ghost use Rattle.pgs_run_lines.specs.Machine.{Machine, Rule, AtEnd, HasRoomFor, extent_of, scene_of};
@@ -41,6 +42,7 @@ pub trait LineTaker {
         ensures holds { OnOk result (rule.holds (stands self.new) (W.view world.new)) }
         ensures allows { rule.allows (stands self.old) (line.now ∷ []) (extent_of result) (scene_of (W.view world.old) (kept self.old)) (scene_of (W.view world.new) (kept self.new)) }
         ensures cause { HasAnyCause (faults_of 0 (W.view world.old)) (faults_of 0 (W.view world.new)) result }
+        ensures last { stops_of_world result ≡ true → W.failed world.new }
         ensures may { IfErr result (λ stop. machine.MayStop stop) };
 
     /// Ends the input, whose rest behind the last line feed has this front, and puts what that tells.
@@ -55,6 +57,7 @@ pub trait LineTaker {
         ensures ends { Ends (shown_of (W.view world.old)) (machine.rest (stands self.old) rest.now) result (shown_of (W.view world.new)) }
         ensures allows { rule.allows (stands self.old) [] (AtEnd rest.now result) (scene_of (W.view world.old) (kept self.old)) (scene_of (W.view world.new) (kept self.new)) }
         ensures cause { HasCause (faults_of 0 (W.view world.old)) (faults_of 0 (W.view world.new)) result }
+        ensures last { is_of_world result ≡ true → W.failed world.new }
         ensures may { machine.MayStop result };
 
     /// The status at the end of the budget.

@@ -1,6 +1,7 @@
 //! The loading of a text that was read whole.
 
-ghost use Rattle.std.specs.Prelude.{◌≡◌};
+ghost use Rattle.std.specs.Prelude.{◌≡◌, true};
+ghost use Rattle.pgs_run_base.specs.Calls.{fails_world};
 ghost use Rattle.pgs_base.specs.Graph.{empty_graph};
 ghost use Rattle.pgs_resolve.specs.SchemaOf.{schema_of};
 ghost use Rattle.pgs_schema.specs.Told.{IsRefused};
@@ -20,7 +21,8 @@ use std::alloc::Global;
 // Puts the line of a text that is no schema.
 fn refuse<W: World>(alloc: Global, unread: SchemaUnread, text: &[u8], world: &mut W) -> Status
     requires { IsRefused (schema_of text.now) unread }
-    ensures { LoadsText text.now (W.view world.old) (W.view world.new) result }
+    ensures answer { LoadsText text.now (W.view world.old) (W.view world.new) result }
+    ensures last { fails_world result ≡ true → W.failed world.new }
 {
     match refused_reply(alloc, unread) {
         Ok(reply) => put_reply(world, &reply),
@@ -34,7 +36,8 @@ fn save<W: World>(alloc: Global, guard: Guard, line: Bytes, world: &mut W) -> St
     requires unchanged { guard.commits ≡ 0 }
     requires limits { guard.limits ≡ standard }
     requires line { line ≡ line_of guard.schema }
-    ensures { LoadsText guard.text (W.view world.old) (W.view world.new) result }
+    ensures answer { LoadsText guard.text (W.view world.old) (W.view world.new) result }
+    ensures last { fails_world result ≡ true → W.failed world.new }
 {
     // What every guard promises of its text: it is the schema's.
     guard.schema_text();
@@ -48,7 +51,8 @@ fn save<W: World>(alloc: Global, guard: Guard, line: Bytes, world: &mut W) -> St
 /// Makes the empty store of a text of which this is the front, in area A, and puts the line of what was loaded or why it wasn't. The
 /// line is made before the store, so that no want of memory comes behind it.
 pub fn load_text<W: World>(alloc: Global, text: &[u8], world: &mut W) -> Status
-    ensures { LoadsText text.now (W.view world.old) (W.view world.new) result }
+    ensures answer { LoadsText text.now (W.view world.old) (W.view world.new) result }
+    ensures last { fails_world result ≡ true → W.failed world.new }
 {
     let guard = match Guard::with_seed(alloc, text, Limits::standard(), world.seed()) {
         Ok(guard) => guard,

@@ -1,4 +1,6 @@
 ghost use Rattle.std.specs.Prelude.{◌≡◌, ◌≤◌, ◌^◌, List, ℕ, true, Some, Err, IsTrue};
+ghost use Rattle.pgs_run_lines.specs.Calls.{Reads};
+ghost use Rattle.pgs_run_base.specs.Calls.{fails_read, fails_world};
 ghost use Rattle.pgs_run_lines.specs.Ending.{faults_of};
 ghost use Rattle.pgs_run_lines.specs.Pieces.{shown_of};
 ghost use Rattle.pgs_store.specs.Loads.{FindsNone};
@@ -49,6 +51,8 @@ pub fn run_load<S: Source, W: World>(
     ensures settled { IsSettled (W.view world.old) → (result ≡ Status.DiskFault → ⊥) → IsSettled (W.view world.new) }
     ensures made { IsTrue (W.view world.old).tells_bytes → (input : List ℕ) → S.left source.old ≡ Some input → FindsNone (W.view world.old)
         → IsMade input result → IsNewStore input (W.view world.new).shown }
+    ensures last { fails_world result ≡ true → W.failed world.new }
+    ensures calls { Reads S.read_made budget source.old (fails_read result) source.new }
 {
     let mut collecting = Collecting::new(alloc);
     let stop = run_lines(&mut collecting, alloc, source, world, TEXT_LIMIT, budget);

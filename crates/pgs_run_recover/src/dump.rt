@@ -1,3 +1,5 @@
+ghost use Rattle.std.specs.Prelude.{◌≡◌, true};
+ghost use Rattle.pgs_run_lines.specs.Calls.{stops_of_world};
 ghost use Rattle.pgs_run_lines.specs.Puts.{Puts};
 ghost use Rattle.pgs_run_recover.specs.Dump.{dump};
 
@@ -17,7 +19,8 @@ pub struct Dump;
 
 // Puts the dump of a store.
 fn put_dump<W: World>(alloc: Global, world: &mut W, store: &Store) -> Result<(), Stop<Status>>
-    ensures { Puts (W.view world.old) (dump store.now.guard.text store.now.guard.graph) result (W.view world.new) }
+    ensures puts { Puts (W.view world.old) (dump store.now.guard.text store.now.guard.graph) result (W.view world.new) }
+    ensures last { stops_of_world result ≡ true → W.failed world.new }
 {
     put_made(world, schema_line(alloc, store.schema_text()))?;
     put_made(world, separator_line(alloc))?;

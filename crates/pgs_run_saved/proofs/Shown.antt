@@ -4,7 +4,7 @@ use Rattle.std.specs.Prelude.{if◌then◌else◌}
 use Rattle.pgs_run_lines.specs.Ending.{Faults, PutsRose, faults_of}
 use Rattle.pgs_run_lines.specs.Pieces.{Shown, ShowsFirst, shown_of}
 use Rattle.pgs_run_lines.proofs.Showing.{shows_none}
-use Rattle.pgs_world.specs.Count.{Rose}
+use Rattle.pgs_world.specs.Count.{RoseByOne}
 use Rattle.pgs_world.specs.Moment.{IsQuiet, MakesNoPut}
 use Rattle.pgs_world.specs.World.{Triple, View}
 
@@ -38,4 +38,4 @@ beside_reads reads old new same = ap (λ (f : Faults). counts reads f.areas f.pu
 
 -- a put failed after a call that counted no fault
 pub put_after : (reads : ℕ) (old mid new : View) → mid.area_faults ≡ old.area_faults → mid.put_faults ≡ old.put_faults → PutsRose (faults_of 0 mid) (faults_of 0 new) → PutsRose (faults_of reads old) (faults_of reads new)
-put_after reads old mid new areas puts rose = (subst (λ (n : ℕ). Rose n new.put_faults) puts rose.0, refl, rose.2 ∙ areas)
+put_after reads old mid new areas puts rose = (subst (λ (n : ℕ). RoseByOne n new.put_faults) puts rose.0, refl, rose.2 ∙ areas)

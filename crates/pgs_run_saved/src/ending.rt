@@ -1,4 +1,5 @@
-ghost use Rattle.std.specs.Prelude.{◌≡◌, false};
+ghost use Rattle.std.specs.Prelude.{◌≡◌, ◌⊎◌, false, true};
+ghost use Rattle.pgs_run_base.specs.Calls.{fails_world};
 ghost use Rattle.pgs_run_lines.specs.AreasKept.{KeepsAreas};
 ghost use Rattle.pgs_run_saved.specs.Ending.{EndsUnopened, is_refusal};
 
@@ -13,6 +14,7 @@ pub fn end_unopened<W: World>(world: &mut W, unopened: Unopened) -> Status
     ensures ends { EndsUnopened unopened (W.view world.old) result (W.view world.new) }
     ensures areas { KeepsAreas (W.view world.old) (W.view world.new) }
     ensures early { is_refusal unopened ≡ false → world.new ≡ world.old }
+    ensures last { fails_world result ≡ true → (unopened ≡ Unopened.DiskFault) ⊎ W.failed world.new }
 {
     match unopened {
         Unopened::Refused(reply) => put_reply(world, &reply),

@@ -1,4 +1,4 @@
-ghost use Rattle.std.specs.Prelude.{◌≡◌, false, IfOk, OnErr};
+ghost use Rattle.std.specs.Prelude.{◌≡◌, false, true, IfOk, OnErr};
 ghost use Rattle.pgs_answer.specs.Lines.{store_refused_line as refused_line};
 ghost use Rattle.pgs_store.specs.Recovers.{is_of_area};
 ghost use Rattle.pgs_store.specs.World.{CountsFault};
@@ -86,6 +86,7 @@ fn reason_for(alloc: Global, fault: RecoverFault) -> Unopened
 pub fn open_store<W: World>(alloc: Global, world: &mut W) -> Result<Store, Unopened>
     ensures answer { Opens result (W.view world.old) (W.view world.new) }
     ensures faults { CountsFault (is_disk_fault result) (W.view world.old) (W.view world.new) }
+    ensures last { is_disk_fault result ≡ true → W.failed world.new }
     ensures quiet { IsQuiet (W.view world.old) (W.view world.new) }
     ensures no_put { MakesNoPut (W.view world.old) (W.view world.new) }
 {

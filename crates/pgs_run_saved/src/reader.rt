@@ -1,4 +1,5 @@
 ghost use Rattle.std.specs.Prelude.{◌≡◌, ℕ, true, false, IsTrue};
+ghost use Rattle.pgs_run_base.specs.Calls.{fails_world};
 ghost use Rattle.pgs_run_lines.specs.AreasKept.{KeepsAreas};
 ghost use Rattle.pgs_run_lines.specs.Ending.{faults_of};
 ghost use Rattle.pgs_run_lines.specs.Machine.{Told};
@@ -27,7 +28,8 @@ pub trait StoreReader {
         ensures ends { Ends (shown_of (W.view world.old)) (tells self.now (saved_in store.now)) result (shown_of (W.view world.new)) }
         ensures told { IsTold result }
         ensures cause { HasCommandCause false false (faults_of 0 (W.view world.old)) (faults_of 0 (W.view world.new)) result }
-        ensures areas { KeepsAreas (W.view world.old) (W.view world.new) };
+        ensures areas { KeepsAreas (W.view world.old) (W.view world.new) }
+        ensures last { fails_world result ≡ true → W.failed world.new };
 }
 
 /// Opens the store that is saved in both areas and has the reader tell of it. What it puts and answers is what `told_of_areas` tells
@@ -38,6 +40,7 @@ pub fn run_reader<R: StoreReader, W: World>(alloc: Global, world: &mut W, reader
     ensures answer { IsAnswer result }
     ensures cause { (reads : ℕ) → HasCommandCause false true (faults_of reads (W.view world.old)) (faults_of reads (W.view world.new)) result }
     ensures images { KeepsImages (W.view world.old) (W.view world.new) }
+    ensures last { fails_world result ≡ true → W.failed world.new }
 {
     match open_store(alloc, world) {
         Ok(store) => reader.tell(alloc, world, &store),

@@ -18,7 +18,7 @@ use Rattle.pgs_run_sessions.specs.Statuses.{is_sessions}
 use Rattle.pgs_run_sessions.specs.Told.{told, told_sessions}
 use Rattle.pgs_run_sessions.specs.Words.{asks_run}
 use Rattle.pgs_run_sessions.proofs.RunEnds.{never_cut}
-use Rattle.pgs_world.specs.Count.{Rose}
+use Rattle.pgs_world.specs.Count.{RoseByOne}
 use Rattle.pgs_world.specs.Moment.{IsTimed}
 use Rattle.pgs_world.specs.World.{View}
 
@@ -36,7 +36,7 @@ exact_of start now told ReadFault ends = inl (inl refl)
 exact_of start now told DiskFault ends = inl (inr (inr (inr refl)))
 
 complete_of : (runs : Bool) → runs ≡ true → (start now : Shown) (told : Told Status) (status : Status) (old new : Faults) → (told.status ≡ InputTooLong → ⊥)
-    → (told.status ≡ SchemaRefused → ⊥) → (Rose old.reads new.reads → ⊥) → (Rose old.puts new.puts → ⊥) → HasCause runs old new status → Ends start told status now
+    → (told.status ≡ SchemaRefused → ⊥) → (RoseByOne old.reads new.reads → ⊥) → (RoseByOne old.puts new.puts → ⊥) → HasCause runs old new status → Ends start told status now
     → IsComplete start told status now
 complete_of runs is start now told Accepted old new cut schema reads puts cause ends = inr (inl refl, ends.0)
 complete_of runs is start now told Refused old new cut schema reads puts cause ends = inr (inr refl, ends.0)

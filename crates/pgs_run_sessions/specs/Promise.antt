@@ -11,7 +11,7 @@ use Rattle.pgs_run_sessions.specs.declared.status.SessionStatus.{SessionStatus}
 use Rattle.pgs_run_sessions.specs.declared.status.SessionStatus.TheVariants as sessions
 use Rattle.pgs_run_sessions.specs.Told.{told}
 use Rattle.pgs_run_sessions.specs.Words.{asks_run}
-use Rattle.pgs_world.specs.Count.{Rose}
+use Rattle.pgs_world.specs.Count.{RoseByOne}
 use Rattle.pgs_world.specs.World.{View}
 
 -- what is left of a source, how many of its reads failed, and a world
@@ -74,7 +74,7 @@ pub record KeepsPromise (words : List (List ℕ)) (budget : ℕ) (old new : Sett
   -- An input below the budget, whose schema isn't refused, over a source and a world that don't fail, is run to its end.
   pub complete : (input : List ℕ) → Knows words old input → asks_run words ≡ true → length input < budget
       → ((told words input budget).status ≡ SchemaRefused → ⊥)
-      → (Rose old.reads new.reads → ⊥) → (Rose old.view.put_faults new.view.put_faults → ⊥)
+      → (RoseByOne old.reads new.reads → ⊥) → (RoseByOne old.view.put_faults new.view.put_faults → ⊥)
       → IsComplete (shown_of old.view) (told words input budget) status (shown_of new.view)
   -- both areas are as before at every moment, and the count of their faults
   pub areas : KeepsAreas old.view new.view

@@ -1,4 +1,6 @@
 ghost use Rattle.std.specs.Prelude.{◌≡◌, ◌<◌, ◌≤◌, ◌^◌, List, ℕ, Option, Some, true, false};
+ghost use Rattle.pgs_run_lines.specs.Calls.{Reads};
+ghost use Rattle.pgs_run_base.specs.Calls.{fails_read, fails_world};
 ghost use Rattle.pgs_run_lines.specs.AreasKept.{KeepsAreas};
 ghost use Rattle.pgs_run_lines.specs.Ending.{faults_of};
 ghost use Rattle.pgs_run_lines.specs.Pieces.{shown_of};
@@ -36,6 +38,8 @@ fn run_input<S: Source, W: World>(
     ensures read_to_end { IsRead (S.left source.new) result }
     ensures cause { HasCommandCause true false (faults_of (S.faults source.old) (W.view world.old)) (faults_of (S.faults source.new) (W.view world.new)) result }
     ensures areas { KeepsAreas (W.view world.old) (W.view world.new) }
+    ensures last { fails_world result ≡ true → W.failed world.new }
+    ensures calls { Reads S.read_made budget source.old (fails_read result) source.new }
 {
     let mut taking = Taking::new(alloc, world.seed());
     let stop = run_lines(&mut taking, alloc, source, world, LINE_LIMIT, budget);
@@ -44,8 +48,9 @@ fn run_input<S: Source, W: World>(
 
 // Refuses the words.
 fn refuse_words<W: World>(alloc: Global, world: &mut W) -> Status
-    ensures { (words : List (List ℕ)) (budget : ℕ) (left : Option (List ℕ)) (reads : ℕ) → asks_run words ≡ false
+    ensures answer { (words : List (List ℕ)) (budget : ℕ) (left : Option (List ℕ)) (reads : ℕ) → asks_run words ≡ false
         → KeepsPromise words budget (setting_of left reads (W.view world.old)) (setting_of left reads (W.view world.new)) result }
+    ensures last { fails_world result ≡ true → W.failed world.new }
 {
     match words_refused_line(alloc) {
         Ok(line) => put_reply(
@@ -68,8 +73,10 @@ fn run_words<S: Source, W: World>(
     budget: u64,
 ) -> Status
     requires { budget ≤ 2 ^ 40 }
-    ensures { KeepsPromise words.now budget (setting_of (S.left source.old) (S.faults source.old) (W.view world.old))
+    ensures answer { KeepsPromise words.now budget (setting_of (S.left source.old) (S.faults source.old) (W.view world.old))
         (setting_of (S.left source.new) (S.faults source.new) (W.view world.new)) result }
+    ensures last { fails_world result ≡ true → W.failed world.new }
+    ensures calls { Reads S.read_made budget source.old (fails_read result) source.new }
 {
     if !asks_run(words) {
         return refuse_words(alloc, world);
@@ -90,8 +97,10 @@ pub fn run_sessions_within<S: Source, W: World>(
 ) -> SessionStatus
     requires positive { 0 < budget }
     requires within { budget ≤ 2 ^ 40 }
-    ensures { KeepsPromise words.now budget (setting_of (S.left source.old) (S.faults source.old) (W.view world.old))
+    ensures promise { KeepsPromise words.now budget (setting_of (S.left source.old) (S.faults source.old) (W.view world.old))
         (setting_of (S.left source.new) (S.faults source.new) (W.view world.new)) (status_of result) }
+    ensures last { fails_world (status_of result) ≡ true → W.failed world.new }
+    ensures calls { Reads S.read_made budget source.old (fails_read (status_of result)) source.new }
 {
     SessionStatus::of(run_words(alloc, words, source, world, budget))
 }
@@ -103,8 +112,10 @@ pub fn run_sessions<S: Source, W: World>(
     source: &mut S,
     world: &mut W,
 ) -> SessionStatus
-    ensures { KeepsPromise words.now (2 ^ 40) (setting_of (S.left source.old) (S.faults source.old) (W.view world.old))
+    ensures promise { KeepsPromise words.now (2 ^ 40) (setting_of (S.left source.old) (S.faults source.old) (W.view world.old))
         (setting_of (S.left source.new) (S.faults source.new) (W.view world.new)) (status_of result) }
+    ensures last { fails_world (status_of result) ≡ true → W.failed world.new }
+    ensures calls { Reads S.read_made (2 ^ 40) source.old (fails_read (status_of result)) source.new }
 {
     run_sessions_within(alloc, words, source, world, BUDGET)
 }

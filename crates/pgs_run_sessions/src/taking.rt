@@ -1,4 +1,5 @@
 ghost use Rattle.std.specs.Prelude.{◌≡◌, [], true};
+ghost use Rattle.pgs_run_lines.specs.Calls.{is_of_world};
 ghost use Rattle.pgs_run_lines.specs.Areas.{keeps_areas};
 ghost use Rattle.pgs_run_lines.specs.AreasKept.{KeepsAreas};
 ghost use Rattle.pgs_run_lines.specs.Ending.{Ends, HasCause, faults_of};
@@ -51,6 +52,7 @@ fn end_schema<W: World>(text: &[u8], alloc: Global, world: &mut W, seed: Seed) -
     ensures cause { HasCause (faults_of 0 (W.view world.old)) (faults_of 0 (W.view world.new)) result }
     ensures may { MayStop result }
     ensures areas { KeepsAreas (W.view world.old) (W.view world.new) }
+    ensures last { is_of_world result ≡ true → W.failed world.new }
 {
     let (phase, piece) = match judge(alloc, text, seed) {
         Ok(next) => next,
@@ -73,6 +75,7 @@ impl Taking {
         ensures cause { HasCause (faults_of 0 (W.view world.old)) (faults_of 0 (W.view world.new)) result }
         ensures may { MayStop result }
         ensures areas { KeepsAreas (W.view world.old) (W.view world.new) }
+        ensures last { is_of_world result ≡ true → W.failed world.new }
     {
         match &self.phase {
             Phase::Schema(part) => end_schema(part.text(), alloc, world, self.seed),

@@ -1,4 +1,5 @@
-ghost use Rattle.std.specs.Prelude.{◌≡◌, ◌∷◌, [], map, IfOk, IfErr};
+ghost use Rattle.std.specs.Prelude.{◌≡◌, ◌∷◌, [], map, IfOk, IfErr, true};
+ghost use Rattle.pgs_run_lines.specs.Calls.{is_of_world, stops_of_world};
 ghost use Rattle.pgs_run_lines.specs.AreasKept.{KeepsAreas};
 ghost use Rattle.pgs_run_lines.specs.Driving.{LineShows};
 ghost use Rattle.pgs_run_lines.specs.Ending.{Ends, HasCause, HasAnyCause, faults_of};
@@ -35,6 +36,7 @@ fn put_listed<W: World>(
     ensures stop { IfErr result StopsPutting }
     ensures cause { HasAnyCause (faults_of 0 (W.view world.old)) (faults_of 0 (W.view world.new)) result }
     ensures areas { KeepsAreas (W.view world.old) (W.view world.new) }
+    ensures last { stops_of_world result ≡ true → W.failed world.new }
 {
     let line = match listed_line(alloc, violation) {
         Ok(line) => line,
@@ -53,6 +55,7 @@ fn put_all_listed<W: World>(
     ensures stop { IfErr result StopsPutting }
     ensures cause { HasAnyCause (faults_of 0 (W.view world.old)) (faults_of 0 (W.view world.new)) result }
     ensures areas { KeepsAreas (W.view world.old) (W.view world.new) }
+    ensures last { stops_of_world result ≡ true → W.failed world.new }
 {
     for violation in found {
         match put_listed(alloc, world, violation) {
@@ -81,6 +84,7 @@ pub fn end_session<W: World>(session: &Session, alloc: Global, world: &mut W) ->
     ensures cause { HasCause (faults_of 0 (W.view world.old)) (faults_of 0 (W.view world.new)) result }
     ensures may { MayStop result }
     ensures areas { KeepsAreas (W.view world.old) (W.view world.new) }
+    ensures last { is_of_world result ≡ true → W.failed world.new }
 {
     let found = match session.listed(alloc) {
         Ok(found) => found,

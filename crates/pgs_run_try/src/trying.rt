@@ -1,4 +1,5 @@
 ghost use Rattle.std.specs.Prelude.{◌≡◌, [], true};
+ghost use Rattle.pgs_run_lines.specs.Calls.{is_of_world};
 ghost use Rattle.pgs_run_lines.specs.Areas.{keeps_areas};
 ghost use Rattle.pgs_run_lines.specs.AreasKept.{KeepsAreas};
 ghost use Rattle.pgs_run_lines.specs.Ending.{Ends, HasCause, faults_of};
@@ -47,6 +48,7 @@ fn end_schema<W: World>(
     ensures cause { HasCause (faults_of 0 (W.view world.old)) (faults_of 0 (W.view world.new)) result }
     ensures may { MayStop result }
     ensures areas { KeepsAreas (W.view world.old) (W.view world.new) }
+    ensures last { is_of_world result ≡ true → W.failed world.new }
 {
     let (phase, piece) = match judge(alloc, judging, text, seed) {
         Ok(next) => next,
@@ -69,6 +71,7 @@ impl Trying {
         ensures cause { HasCause (faults_of 0 (W.view world.old)) (faults_of 0 (W.view world.new)) result }
         ensures may { MayStop result }
         ensures areas { KeepsAreas (W.view world.old) (W.view world.new) }
+        ensures last { is_of_world result ≡ true → W.failed world.new }
     {
         match &self.phase {
             Phase::Schema(judging, part) => {

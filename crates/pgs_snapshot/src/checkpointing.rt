@@ -1,7 +1,7 @@
 ghost use Rattle.std.specs.Prelude.{◌≡◌, ◌+◌, ◌≤◌, ◌<◌, ◌^◌, List, ℕ, length, Some, IsTrue, IfOk, OnOk, OnErr};
 ghost use Rattle.pgs_journal.specs.Format.{is_epoch, Holds, IsFrames};
 ghost use Rattle.pgs_journal.specs.Stops.{Turns, Creates};
-ghost use Rattle.pgs_world.specs.Count.{Rose};
+ghost use Rattle.pgs_world.specs.Count.{RoseByOne};
 ghost use Rattle.pgs_world.specs.Disk.{IsSameBeside};
 ghost use Rattle.pgs_world.specs.Moment.{Passes, StopsBy, ShowsOne, IsSynced, IsSettled, MakesNoPut};
 ghost use Rattle.pgs_world.specs.World.{Triple, part};
@@ -48,7 +48,8 @@ pub fn checkpoint<W: World>(
 
     ensures passes { Passes (W.view world.old) (W.view world.new) }
     ensures image { ShowsOne (W.view world.new) }
-    ensures cause { OnErr result (Rose (W.view world.old).area_faults (W.view world.new).area_faults) }
+    ensures cause { OnErr result (RoseByOne (W.view world.old).area_faults (W.view world.new).area_faults) }
+    ensures last { OnErr result (W.failed world.new) }
     ensures no_cause { OnOk result ((W.view world.new).area_faults ≡ (W.view world.old).area_faults) }
     ensures no_put { MakesNoPut (W.view world.old) (W.view world.new) }
 {

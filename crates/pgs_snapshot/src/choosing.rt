@@ -3,7 +3,7 @@ ghost use Rattle.pgs_journal.specs.Bounds.{IsBounded, IsBoundedStore};
 ghost use Rattle.pgs_snapshot.specs.Choice.{choice_of, greater, head_epoch, is_foreign_head, leading, taken, without_heads};
 ghost use Rattle.pgs_snapshot.specs.Choice as choices;
 ghost use Rattle.pgs_snapshot.specs.Standing.{HasStore, Refuses, is_read};
-ghost use Rattle.pgs_world.specs.Count.{Rose};
+ghost use Rattle.pgs_world.specs.Count.{RoseByOne};
 ghost use Rattle.pgs_world.specs.Moment.{IsQuiet, ShowsOne, IsSettled, MakesNoPut};
 
 use crate::ChooseFault;
@@ -116,7 +116,8 @@ fn read_chosen<W: World>(alloc: Global, world: &mut W) -> Result<Chosen, ChooseF
     ensures bounds { IfOk result (λ it. IsBoundedStore it.epoch it.end it.next it.payloads) }
     ensures quiet { IsQuiet (W.view world.old) (W.view world.new) }
     ensures image { ShowsOne (W.view world.new) }
-    ensures cause { result ≡ Err ChooseFault.DiskFault → Rose (W.view world.old).area_faults (W.view world.new).area_faults }
+    ensures cause { result ≡ Err ChooseFault.DiskFault → RoseByOne (W.view world.old).area_faults (W.view world.new).area_faults }
+    ensures last { result ≡ Err ChooseFault.DiskFault → W.failed world.new }
     ensures no_cause { (result ≡ Err ChooseFault.DiskFault → ⊥)
         → (W.view world.new).area_faults ≡ (W.view world.old).area_faults }
     ensures no_put { MakesNoPut (W.view world.old) (W.view world.new) }
@@ -151,7 +152,8 @@ pub fn choose_area<W: World>(alloc: Global, world: &mut W) -> Result<Chosen, Cho
         → IsSettled (W.view world.new) }
     ensures quiet { IsQuiet (W.view world.old) (W.view world.new) }
     ensures image { ShowsOne (W.view world.new) }
-    ensures cause { result ≡ Err ChooseFault.DiskFault → Rose (W.view world.old).area_faults (W.view world.new).area_faults }
+    ensures cause { result ≡ Err ChooseFault.DiskFault → RoseByOne (W.view world.old).area_faults (W.view world.new).area_faults }
+    ensures last { result ≡ Err ChooseFault.DiskFault → W.failed world.new }
     ensures no_cause { (result ≡ Err ChooseFault.DiskFault → ⊥)
         → (W.view world.new).area_faults ≡ (W.view world.old).area_faults }
     ensures no_put { MakesNoPut (W.view world.old) (W.view world.new) }

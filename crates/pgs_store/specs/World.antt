@@ -1,7 +1,7 @@
 -- What the calls of a store leave of a world.
 use Rattle.std.specs.Prelude.{◌≡◌, Bool, true, false}
 use Rattle.pgs_world.specs.declared.area.Area.{Area}
-use Rattle.pgs_world.specs.Count.{Rose}
+use Rattle.pgs_world.specs.Count.{RoseByOne}
 use Rattle.pgs_world.specs.Disk.{IsSameBeside}
 use Rattle.pgs_world.specs.Moment.{Passes, StopsBy, MakesNoPut}
 use Rattle.pgs_world.specs.World.{View}
@@ -15,5 +15,5 @@ pub record StaysBeside (area : Area) (old new : View) : Type 0 where
 
 -- the count of area faults rose, or it is as before
 abbrev pub CountsFault : Bool → View → View → Type 0
-CountsFault true old new = Rose old.area_faults new.area_faults
+CountsFault true old new = RoseByOne old.area_faults new.area_faults
 CountsFault false old new = new.area_faults ≡ old.area_faults

@@ -97,6 +97,7 @@ fn journaled<W: World, L: Ledger>(
     ensures bounded { IsBounded journal.new guard.new.commits }
     ensures early { is_early result ≡ true → world.new ≡ world.old }
     ensures faults { CountsFault (is_fault_of_area result) (W.view world.old) (W.view world.new) }
+    ensures last { is_fault_of_area result ≡ true → W.failed world.new }
     ensures beside { StaysBeside journal.old.area (W.view world.old) (W.view world.new) }
     ensures stops { IsTrue (W.view world.old).honest → IsTrue (W.view world.old).tells_bytes
         → EachSince (IsAppliedIn guard.old journal.old txn.now) (W.view world.old) (W.view world.new) }
@@ -146,6 +147,7 @@ impl Store {
         ensures answer { Applies result self.old self.new txn.now (W.view world.new) }
         ensures early { is_early result ≡ true → world.new ≡ world.old }
         ensures faults { CountsFault (is_fault_of_area result) (W.view world.old) (W.view world.new) }
+        ensures last { is_fault_of_area result ≡ true → W.failed world.new }
         // What it leaves of the world, at every moment.
         ensures stops { self.old.failed ≡ false → IsTrue (W.view world.old).honest → IsTrue (W.view world.old).tells_bytes
             → EachSince (IsAppliedIn self.old.guard self.old.journal txn.now) (W.view world.old) (W.view world.new) }

@@ -94,6 +94,7 @@ impl Store {
         ensures answer { Checkpoints result self.old self.new (W.view world.new) }
         ensures early { is_early result ≡ true → world.new ≡ world.old }
         ensures faults { CountsFault (is_disk_fault result) (W.view world.old) (W.view world.new) }
+        ensures last { is_disk_fault result ≡ true → W.failed world.new }
         // What it leaves of the world, at every moment.
         ensures stops { self.old.failed ≡ false → IsTrue (W.view world.old).honest → IsTrue (W.view world.old).tells_bytes
             → EachSince (IsRenewedIn self.old.guard self.old.journal) (W.view world.old) (W.view world.new) }

@@ -142,6 +142,7 @@ fn renewed<W: World>(
     ensures bounded { IsBounded journal.new guard.new.commits }
     ensures early { is_early result ≡ true → world.new ≡ world.old }
     ensures faults { CountsFault (is_fault_of_area result) (W.view world.old) (W.view world.new) }
+    ensures last { is_fault_of_area result ≡ true → W.failed world.new }
     ensures beside { StaysBeside journal.old.area (W.view world.old) (W.view world.new) }
     ensures stops { IsTrue (W.view world.old).honest → IsTrue (W.view world.old).tells_bytes
         → EachSince (IsEvolvedIn guard.old journal.old schema.text) (W.view world.old) (W.view world.new) }
@@ -178,6 +179,7 @@ impl Store {
         ensures answer { Evolves result self.old self.new schema.now (W.view world.new) }
         ensures early { is_early result ≡ true → world.new ≡ world.old }
         ensures faults { CountsFault (is_fault_of_area result) (W.view world.old) (W.view world.new) }
+        ensures last { is_fault_of_area result ≡ true → W.failed world.new }
         // What it leaves of the world, at every moment.
         ensures stops { self.old.failed ≡ false → IsTrue (W.view world.old).honest → IsTrue (W.view world.old).tells_bytes
             → EachSince (IsEvolvedIn self.old.guard self.old.journal schema.now) (W.view world.old) (W.view world.new) }
@@ -200,6 +202,7 @@ impl Store {
         ensures answer { Evolves result self.old self.new schema.text (W.view world.new) }
         ensures early { is_early result ≡ true → world.new ≡ world.old }
         ensures faults { CountsFault (is_fault_of_area result) (W.view world.old) (W.view world.new) }
+        ensures last { is_fault_of_area result ≡ true → W.failed world.new }
         // What it leaves of the world, at every moment.
         ensures stops { self.old.failed ≡ false → IsTrue (W.view world.old).honest → IsTrue (W.view world.old).tells_bytes
             → EachSince (IsEvolvedIn self.old.guard self.old.journal schema.text) (W.view world.old) (W.view world.new) }

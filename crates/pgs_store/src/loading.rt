@@ -44,6 +44,7 @@ fn refuse_occupied<W: World>(alloc: Global, world: &mut W) -> Result<(), LoadFau
         → IsSettled (W.view world.new)) }
     ensures quiet { IsQuiet (W.view world.old) (W.view world.new) }
     ensures faults { CountsFault (is_disk_fault result) (W.view world.old) (W.view world.new) }
+    ensures last { is_disk_fault result ≡ true → W.failed world.new }
     ensures no_put { MakesNoPut (W.view world.old) (W.view world.new) }
 {
     match choose_area(alloc, world) {
@@ -72,6 +73,7 @@ impl Store {
         ensures answer { Loads result limits text.now (W.view world.old) (W.view world.new) }
         ensures early { is_refused result ≡ true → world.new ≡ world.old }
         ensures faults { CountsFault (is_disk_fault result) (W.view world.old) (W.view world.new) }
+        ensures last { is_disk_fault result ≡ true → W.failed world.new }
         // What it leaves of the world, at every moment.
         ensures kept { (FindsNone (W.view world.old) → ⊥) → IsQuiet (W.view world.old) (W.view world.new) }
         ensures unwritten { is_written result ≡ false → IsQuiet (W.view world.old) (W.view world.new) }
@@ -93,6 +95,7 @@ impl Store {
         ensures guard { IfOk result (λ store. store.guard ≡ guard) }
         ensures unrefused { is_refused result ≡ false }
         ensures faults { CountsFault (is_disk_fault result) (W.view world.old) (W.view world.new) }
+        ensures last { is_disk_fault result ≡ true → W.failed world.new }
         // What it leaves of the world, at every moment.
         ensures kept { (FindsNone (W.view world.old) → ⊥) → IsQuiet (W.view world.old) (W.view world.new) }
         ensures unwritten { is_written result ≡ false → IsQuiet (W.view world.old) (W.view world.new) }

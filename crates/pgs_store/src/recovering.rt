@@ -287,6 +287,7 @@ impl Store {
     ) -> Result<Store, RecoverFault>
         ensures answer { Recovers result limits (W.view world.old) (W.view world.new) }
         ensures faults { CountsFault (is_disk_fault result) (W.view world.old) (W.view world.new) }
+        ensures last { is_disk_fault result ≡ true → W.failed world.new }
         ensures quiet { IsQuiet (W.view world.old) (W.view world.new) }
         ensures no_put { MakesNoPut (W.view world.old) (W.view world.new) }
     {

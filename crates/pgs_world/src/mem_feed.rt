@@ -1,5 +1,5 @@
 ghost use Rattle.std.specs.Prelude.{◌≡◌, ◌≤◌, ◌+◌, [], length, nat_lt, is_err, IfOk, OnOk, OnErr};
-ghost use Rattle.pgs_world.specs.Count.{Rose};
+ghost use Rattle.pgs_world.specs.Count.{RoseByOne};
 ghost use Rattle.pgs_world.specs.MemFeed.{refuses_next, after_piece};
 ghost use Rattle.pgs_world.specs.World.{Adds, AddsFront};
 
@@ -76,7 +76,7 @@ impl Feed for MemFeed {
         // What every feed says.
         ensures whole { OnOk result (Adds (Some self.old.bytes) (Some self.new.bytes) piece.now) }
         ensures front { OnErr result (AddsFront (Some self.old.bytes) (Some self.new.bytes) piece.now) }
-        ensures cause { OnErr result (Rose self.old.faults self.new.faults) }
+        ensures cause { OnErr result (RoseByOne self.old.faults self.new.faults) }
         ensures no_cause { OnOk result (self.new.faults ≡ self.old.faults) }
         ensures faults_stay { self.old.faults ≤ self.new.faults }
     {

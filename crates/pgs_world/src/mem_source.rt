@@ -1,5 +1,5 @@
 ghost use Rattle.std.specs.Prelude.{◌≡◌, ◌<◌, ◌≤◌, ◌++◌, is_err, length, take, drop, min, Some, IfOk, OnOk, OnErr};
-ghost use Rattle.pgs_world.specs.Count.{Rose};
+ghost use Rattle.pgs_world.specs.Count.{RoseByOne};
 ghost use Rattle.pgs_world.specs.MemSource.{fails_next, gives_next, after_read};
 ghost use Rattle.pgs_world.specs.Source.{Takes, IsAtEnd};
 
@@ -67,7 +67,7 @@ impl Source for MemSource {
         ensures taken { IfOk result (λ count. Takes (Some self.old.left) (Some self.new.left) (take count buf.new)) }
         ensures end { 0 < length buf.old → result ≡ Ok 0 → IsAtEnd (Some self.old.left) }
         ensures kept { OnErr result (Some self.new.left ≡ Some self.old.left) }
-        ensures cause { OnErr result (Rose self.old.faults self.new.faults) }
+        ensures cause { OnErr result (RoseByOne self.old.faults self.new.faults) }
         ensures no_cause { OnOk result (self.new.faults ≡ self.old.faults) }
         ensures faults_stay { self.old.faults ≤ self.new.faults }
     {

@@ -1,5 +1,5 @@
 ghost use Rattle.std.specs.Prelude.{◌≡◌, ◌+◌, ◌≤◌, ◌^◌, [], not, length, take, drop, min, is_some, is_err, Some, IfSome, IfOk, OnOk, OnErr, IsTrue};
-ghost use Rattle.pgs_world.specs.Count.{Rose};
+ghost use Rattle.pgs_world.specs.Count.{Rose, RoseByOne};
 ghost use Rattle.pgs_world.specs.Disk.{written_over, IsSameBeside, Writes, Cuts, Puts};
 ghost use Rattle.pgs_world.specs.Left.{left_of};
 ghost use Rattle.pgs_world.specs.MemWorld.{IsKnown, view_of, area_of, begun, fails_next, refuses, len_fails, write_fails, after_read, after_write_at, after_cut_to, after_sync, after_put};
@@ -262,7 +262,7 @@ impl World for MemWorld {
         ensures quiet { IsQuiet (view_of self.old) (view_of self.new) }
         ensures moment { Rose (view_of self.old).moment (view_of self.new).moment }
         ensures image { ShowsOne (view_of self.new) }
-        ensures cause { OnErr result (Rose (view_of self.old).area_faults (view_of self.new).area_faults) }
+        ensures cause { OnErr result (RoseByOne (view_of self.old).area_faults (view_of self.new).area_faults) }
         ensures no_cause { OnOk result ((view_of self.new).area_faults ≡ (view_of self.old).area_faults) }
         ensures no_put { MakesNoPut (view_of self.old) (view_of self.new) }
     {
@@ -280,7 +280,7 @@ impl World for MemWorld {
         ensures quiet { IsQuiet (view_of self.old) (view_of self.new) }
         ensures moment { Rose (view_of self.old).moment (view_of self.new).moment }
         ensures image { ShowsOne (view_of self.new) }
-        ensures cause { OnErr result (Rose (view_of self.old).area_faults (view_of self.new).area_faults) }
+        ensures cause { OnErr result (RoseByOne (view_of self.old).area_faults (view_of self.new).area_faults) }
         ensures no_cause { OnOk result ((view_of self.new).area_faults ≡ (view_of self.old).area_faults) }
         ensures no_put { MakesNoPut (view_of self.old) (view_of self.new) }
     {
@@ -301,7 +301,7 @@ impl World for MemWorld {
         ensures passes { Passes (view_of self.old) (view_of self.new) }
         ensures moment { Rose (view_of self.old).moment (view_of self.new).moment }
         ensures image { ShowsOne (view_of self.new) }
-        ensures cause { OnErr result (Rose (view_of self.old).area_faults (view_of self.new).area_faults) }
+        ensures cause { OnErr result (RoseByOne (view_of self.old).area_faults (view_of self.new).area_faults) }
         ensures no_cause { OnOk result ((view_of self.new).area_faults ≡ (view_of self.old).area_faults) }
         ensures no_put { MakesNoPut (view_of self.old) (view_of self.new) }
     {
@@ -321,7 +321,7 @@ impl World for MemWorld {
         ensures passes { Passes (view_of self.old) (view_of self.new) }
         ensures moment { Rose (view_of self.old).moment (view_of self.new).moment }
         ensures image { ShowsOne (view_of self.new) }
-        ensures cause { OnErr result (Rose (view_of self.old).area_faults (view_of self.new).area_faults) }
+        ensures cause { OnErr result (RoseByOne (view_of self.old).area_faults (view_of self.new).area_faults) }
         ensures no_cause { OnOk result ((view_of self.new).area_faults ≡ (view_of self.old).area_faults) }
         ensures no_put { MakesNoPut (view_of self.old) (view_of self.new) }
     {
@@ -338,7 +338,7 @@ impl World for MemWorld {
         ensures quiet { IsQuiet (view_of self.old) (view_of self.new) }
         ensures moment { Rose (view_of self.old).moment (view_of self.new).moment }
         ensures image { ShowsOne (view_of self.new) }
-        ensures cause { OnErr result (Rose (view_of self.old).area_faults (view_of self.new).area_faults) }
+        ensures cause { OnErr result (RoseByOne (view_of self.old).area_faults (view_of self.new).area_faults) }
         ensures no_cause { OnOk result ((view_of self.new).area_faults ≡ (view_of self.old).area_faults) }
         ensures no_put { MakesNoPut (view_of self.old) (view_of self.new) }
     {
@@ -353,7 +353,7 @@ impl World for MemWorld {
         // What every world says.
         ensures whole { OnOk result (Adds (output_of (view_of self.old)) (output_of (view_of self.new)) piece.now) }
         ensures front { OnErr result (AddsFront (output_of (view_of self.old)) (output_of (view_of self.new)) piece.now) }
-        ensures cause { OnErr result (Rose (view_of self.old).put_faults (view_of self.new).put_faults) }
+        ensures cause { OnErr result (RoseByOne (view_of self.old).put_faults (view_of self.new).put_faults) }
         ensures faults_stay { (view_of self.old).put_faults ≤ (view_of self.new).put_faults }
         ensures a { (view_of self.new).shown.a ≡ (view_of self.old).shown.a }
         ensures b { (view_of self.new).shown.b ≡ (view_of self.old).shown.b }

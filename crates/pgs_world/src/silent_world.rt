@@ -1,5 +1,5 @@
 ghost use Rattle.std.specs.Prelude.{◌≡◌, ◌+◌, ◌≤◌, ◌^◌, false, length, take, drop, is_err, IsTrue, IfOk, OnOk, OnErr};
-ghost use Rattle.pgs_world.specs.Count.{Rose};
+ghost use Rattle.pgs_world.specs.Count.{Rose, RoseByOne};
 ghost use Rattle.pgs_world.specs.Disk.{written_over, IsSameBeside, Writes, Cuts, Puts};
 ghost use Rattle.pgs_world.specs.Moment.{Passes, StopsBy, IsQuiet, ShowsOne, IsSynced, MakesNoPut};
 ghost use Rattle.pgs_world.specs.Silent.{silent_view, put_fails, area_fails, is_outside, after_area_call, after_put};
@@ -47,7 +47,7 @@ impl SilentWorld {
     fn area_call(&mut self, refused: bool) -> Result<(), AreaFault>
         ensures fails { is_err result ≡ area_fails self.old refused }
         ensures after { self.new ≡ after_area_call self.old (area_fails self.old refused) }
-        ensures cause { OnErr result (Rose self.old.area_faults self.new.area_faults) }
+        ensures cause { OnErr result (RoseByOne self.old.area_faults self.new.area_faults) }
         ensures no_cause { OnOk result (self.new.area_faults ≡ self.old.area_faults) }
         ensures stays { self.old.area_faults ≤ self.new.area_faults }
         ensures calls { self.old.calls ≤ self.new.calls }
@@ -82,7 +82,7 @@ impl World for SilentWorld {
         ensures quiet { IsQuiet (silent_view self.old) (silent_view self.new) }
         ensures moment { Rose (silent_view self.old).moment (silent_view self.new).moment }
         ensures image { ShowsOne (silent_view self.new) }
-        ensures cause { OnErr result (Rose (silent_view self.old).area_faults (silent_view self.new).area_faults) }
+        ensures cause { OnErr result (RoseByOne (silent_view self.old).area_faults (silent_view self.new).area_faults) }
         ensures no_cause { OnOk result ((silent_view self.new).area_faults ≡ (silent_view self.old).area_faults) }
         ensures no_put { MakesNoPut (silent_view self.old) (silent_view self.new) }
     {
@@ -102,7 +102,7 @@ impl World for SilentWorld {
         ensures quiet { IsQuiet (silent_view self.old) (silent_view self.new) }
         ensures moment { Rose (silent_view self.old).moment (silent_view self.new).moment }
         ensures image { ShowsOne (silent_view self.new) }
-        ensures cause { OnErr result (Rose (silent_view self.old).area_faults (silent_view self.new).area_faults) }
+        ensures cause { OnErr result (RoseByOne (silent_view self.old).area_faults (silent_view self.new).area_faults) }
         ensures no_cause { OnOk result ((silent_view self.new).area_faults ≡ (silent_view self.old).area_faults) }
         ensures no_put { MakesNoPut (silent_view self.old) (silent_view self.new) }
     {
@@ -123,7 +123,7 @@ impl World for SilentWorld {
         ensures passes { Passes (silent_view self.old) (silent_view self.new) }
         ensures moment { Rose (silent_view self.old).moment (silent_view self.new).moment }
         ensures image { ShowsOne (silent_view self.new) }
-        ensures cause { OnErr result (Rose (silent_view self.old).area_faults (silent_view self.new).area_faults) }
+        ensures cause { OnErr result (RoseByOne (silent_view self.old).area_faults (silent_view self.new).area_faults) }
         ensures no_cause { OnOk result ((silent_view self.new).area_faults ≡ (silent_view self.old).area_faults) }
         ensures no_put { MakesNoPut (silent_view self.old) (silent_view self.new) }
     {
@@ -143,7 +143,7 @@ impl World for SilentWorld {
         ensures passes { Passes (silent_view self.old) (silent_view self.new) }
         ensures moment { Rose (silent_view self.old).moment (silent_view self.new).moment }
         ensures image { ShowsOne (silent_view self.new) }
-        ensures cause { OnErr result (Rose (silent_view self.old).area_faults (silent_view self.new).area_faults) }
+        ensures cause { OnErr result (RoseByOne (silent_view self.old).area_faults (silent_view self.new).area_faults) }
         ensures no_cause { OnOk result ((silent_view self.new).area_faults ≡ (silent_view self.old).area_faults) }
         ensures no_put { MakesNoPut (silent_view self.old) (silent_view self.new) }
     {
@@ -160,7 +160,7 @@ impl World for SilentWorld {
         ensures quiet { IsQuiet (silent_view self.old) (silent_view self.new) }
         ensures moment { Rose (silent_view self.old).moment (silent_view self.new).moment }
         ensures image { ShowsOne (silent_view self.new) }
-        ensures cause { OnErr result (Rose (silent_view self.old).area_faults (silent_view self.new).area_faults) }
+        ensures cause { OnErr result (RoseByOne (silent_view self.old).area_faults (silent_view self.new).area_faults) }
         ensures no_cause { OnOk result ((silent_view self.new).area_faults ≡ (silent_view self.old).area_faults) }
         ensures no_put { MakesNoPut (silent_view self.old) (silent_view self.new) }
     {
@@ -175,7 +175,7 @@ impl World for SilentWorld {
         // What every world says.
         ensures whole { OnOk result (Adds (output_of (silent_view self.old)) (output_of (silent_view self.new)) piece.now) }
         ensures front { OnErr result (AddsFront (output_of (silent_view self.old)) (output_of (silent_view self.new)) piece.now) }
-        ensures cause { OnErr result (Rose (silent_view self.old).put_faults (silent_view self.new).put_faults) }
+        ensures cause { OnErr result (RoseByOne (silent_view self.old).put_faults (silent_view self.new).put_faults) }
         ensures faults_stay { (silent_view self.old).put_faults ≤ (silent_view self.new).put_faults }
         ensures a { (silent_view self.new).shown.a ≡ (silent_view self.old).shown.a }
         ensures b { (silent_view self.new).shown.b ≡ (silent_view self.old).shown.b }

@@ -1,5 +1,5 @@
 ghost use Rattle.std.specs.Prelude.{◌≡◌, ◌+◌, ◌≤◌, ◌^◌, length, take, IsTrue, OnOk, OnErr};
-ghost use Rattle.pgs_world.specs.Count.{Rose};
+ghost use Rattle.pgs_world.specs.Count.{RoseByOne};
 ghost use Rattle.pgs_world.specs.Disk.{written_over, IsSameBeside, Writes, Cuts};
 ghost use Rattle.pgs_world.specs.Moment.{Passes, StopsBy, IsQuiet, ShowsOne, IsSynced, IsSettled, MakesNoPut};
 ghost use Rattle.pgs_world.specs.World.{part};
@@ -23,7 +23,8 @@ pub fn write_synced<W: World>(
     ensures synced { OnOk result (IsSynced area (W.view world.new)) }
     ensures settled { OnOk result (IsSettled (W.view world.old) → IsSettled (W.view world.new)) }
     ensures image { ShowsOne (W.view world.new) }
-    ensures cause { OnErr result (Rose (W.view world.old).area_faults (W.view world.new).area_faults) }
+    ensures cause { OnErr result (RoseByOne (W.view world.old).area_faults (W.view world.new).area_faults) }
+    ensures last { OnErr result (W.failed world.new) }
     ensures no_cause { OnOk result ((W.view world.new).area_faults ≡ (W.view world.old).area_faults) }
     ensures no_put { MakesNoPut (W.view world.old) (W.view world.new) }
 {
@@ -42,7 +43,8 @@ pub fn cut_synced<W: World>(world: &mut W, area: Area, len: u64) -> Result<(), A
     ensures synced { OnOk result (IsSynced area (W.view world.new)) }
     ensures settled { OnOk result (IsSettled (W.view world.old) → IsSettled (W.view world.new)) }
     ensures image { ShowsOne (W.view world.new) }
-    ensures cause { OnErr result (Rose (W.view world.old).area_faults (W.view world.new).area_faults) }
+    ensures cause { OnErr result (RoseByOne (W.view world.old).area_faults (W.view world.new).area_faults) }
+    ensures last { OnErr result (W.failed world.new) }
     ensures no_cause { OnOk result ((W.view world.new).area_faults ≡ (W.view world.old).area_faults) }
     ensures no_put { MakesNoPut (W.view world.old) (W.view world.new) }
 {
@@ -55,7 +57,8 @@ pub fn sync_both<W: World>(world: &mut W) -> Result<(), AreaFault>
     ensures settled { OnOk result (IsTrue (W.view world.old).honest → IsTrue (W.view world.old).tells_bytes → IsSettled (W.view world.new)) }
     ensures quiet { IsQuiet (W.view world.old) (W.view world.new) }
     ensures image { ShowsOne (W.view world.new) }
-    ensures cause { OnErr result (Rose (W.view world.old).area_faults (W.view world.new).area_faults) }
+    ensures cause { OnErr result (RoseByOne (W.view world.old).area_faults (W.view world.new).area_faults) }
+    ensures last { OnErr result (W.failed world.new) }
     ensures no_cause { OnOk result ((W.view world.new).area_faults ≡ (W.view world.old).area_faults) }
     ensures no_put { MakesNoPut (W.view world.old) (W.view world.new) }
 {

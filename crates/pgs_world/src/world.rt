@@ -1,5 +1,5 @@
-ghost use Rattle.std.specs.Prelude.{◌≡◌, ◌+◌, ◌^◌, ◌≤◌, length, take, drop, IsTrue, IfOk, OnOk, OnErr};
-ghost use Rattle.pgs_world.specs.Count.{Rose};
+ghost use Rattle.std.specs.Prelude.{◌≡◌, ◌+◌, ◌^◌, ◌≤◌, length, take, drop, IsTrue, IfOk, OnOk, OnErr, ⊤};
+ghost use Rattle.pgs_world.specs.Count.{Rose, RoseByOne};
 ghost use Rattle.pgs_world.specs.Disk.{written_over, IsSameBeside, Writes, Cuts, Puts};
 ghost use Rattle.pgs_world.specs.Moment.{IsTimed, Passes, StopsBy, IsQuiet, ShowsOne, IsSynced, MakesNoPut};
 ghost use Rattle.pgs_world.specs.World.{View, output_of, part, Adds, AddsFront};
@@ -9,11 +9,15 @@ use pgs_base::Seed;
 
 /// Two areas of bytes and an output.
 ///
-/// A call that fails raised a count. What a contract says of the bytes and of the output holds where the
+/// A call that fails raised a count by one. What a contract says of the bytes and of the output holds where the
 /// world tells them, and what it says of stops holds where the world is honest (docs/DEFINITIONS.md).
 pub trait World {
     /// What contracts see of the world.
     ghost view: { Self → View };
+
+    /// The last call on the world failed. Code that is generic over worlds can't make this fact up, and knows nothing of it after a call
+    /// that didn't fail; so where a contract says it, the call that failed was the last, whatever a world takes it to be.
+    ghost failed: { Self → Type 0 } = { λ _. ⊤ };
 
     /// The length of an area, in bytes. An area of more than 2^40 bytes is a fault.
     fn len(&mut self, area: Area) -> Result<u64, AreaFault>
@@ -22,7 +26,8 @@ pub trait World {
         ensures quiet { IsQuiet (view self.old) (view self.new) }
         ensures moment { Rose (view self.old).moment (view self.new).moment }
         ensures image { ShowsOne (view self.new) }
-        ensures cause { OnErr result (Rose (view self.old).area_faults (view self.new).area_faults) }
+        ensures cause { OnErr result (RoseByOne (view self.old).area_faults (view self.new).area_faults) }
+        ensures last { OnErr result (failed self.new) }
         ensures no_cause { OnOk result ((view self.new).area_faults ≡ (view self.old).area_faults) }
         ensures no_put { MakesNoPut (view self.old) (view self.new) };
 
@@ -34,7 +39,8 @@ pub trait World {
         ensures quiet { IsQuiet (view self.old) (view self.new) }
         ensures moment { Rose (view self.old).moment (view self.new).moment }
         ensures image { ShowsOne (view self.new) }
-        ensures cause { OnErr result (Rose (view self.old).area_faults (view self.new).area_faults) }
+        ensures cause { OnErr result (RoseByOne (view self.old).area_faults (view self.new).area_faults) }
+        ensures last { OnErr result (failed self.new) }
         ensures no_cause { OnOk result ((view self.new).area_faults ≡ (view self.old).area_faults) }
         ensures no_put { MakesNoPut (view self.old) (view self.new) };
 
@@ -50,7 +56,8 @@ pub trait World {
         ensures passes { Passes (view self.old) (view self.new) }
         ensures moment { Rose (view self.old).moment (view self.new).moment }
         ensures image { ShowsOne (view self.new) }
-        ensures cause { OnErr result (Rose (view self.old).area_faults (view self.new).area_faults) }
+        ensures cause { OnErr result (RoseByOne (view self.old).area_faults (view self.new).area_faults) }
+        ensures last { OnErr result (failed self.new) }
         ensures no_cause { OnOk result ((view self.new).area_faults ≡ (view self.old).area_faults) }
         ensures no_put { MakesNoPut (view self.old) (view self.new) };
 
@@ -64,7 +71,8 @@ pub trait World {
         ensures passes { Passes (view self.old) (view self.new) }
         ensures moment { Rose (view self.old).moment (view self.new).moment }
         ensures image { ShowsOne (view self.new) }
-        ensures cause { OnErr result (Rose (view self.old).area_faults (view self.new).area_faults) }
+        ensures cause { OnErr result (RoseByOne (view self.old).area_faults (view self.new).area_faults) }
+        ensures last { OnErr result (failed self.new) }
         ensures no_cause { OnOk result ((view self.new).area_faults ≡ (view self.old).area_faults) }
         ensures no_put { MakesNoPut (view self.old) (view self.new) };
 
@@ -74,7 +82,8 @@ pub trait World {
         ensures quiet { IsQuiet (view self.old) (view self.new) }
         ensures moment { Rose (view self.old).moment (view self.new).moment }
         ensures image { ShowsOne (view self.new) }
-        ensures cause { OnErr result (Rose (view self.old).area_faults (view self.new).area_faults) }
+        ensures cause { OnErr result (RoseByOne (view self.old).area_faults (view self.new).area_faults) }
+        ensures last { OnErr result (failed self.new) }
         ensures no_cause { OnOk result ((view self.new).area_faults ≡ (view self.old).area_faults) }
         ensures no_put { MakesNoPut (view self.old) (view self.new) };
 
@@ -84,7 +93,8 @@ pub trait World {
     fn put(&mut self, piece: &[u8]) -> Result<(), PutFault>
         ensures whole { OnOk result (Adds (output_of (view self.old)) (output_of (view self.new)) piece.now) }
         ensures front { OnErr result (AddsFront (output_of (view self.old)) (output_of (view self.new)) piece.now) }
-        ensures cause { OnErr result (Rose (view self.old).put_faults (view self.new).put_faults) }
+        ensures cause { OnErr result (RoseByOne (view self.old).put_faults (view self.new).put_faults) }
+        ensures last { OnErr result (failed self.new) }
         ensures faults_stay { (view self.old).put_faults ≤ (view self.new).put_faults }
 
         ensures a { (view self.new).shown.a ≡ (view self.old).shown.a }

@@ -1,5 +1,5 @@
 ghost use Rattle.std.specs.Prelude.{◌≡◌, ◌+◌, ◌<◌, ◌≤◌, ◌^◌};
-ghost use Rattle.pgs_world.specs.Count.{Rose, raised};
+ghost use Rattle.pgs_world.specs.Count.{Rose, RoseByOne, raised};
 
 /// How often the world was called, how often a call on an area and a put failed, and how often a put didn't. A
 /// count of calls or faults stops at the end of a u64.
@@ -38,7 +38,7 @@ impl Counts {
     /// Counts a call on an area that failed.
     pub fn fail_area(&mut self)
         ensures raised { self.new.area_faults ≡ raised self.old.area_faults }
-        ensures rose { Rose self.old.area_faults self.new.area_faults }
+        ensures rose { RoseByOne self.old.area_faults self.new.area_faults }
         ensures later { self.old.area_faults ≤ self.new.area_faults }
         ensures calls { self.old.calls ≤ self.new.calls }
         ensures moment { Rose self.old.calls self.new.calls }
@@ -52,7 +52,7 @@ impl Counts {
     /// Counts a put that failed.
     pub fn fail_put(&mut self)
         ensures raised { self.new.put_faults ≡ raised self.old.put_faults }
-        ensures rose { Rose self.old.put_faults self.new.put_faults }
+        ensures rose { RoseByOne self.old.put_faults self.new.put_faults }
         ensures later { self.old.put_faults ≤ self.new.put_faults }
         ensures calls { self.old.calls ≤ self.new.calls }
         ensures moment { Rose self.old.calls self.new.calls }

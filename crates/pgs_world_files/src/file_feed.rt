@@ -1,5 +1,5 @@
 ghost use Rattle.std.specs.Prelude.{◌≡◌, ◌≤◌, None, Some, OnOk, OnErr};
-ghost use Rattle.pgs_world.specs.Count.{Rose, raised};
+ghost use Rattle.pgs_world.specs.Count.{RoseByOne, raised};
 ghost use Rattle.pgs_world.specs.World.{Adds, AddsFront};
 ghost use Rattle.pgs_world_files.specs.Counted.{untold_bytes};
 ghost use Rattle.pgs_world_files.specs.Handles.{IfOpen};
@@ -44,7 +44,7 @@ impl<W: SteadyWrite + Drop> FileFeed<W> {
     fn fault(&mut self) -> FeedFault
         ensures writer { self.new.writer ≡ self.old.writer }
         ensures raised { self.new.faults ≡ raised self.old.faults }
-        ensures cause { Rose self.old.faults self.new.faults }
+        ensures cause { RoseByOne self.old.faults self.new.faults }
         ensures faults_stay { self.old.faults ≤ self.new.faults }
     {
         self.faults = self.faults.saturating_add(1);
@@ -81,7 +81,7 @@ impl<W: SteadyWrite + Drop> Feed for FileFeed<W> {
         // What every feed says.
         ensures whole { OnOk result (Adds untold_bytes untold_bytes piece.now) }
         ensures front { OnErr result (AddsFront untold_bytes untold_bytes piece.now) }
-        ensures cause { OnErr result (Rose self.old.faults self.new.faults) }
+        ensures cause { OnErr result (RoseByOne self.old.faults self.new.faults) }
         ensures no_cause { OnOk result (self.new.faults ≡ self.old.faults) }
         ensures faults_stay { self.old.faults ≤ self.new.faults }
     {

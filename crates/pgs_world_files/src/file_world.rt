@@ -1,6 +1,6 @@
 ghost use Rattle.std.specs.Prelude.{◌≡◌, ◌+◌, ◌^◌, ◌≤◌, length, take, drop, IsTrue, IfOk, OnOk, OnErr};
 ghost use Rattle.std.specs.Io.KnownBytes.{Appends};
-ghost use Rattle.pgs_world.specs.Count.{Rose, raised};
+ghost use Rattle.pgs_world.specs.Count.{Rose, RoseByOne, raised};
 ghost use Rattle.pgs_world.specs.Disk.{written_over, IsSameBeside, Writes, Cuts, Puts};
 ghost use Rattle.pgs_world.specs.Moment.{Passes, StopsBy, IsQuiet, ShowsOne, IsSynced, MakesNoPut};
 ghost use Rattle.pgs_world.specs.World.{output_of, part, other, Adds, AddsFront};
@@ -139,7 +139,7 @@ impl<W: SteadyWrite, H: Handle> World for FileWorld<W, H> {
         ensures quiet { IsQuiet (seen W.tells W.contents H.tells H.contents self.old) (seen W.tells W.contents H.tells H.contents self.new) }
         ensures moment { Rose (seen W.tells W.contents H.tells H.contents self.old).moment (seen W.tells W.contents H.tells H.contents self.new).moment }
         ensures image { ShowsOne (seen W.tells W.contents H.tells H.contents self.new) }
-        ensures cause { OnErr result (Rose (seen W.tells W.contents H.tells H.contents self.old).area_faults (seen W.tells W.contents H.tells H.contents self.new).area_faults) }
+        ensures cause { OnErr result (RoseByOne (seen W.tells W.contents H.tells H.contents self.old).area_faults (seen W.tells W.contents H.tells H.contents self.new).area_faults) }
         ensures no_cause { OnOk result ((seen W.tells W.contents H.tells H.contents self.new).area_faults ≡ (seen W.tells W.contents H.tells H.contents self.old).area_faults) }
         ensures no_put { MakesNoPut (seen W.tells W.contents H.tells H.contents self.old) (seen W.tells W.contents H.tells H.contents self.new) }
     {
@@ -160,7 +160,7 @@ impl<W: SteadyWrite, H: Handle> World for FileWorld<W, H> {
         ensures quiet { IsQuiet (seen W.tells W.contents H.tells H.contents self.old) (seen W.tells W.contents H.tells H.contents self.new) }
         ensures moment { Rose (seen W.tells W.contents H.tells H.contents self.old).moment (seen W.tells W.contents H.tells H.contents self.new).moment }
         ensures image { ShowsOne (seen W.tells W.contents H.tells H.contents self.new) }
-        ensures cause { OnErr result (Rose (seen W.tells W.contents H.tells H.contents self.old).area_faults (seen W.tells W.contents H.tells H.contents self.new).area_faults) }
+        ensures cause { OnErr result (RoseByOne (seen W.tells W.contents H.tells H.contents self.old).area_faults (seen W.tells W.contents H.tells H.contents self.new).area_faults) }
         ensures no_cause { OnOk result ((seen W.tells W.contents H.tells H.contents self.new).area_faults ≡ (seen W.tells W.contents H.tells H.contents self.old).area_faults) }
         ensures no_put { MakesNoPut (seen W.tells W.contents H.tells H.contents self.old) (seen W.tells W.contents H.tells H.contents self.new) }
     {
@@ -184,7 +184,7 @@ impl<W: SteadyWrite, H: Handle> World for FileWorld<W, H> {
         ensures passes { Passes (seen W.tells W.contents H.tells H.contents self.old) (seen W.tells W.contents H.tells H.contents self.new) }
         ensures moment { Rose (seen W.tells W.contents H.tells H.contents self.old).moment (seen W.tells W.contents H.tells H.contents self.new).moment }
         ensures image { ShowsOne (seen W.tells W.contents H.tells H.contents self.new) }
-        ensures cause { OnErr result (Rose (seen W.tells W.contents H.tells H.contents self.old).area_faults (seen W.tells W.contents H.tells H.contents self.new).area_faults) }
+        ensures cause { OnErr result (RoseByOne (seen W.tells W.contents H.tells H.contents self.old).area_faults (seen W.tells W.contents H.tells H.contents self.new).area_faults) }
         ensures no_cause { OnOk result ((seen W.tells W.contents H.tells H.contents self.new).area_faults ≡ (seen W.tells W.contents H.tells H.contents self.old).area_faults) }
         ensures no_put { MakesNoPut (seen W.tells W.contents H.tells H.contents self.old) (seen W.tells W.contents H.tells H.contents self.new) }
     {
@@ -207,7 +207,7 @@ impl<W: SteadyWrite, H: Handle> World for FileWorld<W, H> {
         ensures passes { Passes (seen W.tells W.contents H.tells H.contents self.old) (seen W.tells W.contents H.tells H.contents self.new) }
         ensures moment { Rose (seen W.tells W.contents H.tells H.contents self.old).moment (seen W.tells W.contents H.tells H.contents self.new).moment }
         ensures image { ShowsOne (seen W.tells W.contents H.tells H.contents self.new) }
-        ensures cause { OnErr result (Rose (seen W.tells W.contents H.tells H.contents self.old).area_faults (seen W.tells W.contents H.tells H.contents self.new).area_faults) }
+        ensures cause { OnErr result (RoseByOne (seen W.tells W.contents H.tells H.contents self.old).area_faults (seen W.tells W.contents H.tells H.contents self.new).area_faults) }
         ensures no_cause { OnOk result ((seen W.tells W.contents H.tells H.contents self.new).area_faults ≡ (seen W.tells W.contents H.tells H.contents self.old).area_faults) }
         ensures no_put { MakesNoPut (seen W.tells W.contents H.tells H.contents self.old) (seen W.tells W.contents H.tells H.contents self.new) }
     {
@@ -227,7 +227,7 @@ impl<W: SteadyWrite, H: Handle> World for FileWorld<W, H> {
         ensures quiet { IsQuiet (seen W.tells W.contents H.tells H.contents self.old) (seen W.tells W.contents H.tells H.contents self.new) }
         ensures moment { Rose (seen W.tells W.contents H.tells H.contents self.old).moment (seen W.tells W.contents H.tells H.contents self.new).moment }
         ensures image { ShowsOne (seen W.tells W.contents H.tells H.contents self.new) }
-        ensures cause { OnErr result (Rose (seen W.tells W.contents H.tells H.contents self.old).area_faults (seen W.tells W.contents H.tells H.contents self.new).area_faults) }
+        ensures cause { OnErr result (RoseByOne (seen W.tells W.contents H.tells H.contents self.old).area_faults (seen W.tells W.contents H.tells H.contents self.new).area_faults) }
         ensures no_cause { OnOk result ((seen W.tells W.contents H.tells H.contents self.new).area_faults ≡ (seen W.tells W.contents H.tells H.contents self.old).area_faults) }
         ensures no_put { MakesNoPut (seen W.tells W.contents H.tells H.contents self.old) (seen W.tells W.contents H.tells H.contents self.new) }
     {
@@ -248,7 +248,7 @@ impl<W: SteadyWrite, H: Handle> World for FileWorld<W, H> {
         // What every world says.
         ensures whole { OnOk result (Adds (output_of (seen W.tells W.contents H.tells H.contents self.old)) (output_of (seen W.tells W.contents H.tells H.contents self.new)) piece.now) }
         ensures front { OnErr result (AddsFront (output_of (seen W.tells W.contents H.tells H.contents self.old)) (output_of (seen W.tells W.contents H.tells H.contents self.new)) piece.now) }
-        ensures cause { OnErr result (Rose (seen W.tells W.contents H.tells H.contents self.old).put_faults (seen W.tells W.contents H.tells H.contents self.new).put_faults) }
+        ensures cause { OnErr result (RoseByOne (seen W.tells W.contents H.tells H.contents self.old).put_faults (seen W.tells W.contents H.tells H.contents self.new).put_faults) }
         ensures faults_stay { (seen W.tells W.contents H.tells H.contents self.old).put_faults ≤ (seen W.tells W.contents H.tells H.contents self.new).put_faults }
         ensures a { (seen W.tells W.contents H.tells H.contents self.new).shown.a ≡ (seen W.tells W.contents H.tells H.contents self.old).shown.a }
         ensures b { (seen W.tells W.contents H.tells H.contents self.new).shown.b ≡ (seen W.tells W.contents H.tells H.contents self.old).shown.b }

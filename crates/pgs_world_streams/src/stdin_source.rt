@@ -1,6 +1,6 @@
 ghost use Rattle.std.specs.Prelude.{◌≡◌, ◌<◌, ◌≤◌, length, take, Ok, IfOk, OnOk, OnErr};
 ghost use Rattle.std.specs.Io.KnownBytes.{ReadConsumes};
-ghost use Rattle.pgs_world.specs.Count.{Rose, raised};
+ghost use Rattle.pgs_world.specs.Count.{RoseByOne, raised};
 ghost use Rattle.pgs_world.specs.Source.{Takes, IsAtEnd};
 ghost use Rattle.pgs_world_streams.specs.Given.{ReadsOnce};
 
@@ -55,7 +55,7 @@ impl<R: SteadyRead> Source for StdinSource<R> {
         ensures taken { IfOk result (λ count. Takes (R.remaining self.old.reader) (R.remaining self.new.reader) (take count buf.new)) }
         ensures end { 0 < length buf.old → result ≡ Ok 0 → IsAtEnd (R.remaining self.old.reader) }
         ensures kept { OnErr result (R.remaining self.new.reader ≡ R.remaining self.old.reader) }
-        ensures cause { OnErr result (Rose self.old.faults self.new.faults) }
+        ensures cause { OnErr result (RoseByOne self.old.faults self.new.faults) }
         ensures no_cause { OnOk result (self.new.faults ≡ self.old.faults) }
         ensures faults_stay { self.old.faults ≤ self.new.faults }
     {

@@ -1,5 +1,6 @@
 use Rattle.std.proofs.Common.{rules, arith, ap, ◌∙◌, sym, take, List, ℕ, []}
 use Rattle.std.proofs.lemmas.Grind.{common_steps}
+use Rattle.pgs_run_lines.specs.Calls.{gave_none, gave_more}
 use Rattle.pgs_run_lines.specs.Input.{Lines}
 use Rattle.pgs_run_lines.specs.Machine.{scene_of}
 use Rattle.pgs_run_lines.proofs.Begun.{begun_none}
@@ -18,6 +19,7 @@ loop-left-init g c = record {
   bytes = search rules;
   reads = search rules;
   faults = search rules;
+  calls = gave_none;
 }
 
 pub returns-in-Err-take_bytes-clause-reads : goal.returns-in-Err-take_bytes-clause-reads
@@ -34,4 +36,5 @@ loop-left-preserved g c = record {
   bytes = search rules;
   reads = c.in-Ok.ensures.no_cause ∙ c.loop-left.invariant.reads;
   faults = c.in-Ok-take_bytes.ensures.cause ∙ c.loop-left.invariant.faults;
+  calls = gave_more c.loop-left.invariant.calls c.in-Ok.ensures.made.1.0 (grind (arith, common_steps)) (grind (arith, common_steps)) c.in-Ok.ensures.made.1.1;
 }

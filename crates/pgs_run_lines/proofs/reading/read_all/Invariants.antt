@@ -1,5 +1,6 @@
-use Rattle.std.proofs.Common.{◌≡◌, ◌<◌, ◌+◌, length}
+use Rattle.std.proofs.Common.{◌≡◌, ◌×◌, ◌<◌, ◌≤◌, ◌+◌, length}
 use Rattle.pgs_run_lines.specs.Buffer.{IsBegun}
+use Rattle.pgs_run_lines.specs.Calls.{Gave}
 use Rattle.pgs_run_lines.specs.Ending.{faults_of}
 use Rattle.pgs_run_lines.specs.Machine.{HasRoomFor, scene_of}
 use Rattle.pgs_run_lines.specs.Reading.{ReadSoFar}
@@ -12,7 +13,8 @@ invariant-loop-left g l = record {
   room : HasRoomFor g.T.LineTaker.machine (l.left + 1) (g.T.LineTaker.stands l.taker);
   begun : IsBegun l.line;
   holds : g.T.LineTaker.rule.holds (g.T.LineTaker.stands l.taker) (g.W.World.view l.world);
-  bytes : 0 < length l.bytes;
+  bytes : (0 < length l.bytes) × (length l.bytes ≤ 65536);
+  calls : Gave g.S.Source.read_made l.fn.budget l.fn.source l.left l.source;
   reads : g.S.Source.faults l.source ≡ g.S.Source.faults l.fn.source;
   faults : faults_of 0 (g.W.World.view l.world) ≡ faults_of 0 (g.W.World.view l.fn.world);
 }
