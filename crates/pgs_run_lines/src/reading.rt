@@ -1,4 +1,4 @@
-ghost use Rattle.std.specs.Prelude.{◌≡◌, ◌×◌, ◌<◌, ◌≤◌, ◌+◌, ◌^◌, ℕ, [], true, Ok, length, take, IfOk, IfErr, OnErr, OnOk, vec_len};
+ghost use Rattle.std.specs.Prelude.{◌≡◌, ◌<◌, ◌≤◌, ◌+◌, ◌^◌, ℕ, [], true, Ok, length, take, IfOk, IfErr, OnErr, OnOk, vec_len};
 ghost use Rattle.std.specs.Result.{result_ok};
 ghost use Rattle.pgs_world.specs.Count.{RoseByOne};
 ghost use Rattle.pgs_world.specs.Source.{Takes, IsAtEnd};

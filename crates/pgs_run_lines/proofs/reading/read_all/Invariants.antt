@@ -1,4 +1,4 @@
-use Rattle.std.proofs.Common.{◌≡◌, ◌×◌, ◌<◌, ◌≤◌, ◌+◌, length}
+use Rattle.std.proofs.Common.{◌≡◌, ◌<◌, ◌≤◌, ◌+◌, length}
 use Rattle.pgs_run_lines.specs.Buffer.{IsBegun}
 use Rattle.pgs_run_lines.specs.Calls.{Gave}
 use Rattle.pgs_run_lines.specs.Ending.{faults_of}
