@@ -1,9 +1,10 @@
 -- Causes of stops, one call after another.
-use Rattle.std.proofs.Common.{◌≡◌, ℕ, ◌+◌, ◌-◌, ◌≤◌, ◌^◌, min, refl, sym, ap, ◌∙◌, arith}
+use Rattle.std.proofs.Common.{◌≡◌, false, ℕ, ◌+◌, ◌-◌, ◌≤◌, ◌^◌, min, refl, sym, ap, ◌∙◌, arith}
 use Rattle.pgs_world.specs.Count.{RoseByOne, raised}
 use Rattle.pgs_world.specs.World.{View}
 use Rattle.pgs_run_lines.specs.declared.stop.Stop.{Stop}
 use Rattle.pgs_run_lines.specs.declared.stop.Stop.TheVariants as stops
+use Rattle.pgs_run_lines.specs.Calls.{is_of_source}
 use Rattle.pgs_run_lines.specs.Ending.{Faults, faults_of, HasCause}
 
 -- the counts were as before, and then a stop raised one or none
@@ -33,3 +34,11 @@ world_cause reads old new stops.Memory cause = same_world reads old new cause
 
 pub world_same : (reads now : ℕ) (old new : View) → now ≡ reads → faults_of 0 new ≡ faults_of 0 old → faults_of now new ≡ faults_of reads old
 world_same reads now old new is same = ap (λ n. faults_of n new) is ∙ same_world reads old new same
+
+-- what came of the world alone is no fault of a read
+pub not_of_source : {E : Type 0} (old new : View) (stop : Stop E) → HasCause (faults_of 0 old) (faults_of 0 new) stop → is_of_source stop ≡ false
+not_of_source old new (stops.Ended status) cause = refl
+not_of_source old new stops.ReadFault cause = absurd (no_rise 0 cause.0 refl)
+not_of_source old new stops.AreaFault cause = refl
+not_of_source old new stops.PutFault cause = refl
+not_of_source old new stops.Memory cause = refl

@@ -1,9 +1,10 @@
-use Rattle.std.proofs.Common.{rules, arith, ap, ◌∙◌, sym, take, List, ℕ, []}
+use Rattle.std.proofs.Common.{rules, arith, ◌-◌, ap, ◌∙◌, sym, subst, take, List, ℕ, Bool, [], Some}
 use Rattle.std.proofs.lemmas.Grind.{common_steps}
-use Rattle.pgs_run_lines.specs.Calls.{gave_none, gave_more}
+use Rattle.pgs_run_lines.specs.Calls.{Reads as Made, gave_none, gave_more, so_far, to_end, to_fault}
 use Rattle.pgs_run_lines.specs.Input.{Lines}
 use Rattle.pgs_run_lines.specs.Machine.{scene_of}
 use Rattle.pgs_run_lines.proofs.Begun.{begun_none}
+use Rattle.pgs_run_lines.proofs.Causes.{not_of_source}
 use Rattle.pgs_run_lines.proofs.Cutting.{kept_nothing}
 use Rattle.pgs_run_lines.proofs.Driven.{runs_none, takes_in, stops_in}
 use Rattle.pgs_run_lines.proofs.ReadingOn.{read_none, read_on, read_stops, room_read}
@@ -36,5 +37,21 @@ loop-left-preserved g c = record {
   bytes = search rules;
   reads = c.in-Ok.ensures.no_cause ∙ c.loop-left.invariant.reads;
   faults = c.in-Ok-take_bytes.ensures.cause ∙ c.loop-left.invariant.faults;
-  calls = gave_more c.loop-left.invariant.calls c.in-Ok.ensures.made.1.0 (grind (arith, common_steps)) (grind (arith, common_steps)) c.in-Ok.ensures.made.1.1;
+  calls = gave_more c.loop-left.invariant.calls c.in-Ok.ensures.made.1 (grind (arith, common_steps)) (grind (arith, common_steps)) c.in-Ok.ensures.made.2;
 }
+
+pub returns-in-Err-clause-calls : goal.returns-in-Err-clause-calls
+returns-in-Err-clause-calls g c = to_fault c.loop-left.invariant.calls c.in-Err.ensures.made.1 c.in-Err.ensures.made.2
+
+pub returns-then-count-eq0-clause-calls : goal.returns-then-count-eq0-clause-calls
+returns-then-count-eq0-clause-calls g c =
+    to_end c.loop-left.invariant.calls c.in-Ok.ensures.made.1 (subst (λ (count : ℕ). g.S.Source.read_made c.loop-left.source c.in-Ok.ensures.made.0 (Some count) c.read_some.new.source) (search rules) c.in-Ok.ensures.made.2)
+
+pub returns-in-Err-take_bytes-clause-calls : goal.returns-in-Err-take_bytes-clause-calls
+returns-in-Err-take_bytes-clause-calls g c =
+    subst (λ (fails : Bool). Made g.S.Source.read_made c.args.budget c.args.source.now fails c.read_some.new.source)
+    (sym (not_of_source (g.W.World.view c.loop-left.world) (g.W.World.view c.take_bytes.new.world) c.in-Err-take_bytes.stop c.in-Err-take_bytes.ensures.cause))
+    (so_far {left = c.loop-left.left - c.in-Ok.count} (gave_more c.loop-left.invariant.calls c.in-Ok.ensures.made.1 (grind (arith, common_steps)) (grind (arith, common_steps)) c.in-Ok.ensures.made.2))
+
+pub returns-clause-calls : goal.returns-clause-calls
+returns-clause-calls g c = so_far c.loop-left.invariant.calls

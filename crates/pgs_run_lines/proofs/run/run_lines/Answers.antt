@@ -1,5 +1,6 @@
 use Rattle.std.proofs.Common.{Err, [], subst}
 use Rattle.pgs_run_lines.specs.declared.reading.End.TheVariants.{Whole, Cut}
+use Rattle.pgs_run_lines.specs.Calls.{gave_none, so_far}
 use Rattle.pgs_run_lines.specs.Ending.{Ends}
 use Rattle.pgs_run_lines.specs.Machine.{AtEnd, scene_of}
 use Rattle.pgs_run_lines.specs.Pieces.{shown_of}
@@ -69,3 +70,6 @@ returns-clause-allows g c =
     let m = g.T.LineTaker.machine in
     let reads = reads_as m g.T.LineTaker.rule c.args.limit c.new-line.result.limit _ _ _ _ _ _ _ c.read_all-end.result (Err c.in-Err-end.stop) _ c.new-line.ensures.limit c.in-Err-end.is c.read_all-end.ensures.reads in
     stopped_allows m g.T.LineTaker.rule c.args.limit _ _ c.args.budget _ _ _ _ c.in-Err-end.stop _ reads
+
+pub returns-in-Err-clause-calls : goal.returns-in-Err-clause-calls
+returns-in-Err-clause-calls g c = so_far gave_none
