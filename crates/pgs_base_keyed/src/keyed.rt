@@ -1,4 +1,4 @@
-ghost use Rattle.std.specs.Prelude.{◌≡◌, [], IfOk, OnOk, OnErr, is_some};
+ghost use Rattle.std.specs.Prelude.{◌≡◌, [], IfOk, OnOk, OnErr, is_some, None};
 ghost use Rattle.std.specs.Option.{option_copied};
 ghost use Rattle.std.specs.Ordering.{is_le, is_gt};
 ghost use Rattle.std.specs.List.{find};
@@ -24,18 +24,22 @@ enum Form<K: Ord, V> {
 #[derive(Drop)]
 pub struct Keyed<K: Ord, V> {
     form: Form<K, V>,
+    // About so many changes were announced. They decide the form, which no change turns into the other.
+    changes: usize,
 }
 
 impl<K: Ord, V> Model for Keyed<K, V> {
     ghost use Rattle.std.specs.Prelude.{List};
     ghost use Rattle.std.specs.Coded.{coded_list, coded×};
-    ghost use Rattle.pgs_base_keyed.specs.Form.{form_rows};
+    ghost use Rattle.pgs_base_keyed.specs.Form.{form_rows, Suits};
 
     ghost Value = { List (K × V) };
 
     ghost coded = { coded_list (coded× K.code V.code) };
 
     ghost view = { λ keyed. form_rows keyed.form };
+
+    ghost invariant = { λ keyed. Suits keyed.changes keyed.form };
 }
 
 // The first key from a key on, among pairs by ascending key.
@@ -55,7 +59,7 @@ fn first_of<'a, K: Ord, V>(rows: &'a [(K, V)], start: &K) -> Option<&'a K>
 }
 
 impl<K: Ord + Drop, V: Drop> Keyed<K, V> {
-    /// No values, in a form that suits about so many changes. It takes no memory.
+    /// No values, in a form that suits about so many changes: a block exactly up to sixteen. It takes no memory.
     pub fn new(alloc: Global, changes: usize) -> Keyed<K, V>
         ensures { result ≡ [] }
     {
@@ -64,7 +68,7 @@ impl<K: Ord + Drop, V: Drop> Keyed<K, V> {
         } else {
             Form::Many(BTreeMap::new(alloc))
         };
-        Keyed { form }
+        Keyed { form, changes }
     }
 
     /// The value at a key. `None` exactly where the key is absent.
@@ -100,11 +104,12 @@ impl<K: Ord + Drop, V: Drop> Keyed<K, V> {
         }
     }
 
-    /// Sets the value at a key, and answers the value that was there. After `Memory` all is as it was.
+    /// Sets the value at a key, and answers the value that was there. After `Memory`, which comes only for a new key, all is as it was.
     pub fn set(&mut self, key: K, value: V) -> Result<Option<V>, Memory>
         ensures ok { OnOk result (self.new ≡ insert_entry K.cmp self.old key value) }
         ensures answer { IfOk result (λ old. old ≡ lookup (is_at (K.cmp key)) self.old) }
         ensures err { OnErr result (self.new ≡ self.old) }
+        ensures only_new { OnErr result (lookup (is_at (K.cmp key)) self.old ≡ None) }
     {
         match &mut self.form {
             Form::Few(rows) => rows.set(key, value),
