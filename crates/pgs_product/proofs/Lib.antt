@@ -1,6 +1,7 @@
 pub mod Asked
 pub mod Ends
 pub mod Exact
+pub mod Halved
 pub mod Joins
 pub mod Keyed
 pub mod Several

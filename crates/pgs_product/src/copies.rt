@@ -1,4 +1,4 @@
-ghost use Rattle.std.specs.Prelude.{◌≡◌, IfOk};
+ghost use Rattle.std.specs.Prelude.{◌≡◌, length, IfOk};
 ghost use Rattle.pgs_base.specs.declared.row.NodeRow.{NodeRow};
 ghost use Rattle.pgs_conform.specs.Shapes.{in_shape, in_some};
 
@@ -33,7 +33,8 @@ pub fn copy_shape(alloc: Global, shape: &Shape) -> Result<Shape, Memory>
 
 /// Shapes of the same pairs, in order.
 pub fn copy_shapes(alloc: Global, shapes: &[Shape]) -> Result<List<Shape>, Memory>
-    ensures { IfOk result (λ copies. (p : NodeRow) → in_some copies p ≡ in_some shapes.now p) }
+    ensures same { IfOk result (λ copies. (p : NodeRow) → in_some copies p ≡ in_some shapes.now p) }
+    ensures count { IfOk result (λ copies. length copies ≡ length shapes.now) }
 {
     let mut copies = Vec::with_capacity(alloc, shapes.len())?;
     for shape in shapes {

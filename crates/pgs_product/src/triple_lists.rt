@@ -1,10 +1,12 @@
-ghost use Rattle.std.specs.Prelude.{◌≡◌, ◌||◌, true, map, IfOk, OnOk};
+ghost use Rattle.std.specs.Prelude.{◌≡◌, ◌+◌, ◌*◌, ◌^◌, ◌≤◌, ◌||◌, true, length, map, IfOk, OnOk};
 ghost use Rattle.std.specs.List.{list_any};
 ghost use Rattle.pgs_syntax.specs.Join.{of_triples, joined, joined_all, Triple as Pairs};
 ghost use Rattle.pgs_syntax.specs.Triples.{is_triple};
 ghost use Rattle.pgs_conform.specs.Shapes.{in_triple, in_some_triple, DenotesTriples};
+ghost use Rattle.pgs_product.specs.Counts.{choices};
 
 use crate::empty::empty_shape;
+use crate::lists::MOST_HALVINGS;
 use crate::triples::{copy_triples, middle_triple, triple_product};
 use pgs_base::{List, Memory};
 use pgs_conform::Triple;
@@ -17,9 +19,10 @@ fn push_triple_products(
     second: &[Triple],
     products: &mut Vec<Triple>,
 ) -> Result<(), Memory>
-    ensures { OnOk result ((t : Pairs) → is_triple t ≡ true → in_some_triple products.new.items t
+    ensures denote { OnOk result ((t : Pairs) → is_triple t ≡ true → in_some_triple products.new.items t
         ≡ (in_some_triple products.old.items t
         || list_any (λ shapes. joined of_triples (in_triple first.now) (in_triple shapes) t) second.now)) }
+    ensures count { OnOk result (length products.new.items ≡ length products.old.items + length second.now) }
 {
     for triple in second {
         products.push(triple_product(alloc, first, triple)?)?;
@@ -34,8 +37,9 @@ pub fn triple_products(
     first: &[Triple],
     second: &[Triple],
 ) -> Result<List<Triple>, Memory>
-    ensures { IfOk result (λ products.
+    ensures denote { IfOk result (λ products.
         DenotesTriples products (joined of_triples (in_some_triple first.now) (in_some_triple second.now))) }
+    ensures count { IfOk result (λ products. length products ≡ length first.now * length second.now) }
 {
     let mut products = Vec::new(alloc);
     for triple in first {
@@ -44,9 +48,15 @@ pub fn triple_products(
     Ok(List::from_vec(products))
 }
 
-/// The products of triples of shapes of several lists, one of each: they denote the joins of triples, one of each list.
-pub fn triple_product_of_all(alloc: Global, lists: &[List<Triple>]) -> Result<List<Triple>, Memory>
-    ensures { IfOk result (λ products. DenotesTriples products (joined_all of_triples (map in_some_triple lists.now))) }
+// The products of triples of shapes of several lists, which can be halved no more than `further` times: so deep do the calls stand.
+fn triple_product_of_halves(
+    alloc: Global,
+    lists: &[List<Triple>],
+    further: u32,
+) -> Result<List<Triple>, Memory>
+    requires { length lists.now ≤ 2 ^ further }
+    ensures denote { IfOk result (λ products. DenotesTriples products (joined_all of_triples (map in_some_triple lists.now))) }
+    ensures count { IfOk result (λ products. length products ≡ choices lists.now) }
 {
     match lists {
         [] => {
@@ -59,11 +69,21 @@ pub fn triple_product_of_all(alloc: Global, lists: &[List<Triple>]) -> Result<Li
             Ok(copies)
         }
         _ => {
+            let lower = further - 1;
             let (front, back) = lists.split_at(lists.len() / 2);
-            let first = triple_product_of_all(alloc, front)?;
-            let second = triple_product_of_all(alloc, back)?;
+            let first = triple_product_of_halves(alloc, front, lower)?;
+            let second = triple_product_of_halves(alloc, back, lower)?;
             let whole = triple_products(alloc, first.as_slice(), second.as_slice())?;
             Ok(whole)
         }
     }
+}
+
+/// The products of triples of shapes of several lists, one of each: they denote the joins of triples, one of each list, and there
+/// are as many as ways to take one of each.
+pub fn triple_product_of_all(alloc: Global, lists: &[List<Triple>]) -> Result<List<Triple>, Memory>
+    ensures denote { IfOk result (λ products. DenotesTriples products (joined_all of_triples (map in_some_triple lists.now))) }
+    ensures count { IfOk result (λ products. length products ≡ choices lists.now) }
+{
+    triple_product_of_halves(alloc, lists, MOST_HALVINGS)
 }

@@ -1,4 +1,4 @@
-ghost use Rattle.std.specs.Prelude.{◌≡◌, ◌&&◌, true, IfOk};
+ghost use Rattle.std.specs.Prelude.{◌≡◌, ◌&&◌, true, length, IfOk};
 ghost use Rattle.pgs_syntax.specs.Join.{of_triples, joined, is_empty_pair, Triple as Pairs};
 ghost use Rattle.pgs_syntax.specs.Triples.{is_triple};
 ghost use Rattle.pgs_conform.specs.Shapes.{in_shape, in_triple, in_some_triple};
@@ -52,7 +52,8 @@ fn copy_triple(alloc: Global, triple: &Triple) -> Result<Triple, Memory>
 
 /// Triples of shapes of the same triples of pairs, in order.
 pub fn copy_triples(alloc: Global, triples: &[Triple]) -> Result<List<Triple>, Memory>
-    ensures { IfOk result (λ copies. (t : Pairs) → in_some_triple copies t ≡ in_some_triple triples.now t) }
+    ensures same { IfOk result (λ copies. (t : Pairs) → in_some_triple copies t ≡ in_some_triple triples.now t) }
+    ensures count { IfOk result (λ copies. length copies ≡ length triples.now) }
 {
     let mut copies = Vec::with_capacity(alloc, triples.len())?;
     for triple in triples {
