@@ -1,4 +1,5 @@
-ghost use Rattle.std.specs.Prelude.{◌≡◌, ◌+◌, ◌≤◌, ◌++◌, length, drop, OnOk, IfOk, IsErrOf, ℕ};
+ghost use Rattle.std.specs.Prelude.{◌≡◌, ◌+◌, ◌<◌, ◌≤◌, ◌++◌, length, drop, OnOk, IfOk, IsErrOf, ℕ};
+ghost use Rattle.pgs_lexer.specs.Scan.{item_at};
 ghost use Rattle.pgs_lexer.specs.Cut.{AreTokensOf, Gives, HasBadByteOn, lexemes, line_at, token_here, tokens_of};
 
 use crate::item::{Item, item_at};
@@ -8,9 +9,11 @@ use crate::{LexFault, Tokens};
 use pgs_base::Memory;
 use std::alloc::Global;
 
-/// The line on which a place is, from 1.
+/// The line on which a byte is that begins no item, from 1. It is asked for there alone, since it goes over the text
+/// before the byte.
 fn line_at(text: &[u8], place: usize) -> u64
-    requires { place ≤ length text.now }
+    requires within { place < length text.now }
+    requires bad_byte { item_at (drop place text.now) ≡ None }
     ensures { result ≡ line_at text.now place }
 {
     1 + text[..place].iter().filter(|byte| **byte == b'\n').count() as u64
