@@ -1,9 +1,9 @@
 -- One step of a walk over what is asked for and what is there, both ascending: the first of each decide, and the rest is left.
-use Rattle.std.proofs.Common.{◌≡◌, ℕ, ◌-◌, ◌==◌, arith, length, take, drop, take_all, Bool, true, false, ◌&&◌, ◌||◌, cond, List, [], ◌∷◌, Some, None, refl, sym, ap, subst, ◌∙◌, Ordering, Less, Equal, Greater, is_lt, is_eq}
+use Rattle.std.proofs.Common.{◌≡◌, ℕ, nat_eq, ◌-◌, ◌==◌, arith, length, take, drop, take_all, Bool, true, false, ◌&&◌, ◌||◌, cond, List, [], ◌∷◌, Some, None, refl, sym, ap, subst, ◌∙◌, Ordering, Less, Equal, Greater, is_lt, is_eq}
 use Rattle.std.specs.Ordering.{nat_cmp, ordering_reverse}
 use Rattle.std.specs.BTreeMap.{is_at}
 use Rattle.std.specs.Cmp.{IsTotalOrder, tied_itself}
-use Rattle.std.specs.Cmp.Lexicographic.{slice_cmp, nat_list_cmp_total}
+use Rattle.std.specs.Cmp.Lexicographic.{pointwise, slice_cmp, nat_list_cmp_total, texts_ties}
 use Rattle.std.specs.List.{list_any, list_all}
 use Rattle.std.specs.Map.{keys_of, lookup}
 use Rattle.std.proofs.lemmas.Bool.{and_parts, and_right, ne_eqb}
@@ -105,6 +105,15 @@ module _ {K : Type 0} {cmp : K → K → Ordering} (total : IsTotalOrder cmp) wh
 
 abbrev pub order : List ℕ → List ℕ → Ordering
 order = slice_cmp nat_cmp
+
+is_equal : (o : Ordering) → is_eq o ≡ true → Equal ≡ o
+is_equal Less h = cc
+is_equal Equal h = refl
+is_equal Greater h = cc
+
+-- names that are seen to be equal go so
+pub tied : (a b : List ℕ) → pointwise nat_eq a b ≡ true → Equal ≡ order a b
+tied a b h = is_equal (order a b) (sym (texts_ties a b) ∙ h)
 
 abbrev pub before : List ℕ → List (List ℕ) → Bool
 before name names = list_all (λ later. is_lt (order name later)) names

@@ -14,6 +14,17 @@ use crate::Options;
 use pgs_base::{Name, Value};
 use std::cmp::Ordering;
 
+// How names go. Most that are compared are equal, and that is seen sooner than which is less.
+fn order(name: &Name, other: &Name) -> Ordering
+    ensures { result ≡ slice_cmp nat_cmp name.now other.now }
+{
+    if name == other {
+        Ordering::Equal
+    } else {
+        name.cmp(other)
+    }
+}
+
 // Whether labels are all of those that are asked for, and no further ones unless more are free.
 pub(crate) fn labels_fit(asked: &[Name], more: bool, labels: &[Name]) -> bool
     requires asked { are_names asked.now ≡ true }
@@ -26,7 +37,7 @@ pub(crate) fn labels_fit(asked: &[Name], more: bool, labels: &[Name]) -> bool
         let [label, later @ ..] = left else {
             return false;
         };
-        match first.cmp(label) {
+        match order(first, label) {
             Ordering::Less => return false,
             Ordering::Equal => asked_left = later_asked,
             Ordering::Greater => {
@@ -58,7 +69,7 @@ pub(crate) fn props_fit(keys: &[(Name, Options)], more: bool, props: &[(Name, Va
         let [entry, later @ ..] = left else {
             return are_optional(keys_left);
         };
-        match key.0.cmp(&entry.0) {
+        match order(&key.0, &entry.0) {
             Ordering::Less => {
                 if !key.1.absent {
                     return false;

@@ -6,25 +6,25 @@ pub returns-in-Less : goal.returns-in-Less
 returns-in-Less c =
     missing c.args.asked.now c.args.more c.args.labels.now c.loop-asked_left.asked_left.now c.loop-asked_left.left.now
     c.first-item.result c.label-item.result c.in-len1-up.len_at_least c.in-len1-up-left.len_at_least c.first-item.is c.label-item.is
-    (sym c.cmp.ensures ∙ c.in-Less.is) c.loop-asked_left.invariant
+    (sym c.order.ensures ∙ c.in-Less.is) c.loop-asked_left.invariant
 
 pub returns-then-not-more : goal.returns-then-not-more
 returns-then-not-more c =
     refused c.args.asked.now c.args.more c.args.labels.now c.loop-asked_left.asked_left.now c.loop-asked_left.left.now
     c.first-item.result c.label-item.result c.in-len1-up.len_at_least c.in-len1-up-left.len_at_least c.first-item.is c.label-item.is
-    (sym c.cmp.ensures ∙ c.in-Greater.is) c.if-not-more.true c.loop-asked_left.invariant
+    (sym c.order.ensures ∙ c.in-Greater.is) c.if-not-more.true c.loop-asked_left.invariant
 
 pub loop-asked_left-preserved-in-Equal : goal.loop-asked_left-preserved-in-Equal
 loop-asked_left-preserved-in-Equal c =
     met c.args.asked.now c.args.more c.args.labels.now c.loop-asked_left.asked_left.now c.loop-asked_left.left.now
     c.first-item.result c.label-item.result c.in-len1-up.len_at_least c.in-len1-up-left.len_at_least c.first-item.is c.label-item.is
-    (sym c.cmp.ensures ∙ c.in-Equal.is) c.loop-asked_left.invariant
+    (sym c.order.ensures ∙ c.in-Equal.is) c.loop-asked_left.invariant
 
 pub loop-asked_left-preserved : goal.loop-asked_left-preserved
 loop-asked_left-preserved c =
     passed c.args.asked.now c.args.more c.args.labels.now c.loop-asked_left.asked_left.now c.loop-asked_left.left.now
     c.first-item.result c.label-item.result c.in-len1-up.len_at_least c.in-len1-up-left.len_at_least c.first-item.is c.label-item.is
-    (sym c.cmp.ensures ∙ c.in-Greater.is) c.if-not-more.false c.loop-asked_left.invariant
+    (sym c.order.ensures ∙ c.in-Greater.is) c.if-not-more.false c.loop-asked_left.invariant
 
 pub returns-then-more : goal.returns-then-more
 returns-then-more c =

@@ -7,35 +7,35 @@ pub returns-then-not-key : goal.returns-then-not-key
 returns-then-not-key c =
     required c.args.keys.now c.args.more c.args.props.now c.loop-keys_left.keys_left.now c.loop-keys_left.left.now
     c.key-item.result c.entry-item.result
-    (record { some_keys = c.in-len1-up.len_at_least; some_props = c.in-len1-up-left.len_at_least; key = c.key-item.is; entry = c.entry-item.is; compared = sym c.cmp.ensures ∙ c.in-Less.is })
+    (record { some_keys = c.in-len1-up.len_at_least; some_props = c.in-len1-up-left.len_at_least; key = c.key-item.is; entry = c.entry-item.is; compared = sym c.order.ensures ∙ c.in-Less.is })
     c.if-not-key.true c.loop-keys_left.invariant
 
 pub loop-keys_left-preserved-in-Less : goal.loop-keys_left-preserved-in-Less
 loop-keys_left-preserved-in-Less c =
     left_out c.args.keys.now c.args.more c.args.props.now c.loop-keys_left.keys_left.now c.loop-keys_left.left.now
     c.key-item.result c.entry-item.result
-    (record { some_keys = c.in-len1-up.len_at_least; some_props = c.in-len1-up-left.len_at_least; key = c.key-item.is; entry = c.entry-item.is; compared = sym c.cmp.ensures ∙ c.in-Less.is })
+    (record { some_keys = c.in-len1-up.len_at_least; some_props = c.in-len1-up-left.len_at_least; key = c.key-item.is; entry = c.entry-item.is; compared = sym c.order.ensures ∙ c.in-Less.is })
     c.if-not-key.false c.loop-keys_left.invariant
 
 pub loop-keys_left-preserved-in-Equal : goal.loop-keys_left-preserved-in-Equal
 loop-keys_left-preserved-in-Equal c =
     met c.args.keys.now c.args.more c.args.props.now c.loop-keys_left.keys_left.now c.loop-keys_left.left.now
     c.key-item.result c.entry-item.result
-    (record { some_keys = c.in-len1-up.len_at_least; some_props = c.in-len1-up-left.len_at_least; key = c.key-item.is; entry = c.entry-item.is; compared = sym c.cmp.ensures ∙ c.in-Equal.is })
+    (record { some_keys = c.in-len1-up.len_at_least; some_props = c.in-len1-up-left.len_at_least; key = c.key-item.is; entry = c.entry-item.is; compared = sym c.order.ensures ∙ c.in-Equal.is })
     (sym (c.admits.ensures ∙ ap (admits_kind c.key-item.result.1) c.kind.ensures) ∙ c.if-not-admits.false) c.loop-keys_left.invariant
 
 pub returns-then-not-more : goal.returns-then-not-more
 returns-then-not-more c =
     refused c.args.keys.now c.args.more c.args.props.now c.loop-keys_left.keys_left.now c.loop-keys_left.left.now
     c.key-item.result c.entry-item.result
-    (record { some_keys = c.in-len1-up.len_at_least; some_props = c.in-len1-up-left.len_at_least; key = c.key-item.is; entry = c.entry-item.is; compared = sym c.cmp.ensures ∙ c.in-Greater.is })
+    (record { some_keys = c.in-len1-up.len_at_least; some_props = c.in-len1-up-left.len_at_least; key = c.key-item.is; entry = c.entry-item.is; compared = sym c.order.ensures ∙ c.in-Greater.is })
     c.if-not-more.true c.loop-keys_left.invariant
 
 pub loop-keys_left-preserved : goal.loop-keys_left-preserved
 loop-keys_left-preserved c =
     passed c.args.keys.now c.args.more c.args.props.now c.loop-keys_left.keys_left.now c.loop-keys_left.left.now
     c.key-item.result c.entry-item.result
-    (record { some_keys = c.in-len1-up.len_at_least; some_props = c.in-len1-up-left.len_at_least; key = c.key-item.is; entry = c.entry-item.is; compared = sym c.cmp.ensures ∙ c.in-Greater.is })
+    (record { some_keys = c.in-len1-up.len_at_least; some_props = c.in-len1-up-left.len_at_least; key = c.key-item.is; entry = c.entry-item.is; compared = sym c.order.ensures ∙ c.in-Greater.is })
     c.if-not-more.false c.loop-keys_left.invariant
 
 pub returns-then-more : goal.returns-then-more
