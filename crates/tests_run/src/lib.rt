@@ -5,9 +5,13 @@
 #[cfg(test)]
 mod budgets;
 #[cfg(test)]
+mod built;
+#[cfg(test)]
 mod contain;
 #[cfg(test)]
 mod feeds;
+#[cfg(test)]
+mod great_runs;
 #[cfg(test)]
 mod keys;
 #[cfg(test)]

@@ -113,6 +113,7 @@ const STEPS: &[Step] = &[
         0,
     ),
     ("explain,social,n10,", "", "type forumType\n", 0),
+    ("explain,social,e4,", "", "type holdsType\n", 0),
     ("explain,social,n1,", "", "n1 is not in the graph\n", 1),
     ("recover,social,", "", DUMP, 0),
     ("validate,", DUMP, "", 0),

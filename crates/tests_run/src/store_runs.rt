@@ -8,7 +8,7 @@ use pgs_world::{Area, MemFeed, MemSource, MemWorld};
 use std::alloc::Global;
 
 /// The bytes and the calls that a run has room for.
-const ROOM: u64 = 65_536;
+const ROOM: u64 = 8_388_608;
 
 /// The words with a comma after each, the input, what is put, and the status.
 pub type Step = (&'static str, &'static str, &'static str, u8);

@@ -82,7 +82,11 @@ fn areas_have_the_bytes_of_the_format(rt: HostRuntime) -> Result<(), Fail> {
 const STORE: &[u8] =
     b"\x01PGSGRD1\x00\x00\x00\x00\x00\x00\x00\x01\x01\x00\x00\x00\x00\x00\x00\x00\x1e\x01CREATE GRAPH TYPE g LOOSE {};\x01\x00\x00\x00\x00\x00\x00\x00\x12\x03\x00\x00\x00\x01\x01\x00\x00\x00\x00\x00\x00\x00\x01\x00\x00\x00\x00\x00";
 
-/// The same of the second format.
+/// Another store, whose schema has no type for its node.
+const UNTYPED: &[u8] =
+    b"\x01PGSGRD1\x00\x00\x00\x00\x00\x00\x00\x01\x01\x00\x00\x00\x00\x00\x00\x00\x1f\x01CREATE GRAPH TYPE g STRICT {};\x01\x00\x00\x00\x00\x00\x00\x00\x12\x03\x00\x00\x00\x01\x01\x00\x00\x00\x00\x00\x00\x00\x01\x00\x00\x00\x00\x00";
+
+/// The first one in the second format.
 const SECOND: &[u8] =
     b"\x01PGSGRD2\x00\x00\x00\x00\x00\x00\x00\x01\x01\x00\x00\x00\x00\x00\x00\x00\x01\x00\x00\x00\x00\x00\x00\x00\x1e\x01CREATE GRAPH TYPE g LOOSE {};\x01\x00\x00\x00\x00\x00\x00\x00\x02\x00\x00\x00\x00\x00\x00\x00\x12\x03\x00\x00\x00\x01\x01\x00\x00\x00\x00\x00\x00\x00\x01\x00\x00\x00\x00\x00";
 
@@ -228,6 +232,22 @@ const EVOLVING: &[Step] = &[
     ),
 ];
 
+/// An edge from a node to itself.
+const LOOP: &[Step] = &[
+    (
+        "apply,s,",
+        "{\"ops\":[{\"add_edge\":1,\"from\":1,\"to\":1}]}",
+        "1 committed 2\n",
+        0,
+    ),
+    (
+        "recover,s,",
+        "",
+        "CREATE GRAPH TYPE g LOOSE {};\n---\n{\"ops\":[{\"add_node\":1,\"labels\":[],\"props\":{}}]}\n{\"ops\":[{\"add_edge\":1,\"from\":1,\"labels\":[],\"props\":{},\"to\":1}]}\n",
+        0,
+    ),
+];
+
 /// Both areas, and runs on them, one after another.
 const BESIDE: &[(&[u8], &[u8], &[Step])] = &[
     (
@@ -254,6 +274,22 @@ const BESIDE: &[(&[u8], &[u8], &[Step])] = &[
             ("recover,s,", "", DUMP, 0),
         ],
     ),
+    (
+        UNTYPED,
+        b"",
+        &[(
+            "recover,s,",
+            "",
+            "store refused 34 record 2: 25 node n1 fits no type\n",
+            4,
+        )],
+    ),
+    (
+        b"\x01xxxxxxxxxxxxxxxx",
+        b"",
+        &[("load,s,", SCHEMA, OTHERS, 4)],
+    ),
+    (SECOND, b"", LOOP),
     (SECOND, b"", EVOLVING),
     (
         STORE,
@@ -279,7 +315,7 @@ fn wrong_areas(alloc: Global) -> Result<Option<usize>, Memory> {
 }
 
 #[test]
-fn the_last_epoch_and_other_bytes_beside_a_store(rt: HostRuntime) -> Result<(), Fail> {
+fn areas_and_what_is_told_of_them(rt: HostRuntime) -> Result<(), Fail> {
     assert_eq!(rt; wrong_areas(rt.alloc())?, None);
     Ok(())
 }

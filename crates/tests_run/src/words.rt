@@ -13,6 +13,12 @@ const ROWS: &[Row] = &[
     ("explain,s,x1,", ONE_NODE, "words refused 35\n", 2),
     ("try,x,", ONE_NODE, "words refused 35\n", 2),
     ("load,", ONE_NODE, "words refused 35\n", 2),
+    (
+        "apply,s,a,b,c,d,e,f,g,h,i,j,k,l,m,n,o,",
+        "",
+        "store refused 30 no store\n",
+        4,
+    ),
     ("gen,7,500001,", "", "words refused 35\n", 2),
     (
         "gen,5,6,",
