@@ -35,6 +35,35 @@ module _ {K V : Type 0} where
       by rest k None = rest
       by rest k (Some v) = ap (λ l. (k, v) ∷ l) rest
 
+  -- so many slots have a row
+  pub count-filter : (es : List (K × Option V)) → length (filter (λ (e : K × Option V). is_some e.1) es) ≡ length (present es)
+  count-filter [] = refl
+  count-filter (e ∷ es) = by (count-filter es) e.0 e.1
+    where
+      by : length (filter (λ (e : K × Option V). is_some e.1) es) ≡ length (present es) → (k : K) (o : Option V) →
+          length (cond (is_some o) ((k, o) ∷ filter (λ (e : K × Option V). is_some e.1) es) (filter (λ (e : K × Option V). is_some e.1) es)) ≡ length (left_at k o ++ present es)
+      by rest k None = rest
+      by rest k (Some v) = omega (arith, rest)
+
+  -- the keys of the rows of the first slots, and of one more
+  pub keys-next : (e : K × Option V) (es : List (K × Option V)) → keys_of (left_at e.0 e.1) ++ keys_of (present es) ≡ keys_of (present (e ∷ es))
+  keys-next e es = by e.1
+    where
+      by : (o : Option V) → keys_of (left_at e.0 o) ++ keys_of (present es) ≡ keys_of (left_at e.0 o ++ present es)
+      by None = refl
+      by (Some v) = refl
+
+  -- a slot put in is at most one more
+  pub count-made : (cmp : K → K → Ordering) (k : K) (w : Option V) (es : List (K × Option V)) → length (insert_entry cmp es k w) ≤ length es + 1
+  count-made cmp k w [] = omega arith
+  count-made cmp k w (e ∷ es) = by (count-made cmp k w es) (cmp k e.0)
+    where
+      by : length (insert_entry cmp es k w) ≤ length es + 1 → (o : Ordering) →
+          length (match_ordering o ((k, w) ∷ e ∷ es) ((e.0, w) ∷ es) (e ∷ insert_entry cmp es k w)) ≤ length (e ∷ es) + 1
+      by rest Less = omega arith
+      by rest Equal = omega arith
+      by rest Greater = omega (arith, rest)
+
   -- no more rows than slots
   pub count-present : (es : List (K × Option V)) → length (present es) ≤ length es
   count-present [] = omega arith

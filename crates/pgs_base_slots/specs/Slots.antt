@@ -1,5 +1,5 @@
 -- Slots by key: each holds a row or none.
-use Rattle.std.specs.Prelude.{ℕ, Bool, List, [], ◌∷◌, ◌++◌, Option, Some, None}
+use Rattle.std.specs.Prelude.{ℕ, Bool, List, [], ◌∷◌, ◌++◌, Option, Some, None, is_some}
 use Rattle.std.specs.declared.cmp.Ordering.{Ordering}
 use Rattle.std.specs.List.{list_any}
 use Rattle.std.specs.Map.{keys_of}
@@ -8,6 +8,10 @@ use Rattle.std.specs.BTreeMap.{is_at}
 -- whether a key has a slot
 abbrev pub has_slot : {K V : Type 0} → (K → K → Ordering) → List (K × Option V) → K → Bool
 has_slot cmp slots key = list_any (is_at (cmp key)) (keys_of slots)
+
+-- whether a slot holds a row
+abbrev pub holds_row : {K V : Type 0} → K × Option V → Bool
+holds_row slot = is_some slot.1
 
 -- the entries that a change leaves at its key
 abbrev pub left_at : {K V : Type 0} → K → Option V → List (K × V)

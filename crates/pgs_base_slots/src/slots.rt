@@ -1,11 +1,11 @@
-ghost use Rattle.std.specs.Prelude.{◌≡◌, ◌<◌, ◌^◌, true, [], length, IfOk, OnErr, OnOk, IsSome, None};
+ghost use Rattle.std.specs.Prelude.{◌≡◌, ◌+◌, ◌*◌, ◌<◌, ◌≤◌, ◌^◌, ◌++◌, true, [], length, filter, IfOk, OnErr, OnOk, IsSome, None};
 ghost use Rattle.std.specs.Option.{option_copied, option_flatten};
 ghost use Rattle.std.specs.List.{list_all};
 ghost use Rattle.std.specs.List.Sorted.{IsStrictlySortedBy};
 ghost use Rattle.std.specs.Map.{keys_of, lookup, remove_entry};
 ghost use Rattle.std.specs.BTreeMap.{is_at, insert_entry};
 ghost use Rattle.std.proofs.lemmas.Map.Lookups.{CmpEqualImpliesEq};
-ghost use Rattle.pgs_base_slots.specs.Slots.{has_slot, present, row_count};
+ghost use Rattle.pgs_base_slots.specs.Slots.{has_slot, holds_row, left_at, present, row_count};
 
 use pgs_base::{Copyable, List, Memory};
 use std::alloc::Global;
@@ -72,11 +72,12 @@ impl<K: Ord + Copy + Drop, V: Drop> Slots<K, V> {
         }
     }
 
-    /// Makes a slot for each of these keys that has none, and takes out the empty slots before, where they are more than half. After
-    /// `Memory` some of the keys may have got one. The rows stay.
+    /// Makes a slot for each of these keys that has none, and takes out the empty slots before, where they are more than half. So there
+    /// are at most twice as many slots as rows, and one for each key. After `Memory` some of the keys may have got one. The rows stay.
     pub fn make_slots<W>(&mut self, keys: &[(K, W)]) -> Result<(), Memory>
         ensures rows { present self.new ≡ present self.old }
         ensures there { OnOk result (list_all (has_slot K.cmp self.new) (keys_of keys.now) ≡ true) }
+        ensures few { length self.new ≤ 2 * length (present self.old) + length keys.now }
     {
         self.clear_slots();
         for entry in keys {
@@ -87,9 +88,13 @@ impl<K: Ord + Copy + Drop, V: Drop> Slots<K, V> {
 
     // Takes out the slots without a row, where they are more than half of all.
     fn clear_slots(&mut self)
-        ensures { present self.new ≡ present self.old }
+        ensures rows { present self.new ≡ present self.old }
+        ensures cleared { 2 * length (present self.old) < length self.old → self.new ≡ filter holds_row self.old }
+        ensures left { length self.old ≤ 2 * length (present self.old) → self.new ≡ self.old }
+        ensures few { length self.new ≤ 2 * length (present self.old) }
     {
-        if self.live < self.slots.len() / 2 {
+        let empty = self.slots.len() - self.live;
+        if self.live < empty {
             self.slots.retain(|_, row| row.is_some());
         }
     }
@@ -99,6 +104,7 @@ impl<K: Ord + Copy + Drop, V: Drop> Slots<K, V> {
         ensures rows { present self.new ≡ present self.old }
         ensures there { OnOk result (has_slot K.cmp self.new key ≡ true) }
         ensures kept { (other : K) → has_slot K.cmp self.old other ≡ true → has_slot K.cmp self.new other ≡ true }
+        ensures few { length self.new ≤ length self.old + 1 }
     {
         if self.slots.contains_key(&key) {
             return Ok(());
@@ -147,9 +153,7 @@ impl<K: Ord + Copy + Drop, V: Drop> Slots<K, V> {
     {
         let mut keys = Vec::with_capacity(alloc, self.live)?;
         for (key, slot) in self.slots.iter() {
-            if slot.is_some() {
-                keys.push(*key)?;
-            }
+            list_key(&mut keys, *key, slot)?;
         }
         Ok(List::from_vec(keys))
     }
@@ -191,6 +195,16 @@ fn count_slot<V>(slot: &Option<Option<V>>) -> usize
     }
 }
 
+// Lists the key of a slot that holds a row.
+fn list_key<K: Drop, V>(keys: &mut Vec<K>, key: K, slot: &Option<V>) -> Result<(), Memory>
+    ensures { OnOk result (keys.new.items ≡ keys.old.items ++ keys_of (left_at key slot.now)) }
+{
+    if slot.is_some() {
+        keys.push(key)?;
+    }
+    Ok(())
+}
+
 fn copy_row<V: Copyable>(alloc: Global, row: &Option<V>) -> Result<Option<V>, Memory>
     ensures { IfOk result (λ copied. copied ≡ row.now) }
 {
@@ -200,12 +214,25 @@ fn copy_row<V: Copyable>(alloc: Global, row: &Option<V>) -> Result<Option<V>, Me
     }
 }
 
+// Copies a slot into others.
+fn copy_slot<K: Ord + Copy + Drop, V: Copyable + Drop>(
+    alloc: Global,
+    slots: &mut BTreeMap<K, Option<V>>,
+    key: K,
+    row: &Option<V>,
+) -> Result<(), Memory>
+    ensures { OnOk result (slots.new.entries ≡ insert_entry K.cmp slots.old.entries key row.now) }
+{
+    let copied = copy_row(alloc, row)?;
+    let _none = insert(slots, key, copied)?;
+    Ok(())
+}
+
 impl<K: Ord + Copy + Drop, V: Copyable + Drop> Copyable for Slots<K, V> {
     fn copy(&self, alloc: Global) -> Result<Slots<K, V>, Memory> {
         let mut slots = BTreeMap::new(alloc);
         for (key, row) in self.slots.iter() {
-            let copied = copy_row(alloc, row)?;
-            let _none = insert(&mut slots, *key, copied)?;
+            copy_slot(alloc, &mut slots, *key, row)?;
         }
         Ok(Slots {
             slots,

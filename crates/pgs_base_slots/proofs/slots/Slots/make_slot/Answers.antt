@@ -1,8 +1,8 @@
-use Rattle.std.proofs.Common.{◌∙◌, sym, ap, length}
+use Rattle.std.proofs.Common.{◌∙◌, None, sym, ap, length, arith}
 use Rattle.std.specs.BTreeMap.{is_at}
 use Rattle.std.proofs.lemmas.Map.Made.{is_some-lookup}
 use Rattle.pgs_base_slots.specs.Slots.{has_slot, present}
-use Rattle.pgs_base_slots.proofs.Present.{present-made, there-made, kept-made}
+use Rattle.pgs_base_slots.proofs.Present.{count-made, present-made, there-made, kept-made}
 use Rattle.pgs_base_slots.proofs.slots.Slots.make_slot.Goals as goal
 
 pub returns-then-contains_key-clause-there : goal.returns-then-contains_key-clause-there
@@ -27,3 +27,10 @@ pub returns-clause-kept : goal.returns-clause-kept
 returns-clause-kept g c other there =
     rw c.in_ok-_none.ensures.entries
     (kept-made g.met.K.Ord.total c.args.key _ c.self.inside.slots.entries other (ap (λ s. has_slot g.K.Ord.cmp s other) c.self.view_is ∙ there))
+
+pub returns-clause-few : goal.returns-clause-few
+returns-clause-few g c =
+    let most = count-made g.K.Ord.cmp c.args.key None c.self.inside.slots.entries in
+    let made = ap length c.in_ok-_none.ensures.entries in
+    let seen = ap length c.self.view_is in
+    omega arith

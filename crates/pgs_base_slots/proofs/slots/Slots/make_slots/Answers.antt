@@ -1,4 +1,4 @@
-use Rattle.std.proofs.Common.{◌≡◌, ℕ, ◌+◌, ◌<◌, ◌∙◌, Bool, true, List, [], ◌∷◌, ◌++◌, get_or, length, take, sym, ap, refl}
+use Rattle.std.proofs.Common.{◌≡◌, ℕ, ◌+◌, ◌<◌, ◌∙◌, Bool, true, List, [], ◌∷◌, ◌++◌, get_or, length, take, sym, ap, refl, arith}
 use Rattle.std.specs.List.{list_all}
 use Rattle.std.specs.Map.{keys_of}
 use Rattle.std.proofs.lemmas.Bool.{and_parts, and_from}
@@ -25,4 +25,5 @@ loop-entry-preserved g c = record {
   there = all_one_more (has_slot g.K.Ord.cmp c.make_slot.new.self) c.args.keys.now c.loop-entry.entry-index c.entry-item.result c.loop-entry-test.true c.entry-item.is
       (all_kept (has_slot g.K.Ord.cmp c.loop-entry.self) (has_slot g.K.Ord.cmp c.make_slot.new.self) c.in_ok-make_slot.ensures.kept (keys_of (take c.loop-entry.entry-index c.args.keys.now)) c.loop-entry.invariant.there)
       c.in_ok-make_slot.ensures.there;
+  few = omega (arith, c.in_ok-make_slot.ensures.few);
 }
