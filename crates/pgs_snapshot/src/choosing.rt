@@ -105,8 +105,10 @@ fn store_in(area: Area, state: AreaState) -> Result<Chosen, ChooseFault>
     }
 }
 
-/// The store of two areas, with no sync. Of each the head is read, and then the chosen one is scanned.
+/// The store of two areas, with no sync: where that can be known, nothing is pending when they are read. Of each the head is read, and
+/// then the chosen one is scanned.
 fn read_chosen<W: World>(alloc: Global, world: &mut W) -> Result<Chosen, ChooseFault>
+    requires { IsTrue (W.view world.old).honest → IsTrue (W.view world.old).tells_bytes → IsSettled (W.view world.old) }
     ensures chosen { IfOk result (λ it. IsTrue (W.view world.old).tells_bytes
         → choice_of (W.view world.old).shown.a (W.view world.old).shown.b ≡ choices.chosen it.area it.epoch it.end it.next it.payloads) }
     ensures refused { IfErr result (λ fault. IsTrue (W.view world.old).tells_bytes
