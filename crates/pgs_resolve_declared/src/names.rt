@@ -1,4 +1,4 @@
-ghost use Rattle.std.specs.Prelude.{◌≡◌, [], ◌∷◌, ◌++◌, length, slice_get, IfOk, OnOk, OnErr};
+ghost use Rattle.std.specs.Prelude.{◌≡◌, ◌↔◌, ◌<◌, ◌^◌, [], ◌∷◌, ◌++◌, length, slice_get, IfOk, IsOk, OnOk, OnErr};
 ghost use Rattle.std.specs.List.{position};
 ghost use Rattle.std.specs.Option.{option_copied};
 ghost use Rattle.pgs_base.specs.Pair.{same_name, has_name};
@@ -30,9 +30,10 @@ impl Model for Names {
     ghost invariant = { λ names. (name : List ℕ) → get (slice_cmp nat_cmp) names.places name ≡ position (same_name name) names.items.items };
 }
 
-/// The number of a new name after so many. Numbers have 32 bits: there is no memory for more names.
+/// The number of a new name after so many. Numbers have 32 bits: `Memory` exactly from 2^32 names on.
 pub fn next_number(len: usize) -> Result<u32, Memory>
-    ensures { IfOk result (λ number. number ≡ len) }
+    ensures number { IfOk result (λ number. number ≡ len) }
+    ensures fits { IsOk result ↔ len < 2 ^ 32 }
 {
     match u32::try_from(len) {
         Ok(number) => Ok(number),
