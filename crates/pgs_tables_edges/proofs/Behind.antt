@@ -10,7 +10,7 @@ use Rattle.pgs_base.specs.declared.element.EdgeId.{EdgeId}
 use Rattle.pgs_base.specs.Graph.{edge_cmp}
 use Rattle.pgs_base.specs.Places.{IsKeyAt, IsKeyGap}
 use Rattle.pgs_tables_edges.specs.Numbers.{numbered, number_at, AllBelow, AllAbove, IsBetween}
-use Rattle.pgs_tables_edges.proofs.Searched.{numbers_same, ascends, ascends_from, searched_found, searched_missed, key_here, key_between}
+use Rattle.pgs_tables_edges.proofs.Searched.{numbers_same, ascends, searched_found, searched_missed, key_here, key_between}
 use Rattle.pgs_tables_edges.proofs.Joined.{no_first}
 
 module _ {A : Type 0} (xs ys : List A) where

@@ -90,6 +90,23 @@ module _ {X A : Type 0} (start : X → ℕ) (first : X → A) (items : X → Lis
   pub placed_pop : (count : ℕ) (xs : List X) (x : X) → IsPlaced start first items count (xs ++ x ∷ []) → IsPlaced start first items (start x) xs
   placed_pop count xs x p = let popped = starts_pop 0 xs x p.starts in record { counted = omega (arith, popped.1); starts = popped.0 }
 
+  last_first : (n : ℕ) (xs : List X) (x : X) → StartFrom start first items n (xs ++ x ∷ []) → slice_get (items x) 0 ≡ Some (first x)
+  last_first n [] x s = s.1
+  last_first n (y ∷ ys) x s = last_first (n + length (items y)) ys x s.2
+
+  first_kept : (front behind : List A) (a : A) → slice_get front 0 ≡ Some a → slice_get (front ++ behind) 0 ≡ Some a
+  first_kept [] behind a e = cc
+  first_kept (b ∷ front) behind a e = e
+
+  -- the last part replaced by one with more items behind its own
+  pub placed_joined : (count more : ℕ) (xs : List X) (x y : X) (behind : List A) → IsPlaced start first items count (xs ++ x ∷ []) →
+      start y ≡ start x → first y ≡ first x → items y ≡ items x ++ behind → more ≡ count + length behind → IsPlaced start first items more (xs ++ y ∷ [])
+  placed_joined count more xs x y behind p same_start same_first all m =
+      let begun = (starts_pop 0 xs x p.starts).1 in
+      placed_push (start x) more xs y (placed_pop count xs x p) same_start
+      (ap (λ l. slice_get l 0) all ∙ first_kept (items x) behind (first x) (last_first 0 xs x p.starts) ∙ ap Some (sym same_first))
+      (omega (arith, m, begun, p.counted, ap length (flat_map-push xs x), length-append (flat_map items xs) (items x), ap length all, length-append (items x) behind))
+
   -- the items before the next part
   pub joined_more : (xs : List X) (i : ℕ) (x : X) → i < length xs → x ≡ get_or xs i x → flat_map items (take (i + 1) xs) ≡ flat_map items (take i xs) ++ items x
   joined_more xs i x lt e = rw (take_more xs i x lt, ← e) (flat_map-push (take i xs) x)

@@ -1,4 +1,4 @@
-ghost use Rattle.std.specs.Prelude.{◌≡◌, ℕ, ◌<◌, ◌≤◌, ◌+◌, ◌^◌, ◌++◌, [], length, take, drop, slice_get, IfOk, IfErr, OnOk, MatchOption, MatchResult};
+ghost use Rattle.std.specs.Prelude.{◌≡◌, ℕ, ◌<◌, ◌≤◌, ◌+◌, ◌-◌, ◌*◌, ◌^◌, ◌++◌, ◌↔◌, [], length, take, drop, slice_get, IfOk, IfErr, IsSomeAnd, IsTrue, OnOk, MatchResult};
 ghost use Rattle.pgs_base.specs.Graph.{edge_cmp};
 ghost use Rattle.std.specs.List.Sorted.{IsStrictlySortedBy};
 ghost use Rattle.pgs_base.specs.Places.{IsKeyAt, IsKeyGap};
@@ -11,7 +11,8 @@ use pgs_base::{EdgeId, Memory};
 use std::alloc::Global;
 use std::marker::Model;
 
-// Ids are joined into one chunk up to so many. A larger chunk makes an edit copy more, and a smaller one makes it count more owners.
+// A chunk has up to so many ids, and two side by side have more. A larger chunk makes an edit copy more, and a smaller one makes it count
+// more owners.
 const MOST: usize = 1024;
 
 /// A chunk, its first id, and how many ids come before it.
@@ -33,13 +34,23 @@ impl Model for Chunks {
     ghost use Rattle.std.specs.Prelude.{List};
     ghost use Rattle.pgs_base.specs.declared.element.EdgeId.{EdgeId};
     ghost use Rattle.std.specs.List.{flat_map};
-    ghost use Rattle.pgs_tables_edges.specs.Starts.{IsPlaced};
+    ghost use Rattle.pgs_tables_edges.specs.Packed.{ArePacked};
 
     ghost Value = { List EdgeId };
 
     ghost view = { λ chunks. flat_map (λ part. part.ids) chunks.parts.items };
 
-    ghost invariant = { λ chunks. IsPlaced (λ part. part.start) (λ part. part.first) (λ part. part.ids) chunks.len chunks.parts.items };
+    ghost invariant = { λ chunks. ArePacked (λ part. part.start) (λ part. part.first) (λ part. part.ids) chunks.len chunks.parts.items };
+}
+
+// Whether so many more ids have room in the last part.
+fn is_roomy(parts: &[Part], more: usize) -> bool
+    ensures { IsTrue result ↔ IsSomeAnd (slice_get parts.now (length parts.now - 1)) (λ last. length last.ids + more ≤ 1024) }
+{
+    match parts.last() {
+        Some(last) => more <= MOST && last.ids.len() <= MOST - more,
+        None => false,
+    }
 }
 
 // The part in which the id at a place stands.
@@ -143,67 +154,83 @@ impl Chunks {
         }
     }
 
-    // Puts a chunk last that begins with an id. After `Memory` the list is as it was.
-    fn push_part(&mut self, first: EdgeId, ids: Chunk) -> Result<(), Memory>
-        requires { slice_get ids 0 ≡ Some first }
-        ensures { OnOk result (self.new ≡ self.old ++ ids) }
+    // How many chunks there are: two side by side have more than MOST ids together.
+    fn count(&self) -> usize
+        ensures { 1024 * result ≤ 2 * length self.now + 1024 }
     {
+        self.parts.len()
+    }
+
+    // Puts at most MOST ids last: into the last chunk where they have room there, and else into one of their own. After `Memory` the
+    // last chunk may be missing.
+    fn append_piece(&mut self, alloc: Global, ids: &[EdgeId]) -> Result<(), Memory>
+        requires { length ids.now ≤ 1024 }
+        ensures { OnOk result (self.new ≡ self.old ++ ids.now) }
+    {
+        let Some(first) = ids.first() else {
+            return Ok(());
+        };
         let Some(len) = self.len.checked_add(ids.len()) else {
             return Err(Memory);
         };
-        let start = self.len;
+        if is_roomy(self.parts.as_slice(), ids.len()) {
+            // There is a last chunk, since it has room.
+            let Some(last) = self.parts.pop() else {
+                return Err(Memory);
+            };
+            let Part {
+                start,
+                first,
+                ids: chunk,
+            } = last;
+            self.len = start;
+            let ids = chunk.followed_by(alloc, ids)?;
+            self.parts.push(Part { start, first, ids })?;
+            self.len = len;
+            return Ok(());
+        }
+        let (start, first) = (self.len, *first);
+        let ids = Chunk::from_slice(alloc, ids)?;
         self.parts.push(Part { start, first, ids })?;
         self.len = len;
         Ok(())
-    }
-
-    // Puts a chunk last, if it has ids. After `Memory` the list is as it was.
-    fn push_chunk(&mut self, ids: Chunk) -> Result<(), Memory>
-        ensures { OnOk result (self.new ≡ self.old ++ ids) }
-    {
-        match ids.first() {
-            Some(first) => self.push_part(first, ids),
-            None => Ok(()),
-        }
-    }
-
-    // Takes the last chunk off.
-    fn pop_chunk(&mut self) -> Option<Chunk>
-        ensures { MatchOption result (self.new ≡ self.old) (λ ids. self.old ≡ self.new ++ ids) }
-    {
-        let Part {
-            start,
-            first: _,
-            ids,
-        } = self.parts.pop()?;
-        self.len = start;
-        Some(ids)
-    }
-
-    // Whether so many more ids belong into the last chunk.
-    fn is_roomy(&self, more: usize) -> bool {
-        match self.parts.last() {
-            Some(last) => more <= MOST && self.len.saturating_sub(last.start) <= MOST - more,
-            None => false,
-        }
     }
 
     /// Puts ids last. After `Memory` some may be missing.
     pub fn append(&mut self, alloc: Global, ids: &[EdgeId]) -> Result<(), Memory>
         ensures { OnOk result (self.new ≡ self.old ++ ids.now) }
     {
-        if ids.is_empty() {
-            return Ok(());
+        let mut left = ids;
+        while !left.is_empty() {
+            let (piece, rest) = left.split_at(left.len().min(MOST));
+            self.append_piece(alloc, piece)?;
+            left = rest;
         }
-        if self.is_roomy(ids.len()) {
-            if let Some(last) = self.pop_chunk() {
-                return self.push_chunk(last.followed_by(alloc, ids)?);
-            }
-        }
-        self.push_chunk(Chunk::from_slice(alloc, ids)?)
+        Ok(())
     }
 
-    // Puts a range of a part's ids last, and shares the chunk where that is all of it.
+    // Puts all ids of a part of another list last. Both lists then share its chunk, unless the ids have room in the last chunk here. After
+    // `Memory` the last chunk may be missing.
+    fn append_part(&mut self, alloc: Global, part: &Part) -> Result<(), Memory>
+        requires first { slice_get part.now.ids 0 ≡ Some part.now.first }
+        requires small { length part.now.ids ≤ 1024 }
+        ensures { OnOk result (self.new ≡ self.old ++ part.now.ids) }
+    {
+        let more = part.ids.len();
+        if is_roomy(self.parts.as_slice(), more) {
+            return self.append_piece(alloc, part.ids.as_slice());
+        }
+        let Some(len) = self.len.checked_add(more) else {
+            return Err(Memory);
+        };
+        let (start, first) = (self.len, part.first);
+        let ids = part.ids.share()?;
+        self.parts.push(Part { start, first, ids })?;
+        self.len = len;
+        Ok(())
+    }
+
+    // Puts a range of a part's ids last. `append_part` puts all of them.
     fn append_cut(
         &mut self,
         alloc: Global,
@@ -211,15 +238,16 @@ impl Chunks {
         from: usize,
         to: usize,
     ) -> Result<(), Memory>
-        requires { slice_get part.now.ids 0 ≡ Some part.now.first }
+        requires first { slice_get part.now.ids 0 ≡ Some part.now.first }
+        requires small { length part.now.ids ≤ 1024 }
         ensures { OnOk result (self.new ≡ self.old ++ drop from (take to part.now.ids)) }
     {
         let len = part.ids.len();
         if from >= to || from >= len {
             return Ok(());
         }
-        if from == 0 && to >= len && !self.is_roomy(len) {
-            return self.push_part(part.first, part.ids.share()?);
+        if from == 0 && to >= len {
+            return self.append_part(alloc, part);
         }
         self.append(alloc, &part.ids.as_slice()[from..to.min(len)])
     }
@@ -258,12 +286,7 @@ impl Chunks {
         ensures { IfOk result (λ chunks. chunks ≡ ids.now) }
     {
         let mut chunks = Chunks::new(alloc);
-        let mut left = ids;
-        while !left.is_empty() {
-            let (piece, rest) = left.split_at(left.len().min(MOST));
-            chunks.append(alloc, piece)?;
-            left = rest;
-        }
+        chunks.append(alloc, ids)?;
         Ok(chunks)
     }
 
@@ -283,7 +306,7 @@ impl Chunks {
     pub fn emptied(&self, alloc: Global) -> Result<Chunks, Memory>
         ensures { IfOk result (λ chunks. chunks ≡ []) }
     {
-        let parts = Vec::with_capacity(alloc, self.parts.len().saturating_add(2))?;
+        let parts = Vec::with_capacity(alloc, self.count().saturating_add(2))?;
         Ok(Chunks { parts, len: 0 })
     }
 

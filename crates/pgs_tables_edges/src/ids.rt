@@ -23,7 +23,7 @@ enum Form {
     Many(Long),
 }
 
-/// Any list of ids, of which few take one small block. Contracts see the list.
+/// Any list of ids, of which up to FEW take one small block, and more a long list. Contracts see the list.
 #[derive(Drop)]
 pub struct Ids {
     form: Form,
@@ -32,11 +32,13 @@ pub struct Ids {
 impl Model for Ids {
     ghost use Rattle.std.specs.Prelude.{List};
     ghost use Rattle.pgs_base.specs.declared.element.EdgeId.{EdgeId};
-    ghost use Rattle.pgs_tables_edges.specs.Form.{form_ids};
+    ghost use Rattle.pgs_tables_edges.specs.Form.{form_ids, IsFitting};
 
     ghost Value = { List EdgeId };
 
     ghost view = { λ ids. form_ids ids.form };
+
+    ghost invariant = { λ ids. IsFitting ids.form };
 }
 
 impl Ids {

@@ -21,14 +21,14 @@ pub struct Long {
 }
 
 impl Model for Long {
-    ghost use Rattle.std.specs.Prelude.{◌<◌, ◌+◌, ◌^◌, ◌++◌, List, length};
+    ghost use Rattle.std.specs.Prelude.{◌<◌, ◌≤◌, ◌+◌, ◌^◌, ◌++◌, List, length};
     ghost use Rattle.pgs_base.specs.declared.element.EdgeId.{EdgeId};
 
     ghost Value = { List EdgeId };
 
     ghost view = { λ long. long.body ++ long.tail.items };
 
-    ghost invariant = { λ long. length long.body + length long.tail.items < 2 ^ 64 };
+    ghost invariant = { λ long. (length long.tail.items ≤ 64) × (length long.body + length long.tail.items < 2 ^ 64) };
 }
 
 impl Long {
@@ -42,6 +42,7 @@ impl Long {
 
     // A body and what stands behind it. `Memory` where there are too many ids to be counted, which no memory holds.
     fn with_tail(body: Body, tail: Vec<EdgeId>) -> Result<Long, Memory>
+        requires { length tail.items ≤ 64 }
         ensures { IfOk result (λ long. long ≡ body ++ tail.items) }
     {
         match body.as_chunks().len().checked_add(tail.len()) {
@@ -167,6 +168,7 @@ fn spliced_within(
     range: (usize, usize),
     ids: &[EdgeId],
 ) -> Result<Long, Memory>
+    requires short { length tail.now ≤ 64 }
     requires from { range.0 ≤ length body.now }
     requires to { range.1 ≤ length body.now }
     ensures { IfOk result (λ long. long ≡ take range.0 (body.now ++ tail.now) ++ (ids.now ++ drop range.1 (body.now ++ tail.now))) }
