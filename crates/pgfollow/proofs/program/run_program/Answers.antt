@@ -12,5 +12,5 @@ returns g c = record {
     no_b = rw c.new-world.ensures.areas c.absent.ensures.b;
     counts = c.new-world.ensures.counts;
   };
-  promise = c.run_follow-status.ensures;
+  promise = c.run_follow-status.ensures.promise;
 }

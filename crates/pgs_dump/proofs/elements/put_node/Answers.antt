@@ -6,14 +6,14 @@ use Rattle.pgs_dump.specs.Lines.{op_line}
 use Rattle.pgs_dump.specs.Parts.{set_lines}
 use Rattle.pgs_dump.proofs.elements.put_node.Goals as goal
 
-pub returns-in_err-put_made : goal.returns-in_err-put_made
-returns-in_err-put_made g c =
+pub returns-in_err-put_made-clause-puts : goal.returns-in_err-put_made-clause-puts
+returns-in_err-put_made-clause-puts g c =
     exits c.from_residual.result c.from_residual.ensures.1
     (stops_in (set_lines (elems.Node c.args.id) c.args.node.now.props.now)
-    (c.in_err-put_made.ensures (op_line (AddNode c.args.id c.args.node.now.labels.now [])) c.add_node_line.ensures))
+    (c.in_err-put_made.ensures.puts (op_line (AddNode c.args.id c.args.node.now.labels.now [])) c.add_node_line.ensures))
 
-pub returns : goal.returns
-returns g c =
+pub returns-clause-puts : goal.returns-clause-puts
+returns-clause-puts g c =
     rw (← c.as_slice.ensures.value)
     (result_on _ (set_lines (elems.Node c.args.id) c.as_slice.result.now) c.put_properties.result
-    (c.in_ok-put_made.ensures (op_line (AddNode c.args.id c.args.node.now.labels.now [])) c.add_node_line.ensures) c.put_properties.ensures)
+    (c.in_ok-put_made.ensures.puts (op_line (AddNode c.args.id c.args.node.now.labels.now [])) c.add_node_line.ensures) c.put_properties.ensures.puts)

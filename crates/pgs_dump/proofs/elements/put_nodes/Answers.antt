@@ -12,17 +12,17 @@ unreachable-requires g c =
     is_there node_total graph.nodes (nodes_sorted graph c.node.ensures.graph) c.as_slice-id-items.result.now (c.as_slice-id-items.ensures ∙ c.in_ok-ids.ensures.ids) c.loop-id.id-index c.loop-id-test.true (record { 0 = 0 })
     (rw c.in_default.is at (sym c.node.ensures.value))
 
-pub returns-in_err-put_node : goal.returns-in_err-put_node
-returns-in_err-put_node g c =
+pub returns-in_err-put_node-clause-puts : goal.returns-in_err-put_node-clause-puts
+returns-in_err-put_node-clause-puts g c =
     let graph = g.G.GraphRead.meaning c.args.graph.now in
     let more = one_more node_total graph.nodes (nodes_sorted graph c.node.ensures.graph) c.as_slice-id-items.result.now (c.as_slice-id-items.ensures ∙ c.in_ok-ids.ensures.ids) c.loop-id.id-index c.loop-id-test.true (record { 0 = 0 })
     (pair_of c.in-Some.node.labels.now c.in-Some.node.props.now) (sym c.in-Some.ensures.value) in
     exits c.from_residual-in_err-put_node.result c.from_residual-in_err-put_node.ensures.1
-    (item_stop node_lines node_lines-append graph.nodes c.loop-id.id-index _ more _ (node_lines_one _) c.loop-id.invariant (c.in_err-put_node.ensures))
+    (item_stop node_lines node_lines-append graph.nodes c.loop-id.id-index _ more _ (node_lines_one _) c.loop-id.invariant (c.in_err-put_node.ensures.puts))
 
 pub loop-id-preserved : goal.loop-id-preserved
 loop-id-preserved g c =
     let graph = g.G.GraphRead.meaning c.args.graph.now in
     let more = one_more node_total graph.nodes (nodes_sorted graph c.node.ensures.graph) c.as_slice-id-items.result.now (c.as_slice-id-items.ensures ∙ c.in_ok-ids.ensures.ids) c.loop-id.id-index c.loop-id-test.true (record { 0 = 0 })
     (pair_of c.in-Some.node.labels.now c.in-Some.node.props.now) (sym c.in-Some.ensures.value) in
-    item_on node_lines node_lines-append graph.nodes c.loop-id.id-index _ more _ (node_lines_one _) c.loop-id.invariant (c.in_ok-put_node.ensures)
+    item_on node_lines node_lines-append graph.nodes c.loop-id.id-index _ more _ (node_lines_one _) c.loop-id.invariant (c.in_ok-put_node.ensures.puts)

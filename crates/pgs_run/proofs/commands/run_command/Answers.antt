@@ -8,23 +8,23 @@ use Rattle.pgs_run.proofs.commands.run_command.Goals as goal
 abbrev state_of : Option (List ℕ) → ℕ → SourceState
 state_of left faults = record { left = left; faults = faults }
 
-pub returns-in-Try : goal.returns-in-Try
-returns-in-Try g c =
+pub returns-in-Try-clause-runs : goal.returns-in-Try-clause-runs
+returns-in-Try-clause-runs g c =
     runs_as (Some Try) (Some c.args.command) c.args.budget _ _ c.run_judging.result (ap Some c.in-Try.is)
     (runs_reading Try c.args.budget _ _ c.run_judging.result [] tt refl (λ input known is. c.run_judging.ensures.ends input is)
     (λ input rest is left_is. takes_of _ _ input rest c.args.budget _ c.run_judging.result _ left_is (c.run_judging.ensures.ends input is))
     c.run_judging.ensures.read_to_end c.run_judging.ensures.cause (λ vain. absurd vain) c.run_judging.ensures.areas (λ settled no. settled_images _ _ settled (images_areas _ _ c.run_judging.ensures.areas)) refl)
 
-pub returns-in-Validate : goal.returns-in-Validate
-returns-in-Validate g c =
+pub returns-in-Validate-clause-runs : goal.returns-in-Validate-clause-runs
+returns-in-Validate-clause-runs g c =
     let r = c.run_judging-in-Validate in
     runs_as (Some Validate) (Some c.args.command) c.args.budget _ _ r.result (ap Some c.in-Validate.is)
     (runs_reading Validate c.args.budget _ _ r.result [] tt refl (λ input known is. r.ensures.ends input is)
     (λ input rest is left_is. takes_of _ _ input rest c.args.budget _ r.result _ left_is (r.ensures.ends input is))
     r.ensures.read_to_end r.ensures.cause (λ vain. absurd vain) r.ensures.areas (λ settled no. settled_images _ _ settled (images_areas _ _ r.ensures.areas)) refl)
 
-pub returns-in-Load : goal.returns-in-Load
-returns-in-Load g c =
+pub returns-in-Load-clause-runs : goal.returns-in-Load-clause-runs
+returns-in-Load-clause-runs g c =
     let r = c.run_load in
     runs_as (Some Load) (Some c.args.command) c.args.budget _ _ r.result (ap Some c.in-Load.is)
     (runs_reading Load c.args.budget _ _ r.result [] tt refl (λ input known is. r.ensures.ends input is (λ schema good. known.bytes (schema, good)))
@@ -40,37 +40,37 @@ returns-in-Load g c =
       made = r.ensures.made;
     }) r.ensures.settled refl)
 
-pub returns-in-Recover : goal.returns-in-Recover
-returns-in-Recover g c =
+pub returns-in-Recover-clause-runs : goal.returns-in-Recover-clause-runs
+returns-in-Recover-clause-runs g c =
     let r = c.run_reader in
     runs_as (Some Recover) (Some c.args.command) c.args.budget _ _ r.result (ap Some c.in-Recover.is)
     (runs_alone (Some Recover) c.args.budget _ _ _ _ _ r.result refl (unread_answer r.result r.ensures.answer) (λ input known. r.ensures.ends (known.bytes refl))
     (cause_of Recover _ _ r.result (λ long. absurd ((unread_answer r.result r.ensures.answer).1 long)) (r.ensures.cause (g.S.Source.faults c.args.source.now))) r.ensures.images (λ settled no. settled_images _ _ settled r.ensures.images) refl)
 
-pub returns-in-Explain : goal.returns-in-Explain
-returns-in-Explain g c =
+pub returns-in-Explain-clause-runs : goal.returns-in-Explain-clause-runs
+returns-in-Explain-clause-runs g c =
     let r = c.run_reader-in-Explain in
     runs_as (Some (Explain c.in-Explain.elem)) (Some c.args.command) c.args.budget _ _ r.result (ap Some c.in-Explain.is)
     (runs_alone (Some (Explain c.in-Explain.elem)) c.args.budget _ _ _ _ _ r.result refl (unread_answer r.result r.ensures.answer) (λ input known. r.ensures.ends (known.bytes refl))
     (cause_of (Explain c.in-Explain.elem) _ _ r.result (λ long. absurd ((unread_answer r.result r.ensures.answer).1 long)) (r.ensures.cause (g.S.Source.faults c.args.source.now))) r.ensures.images (λ settled no. settled_images _ _ settled r.ensures.images) refl)
 
-pub returns-in-Gen : goal.returns-in-Gen
-returns-in-Gen g c =
+pub returns-in-Gen-clause-runs : goal.returns-in-Gen-clause-runs
+returns-in-Gen-clause-runs g c =
     let r = c.run_gen in
     runs_as (Some (Gen c.in-Gen.start c.in-Gen.count)) (Some c.args.command) c.args.budget _ _ r.result (ap Some c.in-Gen.is)
     (runs_alone (Some (Gen c.in-Gen.start c.in-Gen.count)) c.args.budget _ _ _ _ _ r.result refl (unread_gen r.result r.ensures.answer) (λ input known. r.ensures.shown)
     (cause_of (Gen c.in-Gen.start c.in-Gen.count) _ _ r.result (λ long. absurd ((unread_gen r.result r.ensures.answer).1 long)) (r.ensures.cause (g.S.Source.faults c.args.source.now))) r.ensures.areas (λ settled no. settled_images _ _ settled (images_areas _ _ r.ensures.areas)) refl)
 
-pub returns-in-Checkpoint : goal.returns-in-Checkpoint
-returns-in-Checkpoint g c =
+pub returns-in-Checkpoint-clause-runs : goal.returns-in-Checkpoint-clause-runs
+returns-in-Checkpoint-clause-runs g c =
     let r = c.run_checkpoint in
     runs_as (Some Checkpoint) (Some c.args.command) c.args.budget _ _ r.result (ap Some c.in-Checkpoint.is)
     (runs_alone (Some Checkpoint) c.args.budget _ _ _ _ _ r.result refl (unread_answer r.result r.ensures.answer) (λ input known. r.ensures.ends (known.bytes refl))
     (cause_of Checkpoint _ _ r.result (λ long. absurd ((unread_answer r.result r.ensures.answer).1 long)) (r.ensures.cause (g.S.Source.faults c.args.source.now)))
     (record { passes = r.ensures.passes; stops = r.ensures.renews; unsaved = r.ensures.unsaved; rests = r.ensures.rests }) r.ensures.rests.settled refl)
 
-pub returns-in-Contain : goal.returns-in-Contain
-returns-in-Contain g c =
+pub returns-in-Contain-clause-runs : goal.returns-in-Contain-clause-runs
+returns-in-Contain-clause-runs g c =
     let r = c.run_contain in
     let by = runs_by _ (g.S.Source.left c.args.source.now) c.args.budget _ r.result _ r.ensures.ends in
     runs_as (Some Contain) (Some c.args.command) c.args.budget _ _ r.result (ap Some c.in-Contain.is)
@@ -78,8 +78,8 @@ returns-in-Contain g c =
     (λ input rest is left_is. takes_of _ _ input rest c.args.budget _ r.result _ left_is (by.ends input is))
     r.ensures.read_to_end r.ensures.cause (λ vain. absurd vain) r.ensures.areas (λ settled no. settled_images _ _ settled (images_areas _ _ r.ensures.areas)) refl)
 
-pub returns-in-Evolve : goal.returns-in-Evolve
-returns-in-Evolve g c =
+pub returns-in-Evolve-clause-runs : goal.returns-in-Evolve-clause-runs
+returns-in-Evolve-clause-runs g c =
     let r = c.run_evolve in
     runs_as (Some Evolve) (Some c.args.command) c.args.budget _ _ r.result (ap Some c.in-Evolve.is)
     (runs_reading Evolve c.args.budget _ _ r.result [] tt refl (λ input known is. r.ensures.ends (known.bytes refl) input is)
@@ -87,8 +87,8 @@ returns-in-Evolve g c =
     (λ vain. ap (λ source. state_of (g.S.Source.left source) (g.S.Source.faults source)) (r.ensures.unread vain.0 vain.1))
     r.ensures.leaves r.ensures.settled refl)
 
-pub returns-in-Apply : goal.returns-in-Apply
-returns-in-Apply g c =
+pub returns-in-Apply-clause-runs : goal.returns-in-Apply-clause-runs
+returns-in-Apply-clause-runs g c =
     let r = c.run_apply in
     runs_as (Some Apply) (Some c.args.command) c.args.budget _ _ r.result (ap Some c.in-Apply.is)
     (runs_reading Apply c.args.budget _ _ r.result [] tt refl (λ input known is. r.ensures.ends (known.bytes refl) input is)

@@ -18,7 +18,7 @@ returns-in-Err-clause-runs g c =
 
 pub returns-in-Ok-Some-clause-runs : goal.returns-in-Ok-Some-clause-runs
 returns-in-Ok-Some-clause-runs g c =
-    runs_as (Some c.in-Ok-Some.command) (command_of c.args.words.now) c.args.budget _ _ c.run_command.result (sym c.in-Ok-Some.ensures.command ∙ c.in-Ok-Some.field-0-is) c.run_command.ensures
+    runs_as (Some c.in-Ok-Some.command) (command_of c.args.words.now) c.args.budget _ _ c.run_command.result (sym c.in-Ok-Some.ensures.command ∙ c.in-Ok-Some.field-0-is) c.run_command.ensures.runs
 
 pub returns-in-Ok-None-clause-runs : goal.returns-in-Ok-None-clause-runs
 returns-in-Ok-None-clause-runs g c =

@@ -78,52 +78,52 @@ returns-in-Err-clause-unsaved g c = λ tells none.
 pub returns-clause-ends : goal.returns-clause-ends
 returns-clause-ends g c = λ tells input is.
     let view = g.W.World.view in
-    running_ends c.in-Ok.store (view c.args.world.now) (view c.open_store.new.world) (view c.run_lines-stop.new.world) (view c.end_run.new.world) c.in-Ok.ensures.answer c.open_store.ensures.quiet c.open_store.ensures.no_put _ _ c.args.budget _ _ c.run_lines-stop.result c.end_run.result c.run_lines-stop.ensures.by (counted (is_done c.run_lines-stop.result) c.lost.result _ (status_at c.run_lines-stop.result) (view c.run_lines-stop.new.world) (view c.end_run.new.world) c.end_run.result c.lost.ensures c.end_run.ensures) input tells is c.new-applying.ensures.state (c.run_lines-stop.ensures.ends input is)
+    running_ends c.in-Ok.store (view c.args.world.now) (view c.open_store.new.world) (view c.run_lines-stop.new.world) (view c.end_run.new.world) c.in-Ok.ensures.answer c.open_store.ensures.quiet c.open_store.ensures.no_put _ _ c.args.budget _ _ c.run_lines-stop.result c.end_run.result c.run_lines-stop.ensures.by (counted (is_done c.run_lines-stop.result) c.lost.result _ (status_at c.run_lines-stop.result) (view c.run_lines-stop.new.world) (view c.end_run.new.world) c.end_run.result c.lost.ensures c.end_run.ensures.ends) input tells is c.new-applying.ensures.state (c.run_lines-stop.ensures.ends input is)
 
 pub returns-clause-read_to_end : goal.returns-clause-read_to_end
 returns-clause-read_to_end g c =
     let view = g.W.World.view in
-    apply_read c.args.budget _ _ _ c.run_lines-stop.result (view c.run_lines-stop.new.world) (view c.end_run.new.world) c.end_run.result c.run_lines-stop.ensures.by (counted (is_done c.run_lines-stop.result) c.lost.result _ (status_at c.run_lines-stop.result) (view c.run_lines-stop.new.world) (view c.end_run.new.world) c.end_run.result c.lost.ensures c.end_run.ensures)
+    apply_read c.args.budget _ _ _ c.run_lines-stop.result (view c.run_lines-stop.new.world) (view c.end_run.new.world) c.end_run.result c.run_lines-stop.ensures.by (counted (is_done c.run_lines-stop.result) c.lost.result _ (status_at c.run_lines-stop.result) (view c.run_lines-stop.new.world) (view c.end_run.new.world) c.end_run.result c.lost.ensures c.end_run.ensures.ends)
 
 pub returns-clause-cause : goal.returns-clause-cause
 returns-clause-cause g c =
     let view = g.W.World.view in
-    running_cause c.in-Ok.store (view c.args.world.now) (view c.open_store.new.world) (view c.run_lines-stop.new.world) (view c.end_run.new.world) c.in-Ok.ensures.answer c.open_store.ensures.quiet c.open_store.ensures.no_put (state_of c.new-applying.result) _ c.args.budget _ _ c.run_lines-stop.result c.end_run.result c.run_lines-stop.ensures.by (counted (is_done c.run_lines-stop.result) c.lost.result _ (status_at c.run_lines-stop.result) (view c.run_lines-stop.new.world) (view c.end_run.new.world) c.end_run.result c.lost.ensures c.end_run.ensures) _ _ c.in-Ok.ensures.faults c.run_lines-stop.ensures.cause
+    running_cause c.in-Ok.store (view c.args.world.now) (view c.open_store.new.world) (view c.run_lines-stop.new.world) (view c.end_run.new.world) c.in-Ok.ensures.answer c.open_store.ensures.quiet c.open_store.ensures.no_put (state_of c.new-applying.result) _ c.args.budget _ _ c.run_lines-stop.result c.end_run.result c.run_lines-stop.ensures.by (counted (is_done c.run_lines-stop.result) c.lost.result _ (status_at c.run_lines-stop.result) (view c.run_lines-stop.new.world) (view c.end_run.new.world) c.end_run.result c.lost.ensures c.end_run.ensures.ends) _ _ c.in-Ok.ensures.faults c.run_lines-stop.ensures.cause
 
 pub returns-clause-passes : goal.returns-clause-passes
 returns-clause-passes g c =
     let view = g.W.World.view in
-    running_passes c.in-Ok.store (view c.args.world.now) (scene_of (view c.open_store.new.world) (places g.F.Feed.taken g.F.Feed.faults c.new-applying.result.feeds)) (scene_of (view c.run_lines-stop.new.world) (places g.F.Feed.taken g.F.Feed.faults c.run_lines-stop.new.taker.feeds)) (view c.end_run.new.world) c.in-Ok.ensures.answer c.open_store.ensures.quiet c.open_store.ensures.no_put _ c.new-applying.ensures.state _ c.args.budget _ _ c.run_lines-stop.result c.end_run.result c.run_lines-stop.ensures.by c.run_lines-stop.ensures.allows (counted (is_done c.run_lines-stop.result) c.lost.result _ (status_at c.run_lines-stop.result) (view c.run_lines-stop.new.world) (view c.end_run.new.world) c.end_run.result c.lost.ensures c.end_run.ensures)
+    running_passes c.in-Ok.store (view c.args.world.now) (scene_of (view c.open_store.new.world) (places g.F.Feed.taken g.F.Feed.faults c.new-applying.result.feeds)) (scene_of (view c.run_lines-stop.new.world) (places g.F.Feed.taken g.F.Feed.faults c.run_lines-stop.new.taker.feeds)) (view c.end_run.new.world) c.in-Ok.ensures.answer c.open_store.ensures.quiet c.open_store.ensures.no_put _ c.new-applying.ensures.state _ c.args.budget _ _ c.run_lines-stop.result c.end_run.result c.run_lines-stop.ensures.by c.run_lines-stop.ensures.allows (counted (is_done c.run_lines-stop.result) c.lost.result _ (status_at c.run_lines-stop.result) (view c.run_lines-stop.new.world) (view c.end_run.new.world) c.end_run.result c.lost.ensures c.end_run.ensures.ends)
 
 pub returns-clause-stops : goal.returns-clause-stops
 returns-clause-stops g c = λ input it is saves tells settled.
     let view = g.W.World.view in
-    running_stops c.in-Ok.store (view c.args.world.now) (scene_of (view c.open_store.new.world) (places g.F.Feed.taken g.F.Feed.faults c.new-applying.result.feeds)) (scene_of (view c.run_lines-stop.new.world) (places g.F.Feed.taken g.F.Feed.faults c.run_lines-stop.new.taker.feeds)) (view c.end_run.new.world) c.in-Ok.ensures.answer c.open_store.ensures.quiet c.open_store.ensures.no_put _ c.new-applying.ensures.state _ c.args.budget _ _ c.run_lines-stop.result c.end_run.result c.run_lines-stop.ensures.by c.run_lines-stop.ensures.allows (counted (is_done c.run_lines-stop.result) c.lost.result _ (status_at c.run_lines-stop.result) (view c.run_lines-stop.new.world) (view c.end_run.new.world) c.end_run.result c.lost.ensures c.end_run.ensures) it saves settled.tells_bytes input is (g.met.W.World.timed c.args.world.now) tells settled (c.run_lines-stop.ensures.ends input is)
+    running_stops c.in-Ok.store (view c.args.world.now) (scene_of (view c.open_store.new.world) (places g.F.Feed.taken g.F.Feed.faults c.new-applying.result.feeds)) (scene_of (view c.run_lines-stop.new.world) (places g.F.Feed.taken g.F.Feed.faults c.run_lines-stop.new.taker.feeds)) (view c.end_run.new.world) c.in-Ok.ensures.answer c.open_store.ensures.quiet c.open_store.ensures.no_put _ c.new-applying.ensures.state _ c.args.budget _ _ c.run_lines-stop.result c.end_run.result c.run_lines-stop.ensures.by c.run_lines-stop.ensures.allows (counted (is_done c.run_lines-stop.result) c.lost.result _ (status_at c.run_lines-stop.result) (view c.run_lines-stop.new.world) (view c.end_run.new.world) c.end_run.result c.lost.ensures c.end_run.ensures.ends) it saves settled.tells_bytes input is (g.met.W.World.timed c.args.world.now) tells settled (c.run_lines-stop.ensures.ends input is)
 
 pub returns-clause-grows : goal.returns-clause-grows
 returns-clause-grows g c = λ it saves settled.
     let view = g.W.World.view in
-    running_grows c.in-Ok.store (view c.args.world.now) (scene_of (view c.open_store.new.world) (places g.F.Feed.taken g.F.Feed.faults c.new-applying.result.feeds)) (scene_of (view c.run_lines-stop.new.world) (places g.F.Feed.taken g.F.Feed.faults c.run_lines-stop.new.taker.feeds)) (view c.end_run.new.world) c.in-Ok.ensures.answer c.open_store.ensures.quiet c.open_store.ensures.no_put _ c.new-applying.ensures.state _ c.args.budget _ _ c.run_lines-stop.result c.end_run.result c.run_lines-stop.ensures.by c.run_lines-stop.ensures.allows (counted (is_done c.run_lines-stop.result) c.lost.result _ (status_at c.run_lines-stop.result) (view c.run_lines-stop.new.world) (view c.end_run.new.world) c.end_run.result c.lost.ensures c.end_run.ensures) it saves settled.tells_bytes settled
+    running_grows c.in-Ok.store (view c.args.world.now) (scene_of (view c.open_store.new.world) (places g.F.Feed.taken g.F.Feed.faults c.new-applying.result.feeds)) (scene_of (view c.run_lines-stop.new.world) (places g.F.Feed.taken g.F.Feed.faults c.run_lines-stop.new.taker.feeds)) (view c.end_run.new.world) c.in-Ok.ensures.answer c.open_store.ensures.quiet c.open_store.ensures.no_put _ c.new-applying.ensures.state _ c.args.budget _ _ c.run_lines-stop.result c.end_run.result c.run_lines-stop.ensures.by c.run_lines-stop.ensures.allows (counted (is_done c.run_lines-stop.result) c.lost.result _ (status_at c.run_lines-stop.result) (view c.run_lines-stop.new.world) (view c.end_run.new.world) c.end_run.result c.lost.ensures c.end_run.ensures.ends) it saves settled.tells_bytes settled
 
 pub returns-clause-beside : goal.returns-clause-beside
 returns-clause-beside g c = λ tells area is.
     let view = g.W.World.view in
-    running_beside c.in-Ok.store (view c.args.world.now) (scene_of (view c.open_store.new.world) (places g.F.Feed.taken g.F.Feed.faults c.new-applying.result.feeds)) (scene_of (view c.run_lines-stop.new.world) (places g.F.Feed.taken g.F.Feed.faults c.run_lines-stop.new.taker.feeds)) (view c.end_run.new.world) c.in-Ok.ensures.answer c.open_store.ensures.quiet c.open_store.ensures.no_put _ c.new-applying.ensures.state _ c.args.budget _ _ c.run_lines-stop.result c.end_run.result c.run_lines-stop.ensures.by c.run_lines-stop.ensures.allows (counted (is_done c.run_lines-stop.result) c.lost.result _ (status_at c.run_lines-stop.result) (view c.run_lines-stop.new.world) (view c.end_run.new.world) c.end_run.result c.lost.ensures c.end_run.ensures) tells area is
+    running_beside c.in-Ok.store (view c.args.world.now) (scene_of (view c.open_store.new.world) (places g.F.Feed.taken g.F.Feed.faults c.new-applying.result.feeds)) (scene_of (view c.run_lines-stop.new.world) (places g.F.Feed.taken g.F.Feed.faults c.run_lines-stop.new.taker.feeds)) (view c.end_run.new.world) c.in-Ok.ensures.answer c.open_store.ensures.quiet c.open_store.ensures.no_put _ c.new-applying.ensures.state _ c.args.budget _ _ c.run_lines-stop.result c.end_run.result c.run_lines-stop.ensures.by c.run_lines-stop.ensures.allows (counted (is_done c.run_lines-stop.result) c.lost.result _ (status_at c.run_lines-stop.result) (view c.run_lines-stop.new.world) (view c.end_run.new.world) c.end_run.result c.lost.ensures c.end_run.ensures.ends) tells area is
 
 pub returns-clause-settled : goal.returns-clause-settled
 returns-clause-settled g c = λ settled no.
     let view = g.W.World.view in
-    running_settled c.in-Ok.store (view c.args.world.now) (scene_of (view c.open_store.new.world) (places g.F.Feed.taken g.F.Feed.faults c.new-applying.result.feeds)) (scene_of (view c.run_lines-stop.new.world) (places g.F.Feed.taken g.F.Feed.faults c.run_lines-stop.new.taker.feeds)) (view c.end_run.new.world) c.in-Ok.ensures.answer c.open_store.ensures.quiet c.open_store.ensures.no_put _ c.new-applying.ensures.state _ c.args.budget _ _ c.run_lines-stop.result c.end_run.result c.run_lines-stop.ensures.by c.run_lines-stop.ensures.allows (counted (is_done c.run_lines-stop.result) c.lost.result _ (status_at c.run_lines-stop.result) (view c.run_lines-stop.new.world) (view c.end_run.new.world) c.end_run.result c.lost.ensures c.end_run.ensures) settled no
+    running_settled c.in-Ok.store (view c.args.world.now) (scene_of (view c.open_store.new.world) (places g.F.Feed.taken g.F.Feed.faults c.new-applying.result.feeds)) (scene_of (view c.run_lines-stop.new.world) (places g.F.Feed.taken g.F.Feed.faults c.run_lines-stop.new.taker.feeds)) (view c.end_run.new.world) c.in-Ok.ensures.answer c.open_store.ensures.quiet c.open_store.ensures.no_put _ c.new-applying.ensures.state _ c.args.budget _ _ c.run_lines-stop.result c.end_run.result c.run_lines-stop.ensures.by c.run_lines-stop.ensures.allows (counted (is_done c.run_lines-stop.result) c.lost.result _ (status_at c.run_lines-stop.result) (view c.run_lines-stop.new.world) (view c.end_run.new.world) c.end_run.result c.lost.ensures c.end_run.ensures.ends) settled no
 
 pub returns-clause-decided : goal.returns-clause-decided
 returns-clause-decided g c = λ tells input it is saves.
     let view = g.W.World.view in
-    running_decided c.in-Ok.store (view c.args.world.now) (scene_of (view c.open_store.new.world) (places g.F.Feed.taken g.F.Feed.faults c.new-applying.result.feeds)) (scene_of (view c.run_lines-stop.new.world) (places g.F.Feed.taken g.F.Feed.faults c.run_lines-stop.new.taker.feeds)) (view c.end_run.new.world) c.in-Ok.ensures.answer c.open_store.ensures.quiet c.open_store.ensures.no_put _ c.new-applying.ensures.state _ c.args.budget _ _ c.run_lines-stop.result c.end_run.result c.run_lines-stop.ensures.by c.run_lines-stop.ensures.allows (counted (is_done c.run_lines-stop.result) c.lost.result _ (status_at c.run_lines-stop.result) (view c.run_lines-stop.new.world) (view c.end_run.new.world) c.end_run.result c.lost.ensures c.end_run.ensures) it saves tells input is (places g.F.Feed.taken g.F.Feed.faults c.args.feeds.now) (places g.F.Feed.taken g.F.Feed.faults c.into_feeds.result) (ap (places g.F.Feed.taken g.F.Feed.faults) (c.new-applying.ensures.feeds ∙ c.replace-given.ensures.value)) (ap (places g.F.Feed.taken g.F.Feed.faults) (sym c.into_feeds.ensures))
+    running_decided c.in-Ok.store (view c.args.world.now) (scene_of (view c.open_store.new.world) (places g.F.Feed.taken g.F.Feed.faults c.new-applying.result.feeds)) (scene_of (view c.run_lines-stop.new.world) (places g.F.Feed.taken g.F.Feed.faults c.run_lines-stop.new.taker.feeds)) (view c.end_run.new.world) c.in-Ok.ensures.answer c.open_store.ensures.quiet c.open_store.ensures.no_put _ c.new-applying.ensures.state _ c.args.budget _ _ c.run_lines-stop.result c.end_run.result c.run_lines-stop.ensures.by c.run_lines-stop.ensures.allows (counted (is_done c.run_lines-stop.result) c.lost.result _ (status_at c.run_lines-stop.result) (view c.run_lines-stop.new.world) (view c.end_run.new.world) c.end_run.result c.lost.ensures c.end_run.ensures.ends) it saves tells input is (places g.F.Feed.taken g.F.Feed.faults c.args.feeds.now) (places g.F.Feed.taken g.F.Feed.faults c.into_feeds.result) (ap (places g.F.Feed.taken g.F.Feed.faults) (c.new-applying.ensures.feeds ∙ c.replace-given.ensures.value)) (ap (places g.F.Feed.taken g.F.Feed.faults) (sym c.into_feeds.ensures))
 
 pub returns-clause-refused : goal.returns-clause-refused
 returns-clause-refused g c = λ refusal.
     let view = g.W.World.view in
-    absurd (running_unrefused c.args.budget _ _ c.run_lines-stop.result _ (view c.run_lines-stop.new.world) (view c.end_run.new.world) c.end_run.result c.run_lines-stop.ensures.by (counted (is_done c.run_lines-stop.result) c.lost.result _ (status_at c.run_lines-stop.result) (view c.run_lines-stop.new.world) (view c.end_run.new.world) c.end_run.result c.lost.ensures c.end_run.ensures) refusal)
+    absurd (running_unrefused c.args.budget _ _ c.run_lines-stop.result _ (view c.run_lines-stop.new.world) (view c.end_run.new.world) c.end_run.result c.run_lines-stop.ensures.by (counted (is_done c.run_lines-stop.result) c.lost.result _ (status_at c.run_lines-stop.result) (view c.run_lines-stop.new.world) (view c.end_run.new.world) c.end_run.result c.lost.ensures c.end_run.ensures.ends) refusal)
 
 pub returns-clause-unread : goal.returns-clause-unread
 returns-clause-unread g c = λ tells none.
@@ -150,7 +150,7 @@ returns-in-Err-clause-takes g c = λ input rest is left_is.
 pub returns-clause-takes : goal.returns-clause-takes
 returns-clause-takes g c = λ input rest is left_is.
     let view = g.W.World.view in
-    apply_takes _ input c.args.budget _ _ c.in-Ok.store _ _ c.run_lines-stop.result (view c.run_lines-stop.new.world) (view c.end_run.new.world) c.end_run.result is c.run_lines-stop.ensures.by (c.run_lines-stop.ensures.ends input is) (counted (is_done c.run_lines-stop.result) c.lost.result _ (status_at c.run_lines-stop.result) (view c.run_lines-stop.new.world) (view c.end_run.new.world) c.end_run.result c.lost.ensures c.end_run.ensures) rest left_is
+    apply_takes _ input c.args.budget _ _ c.in-Ok.store _ _ c.run_lines-stop.result (view c.run_lines-stop.new.world) (view c.end_run.new.world) c.end_run.result is c.run_lines-stop.ensures.by (c.run_lines-stop.ensures.ends input is) (counted (is_done c.run_lines-stop.result) c.lost.result _ (status_at c.run_lines-stop.result) (view c.run_lines-stop.new.world) (view c.end_run.new.world) c.end_run.result c.lost.ensures c.end_run.ensures.ends) rest left_is
 
 -- ---- what the reading asks for
 

@@ -5,8 +5,8 @@ use Rattle.pgs_run_contain.proofs.types.put_types.Goals as goal
 pub loop-number-init : goal.loop-number-init
 loop-number-init g c = tells_none c.args.first.now c.args.second.now (g.W.World.view c.args.world.now) (g.met.W.World.timed c.args.world.now)
 
-pub returns-in-Err : goal.returns-in-Err
-returns-in-Err g c =
+pub returns-in-Err-clause-answer : goal.returns-in-Err-clause-answer
+returns-in-Err-clause-answer g c =
     number_stop c.args.first.now c.args.second.now c.args.numbers.now c.loop-number.number-index _ (take_more c.args.numbers.now c.loop-number.number-index _ c.loop-number-test.true)
     c.loop-number.some c.in-Err.stop (g.W.World.view c.args.world.now) (g.W.World.view c.loop-number.world) _ c.loop-number.invariant c.in-Err.ensures
 

@@ -8,8 +8,8 @@ use Rattle.pgs_run_evolve.proofs.Lines.{store_unlike}
 use Rattle.pgs_run_evolve.proofs.Taking.{read_answer, takes_replied, takes_unread, told_old, unfit_old, without_next}
 use Rattle.pgs_run_evolve.proofs.evolving.evolve_text.Goals as goal
 
-pub returns-then-not-takes_schemas : goal.returns-then-not-takes_schemas
-returns-then-not-takes_schemas g c =
+pub returns-then-not-takes_schemas-clause-answer : goal.returns-then-not-takes_schemas-clause-answer
+returns-then-not-takes_schemas-clause-answer g c =
     let it = c.args.store.now in
     let text = c.args.text.now in
     let old = g.W.World.view c.args.world.now in
@@ -20,8 +20,8 @@ returns-then-not-takes_schemas g c =
 pub renew-requires-clause-read : goal.renew-requires-clause-read
 renew-requires-clause-read g c = read_answer c.args.text.now c.in-Ok.schema.text c.in-Ok.schema.resolved c.in-Ok.ensures.text c.in-Ok.ensures.schema
 
-pub returns-in-Err : goal.returns-in-Err
-returns-in-Err g c =
+pub returns-in-Err-clause-answer : goal.returns-in-Err-clause-answer
+returns-in-Err-clause-answer g c =
     let it = c.args.store.now in
     let text = c.args.text.now in
     takes_unread it.journal.next text it.guard.graph c.refuse_text.result (g.W.World.view c.args.world.now) (g.W.World.view c.refuse_text.new.world) (g.met.W.World.timed c.args.world.now) (sym c.takes_schemas.ensures ∙ c.if-not-takes_schemas.false)

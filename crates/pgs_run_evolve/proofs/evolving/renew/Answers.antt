@@ -11,12 +11,12 @@ use Rattle.pgs_run_evolve.proofs.Lines.{refused_unlike}
 use Rattle.pgs_run_evolve.proofs.Taking.{IsUnfit, takes_failed, takes_made, takes_none, takes_replied, told_made, told_violated, unfit_violated}
 use Rattle.pgs_run_evolve.proofs.evolving.renew.Goals as goal
 
-pub returns-in-Err : goal.returns-in-Err
-returns-in-Err g c =
+pub returns-in-Err-clause-answer : goal.returns-in-Err-clause-answer
+returns-in-Err-clause-answer g c =
     takes_none (told_text c.args.schema.text c.args.store.now.guard.graph) c.args.schema.text (g.W.World.view c.args.world.now) (g.met.W.World.timed c.args.world.now)
 
-pub returns-in-Ok-evolve_to : goal.returns-in-Ok-evolve_to
-returns-in-Ok-evolve_to g c =
+pub returns-in-Ok-evolve_to-clause-answer : goal.returns-in-Ok-evolve_to-clause-answer
+returns-in-Ok-evolve_to-clause-answer g c =
     let it = c.args.store.now in
     let text = c.args.schema.text in
     let resolved = c.args.schema.resolved in
@@ -32,8 +32,8 @@ returns-in-Ok-evolve_to g c =
     (subst (λ (r : Reply Status). PutsReply r.line r.status PutFault mid c.put_reply.result new) c.in-Ok.ensures put)
     (told_text text it.guard.graph) (told_made text it.guard done.2.resolved resolved c.requires.read done.2.conforming) c.in-Ok-evolve_to.ensures.faults
 
-pub returns-in-Err-Violated : goal.returns-in-Err-Violated
-returns-in-Err-Violated g c =
+pub returns-in-Err-Violated-clause-answer : goal.returns-in-Err-Violated-clause-answer
+returns-in-Err-Violated-clause-answer g c =
     let it = c.args.store.now in
     let text = c.args.schema.text in
     let violation = c.in-Err-Violated.violation in
@@ -49,16 +49,16 @@ returns-in-Err-Violated g c =
     (subst (λ w. IsUnfit (g.W.World.view w) text) (sym same) (unfit_violated it (g.W.World.view c.args.world.now) text violation c.requires.ready answer.2))
     c.refuse_violation.ensures.replies (λ none. ap g.W.World.view (c.refuse_violation.ensures.early none)))
 
-pub returns-in-Err-DiskFault : goal.returns-in-Err-DiskFault
-returns-in-Err-DiskFault g c =
+pub returns-in-Err-DiskFault-clause-answer : goal.returns-in-Err-DiskFault-clause-answer
+returns-in-Err-DiskFault-clause-answer g c =
     let it = c.args.store.now in
     let text = c.args.schema.text in
     takes_failed it text (g.W.World.view c.args.world.now) (g.W.World.view c.evolve_to.new.world) (g.met.W.World.timed c.args.world.now) c.requires.ready c.requires.numbered c.evolve_to.ensures.beside
     (c.evolve_to.ensures.stops c.requires.ready.whole) (told_text text it.guard.graph) (rw c.in-Err-DiskFault.field-0-is at c.in-Err-DiskFault.ensures.faults)
     (rw c.in-Err-DiskFault.field-0-is at c.in-Err-DiskFault.ensures.answer).2
 
-pub returns-in-Err-Memory : goal.returns-in-Err-Memory
-returns-in-Err-Memory g c =
+pub returns-in-Err-Memory-clause-answer : goal.returns-in-Err-Memory-clause-answer
+returns-in-Err-Memory-clause-answer g c =
     let told = told_text c.args.schema.text c.args.store.now.guard.graph in
     let old = g.W.World.view c.args.world.now in
     let early = rw c.in-Err-Memory.field-0-is at c.in-Err-Memory.ensures.early in

@@ -10,4 +10,4 @@ returns-clause-puts g c =
     let guard = c.args.store.now.guard in
     let absent : is_some (carried guard.graph c.args.elem) ≡ false =
     ap (λ (graph : Graph). is_some (carried graph c.args.elem)) (sym c.graph.ensures.graph) ∙ sym c.is_there.ensures ∙ c.if-is_there.false in
-    rw (told_absent guard.schema guard.graph c.args.elem absent) (c.in_ok-put_made.ensures (absent_line c.args.elem) c.absent_line.ensures)
+    rw (told_absent guard.schema guard.graph c.args.elem absent) (c.in_ok-put_made.ensures.puts (absent_line c.args.elem) c.absent_line.ensures)

@@ -8,14 +8,14 @@ use Rattle.pgs_run_explain.specs.Explaining.{key_numbers, keys_lines}
 use Rattle.pgs_run_explain.proofs.Tells.{keys_lines-append, keys_lines_one, next_number}
 use Rattle.pgs_run_explain.proofs.keys.put_keys.Goals as goal
 
-pub returns-in_err-put_key : goal.returns-in_err-put_key
-returns-in_err-put_key g c =
+pub returns-in_err-put_key-clause-puts : goal.returns-in_err-put_key-clause-puts
+returns-in_err-put_key-clause-puts g c =
     let guard = c.args.store.now.guard in
     let same = ap (λ (s : Resolved). length s.guard.keys) (c.resolved.ensures.same ∙ c.compiled.ensures) in
     let within : c.loop-place.place < length guard.schema.guard.keys = omega arith in
     exits c.from_residual.result c.from_residual.ensures.1
     (item_stop (keys_lines guard.schema guard.graph c.args.elem) (keys_lines-append guard.schema guard.graph c.args.elem) (key_numbers guard.schema) c.loop-place.place (c.loop-place.place + 1)
-    (next_number guard.schema c.loop-place.place within) _ (keys_lines_one guard.schema guard.graph c.args.elem (c.loop-place.place + 1)) c.loop-place.invariant c.in_err-put_key.ensures)
+    (next_number guard.schema c.loop-place.place within) _ (keys_lines_one guard.schema guard.graph c.args.elem (c.loop-place.place + 1)) c.loop-place.invariant c.in_err-put_key.ensures.puts)
 
 pub loop-place-preserved : goal.loop-place-preserved
 loop-place-preserved g c =
@@ -23,10 +23,10 @@ loop-place-preserved g c =
     let same = ap (λ (s : Resolved). length s.guard.keys) (c.resolved.ensures.same ∙ c.compiled.ensures) in
     let within : c.loop-place.place < length guard.schema.guard.keys = omega arith in
     item_on (keys_lines guard.schema guard.graph c.args.elem) (keys_lines-append guard.schema guard.graph c.args.elem) (key_numbers guard.schema) c.loop-place.place (c.loop-place.place + 1)
-    (next_number guard.schema c.loop-place.place within) _ (keys_lines_one guard.schema guard.graph c.args.elem (c.loop-place.place + 1)) c.loop-place.invariant c.in_ok-put_key.ensures
+    (next_number guard.schema c.loop-place.place within) _ (keys_lines_one guard.schema guard.graph c.args.elem (c.loop-place.place + 1)) c.loop-place.invariant c.in_ok-put_key.ensures.puts
 
-pub returns : goal.returns
-returns g c =
+pub returns-clause-puts : goal.returns-clause-puts
+returns-clause-puts g c =
     let guard = c.args.store.now.guard in
     let same = ap (λ (s : Resolved). length s.guard.keys) (c.resolved.ensures.same ∙ c.compiled.ensures) in
     let all = take_all c.loop-place.place (key_numbers guard.schema) (omega (arith, length-range_with_len 1 (length guard.schema.guard.keys))) in

@@ -7,9 +7,9 @@ use Rattle.pgs_run_load.proofs.loading.load_text.Goals as goal
 pub save-requires-clause-limits : goal.save-requires-clause-limits
 save-requires-clause-limits g c = c.in-Ok.ensures.limits ∙ is_standard c.standard.result c.standard.ensures.ops c.standard.ensures.elements
 
-pub returns-in-Ok-line_of : goal.returns-in-Ok-line_of
-returns-in-Ok-line_of g c =
-    subst (λ text. LoadsText text (g.W.World.view c.args.world.now) (g.W.World.view c.save.new.world) c.save.result) c.in-Ok.ensures.text c.save.ensures
+pub returns-in-Ok-line_of-clause-answer : goal.returns-in-Ok-line_of-clause-answer
+returns-in-Ok-line_of-clause-answer g c =
+    subst (λ text. LoadsText text (g.W.World.view c.args.world.now) (g.W.World.view c.save.new.world) c.save.result) c.in-Ok.ensures.text c.save.ensures.answer
 
-pub returns-in-Err-line_of : goal.returns-in-Err-line_of
-returns-in-Err-line_of g c = untouched c.args.text.now (g.W.World.view c.args.world.now) (g.met.W.World.timed c.args.world.now)
+pub returns-in-Err-line_of-clause-answer : goal.returns-in-Err-line_of-clause-answer
+returns-in-Err-line_of-clause-answer g c = untouched c.args.text.now (g.W.World.view c.args.world.now) (g.met.W.World.timed c.args.world.now)

@@ -5,8 +5,8 @@ use Rattle.pgs_world.specs.Moment.{EachSince}
 use Rattle.pgs_run_load.proofs.Loads.{failed_load, replied_text}
 use Rattle.pgs_run_load.proofs.loading.save.Goals as goal
 
-pub returns-in-Ok : goal.returns-in-Ok
-returns-in-Ok g c =
+pub returns-in-Ok-clause-answer : goal.returns-in-Ok-clause-answer
+returns-in-Ok-clause-answer g c =
     let guard = c.args.guard in
     let old = g.W.World.view c.args.world.now in
     let mid = g.W.World.view c.create-made.new.world in
@@ -17,8 +17,8 @@ returns-in-Ok g c =
     (λ free settled. subst (λ l. EachSince (IsLoadedIn l guard.text) old mid) limits (made.stops free settled)) made.beside
     c.in-Ok.reply (g.W.World.view c.put_reply.new.world) c.put_reply.result c.in-Ok.ensures c.put_reply.ensures.ends c.put_reply.ensures.stops c.put_reply.ensures.areas
 
-pub returns-in-Err : goal.returns-in-Err
-returns-in-Err g c =
+pub returns-in-Err-clause-answer : goal.returns-in-Err-clause-answer
+returns-in-Err-clause-answer g c =
     let guard = c.args.guard in
     let old = g.W.World.view c.args.world.now in
     let mid = g.W.World.view c.create-made.new.world in

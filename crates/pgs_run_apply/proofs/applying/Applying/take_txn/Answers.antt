@@ -9,15 +9,15 @@ use Rattle.pgs_run_apply.proofs.Putting.{piece_put}
 use Rattle.pgs_run_apply.proofs.Taken.{take_untaken}
 use Rattle.pgs_run_apply.proofs.applying.Applying.take_txn.Goals as goal
 
-pub returns-in_err-verdict : goal.returns-in_err-verdict
-returns-in_err-verdict g c =
+pub returns-in_err-verdict-clause-answer : goal.returns-in_err-verdict-clause-answer
+returns-in_err-verdict-clause-answer g c =
     let self = c.args.self.now in
     let s = state_of self in
     take_untaken s (deciding s c.args.txn.now (decision_on (verdict self.store.guard.schema) self.store.guard.graph c.args.txn.now)) c.from_residual.result s (g.W.World.view c.args.world.now)
     (places g.F.Feed.taken g.F.Feed.faults self.feeds) c.from_residual.ensures.1 (g.met.W.World.timed c.args.world.now) c.requires.holds
 
-pub returns-in-Ok-None : goal.returns-in-Ok-None
-returns-in-Ok-None g c =
+pub returns-in-Ok-None-clause-answer : goal.returns-in-Ok-None-clause-answer
+returns-in-Ok-None-clause-answer g c =
     let self = c.args.self.now in
     let seen = places g.F.Feed.taken g.F.Feed.faults in
     take_done self.store self.number self.refused c.args.txn.now c.put_piece.result c.ask.new.store (g.W.World.view c.args.world.now) (g.W.World.view c.ask.new.world)
@@ -34,18 +34,18 @@ reject-requires-clause-holds g c =
     let early = rw c.in-Ok-Some.field-0-is at c.in-Ok-Some.ensures.early in
     still_holds self.store self.number self.refused c.args.txn.now g.W.World.view c.args.world.now c.ask.new.world c.ask.new.store c.requires.holds answer.1 (early refl)
 
-pub returns-in-Ok-Some : goal.returns-in-Ok-Some
-returns-in-Ok-Some g c =
+pub returns-in-Ok-Some-clause-answer : goal.returns-in-Ok-Some-clause-answer
+returns-in-Ok-Some-clause-answer g c =
     let self = c.args.self.now in
     let seen = places g.F.Feed.taken g.F.Feed.faults in
     let answer = rw c.in-Ok-Some.field-0-is at c.in-Ok-Some.ensures.answer in
     let early = rw c.in-Ok-Some.field-0-is at c.in-Ok-Some.ensures.early in
     take_rejected self.store self.number self.refused c.args.txn.now g.W.World.view c.reject.result (state_of c.reject.new.self) c.in-Ok-Some.rejection
     c.args.world.now c.ask.new.world (g.W.World.view c.reject.new.world) (seen self.feeds) (seen c.reject.new.self.feeds) c.ask.new.store c.requires.holds
-    answer.0 answer.1 (early refl) c.reject.ensures
+    answer.0 answer.1 (early refl) c.reject.ensures.answer
 
-pub returns : goal.returns
-returns g c =
+pub returns-clause-answer : goal.returns-clause-answer
+returns-clause-answer g c =
     let self = c.args.self.now in
     take_stopped self.store self.number self.refused c.args.txn.now g.W.World.view c.in-Err.stop (state_with c.ask.new.store self.number self.refused) c.ask.new.store c.args.world.now c.ask.new.world
     (places g.F.Feed.taken g.F.Feed.faults self.feeds) c.requires.holds (g.met.W.World.timed c.args.world.now) c.in-Err.ensures.answer

@@ -12,7 +12,7 @@ returns g c =
     let result = c.take_line.result in
     let old = scene_of (g.W.World.view c.args.world.now) (places g.F.Feed.taken g.F.Feed.faults c.args.self.now.feeds) in
     let new = scene_of (g.W.World.view c.take_line.new.world) (places g.F.Feed.taken g.F.Feed.faults c.take_line.new.self.feeds) in
-    let takes = c.take_line.ensures in
+    let takes = c.take_line.ensures.answer in
     record {
       leads = line_leads s now line result old new takes.taken;
       shows = line_shows s now line result old new takes.taken;
