@@ -1,4 +1,5 @@
 pub mod Braced
+pub mod Counted
 pub mod Ended
 pub mod Forms
 pub mod Leaves

@@ -1,4 +1,4 @@
-ghost use Rattle.std.specs.Prelude.{◌≡◌, ℕ, List, true, map, IfOk};
+ghost use Rattle.std.specs.Prelude.{◌≡◌, ℕ, ◌^◌, ◌≤◌, List, true, length, map, IfOk};
 ghost use Rattle.std.specs.Ordering.{nat_cmp};
 ghost use Rattle.std.specs.Cmp.Lexicographic.{slice_cmp};
 ghost use Rattle.std.specs.Map.{keys_of, lookup};
@@ -14,6 +14,9 @@ use pgs_conform::{Options, Shape};
 use pgs_product::{free_options, join_keys};
 use pgs_syntax::{Braces, Property};
 use std::alloc::Global;
+
+// Properties whose number is a `usize` are halved no more than so many times.
+const MOST_HALVINGS: u32 = 64;
 
 // What may stand at the key of a property.
 fn options_of(property: &Property) -> Options
@@ -35,9 +38,14 @@ fn options_of(property: &Property) -> Options
     options
 }
 
-// The keys of properties, in order. The properties are halved and the halves merged; where they name no key twice, each key has
-// what its property says.
-fn keys_of(alloc: Global, properties: &[Property]) -> Result<Vec<(Name, Options)>, Memory>
+// The keys of properties, in order. The properties are halved, no more than `further` times, so that the calls stand no deeper, and
+// the halves merged; where they name no key twice, each key has what its property says.
+fn keys_of(
+    alloc: Global,
+    properties: &[Property],
+    further: u32,
+) -> Result<Vec<(Name, Options)>, Memory>
+    requires { length properties.now ≤ 2 ^ further }
     ensures ascending { IfOk result (λ keys. ascends (slice_cmp nat_cmp) (keys_of keys.items) ≡ true) }
     ensures same { IfOk result (λ keys. are_apart properties.now ≡ true → (k : List ℕ) →
         lookup (same_name k) keys.items ≡ lookup (same_name k) (map key_of properties.now)) }
@@ -51,9 +59,10 @@ fn keys_of(alloc: Global, properties: &[Property]) -> Result<Vec<(Name, Options)
             Ok(keys)
         }
         _ => {
+            let lower = further - 1;
             let (front, back) = properties.split_at(properties.len() / 2);
-            let first = keys_of(alloc, front)?;
-            let second = keys_of(alloc, back)?;
+            let first = keys_of(alloc, front, lower)?;
+            let second = keys_of(alloc, back, lower)?;
             let closed = free_options(false);
             let whole = join_keys(alloc, &first, closed, &second, closed)?;
             Ok(whole)
@@ -66,7 +75,7 @@ pub fn braces_shape(alloc: Global, braces: &Braces) -> Result<Shape, Memory>
     ensures { IfOk result (λ shape. are_apart braces.now.properties ≡ true → (p : NodeRow) → is_pair p ≡ true →
         in_shape shape p ≡ is_braced braces.now p) }
 {
-    let keys = keys_of(alloc, braces.properties.as_slice())?;
+    let keys = keys_of(alloc, braces.properties.as_slice(), MOST_HALVINGS)?;
     Ok(Shape {
         labels: Labels::new(alloc),
         more_labels: false,

@@ -12,9 +12,10 @@ use pgs_syntax::Resolved;
 use pgs_width::first_too_wide;
 use std::alloc::Global;
 
-// The compiled form of a valid schema.
+// The compiled form of a valid schema in which no type is too wide: whether one is has to be known before anything is made.
 fn compile_types(alloc: Global, resolved: Resolved) -> Result<Compiled, Memory>
-    requires { is_valid resolved ≡ true }
+    requires valid { is_valid resolved ≡ true }
+    requires narrow { first_too_wide resolved ≡ None }
     ensures { IfOk result (λ compiled. compiled ≡ resolved) }
 {
     let nodes = node_shapes(alloc, &resolved)?;

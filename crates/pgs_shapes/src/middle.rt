@@ -1,11 +1,13 @@
-ghost use Rattle.std.specs.Prelude.{◌≡◌, ℕ, Bool, ◌||◌, true, length, IfOk};
+ghost use Rattle.std.specs.Prelude.{◌≡◌, ℕ, ◌+◌, ◌≤◌, Bool, ◌||◌, true, List, length, IfOk};
 ghost use Rattle.std.specs.List.{list_all};
 ghost use Rattle.pgs_syntax.specs.declared.specification.Spec.{Word};
 ghost use Rattle.pgs_syntax.specs.Fitting.{suits};
 ghost use Rattle.pgs_syntax.specs.Join.{of_triples, is_empty_pair, Triple as Pairs};
 ghost use Rattle.pgs_syntax.specs.Valid.{is_valid_spec};
+ghost use Rattle.pgs_syntax.specs.Width.{Width, width_of};
 ghost use Rattle.pgs_conform.specs.Shapes.{in_some_triple, DenotesTriples};
 ghost use Rattle.pgs_conform.specs.Standing.{EachDenotesTriples};
+ghost use Rattle.pgs_shapes.specs.Counts.{AreWithin, PartsWithin};
 ghost use Rattle.pgs_shapes.specs.Parts.{PartsDenoteTriples};
 
 use crate::braces::braces_shape;
@@ -19,7 +21,8 @@ use std::alloc::Global;
 
 // Triples of shapes, and that of the empty pairs.
 fn with_empty(alloc: Global, triples: List<Triple>) -> Result<List<Triple>, Memory>
-    ensures { IfOk result (λ whole. (t : Pairs) → in_some_triple whole t ≡ (in_some_triple triples t || of_triples.asks is_empty_pair t)) }
+    ensures denote { IfOk result (λ whole. (t : Pairs) → in_some_triple whole t ≡ (in_some_triple triples t || of_triples.asks is_empty_pair t)) }
+    ensures count { IfOk result (λ whole. length whole ≡ length triples + 1) }
 {
     let mut items = triples.into_vec();
     items.push(middle_triple(alloc, empty_shape(alloc)))?;
@@ -27,8 +30,10 @@ fn with_empty(alloc: Global, triples: List<Triple>) -> Result<List<Triple>, Memo
 }
 
 fn leaf_triples(alloc: Global, named: &[List<Triple>], leaf: &Leaf) -> Result<List<Triple>, Memory>
-    ensures { IfOk result (λ triples. is_valid_spec (length named.now) (Word leaf.now) ≡ true → (test : ℕ → Pairs → Bool) →
+    ensures denote { IfOk result (λ triples. is_valid_spec (length named.now) (Word leaf.now) ≡ true → (test : ℕ → Pairs → Bool) →
         EachDenotesTriples named.now test → DenotesTriples triples (suits of_triples test (Word leaf.now))) }
+    ensures within { IfOk result (λ triples. (widths : List Width) → AreWithin widths named.now →
+        length triples ≤ (width_of widths (Word leaf.now)).count) }
 {
     match leaf {
         Leaf::Label(label) => {
@@ -47,15 +52,18 @@ fn leaf_triples(alloc: Global, named: &[List<Triple>], leaf: &Leaf) -> Result<Li
 }
 
 /// The triples of shapes of a middle of edges, where those of the edge types that it may name are given: they denote what it asks,
-/// where the lists of these types do. A label, OPEN and braces ask nothing but empty pairs at the ends.
+/// where the lists of these types do, and are no more than its width counts, where those are no more than theirs. A label, OPEN and
+/// braces ask nothing but empty pairs at the ends.
 #[cycle(triples)]
 pub fn triples_of(
     alloc: Global,
     named: &[List<Triple>],
     spec: &Spec<Leaf>,
 ) -> Result<List<Triple>, Memory>
-    ensures { IfOk result (λ triples. is_valid_spec (length named.now) spec.now ≡ true → (test : ℕ → Pairs → Bool) →
+    ensures denote { IfOk result (λ triples. is_valid_spec (length named.now) spec.now ≡ true → (test : ℕ → Pairs → Bool) →
         EachDenotesTriples named.now test → DenotesTriples triples (suits of_triples test spec.now)) }
+    ensures within { IfOk result (λ triples. (widths : List Width) → AreWithin widths named.now →
+        length triples ≤ (width_of widths spec.now).count) }
 {
     match spec {
         Spec::Empty => {
@@ -99,8 +107,10 @@ fn triples_of_each(
     named: &[List<Triple>],
     parts: &[Spec<Leaf>],
 ) -> Result<Vec<List<Triple>>, Memory>
-    ensures { IfOk result (λ lists. list_all (is_valid_spec (length named.now)) parts.now ≡ true → (test : ℕ → Pairs → Bool) →
+    ensures denote { IfOk result (λ lists. list_all (is_valid_spec (length named.now)) parts.now ≡ true → (test : ℕ → Pairs → Bool) →
         EachDenotesTriples named.now test → PartsDenoteTriples test parts.now lists.items) }
+    ensures within { IfOk result (λ lists. (widths : List Width) → AreWithin widths named.now →
+        PartsWithin widths parts.now lists.items) }
 {
     let mut lists = Vec::with_capacity(alloc, parts.len())?;
     for part in parts {

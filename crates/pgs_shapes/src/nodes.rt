@@ -1,7 +1,9 @@
-ghost use Rattle.std.specs.Prelude.{◌≡◌, true, length, IfOk};
+ghost use Rattle.std.specs.Prelude.{◌≡◌, true, [], None, length, IfOk};
 ghost use Rattle.pgs_syntax.specs.Fitting.{fits_node};
 ghost use Rattle.pgs_syntax.specs.Valid.{is_valid};
+ghost use Rattle.pgs_syntax.specs.Width.{node_widths, first_too_wide};
 ghost use Rattle.pgs_conform.specs.Standing.{EachDenotes};
+ghost use Rattle.pgs_shapes.specs.Counts.{AreWithin};
 
 use crate::specification::shapes_of;
 use pgs_base::{List, Memory};
@@ -9,10 +11,13 @@ use pgs_conform::Shape;
 use pgs_syntax::Resolved;
 use std::alloc::Global;
 
-/// The shapes of each node type, in order: each list denotes what its type asks, where the schema is valid.
+/// The shapes of each node type, in order: each list denotes what its type asks, where the schema is valid, and is no longer than
+/// the type's width counts. It asks that no type is too wide, so that this is known before any shape is made.
 pub fn node_shapes(alloc: Global, resolved: &Resolved) -> Result<Vec<List<Shape>>, Memory>
+    requires { first_too_wide resolved.now ≡ None }
     ensures count { IfOk result (λ lists. length lists.items ≡ length resolved.now.nodes) }
     ensures denote { IfOk result (λ lists. is_valid resolved.now ≡ true → EachDenotes lists.items (fits_node resolved.now)) }
+    ensures within { IfOk result (λ lists. AreWithin (node_widths [] resolved.now.nodes) lists.items) }
 {
     let nodes = resolved.nodes.as_slice();
     let mut lists = Vec::with_capacity(alloc, nodes.len())?;

@@ -1,12 +1,14 @@
-ghost use Rattle.std.specs.Prelude.{◌≡◌, ℕ, Bool, ◌||◌, true, length, flat_map, IfOk};
+ghost use Rattle.std.specs.Prelude.{◌≡◌, ℕ, ◌+◌, ◌≤◌, Bool, ◌||◌, true, List, length, flat_map, IfOk};
 ghost use Rattle.std.specs.List.{list_all};
 ghost use Rattle.pgs_base.specs.declared.row.NodeRow.{NodeRow};
 ghost use Rattle.pgs_syntax.specs.declared.specification.Spec.{Word};
 ghost use Rattle.pgs_syntax.specs.Fitting.{suits};
 ghost use Rattle.pgs_syntax.specs.Join.{of_pairs, is_empty_pair};
 ghost use Rattle.pgs_syntax.specs.Valid.{is_valid_spec};
+ghost use Rattle.pgs_syntax.specs.Width.{Width, width_of};
 ghost use Rattle.pgs_conform.specs.Shapes.{in_some, Denotes};
 ghost use Rattle.pgs_conform.specs.Standing.{EachDenotes};
+ghost use Rattle.pgs_shapes.specs.Counts.{AreWithin, PartsWithin};
 ghost use Rattle.pgs_shapes.specs.Parts.{PartsDenote};
 
 use crate::braces::braces_shape;
@@ -31,7 +33,8 @@ pub fn concat<T: Drop>(alloc: Global, lists: Vec<List<T>>) -> Result<List<T>, Me
 
 // Shapes, and the shape of the empty pair.
 fn with_empty(alloc: Global, shapes: List<Shape>) -> Result<List<Shape>, Memory>
-    ensures { IfOk result (λ whole. (p : NodeRow) → in_some whole p ≡ (in_some shapes p || is_empty_pair p)) }
+    ensures denote { IfOk result (λ whole. (p : NodeRow) → in_some whole p ≡ (in_some shapes p || is_empty_pair p)) }
+    ensures count { IfOk result (λ whole. length whole ≡ length shapes + 1) }
 {
     let mut items = shapes.into_vec();
     items.push(empty_shape(alloc))?;
@@ -39,8 +42,10 @@ fn with_empty(alloc: Global, shapes: List<Shape>) -> Result<List<Shape>, Memory>
 }
 
 fn leaf_shapes(alloc: Global, named: &[List<Shape>], leaf: &Leaf) -> Result<List<Shape>, Memory>
-    ensures { IfOk result (λ shapes. is_valid_spec (length named.now) (Word leaf.now) ≡ true → (test : ℕ → NodeRow → Bool) →
+    ensures denote { IfOk result (λ shapes. is_valid_spec (length named.now) (Word leaf.now) ≡ true → (test : ℕ → NodeRow → Bool) →
         EachDenotes named.now test → Denotes shapes (suits of_pairs test (Word leaf.now))) }
+    ensures within { IfOk result (λ shapes. (widths : List Width) → AreWithin widths named.now →
+        length shapes ≤ (width_of widths (Word leaf.now)).count) }
 {
     match leaf {
         Leaf::Label(label) => {
@@ -59,15 +64,17 @@ fn leaf_shapes(alloc: Global, named: &[List<Shape>], leaf: &Leaf) -> Result<List
 }
 
 /// The shapes of a specification of nodes, where those of the types that it may name are given: they denote what it asks, where
-/// the lists of these types do.
+/// the lists of these types do, and are no more than its width counts, where those are no more than theirs.
 #[cycle(shapes)]
 pub fn shapes_of(
     alloc: Global,
     named: &[List<Shape>],
     spec: &Spec<Leaf>,
 ) -> Result<List<Shape>, Memory>
-    ensures { IfOk result (λ shapes. is_valid_spec (length named.now) spec.now ≡ true → (test : ℕ → NodeRow → Bool) →
+    ensures denote { IfOk result (λ shapes. is_valid_spec (length named.now) spec.now ≡ true → (test : ℕ → NodeRow → Bool) →
         EachDenotes named.now test → Denotes shapes (suits of_pairs test spec.now)) }
+    ensures within { IfOk result (λ shapes. (widths : List Width) → AreWithin widths named.now →
+        length shapes ≤ (width_of widths spec.now).count) }
 {
     match spec {
         Spec::Empty => {
@@ -111,8 +118,10 @@ fn shapes_of_each(
     named: &[List<Shape>],
     parts: &[Spec<Leaf>],
 ) -> Result<Vec<List<Shape>>, Memory>
-    ensures { IfOk result (λ lists. list_all (is_valid_spec (length named.now)) parts.now ≡ true → (test : ℕ → NodeRow → Bool) →
+    ensures denote { IfOk result (λ lists. list_all (is_valid_spec (length named.now)) parts.now ≡ true → (test : ℕ → NodeRow → Bool) →
         EachDenotes named.now test → PartsDenote test parts.now lists.items) }
+    ensures within { IfOk result (λ lists. (widths : List Width) → AreWithin widths named.now →
+        PartsWithin widths parts.now lists.items) }
 {
     let mut lists = Vec::with_capacity(alloc, parts.len())?;
     for part in parts {

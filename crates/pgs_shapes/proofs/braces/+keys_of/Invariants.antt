@@ -1,5 +1,4 @@
-use Rattle.std.proofs.Common.{length}
 use Rattle.pgs_shapes.proofs.braces.+keys_of.Given as goal
 
 abbrev pub decreases-keys_of : goal.decreases-keys_of
-decreases-keys_of l = length l.properties.now
+decreases-keys_of l = l.further

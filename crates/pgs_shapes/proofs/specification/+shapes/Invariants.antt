@@ -1,11 +1,16 @@
-use Rattle.std.proofs.Common.{◌≡◌, ℕ, Bool, true, length, take}
+use Rattle.std.proofs.Common.{◌≡◌, ℕ, Bool, true, List, length, take}
 use Rattle.std.specs.List.{list_all}
 use Rattle.pgs_base.specs.declared.row.NodeRow.{NodeRow}
 use Rattle.pgs_syntax.specs.Valid.{is_valid_spec}
+use Rattle.pgs_syntax.specs.Width.{Width}
 use Rattle.pgs_conform.specs.Standing.{EachDenotes}
+use Rattle.pgs_shapes.specs.Counts.{AreWithin, PartsWithin}
 use Rattle.pgs_shapes.specs.Parts.{PartsDenote}
 use Rattle.pgs_shapes.proofs.specification.+shapes.Given as goal
 
 abbrev pub invariant-shapes_of_each-loop-part : goal.invariant-shapes_of_each-loop-part
-invariant-shapes_of_each-loop-part l = list_all (is_valid_spec (length l.named)) l.parts ≡ true → (test : ℕ → NodeRow → Bool) → EachDenotes l.named test →
-    PartsDenote test (take l.part-index l.parts) l.lists.items
+invariant-shapes_of_each-loop-part l = record {
+  denote : list_all (is_valid_spec (length l.named)) l.parts ≡ true → (test : ℕ → NodeRow → Bool) → EachDenotes l.named test →
+      PartsDenote test (take l.part-index l.parts) l.lists.items;
+  within : (widths : List Width) → AreWithin widths l.named → PartsWithin widths (take l.part-index l.parts) l.lists.items;
+}
