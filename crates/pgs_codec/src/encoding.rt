@@ -1,4 +1,4 @@
-ghost use Rattle.std.specs.Prelude.{◌≡◌, ◌++◌, ◌<◌, ◌^◌, ◌&&◌, Some, length, nat_lt, IfOk, OnOk, IsTrue};
+ghost use Rattle.std.specs.Prelude.{◌≡◌, ◌++◌, ◌<◌, ◌^◌, ◌&&◌, Some, length, min, nat_lt, IfOk, OnOk, IsTrue};
 ghost use Rattle.std.specs.List.{list_all};
 ghost use Rattle.pgs_codec.specs.Encodable.{adds_small, are_parts, is_encodable, is_op, is_sized, is_small_edge, is_small_node, IsPayload};
 ghost use Rattle.pgs_codec.specs.Payload.{ops_field, rows_field, snapshot_field, payload_of};
@@ -47,16 +47,18 @@ fn write_snapshot(
     Ok(())
 }
 
-// How many bytes the payload has, as far as memory reaches.
-fn size_of_payload(command: &Command) -> usize {
-    let rest = match command {
-        Command::Schema(text) => text.len(),
+// How many bytes the payload has, as far as a `usize` counts.
+#[tactic(auto, unfolding(crate::specs::Payload::payload_of))]
+fn size_of_payload(command: &Command) -> usize
+    ensures { result ≡ min (length (payload_of command.now)) usize.MAX }
+{
+    match command {
+        Command::Schema(text) => text.len().saturating_add(1),
         Command::Snapshot { nodes, edges, .. } => size_of_all(nodes.as_slice())
             .saturating_add(size_of_all(edges.as_slice()))
-            .saturating_add(24),
-        Command::Txn(txn) => size_of_all(txn.ops.as_slice()).saturating_add(4),
-    };
-    rest.saturating_add(1)
+            .saturating_add(25),
+        Command::Txn(txn) => size_of_all(txn.ops.as_slice()).saturating_add(5),
+    }
 }
 
 #[tactic(auto, unfolding(crate::specs::Payload::payload_of, crate::specs::Encodable::is_encodable))]

@@ -1,4 +1,4 @@
-ghost use Rattle.std.specs.Prelude.{◌≡◌, ◌++◌, ◌&&◌, ℕ, Bool, List, Option, IsTrue, OnOk, flat_map};
+ghost use Rattle.std.specs.Prelude.{◌≡◌, ◌++◌, ◌&&◌, ℕ, Bool, List, Option, IsTrue, OnOk, flat_map, length, min};
 ghost use Rattle.std.specs.List.{list_all};
 ghost use Rattle.pgs_codec.specs.Reading.{pair_at, many_at};
 ghost use Rattle.pgs_codec.specs.Unread.{Reads};
@@ -22,8 +22,9 @@ pub(crate) trait Field: Drop {
     /// How it is read from the front of bytes.
     ghost field_at: { List ℕ → Option (Self × List ℕ) };
 
-    /// How many bytes it has, as far as memory reaches. Memory is taken by it; what is written doesn't rest on it.
-    fn size(&self) -> usize;
+    /// How many bytes it has, as far as a `usize` counts. Memory is taken by it; what is written doesn't rest on it.
+    fn size(&self) -> usize
+        ensures { result ≡ min (length (field self.now)) usize.MAX };
 
     /// Reads it from the front of what is left.
     fn read(alloc: Global, reader: &mut Reader<'_>) -> Result<Self, Unread>
@@ -63,8 +64,10 @@ impl<A: Field, B: Field> Field for (A, B) {
     }
 }
 
-/// How many bytes the fields have together, as far as memory reaches.
-pub(crate) fn size_of_all<F: Field>(fields: &[F]) -> usize {
+/// How many bytes the fields have together, as far as a `usize` counts.
+pub(crate) fn size_of_all<F: Field>(fields: &[F]) -> usize
+    ensures { result ≡ min (length (flat_map F.field fields.now)) usize.MAX }
+{
     let mut size: usize = 0;
     for field in fields {
         size = size.saturating_add(field.size());

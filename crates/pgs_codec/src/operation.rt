@@ -210,25 +210,24 @@ impl Field for Op {
     ghost field_at = { op_at };
 
     fn size(&self) -> usize {
-        let rest = match self {
-            Op::AddNode { labels, props, .. } => labels.size().saturating_add(props.size()),
-            Op::AddEdge { labels, props, .. } => {
-                labels
-                    .size()
-                    .saturating_add(props.size())
-                    .saturating_add(16)
+        match self {
+            Op::AddNode { labels, props, .. } => {
+                labels.size().saturating_add(props.size()).saturating_add(9)
             }
-            Op::RemoveNode { .. } | Op::DetachNode { .. } | Op::RemoveEdge { .. } => 0,
+            Op::AddEdge { labels, props, .. } => labels
+                .size()
+                .saturating_add(props.size())
+                .saturating_add(25),
+            Op::RemoveNode { .. } | Op::DetachNode { .. } | Op::RemoveEdge { .. } => 9,
             Op::SetNode { key, value, .. } | Op::SetEdge { key, value, .. } => {
-                key.size().saturating_add(value.size())
+                key.size().saturating_add(value.size()).saturating_add(9)
             }
-            Op::UnsetNode { key, .. } | Op::UnsetEdge { key, .. } => key.size(),
+            Op::UnsetNode { key, .. } | Op::UnsetEdge { key, .. } => key.size().saturating_add(9),
             Op::LabelNode { label, .. }
             | Op::UnlabelNode { label, .. }
             | Op::LabelEdge { label, .. }
-            | Op::UnlabelEdge { label, .. } => label.size(),
-        };
-        rest.saturating_add(9)
+            | Op::UnlabelEdge { label, .. } => label.size().saturating_add(9),
+        }
     }
 
     #[tactic(auto, unfolding(crate::specs::Reading::op_at, crate::specs::Reading::byte_at))]
