@@ -1,5 +1,5 @@
 -- The entry at a place whose key is the one that is looked for.
-use Rattle.std.proofs.Common.{◌≡◌, ◌∙◌, ℕ, zero, suc, Bool, true, false, ◌||◌, List, [], ◌∷◌, ◌++◌, slice_get, Option, Some, None, Ordering, is_some, unwrap_or, refl, sym, ap, subst, arith, true≢false, MatchOption}
+use Rattle.std.proofs.Common.{◌≡◌, ◌∙◌, ℕ, zero, suc, ◌+◌, ◌≤◌, Bool, true, false, cond, ◌||◌, List, [], ◌∷◌, ◌++◌, length, length-append, slice_get, Option, Some, None, Ordering, is_some, unwrap_or, refl, sym, ap, subst, arith, true≢false, MatchOption}
 use Rattle.std.specs.Cmp.{IsEquivalence, IsTotalOrder, eq_by_cmp_equiv}
 use Rattle.std.specs.Ordering.{is_eq}
 use Rattle.std.specs.List.{AllByRecursion, list_any, IsDistinct}
@@ -9,8 +9,9 @@ use Rattle.std.proofs.lemmas.Option.{slice_get-map, slice_get-get_or}
 use Rattle.std.proofs.lemmas.Map.Keys.{IsDistinct-head, IsDistinct-tail}
 use Rattle.indexmap.specs.IndexMap.{IndexMap, get, insert_entry}
 use Rattle.indexmap.proofs.CallerLemmas.{insert_entry-new}
-use Rattle.pgs_tables.specs.Slots.{present, AreKept, IsFoundAt}
-use Rattle.pgs_tables.proofs.Rows.{eq_is, present-push, keys-push, any-push}
+use Rattle.std.specs.BTreeMap.{is_at}
+use Rattle.pgs_tables.specs.Slots.{present, with_number, AreKept, IsFoundAt}
+use Rattle.pgs_tables.proofs.Rows.{eq_is, present-push, keys-push, any-push, slot-found}
 
 module _ {K W : Type 0} {eq : K → K → Bool} (laws : IsEquivalence eq) (id : K) where
   -- a key that is apart from all others isn't among them
@@ -69,6 +70,28 @@ kept_with_one eq slots k absent entries made =
       numbers = λ test there. ap (λ l. list_any test (keys_of l)) pushed ∙ ap (list_any test) (keys-push slots.entries k None)
           ∙ any-push test (keys_of slots.entries) k ∙ ap (λ b. b || test k) there;
     }
+
+module _ {K V : Type 0} {eq : K → K → Bool} {cmp : K → K → Ordering} (total : IsTotalOrder cmp) (ties : (x y : K) → eq x y ≡ is_eq (cmp x y)) where
+  -- its number stands last
+  pub numbers_with_one : {S : Type 0} (slots : IndexMap K (Option V) S) (k : K) → get eq slots k ≡ None → (entries : List (K × Option V))
+      → entries ≡ insert_entry eq slots.entries k None → keys_of entries ≡ with_number cmp (keys_of slots.entries) k
+  numbers_with_one slots k absent entries made =
+      let apart : list_any (is_at (cmp k)) (keys_of slots.entries) ≡ false = slot-found total ties k slots.entries ∙ ap is_some absent in
+      rw apart (ap keys_of (made ∙ insert_entry-new eq slots k None absent) ∙ keys-push slots.entries k None)
+
+  -- the numbers stay where the number has a slot
+  pub numbers_there : (old entries : List (K × Option V)) (k : K) → entries ≡ old → is_some (lookup (eq k) entries) ≡ true → keys_of entries ≡ with_number cmp (keys_of old) k
+  numbers_there old entries k same there =
+      let has : list_any (is_at (cmp k)) (keys_of old) ≡ true = ap (λ l. list_any (is_at (cmp k)) (keys_of l)) (sym same) ∙ slot-found total ties k entries ∙ there in
+      rw has (ap keys_of same)
+
+-- at most one more
+pub length-with_number : {K : Type 0} (cmp : K → K → Ordering) (numbers : List K) (id : K) → length (with_number cmp numbers id) ≤ length numbers + 1
+length-with_number {K} cmp numbers id = by (list_any (is_at (cmp id)) numbers)
+  where
+    by : (b : Bool) → length (cond b numbers (numbers ++ id ∷ [])) ≤ length numbers + 1
+    by true = omega arith
+    by false = omega (arith, length-append numbers (id ∷ []))
 
 -- what the look-up finds is the value at the place
 pub value_found : {K W : Type 0} (test : K → Bool) (es : List (K × W)) (i : ℕ) → IsFoundAt test es i → lookup test es ≡ slice_get (values_of es) i

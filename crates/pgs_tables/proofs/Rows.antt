@@ -105,6 +105,27 @@ module _ {K V : Type 0} where
   length-some k None l there = absurd (true≢false (sym there))
   length-some k (Some v) l there = omega arith
 
+  -- so many slots have a row
+  pub count-filter : (es : List (K × Option V)) → length (filter (λ (e : K × Option V). is_some e.1) es) ≡ length (present es)
+  count-filter [] = refl
+  count-filter (e ∷ es) = by (count-filter es) e.0 e.1
+    where
+      by : length (filter (λ (e : K × Option V). is_some e.1) es) ≡ length (present es) → (k : K) (o : Option V) →
+          length (cond (is_some o) ((k, o) ∷ filter (λ (e : K × Option V). is_some e.1) es) (filter (λ (e : K × Option V). is_some e.1) es)) ≡ length (left_at k o ++ present es)
+      by rest k None = rest
+      by rest k (Some v) = omega (arith, rest)
+
+  -- the keys of the slots with a row, where a test tells which those are
+  keys-filter : (p : K → Bool) (es : List (K × Option V)) → AllByRecursion (λ (e : K × Option V). is_some e.1 ≡ p e.0) es →
+      keys_of (filter (λ (e : K × Option V). is_some e.1) es) ≡ filter p (keys_of es)
+  keys-filter p [] all = refl
+  keys-filter p (e ∷ es) all = rw (← all.0) (by (keys-filter p es all.1) (is_some e.1))
+    where
+      by : keys_of (filter (λ (e : K × Option V). is_some e.1) es) ≡ filter p (keys_of es) → (b : Bool) →
+          keys_of (cond b (e ∷ filter (λ (e : K × Option V). is_some e.1) es) (filter (λ (e : K × Option V). is_some e.1) es)) ≡ cond b (e.0 ∷ filter p (keys_of es)) (filter p (keys_of es))
+      by rest true = ap (λ l. e.0 ∷ l) rest
+      by rest false = rest
+
   pub length-keys : (l : List (K × V)) → length (keys_of l) ≡ length l
   length-keys [] = refl
   length-keys (e ∷ l) = let rest = length-keys l in omega arith
@@ -146,6 +167,19 @@ module _ {K V : Type 0} where
       by : IsDistinct eq (keys_of (present es)) → (o : Option V) → IsDistinct eq (keys_of (left_at e.0 o ++ present es))
       by rest None = rest
       by rest (Some v) = IsDistinct-cons eq e.0 (keys_of (present es)) (none_present (λ y. eq e.0 y ≡ false) es (IsDistinct-head eq e.0 (keys_of es) distinct)) rest
+
+  -- of entries with distinct keys, each is the one at its key
+  own_tail : {eq : K → K → Bool} → IsEquivalence eq → (x : K × Option V) (l es : List (K × Option V)) → AllByRecursion (λ y. eq x.0 y ≡ false) (keys_of l) →
+      AllByRecursion (λ (e : K × Option V). lookup (eq e.0) es ≡ Some e.1) l → AllByRecursion (λ (e : K × Option V). lookup (eq e.0) (x ∷ es) ≡ Some e.1) l
+  own_tail laws x [] es apart all = tt
+  own_tail {eq} laws x (e ∷ l) es apart all =
+      let other : eq e.0 x.0 ≡ false = laws.symm e.0 x.0 ∙ apart.0 in
+      (rw other all.0, own_tail laws x l es apart.1 all.1)
+
+  each_own : {eq : K → K → Bool} → IsEquivalence eq → (es : List (K × Option V)) → IsDistinct eq (keys_of es) → AllByRecursion (λ (e : K × Option V). lookup (eq e.0) es ≡ Some e.1) es
+  each_own laws [] distinct = tt
+  each_own {eq} laws (e ∷ es) distinct =
+      (rw (laws.refl e.0) refl, own_tail laws e es es (IsDistinct-head eq e.0 (keys_of es) distinct) (each_own laws es (IsDistinct-tail eq e.0 (keys_of es) distinct)))
 
   pub lookup-present : {eq : K → K → Bool} → IsEquivalence eq → (q : K) (es : List (K × Option V)) → IsDistinct eq (keys_of es) →
       lookup (eq q) (present es) ≡ option_flatten (lookup (eq q) es)
@@ -243,6 +277,19 @@ module _ {K V : Type 0} {eq : K → K → Bool} {cmp : K → K → Ordering} (to
 
   pub slot-found : (q : K) (es : List (K × Option V)) → list_any (is_at (cmp q)) (keys_of es) ≡ is_some (lookup (eq q) es)
   slot-found q es = subst (λ e. list_any (is_at (cmp q)) (keys_of es) ≡ is_some (lookup (e q) es)) (sym (eq_is cmp ties)) (sym (is_some-lookup (is_at (cmp q)) es))
+
+  -- the numbers with a row
+  has_row_there : (es l : List (K × Option V)) → IsDistinct eq (keys_of es) → AllByRecursion (λ (e : K × Option V). lookup (eq e.0) es ≡ Some e.1) l →
+      AllByRecursion (λ (e : K × Option V). is_some e.1 ≡ list_any (is_at (cmp e.0)) (keys_of (by_key cmp (present es)))) l
+  has_row_there es [] distinct all = tt
+  has_row_there es (e ∷ l) distinct all =
+      (sym (sym (is_some-lookup (is_at (cmp e.0)) (by_key cmp (present es))) ∙ ap is_some (row-found e.0 es distinct) ∙ ap (λ o. is_some (option_flatten o)) all.0), has_row_there es l distinct all.1)
+
+  pub numbers-filter : (es : List (K × Option V)) → IsDistinct eq (keys_of es) →
+      keys_of (filter (λ (e : K × Option V). is_some e.1) es) ≡ filter (λ q. list_any (is_at (cmp q)) (keys_of (by_key cmp (present es)))) (keys_of es)
+  numbers-filter es distinct =
+      keys-filter (λ q. list_any (is_at (cmp q)) (keys_of (by_key cmp (present es)))) es
+      (has_row_there es es distinct (each_own (subst IsEquivalence (sym (eq_is cmp ties)) (eq_by_cmp_equiv total)) es distinct))
 
   pub ascending-rows : (es : List (K × Option V)) → IsStrictlySortedBy cmp (keys_of (by_key cmp (present es)))
   ascending-rows es = ascending-by_key total (present es)

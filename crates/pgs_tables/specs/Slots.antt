@@ -1,5 +1,5 @@
 -- What a table of numbered rows is seen as: the rows that are there by ascending number, and the numbers that have a slot.
-use Rattle.std.specs.Prelude.{◌≡◌, ℕ, Bool, true, List, length, [], ◌∷◌, ◌++◌, Option, Some, None, ◌<◌, get_or, refl}
+use Rattle.std.specs.Prelude.{◌≡◌, ℕ, Bool, true, cond, List, length, [], ◌∷◌, ◌++◌, Option, Some, None, ◌<◌, get_or, refl}
 use Rattle.std.specs.Coded.{Coded, code_by, coded_list, coded×}
 use Rattle.std.specs.declared.cmp.Ordering.{Ordering}
 use Rattle.std.specs.List.{list_any, IsDistinct}
@@ -20,6 +20,14 @@ code_slots {K} {V} k v =
 -- whether a number has a slot
 abbrev pub has_slot : {K V : Type 0} → (K → K → Ordering) → Slots K V → K → Bool
 has_slot cmp slots id = list_any (is_at (cmp id)) slots.numbers
+
+-- whether a number has a row
+abbrev pub has_row : {K V : Type 0} → (K → K → Ordering) → Slots K V → K → Bool
+has_row cmp slots id = list_any (is_at (cmp id)) (keys_of slots.rows)
+
+-- numbers with one more, last, unless it is among them
+abbrev pub with_number : {K : Type 0} → (K → K → Ordering) → List K → K → List K
+with_number cmp numbers id = cond (list_any (is_at (cmp id)) numbers) numbers (numbers ++ id ∷ [])
 
 -- entries by ascending key; of several with one key, the first
 abbrev pub by_key : {K V : Type 0} → (K → K → Ordering) → List (K × V) → List (K × V)

@@ -1,21 +1,30 @@
 -- What tables mean, and when they stand.
-use Rattle.std.specs.Prelude.{◌≡◌, true, List, map, Option, IfSome}
+use Rattle.std.specs.Prelude.{◌≡◌, ℕ, ◌+◌, ◌*◌, true, List, map, length, Option, IfSome}
 use Rattle.std.specs.List.{list_all}
 use Rattle.std.specs.Map.{keys_of, lookup}
 use Rattle.std.specs.BTreeMap.{is_at}
 use Rattle.pgs_base.specs.declared.element.NodeId.{NodeId}
 use Rattle.pgs_base.specs.declared.element.EdgeId.{EdgeId}
 use Rattle.pgs_base.specs.declared.row.EdgeRow.{EdgeRow}
-use Rattle.pgs_base.specs.Graph.{Graph, node_cmp, edge_cmp, is_graph}
+use Rattle.pgs_base.specs.Graph.{Graph, node_cmp, edge_cmp, element_count, is_graph}
 use Rattle.pgs_graph.specs.declared.delta.Delta.{Delta}
 use Rattle.pgs_tables.specs.Slots.{Slots, has_slot}
 use Rattle.pgs_tables.specs.declared.node_edges.NodeTable.{NodeTable}
 use Rattle.pgs_tables.specs.Adjacency.{node_edges}
 
--- what contracts see of tables: the graph that they mean, and the delta that they are ready for
+-- what contracts see of tables: the graph that they mean, the delta that they are ready for, and how many slots they have
 pub record TablesState : Type 0 where
   pub graph : Graph
   pub ready : Option Delta
+  pub slots : ℕ
+
+-- how many slots there are in two tables
+abbrev pub slot_count : Slots NodeId NodeTable → Slots EdgeId EdgeRow → ℕ
+slot_count nodes edges = length nodes.numbers + length edges.numbers
+
+-- how many slots tables of a graph have at most, once a delta was prepared: two for each node and edge, and one for each change
+abbrev pub most_slots : Graph → Delta → ℕ
+most_slots g delta = 2 * element_count g + (length delta.nodes + length delta.edges)
 
 -- the graph of the rows that are there
 abbrev pub graph_of : List (NodeId × NodeTable) → List (EdgeId × EdgeRow) → Graph

@@ -19,7 +19,8 @@ use std::alloc::Global;
 /// Does changes of rows whose numbers have slots.
 pub(crate) fn put_rows<K: Number, V: Drop>(table: &mut Numbered<K, V>, changes: Vec<(K, Option<V>)>)
     requires { list_all (has_slot K.cmp table.old) (keys_of changes.items) ≡ true }
-    ensures { table.new.rows ≡ entries_changed K.cmp table.old.rows changes.items }
+    ensures rows { table.new.rows ≡ entries_changed K.cmp table.old.rows changes.items }
+    ensures numbers { table.new.numbers ≡ table.old.numbers }
 {
     for (id, row) in changes {
         put_row(table, id, row);
@@ -46,7 +47,8 @@ pub(crate) fn put_nodes(
     changes: Vec<(NodeId, Option<NodeRow>)>,
 )
     requires { list_all (has_slot node_cmp nodes.old) (keys_of changes.items) ≡ true }
-    ensures { (q : NodeId) → lookup (is_at (node_cmp q)) nodes.new.rows ≡ rows_put q (lookup (is_at (node_cmp q)) nodes.old.rows) changes.items }
+    ensures rows { (q : NodeId) → lookup (is_at (node_cmp q)) nodes.new.rows ≡ rows_put q (lookup (is_at (node_cmp q)) nodes.old.rows) changes.items }
+    ensures numbers { nodes.new.numbers ≡ nodes.old.numbers }
 {
     for (id, row) in changes {
         put_node(nodes, alloc, id, row);
@@ -82,6 +84,7 @@ fn edges_of(alloc: Global, table: Option<NodeTable>) -> NodeEdges
 pub(crate) fn put_lists(nodes: &mut Numbered<NodeId, NodeTable>, lists: Vec<(NodeId, NodeEdges)>)
     ensures ascending { IsStrictlySortedBy node_cmp (keys_of nodes.new.rows) }
     ensures rows { (q : NodeId) → lookup (is_at (node_cmp q)) nodes.new.rows ≡ lists_put q (lookup (is_at (node_cmp q)) nodes.old.rows) lists.items }
+    ensures numbers { nodes.new.numbers ≡ nodes.old.numbers }
 {
     for (id, edges) in lists {
         put_list(nodes, id, edges);
@@ -90,7 +93,8 @@ pub(crate) fn put_lists(nodes: &mut Numbered<NodeId, NodeTable>, lists: Vec<(Nod
 }
 
 fn put_list(nodes: &mut Numbered<NodeId, NodeTable>, id: NodeId, edges: NodeEdges)
-    ensures { (q : NodeId) → lookup (is_at (node_cmp q)) nodes.new.rows ≡ edges_put q (lookup (is_at (node_cmp q)) nodes.old.rows) (id, edges) }
+    ensures rows { (q : NodeId) → lookup (is_at (node_cmp q)) nodes.new.rows ≡ edges_put q (lookup (is_at (node_cmp q)) nodes.old.rows) (id, edges) }
+    ensures numbers { nodes.new.numbers ≡ nodes.old.numbers }
 {
     if let Some(table) = nodes.take(id) {
         let NodeTable { row, edges: _ } = table;

@@ -1,10 +1,10 @@
-ghost use Rattle.std.specs.Prelude.{◌≡◌, ◌+◌, ◌<◌, ◌≤◌, ◌^◌, true, [], length, is_some, OnOk, OnSome, IfOk, MatchOption, None, Some};
+ghost use Rattle.std.specs.Prelude.{◌≡◌, ◌+◌, ◌*◌, ◌<◌, ◌≤◌, ◌^◌, true, false, [], length, filter, is_some, OnErr, OnOk, OnSome, IfOk, IfSome, MatchOption, None, Some};
 ghost use Rattle.std.specs.Option.{option_copied, option_flatten};
 ghost use Rattle.std.specs.List.{IsDistinct};
 ghost use Rattle.std.specs.List.Sorted.{IsStrictlySortedBy};
 ghost use Rattle.std.specs.BTreeMap.{is_at, insert_entry};
 ghost use Rattle.std.specs.Map.{keys_of, lookup, remove_entry, set_value};
-ghost use Rattle.pgs_tables.specs.Slots.{has_slot, present, row_count, AreKept, IsFoundAt};
+ghost use Rattle.pgs_tables.specs.Slots.{has_row, has_slot, present, row_count, with_number, AreKept, IsFoundAt};
 
 use crate::Number;
 use crate::places::Places;
@@ -59,9 +59,11 @@ impl<K: Number, V: Drop> Numbered<K, V> {
         }
     }
 
-    /// Makes a slot for a number that has none. After `Memory` the rows are as they were, and each number that had a slot has one.
+    /// Makes a slot for a number that has none. The rows stay, and after `Memory` the slots too.
     pub fn make_slot(&mut self, id: K) -> Result<(), Memory>
         ensures rows { self.new.rows ≡ self.old.rows }
+        ensures ok { OnOk result (self.new.numbers ≡ with_number K.cmp self.old.numbers id) }
+        ensures err { OnErr result (self.new.numbers ≡ self.old.numbers) }
         ensures there { OnOk result (has_slot K.cmp self.new id ≡ true) }
         ensures kept { (other : K) → has_slot K.cmp self.old other ≡ true → has_slot K.cmp self.new other ≡ true }
     {
@@ -116,13 +118,25 @@ impl<K: Number, V: Drop> Numbered<K, V> {
         Ok(List::from_vec(ids))
     }
 
-    /// Takes out the slots without a row, where they are more than half of all.
+    /// Takes out the slots without a row, where they are more than half of all. So there are at most twice as many slots as rows.
     pub fn clear_slots(&mut self)
-        ensures { self.new.rows ≡ self.old.rows }
+        ensures rows { self.new.rows ≡ self.old.rows }
+        ensures cleared { 2 * length self.old.rows < length self.old.numbers → self.new.numbers ≡ filter (has_row K.cmp self.old) self.old.numbers }
+        ensures left { length self.old.numbers ≤ 2 * length self.old.rows → self.new.numbers ≡ self.old.numbers }
+        ensures few { length self.new.numbers ≤ 2 * length self.old.rows }
     {
-        if self.live < self.slots.len() / 2 {
+        if self.is_sparse() {
             self.slots.retain(|_, row| row.is_some());
         }
+    }
+
+    // Whether more than half of the slots have no row.
+    fn is_sparse(&self) -> bool
+        ensures sparse { result ≡ true → 2 * length self.now.rows < length self.now.numbers }
+        ensures dense { result ≡ false → length self.now.numbers ≤ 2 * length self.now.rows }
+    {
+        let empty = self.slots.len() - self.live;
+        self.live < empty
     }
 }
 
@@ -153,7 +167,26 @@ fn stands_at<K: Number, V: Drop>(slots: &IndexMap<K, Option<V>, Seed>, place: us
     }
 }
 
-// The place of the slot of a number. It is looked for where one was found last.
+// The place of the slot of a number, where it is one of those that are tried before a number is hashed.
+fn tried<K: Number, V: Drop>(
+    slots: &IndexMap<K, Option<V>, Seed>,
+    last: &Places,
+    id: K,
+) -> Option<usize>
+    ensures { IfSome result (IsFoundAt (K.eq id) slots.now.entries) }
+{
+    let near = last.near(id.number());
+    if stands_at(slots, near, id) {
+        return Some(near);
+    }
+    let next = last.next(id.number());
+    if stands_at(slots, next, id) {
+        return Some(next);
+    }
+    None
+}
+
+// The place of the slot of a number.
 fn find<K: Number, V: Drop>(
     slots: &IndexMap<K, Option<V>, Seed>,
     last: &Places,
@@ -163,9 +196,9 @@ fn find<K: Number, V: Drop>(
     ensures unique { IsDistinct K.eq (keys_of slots.now.entries) }
 {
     let _unique = slots.len();
-    let near = last.near(id.number());
-    if stands_at(slots, near, id) {
-        return Some(near);
+    if let Some(place) = tried(slots, last, id) {
+        last.note(id.number(), place);
+        return Some(place);
     }
     let (place, _, _) = slots.get_full(&id)?;
     last.note(id.number(), place);
@@ -177,6 +210,8 @@ fn slot_of<K: Number, V: Drop>(
     slots: &mut IndexMap<K, Option<V>, Seed>,
     id: K,
 ) -> Result<usize, Memory>
+    ensures numbers { OnOk result (keys_of slots.new.entries ≡ with_number K.cmp (keys_of slots.old.entries) id) }
+    ensures err { OnErr result (keys_of slots.new.entries ≡ keys_of slots.old.entries) }
     ensures there { OnOk result (is_some (lookup (K.eq id) slots.new.entries) ≡ true) }
     ensures kept { AreKept slots.old.entries slots.new.entries }
     ensures unique { IsDistinct K.eq (keys_of slots.new.entries) }

@@ -1,6 +1,6 @@
 //! The new lists of edges of the nodes that a delta touches, in one pass over the delta.
 
-ghost use Rattle.std.specs.Prelude.{◌≡◌, true, None, Some, IfOk, OnOk, [], ◌∷◌};
+ghost use Rattle.std.specs.Prelude.{◌≡◌, ◌+◌, ◌≤◌, true, None, Some, length, IfOk, OnOk, [], ◌∷◌};
 ghost use Rattle.std.specs.Option.{option_copied, option_map};
 ghost use Rattle.std.specs.List.{list_all};
 ghost use Rattle.std.specs.List.Sorted.{IsStrictlySortedBy};
@@ -30,6 +30,7 @@ pub(crate) fn make_slots<K: Number, V: Drop, W>(
 ) -> Result<(), Memory>
     ensures rows { table.new.rows ≡ table.old.rows }
     ensures there { OnOk result (list_all (has_slot K.cmp table.new) (keys_of changes.now) ≡ true) }
+    ensures few { length table.new.numbers ≤ length table.old.numbers + length changes.now }
 {
     for change in changes {
         table.make_slot(change.0)?;

@@ -1,7 +1,8 @@
-ghost use Rattle.std.specs.Prelude.{◌≡◌, true, None, Some, IfOk, OnOk, OnErr};
+ghost use Rattle.std.specs.Prelude.{◌≡◌, ◌≤◌, true, None, Some, IfOk, OnOk, OnErr};
 ghost use Rattle.pgs_base.specs.Graph.{empty_graph};
 ghost use Rattle.pgs_graph.specs.Changed.{changed, is_sound};
 ghost use Rattle.pgs_tables.specs.Adjacency.{Suits};
+ghost use Rattle.pgs_tables.specs.Standing.{most_slots};
 
 use crate::commit::{put_lists, put_nodes, put_rows};
 use crate::node_edges::NodeTable;
@@ -13,7 +14,8 @@ use std::alloc::Global;
 use std::marker::Model;
 use std::snapshot::Snapshot;
 
-/// A property graph in hashed tables. Contracts see the graph that the tables mean, and the delta that they are ready for, if any.
+/// A property graph in hashed tables. Contracts see the graph that the tables mean, the delta that they are ready for, if any, and how
+/// many slots they have.
 ///
 /// The delta that they are ready for takes no bytes: it is known to contracts alone.
 pub struct Tables {
@@ -38,12 +40,12 @@ impl Drop for Tables {
 }
 
 impl Model for Tables {
-    ghost use Rattle.pgs_tables.specs.Standing.{TablesState, AreTables, graph_of};
+    ghost use Rattle.pgs_tables.specs.Standing.{TablesState, AreTables, graph_of, slot_count};
     ghost use Rattle.pgs_tables.specs.Ready.{ready_for};
 
     ghost Value = { TablesState };
 
-    ghost view = { λ tables. record { graph = graph_of tables.nodes.rows tables.edges.rows; ready = ready_for tables.ready } };
+    ghost view = { λ tables. record { graph = graph_of tables.nodes.rows tables.edges.rows; ready = ready_for tables.ready; slots = slot_count tables.nodes tables.edges } };
 
     ghost invariant = { λ tables. AreTables tables.nodes tables.edges (ready_for tables.ready) };
 }
@@ -53,6 +55,7 @@ impl Tables {
     pub fn new(alloc: Global) -> Tables
         ensures graph { result.graph ≡ empty_graph }
         ensures ready { result.ready ≡ None }
+        ensures slots { result.slots ≡ 0 }
     {
         Tables::with_seed(alloc, Seed::Fixed)
     }
@@ -61,6 +64,7 @@ impl Tables {
     pub fn with_seed(alloc: Global, seed: Seed) -> Tables
         ensures graph { result.graph ≡ empty_graph }
         ensures ready { result.ready ≡ None }
+        ensures slots { result.slots ≡ 0 }
     {
         Tables {
             alloc,
@@ -72,7 +76,8 @@ impl Tables {
     }
 
     /// Takes all memory that a sound delta needs, so that `commit` needs none. The graph stays as it is. An Ok makes the tables ready
-    /// for the delta; after `Memory` they are ready for none.
+    /// for the delta; after `Memory` they are ready for none. In both cases they have at most two slots for each node and edge, and one
+    /// for each change of the delta.
     pub fn prepare(&mut self, delta: Delta) -> Result<Prepared, Memory>
         requires { is_sound self.old.graph delta ≡ true }
         ensures graph { self.new.graph ≡ self.old.graph }
@@ -80,6 +85,7 @@ impl Tables {
         ensures suits { IfOk result (Suits self.old.graph) }
         ensures ready { OnOk result (self.new.ready ≡ Some delta) }
         ensures err { OnErr result (self.new.ready ≡ None) }
+        ensures slots { self.new.slots ≤ most_slots self.old.graph delta }
     {
         self.make_room(&delta)?;
         match self.relisted(&delta) {
@@ -96,6 +102,7 @@ impl Tables {
         ensures graph { self.new.graph ≡ self.old.graph }
         ensures ready { OnOk result (self.new.ready ≡ Some delta.now) }
         ensures err { OnErr result (self.new.ready ≡ None) }
+        ensures slots { self.new.slots ≤ most_slots self.old.graph delta.now }
     {
         self.ready = None;
         self.nodes.clear_slots();
@@ -106,12 +113,14 @@ impl Tables {
         Ok(())
     }
 
-    /// Puts in a delta that the tables are ready for, so that they mean the changed graph. It takes no memory and can't be refused.
+    /// Puts in a delta that the tables are ready for, so that they mean the changed graph. It makes no slot, takes no memory and can't be
+    /// refused.
     pub fn commit(&mut self, prepared: Prepared)
         requires ready { self.old.ready ≡ Some prepared.delta }
         requires suits { Suits self.old.graph prepared }
         ensures graph { self.new.graph ≡ changed self.old.graph prepared.delta }
         ensures ready { self.new.ready ≡ None }
+        ensures slots { self.new.slots ≡ self.old.slots }
     {
         let Prepared { delta, lists } = prepared;
         let Delta { nodes, edges } = delta;

@@ -26,8 +26,8 @@ none_back id q edges was none true tie =
     ap (relinked edges) (sym none ∙ ap was same)
 none_back id q edges was none false apart = refl
 
-pub returns-in-Some : goal.returns-in-Some
-returns-in-Some c q =
+pub returns-in-Some-clause-rows : goal.returns-in-Some-clause-rows
+returns-in-Some-clause-rows c q =
     let rows = c.args.nodes.now.rows in
     let was = λ (n : NodeId). lookup (is_at (node_cmp n)) rows in
     let new : NodeTable = record { row = c.in-Some.table.row; edges = c.args.edges } in
@@ -38,8 +38,8 @@ returns-in-Some c q =
     ∙ ap (λ o. cond (is_at (node_cmp c.args.id) q) (Some new) o) (lookup-remove_key node_cmp_total q c.args.id rows c.take.ensures.ascending)
     ∙ put_back c.args.id q c.args.edges was new is (is_at (node_cmp c.args.id) q) refl
 
-pub returns-in_default : goal.returns-in_default
-returns-in_default c q =
+pub returns-in_default-clause-rows : goal.returns-in_default-clause-rows
+returns-in_default-clause-rows c q =
     let rows = c.args.nodes.now.rows in
     let was = λ (n : NodeId). lookup (is_at (node_cmp n)) rows in
     let none : was c.args.id ≡ None = sym c.take.ensures.row ∙ c.in_default.is in

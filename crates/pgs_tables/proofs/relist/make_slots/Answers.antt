@@ -1,9 +1,10 @@
-use Rattle.std.proofs.Common.{◌≡◌, ℕ, ◌+◌, ◌<◌, ◌∙◌, Bool, true, List, [], ◌∷◌, ◌++◌, get_or, length, take, sym, ap, refl}
+use Rattle.std.proofs.Common.{◌≡◌, ℕ, ◌+◌, ◌<◌, ◌∙◌, Bool, true, List, [], ◌∷◌, ◌++◌, get_or, length, take, sym, ap, refl, arith}
 use Rattle.std.specs.List.{list_all}
 use Rattle.std.specs.Map.{keys_of}
 use Rattle.std.proofs.lemmas.Bool.{and_parts, and_from}
 use Rattle.std.proofs.lemmas.List.{take_more}
 use Rattle.pgs_tables.specs.Slots.{has_slot}
+use Rattle.pgs_tables.proofs.Placed.{length-with_number}
 use Rattle.pgs_tables.proofs.relist.make_slots.Goals as goal
 
 all_kept : {K : Type 0} (p q : K → Bool) → ((k : K) → p k ≡ true → q k ≡ true) → (ks : List K) → list_all p ks ≡ true → list_all q ks ≡ true
@@ -25,4 +26,13 @@ loop-change-preserved g c = record {
   there = all_one_more (has_slot g.K.Ord.cmp c.make_slot.new.self) c.args.changes.now c.loop-change.change-index c.change-item.result c.loop-change-test.true c.change-item.is
       (all_kept (has_slot g.K.Ord.cmp c.loop-change.table) (has_slot g.K.Ord.cmp c.make_slot.new.self) c.in_ok-make_slot.ensures.kept (keys_of (take c.loop-change.change-index c.args.changes.now)) c.loop-change.invariant.there)
       c.in_ok-make_slot.ensures.there;
+  few =
+      let made = ap length c.in_ok-make_slot.ensures.ok in
+      let one = length-with_number g.K.Ord.cmp c.loop-change.table.numbers c.change-item.result.0 in
+      omega (arith, c.loop-change.invariant.few);
 }
+
+pub returns-in_err-make_slot-clause-few : goal.returns-in_err-make_slot-clause-few
+returns-in_err-make_slot-clause-few g c =
+    let same = ap length c.in_err-make_slot.ensures.err in
+    omega (arith, c.loop-change.invariant.few)

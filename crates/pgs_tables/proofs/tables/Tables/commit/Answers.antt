@@ -15,9 +15,9 @@ invariant_of-self c =
     let new_edges = c.put_rows.new.table.rows in
     let seen : graph_of nodes edges ≡ c.args.self.now.graph = ap (λ s. s.graph) c.self.view_is in
     let sound = subst (λ h. is_sound h delta ≡ true) (sym seen) c.requires.suits.sound in
-    let edges_changed = c.put_rows.ensures ∙ ap (entries_changed edge_cmp edges) c.into_vec.ensures.items in
+    let edges_changed = c.put_rows.ensures.rows ∙ ap (entries_changed edge_cmp edges) c.into_vec.ensures.items in
     let touched = c.into_vec-3.ensures.items ∙ c.requires.suits.lists ∙ ap (λ h. touched_edges h delta) (sym seen) in
-    let each = each_put (graph_of nodes edges) nodes c.put_nodes.new.nodes.rows new_nodes delta _ _ c.into_vec-2.ensures.items touched c.put_nodes.ensures c.put_lists.ensures.rows in
+    let each = each_put (graph_of nodes edges) nodes c.put_nodes.new.nodes.rows new_nodes delta _ _ c.into_vec-2.ensures.items touched c.put_nodes.ensures.rows c.put_lists.ensures.rows in
     record {
       graph = committed_is_graph nodes new_nodes edges new_edges delta c.self.invariant.graph sound edges_changed c.put_lists.ensures.ascending each;
       listed = committed_edges nodes new_nodes edges new_edges delta c.self.invariant.graph sound edges_changed c.put_lists.ensures.ascending each c.self.invariant.listed;
@@ -33,6 +33,6 @@ returns-clause-graph c =
     let touched = c.into_vec-3.ensures.items ∙ c.requires.suits.lists ∙ ap (λ h. touched_edges h delta) (sym seen) in
     committed_graph nodes c.put_lists.new.nodes.rows edges c.put_rows.new.table.rows delta c.self.invariant.graph
     (subst (λ h. is_sound h delta ≡ true) (sym seen) c.requires.suits.sound)
-    (c.put_rows.ensures ∙ ap (entries_changed edge_cmp edges) c.into_vec.ensures.items) c.put_lists.ensures.ascending
-    (each_put (graph_of nodes edges) nodes c.put_nodes.new.nodes.rows c.put_lists.new.nodes.rows delta _ _ c.into_vec-2.ensures.items touched c.put_nodes.ensures c.put_lists.ensures.rows)
+    (c.put_rows.ensures.rows ∙ ap (entries_changed edge_cmp edges) c.into_vec.ensures.items) c.put_lists.ensures.ascending
+    (each_put (graph_of nodes edges) nodes c.put_nodes.new.nodes.rows c.put_lists.new.nodes.rows delta _ _ c.into_vec-2.ensures.items touched c.put_nodes.ensures.rows c.put_lists.ensures.rows)
     ∙ ap (λ h. changed h delta) seen
