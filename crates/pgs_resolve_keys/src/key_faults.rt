@@ -109,16 +109,19 @@ fn names_at<'a>(
 }
 
 // Whether paths have over 8 edge places: each step has one.
+#[tactic(auto, using(crate::proofs::Edges::edges_cons))]
 fn has_many_edges(paths: &[RawPath]) -> bool
     ensures { result ≡ nat_lt 8 (length (edge_places (places_of paths.now))) }
 {
+    let mut rest = paths;
     let mut left = 8;
-    for path in paths {
+    while let [path, others @ ..] = rest {
         let edges = path.steps.as_slice().len();
         if edges > left {
             return true;
         }
         left -= edges;
+        rest = others;
     }
     false
 }
@@ -144,7 +147,10 @@ fn is_within_too_large(key: &RawKey) -> bool
 pub fn is_too_large(number: u64, key: &RawKey) -> bool
     ensures { result ≡ is_too_large number key.now }
 {
-    are_too_large(key.scope.as_slice()) || is_within_too_large(key) || key.exprs.len() > 16 || number > 256
+    are_too_large(key.scope.as_slice())
+        || is_within_too_large(key)
+        || key.exprs.len() > 16
+        || number > 256
 }
 
 impl KeyNames {
