@@ -1,8 +1,7 @@
 -- What is known after steps, and that where no step is possible all variables of a connected pattern are.
-use Rattle.std.proofs.Common.{◌≡◌, ℕ, zero, suc, ◌<◌, ◌≤◌, Bool, true, false, ◌&&◌, ◌||◌, ◌==◌, not, cond, ⊎_elim, List, [], ◌∷◌, ◌++◌, length, get_or, take, ◌+◌, Option, Some, None, MatchOption, refl, sym, ◌∙◌, ap, subst, true≢false, arith}
+use Rattle.std.proofs.Common.{◌≡◌, ℕ, zero, suc, ◌<◌, ◌≤◌, Bool, true, false, ◌&&◌, ◌||◌, ◌==◌, not, cond, ⊎_elim, List, [], ◌∷◌, ◌++◌, length, refl, sym, ◌∙◌, ap, subst, true≢false, arith}
 use Rattle.std.specs.List.{list_any, list_all}
 use Rattle.std.proofs.lemmas.Bool.{and_parts, and_from, or_cases, or_left, or_right, eqb-true, not-true, leb-true}
-use Rattle.std.proofs.lemmas.List.Folds.{list_any_at, list_all_more}
 use Rattle.pgs_syntax.specs.declared.pattern.Atom.{Atom}
 use Rattle.pgs_syntax.specs.declared.pattern.Atom.TheVariants.{Ends, HasLabel, FitsNode, FitsEdge, Equals}
 use Rattle.pgs_syntax.specs.declared.pattern.Pattern.{Pattern}
@@ -11,7 +10,7 @@ use Rattle.pgs_syntax.specs.Valid.{edge_count, is_edge_var, is_node_var, speaks_
 use Rattle.pgs_syntax.proofs.Connected.{all_linked}
 use Rattle.pgs_match.specs.declared.step.Step.{Step}
 use Rattle.pgs_match.specs.declared.step.Step.TheVariants.{Along, End}
-use Rattle.pgs_match.specs.Plans.{bound_by, is_known, and_known, has_end, is_closed_at, IsBetter, is_step, are_steps, known_after, covers, completes}
+use Rattle.pgs_match.specs.Plans.{bound_by, is_known, and_known, has_end, is_closed_at, is_step, are_steps, known_after, covers, completes}
 
 -- ---- what a valid pattern has
 
@@ -74,37 +73,6 @@ module _ (edge_vars : List Bool) where
       let parts = and_parts (is_known known edge && not (is_known known node)) _ h in
       let kinds = ends_kinds edge node source atoms speaks parts.1 in
       (node_below edge_vars node kinds.1, not-true _ (and_parts (is_known known edge) _ parts.0).1)
-
--- ---- a step at one place is a step of all
-
-pub step_within : (atoms : List Atom) (known : List Bool) (i : ℕ) (d : Atom) (step : Step) → i < length atoms → is_step (get_or atoms i d ∷ []) known step ≡ true →
-    is_step atoms known step ≡ true
-step_within atoms known i d (Along edge node forward) below h =
-    let parts = and_parts (is_known known node && not (is_known known edge)) _ h in
-    and_from _ _ parts.0 (list_any_at (has_end edge node forward) atoms i d below (alone _ parts.1))
-  where
-    alone : (b : Bool) → (b || false) ≡ true → b ≡ true
-    alone true h = refl
-    alone false h = h
-step_within atoms known i d (End edge node source) below h =
-    let parts = and_parts (is_known known edge && not (is_known known node)) _ h in
-    and_from _ _ parts.0 (list_any_at (has_end edge node source) atoms i d below (alone _ parts.1))
-  where
-    alone : (b : Bool) → (b || false) ≡ true → b ≡ true
-    alone true h = refl
-    alone false h = h
-
--- the best step of one place more
-pub best_more : (atoms : List Atom) (known : List Bool) (i : ℕ) (d : Atom) (before after : Option Step) → i < length atoms →
-    MatchOption before (list_all (is_closed_at known) (take i atoms) ≡ true) (λ step. is_step atoms known step ≡ true) → IsBetter known (get_or atoms i d) before after →
-    MatchOption after (list_all (is_closed_at known) (take (i + 1) atoms) ≡ true) (λ step. is_step atoms known step ≡ true)
-best_more atoms known i d before None below so_far better =
-    let all : list_all (is_closed_at known) (take i atoms) ≡ true =
-    subst (λ o. MatchOption o (list_all (is_closed_at known) (take i atoms) ≡ true) (λ step. is_step atoms known step ≡ true)) better.0 so_far in
-    list_all_more (is_closed_at known) atoms i d below ∙ and_from _ _ all better.1
-best_more atoms known i d before (Some step) below so_far better =
-    ⊎_elim (λ same. subst (λ o. MatchOption o (list_all (is_closed_at known) (take i atoms) ≡ true) (λ step. is_step atoms known step ≡ true)) same so_far)
-    (step_within atoms known i d step below) better
 
 -- what a step binds is in range and isn't known
 pub step_bounds : (pattern : Pattern) (atoms : List Atom) (known : List Bool) (step : Step) (var : ℕ) → is_valid_pattern pattern ≡ true → atoms ≡ pattern.atoms →

@@ -7,6 +7,7 @@ pub mod Known
 pub mod Agreeing
 pub mod AskedOf
 pub mod Bounded
+pub mod Choosing
 pub mod Completed
 pub mod Costs
 pub mod Gathered
@@ -21,4 +22,5 @@ pub mod Along
 pub mod EdgeTypes
 pub mod Few
 pub mod Planning
+pub mod Rates
 pub mod Walked

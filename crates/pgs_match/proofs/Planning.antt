@@ -1,6 +1,6 @@
 -- A valid pattern has a plan from each of its variables.
-use Rattle.std.proofs.Common.{◌≡◌, ◌⊎◌, inl, inr, ℕ, zero, suc, ◌+◌, ◌<◌, ◌≤◌, Bool, true, false, ◌&&◌, ◌||◌, ◌==◌, not, cond, List, [], ◌∷◌, length, replicate, refl, sym, ◌∙◌, ap, subst, true≢false, arith}
-use Rattle.std.specs.List.{list_any, list_all}
+use Rattle.std.proofs.Common.{◌≡◌, ◌⊎◌, inl, inr, ℕ, zero, suc, ◌<◌, ◌≤◌, Bool, true, false, ◌&&◌, not, cond, List, [], ◌∷◌, length, replicate, refl, ◌∙◌, ap, arith}
+use Rattle.std.specs.List.{list_all}
 use Rattle.std.proofs.lemmas.Bool.{and_parts, and_from, or_left, or_right, eq-eqb}
 use Rattle.std.proofs.lemmas.List.{length-set}
 use Rattle.pgs_syntax.specs.declared.pattern.Atom.{Atom}
@@ -9,12 +9,12 @@ use Rattle.pgs_syntax.specs.declared.pattern.Pattern.{Pattern}
 use Rattle.pgs_syntax.specs.Valid.{is_valid_pattern}
 use Rattle.pgs_match.specs.declared.step.Step.{Step}
 use Rattle.pgs_match.specs.declared.step.Step.TheVariants.{Along, End}
-use Rattle.pgs_match.specs.Plans.{bound_by, is_known, and_known, known_alone, has_end, is_step, is_closed_at, are_steps, known_after, covers, completes, is_plan}
+use Rattle.pgs_match.specs.Plans.{bound_by, is_known, and_known, known_alone, has_end, is_step, is_closed_at, are_steps, completes, is_plan}
 use Rattle.pgs_match.proofs.Counts.{left, one_less}
 use Rattle.pgs_match.proofs.Known.{known_now, known_still, step_bounds, all_known, valid_most}
 
 -- a step that is possible, or the knowledge that none is
-abbrev IsNext : List Atom → List Bool → Type 0
+abbrev pub IsNext : List Atom → List Bool → Type 0
 IsNext atoms known = ((step : Step) × (is_step atoms known step ≡ true)) ⊎ (list_all (is_closed_at known) atoms ≡ true)
 
 -- a step by some atoms is one by more
@@ -28,13 +28,13 @@ step_later atom atoms known (End edge node source) h =
 
 -- a step at the first atom
 module _ (atoms : List Atom) (known : List Bool) (edge source target : ℕ) where
-  first_end : (node : ℕ) (of : Bool) → is_known known edge ≡ true → is_known known node ≡ false → (cond of source target) ≡ node →
+  pub first_end : (node : ℕ) (of : Bool) → is_known known edge ≡ true → is_known known node ≡ false → (cond of source target) ≡ node →
       is_step (Ends edge source target ∷ atoms) known (End edge node of) ≡ true
   first_end node of known_edge unknown same =
       and_from _ _ (and_from _ _ known_edge (ap not unknown))
       (or_left (has_end edge node of (Ends edge source target)) _ (and_from _ _ (eq-eqb edge edge refl) (eq-eqb (cond of source target) node same)))
 
-  first_along : (node : ℕ) (of : Bool) → is_known known node ≡ true → is_known known edge ≡ false → (cond of source target) ≡ node →
+  pub first_along : (node : ℕ) (of : Bool) → is_known known node ≡ true → is_known known edge ≡ false → (cond of source target) ≡ node →
       is_step (Ends edge source target ∷ atoms) known (Along edge node of) ≡ true
   first_along node of known_node unknown same =
       and_from _ _ (and_from _ _ known_node (ap not unknown))
@@ -60,7 +60,7 @@ pass : (atom : Atom) (atoms : List Atom) (known : List Bool) → is_closed_at kn
 pass atom atoms known closed (inl step) = inl (step.0, step_later atom atoms known step.0 step.1)
 pass atom atoms known closed (inr all) = inr (and_from _ _ closed all)
 
-next : (atoms : List Atom) (known : List Bool) → IsNext atoms known
+pub next : (atoms : List Atom) (known : List Bool) → IsNext atoms known
 next [] known = inr refl
 next (Ends edge source target ∷ atoms) known =
     at_ends atoms known edge source target (is_known known edge) (is_known known source) (is_known known target) refl refl refl (next atoms known)

@@ -1,10 +1,9 @@
 -- The scope of a key has elements of one kind alone.
-use Rattle.std.proofs.Common.{◌≡◌, ℕ, ◌<◌, ◌≤◌, Bool, true, false, not, cond, List, [], ◌∷◌, ◌++◌, map, filter, take, length, slice_get, append-nil, Option, Some, None, Result, Ok, Err, IfOk, refl, sym, ap, ◌∙◌, subst, true≢false, arith}
+use Rattle.std.proofs.Common.{◌≡◌, ℕ, ◌<◌, ◌≤◌, Bool, true, false, not, cond, List, [], ◌∷◌, ◌++◌, map, filter, length, slice_get, append-nil, Option, Some, None, Result, Ok, Err, IfOk, refl, sym, ap, ◌∙◌, subst, true≢false, arith}
 use Rattle.std.specs.Option.{option_map_or}
 use Rattle.std.specs.Map.{keys_of}
 use Rattle.std.specs.Cmp.{Equal-is}
 use Rattle.std.proofs.lemmas.Bool.{and_parts, leb-true}
-use Rattle.std.proofs.lemmas.Grind.{common_steps}
 use Rattle.std.proofs.lemmas.List.Elements.{filter-append}
 use Rattle.pgs_base.specs.declared.element.NodeId.{NodeId}
 use Rattle.pgs_base.specs.declared.element.EdgeId.{EdgeId}
@@ -24,6 +23,7 @@ use Rattle.pgs_syntax.specs.Valid.{edge_count, is_edge_var, is_node_var, is_vali
 use Rattle.pgs_syntax.proofs.Assigned.{match_found}
 use Rattle.pgs_match.specs.Tests.{admitted, admitted_node, admitted_edge}
 use Rattle.pgs_match.proofs.Started.{admitted_of_match}
+use Rattle.pgs_match.proofs.There.{edge_kind}
 use Rattle.pgs_match.proofs.Values.{scope_valid, descriptor_valid}
 use Rattle.pgs_match.specs.declared.planned.Side.{Side}
 use Rattle.pgs_match.specs.declared.planned.Side.TheVariants.{Scope, Descriptor}
@@ -42,23 +42,13 @@ some_variable key valid = pattern_has key.descriptor (descriptor_valid key valid
 
 -- ---- rows and their numbers
 
-node_keys : (nodes : List (NodeId × NodeRow)) → map (λ id. Node id) (keys_of nodes) ≡ map (λ (node : NodeId × NodeRow). Node node.0) nodes
+pub node_keys : (nodes : List (NodeId × NodeRow)) → map (λ id. Node id) (keys_of nodes) ≡ map (λ (node : NodeId × NodeRow). Node node.0) nodes
 node_keys [] = refl
 node_keys (node ∷ nodes) = ap (λ elems. Node node.0 ∷ elems) (node_keys nodes)
 
-edge_keys : (edges : List (EdgeId × EdgeRow)) → map (λ id. Edge id) (keys_of edges) ≡ map (λ (edge : EdgeId × EdgeRow). Edge edge.0) edges
+pub edge_keys : (edges : List (EdgeId × EdgeRow)) → map (λ id. Edge id) (keys_of edges) ≡ map (λ (edge : EdgeId × EdgeRow). Edge edge.0) edges
 edge_keys [] = refl
 edge_keys (edge ∷ edges) = ap (λ elems. Edge edge.0 ∷ elems) (edge_keys edges)
-
-take_all : {X : Type 0} (xs : List X) (i : ℕ) → length xs ≤ i → take i xs ≡ xs
-take_all xs i end = grind (arith, common_steps)
-
-module _ (p : Elem → Bool) (g : Graph) (items : List Elem) (i : ℕ) where
-  pub nodes_whole : (ids : List NodeId) → items ≡ filter p (map (λ id. Node id) (take i ids)) → length ids ≤ i → ids ≡ keys_of g.nodes → items ≡ filter p (elements g false)
-  nodes_whole ids so_far end same = so_far ∙ ap (λ xs. filter p (map (λ id. Node id) xs)) (take_all ids i end ∙ same) ∙ ap (filter p) (node_keys g.nodes)
-
-  pub edges_whole : (ids : List EdgeId) → items ≡ filter p (map (λ id. Edge id) (take i ids)) → length ids ≤ i → ids ≡ keys_of g.edges → items ≡ filter p (elements g true)
-  edges_whole ids so_far end same = so_far ∙ ap (λ xs. filter p (map (λ id. Edge id) xs)) (take_all ids i end ∙ same) ∙ ap (filter p) (edge_keys g.edges)
 
 -- ---- one kind
 
@@ -92,15 +82,23 @@ module _ (resolved : Resolved) (g : Graph) (key : Key) (valid : is_valid_key key
       ap (λ b. cond b (Node node.0 ∷ filter (is_in_scope resolved g key) (map (λ (n : NodeId × NodeRow). Node n.0) nodes)) (filter (is_in_scope resolved g key) (map (λ (n : NodeId × NodeRow). Node n.0) nodes)))
       (not_admitted (Node node.0) (ap (λ b. cond b (admitted_node resolved g key.scope.atoms 0 node.0) None) kind)) ∙ no_nodes kind nodes
 
-  pub edges_are_scope : slice_get key.scope.edge_vars 0 ≡ Some true → filter (is_in_scope resolved g key) (elements g true) ≡ scope_of resolved g key
+  edges_are_scope : slice_get key.scope.edge_vars 0 ≡ Some true → filter (is_in_scope resolved g key) (elements g true) ≡ scope_of resolved g key
   edges_are_scope at =
       sym (filter-append (is_in_scope resolved g key) (elements g false) (elements g true)
       ∙ ap (λ xs. xs ++ filter (is_in_scope resolved g key) (elements g true)) (no_nodes (ap (λ (o : Option Bool). option_map_or not o false) at) g.nodes))
 
-  pub nodes_are_scope : is_edge_var key.scope.edge_vars 0 ≡ false → filter (is_in_scope resolved g key) (elements g false) ≡ scope_of resolved g key
+  nodes_are_scope : is_edge_var key.scope.edge_vars 0 ≡ false → filter (is_in_scope resolved g key) (elements g false) ≡ scope_of resolved g key
   nodes_are_scope kind =
       sym (filter-append (is_in_scope resolved g key) (elements g false) (elements g true)
       ∙ ap (λ xs. filter (is_in_scope resolved g key) (elements g false) ++ xs) (no_edges kind g.edges) ∙ append-nil (filter (is_in_scope resolved g key) (elements g false)))
+
+  -- of the kind of x
+  pub kind_is_scope : filter (is_in_scope resolved g key) (elements g (is_edge_var key.scope.edge_vars 0)) ≡ scope_of resolved g key
+  kind_is_scope = by (is_edge_var key.scope.edge_vars 0) refl
+    where
+      by : (b : Bool) → is_edge_var key.scope.edge_vars 0 ≡ b → filter (is_in_scope resolved g key) (elements g b) ≡ scope_of resolved g key
+      by true kind = edges_are_scope (edge_kind key.scope.edge_vars 0 kind)
+      by false kind = nodes_are_scope kind
 
 -- an answer that is one thing is one that is the same thing
 pub ok_same : {X E : Type 0} (r : Result X E) (x y : X) → x ≡ y → IfOk r (λ given. given ≡ x) → IfOk r (λ given. given ≡ y)

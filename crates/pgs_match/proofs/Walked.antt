@@ -1,18 +1,17 @@
 -- The elements of a match lie within as many edges of each of them as the pattern has edge variables, so what is reached is near; and
 -- it is few where few edges are near.
-use Rattle.std.proofs.Common.{◌≡◌, ◌≢◌, ◌⊎◌, inl, inr, ℕ, zero, suc, ◌+◌, ◌^◌, ◌<◌, ◌≤◌, Bool, true, false, ◌&&◌, ◌||◌, ◌==◌, cond, ⊎_elim, List, [], ◌∷◌, ◌++◌, map, filter, length, slice_get, replicate, Option, Some, None, refl, sym, ◌∙◌, ap, subst, true≢false, add-zero, arith}
+use Rattle.std.proofs.Common.{◌≡◌, ℕ, suc, ◌+◌, ◌^◌, ◌<◌, ◌≤◌, Bool, true, false, ◌&&◌, ◌||◌, ◌==◌, cond, ⊎_elim, List, [], ◌∷◌, ◌++◌, map, length, slice_get, replicate, Option, Some, None, refl, sym, ◌∙◌, ap, subst, true≢false, add-zero, arith}
 use Rattle.std.specs.Option.{option_map_or}
-use Rattle.std.specs.List.{list_any, list_all, All}
+use Rattle.std.specs.List.{list_all, All}
 use Rattle.std.specs.Cmp.{Equal-is}
-use Rattle.std.proofs.lemmas.Bool.{and_parts, or_left, or_right, or_cases, eqb-true, eq-eqb}
+use Rattle.std.proofs.lemmas.Bool.{and_parts, or_left, or_right, eqb-true, eq-eqb}
 use Rattle.std.proofs.lemmas.List.{length-map}
 use Rattle.std.proofs.lemmas.List.Elements.{filter_passes}
 use Rattle.pgs_base.specs.declared.element.NodeId.{NodeId}
-use Rattle.pgs_base.specs.declared.element.EdgeId.{EdgeId}
 use Rattle.pgs_base.specs.declared.element.Elem.{Elem}
 use Rattle.pgs_base.specs.declared.element.Elem.TheVariants.{Node, Edge}
 use Rattle.pgs_base.specs.declared.row.EdgeRow.{EdgeRow}
-use Rattle.pgs_base.specs.Graph.{Graph, edge_at, is_end, is_graph}
+use Rattle.pgs_base.specs.Graph.{Graph, is_end, is_graph}
 use Rattle.pgs_base.specs.Order.{elem_cmp}
 use Rattle.pgs_base.specs.OrderLaws.{exact_elem}
 use Rattle.pgs_syntax.specs.declared.pattern.Pattern.{Pattern}
@@ -27,13 +26,13 @@ use Rattle.pgs_match.specs.declared.step.Step.TheVariants.{Along, End}
 use Rattle.pgs_match.specs.declared.bindings.Bound.{Bound}
 use Rattle.pgs_match.specs.Bounds.{with_bound, nothing_bound, stands_at}
 use Rattle.pgs_match.specs.Near.{is_at_element, is_within, IsSparse, IsNearTo}
-use Rattle.pgs_match.specs.Plans.{is_known, and_known, known_alone, are_steps, known_after, covers, completes, is_plan}
+use Rattle.pgs_match.specs.Plans.{is_known, and_known, known_alone, completes, is_plan}
 use Rattle.pgs_match.specs.Reached.{reaches, reached}
 use Rattle.pgs_match.specs.Search.{gathered}
 use Rattle.pgs_match.specs.Tests.{admitted}
 use Rattle.pgs_match.proofs.Bounded.{plan_size, completions_most}
 use Rattle.pgs_match.proofs.Completed.{along_facts, end_facts, completes_more, placed}
-use Rattle.pgs_match.proofs.Costs.{alongs, one_at_least}
+use Rattle.pgs_match.proofs.Costs.{alongs}
 use Rattle.pgs_match.proofs.Counts.{some_at}
 use Rattle.pgs_match.proofs.Gathered.{gathered_size}
 use Rattle.pgs_match.proofs.Known.{covers_at}
@@ -42,7 +41,6 @@ use Rattle.pgs_match.proofs.Planning.{plan_of}
 use Rattle.pgs_match.proofs.Reaching.{one_elem, gathered_are_reached}
 use Rattle.pgs_match.proofs.Standing.{known_other, one_or_other}
 use Rattle.pgs_match.proofs.Started.{admitted_good, none_known}
-use Rattle.pgs_match.proofs.There.{there_size}
 
 -- an element that stands at a variable
 pub stands : (var : ℕ) (elem : Elem) (elems : List Elem) → stands_at var elem elems ≡ true → slice_get elems var ≡ Some elem

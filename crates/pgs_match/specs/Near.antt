@@ -31,3 +31,7 @@ IsSparse g edges elem most = (id : NodeId) → is_within g edges elem id ≡ tru
 -- each node at an element, the node itself or an end of the edge, is within so many edges of the element from which one goes
 abbrev pub IsNearTo : Graph → ℕ → Elem → Elem → Type 0
 IsNearTo g edges from elem = (id : NodeId) → is_at_element g elem id ≡ true → is_within g edges from id ≡ true
+
+-- no node has a greater in-degree plus out-degree
+abbrev pub HasDegreesWithin : Graph → ℕ → Type 0
+HasDegreesWithin g most = (id : NodeId) → degree_of g id ≤ most

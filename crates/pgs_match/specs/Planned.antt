@@ -1,5 +1,5 @@
 -- A key with plans of its patterns, from each variable.
-use Rattle.std.specs.Prelude.{ℕ, suc, max, Bool, true, ◌&&◌, ◌==◌, List, [], ◌∷◌, length, Option, Some, None}
+use Rattle.std.specs.Prelude.{◌≤◌, ℕ, suc, max, Contains, Bool, true, ◌&&◌, ◌==◌, List, [], ◌∷◌, length, Option, Some, None}
 use Rattle.pgs_base.specs.declared.element.Elem.{Elem}
 use Rattle.pgs_base.specs.declared.part.Part.{Part}
 use Rattle.pgs_base.specs.declared.part.Part.TheVariants as parts
@@ -32,6 +32,10 @@ pattern_of Descriptor key = key.descriptor
 -- the greater number of edge variables of the two patterns of a key
 abbrev pub most_edges : Key → ℕ
 most_edges key = max (edge_count key.scope.edge_vars) (edge_count key.descriptor.edge_vars)
+
+-- no pattern of the keys has more edge variables
+abbrev pub HaveEdgesWithin : List Key → ℕ → Type 0
+HaveEdgesWithin keys edges = (key : Key) → Contains keys key → most_edges key ≤ edges
 
 -- the element that a tuple begins with
 abbrev pub first_elem : List Part → Option Elem

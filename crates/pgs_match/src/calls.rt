@@ -1,16 +1,16 @@
 //! The calls on a planned key.
 
-ghost use Rattle.std.specs.Prelude.{◌≡◌, ◌+◌, ◌*◌, ◌^◌, ◌<◌, ◌≤◌, ℕ, true, false, length, filter, filter_map, IfOk};
+ghost use Rattle.std.specs.Prelude.{◌≡◌, ◌+◌, ◌*◌, ◌^◌, ◌<◌, ◌≤◌, ℕ, true, length, map, filter_map, IfOk};
 ghost use Rattle.pgs_syntax.specs.KeyValues.{is_in_scope, scope_of, key_values};
 ghost use Rattle.pgs_syntax.specs.Matches.{elements};
-ghost use Rattle.pgs_syntax.specs.Valid.{is_valid_key_of};
-ghost use Rattle.pgs_match.specs.Near.{IsSparse};
+ghost use Rattle.pgs_syntax.specs.Valid.{is_edge_var, is_valid_key_of};
+ghost use Rattle.pgs_match.specs.Near.{HasDegreesWithin, IsSparse};
 ghost use Rattle.pgs_match.specs.Reached.{reached};
 ghost use Rattle.pgs_match.specs.Planned.{most_edges, pattern_of, first_elem};
 
 use crate::searching::Place;
 use crate::{PlannedKey, Side};
-use pgs_base::{Elem, List, Memory, Part, Steps, Tuple, TupleSet};
+use pgs_base::{EdgeId, Elem, List, Memory, NodeId, Part, Steps, Tuple, TupleSet};
 use pgs_conform::Compiled;
 use pgs_graph::GraphRead;
 use pgs_syntax::Expr;
@@ -127,8 +127,51 @@ fn first_elems(alloc: Global, tuples: &[Tuple]) -> Result<List<Elem>, Memory>
     Ok(List::from_vec(firsts))
 }
 
+/// The elements of the kind of a key's x, ascending: all edges of the graph, or all nodes. It takes a look-up for each.
+pub fn each_element<G: GraphRead, L: Ledger>(
+    alloc: Global,
+    graph: &G,
+    key: &PlannedKey,
+    steps: &mut Steps<L>,
+) -> Result<List<Elem>, Memory>
+    ensures elems { IfOk result (λ elems. elems ≡ elements (G.meaning graph.now) (is_edge_var key.now.scope.edge_vars 0)) }
+    ensures no_step_back { steps.old ≤ steps.new }
+    ensures cost { steps.new ≤ steps.old + length (elements (G.meaning graph.now) (is_edge_var key.now.scope.edge_vars 0)) }
+{
+    if key.is_of_edges() {
+        let ids = graph.edge_ids(alloc, steps)?;
+        edge_elems(alloc, ids.as_slice())
+    } else {
+        let ids = graph.node_ids(alloc, steps)?;
+        node_elems(alloc, ids.as_slice())
+    }
+}
+
+fn node_elems(alloc: Global, ids: &[NodeId]) -> Result<List<Elem>, Memory>
+    ensures { IfOk result (λ elems. elems ≡ map (λ id. Elem.Node id) ids.now) }
+{
+    let mut elems = Vec::with_capacity(alloc, ids.len())?;
+    for id in ids {
+        elems.push(Elem::Node(*id))?;
+    }
+    Ok(List::from_vec(elems))
+}
+
+fn edge_elems(alloc: Global, ids: &[EdgeId]) -> Result<List<Elem>, Memory>
+    ensures { IfOk result (λ elems. elems ≡ map (λ id. Elem.Edge id) ids.now) }
+{
+    let mut elems = Vec::with_capacity(alloc, ids.len())?;
+    for id in ids {
+        elems.push(Elem::Edge(*id))?;
+    }
+    Ok(List::from_vec(elems))
+}
+
 /// The scope of a key, ascending, for a key whose types are those of the schema. The rule is `scope_of` of `pgs_syntax`. It asks
 /// [`in_scope`] once for each element of the kind of x.
+///
+/// At every exit it has taken at most 17 * (d + 2)^(w + 1) look-ups for each of these, where no node of the graph has an in-degree plus
+/// out-degree over d.
 pub fn each_x<G: GraphRead, L: Ledger>(
     alloc: Global,
     graph: &G,
@@ -139,58 +182,17 @@ pub fn each_x<G: GraphRead, L: Ledger>(
     requires { is_valid_key_of compiled.now key.now ≡ true }
     ensures scope { IfOk result (λ elems. elems ≡ scope_of compiled.now (G.meaning graph.now) key.now) }
     ensures no_step_back { steps.old ≤ steps.new }
+    ensures cost { (most : ℕ) → HasDegreesWithin (G.meaning graph.now) most →
+        steps.new ≤ steps.old + length (elements (G.meaning graph.now) (is_edge_var key.now.scope.edge_vars 0))
+        * (17 * (most + 2) ^ (most_edges key.now + 1)) }
 {
-    if key.is_of_edges() {
-        each_edge(alloc, graph, compiled, key, steps)
-    } else {
-        each_node(alloc, graph, compiled, key, steps)
-    }
-}
-
-// The nodes that are in the scope of a key.
-fn each_node<G: GraphRead, L: Ledger>(
-    alloc: Global,
-    graph: &G,
-    compiled: &Compiled,
-    key: &PlannedKey,
-    steps: &mut Steps<L>,
-) -> Result<List<Elem>, Memory>
-    requires { is_valid_key_of compiled.now key.now ≡ true }
-    ensures scope { IfOk result (λ elems. elems ≡ filter (is_in_scope compiled.now (G.meaning graph.now) key.now) (elements (G.meaning graph.now) false)) }
-    ensures no_step_back { steps.old ≤ steps.new }
-{
-    let ids = graph.node_ids(alloc, steps)?;
-    let mut elems = Vec::new(alloc);
-    let nodes = ids.as_slice();
-    for id in nodes {
-        let elem = Elem::Node(*id);
-        if in_scope(graph, compiled, key, elem, steps) {
-            elems.push(elem)?;
+    let elements = each_element(alloc, graph, key, steps)?;
+    let elems = elements.as_slice();
+    let mut scope = Vec::new(alloc);
+    for elem in elems {
+        if in_scope(graph, compiled, key, *elem, steps) {
+            scope.push(*elem)?;
         }
     }
-    Ok(List::from_vec(elems))
-}
-
-// The edges that are in the scope of a key.
-fn each_edge<G: GraphRead, L: Ledger>(
-    alloc: Global,
-    graph: &G,
-    compiled: &Compiled,
-    key: &PlannedKey,
-    steps: &mut Steps<L>,
-) -> Result<List<Elem>, Memory>
-    requires { is_valid_key_of compiled.now key.now ≡ true }
-    ensures scope { IfOk result (λ elems. elems ≡ filter (is_in_scope compiled.now (G.meaning graph.now) key.now) (elements (G.meaning graph.now) true)) }
-    ensures no_step_back { steps.old ≤ steps.new }
-{
-    let ids = graph.edge_ids(alloc, steps)?;
-    let mut elems = Vec::new(alloc);
-    let edges = ids.as_slice();
-    for id in edges {
-        let elem = Elem::Edge(*id);
-        if in_scope(graph, compiled, key, elem, steps) {
-            elems.push(elem)?;
-        }
-    }
-    Ok(List::from_vec(elems))
+    Ok(List::from_vec(scope))
 }

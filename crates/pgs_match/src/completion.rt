@@ -1,6 +1,6 @@
 //! Whether a plan can complete bindings.
 
-ghost use Rattle.std.specs.Prelude.{◌≡◌, ◌+◌, ◌≤◌, ◌^◌, true, false, [], ◌∷◌, length, slice_get, Some, MatchOption};
+ghost use Rattle.std.specs.Prelude.{◌≡◌, ◌+◌, ◌≤◌, true, false, [], ◌∷◌, length, slice_get, Some, MatchOption};
 ghost use Rattle.std.specs.Option.{option_map_or};
 ghost use Rattle.std.specs.List.{list_any, list_all, sum_by};
 ghost use Rattle.pgs_syntax.specs.Valid.{names_types};
@@ -103,7 +103,6 @@ impl<'a, G: GraphRead> Search<'a, G> {
     ) -> Option<EdgeId>
         ensures value { result ≡ slice_get (edges_along (G.meaning self.now.graph.now) forward (Some (Bound.Node from))) nth }
         ensures tick { steps.new ≡ steps.old + 1 }
-        ensures few { length (edges_along (G.meaning self.now.graph.now) forward (Some (Bound.Node from))) ≤ 2 ^ 64 }
     {
         if forward {
             self.graph.out_edge(from, nth, steps)
@@ -178,7 +177,7 @@ impl<'a, G: GraphRead> Search<'a, G> {
             (admitted_edge self.now.compiled.now (G.meaning self.now.graph.now) self.now.atoms.now var id) 0)
             (edges_along (G.meaning self.now.graph.now) forward (Some (Bound.Node from)))) }
     {
-        for nth in 0..=usize::MAX {
+        for nth in 0..self.graph.count() as usize {
             match self.edge_along(from, forward, nth, steps) {
                 Some(id) => {
                     let admitted = self.admit_edge(var, id, steps);

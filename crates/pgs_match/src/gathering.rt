@@ -134,7 +134,7 @@ impl<'a, G: GraphRead> Gathering<'a, G> {
             (admitted_edge self.now.search.compiled.now (G.meaning self.now.search.graph.now) self.now.search.atoms.now var id) 0)
             (edges_along (G.meaning self.now.search.graph.now) forward (Some (Bound.Node from)))) }
     {
-        for nth in 0..=usize::MAX {
+        for nth in 0..self.search.graph.count() as usize {
             match self.search.edge_along(from, forward, nth, steps) {
                 Some(id) => {
                     let admitted = self.search.admit_edge(var, id, steps);

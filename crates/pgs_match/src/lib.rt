@@ -30,7 +30,7 @@ mod step;
 mod tuples;
 
 pub use bindings::{Bindings, Bound, MOST_VARIABLES};
-pub use calls::{each_x, in_scope, key_values, reach};
+pub use calls::{each_element, each_x, in_scope, key_values, reach};
 pub use gathering::Gathering;
 pub use own::own_passes;
 pub use planned::{PlannedKey, Side, plan_key};

@@ -1,9 +1,8 @@
 //! Finding a plan: at each point the best of the steps that are possible.
 
-ghost use Rattle.std.specs.Prelude.{◌≡◌, ◌<◌, ◌⊎◌, true, [], ◌∷◌, length, Some, IfOk, MatchOption};
-ghost use Rattle.std.specs.List.{list_all};
+ghost use Rattle.std.specs.Prelude.{◌≡◌, ◌<◌, true, cond, length, IfOk};
 ghost use Rattle.pgs_syntax.specs.Valid.{is_valid_pattern};
-ghost use Rattle.pgs_match.specs.Plans.{is_known, is_step, is_plan, is_closed_at, IsBetter};
+ghost use Rattle.pgs_match.specs.Plans.{is_known, is_step, is_plan, known_alone, asks_alone, asked_of, is_as_good, step_between, step_at, better, IsBestOf, AreBest};
 
 use crate::Step;
 use pgs_base::{List, Memory};
@@ -13,119 +12,71 @@ use std::alloc::Global;
 // The most variables that a pattern has.
 const MOST_VARIABLES: usize = 20;
 
-/// A plan of a valid pattern from one of its variables. Of the steps that are possible at a point it takes an end of an
-/// edge before the edges of a node, and else one whose variable is asked for more.
+/// A plan of a valid pattern from one of its variables. At each point it takes the best of all steps that are possible there: an end of
+/// an edge before the edges of a node, and else one whose variable is asked for as much as that of any other.
 pub fn plan_from(alloc: Global, pattern: &Pattern, start: u32) -> Result<List<Step>, Memory>
     requires valid { is_valid_pattern pattern.now ≡ true }
     requires in_range { start < length pattern.now.edge_vars }
-    ensures { IfOk result (λ plan. is_plan pattern.now start plan ≡ true) }
+    ensures plan { IfOk result (λ plan. is_plan pattern.now start plan ≡ true) }
+    ensures best { IfOk result (λ plan. AreBest pattern.now.atoms (known_alone start) plan) }
 {
     let atoms = pattern.atoms.as_slice();
-    let tests = tests_of(atoms);
     let mut known = [false; MOST_VARIABLES];
     known[start as usize] = true;
     let mut plan = Vec::new(alloc);
-    while let Some(step) = best_step(atoms, &known, &tests) {
+    while let Some(step) = best_step(atoms, &known) {
         known[step.bound() as usize] = true;
         plan.push(step)?;
     }
     Ok(List::from_vec(plan))
 }
 
-// How much is asked of each variable alone.
-fn tests_of(atoms: &[Atom]) -> [u32; MOST_VARIABLES] {
-    let mut tests = [0u32; MOST_VARIABLES];
-    for atom in atoms {
-        if let Some(var) = tested(atom)
-            && (var as usize) < MOST_VARIABLES
-        {
-            tests[var as usize] = tests[var as usize].saturating_add(1);
-        }
-    }
-    tests
-}
-
-// The variable of which an atom asks something alone.
-fn tested(atom: &Atom) -> Option<u32> {
-    match atom {
-        Atom::Ends { .. } => None,
-        Atom::HasLabel { var, .. }
-        | Atom::FitsNode { var, .. }
-        | Atom::FitsEdge { var, .. }
-        | Atom::Equals { var, .. } => Some(*var),
-    }
-}
-
-// The best step that is possible. `None` exactly where of each edge place either all variables are known or none.
-fn best_step(
-    atoms: &[Atom],
-    known: &[bool; MOST_VARIABLES],
-    tests: &[u32; MOST_VARIABLES],
-) -> Option<Step>
-    ensures { MatchOption result (list_all (is_closed_at known.now) atoms.now ≡ true) (λ step. is_step atoms.now known.now step ≡ true) }
+// The best of the steps that are possible. `None` exactly where there is none.
+fn best_step(atoms: &[Atom], known: &[bool; MOST_VARIABLES]) -> Option<Step>
+    ensures { IsBestOf atoms.now (is_step atoms.now known.now) result }
 {
     let mut best = None;
     for atom in atoms {
-        best = better_at(best, atom, known, tests);
+        let at_source = step_at(atom, true, known);
+        let at_target = step_at(atom, false, known);
+        let with_source = better(best, at_source, atoms);
+        best = better(with_source, at_target, atoms);
     }
     best
 }
 
-// The best step so far, or the one that is possible at an edge place, where that is better.
-fn better_at(
-    best: Option<Step>,
-    atom: &Atom,
-    known: &[bool; MOST_VARIABLES],
-    tests: &[u32; MOST_VARIABLES],
-) -> Option<Step>
-    ensures { IsBetter known.now atom.now best result }
+// The step that is possible at one end of an edge place: where the edge is known and the end isn't, or the other way round.
+fn step_at(atom: &Atom, source: bool, known: &[bool; MOST_VARIABLES]) -> Option<Step>
+    ensures { result ≡ step_at known.now source atom.now }
 {
-    match step_at(atom, known) {
-        Some(step) => Some(better(best, step, tests)),
-        None => best,
+    match atom {
+        Atom::Ends {
+            edge,
+            source: first,
+            target: second,
+        } => step_between(*edge, end_var(source, *first, *second), source, known),
+        _ => None,
     }
 }
 
-// The step that is possible at an edge place. `None` exactly where all its variables are known, or none is.
-fn step_at(atom: &Atom, known: &[bool; MOST_VARIABLES]) -> Option<Step>
-    ensures { MatchOption result (is_closed_at known.now atom.now ≡ true) (λ step. is_step (atom.now ∷ []) known.now step ≡ true) }
+fn step_between(edge: u32, node: u32, source: bool, known: &[bool; MOST_VARIABLES]) -> Option<Step>
+    ensures { result ≡ step_between known.now edge node source }
 {
-    let Atom::Ends {
-        edge,
-        source,
-        target,
-    } = atom
-    else {
-        return None;
-    };
-    let edge = *edge;
-    match (
-        is_set(known, edge),
-        is_set(known, *source),
-        is_set(known, *target),
-    ) {
-        (true, false, _) => Some(Step::End {
+    match (is_set(known, edge), is_set(known, node)) {
+        (true, false) => Some(Step::End { edge, node, source }),
+        (false, true) => Some(Step::Along {
             edge,
-            node: *source,
-            source: true,
+            node,
+            forward: source,
         }),
-        (true, true, false) => Some(Step::End {
-            edge,
-            node: *target,
-            source: false,
-        }),
-        (false, true, _) => Some(Step::Along {
-            edge,
-            node: *source,
-            forward: true,
-        }),
-        (false, false, true) => Some(Step::Along {
-            edge,
-            node: *target,
-            forward: false,
-        }),
-        (true, true, true) | (false, false, false) => None,
+        (true, true) | (false, false) => None,
     }
+}
+
+fn end_var(source: bool, first: u32, second: u32) -> u32
+    ensures { result ≡ cond source first second }
+{
+    if source { first } else { second }
 }
 
 // Whether a variable is known.
@@ -138,21 +89,55 @@ fn is_set(known: &[bool; MOST_VARIABLES], var: u32) -> bool
     }
 }
 
-// The better of two steps, where there are two.
-fn better(best: Option<Step>, step: Step, tests: &[u32; MOST_VARIABLES]) -> Step
-    ensures { (result ≡ step) ⊎ (best ≡ Some result) }
+// Of what was found and a further step the better one. What was found stays where they are as good.
+fn better(best: Option<Step>, further: Option<Step>, atoms: &[Atom]) -> Option<Step>
+    ensures { result ≡ better atoms.now best further }
 {
-    match best {
-        Some(other) if rank(other, tests) >= rank(step, tests) => other,
-        _ => step,
+    match (best, further) {
+        (None, further) => further,
+        (Some(step), None) => Some(step),
+        (Some(step), Some(further)) => {
+            if is_as_good(step, further, atoms) {
+                Some(step)
+            } else {
+                Some(further)
+            }
+        }
     }
 }
 
-// How good a step is: whether it takes an end, and how much is asked of what it binds.
-fn rank(step: Step, tests: &[u32; MOST_VARIABLES]) -> (bool, u32) {
-    let asked = match tests.get(step.bound() as usize) {
-        Some(asked) => *asked,
-        None => 0,
-    };
-    (matches!(step, Step::End { .. }), asked)
+// Whether a step is as good as another: it alone takes an end, or both do or neither and as much is asked of what it binds.
+fn is_as_good(step: Step, other: Step, atoms: &[Atom]) -> bool
+    ensures { result ≡ is_as_good atoms.now step other }
+{
+    match (step, other) {
+        (Step::End { .. }, Step::Along { .. }) => true,
+        (Step::Along { .. }, Step::End { .. }) => false,
+        (Step::End { node, .. }, Step::End { node: other, .. }) => {
+            asked_of(atoms, other) <= asked_of(atoms, node)
+        }
+        (Step::Along { edge, .. }, Step::Along { edge: other, .. }) => {
+            asked_of(atoms, other) <= asked_of(atoms, edge)
+        }
+    }
+}
+
+// How much is asked of a variable alone.
+fn asked_of(atoms: &[Atom], var: u32) -> usize
+    ensures { result ≡ asked_of atoms.now var }
+{
+    atoms.iter().filter(|atom| asks_alone(atom, var)).count()
+}
+
+// Whether an atom asks something of a variable alone.
+fn asks_alone(atom: &Atom, var: u32) -> bool
+    ensures { result ≡ asks_alone var atom.now }
+{
+    match atom {
+        Atom::Ends { .. } => false,
+        Atom::HasLabel { var: of, .. }
+        | Atom::FitsNode { var: of, .. }
+        | Atom::FitsEdge { var: of, .. }
+        | Atom::Equals { var: of, .. } => *of == var,
+    }
 }

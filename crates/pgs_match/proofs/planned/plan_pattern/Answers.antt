@@ -10,6 +10,6 @@ loop-var-preserved c =
     record {
       plans =
           subst (λ plans. are_plans_from c.args.pattern.now 0 plans ≡ true) (sym pushed)
-          (one_plan_more c.args.pattern.now c.loop-var.var c.loop-var.plans.items c.in_ok-plan.plan before.plans before.size c.in_ok-plan.ensures);
+          (one_plan_more c.args.pattern.now c.loop-var.var c.loop-var.plans.items c.in_ok-plan.plan before.plans before.size c.in_ok-plan.ensures.plan);
       size = subst (λ plans. length plans ≡ c.loop-var.var + 1) (sym pushed) (omega (arith, before.size, length-append c.loop-var.plans.items (c.in_ok-plan.plan ∷ [])));
     }

@@ -1,7 +1,8 @@
-use Rattle.std.proofs.Common.{◌+◌, Some, length, sym, ap, ◌∙◌, arith}
+use Rattle.std.proofs.Common.{Some, length, sym, ap, ◌∙◌, arith}
 use Rattle.pgs_match.specs.declared.bindings.Bound.TheVariants as bounds
 use Rattle.pgs_match.specs.Search.{edges_along}
 use Rattle.pgs_match.proofs.Along.{gathered_with, gathered_by, steps_with, steps_by, fold_one_more, fold_all, past_end, at_place, cost_more, cost_all}
+use Rattle.pgs_match.proofs.Few.{few_along}
 use Rattle.pgs_match.proofs.gathering.Gathering.+gather.Goals as goal
 
 pub gather_along-returns-in_err-gather_with-in-Some-clause-cost : goal.gather_along-returns-in_err-gather_with-in-Some-clause-cost
@@ -50,27 +51,11 @@ gather_along-loop-nth-preserved g t c =
           (sym c.in-Some.ensures.value) c.args.steps.now c.loop-nth.steps c.gather_with.new.steps before.cost (omega (arith, tick, by));
     }
 
-pub gather_along-returns-in_ok-gather_with-in-Some-clause-ok : goal.gather_along-returns-in_ok-gather_with-in-Some-clause-ok
-gather_along-returns-in_ok-gather_with-in-Some-clause-ok g t c =
+pub gather_along-returns-clause-ok : goal.gather_along-returns-clause-ok
+gather_along-returns-clause-ok g t c =
     let search = c.args.self.now.search in
     let graph = g.G.GraphRead.meaning search.graph.now in
-    let exprs = c.args.self.now.exprs.now in
     let ids = edges_along graph c.args.forward (Some (bounds.Node c.args.from)) in
-    let f = gathered_with search.compiled.now graph search.atoms.now c.args.plan.now c.args.bindings.now c.args.var exprs in
-    c.in_ok-gather_with-in-Some.ensures.ok
-    ∙ gathered_by search.compiled.now graph search.atoms.now c.args.plan.now c.args.bindings.now c.args.var exprs c.loop-nth.tuples c.in-Some.id c.admit_edge-admitted.result c.admit_edge-admitted.ensures.value
-    ∙ ap (λ so_far. f so_far c.in-Some.id) c.loop-nth.invariant.so_far
-    ∙ fold_one_more f c.args.tuples.now ids c.loop-nth.nth c.in-Some.id (sym c.in-Some.ensures.value)
-    ∙ fold_all f c.args.tuples.now ids (c.loop-nth.nth + 1) (omega (arith, c.edge_along.ensures.few))
-
-pub gather_along-returns-in_ok-gather_with-in-Some-clause-cost : goal.gather_along-returns-in_ok-gather_with-in-Some-clause-cost
-gather_along-returns-in_ok-gather_with-in-Some-clause-cost g t c =
-    let search = c.args.self.now.search in
-    let graph = g.G.GraphRead.meaning search.graph.now in
-    let many = length c.args.self.now.exprs.now in
-    let by = steps_by search.compiled.now graph search.atoms.now c.args.plan.now c.args.bindings.now c.args.var many c.in-Some.id c.admit_edge-admitted.result
-    c.admit_edge-admitted.ensures.value c.edge_along.new.steps c.admit_edge-admitted.new.steps c.gather_with.new.steps
-    c.admit_edge-admitted.ensures.at_most c.gather_with.ensures.cost in
-    cost_all (steps_with search.compiled.now graph search.atoms.now c.args.plan.now c.args.bindings.now c.args.var many)
-    (edges_along graph c.args.forward (Some (bounds.Node c.args.from))) c.loop-nth.nth c.in-Some.id (sym c.in-Some.ensures.value)
-    c.args.steps.now c.loop-nth.steps c.gather_with.new.steps c.loop-nth.invariant.cost (omega (arith, c.edge_along.ensures.tick, by))
+    c.loop-nth.invariant.so_far
+    ∙ fold_all (gathered_with search.compiled.now graph search.atoms.now c.args.plan.now c.args.bindings.now c.args.var c.args.self.now.exprs.now) c.args.tuples.now ids c.loop-nth.nth
+    (omega (arith, few_along graph c.args.from c.args.forward, c.count-nth-end.ensures.value, c.loop-nth-test.false))

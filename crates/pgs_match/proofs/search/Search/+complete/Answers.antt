@@ -1,7 +1,8 @@
-use Rattle.std.proofs.Common.{◌+◌, Some, sym, ◌∙◌, arith}
+use Rattle.std.proofs.Common.{Some, sym, ◌∙◌, arith}
 use Rattle.pgs_match.specs.declared.bindings.Bound.TheVariants as bounds
 use Rattle.pgs_match.specs.Search.{edges_along}
 use Rattle.pgs_match.proofs.Along.{can_with, can_by, steps_with, steps_by, none_more, one_found, none_at_all, past_end, at_place, cost_more, cost_all}
+use Rattle.pgs_match.proofs.Few.{few_along}
 use Rattle.pgs_match.proofs.search.Search.+complete.Goals as goal
 
 pub can_complete_along-returns-then-can_complete_with-clause-found : goal.can_complete_along-returns-then-can_complete_with-clause-found
@@ -49,20 +50,9 @@ can_complete_along-loop-nth-preserved g t c =
           (sym c.in-Some.ensures.value) c.args.steps.now c.loop-nth.steps c.can_complete_with.new.steps before.cost (omega (arith, tick, by));
     }
 
-pub can_complete_along-returns-else-can_complete_with-clause-found : goal.can_complete_along-returns-else-can_complete_with-clause-found
-can_complete_along-returns-else-can_complete_with-clause-found g t c =
+pub can_complete_along-returns-clause-found : goal.can_complete_along-returns-clause-found
+can_complete_along-returns-clause-found g t c =
     let graph = g.G.GraphRead.meaning c.args.self.now.graph.now in
     let ids = edges_along graph c.args.forward (Some (bounds.Node c.args.from)) in
-    let can = can_with c.args.self.now.compiled.now graph c.args.self.now.atoms.now c.args.plan.now c.args.bindings.now c.args.var in
-    sym (none_at_all can ids (c.loop-nth.nth + 1) (omega (arith, c.edge_along.ensures.few))
-    (none_more can ids c.loop-nth.nth c.in-Some.id (sym c.in-Some.ensures.value) c.loop-nth.invariant.none (sym (can_by c.args.self.now.compiled.now graph c.args.self.now.atoms.now c.args.plan.now c.args.bindings.now c.args.var c.in-Some.id c.admit_edge-admitted.result c.admit_edge-admitted.ensures.value) ∙ sym c.can_complete_with.ensures.found ∙ c.if-can_complete_with.false)))
-
-pub can_complete_along-returns-else-can_complete_with-clause-cost : goal.can_complete_along-returns-else-can_complete_with-clause-cost
-can_complete_along-returns-else-can_complete_with-clause-cost g t c =
-    let graph = g.G.GraphRead.meaning c.args.self.now.graph.now in
-    let by = steps_by c.args.self.now.compiled.now graph c.args.self.now.atoms.now c.args.plan.now c.args.bindings.now c.args.var 0 c.in-Some.id c.admit_edge-admitted.result
-    c.admit_edge-admitted.ensures.value c.edge_along.new.steps c.admit_edge-admitted.new.steps c.can_complete_with.new.steps
-    c.admit_edge-admitted.ensures.at_most c.can_complete_with.ensures.cost in
-    cost_all (steps_with c.args.self.now.compiled.now graph c.args.self.now.atoms.now c.args.plan.now c.args.bindings.now c.args.var 0)
-    (edges_along graph c.args.forward (Some (bounds.Node c.args.from))) c.loop-nth.nth c.in-Some.id (sym c.in-Some.ensures.value)
-    c.args.steps.now c.loop-nth.steps c.can_complete_with.new.steps c.loop-nth.invariant.cost (omega (arith, c.edge_along.ensures.tick, by))
+    sym (none_at_all (can_with c.args.self.now.compiled.now graph c.args.self.now.atoms.now c.args.plan.now c.args.bindings.now c.args.var)
+    ids c.loop-nth.nth (omega (arith, few_along graph c.args.from c.args.forward, c.count-nth-end.ensures.value, c.loop-nth-test.false)) c.loop-nth.invariant.none)
