@@ -1,5 +1,5 @@
 -- Graphs and transactions on which the definitions are tried.
-use Rattle.std.specs.Prelude.{ℕ, ◌+◌, ◌/◌, ◌%◌, List, [], ◌∷◌, codes, map}
+use Rattle.std.specs.Prelude.{ℕ, ◌+◌, ◌/◌, ◌%◌, true, List, [], ◌∷◌, codes, map}
 use Rattle.std.specs.List.{range_with_len}
 use Rattle.pgs_base.specs.declared.limits.Limits.{Limits}
 use Rattle.pgs_base.specs.declared.value.Value.{Value}
@@ -9,7 +9,9 @@ use Rattle.pgs_graph.specs.declared.operation.Op.{Op}
 use Rattle.pgs_graph.specs.declared.operation.Op.TheVariants.{AddNode, AddEdge, RemoveNode, DetachNode, RemoveEdge, SetNode, UnsetNode}
 use Rattle.pgs_graph.specs.declared.operation.Txn.{Txn}
 use Rattle.pgs_syntax.specs.KeySamples.{mail}
-use Rattle.pgs_syntax.specs.Samples.{node, edge}
+use Rattle.pgs_syntax.specs.declared.resolved.Resolved.{Resolved}
+use Rattle.pgs_syntax.specs.declared.resolved.TypeNo.TheVariants.{Node, Edge}
+use Rattle.pgs_syntax.specs.Samples.{node, edge, label, type, node_type, schema}
 
 -- the limits of the program, and those of one operation and one element
 abbrev pub limits : Limits
@@ -17,6 +19,10 @@ limits = record { ops = 10000; elements = 1000000 }
 
 abbrev pub tight : Limits
 tight = record { ops = 1; elements = 1 }
+
+-- those of two operations and one element
+abbrev pub narrow : Limits
+narrow = record { ops = 2; elements = 1 }
 
 abbrev pub txn : List Op → Txn
 txn ops = record { ops = ops }
@@ -71,3 +77,10 @@ looped = record { nodes = node 1 [] [] ∷ []; edges = edge 1 1 1 (codes "knows"
 -- so many labels, at most 100: L00, L01, ..
 abbrev pub many_labels : ℕ → List (List ℕ)
 many_labels count = map (λ n. 76 ∷ (48 + n / 10) ∷ (48 + n % 10) ∷ []) (range_with_len 0 count)
+
+-- (p: P), ABSTRACT (:p)-[e: knows]->(:p)
+abbrev pub abstractly_tied : Resolved
+abstractly_tied =
+    schema (node_type (codes "p") 1 (label (codes "P")) ∷ [])
+    (record { name = codes "e"; hidden = true; place = 2; source = type 0; middle = label (codes "knows"); target = type 0 } ∷ [])
+    (Node 0 ∷ Edge 0 ∷ []) []

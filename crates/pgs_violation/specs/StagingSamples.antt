@@ -5,7 +5,7 @@ use Rattle.pgs_base.specs.declared.value.Value.{Value}
 use Rattle.pgs_base.specs.declared.value.Value.TheVariants as values
 use Rattle.pgs_base.specs.Graph.{Graph}
 use Rattle.pgs_graph.specs.declared.operation.Op.{Op}
-use Rattle.pgs_graph.specs.declared.operation.Op.TheVariants.{AddNode, AddEdge, SetNode, LabelNode, SetEdge, LabelEdge}
+use Rattle.pgs_graph.specs.declared.operation.Op.TheVariants.{AddNode, AddEdge, SetNode, LabelNode, UnlabelNode, SetEdge, UnsetEdge, LabelEdge, UnlabelEdge}
 use Rattle.pgs_syntax.specs.Samples.{node, edge}
 
 -- so many properties, at most 676: kaa, kab, ..
@@ -33,6 +33,20 @@ label_node number label = LabelNode (record { 0 = number }) label
 abbrev pub label_edge : ℕ → List ℕ → Op
 label_edge number label = LabelEdge (record { 0 = number }) label
 
+-- unsetting a property of an edge; taking a label from a node, and from an edge
+abbrev pub unset_edge : ℕ → List ℕ → Op
+unset_edge number key = UnsetEdge (record { 0 = number }) key
+
+abbrev pub unlabel_node : ℕ → List ℕ → Op
+unlabel_node number label = UnlabelNode (record { 0 = number }) label
+
+abbrev pub unlabel_edge : ℕ → List ℕ → Op
+unlabel_edge number label = UnlabelEdge (record { 0 = number }) label
+
+-- a property as set_node and set_edge set it
+abbrev pub set_key : List ℕ → List (List ℕ × Value)
+set_key key = (key, values.Bool true) ∷ []
+
 -- n1 with e1 from n1 to n1, which has these labels and properties
 abbrev pub loop_with : List (List ℕ) → List (List ℕ × Value) → Graph
 loop_with labels props = record {
@@ -46,3 +60,7 @@ two_ways = record {
   nodes = node 1 [] [] ∷ node 2 [] [] ∷ [];
   edges = edge 1 2 2 (codes "r") ∷ edge 2 1 2 (codes "r") ∷ edge 5 2 1 (codes "r") ∷ [];
 }
+
+-- the same without n1 and the edges at it
+abbrev pub second_alone : Graph
+second_alone = record { nodes = node 2 [] [] ∷ []; edges = edge 1 2 2 (codes "r") ∷ [] }

@@ -13,11 +13,11 @@ ghost use Rattle.pgs_violation.specs.declared.structural.Cause.TheVariants.{Alre
 ghost use Rattle.pgs_violation.specs.declared.structural.Structural.TheVariants.{TooManyOps, BadOp, ElementTooLarge, TooManyElements};
 ghost use Rattle.pgs_violation.specs.declared.violation.Verdict.TheVariants.{Conforms};
 ghost use Rattle.pgs_violation.specs.declared.violation.Violation.TheVariants.{UntypedNode, UntypedEdge, Mandatory, Singleton, Exclusive, CountOutside};
-ghost use Rattle.pgs_violation.specs.Decision.{decisions};
+ghost use Rattle.pgs_violation.specs.Decision.{judged, decide, decisions};
 ghost use Rattle.pgs_violation.specs.KeySamples.{three_with, three_values, one_twice, later_sharer, each_kind, each_kind_twice};
-ghost use Rattle.pgs_violation.specs.Samples.{limits, tight, txn, add_node, add_edge, remove_node, detach_node, remove_edge, set_mail, unset, add_two_persons, one_mail, lone, looped, many_labels};
+ghost use Rattle.pgs_violation.specs.Samples.{limits, tight, narrow, txn, add_node, add_edge, remove_node, detach_node, remove_edge, set_mail, unset, add_two_persons, one_mail, lone, looped, many_labels, abstractly_tied};
 ghost use Rattle.pgs_violation.specs.Staging.{staged};
-ghost use Rattle.pgs_violation.specs.StagingSamples.{many_props, add_node_with, add_edge_with, set_node, set_edge, label_node, label_edge, loop_with, two_ways};
+ghost use Rattle.pgs_violation.specs.StagingSamples.{many_props, add_node_with, add_edge_with, set_node, set_edge, label_node, label_edge, unset_edge, unlabel_node, unlabel_edge, set_key, loop_with, two_ways, second_alone};
 ghost use Rattle.pgs_violation.specs.Violations.{violations, verdict};
 
 /// Only the graph after all operations is judged: one change of a mail is refused, since it makes two equal, and the
@@ -29,6 +29,15 @@ pub fn decided_as_a_whole()
         ≡ Ok (two_persons (codes "a") (codes "b"))
         ∷ Err (rejections.Violation (Exclusive 1 (the_node 1) (the_node 2) (one_text (codes "b"))))
         ∷ Ok (two_persons (codes "b") (codes "a")) ∷ [] }
+{}
+
+/// The limit on elements goes before types and keys: of a node too many that isn't typed the number of elements is told.
+pub fn limits_before_types()
+    ensures within { decide limits (verdict mails) (lone (codes "Person" ∷ []) (mail (codes "a"))) (txn (add_node 2 [] ∷ []))
+        ≡ Err (rejections.Violation (UntypedNode (record { 0 = 2 }))) }
+    ensures beyond { decide tight (verdict mails) (lone (codes "Person" ∷ []) (mail (codes "a"))) (txn (add_node 2 [] ∷ []))
+        ≡ Err (rejections.Structural (TooManyElements 2)) }
+    ensures of_a_graph { judged tight (verdict mails) one_mail ≡ Err (rejections.Structural (TooManyElements 4)) }
 {}
 
 /// A mandatory key value that is read two steps away.
@@ -50,6 +59,16 @@ pub fn untyped_edge()
     ensures { violations acquaintance (acquainted (codes "P" ∷ [])) ≡ UntypedEdge (record { 0 = 1 }) ∷ [] }
 {}
 
+/// A label that its type doesn't name leaves a node untyped.
+pub fn further_label()
+    ensures { violations mails (lone (codes "Member" ∷ codes "Person" ∷ []) (mail (codes "a"))) ≡ UntypedNode (record { 0 = 1 }) ∷ [] }
+{}
+
+/// An edge that fits an abstract type alone is untyped.
+pub fn abstract_edge_type()
+    ensures { violations abstractly_tied (acquainted (codes "P" ∷ [])) ≡ UntypedEdge (record { 0 = 1 }) ∷ [] }
+{}
+
 /// Three nodes that share a value: each but the last is named with the next one. The untyped node comes first.
 pub fn shared_value()
     ensures { violations mails one_mail
@@ -65,12 +84,39 @@ pub fn nodes_with_edges()
     ensures detachment { staged limits looped (txn (detach_node 1 ∷ [])) ≡ Ok empty_graph }
 {}
 
+/// A node is detached with the edges that go out of it and that come in, and with no other.
+pub fn edges_of_a_detached_node()
+    ensures { staged limits two_ways (txn (detach_node 1 ∷ [])) ≡ Ok second_alone }
+{}
+
+/// What operations leave of labels and properties, of a node and of an edge.
+pub fn rows_after_operations()
+    ensures node_labels { staged limits (lone (codes "B" ∷ []) [])
+        (txn (label_node 1 (codes "C") ∷ label_node 1 (codes "A") ∷ unlabel_node 1 (codes "B") ∷ []))
+        ≡ Ok (lone (codes "A" ∷ codes "C" ∷ []) []) }
+    ensures node_props { staged limits (lone [] (set_key (codes "j"))) (txn (set_node 1 (codes "i") ∷ unset 1 (codes "j") ∷ []))
+        ≡ Ok (lone [] (set_key (codes "i"))) }
+    ensures edge_labels { staged limits (loop_with (codes "B" ∷ []) [])
+        (txn (label_edge 1 (codes "C") ∷ label_edge 1 (codes "A") ∷ unlabel_edge 1 (codes "B") ∷ []))
+        ≡ Ok (loop_with (codes "A" ∷ codes "C" ∷ []) []) }
+    ensures edge_props { staged limits (loop_with [] (set_key (codes "j"))) (txn (set_edge 1 (codes "i") ∷ unset_edge 1 (codes "j") ∷ []))
+        ≡ Ok (loop_with [] (set_key (codes "i"))) }
+{}
+
 /// Too many operations, too many elements, and an element with as many labels as it may have and with one more.
 pub fn limits_of_transactions()
     ensures second_operation { staged tight empty_graph (txn (add_node 1 [] ∷ add_node 2 [] ∷ [])) ≡ Err (TooManyOps 2) }
     ensures second_node { staged tight (lone [] []) (txn (add_node 2 [] ∷ [])) ≡ Err (TooManyElements 2) }
     ensures most_labels { staged tight empty_graph (txn (add_node 1 (many_labels 64) ∷ [])) ≡ Ok (lone (many_labels 64) []) }
     ensures too_many_labels { staged tight empty_graph (txn (add_node 1 (many_labels 65) ∷ [])) ≡ Err (ElementTooLarge 1) }
+{}
+
+/// The number of operations goes before what is at fault in one, and this before the number of elements, which is that of the graph after
+/// all operations.
+pub fn order_of_limits()
+    ensures operations_first { staged tight empty_graph (txn (remove_edge 7 ∷ remove_edge 7 ∷ [])) ≡ Err (TooManyOps 2) }
+    ensures elements_last { staged narrow (lone [] []) (txn (add_node 2 [] ∷ remove_edge 7 ∷ [])) ≡ Err (BadOp 2 (NoEdge (record { 0 = 7 }))) }
+    ensures after_all { staged narrow (lone [] []) (txn (add_node 2 [] ∷ remove_node 2 ∷ [])) ≡ Ok (lone [] []) }
 {}
 
 /// Elements that aren't there.
