@@ -4,3 +4,5 @@ pub mod Leading
 pub mod Leasts
 pub mod Linked
 pub mod Queues
+pub mod Reaching
+pub mod Work

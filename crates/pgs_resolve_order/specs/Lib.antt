@@ -1,2 +1,4 @@
 pub mod Links
 pub mod Listing
+pub mod Reached
+pub mod Searching

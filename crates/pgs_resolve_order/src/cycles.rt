@@ -7,8 +7,9 @@ ghost use Rattle.pgs_resolve_order.specs.Links.{AreLinks, row_at, leads_in, lead
 ghost use Rattle.pgs_resolve_declared.specs.Refused.{cyclic, least, cycle, named_by, imported_by};
 ghost use Rattle.pgs_resolve_declared.specs.Tables.{AreOf};
 
-use crate::components::{parents, ranks};
+use crate::components::ranks;
 use crate::links::{graph_rows, row_at, type_names, type_rows};
+use crate::reached::reached_from;
 use pgs_base::{Copyable, List, Memory, Name};
 use pgs_resolve_declared::{Declarations, Names};
 use std::alloc::Global;
@@ -108,14 +109,6 @@ fn least_set(names: &[Name], flags: &[bool]) -> Option<usize>
 
 // ---- links that lead back
 
-// Whether a link of a number leads to a target, or to a number whose flag is set.
-fn leads_on(rows: &[List<u32>], flags: &[bool], target: usize, number: usize) -> bool
-    ensures { result ≡ list_any (λ other. other == target || is_set flags.now other) (row_at rows.now number) }
-{
-    row_at(rows, number).iter().any(|other| *other as usize == target
-        || flag_of(flags, *other as usize))
-}
-
 fn flag_of(flags: &[bool], number: usize) -> bool
     ensures { result ≡ is_set flags.now number }
 {
@@ -125,57 +118,15 @@ fn flag_of(flags: &[bool], number: usize) -> bool
     }
 }
 
-// Of each number whether it leads to a target in at most one step more than those whose flags are set.
-fn step_back(
-    alloc: Global,
-    rows: &[List<u32>],
-    flags: &[bool],
-    target: usize,
-) -> Result<Vec<bool>, Memory>
-    ensures { IfOk result (λ more. (number : ℕ) → is_set more.items number ≡ list_any (λ other. other == target || is_set flags.now other) (row_at rows.now number)) }
-{
-    let mut more = Vec::new(alloc);
-    for number in 0..rows.len() {
-        more.push(leads_on(rows, flags, target, number))?;
-    }
-    Ok(more)
-}
-
-// Whether a number leads back to itself, step by step for all numbers.
+// Whether a number leads back to itself.
 fn leads_back(alloc: Global, rows: &[List<u32>], target: usize) -> Result<bool, Memory>
     ensures { IfOk result (λ back. back ≡ leads_back rows.now target) }
 {
-    let mut flags = Vec::new(alloc);
-    for _steps in 0..rows.len() {
-        flags = step_back(alloc, rows, &flags, target)?;
+    if target >= rows.len() {
+        return Ok(false);
     }
-    Ok(flag_of(&flags, target))
-}
-
-// Whether links lead back to a number, each by the proposed parent of the number before: enough, but not needed.
-fn is_led_back(rows: &[List<u32>], parents: &[usize], target: usize) -> bool
-    ensures { OnTrue result (leads_back rows.now target ≡ true) }
-{
-    let mut at = target;
-    let mut left = rows.len();
-    while left > 0 {
-        left -= 1;
-        let from = rank_of(parents, at);
-        if !has_link(rows, from, at) {
-            return false;
-        }
-        if from == target {
-            return true;
-        }
-        at = from;
-    }
-    false
-}
-
-fn has_link(rows: &[List<u32>], from: usize, to: usize) -> bool
-    ensures { result ≡ list_any (λ other. other == to) (row_at rows.now from) }
-{
-    row_at(rows, from).iter().any(|other| *other as usize == to)
+    let seen = reached_from(alloc, rows, target)?;
+    Ok(flag_of(&seen, target))
 }
 
 // ---- the least name that leads back
@@ -191,8 +142,8 @@ fn first_place(names: &Names, number: usize) -> usize
     }
 }
 
-// Of each number whether it is the first one of its name and leads back to itself, by steps for each: this is asked only
-// where a proposal fails its test.
+// Of each number whether it is the first one of its name and leads back to itself, each by a search of its own: this is
+// asked only where a proposal fails its test.
 fn leading_back(alloc: Global, names: &Names, rows: &[List<u32>]) -> Result<Vec<bool>, Memory>
     ensures len { IfOk result (λ flags. length flags.items ≡ length names.now) }
     ensures flags { IfOk result (λ flags. (number : ℕ) → number < length names.now → is_set flags.items number ≡ (first_of names.now number == number && leads_back rows.now number)) }
@@ -227,8 +178,8 @@ fn least_by_ranks(
         return Ok(None);
     };
     let target = first_place(names, least);
-    let parents = parents(alloc, rows, target)?;
-    if is_led_back(rows, &parents, target) {
+    let is_back = leads_back(alloc, rows, target)?;
+    if is_back {
         Ok(Some(target))
     } else {
         least_by_steps(alloc, names, rows)

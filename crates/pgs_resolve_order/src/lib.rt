@@ -8,6 +8,7 @@ mod components;
 mod cycles;
 mod links;
 mod listing;
+mod reached;
 
 pub use cycles::least_on_cycle;
 pub use listing::numbering;
