@@ -22,7 +22,7 @@ use Rattle.pgs_syntax.specs.declared.resolved.Resolved.{Resolved}
 use Rattle.pgs_violation.specs.declared.rejection.Rejection.{Rejection}
 use Rattle.pgs_violation.specs.Decision.{judged, decide}
 use Rattle.pgs_violation.specs.Violations.{verdict}
-use Rattle.pgs_snapshot.specs.Saved.{store, Replayed, RecordFault, History, taken, under_schema, after_record, and_then, replay, text_in, text_of, start, saved_fault, saved_history, saved_under, saved_of}
+use Rattle.pgs_snapshot.specs.Saved.{store, bad_history, Replayed, RecordFault, History, taken, under_schema, after_record, and_then, replay, text_in, text_of, start, saved_fault, saved_history, saved_under, saved_of}
 use Rattle.pgs_snapshot.specs.Saved as saving
 use Rattle.pgs_snapshot.proofs.Fitness.{snapshot_within}
 
@@ -190,6 +190,53 @@ one_more_schema_saves limits payloads payload before text commits graph resolved
           ∙ ap (under_schema limits (state_of before last commits graph) text) of
           ∙ ap (taken (state_of text resolved commits graph)) accepted,
     ))
+
+-- ---- a record that is rejected
+
+-- a record that isn't taken, behind those that lead somewhere, whatever stands behind it
+one_fails : (limits : Limits) (number : ℕ) (before middle : Replayed) (payloads later : List (List ℕ)) (payload : List ℕ) (fault : RecordFault)
+    → replay limits number before payloads ≡ Ok middle → after_record limits middle (decoded payload) ≡ Err fault
+    → replay limits number before (payloads ++ payload ∷ later) ≡ Err (length payloads + number, fault)
+one_fails limits number before middle [] later payload fault replays fails =
+    ap (λ r. and_then number r (λ a. replay limits (suc number) a later)) (ap (λ s. after_record limits s (decoded payload)) (same_ok before middle replays) ∙ fails)
+    ∙ ap (λ n. let h : History = Err (n, fault) in h) (omega arith)
+one_fails limits number before middle (first ∷ payloads) later payload fault replays fails =
+    at (after_record limits before (decoded first)) replays (λ a rest. one_fails limits (suc number) a middle payloads later payload fault rest fails)
+  where
+    at : (r : Result Replayed RecordFault) → and_then number r (λ a. replay limits (suc number) a payloads) ≡ Ok middle
+        → ((a : Replayed) → replay limits (suc number) a payloads ≡ Ok middle → replay limits (suc number) a (payloads ++ payload ∷ later) ≡ Err (length payloads + suc number, fault))
+        → and_then number r (λ a. replay limits (suc number) a (payloads ++ payload ∷ later)) ≡ Err (suc (length payloads) + number, fault)
+    at (Ok a) is more = more a is ∙ ap (λ n. let h : History = Err (n, fault) in h) (omega arith)
+    at (Err other) is more = absurd (no_error (number, other) middle is)
+
+-- a store with a record that is rejected on what it saves, under the schema in force there
+fails_saving : (limits : Limits) (payloads later : List (List ℕ)) (payload text : List ℕ) (commits : ℕ) (graph : Graph) (rejection : Rejection) → has_some payloads ≡ true → saved_of limits payloads ≡ store text commits graph
+    → ((last : Resolved) → schema_of text ≡ schema last → after_record limits (state_of text last commits graph) (decoded payload) ≡ Err (saving.rejected rejection))
+    → saved_of limits (payloads ++ payload ∷ later) ≡ bad_history (length payloads + 1) rejection
+unfolding saved_of
+fails_saving limits [] later payload text commits graph rejection some saved fails = absurd (let h : false ≡ true = some in cc)
+fails_saving limits (first ∷ payloads) later payload text commits graph rejection some saved fails =
+    let known = stored limits (first ∷ payloads) text commits graph saved in
+    ap (λ a. saved_under limits (text_of (first ∷ payloads)) (payloads ++ payload ∷ later) a) known.of_first
+    ∙ ap saved_history
+    (one_fails limits 2 (start (text_of (first ∷ payloads)) known.first) (state_of text known.last commits graph) payloads later payload (saving.rejected rejection) known.replays (fails known.last known.of_text))
+    ∙ ap (λ n. bad_history n rejection) (omega arith)
+
+pub rejected_txn_is_told : (limits : Limits) (payloads later : List (List ℕ)) (payload text : List ℕ) (commits : ℕ) (graph : Graph) (resolved : Resolved) (txn : Txn) (rejection : Rejection) → has_some payloads ≡ true → saved_of limits payloads ≡ store text commits graph → schema_of text ≡ schema resolved
+    → decoded payload ≡ Some (Transaction txn) → decide limits (verdict resolved) graph txn ≡ Err rejection → saved_of limits (payloads ++ payload ∷ later) ≡ bad_history (length payloads + 1) rejection
+rejected_txn_is_told limits payloads later payload text commits graph resolved txn rejection some saved of is refuses =
+    fails_saving limits payloads later payload text commits graph rejection some saved
+    (λ last same. ap (after_record limits (state_of text last commits graph)) is
+    ∙ ap (λ r. taken (state_of text last (commits + 1) graph) (decide limits (verdict r) graph txn)) (same_schema last resolved (sym same ∙ of))
+    ∙ ap (taken (state_of text last (commits + 1) graph)) refuses)
+
+pub rejected_schema_is_told : (limits : Limits) (payloads later : List (List ℕ)) (payload before text : List ℕ) (commits : ℕ) (graph : Graph) (resolved : Resolved) (rejection : Rejection) → has_some payloads ≡ true → saved_of limits payloads ≡ store before commits graph
+    → decoded payload ≡ Some (Schema text) → schema_of text ≡ schema resolved → judged limits (verdict resolved) graph ≡ Err rejection → saved_of limits (payloads ++ payload ∷ later) ≡ bad_history (length payloads + 1) rejection
+rejected_schema_is_told limits payloads later payload before text commits graph resolved rejection some saved is of refuses =
+    fails_saving limits payloads later payload before commits graph rejection some saved
+    (λ last same. ap (after_record limits (state_of before last commits graph)) is
+    ∙ ap (under_schema limits (state_of before last commits graph) text) of
+    ∙ ap (taken (state_of text resolved commits graph)) refuses)
 
 -- ---- how many commits
 

@@ -2,7 +2,7 @@
 //! nothing; their contracts are the statements. They speak of triples of two images and an output, old and new, as the
 //! clauses on stops of `Journal::append`, `Journal::create` and `checkpoint` do.
 
-ghost use Rattle.std.specs.Prelude.{◌≡◌, ◌⊎◌, ◌+◌, ◌-◌, ◌*◌, ◌≤◌, ◌<◌, ◌^◌, ◌++◌, ◌∷◌, [], ℕ, List, Option, Some, Ok, true, length};
+ghost use Rattle.std.specs.Prelude.{◌≡◌, ◌⊎◌, ◌+◌, ◌-◌, ◌*◌, ◌≤◌, ◌<◌, ◌^◌, ◌++◌, ◌∷◌, [], ℕ, List, Option, Some, Ok, Err, true, length};
 ghost use Rattle.pgs_base.specs.declared.element.EdgeId.{EdgeId};
 ghost use Rattle.pgs_base.specs.declared.element.NodeId.{NodeId};
 ghost use Rattle.pgs_base.specs.declared.limits.Limits.{Limits};
@@ -21,9 +21,10 @@ ghost use Rattle.pgs_journal.specs.Stops.{Turns, Appends, Creates};
 ghost use Rattle.pgs_resolve.specs.SchemaOf.{schema, schema_of};
 ghost use Rattle.pgs_snapshot.specs.Choice.{choice_of};
 ghost use Rattle.pgs_snapshot.specs.Choice as choices;
-ghost use Rattle.pgs_snapshot.specs.Saved.{saved_of, saved, saved_by, store};
+ghost use Rattle.pgs_snapshot.specs.Saved.{saved_of, saved, saved_by, store, bad_history};
 ghost use Rattle.pgs_snapshot.specs.Standing.{HasStore, IsAppendable};
 ghost use Rattle.pgs_syntax.specs.declared.resolved.Resolved.{Resolved};
+ghost use Rattle.pgs_violation.specs.declared.rejection.Rejection.{Rejection};
 ghost use Rattle.pgs_violation.specs.Decision.{judged, decide};
 ghost use Rattle.pgs_violation.specs.Violations.{verdict};
 ghost use Rattle.pgs_world.specs.declared.area.Area.{Area};
@@ -112,6 +113,19 @@ pub fn one_more_schema_is_in_force()
         (resolved : Resolved) → has_some payloads ≡ true → saved_of limits payloads ≡ store before commits graph
         → decoded payload ≡ Some (Schema text) → schema_of text ≡ schema resolved → judged limits (verdict resolved) graph ≡ Ok graph
         → saved_of limits (payloads ++ payload ∷ []) ≡ store text commits graph }
+{}
+
+/// A record that is rejected is told, with its number, whatever stands behind it: a transaction by the decision on the graph so far
+/// under the schema in force, and a later schema by the judgement of that graph.
+pub fn a_rejected_record_is_told()
+    ensures txn { (limits : Limits) (payloads later : List (List ℕ)) (payload text : List ℕ) (commits : ℕ) (graph : Graph) (resolved : Resolved)
+        (txn : Txn) (rejection : Rejection) → has_some payloads ≡ true → saved_of limits payloads ≡ store text commits graph
+        → schema_of text ≡ schema resolved → decoded payload ≡ Some (Transaction txn) → decide limits (verdict resolved) graph txn ≡ Err rejection
+        → saved_of limits (payloads ++ payload ∷ later) ≡ bad_history (length payloads + 1) rejection }
+    ensures schema { (limits : Limits) (payloads later : List (List ℕ)) (payload before text : List ℕ) (commits : ℕ) (graph : Graph)
+        (resolved : Resolved) (rejection : Rejection) → has_some payloads ≡ true → saved_of limits payloads ≡ store before commits graph
+        → decoded payload ≡ Some (Schema text) → schema_of text ≡ schema resolved → judged limits (verdict resolved) graph ≡ Err rejection
+        → saved_of limits (payloads ++ payload ∷ later) ≡ bad_history (length payloads + 1) rejection }
 {}
 
 /// A snapshot of a graph that is accepted saves that graph after as many commits.
