@@ -198,7 +198,6 @@ fn edge_along<G: GraphRead, L: Ledger>(
 ) -> Option<EdgeId>
     ensures value { result ≡ slice_get (cond forward (out_edges_of (G.meaning graph.now) node) (in_edges_of (G.meaning graph.now) node)) nth }
     ensures tick { steps.new ≡ steps.old + 1 }
-    ensures few { length (cond forward (out_edges_of (G.meaning graph.now) node) (in_edges_of (G.meaning graph.now) node)) ≤ 18446744073709551616 }
 {
     if forward {
         graph.out_edge(node, nth, steps)
@@ -224,7 +223,7 @@ fn least_along<G: GraphRead, L: Ledger>(
     ensures no_step_back { steps.old ≤ steps.new }
     ensures cost { steps.new ≤ steps.old + 4 * length (cond forward (out_edges_of (G.meaning graph.now) node) (in_edges_of (G.meaning graph.now) node)) + 1 }
 {
-    for nth in 0..=usize::MAX {
+    for nth in 0..graph.count() as usize {
         match edge_along(graph, node, forward, nth, steps) {
             Some(id) => found = lesser_untested(graph, compiled, tested, found, id, steps),
             None => return found,

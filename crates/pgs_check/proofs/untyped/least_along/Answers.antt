@@ -2,6 +2,7 @@ use Rattle.std.proofs.Common.{◌<◌, ◌+◌, ◌≤◌, cond, length, take, s
 use Rattle.std.specs.Map.{keys_of}
 use Rattle.pgs_graph.specs.Reads.{out_edges_of, in_edges_of}
 use Rattle.pgs_match.proofs.Along.{at_place, past_end}
+use Rattle.pgs_match.proofs.Few.{few_along}
 use Rattle.pgs_check.specs.Untyped.{is_untyped_edge}
 use Rattle.pgs_check.proofs.Least.{still_settled}
 use Rattle.pgs_check.proofs.Steps.{least_step, least_done}
@@ -37,22 +38,10 @@ returns-in-None-clause-least g c =
     least_done (is_untyped_edge c.args.compiled.now graph) ids c.loop-nth.nth (past_end ids c.loop-nth.nth (sym c.in-None.ensures.value)) c.args.found c.loop-nth.found
     c.loop-nth.invariant.so_far
 
-pub returns-in-Some-clause-least : goal.returns-in-Some-clause-least
-returns-in-Some-clause-least g c =
+pub returns-clause-least : goal.returns-clause-least
+returns-clause-least g c =
     let graph = g.G.GraphRead.meaning c.args.graph.now in
     let ids = cond c.args.forward (out_edges_of graph c.args.node) (in_edges_of graph c.args.node) in
-    let place = at_place ids c.loop-nth.nth c.in-Some.id (sym c.in-Some.ensures.value) in
-    let end : length ids ≤ c.loop-nth.nth + 1 = omega (arith, c.edge_along.ensures.few) in
-    least_done (is_untyped_edge c.args.compiled.now graph) ids (c.loop-nth.nth + 1) end c.args.found c.lesser_untested-found.result
-    (least_step (is_untyped_edge c.args.compiled.now graph) ids c.loop-nth.nth c.in-Some.id (sym place.1) place.0 c.args.found c.loop-nth.found
-    c.lesser_untested-found.result c.lesser_untested-found.ensures.least c.loop-nth.invariant.so_far)
-
-pub returns-in-Some-clause-cost : goal.returns-in-Some-clause-cost
-returns-in-Some-clause-cost g c =
-    let graph = g.G.GraphRead.meaning c.args.graph.now in
-    let ids = cond c.args.forward (out_edges_of graph c.args.node) (in_edges_of graph c.args.node) in
-    let place = at_place ids c.loop-nth.nth c.in-Some.id (sym c.in-Some.ensures.value) in
-    let below : c.loop-nth.nth < length ids = place.0 in
-    let tick = c.edge_along.ensures.tick in
-    let before = c.loop-nth.invariant.cost in
-    omega (arith, c.lesser_untested-found.ensures.at_most)
+    least_done (is_untyped_edge c.args.compiled.now graph) ids c.loop-nth.nth
+    (omega (arith, few_along graph c.args.node c.args.forward, c.count-nth-end.ensures.value, c.loop-nth-test.false)) c.args.found c.loop-nth.found
+    c.loop-nth.invariant.so_far
