@@ -1,4 +1,5 @@
 pub mod AtomsOfPaths
+pub mod Edges
 pub mod Held
 pub mod Listed
 pub mod Stepped

@@ -59,7 +59,7 @@ fn later_cause(
         Ok(Some(KeyCause::Disconnected))
     } else if names.reads_unknown(key.exprs.as_slice()) {
         Ok(Some(KeyCause::UnknownVariable))
-    } else if is_too_large(alloc, number, key)? {
+    } else if is_too_large(number, key) {
         Ok(Some(KeyCause::TooLarge))
     } else {
         Ok(None)

@@ -1,4 +1,4 @@
-ghost use Rattle.std.specs.Prelude.{◌≡◌, ℕ, List, ◌++◌, true, false, not, ◌&&◌, Some, slice_get, map, if◌then◌else◌, IfOk};
+ghost use Rattle.std.specs.Prelude.{◌≡◌, ℕ, List, ◌++◌, true, false, not, ◌&&◌, Some, length, slice_get, map, nat_lt, if◌then◌else◌, IfOk};
 ghost use Rattle.std.specs.List.{list_any, list_all};
 ghost use Rattle.std.specs.Option.{option_copied};
 ghost use Rattle.pgs_base.specs.Pair.{same_name, has_name};
@@ -108,25 +108,46 @@ fn names_at<'a>(
     named_in(alloc, &places)
 }
 
-// Whether paths are over 4, or have over 8 edge places.
-fn are_too_large(alloc: Global, paths: &[RawPath]) -> Result<bool, Memory>
-    ensures { IfOk result (λ large. large ≡ are_too_large paths.now) }
+// Whether paths have over 8 edge places: each step has one.
+fn has_many_edges(paths: &[RawPath]) -> bool
+    ensures { result ≡ nat_lt 8 (length (edge_places (places_of paths.now))) }
 {
-    let places = places_of(alloc, paths)?;
-    let edges = of_kind(alloc, true, &places)?;
-    Ok(paths.len() > 4 || edges.len() > 8)
+    let mut left = 8;
+    for path in paths {
+        let edges = path.steps.as_slice().len();
+        if edges > left {
+            return true;
+        }
+        left -= edges;
+    }
+    false
+}
+
+// Whether paths are over 4, or have over 8 edge places.
+fn are_too_large(paths: &[RawPath]) -> bool
+    ensures { result ≡ are_too_large paths.now }
+{
+    paths.len() > 4 || has_many_edges(paths)
+}
+
+// Whether the paths of a written descriptor are too large.
+fn is_within_too_large(key: &RawKey) -> bool
+    ensures { result ≡ are_too_large (within_of key.now) }
+{
+    match &key.within {
+        Some(paths) => are_too_large(paths.as_slice()),
+        None => false,
+    }
 }
 
 /// Whether a key of this number, from 1 in the script, is too large.
-pub fn is_too_large(alloc: Global, number: u64, key: &RawKey) -> Result<bool, Memory>
-    ensures { IfOk result (λ large. large ≡ is_too_large number key.now) }
+pub fn is_too_large(number: u64, key: &RawKey) -> bool
+    ensures { result ≡ is_too_large number key.now }
 {
-    let scope = are_too_large(alloc, key.scope.as_slice())?;
-    let within = match &key.within {
-        Some(paths) => are_too_large(alloc, paths.as_slice())?,
-        None => false,
-    };
-    Ok(scope || within || key.exprs.len() > 16 || number > 256)
+    are_too_large(key.scope.as_slice())
+        || is_within_too_large(key)
+        || key.exprs.len() > 16
+        || number > 256
 }
 
 impl KeyNames {
