@@ -18,24 +18,12 @@ use Rattle.pgs_resolve_declared.specs.declared.order.Numbering.{Numbering}
 use Rattle.pgs_resolve_declared.specs.Order.{number_in}
 use Rattle.pgs_resolve_keys.specs.Patterns.{Place, Variable, variable_at, variables_at, variables_of, number_of, name_atom, place_atoms, ends, step_atoms, path_atoms, places_of, places_of_path, places_of_step, pattern_of}
 use Rattle.pgs_resolve_keys.proofs.AtomsOfPaths.{AllGood, paths_ok}
+use Rattle.pgs_resolve_keys.proofs.Edges.{step_edges, edges-append}
 use Rattle.pgs_resolve.proofs.Fresh.{In}
 use Rattle.pgs_resolve_keys.proofs.Stepped.{step_places}
 use Rattle.pgs_resolve.proofs.VariablesOfPaths.{Kinded, OneKind, in_at, in_either, total, total_variables, variable_from, variable_there, variables_once, same_kind, number_at, own_number}
 
 -- ---- how many places there are
-
-step_edges : (steps : List RawStep) → length (edge_places (flat_map places_of_step steps)) ≡ length steps
-step_edges [] = refl
-step_edges (step ∷ steps) = ap suc (step_edges steps)
-
-edges-append : (xs ys : List Place) → length (edge_places (xs ++ ys)) ≡ length (edge_places xs) + length (edge_places ys)
-edges-append [] ys = omega arith
-edges-append (x ∷ xs) ys = by x.is_edge (edges-append xs ys)
-  where
-    by : (b : Bool) → length (edge_places (xs ++ ys)) ≡ length (edge_places xs) + length (edge_places ys) →
-        length (cond b (x ∷ edge_places (xs ++ ys)) (edge_places (xs ++ ys))) ≡ length (cond b (x ∷ edge_places xs) (edge_places xs)) + length (edge_places ys)
-    by true e = omega (arith, e)
-    by false e = e
 
 place_count : (paths : List RawPath) → length (places_of paths) ≡ length paths + 2 * length (edge_places (places_of paths))
 place_count [] = refl
