@@ -14,11 +14,20 @@ use Rattle.pgs_overlay.specs.Passed.{HasFew}
 use Rattle.pgs_overlay.specs.Standing.{HasDegreesWithin}
 use Rattle.pgs_overlay.proofs.Looping.{or_right}
 
-pub cost_bound : (most nodes edges : ℕ) → (8 * most + 21) * edges + nodes ≤ 16 * (nodes + edges + 1) * (most + 2)
+-- by the logarithm of the longest list
+pub rows_bound : (k nodes edges : ℕ) → (8 * k + 17) * edges + nodes ≤ (8 * k + 17) * (nodes + edges)
+rows_bound k nodes edges =
+    let whole : (8 * k + 17) * (nodes + edges) ≡ (8 * k + 17) * nodes + (8 * k + 17) * edges = grind arith in
+    let one : 1 * nodes ≡ nodes = omega arith in
+    let for_nodes : 1 * nodes ≤ (8 * k + 17) * nodes = mul-le-mul_right nodes (omega arith) in
+    omega (arith, whole, one, for_nodes)
+
+-- and so by its length
+pub cost_bound : (most nodes edges : ℕ) → (8 * most + 17) * edges + nodes ≤ 16 * (nodes + edges + 1) * (most + 2)
 cost_bound most nodes edges =
     let whole : 16 * (nodes + edges + 1) * (most + 2) ≡ (16 * most + 32) * nodes + (16 * most + 32) * edges + (16 * most + 32) = grind arith in
     let one : 1 * nodes ≡ nodes = omega arith in
-    let for_edges : (8 * most + 21) * edges ≤ (16 * most + 32) * edges = mul-le-mul_right edges (omega arith) in
+    let for_edges : (8 * most + 17) * edges ≤ (16 * most + 32) * edges = mul-le-mul_right edges (omega arith) in
     let for_nodes : 1 * nodes ≤ (16 * most + 32) * nodes = mul-le-mul_right nodes (omega arith) in
     omega (arith, whole, one, for_edges, for_nodes)
 

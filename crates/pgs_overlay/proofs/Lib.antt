@@ -1,6 +1,7 @@
 pub mod Before
 pub mod Costs
 pub mod Edits
+pub mod Halving
 pub mod Lists
 pub mod Looping
 pub mod Passing

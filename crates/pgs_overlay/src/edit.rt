@@ -1,4 +1,4 @@
-ghost use Rattle.std.specs.Prelude.{◌≡◌, ◌+◌, ◌*◌, ◌≤◌, ◌∷◌, List, true, false, length, OnOk};
+ghost use Rattle.std.specs.Prelude.{◌≡◌, ◌+◌, ◌*◌, ◌^◌, ◌<◌, ◌≤◌, ◌∷◌, ℕ, List, true, false, length, OnOk};
 ghost use Rattle.std.specs.List.{list_any};
 ghost use Rattle.std.specs.List.Sorted.{IsStrictlySortedBy};
 ghost use Rattle.std.specs.BTreeMap.{is_at};
@@ -31,7 +31,7 @@ pub fn take_edge_out<B: GraphRead, L: Ledger>(
         IsStrictlySortedBy edge_cmp (edge ∷ later) → OnOk result (IsEdited (edges_at side id (B.meaning base.now).edges)
         (remove_key (is_at (edge_cmp edge)) edited) later list.new) }
     ensures never_back { steps.old ≤ steps.new }
-    ensures cost { steps.new ≤ steps.old + 2 * length (edges_at side id (B.meaning base.now).edges) + 5 }
+    ensures cost { (k : ℕ) → length (edges_at side id (B.meaning base.now).edges) < 2 ^ k → steps.new ≤ steps.old + 2 * k + 4 }
 {
     match search(base, side, id, list.done, edge, steps) {
         Ok(place) => list.take_out(place),
@@ -54,7 +54,7 @@ pub fn put_edge_in<B: GraphRead, L: Ledger>(
         IsStrictlySortedBy edge_cmp (edge ∷ later) → OnOk result (IsEdited (edges_at side id (B.meaning base.now).edges)
         (insert_key edge_cmp edited edge) later list.new) }
     ensures never_back { steps.old ≤ steps.new }
-    ensures cost { steps.new ≤ steps.old + 2 * length (edges_at side id (B.meaning base.now).edges) + 5 }
+    ensures cost { (k : ℕ) → length (edges_at side id (B.meaning base.now).edges) < 2 ^ k → steps.new ≤ steps.old + 2 * k + 4 }
 {
     match search(base, side, id, list.done, edge, steps) {
         Err(place) => list.put_in(place, edge),

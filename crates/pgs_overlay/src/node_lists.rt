@@ -1,6 +1,6 @@
 //! The lists of the nodes at which a delta's edges stand, made in one pass over these edges that counts the edges too.
 
-ghost use Rattle.std.specs.Prelude.{◌≡◌, ◌+◌, ◌*◌, ◌<◌, ◌≤◌, ℕ, true, cond, [], length, is_some, OnOk, IfOk};
+ghost use Rattle.std.specs.Prelude.{◌≡◌, ◌+◌, ◌*◌, ◌^◌, ◌<◌, ◌≤◌, ℕ, true, cond, [], length, is_some, OnOk, IfOk};
 ghost use Rattle.std.specs.List.{list_any};
 ghost use Rattle.std.specs.List.Sorted.{IsStrictlySortedBy};
 ghost use Rattle.std.specs.Map.{keys_of};
@@ -75,8 +75,8 @@ impl NodeLists {
         ensures count { IfOk result (λ after. after + cond (is_some (edge_at (B.meaning base.now) change.now.0)) 1 0
             ≡ before + cond (is_some change.now.1) 1 0) }
         ensures never_back { steps.old ≤ steps.new }
-        ensures cost { (most : ℕ) → ((id : NodeId) → ends_here (B.meaning base.now) id change.now ≡ true → HasFew (B.meaning base.now) most id) →
-            steps.new ≤ steps.old + 8 * most + 21 }
+        ensures cost { (most k : ℕ) → most < 2 ^ k → ((id : NodeId) → ends_here (B.meaning base.now) id change.now ≡ true → HasFew (B.meaning base.now) most id) →
+            steps.new ≤ steps.old + 8 * k + 17 }
     {
         let (edge, row) = change;
         let old = old_ends(base, *edge, steps);
@@ -121,8 +121,8 @@ impl NodeLists {
         ensures count { IfOk result (λ after. after + length (B.meaning base.now).edges
             ≡ before + length (entries_changed edge_cmp (B.meaning base.now).edges changes.now)) }
         ensures never_back { steps.old ≤ steps.new }
-        ensures cost { (most : ℕ) → ((id : NodeId) → list_any (ends_here (B.meaning base.now) id) changes.now ≡ true → HasFew (B.meaning base.now) most id) →
-            steps.new ≤ steps.old + (8 * most + 21) * length changes.now }
+        ensures cost { (most k : ℕ) → most < 2 ^ k → ((id : NodeId) → list_any (ends_here (B.meaning base.now) id) changes.now ≡ true → HasFew (B.meaning base.now) most id) →
+            steps.new ≤ steps.old + (8 * k + 17) * length changes.now }
     {
         let mut count = before;
         for change in changes {
@@ -147,8 +147,8 @@ impl NodeLists {
         ensures count { IfOk result (λ edited. edited.1 + length (B.meaning base.now).edges
             ≡ before + length (entries_changed edge_cmp (B.meaning base.now).edges changes.now)) }
         ensures never_back { steps.old ≤ steps.new }
-        ensures cost { (most : ℕ) → ((id : NodeId) → list_any (ends_here (B.meaning base.now) id) changes.now ≡ true → HasFew (B.meaning base.now) most id) →
-            steps.new ≤ steps.old + (8 * most + 21) * length changes.now }
+        ensures cost { (most k : ℕ) → most < 2 ^ k → ((id : NodeId) → list_any (ends_here (B.meaning base.now) id) changes.now ≡ true → HasFew (B.meaning base.now) most id) →
+            steps.new ≤ steps.old + (8 * k + 17) * length changes.now }
     {
         let mut lists = NodeLists {
             outgoing: Keyed::new(alloc, changes.len()),

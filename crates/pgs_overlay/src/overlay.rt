@@ -1,4 +1,4 @@
-ghost use Rattle.std.specs.Prelude.{◌≡◌, ◌+◌, ◌*◌, ◌≤◌, ℕ, true, IfOk};
+ghost use Rattle.std.specs.Prelude.{◌≡◌, ◌+◌, ◌*◌, ◌^◌, ◌<◌, ◌≤◌, ℕ, true, IfOk};
 ghost use Rattle.pgs_graph.specs.Changed.{changed, is_sound};
 ghost use Rattle.pgs_overlay.specs.Standing.{HasDegreesWithin, row_count};
 
@@ -35,7 +35,7 @@ impl<'a, B: GraphRead> Model for Overlay<'a, B> {
 
 impl<'a, B: GraphRead> Overlay<'a, B> {
     /// A sound delta over a base, which stays as it is. Each row of the delta is looked up once in the base, and each change of an edge looks
-    /// its place up in the lists of the nodes at its old and its new ends. `Memory` where none was left.
+    /// its place up in the lists of the nodes at its old and its new ends, by doubling and halving. `Memory` where none was left.
     pub fn new<L: Ledger>(
         alloc: Global,
         base: &'a B,
@@ -45,6 +45,8 @@ impl<'a, B: GraphRead> Overlay<'a, B> {
         requires { is_sound (B.meaning base.now) delta.now ≡ true }
         ensures graph { IfOk result (λ overlay. overlay ≡ changed (B.meaning base.now) delta.now) }
         ensures no_step_back { steps.old ≤ steps.new }
+        ensures logarithmic { (most k : ℕ) → most < 2 ^ k → HasDegreesWithin (B.meaning base.now) delta.now most →
+            steps.new ≤ steps.old + (8 * k + 17) * row_count delta.now }
         ensures cost { (most : ℕ) → HasDegreesWithin (B.meaning base.now) delta.now most →
             steps.new ≤ steps.old + 16 * (row_count delta.now + 1) * (most + 2) }
     {

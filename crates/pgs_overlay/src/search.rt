@@ -1,4 +1,4 @@
-ghost use Rattle.std.specs.Prelude.{◌≡◌, ◌+◌, ◌-◌, ◌*◌, ◌<◌, ◌≤◌, length, MatchResult, IfSome, true, false};
+ghost use Rattle.std.specs.Prelude.{◌≡◌, ◌+◌, ◌-◌, ◌*◌, ◌^◌, ◌<◌, ◌≤◌, ℕ, length, MatchResult, IfSome, true, false};
 ghost use Rattle.pgs_base.specs.declared.element.NodeId.{NodeId};
 ghost use Rattle.pgs_base.specs.Graph.{is_graph};
 ghost use Rattle.pgs_tables_edges.specs.Numbers.{AllBelow, IsBetween};
@@ -52,9 +52,9 @@ fn bounds<B: GraphRead, L: Ledger>(
     ensures order { result.0 ≤ result.1 }
     ensures lower { AllBelow edge (edges_at side id (B.meaning base.now).edges) result.0 }
     ensures upper { AllFrom edge (edges_at side id (B.meaning base.now).edges) result.1 }
-    ensures near { result.1 + from ≤ result.0 + result.0 + 1 }
+    ensures near { result.1 + from ≤ result.0 + result.0 }
     ensures never_back { steps.old ≤ steps.new }
-    ensures cost { steps.new + from ≤ steps.old + result.0 + 1 }
+    ensures cost { (k : ℕ) → length (edges_at side id (B.meaning base.now).edges) < 2 ^ k → steps.new ≤ steps.old + k + 1 }
 {
     let limit = limit(base);
     let mut low = from;
@@ -86,7 +86,7 @@ fn halved<B: GraphRead, L: Ledger>(
     ensures lower { AllBelow edge (edges_at side id (B.meaning base.now).edges) result }
     ensures upper { AllFrom edge (edges_at side id (B.meaning base.now).edges) result }
     ensures never_back { steps.old ≤ steps.new }
-    ensures cost { steps.new + bounds.0 ≤ steps.old + bounds.1 }
+    ensures cost { (k : ℕ) → bounds.1 < bounds.0 + 2 ^ k → steps.new ≤ steps.old + k }
 {
     let (mut low, mut high) = bounds;
     while low < high {
@@ -148,7 +148,7 @@ fn lower_bound<B: GraphRead, L: Ledger>(
     ensures lower { AllBelow edge (edges_at side id (B.meaning base.now).edges) result }
     ensures upper { AllFrom edge (edges_at side id (B.meaning base.now).edges) result }
     ensures never_back { steps.old ≤ steps.new }
-    ensures cost { steps.new ≤ steps.old + 2 * length (edges_at side id (B.meaning base.now).edges) + 4 }
+    ensures cost { (k : ℕ) → length (edges_at side id (B.meaning base.now).edges) < 2 ^ k → steps.new ≤ steps.old + 2 * k + 3 }
 {
     if let Some(place) = without_gap(base, side, id, from, edge, steps) {
         return place;
@@ -172,7 +172,7 @@ pub fn search<B: GraphRead, L: Ledger>(
         (IsBetween edge (edges_at side id (B.meaning base.now).edges)) }
     ensures graph { is_graph (B.meaning base.now) ≡ true }
     ensures never_back { steps.old ≤ steps.new }
-    ensures cost { steps.new ≤ steps.old + 2 * length (edges_at side id (B.meaning base.now).edges) + 5 }
+    ensures cost { (k : ℕ) → length (edges_at side id (B.meaning base.now).edges) < 2 ^ k → steps.new ≤ steps.old + 2 * k + 4 }
 {
     let place = lower_bound(base, side, id, from, edge, steps);
     match edge_at(base, side, id, place, steps) {

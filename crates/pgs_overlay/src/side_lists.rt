@@ -1,6 +1,6 @@
 //! The lists of one side of the nodes at which a delta's edges stand, edited edge by edge.
 
-ghost use Rattle.std.specs.Prelude.{◌≡◌, ◌+◌, ◌*◌, ◌≤◌, ℕ, true, false, ◌&&◌, length, option_map, OnOk, IfSome};
+ghost use Rattle.std.specs.Prelude.{◌≡◌, ◌+◌, ◌*◌, ◌^◌, ◌<◌, ◌≤◌, ℕ, true, false, ◌&&◌, length, option_map, OnOk, IfSome};
 ghost use Rattle.std.specs.List.{list_any};
 ghost use Rattle.std.specs.List.Sorted.{IsStrictlySortedBy};
 ghost use Rattle.std.specs.Map.{keys_of, remove_entry};
@@ -48,8 +48,8 @@ fn take_out<B: GraphRead, L: Ledger>(
     ensures taken { OnOk result ((id : NodeId) → IsEditAt (edges_at side id (B.meaning base.now).edges) edge true false (is_here id end)
         (list_at lists.old id) (list_at lists.new id)) }
     ensures never_back { steps.old ≤ steps.new }
-    ensures cost { (most : ℕ) → IfSome end (λ id. length (edges_at side id (B.meaning base.now).edges) ≤ most) →
-        steps.new ≤ steps.old + 2 * most + 5 }
+    ensures cost { (most k : ℕ) → most < 2 ^ k → IfSome end (λ id. length (edges_at side id (B.meaning base.now).edges) ≤ most) →
+        steps.new ≤ steps.old + 2 * k + 4 }
 {
     let Some(id) = end else {
         return Ok(());
@@ -75,8 +75,8 @@ fn put_in<B: GraphRead, L: Ledger>(
     ensures put { OnOk result ((id : NodeId) → IsEditAt (edges_at side id (B.meaning base.now).edges) edge false true (is_here id end)
         (list_at lists.old id) (list_at lists.new id)) }
     ensures never_back { steps.old ≤ steps.new }
-    ensures cost { (most : ℕ) → IfSome end (λ id. length (edges_at side id (B.meaning base.now).edges) ≤ most) →
-        steps.new ≤ steps.old + 2 * most + 5 }
+    ensures cost { (most k : ℕ) → most < 2 ^ k → IfSome end (λ id. length (edges_at side id (B.meaning base.now).edges) ≤ most) →
+        steps.new ≤ steps.old + 2 * k + 4 }
 {
     let Some(id) = end else {
         return Ok(());
@@ -114,8 +114,8 @@ pub(crate) fn edit_side<B: GraphRead, L: Ledger>(
     ensures edited { OnOk result ((id : NodeId) → FollowsChange (edges_at side id (B.meaning base.now).edges) edge
         (is_here id ends.0) (is_here id ends.1) (list_at lists.old id) (list_at lists.new id)) }
     ensures never_back { steps.old ≤ steps.new }
-    ensures cost { (most : ℕ) → IfSome ends.0 (λ id. length (edges_at side id (B.meaning base.now).edges) ≤ most) →
-        IfSome ends.1 (λ id. length (edges_at side id (B.meaning base.now).edges) ≤ most) → steps.new ≤ steps.old + 4 * most + 10 }
+    ensures cost { (most k : ℕ) → most < 2 ^ k → IfSome ends.0 (λ id. length (edges_at side id (B.meaning base.now).edges) ≤ most) →
+        IfSome ends.1 (λ id. length (edges_at side id (B.meaning base.now).edges) ≤ most) → steps.new ≤ steps.old + 4 * k + 8 }
 {
     let (old, new) = ends;
     if are_same(old, new) {

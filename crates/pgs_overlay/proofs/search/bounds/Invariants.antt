@@ -1,4 +1,4 @@
-use Rattle.std.proofs.Common.{◌+◌, ◌-◌, ◌≤◌, length}
+use Rattle.std.proofs.Common.{◌+◌, ◌-◌, ◌^◌, ◌<◌, ◌≤◌, length}
 use Rattle.pgs_tables_edges.specs.Numbers.{AllBelow}
 use Rattle.pgs_overlay.specs.Sides.{edges_at}
 use Rattle.pgs_overlay.proofs.search.bounds.Given as goal
@@ -11,7 +11,8 @@ invariant-loop-side g l = record {
   some : 1 ≤ l.step;
   step : l.step + l.from ≤ l.low + 1;
   never_back : l.initial.steps ≤ l.steps;
-  cost : l.steps + l.from ≤ l.initial.steps + l.low;
+  far : 2 ^ (l.steps - l.initial.steps) + l.from ≤ l.low + 1;
+  doubled : l.low + 1 < 2 ^ 64 → 2 ^ (l.steps - l.initial.steps) ≤ l.step;
 }
 
 abbrev pub decreases-loop-side : goal.decreases-loop-side

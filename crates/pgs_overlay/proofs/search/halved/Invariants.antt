@@ -1,7 +1,8 @@
-use Rattle.std.proofs.Common.{◌+◌, ◌-◌, ◌≤◌, length}
+use Rattle.std.proofs.Common.{ℕ, ◌+◌, ◌-◌, ◌^◌, ◌<◌, ◌≤◌, length}
 use Rattle.pgs_tables_edges.specs.Numbers.{AllBelow}
 use Rattle.pgs_overlay.specs.Found.{AllFrom}
 use Rattle.pgs_overlay.specs.Sides.{edges_at}
+use Rattle.pgs_overlay.proofs.Halving.{IsWithin}
 use Rattle.pgs_overlay.proofs.search.halved.Given as goal
 
 abbrev pub invariant-loop-low : goal.invariant-loop-low
@@ -11,7 +12,7 @@ invariant-loop-low g l = record {
   lower : AllBelow l.edge (edges_at l.side l.id (g.B.GraphRead.meaning l.base).edges) l.low;
   upper : AllFrom l.edge (edges_at l.side l.id (g.B.GraphRead.meaning l.base).edges) l.high;
   never_back : l.initial.steps ≤ l.steps;
-  cost : l.steps + l.initial.low + l.high ≤ l.initial.steps + l.initial.high + l.low;
+  within : (k : ℕ) → l.initial.high < l.initial.low + 2 ^ k → IsWithin k l.initial.steps l.steps l.low l.high;
 }
 
 abbrev pub decreases-loop-low : goal.decreases-loop-low

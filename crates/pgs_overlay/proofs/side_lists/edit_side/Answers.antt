@@ -23,10 +23,10 @@ returns-clause-edited g c id =
     (c.are_same.ensures.apart c.if-are_same.false id) _ _ _ (c.in_ok-take_out.ensures.taken id) (c.in_ok-put_in.ensures.put id)
 
 pub returns-in_err-take_out-clause-cost : goal.returns-in_err-take_out-clause-cost
-returns-in_err-take_out-clause-cost g c most old new = omega (arith, c.take_out.ensures.cost most old)
+returns-in_err-take_out-clause-cost g c most k low old new = omega (arith, c.take_out.ensures.cost most k low old)
 
 pub returns-in_err-put_in-clause-cost : goal.returns-in_err-put_in-clause-cost
-returns-in_err-put_in-clause-cost g c most old new = omega (arith, c.take_out.ensures.cost most old, c.put_in.ensures.cost most new)
+returns-in_err-put_in-clause-cost g c most k low old new = omega (arith, c.take_out.ensures.cost most k low old, c.put_in.ensures.cost most k low new)
 
 pub returns-clause-cost : goal.returns-clause-cost
-returns-clause-cost g c most old new = omega (arith, c.take_out.ensures.cost most old, c.put_in.ensures.cost most new)
+returns-clause-cost g c most k low old new = omega (arith, c.take_out.ensures.cost most k low old, c.put_in.ensures.cost most k low new)

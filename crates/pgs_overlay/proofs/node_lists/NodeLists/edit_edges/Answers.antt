@@ -35,26 +35,26 @@ loop-change-preserved g c = record {
       (ascending_edges graph c.requires.graph) c.requires.ascending in
       omega (arith, c.in_ok-count.ensures.count, more, c.loop-change.invariant.count);
   never_back = omega (arith, c.loop-change.invariant.never_back, c.edit_edge.ensures.never_back);
-  cost = λ most few. omega (
+  cost = λ most k low few. omega (
     arith,
-    c.loop-change.invariant.cost most few,
-    one_more (8 * most + 21) c.loop-change.change-index,
-    c.edit_edge.ensures.cost most (few_of_one (g.B.GraphRead.meaning c.args.base.now) most c.args.changes.now c.loop-change.change-index c.change-item.result
+    c.loop-change.invariant.cost most k low few,
+    one_more (8 * k + 17) c.loop-change.change-index,
+    c.edit_edge.ensures.cost most k low (few_of_one (g.B.GraphRead.meaning c.args.base.now) most c.args.changes.now c.loop-change.change-index c.change-item.result
         c.loop-change-test.true c.change-item.is few),
   );
 }
 
 pub returns-in_err-count-clause-cost : goal.returns-in_err-count-clause-cost
-returns-in_err-count-clause-cost g c most few =
+returns-in_err-count-clause-cost g c most k low few =
     omega (
       arith,
-      c.loop-change.invariant.cost most few,
-      all_of_them (8 * most + 21) c.loop-change.change-index (length c.args.changes.now) c.loop-change-test.true,
-      c.edit_edge.ensures.cost most (few_of_one (g.B.GraphRead.meaning c.args.base.now) most c.args.changes.now c.loop-change.change-index c.change-item.result
+      c.loop-change.invariant.cost most k low few,
+      all_of_them (8 * k + 17) c.loop-change.change-index (length c.args.changes.now) c.loop-change-test.true,
+      c.edit_edge.ensures.cost most k low (few_of_one (g.B.GraphRead.meaning c.args.base.now) most c.args.changes.now c.loop-change.change-index c.change-item.result
           c.loop-change-test.true c.change-item.is few),
     )
 
 pub returns-clause-cost : goal.returns-clause-cost
-returns-clause-cost g c most few =
+returns-clause-cost g c most k low few =
     let all : c.loop-change.change-index ≡ length c.args.changes.now = omega (arith, c.loop-change-test.false, c.loop-change.auto.change-index-end) in
-    omega (arith, c.loop-change.invariant.cost most few, ap (λ n. (8 * most + 21) * n) all)
+    omega (arith, c.loop-change.invariant.cost most k low few, ap (λ n. (8 * k + 17) * n) all)
