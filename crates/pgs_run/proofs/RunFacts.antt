@@ -1,8 +1,10 @@
 -- The facts of a run, from those of its command.
-use Rattle.std.proofs.Common.{◌≡◌, ℕ, Bool, true, false, List, [], Option, Some, None, refl, sym, subst, inl, inr, ⊎_elim, ◌∙◌}
+use Rattle.std.proofs.Common.{◌≡◌, ℕ, Bool, true, false, List, [], Option, Some, None, refl, sym, ap, subst, inl, inr, ⊎_elim, ◌∙◌}
+use Rattle.std.proofs.lemmas.Bool.{false≢true}
 use Rattle.pgs_feed.specs.Places.{Place, lost_count}
 use Rattle.pgs_answer.specs.Lines.{words_refused_line}
 use Rattle.pgs_run_lines.specs.AreasKept.{KeepsAreas}
+use Rattle.pgs_run_lines.specs.Calls.{Reads, gave_none, so_far}
 use Rattle.pgs_run_lines.specs.Ending.{Faults, faults_of}
 use Rattle.pgs_run_lines.specs.Machine.{Told}
 use Rattle.pgs_run_lines.specs.Pieces.{Shown, ShowsFirst, shown_of}
@@ -17,6 +19,7 @@ use Rattle.pgs_world.specs.World.{View}
 use Rattle.pgs_run_base.specs.declared.status.Status.{Status}
 use Rattle.pgs_run_base.specs.declared.status.Status.TheVariants.{Accepted, Refused, BadWords, SchemaRefused, StoreRefused, DiskFault, ReadFault, PutFault, Memory, InputTooLong}
 use Rattle.pgs_run_base.specs.Areas.{areas_of}
+use Rattle.pgs_run_base.specs.Calls.{fails_read}
 use Rattle.pgs_run_base.specs.Ending.{Ends}
 use Rattle.pgs_run_base.specs.Run.{IsRead, EndsAs, HasCommandCause, TakesWithin}
 use Rattle.pgs_run_base.proofs.Images.{images_areas, settled_images}
@@ -238,3 +241,26 @@ runs_memory command budget source view places leaves fed = record {
   settles = λ settled no. settled;
   fed = fed;
 }
+
+-- a command that reads nothing doesn't say that a read failed
+pub unread_status : (uses : Bool) (before now : Faults) (status : Status) → HasCommandCause false uses before now status → fails_read status ≡ false
+unread_status uses before now Accepted cause = refl
+unread_status uses before now Refused cause = refl
+unread_status uses before now BadWords cause = refl
+unread_status uses before now SchemaRefused cause = refl
+unread_status uses before now StoreRefused cause = refl
+unread_status uses before now DiskFault cause = refl
+unread_status uses before now ReadFault cause = absurd (false≢true cause.0)
+unread_status uses before now PutFault cause = refl
+unread_status uses before now Memory cause = refl
+unread_status uses before now InputTooLong cause = refl
+
+-- nor do refused words
+pub unread_words : (status : Status) → RefusesWords status → fails_read status ≡ false
+unread_words status (inl is) = ap fails_read is
+unread_words status (inr (inl is)) = ap fails_read is
+unread_words status (inr (inr is)) = ap fails_read is
+
+-- the source is as before where nothing is read of it
+pub reads_nothing : {S : Type 0} (made : S → ℕ → Option ℕ → S → Type 0) (budget : ℕ) (source : S) (fails : Bool) → fails ≡ false → Reads made budget source fails source
+reads_nothing made budget source fails is = subst (λ (fails : Bool). Reads made budget source fails source) (sym is) (so_far gave_none)

@@ -1,5 +1,5 @@
 -- All that is promised of a run, from what is said of its parts.
-use Rattle.std.proofs.Common.{◌≡◌, ◌⊎◌, inl, inr, ℕ, true, false, List, Option, Some, refl, sym, subst, ◌∙◌}
+use Rattle.std.proofs.Common.{◌≡◌, ◌⊎◌, inl, inr, ℕ, true, false, List, Option, Some, refl, sym, ap, subst, ◌∙◌}
 use Rattle.pgs_run_lines.specs.AreasKept.{KeepsAreas}
 use Rattle.pgs_run_lines.specs.Ending.{faults_of}
 use Rattle.pgs_run_lines.specs.Machine.{Told}
@@ -8,10 +8,17 @@ use Rattle.pgs_run_lines.proofs.RunEnds.{within_unread}
 use Rattle.pgs_world.specs.World.{View}
 use Rattle.pgs_run_follow.specs.declared.status.FollowStatus.{FollowStatus}
 use Rattle.pgs_run_follow.specs.declared.status.FollowStatus.TheVariants.{Accepted, Refused, BadWords, ReadFault, PutFault, Memory, InputTooLong}
+use Rattle.pgs_run_follow.specs.Calls.{fails_read}
 use Rattle.pgs_run_follow.specs.Ending.{Ends, HasCause, IsComplete, IsDisturbed, IsRead, IsUnended, RefusesWords, TakesWithin}
 use Rattle.pgs_run_follow.specs.Promise.{KeepsPromise, Setting, faults_in, setting_of}
 use Rattle.pgs_run_follow.specs.Told.{is_follow, told, told_follow}
 use Rattle.pgs_run_follow.proofs.FollowEnds.{follow_complete}
+
+-- where words are refused no read failed
+pub unread : (status : FollowStatus) → RefusesWords status → fails_read status ≡ false
+unread status (inl is) = ap fails_read is
+unread status (inr (inl is)) = ap fails_read is
+unread status (inr (inr is)) = ap fails_read is
 
 -- a run that nothing disturbed has the status told
 exact_of : (start now : Shown) (told : Told FollowStatus) (status : FollowStatus) → Ends start told status now → IsDisturbed status ⊎ (status ≡ told.status)

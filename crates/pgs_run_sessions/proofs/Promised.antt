@@ -11,6 +11,7 @@ use Rattle.pgs_run_lines.proofs.RunEnds.{within_unread}
 use Rattle.pgs_run_lines.proofs.Showing.{shows_none}
 use Rattle.pgs_run_base.specs.declared.status.Status.{Status}
 use Rattle.pgs_run_base.specs.declared.status.Status.TheVariants.{Accepted, Refused, BadWords, SchemaRefused, StoreRefused, DiskFault, ReadFault, PutFault, Memory, InputTooLong}
+use Rattle.pgs_run_base.specs.Calls.{fails_read}
 use Rattle.pgs_run_base.specs.Ending.{Ends}
 use Rattle.pgs_run_base.specs.Run.{IsRead, EndsAs, HasCommandCause, TakesWithin, IsDisturbed, IsComplete}
 use Rattle.pgs_run_sessions.specs.Promise.{Setting, setting_of, faults_in, HasCause, Knows, KeepsPromise}
@@ -21,6 +22,19 @@ use Rattle.pgs_run_sessions.proofs.RunEnds.{never_cut}
 use Rattle.pgs_world.specs.Count.{RoseByOne}
 use Rattle.pgs_world.specs.Moment.{IsTimed}
 use Rattle.pgs_world.specs.World.{View}
+
+-- where the source isn't asked for no read failed
+pub unread : (runs : Bool) (before now : Faults) (status : Status) → runs ≡ false → HasCause runs before now status → fails_read status ≡ false
+unread runs before now Accepted none cause = refl
+unread runs before now Refused none cause = refl
+unread runs before now BadWords none cause = refl
+unread runs before now SchemaRefused none cause = refl
+unread runs before now StoreRefused none cause = refl
+unread runs before now DiskFault none cause = refl
+unread runs before now ReadFault none cause = absurd (true≢false (sym cause.0 ∙ none))
+unread runs before now PutFault none cause = refl
+unread runs before now Memory none cause = refl
+unread runs before now InputTooLong none cause = refl
 
 -- a run that nothing disturbed has the status told
 exact_of : (start now : Shown) (told : Told Status) (status : Status) → Ends start told status now → IsDisturbed status ⊎ (status ≡ told.status)

@@ -1,8 +1,8 @@
-use Rattle.std.proofs.Common.{Some, refl, ap, ⊎_elim, Option, List, [], ℕ}
+use Rattle.std.proofs.Common.{Some, refl, ap, ⊎_elim, Option, List, [], ℕ, true, false}
 use Rattle.pgs_run.specs.Runs.{SourceState}
 use Rattle.pgs_run_base.proofs.Images.{images_areas, settled_images}
 use Rattle.pgs_run_words.specs.declared.command.Command.TheVariants.{Try, Validate, Load, Apply, Recover, Explain, Gen, Checkpoint, Contain, Evolve}
-use Rattle.pgs_run.proofs.RunFacts.{runs_as, cause_of, takes_of, runs_alone, runs_reading, runs_by, unread_answer, unread_gen}
+use Rattle.pgs_run.proofs.RunFacts.{runs_as, cause_of, takes_of, runs_alone, runs_reading, runs_by, unread_answer, unread_gen, unread_status, reads_nothing}
 use Rattle.pgs_run.proofs.commands.run_command.Goals as goal
 
 abbrev state_of : Option (List ℕ) → ℕ → SourceState
@@ -96,3 +96,23 @@ returns-in-Apply-clause-runs g c =
     (λ vain. ap (λ source. state_of (g.S.Source.left source) (g.S.Source.faults source)) (⊎_elim (λ refused. r.ensures.refused refused) (λ none. r.ensures.unread none.0 none.1) vain))
     (record { passes = r.ensures.passes; stops = r.ensures.stops; grows = r.ensures.grows; unsaved = r.ensures.unsaved; beside = r.ensures.beside })
     r.ensures.settled (record { decided = r.ensures.decided; unsaved = r.ensures.unfed }))
+
+pub returns-in-Recover-clause-calls : goal.returns-in-Recover-clause-calls
+returns-in-Recover-clause-calls g c =
+    let r = c.run_reader in
+    reads_nothing g.S.Source.read_made c.args.budget c.args.source.now _ (unread_status true _ _ r.result (r.ensures.cause (g.S.Source.faults c.args.source.now)))
+
+pub returns-in-Explain-clause-calls : goal.returns-in-Explain-clause-calls
+returns-in-Explain-clause-calls g c =
+    let r = c.run_reader-in-Explain in
+    reads_nothing g.S.Source.read_made c.args.budget c.args.source.now _ (unread_status true _ _ r.result (r.ensures.cause (g.S.Source.faults c.args.source.now)))
+
+pub returns-in-Gen-clause-calls : goal.returns-in-Gen-clause-calls
+returns-in-Gen-clause-calls g c =
+    let r = c.run_gen in
+    reads_nothing g.S.Source.read_made c.args.budget c.args.source.now _ (unread_status false _ _ r.result (r.ensures.cause (g.S.Source.faults c.args.source.now)))
+
+pub returns-in-Checkpoint-clause-calls : goal.returns-in-Checkpoint-clause-calls
+returns-in-Checkpoint-clause-calls g c =
+    let r = c.run_checkpoint in
+    reads_nothing g.S.Source.read_made c.args.budget c.args.source.now _ (unread_status true _ _ r.result (r.ensures.cause (g.S.Source.faults c.args.source.now)))

@@ -1,9 +1,9 @@
-use Rattle.std.proofs.Common.{Some, None, sym, ◌∙◌}
+use Rattle.std.proofs.Common.{Some, None, refl, sym, ◌∙◌}
 use Rattle.pgs_feed.specs.Places.{lost_count}
 use Rattle.pgs_feed.specs.Seen.{places}
 use Rattle.pgs_run_words.specs.Words.{command_of}
 use Rattle.pgs_run.specs.Runs.{SourceState}
-use Rattle.pgs_run.proofs.RunFacts.{runs_as, runs_memory}
+use Rattle.pgs_run.proofs.RunFacts.{runs_as, runs_memory, unread_words, reads_nothing}
 use Rattle.pgs_run.proofs.Unmoved.{leaves_none, feeds_none}
 use Rattle.pgs_run.proofs.words.run_words.Goals as goal
 
@@ -24,3 +24,10 @@ pub returns-in-Ok-None-clause-runs : goal.returns-in-Ok-None-clause-runs
 returns-in-Ok-None-clause-runs g c =
     runs_as None (command_of c.args.words.now) c.args.budget _ _ c.refuse_words.result (sym c.in-Ok-None.ensures.command ∙ c.in-Ok-None.field-0-is)
     (c.refuse_words.ensures.runs c.args.budget (g.S.Source.left c.args.source.now) (g.S.Source.faults c.args.source.now) (places g.F.Feed.taken g.F.Feed.faults c.args.feeds.now))
+
+pub returns-in-Err-clause-calls : goal.returns-in-Err-clause-calls
+returns-in-Err-clause-calls g c = reads_nothing g.S.Source.read_made c.args.budget c.args.source.now _ refl
+
+pub returns-in-Ok-None-clause-calls : goal.returns-in-Ok-None-clause-calls
+returns-in-Ok-None-clause-calls g c =
+    reads_nothing g.S.Source.read_made c.args.budget c.args.source.now _ (unread_words c.refuse_words.result c.refuse_words.ensures.answer)
