@@ -400,25 +400,32 @@ fn has_kind(kind: Qualifier, written: &[Qualifier]) -> bool
     written.iter().any(|other| is_same_kind(kind, *other))
 }
 
-/// Whether no kind stands twice. As there are four kinds, this is at most five calls deep.
+/// Whether no kind stands twice. As there are four kinds, at most four qualifiers are compared with those behind them.
 fn each_kind_once(written: &[Qualifier]) -> bool
     ensures { result ≡ are_distinct is_same_kind written.now }
 {
-    match written {
-        [] => true,
-        [first, others @ ..] => !has_kind(*first, others) && each_kind_once(others),
+    let mut rest = written;
+    while let [first, others @ ..] = rest {
+        if has_kind(*first, others) {
+            return false;
+        }
+        rest = others;
     }
+    true
 }
 
 /// The bounds of the first COUNT.
 fn bounds_in(written: &[Qualifier]) -> Option<(u32, u32)>
     ensures { result ≡ bounds_in written.now }
 {
-    match written {
-        [] => None,
-        [Qualifier::Count(least, most), ..] => Some((*least, *most)),
-        [_, others @ ..] => bounds_in(others),
+    let mut rest = written;
+    while let [first, others @ ..] = rest {
+        if let Qualifier::Count(least, most) = first {
+            return Some((*least, *most));
+        }
+        rest = others;
     }
+    None
 }
 
 fn asked_by(written: &[Qualifier]) -> Qualifiers
