@@ -1,6 +1,7 @@
 pub mod Days
 pub mod Digits
 pub mod Joined
+pub mod Rooms
 pub mod ToldKinds
 mod LabelOrder
 mod Spelt

@@ -5,6 +5,7 @@ pub mod Form
 pub mod Kinds
 pub mod Line
 pub mod Pieces
+pub mod Room
 pub mod Sets
 pub mod Tree
 pub mod Unread

@@ -7,13 +7,11 @@ ghost use Rattle.pgs_base_text.specs.Text.{quoted};
 ghost use Rattle.pgs_json.specs.Canonical.{value_text, labels_text, props_text, op_text, ops_text, text_of_txn};
 ghost use Rattle.pgs_json.specs.Pieces.{further, listed, prop_text, pair_part, named_text, front_text};
 
+use crate::room::txn_room;
 use pgs_base::{Bytes, Day, EdgeId, Labels, Memory, Name, NodeId, Props, Value};
 use pgs_base_text::TextBuffer;
 use pgs_graph::{Op, Txn};
 use std::alloc::Global;
-
-/// Room for an operation of usual length.
-const OP_ROOM: usize = 96;
 
 fn push_date(text: &mut TextBuffer, day: Day) -> Result<(), Memory>
     ensures { OnOk result (text.new ≡ text.old ++ value_text (values.Date day)) }
@@ -303,14 +301,6 @@ pub fn push_txn(text: &mut TextBuffer, txn: &Txn, commit: Option<u64>) -> Result
     push_ops(text, txn)?;
     text.push(b"}")?;
     Ok(())
-}
-
-/// Room for the text of a transaction of usual length, and a line feed.
-pub fn txn_room(txn: &Txn) -> usize {
-    txn.ops
-        .len()
-        .saturating_mul(OP_ROOM)
-        .saturating_add(OP_ROOM)
 }
 
 /// The canonical text of a transaction, with the number of its commit where one is given. docs/FORMATS.md tells the text.

@@ -1,6 +1,6 @@
 //! Labels, properties, lists of operations and transactions, each of a JSON value.
 
-ghost use Rattle.std.specs.Prelude.{◌≡◌, [], ◌∷◌, ◌++◌, option_map, option_and_then, Some, Err, IfOk, OnOk, OnErr};
+ghost use Rattle.std.specs.Prelude.{◌≡◌, ◌≤◌, ◌<◌, [], ◌∷◌, ◌++◌, length, option_map, option_and_then, Some, Err, IfOk, OnOk, OnErr};
 ghost use Rattle.std.specs.Ordering.{nat_cmp};
 ghost use Rattle.std.specs.Cmp.Lexicographic.{slice_cmp};
 ghost use Rattle.std.specs.BTreeSet.{insert_key};
@@ -27,8 +27,9 @@ const FEW_LABELS: usize = 64;
 /// For so many operations room is taken at once: as many as a transaction may have.
 const MOST_ROOM: usize = 10_000;
 
-/// Labels that are put in one after the other.
+/// Labels that are put in one after the other: few, since each one moves those behind it.
 fn few_labels(alloc: Global, items: &[Json<'_>]) -> Result<Labels, Unread>
+    requires { length items.now ≤ 64 }
     ensures { Gives (λ x. x) result (option_and_then (λ names. Some (label_set names)) (each_item name_of (items_view items.now))) }
 {
     let mut labels = Labels::new(alloc);
@@ -63,8 +64,9 @@ fn label_names(alloc: Global, items: &[Json<'_>]) -> Result<BTreeSet<Name>, Unre
     Ok(names)
 }
 
-/// Labels that are sorted first, since each one put in moves those behind it.
+/// Labels that are sorted first.
 fn many_labels(alloc: Global, items: &[Json<'_>]) -> Result<Labels, Unread>
+    requires { 64 < length items.now }
     ensures { Gives (λ x. x) result (option_and_then (λ names. Some (label_set names)) (each_item name_of (items_view items.now))) }
 {
     let names = label_names(alloc, items)?;

@@ -19,16 +19,18 @@ mod number;
 mod numeral;
 mod op_of_kind;
 mod ordering;
+mod room;
 mod samples;
 mod tree;
 mod unread;
 
-pub use canonical::{push_txn, txn_room, write_txn};
+pub use canonical::{push_txn, write_txn};
 pub use commit::read_commit;
 pub use commit_fault::CommitFault;
 pub use laws::{written_commit_is_read, written_is_read};
 pub use line::read_txn;
 pub use line_fault::LineFault;
+pub use room::txn_room;
 pub use samples::{
     canonical_texts, labels_in_another_order, lines_of_a_feed, lines_that_add, lines_that_change,
     lines_with_values, other_lines, texts_of_changes, written_and_read,

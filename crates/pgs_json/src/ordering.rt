@@ -1,6 +1,6 @@
 //! The members of an object in the order of their names.
 
-ghost use Rattle.std.specs.Prelude.{◌≡◌, IfOk};
+ghost use Rattle.std.specs.Prelude.{◌≡◌, ◌≤◌, ◌<◌, IfOk, vec_len};
 ghost use Rattle.serde_json.specs.Data.{no_members};
 ghost use Rattle.pgs_json.specs.Tree.{ascend, ascend_after, members_view, put_all};
 
@@ -36,6 +36,7 @@ fn ascend(members: &[Member<'_>]) -> bool
 }
 
 fn few_sorted<'a>(alloc: Global, members: Vec<Member<'a>>) -> Result<Vec<Member<'a>>, Memory>
+    requires { vec_len members ≤ 64 }
     ensures { IfOk result (λ found. members_view found.items ≡ put_all (members_view members.entry.items) no_members) }
 {
     let mut found = Rows::from_vec(Vec::with_capacity(alloc, members.len())?);
@@ -46,6 +47,7 @@ fn few_sorted<'a>(alloc: Global, members: Vec<Member<'a>>) -> Result<Vec<Member<
 }
 
 fn many_sorted<'a>(alloc: Global, members: Vec<Member<'a>>) -> Result<Vec<Member<'a>>, Memory>
+    requires { 64 < vec_len members }
     ensures { IfOk result (λ found. members_view found.items ≡ put_all (members_view members.entry.items) no_members) }
 {
     let mut found = BTreeMap::new(alloc);
