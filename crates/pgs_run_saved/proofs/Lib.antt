@@ -1,5 +1,6 @@
 pub mod Conforming
 pub mod Images
+pub mod Last
 pub mod Reading
 pub mod Saving
 pub mod Shown

@@ -1,5 +1,5 @@
 -- How a command ends whose store isn't opened.
-use Rattle.std.specs.Prelude.{◌≡◌, Bool, true, false}
+use Rattle.std.specs.Prelude.{◌≡◌, ◌⊎◌, Bool, true, false}
 use Rattle.pgs_run_lines.specs.Ending.{faults_of}
 use Rattle.pgs_run_lines.specs.Pieces.{shown_of}
 use Rattle.pgs_run_lines.specs.Replies.{EndsReply}
@@ -25,3 +25,9 @@ abbrev pub EndsUnopened : Unopened → View → Status → View → Type 0
 EndsUnopened (Refused reply) old result now = EndsReply reply.line reply.status statuses.PutFault old result now
 EndsUnopened DiskFault old result now = (result ≡ statuses.DiskFault) × PutsNothing old now
 EndsUnopened Memory old result now = (result ≡ statuses.Memory) × PutsNothing old now
+
+-- the status is that of the refusal whose line was put, or the put failed and was the last call; else no call was made
+abbrev pub EndsLast : Unopened → Status → Type 0 → Type 0
+EndsLast (Refused reply) result failed = (result ≡ reply.status) ⊎ failed
+EndsLast DiskFault result failed = Unit {0}
+EndsLast Memory result failed = Unit {0}

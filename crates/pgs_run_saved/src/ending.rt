@@ -1,7 +1,6 @@
-ghost use Rattle.std.specs.Prelude.{◌≡◌, ◌⊎◌, false, true};
-ghost use Rattle.pgs_run_base.specs.Calls.{fails_world};
+ghost use Rattle.std.specs.Prelude.{◌≡◌, false};
 ghost use Rattle.pgs_run_lines.specs.AreasKept.{KeepsAreas};
-ghost use Rattle.pgs_run_saved.specs.Ending.{EndsUnopened, is_refusal};
+ghost use Rattle.pgs_run_saved.specs.Ending.{EndsLast, EndsUnopened, is_refusal};
 
 use crate::Unopened;
 use pgs_run_base::Status;
@@ -14,7 +13,7 @@ pub fn end_unopened<W: World>(world: &mut W, unopened: Unopened) -> Status
     ensures ends { EndsUnopened unopened (W.view world.old) result (W.view world.new) }
     ensures areas { KeepsAreas (W.view world.old) (W.view world.new) }
     ensures early { is_refusal unopened ≡ false → world.new ≡ world.old }
-    ensures last { fails_world result ≡ true → (unopened ≡ Unopened.DiskFault) ⊎ W.failed world.new }
+    ensures last { EndsLast unopened result (W.failed world.new) }
 {
     match unopened {
         Unopened::Refused(reply) => put_reply(world, &reply),
