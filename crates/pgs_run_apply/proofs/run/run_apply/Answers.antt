@@ -1,4 +1,4 @@
-use Rattle.std.proofs.Common.{◌∙◌, sym, ap, refl}
+use Rattle.std.proofs.Common.{◌∙◌, Bool, sym, ap, subst, refl}
 use Rattle.pgs_feed.specs.Places.{lost_count}
 use Rattle.pgs_feed.specs.Seen.{places}
 use Rattle.pgs_run_lines.specs.Machine.{scene_of}
@@ -15,6 +15,8 @@ use Rattle.pgs_run_apply.proofs.Running.{running_ends, running_cause, running_pa
 use Rattle.pgs_run_apply.proofs.RunEnds.{apply_read, apply_takes}
 use Rattle.pgs_run_saved.proofs.Unread.{unopened_ends, unopened_takes, unopened_read, unopened_cause}
 use Rattle.pgs_run_apply.proofs.Unopened.{unopened_decided, unopened_stops}
+use Rattle.pgs_run_saved.proofs.Last.{last_unopened, unread_unopened}
+use Rattle.pgs_run_lines.specs.Calls.{Reads, gave_none, so_far}
 use Rattle.pgs_run_apply.proofs.run.run_apply.Goals as goal
 
 -- ---- no store was opened
@@ -161,3 +163,12 @@ pub run_lines-stop-requires-clause-holds : goal.run_lines-stop-requires-clause-h
 run_lines-stop-requires-clause-holds g c =
     let view = g.W.World.view in
     first_holds (state_of c.new-applying.result) c.in-Ok.store (view c.args.world.now) (view c.open_store.new.world) c.new-applying.ensures.state c.in-Ok.ensures.answer
+
+pub returns-in-Err-clause-last : goal.returns-in-Err-clause-last
+returns-in-Err-clause-last g c =
+    last_unopened g.W.World.failed c.open_store.new.world c.end_unopened.new.world _ _ _ c.in-Err.unopened c.end_unopened.result c.in-Err.ensures.answer c.end_unopened.ensures.ends c.end_unopened.ensures.last c.in-Err.ensures.last c.end_unopened.ensures.early
+
+pub returns-in-Err-clause-calls : goal.returns-in-Err-clause-calls
+returns-in-Err-clause-calls g c =
+    subst (λ (fails : Bool). Reads g.S.Source.read_made c.args.budget c.args.source.now fails c.args.source.now)
+    (sym (unread_unopened c.in-Err.unopened _ _ _ c.end_unopened.result c.in-Err.ensures.answer c.end_unopened.ensures.ends)) (so_far gave_none)

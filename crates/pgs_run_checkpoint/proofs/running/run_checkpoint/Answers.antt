@@ -9,6 +9,7 @@ use Rattle.pgs_run_checkpoint.specs.Renewing.{Renews}
 use Rattle.pgs_run_checkpoint.specs.Told.{told_checkpoint}
 use Rattle.pgs_run_checkpoint.proofs.Stopped.{ends_checkpoint, not_refused, renews_opened, renews_quiet}
 use Rattle.pgs_run_checkpoint.proofs.Resting.{rests_opened, rests_unopened}
+use Rattle.pgs_run_saved.proofs.Last.{last_unopened}
 use Rattle.pgs_run_checkpoint.proofs.running.run_checkpoint.Goals as goal
 
 pub returns-in-Ok-clause-ends : goal.returns-in-Ok-clause-ends
@@ -61,3 +62,7 @@ pub returns-in-Err-clause-rests : goal.returns-in-Err-clause-rests
 returns-in-Err-clause-rests g c =
     rests_unopened c.in-Err.unopened (g.W.World.view c.args.world.now) (g.W.World.view c.open_store.new.world) (g.W.World.view c.end_unopened.new.world) c.end_unopened.result c.in-Err.ensures.answer c.open_store.ensures.quiet c.end_unopened.ensures.ends
     c.end_unopened.ensures.areas
+
+pub returns-in-Err-clause-last : goal.returns-in-Err-clause-last
+returns-in-Err-clause-last g c =
+    last_unopened g.W.World.failed c.open_store.new.world c.end_unopened.new.world _ _ _ c.in-Err.unopened c.end_unopened.result c.in-Err.ensures.answer c.end_unopened.ensures.ends c.end_unopened.ensures.last c.in-Err.ensures.last c.end_unopened.ensures.early

@@ -1,4 +1,4 @@
-use Rattle.std.proofs.Common.{true, ap, subst}
+use Rattle.std.proofs.Common.{Bool, true, sym, ap, subst}
 use Rattle.pgs_run_lines.specs.Ending.{Faults, faults_of}
 use Rattle.pgs_run_base.specs.Run.{HasCommandCause}
 use Rattle.pgs_run_base.proofs.Images.{images_areas, images_on, images_quiet, settled_images}
@@ -10,6 +10,8 @@ use Rattle.pgs_run_evolve.specs.Told.{told_evolve, told_input}
 use Rattle.pgs_run_evolve.proofs.Leaving.{leaves_on}
 use Rattle.pgs_run_evolve.proofs.Running.{ends_evolve, ready_opened}
 use Rattle.pgs_run_evolve.proofs.Unopened.{leaves_unopened}
+use Rattle.pgs_run_saved.proofs.Last.{last_unopened, unread_unopened}
+use Rattle.pgs_run_lines.specs.Calls.{Reads, gave_none, so_far}
 use Rattle.pgs_run_evolve.proofs.run.run_evolve.Goals as goal
 
 -- ---- a store was opened
@@ -85,3 +87,12 @@ returns-in-Err-clause-settled g c = λ settled no.
     let mid = view c.open_store.new.world in
     let new = view c.end_unopened.new.world in
     settled_images old new settled (images_on old mid new (images_quiet old mid c.open_store.ensures.quiet) (images_areas mid new c.end_unopened.ensures.areas))
+
+pub returns-in-Err-clause-last : goal.returns-in-Err-clause-last
+returns-in-Err-clause-last g c =
+    last_unopened g.W.World.failed c.open_store.new.world c.end_unopened.new.world _ _ _ c.in-Err.unopened c.end_unopened.result c.in-Err.ensures.answer c.end_unopened.ensures.ends c.end_unopened.ensures.last c.in-Err.ensures.last c.end_unopened.ensures.early
+
+pub returns-in-Err-clause-calls : goal.returns-in-Err-clause-calls
+returns-in-Err-clause-calls g c =
+    subst (λ (fails : Bool). Reads g.S.Source.read_made c.args.budget c.args.source.now fails c.args.source.now)
+    (sym (unread_unopened c.in-Err.unopened _ _ _ c.end_unopened.result c.in-Err.ensures.answer c.end_unopened.ensures.ends)) (so_far gave_none)
