@@ -5,6 +5,7 @@ use Rattle.std.proofs.lemmas.List.{append-nil}
 use Rattle.pgs_answer.specs.Lines.{feeds_lost_line}
 use Rattle.pgs_run_lines.specs.declared.stop.Stop.{Stop}
 use Rattle.pgs_run_lines.specs.declared.stop.Stop.TheVariants as stops
+use Rattle.pgs_run_lines.specs.Calls.{is_of_source, is_of_world}
 use Rattle.pgs_run_lines.specs.Ending as lines
 use Rattle.pgs_run_lines.specs.Ending.{Faults, HasCause, PutsRose, faults_of}
 use Rattle.pgs_run_lines.specs.Machine.{Told, Going, Ended, told_by}
@@ -18,6 +19,7 @@ use Rattle.pgs_world.specs.Source.{IsAtEnd}
 use Rattle.pgs_world.specs.World.{View}
 use Rattle.pgs_run_base.specs.declared.status.Status.{Status}
 use Rattle.pgs_run_base.specs.declared.status.Status.TheVariants.{Accepted, Refused, BadWords, SchemaRefused, StoreRefused, DiskFault, ReadFault, PutFault, Memory, InputTooLong}
+use Rattle.pgs_run_base.specs.Calls.{fails_read, fails_world}
 use Rattle.pgs_run_base.specs.Ending.{Ends, status_at}
 use Rattle.pgs_run_base.specs.Input.{text_limit}
 use Rattle.pgs_run_base.specs.Pieces.{pieces_in}
@@ -338,3 +340,18 @@ module _ (start : Faults) (reads : ℕ) (budget : ℕ) (before left : Option (Li
   apply_cause stops.AreaFault by cause last = kept_cause start reads old new DiskFault result last.0 last.1 (refl, cause)
   apply_cause stops.PutFault by cause last = kept_cause start reads old new PutFault result last.0 last.1 cause
   apply_cause stops.Memory by cause last = kept_cause start reads old new Memory result last.0 last.1 cause
+
+-- ---- which calls failed
+
+own_fails : (budget : ℕ) (before left : Option (List ℕ)) (status : Status) → IsOwn budget before left status → (fails_read status ≡ false) × (fails_world status ≡ false)
+own_fails budget before left status (inl (inl is, end)) = (ap fails_read is, ap fails_world is)
+own_fails budget before left status (inl (inr is, end)) = (ap fails_read is, ap fails_world is)
+own_fails budget before left status (inr (is, cut)) = (ap fails_read is, ap fails_world is)
+
+-- the status says that a call failed exactly where one stopped the run over lines
+pub apply_fails : (budget : ℕ) (before left : Option (List ℕ)) (stop : Stop Status) → EndsBy applying budget before left stop → (fails_read (status_at stop) ≡ is_of_source stop) × (fails_world (status_at stop) ≡ is_of_world stop)
+apply_fails budget before left (stops.Ended own) by = own_fails budget before left own (own_of budget before left own by)
+apply_fails budget before left stops.ReadFault by = (refl, refl)
+apply_fails budget before left stops.AreaFault by = (refl, refl)
+apply_fails budget before left stops.PutFault by = (refl, refl)
+apply_fails budget before left stops.Memory by = (refl, refl)

@@ -1,5 +1,5 @@
 ghost use Rattle.std.specs.Prelude.{◌≡◌, ◌≤◌, ◌^◌, List, ℕ, Some, true, IsTrue};
-ghost use Rattle.pgs_run_lines.specs.Calls.{Reads, is_of_world};
+ghost use Rattle.pgs_run_lines.specs.Calls.{Reads};
 ghost use Rattle.pgs_run_base.specs.Calls.{fails_read, fails_world};
 ghost use Rattle.pgs_feed.specs.Places.{lost_count};
 ghost use Rattle.pgs_feed.specs.Seen.{places};
@@ -38,9 +38,10 @@ fn is_whole(stop: Stop<Status>) -> bool
 
 // Ends a run: puts the number of the lost feeds behind a whole input, where there are any, and gives the status.
 fn end_run<W: World>(alloc: Global, world: &mut W, stop: Stop<Status>, lost: u64) -> Status
-    requires { is_of_world stop ≡ true → W.failed world.old }
+    requires { fails_world (status_at_stop stop) ≡ true → W.failed world.old }
     ensures ends { EndsRun (last_piece (is_done stop) lost) (status_at_stop stop) (W.view world.old) result (W.view world.new) }
     ensures last { fails_world result ≡ true → W.failed world.new }
+    ensures read { fails_read result ≡ fails_read (status_at_stop stop) }
 {
     let status = status_at(stop);
     if lost == 0 || !is_whole(stop) {

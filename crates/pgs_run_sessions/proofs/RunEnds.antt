@@ -3,6 +3,7 @@ use Rattle.std.proofs.Common.{◌≡◌, ◌⊎◌, inl, inr, ℕ, ◌+◌, ◌-
 use Rattle.std.proofs.lemmas.Bool.Decides.{nat_tests}
 use Rattle.pgs_run_lines.specs.declared.stop.Stop.{Stop}
 use Rattle.pgs_run_lines.specs.declared.stop.Stop.TheVariants as stops
+use Rattle.pgs_run_lines.specs.Calls.{is_of_source, is_of_world}
 use Rattle.pgs_run_lines.specs.Ending as lines
 use Rattle.pgs_run_lines.specs.Ending.{Faults, HasCause}
 use Rattle.pgs_run_lines.specs.Machine.{Told, Ended, told_by}
@@ -15,6 +16,7 @@ use Rattle.pgs_syntax.specs.declared.resolved.Resolved.{Resolved}
 use Rattle.pgs_world.specs.Source.{IsAtEnd}
 use Rattle.pgs_run_base.specs.declared.status.Status.{Status}
 use Rattle.pgs_run_base.specs.declared.status.Status.TheVariants.{Accepted, Refused, BadWords, SchemaRefused, StoreRefused, DiskFault, ReadFault, PutFault, Memory, InputTooLong}
+use Rattle.pgs_run_base.specs.Calls.{fails_read, fails_world}
 use Rattle.pgs_run_base.specs.Ending.{Ends, status_at}
 use Rattle.pgs_run_lines.specs.Input.{lines_of}
 use Rattle.pgs_run_base.specs.Input.{schema_part, after_separator}
@@ -188,3 +190,21 @@ done_whole input =
 pub never_cut : (input : List ℕ) (budget : ℕ) → length input < budget → (told_sessions input budget).status ≡ InputTooLong → ⊥
 never_cut input budget short =
     not_done (told_sessions input budget).status (subst (λ (t : Told Status). IsDone t.status) (sym (whole_below input budget short)) (done_whole input))
+
+-- ---- which calls failed
+
+own_fails : (budget : ℕ) (before left : Option (List ℕ)) (status : Status) → IsOwn budget before left status → (fails_read status ≡ false) × (fails_world status ≡ false)
+own_fails budget before left status (inl is) = (ap fails_read is, ap fails_world is)
+own_fails budget before left status (inr (inl (inl is, end))) = (ap fails_read is, ap fails_world is)
+own_fails budget before left status (inr (inl (inr (inl is), end))) = (ap fails_read is, ap fails_world is)
+own_fails budget before left status (inr (inl (inr (inr is), end))) = (ap fails_read is, ap fails_world is)
+own_fails budget before left status (inr (inr (is, cut))) = (ap fails_read is, ap fails_world is)
+
+-- the status says that a call failed exactly where one stopped the run over lines
+pub run_fails : (budget : ℕ) (before left : Option (List ℕ)) (stop : Stop Status) (status : Status) → status ≡ status_at stop → EndsBy running budget before left stop → (fails_read status ≡ is_of_source stop) × (fails_world status ≡ is_of_world stop)
+run_fails budget before left (stops.Ended own) status same by =
+    let none = own_fails budget before left own (own_of budget before left own by) in (ap fails_read same ∙ none.0, ap fails_world same ∙ none.1)
+run_fails budget before left stops.ReadFault status same by = (ap fails_read same, ap fails_world same)
+run_fails budget before left stops.AreaFault status same by = (ap fails_read same, ap fails_world same)
+run_fails budget before left stops.PutFault status same by = (ap fails_read same, ap fails_world same)
+run_fails budget before left stops.Memory status same by = (ap fails_read same, ap fails_world same)

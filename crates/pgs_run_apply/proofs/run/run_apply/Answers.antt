@@ -12,7 +12,7 @@ use Rattle.pgs_run_apply.specs.Seen.{state_of}
 use Rattle.pgs_run_apply.specs.Told.{told_input, told_apply}
 use Rattle.pgs_run_apply.proofs.Beginning.{grown_kept}
 use Rattle.pgs_run_apply.proofs.Running.{running_ends, running_cause, running_passes, running_beside, running_settled, running_grows, running_decided, running_stops, running_unrefused, opened_saves, counted, first_room, first_holds}
-use Rattle.pgs_run_apply.proofs.RunEnds.{apply_read, apply_takes}
+use Rattle.pgs_run_apply.proofs.RunEnds.{apply_fails, apply_read, apply_takes}
 use Rattle.pgs_run_saved.proofs.Unread.{unopened_ends, unopened_takes, unopened_read, unopened_cause}
 use Rattle.pgs_run_apply.proofs.Unopened.{unopened_decided, unopened_stops}
 use Rattle.pgs_run_saved.proofs.Last.{last_unopened, unread_unopened}
@@ -172,3 +172,12 @@ pub returns-in-Err-clause-calls : goal.returns-in-Err-clause-calls
 returns-in-Err-clause-calls g c =
     subst (λ (fails : Bool). Reads g.S.Source.read_made c.args.budget c.args.source.now fails c.args.source.now)
     (sym (unread_unopened c.in-Err.unopened _ _ _ c.end_unopened.result c.in-Err.ensures.answer c.end_unopened.ensures.ends)) (so_far gave_none)
+
+pub end_run-requires : goal.end_run-requires
+end_run-requires g c = λ fails.
+    c.run_lines-stop.ensures.last (sym (apply_fails c.args.budget _ _ c.run_lines-stop.result c.run_lines-stop.ensures.by).1 ∙ fails)
+
+pub returns-clause-calls : goal.returns-clause-calls
+returns-clause-calls g c =
+    subst (λ (fails : Bool). Reads g.S.Source.read_made c.args.budget c.args.source.now fails c.run_lines-stop.new.source)
+    (sym (c.end_run.ensures.read ∙ (apply_fails c.args.budget _ _ c.run_lines-stop.result c.run_lines-stop.ensures.by).0)) c.run_lines-stop.ensures.calls

@@ -1,6 +1,8 @@
+use Rattle.std.proofs.Common.{Bool, sym, subst, ◌∙◌}
+use Rattle.pgs_run_lines.specs.Calls.{Reads}
 use Rattle.pgs_run_lines.specs.Pieces.{shown_of}
 use Rattle.pgs_run_sessions.specs.Running.{stand_of}
-use Rattle.pgs_run_sessions.proofs.RunEnds.{run_ends, run_read, run_cause}
+use Rattle.pgs_run_sessions.proofs.RunEnds.{run_ends, run_read, run_cause, run_fails}
 use Rattle.pgs_run_sessions.proofs.run.run_input.Goals as goal
 
 pub returns-clause-ends : goal.returns-clause-ends
@@ -12,3 +14,12 @@ returns-clause-read_to_end g c = run_read c.args.budget _ _ c.run_lines-stop.res
 
 pub returns-clause-cause : goal.returns-clause-cause
 returns-clause-cause g c = run_cause _ _ c.args.budget _ _ c.run_lines-stop.result c.status_at.result c.status_at.ensures c.run_lines-stop.ensures.by c.run_lines-stop.ensures.may c.run_lines-stop.ensures.cause
+
+pub returns-clause-last : goal.returns-clause-last
+returns-clause-last g c = λ fails.
+    c.run_lines-stop.ensures.last (sym (run_fails c.args.budget _ _ c.run_lines-stop.result c.status_at.result c.status_at.ensures c.run_lines-stop.ensures.by).1 ∙ fails)
+
+pub returns-clause-calls : goal.returns-clause-calls
+returns-clause-calls g c =
+    subst (λ (fails : Bool). Reads g.S.Source.read_made c.args.budget c.args.source.now fails c.run_lines-stop.new.source)
+    (sym (run_fails c.args.budget _ _ c.run_lines-stop.result c.status_at.result c.status_at.ensures c.run_lines-stop.ensures.by).0) c.run_lines-stop.ensures.calls
