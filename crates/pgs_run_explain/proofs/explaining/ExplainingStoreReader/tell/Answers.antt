@@ -1,7 +1,10 @@
+use Rattle.std.proofs.Common.{sym, ap, ◌∙◌}
+use Rattle.pgs_run_base.specs.Calls.{fails_world}
 use Rattle.pgs_run_lines.specs.Machine.{Told}
 use Rattle.pgs_run_base.specs.declared.status.Status.{Status}
 use Rattle.pgs_run_explain.specs.Explaining.{explained}
 use Rattle.pgs_run_saved.proofs.Stopping.{until_cause, until_ends, until_told}
+use Rattle.pgs_run_explain.proofs.Failing.{stop_fails}
 use Rattle.pgs_run_explain.proofs.explaining.ExplainingStoreReader.tell.Goals as goal
 
 pub returns-in-Err : goal.returns-in-Err
@@ -15,4 +18,5 @@ returns-in-Err g c =
       told = until_told c.in-Err.stop c.status_at.result told old new c.status_at.ensures c.in-Err.ensures.puts;
       cause = until_cause c.in-Err.stop c.status_at.result told old new c.status_at.ensures c.in-Err.ensures.puts;
       areas = c.in-Err.ensures.puts.areas;
+      last = λ fails. c.in-Err.ensures.last (sym (stop_fails c.in-Err.stop c.in-Err.ensures.puts.only) ∙ sym (ap fails_world c.status_at.ensures) ∙ fails);
     }
