@@ -1,3 +1,4 @@
+pub mod Failing
 pub mod Kept
 pub mod Leaving
 pub mod Lines

@@ -1,6 +1,6 @@
 //! The one line that is put of an evolve.
 
-ghost use Rattle.std.specs.Prelude.{◌≡◌, List, ℕ, Err, IfOk, OnErr, true};
+ghost use Rattle.std.specs.Prelude.{◌≡◌, ◌⊎◌, List, ℕ, Err, IfOk, OnErr, true};
 ghost use Rattle.pgs_run_base.specs.Calls.{fails_world};
 ghost use Rattle.pgs_answer.specs.Lines.{evolve_refused_line as violation_line, schema_refused_line as text_line, store_refused_line as store_line};
 ghost use Rattle.pgs_answer.specs.Refusals.{old_format_text as format_text, violation_text as text_of};
@@ -77,7 +77,7 @@ fn put_made<W: World>(world: &mut W, reply: Result<Reply<Status>, Memory>) -> St
     ensures puts { IfOk reply (λ r. PutsReply r.line r.status Status.PutFault (W.view world.old) result (W.view world.new)) }
     ensures memory { OnErr reply (result ≡ Status.Memory) }
     ensures early { OnErr reply (world.new ≡ world.old) }
-    ensures last { fails_world result ≡ true → W.failed world.new }
+    ensures last { IfOk reply (λ r. (result ≡ r.status) ⊎ W.failed world.new) }
 {
     match reply {
         Ok(reply) => put_reply(world, &reply),

@@ -1,3 +1,4 @@
+pub mod Failing
 pub mod LoadEnds
 pub mod Loads
 pub mod Replied

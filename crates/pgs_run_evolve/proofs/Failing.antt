@@ -1,0 +1,60 @@
+-- Which statuses say that a call failed.
+use Rattle.std.proofs.Common.{◌≡◌, ◌∙◌, Bool, false, Result, Ok, Err, List, ℕ, refl, sym, ap}
+use Rattle.pgs_run_lines.specs.declared.stop.Stop.{Stop}
+use Rattle.pgs_run_lines.specs.declared.stop.Stop.TheVariants as stops
+use Rattle.pgs_run_lines.specs.Calls.{is_of_source, is_of_world}
+use Rattle.pgs_run_base.specs.declared.collecting.Collected.{Collected}
+use Rattle.pgs_run_base.specs.declared.collecting.Collected.TheVariants.{Text, Cut}
+use Rattle.pgs_run_base.specs.declared.status.Status.{Status}
+use Rattle.pgs_run_base.specs.declared.status.Status.TheVariants.{Accepted, Refused, BadWords, SchemaRefused, StoreRefused, DiskFault, ReadFault, PutFault, Memory, InputTooLong}
+use Rattle.pgs_run_base.specs.Calls.{fails_read, fails_world}
+use Rattle.pgs_run_base.specs.Collecting.{collected}
+use Rattle.pgs_run_saved.specs.Opening.{IsAnswer}
+
+-- a command that reads no more says of no read that it failed
+pub unread_answer : (status : Status) → IsAnswer status → fails_read status ≡ false
+unread_answer Accepted answer = refl
+unread_answer Refused answer = refl
+unread_answer BadWords answer = refl
+unread_answer SchemaRefused answer = refl
+unread_answer StoreRefused answer = refl
+unread_answer DiskFault answer = refl
+unread_answer ReadFault answer = absurd answer
+unread_answer PutFault answer = refl
+unread_answer Memory answer = refl
+unread_answer InputTooLong answer = refl
+
+read_of : Result (List ℕ) Status → Bool
+read_of (Ok text) = false
+read_of (Err status) = fails_read status
+
+world_of : Result (List ℕ) Status → Bool
+world_of (Ok text) = false
+world_of (Err status) = fails_world status
+
+reads : (stop : Stop Collected) → read_of (collected stop) ≡ is_of_source stop
+reads (stops.Ended (Text text)) = refl
+reads (stops.Ended Cut) = refl
+reads stops.ReadFault = refl
+reads stops.AreaFault = refl
+reads stops.PutFault = refl
+reads stops.Memory = refl
+
+worlds : (stop : Stop Collected) → world_of (collected stop) ≡ is_of_world stop
+worlds (stops.Ended (Text text)) = refl
+worlds (stops.Ended Cut) = refl
+worlds stops.ReadFault = refl
+worlds stops.AreaFault = refl
+worlds stops.PutFault = refl
+worlds stops.Memory = refl
+
+-- where a text was collected no read failed
+pub read_whole : (stop : Stop Collected) (text : List ℕ) → collected stop ≡ Ok text → is_of_source stop ≡ false
+read_whole stop text is = sym (reads stop) ∙ ap read_of is
+
+-- else the status says that a call failed exactly where one did
+pub read_fails : (stop : Stop Collected) (status : Status) → collected stop ≡ Err status → fails_read status ≡ is_of_source stop
+read_fails stop status is = ap read_of (sym is) ∙ reads stop
+
+pub world_fails : (stop : Stop Collected) (status : Status) → collected stop ≡ Err status → fails_world status ≡ is_of_world stop
+world_fails stop status is = ap world_of (sym is) ∙ worlds stop
