@@ -1,5 +1,5 @@
 -- Which statuses say that a call failed.
-use Rattle.std.proofs.Common.{◌≡◌, ◌∙◌, Bool, false, Result, Ok, Err, List, ℕ, refl, sym, ap}
+use Rattle.std.proofs.Common.{◌≡◌, ◌⊎◌, ◌∙◌, inl, inr, Bool, true, false, true≢false, Result, Ok, Err, List, ℕ, refl, sym, ap}
 use Rattle.pgs_run_lines.specs.declared.stop.Stop.{Stop}
 use Rattle.pgs_run_lines.specs.declared.stop.Stop.TheVariants as stops
 use Rattle.pgs_run_lines.specs.Calls.{is_of_source, is_of_world}
@@ -58,3 +58,8 @@ read_fails stop status is = ap read_of (sym is) ∙ reads stop
 
 pub world_fails : (stop : Stop Collected) (status : Status) → collected stop ≡ Err status → fails_world status ≡ is_of_world stop
 world_fails stop status is = ap world_of (sym is) ∙ worlds stop
+
+-- a reply of a status that says of no call that it failed was put, or its put was the last call
+pub last_of : {P : Type 0} (result status known : Status) → status ≡ known → fails_world known ≡ false → (result ≡ status) ⊎ P → fails_world result ≡ true → P
+last_of result status known same none (inl is) fails = absurd (true≢false (sym fails ∙ ap fails_world (is ∙ same) ∙ none))
+last_of result status known same none (inr last) fails = last

@@ -28,13 +28,13 @@ returns-in-Ok-clause-ends g c = λ input is.
     let ends = c.run_lines-stop.ensures.ends input is in
     let whole = whole_at input c.in-Ok.text c.args.budget _ c.new-collecting.result.part c.run_lines-stop.result start mid c.new-collecting.ensures (sym c.text_of.ensures ∙ c.in-Ok.is) ends in
     ends_with_text input c.in-Ok.text (told_new it.journal.next input it.guard.graph) c.args.budget _ c.evolve_text.result start mid now whole ends.within
-    (λ fault. subst IsAnswer fault c.evolve_text.ensures.answer) (λ cut. subst IsAnswer cut c.evolve_text.ensures.answer)
+    (λ fault. subst IsAnswer fault c.evolve_text.ensures.answer.answer) (λ cut. subst IsAnswer cut c.evolve_text.ensures.answer.answer)
     (subst (λ told. Ends mid told c.evolve_text.result now) (told_front it.journal.next _ input it.guard.graph (c.as_slice.ensures ∙ whole.front)) c.evolve_text.ensures.answer.ends)
 
 pub returns-in-Ok-clause-takes : goal.returns-in-Ok-clause-takes
 returns-in-Ok-clause-takes g c = λ input rest is left_is. record {
   within = (c.run_lines-stop.ensures.ends input is).within rest left_is;
-  too_long = λ cut. absurd (subst IsAnswer cut c.evolve_text.ensures.answer);
+  too_long = λ cut. absurd (subst IsAnswer cut c.evolve_text.ensures.answer.answer);
 }
 
 pub returns-in-Ok-clause-cause : goal.returns-in-Ok-clause-cause

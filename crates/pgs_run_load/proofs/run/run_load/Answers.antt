@@ -25,7 +25,7 @@ returns-in-Ok-clause-ends g c = λ input is told.
     let quiet = c.run_lines-stop.ensures.allows.allowed in
     let ends = c.run_lines-stop.ensures.ends input is in
     let whole = whole_at input c.in-Ok.text c.args.budget _ c.new-collecting.result.part c.run_lines-stop.result start mid c.new-collecting.ensures (sym c.text_of.ensures ∙ c.in-Ok.is) ends in
-    ends_loaded input c.in-Ok.text (areas_of (g.W.World.view c.args.world.now)) c.args.budget _ c.load_text.result start mid now whole ends.within c.load_text.ensures.answer
+    ends_loaded input c.in-Ok.text (areas_of (g.W.World.view c.args.world.now)) c.args.budget _ c.load_text.result start mid now whole ends.within c.load_text.ensures.answer.answer
     (subst (λ areas. Ends mid (told_text input areas) c.load_text.result now)
     (ap (λ (t : Triple). let areas : Areas = record { a = t.a; b = t.b } in areas) quiet.shown)
     (c.load_text.ensures.answer.ends input (c.as_slice.ensures ∙ whole.front) (λ schema good. quiet.passes.tells_bytes ∙ told schema good)))
@@ -55,7 +55,7 @@ returns-clause-loads g c = λ input is free tells settled.
 pub returns-in-Ok-clause-takes : goal.returns-in-Ok-clause-takes
 returns-in-Ok-clause-takes g c = λ input rest is left_is. record {
   within = (c.run_lines-stop.ensures.ends input is).within rest left_is;
-  too_long = λ cut. absurd (subst IsAnswer cut c.load_text.ensures.answer);
+  too_long = λ cut. absurd (subst IsAnswer cut c.load_text.ensures.answer.answer);
 }
 
 pub returns-clause-takes : goal.returns-clause-takes
