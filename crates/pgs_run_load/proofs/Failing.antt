@@ -24,11 +24,11 @@ unread_answer PutFault answer = refl
 unread_answer Memory answer = refl
 unread_answer InputTooLong answer = refl
 
-read_of : Result (List ℕ) Status → Bool
+abbrev read_of : Result (List ℕ) Status → Bool
 read_of (Ok text) = false
 read_of (Err status) = fails_read status
 
-world_of : Result (List ℕ) Status → Bool
+abbrev world_of : Result (List ℕ) Status → Bool
 world_of (Ok text) = false
 world_of (Err status) = fails_world status
 
