@@ -1,3 +1,4 @@
+use Rattle.std.proofs.lemmas.Bool.{false≢true}
 use Rattle.pgs_feed.specs.Seen.{places}
 use Rattle.pgs_run_lines.specs.Machine.{scene_of}
 use Rattle.pgs_run_apply.specs.Seen.{state_of}
@@ -11,11 +12,12 @@ returns-in-Ok g c =
     let rest = c.args.rest.now in
     let old = scene_of (g.W.World.view c.args.world.now) (places g.F.Feed.taken g.F.Feed.faults c.args.self.now.feeds) in
     let new = scene_of (g.W.World.view c.take_line.new.world) (places g.F.Feed.taken g.F.Feed.faults c.take_line.new.self.feeds) in
-    let takes = c.in-Ok.ensures in
+    let takes = c.in-Ok.ensures.answer in
     record {
       ends = end_ends {T = Unit {0}} s now rest tt c.status.result old new takes.taken c.status.ensures;
       allows = end_allows {T = Unit {0}} s now rest tt c.status.result old new takes;
       cause = takes.taken.faults;
+      last = λ fails. absurd (false≢true fails);
       may = tt;
     }
 
@@ -27,10 +29,11 @@ returns-in-Err g c =
     let stop = c.in-Err.stop in
     let old = scene_of (g.W.World.view c.args.world.now) (places g.F.Feed.taken g.F.Feed.faults c.args.self.now.feeds) in
     let new = scene_of (g.W.World.view c.take_line.new.world) (places g.F.Feed.taken g.F.Feed.faults c.take_line.new.self.feeds) in
-    let takes = c.in-Err.ensures in
+    let takes = c.in-Err.ensures.answer in
     record {
       ends = stop_ends s now rest stop old new takes;
       allows = stop_allows s now rest stop old new takes;
       cause = stop_cause s now rest stop old new takes;
+      last = c.in-Err.ensures.last;
       may = stop_may s now rest stop old new takes;
     }

@@ -20,5 +20,6 @@ returns g c =
       holds = line_holds s now line result old new takes.taken;
       allows = line_allows s now line result old new takes;
       cause = line_cause s now line result old new takes.taken;
+      last = c.take_line.ensures.last;
       may = line_may s now line result old new takes.taken;
     }
