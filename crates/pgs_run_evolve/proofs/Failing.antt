@@ -1,7 +1,8 @@
 -- Which statuses say that a call failed.
-use Rattle.std.proofs.Common.{◌≡◌, ◌∙◌, Bool, false, Result, Ok, Err, List, ℕ, refl, sym, ap}
+use Rattle.std.proofs.Common.{◌≡◌, ◌⊎◌, ◌∙◌, inl, inr, IfOk, OnErr, Bool, true, false, true≢false, Result, Ok, Err, List, ℕ, refl, sym, ap}
 use Rattle.pgs_run_lines.specs.declared.stop.Stop.{Stop}
 use Rattle.pgs_run_lines.specs.declared.stop.Stop.TheVariants as stops
+use Rattle.pgs_run_lines.specs.declared.reply.Reply.{Reply}
 use Rattle.pgs_run_lines.specs.Calls.{is_of_source, is_of_world}
 use Rattle.pgs_run_base.specs.declared.collecting.Collected.{Collected}
 use Rattle.pgs_run_base.specs.declared.collecting.Collected.TheVariants.{Text, Cut}
@@ -58,3 +59,10 @@ read_fails stop status is = ap read_of (sym is) ∙ reads stop
 
 pub world_fails : (stop : Stop Collected) (status : Status) → collected stop ≡ Err status → fails_world status ≡ is_of_world stop
 world_fails stop status is = ap world_of (sym is) ∙ worlds stop
+
+-- a reply of a status that says of no call that it failed was put, or its put was the last call; or there was no memory for it
+pub last_made : {E P : Type 0} (made : Result (Reply Status) E) (result known : Status) → IfOk made (λ reply. reply.status ≡ known) → fails_world known ≡ false
+    → OnErr made (result ≡ Memory) → IfOk made (λ reply. (result ≡ reply.status) ⊎ P) → fails_world result ≡ true → P
+last_made (Ok reply) result known same none memory (inl is) fails = absurd (true≢false (sym fails ∙ ap fails_world (is ∙ same) ∙ none))
+last_made (Ok reply) result known same none memory (inr last) fails = last
+last_made (Err fault) result known same none memory last fails = absurd (true≢false (sym fails ∙ ap fails_world memory))

@@ -49,8 +49,9 @@ fn old_format_reply(alloc: Global) -> Result<Reply<Status>, Memory>
 
 // The reply to a text that is no schema.
 fn refused_reply(alloc: Global, unread: SchemaUnread) -> Result<Reply<Status>, Memory>
-    ensures { (answer : Answer) → IsRefused answer unread → IfOk result (λ reply. (text : List ℕ)
+    ensures replies { (answer : Answer) → IsRefused answer unread → IfOk result (λ reply. (text : List ℕ)
         × (schema_or_text answer ≡ Err text) × (reply ≡ record { line = text_line text; status = Status.SchemaRefused })) }
+    ensures status { IfOk result (λ reply. reply.status ≡ Status.SchemaRefused) }
 {
     let text = refusal_of(alloc, unread)?;
     let line = schema_refused_line(alloc, text.as_slice())?;
