@@ -1,4 +1,5 @@
 pub mod ByNumber
+pub mod Costs
 pub mod Entered
 pub mod FirstLater
 pub mod Found

@@ -1,9 +1,12 @@
 //! Whether a violation stands in the list, by what it names alone.
 
-ghost use Rattle.std.specs.Prelude.{◌≡◌, ◌↔◌, ◌≤◌, true, IsTrue, IfOk, Contains};
+ghost use Rattle.std.specs.Prelude.{◌≡◌, ◌↔◌, ◌+◌, ◌*◌, ◌^◌, ◌≤◌, ℕ, true, IsTrue, IfOk, Contains};
 ghost use Rattle.std.specs.Option.{option_copied};
+ghost use Rattle.pgs_base.specs.Graph.{element_count};
 ghost use Rattle.pgs_syntax.specs.KeyValues.{scope_of, key_values};
 ghost use Rattle.pgs_syntax.specs.Valid.{is_valid_key_of};
+ghost use Rattle.pgs_match.specs.Near.{HasDegreesWithin};
+ghost use Rattle.pgs_match.specs.Planned.{HaveEdgesWithin, most_edges};
 ghost use Rattle.pgs_violation.specs.Standing.{key_of};
 ghost use Rattle.pgs_violation.specs.Violations.{exclusive_violation, shared_tuple, violations};
 ghost use Rattle.pgs_scratch.specs.Confirmed.{key_numbered, row_in_scope, missing_at, several_at, shared_at, count_at, key_violation_at, violation_at, sharing_if_later};
@@ -73,6 +76,8 @@ fn row_in_scope<G: GraphRead, L: Ledger>(
     requires { is_valid_key_of compiled.now key.now ≡ true }
     ensures row { IfOk result (λ row. row ≡ row_in_scope compiled.now (G.meaning graph.now) asked elem key.now) }
     ensures no_step_back { steps.old ≤ steps.new }
+    ensures cost { (most : ℕ) → HasDegreesWithin (G.meaning graph.now) most →
+        steps.new ≤ steps.old + 32 * (most + 2) ^ (most_edges key.now + 1) }
 {
     if !asked {
         return Ok(None);
@@ -97,6 +102,8 @@ fn missing_at<G: GraphRead, L: Ledger>(
     requires { is_valid_key_of compiled.now key.now ≡ true }
     ensures found { IfOk result (λ found. found ≡ missing_at compiled.now (G.meaning graph.now) number elem key.now) }
     ensures no_step_back { steps.old ≤ steps.new }
+    ensures cost { (most : ℕ) → HasDegreesWithin (G.meaning graph.now) most →
+        steps.new ≤ steps.old + 32 * (most + 2) ^ (most_edges key.now + 1) }
 {
     let asked = key.key().qualifiers.mandatory;
     match row_in_scope(alloc, graph, compiled, asked, key, elem, steps)? {
@@ -118,6 +125,8 @@ fn several_at<G: GraphRead, L: Ledger>(
     requires { is_valid_key_of compiled.now key.now ≡ true }
     ensures found { IfOk result (λ found. found ≡ several_at compiled.now (G.meaning graph.now) number elem key.now) }
     ensures no_step_back { steps.old ≤ steps.new }
+    ensures cost { (most : ℕ) → HasDegreesWithin (G.meaning graph.now) most →
+        steps.new ≤ steps.old + 32 * (most + 2) ^ (most_edges key.now + 1) }
 {
     let asked = key.key().qualifiers.singleton;
     match row_in_scope(alloc, graph, compiled, asked, key, elem, steps)? {
@@ -142,6 +151,8 @@ fn sharing_if_later<G: GraphRead, L: Ledger>(
     ensures found { IfOk result (λ found.
         found ≡ sharing_if_later number (key_values compiled.now (G.meaning graph.now) key.now) row.now.elem other) }
     ensures no_step_back { steps.old ≤ steps.new }
+    ensures cost { (most : ℕ) → HasDegreesWithin (G.meaning graph.now) most →
+        steps.new ≤ steps.old + 16 * (most + 2) ^ (most_edges key.now + 1) }
 {
     if row.elem < other {
         let tuples = key_values(alloc, graph, compiled, key, other, steps)?;
@@ -170,6 +181,8 @@ fn first_sharer<G: GraphRead, L: Ledger>(
     ensures found { IfOk result (λ found. found ≡ exclusive_violation number
         (scope_of compiled.now (G.meaning graph.now) key.now) (key_values compiled.now (G.meaning graph.now) key.now) row.now.elem) }
     ensures no_step_back { steps.old ≤ steps.new }
+    ensures cost { (most : ℕ) → HasDegreesWithin (G.meaning graph.now) most →
+        steps.new ≤ steps.old + element_count (G.meaning graph.now) * (33 * (most + 2) ^ (most_edges key.now + 1)) }
 {
     let scope = each_x(alloc, graph, compiled, key, steps)?;
     let elems = scope.as_slice();
@@ -195,6 +208,8 @@ fn shared_at<G: GraphRead, L: Ledger>(
     requires { is_valid_key_of compiled.now key.now ≡ true }
     ensures found { IfOk result (λ found. found ≡ shared_at compiled.now (G.meaning graph.now) number elem key.now) }
     ensures no_step_back { steps.old ≤ steps.new }
+    ensures cost { (most : ℕ) → HasDegreesWithin (G.meaning graph.now) most →
+        steps.new ≤ steps.old + 33 * (element_count (G.meaning graph.now) + 1) * (most + 2) ^ (most_edges key.now + 1) }
 {
     let asked = key.key().qualifiers.exclusive;
     match row_in_scope(alloc, graph, compiled, asked, key, elem, steps)? {
@@ -216,6 +231,8 @@ fn count_at<G: GraphRead, L: Ledger>(
     requires { is_valid_key_of compiled.now key.now ≡ true }
     ensures found { IfOk result (λ found. found ≡ count_at compiled.now (G.meaning graph.now) number elem key.now) }
     ensures no_step_back { steps.old ≤ steps.new }
+    ensures cost { (most : ℕ) → HasDegreesWithin (G.meaning graph.now) most →
+        steps.new ≤ steps.old + 32 * (most + 2) ^ (most_edges key.now + 1) }
 {
     let Some(bounds) = key.key().qualifiers.count else {
         return Ok(None);
@@ -238,6 +255,8 @@ fn key_violation_at<G: GraphRead, L: Ledger>(
     requires { is_valid_key_of compiled.now key.now ≡ true }
     ensures found { IfOk result (λ found. found ≡ key_violation_at compiled.now (G.meaning graph.now) violation.now key.now) }
     ensures no_step_back { steps.old ≤ steps.new }
+    ensures cost { (most : ℕ) → HasDegreesWithin (G.meaning graph.now) most →
+        steps.new ≤ steps.old + 33 * (element_count (G.meaning graph.now) + 1) * (most + 2) ^ (most_edges key.now + 1) }
 {
     match violation {
         Violation::Mandatory { key: number, elem } => {
@@ -287,6 +306,8 @@ fn violation_at<G: GraphRead, L: Ledger>(
     requires { keys.now ≡ compiled.now.guard.keys }
     ensures found { IfOk result (λ found. found ≡ violation_at compiled.now (G.meaning graph.now) violation.now) }
     ensures no_step_back { steps.old ≤ steps.new }
+    ensures cost { (edges most : ℕ) → HaveEdgesWithin keys.now edges → HasDegreesWithin (G.meaning graph.now) most →
+        steps.new ≤ steps.old + 33 * (element_count (G.meaning graph.now) + 1) * (most + 2) ^ (edges + 1) }
 {
     let strict = compiled.resolved().guard.strict;
     match violation {
@@ -316,6 +337,9 @@ fn violation_at<G: GraphRead, L: Ledger>(
 ///
 /// It looks at what the violation names, and doesn't make the list: at the node or the edge, or at the key values of the element. For
 /// a 29 it looks at those of the later elements of the scope, up to the first that shares one.
+///
+/// At every exit it has taken at most 33 * (n + 1) * (d + 2)^(w + 1) look-ups, where the graph has n elements, no node has an in-degree
+/// plus out-degree over d, and no pattern of the keys has more than w edge variables.
 pub fn confirms<G: GraphRead, L: Ledger>(
     alloc: Global,
     graph: &G,
@@ -327,6 +351,8 @@ pub fn confirms<G: GraphRead, L: Ledger>(
     requires { keys.now ≡ compiled.now.guard.keys }
     ensures listed { IfOk result (λ confirmed. IsTrue confirmed ↔ Contains (violations compiled.now (G.meaning graph.now)) violation.now) }
     ensures no_step_back { steps.old ≤ steps.new }
+    ensures cost { (edges most : ℕ) → HaveEdgesWithin keys.now edges → HasDegreesWithin (G.meaning graph.now) most →
+        steps.new ≤ steps.old + 33 * (element_count (G.meaning graph.now) + 1) * (most + 2) ^ (edges + 1) }
 {
     // The count's clause says that what is read is a graph.
     graph.count();

@@ -1,6 +1,6 @@
 //! The rows of a key: the elements of its scope, each with its key values.
 
-ghost use Rattle.std.specs.Prelude.{◌≡◌, ◌≤◌, true, map, take, IfOk};
+ghost use Rattle.std.specs.Prelude.{◌≡◌, ◌≤◌, true, map, IfOk};
 ghost use Rattle.pgs_syntax.specs.KeyValues.{scope_of, key_values};
 ghost use Rattle.pgs_syntax.specs.Valid.{is_valid_key_of};
 ghost use Rattle.pgs_scratch.specs.Rows.{row_of};
@@ -8,7 +8,7 @@ ghost use Rattle.pgs_scratch.specs.Rows.{row_of};
 use pgs_base::{Elem, Memory, Steps, TupleSet};
 use pgs_conform::Compiled;
 use pgs_graph::GraphRead;
-use pgs_match::{PlannedKey, each_x, key_values};
+use pgs_match::{PlannedKey, each_element, in_scope, key_values};
 use std::alloc::Global;
 use std::sync::ledger::Ledger;
 
@@ -36,7 +36,8 @@ fn key_row<G: GraphRead, L: Ledger>(
     Ok(KeyRow { elem, tuples })
 }
 
-/// The rows of a key, by ascending element. The key values of each element are searched once.
+/// The rows of a key, by ascending element. Each element is asked whether it is in the scope, and its key values are searched right after,
+/// while its row is at hand.
 pub(crate) fn key_rows<G: GraphRead, L: Ledger>(
     alloc: Global,
     graph: &G,
@@ -49,12 +50,14 @@ pub(crate) fn key_rows<G: GraphRead, L: Ledger>(
         ≡ map (row_of (key_values compiled.now (G.meaning graph.now) key.now)) (scope_of compiled.now (G.meaning graph.now) key.now)) }
     ensures no_step_back { steps.old ≤ steps.new }
 {
-    let scope = each_x(alloc, graph, compiled, key, steps)?;
-    let mut rows = Vec::with_capacity(alloc, scope.len())?;
-    let elems = scope.as_slice();
+    let elements = each_element(alloc, graph, key, steps)?;
+    let elems = elements.as_slice();
+    let mut rows = Vec::new(alloc);
     for elem in elems {
-        let row = key_row(alloc, graph, compiled, key, *elem, steps)?;
-        rows.push(row)?;
+        if in_scope(graph, compiled, key, *elem, steps) {
+            let row = key_row(alloc, graph, compiled, key, *elem, steps)?;
+            rows.push(row)?;
+        }
     }
     Ok(rows)
 }

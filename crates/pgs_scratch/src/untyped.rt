@@ -1,6 +1,6 @@
 //! 25 and 26: nodes and edges that fit no type.
 
-ghost use Rattle.std.specs.Prelude.{◌≡◌, ◌++◌, ◌≤◌, filter_map, OnOk};
+ghost use Rattle.std.specs.Prelude.{◌≡◌, ◌+◌, ◌++◌, ◌≤◌, filter_map, OnOk};
 ghost use Rattle.pgs_base.specs.Pair.{pair_of};
 ghost use Rattle.pgs_graph.specs.Reads.{edge_row};
 ghost use Rattle.pgs_syntax.specs.Typed.{is_typed_edge};
@@ -34,6 +34,7 @@ pub(crate) fn untyped_node<G: GraphRead, L: Ledger>(
 ) -> Option<Violation>
     ensures found { result ≡ untyped_node_at compiled.now (G.meaning graph.now) id }
     ensures no_step_back { steps.old ≤ steps.new }
+    ensures at_most { steps.new ≤ steps.old + 1 }
 {
     let node = graph.node(id, steps)?;
     let own = Pair {
@@ -57,6 +58,7 @@ fn is_edge_typed<G: GraphRead, L: Ledger>(
     ensures typed { result ≡ is_typed_edge compiled.now (G.meaning graph.now)
         (edge_row edge.entry.source edge.entry.target edge.entry.labels.now edge.entry.props.now) }
     ensures no_step_back { steps.old ≤ steps.new }
+    ensures at_most { steps.new ≤ steps.old + 2 }
 {
     let Some(source) = graph.node(edge.source, steps) else {
         return false;
@@ -80,6 +82,7 @@ pub(crate) fn untyped_edge<G: GraphRead, L: Ledger>(
 ) -> Option<Violation>
     ensures found { result ≡ untyped_edge_at compiled.now (G.meaning graph.now) id }
     ensures no_step_back { steps.old ≤ steps.new }
+    ensures at_most { steps.new ≤ steps.old + 3 }
 {
     let edge = graph.edge(id, steps)?;
     if is_edge_typed(graph, compiled, edge, steps) {

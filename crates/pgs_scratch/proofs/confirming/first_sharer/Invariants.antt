@@ -1,6 +1,8 @@
-use Rattle.std.proofs.Common.{◌≡◌, ◌≤◌, [], take}
+use Rattle.std.proofs.Common.{◌≡◌, ◌+◌, ◌*◌, ◌^◌, ◌≤◌, ℕ, [], take}
 use Rattle.std.specs.Prelude.{filter_map}
 use Rattle.pgs_syntax.specs.KeyValues.{key_values}
+use Rattle.pgs_match.specs.Near.{HasDegreesWithin}
+use Rattle.pgs_match.specs.Planned.{most_edges}
 use Rattle.pgs_scratch.specs.Confirmed.{sharing_if_later}
 use Rattle.pgs_scratch.proofs.confirming.first_sharer.Given as goal
 
@@ -8,4 +10,5 @@ abbrev pub invariant-loop-other : goal.invariant-loop-other
 invariant-loop-other g l = record {
   none_so_far : [] ≡ filter_map (sharing_if_later l.number (key_values l.compiled (g.G.GraphRead.meaning l.graph) l.key) l.row.elem) (take l.other-index l.elems);
   no_step_back : l.fn.steps ≤ l.steps;
+  cost : (most : ℕ) → HasDegreesWithin (g.G.GraphRead.meaning l.graph) most → l.steps ≤ l.initial.steps + l.other-index * (16 * (most + 2) ^ (most_edges l.key + 1));
 }
