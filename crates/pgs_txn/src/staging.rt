@@ -1,4 +1,4 @@
-ghost use Rattle.std.specs.Prelude.{◌≡◌, ℕ, ◌+◌, ◌-◌, ◌*◌, ◌^◌, ◌≤◌, Bool, true, Ok, IfOk, IfErr, OnOk, length, if◌then◌else◌};
+ghost use Rattle.std.specs.Prelude.{◌≡◌, ℕ, ◌+◌, ◌-◌, ◌*◌, ◌^◌, ◌≤◌, Bool, true, Ok, IfOk, IfErr, OnOk, length, min, if◌then◌else◌};
 ghost use Rattle.std.specs.List.{list_any};
 ghost use Rattle.pgs_base.specs.declared.element.NodeId.{NodeId};
 ghost use Rattle.pgs_base.specs.declared.element.EdgeId.{EdgeId};
@@ -94,12 +94,13 @@ fn has_detach(ops: &[Op]) -> bool
     ops.iter().any(|op| is_detach(op))
 }
 
-// How many nodes, and how many edges, operations may change. Where they detach a node, it may be any number of edges.
-fn most_changes(ops: &[Op]) -> usize
-    ensures { result ≡ if list_any detaches ops.now then 2 ^ 64 - 1 else length ops.now }
+// How many nodes, and how many edges, operations may change: one each, and all that a graph of so many elements has where they detach a
+// node.
+fn most_changes(ops: &[Op], elements: u64) -> usize
+    ensures { result ≡ if list_any detaches ops.now then min (length ops.now + elements) (2 ^ 64 - 1) else length ops.now }
 {
     if has_detach(ops) {
-        usize::MAX
+        ops.len().saturating_add(elements as usize)
     } else {
         ops.len()
     }
@@ -119,7 +120,7 @@ fn do_ops<G: GraphRead, L: Ledger>(
     ensures no_step_back { steps.old ≤ steps.new }
     ensures looks { (most : ℕ) → has_degrees_upto (G.meaning graph.now) most ops.now ≡ true → steps.new ≤ steps.old + length ops.now * (most + 3) }
 {
-    let mut working = Working::new(alloc, graph, most_changes(ops));
+    let mut working = Working::new(alloc, graph, most_changes(ops, graph.count()));
     for (index, op) in ops.iter().enumerate() {
         if let Err(fault) = do_op(alloc, graph, &mut working, op, steps) {
             return Err(fault.at(index as u64 + 1));
