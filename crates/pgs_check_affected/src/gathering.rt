@@ -60,7 +60,6 @@ fn edge_along<G: GraphRead, L: Ledger>(
 ) -> Option<EdgeId>
     ensures value { result ≡ slice_get (cond forward (out_edges_of (G.meaning graph.now) id) (in_edges_of (G.meaning graph.now) id)) nth }
     ensures tick { steps.new ≡ steps.old + 1 }
-    ensures few { length (cond forward (out_edges_of (G.meaning graph.now) id) (in_edges_of (G.meaning graph.now) id)) ≤ 18446744073709551616 }
 {
     if forward {
         graph.out_edge(id, nth, steps)
@@ -82,7 +81,7 @@ fn add_edges_along<G: GraphRead, L: Ledger>(
     ensures no_step_back { steps.old ≤ steps.new }
     ensures cost { steps.new ≤ steps.old + length (cond forward (out_edges_of (G.meaning graph.now) id) (in_edges_of (G.meaning graph.now) id)) + 1 }
 {
-    for nth in 0..=usize::MAX {
+    for nth in 0..graph.count() as usize {
         match edge_along(graph, id, forward, nth, steps) {
             Some(edge) => elems.push(Elem::Edge(edge))?,
             None => return Ok(()),

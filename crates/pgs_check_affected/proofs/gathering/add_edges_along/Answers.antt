@@ -1,7 +1,8 @@
-use Rattle.std.proofs.Common.{cond, sym, ◌∙◌, arith}
+use Rattle.std.proofs.Common.{cond, ◌++◌, map, sym, ap, ◌∙◌, arith}
 use Rattle.pgs_base.specs.declared.element.Elem.TheVariants.{Edge}
 use Rattle.pgs_graph.specs.Reads.{out_edges_of, in_edges_of}
-use Rattle.pgs_match.proofs.Along.{at_place}
+use Rattle.pgs_match.proofs.Along.{at_place, take_whole}
+use Rattle.pgs_match.proofs.Few.{few_along}
 use Rattle.pgs_check_affected.proofs.Loops.{mapped_more}
 use Rattle.pgs_check_affected.proofs.gathering.add_edges_along.Goals as goal
 
@@ -18,3 +19,11 @@ loop-nth-preserved g c =
       within = omega (arith, place.0);
       looked = omega (arith, c.edge_along.ensures.tick, before.looked);
     }
+
+pub returns-clause-edges : goal.returns-clause-edges
+returns-clause-edges g c =
+    let graph = g.G.GraphRead.meaning c.args.graph.now in
+    let ids = cond c.args.forward (out_edges_of graph c.args.id) (in_edges_of graph c.args.id) in
+    c.loop-nth.invariant.so_far
+    ∙ ap (λ edges. c.args.elems.now.items ++ map (λ edge. Edge edge) edges)
+    (take_whole ids c.loop-nth.nth (omega (arith, few_along graph c.args.id c.args.forward, c.count-nth-end.ensures.value, c.loop-nth-test.false)))
