@@ -1,10 +1,9 @@
 ghost use Rattle.pgfollow.specs.Program.{IsRunOf};
 
-use crate::ending::Causes;
 use pgs_base::{Seed, Words};
 use pgs_run_follow::{FollowStatus, run_follow};
 use pgs_world_files::{AreaFiles, FileWorld, Handle};
-use pgs_world_streams::{StdinSource, SteadyRead, SteadyWrite};
+use pgs_world_streams::{StdinSource, SteadyRead, SteadyWrite, StreamCauses};
 use std::alloc::Global;
 
 /// How a run ended, and what it went over: its input, and its output beside areas without files.
@@ -17,8 +16,8 @@ pub struct Ran<R: SteadyRead, W: SteadyWrite, H: Handle> {
 
 impl<R: SteadyRead, W: SteadyWrite, H: Handle> Ran<R, W, H> {
     /// Why its faults came.
-    pub fn causes(&self) -> Causes {
-        Causes {
+    pub fn causes(&self) -> StreamCauses {
+        StreamCauses {
             source: self.source.cause(),
             output: self.world.put_cause(),
         }

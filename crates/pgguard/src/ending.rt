@@ -3,11 +3,11 @@
 use pgs_base::Words;
 use pgs_run::Status;
 use pgs_world_files::FileCause;
-use pgs_world_streams::{Cause, tell, tell_usage};
+use pgs_world_streams::{
+    Cause, StandardNumbers, StreamCauses, tell, tell_memory, tell_too_long, tell_usage,
+};
 
 const PROGRAM: &str = "pgguard";
-
-const INPUT: &str = "standard input";
 
 // A line for each command with its words.
 const USAGE: &str = "usage:
@@ -24,28 +24,29 @@ const USAGE: &str = "usage:
 docs/GUIDE.md teaches all of them, docs/FORMATS.md has every printed text
 ";
 
-/// Why the faults of a run came, where that is known: of the source, of the areas, with the ending of the file's name, and of the output.
+/// Why the faults of a run came, where that is known: of the input and the output, and of the areas, with the ending of the file's name.
 #[derive(Clone, Copy)]
 pub struct Causes {
-    pub source: Option<Cause>,
+    pub streams: StreamCauses,
     pub area: Option<(&'static str, FileCause)>,
-    pub output: Option<Cause>,
 }
 
 impl Causes {
     /// No fault came.
     pub fn none() -> Causes {
         Causes {
-            source: None,
+            streams: StreamCauses::none(),
             area: None,
-            output: None,
         }
     }
-}
 
-// The text of a cause, where one is known.
-fn text_of(cause: Option<Cause>) -> &'static str {
-    cause.unwrap_or(Cause::Failed).text()
+    /// The same, but that an input which was closed when the program began isn't open.
+    pub fn with_closed_input(self, numbers: &StandardNumbers) -> Causes {
+        Causes {
+            streams: self.streams.with_closed_input(numbers),
+            ..self
+        }
+    }
 }
 
 // Tells which file of the store failed, and why.
@@ -65,9 +66,9 @@ pub fn tell_ending<R: Eprint>(rt: &R, words: &Words, status: Status, causes: Cau
         Status::Accepted | Status::Refused | Status::SchemaRefused | Status::StoreRefused => {}
         Status::BadWords => tell_usage(rt, USAGE),
         Status::DiskFault => tell_area(rt, words, causes.area),
-        Status::ReadFault => tell(rt, PROGRAM, INPUT, text_of(causes.source)),
-        Status::PutFault => tell(rt, PROGRAM, "standard output", text_of(causes.output)),
-        Status::Memory => tell(rt, PROGRAM, "memory", "there is not enough"),
-        Status::InputTooLong => tell(rt, PROGRAM, INPUT, "has 1099511627776 bytes or more"),
+        Status::ReadFault => causes.streams.tell_input(rt, PROGRAM),
+        Status::PutFault => causes.streams.tell_output(rt, PROGRAM),
+        Status::Memory => tell_memory(rt, PROGRAM),
+        Status::InputTooLong => tell_too_long(rt, PROGRAM),
     }
 }

@@ -10,23 +10,18 @@ mod opening;
 mod outside;
 mod program;
 
-ghost use Rattle.std.specs.Prelude.{◌≡◌, ◌≢◌, ◌++◌, [], Ok, IsErr, IfErr, IfOk};
-ghost use Rattle.std.specs.IoError.{error_kind};
+ghost use Rattle.std.specs.Prelude.{◌≡◌};
 ghost use Rattle.std.specs.Process.{exit_status};
-ghost use Rattle.std.specs.Vec.Iter.{into_iter_items};
 ghost use Rattle.pgs_run_base.specs.ExitStatus.{status_number};
-ghost use Rattle.pgguard.specs.Known.{words_behind};
 
 use ending::{Causes, tell_ending};
 use pgs_base::{Memory, Words};
 use pgs_run::Status;
 use pgs_world_files::SystemOpening;
-use pgs_world_streams::{Cause, StandardNumbers};
+use pgs_world_streams::{StandardNumbers, program_words};
 use program::run_program;
-use std::alloc::Global;
 use std::collections::hash_map::RandomState;
-use std::env::{self, Args};
-use std::io::{self, ErrorKind};
+use std::env;
 use std::process::ExitCode;
 
 // The exit code of a status: its number.
@@ -34,39 +29,6 @@ fn exit_code(status: Status) -> ExitCode
     ensures { exit_status result ≡ status_number status }
 {
     ExitCode::from(status.number())
-}
-
-// The words after the program's name.
-#[tactic(auto, using(crate::proofs::Knowing::behind_name))]
-fn words_in(alloc: Global, arguments: Args) -> Result<Words, Memory>
-    ensures { IfOk result (λ words. words ≡ words_behind (into_iter_items arguments)) }
-{
-    let mut words = Words::new(alloc);
-    let mut arguments = arguments;
-    let Some(_) = arguments.next() else {
-        return Ok(words);
-    };
-    for argument in arguments {
-        words.push(argument.as_str())?;
-    }
-    Ok(words)
-}
-
-// The words of a command line. Arguments that aren't all UTF-8 give no words, which are no command.
-fn words_of(alloc: Global, arguments: io::Result<Args>) -> Result<Words, Memory>
-    ensures words { IfOk arguments (λ all. IfOk result (λ words. words ≡ words_behind (into_iter_items all))) }
-    ensures no_words { IfErr arguments (λ error. error_kind error ≢ ErrorKind.OutOfMemory → result ≡ Ok []) }
-    ensures memory { IfErr arguments (λ error. error_kind error ≡ ErrorKind.OutOfMemory → IsErr result) }
-{
-    match arguments {
-        Ok(arguments) => words_in(alloc, arguments),
-        Err(error) => {
-            if error.kind() == ErrorKind::OutOfMemory {
-                return Err(Memory);
-            }
-            Ok(Words::new(alloc))
-        }
-    }
 }
 
 // Opens what the words name, and runs them over the standard streams.
@@ -86,21 +48,18 @@ fn run_words(rt: &HostRuntime, words: &Words) -> Result<(Status, Causes), Memory
 
 // Runs words, tells why they ended so, and gives the status.
 fn run_and_tell(rt: &HostRuntime, words: &Words, numbers: &StandardNumbers) -> Status {
-    let (status, mut causes) = match run_words(rt, words) {
+    let (status, causes) = match run_words(rt, words) {
         Ok(ended) => ended,
         Err(Memory) => (Status::Memory, Causes::none()),
     };
-    if numbers.input_was_closed() {
-        causes.source = Some(Cause::NotOpen);
-    }
-    tell_ending(rt, words, status, causes);
+    tell_ending(rt, words, status, causes.with_closed_input(numbers));
     status
 }
 
 fn main(rt: HostRuntime) -> ExitCode {
     // Before anything is opened: no file gets the number of a stream.
     let numbers = StandardNumbers::take(&rt);
-    let words = match words_of(rt.alloc(), env::args(&rt)) {
+    let words = match program_words(rt.alloc(), env::args(&rt)) {
         Ok(words) => words,
         Err(Memory) => {
             tell_ending(&rt, &Words::new(rt.alloc()), Status::Memory, Causes::none());

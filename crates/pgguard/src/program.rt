@@ -7,7 +7,7 @@ use crate::outside::Outside;
 use pgs_base::{Memory, Words};
 use pgs_run::{Status, run};
 use pgs_world_files::{Handle, Opening};
-use pgs_world_streams::{SteadyRead, SteadyWrite};
+use pgs_world_streams::{SteadyRead, SteadyWrite, StreamCauses};
 use std::alloc::Global;
 use std::collections::hash_map::RandomState;
 use std::io;
@@ -23,9 +23,11 @@ impl<R: SteadyRead, W: SteadyWrite, H: Handle, L: SteadyWrite + Drop> Ran<R, W, 
     /// Why its faults came.
     pub fn causes(&self) -> Causes {
         Causes {
-            source: self.outside.source.cause(),
+            streams: StreamCauses {
+                source: self.outside.source.cause(),
+                output: self.outside.world.put_cause(),
+            },
             area: self.outside.world.area_cause(),
-            output: self.outside.world.put_cause(),
         }
     }
 }

@@ -1,11 +1,10 @@
 ghost use Rattle.pgsession.specs.Program.{IsRunOf};
 
-use crate::ending::Causes;
 use crate::outside::{Outside, open_outside};
 use pgs_base::Words;
 use pgs_run_sessions::{SessionStatus, run_sessions};
 use pgs_world_files::Handle;
-use pgs_world_streams::{SteadyRead, SteadyWrite};
+use pgs_world_streams::{SteadyRead, SteadyWrite, StreamCauses};
 use std::alloc::Global;
 use std::collections::hash_map::RandomState;
 use std::io;
@@ -19,8 +18,8 @@ pub struct Ran<R: SteadyRead, W: SteadyWrite, H: Handle> {
 
 impl<R: SteadyRead, W: SteadyWrite, H: Handle> Ran<R, W, H> {
     /// Why its faults came.
-    pub fn causes(&self) -> Causes {
-        Causes {
+    pub fn causes(&self) -> StreamCauses {
+        StreamCauses {
             source: self.outside.source.cause(),
             output: self.outside.world.put_cause(),
         }

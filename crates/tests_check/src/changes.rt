@@ -3,7 +3,6 @@
 ghost use Rattle.std.specs.Prelude.{◌≡◌, true, IfOk, IfSome};
 ghost use Rattle.pgs_graph.specs.Changed.{is_sound};
 
-use crate::draw::Draw;
 use pgs_base::{Limits, Memory, Steps};
 use pgs_graph::{Delta, Txn};
 use pgs_json::read_txn;
@@ -12,6 +11,7 @@ use pgs_tables::Tables;
 use pgs_txn::{StageFault, stage};
 use std::alloc::Global;
 use std::sync::ledger::Ledger;
+use tests_fixtures::Draw;
 
 /// Nodes, and edges, have numbers below this one.
 pub const ELEMENTS: u64 = 8;
@@ -24,117 +24,115 @@ const EDGE_LABELS: [&str; 2] = ["\"r\"", "\"s\""];
 
 const VALUES: [&str; 6] = ["1", "2", "3", "4", "5", "6"];
 
-impl Draw {
-    // Writes what is done, and the number of its element.
-    fn put_op(&mut self, op: &str, number: u64) {
-        self.put("{\"");
-        self.put(op);
-        self.put("\":");
-        self.put_at(&DIGITS, number);
-    }
+// Writes what is done, and the number of its element.
+fn put_op(draw: &mut Draw, op: &str, number: u64) {
+    draw.put("{\"");
+    draw.put(op);
+    draw.put("\":");
+    draw.put_at(&DIGITS, number);
+}
 
-    // Writes the number of a node, by the name of what it is for.
-    fn put_end(&mut self, name: &str) {
-        let number = self.below(ELEMENTS);
-        self.put(",\"");
-        self.put(name);
-        self.put("\":");
-        self.put_at(&DIGITS, number);
-    }
+// Writes the number of a node, by the name of what it is for.
+fn put_end(draw: &mut Draw, name: &str) {
+    let number = draw.below(ELEMENTS);
+    draw.put(",\"");
+    draw.put(name);
+    draw.put("\":");
+    draw.put_at(&DIGITS, number);
+}
 
-    // Writes the labels and properties of what is added.
-    fn put_rest(&mut self, labels: &[&'static str]) {
-        self.put(",\"labels\":[");
-        self.put_one(labels);
-        self.put("]");
-        if self.below(4) > 0 {
-            self.put(",\"props\":{\"k\":");
-            self.put_one(&VALUES);
-            self.put("}");
+// Writes the labels and properties of what is added.
+fn put_rest(draw: &mut Draw, labels: &[&'static str]) {
+    draw.put(",\"labels\":[");
+    draw.put_one(labels);
+    draw.put("]");
+    if draw.below(4) > 0 {
+        draw.put(",\"props\":{\"k\":");
+        draw.put_one(&VALUES);
+        draw.put("}");
+    }
+    draw.put("}");
+}
+
+fn put_value(draw: &mut Draw) {
+    draw.put(",\"key\":\"k\",\"value\":");
+    draw.put_one(&VALUES);
+    draw.put("}");
+}
+
+// Writes what is done to a node: it is added, changed or detached, or detached and added again.
+fn put_node(draw: &mut Draw, number: u64) {
+    match draw.below(16) {
+        0 => {
+            put_op(draw, "set_node", number);
+            put_value(draw);
         }
-        self.put("}");
-    }
-
-    fn put_value(&mut self) {
-        self.put(",\"key\":\"k\",\"value\":");
-        self.put_one(&VALUES);
-        self.put("}");
-    }
-
-    // Writes what is done to a node: it is added, changed or detached, or detached and added again.
-    fn put_node(&mut self, number: u64) {
-        match self.below(16) {
-            0 => {
-                self.put_op("set_node", number);
-                self.put_value();
-            }
-            1 => {
-                self.put_op("label_node", number);
-                self.put(",\"label\":\"A\"}");
-            }
-            2 => {
-                self.put_op("unlabel_node", number);
-                self.put(",\"label\":\"A\"}");
-            }
-            3 => {
-                self.put_op("detach_node", number);
-                self.put("}");
-            }
-            4 => {
-                self.put_op("detach_node", number);
-                self.put("},");
-                self.put_op("add_node", number);
-                self.put_rest(&NODE_LABELS);
-            }
-            _ => {
-                self.put_op("add_node", number);
-                self.put_rest(&NODE_LABELS);
-            }
+        1 => {
+            put_op(draw, "label_node", number);
+            draw.put(",\"label\":\"A\"}");
+        }
+        2 => {
+            put_op(draw, "unlabel_node", number);
+            draw.put(",\"label\":\"A\"}");
+        }
+        3 => {
+            put_op(draw, "detach_node", number);
+            draw.put("}");
+        }
+        4 => {
+            put_op(draw, "detach_node", number);
+            draw.put("},");
+            put_op(draw, "add_node", number);
+            put_rest(draw, &NODE_LABELS);
+        }
+        _ => {
+            put_op(draw, "add_node", number);
+            put_rest(draw, &NODE_LABELS);
         }
     }
+}
 
-    // Writes what is done to an edge: it is changed or removed, or added, or removed and added again.
-    fn put_edge(&mut self, number: u64) {
-        match self.below(8) {
-            0 => {
-                self.put_op("set_edge", number);
-                self.put_value();
-                return;
-            }
-            1 => {
-                self.put_op("remove_edge", number);
-                self.put("}");
-                return;
-            }
-            2 | 3 => {
-                self.put_op("remove_edge", number);
-                self.put("},");
-            }
-            _ => {}
+// Writes what is done to an edge: it is changed or removed, or added, or removed and added again.
+fn put_edge(draw: &mut Draw, number: u64) {
+    match draw.below(8) {
+        0 => {
+            put_op(draw, "set_edge", number);
+            put_value(draw);
+            return;
         }
-        self.put_op("add_edge", number);
-        self.put_end("from");
-        self.put_end("to");
-        self.put_rest(&EDGE_LABELS);
+        1 => {
+            put_op(draw, "remove_edge", number);
+            draw.put("}");
+            return;
+        }
+        2 | 3 => {
+            put_op(draw, "remove_edge", number);
+            draw.put("},");
+        }
+        _ => {}
     }
+    put_op(draw, "add_edge", number);
+    put_end(draw, "from");
+    put_end(draw, "to");
+    put_rest(draw, &EDGE_LABELS);
+}
 
-    // Writes a transaction on one element.
-    fn put_line(&mut self) {
-        self.put("{\"ops\":[");
-        let number = self.below(ELEMENTS);
-        if self.below(5) < 2 {
-            self.put_node(number);
-        } else {
-            self.put_edge(number);
-        }
-        self.put("]}");
+// Writes a transaction on one element.
+fn put_line(draw: &mut Draw) {
+    draw.put("{\"ops\":[");
+    let number = draw.below(ELEMENTS);
+    if draw.below(5) < 2 {
+        put_node(draw, number);
+    } else {
+        put_edge(draw, number);
     }
+    draw.put("]}");
 }
 
 // The transaction of a number. A line that can't be read is told as want of memory, which none here is.
 fn txn(alloc: Global, number: u64) -> Result<Txn, Memory> {
     let mut draw = Draw::new(alloc, number);
-    draw.put_line();
+    put_line(&mut draw);
     match read_txn(alloc, draw.text()?.as_bytes()) {
         Ok(txn) => Ok(txn),
         Err(_) => Err(Memory),

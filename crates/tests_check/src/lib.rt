@@ -14,5 +14,3 @@ mod changes;
 mod checked;
 #[cfg(test)]
 mod differing;
-#[cfg(test)]
-mod draw;

@@ -2,11 +2,9 @@
 
 use pgs_base::{List, Memory};
 use pgs_run_contain::run_contain;
-use pgs_world::{MemSource, MemWorld};
+use pgs_world::MemSource;
 use std::alloc::Global;
-
-// The bytes and the calls that the output of a test has room for.
-const ROOM: u64 = 65_536;
+use tests_fixtures::{ROOM, empty_world};
 
 /// An input, the budget of bytes, what is printed, and the status.
 pub type Row<'a> = (&'a str, u64, &'a str, u8);
@@ -15,13 +13,7 @@ pub type Row<'a> = (&'a str, u64, &'a str, u8);
 fn ran(alloc: Global, input: &[u8], budget: u64) -> Result<(Vec<u8>, u8), Memory> {
     let bytes = List::from_slice(alloc, input)?;
     let mut source = MemSource::new(bytes, 7, List::new(alloc));
-    let mut world = MemWorld::new(
-        alloc,
-        List::new(alloc),
-        List::new(alloc),
-        ROOM,
-        List::new(alloc),
-    )?;
+    let mut world = empty_world(alloc, ROOM)?;
     let status = run_contain(alloc, &mut source, &mut world, budget.min(1_000_000));
     let output = Vec::from_slice(alloc, world.output())?;
     Ok((output, status.number()))

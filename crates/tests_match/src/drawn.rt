@@ -4,7 +4,7 @@ ghost use Rattle.std.specs.Prelude.{◌≡◌, ◌<◌, true};
 ghost use Rattle.pgs_syntax.specs.Valid.{is_valid_key_of};
 
 use crate::agreement::{Asked, agrees};
-use crate::draw::Draw;
+use crate::drawn_texts::{put_line, put_schema};
 use crate::list_agreement::{Valued, after_key, after_untyped};
 use crate::listing::Rows;
 use crate::reading::{graph_of, schema_of};
@@ -18,10 +18,11 @@ use std::alloc::Global;
 use std::marker::Brand;
 use std::sync::ledger::{Blank, Ledger};
 use std::test::Fail;
+use tests_fixtures::Draw;
 
 fn drawn_schema(alloc: Global, number: u64) -> Result<Schema, Memory> {
     let mut draw = Draw::new(alloc, number);
-    draw.put_schema(4);
+    put_schema(&mut draw, 4);
     schema_of(alloc, draw.text()?)
 }
 
@@ -38,7 +39,7 @@ fn drawn_graph(alloc: Global, number: u64) -> Result<Graph, Memory> {
     let mut draw = Draw::new(alloc, number);
     let nodes = draw.below(7).saturating_add(1);
     let edges = draw.below(10);
-    draw.put_line(nodes, edges);
+    put_line(&mut draw, nodes, edges);
     graph_of(alloc, draw.text()?)
 }
 

@@ -1,7 +1,7 @@
 //! Drawn schemas, with keys of paths, cycles, several paths, repeated variables, edges as x, literals and named types; and lines that
 //! make drawn graphs of up to 7 nodes and 9 edges.
 
-use crate::draw::Draw;
+use tests_fixtures::Draw;
 
 const TYPES: &str =
     " {(t: A {k INT}), ABSTRACT (u: B OPEN {OPEN}), (:t)-[e: r {OPTIONAL k INT}]->(:t), ABSTRACT (:u)-[f OPEN {OPEN}]->(OPEN {OPEN})";
@@ -85,137 +85,135 @@ const OF_EDGES: Form = Form {
 
 const OF_X: [&str; 3] = ["x", "x.k", "x.k, x"];
 
-impl Draw {
-    // Writes one of the tests, or mostly none.
-    fn put_test(&mut self, tests: &[&'static str]) {
-        if self.below(3) == 0 {
-            self.put_one(tests);
+// Writes one of the tests, or mostly none.
+fn put_test(draw: &mut Draw, tests: &[&'static str]) {
+    if draw.below(3) == 0 {
+        draw.put_one(tests);
+    }
+}
+
+// Writes what stands behind the name of a node.
+fn end_node(draw: &mut Draw) {
+    put_test(draw, &NODE_TESTS);
+    draw.put(")");
+}
+
+// Writes an edge with one of the names, in one of its two directions.
+fn put_edge(draw: &mut Draw, names: &[&'static str]) {
+    if draw.below(2) == 0 {
+        draw.put("-");
+        draw.put_one(names);
+        put_test(draw, &EDGE_TESTS);
+        draw.put("]->");
+    } else {
+        draw.put("<-");
+        draw.put_one(names);
+        put_test(draw, &EDGE_TESTS);
+        draw.put("]-");
+    }
+}
+
+// Writes a later edge and node, mostly.
+fn put_later(draw: &mut Draw, names: &Names) {
+    match draw.below(5) {
+        0 => return,
+        1 | 2 => draw.put(""),
+        _ => {
+            draw.put(", ");
+            draw.put(names.second);
+            draw.put(")");
         }
     }
+    put_edge(draw, &names.edges);
+    draw.put_one(&names.nodes);
+    end_node(draw);
+}
 
-    // Writes what stands behind the name of a node.
-    fn end_node(&mut self) {
-        self.put_test(&NODE_TESTS);
-        self.put(")");
-    }
+// Writes a pattern: one step, and mostly another one, on the same path or on a path from the second node.
+fn put_paths(draw: &mut Draw, names: &Names) {
+    draw.put(names.first);
+    end_node(draw);
+    put_edge(draw, &[names.edge]);
+    draw.put(names.second);
+    end_node(draw);
+    put_later(draw, names);
+}
 
-    // Writes an edge with one of the names, in one of its two directions.
-    fn put_edge(&mut self, names: &[&'static str]) {
-        if self.below(2) == 0 {
-            self.put("-");
-            self.put_one(names);
-            self.put_test(&EDGE_TESTS);
-            self.put("]->");
-        } else {
-            self.put("<-");
-            self.put_one(names);
-            self.put_test(&EDGE_TESTS);
-            self.put("]-");
-        }
-    }
+// Writes a key of a form.
+fn put_key(draw: &mut Draw, form: &Form) {
+    put_paths(draw, &form.scope);
+    draw.put_one(&QUALIFIERS);
+    draw.put_one(&form.exprs);
+    draw.put(" WITHIN ");
+    put_paths(draw, &form.descriptor);
+}
 
-    // Writes a later edge and node, mostly.
-    fn put_later(&mut self, names: &Names) {
-        match self.below(5) {
-            0 => return,
-            1 | 2 => self.put(""),
-            _ => {
-                self.put(", ");
-                self.put(names.second);
-                self.put(")");
-            }
-        }
-        self.put_edge(&names.edges);
-        self.put_one(&names.nodes);
-        self.end_node();
-    }
+// Writes a key whose descriptor is x alone.
+fn put_small_key(draw: &mut Draw) {
+    draw.put("(x");
+    end_node(draw);
+    draw.put_one(&QUALIFIERS);
+    draw.put_one(&OF_X);
+}
 
-    // Writes a pattern: one step, and mostly another one, on the same path or on a path from the second node.
-    fn put_paths(&mut self, names: &Names) {
-        self.put(names.first);
-        self.end_node();
-        self.put_edge(&[names.edge]);
-        self.put(names.second);
-        self.end_node();
-        self.put_later(names);
+fn put_some_key(draw: &mut Draw) {
+    draw.put(", FOR ");
+    match draw.below(5) {
+        0 => put_small_key(draw),
+        1 | 2 => put_key(draw, &OF_EDGES),
+        _ => put_key(draw, &OF_NODES),
     }
+}
 
-    // Writes a key of a form.
-    fn put_key(&mut self, form: &Form) {
-        self.put_paths(&form.scope);
-        self.put_one(&QUALIFIERS);
-        self.put_one(&form.exprs);
-        self.put(" WITHIN ");
-        self.put_paths(&form.descriptor);
+/// Writes a schema of so many keys.
+pub fn put_schema(draw: &mut Draw, keys: u32) {
+    draw.put("CREATE GRAPH TYPE g ");
+    draw.put_one(&["STRICT", "LOOSE"]);
+    draw.put(TYPES);
+    for _ in 0..keys {
+        put_some_key(draw);
     }
+    draw.put("};");
+}
 
-    // Writes a key whose descriptor is x alone.
-    fn put_small_key(&mut self) {
-        self.put("(x");
-        self.end_node();
-        self.put_one(&QUALIFIERS);
-        self.put_one(&OF_X);
-    }
+// Writes what adds a node.
+fn put_node(draw: &mut Draw, number: u64) {
+    draw.put("{\"add_node\":");
+    draw.put_at(&DIGITS, number);
+    draw.put(",\"labels\":[");
+    draw.put_one(&["", "\"A\"", "\"A\"", "\"B\"", "\"A\",\"B\""]);
+    draw.put("],\"props\":{");
+    draw.put_one(&["", "\"k\":4", "\"k\":5"]);
+    draw.put("}}");
+}
 
-    fn put_some_key(&mut self) {
-        self.put(", FOR ");
-        match self.below(5) {
-            0 => self.put_small_key(),
-            1 | 2 => self.put_key(&OF_EDGES),
-            _ => self.put_key(&OF_NODES),
-        }
-    }
+// Writes what adds an edge between two of so many nodes.
+fn put_graph_edge(draw: &mut Draw, number: u64, nodes: u64) {
+    draw.put(",{\"add_edge\":");
+    draw.put_at(&DIGITS, number);
+    draw.put(",\"from\":");
+    let source = draw.below(nodes);
+    draw.put_at(&DIGITS, source);
+    draw.put(",\"to\":");
+    let target = draw.below(nodes);
+    draw.put_at(&DIGITS, target);
+    draw.put(",\"labels\":[");
+    draw.put_one(&["", "\"r\"", "\"r\"", "\"s\"", "\"r\",\"s\""]);
+    draw.put("],\"props\":{");
+    draw.put_one(&["", "\"k\":4", "\"k\":5"]);
+    draw.put("}}");
+}
 
-    /// Writes a schema of so many keys.
-    pub fn put_schema(&mut self, keys: u32) {
-        self.put("CREATE GRAPH TYPE g ");
-        self.put_one(&["STRICT", "LOOSE"]);
-        self.put(TYPES);
-        for _ in 0..keys {
-            self.put_some_key();
-        }
-        self.put("};");
+/// Writes a line that adds so many nodes, at least one, and edges, at most 10 of each. They are numbered from 0.
+pub fn put_line(draw: &mut Draw, nodes: u64, edges: u64) {
+    draw.put("{\"ops\":[");
+    put_node(draw, 0);
+    for number in 1..nodes {
+        draw.put(",");
+        put_node(draw, number);
     }
-
-    // Writes what adds a node.
-    fn put_node(&mut self, number: u64) {
-        self.put("{\"add_node\":");
-        self.put_at(&DIGITS, number);
-        self.put(",\"labels\":[");
-        self.put_one(&["", "\"A\"", "\"A\"", "\"B\"", "\"A\",\"B\""]);
-        self.put("],\"props\":{");
-        self.put_one(&["", "\"k\":4", "\"k\":5"]);
-        self.put("}}");
+    for number in 0..edges {
+        put_graph_edge(draw, number, nodes);
     }
-
-    // Writes what adds an edge between two of so many nodes.
-    fn put_graph_edge(&mut self, number: u64, nodes: u64) {
-        self.put(",{\"add_edge\":");
-        self.put_at(&DIGITS, number);
-        self.put(",\"from\":");
-        let source = self.below(nodes);
-        self.put_at(&DIGITS, source);
-        self.put(",\"to\":");
-        let target = self.below(nodes);
-        self.put_at(&DIGITS, target);
-        self.put(",\"labels\":[");
-        self.put_one(&["", "\"r\"", "\"r\"", "\"s\"", "\"r\",\"s\""]);
-        self.put("],\"props\":{");
-        self.put_one(&["", "\"k\":4", "\"k\":5"]);
-        self.put("}}");
-    }
-
-    /// Writes a line that adds so many nodes, at least one, and edges, at most 10 of each. They are numbered from 0.
-    pub fn put_line(&mut self, nodes: u64, edges: u64) {
-        self.put("{\"ops\":[");
-        self.put_node(0);
-        for number in 1..nodes {
-            self.put(",");
-            self.put_node(number);
-        }
-        for number in 0..edges {
-            self.put_graph_edge(number, nodes);
-        }
-        self.put("]}");
-    }
+    draw.put("]}");
 }

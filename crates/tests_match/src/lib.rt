@@ -8,8 +8,6 @@
 #[cfg(test)]
 mod agreement;
 #[cfg(test)]
-mod draw;
-#[cfg(test)]
 mod drawn;
 #[cfg(test)]
 mod drawn_texts;

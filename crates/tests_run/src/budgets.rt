@@ -1,10 +1,11 @@
 //! Runs within every budget, and with a failing read and a failing put at every place.
 
-use crate::ran::{PIECES, Setting, quiet, run_with, words_of};
+use crate::ran::{PIECES, run_with};
 use pgs_base::Memory;
 use pgs_run::BUDGET;
 use std::alloc::Global;
 use std::test::Fail;
+use tests_fixtures::{Setting, quiet, words_of};
 
 /// From this budget on: what is printed, how many pieces that are, and the status.
 type Until = (u64, &'static str, usize, u8);

@@ -1,6 +1,5 @@
 //! What feeds take of a run of `apply`.
 
-use crate::ran::words_of;
 use crate::store_runs::{Disk, run_on};
 use pgs_base::{List, Memory};
 use pgs_feed::FeedList;
@@ -8,6 +7,7 @@ use pgs_run::run;
 use pgs_world::{MemFeed, MemSource, MemWorld};
 use std::alloc::Global;
 use std::test::Fail;
+use tests_fixtures::words_of;
 
 /// The bytes that a feed and a run have room for.
 const ROOM: u64 = 65_536;

@@ -2,9 +2,10 @@
 
 use crate::built::Part::{Pieces, Text};
 use crate::built::{Part, push_parts};
-use crate::ran::{PIECES, quiet, run_with, words_of};
+use crate::ran::{PIECES, run_with};
 use std::alloc::Global;
 use std::test::Fail;
+use tests_fixtures::{quiet, words_of};
 
 const HEAD: &str = "CREATE GRAPH TYPE g LOOSE {};\n---\n";
 

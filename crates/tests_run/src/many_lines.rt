@@ -1,6 +1,5 @@
 //! Great transactions, and then thousands of small ones, by one store.
 
-use crate::ran::words_of;
 use pgs_base::{Copyable, List, Memory};
 use pgs_feed::FeedList;
 use pgs_gen::{generate, schema};
@@ -10,6 +9,7 @@ use pgs_run::run;
 use pgs_world::{MemFeed, MemSource, MemWorld};
 use std::alloc::Global;
 use std::test::Fail;
+use tests_fixtures::{empty_world, words_of};
 
 /// The bytes and the calls that the runs have room for.
 const ROOM: u64 = 8_388_608;
@@ -71,13 +71,7 @@ fn accepted(alloc: Global, lines: u64) -> Result<String, Memory> {
 
 /// Whether a store is loaded and accepts each line.
 fn accepts(alloc: Global, great: Lines, small: Lines) -> Result<bool, Memory> {
-    let mut world = MemWorld::new(
-        alloc,
-        List::new(alloc),
-        List::new(alloc),
-        ROOM,
-        List::new(alloc),
-    )?;
+    let mut world = empty_world(alloc, ROOM)?;
     let text = schema(alloc)?;
     let loaded = run_over(alloc, &mut world, "load,s,", text.as_slice())?;
     let mut input = Vec::new(alloc);

@@ -1,33 +1,12 @@
-use pgs_base::{List, Memory, Words};
+use pgs_base::{Memory, Words};
 use pgs_feed::FeedList;
 use pgs_run::{BUDGET, Status, run, run_within};
-use pgs_world::{MemFeed, MemSource, MemWorld};
+use pgs_world::MemFeed;
 use std::alloc::Global;
-
-/// The bytes and the calls that the output of a test has room for.
-const ROOM: u64 = 65_536;
+use tests_fixtures::{Setting, quiet, words_of};
 
 /// The sizes of the reads that each row is tried with.
 pub const PIECES: [usize; 3] = [1, 7, 65_536];
-
-/// How a run is disturbed. The reads and the puts that fail are counted from 1; 0 is none.
-#[derive(Clone, Copy, Debug)]
-pub struct Setting {
-    pub piece: usize,
-    pub failing_read: u64,
-    pub failing_put: u64,
-    pub budget: u64,
-}
-
-/// A run with reads of at most so many bytes, and nothing that disturbs it.
-pub fn quiet(piece: usize) -> Setting {
-    Setting {
-        piece,
-        failing_read: 0,
-        failing_put: 0,
-        budget: BUDGET,
-    }
-}
 
 /// What a run put, and its status.
 #[derive(Debug, Drop)]
@@ -43,19 +22,6 @@ impl Ran {
     }
 }
 
-fn call_list(alloc: Global, call: u64) -> Result<List<u64>, Memory> {
-    List::from_slice(alloc, [call].as_slice())
-}
-
-/// The words, which stand in the text with a comma after each.
-pub fn words_of(alloc: Global, text: &str) -> Result<Words, Memory> {
-    let mut words = Words::new(alloc);
-    for word in text.split_terminator(',') {
-        words.push(word)?;
-    }
-    Ok(words)
-}
-
 /// Runs the words over an input.
 pub fn run_with(
     alloc: Global,
@@ -63,13 +29,10 @@ pub fn run_with(
     input: &[u8],
     setting: Setting,
 ) -> Result<Ran, Memory> {
-    let reads = call_list(alloc, setting.failing_read)?;
-    let puts = call_list(alloc, setting.failing_put)?;
-    let bytes = List::from_slice(alloc, input)?;
-    let mut source = MemSource::new(bytes, setting.piece.max(1), reads);
-    let mut world = MemWorld::new(alloc, List::new(alloc), List::new(alloc), ROOM, puts)?;
+    let mut source = setting.source(alloc, input)?;
+    let mut world = setting.world(alloc)?;
     let mut feeds: FeedList<MemFeed> = FeedList::new(alloc);
-    let budget = setting.budget.max(1).min(BUDGET);
+    let budget = setting.budget_within(BUDGET);
     let status = if budget == BUDGET {
         run(alloc, words, &mut source, &mut world, &mut feeds)
     } else {

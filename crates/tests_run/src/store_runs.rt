@@ -1,11 +1,11 @@
 //! Runs of commands on one store, each on the areas that the last one left.
 
-use crate::ran::words_of;
 use pgs_base::{Bytes, List, Memory};
 use pgs_feed::FeedList;
 use pgs_run::{Status, run};
 use pgs_world::{Area, MemFeed, MemSource, MemWorld};
 use std::alloc::Global;
+use tests_fixtures::words_of;
 
 /// The bytes and the calls that a run has room for.
 const ROOM: u64 = 8_388_608;

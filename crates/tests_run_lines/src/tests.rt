@@ -3,6 +3,7 @@ use pgs_base::{List, Memory};
 use pgs_world::{MemSource, MemWorld};
 use std::alloc::Global;
 use std::test::Fail;
+use tests_fixtures::empty_world;
 
 /// An input with the size of its reads, the read and the put that fail, from 1, and the budget; and what is put, with how it ends.
 type Row = (&'static str, usize, u64, u64, u64, &'static str);
@@ -61,13 +62,7 @@ fn spaces(alloc: Global, count: usize) -> Result<String, Memory> {
     let reads = List::new(alloc);
     let bytes = List::from_slice(alloc, line.as_bytes())?;
     let mut source = MemSource::new(bytes, 7, reads);
-    let mut world = MemWorld::new(
-        alloc,
-        List::new(alloc),
-        List::new(alloc),
-        65_536,
-        List::new(alloc),
-    )?;
+    let mut world = empty_world(alloc, 65_536)?;
     let end = count_lines(alloc, &mut source, &mut world, 1 << 20);
     let output = str::from_utf8(world.output()).unwrap_or("not a text");
     Ok(format!(in alloc; "{output}{end:?}")?)

@@ -1,9 +1,10 @@
 //! Worked runs of `pgsession`, whatever the cut into reads, and disturbed ones.
 
-use crate::ran::{Setting, quiet, run_with};
+use crate::ran::run_with;
 use pgs_base::Memory;
 use std::alloc::Global;
 use std::test::Fail;
+use tests_fixtures::{Setting, quiet};
 
 /// The words with a comma after each, an input, what is printed, and the status.
 type Row<'a> = (&'a str, &'a str, &'a str, u8);

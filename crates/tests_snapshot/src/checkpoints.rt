@@ -9,6 +9,7 @@ use pgs_snapshot::{ChooseFault, checkpoint, choose_area};
 use pgs_world::{Area, Leave, MemWorld, World};
 use std::alloc::Global;
 use std::test::Fail;
+use tests_fixtures::LEAVINGS;
 
 /// A store of the first format, of epoch 1, with a schema and a transaction that adds node 1: 83 bytes.
 const FIRST: &[u8] =
@@ -55,14 +56,6 @@ fn epoch_after(alloc: Global, store: &[u8], calls: u64, how: Leave) -> Result<u6
     Ok(chosen(alloc, &mut left)?.0)
 }
 
-const WAYS: [Leave; 5] = [
-    Leave::Old,
-    Leave::New,
-    Leave::Fill(0),
-    Leave::Fill(1),
-    Leave::Fill(7),
-];
-
 /// After so many calls, from 0 on, with each leaving.
 const EPOCHS: [[u64; 5]; 10] = [
     [1, 1, 1, 1, 1],
@@ -80,7 +73,7 @@ const EPOCHS: [[u64; 5]; 10] = [
 /// The epochs of a store that is checkpointed, after so many calls, with each leaving.
 fn epochs_after(alloc: Global, store: &[u8], calls: u64) -> Result<[u64; 5], Memory> {
     let mut epochs = [0; 5];
-    for (epoch, how) in epochs.iter_mut().zip(WAYS) {
+    for (epoch, how) in epochs.iter_mut().zip(LEAVINGS) {
         *epoch = epoch_after(alloc, store, calls, how)?;
     }
     Ok(epochs)

@@ -11,6 +11,7 @@ use pgs_journal::{AreaState, Journal, ScanFault, scan};
 use pgs_world::{Area, Leave, MemWorld, World};
 use std::alloc::Global;
 use std::test::Fail;
+use tests_fixtures::LEAVINGS;
 
 /// The schema `CREATE GRAPH TYPE g LOOSE {};`, framed as record 1.
 const SCHEMA: &[u8] = b"\0\0\0\0\0\0\0\x01\0\0\0\0\0\0\0\x1e\x01CREATE GRAPH TYPE g LOOSE {};\0";
@@ -86,14 +87,6 @@ fn scanned(alloc: Global, a: Bytes, b: Bytes) -> Result<u64, Memory> {
     }
 }
 
-const WAYS: [Leave; 5] = [
-    Leave::Old,
-    Leave::New,
-    Leave::Fill(0),
-    Leave::Fill(1),
-    Leave::Fill(7),
-];
-
 /// After so many calls, from 0 on, with each leaving.
 const RECORDS: [[u64; 5]; 15] = [
     [0, 0, 0, 0, 0],
@@ -116,7 +109,7 @@ const RECORDS: [[u64; 5]; 15] = [
 #[test]
 fn each_stop_leaves_the_records_before_or_one_more(rt: HostRuntime) -> Result<(), Fail> {
     for (calls, row) in RECORDS.iter().enumerate() {
-        for (how, want) in WAYS.iter().zip(row) {
+        for (how, want) in LEAVINGS.iter().zip(row) {
             let records = left_after(rt.alloc(), calls as u64, *how)?;
             assert_eq!(rt; records, *want, "{calls} calls, {how:?}");
         }

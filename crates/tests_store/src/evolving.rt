@@ -1,10 +1,10 @@
 //! Schemas that a store takes or refuses, one after the other.
 
 use crate::scenario::{Call, SCHEMA, answers};
-use pgs_base::{Limits, List, Memory};
-use pgs_world::MemWorld;
+use pgs_base::{Limits, Memory};
 use std::alloc::Global;
 use std::test::Fail;
+use tests_fixtures::empty_world;
 
 /// No type, and so no node.
 const NONE: &str = "CREATE GRAPH TYPE g STRICT {};";
@@ -29,13 +29,7 @@ const ANSWERS: &[u64] = &[0, 98_000, 0, 1, 11_000, 25_001, 0, 2, 0, 2, 2, 2];
 
 /// What a store answers to these calls.
 fn answers_to(alloc: Global, calls: &[Call]) -> Result<Vec<u64>, Memory> {
-    let mut world = MemWorld::new(
-        alloc,
-        List::new(alloc),
-        List::new(alloc),
-        512,
-        List::new(alloc),
-    )?;
+    let mut world = empty_world(alloc, 512)?;
     answers(alloc, Limits::standard(), &mut world, calls)
 }
 

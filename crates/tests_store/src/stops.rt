@@ -5,6 +5,7 @@ use pgs_base::{Limits, List, Memory};
 use pgs_world::{Area, Leave, MemWorld};
 use std::alloc::Global;
 use std::test::Fail;
+use tests_fixtures::{LEAVINGS, empty_world};
 
 const CALLS: &[Call] = &[Call::Add(&[1]), Call::Checkpoint];
 
@@ -15,14 +16,6 @@ fn left_after(alloc: Global, on: &[Call], calls: u64, how: Leave) -> Result<u64,
     let (a, b, _) = world.left(alloc, how)?;
     recovered(alloc, a, b)
 }
-
-const WAYS: [Leave; 5] = [
-    Leave::Old,
-    Leave::New,
-    Leave::Fill(0),
-    Leave::Fill(1),
-    Leave::Fill(7),
-];
 
 /// From which number of calls on, up to which one, and what is recovered with each leaving.
 type Row = (u64, u64, [u64; 5]);
@@ -40,7 +33,7 @@ const STOPS: [Row; 7] = [
 
 /// Whether these states are recovered after so many calls, each with its leaving.
 fn leaves(alloc: Global, on: &[Call], calls: u64, states: &[u64; 5]) -> Result<bool, Memory> {
-    for (how, state) in WAYS.iter().zip(states) {
+    for (how, state) in LEAVINGS.iter().zip(states) {
         if left_after(alloc, on, calls, *how)? != *state {
             return Ok(false);
         }
@@ -95,13 +88,7 @@ fn each_stop_leaves_the_schema_before_or_after(rt: HostRuntime) -> Result<(), Fa
 
 /// How many bytes each area has after all calls.
 fn sizes(alloc: Global) -> Result<(usize, usize), Memory> {
-    let mut world = MemWorld::new(
-        alloc,
-        List::new(alloc),
-        List::new(alloc),
-        512,
-        List::new(alloc),
-    )?;
+    let mut world = empty_world(alloc, 512)?;
     answers(alloc, Limits::standard(), &mut world, CALLS)?;
     Ok((world.bytes(Area::A).len(), world.bytes(Area::B).len()))
 }

@@ -1,10 +1,10 @@
 //! Limits: of operations and of elements.
 
 use crate::scenario::{Call, answers};
-use pgs_base::{Limits, List, Memory};
-use pgs_world::MemWorld;
+use pgs_base::{Limits, Memory};
 use std::alloc::Global;
 use std::test::Fail;
+use tests_fixtures::empty_world;
 
 const TIGHT: Limits = Limits {
     ops: 1,
@@ -16,13 +16,7 @@ const CALLS: &[Call] = &[Call::Add(&[1, 2]), Call::Add(&[1]), Call::Add(&[2])];
 const ANSWERS: &[u64] = &[22_002, 1, 24_002, 1, 1];
 
 fn answers_within(alloc: Global, limits: Limits) -> Result<Vec<u64>, Memory> {
-    let mut world = MemWorld::new(
-        alloc,
-        List::new(alloc),
-        List::new(alloc),
-        512,
-        List::new(alloc),
-    )?;
+    let mut world = empty_world(alloc, 512)?;
     answers(alloc, limits, &mut world, CALLS)
 }
 

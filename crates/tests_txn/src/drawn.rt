@@ -11,31 +11,23 @@ use std::alloc::Global;
 use std::marker::Brand;
 use std::sync::ledger::{Blank, Ledger};
 use std::test::Fail;
+use tests_fixtures::Numbers;
 
-/// Numbers as if drawn, by a linear congruence.
+/// Operations as if drawn.
 #[derive(Drop)]
 struct Draw {
-    state: u64,
+    numbers: Numbers,
 }
 
 impl Draw {
-    fn below(&mut self, end: u64) -> u64 {
-        self.state = self
-            .state
-            .wrapping_mul(6_364_136_223_846_793_005)
-            .wrapping_add(1_442_695_040_888_963_407);
-        let drawn = self.state >> 33;
-        if end == 0 { 0 } else { drawn % end }
-    }
-
     fn op(&mut self) -> PlainOp {
-        let kind = self.below(64);
-        let node = self.below(NODES);
-        let edge = self.below(EDGES);
-        let name = self.below(NAMES);
+        let kind = self.numbers.below(64);
+        let node = self.numbers.below(NODES);
+        let edge = self.numbers.below(EDGES);
+        let name = self.numbers.below(NAMES);
         match kind {
             0..10 => PlainOp::AddNode(node),
-            10..26 => PlainOp::AddEdge(edge, node, self.below(NODES)),
+            10..26 => PlainOp::AddEdge(edge, node, self.numbers.below(NODES)),
             26..28 => PlainOp::RemoveNode(node),
             28..31 => PlainOp::DetachNode(node),
             31..34 => PlainOp::RemoveEdge(edge),
@@ -53,12 +45,12 @@ impl Draw {
 
     /// Up to 40 operations, of which the first ones mostly can be done.
     fn ops(&mut self, alloc: Global, plain: &PlainGraph) -> Result<Vec<PlainOp>, Memory> {
-        let count = self.below(41);
+        let count = self.numbers.below(41);
         let mut ops = Vec::new(alloc);
         let mut graph = *plain;
         for _ in 0..count {
             let mut op = self.op();
-            for _ in 0..self.below(8) {
+            for _ in 0..self.numbers.below(8) {
                 match graph.staged(&Limits::standard(), &[op]) {
                     Ok(after) => {
                         graph = after;
@@ -197,7 +189,9 @@ fn agreed(
 fn compared(alloc: Global, count: u32) -> Result<(u32, bool), Memory> {
     let mut graph = Graph::new(alloc);
     let mut plain = PlainGraph::new();
-    let mut draw = Draw { state: 42 };
+    let mut draw = Draw {
+        numbers: Numbers::new(42),
+    };
     let mut tally = Tally {
         done: 0,
         many_ops: 0,

@@ -1,13 +1,11 @@
-//! Texts as if drawn.
-
+use crate::Numbers;
 use pgs_base::Memory;
 use std::alloc::Global;
 
-/// Draws words, by numbers of a linear congruence, and writes them one after another. Where memory ran out a word is missing, and the
-/// text isn't whole.
+/// Draws words, and writes them one after another. Where memory ran out a word is missing, and the text isn't whole.
 #[derive(Drop)]
 pub struct Draw {
-    state: u64,
+    numbers: Numbers,
     text: String,
     is_whole: bool,
 }
@@ -16,7 +14,7 @@ impl Draw {
     /// Draws that begin at a number.
     pub fn new(alloc: Global, state: u64) -> Draw {
         Draw {
-            state,
+            numbers: Numbers::new(state),
             text: String::new(alloc),
             is_whole: true,
         }
@@ -24,12 +22,7 @@ impl Draw {
 
     /// A number below the end, or 0 where the end is 0.
     pub fn below(&mut self, end: u64) -> u64 {
-        self.state = self
-            .state
-            .wrapping_mul(6_364_136_223_846_793_005)
-            .wrapping_add(1_442_695_040_888_963_407);
-        let drawn = self.state >> 33;
-        if end == 0 { 0 } else { drawn % end }
+        self.numbers.below(end)
     }
 
     /// Writes a word.
