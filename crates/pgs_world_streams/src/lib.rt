@@ -7,7 +7,7 @@
 #![tactic(auto)]
 
 mod cause;
-mod program_words;
+mod command_line;
 mod standard_error;
 mod standard_numbers;
 mod stdin_source;
@@ -16,7 +16,7 @@ mod stream_causes;
 mod whole;
 
 pub use cause::Cause;
-pub use program_words::program_words;
+pub use command_line::program_words;
 pub use standard_error::{tell, tell_usage};
 pub use standard_numbers::{StandardNumbers, is_above_standard};
 pub use stdin_source::StdinSource;
