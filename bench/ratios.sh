@@ -2,10 +2,10 @@
 # Fails where work grows faster than what is done. Of each work it counts the instructions of the program over an input and over one with
 # twice as much of it, less those of the same run with none of it, by valgrind, which counts the same whatever else the machine does; the
 # bar is 2.5 times as many.
-#   names: a schema of 1,000 and of 2,000 types, each of which names the one before: a look-up of a name that went over all names would
-#          make it 4;
-#   places: 5,000 and 10,000 transactions of a node with a scattered number: so would a look-up that went over rows;
-#   values: 5,000 and 10,000 changes of the key values of 100 elements: so would values that are kept in mind and never forgotten.
+#   names: a schema of 4,000 and of 8,000 types, each of which names the one before: a look-up of a name that went over all names would
+#          make it more than 3;
+#   places: 10,000 and 20,000 transactions of a node with a scattered number: so would a look-up that went over rows;
+#   values: 20,000 and 40,000 changes of the key values of 100 elements: so would values that are kept in mind and never forgotten.
 # Usage: bench/ratios.sh [PROGRAM]   (else the program that tools/run would run)
 set -eu
 top=$(cd "$(dirname "$(readlink -f "${BASH_SOURCE[0]}")")/.." && pwd)
@@ -56,7 +56,7 @@ instructions() {
 }
 
 missed=0
-for row in names:1000 places:5000 values:5000; do
+for row in names:4000 places:10000 values:20000; do
   what=${row%:*} count=${row#*:}
   none=$(instructions "$what" 0)
   once=$(instructions "$what" "$count")
