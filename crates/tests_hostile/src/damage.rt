@@ -78,23 +78,16 @@ fn changes(byte: u8) -> [u8; 11] {
     ]
 }
 
-// Counts what `recover` answers on an area whose byte at a place was changed so.
-fn count(
-    alloc: Global,
-    image: &[u8],
-    at: usize,
-    byte: u8,
-    counts: &mut Counts,
-) -> Result<(), Memory> {
+// The image with another byte at a place.
+fn damaged(alloc: Global, image: &[u8], at: usize, byte: u8) -> Result<Vec<u8>, Memory> {
     let mut bytes = Vec::from_slice(alloc, image)?;
     if let Some(place) = bytes.get_mut(at) {
         *place = byte;
     }
-    let (output, status) = recovered(alloc, bytes.as_slice(), &[])?;
-    counts.add(output.as_slice(), status);
-    Ok(())
+    Ok(bytes)
 }
 
+// Counts what `recover` answers on an area whose byte at a place was changed in each way.
 fn count_at(
     alloc: Global,
     image: &[u8],
@@ -103,7 +96,9 @@ fn count_at(
     counts: &mut Counts,
 ) -> Result<(), Memory> {
     for changed in changes(byte) {
-        count(alloc, image, at, changed, counts)?;
+        let bytes = damaged(alloc, image, at, changed)?;
+        let (output, status) = recovered(alloc, bytes.as_slice(), &[])?;
+        counts.add(output.as_slice(), status);
     }
     Ok(())
 }

@@ -158,43 +158,7 @@ fn reach_agrees<L: Ledger>(
     Ok(true)
 }
 
-// Whether what is told of the scope is what the plain program tells.
-fn scopes_agree<L: Ledger>(
-    alloc: Global,
-    asked: &Asked<'_>,
-    rows: &Rows<'_>,
-    steps: &mut Steps<L>,
-) -> Result<bool, Memory>
-    requires { is_valid_key_of asked.now.compiled.now asked.now.key.now ≡ true }
-{
-    let plain = Listing::new(alloc, asked.compiled, rows, &asked.key.key().scope)?;
-    let firsts = plain.firsts();
-    let rows = rows.rows.as_slice();
-    Ok(
-        scope_agrees(asked, rows, firsts, steps)
-            && whole_scope_agrees(alloc, asked, firsts, steps)?
-            && reach_agrees(alloc, asked, Side::Scope, rows, &plain, steps)?,
-    )
-}
-
-// Whether what is told of the descriptor is what the plain program tells.
-fn descriptors_agree<L: Ledger>(
-    alloc: Global,
-    asked: &Asked<'_>,
-    rows: &Rows<'_>,
-    steps: &mut Steps<L>,
-) -> Result<bool, Memory>
-    requires { is_valid_key_of asked.now.compiled.now asked.now.key.now ≡ true }
-{
-    let plain = Listing::new(alloc, asked.compiled, rows, &asked.key.key().descriptor)?;
-    let rows = rows.rows.as_slice();
-    Ok(
-        values_agree(alloc, asked, rows, &plain, steps)?
-            && reach_agrees(alloc, asked, Side::Descriptor, rows, &plain, steps)?,
-    )
-}
-
-/// Whether all calls answer as the plain program.
+/// Whether all calls answer as the plain program: of the scope, and of the descriptor.
 pub fn agrees<L: Ledger>(
     alloc: Global,
     asked: &Asked<'_>,
@@ -203,5 +167,16 @@ pub fn agrees<L: Ledger>(
 ) -> Result<bool, Memory>
     requires { is_valid_key_of asked.now.compiled.now asked.now.key.now ≡ true }
 {
-    Ok(scopes_agree(alloc, asked, rows, steps)? && descriptors_agree(alloc, asked, rows, steps)?)
+    let key = asked.key.key();
+    let scope = Listing::new(alloc, asked.compiled, rows, &key.scope)?;
+    let descriptor = Listing::new(alloc, asked.compiled, rows, &key.descriptor)?;
+    let firsts = scope.firsts();
+    let rows = rows.rows.as_slice();
+    Ok(
+        scope_agrees(asked, rows, firsts, steps)
+            && whole_scope_agrees(alloc, asked, firsts, steps)?
+            && reach_agrees(alloc, asked, Side::Scope, rows, &scope, steps)?
+            && values_agree(alloc, asked, rows, &descriptor, steps)?
+            && reach_agrees(alloc, asked, Side::Descriptor, rows, &descriptor, steps)?,
+    )
 }

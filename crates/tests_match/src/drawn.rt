@@ -85,36 +85,18 @@ fn graph_agreeing<L: Ledger>(
     keys_agreeing(alloc, graph, schema, &rows, steps)
 }
 
-fn keys_agreeing_by<L: Ledger>(
+// Of how many keys over some graphs all calls answer as the plain program.
+fn graphs_agreeing<L: Ledger>(
     alloc: Global,
-    schemas: &[Schema],
+    schema: &Schema,
     graphs: &[Graph],
-    blank: Blank,
-) -> Result<u32, Memory>
-    requires name { blank.name ≡ L.name }
-    requires parts { blank.parts ≡ L.parts }
-    requires some { 0 < blank.parts }
-{
-    let mut steps: Steps<L> = Steps::begin(blank);
+    steps: &mut Steps<L>,
+) -> Result<u32, Memory> {
     let mut count = 0u32;
-    for schema in schemas {
-        for graph in graphs {
-            count = count.saturating_add(graph_agreeing(alloc, graph, schema, &mut steps)?);
-        }
+    for graph in graphs {
+        count = count.saturating_add(graph_agreeing(alloc, graph, schema, steps)?);
     }
     Ok(count)
-}
-
-fn keys_over_graphs(alloc: Global) -> Result<u32, Memory> {
-    let schemas = drawn_schemas(alloc)?;
-    let graphs = drawn_graphs(alloc)?;
-    keys_agreeing_by::<Brand>(alloc, schemas.as_slice(), graphs.as_slice(), Blank::new(1))
-}
-
-#[test]
-fn scopes_and_key_values_are_those_of_all_matches(rt: HostRuntime) -> Result<(), Fail> {
-    assert_eq!(rt; keys_over_graphs(rt.alloc())?, 40 * 200);
-    Ok(())
 }
 
 // Elements with their key values.
@@ -273,8 +255,17 @@ fn lists_agreeing<L: Ledger>(
     Ok(count)
 }
 
-fn lists_agreeing_by<L: Ledger>(
+// What is compared with the plain program.
+#[derive(Clone, Copy)]
+enum Compared {
+    Keys,
+    Lists,
+}
+
+// How often it is the same over all schemas and graphs.
+fn agreeing_by<L: Ledger>(
     alloc: Global,
+    compared: Compared,
     schemas: &[Schema],
     graphs: &[Graph],
     blank: Blank,
@@ -286,19 +277,30 @@ fn lists_agreeing_by<L: Ledger>(
     let mut steps: Steps<L> = Steps::begin(blank);
     let mut count = 0u32;
     for schema in schemas {
-        count = count.saturating_add(lists_agreeing(alloc, schema, graphs, &mut steps)?);
+        let agreeing = match compared {
+            Compared::Keys => graphs_agreeing(alloc, schema, graphs, &mut steps)?,
+            Compared::Lists => lists_agreeing(alloc, schema, graphs, &mut steps)?,
+        };
+        count = count.saturating_add(agreeing);
     }
     Ok(count)
 }
 
-fn lists_over_graphs(alloc: Global) -> Result<u32, Memory> {
+fn agreeing(alloc: Global, compared: Compared) -> Result<u32, Memory> {
     let schemas = drawn_schemas(alloc)?;
     let graphs = drawn_graphs(alloc)?;
-    lists_agreeing_by::<Brand>(alloc, schemas.as_slice(), graphs.as_slice(), Blank::new(1))
+    let (schemas, graphs) = (schemas.as_slice(), graphs.as_slice());
+    agreeing_by::<Brand>(alloc, compared, schemas, graphs, Blank::new(1))
+}
+
+#[test]
+fn scopes_and_key_values_are_those_of_all_matches(rt: HostRuntime) -> Result<(), Fail> {
+    assert_eq!(rt; agreeing(rt.alloc(), Compared::Keys)?, 40 * 200);
+    Ok(())
 }
 
 #[test]
 fn lists_are_those_of_the_plain_program(rt: HostRuntime) -> Result<(), Fail> {
-    assert_eq!(rt; lists_over_graphs(rt.alloc())?, 10 * 200);
+    assert_eq!(rt; agreeing(rt.alloc(), Compared::Lists)?, 10 * 200);
     Ok(())
 }

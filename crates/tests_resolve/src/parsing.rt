@@ -427,16 +427,30 @@ const LITERALS: &[(&str, &str)] = &[
     ("a", "-1"),
 ];
 
+/// The first text that isn't read so between a front and an end, where what is told begins with a prefix.
+fn first_wrong(
+    alloc: Global,
+    rows: &[(&'static str, &'static str)],
+    around: (&str, &str),
+    prefix: &str,
+) -> Result<Option<&'static str>, Memory> {
+    for (text, want) in rows {
+        let found = told_between(alloc, around.0, text, around.1)?;
+        let found = found.as_str();
+        if found.strip_prefix(prefix).unwrap_or(found) != *want {
+            return Ok(Some(*text));
+        }
+    }
+    Ok(None)
+}
+
 #[test]
 fn bodies(rt: HostRuntime) -> Result<(), Fail> {
-    for (text, want) in BODIES {
-        let found = told_between(rt.alloc(), "CREATE NODE TYPE (a", text, ");")?;
-        let found = found
-            .as_str()
-            .strip_prefix("node 1 a = ")
-            .unwrap_or(found.as_str());
-        assert_eq!(rt; found, *want, "{text}");
-    }
+    let around = ("CREATE NODE TYPE (a", ");");
+    assert_eq!(rt;
+        first_wrong(rt.alloc(), BODIES, around, "node 1 a = ")?,
+        None
+    );
     Ok(())
 }
 
@@ -451,14 +465,11 @@ fn statements(rt: HostRuntime) -> Result<(), Fail> {
 
 #[test]
 fn members(rt: HostRuntime) -> Result<(), Fail> {
-    for (text, want) in MEMBERS {
-        let found = told_between(rt.alloc(), "CREATE GRAPH TYPE g LOOSE {", text, "};")?;
-        let found = found
-            .as_str()
-            .strip_prefix("graph 1 g = loose")
-            .unwrap_or(found.as_str());
-        assert_eq!(rt; found, *want, "{text}");
-    }
+    let around = ("CREATE GRAPH TYPE g LOOSE {", "};");
+    assert_eq!(rt;
+        first_wrong(rt.alloc(), MEMBERS, around, "graph 1 g = loose")?,
+        None
+    );
     Ok(())
 }
 
