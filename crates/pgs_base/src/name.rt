@@ -91,9 +91,9 @@ impl Repr {
         }
     }
 
-    fn copy(&self) -> Result<Repr, Memory>
+    fn share(&self) -> Result<Repr, Memory>
         requires { fits_inline self.now }
-        ensures { IfOk result (λ copied. (repr_bytes copied ≡ repr_bytes self.now) × fits_inline copied) }
+        ensures { IfOk result (λ shared. (repr_bytes shared ≡ repr_bytes self.now) × fits_inline shared) }
     {
         match self {
             Repr::Inline { len, bytes } => Ok(Repr::Inline {
@@ -161,12 +161,20 @@ impl Name {
     {
         self.repr.bytes()
     }
+
+    /// The same name. One of over 16 bytes is over the same bytes: it is handed no allocator, so it can't copy them.
+    /// `Memory` only where the count of owners is at its limit.
+    pub fn share(&self) -> Result<Name, Memory>
+        ensures { IfOk result (λ shared. shared ≡ self.now) }
+    {
+        let repr = self.repr.share()?;
+        Ok(Name { repr })
+    }
 }
 
 impl Copyable for Name {
     fn copy(&self, _alloc: Global) -> Result<Name, Memory> {
-        let repr = self.repr.copy()?;
-        Ok(Name { repr })
+        self.share()
     }
 }
 

@@ -65,12 +65,20 @@ impl Text {
         let _bytes = text.as_bytes();
         text
     }
+
+    /// The same text, over the same bytes: it is handed no allocator, so it can't copy them. `Memory` only where the
+    /// count of owners is at its limit.
+    pub fn share(&self) -> Result<Text, Memory>
+        ensures { IfOk result (λ shared. shared ≡ self.now) }
+    {
+        let text = self.text.clone()?;
+        Ok(Text { text })
+    }
 }
 
 impl Copyable for Text {
     fn copy(&self, _alloc: Global) -> Result<Text, Memory> {
-        let text = self.text.clone()?;
-        Ok(Text { text })
+        self.share()
     }
 }
 

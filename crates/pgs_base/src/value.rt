@@ -57,10 +57,10 @@ impl Value {
 }
 
 impl Copyable for Value {
-    fn copy(&self, alloc: Global) -> Result<Value, Memory> {
+    fn copy(&self, _alloc: Global) -> Result<Value, Memory> {
         match self {
             Value::Text(text) => {
-                let text = text.copy(alloc)?;
+                let text = text.share()?;
                 Ok(Value::Text(text))
             }
             Value::Int(number) => Ok(Value::Int(*number)),

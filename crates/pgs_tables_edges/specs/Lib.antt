@@ -1,3 +1,4 @@
+pub mod Built
 pub mod Form
 pub mod Numbers
 pub mod Packed

@@ -7,6 +7,11 @@ abbrev pub PackedFrom : {X A : Type 0} → (X → List A) → ℕ → List X →
 PackedFrom items n [] = Unit {0}
 PackedFrom items n (x ∷ xs) = (length (items x) ≤ 1024) × (1024 < n + length (items x)) × PackedFrom items (length (items x)) xs
 
+-- how many items the last part has, and n where there is none
+abbrev pub last_count : {X A : Type 0} → (X → List A) → ℕ → List X → ℕ
+last_count items n [] = n
+last_count items n (x ∷ xs) = last_count items (length (items x)) xs
+
 -- the parts have so many items, say where they start, and are packed; the first has only to have some
 pub record ArePacked {X A : Type 0} (start : X → ℕ) (first : X → A) (items : X → List A) (count : ℕ) (parts : List X) : Type 0 where
   pub placed : IsPlaced start first items count parts

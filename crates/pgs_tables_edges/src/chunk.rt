@@ -1,48 +1,49 @@
-ghost use Rattle.std.specs.Prelude.{◌≡◌, ◌++◌, IfOk, length, slice_get};
+ghost use Rattle.std.specs.Prelude.{◌≡◌, ◌≤◌, ◌+◌, ◌++◌, IfOk, length, slice_get};
 
+use crate::Copies;
 use pgs_base::{EdgeId, Memory};
 use std::alloc::Global;
 use std::marker::Model;
-use std::rc::Rc;
+use std::rc::RcSlice;
 
 /// Ids that several lists own together. Contracts see the list of them.
 #[derive(Drop)]
 pub struct Chunk {
-    ids: Rc<Vec<EdgeId>>,
+    ids: RcSlice<EdgeId>,
 }
 
 impl Model for Chunk {
     ghost use Rattle.std.specs.Prelude.{List};
+    ghost use Rattle.std.specs.Rc.{rc_slice_items};
     ghost use Rattle.pgs_base.specs.declared.element.EdgeId.{EdgeId};
 
     ghost Value = { List EdgeId };
 
-    ghost view = { λ chunk. chunk.ids.value.items };
+    ghost view = { λ chunk. rc_slice_items chunk.ids };
 }
 
 impl Chunk {
-    /// A chunk of its own of these ids.
-    pub fn from_slice(alloc: Global, ids: &[EdgeId]) -> Result<Chunk, Memory>
-        ensures { IfOk result (λ chunk. chunk ≡ ids.now) }
+    /// A chunk of its own of these ids and then some more: the one call that copies ids into a chunk.
+    pub fn copied(
+        alloc: Global,
+        copies: &mut Copies,
+        ids: &[EdgeId],
+        more: &[EdgeId],
+    ) -> Result<Chunk, Memory>
+        requires left { length ids.now + length more.now ≤ copies.old }
+        ensures value { IfOk result (λ chunk. chunk ≡ ids.now ++ more.now) }
+        ensures copies { copies.old ≡ copies.new + (length ids.now + length more.now) }
     {
-        let ids = Vec::from_slice(alloc, ids)?;
-        let ids = Rc::new(alloc, ids)?;
-        Ok(Chunk { ids })
-    }
-
-    /// A chunk of its own of these ids and then some more.
-    pub fn followed_by(&self, alloc: Global, more: &[EdgeId]) -> Result<Chunk, Memory>
-        ensures { IfOk result (λ chunk. chunk ≡ self.now ++ more.now) }
-    {
-        let ids = self.as_slice();
+        copies.spend(ids.len());
+        copies.spend(more.len());
         let mut joined = Vec::with_capacity(alloc, ids.len().saturating_add(more.len()))?;
         joined.extend_from_slice(ids)?;
         joined.extend_from_slice(more)?;
-        let ids = Rc::new(alloc, joined)?;
+        let ids = RcSlice::from_vec(joined)?;
         Ok(Chunk { ids })
     }
 
-    /// The same chunk, with one owner more.
+    /// The same chunk, with one owner more: it is handed no allocator, so it can't copy the ids.
     pub fn share(&self) -> Result<Chunk, Memory>
         ensures { IfOk result (λ chunk. chunk ≡ self.now) }
     {
@@ -54,7 +55,7 @@ impl Chunk {
     pub fn as_slice(&self) -> &[EdgeId]
         ensures { result.now ≡ self.now }
     {
-        self.ids.as_ref().as_slice()
+        self.ids.as_slice()
     }
 
     /// How many ids there are.

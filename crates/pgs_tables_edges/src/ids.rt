@@ -7,7 +7,7 @@ ghost use Rattle.pgs_base.specs.Graph.{edge_cmp};
 ghost use Rattle.pgs_base.specs.Places.{IsKeyAt, IsKeyGap};
 
 use crate::block::{search_block, spliced_block};
-use crate::bulk::{with_each, without_each};
+use crate::edits::{chunks_of, with_each, without_each};
 use crate::{Chunks, Long};
 use pgs_base::{EdgeId, Memory};
 use std::alloc::Global;
@@ -162,7 +162,7 @@ impl Ids {
     {
         let edited = match &self.form {
             Form::Few(block) => {
-                let chunks = Chunks::from_slice(alloc, block.as_slice())?;
+                let chunks = chunks_of(alloc, block.as_slice())?;
                 with_each(alloc, &chunks, ids)?
             }
             Form::Many(long) => {
@@ -181,7 +181,7 @@ impl Ids {
     {
         let edited = match &self.form {
             Form::Few(block) => {
-                let chunks = Chunks::from_slice(alloc, block.as_slice())?;
+                let chunks = chunks_of(alloc, block.as_slice())?;
                 without_each(alloc, &chunks, ids)?
             }
             Form::Many(long) => {
@@ -197,6 +197,6 @@ impl Ids {
 fn long_of(alloc: Global, ids: &[EdgeId]) -> Result<Long, Memory>
     ensures { IfOk result (λ long. long ≡ ids.now) }
 {
-    let chunks = Chunks::from_slice(alloc, ids)?;
+    let chunks = chunks_of(alloc, ids)?;
     Long::from_chunks(alloc, chunks)
 }

@@ -4,6 +4,7 @@ ghost use Rattle.pgs_base.specs.Graph.{edge_cmp};
 ghost use Rattle.pgs_base.specs.Places.{IsKeyAt, IsKeyGap};
 
 use crate::block::spliced_block;
+use crate::edits::{joined, spliced};
 use crate::{Body, Chunks};
 use pgs_base::{EdgeId, Memory};
 use std::alloc::Global;
@@ -122,19 +123,9 @@ impl Long {
         if from <= len && to <= len {
             return spliced_within(alloc, &self.body, tail, (from, to), ids);
         }
-        let chunks = self.to_chunks(alloc)?.spliced(alloc, from, to, ids)?;
+        let chunks = spliced(alloc, &self.to_chunks(alloc)?, (from, to), ids)?;
         Long::from_chunks(alloc, chunks)
     }
-}
-
-// The chunks' ids and then some more.
-fn joined(alloc: Global, chunks: &Chunks, more: &[EdgeId]) -> Result<Chunks, Memory>
-    ensures { IfOk result (λ joined. joined ≡ chunks.now ++ more.now) }
-{
-    let mut joined = chunks.emptied(alloc)?;
-    joined.append_range(alloc, chunks, 0, chunks.len())?;
-    joined.append(alloc, more)?;
-    Ok(joined)
 }
 
 // A body and what stands behind it, with other ids in the place of a range that lies behind the body.
@@ -173,8 +164,7 @@ fn spliced_within(
     requires to { range.1 ≤ length body.now }
     ensures { IfOk result (λ long. long ≡ take range.0 (body.now ++ tail.now) ++ (ids.now ++ drop range.1 (body.now ++ tail.now))) }
 {
-    let (from, to) = range;
-    let chunks = body.as_chunks().spliced(alloc, from, to, ids)?;
+    let chunks = spliced(alloc, body.as_chunks(), range, ids)?;
     let tail = Vec::from_slice(alloc, tail)?;
     Long::with_tail(Body::new(alloc, chunks)?, tail)
 }

@@ -18,6 +18,8 @@ mod names;
 #[cfg(test)]
 mod props;
 #[cfg(test)]
+mod shares;
+#[cfg(test)]
 mod sources;
 #[cfg(test)]
 mod steps;

@@ -7,8 +7,8 @@ use Rattle.std.proofs.lemmas.Option.{get_or_from_slice_get}
 use Rattle.pgs_tables_edges.specs.Numbers.{numbered}
 use Rattle.pgs_tables_edges.proofs.Searched.{numbers_same}
 use Rattle.pgs_tables_edges.proofs.Copied.{ascending-drop, copied_there, copied_with}
-use Rattle.pgs_tables_edges.proofs.bulk.with_each.Goals as goal
-use Rattle.pgs_tables_edges.proofs.bulk.with_each.Goals.{in-Ok, in-Err+in_ok-append_range-in-Err+in_ok-append-in-Err}
+use Rattle.pgs_tables_edges.proofs.edits.with_each.Goals as goal
+use Rattle.pgs_tables_edges.proofs.edits.with_each.Goals.{in-Ok, in-Err+in_ok-append_range-in-Err+in_ok-append-in-Err}
 
 pub loop-id-preserved : goal.loop-id-preserved
 loop-id-preserved c =
@@ -21,5 +21,5 @@ loop-id-preserved c =
     let rising = rw later at (ascending-drop i ids c.requires.ids_ascend) in
     elim c.match-search.branch [
       | in-Ok w ↦ rw (w.built-is, w.done-is, more) (copied_there xs _ _ _ (get_or ids i (numbered 0)) (drop (i + 1) ids) copied rising w.in-Ok.field-0 w.in-Ok.ensures.there.in_range (numbers_same (get_or_from_slice_get xs w.in-Ok.field-0 _ (numbered 0) w.in-Ok.ensures.found)))
-      | in-Err+in_ok-append_range-in-Err+in_ok-append-in-Err w ↦ rw (w.built-is, w.done-is, more, w.in_ok-append-in-Err.ensures, w.in_ok-append_range-in-Err.ensures) (copied_with xs _ _ _ (get_or ids i (numbered 0)) (drop (i + 1) ids) copied rising w.in-Err.place w.in-Err.ensures.there)
+      | in-Err+in_ok-append_range-in-Err+in_ok-append-in-Err w ↦ rw (w.built-is, w.done-is, more, w.in_ok-append-in-Err.ensures.ids, w.in_ok-append_range-in-Err.ensures.ids) (copied_with xs _ _ _ (get_or ids i (numbered 0)) (drop (i + 1) ids) copied rising w.in-Err.place w.in-Err.ensures.there)
     ]

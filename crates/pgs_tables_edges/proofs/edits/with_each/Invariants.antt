@@ -2,7 +2,7 @@ use Rattle.std.proofs.Common.{take, drop, fold}
 use Rattle.pgs_base.specs.Graph.{edge_cmp}
 use Rattle.std.specs.BTreeSet.{insert_key}
 use Rattle.pgs_tables_edges.proofs.Copied.{IsCopied}
-use Rattle.pgs_tables_edges.proofs.bulk.with_each.Given as goal
+use Rattle.pgs_tables_edges.proofs.edits.with_each.Given as goal
 
 abbrev pub invariant-loop-id : goal.invariant-loop-id
-invariant-loop-id l = IsCopied l.list l.done l.built (fold (insert_key edge_cmp) l.list (take l.id-index l.ids)) (drop l.id-index l.ids)
+invariant-loop-id l = IsCopied l.list l.done l.built.ids (fold (insert_key edge_cmp) l.list (take l.id-index l.ids)) (drop l.id-index l.ids)
