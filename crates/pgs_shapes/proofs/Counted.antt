@@ -7,11 +7,12 @@ use Rattle.pgs_syntax.specs.declared.element_type.NodeType.{NodeType}
 use Rattle.pgs_syntax.specs.declared.specification.Leaf.{Leaf}
 use Rattle.pgs_syntax.specs.declared.specification.Spec.{Spec, And, Or, Opt}
 use Rattle.pgs_syntax.specs.Width.{Width, one_form, width_of, node_widths, edge_width, edge_widths}
+use Rattle.pgs_conform.specs.Counts.{AreWithin}
 use Rattle.pgs_product.specs.Counts.{choices}
 use Rattle.pgs_width.specs.Capped.{both_of, either_of}
 use Rattle.pgs_width.proofs.Parts.{width_and, width_or, width_opt}
 use Rattle.pgs_width.proofs.Sizes.{one_more, node_widths_push, edge_widths_push}
-use Rattle.pgs_shapes.specs.Counts.{AreWithin, PartsWithin}
+use Rattle.pgs_shapes.specs.Counts.{PartsWithin}
 use Rattle.pgs_shapes.proofs.Forms.{zip_push}
 
 module _ {S : Type 0} where

@@ -4,9 +4,9 @@ ghost use Rattle.pgs_syntax.specs.Fitting.{fits_node, fits_edge, fits_edge_type,
 ghost use Rattle.pgs_syntax.specs.Join.{is_empty_pair, Triple as Pairs};
 ghost use Rattle.pgs_syntax.specs.Valid.{is_valid, is_valid_spec};
 ghost use Rattle.pgs_syntax.specs.Width.{Width, width_of, edge_width, edge_widths, first_too_wide};
+ghost use Rattle.pgs_conform.specs.Counts.{AreWithin};
 ghost use Rattle.pgs_conform.specs.Shapes.{in_shape, in_some, in_some_triple, DenotesTriples};
 ghost use Rattle.pgs_conform.specs.Standing.{EachDenotes, EachDenotesTriples};
-ghost use Rattle.pgs_shapes.specs.Counts.{AreWithin};
 
 use crate::middle::triples_of;
 use crate::specification::shapes_of;

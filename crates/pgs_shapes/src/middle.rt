@@ -5,9 +5,10 @@ ghost use Rattle.pgs_syntax.specs.Fitting.{suits};
 ghost use Rattle.pgs_syntax.specs.Join.{of_triples, is_empty_pair, Triple as Pairs};
 ghost use Rattle.pgs_syntax.specs.Valid.{is_valid_spec};
 ghost use Rattle.pgs_syntax.specs.Width.{Width, width_of};
+ghost use Rattle.pgs_conform.specs.Counts.{AreWithin};
 ghost use Rattle.pgs_conform.specs.Shapes.{in_some_triple, DenotesTriples};
 ghost use Rattle.pgs_conform.specs.Standing.{EachDenotesTriples};
-ghost use Rattle.pgs_shapes.specs.Counts.{AreWithin, PartsWithin};
+ghost use Rattle.pgs_shapes.specs.Counts.{PartsWithin};
 ghost use Rattle.pgs_shapes.specs.Parts.{PartsDenoteTriples};
 
 use crate::braces::braces_shape;

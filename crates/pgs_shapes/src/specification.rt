@@ -6,9 +6,10 @@ ghost use Rattle.pgs_syntax.specs.Fitting.{suits};
 ghost use Rattle.pgs_syntax.specs.Join.{of_pairs, is_empty_pair};
 ghost use Rattle.pgs_syntax.specs.Valid.{is_valid_spec};
 ghost use Rattle.pgs_syntax.specs.Width.{Width, width_of};
+ghost use Rattle.pgs_conform.specs.Counts.{AreWithin};
 ghost use Rattle.pgs_conform.specs.Shapes.{in_some, Denotes};
 ghost use Rattle.pgs_conform.specs.Standing.{EachDenotes};
-ghost use Rattle.pgs_shapes.specs.Counts.{AreWithin, PartsWithin};
+ghost use Rattle.pgs_shapes.specs.Counts.{PartsWithin};
 ghost use Rattle.pgs_shapes.specs.Parts.{PartsDenote};
 
 use crate::braces::braces_shape;
