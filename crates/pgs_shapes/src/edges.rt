@@ -66,8 +66,7 @@ fn ends_of_edge(
 {
     let sources = shapes_of(alloc, nodes, &edge.source)?;
     let targets = shapes_of(alloc, nodes, &edge.target)?;
-    let ends = ends_of(alloc, sources.as_slice(), targets.as_slice())?;
-    Ok(ends)
+    ends_of(alloc, sources.as_slice(), targets.as_slice())
 }
 
 // The triples of shapes of an edge type, where those of the node types and of the edge types that it may name are given.
@@ -86,8 +85,7 @@ fn triples_of_edge(
 {
     let ends = ends_of_edge(alloc, nodes, edge)?;
     let middles = triples_of(alloc, named, &edge.middle)?;
-    let triples = triple_products(alloc, ends.as_slice(), middles.as_slice())?;
-    Ok(triples)
+    triple_products(alloc, ends.as_slice(), middles.as_slice())
 }
 
 /// The triples of shapes of each edge type, in order, where the shapes of the node types are given: each list denotes what its type
