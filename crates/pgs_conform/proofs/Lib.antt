@@ -1,3 +1,4 @@
+pub mod Counted
 pub mod LabelWalk
 pub mod PropWalk
 pub mod Walks

@@ -1,3 +1,4 @@
+pub mod Counts
 pub mod Samples
 pub mod Shapes
 pub mod Standing

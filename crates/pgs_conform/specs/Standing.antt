@@ -1,4 +1,5 @@
--- When lists of shapes stand for the types of a schema: there are as many as types, and each denotes what its type asks.
+-- When lists of shapes stand for the types of a schema: there are as many as types, each denotes what its type asks, and none is
+-- longer than its type's width counts.
 use Rattle.std.specs.Prelude.{◌≡◌, ℕ, Bool, true, List, length, slice_get, Some}
 use Rattle.pgs_base.specs.declared.row.NodeRow.{NodeRow}
 use Rattle.pgs_syntax.specs.declared.resolved.Resolved.{Resolved}
@@ -7,6 +8,7 @@ use Rattle.pgs_syntax.specs.Join.{Triple}
 use Rattle.pgs_syntax.specs.Valid.{is_valid}
 use Rattle.pgs_conform.specs.declared.shape.Shape.{Shape}
 use Rattle.pgs_conform.specs.declared.shape.Triple.{Triple as ShapeTriple}
+use Rattle.pgs_conform.specs.Counts.{AreWithin, widths_of_nodes, widths_of_edges}
 use Rattle.pgs_conform.specs.Shapes.{Denotes, DenotesTriples}
 
 -- each list of shapes denotes the test of its number
@@ -26,3 +28,5 @@ pub record StandsFor (resolved : Resolved) (nodes : List (List Shape)) (edges : 
   pub edge_count : length edges ≡ length resolved.edges
   pub node_shapes : EachDenotes nodes (fits_node resolved)
   pub edge_shapes : EachDenotesTriples edges (fits_edge resolved)
+  pub node_widths : AreWithin (widths_of_nodes resolved) nodes
+  pub edge_widths : AreWithin (widths_of_edges resolved) edges

@@ -1,10 +1,11 @@
 -- Joins of several: a list of tests may be cut in two, and what some shapes of a list have may be asked shape by shape.
-use Rattle.std.proofs.Common.{◌≡◌, Bool, true, false, ◌&&◌, ◌||◌, List, [], ◌∷◌, ◌++◌, refl, sym, ◌∙◌, ap}
+use Rattle.std.proofs.Common.{◌≡◌, ℕ, Bool, true, false, ◌&&◌, ◌||◌, List, [], ◌∷◌, ◌++◌, take, drop, map, refl, sym, ◌∙◌, ap}
 use Rattle.std.specs.List.{list_any}
 use Rattle.std.specs.List.Sorted.{IsPermutation}
 use Rattle.std.proofs.lemmas.List.Sorted.{IsPermutation-append_comm, IsPermutation-append_left}
 use Rattle.pgs_syntax.specs.Join.{Joins, joined, joined_all, is_empty_pair}
 use Rattle.pgs_syntax.proofs.Halves.{any_same, any_and, joined_any, joined_same}
+use Rattle.pgs_product.proofs.Walks.{map_cut}
 
 -- ---- tests of lists
 
@@ -90,10 +91,30 @@ module _ {P : Type 0} (joins : Joins P) (Good : P → Type 0) (laws : AreLawful 
       ∙ regrouped test tests (all others) p
 
   -- lists that denote the joins of the tests of two lists of tests
-  pub cut_denotes : {S : Type 0} (has : S → P → Bool) (first second whole : List S) (tests others : List (P → Bool)) →
+  cut_denotes : {S : Type 0} (has : S → P → Bool) (first second whole : List S) (tests others : List (P → Bool)) →
       ((p : P) → Good p → list_any (λ x. has x p) first ≡ joined_all joins tests p) →
       ((p : P) → Good p → list_any (λ x. has x p) second ≡ joined_all joins others p) →
       ((p : P) → Good p → list_any (λ x. has x p) whole ≡ joined joins (λ q. list_any (λ x. has x q) first) (λ q. list_any (λ x. has x q) second) p) →
       (p : P) → Good p → list_any (λ x. has x p) whole ≡ joined_all joins (tests ++ others) p
   cut_denotes has first second whole tests others f s w p good =
       w p good ∙ laws.alike _ _ _ _ f s p good ∙ sym (all_cut tests others p)
+
+  -- lists of which each has what its test asks: one alone, and two halves
+  module _ {S : Type 0} (has : S → P → Bool) where
+    abbrev some : List S → P → Bool
+    some shapes p = list_any (λ x. has x p) shapes
+
+    pub one_denotes : (lists : List (List S)) (only lent whole : List S) → lists ≡ only ∷ [] → lent ≡ only → ((p : P) → some whole p ≡ some lent p) →
+        (p : P) → some whole p ≡ joined_all joins (map some lists) p
+    one_denotes lists only lent whole one is same p =
+        same p ∙ ap (λ shapes. some shapes p) is ∙ sym (laws.unit (some only) p) ∙ ap (λ ls. joined_all joins (map some ls) p) (sym one)
+
+    pub halves_denote : (n : ℕ) (lists front back : List (List S)) (first second one other : List S) → front ≡ take n lists → back ≡ drop n lists →
+        one ≡ first → other ≡ second →
+        ((p : P) → Good p → some first p ≡ joined_all joins (map some front) p) → ((p : P) → Good p → some second p ≡ joined_all joins (map some back) p) →
+        (whole : List S) → ((p : P) → Good p → some whole p ≡ joined joins (some one) (some other) p) →
+        (p : P) → Good p → some whole p ≡ joined_all joins (map some lists) p
+    halves_denote n lists front back first second one other a b same_one same_other f s whole w p good =
+        cut_denotes has one other whole (map some front) (map some back) (λ q fine. ap (λ shapes. some shapes q) same_one ∙ f q fine)
+        (λ q fine. ap (λ shapes. some shapes q) same_other ∙ s q fine) w p good
+        ∙ ap (λ tests. joined_all joins tests p) (map_cut some n lists front back a b)

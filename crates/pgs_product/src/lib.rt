@@ -22,4 +22,4 @@ pub use keys::join_keys;
 pub use lists::{product_of_all, products};
 pub use options::{free_options, join_options};
 pub use triple_lists::{triple_product_of_all, triple_products};
-pub use triples::{copy_triples, middle_triple, triple_product};
+pub use triples::{copy_triple, copy_triples, middle_triple, triple_product};

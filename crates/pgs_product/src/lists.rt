@@ -61,17 +61,13 @@ fn product_of_halves(
             only.push(empty_shape(alloc))?;
             Ok(List::from_vec(only))
         }
-        [only] => {
-            let copies = copy_shapes(alloc, only.as_slice())?;
-            Ok(copies)
-        }
+        [only] => copy_shapes(alloc, only.as_slice()),
         _ => {
             let lower = further - 1;
             let (front, back) = lists.split_at(lists.len() / 2);
             let first = product_of_halves(alloc, front, lower)?;
             let second = product_of_halves(alloc, back, lower)?;
-            let whole = products(alloc, first.as_slice(), second.as_slice())?;
-            Ok(whole)
+            products(alloc, first.as_slice(), second.as_slice())
         }
     }
 }

@@ -64,17 +64,13 @@ fn triple_product_of_halves(
             only.push(middle_triple(alloc, empty_shape(alloc)))?;
             Ok(List::from_vec(only))
         }
-        [only] => {
-            let copies = copy_triples(alloc, only.as_slice())?;
-            Ok(copies)
-        }
+        [only] => copy_triples(alloc, only.as_slice()),
         _ => {
             let lower = further - 1;
             let (front, back) = lists.split_at(lists.len() / 2);
             let first = triple_product_of_halves(alloc, front, lower)?;
             let second = triple_product_of_halves(alloc, back, lower)?;
-            let whole = triple_products(alloc, first.as_slice(), second.as_slice())?;
-            Ok(whole)
+            triple_products(alloc, first.as_slice(), second.as_slice())
         }
     }
 }

@@ -37,7 +37,8 @@ pub fn triple_product(alloc: Global, first: &Triple, second: &Triple) -> Result<
     })
 }
 
-fn copy_triple(alloc: Global, triple: &Triple) -> Result<Triple, Memory>
+/// A triple of shapes of the same triples of pairs. Names are shared. `Memory` where there was none left.
+pub fn copy_triple(alloc: Global, triple: &Triple) -> Result<Triple, Memory>
     ensures { IfOk result (λ copy. (t : Pairs) → in_triple copy t ≡ in_triple triple.now t) }
 {
     let source = copy_shape(alloc, &triple.source)?;

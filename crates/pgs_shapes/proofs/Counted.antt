@@ -5,19 +5,21 @@ use Rattle.std.proofs.lemmas.Nat.{mul-le}
 use Rattle.pgs_syntax.specs.declared.element_type.EdgeType.{EdgeType}
 use Rattle.pgs_syntax.specs.declared.element_type.NodeType.{NodeType}
 use Rattle.pgs_syntax.specs.declared.specification.Leaf.{Leaf}
-use Rattle.pgs_syntax.specs.declared.specification.Spec.{Spec, And, Or, Opt}
+use Rattle.pgs_syntax.specs.declared.specification.Leaf.TheVariants.{Named}
+use Rattle.pgs_syntax.specs.declared.specification.Spec.{Spec, And, Or, Opt, Word}
 use Rattle.pgs_syntax.specs.Width.{Width, one_form, width_of, node_widths, edge_width, edge_widths}
+use Rattle.pgs_conform.specs.Counts.{AreWithin}
 use Rattle.pgs_product.specs.Counts.{choices}
 use Rattle.pgs_width.specs.Capped.{both_of, either_of}
 use Rattle.pgs_width.proofs.Parts.{width_and, width_or, width_opt}
 use Rattle.pgs_width.proofs.Sizes.{one_more, node_widths_push, edge_widths_push}
-use Rattle.pgs_shapes.specs.Counts.{AreWithin, PartsWithin}
+use Rattle.pgs_shapes.specs.Counts.{PartsWithin}
 use Rattle.pgs_shapes.proofs.Forms.{zip_push}
 
 module _ {S : Type 0} where
   -- ---- the forms of a specification
 
-  pub named_within : (widths : List Width) (lists : List (List S)) (number : ℕ) (list : List S) → AreWithin widths lists →
+  named_within : (widths : List Width) (lists : List (List S)) (number : ℕ) (list : List S) → AreWithin widths lists →
       slice_get lists number ≡ Some list → length list ≤ (unwrap_or (slice_get widths number) (one_form 1)).count
   named_within [] [] number list h at = cc
   named_within [] (own ∷ lists) number list h at = absurd h
@@ -43,22 +45,44 @@ module _ {S : Type 0} where
         let first = h.0 in
         let rest = either_within parts lists h.1 in omega (arith, longer, first, rest)
 
-    pub and_within : (parts : List (Spec Leaf)) (lists : List (List S)) (whole : List S) → PartsWithin widths parts lists →
-        length whole ≡ choices lists → length whole ≤ (width_of widths (And parts)).count
-    and_within parts lists whole h is =
-        subst (λ (width : Width). length whole ≤ width.count) (sym (width_and widths parts))
-        (subst (λ n. n ≤ (both_of (map (width_of widths) parts)).count) (sym is) (both_within parts lists h))
+  -- where the lists of the types that a specification may name are within some widths
+  module _ (Known : List Width → Type 0) (spec : Spec Leaf) where
+    abbrev IsWithin : List S → Type 0
+    IsWithin whole = (widths : List Width) → Known widths → length whole ≤ (width_of widths spec).count
 
-    pub or_within : (parts : List (Spec Leaf)) (lists : List (List S)) (whole : List S) → PartsWithin widths parts lists →
-        whole ≡ flat_map (λ list. list) lists → length whole ≤ (width_of widths (Or parts)).count
-    or_within parts lists whole h is =
-        subst (λ (width : Width). length whole ≤ width.count) (sym (width_or widths parts))
-        (subst (λ n. n ≤ (either_of (map (width_of widths) parts)).count) (sym (ap length is)) (either_within parts lists h))
+    abbrev EachWithin : List (Spec Leaf) → List (List S) → Type 0
+    EachWithin parts lists = (widths : List Width) → Known widths → PartsWithin widths parts lists
 
-    pub opt_within : (part : Spec Leaf) (list whole : List S) → length list ≤ (width_of widths part).count →
-        length whole ≡ length list + 1 → length whole ≤ (width_of widths (Opt part)).count
-    opt_within part list whole h is =
-        subst (λ (width : Width). length whole ≤ width.count) (sym (width_opt widths part)) (omega (arith, h, is))
+    pub and_within : (parts slice : List (Spec Leaf)) (lists lent : List (List S)) → spec ≡ And parts → slice ≡ parts → lent ≡ lists →
+        EachWithin slice lists → (whole : List S) → length whole ≡ choices lent → IsWithin whole
+    and_within parts slice lists lent is same lends each whole count widths known =
+        let own = subst (λ ps. PartsWithin widths ps lists) same (each widths known) in
+        let width = ap (width_of widths) is ∙ width_and widths parts in
+        subst (λ (w : Width). length whole ≤ w.count) (sym width)
+        (subst (λ n. n ≤ (both_of (map (width_of widths) parts)).count) (sym (count ∙ ap choices lends)) (both_within widths parts lists own))
+
+    pub or_within : (parts slice : List (Spec Leaf)) (lists : List (List S)) → spec ≡ Or parts → slice ≡ parts →
+        EachWithin slice lists → (whole : List S) → whole ≡ flat_map (λ list. list) lists → IsWithin whole
+    or_within parts slice lists is same each whole flat widths known =
+        let own = subst (λ ps. PartsWithin widths ps lists) same (each widths known) in
+        let width = ap (width_of widths) is ∙ width_or widths parts in
+        subst (λ (w : Width). length whole ≤ w.count) (sym width)
+        (subst (λ n. n ≤ (either_of (map (width_of widths) parts)).count) (sym (ap length flat)) (either_within widths parts lists own))
+
+    pub opt_within : (part lent : Spec Leaf) (list : List S) → spec ≡ Opt part → lent ≡ part →
+        ((widths : List Width) → Known widths → length list ≤ (width_of widths lent).count) → (whole : List S) → length whole ≡ length list + 1 → IsWithin whole
+    opt_within part lent list is same own whole longer widths known =
+        let within = subst (λ s. length list ≤ (width_of widths s).count) same (own widths known) in
+        let width = ap (width_of widths) is ∙ width_opt widths part in
+        subst (λ (w : Width). length whole ≤ w.count) (sym width) (omega (arith, within, longer))
+
+  -- the copies of the list of a named type
+  pub copies_within : (leaf : Leaf) (lists : List (List S)) (number : ℕ) (list lent : List S) → leaf ≡ Named number → Some list ≡ slice_get lists number → lent ≡ list →
+      (copies : List S) → length copies ≡ length lent → (widths : List Width) → AreWithin widths lists →
+      length copies ≤ (width_of widths (Word leaf)).count
+  copies_within leaf lists number list lent is at lends copies count widths all =
+      subst (λ l. length copies ≤ (width_of widths (Word l)).count) (sym is)
+      (subst (λ n. n ≤ (width_of widths (Word (Named number))).count) (sym (count ∙ ap length lends)) (named_within widths lists number list all (sym at)))
 
   -- ---- types one after another
 

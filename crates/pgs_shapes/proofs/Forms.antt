@@ -107,3 +107,39 @@ module _ {P : Type 0} (joins : Joins P) (Good : P → Type 0) (laws : AreLawful 
       ((p : P) → some whole p ≡ (some list p || joins.asks is_empty_pair p)) → PartDenotes (Opt part) whole
   opt_denotes part list whole denotes w p good =
       w p ∙ or_comm (some list p) (joins.asks is_empty_pair p) ∙ ap (λ b. joins.asks is_empty_pair p || b) (denotes p good) ∙ sym (suits_opt joins test part p)
+
+-- ---- the arms of a specification: what a list denotes, where those of the parts denote what the parts ask
+
+module _ {P : Type 0} (joins : Joins P) (Good : P → Type 0) (laws : AreLawful joins Good) {S : Type 0} (has : S → P → Bool) (bound : ℕ)
+    (Known : (ℕ → P → Bool) → Type 0) where
+  abbrev Answers : Spec Leaf → List S → Type 0
+  Answers spec list = is_valid_spec bound spec ≡ true → (test : ℕ → P → Bool) → Known test → PartDenotes joins Good laws has test spec list
+
+  abbrev AnswerEach : List (Spec Leaf) → List (List S) → Type 0
+  AnswerEach parts lists = list_all (is_valid_spec bound) parts ≡ true → (test : ℕ → P → Bool) → Known test →
+      AllZip (PartDenotes joins Good laws has test) parts lists
+
+  abbrev those_of : List S → P → Bool
+  those_of list p = list_any (λ item. has item p) list
+
+  pub and_answers : (spec : Spec Leaf) (parts slice : List (Spec Leaf)) (lists lent : List (List S)) → spec ≡ And parts → slice ≡ parts → lent ≡ lists →
+      AnswerEach slice lists → (whole : List S) → ((p : P) → Good p → those_of whole p ≡ joined_all joins (map those_of lent) p) → Answers spec whole
+  and_answers spec parts slice lists lent is same lends each whole w valid test known p good =
+      let all_valid = ap (list_all (is_valid_spec bound)) same ∙ sym (valid_and bound parts) ∙ ap (is_valid_spec bound) (sym is) ∙ valid in
+      let denote = subst (λ ps. AllZip (PartDenotes joins Good laws has test) ps lists) same (each all_valid test known) in
+      and_denotes joins Good laws has test parts lists whole denote (λ q fine. w q fine ∙ ap (λ ls. joined_all joins (map those_of ls) q) lends) p good
+      ∙ ap (λ own. suits joins test own p) (sym is)
+
+  pub or_answers : (spec : Spec Leaf) (parts slice : List (Spec Leaf)) (lists : List (List S)) → spec ≡ Or parts → slice ≡ parts →
+      AnswerEach slice lists → (whole : List S) → whole ≡ flat_map (λ list. list) lists → Answers spec whole
+  or_answers spec parts slice lists is same each whole w valid test known p good =
+      let all_valid = ap (list_all (is_valid_spec bound)) same ∙ sym (valid_or bound parts) ∙ ap (is_valid_spec bound) (sym is) ∙ valid in
+      let denote = subst (λ ps. AllZip (PartDenotes joins Good laws has test) ps lists) same (each all_valid test known) in
+      or_denotes joins Good laws has test parts lists whole denote w p good ∙ ap (λ own. suits joins test own p) (sym is)
+
+  pub opt_answers : (spec part lent : Spec Leaf) (list : List S) → spec ≡ Opt part → lent ≡ part → Answers lent list →
+      (whole : List S) → ((p : P) → those_of whole p ≡ (those_of list p || joins.asks is_empty_pair p)) → Answers spec whole
+  opt_answers spec part lent list is same own whole w valid test known p good =
+      let part_valid = ap (is_valid_spec bound) same ∙ valid_opt bound part (ap (is_valid_spec bound) (sym is) ∙ valid) in
+      let denote = subst (λ s. PartDenotes joins Good laws has test s list) same (own part_valid test known) in
+      opt_denotes joins Good laws has test part list whole denote w p good ∙ ap (λ s. suits joins test s p) (sym is)

@@ -64,8 +64,7 @@ fn keys_of(
             let first = keys_of(alloc, front, lower)?;
             let second = keys_of(alloc, back, lower)?;
             let closed = free_options(false);
-            let whole = join_keys(alloc, &first, closed, &second, closed)?;
-            Ok(whole)
+            join_keys(alloc, &first, closed, &second, closed)
         }
     }
 }

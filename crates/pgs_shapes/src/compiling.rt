@@ -34,9 +34,6 @@ pub fn compile(alloc: Global, resolved: Resolved) -> Result<Compiled, CompileFau
 {
     match first_too_wide(alloc, &resolved)? {
         Some(name) => Err(CompileFault::TooWide { name }),
-        None => {
-            let compiled = compile_types(alloc, resolved)?;
-            Ok(compiled)
-        }
+        None => Ok(compile_types(alloc, resolved)?),
     }
 }

@@ -4,9 +4,9 @@ ghost use Rattle.pgs_syntax.specs.Fitting.{fits_node, fits_edge, fits_edge_type,
 ghost use Rattle.pgs_syntax.specs.Join.{is_empty_pair, Triple as Pairs};
 ghost use Rattle.pgs_syntax.specs.Valid.{is_valid, is_valid_spec};
 ghost use Rattle.pgs_syntax.specs.Width.{Width, width_of, edge_width, edge_widths, first_too_wide};
+ghost use Rattle.pgs_conform.specs.Counts.{AreWithin};
 ghost use Rattle.pgs_conform.specs.Shapes.{in_shape, in_some, in_some_triple, DenotesTriples};
 ghost use Rattle.pgs_conform.specs.Standing.{EachDenotes, EachDenotesTriples};
-ghost use Rattle.pgs_shapes.specs.Counts.{AreWithin};
 
 use crate::middle::triples_of;
 use crate::specification::shapes_of;
@@ -66,8 +66,7 @@ fn ends_of_edge(
 {
     let sources = shapes_of(alloc, nodes, &edge.source)?;
     let targets = shapes_of(alloc, nodes, &edge.target)?;
-    let ends = ends_of(alloc, sources.as_slice(), targets.as_slice())?;
-    Ok(ends)
+    ends_of(alloc, sources.as_slice(), targets.as_slice())
 }
 
 // The triples of shapes of an edge type, where those of the node types and of the edge types that it may name are given.
@@ -86,8 +85,7 @@ fn triples_of_edge(
 {
     let ends = ends_of_edge(alloc, nodes, edge)?;
     let middles = triples_of(alloc, named, &edge.middle)?;
-    let triples = triple_products(alloc, ends.as_slice(), middles.as_slice())?;
-    Ok(triples)
+    triple_products(alloc, ends.as_slice(), middles.as_slice())
 }
 
 /// The triples of shapes of each edge type, in order, where the shapes of the node types are given: each list denotes what its type

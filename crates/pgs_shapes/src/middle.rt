@@ -5,9 +5,10 @@ ghost use Rattle.pgs_syntax.specs.Fitting.{suits};
 ghost use Rattle.pgs_syntax.specs.Join.{of_triples, is_empty_pair, Triple as Pairs};
 ghost use Rattle.pgs_syntax.specs.Valid.{is_valid_spec};
 ghost use Rattle.pgs_syntax.specs.Width.{Width, width_of};
+ghost use Rattle.pgs_conform.specs.Counts.{AreWithin};
 ghost use Rattle.pgs_conform.specs.Shapes.{in_some_triple, DenotesTriples};
 ghost use Rattle.pgs_conform.specs.Standing.{EachDenotesTriples};
-ghost use Rattle.pgs_shapes.specs.Counts.{AreWithin, PartsWithin};
+ghost use Rattle.pgs_shapes.specs.Counts.{PartsWithin};
 ghost use Rattle.pgs_shapes.specs.Parts.{PartsDenoteTriples};
 
 use crate::braces::braces_shape;
@@ -38,14 +39,10 @@ fn leaf_triples(alloc: Global, named: &[List<Triple>], leaf: &Leaf) -> Result<Li
     match leaf {
         Leaf::Label(label) => {
             let shape = label_shape(alloc, label)?;
-            let triples = one(alloc, middle_triple(alloc, shape))?;
-            Ok(triples)
+            one(alloc, middle_triple(alloc, shape))
         }
         Leaf::Named(number) => match at(named, *number) {
-            Some(list) => {
-                let triples = copy_triples(alloc, list.as_slice())?;
-                Ok(triples)
-            }
+            Some(list) => copy_triples(alloc, list.as_slice()),
             None => Ok(List::new(alloc)),
         },
     }
@@ -66,37 +63,24 @@ pub fn triples_of(
         length triples ≤ (width_of widths spec.now).count) }
 {
     match spec {
-        Spec::Empty => {
-            let triples = one(alloc, middle_triple(alloc, empty_shape(alloc)))?;
-            Ok(triples)
-        }
-        Spec::Word(leaf) => {
-            let triples = leaf_triples(alloc, named, leaf)?;
-            Ok(triples)
-        }
-        Spec::OpenLabels => {
-            let triples = one(alloc, middle_triple(alloc, open_shape(alloc)))?;
-            Ok(triples)
-        }
+        Spec::Empty => one(alloc, middle_triple(alloc, empty_shape(alloc))),
+        Spec::Word(leaf) => leaf_triples(alloc, named, leaf),
+        Spec::OpenLabels => one(alloc, middle_triple(alloc, open_shape(alloc))),
         Spec::Braces(braces) => {
             let shape = braces_shape(alloc, braces)?;
-            let triples = one(alloc, middle_triple(alloc, shape))?;
-            Ok(triples)
+            one(alloc, middle_triple(alloc, shape))
         }
         Spec::And(parts) => {
             let lists = triples_of_each(alloc, named, parts.as_slice())?;
-            let triples = triple_product_of_all(alloc, &lists)?;
-            Ok(triples)
+            triple_product_of_all(alloc, &lists)
         }
         Spec::Or(parts) => {
             let lists = triples_of_each(alloc, named, parts.as_slice())?;
-            let triples = concat(alloc, lists)?;
-            Ok(triples)
+            concat(alloc, lists)
         }
         Spec::Opt(part) => {
             let triples = triples_of(alloc, named, part.get())?;
-            let whole = with_empty(alloc, triples)?;
-            Ok(whole)
+            with_empty(alloc, triples)
         }
     }
 }

@@ -1,9 +1,9 @@
-ghost use Rattle.std.specs.Prelude.{◌≡◌, true, [], None, length, IfOk};
+ghost use Rattle.std.specs.Prelude.{◌≡◌, true, None, length, IfOk};
 ghost use Rattle.pgs_syntax.specs.Fitting.{fits_node};
 ghost use Rattle.pgs_syntax.specs.Valid.{is_valid};
-ghost use Rattle.pgs_syntax.specs.Width.{node_widths, first_too_wide};
+ghost use Rattle.pgs_syntax.specs.Width.{first_too_wide};
+ghost use Rattle.pgs_conform.specs.Counts.{AreWithin, widths_of_nodes};
 ghost use Rattle.pgs_conform.specs.Standing.{EachDenotes};
-ghost use Rattle.pgs_shapes.specs.Counts.{AreWithin};
 
 use crate::specification::shapes_of;
 use pgs_base::{List, Memory};
@@ -17,7 +17,7 @@ pub fn node_shapes(alloc: Global, resolved: &Resolved) -> Result<Vec<List<Shape>
     requires { first_too_wide resolved.now ≡ None }
     ensures count { IfOk result (λ lists. length lists.items ≡ length resolved.now.nodes) }
     ensures denote { IfOk result (λ lists. is_valid resolved.now ≡ true → EachDenotes lists.items (fits_node resolved.now)) }
-    ensures within { IfOk result (λ lists. AreWithin (node_widths [] resolved.now.nodes) lists.items) }
+    ensures within { IfOk result (λ lists. AreWithin (widths_of_nodes resolved.now) lists.items) }
 {
     let nodes = resolved.nodes.as_slice();
     let mut lists = Vec::with_capacity(alloc, nodes.len())?;

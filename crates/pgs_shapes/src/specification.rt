@@ -6,9 +6,10 @@ ghost use Rattle.pgs_syntax.specs.Fitting.{suits};
 ghost use Rattle.pgs_syntax.specs.Join.{of_pairs, is_empty_pair};
 ghost use Rattle.pgs_syntax.specs.Valid.{is_valid_spec};
 ghost use Rattle.pgs_syntax.specs.Width.{Width, width_of};
+ghost use Rattle.pgs_conform.specs.Counts.{AreWithin};
 ghost use Rattle.pgs_conform.specs.Shapes.{in_some, Denotes};
 ghost use Rattle.pgs_conform.specs.Standing.{EachDenotes};
-ghost use Rattle.pgs_shapes.specs.Counts.{AreWithin, PartsWithin};
+ghost use Rattle.pgs_shapes.specs.Counts.{PartsWithin};
 ghost use Rattle.pgs_shapes.specs.Parts.{PartsDenote};
 
 use crate::braces::braces_shape;
@@ -50,14 +51,10 @@ fn leaf_shapes(alloc: Global, named: &[List<Shape>], leaf: &Leaf) -> Result<List
     match leaf {
         Leaf::Label(label) => {
             let shape = label_shape(alloc, label)?;
-            let shapes = one(alloc, shape)?;
-            Ok(shapes)
+            one(alloc, shape)
         }
         Leaf::Named(number) => match at(named, *number) {
-            Some(list) => {
-                let shapes = copy_shapes(alloc, list.as_slice())?;
-                Ok(shapes)
-            }
+            Some(list) => copy_shapes(alloc, list.as_slice()),
             None => Ok(List::new(alloc)),
         },
     }
@@ -77,37 +74,24 @@ pub fn shapes_of(
         length shapes ≤ (width_of widths spec.now).count) }
 {
     match spec {
-        Spec::Empty => {
-            let shapes = one(alloc, empty_shape(alloc))?;
-            Ok(shapes)
-        }
-        Spec::Word(leaf) => {
-            let shapes = leaf_shapes(alloc, named, leaf)?;
-            Ok(shapes)
-        }
-        Spec::OpenLabels => {
-            let shapes = one(alloc, open_shape(alloc))?;
-            Ok(shapes)
-        }
+        Spec::Empty => one(alloc, empty_shape(alloc)),
+        Spec::Word(leaf) => leaf_shapes(alloc, named, leaf),
+        Spec::OpenLabels => one(alloc, open_shape(alloc)),
         Spec::Braces(braces) => {
             let shape = braces_shape(alloc, braces)?;
-            let shapes = one(alloc, shape)?;
-            Ok(shapes)
+            one(alloc, shape)
         }
         Spec::And(parts) => {
             let lists = shapes_of_each(alloc, named, parts.as_slice())?;
-            let shapes = product_of_all(alloc, &lists)?;
-            Ok(shapes)
+            product_of_all(alloc, &lists)
         }
         Spec::Or(parts) => {
             let lists = shapes_of_each(alloc, named, parts.as_slice())?;
-            let shapes = concat(alloc, lists)?;
-            Ok(shapes)
+            concat(alloc, lists)
         }
         Spec::Opt(part) => {
             let shapes = shapes_of(alloc, named, part.get())?;
-            let whole = with_empty(alloc, shapes)?;
-            Ok(whole)
+            with_empty(alloc, shapes)
         }
     }
 }

@@ -1,15 +1,18 @@
--- Lists of shapes made by hand denote the types of the small schemas.
-use Rattle.std.proofs.Common.{◌≡◌, ℕ, zero, suc, Bool, true, ◌&&◌, List, [], ◌∷◌, sym, ap, subst, ◌∙◌}
+-- Lists of shapes made by hand denote the types of the small schemas, and are within their widths.
+use Rattle.std.proofs.Common.{◌≡◌, ℕ, zero, suc, Bool, true, ◌&&◌, List, [], ◌∷◌, sym, ap, subst, ◌∙◌, arith}
 use Rattle.std.specs.Prelude.{codes}
 use Rattle.std.proofs.lemmas.Bool.{and_parts}
+use denote.Hole.Carrier.{hidden}
 use Rattle.pgs_base.specs.declared.row.NodeRow.{NodeRow}
 use Rattle.pgs_base.specs.Pair.{is_pair}
+use Rattle.pgs_syntax.specs.declared.specification.Spec.TheBlock as block
 use Rattle.pgs_syntax.specs.Fitting.{fits_node, fits_edge}
 use Rattle.pgs_syntax.specs.Join.{Triple}
 use Rattle.pgs_syntax.specs.Samples.{acquaintance, abstract_types}
 use Rattle.pgs_syntax.specs.Triples.{is_triple}
 use Rattle.pgs_conform.specs.declared.shape.Shape.{Shape}
 use Rattle.pgs_conform.specs.declared.shape.Triple.{Triple as ShapeTriple}
+use Rattle.pgs_conform.specs.Counts.{AreWithin, widths_of_nodes, widths_of_edges}
 use Rattle.pgs_conform.specs.Shapes.{in_shape, in_triple, Denotes, DenotesTriples}
 use Rattle.pgs_conform.specs.Standing.{EachDenotes, EachDenotesTriples}
 use Rattle.tests_conform.specs.Exact.{HasExactly}
@@ -58,3 +61,16 @@ abstract_nodes a b has_a has_b =
 
 pub no_edges : EachDenotesTriples [] (fits_edge abstract_types)
 no_edges number triples at = cc
+
+-- one shape, or one triple, is within the one form of a type
+
+pub acquaintance_nodes_within : (p q : Shape) → AreWithin (widths_of_nodes acquaintance) ((p ∷ []) ∷ (q ∷ []) ∷ [])
+unfolding block.hidden-the_row-Spec-0 hidden
+acquaintance_nodes_within p q = (omega arith, (omega arith, tt))
+
+pub acquaintance_edges_within : (e : ShapeTriple) → AreWithin (widths_of_edges acquaintance) ((e ∷ []) ∷ [])
+unfolding block.hidden-the_row-Spec-0 hidden
+acquaintance_edges_within e = (omega arith, tt)
+
+pub abstract_nodes_within : (a b : Shape) → AreWithin (widths_of_nodes abstract_types) ((a ∷ []) ∷ (b ∷ []) ∷ [])
+abstract_nodes_within a b = (omega arith, (omega arith, tt))

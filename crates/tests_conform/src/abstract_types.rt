@@ -6,6 +6,7 @@ ghost use Rattle.pgs_syntax.specs.declared.specification.Spec.{Word};
 ghost use Rattle.pgs_syntax.specs.Fitting.{fits_node, fits_edge};
 ghost use Rattle.pgs_syntax.specs.Samples.{abstract_type, abstract_types};
 ghost use Rattle.pgs_syntax.specs.Valid.{is_valid};
+ghost use Rattle.pgs_conform.specs.Counts.{AreWithin, widths_of_nodes, widths_of_edges};
 ghost use Rattle.pgs_conform.specs.Standing.{EachDenotes, EachDenotesTriples};
 ghost use Rattle.tests_conform.specs.Exact.{HasExactly};
 
@@ -71,6 +72,7 @@ fn b_shape(alloc: Global) -> Result<Shape, Fail>
 fn node_shapes(alloc: Global) -> Result<List<List<Shape>>, Fail>
     ensures denotes { IfOk result (λ lists. EachDenotes lists (fits_node abstract_types)) }
     ensures count { IfOk result (λ lists. length lists ≡ 2) }
+    ensures within { IfOk result (λ lists. AreWithin (widths_of_nodes abstract_types) lists) }
 {
     let t = a_shape(alloc)?;
     let u = b_shape(alloc)?;
@@ -81,6 +83,7 @@ fn node_shapes(alloc: Global) -> Result<List<List<Shape>>, Fail>
 fn edge_shapes(alloc: Global) -> List<List<Triple>>
     ensures denotes { EachDenotesTriples result (fits_edge abstract_types) }
     ensures count { length result ≡ 0 }
+    ensures within { AreWithin (widths_of_edges abstract_types) result }
 {
     List::new(alloc)
 }

@@ -3,8 +3,9 @@
 ghost use Rattle.std.specs.Prelude.{◌≡◌, [], ◌∷◌, IfOk, codes, length};
 ghost use Rattle.pgs_syntax.specs.Fitting.{fits_node, fits_edge};
 ghost use Rattle.pgs_syntax.specs.Samples.{acquaintance, label, node_type, ◌&◌};
-ghost use Rattle.tests_conform.specs.Exact.{HasExactly};
+ghost use Rattle.pgs_conform.specs.Counts.{AreWithin, widths_of_nodes, widths_of_edges};
 ghost use Rattle.pgs_conform.specs.Standing.{EachDenotes, EachDenotesTriples};
+ghost use Rattle.tests_conform.specs.Exact.{HasExactly};
 
 use crate::sample::{exactly, label, listed, name, node_type, two_lists, word};
 use pgs_base::{Labels, List, Memory, Name};
@@ -101,6 +102,7 @@ fn knows_shape(alloc: Global) -> Result<Shape, Fail>
 fn node_shapes(alloc: Global) -> Result<List<List<Shape>>, Fail>
     ensures denotes { IfOk result (λ lists. EachDenotes lists (fits_node acquaintance)) }
     ensures count { IfOk result (λ lists. length lists ≡ 2) }
+    ensures within { IfOk result (λ lists. AreWithin (widths_of_nodes acquaintance) lists) }
 {
     let p = p_shape(alloc)?;
     let q = q_shape(alloc)?;
@@ -111,6 +113,7 @@ fn node_shapes(alloc: Global) -> Result<List<List<Shape>>, Fail>
 fn edge_shapes(alloc: Global) -> Result<List<List<Triple>>, Fail>
     ensures denotes { IfOk result (λ lists. EachDenotesTriples lists (fits_edge acquaintance)) }
     ensures count { IfOk result (λ lists. length lists ≡ 1) }
+    ensures within { IfOk result (λ lists. AreWithin (widths_of_edges acquaintance) lists) }
 {
     let source = q_shape(alloc)?;
     let middle = knows_shape(alloc)?;

@@ -1,12 +1,12 @@
-use Rattle.std.proofs.Common.{◌≡◌, ◌+◌, ◌-◌, ◌*◌, ◌&&◌, [], ◌∷◌, ◌++◌, length, map, sym, ◌∙◌, ap, arith}
+use Rattle.std.proofs.Common.{◌&&◌, [], ◌∷◌, ◌++◌, map, sym, ◌∙◌, ap, arith}
 use Rattle.std.proofs.Math.Bool.{or-false}
+use Rattle.std.proofs.lemmas.Result.{IfOk-weaker}
 use Rattle.pgs_syntax.specs.Join.{of_triples, joined_all, is_empty_pair}
 use Rattle.pgs_conform.specs.Shapes.{in_triple, in_some_triple}
-use Rattle.pgs_product.specs.Counts.{choices}
-use Rattle.pgs_product.proofs.Halved.{halves_left, front_within, back_within, choices_cut}
+use Rattle.pgs_product.proofs.Halved.{front_fits, back_fits, product_count}
 use Rattle.pgs_product.proofs.Joins.{IsGoodTriple, triples_lawful}
-use Rattle.pgs_product.proofs.Several.{cut_denotes}
-use Rattle.pgs_product.proofs.Walks.{no_items, one_item, map_cut}
+use Rattle.pgs_product.proofs.Several.{one_denotes, halves_denote}
+use Rattle.pgs_product.proofs.Walks.{no_items, one_item}
 use Rattle.pgs_product.proofs.triple_lists.+triple_product_of_halves.Goals as goal
 
 pub returns-in_ok-push-in-empty-clause-denote : goal.returns-in_ok-push-in-empty-clause-denote
@@ -16,42 +16,34 @@ returns-in_ok-push-in-empty-clause-denote t c = λ u pairs.
     ap (λ triples. in_some_triple triples u) items ∙ or-false (in_triple c.middle_triple.result u) ∙ c.middle_triple.ensures u ∙ middle
     ∙ ap (λ lists. joined_all of_triples (map in_some_triple lists) u) (sym (no_items c.args.lists.now c.in-empty.len_below))
 
-pub returns-in_ok-copies-in-len1-clause-denote : goal.returns-in_ok-copies-in-len1-clause-denote
-returns-in_ok-copies-in-len1-clause-denote t c = λ p good.
+pub returns-in-len1-clause-denote : goal.returns-in-len1-clause-denote
+returns-in-len1-clause-denote t c =
+    let lists = c.args.lists.now in
     let only = c.only-item.result in
-    c.in_ok-copies-in-len1.ensures.same p ∙ ap (λ shapes. in_some_triple shapes p) c.as_slice.ensures ∙ sym (triples_lawful.unit (in_some_triple only) p)
-    ∙ ap (λ lists. joined_all of_triples (map in_some_triple lists) p) (sym (one_item c.args.lists.now only c.in-len1.len_at_least c.in-len1.len_below c.only-item.is))
+    let one = one_item lists only c.in-len1.len_at_least c.in-len1.len_below c.only-item.is in
+    IfOk-weaker c.copy_triples.result _ _ (λ copies same p good. one_denotes of_triples IsGoodTriple triples_lawful in_triple lists only _ copies one c.as_slice.ensures same p)
+    c.copy_triples.ensures.same
 
-pub returns-in_ok-whole-in_default-clause-denote : goal.returns-in_ok-whole-in_default-clause-denote
-returns-in_ok-whole-in_default-clause-denote t c = λ p good.
-    let front = c.split_at.result.0.now in
-    let back = c.split_at.result.1.now in
-    cut_denotes of_triples IsGoodTriple triples_lawful in_triple c.as_slice-in_default.result.now c.as_slice-in_default-2.result.now c.in_ok-whole-in_default.whole
-    (map in_some_triple front) (map in_some_triple back)
-    (λ q fine. ap (λ shapes. in_some_triple shapes q) c.as_slice-in_default.ensures ∙ c.in_ok-first-in_default.ensures.denote q fine)
-    (λ q fine. ap (λ shapes. in_some_triple shapes q) c.as_slice-in_default-2.ensures ∙ c.in_ok-second-in_default.ensures.denote q fine)
-    c.in_ok-whole-in_default.ensures.denote p good
-    ∙ ap (λ tests. joined_all of_triples tests p) (map_cut in_some_triple _ c.args.lists.now front back c.split_at.ensures.front c.split_at.ensures.back)
+pub returns-in_ok-second-in_default-clause-denote : goal.returns-in_ok-second-in_default-clause-denote
+returns-in_ok-second-in_default-clause-denote t c =
+    IfOk-weaker c.triple_products.result _ _
+    (halves_denote of_triples IsGoodTriple triples_lawful in_triple _ c.args.lists.now _ _ _ _ _ _ c.split_at.ensures.front c.split_at.ensures.back
+    c.as_slice-in_default.ensures c.as_slice-in_default-2.ensures c.in_ok-first-in_default.ensures.denote c.in_ok-second-in_default.ensures.denote)
+    c.triple_products.ensures.denote
+
+pub returns-in_ok-second-in_default-clause-count : goal.returns-in_ok-second-in_default-clause-count
+returns-in_ok-second-in_default-clause-count t c =
+    IfOk-weaker c.triple_products.result _ _
+    (λ whole. product_count _ c.args.lists.now _ _ _ _ _ _ whole c.split_at.ensures.front c.split_at.ensures.back
+    c.as_slice-in_default.ensures c.as_slice-in_default-2.ensures c.in_ok-first-in_default.ensures.count c.in_ok-second-in_default.ensures.count)
+    c.triple_products.ensures.count
 
 pub triple_product_of_halves-requires : goal.triple_product_of_halves-requires
 triple_product_of_halves-requires t c =
-    let lists = c.args.lists.now in
-    let left = halves_left c.args.further (length lists) c.in_default.len_at_least c.requires in
-    let one_more : c.args.further ≡ (c.args.further - 1) + 1 = omega arith in
-    (omega arith, front_within lists c.split_at.result.0.now c.args.further _ one_more c.requires c.split_at.ensures.front)
+    let fits = front_fits c.args.lists.now _ c.args.further c.in_default.len_at_least c.requires c.split_at.ensures.front in
+    let left = fits.0 in (omega arith, fits.1)
 
 pub triple_product_of_halves-requires-in_default : goal.triple_product_of_halves-requires-in_default
 triple_product_of_halves-requires-in_default t c =
-    let lists = c.args.lists.now in
-    let left = halves_left c.args.further (length lists) c.in_default.len_at_least c.requires in
-    let one_more : c.args.further ≡ (c.args.further - 1) + 1 = omega arith in
-    (omega arith, back_within lists c.split_at.result.1.now c.args.further _ one_more c.requires c.split_at.ensures.back)
-
-pub returns-in_ok-whole-in_default-clause-count : goal.returns-in_ok-whole-in_default-clause-count
-returns-in_ok-whole-in_default-clause-count t c =
-    c.in_ok-whole-in_default.ensures.count
-    ∙ ap (λ shapes. length shapes * length c.as_slice-in_default-2.result.now) c.as_slice-in_default.ensures
-    ∙ ap (λ shapes. length c.in_ok-first-in_default.first * length shapes) c.as_slice-in_default-2.ensures
-    ∙ ap (λ n. n * length c.in_ok-second-in_default.second) c.in_ok-first-in_default.ensures.count
-    ∙ ap (λ n. choices c.split_at.result.0.now * n) c.in_ok-second-in_default.ensures.count
-    ∙ choices_cut _ c.args.lists.now _ _ c.split_at.ensures.front c.split_at.ensures.back
+    let fits = back_fits c.args.lists.now _ c.args.further c.in_default.len_at_least c.requires c.split_at.ensures.back in
+    let left = fits.0 in (omega arith, fits.1)

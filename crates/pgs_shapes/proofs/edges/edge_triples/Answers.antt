@@ -1,8 +1,8 @@
 use Rattle.std.proofs.Common.{◌+◌, length, take, ◌∷◌, [], sym, ◌∙◌, ap, subst, length-append}
 use Rattle.pgs_syntax.specs.Valid.{is_valid_spec}
 use Rattle.pgs_syntax.specs.Width.{edge_widths}
+use Rattle.pgs_conform.specs.Counts.{AreWithin}
 use Rattle.pgs_conform.specs.Standing.{EachDenotesTriples}
-use Rattle.pgs_shapes.specs.Counts.{AreWithin}
 use Rattle.pgs_shapes.proofs.Counted.{edge_within}
 use Rattle.pgs_shapes.proofs.Types.{edge_more}
 use Rattle.pgs_shapes.proofs.edges.edge_triples.Goals as goal

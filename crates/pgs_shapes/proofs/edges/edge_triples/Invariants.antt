@@ -2,8 +2,8 @@ use Rattle.std.proofs.Common.{◌≡◌, true, List, [], length, take}
 use Rattle.pgs_syntax.specs.Fitting.{fits_node, fits_edge}
 use Rattle.pgs_syntax.specs.Valid.{is_valid}
 use Rattle.pgs_syntax.specs.Width.{Width, edge_widths}
+use Rattle.pgs_conform.specs.Counts.{AreWithin}
 use Rattle.pgs_conform.specs.Standing.{EachDenotes, EachDenotesTriples}
-use Rattle.pgs_shapes.specs.Counts.{AreWithin}
 use Rattle.pgs_shapes.proofs.edges.edge_triples.Given as goal
 
 abbrev pub invariant-loop-edge : goal.invariant-loop-edge

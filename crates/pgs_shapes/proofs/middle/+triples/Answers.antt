@@ -1,85 +1,68 @@
-use Rattle.std.proofs.Common.{◌≤◌, length, map, sym, ◌∙◌, ap, subst}
-use Rattle.std.specs.List.{list_all}
+use Rattle.std.proofs.Common.{◌≤◌, length, sym, ◌∙◌, ap}
 use Rattle.std.proofs.lemmas.Bool.{and_parts}
+use Rattle.std.proofs.lemmas.Result.{IfOk-weaker}
 use Rattle.pgs_syntax.specs.Fitting.{suits, is_braced}
-use Rattle.pgs_syntax.specs.Join.{of_triples, joined_all}
+use Rattle.pgs_syntax.specs.Join.{of_triples}
 use Rattle.pgs_syntax.specs.Valid.{is_valid_spec}
 use Rattle.pgs_syntax.specs.Width.{width_of}
-use Rattle.pgs_conform.specs.Shapes.{in_triple, in_some_triple, DenotesTriples}
-use Rattle.pgs_product.specs.Counts.{choices}
+use Rattle.pgs_conform.specs.Counts.{AreWithin}
+use Rattle.pgs_conform.specs.Shapes.{in_triple, DenotesTriples}
+use Rattle.pgs_conform.specs.Standing.{EachDenotesTriples}
 use Rattle.pgs_product.proofs.Joins.{IsGoodTriple, triples_lawful}
-use Rattle.pgs_shapes.specs.Counts.{PartsWithin}
-use Rattle.pgs_shapes.specs.Parts.{PartsDenoteTriples}
 use Rattle.pgs_shapes.proofs.Counted.{and_within, or_within, opt_within}
-use Rattle.pgs_shapes.proofs.Forms.{valid_and, valid_or, valid_opt, one_of_all, zip_more, and_denotes, or_denotes, opt_denotes}
+use Rattle.pgs_shapes.proofs.Forms.{one_of_all, zip_more, and_answers, or_answers, opt_answers}
 use Rattle.pgs_shapes.proofs.Middles.{asked_of_middle}
 use Rattle.pgs_shapes.proofs.middle.+triples.Goals as goal
 
-pub triples_of-returns-in_ok-triples-in-Braces-clause-denote : goal.triples_of-returns-in_ok-triples-in-Braces-clause-denote
-triples_of-returns-in_ok-triples-in-Braces-clause-denote t c = λ valid test each t' pairs.
+pub triples_of-returns-in_ok-shape-in-Braces-clause-denote : goal.triples_of-returns-in_ok-shape-in-Braces-clause-denote
+triples_of-returns-in_ok-shape-in-Braces-clause-denote t c =
     let bound = length c.args.named.now in
-    let braces = c.in-Braces.braces in
+    let shape = c.in_ok-shape-in-Braces.shape in
+    IfOk-weaker c.one-in-Braces.result _ _
+    (λ triples is valid test each t' pairs.
     let own = (and_parts _ _ (and_parts _ _ pairs).0).1 in
-    asked_of_middle c.in_ok-triples-in-Braces.triples c.middle_triple-in-Braces.result c.in_ok-shape-in-Braces.shape (is_braced braces) t'
-    c.in_ok-triples-in-Braces.ensures (c.middle_triple-in-Braces.ensures t')
+    asked_of_middle triples c.middle_triple-in-Braces.result shape (is_braced c.in-Braces.braces) t' is (c.middle_triple-in-Braces.ensures t')
     (c.in_ok-shape-in-Braces.ensures (ap (is_valid_spec bound) (sym c.in-Braces.is) ∙ valid) t'.own own)
-    ∙ ap (λ spec. suits of_triples test spec t') (sym c.in-Braces.is)
+    ∙ ap (λ spec. suits of_triples test spec t') (sym c.in-Braces.is)) c.one-in-Braces.ensures
 
-pub triples_of-returns-in_ok-triples-in-And-clause-denote : goal.triples_of-returns-in_ok-triples-in-And-clause-denote
-triples_of-returns-in_ok-triples-in-And-clause-denote t c = λ valid test each t' pairs.
-    let bound = length c.args.named.now in
-    let parts = c.in-And.parts in
-    let lists = c.in_ok-lists-in-And.lists.items in
-    let parts_valid = ap (list_all (is_valid_spec bound)) c.as_slice.ensures ∙ sym (valid_and bound parts) ∙ ap (is_valid_spec bound) (sym c.in-And.is) ∙ valid in
-    let denote = subst (λ ps. PartsDenoteTriples test ps lists) c.as_slice.ensures (c.in_ok-lists-in-And.ensures.denote parts_valid test each) in
-    and_denotes of_triples IsGoodTriple triples_lawful in_triple test parts lists c.in_ok-triples-in-And.triples denote
-    (λ q good. c.in_ok-triples-in-And.ensures.denote q good ∙ ap (λ ls. joined_all of_triples (map in_some_triple ls) q) c.deref.ensures.value) t' pairs
-    ∙ ap (λ spec. suits of_triples test spec t') (sym c.in-And.is)
+pub triples_of-returns-in_ok-lists-in-And-clause-denote : goal.triples_of-returns-in_ok-lists-in-And-clause-denote
+triples_of-returns-in_ok-lists-in-And-clause-denote t c =
+    let named = c.args.named.now in
+    IfOk-weaker c.triple_product_of_all.result _ _
+    (and_answers of_triples IsGoodTriple triples_lawful in_triple (length named) (EachDenotesTriples named) c.args.spec.now c.in-And.parts c.as_slice.result.now c.in_ok-lists-in-And.lists.items _
+    c.in-And.is c.as_slice.ensures c.deref.ensures.value c.in_ok-lists-in-And.ensures.denote) c.triple_product_of_all.ensures.denote
 
-pub triples_of-returns-in_ok-triples-in-Or-clause-denote : goal.triples_of-returns-in_ok-triples-in-Or-clause-denote
-triples_of-returns-in_ok-triples-in-Or-clause-denote t c = λ valid test each t' pairs.
-    let bound = length c.args.named.now in
-    let parts = c.in-Or.parts in
-    let lists = c.in_ok-lists-in-Or.lists.items in
-    let parts_valid = ap (list_all (is_valid_spec bound)) c.as_slice-in-Or.ensures ∙ sym (valid_or bound parts) ∙ ap (is_valid_spec bound) (sym c.in-Or.is) ∙ valid in
-    let denote = subst (λ ps. PartsDenoteTriples test ps lists) c.as_slice-in-Or.ensures (c.in_ok-lists-in-Or.ensures.denote parts_valid test each) in
-    or_denotes of_triples IsGoodTriple triples_lawful in_triple test parts lists c.in_ok-triples-in-Or.triples denote c.in_ok-triples-in-Or.ensures t' pairs
-    ∙ ap (λ spec. suits of_triples test spec t') (sym c.in-Or.is)
+pub triples_of-returns-in_ok-lists-in-Or-clause-denote : goal.triples_of-returns-in_ok-lists-in-Or-clause-denote
+triples_of-returns-in_ok-lists-in-Or-clause-denote t c =
+    let named = c.args.named.now in
+    IfOk-weaker c.concat.result _ _
+    (or_answers of_triples IsGoodTriple triples_lawful in_triple (length named) (EachDenotesTriples named) c.args.spec.now c.in-Or.parts c.as_slice-in-Or.result.now c.in_ok-lists-in-Or.lists.items
+    c.in-Or.is c.as_slice-in-Or.ensures c.in_ok-lists-in-Or.ensures.denote) c.concat.ensures
 
-pub triples_of-returns-in_ok-whole-in-Opt-clause-denote : goal.triples_of-returns-in_ok-whole-in-Opt-clause-denote
-triples_of-returns-in_ok-whole-in-Opt-clause-denote t c = λ valid test each t' pairs.
-    let bound = length c.args.named.now in
-    let part = c.in-Opt.part in
-    let triples = c.in_ok-triples-in-Opt.triples in
-    let part_valid = ap (is_valid_spec bound) c.get.ensures ∙ valid_opt bound part (ap (is_valid_spec bound) (sym c.in-Opt.is) ∙ valid) in
-    let denote = subst (λ s. DenotesTriples triples (suits of_triples test s)) c.get.ensures (c.in_ok-triples-in-Opt.ensures.denote part_valid test each) in
-    opt_denotes of_triples IsGoodTriple triples_lawful in_triple test part triples c.in_ok-whole-in-Opt.whole denote c.in_ok-whole-in-Opt.ensures.denote t' pairs
-    ∙ ap (λ spec. suits of_triples test spec t') (sym c.in-Opt.is)
+pub triples_of-returns-in_ok-triples-in-Opt-clause-denote : goal.triples_of-returns-in_ok-triples-in-Opt-clause-denote
+triples_of-returns-in_ok-triples-in-Opt-clause-denote t c =
+    let named = c.args.named.now in
+    IfOk-weaker c.with_empty.result _ _
+    (opt_answers of_triples IsGoodTriple triples_lawful in_triple (length named) (EachDenotesTriples named) c.args.spec.now c.in-Opt.part c.get.result.now c.in_ok-triples-in-Opt.triples
+    c.in-Opt.is c.get.ensures c.in_ok-triples-in-Opt.ensures.denote) c.with_empty.ensures.denote
 
-pub triples_of-returns-in_ok-triples-in-And-clause-within : goal.triples_of-returns-in_ok-triples-in-And-clause-within
-triples_of-returns-in_ok-triples-in-And-clause-within t c = λ widths all.
-    let parts = c.in-And.parts in
-    let lists = c.in_ok-lists-in-And.lists.items in
-    let whole = c.in_ok-triples-in-And.triples in
-    let each = subst (λ ps. PartsWithin widths ps lists) c.as_slice.ensures (c.in_ok-lists-in-And.ensures.within widths all) in
-    let count = c.in_ok-triples-in-And.ensures.count ∙ ap choices c.deref.ensures.value in
-    subst (λ spec. length whole ≤ (width_of widths spec).count) (sym c.in-And.is) (and_within widths parts lists whole each count)
+pub triples_of-returns-in_ok-lists-in-And-clause-within : goal.triples_of-returns-in_ok-lists-in-And-clause-within
+triples_of-returns-in_ok-lists-in-And-clause-within t c =
+    IfOk-weaker c.triple_product_of_all.result _ _
+    (and_within (λ widths. AreWithin widths c.args.named.now) c.args.spec.now c.in-And.parts c.as_slice.result.now c.in_ok-lists-in-And.lists.items _
+    c.in-And.is c.as_slice.ensures c.deref.ensures.value c.in_ok-lists-in-And.ensures.within) c.triple_product_of_all.ensures.count
 
-pub triples_of-returns-in_ok-triples-in-Or-clause-within : goal.triples_of-returns-in_ok-triples-in-Or-clause-within
-triples_of-returns-in_ok-triples-in-Or-clause-within t c = λ widths all.
-    let parts = c.in-Or.parts in
-    let lists = c.in_ok-lists-in-Or.lists.items in
-    let whole = c.in_ok-triples-in-Or.triples in
-    let each = subst (λ ps. PartsWithin widths ps lists) c.as_slice-in-Or.ensures (c.in_ok-lists-in-Or.ensures.within widths all) in
-    subst (λ spec. length whole ≤ (width_of widths spec).count) (sym c.in-Or.is) (or_within widths parts lists whole each c.in_ok-triples-in-Or.ensures)
+pub triples_of-returns-in_ok-lists-in-Or-clause-within : goal.triples_of-returns-in_ok-lists-in-Or-clause-within
+triples_of-returns-in_ok-lists-in-Or-clause-within t c =
+    IfOk-weaker c.concat.result _ _
+    (or_within (λ widths. AreWithin widths c.args.named.now) c.args.spec.now c.in-Or.parts c.as_slice-in-Or.result.now c.in_ok-lists-in-Or.lists.items
+    c.in-Or.is c.as_slice-in-Or.ensures c.in_ok-lists-in-Or.ensures.within) c.concat.ensures
 
-pub triples_of-returns-in_ok-whole-in-Opt-clause-within : goal.triples_of-returns-in_ok-whole-in-Opt-clause-within
-triples_of-returns-in_ok-whole-in-Opt-clause-within t c = λ widths all.
-    let list = c.in_ok-triples-in-Opt.triples in
-    let whole = c.in_ok-whole-in-Opt.whole in
-    let own = subst (λ part. length list ≤ (width_of widths part).count) c.get.ensures (c.in_ok-triples-in-Opt.ensures.within widths all) in
-    subst (λ spec. length whole ≤ (width_of widths spec).count) (sym c.in-Opt.is)
-    (opt_within widths c.in-Opt.part list whole own c.in_ok-whole-in-Opt.ensures.count)
+pub triples_of-returns-in_ok-triples-in-Opt-clause-within : goal.triples_of-returns-in_ok-triples-in-Opt-clause-within
+triples_of-returns-in_ok-triples-in-Opt-clause-within t c =
+    IfOk-weaker c.with_empty.result _ _
+    (opt_within (λ widths. AreWithin widths c.args.named.now) c.args.spec.now c.in-Opt.part c.get.result.now c.in_ok-triples-in-Opt.triples
+    c.in-Opt.is c.get.ensures c.in_ok-triples-in-Opt.ensures.within) c.with_empty.ensures.count
 
 pub triples_of_each-loop-part-preserved : goal.triples_of_each-loop-part-preserved
 triples_of_each-loop-part-preserved t c =

@@ -1,8 +1,8 @@
 use Rattle.std.proofs.Common.{◌+◌, length, take, ◌∷◌, [], sym, ◌∙◌, ap, subst, length-append}
 use Rattle.pgs_syntax.specs.Valid.{is_valid_spec}
 use Rattle.pgs_syntax.specs.Width.{node_widths}
+use Rattle.pgs_conform.specs.Counts.{AreWithin}
 use Rattle.pgs_conform.specs.Standing.{EachDenotes}
-use Rattle.pgs_shapes.specs.Counts.{AreWithin}
 use Rattle.pgs_shapes.proofs.Counted.{node_within}
 use Rattle.pgs_shapes.proofs.Types.{node_more}
 use Rattle.pgs_shapes.proofs.nodes.node_shapes.Goals as goal

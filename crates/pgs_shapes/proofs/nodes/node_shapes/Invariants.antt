@@ -2,8 +2,8 @@ use Rattle.std.proofs.Common.{◌≡◌, true, [], length, take}
 use Rattle.pgs_syntax.specs.Fitting.{fits_node}
 use Rattle.pgs_syntax.specs.Valid.{is_valid}
 use Rattle.pgs_syntax.specs.Width.{node_widths}
+use Rattle.pgs_conform.specs.Counts.{AreWithin}
 use Rattle.pgs_conform.specs.Standing.{EachDenotes}
-use Rattle.pgs_shapes.specs.Counts.{AreWithin}
 use Rattle.pgs_shapes.proofs.nodes.node_shapes.Given as goal
 
 abbrev pub invariant-loop-node : goal.invariant-loop-node

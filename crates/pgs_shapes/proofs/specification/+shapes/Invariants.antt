@@ -3,8 +3,9 @@ use Rattle.std.specs.List.{list_all}
 use Rattle.pgs_base.specs.declared.row.NodeRow.{NodeRow}
 use Rattle.pgs_syntax.specs.Valid.{is_valid_spec}
 use Rattle.pgs_syntax.specs.Width.{Width}
+use Rattle.pgs_conform.specs.Counts.{AreWithin}
 use Rattle.pgs_conform.specs.Standing.{EachDenotes}
-use Rattle.pgs_shapes.specs.Counts.{AreWithin, PartsWithin}
+use Rattle.pgs_shapes.specs.Counts.{PartsWithin}
 use Rattle.pgs_shapes.specs.Parts.{PartsDenote}
 use Rattle.pgs_shapes.proofs.specification.+shapes.Given as goal
 
