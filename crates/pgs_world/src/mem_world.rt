@@ -1,4 +1,5 @@
 ghost use Rattle.std.specs.Prelude.{◌≡◌, ◌+◌, ◌≤◌, ◌^◌, [], not, length, take, drop, min, is_some, is_err, Some, IfSome, IfOk, OnOk, OnErr, IsTrue};
+ghost use Rattle.pgs_world.specs.Calls.{IsAreaCall};
 ghost use Rattle.pgs_world.specs.Count.{Rose, RoseByOne};
 ghost use Rattle.pgs_world.specs.Disk.{written_over, IsSameBeside, Writes, Cuts, Puts};
 ghost use Rattle.pgs_world.specs.Left.{left_of};
@@ -260,11 +261,7 @@ impl World for MemWorld {
         ensures length { IfOk result (λ count. IsTrue (view_of self.old).tells_bytes → count ≡ length (part area (view_of self.old).shown)) }
         ensures limit { IfOk result (λ count. count ≤ 2 ^ 40) }
         ensures quiet { IsQuiet (view_of self.old) (view_of self.new) }
-        ensures moment { Rose (view_of self.old).moment (view_of self.new).moment }
-        ensures image { ShowsOne (view_of self.new) }
-        ensures cause { OnErr result (RoseByOne (view_of self.old).area_faults (view_of self.new).area_faults) }
-        ensures no_cause { OnOk result ((view_of self.new).area_faults ≡ (view_of self.old).area_faults) }
-        ensures no_put { MakesNoPut (view_of self.old) (view_of self.new) }
+        ensures call { IsAreaCall (view_of self.old) result (view_of self.new) }
     {
         self.len_exact(area).ok_or(AreaFault)
     }
@@ -278,11 +275,7 @@ impl World for MemWorld {
         // What every world says.
         ensures bytes { OnOk result (IsTrue (view_of self.old).tells_bytes → buf.new ≡ take (length buf.old) (drop at (part area (view_of self.old).shown))) }
         ensures quiet { IsQuiet (view_of self.old) (view_of self.new) }
-        ensures moment { Rose (view_of self.old).moment (view_of self.new).moment }
-        ensures image { ShowsOne (view_of self.new) }
-        ensures cause { OnErr result (RoseByOne (view_of self.old).area_faults (view_of self.new).area_faults) }
-        ensures no_cause { OnOk result ((view_of self.new).area_faults ≡ (view_of self.old).area_faults) }
-        ensures no_put { MakesNoPut (view_of self.old) (view_of self.new) }
+        ensures call { IsAreaCall (view_of self.old) result (view_of self.new) }
     {
         area_answer(self.read_exact(area, at, buf))
     }
@@ -299,11 +292,7 @@ impl World for MemWorld {
         ensures beside { IsSameBeside area (view_of self.old).shown (view_of self.new).shown }
         ensures stops { StopsBy (Writes area at (length bytes.now)) (view_of self.old) (view_of self.new) }
         ensures passes { Passes (view_of self.old) (view_of self.new) }
-        ensures moment { Rose (view_of self.old).moment (view_of self.new).moment }
-        ensures image { ShowsOne (view_of self.new) }
-        ensures cause { OnErr result (RoseByOne (view_of self.old).area_faults (view_of self.new).area_faults) }
-        ensures no_cause { OnOk result ((view_of self.new).area_faults ≡ (view_of self.old).area_faults) }
-        ensures no_put { MakesNoPut (view_of self.old) (view_of self.new) }
+        ensures call { IsAreaCall (view_of self.old) result (view_of self.new) }
     {
         area_answer(self.write_exact(area, at, bytes))
     }
@@ -319,11 +308,7 @@ impl World for MemWorld {
         ensures beside { IsSameBeside area (view_of self.old).shown (view_of self.new).shown }
         ensures stops { StopsBy (Cuts area len) (view_of self.old) (view_of self.new) }
         ensures passes { Passes (view_of self.old) (view_of self.new) }
-        ensures moment { Rose (view_of self.old).moment (view_of self.new).moment }
-        ensures image { ShowsOne (view_of self.new) }
-        ensures cause { OnErr result (RoseByOne (view_of self.old).area_faults (view_of self.new).area_faults) }
-        ensures no_cause { OnOk result ((view_of self.new).area_faults ≡ (view_of self.old).area_faults) }
-        ensures no_put { MakesNoPut (view_of self.old) (view_of self.new) }
+        ensures call { IsAreaCall (view_of self.old) result (view_of self.new) }
     {
         area_answer(self.cut_exact(area, len))
     }
@@ -336,11 +321,7 @@ impl World for MemWorld {
         // What every world says.
         ensures synced { OnOk result (IsSynced area (view_of self.new)) }
         ensures quiet { IsQuiet (view_of self.old) (view_of self.new) }
-        ensures moment { Rose (view_of self.old).moment (view_of self.new).moment }
-        ensures image { ShowsOne (view_of self.new) }
-        ensures cause { OnErr result (RoseByOne (view_of self.old).area_faults (view_of self.new).area_faults) }
-        ensures no_cause { OnOk result ((view_of self.new).area_faults ≡ (view_of self.old).area_faults) }
-        ensures no_put { MakesNoPut (view_of self.old) (view_of self.new) }
+        ensures call { IsAreaCall (view_of self.old) result (view_of self.new) }
     {
         area_answer(self.sync_exact(area))
     }

@@ -1,4 +1,5 @@
 ghost use Rattle.std.specs.Prelude.{◌≡◌, ◌+◌, ◌≤◌, ◌^◌, false, length, take, drop, is_err, IsTrue, IfOk, OnOk, OnErr};
+ghost use Rattle.pgs_world.specs.Calls.{IsAreaCall};
 ghost use Rattle.pgs_world.specs.Count.{Rose, RoseByOne};
 ghost use Rattle.pgs_world.specs.Disk.{written_over, IsSameBeside, Writes, Cuts, Puts};
 ghost use Rattle.pgs_world.specs.Moment.{Passes, StopsBy, IsQuiet, ShowsOne, IsSynced, MakesNoPut};
@@ -80,11 +81,7 @@ impl World for SilentWorld {
         ensures length { IfOk result (λ count. IsTrue (silent_view self.old).tells_bytes → count ≡ length (part area (silent_view self.old).shown)) }
         ensures limit { IfOk result (λ count. count ≤ 2 ^ 40) }
         ensures quiet { IsQuiet (silent_view self.old) (silent_view self.new) }
-        ensures moment { Rose (silent_view self.old).moment (silent_view self.new).moment }
-        ensures image { ShowsOne (silent_view self.new) }
-        ensures cause { OnErr result (RoseByOne (silent_view self.old).area_faults (silent_view self.new).area_faults) }
-        ensures no_cause { OnOk result ((silent_view self.new).area_faults ≡ (silent_view self.old).area_faults) }
-        ensures no_put { MakesNoPut (silent_view self.old) (silent_view self.new) }
+        ensures call { IsAreaCall (silent_view self.old) result (silent_view self.new) }
     {
         self.area_call(false)?;
         Ok(0)
@@ -100,11 +97,7 @@ impl World for SilentWorld {
         // What every world says.
         ensures bytes { OnOk result (IsTrue (silent_view self.old).tells_bytes → buf.new ≡ take (length buf.old) (drop at (part area (silent_view self.old).shown))) }
         ensures quiet { IsQuiet (silent_view self.old) (silent_view self.new) }
-        ensures moment { Rose (silent_view self.old).moment (silent_view self.new).moment }
-        ensures image { ShowsOne (silent_view self.new) }
-        ensures cause { OnErr result (RoseByOne (silent_view self.old).area_faults (silent_view self.new).area_faults) }
-        ensures no_cause { OnOk result ((silent_view self.new).area_faults ≡ (silent_view self.old).area_faults) }
-        ensures no_put { MakesNoPut (silent_view self.old) (silent_view self.new) }
+        ensures call { IsAreaCall (silent_view self.old) result (silent_view self.new) }
     {
         self.area_call(at != 0 || !buf.is_empty())
     }
@@ -121,11 +114,7 @@ impl World for SilentWorld {
         ensures beside { IsSameBeside area (silent_view self.old).shown (silent_view self.new).shown }
         ensures stops { StopsBy (Writes area at (length bytes.now)) (silent_view self.old) (silent_view self.new) }
         ensures passes { Passes (silent_view self.old) (silent_view self.new) }
-        ensures moment { Rose (silent_view self.old).moment (silent_view self.new).moment }
-        ensures image { ShowsOne (silent_view self.new) }
-        ensures cause { OnErr result (RoseByOne (silent_view self.old).area_faults (silent_view self.new).area_faults) }
-        ensures no_cause { OnOk result ((silent_view self.new).area_faults ≡ (silent_view self.old).area_faults) }
-        ensures no_put { MakesNoPut (silent_view self.old) (silent_view self.new) }
+        ensures call { IsAreaCall (silent_view self.old) result (silent_view self.new) }
     {
         self.area_call(at != 0 || !bytes.is_empty())
     }
@@ -141,11 +130,7 @@ impl World for SilentWorld {
         ensures beside { IsSameBeside area (silent_view self.old).shown (silent_view self.new).shown }
         ensures stops { StopsBy (Cuts area len) (silent_view self.old) (silent_view self.new) }
         ensures passes { Passes (silent_view self.old) (silent_view self.new) }
-        ensures moment { Rose (silent_view self.old).moment (silent_view self.new).moment }
-        ensures image { ShowsOne (silent_view self.new) }
-        ensures cause { OnErr result (RoseByOne (silent_view self.old).area_faults (silent_view self.new).area_faults) }
-        ensures no_cause { OnOk result ((silent_view self.new).area_faults ≡ (silent_view self.old).area_faults) }
-        ensures no_put { MakesNoPut (silent_view self.old) (silent_view self.new) }
+        ensures call { IsAreaCall (silent_view self.old) result (silent_view self.new) }
     {
         self.area_call(len != 0)
     }
@@ -158,11 +143,7 @@ impl World for SilentWorld {
         // What every world says.
         ensures synced { OnOk result (IsSynced area (silent_view self.new)) }
         ensures quiet { IsQuiet (silent_view self.old) (silent_view self.new) }
-        ensures moment { Rose (silent_view self.old).moment (silent_view self.new).moment }
-        ensures image { ShowsOne (silent_view self.new) }
-        ensures cause { OnErr result (RoseByOne (silent_view self.old).area_faults (silent_view self.new).area_faults) }
-        ensures no_cause { OnOk result ((silent_view self.new).area_faults ≡ (silent_view self.old).area_faults) }
-        ensures no_put { MakesNoPut (silent_view self.old) (silent_view self.new) }
+        ensures call { IsAreaCall (silent_view self.old) result (silent_view self.new) }
     {
         self.area_call(false)
     }
