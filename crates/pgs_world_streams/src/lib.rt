@@ -6,6 +6,7 @@
 #![tactic(auto)]
 
 mod cause;
+mod interruption;
 mod standard_error;
 mod standard_numbers;
 mod stdin_source;
@@ -13,6 +14,7 @@ mod steady;
 mod whole;
 
 pub use cause::Cause;
+pub use interruption::is_tried_again;
 pub use standard_error::{tell, tell_usage};
 pub use standard_numbers::{StandardNumbers, is_above_standard};
 pub use stdin_source::StdinSource;
