@@ -1,4 +1,5 @@
 ghost use Rattle.std.specs.Prelude.{◌≡◌, ◌+◌, ◌≤◌, ◌^◌, [], not, length, take, drop, min, is_some, is_err, Some, IfSome, IfOk, OnOk, OnErr, IsTrue};
+ghost use Rattle.pgs_world.specs.Calls.{Reaches, HasLength, HasBytes, IsWrittenOver, IsCutTo, IsAreaCall, IsPutCall};
 ghost use Rattle.pgs_world.specs.Count.{Rose, RoseByOne};
 ghost use Rattle.pgs_world.specs.Disk.{written_over, IsSameBeside, Writes, Cuts, Puts};
 ghost use Rattle.pgs_world.specs.Left.{left_of};
@@ -257,73 +258,57 @@ impl World for MemWorld {
         ensures after { self.new ≡ after_read self.old (len_fails self.old area) }
 
         // What every world says.
-        ensures length { IfOk result (λ count. IsTrue (view_of self.old).tells_bytes → count ≡ length (part area (view_of self.old).shown)) }
+        ensures length { IfOk result (λ count. HasLength area count (view_of self.old)) }
         ensures limit { IfOk result (λ count. count ≤ 2 ^ 40) }
         ensures quiet { IsQuiet (view_of self.old) (view_of self.new) }
-        ensures moment { Rose (view_of self.old).moment (view_of self.new).moment }
-        ensures image { ShowsOne (view_of self.new) }
-        ensures cause { OnErr result (RoseByOne (view_of self.old).area_faults (view_of self.new).area_faults) }
-        ensures no_cause { OnOk result ((view_of self.new).area_faults ≡ (view_of self.old).area_faults) }
-        ensures no_put { MakesNoPut (view_of self.old) (view_of self.new) }
+        ensures call { IsAreaCall (view_of self.old) result (view_of self.new) }
     {
         self.len_exact(area).ok_or(AreaFault)
     }
 
     /// Fails exactly as listed and past the last call.
     fn read_at(&mut self, area: Area, at: u64, buf: &mut [u8]) -> Result<(), AreaFault>
-        requires { IsTrue (view_of self.old).tells_bytes → at + length buf.old ≤ length (part area (view_of self.old).shown) }
+        requires { Reaches area (at + length buf.old) (view_of self.old) }
         ensures fails { is_err result ≡ fails_next self.old.meter }
         ensures after { self.new ≡ after_read self.old (fails_next self.old.meter) }
 
         // What every world says.
-        ensures bytes { OnOk result (IsTrue (view_of self.old).tells_bytes → buf.new ≡ take (length buf.old) (drop at (part area (view_of self.old).shown))) }
+        ensures bytes { OnOk result (HasBytes area at (length buf.old) buf.new (view_of self.old)) }
         ensures quiet { IsQuiet (view_of self.old) (view_of self.new) }
-        ensures moment { Rose (view_of self.old).moment (view_of self.new).moment }
-        ensures image { ShowsOne (view_of self.new) }
-        ensures cause { OnErr result (RoseByOne (view_of self.old).area_faults (view_of self.new).area_faults) }
-        ensures no_cause { OnOk result ((view_of self.new).area_faults ≡ (view_of self.old).area_faults) }
-        ensures no_put { MakesNoPut (view_of self.old) (view_of self.new) }
+        ensures call { IsAreaCall (view_of self.old) result (view_of self.new) }
     {
         area_answer(self.read_exact(area, at, buf))
     }
 
     /// Fails exactly as listed, past the last call, past the room and past 2^40 bytes, and then writes nothing.
     fn write_at(&mut self, area: Area, at: u64, bytes: &[u8]) -> Result<(), AreaFault>
-        requires { IsTrue (view_of self.old).tells_bytes → at ≤ length (part area (view_of self.old).shown) }
+        requires { Reaches area at (view_of self.old) }
         ensures fails { is_err result ≡ write_fails self.old at (length bytes.now) }
         ensures after { self.new ≡ after_write_at self.old area at bytes.now }
 
         // What every world says.
-        ensures written { OnOk result (IsTrue (view_of self.old).tells_bytes → part area (view_of self.new).shown ≡ written_over (part area (view_of self.old).shown) at bytes.now) }
+        ensures written { OnOk result (IsWrittenOver area at bytes.now (view_of self.old) (view_of self.new)) }
         ensures limit { OnOk result (at + length bytes.now ≤ 2 ^ 40) }
         ensures beside { IsSameBeside area (view_of self.old).shown (view_of self.new).shown }
         ensures stops { StopsBy (Writes area at (length bytes.now)) (view_of self.old) (view_of self.new) }
         ensures passes { Passes (view_of self.old) (view_of self.new) }
-        ensures moment { Rose (view_of self.old).moment (view_of self.new).moment }
-        ensures image { ShowsOne (view_of self.new) }
-        ensures cause { OnErr result (RoseByOne (view_of self.old).area_faults (view_of self.new).area_faults) }
-        ensures no_cause { OnOk result ((view_of self.new).area_faults ≡ (view_of self.old).area_faults) }
-        ensures no_put { MakesNoPut (view_of self.old) (view_of self.new) }
+        ensures call { IsAreaCall (view_of self.old) result (view_of self.new) }
     {
         area_answer(self.write_exact(area, at, bytes))
     }
 
     /// Fails exactly as listed and past the last call, and then cuts nothing.
     fn cut(&mut self, area: Area, len: u64) -> Result<(), AreaFault>
-        requires { IsTrue (view_of self.old).tells_bytes → len ≤ length (part area (view_of self.old).shown) }
+        requires { Reaches area len (view_of self.old) }
         ensures fails { is_err result ≡ fails_next self.old.meter }
         ensures after { self.new ≡ after_cut_to self.old area len }
 
         // What every world says.
-        ensures cut { OnOk result (IsTrue (view_of self.old).tells_bytes → part area (view_of self.new).shown ≡ take len (part area (view_of self.old).shown)) }
+        ensures cut { OnOk result (IsCutTo area len (view_of self.old) (view_of self.new)) }
         ensures beside { IsSameBeside area (view_of self.old).shown (view_of self.new).shown }
         ensures stops { StopsBy (Cuts area len) (view_of self.old) (view_of self.new) }
         ensures passes { Passes (view_of self.old) (view_of self.new) }
-        ensures moment { Rose (view_of self.old).moment (view_of self.new).moment }
-        ensures image { ShowsOne (view_of self.new) }
-        ensures cause { OnErr result (RoseByOne (view_of self.old).area_faults (view_of self.new).area_faults) }
-        ensures no_cause { OnOk result ((view_of self.new).area_faults ≡ (view_of self.old).area_faults) }
-        ensures no_put { MakesNoPut (view_of self.old) (view_of self.new) }
+        ensures call { IsAreaCall (view_of self.old) result (view_of self.new) }
     {
         area_answer(self.cut_exact(area, len))
     }
@@ -336,11 +321,7 @@ impl World for MemWorld {
         // What every world says.
         ensures synced { OnOk result (IsSynced area (view_of self.new)) }
         ensures quiet { IsQuiet (view_of self.old) (view_of self.new) }
-        ensures moment { Rose (view_of self.old).moment (view_of self.new).moment }
-        ensures image { ShowsOne (view_of self.new) }
-        ensures cause { OnErr result (RoseByOne (view_of self.old).area_faults (view_of self.new).area_faults) }
-        ensures no_cause { OnOk result ((view_of self.new).area_faults ≡ (view_of self.old).area_faults) }
-        ensures no_put { MakesNoPut (view_of self.old) (view_of self.new) }
+        ensures call { IsAreaCall (view_of self.old) result (view_of self.new) }
     {
         area_answer(self.sync_exact(area))
     }
@@ -353,18 +334,9 @@ impl World for MemWorld {
         // What every world says.
         ensures whole { OnOk result (Adds (output_of (view_of self.old)) (output_of (view_of self.new)) piece.now) }
         ensures front { OnErr result (AddsFront (output_of (view_of self.old)) (output_of (view_of self.new)) piece.now) }
-        ensures cause { OnErr result (RoseByOne (view_of self.old).put_faults (view_of self.new).put_faults) }
-        ensures faults_stay { (view_of self.old).put_faults ≤ (view_of self.new).put_faults }
-        ensures a { (view_of self.new).shown.a ≡ (view_of self.old).shown.a }
-        ensures b { (view_of self.new).shown.b ≡ (view_of self.old).shown.b }
         ensures stops { StopsBy (Puts piece.now) (view_of self.old) (view_of self.new) }
         ensures passes { Passes (view_of self.old) (view_of self.new) }
-        ensures moment { Rose (view_of self.old).moment (view_of self.new).moment }
-        ensures image { ShowsOne (view_of self.new) }
-        ensures counted { OnOk result ((view_of self.new).puts ≡ (view_of self.old).puts + 1) }
-        ensures not_counted { OnErr result ((view_of self.new).puts ≡ (view_of self.old).puts) }
-        ensures no_cause { OnOk result ((view_of self.new).put_faults ≡ (view_of self.old).put_faults) }
-        ensures no_area { (view_of self.new).area_faults ≡ (view_of self.old).area_faults }
+        ensures call { IsPutCall (view_of self.old) result (view_of self.new) }
     {
         if self.put_exact(piece) {
             Ok(())

@@ -1,4 +1,5 @@
 ghost use Rattle.std.specs.Prelude.{◌≡◌, ◌+◌, ◌≤◌, ◌^◌, false, length, take, drop, is_err, IsTrue, IfOk, OnOk, OnErr};
+ghost use Rattle.pgs_world.specs.Calls.{Reaches, HasLength, HasBytes, IsWrittenOver, IsCutTo, IsAreaCall, IsPutCall};
 ghost use Rattle.pgs_world.specs.Count.{Rose, RoseByOne};
 ghost use Rattle.pgs_world.specs.Disk.{written_over, IsSameBeside, Writes, Cuts, Puts};
 ghost use Rattle.pgs_world.specs.Moment.{Passes, StopsBy, IsQuiet, ShowsOne, IsSynced, MakesNoPut};
@@ -77,14 +78,10 @@ impl World for SilentWorld {
         ensures after { self.new ≡ after_area_call self.old (area_fails self.old (false)) }
 
         // What every world says.
-        ensures length { IfOk result (λ count. IsTrue (silent_view self.old).tells_bytes → count ≡ length (part area (silent_view self.old).shown)) }
+        ensures length { IfOk result (λ count. HasLength area count (silent_view self.old)) }
         ensures limit { IfOk result (λ count. count ≤ 2 ^ 40) }
         ensures quiet { IsQuiet (silent_view self.old) (silent_view self.new) }
-        ensures moment { Rose (silent_view self.old).moment (silent_view self.new).moment }
-        ensures image { ShowsOne (silent_view self.new) }
-        ensures cause { OnErr result (RoseByOne (silent_view self.old).area_faults (silent_view self.new).area_faults) }
-        ensures no_cause { OnOk result ((silent_view self.new).area_faults ≡ (silent_view self.old).area_faults) }
-        ensures no_put { MakesNoPut (silent_view self.old) (silent_view self.new) }
+        ensures call { IsAreaCall (silent_view self.old) result (silent_view self.new) }
     {
         self.area_call(false)?;
         Ok(0)
@@ -92,60 +89,48 @@ impl World for SilentWorld {
 
     /// Fails at each range that isn't empty, and where the call is listed.
     fn read_at(&mut self, area: Area, at: u64, buf: &mut [u8]) -> Result<(), AreaFault>
-        requires { IsTrue (silent_view self.old).tells_bytes → at + length buf.old ≤ length (part area (silent_view self.old).shown) }
+        requires { Reaches area (at + length buf.old) (silent_view self.old) }
         ensures same { buf.new ≡ buf.old }
         ensures fails { is_err result ≡ area_fails self.old (is_outside at (length buf.old)) }
         ensures after { self.new ≡ after_area_call self.old (area_fails self.old (is_outside at (length buf.old))) }
 
         // What every world says.
-        ensures bytes { OnOk result (IsTrue (silent_view self.old).tells_bytes → buf.new ≡ take (length buf.old) (drop at (part area (silent_view self.old).shown))) }
+        ensures bytes { OnOk result (HasBytes area at (length buf.old) buf.new (silent_view self.old)) }
         ensures quiet { IsQuiet (silent_view self.old) (silent_view self.new) }
-        ensures moment { Rose (silent_view self.old).moment (silent_view self.new).moment }
-        ensures image { ShowsOne (silent_view self.new) }
-        ensures cause { OnErr result (RoseByOne (silent_view self.old).area_faults (silent_view self.new).area_faults) }
-        ensures no_cause { OnOk result ((silent_view self.new).area_faults ≡ (silent_view self.old).area_faults) }
-        ensures no_put { MakesNoPut (silent_view self.old) (silent_view self.new) }
+        ensures call { IsAreaCall (silent_view self.old) result (silent_view self.new) }
     {
         self.area_call(at != 0 || !buf.is_empty())
     }
 
     /// Fails at each piece that isn't empty, past the front, and where the call is listed.
     fn write_at(&mut self, area: Area, at: u64, bytes: &[u8]) -> Result<(), AreaFault>
-        requires { IsTrue (silent_view self.old).tells_bytes → at ≤ length (part area (silent_view self.old).shown) }
+        requires { Reaches area at (silent_view self.old) }
         ensures fails { is_err result ≡ area_fails self.old (is_outside at (length bytes.now)) }
         ensures after { self.new ≡ after_area_call self.old (area_fails self.old (is_outside at (length bytes.now))) }
 
         // What every world says.
-        ensures written { OnOk result (IsTrue (silent_view self.old).tells_bytes → part area (silent_view self.new).shown ≡ written_over (part area (silent_view self.old).shown) at bytes.now) }
+        ensures written { OnOk result (IsWrittenOver area at bytes.now (silent_view self.old) (silent_view self.new)) }
         ensures limit { OnOk result (at + length bytes.now ≤ 2 ^ 40) }
         ensures beside { IsSameBeside area (silent_view self.old).shown (silent_view self.new).shown }
         ensures stops { StopsBy (Writes area at (length bytes.now)) (silent_view self.old) (silent_view self.new) }
         ensures passes { Passes (silent_view self.old) (silent_view self.new) }
-        ensures moment { Rose (silent_view self.old).moment (silent_view self.new).moment }
-        ensures image { ShowsOne (silent_view self.new) }
-        ensures cause { OnErr result (RoseByOne (silent_view self.old).area_faults (silent_view self.new).area_faults) }
-        ensures no_cause { OnOk result ((silent_view self.new).area_faults ≡ (silent_view self.old).area_faults) }
-        ensures no_put { MakesNoPut (silent_view self.old) (silent_view self.new) }
+        ensures call { IsAreaCall (silent_view self.old) result (silent_view self.new) }
     {
         self.area_call(at != 0 || !bytes.is_empty())
     }
 
     /// Fails at each length but 0, and where the call is listed.
     fn cut(&mut self, area: Area, len: u64) -> Result<(), AreaFault>
-        requires { IsTrue (silent_view self.old).tells_bytes → len ≤ length (part area (silent_view self.old).shown) }
+        requires { Reaches area len (silent_view self.old) }
         ensures fails { is_err result ≡ area_fails self.old (is_outside len 0) }
         ensures after { self.new ≡ after_area_call self.old (area_fails self.old (is_outside len 0)) }
 
         // What every world says.
-        ensures cut { OnOk result (IsTrue (silent_view self.old).tells_bytes → part area (silent_view self.new).shown ≡ take len (part area (silent_view self.old).shown)) }
+        ensures cut { OnOk result (IsCutTo area len (silent_view self.old) (silent_view self.new)) }
         ensures beside { IsSameBeside area (silent_view self.old).shown (silent_view self.new).shown }
         ensures stops { StopsBy (Cuts area len) (silent_view self.old) (silent_view self.new) }
         ensures passes { Passes (silent_view self.old) (silent_view self.new) }
-        ensures moment { Rose (silent_view self.old).moment (silent_view self.new).moment }
-        ensures image { ShowsOne (silent_view self.new) }
-        ensures cause { OnErr result (RoseByOne (silent_view self.old).area_faults (silent_view self.new).area_faults) }
-        ensures no_cause { OnOk result ((silent_view self.new).area_faults ≡ (silent_view self.old).area_faults) }
-        ensures no_put { MakesNoPut (silent_view self.old) (silent_view self.new) }
+        ensures call { IsAreaCall (silent_view self.old) result (silent_view self.new) }
     {
         self.area_call(len != 0)
     }
@@ -158,11 +143,7 @@ impl World for SilentWorld {
         // What every world says.
         ensures synced { OnOk result (IsSynced area (silent_view self.new)) }
         ensures quiet { IsQuiet (silent_view self.old) (silent_view self.new) }
-        ensures moment { Rose (silent_view self.old).moment (silent_view self.new).moment }
-        ensures image { ShowsOne (silent_view self.new) }
-        ensures cause { OnErr result (RoseByOne (silent_view self.old).area_faults (silent_view self.new).area_faults) }
-        ensures no_cause { OnOk result ((silent_view self.new).area_faults ≡ (silent_view self.old).area_faults) }
-        ensures no_put { MakesNoPut (silent_view self.old) (silent_view self.new) }
+        ensures call { IsAreaCall (silent_view self.old) result (silent_view self.new) }
     {
         self.area_call(false)
     }
@@ -175,18 +156,9 @@ impl World for SilentWorld {
         // What every world says.
         ensures whole { OnOk result (Adds (output_of (silent_view self.old)) (output_of (silent_view self.new)) piece.now) }
         ensures front { OnErr result (AddsFront (output_of (silent_view self.old)) (output_of (silent_view self.new)) piece.now) }
-        ensures cause { OnErr result (RoseByOne (silent_view self.old).put_faults (silent_view self.new).put_faults) }
-        ensures faults_stay { (silent_view self.old).put_faults ≤ (silent_view self.new).put_faults }
-        ensures a { (silent_view self.new).shown.a ≡ (silent_view self.old).shown.a }
-        ensures b { (silent_view self.new).shown.b ≡ (silent_view self.old).shown.b }
         ensures stops { StopsBy (Puts piece.now) (silent_view self.old) (silent_view self.new) }
         ensures passes { Passes (silent_view self.old) (silent_view self.new) }
-        ensures moment { Rose (silent_view self.old).moment (silent_view self.new).moment }
-        ensures image { ShowsOne (silent_view self.new) }
-        ensures counted { OnOk result ((silent_view self.new).puts ≡ (silent_view self.old).puts + 1) }
-        ensures not_counted { OnErr result ((silent_view self.new).puts ≡ (silent_view self.old).puts) }
-        ensures no_cause { OnOk result ((silent_view self.new).put_faults ≡ (silent_view self.old).put_faults) }
-        ensures no_area { (silent_view self.new).area_faults ≡ (silent_view self.old).area_faults }
+        ensures call { IsPutCall (silent_view self.old) result (silent_view self.new) }
     {
         self.calls = self.calls.saturating_add(1);
         if self.fail.as_slice().contains(&self.calls) || self.puts == u64::MAX {

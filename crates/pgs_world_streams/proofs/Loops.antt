@@ -1,5 +1,5 @@
 -- One more turn of a loop of reads or of writes.
-use Rattle.std.proofs.Common.{◌≡◌, ◌≢◌, ◌⊎◌, inl, inr, ℕ, ◌+◌, ◌-◌, ◌<◌, ◌≤◌, List, ◌++◌, length, take, drop, Ok, Err, Result, refl, sym, ap, ◌∙◌, subst, le_refl, drop_at, length-drop, length-take-le, take_all, arith}
+use Rattle.std.proofs.Common.{◌≡◌, inl, inr, ℕ, ◌+◌, ◌-◌, ◌<◌, ◌≤◌, List, ◌++◌, length, take, drop, Ok, Err, Result, refl, sym, ap, ◌∙◌, subst, le_refl, drop_at, length-drop, length-take-le, take_all, arith}
 use Rattle.std.proofs.lemmas.List.{take_rest}
 use Rattle.std.proofs.lemmas.Slice.{take-put_mid_below}
 use Rattle.std.proofs.Math.Seq.{take-add, take-append-le}
@@ -16,11 +16,6 @@ failed_by_error gives before at bytes error after gave =
 pub failed_by_none : {H : Type 0} (gives : PlacedCall H) (before : H) (at : ℕ) (bytes : List ℕ) (count : ℕ) (after : H) → 0 < length bytes → count ≡ 0 → gives before at bytes (Ok count) after → HasFailed gives
 failed_by_none gives before at bytes count after left none gave =
     record { before = before; at = at; bytes = bytes; answer = Ok 0; after = after; gave = subst (λ n. gives before at bytes (Ok n) after) none gave; stops = inl (left, refl) }
-
--- each turn so far took a byte, or a call failed
-pub tried_more : {F : Type 0} (turns done count now : ℕ) → (turns ≤ done) ⊎ F → count ≢ 0 → now ≡ done + count → (turns + 1 ≤ now) ⊎ F
-tried_more turns done count now (inl few) some is = inl (omega arith)
-tried_more turns done count now (inr failed) some is = inr failed
 
 rest_is : (bytes : List ℕ) (done : ℕ) → take (length bytes - done) (drop done bytes) ≡ drop done bytes
 rest_is bytes done = take_rest bytes done

@@ -1,6 +1,6 @@
 ghost use Rattle.pgs_world_streams.specs.Pieces.{HoldsPiece, PieceIs};
 
-use crate::SteadyWrite;
+use crate::{SteadyWrite, is_tried_again};
 use std::io::{self, ErrorKind};
 
 /// Writes the whole piece and flushes it. After an error some front of it was written.
@@ -9,19 +9,21 @@ pub fn write_whole<W: SteadyWrite>(writer: &mut W, piece: &[u8]) -> io::Result<(
     ensures given { PieceIs W.write_gives W.flush_gives writer.old piece.now result writer.new }
 {
     let mut done = 0;
-    for _ in 0..u64::MAX {
-        if done >= piece.len() {
-            return writer.flush_once();
-        }
+    let mut interruptions = 0;
+    while done < piece.len() {
         match writer.write_once(&piece[done..]) {
             Ok(0) => return Err(io::Error::from(ErrorKind::WriteZero)),
-            Ok(count) => done += count,
+            Ok(count) => {
+                done += count;
+                interruptions = 0;
+            }
             Err(error) => {
-                if error.kind() != ErrorKind::Interrupted {
+                interruptions += 1;
+                if !is_tried_again(&error, interruptions) {
                     return Err(error);
                 }
             }
         }
     }
-    Err(io::Error::from(ErrorKind::TimedOut))
+    writer.flush_once()
 }

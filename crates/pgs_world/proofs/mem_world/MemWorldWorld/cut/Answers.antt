@@ -1,4 +1,4 @@
-use Rattle.std.proofs.Common.{sym, subst}
+use Rattle.std.proofs.Common.{sym, subst, rules}
 use Rattle.pgs_world.specs.Disk.{Cuts}
 use Rattle.pgs_world.specs.Count.{Rose}
 use Rattle.pgs_world.specs.Moment.{Passes, StopsBy, ShowsOne}
@@ -18,14 +18,14 @@ returns-clause-passes c =
     let after = c.cut_exact.ensures.after in
     subst (λ (k : Kept). Passes (view_of c.args.self.now) (view_of k)) (sym after) (passes-cut c.args.self.now known c.args.area c.args.len)
 
-pub returns-clause-image : goal.returns-clause-image
-returns-clause-image c =
+pub returns-clause-call : goal.returns-clause-call
+returns-clause-call c =
     let known = c.cut_exact.ensures.known in
     let after = c.cut_exact.ensures.after in
-    subst (λ (k : Kept). ShowsOne (view_of k)) (sym after) (shows-cut c.args.self.now known c.args.area c.args.len)
-
-pub returns-clause-moment : goal.returns-clause-moment
-returns-clause-moment c =
-    let known = c.cut_exact.ensures.known in
-    let after = c.cut_exact.ensures.after in
-    subst (λ (k : Kept). Rose (view_of c.args.self.now).moment (view_of k).moment) (sym after) (rises-cut c.args.self.now known c.args.area c.args.len)
+    record {
+      moment = subst (λ (k : Kept). Rose (view_of c.args.self.now).moment (view_of k).moment) (sym after) (rises-cut c.args.self.now known c.args.area c.args.len);
+      image = subst (λ (k : Kept). ShowsOne (view_of k)) (sym after) (shows-cut c.args.self.now known c.args.area c.args.len);
+      cause = search rules;
+      no_cause = search rules;
+      no_put = search rules;
+    }

@@ -1,4 +1,4 @@
-use Rattle.std.proofs.Common.{◌≤◌, sym, subst}
+use Rattle.std.proofs.Common.{◌≤◌, sym, subst, rules}
 use Rattle.pgs_world.specs.Disk.{Puts}
 use Rattle.pgs_world.specs.Count.{Rose}
 use Rattle.pgs_world.specs.Moment.{Passes, StopsBy, ShowsOne}
@@ -18,44 +18,48 @@ returns-then-put_exact-clause-passes c =
     let after = c.put_exact.ensures.after in
     subst (λ (k : Kept). Passes (view_of c.args.self.now) (view_of k)) (sym after) (passes-put c.args.self.now known c.args.piece.now)
 
-pub returns-then-put_exact-clause-image : goal.returns-then-put_exact-clause-image
-returns-then-put_exact-clause-image c =
-    let known = c.put_exact.ensures.known in
-    let after = c.put_exact.ensures.after in
-    subst (λ (k : Kept). ShowsOne (view_of k)) (sym after) (shows-put c.args.self.now known c.args.piece.now)
-
 pub returns-else-put_exact-clause-passes : goal.returns-else-put_exact-clause-passes
 returns-else-put_exact-clause-passes c =
     let known = c.put_exact.ensures.known in
     let after = c.put_exact.ensures.after in
     subst (λ (k : Kept). Passes (view_of c.args.self.now) (view_of k)) (sym after) (passes-put c.args.self.now known c.args.piece.now)
 
-pub returns-else-put_exact-clause-image : goal.returns-else-put_exact-clause-image
-returns-else-put_exact-clause-image c =
-    let known = c.put_exact.ensures.known in
-    let after = c.put_exact.ensures.after in
-    subst (λ (k : Kept). ShowsOne (view_of k)) (sym after) (shows-put c.args.self.now known c.args.piece.now)
-
-pub returns-else-put_exact-clause-faults_stay : goal.returns-else-put_exact-clause-faults_stay
-returns-else-put_exact-clause-faults_stay c =
-    let known = c.put_exact.ensures.known in
-    let after = c.put_exact.ensures.after in
-    subst (λ (k : Kept). c.args.self.now.meter.put_faults ≤ k.meter.put_faults) (sym after) ((passes-put c.args.self.now known c.args.piece.now).put_faults)
-
-pub returns-then-put_exact-clause-moment : goal.returns-then-put_exact-clause-moment
-returns-then-put_exact-clause-moment c =
-    let known = c.put_exact.ensures.known in
-    let after = c.put_exact.ensures.after in
-    subst (λ (k : Kept). Rose (view_of c.args.self.now).moment (view_of k).moment) (sym after) (rises-put c.args.self.now known c.args.piece.now)
-
-pub returns-else-put_exact-clause-moment : goal.returns-else-put_exact-clause-moment
-returns-else-put_exact-clause-moment c =
-    let known = c.put_exact.ensures.known in
-    let after = c.put_exact.ensures.after in
-    subst (λ (k : Kept). Rose (view_of c.args.self.now).moment (view_of k).moment) (sym after) (rises-put c.args.self.now known c.args.piece.now)
-
 pub returns-else-put_exact-clause-stops : goal.returns-else-put_exact-clause-stops
 returns-else-put_exact-clause-stops c =
     let known = c.put_exact.ensures.known in
     let after = c.put_exact.ensures.after in
     subst (λ (k : Kept). StopsBy (Puts c.args.piece.now) (view_of c.args.self.now) (view_of k)) (sym after) (stops-put c.args.self.now known c.args.piece.now)
+
+pub returns-then-put_exact-clause-call : goal.returns-then-put_exact-clause-call
+returns-then-put_exact-clause-call c =
+    let known = c.put_exact.ensures.known in
+    let after = c.put_exact.ensures.after in
+    record {
+      moment = subst (λ (k : Kept). Rose (view_of c.args.self.now).moment (view_of k).moment) (sym after) (rises-put c.args.self.now known c.args.piece.now);
+      image = subst (λ (k : Kept). ShowsOne (view_of k)) (sym after) (shows-put c.args.self.now known c.args.piece.now);
+      a = search rules;
+      b = search rules;
+      cause = search rules;
+      no_cause = search rules;
+      faults_stay = subst (λ (k : Kept). c.args.self.now.meter.put_faults ≤ k.meter.put_faults) (sym after) ((passes-put c.args.self.now known c.args.piece.now).put_faults);
+      counted = search rules;
+      not_counted = search rules;
+      no_area = search rules;
+    }
+
+pub returns-else-put_exact-clause-call : goal.returns-else-put_exact-clause-call
+returns-else-put_exact-clause-call c =
+    let known = c.put_exact.ensures.known in
+    let after = c.put_exact.ensures.after in
+    record {
+      moment = subst (λ (k : Kept). Rose (view_of c.args.self.now).moment (view_of k).moment) (sym after) (rises-put c.args.self.now known c.args.piece.now);
+      image = subst (λ (k : Kept). ShowsOne (view_of k)) (sym after) (shows-put c.args.self.now known c.args.piece.now);
+      a = search rules;
+      b = search rules;
+      cause = search rules;
+      no_cause = search rules;
+      faults_stay = subst (λ (k : Kept). c.args.self.now.meter.put_faults ≤ k.meter.put_faults) (sym after) ((passes-put c.args.self.now known c.args.piece.now).put_faults);
+      counted = search rules;
+      not_counted = search rules;
+      no_area = search rules;
+    }

@@ -1,4 +1,4 @@
-use Rattle.std.proofs.Common.{length, refl, sym, subst}
+use Rattle.std.proofs.Common.{length, refl, sym, subst, rules}
 use Rattle.pgs_world.specs.Disk.{Writes}
 use Rattle.pgs_world.specs.Count.{Rose}
 use Rattle.pgs_world.specs.Moment.{Passes, StopsBy, ShowsOne}
@@ -18,14 +18,14 @@ returns-clause-passes c =
     let after = c.write_exact.ensures.after in
     subst (λ (k : Kept). Passes (view_of c.args.self.now) (view_of k)) (sym after) (passes-write c.args.self.now known c.args.area c.args.at c.args.bytes.now (part_within c.args.area c.args.self.now.now c.args.at (c.requires refl)))
 
-pub returns-clause-image : goal.returns-clause-image
-returns-clause-image c =
+pub returns-clause-call : goal.returns-clause-call
+returns-clause-call c =
     let known = c.write_exact.ensures.known in
     let after = c.write_exact.ensures.after in
-    subst (λ (k : Kept). ShowsOne (view_of k)) (sym after) (shows-write c.args.self.now known c.args.area c.args.at c.args.bytes.now (part_within c.args.area c.args.self.now.now c.args.at (c.requires refl)))
-
-pub returns-clause-moment : goal.returns-clause-moment
-returns-clause-moment c =
-    let known = c.write_exact.ensures.known in
-    let after = c.write_exact.ensures.after in
-    subst (λ (k : Kept). Rose (view_of c.args.self.now).moment (view_of k).moment) (sym after) (rises-write c.args.self.now known c.args.area c.args.at c.args.bytes.now (part_within c.args.area c.args.self.now.now c.args.at (c.requires refl)))
+    record {
+      moment = subst (λ (k : Kept). Rose (view_of c.args.self.now).moment (view_of k).moment) (sym after) (rises-write c.args.self.now known c.args.area c.args.at c.args.bytes.now (part_within c.args.area c.args.self.now.now c.args.at (c.requires refl)));
+      image = subst (λ (k : Kept). ShowsOne (view_of k)) (sym after) (shows-write c.args.self.now known c.args.area c.args.at c.args.bytes.now (part_within c.args.area c.args.self.now.now c.args.at (c.requires refl)));
+      cause = search rules;
+      no_cause = search rules;
+      no_put = search rules;
+    }
