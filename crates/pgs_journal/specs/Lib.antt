@@ -1,5 +1,6 @@
 pub mod Area
 pub mod Bounds
+pub mod Calls
 pub mod Format
 pub mod Reading
 pub mod Samples

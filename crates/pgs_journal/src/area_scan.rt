@@ -1,6 +1,7 @@
 ghost use Rattle.std.specs.Prelude.{◌≡◌, ◌≤◌, ◌^◌, List, ℕ, length, IsTrue, Err, IfOk};
 ghost use Rattle.pgs_journal.specs.Area.{area_state, HoldsStore};
 ghost use Rattle.pgs_journal.specs.Bounds.{IsBounded};
+ghost use Rattle.pgs_journal.specs.Calls.{HasAreaCauseWhere};
 ghost use Rattle.pgs_journal.specs.Seen.{HasLength, Stand, Decide, IsStateOf};
 ghost use Rattle.pgs_world.specs.Count.{RoseByOne};
 ghost use Rattle.pgs_world.specs.Moment.{IsQuiet, ShowsOne, MakesNoPut};
@@ -26,9 +27,7 @@ fn scan_behind<W: World>(
     ensures decided { IfOk result (λ state. Decide (W.view world.old) front.now.area front.now.len 0 (IsStateOf state)) }
     ensures quiet { IsQuiet (W.view world.old) (W.view world.new) }
     ensures image { ShowsOne (W.view world.new) }
-    ensures cause { result ≡ Err ScanFault.AreaFault → RoseByOne (W.view world.old).area_faults (W.view world.new).area_faults }
-    ensures last { result ≡ Err ScanFault.AreaFault → W.failed world.new }
-    ensures no_cause { (result ≡ Err ScanFault.AreaFault → ⊥) → (W.view world.new).area_faults ≡ (W.view world.old).area_faults }
+    ensures faults { HasAreaCauseWhere (result ≡ Err ScanFault.AreaFault) (W.failed world.new) (W.view world.old) (W.view world.new) }
     ensures no_put { MakesNoPut (W.view world.old) (W.view world.new) }
 {
     match front.head() {

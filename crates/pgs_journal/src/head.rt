@@ -1,6 +1,7 @@
 ghost use Rattle.std.specs.Prelude.{◌≡◌, ◌≤◌, ◌^◌, ℕ, length, Some, None, IsTrue, IfOk, OnOk, OnErr, if◌then◌else◌};
 ghost use Rattle.pgs_journal.specs.declared.format.Format.{Format};
 ghost use Rattle.pgs_journal.specs.Area.{epoch_of, format_in, head_format, head_with, head_of, head_in};
+ghost use Rattle.pgs_journal.specs.Calls.{HasAreaCause};
 ghost use Rattle.pgs_journal.specs.Seen.{HasLength, Stand, IsFront};
 ghost use Rattle.pgs_journal.specs.declared.head.Head.TheVariants as heads;
 ghost use Rattle.pgs_world.specs.Count.{RoseByOne};
@@ -80,9 +81,7 @@ impl Front {
         ensures bytes { IfOk result (λ front. 17 ≤ front.len → Stand (W.view world.old) area 0 front.bytes) }
         ensures quiet { IsQuiet (W.view world.old) (W.view world.new) }
         ensures image { ShowsOne (W.view world.new) }
-        ensures cause { OnErr result (RoseByOne (W.view world.old).area_faults (W.view world.new).area_faults) }
-        ensures last { OnErr result (W.failed world.new) }
-        ensures no_cause { OnOk result ((W.view world.new).area_faults ≡ (W.view world.old).area_faults) }
+        ensures faults { HasAreaCause result (W.failed world.new) (W.view world.old) (W.view world.new) }
         ensures no_put { MakesNoPut (W.view world.old) (W.view world.new) }
     {
         let len = world.len(area)?;

@@ -1,12 +1,12 @@
-ghost use Rattle.std.specs.Prelude.{◌≡◌, ◌+◌, ◌≤◌, ◌<◌, ◌^◌, ℕ, List, ◌++◌, ◌∷◌, [], length, take, true, false, Err, IsTrue, IfOk, OnOk, OnErr};
+ghost use Rattle.std.specs.Prelude.{◌≡◌, ◌+◌, ◌≤◌, ◌<◌, ◌^◌, ℕ, List, ◌++◌, ◌∷◌, [], length, take, true, false, Err, IsTrue, IfOk};
 ghost use Rattle.std.specs.Option.{MatchOption};
 ghost use Rattle.byteorder.specs.Endian.{big_bytes, big_number};
 ghost use Rattle.pgs_codec.specs.Frame.{number_field};
 ghost use Rattle.pgs_journal.specs.Area.{is_fit, is_sound};
+ghost use Rattle.pgs_journal.specs.Calls.{HasAreaCause, HasAreaCauseWhere};
 ghost use Rattle.pgs_journal.specs.Format.{field_bytes, is_epoch, opened, record_number};
 ghost use Rattle.pgs_journal.specs.Reading.{record_of, Torn};
 ghost use Rattle.pgs_journal.specs.Seen.{HasLength, Stand, Decide, IsRead, IsStateOf};
-ghost use Rattle.pgs_world.specs.Count.{RoseByOne};
 ghost use Rattle.pgs_world.specs.Moment.{IsQuiet, ShowsOne, MakesNoPut};
 
 use crate::journal::OPEN;
@@ -95,9 +95,7 @@ impl RecordReader {
             × Stand (W.view world.old) self.now.area at (number_field (record_number self.now.format number) ++ big_bytes 8 size))) }
         ensures quiet { IsQuiet (W.view world.old) (W.view world.new) }
         ensures image { ShowsOne (W.view world.old) → ShowsOne (W.view world.new) }
-        ensures cause { OnErr result (RoseByOne (W.view world.old).area_faults (W.view world.new).area_faults) }
-        ensures last { OnErr result (W.failed world.new) }
-        ensures no_cause { OnOk result ((W.view world.new).area_faults ≡ (W.view world.old).area_faults) }
+        ensures faults { HasAreaCause result (W.failed world.new) (W.view world.old) (W.view world.new) }
         ensures no_put { MakesNoPut (W.view world.old) (W.view world.new) }
     {
         let wanted = self.format.field_bytes();
@@ -132,9 +130,7 @@ impl RecordReader {
         ensures size { IfOk result (λ read. length read.0 ≡ size) }
         ensures quiet { IsQuiet (W.view world.old) (W.view world.new) }
         ensures image { ShowsOne (W.view world.old) → ShowsOne (W.view world.new) }
-        ensures cause { result ≡ Err ScanFault.AreaFault → RoseByOne (W.view world.old).area_faults (W.view world.new).area_faults }
-        ensures last { result ≡ Err ScanFault.AreaFault → W.failed world.new }
-        ensures no_cause { (result ≡ Err ScanFault.AreaFault → ⊥) → (W.view world.new).area_faults ≡ (W.view world.old).area_faults }
+        ensures faults { HasAreaCauseWhere (result ≡ Err ScanFault.AreaFault) (W.failed world.new) (W.view world.old) (W.view world.new) }
         ensures no_put { MakesNoPut (W.view world.old) (W.view world.new) }
     {
         let mut bytes = zeros(alloc, size as usize + 1)?;
@@ -161,9 +157,7 @@ impl RecordReader {
             (λ read. IsRead (W.view world.old) self.now.area self.now.len self.now.format self.now.epoch number at read.0 read.1)) }
         ensures quiet { IsQuiet (W.view world.old) (W.view world.new) }
         ensures image { ShowsOne (W.view world.old) → ShowsOne (W.view world.new) }
-        ensures cause { result ≡ Err ScanFault.AreaFault → RoseByOne (W.view world.old).area_faults (W.view world.new).area_faults }
-        ensures last { result ≡ Err ScanFault.AreaFault → W.failed world.new }
-        ensures no_cause { (result ≡ Err ScanFault.AreaFault → ⊥) → (W.view world.new).area_faults ≡ (W.view world.old).area_faults }
+        ensures faults { HasAreaCauseWhere (result ≡ Err ScanFault.AreaFault) (W.failed world.new) (W.view world.old) (W.view world.new) }
         ensures no_put { MakesNoPut (W.view world.old) (W.view world.new) }
     {
         let Some(size) = self.size_at(world, at, number)? else {
@@ -194,9 +188,7 @@ impl RecordReader {
         ensures decided { IfOk result (λ state. Decide (W.view world.old) self.now.area self.now.len 0 (IsStateOf state)) }
         ensures quiet { IsQuiet (W.view world.old) (W.view world.new) }
         ensures image { ShowsOne (W.view world.new) }
-        ensures cause { result ≡ Err ScanFault.AreaFault → RoseByOne (W.view world.old).area_faults (W.view world.new).area_faults }
-        ensures last { result ≡ Err ScanFault.AreaFault → W.failed world.new }
-        ensures no_cause { (result ≡ Err ScanFault.AreaFault → ⊥) → (W.view world.new).area_faults ≡ (W.view world.old).area_faults }
+        ensures faults { HasAreaCauseWhere (result ≡ Err ScanFault.AreaFault) (W.failed world.new) (W.view world.old) (W.view world.new) }
         ensures no_put { MakesNoPut (W.view world.old) (W.view world.new) }
     {
         let mut payloads = Vec::new(alloc);

@@ -1,13 +1,13 @@
 //! The steps in which a store is made in an area, each with its clause on stops.
 
-ghost use Rattle.std.specs.Prelude.{◌≡◌, ◌+◌, ◌≤◌, ◌^◌, ◌++◌, ◌∷◌, [], false, length, IsTrue, IfOk, OnOk, OnErr};
+ghost use Rattle.std.specs.Prelude.{◌≡◌, ◌+◌, ◌≤◌, ◌^◌, ◌++◌, ◌∷◌, [], false, length, IsTrue, IfOk, OnOk};
 ghost use Rattle.pgs_journal.specs.Area.{opens, is_empty_or_open};
+ghost use Rattle.pgs_journal.specs.Calls.{HasAreaCause, IsStep};
 ghost use Rattle.pgs_journal.specs.declared.format.Format.TheVariants.{Second};
 ghost use Rattle.pgs_journal.specs.Format.{head_body};
 ghost use Rattle.pgs_journal.specs.Stops.{Turns, Closes, KeepsGate};
-ghost use Rattle.pgs_world.specs.Count.{RoseByOne};
 ghost use Rattle.pgs_world.specs.Disk.{IsSameBeside};
-ghost use Rattle.pgs_world.specs.Moment.{Passes, StopsBy, IsQuiet, ShowsOne, IsSynced, IsSettled, MakesNoPut};
+ghost use Rattle.pgs_world.specs.Moment.{StopsBy, IsQuiet, ShowsOne, IsSynced, IsSettled, MakesNoPut};
 ghost use Rattle.pgs_world.specs.World.{part};
 
 use crate::journal::OPEN;
@@ -23,9 +23,7 @@ fn must_close<W: World>(world: &mut W, area: Area) -> Result<bool, AreaFault>
         → must ≡ is_empty_or_open (part area (W.view world.old).shown)) }
     ensures quiet { IsQuiet (W.view world.old) (W.view world.new) }
     ensures image { ShowsOne (W.view world.new) }
-    ensures cause { OnErr result (RoseByOne (W.view world.old).area_faults (W.view world.new).area_faults) }
-    ensures last { OnErr result (W.failed world.new) }
-    ensures no_cause { OnOk result ((W.view world.new).area_faults ≡ (W.view world.old).area_faults) }
+    ensures faults { HasAreaCause result (W.failed world.new) (W.view world.old) (W.view world.new) }
     ensures no_put { MakesNoPut (W.view world.old) (W.view world.new) }
 {
     if world.len(area)? == 0 {
@@ -47,12 +45,7 @@ pub(crate) fn close_gate<W: World>(world: &mut W, area: Area) -> Result<(), Area
         → StopsBy (Turns area Closes) (W.view world.old) (W.view world.new) }
     ensures stops_beside { StopsBy (IsSameBeside area) (W.view world.old) (W.view world.new) }
     ensures beside { IsSameBeside area (W.view world.old).shown (W.view world.new).shown }
-    ensures passes { Passes (W.view world.old) (W.view world.new) }
-    ensures image { ShowsOne (W.view world.new) }
-    ensures cause { OnErr result (RoseByOne (W.view world.old).area_faults (W.view world.new).area_faults) }
-    ensures last { OnErr result (W.failed world.new) }
-    ensures no_cause { OnOk result ((W.view world.new).area_faults ≡ (W.view world.old).area_faults) }
-    ensures no_put { MakesNoPut (W.view world.old) (W.view world.new) }
+    ensures step { IsStep result (W.failed world.new) (W.view world.old) (W.view world.new) }
 {
     if must_close(world, area)? {
         write_synced(world, area, 0, &[CLOSED])?;
@@ -84,12 +77,7 @@ pub(crate) fn write_store<W: World>(
     ensures settled { OnOk result (IsSettled (W.view world.old) → IsSettled (W.view world.new)) }
     ensures stops { StopsBy (Turns area KeepsGate) (W.view world.old) (W.view world.new) }
     ensures beside { IsSameBeside area (W.view world.old).shown (W.view world.new).shown }
-    ensures passes { Passes (W.view world.old) (W.view world.new) }
-    ensures image { ShowsOne (W.view world.new) }
-    ensures cause { OnErr result (RoseByOne (W.view world.old).area_faults (W.view world.new).area_faults) }
-    ensures last { OnErr result (W.failed world.new) }
-    ensures no_cause { OnOk result ((W.view world.new).area_faults ≡ (W.view world.old).area_faults) }
-    ensures no_put { MakesNoPut (W.view world.old) (W.view world.new) }
+    ensures step { IsStep result (W.failed world.new) (W.view world.old) (W.view world.new) }
 {
     world.write_at(area, 1, &head_bytes(epoch))?;
     world.write_at(area, 17, first)?;

@@ -1,7 +1,7 @@
 use Rattle.std.proofs.Common.{inl, refl, sym, ◌∙◌, ap}
 use Rattle.pgs_world.specs.Disk.{Writes, IsSameBeside}
 use Rattle.pgs_world.specs.World.{Triple, part}
-use Rattle.pgs_world.proofs.Moments.{quiet_stops, synced_quiet}
+use Rattle.pgs_world.proofs.Moments.{passes_on, quiet_stops, synced_quiet}
 use Rattle.pgs_journal.specs.Stops.{Turns, Closes}
 use Rattle.pgs_journal.proofs.Composing.{stops_weaker, beside_none}
 use Rattle.pgs_journal.proofs.Creating.{closing}
@@ -54,3 +54,14 @@ returns-in_ok-write_synced-clause-stops_beside g c =
     let new = g.W.World.view c.write_synced.new.world in
     quiet_stops (g.W.World.view c.args.world.now) mid new (IsSameBeside area) (beside_none area) c.must_close.ensures.quiet c.write_synced.ensures.passes
     (stops_weaker mid new (Writes area 0 1) (IsSameBeside area) (λ d t write. write.same) c.write_synced.ensures.stops)
+
+pub returns-in_ok-write_synced-clause-step : goal.returns-in_ok-write_synced-clause-step
+returns-in_ok-write_synced-clause-step g c =
+    let read = c.must_close.ensures in
+    let write = c.write_synced.ensures in
+    record {
+      passes = passes_on (g.W.World.view c.args.world.now) (g.W.World.view c.must_close.new.world) (g.W.World.view c.write_synced.new.world) read.quiet.passes write.passes;
+      image = write.image;
+      faults = record { cause = tt; last = tt; no_cause = c.in_ok-write_synced.ensures.no_cause ∙ c.in_ok-must_close.ensures.faults.no_cause };
+      no_put = record { puts = write.no_put.puts ∙ read.no_put.puts; put_faults = write.no_put.put_faults ∙ read.no_put.put_faults };
+    }

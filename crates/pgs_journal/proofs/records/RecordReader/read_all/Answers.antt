@@ -46,7 +46,7 @@ loop-gate-preserved g c =
           (read_back view now self.area self.len self.format self.epoch number (at + 1) payload behind before.quiet (rw c.in-Some.is at c.in_ok-payload.ensures.record)));
       quiet = quiet_on view now new before.quiet c.record_at.ensures.quiet;
       image = c.record_at.ensures.image before.image;
-      faults = c.in_ok-payload.ensures.no_cause (λ failed. cc) ∙ before.faults;
+      faults = c.in_ok-payload.ensures.faults.no_cause (λ failed. cc) ∙ before.faults;
       no_put = record { puts = c.record_at.ensures.no_put.puts ∙ before.no_put.puts; put_faults = c.record_at.ensures.no_put.put_faults ∙ before.no_put.put_faults };
     }
 
