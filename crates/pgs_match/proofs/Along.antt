@@ -5,15 +5,19 @@ use Rattle.std.specs.List.{list_any, sum_by}
 use Rattle.std.proofs.lemmas.List.Folds.{list_any_more, list_any_at}
 use Rattle.std.proofs.lemmas.List.Sums.{fold_more, sum_by_more, sum_by-take-le}
 use Rattle.pgs_base.specs.declared.element.EdgeId.{EdgeId}
+use Rattle.pgs_base.specs.declared.element.NodeId.{NodeId}
 use Rattle.pgs_base.specs.declared.part.Part.{Part}
 use Rattle.pgs_base.specs.Graph.{Graph}
 use Rattle.pgs_syntax.specs.declared.pattern.Atom.{Atom}
 use Rattle.pgs_syntax.specs.declared.pattern.Expr.{Expr}
 use Rattle.pgs_syntax.specs.declared.resolved.Resolved.{Resolved}
 use Rattle.pgs_match.specs.declared.step.Step.{Step}
+use Rattle.pgs_match.specs.declared.step.Step.TheVariants.{Along}
 use Rattle.pgs_match.specs.declared.bindings.Bound.{Bound}
-use Rattle.pgs_match.specs.Bounds.{with_bound}
-use Rattle.pgs_match.specs.Search.{can_complete, gathered, most_steps}
+use Rattle.pgs_match.specs.declared.bindings.Bound.TheVariants as bounds
+use Rattle.pgs_match.specs.Bounds.{bound_at, with_bound}
+use Rattle.pgs_match.specs.Plans.{bound_by}
+use Rattle.pgs_match.specs.Search.{can_complete, edges_along, gathered, most_steps}
 use Rattle.pgs_match.specs.Tests.{admitted_edge}
 
 module _ (resolved : Resolved) (g : Graph) (atoms : List Atom) (plan : List Step) (b : List (Option Bound)) (var : ℕ) where
@@ -43,6 +47,23 @@ module _ (resolved : Resolved) (g : Graph) (atoms : List Atom) (plan : List Step
   pub gathered_by : (exprs : List Expr) (so_far : List (List Part)) (id : EdgeId) (admitted : Option Bound) → admitted ≡ admitted_edge resolved g atoms var id →
       option_map_or (λ bound. gathered resolved g atoms exprs plan (with_bound b var bound) so_far) admitted so_far ≡ gathered_with exprs so_far id
   gathered_by exprs so_far id admitted same = ap (λ o. option_map_or (λ bound. gathered resolved g atoms exprs plan (with_bound b var bound) so_far) o so_far) same
+
+-- what the edges of a node come to, where a plan begins with them
+module _ (resolved : Resolved) (g : Graph) (atoms : List Atom) (plan rest : List Step) (before b : List (Option Bound)) (step : Step) (edge node var : ℕ) (forward : Bool) (from : NodeId)
+    (first : plan ≡ step ∷ rest) (along : step ≡ Along edge node forward) (named : var ≡ bound_by step) (same : b ≡ before) (at : Some (bounds.Node from) ≡ bound_at before node) where
+  pub steps_along : (last : ℕ) → length (edges_along g forward (Some (bounds.Node from))) + 1
+      + sum_by (steps_with resolved g atoms rest b var last) (edges_along g forward (Some (bounds.Node from))) ≡ most_steps resolved g atoms last plan before
+  steps_along last =
+      let count = λ (v : ℕ) (bindings : List (Option Bound)) (end : Option Bound).
+      length (edges_along g forward end) + 1 + sum_by (steps_with resolved g atoms rest bindings v last) (edges_along g forward end) in
+      (λ i. count ((named ∙ ap bound_by along) i) (same i) (at i)) ∙ sym (ap (λ p. most_steps resolved g atoms last p before) (first ∙ ap (λ s. s ∷ rest) along))
+
+  pub gathered_along : (exprs : List Expr) (tuples : List (List Part)) →
+      fold (gathered_with resolved g atoms rest b var exprs) tuples (edges_along g forward (Some (bounds.Node from))) ≡ gathered resolved g atoms exprs plan before tuples
+  gathered_along exprs tuples =
+      let all = λ (v : ℕ) (bindings : List (Option Bound)) (end : Option Bound).
+      fold (gathered_with resolved g atoms rest bindings v exprs) tuples (edges_along g forward end) in
+      (λ i. all ((named ∙ ap bound_by along) i) (same i) (at i)) ∙ sym (ap (λ p. gathered resolved g atoms exprs p before tuples) (first ∙ ap (λ s. s ∷ rest) along))
 
 pub at_place : {X : Type 0} (xs : List X) (i : ℕ) (x : X) → slice_get xs i ≡ Some x → (i < length xs) × (get_or xs i x ≡ x)
 at_place [] i x h = cc

@@ -1,15 +1,17 @@
 //! Whether a plan can complete bindings.
 
-ghost use Rattle.std.specs.Prelude.{◌≡◌, ◌+◌, ◌≤◌, true, false, [], ◌∷◌, length, slice_get, Some, MatchOption};
+ghost use Rattle.std.specs.Prelude.{◌≡◌, ◌+◌, ◌≤◌, true, false, [], ◌∷◌, length, Some, MatchOption, IfSome};
 ghost use Rattle.std.specs.Option.{option_map_or};
 ghost use Rattle.std.specs.List.{list_any, list_all, sum_by};
 ghost use Rattle.pgs_syntax.specs.Valid.{names_types};
 ghost use Rattle.pgs_match.specs.Bounds.{with_bound, end_at};
+ghost use Rattle.pgs_match.specs.Plans.{bound_by};
 ghost use Rattle.pgs_match.specs.Tests.{admitted_edge, are_ends, agrees};
 ghost use Rattle.pgs_match.specs.Search.{edges_along, can_complete, most_steps};
 
-use crate::{Bindings, Bound, Search, Step};
-use pgs_base::{EdgeId, NodeId, Steps};
+use crate::reads::edge_along;
+use crate::{Bindings, Bound, Branch, Search, Step};
+use pgs_base::{NodeId, Steps};
 use pgs_graph::GraphRead;
 use pgs_syntax::Atom;
 use std::sync::ledger::Ledger;
@@ -82,35 +84,26 @@ pub(crate) fn end_of(edge: Option<Bound>, source: bool) -> Option<NodeId>
     }
 }
 
-/// The first step of a plan, and the others.
-pub(crate) fn first(plan: &[Step]) -> Option<(Step, &[Step])>
-    ensures { MatchOption result (plan.now ≡ []) (λ parts. plan.now ≡ parts.0 ∷ parts.1.now) }
+/// The first step of a plan, and where it goes on from bindings.
+pub(crate) fn first<'a>(plan: &'a [Step], bindings: &'a Bindings) -> Option<(Step, Branch<'a>)>
+    ensures plan { MatchOption result (plan.now ≡ []) (λ parts. plan.now ≡ parts.0 ∷ parts.1.plan.now) }
+    ensures var { IfSome result (λ parts. parts.1.var ≡ bound_by parts.0) }
+    ensures bindings { IfSome result (λ parts. parts.1.bindings.now ≡ bindings.now) }
 {
     match plan.split_first() {
-        Some((step, rest)) => Some((*step, rest)),
+        Some((step, rest)) => {
+            let branch = Branch {
+                var: step.bound(),
+                plan: rest,
+                bindings,
+            };
+            Some((*step, branch))
+        }
         None => None,
     }
 }
 
 impl<'a, G: GraphRead> Search<'a, G> {
-    /// The edge at a place among those that go out of a node, or come in at it. One look-up.
-    pub(crate) fn edge_along<L: Ledger>(
-        &self,
-        from: NodeId,
-        forward: bool,
-        nth: usize,
-        steps: &mut Steps<L>,
-    ) -> Option<EdgeId>
-        ensures value { result ≡ slice_get (edges_along (G.meaning self.now.graph.now) forward (Some (Bound.Node from))) nth }
-        ensures tick { steps.new ≡ steps.old + 1 }
-    {
-        if forward {
-            self.graph.out_edge(from, nth, steps)
-        } else {
-            self.graph.in_edge(from, nth, steps)
-        }
-    }
-
     /// Whether the plan can complete the bindings to such that agree. It takes no memory.
     #[cycle(complete)]
     pub fn can_complete<L: Ledger>(
@@ -125,28 +118,17 @@ impl<'a, G: GraphRead> Search<'a, G> {
         ensures cost { steps.new ≤ steps.old
             + most_steps self.now.compiled.now (G.meaning self.now.graph.now) self.now.atoms.now 0 plan.now bindings.now }
     {
-        match first(plan) {
+        match first(plan, bindings) {
             None => all_agree(self.atoms, bindings),
-            Some(
-                (
-                    Step::Along {
-                        edge,
-                        node,
-                        forward,
-                    },
-                    rest,
-                ),
-            ) => match bindings.at(node) {
-                Some(Bound::Node(from)) => {
-                    self.can_complete_along(edge, from, forward, rest, bindings, steps)
-                }
+            Some((Step::Along { node, forward, .. }, branch)) => match bindings.at(node) {
+                Some(Bound::Node(from)) => self.can_complete_along(from, forward, &branch, steps),
                 _ => false,
             },
-            Some((Step::End { edge, node, source }, rest)) => {
+            Some((Step::End { edge, node, source }, branch)) => {
                 match end_of(bindings.at(edge), source) {
                     Some(id) => {
                         let admitted = self.admit_node(node, id, steps);
-                        self.can_complete_with(node, admitted, rest, bindings, steps)
+                        self.can_complete_with(admitted, &branch, steps)
                     }
                     None => false,
                 }
@@ -158,30 +140,28 @@ impl<'a, G: GraphRead> Search<'a, G> {
     #[cycle(complete)]
     fn can_complete_along<L: Ledger>(
         &self,
-        var: u32,
         from: NodeId,
         forward: bool,
-        plan: &[Step],
-        bindings: &Bindings,
+        branch: &Branch<'_>,
         steps: &mut Steps<L>,
     ) -> bool
         requires { list_all (names_types self.now.compiled.now) self.now.atoms.now ≡ true }
         ensures found { result ≡ list_any (λ id. option_map_or
-            (λ bound. can_complete self.now.compiled.now (G.meaning self.now.graph.now) self.now.atoms.now plan.now (with_bound bindings.now var bound))
-            (admitted_edge self.now.compiled.now (G.meaning self.now.graph.now) self.now.atoms.now var id) false)
+            (λ bound. can_complete self.now.compiled.now (G.meaning self.now.graph.now) self.now.atoms.now branch.now.plan.now (with_bound branch.now.bindings.now branch.now.var bound))
+            (admitted_edge self.now.compiled.now (G.meaning self.now.graph.now) self.now.atoms.now branch.now.var id) false)
             (edges_along (G.meaning self.now.graph.now) forward (Some (Bound.Node from))) }
         ensures no_step_back { steps.old ≤ steps.new }
         ensures cost { steps.new ≤ steps.old + (length (edges_along (G.meaning self.now.graph.now) forward (Some (Bound.Node from))) + 1
             + sum_by (λ id. 3 + option_map_or
-            (λ bound. most_steps self.now.compiled.now (G.meaning self.now.graph.now) self.now.atoms.now 0 plan.now (with_bound bindings.now var bound))
-            (admitted_edge self.now.compiled.now (G.meaning self.now.graph.now) self.now.atoms.now var id) 0)
+            (λ bound. most_steps self.now.compiled.now (G.meaning self.now.graph.now) self.now.atoms.now 0 branch.now.plan.now (with_bound branch.now.bindings.now branch.now.var bound))
+            (admitted_edge self.now.compiled.now (G.meaning self.now.graph.now) self.now.atoms.now branch.now.var id) 0)
             (edges_along (G.meaning self.now.graph.now) forward (Some (Bound.Node from)))) }
     {
         for nth in 0..self.graph.count() as usize {
-            match self.edge_along(from, forward, nth, steps) {
+            match edge_along(self.graph, from, forward, nth, steps) {
                 Some(id) => {
-                    let admitted = self.admit_edge(var, id, steps);
-                    if self.can_complete_with(var, admitted, plan, bindings, steps) {
+                    let admitted = self.admit_edge(branch.var, id, steps);
+                    if self.can_complete_with(admitted, branch, steps) {
                         return true;
                     }
                 }
@@ -195,23 +175,24 @@ impl<'a, G: GraphRead> Search<'a, G> {
     #[cycle(complete)]
     fn can_complete_with<L: Ledger>(
         &self,
-        var: u32,
         admitted: Option<Bound>,
-        plan: &[Step],
-        bindings: &Bindings,
+        branch: &Branch<'_>,
         steps: &mut Steps<L>,
     ) -> bool
         requires { list_all (names_types self.now.compiled.now) self.now.atoms.now ≡ true }
         ensures found { result ≡ option_map_or
-            (λ bound. can_complete self.now.compiled.now (G.meaning self.now.graph.now) self.now.atoms.now plan.now (with_bound bindings.now var bound))
+            (λ bound. can_complete self.now.compiled.now (G.meaning self.now.graph.now) self.now.atoms.now branch.now.plan.now (with_bound branch.now.bindings.now branch.now.var bound))
             admitted false }
         ensures no_step_back { steps.old ≤ steps.new }
         ensures cost { steps.new ≤ steps.old + option_map_or
-            (λ bound. most_steps self.now.compiled.now (G.meaning self.now.graph.now) self.now.atoms.now 0 plan.now (with_bound bindings.now var bound))
+            (λ bound. most_steps self.now.compiled.now (G.meaning self.now.graph.now) self.now.atoms.now 0 branch.now.plan.now (with_bound branch.now.bindings.now branch.now.var bound))
             admitted 0 }
     {
         match admitted {
-            Some(bound) => self.can_complete(plan, &bindings.with(var, bound), steps),
+            Some(bound) => {
+                let bindings = branch.bindings.with(branch.var, bound);
+                self.can_complete(branch.plan, &bindings, steps)
+            }
             None => false,
         }
     }

@@ -11,8 +11,9 @@ ghost use Rattle.pgs_match.specs.Tests.{admitted_edge, agrees};
 ghost use Rattle.pgs_match.specs.Search.{edges_along, tuple_at, gathered, most_steps};
 
 use crate::completion::{all_agree, end_of, first};
-use crate::{Bindings, Bound, Search, Step};
-use pgs_base::{EdgeId, Memory, NodeId, Steps, TupleSet};
+use crate::reads::edge_along;
+use crate::{Bindings, Bound, Branch, Search, Step};
+use pgs_base::{Memory, NodeId, Steps, TupleSet};
 use pgs_graph::GraphRead;
 use pgs_syntax::Expr;
 use std::alloc::Global;
@@ -53,28 +54,17 @@ impl<'a, G: GraphRead> Gathering<'a, G> {
         ensures cost { steps.new ≤ steps.old + most_steps self.now.search.compiled.now (G.meaning self.now.search.graph.now)
             self.now.search.atoms.now (length self.now.exprs.now) plan.now bindings.now }
     {
-        match first(plan) {
+        match first(plan, bindings) {
             None => self.gather_one(bindings, tuples, steps),
-            Some(
-                (
-                    Step::Along {
-                        edge,
-                        node,
-                        forward,
-                    },
-                    rest,
-                ),
-            ) => match bindings.at(node) {
-                Some(Bound::Node(from)) => {
-                    self.gather_along(edge, from, forward, rest, bindings, tuples, steps)
-                }
+            Some((Step::Along { node, forward, .. }, branch)) => match bindings.at(node) {
+                Some(Bound::Node(from)) => self.gather_along(from, forward, &branch, tuples, steps),
                 _ => Ok(()),
             },
-            Some((Step::End { edge, node, source }, rest)) => {
+            Some((Step::End { edge, node, source }, branch)) => {
                 match end_of(bindings.at(edge), source) {
                     Some(id) => {
                         let admitted = self.search.admit_node(node, id, steps);
-                        self.gather_with(node, admitted, rest, bindings, tuples, steps)
+                        self.gather_with(admitted, &branch, tuples, steps)
                     }
                     None => Ok(()),
                 }
@@ -111,34 +101,32 @@ impl<'a, G: GraphRead> Gathering<'a, G> {
     #[cycle(gather)]
     fn gather_along<L: Ledger>(
         &self,
-        var: u32,
         from: NodeId,
         forward: bool,
-        plan: &[Step],
-        bindings: &Bindings,
+        branch: &Branch<'_>,
         tuples: &mut TupleSet,
         steps: &mut Steps<L>,
     ) -> Result<(), Memory>
         requires { list_all (names_types self.now.search.compiled.now) self.now.search.atoms.now ≡ true }
         ensures ok { OnOk result (tuples.new ≡ fold (λ so_far id. option_map_or
             (λ bound. gathered self.now.search.compiled.now (G.meaning self.now.search.graph.now) self.now.search.atoms.now
-            self.now.exprs.now plan.now (with_bound bindings.now var bound) so_far)
-            (admitted_edge self.now.search.compiled.now (G.meaning self.now.search.graph.now) self.now.search.atoms.now var id) so_far)
+            self.now.exprs.now branch.now.plan.now (with_bound branch.now.bindings.now branch.now.var bound) so_far)
+            (admitted_edge self.now.search.compiled.now (G.meaning self.now.search.graph.now) self.now.search.atoms.now branch.now.var id) so_far)
             tuples.old (edges_along (G.meaning self.now.search.graph.now) forward (Some (Bound.Node from)))) }
         ensures no_step_back { steps.old ≤ steps.new }
         ensures cost { steps.new ≤ steps.old
             + (length (edges_along (G.meaning self.now.search.graph.now) forward (Some (Bound.Node from))) + 1
             + sum_by (λ id. 3 + option_map_or
             (λ bound. most_steps self.now.search.compiled.now (G.meaning self.now.search.graph.now) self.now.search.atoms.now
-            (length self.now.exprs.now) plan.now (with_bound bindings.now var bound))
-            (admitted_edge self.now.search.compiled.now (G.meaning self.now.search.graph.now) self.now.search.atoms.now var id) 0)
+            (length self.now.exprs.now) branch.now.plan.now (with_bound branch.now.bindings.now branch.now.var bound))
+            (admitted_edge self.now.search.compiled.now (G.meaning self.now.search.graph.now) self.now.search.atoms.now branch.now.var id) 0)
             (edges_along (G.meaning self.now.search.graph.now) forward (Some (Bound.Node from)))) }
     {
         for nth in 0..self.search.graph.count() as usize {
-            match self.search.edge_along(from, forward, nth, steps) {
+            match edge_along(self.search.graph, from, forward, nth, steps) {
                 Some(id) => {
-                    let admitted = self.search.admit_edge(var, id, steps);
-                    self.gather_with(var, admitted, plan, bindings, tuples, steps)?;
+                    let admitted = self.search.admit_edge(branch.var, id, steps);
+                    self.gather_with(admitted, branch, tuples, steps)?;
                 }
                 None => return Ok(()),
             }
@@ -150,24 +138,25 @@ impl<'a, G: GraphRead> Gathering<'a, G> {
     #[cycle(gather)]
     fn gather_with<L: Ledger>(
         &self,
-        var: u32,
         admitted: Option<Bound>,
-        plan: &[Step],
-        bindings: &Bindings,
+        branch: &Branch<'_>,
         tuples: &mut TupleSet,
         steps: &mut Steps<L>,
     ) -> Result<(), Memory>
         requires { list_all (names_types self.now.search.compiled.now) self.now.search.atoms.now ≡ true }
         ensures ok { OnOk result (tuples.new ≡ option_map_or
             (λ bound. gathered self.now.search.compiled.now (G.meaning self.now.search.graph.now) self.now.search.atoms.now
-            self.now.exprs.now plan.now (with_bound bindings.now var bound) tuples.old) admitted tuples.old) }
+            self.now.exprs.now branch.now.plan.now (with_bound branch.now.bindings.now branch.now.var bound) tuples.old) admitted tuples.old) }
         ensures no_step_back { steps.old ≤ steps.new }
         ensures cost { steps.new ≤ steps.old + option_map_or
             (λ bound. most_steps self.now.search.compiled.now (G.meaning self.now.search.graph.now) self.now.search.atoms.now
-            (length self.now.exprs.now) plan.now (with_bound bindings.now var bound)) admitted 0 }
+            (length self.now.exprs.now) branch.now.plan.now (with_bound branch.now.bindings.now branch.now.var bound)) admitted 0 }
     {
         match admitted {
-            Some(bound) => self.gather(plan, &bindings.with(var, bound), tuples, steps),
+            Some(bound) => {
+                let bindings = branch.bindings.with(branch.var, bound);
+                self.gather(branch.plan, &bindings, tuples, steps)
+            }
             None => Ok(()),
         }
     }

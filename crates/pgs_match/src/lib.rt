@@ -16,6 +16,7 @@
 mod admission;
 mod asked;
 mod bindings;
+mod branch;
 mod calls;
 mod completion;
 mod copies;
@@ -24,16 +25,19 @@ pub mod laws;
 mod own;
 mod planned;
 mod planner;
+mod reads;
 mod search;
 mod searching;
 mod step;
 mod tuples;
 
 pub use bindings::{Bindings, Bound, MOST_VARIABLES};
+use branch::Branch;
 pub use calls::{each_element, each_x, in_scope, key_values, reach};
 pub use gathering::Gathering;
 pub use own::own_passes;
 pub use planned::{PlannedKey, Side, plan_key};
 pub use planner::plan_from;
+pub use reads::{edge_along, is_edge_typed};
 pub use search::Search;
 pub use step::Step;

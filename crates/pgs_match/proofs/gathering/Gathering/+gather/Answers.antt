@@ -1,7 +1,7 @@
-use Rattle.std.proofs.Common.{Some, length, sym, ap, ◌∙◌, arith}
+use Rattle.std.proofs.Common.{◌≡◌, ◌+◌, ◌≤◌, OnOk, Some, length, sym, ap, ◌∙◌, subst, arith}
 use Rattle.pgs_match.specs.declared.bindings.Bound.TheVariants as bounds
 use Rattle.pgs_match.specs.Search.{edges_along}
-use Rattle.pgs_match.proofs.Along.{gathered_with, gathered_by, steps_with, steps_by, fold_one_more, fold_all, past_end, at_place, cost_more, cost_all}
+use Rattle.pgs_match.proofs.Along.{gathered_with, gathered_by, gathered_along, steps_with, steps_by, steps_along, fold_one_more, fold_all, past_end, at_place, cost_more, cost_all}
 use Rattle.pgs_match.proofs.Few.{few_along}
 use Rattle.pgs_match.proofs.gathering.Gathering.+gather.Goals as goal
 
@@ -10,10 +10,10 @@ gather_along-returns-in_err-gather_with-in-Some-clause-cost g t c =
     let search = c.args.self.now.search in
     let graph = g.G.GraphRead.meaning search.graph.now in
     let many = length c.args.self.now.exprs.now in
-    let by = steps_by search.compiled.now graph search.atoms.now c.args.plan.now c.args.bindings.now c.args.var many c.in-Some.id c.admit_edge-admitted.result
+    let by = steps_by search.compiled.now graph search.atoms.now c.args.branch.now.plan.now c.args.branch.now.bindings.now c.args.branch.now.var many c.in-Some.id c.admit_edge-admitted.result
     c.admit_edge-admitted.ensures.value c.edge_along.new.steps c.admit_edge-admitted.new.steps c.gather_with.new.steps
     c.admit_edge-admitted.ensures.at_most c.gather_with.ensures.cost in
-    cost_all (steps_with search.compiled.now graph search.atoms.now c.args.plan.now c.args.bindings.now c.args.var many)
+    cost_all (steps_with search.compiled.now graph search.atoms.now c.args.branch.now.plan.now c.args.branch.now.bindings.now c.args.branch.now.var many)
     (edges_along graph c.args.forward (Some (bounds.Node c.args.from))) c.loop-nth.nth c.in-Some.id (sym c.in-Some.ensures.value)
     c.args.steps.now c.loop-nth.steps c.gather_with.new.steps c.loop-nth.invariant.cost (omega (arith, c.edge_along.ensures.tick, by))
 
@@ -23,7 +23,7 @@ gather_along-returns-in-None-clause-ok g t c =
     let graph = g.G.GraphRead.meaning search.graph.now in
     let ids = edges_along graph c.args.forward (Some (bounds.Node c.args.from)) in
     c.loop-nth.invariant.so_far
-    ∙ fold_all (gathered_with search.compiled.now graph search.atoms.now c.args.plan.now c.args.bindings.now c.args.var c.args.self.now.exprs.now) c.args.tuples.now ids c.loop-nth.nth
+    ∙ fold_all (gathered_with search.compiled.now graph search.atoms.now c.args.branch.now.plan.now c.args.branch.now.bindings.now c.args.branch.now.var c.args.self.now.exprs.now) c.args.tuples.now ids c.loop-nth.nth
     (past_end ids c.loop-nth.nth (sym c.in-None.ensures.value))
 
 pub gather_along-loop-nth-preserved : goal.gather_along-loop-nth-preserved
@@ -32,7 +32,7 @@ gather_along-loop-nth-preserved g t c =
     let graph = g.G.GraphRead.meaning search.graph.now in
     let exprs = c.args.self.now.exprs.now in
     let ids = edges_along graph c.args.forward (Some (bounds.Node c.args.from)) in
-    let f = gathered_with search.compiled.now graph search.atoms.now c.args.plan.now c.args.bindings.now c.args.var exprs in
+    let f = gathered_with search.compiled.now graph search.atoms.now c.args.branch.now.plan.now c.args.branch.now.bindings.now c.args.branch.now.var exprs in
     let before = c.loop-nth.invariant in
     let tick = c.edge_along.ensures.tick in
     let admitted = c.admit_edge-admitted.ensures in
@@ -40,14 +40,14 @@ gather_along-loop-nth-preserved g t c =
     record {
       so_far =
           c.in_ok-gather_with-in-Some.ensures.ok
-          ∙ gathered_by search.compiled.now graph search.atoms.now c.args.plan.now c.args.bindings.now c.args.var exprs c.loop-nth.tuples c.in-Some.id c.admit_edge-admitted.result admitted.value
+          ∙ gathered_by search.compiled.now graph search.atoms.now c.args.branch.now.plan.now c.args.branch.now.bindings.now c.args.branch.now.var exprs c.loop-nth.tuples c.in-Some.id c.admit_edge-admitted.result admitted.value
           ∙ ap (λ so_far. f so_far c.in-Some.id) before.so_far ∙ fold_one_more f c.args.tuples.now ids c.loop-nth.nth c.in-Some.id (sym c.in-Some.ensures.value);
       reached = let place = at_place ids c.loop-nth.nth c.in-Some.id (sym c.in-Some.ensures.value) in omega (arith, place.0);
       no_step_back = omega (arith, tick, admitted.no_step_back, with.no_step_back, before.no_step_back);
       cost =
-          let by = steps_by search.compiled.now graph search.atoms.now c.args.plan.now c.args.bindings.now c.args.var (length exprs) c.in-Some.id c.admit_edge-admitted.result
+          let by = steps_by search.compiled.now graph search.atoms.now c.args.branch.now.plan.now c.args.branch.now.bindings.now c.args.branch.now.var (length exprs) c.in-Some.id c.admit_edge-admitted.result
           admitted.value c.edge_along.new.steps c.admit_edge-admitted.new.steps c.gather_with.new.steps admitted.at_most with.cost in
-          cost_more (steps_with search.compiled.now graph search.atoms.now c.args.plan.now c.args.bindings.now c.args.var (length exprs)) ids c.loop-nth.nth c.in-Some.id
+          cost_more (steps_with search.compiled.now graph search.atoms.now c.args.branch.now.plan.now c.args.branch.now.bindings.now c.args.branch.now.var (length exprs)) ids c.loop-nth.nth c.in-Some.id
           (sym c.in-Some.ensures.value) c.args.steps.now c.loop-nth.steps c.gather_with.new.steps before.cost (omega (arith, tick, by));
     }
 
@@ -57,5 +57,23 @@ gather_along-returns-clause-ok g t c =
     let graph = g.G.GraphRead.meaning search.graph.now in
     let ids = edges_along graph c.args.forward (Some (bounds.Node c.args.from)) in
     c.loop-nth.invariant.so_far
-    ∙ fold_all (gathered_with search.compiled.now graph search.atoms.now c.args.plan.now c.args.bindings.now c.args.var c.args.self.now.exprs.now) c.args.tuples.now ids c.loop-nth.nth
+    ∙ fold_all (gathered_with search.compiled.now graph search.atoms.now c.args.branch.now.plan.now c.args.branch.now.bindings.now c.args.branch.now.var c.args.self.now.exprs.now) c.args.tuples.now ids c.loop-nth.nth
     (omega (arith, few_along graph c.args.from c.args.forward, c.count-nth-end.ensures.value, c.loop-nth-test.false))
+
+pub gather-returns-in-Some-Node-clause-ok : goal.gather-returns-in-Some-Node-clause-ok
+gather-returns-in-Some-Node-clause-ok g t c =
+    let search = c.args.self.now.search in
+    let next = c.in-Some-Along-default in
+    subst (λ tuples. OnOk c.gather_along.result (c.gather_along.new.tuples ≡ tuples))
+    (gathered_along search.compiled.now (g.G.GraphRead.meaning search.graph.now) search.atoms.now c.args.plan.now next.branch.plan.now c.args.bindings.now next.branch.bindings.now next.field-0-0 next.field-0-0-0
+    next.node next.branch.var next.forward c.in-Some-Node.from next.ensures.plan next.field-0-0-is next.ensures.var next.ensures.bindings (ap (λ bound. Some bound) (sym c.in-Some-Node.field-0-is) ∙ c.in-Some-Node.ensures) c.args.self.now.exprs.now c.args.tuples.now)
+    c.gather_along.ensures.ok
+
+pub gather-returns-in-Some-Node-clause-cost : goal.gather-returns-in-Some-Node-clause-cost
+gather-returns-in-Some-Node-clause-cost g t c =
+    let search = c.args.self.now.search in
+    let next = c.in-Some-Along-default in
+    subst (λ n. c.gather_along.new.steps ≤ c.args.steps.now + n)
+    (steps_along search.compiled.now (g.G.GraphRead.meaning search.graph.now) search.atoms.now c.args.plan.now next.branch.plan.now c.args.bindings.now next.branch.bindings.now next.field-0-0 next.field-0-0-0
+    next.node next.branch.var next.forward c.in-Some-Node.from next.ensures.plan next.field-0-0-is next.ensures.var next.ensures.bindings (ap (λ bound. Some bound) (sym c.in-Some-Node.field-0-is) ∙ c.in-Some-Node.ensures) (length c.args.self.now.exprs.now))
+    c.gather_along.ensures.cost

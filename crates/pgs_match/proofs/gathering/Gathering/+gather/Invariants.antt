@@ -9,10 +9,10 @@ abbrev pub decreases-gather : goal.decreases-gather
 decreases-gather g l = 3 * length l.plan.now
 
 abbrev pub decreases-gather_along : goal.decreases-gather_along
-decreases-gather_along g l = 3 * length l.plan.now + 2
+decreases-gather_along g l = 3 * length l.branch.now.plan.now + 2
 
 abbrev pub decreases-gather_with : goal.decreases-gather_with
-decreases-gather_with g l = 3 * length l.plan.now + 1
+decreases-gather_with g l = 3 * length l.branch.now.plan.now + 1
 
 abbrev pub invariant-gather_along-loop-nth : goal.invariant-gather_along-loop-nth
 invariant-gather_along-loop-nth g l =
@@ -20,8 +20,8 @@ invariant-gather_along-loop-nth g l =
     let graph = g.G.GraphRead.meaning search.graph.now in
     let ids = edges_along graph l.forward (Some (bounds.Node l.from)) in
     record {
-      so_far : l.tuples ≡ fold (gathered_with search.compiled.now graph search.atoms.now l.plan l.bindings l.var l.self.exprs.now) l.fn.tuples (take l.nth ids);
+      so_far : l.tuples ≡ fold (gathered_with search.compiled.now graph search.atoms.now l.branch.plan.now l.branch.bindings.now l.branch.var l.self.exprs.now) l.fn.tuples (take l.nth ids);
       reached : l.nth ≤ length ids;
       no_step_back : l.fn.steps ≤ l.steps;
-      cost : l.steps ≤ l.fn.steps + (l.nth + sum_by (steps_with search.compiled.now graph search.atoms.now l.plan l.bindings l.var (length l.self.exprs.now)) (take l.nth ids));
+      cost : l.steps ≤ l.fn.steps + (l.nth + sum_by (steps_with search.compiled.now graph search.atoms.now l.branch.plan.now l.branch.bindings.now l.branch.var (length l.self.exprs.now)) (take l.nth ids));
     }
