@@ -4,13 +4,12 @@ ghost use Rattle.pgs_run_words.specs.Words.{number_of};
 ghost use Rattle.pgs_events.specs.Events.{event_or, plain_event, elem_behind, reading, staging, staged, event_of, event_in, event_answer};
 ghost use Rattle.pgs_events.specs.Words.{word_of, behind_word};
 
-use crate::element::element;
-use crate::number::number;
 use crate::texts::no_event_text;
 use crate::words::{behind_word, without_return, word_of};
 use pgs_answer::line_too_long_text;
 use pgs_base::{Bytes, Memory};
 use pgs_run_base::{TEXT_LIMIT, txn_of};
+use pgs_run_words::{element, number};
 use pgs_sessions_machine::Event;
 use std::alloc::Global;
 

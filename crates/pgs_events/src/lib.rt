@@ -5,9 +5,7 @@
 #![tactic(auto)]
 
 mod asked;
-mod element;
 mod events;
-mod number;
 mod replies;
 mod texts;
 mod words;

@@ -12,3 +12,4 @@ pub mod Puts
 pub mod Reading
 pub mod Replies
 pub mod Run
+pub mod Telling

@@ -1,8 +1,13 @@
 -- Pieces of output, and what a world shows of them.
-use Rattle.std.specs.Prelude.{◌≡◌, ℕ, ◌+◌, List, [], ◌∷◌, ◌++◌, length, Option}
+use Rattle.std.specs.Prelude.{◌≡◌, ℕ, ◌+◌, List, [], ◌∷◌, ◌++◌, length, Option, Some, None}
 use Rattle.std.specs.Option.{option_map}
 use Rattle.std.specs.List.{concat}
 use Rattle.pgs_world.specs.World.{View, output_of}
+
+-- the pieces of one answer: none, or one
+abbrev pub pieces_in : Option (List ℕ) → List (List ℕ)
+pieces_in None = []
+pieces_in (Some piece) = piece ∷ []
 
 -- what a world shows of all that was put: the output, where the world tells it, and how many puts answered Ok
 pub record Shown : Type 0 where

@@ -18,11 +18,13 @@ mod reply;
 mod run;
 mod stop;
 mod taker;
+mod telling;
 
 pub use line_buffer::LineBuffer;
 pub use lines::{is_blank, line_end};
-pub use putting::{put_made, put_piece, put_pieces};
-pub use reply::{Reply, RunStatus, put_reply};
+pub use putting::{put_any, put_made, put_piece, put_pieces};
+pub use reply::{Reply, RunStatus, put_last, put_reply};
 pub use run::run_lines;
 pub use stop::Stop;
 pub use taker::LineTaker;
+pub use telling::{LineTeller, Telling};

@@ -3,7 +3,7 @@ ghost use Rattle.pgs_run_lines.specs.AreasKept.{KeepsAreas};
 ghost use Rattle.pgs_run_lines.specs.Calls.{stops_of_world};
 ghost use Rattle.pgs_run_lines.specs.Driving.{LineShows};
 ghost use Rattle.pgs_run_lines.specs.Ending.{HasAnyCause, faults_of};
-ghost use Rattle.pgs_run_lines.specs.Pieces.{shown_of};
+ghost use Rattle.pgs_run_lines.specs.Pieces.{pieces_in, shown_of};
 ghost use Rattle.pgs_run_lines.specs.Puts.{Puts};
 ghost use Rattle.pgs_world.specs.Disk.{Puts as PutsFront};
 ghost use Rattle.pgs_world.specs.Moment.{StopsBy};
@@ -25,6 +25,20 @@ pub fn put_piece<E, W: World>(world: &mut W, piece: &[u8]) -> Result<(), Stop<E>
     match world.put(piece) {
         Ok(()) => Ok(()),
         Err(_) => Err(Stop::PutFault),
+    }
+}
+
+/// Puts a piece, where there is one. `PutFault` is the one stop, and comes only where the count of put faults rose.
+pub fn put_any<E, W: World>(world: &mut W, piece: Option<Bytes>) -> Result<(), Stop<E>>
+    ensures shows { LineShows (shown_of (W.view world.old)) (pieces_in piece) result (shown_of (W.view world.new)) }
+    ensures fault { IfErr result (λ stop. stop ≡ Stop.PutFault) }
+    ensures cause { HasAnyCause (faults_of 0 (W.view world.old)) (faults_of 0 (W.view world.new)) result }
+    ensures last { stops_of_world result ≡ true → W.failed world.new }
+    ensures areas { KeepsAreas (W.view world.old) (W.view world.new) }
+{
+    match piece {
+        Some(piece) => put_piece(world, piece.as_slice()),
+        None => Ok(()),
     }
 }
 

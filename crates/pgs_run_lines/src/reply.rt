@@ -1,11 +1,11 @@
-ghost use Rattle.std.specs.Prelude.{◌≡◌, ◌⊎◌};
+ghost use Rattle.std.specs.Prelude.{◌≡◌, ◌⊎◌, IfOk, OnErr};
 ghost use Rattle.pgs_run_lines.specs.AreasKept.{KeepsAreas};
 ghost use Rattle.pgs_run_lines.specs.Replies.{EndsReply};
 ghost use Rattle.pgs_world.specs.Disk.{Puts as PutsFront};
 ghost use Rattle.pgs_world.specs.Moment.{StopsBy};
 
 use crate::putting::put_piece;
-use pgs_base::Bytes;
+use pgs_base::{Bytes, Memory};
 use pgs_world::World;
 
 /// How a program's run may end.
@@ -13,9 +13,16 @@ pub trait RunStatus: Copy {
     /// The status where a put failed.
     ghost put_failed: { Self };
 
+    /// The status where there was no memory.
+    ghost no_memory: { Self };
+
     /// The status where a put failed.
     fn put_fault() -> Self
         ensures { result ≡ put_failed };
+
+    /// The status where there was no memory.
+    fn memory() -> Self
+        ensures { result ≡ no_memory };
 }
 
 /// A line, and the status of a run that puts it last.
@@ -36,5 +43,19 @@ pub fn put_reply<E: RunStatus, W: World>(world: &mut W, reply: &Reply<E>) -> E
     match put_piece::<E, W>(world, reply.line.as_slice()) {
         Ok(()) => reply.status,
         Err(_) => E::put_fault(),
+    }
+}
+
+/// Puts a line that was made, where there was memory for it, and gives the status: the one given, that of a put that failed, or that of
+/// no memory. At every moment both areas are what they were; without memory nothing is done.
+pub fn put_last<E: RunStatus, W: World>(world: &mut W, made: Result<Bytes, Memory>, status: E) -> E
+    ensures put { IfOk made (λ line. EndsReply line status E.put_failed (W.view world.old) result (W.view world.new)) }
+    ensures unmade { OnErr made ((result ≡ E.no_memory) × (world.new ≡ world.old)) }
+    ensures areas { KeepsAreas (W.view world.old) (W.view world.new) }
+    ensures last { (result ≡ status) ⊎ ((result ≡ E.no_memory) ⊎ W.failed world.new) }
+{
+    match made {
+        Ok(line) => put_reply(world, &Reply { line, status }),
+        Err(_) => E::memory(),
     }
 }

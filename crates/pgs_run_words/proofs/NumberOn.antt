@@ -1,7 +1,7 @@
 -- A number that digits go on with, one digit on.
 use Rattle.std.proofs.Common.{◌≡◌, ◌∙◌, ℕ, ◌+◌, ◌*◌, ◌^◌, ◌<◌, ◌&&◌, List, drop, length, get_or, ap, refl, Bool, true, false, Option, Some, None, nat_lt, if◌then◌else◌, option_and_then}
 use Rattle.std.specs.Char.{is_ascii_digit, digit_value}
-use Rattle.std.proofs.lemmas.List.{drop_more, drop_all}
+use Rattle.std.proofs.lemmas.List.{drop_more}
 use Rattle.pgs_run_words.specs.Words.{number_after}
 
 abbrev with_digit : ℕ → ℕ → Option ℕ

@@ -32,8 +32,11 @@ two_of _ = None
 
 -- ---- the commands
 
+abbrev pub required_rule : Text → Rule
+required_rule id = record (new_rule id) { required = true; action = Some Set }
+
 abbrev pub name_rule : Rule
-name_rule = record (new_rule (codes "NAME")) { required = true; action = Some Set }
+name_rule = required_rule (codes "NAME")
 
 abbrev pub feed_rule : Rule
 feed_rule = record (new_rule (codes "FEED")) { action = Some Append }
@@ -56,9 +59,6 @@ one_word = with_rule (bare (codes "one")) name_rule
 
 abbrev pub name_and_feeds : App
 name_and_feeds = with_rule (with_rule (bare (codes "feeds")) name_rule) feed_rule
-
-abbrev pub required_rule : Text → Rule
-required_rule id = record (new_rule id) { required = true; action = Some Set }
 
 abbrev pub two_words : App
 two_words = with_rule (with_rule (bare (codes "two")) (required_rule (codes "FIRST"))) (required_rule (codes "SECOND"))

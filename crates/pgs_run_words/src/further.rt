@@ -5,10 +5,10 @@ ghost use Rattle.pgs_run_words.specs.declared.command.Command.TheVariants.{Expla
 
 use crate::Command;
 use crate::command_word::CommandWord;
-use crate::element::element;
+use crate::elements::element;
 use crate::name_and_feeds::read_name_and_feeds;
 use crate::no_word::read_no_word;
-use crate::number::{count, number};
+use crate::numbers::{count, number};
 use crate::one_word::read_one_word;
 use crate::two_words::read_two_words;
 use pgs_base::Memory;

@@ -2,6 +2,7 @@ ghost use Rattle.std.specs.Prelude.{◌≡◌, IfOk, map, option_map, true};
 ghost use Rattle.clap.specs.Words.{app_of, found_of, rows_of};
 ghost use Rattle.pgs_run_words.specs.Further.{are_plain, name_and_feeds, name_and_feeds_found, name_and_feeds_of};
 
+use crate::asking::{bare_command, required_word};
 use clap::error::ErrorKind;
 use clap::{Arg, ArgAction, ArgMatches, Command};
 use pgs_base::Memory;
@@ -18,15 +19,9 @@ pub struct NameAndFeeds<'a> {
 fn name_and_feeds_command<'a>(alloc: Global) -> Result<Command<'a>, AllocError>
     ensures { IfOk result (λ c. app_of c ≡ name_and_feeds) }
 {
-    let name = Arg::new(alloc, "NAME")
-        .required(true)
-        .action(ArgAction::Set);
     let feeds = Arg::new(alloc, "FEED").action(ArgAction::Append);
-    let bare = Command::new(alloc, "feeds")
-        .no_binary_name(true)
-        .disable_help_flag(true)
-        .disable_version_flag(true);
-    bare.arg(name)?.arg(feeds)
+    let named = bare_command(alloc, "feeds").arg(required_word(alloc, "NAME"))?;
+    named.arg(feeds)
 }
 
 /// The first of the further words as a name, and the others as feeds. `None` exactly where there is no word.

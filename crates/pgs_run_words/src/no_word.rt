@@ -2,6 +2,7 @@ ghost use Rattle.std.specs.Prelude.{◌≡◌, IfOk, map, true};
 ghost use Rattle.clap.specs.Words.{app_of};
 ghost use Rattle.pgs_run_words.specs.Further.{are_plain, no_word, is_none};
 
+use crate::asking::bare_command;
 use clap::Command;
 use clap::error::ErrorKind;
 use pgs_base::Memory;
@@ -11,10 +12,7 @@ use std::alloc::Global;
 fn no_word_command<'a>(alloc: Global) -> Command<'a>
     ensures { app_of result ≡ no_word }
 {
-    Command::new(alloc, "none")
-        .no_binary_name(true)
-        .disable_help_flag(true)
-        .disable_version_flag(true)
+    bare_command(alloc, "none")
 }
 
 /// Whether there is no further word.

@@ -2,8 +2,9 @@ ghost use Rattle.std.specs.Prelude.{◌≡◌, IfOk, map, option_map, true};
 ghost use Rattle.clap.specs.Words.{app_of};
 ghost use Rattle.pgs_run_words.specs.Further.{are_plain, one_word, one_of};
 
+use crate::asking::{bare_command, required_word};
+use clap::Command;
 use clap::error::ErrorKind;
-use clap::{Arg, ArgAction, Command};
 use pgs_base::Memory;
 use std::alloc::{AllocError, Global};
 
@@ -11,14 +12,7 @@ use std::alloc::{AllocError, Global};
 fn one_word_command<'a>(alloc: Global) -> Result<Command<'a>, AllocError>
     ensures { IfOk result (λ c. app_of c ≡ one_word) }
 {
-    let name = Arg::new(alloc, "NAME")
-        .required(true)
-        .action(ArgAction::Set);
-    let bare = Command::new(alloc, "one")
-        .no_binary_name(true)
-        .disable_help_flag(true)
-        .disable_version_flag(true);
-    bare.arg(name)
+    bare_command(alloc, "one").arg(required_word(alloc, "NAME"))
 }
 
 /// The one further word. `None` exactly where there isn't one.

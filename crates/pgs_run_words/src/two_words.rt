@@ -2,8 +2,9 @@ ghost use Rattle.std.specs.Prelude.{◌≡◌, IfOk, map, option_map, true};
 ghost use Rattle.clap.specs.Words.{app_of, found_of, rows_of};
 ghost use Rattle.pgs_run_words.specs.Further.{are_plain, two_words, two_found, two_of};
 
+use crate::asking::{bare_command, required_word};
 use clap::error::ErrorKind;
-use clap::{Arg, ArgAction, ArgMatches, Command};
+use clap::{ArgMatches, Command};
 use pgs_base::Memory;
 use std::alloc::{AllocError, Global};
 
@@ -11,17 +12,8 @@ use std::alloc::{AllocError, Global};
 fn two_words_command<'a>(alloc: Global) -> Result<Command<'a>, AllocError>
     ensures { IfOk result (λ c. app_of c ≡ two_words) }
 {
-    let first = Arg::new(alloc, "FIRST")
-        .required(true)
-        .action(ArgAction::Set);
-    let second = Arg::new(alloc, "SECOND")
-        .required(true)
-        .action(ArgAction::Set);
-    let bare = Command::new(alloc, "two")
-        .no_binary_name(true)
-        .disable_help_flag(true)
-        .disable_version_flag(true);
-    bare.arg(first)?.arg(second)
+    let one = bare_command(alloc, "two").arg(required_word(alloc, "FIRST"))?;
+    one.arg(required_word(alloc, "SECOND"))
 }
 
 /// The two further words. `None` exactly where there aren't two.

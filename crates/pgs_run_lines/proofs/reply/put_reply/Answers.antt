@@ -1,4 +1,4 @@
-use Rattle.std.proofs.Common.{◌≡◌, ◌∷◌, [], ℕ, List, inl, inr, refl, subst}
+use Rattle.std.proofs.Common.{◌∷◌, [], ℕ, List, inl, inr, refl, subst}
 use Rattle.pgs_run_lines.specs.Ending.{Shows}
 use Rattle.pgs_run_lines.specs.Pieces.{shown_of, ShowsAll}
 use Rattle.pgs_world.specs.Disk.{Puts}

@@ -1,7 +1,7 @@
 ghost use Rattle.std.specs.Prelude.{◌≡◌};
 ghost use Rattle.pgs_run_words.specs.Words.{elem_of};
 
-use crate::number::number;
+use crate::numbers::number;
 use pgs_base::{EdgeId, Elem, NodeId};
 
 /// The element of a word: `n` or `e`, and its number. `None` exactly where the word isn't of this form.

@@ -1,8 +1,8 @@
-use Rattle.std.proofs.Common.{◌≡◌, ◌∙◌, ◌+◌, sym, ap, refl, arith, ℕ, drop, option_and_then}
+use Rattle.std.proofs.Common.{◌∙◌, ◌+◌, sym, ap, refl, arith, ℕ, drop, option_and_then}
 use Rattle.std.proofs.lemmas.List.{drop_all}
 use Rattle.pgs_run_words.specs.Words.{number_after}
 use Rattle.pgs_run_words.proofs.NumberOn.{number_on}
-use Rattle.pgs_events.proofs.number.digits.Goals as goal
+use Rattle.pgs_run_words.proofs.numbers.digits.Goals as goal
 
 pub loop-byte-init : goal.loop-byte-init
 loop-byte-init c = refl

@@ -1,6 +1,6 @@
 use Rattle.std.proofs.Common.{◌≡◌, drop}
 use Rattle.pgs_run_words.specs.Words.{number_after}
-use Rattle.pgs_run_words.proofs.number.digits.Given as goal
+use Rattle.pgs_run_words.proofs.numbers.digits.Given as goal
 
 abbrev pub invariant-loop-byte : goal.invariant-loop-byte
 invariant-loop-byte l = number_after l.number (drop l.byte-index l.word) ≡ number_after 0 l.word
