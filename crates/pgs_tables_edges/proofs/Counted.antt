@@ -1,5 +1,5 @@
 -- What a range costs: the copies of at most three chunks.
-use Rattle.std.proofs.Common.{◌≡◌, ℕ, ◌+◌, ◌-◌, ◌*◌, ◌<◌, ◌≤◌, ◌++◌, ◌∷◌, [], List, length, take, get_or, sym, ap, subst, ◌∙◌, arith, inl, inr}
+use Rattle.std.proofs.Common.{◌≡◌, ℕ, ◌+◌, ◌-◌, ◌*◌, ◌<◌, ◌≤◌, List, length, take, get_or, sym, subst, arith, inl, inr}
 use Rattle.std.specs.List.{flat_map}
 use Rattle.std.proofs.lemmas.Bool.{cases_lt}
 use Rattle.std.proofs.lemmas.List.{take_more}
@@ -44,8 +44,8 @@ module _ {X A : Type 0} (items : X → List A) (xs : List X) (begin next from to
         elim (cases_lt begin next) [
           | inl lt ↦ omega (arith, counted.past lt, ends)
           | inr le ↦
-            let same_place : next ≡ begin = omega (arith, le, counted.begun) in
-            subst (λ n. from ≤ length (flat_map items (take (n + 1) xs))) (sym same_place) (omega (arith, inside))
+              let same_place : next ≡ begin = omega (arith, le, counted.begun) in
+              subst (λ n. from ≤ length (flat_map items (take (n + 1) xs))) (sym same_place) (omega (arith, inside))
         ]
 
     next_later : begin + 2 ≤ next + 1 → length (flat_map items (take (next + 1) xs)) < to → (old ≤ less + 2048) × (last_count items 1024 (take (next + 1) xs) ≤ grown)
@@ -56,8 +56,8 @@ module _ {X A : Type 0} (items : X → List A) (xs : List X) (begin next from to
         elim (cases_lt next (begin + 2)) [
           | inl early ↦ (omega (arith, counted.first (omega (arith, early)), counted.begun, early, h, copied), all)
           | inr late ↦
-            let before = counted.later (omega (arith, late)) on in
-            (omega (arith, before.0, same front back (omega (arith, pair, before.1))), all)
+              let before = counted.later (omega (arith, late)) on in
+              (omega (arith, before.0, same front back (omega (arith, pair, before.1))), all)
         ]
 
     next_total : old ≤ less + 3072

@@ -12,12 +12,12 @@ use std::alloc::Global;
 pub fn spliced_block(
     alloc: Global,
     block: &[EdgeId],
-    from: usize,
-    to: usize,
+    range: (usize, usize),
     ids: &[EdgeId],
 ) -> Result<Vec<EdgeId>, Memory>
-    ensures { IfOk result (λ spliced. spliced.items ≡ take from block.now ++ (ids.now ++ drop to block.now)) }
+    ensures { IfOk result (λ spliced. spliced.items ≡ take range.0 block.now ++ (ids.now ++ drop range.1 block.now)) }
 {
+    let (from, to) = range;
     let before = &block[..from.min(block.len())];
     let after = &block[to.min(block.len())..];
     let count = before

@@ -8,8 +8,8 @@ ghost use Rattle.pgs_tables_edges.specs.Starts.{StartFrom};
 
 mod builder;
 
-pub use builder::Builder;
 use crate::Chunk;
+pub use builder::Builder;
 use pgs_base::{EdgeId, Memory};
 use std::alloc::Global;
 use std::marker::Model;
@@ -144,8 +144,9 @@ impl Chunks {
         self.parts.len()
     }
 
-    /// The ids in one block, which has room for no more.
+    /// Few ids in one block, which has room for no more.
     pub fn to_block(&self, alloc: Global) -> Result<Vec<EdgeId>, Memory>
+        requires { length self.now ≤ 64 }
         ensures { IfOk result (λ block. block.items ≡ self.now) }
     {
         let mut block = Vec::with_capacity(alloc, self.len())?;

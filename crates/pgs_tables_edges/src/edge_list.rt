@@ -102,7 +102,7 @@ impl EdgeList {
         match self.place(id) {
             Ok(_) => self.copy(alloc),
             Err(place) => {
-                let ids = self.ids.spliced(alloc, place, place, &[id])?;
+                let ids = self.ids.spliced(alloc, (place, place), &[id])?;
                 Ok(EdgeList { ids })
             }
         }
@@ -114,7 +114,7 @@ impl EdgeList {
     {
         match self.place(id) {
             Ok(place) => {
-                let ids = self.ids.spliced(alloc, place, place + 1, &[])?;
+                let ids = self.ids.spliced(alloc, (place, place + 1), &[])?;
                 Ok(EdgeList { ids })
             }
             Err(_) => self.copy(alloc),
@@ -165,7 +165,7 @@ impl EdgeList {
 impl Copyable for EdgeList {
     fn copy(&self, alloc: Global) -> Result<EdgeList, Memory> {
         let last = self.ids.len();
-        let ids = self.ids.spliced(alloc, last, last, &[])?;
+        let ids = self.ids.spliced(alloc, (last, last), &[])?;
         Ok(EdgeList { ids })
     }
 }

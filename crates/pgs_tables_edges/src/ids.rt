@@ -132,23 +132,32 @@ impl Ids {
         }
     }
 
+    // The ids in chunks.
+    fn to_chunks(&self, alloc: Global) -> Result<Chunks, Memory>
+        ensures { IfOk result (λ chunks. chunks ≡ self.now) }
+    {
+        match &self.form {
+            Form::Few(block) => chunks_of(alloc, block.as_slice()),
+            Form::Many(long) => long.to_chunks(alloc),
+        }
+    }
+
     /// The list with other ids in the place of a range. `Memory` where there was none left.
     pub fn spliced(
         &self,
         alloc: Global,
-        from: usize,
-        to: usize,
+        range: (usize, usize),
         ids: &[EdgeId],
     ) -> Result<Ids, Memory>
-        ensures { IfOk result (λ list. list ≡ take from self.now ++ (ids.now ++ drop to self.now)) }
+        ensures { IfOk result (λ list. list ≡ take range.0 self.now ++ (ids.now ++ drop range.1 self.now)) }
     {
         match &self.form {
             Form::Few(block) => {
-                let spliced = spliced_block(alloc, block.as_slice(), from, to, ids)?;
+                let spliced = spliced_block(alloc, block.as_slice(), range, ids)?;
                 Ids::from_block(alloc, spliced)
             }
             Form::Many(long) => {
-                let spliced = long.spliced(alloc, from, to, ids)?;
+                let spliced = long.spliced(alloc, range, ids)?;
                 Ids::from_long(alloc, spliced)
             }
         }
@@ -160,16 +169,7 @@ impl Ids {
         requires ids_ascend { IsStrictlySortedBy edge_cmp ids.now }
         ensures { IfOk result (λ list. list ≡ fold (insert_key edge_cmp) self.now ids.now) }
     {
-        let edited = match &self.form {
-            Form::Few(block) => {
-                let chunks = chunks_of(alloc, block.as_slice())?;
-                with_each(alloc, &chunks, ids)?
-            }
-            Form::Many(long) => {
-                let chunks = long.to_chunks(alloc)?;
-                with_each(alloc, &chunks, ids)?
-            }
-        };
+        let edited = with_each(alloc, &self.to_chunks(alloc)?, ids)?;
         Ids::from_chunks(alloc, edited)
     }
 
@@ -179,16 +179,7 @@ impl Ids {
         requires ids_ascend { IsStrictlySortedBy edge_cmp ids.now }
         ensures { IfOk result (λ list. list ≡ fold (λ left id. remove_key (is_at (edge_cmp id)) left) self.now ids.now) }
     {
-        let edited = match &self.form {
-            Form::Few(block) => {
-                let chunks = chunks_of(alloc, block.as_slice())?;
-                without_each(alloc, &chunks, ids)?
-            }
-            Form::Many(long) => {
-                let chunks = long.to_chunks(alloc)?;
-                without_each(alloc, &chunks, ids)?
-            }
-        };
+        let edited = without_each(alloc, &self.to_chunks(alloc)?, ids)?;
         Ids::from_chunks(alloc, edited)
     }
 }

@@ -98,8 +98,9 @@ impl Long {
         joined(alloc, body, self.tail.as_slice())
     }
 
-    /// The ids in one block, which has room for no more.
+    /// Few ids in one block, which has room for no more.
     pub fn to_block(&self, alloc: Global) -> Result<Vec<EdgeId>, Memory>
+        requires { length self.now ≤ 64 }
         ensures { IfOk result (λ block. block.items ≡ self.now) }
     {
         self.to_chunks(alloc)?.to_block(alloc)
@@ -109,21 +110,24 @@ impl Long {
     pub fn spliced(
         &self,
         alloc: Global,
-        from: usize,
-        to: usize,
+        range: (usize, usize),
         ids: &[EdgeId],
     ) -> Result<Long, Memory>
-        ensures { IfOk result (λ long. long ≡ take from self.now ++ (ids.now ++ drop to self.now)) }
+        ensures { IfOk result (λ long. long ≡ take range.0 self.now ++ (ids.now ++ drop range.1 self.now)) }
     {
-        let len = self.body.as_chunks().len();
+        let (from, to) = range;
+        let body = self.body.as_chunks();
+        let len = body.len();
         let tail = self.tail.as_slice();
         if len <= from && len <= to {
-            return spliced_behind(alloc, &self.body, tail, (from, to), ids);
+            return spliced_behind(alloc, &self.body, tail, range, ids);
         }
         if from <= len && to <= len {
-            return spliced_within(alloc, &self.body, tail, (from, to), ids);
+            let chunks = spliced(alloc, body, range, ids)?;
+            let tail = Vec::from_slice(alloc, tail)?;
+            return Long::with_tail(Body::new(alloc, chunks)?, tail);
         }
-        let chunks = spliced(alloc, &self.to_chunks(alloc)?, (from, to), ids)?;
+        let chunks = spliced(alloc, &self.to_chunks(alloc)?, range, ids)?;
         Long::from_chunks(alloc, chunks)
     }
 }
@@ -143,28 +147,10 @@ fn spliced_behind(
     let (from, to) = range;
     let chunks = body.as_chunks();
     let len = chunks.len();
-    let tail = spliced_block(alloc, tail, from - len, to - len, ids)?;
+    let tail = spliced_block(alloc, tail, (from - len, to - len), ids)?;
     if tail.len() <= MOST {
         return Long::with_tail(body.share()?, tail);
     }
     let chunks = joined(alloc, chunks, tail.as_slice())?;
     Long::from_chunks(alloc, chunks)
-}
-
-// A body and what stands behind it, with other ids in the place of a range that lies in the body.
-fn spliced_within(
-    alloc: Global,
-    body: &Body,
-    tail: &[EdgeId],
-    range: (usize, usize),
-    ids: &[EdgeId],
-) -> Result<Long, Memory>
-    requires short { length tail.now ≤ 64 }
-    requires from { range.0 ≤ length body.now }
-    requires to { range.1 ≤ length body.now }
-    ensures { IfOk result (λ long. long ≡ take range.0 (body.now ++ tail.now) ++ (ids.now ++ drop range.1 (body.now ++ tail.now))) }
-{
-    let chunks = spliced(alloc, body.as_chunks(), range, ids)?;
-    let tail = Vec::from_slice(alloc, tail)?;
-    Long::with_tail(Body::new(alloc, chunks)?, tail)
 }

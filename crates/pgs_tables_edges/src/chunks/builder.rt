@@ -122,12 +122,7 @@ impl Builder {
 
     // Puts all ids of a part of another list last. Both lists then share its chunk, unless the ids have room in the last chunk here. After
     // `Memory` the last chunk may be missing.
-    fn append_part(
-        &mut self,
-        alloc: Global,
-        copies: &mut Copies,
-        part: &Part,
-    ) -> Result<(), Memory>
+    fn append_part(&mut self, alloc: Global, copies: &mut Copies, part: &Part) -> Result<(), Memory>
         requires first { slice_get part.now.ids 0 ≡ Some part.now.first }
         requires small { length part.now.ids ≤ 1024 }
         requires left { 1024 ≤ copies.old }

@@ -37,10 +37,10 @@ loop-next-preserved c =
       in_range = omega arith;
       appended = rw (c.in_ok-append_cut.ensures.ids, c.loop-next.invariant.appended, c.saturating_sub.ensures, c.saturating_sub-in-loop-next.ensures, more) (append_assoc c.args.self.now.ids (range from to (flat_map (λ (p : Part). p.ids) (take i xs))) (range (from - part.start) (to - part.start) part.ids));
       counted = counted_more (λ (p : Part). p.ids) xs _ i from to c.args.copies.now c.loop-next.copies c.loop-next.self.last c.loop-next.invariant.counted
-      part c.loop-next-test.true c.index-parts-next-in-loop-next.is packed (omega (arith, read, c.if-parts-next.true, ap (λ (p : Part). p.start) c.index-parts-next.is)) (omega (arith, begins, ends)) c.part_at-begin.ensures.after
-      c.append_cut.new.copies c.append_cut.new.self.last c.in_ok-append_cut.ensures.copies
-      (λ front back full. c.in_ok-append_cut.ensures.shared (omega (arith, front, begins, c.saturating_sub.ensures)) (omega (arith, back, begins, c.saturating_sub-in-loop-next.ensures)) full)
-      (λ front back. c.in_ok-append_cut.ensures.last (omega (arith, front, begins, c.saturating_sub.ensures)) (omega (arith, back, begins, c.saturating_sub-in-loop-next.ensures)));
+          part c.loop-next-test.true c.index-parts-next-in-loop-next.is packed (omega (arith, read, c.if-parts-next.true, ap (λ (p : Part). p.start) c.index-parts-next.is)) (omega (arith, begins, ends)) c.part_at-begin.ensures.after
+          c.append_cut.new.copies c.append_cut.new.self.last c.in_ok-append_cut.ensures.copies
+          (λ front back full. c.in_ok-append_cut.ensures.shared (omega (arith, front, begins, c.saturating_sub.ensures)) (omega (arith, back, begins, c.saturating_sub-in-loop-next.ensures)) full)
+          (λ front back. c.in_ok-append_cut.ensures.last (omega (arith, front, begins, c.saturating_sub.ensures)) (omega (arith, back, begins, c.saturating_sub-in-loop-next.ensures)));
     }
 
 pub returns-else-parts-next-clause-ids : goal.returns-else-parts-next-clause-ids
