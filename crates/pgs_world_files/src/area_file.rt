@@ -4,8 +4,7 @@ ghost use Rattle.pgs_world_files.specs.Handles.{LengthIs, ReadIs, WriteIs, CallI
 
 use crate::{FileCause, Handle};
 use pgs_world::{AreaFault, passes_limit};
-use pgs_world_streams::Cause;
-use std::io::ErrorKind;
+use pgs_world_streams::{Cause, is_tried_again};
 
 /// An area in a file: an open and locked file, or none, and then every call is a fault. An area has at most 2^40 bytes. It keeps the cause
 /// of its last fault, and where there is no file, why.
@@ -141,21 +140,23 @@ fn read_within<H: Handle>(handle: &mut H, at: u64, buf: &mut [u8]) -> Result<(),
         return Err(FileCause::Long);
     }
     let mut done = 0;
-    for _ in 0..u64::MAX {
-        if done >= buf.len() {
-            return Ok(());
-        }
+    let mut interruptions = 0;
+    while done < buf.len() {
         match handle.read_once(at + done as u64, &mut buf[done..]) {
             Ok(0) => return Err(FileCause::Short),
-            Ok(count) => done += count,
+            Ok(count) => {
+                done += count;
+                interruptions = 0;
+            }
             Err(error) => {
-                if error.kind() != ErrorKind::Interrupted {
+                interruptions += 1;
+                if !is_tried_again(&error, interruptions) {
                     return Err(FileCause::of(&error));
                 }
             }
         }
     }
-    Err(FileCause::Call(Cause::Failed))
+    Ok(())
 }
 
 /// A write that ends by 2^40.
@@ -166,19 +167,21 @@ fn write_within<H: Handle>(handle: &mut H, at: u64, bytes: &[u8]) -> Result<(), 
         return Err(FileCause::Long);
     }
     let mut done = 0;
-    for _ in 0..u64::MAX {
-        if done >= bytes.len() {
-            return Ok(());
-        }
+    let mut interruptions = 0;
+    while done < bytes.len() {
         match handle.write_once(at + done as u64, &bytes[done..]) {
             Ok(0) => return Err(FileCause::Call(Cause::NoSpace)),
-            Ok(count) => done += count,
+            Ok(count) => {
+                done += count;
+                interruptions = 0;
+            }
             Err(error) => {
-                if error.kind() != ErrorKind::Interrupted {
+                interruptions += 1;
+                if !is_tried_again(&error, interruptions) {
                     return Err(FileCause::of(&error));
                 }
             }
         }
     }
-    Err(FileCause::Call(Cause::Failed))
+    Ok(())
 }

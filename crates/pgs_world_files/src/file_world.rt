@@ -1,5 +1,6 @@
 ghost use Rattle.std.specs.Prelude.{◌≡◌, ◌+◌, ◌^◌, ◌≤◌, length, take, drop, IsTrue, IfOk, OnOk, OnErr};
 ghost use Rattle.std.specs.Io.KnownBytes.{Appends};
+ghost use Rattle.pgs_world.specs.Calls.{Reaches, HasLength, HasBytes, IsWrittenOver, IsCutTo, IsAreaCall, IsPutCall};
 ghost use Rattle.pgs_world.specs.Count.{Rose, RoseByOne, raised};
 ghost use Rattle.pgs_world.specs.Disk.{written_over, IsSameBeside, Writes, Cuts, Puts};
 ghost use Rattle.pgs_world.specs.Moment.{Passes, StopsBy, IsQuiet, ShowsOne, IsSynced, MakesNoPut};
@@ -134,14 +135,10 @@ impl<W: SteadyWrite, H: Handle> World for FileWorld<W, H> {
         ensures raised { OnErr result (self.new.counts.area_faults ≡ raised self.old.counts.area_faults) }
 
         // What every world says.
-        ensures length { IfOk result (λ count. IsTrue (seen W.tells W.contents H.tells H.contents self.old).tells_bytes → count ≡ length (part area (seen W.tells W.contents H.tells H.contents self.old).shown)) }
+        ensures length { IfOk result (λ count. HasLength area count (⟦<Self as World>⟧.view self.old)) }
         ensures limit { IfOk result (λ count. count ≤ 2 ^ 40) }
-        ensures quiet { IsQuiet (seen W.tells W.contents H.tells H.contents self.old) (seen W.tells W.contents H.tells H.contents self.new) }
-        ensures moment { Rose (seen W.tells W.contents H.tells H.contents self.old).moment (seen W.tells W.contents H.tells H.contents self.new).moment }
-        ensures image { ShowsOne (seen W.tells W.contents H.tells H.contents self.new) }
-        ensures cause { OnErr result (RoseByOne (seen W.tells W.contents H.tells H.contents self.old).area_faults (seen W.tells W.contents H.tells H.contents self.new).area_faults) }
-        ensures no_cause { OnOk result ((seen W.tells W.contents H.tells H.contents self.new).area_faults ≡ (seen W.tells W.contents H.tells H.contents self.old).area_faults) }
-        ensures no_put { MakesNoPut (seen W.tells W.contents H.tells H.contents self.old) (seen W.tells W.contents H.tells H.contents self.new) }
+        ensures quiet { IsQuiet (⟦<Self as World>⟧.view self.old) (⟦<Self as World>⟧.view self.new) }
+        ensures call { IsAreaCall (⟦<Self as World>⟧.view self.old) result (⟦<Self as World>⟧.view self.new) }
     {
         let answer = self.areas.len(area);
         self.counted(answer)
@@ -149,20 +146,16 @@ impl<W: SteadyWrite, H: Handle> World for FileWorld<W, H> {
 
     /// Fills the buffer with the bytes of an area from a place on. A range past the end, or past 2^40, is a fault.
     fn read_at(&mut self, area: Area, at: u64, buf: &mut [u8]) -> Result<(), AreaFault>
-        requires { IsTrue (seen W.tells W.contents H.tells H.contents self.old).tells_bytes → at + length buf.old ≤ length (part area (seen W.tells W.contents H.tells H.contents self.old).shown) }
+        requires { Reaches area (at + length buf.old) (⟦<Self as World>⟧.view self.old) }
         ensures given { IfOpen (λ old answer new. ReadIs H.read_gives old at buf.new answer new) (handle_in area self.old.areas) result (handle_in area self.new.areas) }
         ensures beside_handle { handle_in (other area) self.new.areas ≡ handle_in (other area) self.old.areas }
         ensures writer { self.new.writer ≡ self.old.writer }
         ensures raised { OnErr result (self.new.counts.area_faults ≡ raised self.old.counts.area_faults) }
 
         // What every world says.
-        ensures bytes { OnOk result (IsTrue (seen W.tells W.contents H.tells H.contents self.old).tells_bytes → buf.new ≡ take (length buf.old) (drop at (part area (seen W.tells W.contents H.tells H.contents self.old).shown))) }
-        ensures quiet { IsQuiet (seen W.tells W.contents H.tells H.contents self.old) (seen W.tells W.contents H.tells H.contents self.new) }
-        ensures moment { Rose (seen W.tells W.contents H.tells H.contents self.old).moment (seen W.tells W.contents H.tells H.contents self.new).moment }
-        ensures image { ShowsOne (seen W.tells W.contents H.tells H.contents self.new) }
-        ensures cause { OnErr result (RoseByOne (seen W.tells W.contents H.tells H.contents self.old).area_faults (seen W.tells W.contents H.tells H.contents self.new).area_faults) }
-        ensures no_cause { OnOk result ((seen W.tells W.contents H.tells H.contents self.new).area_faults ≡ (seen W.tells W.contents H.tells H.contents self.old).area_faults) }
-        ensures no_put { MakesNoPut (seen W.tells W.contents H.tells H.contents self.old) (seen W.tells W.contents H.tells H.contents self.new) }
+        ensures bytes { OnOk result (HasBytes area at (length buf.old) buf.new (⟦<Self as World>⟧.view self.old)) }
+        ensures quiet { IsQuiet (⟦<Self as World>⟧.view self.old) (⟦<Self as World>⟧.view self.new) }
+        ensures call { IsAreaCall (⟦<Self as World>⟧.view self.old) result (⟦<Self as World>⟧.view self.new) }
     {
         let answer = self.areas.read_at(area, at, buf);
         self.counted(answer)
@@ -170,23 +163,19 @@ impl<W: SteadyWrite, H: Handle> World for FileWorld<W, H> {
 
     /// Writes all bytes from a place of an area on. A write past 2^40 bytes is a fault, and nothing is written.
     fn write_at(&mut self, area: Area, at: u64, bytes: &[u8]) -> Result<(), AreaFault>
-        requires { IsTrue (seen W.tells W.contents H.tells H.contents self.old).tells_bytes → at ≤ length (part area (seen W.tells W.contents H.tells H.contents self.old).shown) }
+        requires { Reaches area at (⟦<Self as World>⟧.view self.old) }
         ensures given { IfOpen (λ old answer new. WriteIs H.write_gives old at bytes.now answer new) (handle_in area self.old.areas) result (handle_in area self.new.areas) }
         ensures beside_handle { handle_in (other area) self.new.areas ≡ handle_in (other area) self.old.areas }
         ensures writer { self.new.writer ≡ self.old.writer }
         ensures raised { OnErr result (self.new.counts.area_faults ≡ raised self.old.counts.area_faults) }
 
         // What every world says.
-        ensures written { OnOk result (IsTrue (seen W.tells W.contents H.tells H.contents self.old).tells_bytes → part area (seen W.tells W.contents H.tells H.contents self.new).shown ≡ written_over (part area (seen W.tells W.contents H.tells H.contents self.old).shown) at bytes.now) }
+        ensures written { OnOk result (IsWrittenOver area at bytes.now (⟦<Self as World>⟧.view self.old) (⟦<Self as World>⟧.view self.new)) }
         ensures limit { OnOk result (at + length bytes.now ≤ 2 ^ 40) }
-        ensures beside { IsSameBeside area (seen W.tells W.contents H.tells H.contents self.old).shown (seen W.tells W.contents H.tells H.contents self.new).shown }
-        ensures stops { StopsBy (Writes area at (length bytes.now)) (seen W.tells W.contents H.tells H.contents self.old) (seen W.tells W.contents H.tells H.contents self.new) }
-        ensures passes { Passes (seen W.tells W.contents H.tells H.contents self.old) (seen W.tells W.contents H.tells H.contents self.new) }
-        ensures moment { Rose (seen W.tells W.contents H.tells H.contents self.old).moment (seen W.tells W.contents H.tells H.contents self.new).moment }
-        ensures image { ShowsOne (seen W.tells W.contents H.tells H.contents self.new) }
-        ensures cause { OnErr result (RoseByOne (seen W.tells W.contents H.tells H.contents self.old).area_faults (seen W.tells W.contents H.tells H.contents self.new).area_faults) }
-        ensures no_cause { OnOk result ((seen W.tells W.contents H.tells H.contents self.new).area_faults ≡ (seen W.tells W.contents H.tells H.contents self.old).area_faults) }
-        ensures no_put { MakesNoPut (seen W.tells W.contents H.tells H.contents self.old) (seen W.tells W.contents H.tells H.contents self.new) }
+        ensures beside { IsSameBeside area (⟦<Self as World>⟧.view self.old).shown (⟦<Self as World>⟧.view self.new).shown }
+        ensures stops { StopsBy (Writes area at (length bytes.now)) (⟦<Self as World>⟧.view self.old) (⟦<Self as World>⟧.view self.new) }
+        ensures passes { Passes (⟦<Self as World>⟧.view self.old) (⟦<Self as World>⟧.view self.new) }
+        ensures call { IsAreaCall (⟦<Self as World>⟧.view self.old) result (⟦<Self as World>⟧.view self.new) }
     {
         let answer = self.areas.write_at(area, at, bytes);
         self.counted(answer)
@@ -194,22 +183,18 @@ impl<W: SteadyWrite, H: Handle> World for FileWorld<W, H> {
 
     /// Cuts an area to a length.
     fn cut(&mut self, area: Area, len: u64) -> Result<(), AreaFault>
-        requires { IsTrue (seen W.tells W.contents H.tells H.contents self.old).tells_bytes → len ≤ length (part area (seen W.tells W.contents H.tells H.contents self.old).shown) }
+        requires { Reaches area len (⟦<Self as World>⟧.view self.old) }
         ensures given { IfOpen (CallIs (λ old succeeds new. H.cut_gives old len succeeds new)) (handle_in area self.old.areas) result (handle_in area self.new.areas) }
         ensures beside_handle { handle_in (other area) self.new.areas ≡ handle_in (other area) self.old.areas }
         ensures writer { self.new.writer ≡ self.old.writer }
         ensures raised { OnErr result (self.new.counts.area_faults ≡ raised self.old.counts.area_faults) }
 
         // What every world says.
-        ensures cut { OnOk result (IsTrue (seen W.tells W.contents H.tells H.contents self.old).tells_bytes → part area (seen W.tells W.contents H.tells H.contents self.new).shown ≡ take len (part area (seen W.tells W.contents H.tells H.contents self.old).shown)) }
-        ensures beside { IsSameBeside area (seen W.tells W.contents H.tells H.contents self.old).shown (seen W.tells W.contents H.tells H.contents self.new).shown }
-        ensures stops { StopsBy (Cuts area len) (seen W.tells W.contents H.tells H.contents self.old) (seen W.tells W.contents H.tells H.contents self.new) }
-        ensures passes { Passes (seen W.tells W.contents H.tells H.contents self.old) (seen W.tells W.contents H.tells H.contents self.new) }
-        ensures moment { Rose (seen W.tells W.contents H.tells H.contents self.old).moment (seen W.tells W.contents H.tells H.contents self.new).moment }
-        ensures image { ShowsOne (seen W.tells W.contents H.tells H.contents self.new) }
-        ensures cause { OnErr result (RoseByOne (seen W.tells W.contents H.tells H.contents self.old).area_faults (seen W.tells W.contents H.tells H.contents self.new).area_faults) }
-        ensures no_cause { OnOk result ((seen W.tells W.contents H.tells H.contents self.new).area_faults ≡ (seen W.tells W.contents H.tells H.contents self.old).area_faults) }
-        ensures no_put { MakesNoPut (seen W.tells W.contents H.tells H.contents self.old) (seen W.tells W.contents H.tells H.contents self.new) }
+        ensures cut { OnOk result (IsCutTo area len (⟦<Self as World>⟧.view self.old) (⟦<Self as World>⟧.view self.new)) }
+        ensures beside { IsSameBeside area (⟦<Self as World>⟧.view self.old).shown (⟦<Self as World>⟧.view self.new).shown }
+        ensures stops { StopsBy (Cuts area len) (⟦<Self as World>⟧.view self.old) (⟦<Self as World>⟧.view self.new) }
+        ensures passes { Passes (⟦<Self as World>⟧.view self.old) (⟦<Self as World>⟧.view self.new) }
+        ensures call { IsAreaCall (⟦<Self as World>⟧.view self.old) result (⟦<Self as World>⟧.view self.new) }
     {
         let answer = self.areas.cut(area, len);
         self.counted(answer)
@@ -223,13 +208,9 @@ impl<W: SteadyWrite, H: Handle> World for FileWorld<W, H> {
         ensures raised { OnErr result (self.new.counts.area_faults ≡ raised self.old.counts.area_faults) }
 
         // What every world says.
-        ensures synced { OnOk result (IsSynced area (seen W.tells W.contents H.tells H.contents self.new)) }
-        ensures quiet { IsQuiet (seen W.tells W.contents H.tells H.contents self.old) (seen W.tells W.contents H.tells H.contents self.new) }
-        ensures moment { Rose (seen W.tells W.contents H.tells H.contents self.old).moment (seen W.tells W.contents H.tells H.contents self.new).moment }
-        ensures image { ShowsOne (seen W.tells W.contents H.tells H.contents self.new) }
-        ensures cause { OnErr result (RoseByOne (seen W.tells W.contents H.tells H.contents self.old).area_faults (seen W.tells W.contents H.tells H.contents self.new).area_faults) }
-        ensures no_cause { OnOk result ((seen W.tells W.contents H.tells H.contents self.new).area_faults ≡ (seen W.tells W.contents H.tells H.contents self.old).area_faults) }
-        ensures no_put { MakesNoPut (seen W.tells W.contents H.tells H.contents self.old) (seen W.tells W.contents H.tells H.contents self.new) }
+        ensures synced { OnOk result (IsSynced area (⟦<Self as World>⟧.view self.new)) }
+        ensures quiet { IsQuiet (⟦<Self as World>⟧.view self.old) (⟦<Self as World>⟧.view self.new) }
+        ensures call { IsAreaCall (⟦<Self as World>⟧.view self.old) result (⟦<Self as World>⟧.view self.new) }
     {
         let answer = self.areas.sync(area);
         self.counted(answer)
@@ -246,20 +227,11 @@ impl<W: SteadyWrite, H: Handle> World for FileWorld<W, H> {
         ensures raised { OnErr result (self.new.counts.put_faults ≡ raised self.old.counts.put_faults) }
 
         // What every world says.
-        ensures whole { OnOk result (Adds (output_of (seen W.tells W.contents H.tells H.contents self.old)) (output_of (seen W.tells W.contents H.tells H.contents self.new)) piece.now) }
-        ensures front { OnErr result (AddsFront (output_of (seen W.tells W.contents H.tells H.contents self.old)) (output_of (seen W.tells W.contents H.tells H.contents self.new)) piece.now) }
-        ensures cause { OnErr result (RoseByOne (seen W.tells W.contents H.tells H.contents self.old).put_faults (seen W.tells W.contents H.tells H.contents self.new).put_faults) }
-        ensures faults_stay { (seen W.tells W.contents H.tells H.contents self.old).put_faults ≤ (seen W.tells W.contents H.tells H.contents self.new).put_faults }
-        ensures a { (seen W.tells W.contents H.tells H.contents self.new).shown.a ≡ (seen W.tells W.contents H.tells H.contents self.old).shown.a }
-        ensures b { (seen W.tells W.contents H.tells H.contents self.new).shown.b ≡ (seen W.tells W.contents H.tells H.contents self.old).shown.b }
-        ensures stops { StopsBy (Puts piece.now) (seen W.tells W.contents H.tells H.contents self.old) (seen W.tells W.contents H.tells H.contents self.new) }
-        ensures passes { Passes (seen W.tells W.contents H.tells H.contents self.old) (seen W.tells W.contents H.tells H.contents self.new) }
-        ensures moment { Rose (seen W.tells W.contents H.tells H.contents self.old).moment (seen W.tells W.contents H.tells H.contents self.new).moment }
-        ensures image { ShowsOne (seen W.tells W.contents H.tells H.contents self.new) }
-        ensures counted { OnOk result ((seen W.tells W.contents H.tells H.contents self.new).puts ≡ (seen W.tells W.contents H.tells H.contents self.old).puts + 1) }
-        ensures not_counted { OnErr result ((seen W.tells W.contents H.tells H.contents self.new).puts ≡ (seen W.tells W.contents H.tells H.contents self.old).puts) }
-        ensures no_cause { OnOk result ((seen W.tells W.contents H.tells H.contents self.new).put_faults ≡ (seen W.tells W.contents H.tells H.contents self.old).put_faults) }
-        ensures no_area { (seen W.tells W.contents H.tells H.contents self.new).area_faults ≡ (seen W.tells W.contents H.tells H.contents self.old).area_faults }
+        ensures whole { OnOk result (Adds (output_of (⟦<Self as World>⟧.view self.old)) (output_of (⟦<Self as World>⟧.view self.new)) piece.now) }
+        ensures front { OnErr result (AddsFront (output_of (⟦<Self as World>⟧.view self.old)) (output_of (⟦<Self as World>⟧.view self.new)) piece.now) }
+        ensures stops { StopsBy (Puts piece.now) (⟦<Self as World>⟧.view self.old) (⟦<Self as World>⟧.view self.new) }
+        ensures passes { Passes (⟦<Self as World>⟧.view self.old) (⟦<Self as World>⟧.view self.new) }
+        ensures call { IsPutCall (⟦<Self as World>⟧.view self.old) result (⟦<Self as World>⟧.view self.new) }
     {
         if self.counts.puts == u64::MAX {
             return Err(self.put_fault());
