@@ -9,7 +9,7 @@ ghost use Rattle.pgs_graph.specs.Lists.{listed};
 
 use crate::relist::{EdgeLists, relist_edges};
 use crate::scan::End;
-use crate::{Delta, EdgeRef, GraphRead, NodeRef};
+use crate::{Delta, EdgeRef, GraphRead, NodeRef, tick_each};
 use pgs_base::{Copyable, EdgeId, EdgeRow, List, Memory, NodeId, NodeRow, Steps};
 use pgs_base_slots::Slots;
 use std::alloc::Global;
@@ -165,10 +165,7 @@ impl GraphRead for Graph {
     fn node<L: Ledger>(&self, id: NodeId, steps: &mut Steps<L>) -> Option<NodeRef<'_>> {
         steps.tick();
         match self.nodes.get(&id) {
-            Some(row) => Some(NodeRef {
-                labels: &row.labels,
-                props: &row.props,
-            }),
+            Some(row) => Some(NodeRef::of(row)),
             None => None,
         }
     }
@@ -176,12 +173,7 @@ impl GraphRead for Graph {
     fn edge<L: Ledger>(&self, id: EdgeId, steps: &mut Steps<L>) -> Option<EdgeRef<'_>> {
         steps.tick();
         match self.edges.get(&id) {
-            Some(row) => Some(EdgeRef {
-                source: row.source,
-                target: row.target,
-                labels: &row.labels,
-                props: &row.props,
-            }),
+            Some(row) => Some(EdgeRef::of(row)),
             None => None,
         }
     }
@@ -218,15 +210,5 @@ impl GraphRead for Graph {
 
     fn count(&self) -> u64 {
         self.nodes.len() as u64 + self.edges.len() as u64
-    }
-}
-
-fn tick_each<L: Ledger>(steps: &mut Steps<L>, times: usize)
-    ensures { steps.new ≡ steps.old + times }
-{
-    let mut left = times;
-    while left > 0 {
-        steps.tick();
-        left -= 1;
     }
 }

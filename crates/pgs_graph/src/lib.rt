@@ -17,4 +17,4 @@ pub use delta::Delta;
 pub use graph::Graph;
 pub use operation::{Op, Txn};
 pub use pgs_base::{EdgeRow, NodeRow};
-pub use read::{EdgeRef, GraphRead, NodeRef};
+pub use read::{EdgeRef, GraphRead, NodeRef, tick_each};

@@ -5,7 +5,7 @@ ghost use Rattle.pgs_base.specs.Graph.{Graph, node_at, edge_at, element_count, i
 ghost use Rattle.pgs_base.specs.Pair.{pair_of};
 ghost use Rattle.pgs_graph.specs.Reads.{edge_row, out_edges_of, in_edges_of};
 
-use pgs_base::{EdgeId, Labels, List, Memory, NodeId, Props, Steps};
+use pgs_base::{EdgeId, EdgeRow, Labels, List, Memory, NodeId, NodeRow, Props, Steps};
 use std::alloc::Global;
 use std::sync::ledger::Ledger;
 
@@ -16,6 +16,18 @@ pub struct NodeRef<'a> {
     pub props: &'a Props,
 }
 
+impl<'a> NodeRef<'a> {
+    /// What a row has.
+    pub fn of(row: &'a NodeRow) -> NodeRef<'a>
+        ensures { pair_of result.labels.now result.props.now ≡ row.now }
+    {
+        NodeRef {
+            labels: &row.labels,
+            props: &row.props,
+        }
+    }
+}
+
 /// The ends of an edge and what it carries, where the graph has it.
 #[derive(Clone, Copy, Debug)]
 pub struct EdgeRef<'a> {
@@ -23,6 +35,20 @@ pub struct EdgeRef<'a> {
     pub target: NodeId,
     pub labels: &'a Labels,
     pub props: &'a Props,
+}
+
+impl<'a> EdgeRef<'a> {
+    /// What a row has.
+    pub fn of(row: &'a EdgeRow) -> EdgeRef<'a>
+        ensures { edge_row result.source result.target result.labels.now result.props.now ≡ row.now }
+    {
+        EdgeRef {
+            source: row.source,
+            target: row.target,
+            labels: &row.labels,
+            props: &row.props,
+        }
+    }
 }
 
 /// A graph that is read. Its meaning is a graph of the definitions, and each read answers by it.
@@ -88,4 +114,15 @@ pub trait GraphRead {
     fn count(&self) -> u64
         ensures value { result ≡ element_count (meaning self.now) }
         ensures graph { is_graph (meaning self.now) ≡ true };
+}
+
+/// Ticks so many times.
+pub fn tick_each<L: Ledger>(steps: &mut Steps<L>, times: usize)
+    ensures { steps.new ≡ steps.old + times }
+{
+    let mut left = times;
+    while left > 0 {
+        steps.tick();
+        left -= 1;
+    }
 }

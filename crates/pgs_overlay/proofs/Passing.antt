@@ -47,7 +47,7 @@ follows_none xs edge false kept edited later was rising = edited_later xs edited
 
 -- taken out at the old end, then put in at the new one
 pub follows_both : (xs : List EdgeId) (edge : EdgeId) (had has : Bool) → (had && has) ≡ false → (old between new : Option EditedList) →
-    IsEditAt xs edge true false had old between → IsEditAt xs edge false true has between new → FollowsChange xs edge had has old new
+    IsEditAt xs edge false had old between → IsEditAt xs edge true has between new → FollowsChange xs edge had has old new
 follows_both xs edge true true apart old between new first second = absurd (true≢false apart)
 follows_both xs edge true false apart old between new first second = rw (second.elsewhere refl) (first.here refl)
 follows_both xs edge false true apart old between new first second = rw (sym (first.elsewhere refl)) (second.here refl)
@@ -87,7 +87,7 @@ ready_at edge side g lists ready (Some id) = ready id
 -- after the edge was taken out elsewhere, the new end is ready still
 pub ready_after : (edge : EdgeId) (side : Side) (g : Graph) (lists after : List (NodeId × EditedList)) → AreReady edge side g lists → (old end : Option NodeId) →
     ((id : NodeId) → (is_here id old && is_here id end) ≡ false) →
-    ((id : NodeId) → IsEditAt (edges_at side id g.edges) edge true false (is_here id old) (list_at lists id) (list_at after id)) →
+    ((id : NodeId) → IsEditAt (edges_at side id g.edges) edge false (is_here id old) (list_at lists id) (list_at after id)) →
     IfSome end (λ id. IsReadyAt edge (edges_at side id g.edges) (list_at after id))
 ready_after edge side g lists after ready old None apart taken = tt
 ready_after edge side g lists after ready old (Some id) apart taken = rw ((taken id).elsewhere (other (is_here id old) (apart id))) (ready id)

@@ -1,5 +1,5 @@
 -- What becomes of the lists that are kept, when the list of one node is edited.
-use Rattle.std.proofs.Common.{◌≡◌, ◌∙◌, ℕ, ◌==◌, Bool, true, false, cond, List, ◌∷◌, Option, Some, None, refl, sym, ap, subst, true≢false, arith, rules, is_eq}
+use Rattle.std.proofs.Common.{◌≡◌, ◌∙◌, ℕ, ◌==◌, Bool, true, false, cond, not, List, ◌∷◌, Option, Some, None, refl, sym, ap, subst, true≢false, arith, rules, is_eq}
 use Rattle.std.specs.Cmp.{Equal-is}
 use Rattle.std.specs.Ordering.{nat_cmp}
 use Rattle.std.specs.List.Sorted.{IsStrictlySortedBy}
@@ -9,6 +9,7 @@ use Rattle.pgs_base.specs.declared.element.NodeId.{NodeId}
 use Rattle.pgs_base.specs.declared.element.EdgeId.{EdgeId}
 use Rattle.pgs_base.specs.Graph.{node_cmp, edge_cmp}
 use Rattle.pgs_base.proofs.Lookups.{lookup-insert_entry, lookup-remove_key}
+use Rattle.pgs_graph.specs.Lists.{list_edited}
 use Rattle.pgs_graph.proofs.Deltas.{node_cmp_total, exact_node}
 use Rattle.pgs_overlay.specs.declared.edited_list.EditedList.{EditedList}
 use Rattle.pgs_overlay.specs.Edited.{IsEdited, IsEditedAt, IsReadyFor}
@@ -25,12 +26,12 @@ pub list_ready : (edge : EdgeId) (xs : List EdgeId) (kept : Option EditedList) (
 list_ready edge xs None list is ready = record { stands = is.2 xs; lower = λ k low. absurd (omega (arith, low, is.1)) }
 list_ready edge xs (Some kept) list is ready = rw is ready
 
-pub list_edited : (xs edited later : List EdgeId) (kept : Option EditedList) (list : EditedList) → IsListOf kept list → IsEditedAt xs edited later kept → IsEdited xs edited later list
-list_edited xs edited later None list is was = record {
+pub edited_list : (xs edited later : List EdgeId) (kept : Option EditedList) (list : EditedList) → IsListOf kept list → IsEditedAt xs edited later kept → IsEdited xs edited later list
+edited_list xs edited later None list is was = record {
   stands = is.2 xs;
   copied = rw (is.1, is.0) was;
 }
-list_edited xs edited later (Some kept) list is was = rw is was
+edited_list xs edited later (Some kept) list is was = rw is was
 
 module _ (lists : List (NodeId × EditedList)) (up : IsStrictlySortedBy node_cmp (keys_of lists)) (id : NodeId) (list : EditedList) where
   abbrev after : List (NodeId × EditedList)
@@ -56,17 +57,22 @@ module _ (lists : List (NodeId × EditedList)) (up : IsStrictlySortedBy node_cmp
 pub same_node : (a b : NodeId) → (a.0 == b.0) ≡ true → a ≡ b
 same_node a b e = exact_node a b ((Equal-is (node_cmp a b)).0 (nat_tied a.0 b.0 ∙ e))
 
+-- an edge put in or taken out is a change of whether the list has it
+edit_changes : (adds : Bool) (edge : EdgeId) (list : List EdgeId) → list_edited adds edge list ≡ list_changed (not adds) adds edge list
+edit_changes true edge list = refl
+edit_changes false edge list = refl
+
 -- an edit at an end, and none where there is no end
-pub edited_at : (xs_of : NodeId → List EdgeId) (edge : EdgeId) (had has : Bool) (lists : List (NodeId × EditedList)) → IsStrictlySortedBy node_cmp (keys_of lists)
+pub edited_at : (xs_of : NodeId → List EdgeId) (edge : EdgeId) (adds : Bool) (lists : List (NodeId × EditedList)) → IsStrictlySortedBy node_cmp (keys_of lists)
     → (id : NodeId) (list : EditedList) (rest new : List (NodeId × EditedList)) → rest ≡ remove_entry (is_at (node_cmp id)) lists → new ≡ insert_entry node_cmp rest id list
     → ((edited later : List EdgeId) → IsEditedAt (xs_of id) edited (edge ∷ later) (list_at lists id) → IsStrictlySortedBy edge_cmp (edge ∷ later)
-    → IsEdited (xs_of id) (list_changed had has edge edited) later list)
-    → (end : Option NodeId) → end ≡ Some id → (q : NodeId) → IsEditAt (xs_of q) edge had has (is_here q end) (list_at lists q) (list_at new q)
-edited_at xs_of edge had has lists up id list rest new left put follows end at q = rw at (record {
-  here = λ same. rw (put, left) (subst (λ n. FollowsChange (xs_of n) edge had has (list_at lists n) (list_at (insert_entry node_cmp (remove_entry (is_at (node_cmp id)) lists) id list) n))
-      (same_node id q same) (λ edited later was rising. rw (kept_here lists up id list) (follows edited later was rising)));
+    → IsEdited (xs_of id) (list_edited adds edge edited) later list)
+    → (end : Option NodeId) → end ≡ Some id → (q : NodeId) → IsEditAt (xs_of q) edge adds (is_here q end) (list_at lists q) (list_at new q)
+edited_at xs_of edge adds lists up id list rest new left put follows end at q = rw at (record {
+  here = λ same. rw (put, left) (subst (λ n. FollowsChange (xs_of n) edge (not adds) adds (list_at lists n) (list_at (insert_entry node_cmp (remove_entry (is_at (node_cmp id)) lists) id list) n))
+      (same_node id q same) (λ edited later was rising. rw (kept_here lists up id list, sym (edit_changes adds edge edited)) (follows edited later was rising)));
   elsewhere = λ other. rw (put, left) (kept_other lists up id list q other);
 })
 
-pub edited_nowhere : (xs : List EdgeId) (edge : EdgeId) (had has : Bool) (old : Option EditedList) → IsEditAt xs edge had has false old old
-edited_nowhere xs edge had has old = record { here = λ e. absurd (true≢false (sym e)); elsewhere = λ e. refl }
+pub edited_nowhere : (xs : List EdgeId) (edge : EdgeId) (adds : Bool) (old : Option EditedList) → IsEditAt xs edge adds false old old
+edited_nowhere xs edge adds old = record { here = λ e. absurd (true≢false (sym e)); elsewhere = λ e. refl }

@@ -1,5 +1,5 @@
 -- The lists of the nodes of one side while a delta's edges are gone through, one by one.
-use Rattle.std.specs.Prelude.{◌≡◌, ℕ, ◌≤◌, ◌==◌, Bool, true, false, List, [], ◌∷◌, length, Option, Some, None}
+use Rattle.std.specs.Prelude.{◌≡◌, ℕ, ◌≤◌, ◌==◌, Bool, true, false, not, List, [], ◌∷◌, length, Option, Some, None}
 use Rattle.std.specs.Option.{option_map}
 use Rattle.std.specs.List.Sorted.{IsStrictlySortedBy}
 use Rattle.std.specs.Map.{lookup}
@@ -35,14 +35,15 @@ list_changed true false edge list = remove_key (is_at (edge_cmp edge)) list
 list_changed false true edge list = insert_key edge_cmp list edge
 list_changed false false edge list = list
 
--- what is kept for a node follows such a change
+-- what is kept for a node follows such a change: where it was the list before, with this edge and later ones still to come, it then is
+-- the changed list, with the later ones to come
 abbrev pub FollowsChange : List EdgeId → EdgeId → Bool → Bool → Option EditedList → Option EditedList → Type 0
 FollowsChange xs edge had has old new = (edited later : List EdgeId) → IsEditedAt xs edited (edge ∷ later) old →
     IsStrictlySortedBy edge_cmp (edge ∷ later) → IsEditedAt xs (list_changed had has edge edited) later new
 
--- what is kept follows such a change where the node is the end, and else stays
-pub record IsEditAt (xs : List EdgeId) (edge : EdgeId) (had has is_end : Bool) (old new : Option EditedList) : Type 0 where
-  pub here : is_end ≡ true → FollowsChange xs edge had has old new
+-- where the node is the end, what is kept follows the edge being put in or taken out, and else it stays
+pub record IsEditAt (xs : List EdgeId) (edge : EdgeId) (adds is_end : Bool) (old new : Option EditedList) : Type 0 where
+  pub here : is_end ≡ true → FollowsChange xs edge (not adds) adds old new
   pub elsewhere : is_end ≡ false → new ≡ old
 
 -- the list that an edit begins with: what is kept, and else the base's list as it is
@@ -73,7 +74,11 @@ pub record HasFew (g : Graph) (most : ℕ) (id : NodeId) : Type 0 where
 abbrev pub end_on : Side → Option EdgeRow → Option NodeId
 end_on side row = option_map (end_of (end_at side)) row
 
--- all lists of a side follow a change of an edge of a graph
+-- whether a side lists an edge of this row, where there is one, at a node
+abbrev pub lists_row : Side → NodeId → Option EdgeRow → Bool
+lists_row side id row = is_here id (end_on side row)
+
+-- all lists of a side follow a change of an edge of a graph, from its old row to its new one
 abbrev pub AllFollow : Side → Graph → EdgeId × Option EdgeRow → List (NodeId × EditedList) → List (NodeId × EditedList) → Type 0
 AllFollow side g change old new = (id : NodeId) → FollowsChange (edges_at side id g.edges) change.0
-    (is_here id (end_on side (edge_at g change.0))) (is_here id (end_on side change.1)) (list_at old id) (list_at new id)
+    (lists_row side id (edge_at g change.0)) (lists_row side id change.1) (list_at old id) (list_at new id)

@@ -10,6 +10,7 @@ ghost use Rattle.pgs_graph.specs.Changed.{entries_changed};
 ghost use Rattle.pgs_overlay.specs.Keys.{key_changed};
 
 use pgs_base::{List, Memory, Steps};
+use pgs_graph::tick_each;
 use std::alloc::Global;
 use std::cmp::Ordering;
 use std::collections::BTreeSet;
@@ -107,14 +108,4 @@ pub(crate) fn changed_keys<K: Ord + Copy + Drop, V, L: Ledger>(
     let keys = key_list(alloc, keys)?;
     tick_each(steps, keys.len());
     Ok(keys)
-}
-
-fn tick_each<L: Ledger>(steps: &mut Steps<L>, times: usize)
-    ensures { steps.new ≡ steps.old + times }
-{
-    let mut left = times;
-    while left > 0 {
-        steps.tick();
-        left -= 1;
-    }
 }

@@ -1,63 +1,47 @@
-ghost use Rattle.std.specs.Prelude.{◌≡◌, ◌+◌, ◌*◌, ◌^◌, ◌<◌, ◌≤◌, ◌∷◌, ℕ, List, true, false, length, OnOk};
+ghost use Rattle.std.specs.Prelude.{◌≡◌, ◌+◌, ◌*◌, ◌^◌, ◌<◌, ◌≤◌, ◌∷◌, ℕ, List, not, length, OnOk};
 ghost use Rattle.std.specs.List.{list_any};
 ghost use Rattle.std.specs.List.Sorted.{IsStrictlySortedBy};
 ghost use Rattle.std.specs.BTreeMap.{is_at};
-ghost use Rattle.std.specs.BTreeSet.{insert_key};
-ghost use Rattle.std.specs.Set.{remove_key};
 ghost use Rattle.pgs_base.specs.declared.element.EdgeId.{EdgeId};
 ghost use Rattle.pgs_base.specs.Graph.{edge_cmp};
+ghost use Rattle.pgs_graph.specs.Lists.{list_edited};
 ghost use Rattle.pgs_overlay.specs.Edited.{IsEdited, IsReadyFor};
-ghost use Rattle.pgs_overlay.specs.Sides.{edges_at};
 
+use crate::base_list::BaseList;
 use crate::edited_list::EditedList;
 use crate::search::search;
 use crate::side::Side;
-use pgs_base::{EdgeId, Memory, NodeId, Steps};
+use pgs_base::{EdgeId, Memory, Steps};
 use pgs_graph::GraphRead;
 use std::sync::ledger::Ledger;
 
-/// Takes an edge out of a list that has it.
-pub fn take_edge_out<B: GraphRead, L: Ledger>(
-    list: &mut EditedList,
-    base: &B,
-    side: Side,
-    id: NodeId,
-    edge: EdgeId,
-    steps: &mut Steps<L>,
-) -> Result<(), Memory>
-    requires ready { IsReadyFor edge (edges_at side id (B.meaning base.now).edges) list.old }
-    requires there { list_any (is_at (edge_cmp edge)) (edges_at side id (B.meaning base.now).edges) ≡ true }
-    ensures edited { (edited later : List EdgeId) → IsEdited (edges_at side id (B.meaning base.now).edges) edited (edge ∷ later) list.old →
-        IsStrictlySortedBy edge_cmp (edge ∷ later) → OnOk result (IsEdited (edges_at side id (B.meaning base.now).edges)
-        (remove_key (is_at (edge_cmp edge)) edited) later list.new) }
-    ensures never_back { steps.old ≤ steps.new }
-    ensures cost { (k : ℕ) → length (edges_at side id (B.meaning base.now).edges) < 2 ^ k → steps.new ≤ steps.old + 2 * k + 4 }
-{
-    match search(base, side, id, list.done, edge, steps) {
-        Ok(place) => list.take_out(place),
-        Err(_) => Ok(()),
-    }
+/// An edge put into a list of a side, or taken out.
+#[derive(Clone, Copy)]
+pub(crate) struct Edit {
+    pub side: Side,
+    pub adds: bool,
+    pub edge: EdgeId,
 }
 
-/// Puts an edge into a list that lacks it.
-pub fn put_edge_in<B: GraphRead, L: Ledger>(
+/// Puts an edge into a list that lacks it, or takes it out of one that has it.
+pub(crate) fn edit_list<B: GraphRead, L: Ledger>(
     list: &mut EditedList,
-    base: &B,
-    side: Side,
-    id: NodeId,
-    edge: EdgeId,
+    base: &BaseList<'_, B>,
+    edit: Edit,
     steps: &mut Steps<L>,
 ) -> Result<(), Memory>
-    requires ready { IsReadyFor edge (edges_at side id (B.meaning base.now).edges) list.old }
-    requires absent { list_any (is_at (edge_cmp edge)) (edges_at side id (B.meaning base.now).edges) ≡ false }
-    ensures edited { (edited later : List EdgeId) → IsEdited (edges_at side id (B.meaning base.now).edges) edited (edge ∷ later) list.old →
-        IsStrictlySortedBy edge_cmp (edge ∷ later) → OnOk result (IsEdited (edges_at side id (B.meaning base.now).edges)
-        (insert_key edge_cmp edited edge) later list.new) }
+    requires ready { IsReadyFor edit.edge base.now list.old }
+    requires fits { list_any (is_at (edge_cmp edit.edge)) base.now ≡ not edit.adds }
+    ensures edited { (edited later : List EdgeId) → IsEdited base.now edited (edit.edge ∷ later) list.old →
+        IsStrictlySortedBy edge_cmp (edit.edge ∷ later) → OnOk result (IsEdited base.now (list_edited edit.adds edit.edge edited) later list.new) }
     ensures never_back { steps.old ≤ steps.new }
-    ensures cost { (k : ℕ) → length (edges_at side id (B.meaning base.now).edges) < 2 ^ k → steps.new ≤ steps.old + 2 * k + 4 }
+    ensures cost { (k : ℕ) → length base.now < 2 ^ k → steps.new ≤ steps.old + 2 * k + 4 }
 {
-    match search(base, side, id, list.done, edge, steps) {
-        Err(place) => list.put_in(place, edge),
-        Ok(_) => Ok(()),
+    match (search(base, list.done, edit.edge, steps), edit.adds) {
+        (Err(place), true) => list.put_in(place, edit.edge),
+        (Ok(place), false) => list.take_out(place),
+        // There already, or not there: by what is required neither comes.
+        (Ok(_), true) => Ok(()),
+        (Err(_), false) => Ok(()),
     }
 }

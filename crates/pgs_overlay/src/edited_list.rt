@@ -3,12 +3,10 @@ ghost use Rattle.std.specs.List.{flat_map};
 ghost use Rattle.pgs_base.specs.declared.element.EdgeId.{EdgeId};
 ghost use Rattle.pgs_tables_edges.specs.Starts.{StartFrom};
 ghost use Rattle.pgs_overlay.specs.Parts.{part_items, items, first_item, built, listed, StandsOn, IsBuiltOn};
-ghost use Rattle.pgs_overlay.specs.Sides.{edges_at};
 
+use crate::base_list::BaseList;
 use crate::part::{Part, Placed};
-use crate::search::limit;
-use crate::side::{Side, edge_at};
-use pgs_base::{EdgeId, Memory, NodeId, Steps};
+use pgs_base::{EdgeId, Memory, Steps};
 use pgs_graph::GraphRead;
 use std::alloc::Global;
 use std::sync::ledger::Ledger;
@@ -84,38 +82,34 @@ impl EditedList {
         self.push(Part::Added(edge), 1)
     }
 
-    /// The edge at a place of the list, over the base's list of a node, with one tick. `None` exactly past the last.
+    /// The edge at a place of the list, over the base's list, with one tick. `None` exactly past the last.
     pub fn edge_at<B: GraphRead, L: Ledger>(
         &self,
-        base: &B,
-        side: Side,
-        id: NodeId,
+        base: &BaseList<'_, B>,
         place: usize,
         steps: &mut Steps<L>,
     ) -> Option<EdgeId>
-        requires { StandsOn (edges_at side id (B.meaning base.now).edges) self.now }
-        ensures value { result ≡ slice_get (listed (edges_at side id (B.meaning base.now).edges) self.now) place }
+        requires { StandsOn base.now self.now }
+        ensures value { result ≡ slice_get (listed base.now self.now) place }
         ensures tick { steps.new ≡ steps.old + 1 }
     {
         if place < self.len {
-            self.built_at(base, side, id, place, steps)
+            self.built_at(base, place, steps)
         } else {
-            self.kept_at(base, side, id, place - self.len, steps)
+            self.kept_at(base, place - self.len, steps)
         }
     }
 
     // The edge at a place among those that are built.
     fn built_at<B: GraphRead, L: Ledger>(
         &self,
-        base: &B,
-        side: Side,
-        id: NodeId,
+        base: &BaseList<'_, B>,
         place: usize,
         steps: &mut Steps<L>,
     ) -> Option<EdgeId>
-        requires stands { StandsOn (edges_at side id (B.meaning base.now).edges) self.now }
+        requires stands { StandsOn base.now self.now }
         requires within { place < self.now.len }
-        ensures value { result ≡ slice_get (built (edges_at side id (B.meaning base.now).edges) self.now) place }
+        ensures value { result ≡ slice_get (built base.now self.now) place }
         ensures tick { steps.new ≡ steps.old + 1 }
     {
         let parts = self.parts.as_slice();
@@ -124,7 +118,7 @@ impl EditedList {
             Part::Range { from, to } => {
                 // The place is in the range, so the bound changes nothing: it keeps the sum small.
                 let offset = (place - placed.start).min(to.saturating_sub(*from));
-                edge_at(base, side, id, *from + offset, steps)
+                base.at(*from + offset, steps)
             }
             Part::Added(edge) => {
                 steps.tick();
@@ -136,17 +130,15 @@ impl EditedList {
     // The edge at a place among those behind what is built.
     fn kept_at<B: GraphRead, L: Ledger>(
         &self,
-        base: &B,
-        side: Side,
-        id: NodeId,
+        base: &BaseList<'_, B>,
         place: usize,
         steps: &mut Steps<L>,
     ) -> Option<EdgeId>
-        ensures value { result ≡ slice_get (drop self.now.done (edges_at side id (B.meaning base.now).edges)) place }
+        ensures value { result ≡ slice_get (drop self.now.done base.now) place }
         ensures tick { steps.new ≡ steps.old + 1 }
     {
-        if place < limit(base).saturating_sub(self.done) {
-            edge_at(base, side, id, self.done + place, steps)
+        if place < base.limit().saturating_sub(self.done) {
+            base.at(self.done + place, steps)
         } else {
             steps.tick();
             None

@@ -4,6 +4,7 @@
 //! edges that the delta touches is kept as ranges of the base's list and edges that are put in (`specs/Parts.antt`); nothing is copied.
 #![tactic(auto)]
 
+mod base_list;
 mod changes;
 mod counting;
 mod edit;

@@ -2,6 +2,7 @@ ghost use Rattle.std.specs.Prelude.{◌≡◌, ◌<◌, IfOk};
 ghost use Rattle.std.specs.Map.{keys_of};
 
 use crate::Overlay;
+use crate::base_list::BaseList;
 use crate::changes::{change_of, changed_keys};
 use crate::side::Side;
 use pgs_base::{EdgeId, List, Memory, NodeId, Steps};
@@ -49,10 +50,7 @@ impl<'a, B: GraphRead> GraphRead for Overlay<'a, B> {
         };
         steps.tick();
         match change {
-            Some(row) => Some(NodeRef {
-                labels: &row.labels,
-                props: &row.props,
-            }),
+            Some(row) => Some(NodeRef::of(row)),
             None => None,
         }
     }
@@ -63,26 +61,21 @@ impl<'a, B: GraphRead> GraphRead for Overlay<'a, B> {
         };
         steps.tick();
         match change {
-            Some(row) => Some(EdgeRef {
-                source: row.source,
-                target: row.target,
-                labels: &row.labels,
-                props: &row.props,
-            }),
+            Some(row) => Some(EdgeRef::of(row)),
             None => None,
         }
     }
 
     fn out_edge<L: Ledger>(&self, id: NodeId, nth: usize, steps: &mut Steps<L>) -> Option<EdgeId> {
         match self.lists.outgoing.get(&id) {
-            Some(list) => list.edge_at(self.base, Side::Out, id, nth, steps),
+            Some(list) => list.edge_at(&BaseList::new(self.base, Side::Out, id), nth, steps),
             None => self.base.out_edge(id, nth, steps),
         }
     }
 
     fn in_edge<L: Ledger>(&self, id: NodeId, nth: usize, steps: &mut Steps<L>) -> Option<EdgeId> {
         match self.lists.incoming.get(&id) {
-            Some(list) => list.edge_at(self.base, Side::In, id, nth, steps),
+            Some(list) => list.edge_at(&BaseList::new(self.base, Side::In, id), nth, steps),
             None => self.base.in_edge(id, nth, steps),
         }
     }

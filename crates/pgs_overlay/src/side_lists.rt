@@ -1,6 +1,6 @@
 //! The lists of one side of the nodes at which a delta's edges stand, edited edge by edge.
 
-ghost use Rattle.std.specs.Prelude.{◌≡◌, ◌+◌, ◌*◌, ◌^◌, ◌<◌, ◌≤◌, ℕ, true, false, ◌&&◌, length, option_map, OnOk, IfSome};
+ghost use Rattle.std.specs.Prelude.{◌≡◌, ◌+◌, ◌*◌, ◌^◌, ◌<◌, ◌≤◌, ℕ, true, false, not, ◌&&◌, length, option_map, OnOk, IfSome};
 ghost use Rattle.std.specs.List.{list_any};
 ghost use Rattle.std.specs.List.Sorted.{IsStrictlySortedBy};
 ghost use Rattle.std.specs.Map.{keys_of, remove_entry};
@@ -11,7 +11,8 @@ ghost use Rattle.pgs_graph.specs.Reads.{end_of};
 ghost use Rattle.pgs_overlay.specs.Passed.{list_at, is_here, AreReady, FollowsChange, IsEditAt, IsListOf, IsReadyAt};
 ghost use Rattle.pgs_overlay.specs.Sides.{end_at, edges_at};
 
-use crate::edit::{put_edge_in, take_edge_out};
+use crate::base_list::BaseList;
+use crate::edit::{Edit, edit_list};
 use crate::edited_list::EditedList;
 use crate::side::Side;
 use pgs_base::{EdgeId, Memory, NodeId, Steps};
@@ -33,56 +34,29 @@ fn take_list(lists: &mut Keyed<NodeId, EditedList>, alloc: Global, id: NodeId) -
     }
 }
 
-// Takes an edge out of the list of its old end, where it had one.
-fn take_out<B: GraphRead, L: Ledger>(
+// Edits the list of a node at an end of an edge, where it has one there.
+fn edit_at<B: GraphRead, L: Ledger>(
     lists: &mut Keyed<NodeId, EditedList>,
     alloc: Global,
     base: &B,
-    side: Side,
     end: Option<NodeId>,
-    edge: EdgeId,
+    edit: Edit,
     steps: &mut Steps<L>,
 ) -> Result<(), Memory>
-    requires ready { IfSome end (λ id. IsReadyAt edge (edges_at side id (B.meaning base.now).edges) (list_at lists.old id)) }
-    requires there { IfSome end (λ id. list_any (is_at (edge_cmp edge)) (edges_at side id (B.meaning base.now).edges) ≡ true) }
-    ensures taken { OnOk result ((id : NodeId) → IsEditAt (edges_at side id (B.meaning base.now).edges) edge true false (is_here id end)
+    requires ready { IfSome end (λ id. IsReadyAt edit.edge (edges_at edit.side id (B.meaning base.now).edges) (list_at lists.old id)) }
+    requires fits { IfSome end (λ id. list_any (is_at (edge_cmp edit.edge)) (edges_at edit.side id (B.meaning base.now).edges) ≡ not edit.adds) }
+    ensures edited { OnOk result ((id : NodeId) → IsEditAt (edges_at edit.side id (B.meaning base.now).edges) edit.edge edit.adds (is_here id end)
         (list_at lists.old id) (list_at lists.new id)) }
     ensures never_back { steps.old ≤ steps.new }
-    ensures cost { (most k : ℕ) → most < 2 ^ k → IfSome end (λ id. length (edges_at side id (B.meaning base.now).edges) ≤ most) →
+    ensures cost { (most k : ℕ) → most < 2 ^ k → IfSome end (λ id. length (edges_at edit.side id (B.meaning base.now).edges) ≤ most) →
         steps.new ≤ steps.old + 2 * k + 4 }
 {
     let Some(id) = end else {
         return Ok(());
     };
+    let base_list = BaseList::new(base, edit.side, id);
     let mut list = take_list(lists, alloc, id);
-    take_edge_out(&mut list, base, side, id, edge, steps)?;
-    lists.set(id, list)?;
-    Ok(())
-}
-
-// Puts an edge into the list of its new end, where it has one.
-fn put_in<B: GraphRead, L: Ledger>(
-    lists: &mut Keyed<NodeId, EditedList>,
-    alloc: Global,
-    base: &B,
-    side: Side,
-    end: Option<NodeId>,
-    edge: EdgeId,
-    steps: &mut Steps<L>,
-) -> Result<(), Memory>
-    requires ready { IfSome end (λ id. IsReadyAt edge (edges_at side id (B.meaning base.now).edges) (list_at lists.old id)) }
-    requires absent { IfSome end (λ id. list_any (is_at (edge_cmp edge)) (edges_at side id (B.meaning base.now).edges) ≡ false) }
-    ensures put { OnOk result ((id : NodeId) → IsEditAt (edges_at side id (B.meaning base.now).edges) edge false true (is_here id end)
-        (list_at lists.old id) (list_at lists.new id)) }
-    ensures never_back { steps.old ≤ steps.new }
-    ensures cost { (most k : ℕ) → most < 2 ^ k → IfSome end (λ id. length (edges_at side id (B.meaning base.now).edges) ≤ most) →
-        steps.new ≤ steps.old + 2 * k + 4 }
-{
-    let Some(id) = end else {
-        return Ok(());
-    };
-    let mut list = take_list(lists, alloc, id);
-    put_edge_in(&mut list, base, side, id, edge, steps)?;
+    edit_list(&mut list, &base_list, edit, steps)?;
     lists.set(id, list)?;
     Ok(())
 }
@@ -121,7 +95,17 @@ pub(crate) fn edit_side<B: GraphRead, L: Ledger>(
     if are_same(old, new) {
         return Ok(());
     }
-    take_out(lists, alloc, base, side, old, edge, steps)?;
-    put_in(lists, alloc, base, side, new, edge, steps)?;
+    let take_out = Edit {
+        side,
+        adds: false,
+        edge,
+    };
+    edit_at(lists, alloc, base, old, take_out, steps)?;
+    let put_in = Edit {
+        side,
+        adds: true,
+        edge,
+    };
+    edit_at(lists, alloc, base, new, put_in, steps)?;
     Ok(())
 }

@@ -1,9 +1,8 @@
-ghost use Rattle.std.specs.Prelude.{◌≡◌, ◌+◌};
 ghost use Rattle.pgs_tables.specs.Standing.{TablesState};
 
 use crate::Tables;
 use pgs_base::{EdgeId, List, Memory, NodeId, Steps};
-use pgs_graph::{EdgeRef, GraphRead, NodeRef};
+use pgs_graph::{EdgeRef, GraphRead, NodeRef, tick_each};
 use std::alloc::Global;
 use std::sync::ledger::Ledger;
 
@@ -13,10 +12,7 @@ impl GraphRead for Tables {
     fn node<L: Ledger>(&self, id: NodeId, steps: &mut Steps<L>) -> Option<NodeRef<'_>> {
         steps.tick();
         match self.nodes.get(id) {
-            Some(table) => Some(NodeRef {
-                labels: &table.row.labels,
-                props: &table.row.props,
-            }),
+            Some(table) => Some(NodeRef::of(&table.row)),
             None => None,
         }
     }
@@ -24,12 +20,7 @@ impl GraphRead for Tables {
     fn edge<L: Ledger>(&self, id: EdgeId, steps: &mut Steps<L>) -> Option<EdgeRef<'_>> {
         steps.tick();
         match self.edges.get(id) {
-            Some(row) => Some(EdgeRef {
-                source: row.source,
-                target: row.target,
-                labels: &row.labels,
-                props: &row.props,
-            }),
+            Some(row) => Some(EdgeRef::of(row)),
             None => None,
         }
     }
@@ -72,15 +63,5 @@ impl GraphRead for Tables {
 
     fn count(&self) -> u64 {
         self.nodes.len() as u64 + self.edges.len() as u64
-    }
-}
-
-fn tick_each<L: Ledger>(steps: &mut Steps<L>, times: usize)
-    ensures { steps.new ≡ steps.old + times }
-{
-    let mut left = times;
-    while left > 0 {
-        steps.tick();
-        left -= 1;
     }
 }

@@ -1,27 +1,23 @@
 use Rattle.std.proofs.Common.{◌∙◌, ◌+◌, ◌-◌, min, get_or, ap}
 use Rattle.std.specs.List.{slice_get}
-use Rattle.pgs_overlay.specs.Sides.{edges_at}
 use Rattle.pgs_overlay.proofs.Standing.{in_part, read_range, read_added, unread}
 use Rattle.pgs_overlay.proofs.edited_list.EditedList.built_at.Goals as goal
 
 pub overflow_sub-place : goal.overflow_sub-place
 overflow_sub-place g c =
-    let xs = edges_at c.args.side c.args.id (g.B.GraphRead.meaning c.args.base.now).edges in
-    (in_part xs c.args.self.now c.as_slice-parts.result.now c.as_slice-parts.ensures.value c.requires.stands c.args.place c.requires.within
+    (in_part c.args.base.now c.args.self.now c.as_slice-parts.result.now c.as_slice-parts.ensures.value c.requires.stands c.args.place c.requires.within
     c.part_at.result c.part_at.ensures).begun
 
 pub returns-in-Range-clause-value : goal.returns-in-Range-clause-value
 returns-in-Range-clause-value g c =
-    let xs = edges_at c.args.side c.args.id (g.B.GraphRead.meaning c.args.base.now).edges in
-    let inside = in_part xs c.args.self.now c.as_slice-parts.result.now c.as_slice-parts.ensures.value c.requires.stands c.args.place
+    let inside = in_part c.args.base.now c.args.self.now c.as_slice-parts.result.now c.as_slice-parts.ensures.value c.requires.stands c.args.place
     c.requires.within c.part_at.result c.part_at.ensures in
-    c.edge_at.ensures.value ∙ ap (λ n. slice_get xs (c.in-Range.from + n)) c.min-offset.ensures
-    ∙ ap (λ n. slice_get xs (c.in-Range.from + min (c.args.place - (get_or c.as_slice-parts.result.now c.part_at.result unread).start) n)) c.saturating_sub.ensures
-    ∙ read_range xs c.args.self.now _ c.args.place c.in-Range.from c.in-Range.to inside c.in-Range.is
+    c.at.ensures.value ∙ ap (λ n. slice_get c.args.base.now (c.in-Range.from + n)) c.min-offset.ensures
+    ∙ ap (λ n. slice_get c.args.base.now (c.in-Range.from + min (c.args.place - (get_or c.as_slice-parts.result.now c.part_at.result unread).start) n)) c.saturating_sub.ensures
+    ∙ read_range c.args.base.now c.args.self.now _ c.args.place c.in-Range.from c.in-Range.to inside c.in-Range.is
 
 pub returns-in-Added-clause-value : goal.returns-in-Added-clause-value
 returns-in-Added-clause-value g c =
-    let xs = edges_at c.args.side c.args.id (g.B.GraphRead.meaning c.args.base.now).edges in
-    let inside = in_part xs c.args.self.now c.as_slice-parts.result.now c.as_slice-parts.ensures.value c.requires.stands c.args.place
+    let inside = in_part c.args.base.now c.args.self.now c.as_slice-parts.result.now c.as_slice-parts.ensures.value c.requires.stands c.args.place
     c.requires.within c.part_at.result c.part_at.ensures in
-    read_added xs c.args.self.now _ c.args.place c.in-Added.edge inside c.in-Added.is
+    read_added c.args.base.now c.args.self.now _ c.args.place c.in-Added.edge inside c.in-Added.is

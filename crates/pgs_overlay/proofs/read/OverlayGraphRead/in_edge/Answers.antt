@@ -1,19 +1,21 @@
 use Rattle.std.proofs.Common.{◌∙◌, sym, ap}
 use Rattle.std.specs.List.{slice_get}
 use Rattle.pgs_overlay.specs.declared.side.Side.TheVariants.{In}
+use Rattle.pgs_overlay.specs.Parts.{listed}
 use Rattle.pgs_overlay.specs.Sides.{edges_at}
 use Rattle.pgs_overlay.proofs.Reading.{list_stands, list_read, base_read, end_read}
 use Rattle.pgs_overlay.proofs.read.OverlayGraphRead.in_edge.Goals as goal
 
 pub edge_at-requires : goal.edge_at-requires
 edge_at-requires g c =
-    list_stands (g.B.GraphRead.meaning c.self.inside.base.now) c.self.inside.delta.now c.self.invariant.graph c.self.invariant.sound In
+    rw c.new.ensures (list_stands (g.B.GraphRead.meaning c.self.inside.base.now) c.self.inside.delta.now c.self.invariant.graph c.self.invariant.sound In
     c.self.inside.lists.incoming c.self.invariant.incoming_passed c.args.id
-    c.in-Some.list.now (sym c.in-Some.ensures)
+    c.in-Some.list.now (sym c.in-Some.ensures))
 
 pub returns-in-Some-clause-value : goal.returns-in-Some-clause-value
 returns-in-Some-clause-value g c =
     c.edge_at.ensures.value
+    ∙ ap (λ xs. slice_get (listed xs c.in-Some.list.now) c.args.nth) c.new.ensures
     ∙ ap (λ l. slice_get l c.args.nth) (list_read (g.B.GraphRead.meaning c.self.inside.base.now) c.self.inside.delta.now c.self.invariant.graph c.self.invariant.sound In
     c.self.inside.lists.incoming c.self.invariant.incoming_passed c.args.id
     c.in-Some.list.now (sym c.in-Some.ensures))

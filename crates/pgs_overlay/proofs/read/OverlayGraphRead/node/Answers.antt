@@ -1,4 +1,4 @@
-use Rattle.std.proofs.Common.{◌∙◌, sym, ap}
+use Rattle.std.proofs.Common.{◌∙◌, Some, sym, ap}
 use Rattle.std.specs.Map.{lookup}
 use Rattle.std.specs.BTreeMap.{is_at}
 use Rattle.pgs_base.specs.Graph.{node_cmp, node_at}
@@ -19,7 +19,7 @@ returns-in_default-clause-value g c =
 
 pub returns-in-Some-change-clause-value : goal.returns-in-Some-change-clause-value
 returns-in-Some-change-clause-value g c =
-    sym c.in-Some-change.is
+    ap Some c.of.ensures ∙ sym c.in-Some-change.is
     ∙ node_put (g.B.GraphRead.meaning c.self.inside.base.now) c.self.inside.delta.now c.self.invariant.graph c.self.invariant.sound
     c.args.id c.in-Some.change.now (ap (lookup (is_at (node_cmp c.args.id))) (sym c.as_slice.ensures) ∙ sym c.in-Some.ensures)
     ∙ ap (λ h. node_at h c.args.id) c.self.view_is
