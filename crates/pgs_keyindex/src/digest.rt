@@ -22,7 +22,7 @@ impl Digest {
     pub(crate) fn of(seed: Seed, key: u32, tuple: &Tuple) -> Digest
         ensures { result ≡ digest_of seed key tuple.now }
     {
-        let hash = hashed(seed, tuple.parts().as_slice()) % (1 << 32);
+        let hash = hash_of(seed, tuple) % (1 << 32);
         Digest {
             key,
             hash: hash as u32,
@@ -30,10 +30,12 @@ impl Digest {
     }
 }
 
-fn hashed(seed: Seed, parts: &[Part]) -> u64
-    ensures { result ≡ hash_of seed parts.now }
+/// What a tuple hashes to by a seed: a number that equal tuples have in common, and others hardly ever.
+pub fn hash_of(seed: Seed, tuple: &Tuple) -> u64
+    ensures { result ≡ hash_of seed tuple.now }
 {
     let mut hasher = seed.build_hasher();
+    let parts = tuple.parts().as_slice();
     for part in parts {
         feed(part, &mut hasher);
     }

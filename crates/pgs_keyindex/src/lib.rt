@@ -17,4 +17,5 @@ mod member;
 mod table;
 
 pub use change::{KeyChange, KeyReady};
+pub use digest::hash_of;
 pub use index::KeyIndex;

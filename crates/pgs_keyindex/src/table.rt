@@ -203,35 +203,17 @@ impl KeyTable {
         }
     }
 
-    // The same at the digests of values that elements had.
-    fn tidy_former(&mut self) -> Result<(), Memory>
+    // The same at all digests that are kept, which then are forgotten.
+    fn tidy_all_kept(&mut self) -> Result<(), Memory>
         ensures { SameRows self.old self.new }
     {
+        self.former.append(&mut self.coming)?;
         for place in 0..self.former.len() {
             let kept = self.former.get(place).copied();
             self.tidy_kept(kept)?;
         }
         self.former.clear();
         Ok(())
-    }
-
-    // The same at those of values that elements were to get.
-    fn tidy_coming(&mut self) -> Result<(), Memory>
-        ensures { SameRows self.old self.new }
-    {
-        for place in 0..self.coming.len() {
-            let kept = self.coming.get(place).copied();
-            self.tidy_kept(kept)?;
-        }
-        self.coming.clear();
-        Ok(())
-    }
-
-    fn tidy_all_kept(&mut self) -> Result<(), Memory>
-        ensures { SameRows self.old self.new }
-    {
-        self.tidy_former()?;
-        self.tidy_coming()
     }
 
     /// Takes out the slots without a row where they are more than half of all, and what is listed without a value at the digests that are
