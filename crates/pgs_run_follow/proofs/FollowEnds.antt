@@ -197,7 +197,7 @@ silent_by : (f : Followed) (budget : ℕ) (left : Option (List ℕ)) (bytes : Li
     → IsFar following 2097152 f budget left bytes lines later stop extent → PutsLast extent old new → IsUnended (status_at stop) → new ≡ old
 silent_by f budget left bytes lines later stop Whole old new far same unended = same
 silent_by f budget left bytes lines later stop (Inside at) old new far same unended = same
-silent_by f budget left bytes lines later stop (AtEnd rest at) old new far may unended = absurd (end_reached f lines rest stop (subst MayStop far.0 may) far.4 unended)
+silent_by f budget left bytes lines later stop (AtEnd rest at) old new far may unended = absurd (end_reached f lines rest stop (subst MayPut far.0 may) far.4 unended)
 
 pub follow_silent : (f : Followed) (budget : ℕ) (before left : Option (List ℕ)) (stop : Stop FollowStatus) (status : FollowStatus) (old new : Scene (Unit {0})) → status ≡ status_at stop
     → Allows following puts_last 2097152 f budget before left stop old new → IsUnended status → shown_of new.view ≡ shown_of old.view

@@ -1,11 +1,12 @@
-ghost use Rattle.std.specs.Prelude.{◌≡◌, [], true};
+ghost use Rattle.std.specs.Prelude.{◌≡◌, [], true, IfOk, OnOk};
 ghost use Rattle.pgs_run_lines.specs.Calls.{is_of_world};
 ghost use Rattle.pgs_run_lines.specs.AreasKept.{KeepsAreas};
 ghost use Rattle.pgs_run_lines.specs.Ending.{Ends, HasCause, faults_of};
+ghost use Rattle.pgs_run_lines.specs.Machine.{HasRoomFor};
 ghost use Rattle.pgs_run_lines.specs.May.{MayPut};
-ghost use Rattle.pgs_run_lines.specs.Pieces.{shown_of};
+ghost use Rattle.pgs_run_lines.specs.Pieces.{pieces_in, shown_of};
 ghost use Rattle.pgs_run_base.specs.Answers.{schema_answer};
-ghost use Rattle.pgs_run_sessions.specs.Running.{run_teller, stand_of, first_stand};
+ghost use Rattle.pgs_run_sessions.specs.Running.{running, run_teller, stand_of, first_stand, after_end, pieces_at_end};
 ghost use Rattle.pgs_run_sessions.specs.State.{brief_sessions};
 ghost use Rattle.pgs_run_sessions.specs.Told.{status_after, told_schema};
 
@@ -66,14 +67,13 @@ fn end_schema<W: World>(text: &[u8], alloc: Global, world: &mut W, seed: Seed) -
     }
 }
 
-impl LineTeller for Taking {
-    type Status = Status;
-
-    ghost teller = { run_teller };
-
-    ghost stands = { λ taker. stand_of taker.phase };
-
-    fn take_line(&mut self, alloc: Global, line: &[u8]) -> Result<Option<Bytes>, Memory> {
+impl Taking {
+    // Takes a line, and gives what it tells, if anything. After `Memory` the value isn't used any more.
+    fn step(&mut self, alloc: Global, line: &[u8]) -> Result<Option<Bytes>, Memory>
+        requires { HasRoomFor running 1 (stand_of self.old.phase) }
+        ensures stand { OnOk result (stand_of self.new.phase ≡ after_end (stand_of self.old.phase) line.now) }
+        ensures piece { IfOk result (λ piece. pieces_in piece ≡ pieces_at_end (stand_of self.old.phase) line.now) }
+    {
         match &mut self.phase {
             Phase::Schema(part) => {
                 if !part.take_line(line)? {
@@ -86,6 +86,18 @@ impl LineTeller for Taking {
             Phase::Lines(running) => running.take_line(alloc, line),
             Phase::Refused => Ok(None),
         }
+    }
+}
+
+impl LineTeller for Taking {
+    type Status = Status;
+
+    ghost teller = { run_teller };
+
+    ghost stands = { λ taker. stand_of taker.phase };
+
+    fn take_line(&mut self, alloc: Global, line: &[u8]) -> Result<Option<Bytes>, Memory> {
+        self.step(alloc, line)
     }
 
     fn ended(&self) -> Option<Status> {

@@ -1,12 +1,13 @@
-ghost use Rattle.std.specs.Prelude.{◌≡◌, [], true};
+ghost use Rattle.std.specs.Prelude.{◌≡◌, [], true, IfOk, OnOk};
 ghost use Rattle.pgs_run_lines.specs.Calls.{is_of_world};
 ghost use Rattle.pgs_run_lines.specs.AreasKept.{KeepsAreas};
 ghost use Rattle.pgs_run_lines.specs.Ending.{Ends, HasCause, faults_of};
+ghost use Rattle.pgs_run_lines.specs.Machine.{HasRoomFor};
 ghost use Rattle.pgs_run_lines.specs.May.{MayPut};
-ghost use Rattle.pgs_run_lines.specs.Pieces.{shown_of};
+ghost use Rattle.pgs_run_lines.specs.Pieces.{pieces_in, shown_of};
 ghost use Rattle.pgs_run_base.specs.Answers.{schema_answer};
 ghost use Rattle.pgs_run_try.specs.Told.{told_schema};
-ghost use Rattle.pgs_run_try.specs.Trying.{try_teller, first_phase};
+ghost use Rattle.pgs_run_try.specs.Trying.{trying, try_teller, first_phase, after_end, pieces_at_end};
 
 use crate::Judging;
 use crate::listing::end_session;
@@ -62,14 +63,13 @@ fn end_schema<W: World>(
     }
 }
 
-impl LineTeller for Trying {
-    type Status = Status;
-
-    ghost teller = { try_teller };
-
-    ghost stands = { λ taker. taker.phase };
-
-    fn take_line(&mut self, alloc: Global, line: &[u8]) -> Result<Option<Bytes>, Memory> {
+impl Trying {
+    // Takes a line, and gives what it tells, if anything. After `Memory` the value isn't used any more.
+    fn step(&mut self, alloc: Global, line: &[u8]) -> Result<Option<Bytes>, Memory>
+        requires { HasRoomFor trying 1 self.old.phase }
+        ensures phase { OnOk result (self.new.phase ≡ after_end self.old.phase line.now) }
+        ensures piece { IfOk result (λ piece. pieces_in piece ≡ pieces_at_end self.old.phase line.now) }
+    {
         match &mut self.phase {
             Phase::Schema(judging, part) => {
                 if !part.take_line(line)? {
@@ -82,6 +82,18 @@ impl LineTeller for Trying {
             Phase::Lines(session) => session.take_line(alloc, line),
             Phase::Refused => Ok(None),
         }
+    }
+}
+
+impl LineTeller for Trying {
+    type Status = Status;
+
+    ghost teller = { try_teller };
+
+    ghost stands = { λ taker. taker.phase };
+
+    fn take_line(&mut self, alloc: Global, line: &[u8]) -> Result<Option<Bytes>, Memory> {
+        self.step(alloc, line)
     }
 
     fn ended(&self) -> Option<Status> {
