@@ -24,7 +24,7 @@ use Rattle.pgs_run_base.specs.Answers.{schema_answer}
 use Rattle.pgs_run_base.specs.Ending.{status_at}
 use Rattle.pgs_run_base.specs.Images.{KeepsImages}
 use Rattle.pgs_run_base.specs.Input.{text_limit, is_skipped}
-use Rattle.pgs_run_base.specs.Pieces.{pieces_in}
+use Rattle.pgs_run_lines.specs.Pieces.{pieces_in}
 use Rattle.pgs_run_base.specs.Session.{standard, every_verdict, pieces_of_line}
 use Rattle.pgs_run_base.proofs.Images.{images_quiet, images_areas}
 use Rattle.pgs_violation.specs.Violations.{verdict}

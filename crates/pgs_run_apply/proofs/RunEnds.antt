@@ -22,7 +22,7 @@ use Rattle.pgs_run_base.specs.declared.status.Status.TheVariants.{Accepted, Refu
 use Rattle.pgs_run_base.specs.Calls.{fails_read, fails_world}
 use Rattle.pgs_run_base.specs.Ending.{Ends, status_at}
 use Rattle.pgs_run_base.specs.Input.{text_limit}
-use Rattle.pgs_run_base.specs.Pieces.{pieces_in}
+use Rattle.pgs_run_lines.specs.Pieces.{pieces_in}
 use Rattle.pgs_run_base.specs.Run.{IsRead, EndsAs, HasCommandCause, TakesWithin}
 use Rattle.pgs_run_saved.specs.Opening.{saved_in}
 use Rattle.pgs_run_saved.specs.Refusing.{SavedStore}

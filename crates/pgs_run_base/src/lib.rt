@@ -8,7 +8,7 @@
 
 mod collecting;
 mod lines;
-mod putting;
+mod open_fault;
 mod schema_answer;
 mod schema_part;
 mod status;
@@ -16,7 +16,7 @@ mod txn_answer;
 
 pub use collecting::{Collected, Collecting, text_of};
 pub use lines::{TEXT_LIMIT, is_separator};
-pub use putting::put_any;
+pub use open_fault::OpenFault;
 pub use schema_answer::{refusal_of, schema_of};
 pub use schema_part::SchemaPart;
 pub use status::{Status, status_at};

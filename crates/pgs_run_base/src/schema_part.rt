@@ -1,7 +1,8 @@
-ghost use Rattle.std.specs.Prelude.{◌≡◌, OnOk};
+ghost use Rattle.std.specs.Prelude.{◌≡◌, false, true, IfOk, Ok, OnOk};
+ghost use Rattle.pgs_run_base.specs.Input.{is_separator};
 ghost use Rattle.pgs_run_base.specs.Part.{no_part, with_line};
 
-use crate::TEXT_LIMIT;
+use crate::{TEXT_LIMIT, is_separator};
 use pgs_base::Memory;
 use pgs_run_lines::LineBuffer;
 use std::alloc::Global;
@@ -51,6 +52,19 @@ impl SchemaPart {
         self.begun = true;
         self.text.push_all(line)?;
         Ok(())
+    }
+
+    /// Takes a line: whether it ends the part, and else it is put at the end. After `Memory` the part isn't used any more.
+    pub fn take_line(&mut self, line: &[u8]) -> Result<bool, Memory>
+        ensures ends { IfOk result (λ ended. ended ≡ is_separator line.now) }
+        ensures ended { result ≡ Ok true → self.new ≡ self.old }
+        ensures goes_on { result ≡ Ok false → self.new ≡ with_line self.old line.now }
+    {
+        if is_separator(line) {
+            return Ok(true);
+        }
+        self.push_line(line)?;
+        Ok(false)
     }
 
     /// The front of the text.

@@ -50,12 +50,18 @@ impl Status {
 }
 
 impl RunStatus for Status {
-    ghost use Rattle.pgs_run_base.specs.declared.status.Status.TheVariants.{PutFault};
+    ghost use Rattle.pgs_run_base.specs.declared.status.Status.TheVariants.{Memory, PutFault};
 
     ghost put_failed = { PutFault };
 
+    ghost no_memory = { Memory };
+
     fn put_fault() -> Status {
         Status::PutFault
+    }
+
+    fn memory() -> Status {
+        Status::Memory
     }
 }
 

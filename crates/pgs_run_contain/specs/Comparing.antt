@@ -1,9 +1,8 @@
 -- The reading of two schema texts as one machine over lines.
 use Rattle.std.specs.Prelude.{◌≡◌, ℕ, true, false, List, [], ◌∷◌, ◌++◌, Result, Ok, Err, not, if◌then◌else◌}
 use Rattle.std.specs.List.{list_any, join_with_byte}
-use Rattle.pgs_run_lines.specs.declared.stop.Stop.{Stop}
-use Rattle.pgs_run_lines.specs.declared.stop.Stop.TheVariants as stops
 use Rattle.pgs_run_lines.specs.Machine.{Machine, Standing, Told, Going, Ended}
+use Rattle.pgs_run_lines.specs.Telling.{Teller, telling}
 use Rattle.pgs_syntax.specs.declared.resolved.Resolved.{Resolved}
 use Rattle.pgs_answer.specs.Lines.{schema_refused_line}
 use Rattle.pgs_run_base.specs.Answers.{schema_answer}
@@ -47,28 +46,19 @@ told_after (First part) = told_first true (schema_answer part.text) []
 told_after (Second first part) = told_second first (schema_answer part.text)
 told_after Refused = record { pieces = []; status = endings.Refused }
 
--- the last line has no line feed
-abbrev pub told_last : Phase → List ℕ → Told Ending
-told_last phase line =
-    let after = told_after (after_end phase line) in record { pieces = pieces_at_end phase line ++ after.pieces; status = after.status }
-
--- it touches no area
-abbrev pub MayStop : Stop Ending → Type 0
-MayStop (stops.Ended ending) = Unit {0}
-MayStop stops.ReadFault = ⊥
-MayStop stops.AreaFault = ⊥
-MayStop stops.PutFault = Unit {0}
-MayStop stops.Memory = Unit {0}
-
-abbrev pub comparing : Machine Ending
-comparing = record {
+abbrev pub compare_teller : Teller Ending
+compare_teller = record {
   State = Phase;
-  line = λ phase line. record { pieces = pieces_at_end phase line; next = next_of (after_end phase line) };
-  rest = told_last;
-  cut = λ phase. endings.Cut;
-  MayStop = MayStop;
+  after = after_end;
+  pieces = pieces_at_end;
+  next = next_of;
+  told = told_after;
+  cut = endings.Cut;
   HasRoom = λ lines phase. Unit {0};
 }
+
+abbrev pub comparing : Machine Ending
+comparing = telling compare_teller
 
 -- before the first line
 abbrev pub first_phase : Phase

@@ -11,7 +11,7 @@ use crate::comparing::Comparing;
 use crate::ending::Ending;
 use crate::types::put_guard;
 use pgs_run_base::{Status, TEXT_LIMIT};
-use pgs_run_lines::{Stop, run_lines};
+use pgs_run_lines::{Stop, Telling, run_lines};
 use pgs_world::{Source, World};
 use std::alloc::Global;
 
@@ -50,7 +50,9 @@ pub fn run_contain<S: Source, W: World>(
     ensures last { fails_world result ≡ true → W.failed world.new }
     ensures calls { Reads S.read_made budget source.old (fails_read result) source.new }
 {
-    let mut comparing = Comparing::new(alloc);
+    let mut comparing = Telling {
+        teller: Comparing::new(alloc),
+    };
     let stop = run_lines(&mut comparing, alloc, source, world, TEXT_LIMIT, budget);
     end_run(alloc, world, stop)
 }

@@ -1,4 +1,3 @@
-pub mod Failing
 pub mod Kept
 pub mod Leaving
 pub mod Lines

@@ -6,7 +6,7 @@ use Rattle.pgs_run_lines.specs.declared.stop.Stop.TheVariants as stops
 use Rattle.pgs_run_lines.specs.Ending as lines
 use Rattle.pgs_run_lines.specs.Ending.{Faults}
 use Rattle.pgs_run_lines.specs.Machine.{Told, Scene, Extent, Whole, Inside, AtEnd, Going, after_lines, told_at_end, told_by}
-use Rattle.pgs_run_lines.specs.May.{MayCome}
+use Rattle.pgs_run_lines.specs.May.{MayCome, MayPut}
 use Rattle.pgs_run_lines.specs.Pieces.{Shown, ShowsAll, shown_of}
 use Rattle.pgs_run_lines.specs.Run as over
 use Rattle.pgs_run_lines.specs.Run.{Allows, EndsBy, EndsAtLine, EndsAtEnd, EndsAtCut, IsFar}
@@ -17,7 +17,7 @@ use Rattle.pgs_follow.specs.Followed.{Followed, nothing_followed, after_line, fo
 use Rattle.pgs_run_follow.specs.declared.status.FollowStatus.{FollowStatus}
 use Rattle.pgs_run_follow.specs.declared.status.FollowStatus.TheVariants.{Accepted, Refused, BadWords, ReadFault, PutFault, Memory, InputTooLong}
 use Rattle.pgs_run_follow.specs.Ending.{status_at, Ends, HasCause, IsRead, IsComplete, IsUnended, TakesWithin}
-use Rattle.pgs_run_follow.specs.Following.{following, puts_last, MayStop, PutsLast, told_last}
+use Rattle.pgs_run_follow.specs.Following.{following, puts_last, PutsLast, told_last}
 use Rattle.pgs_run_follow.specs.Texts.{standard}
 use Rattle.pgs_run_follow.specs.Told.{told_of, told_follow}
 use Rattle.pgs_run_follow.proofs.Machine.{told_by_following}
@@ -185,7 +185,7 @@ other_end status (inr is) (inl unended) = let no : Memory ≡ ReadFault = sym is
 other_end status (inr is) (inr unended) = let no : Memory ≡ InputTooLong = sym is ∙ unended in cc
 
 -- the end of the input was reached, which ended the run so
-end_reached : (f : Followed) (lines : List (List ℕ)) (rest : List ℕ) (stop : Stop FollowStatus) → MayStop stop → over.IsToldBy (told_at_end following (after_lines following (Going f) lines) rest) stop
+end_reached : (f : Followed) (lines : List (List ℕ)) (rest : List ℕ) (stop : Stop FollowStatus) → MayPut stop → over.IsToldBy (told_at_end following (after_lines following (Going f) lines) rest) stop
     → IsUnended (status_at stop) → ⊥
 end_reached f lines rest (stops.Ended status) may told unended = ended_whole _ status (done_at f lines rest) told unended
 end_reached f lines rest stops.ReadFault may told unended = may
@@ -197,7 +197,7 @@ silent_by : (f : Followed) (budget : ℕ) (left : Option (List ℕ)) (bytes : Li
     → IsFar following 2097152 f budget left bytes lines later stop extent → PutsLast extent old new → IsUnended (status_at stop) → new ≡ old
 silent_by f budget left bytes lines later stop Whole old new far same unended = same
 silent_by f budget left bytes lines later stop (Inside at) old new far same unended = same
-silent_by f budget left bytes lines later stop (AtEnd rest at) old new far may unended = absurd (end_reached f lines rest stop (subst MayStop far.0 may) far.4 unended)
+silent_by f budget left bytes lines later stop (AtEnd rest at) old new far may unended = absurd (end_reached f lines rest stop (subst MayPut far.0 may) far.4 unended)
 
 pub follow_silent : (f : Followed) (budget : ℕ) (before left : Option (List ℕ)) (stop : Stop FollowStatus) (status : FollowStatus) (old new : Scene (Unit {0})) → status ≡ status_at stop
     → Allows following puts_last 2097152 f budget before left stop old new → IsUnended status → shown_of new.view ≡ shown_of old.view

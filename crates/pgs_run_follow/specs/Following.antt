@@ -1,24 +1,15 @@
 -- Following as a machine over lines.
 use Rattle.std.specs.Prelude.{◌≡◌, ◌<◌, ◌^◌, ◌+◌, ℕ, List, [], length, is_some, refl, if◌then◌else◌}
 use Rattle.std.proofs.Common.{◌∙◌}
-use Rattle.pgs_run_lines.specs.declared.stop.Stop.{Stop}
-use Rattle.pgs_run_lines.specs.declared.stop.Stop.TheVariants as stops
 use Rattle.pgs_run_lines.specs.AreasKept.{KeepsAreas, keeps_none, keeps_on}
 use Rattle.pgs_run_lines.specs.Machine.{Machine, Rule, Extent, Whole, Inside, AtEnd, Told, Going}
+use Rattle.pgs_run_lines.specs.May.{MayPut}
 use Rattle.pgs_run_lines.specs.Pieces.{Shown, shown_of}
 use Rattle.pgs_follow.specs.Followed.{Followed, after_line, with_rest}
 use Rattle.pgs_run_follow.specs.declared.status.FollowStatus.{FollowStatus}
 use Rattle.pgs_run_follow.specs.declared.status.FollowStatus.TheVariants as statuses
 use Rattle.pgs_run_follow.specs.Texts.{standard}
 use Rattle.pgs_run_follow.specs.Told.{told_of}
-
--- it touches no area
-abbrev pub MayStop : Stop FollowStatus → Type 0
-MayStop (stops.Ended status) = Unit {0}
-MayStop stops.ReadFault = ⊥
-MayStop stops.AreaFault = ⊥
-MayStop stops.PutFault = Unit {0}
-MayStop stops.Memory = Unit {0}
 
 -- how many bytes of an unfinished line there are; none once there is a fault
 abbrev pub rest_after : Followed → List ℕ → ℕ
@@ -35,7 +26,7 @@ following = record {
   line = λ f line. record { pieces = []; next = Going (after_line standard f line) };
   rest = told_last;
   cut = λ f. statuses.InputTooLong;
-  MayStop = MayStop;
+  MayStop = MayPut;
   HasRoom = λ lines f. f.lines + lines < 2 ^ 64;
 }
 
@@ -43,7 +34,7 @@ following = record {
 abbrev pub PutsLast : Extent FollowStatus → Shown → Shown → Type 0
 PutsLast Whole old new = new ≡ old
 PutsLast (Inside stop) old new = new ≡ old
-PutsLast (AtEnd rest stop) old new = MayStop stop
+PutsLast (AtEnd rest stop) old new = MayPut stop
 
 pub puts_last_on : (extent : Extent FollowStatus) (old mid new : Shown) → mid ≡ old → PutsLast extent mid new → PutsLast extent old new
 puts_last_on Whole old mid new p q = q ∙ p

@@ -3,10 +3,11 @@ ghost use Rattle.pgs_run_lines.specs.Calls.{is_of_world, stops_of_world};
 ghost use Rattle.pgs_run_lines.specs.AreasKept.{KeepsAreas};
 ghost use Rattle.pgs_run_lines.specs.Driving.{LineLeads};
 ghost use Rattle.pgs_run_lines.specs.Ending.{Ends, HasCause, faults_of};
+ghost use Rattle.pgs_run_lines.specs.May.{MayPut};
 ghost use Rattle.pgs_run_lines.specs.Pieces.{shown_of};
 ghost use Rattle.pgs_run_lines.specs.Puts.{Puts};
 ghost use Rattle.pgs_follow.specs.Followed.{nothing_followed, with_rest};
-ghost use Rattle.pgs_run_follow.specs.Following.{following, puts_last, rest_after, MayStop};
+ghost use Rattle.pgs_run_follow.specs.Following.{following, puts_last, rest_after};
 ghost use Rattle.pgs_run_follow.specs.Told.{fault_lines, told_of};
 
 use crate::status::FollowStatus;
@@ -131,7 +132,7 @@ impl Following {
     fn tell<W: World>(&self, alloc: Global, world: &mut W, rest: u64) -> Stop<FollowStatus>
         ensures ends { Ends (shown_of (W.view world.old)) (told_of self.now rest) result (shown_of (W.view world.new)) }
         ensures cause { HasCause (faults_of 0 (W.view world.old)) (faults_of 0 (W.view world.new)) result }
-        ensures may { MayStop result }
+        ensures may { MayPut result }
         ensures areas { KeepsAreas (W.view world.old) (W.view world.new) }
         ensures last { is_of_world result ≡ true → W.failed world.new }
     {

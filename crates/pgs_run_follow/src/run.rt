@@ -12,7 +12,7 @@ use crate::following::{Following, LONGEST};
 use crate::status::{FollowStatus, status_at};
 use pgs_answer::words_refused_line;
 use pgs_base::Words;
-use pgs_run_lines::{Reply, put_reply, run_lines};
+use pgs_run_lines::{put_last, run_lines};
 use pgs_world::{Source, World};
 use std::alloc::Global;
 
@@ -38,16 +38,7 @@ fn refuse_words<W: World>(alloc: Global, world: &mut W) -> FollowStatus
     ensures areas { KeepsAreas (W.view world.old) (W.view world.new) }
     ensures last { fails_world result ≡ true → W.failed world.new }
 {
-    match words_refused_line(alloc) {
-        Ok(line) => put_reply(
-            world,
-            &Reply {
-                line,
-                status: FollowStatus::BadWords,
-            },
-        ),
-        Err(_) => FollowStatus::Memory,
-    }
+    put_last(world, words_refused_line(alloc), FollowStatus::BadWords)
 }
 
 // Follows the feed of an input.

@@ -42,12 +42,18 @@ impl FollowStatus {
 }
 
 impl RunStatus for FollowStatus {
-    ghost use Rattle.pgs_run_follow.specs.declared.status.FollowStatus.TheVariants.{PutFault};
+    ghost use Rattle.pgs_run_follow.specs.declared.status.FollowStatus.TheVariants.{Memory, PutFault};
 
     ghost put_failed = { PutFault };
 
+    ghost no_memory = { Memory };
+
     fn put_fault() -> FollowStatus {
         FollowStatus::PutFault
+    }
+
+    fn memory() -> FollowStatus {
+        FollowStatus::Memory
     }
 }
 

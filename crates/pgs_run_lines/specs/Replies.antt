@@ -13,7 +13,13 @@ EndsReply line status failed old answer new =
     ((answer ≡ status) × ShowsAll (shown_of old) (line ∷ []) (shown_of new) × (faults_of 0 new ≡ faults_of 0 old))
     ⊎ ((answer ≡ failed) × ShowsTorn (shown_of old) (line ∷ []) (shown_of new) × PutsRose (faults_of 0 old) (faults_of 0 new))
 
--- the same, and at every moment both areas are what they were, and a front of the line is out
+-- the same of a line that was to be made; or there was no memory for it, and this status is the answer
+abbrev pub EndsLast : {E : Type 0} → (line : List ℕ) → (status failed unmade : E) → View → E → View → Type 0
+EndsLast line status failed unmade old answer new =
+    EndsReply line status failed old answer new
+    ⊎ ((answer ≡ unmade) × ShowsAll (shown_of old) [] (shown_of new) × (faults_of 0 new ≡ faults_of 0 old))
+
+-- as `EndsReply`, and at every moment both areas are what they were, and a front of the line is out
 pub record PutsReply {E : Type 0} (line : List ℕ) (status failed : E) (old : View) (answer : E) (new : View) : Type 0 where
   pub ends : EndsReply line status failed old answer new
   pub stops : StopsBy (Puts line) old new

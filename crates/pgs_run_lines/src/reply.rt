@@ -1,6 +1,6 @@
-ghost use Rattle.std.specs.Prelude.{◌≡◌, ◌⊎◌, IfOk, OnErr};
+ghost use Rattle.std.specs.Prelude.{◌≡◌, ◌⊎◌, ℕ, List, IfOk};
 ghost use Rattle.pgs_run_lines.specs.AreasKept.{KeepsAreas};
-ghost use Rattle.pgs_run_lines.specs.Replies.{EndsReply};
+ghost use Rattle.pgs_run_lines.specs.Replies.{EndsLast, EndsReply};
 ghost use Rattle.pgs_world.specs.Disk.{Puts as PutsFront};
 ghost use Rattle.pgs_world.specs.Moment.{StopsBy};
 
@@ -47,10 +47,9 @@ pub fn put_reply<E: RunStatus, W: World>(world: &mut W, reply: &Reply<E>) -> E
 }
 
 /// Puts a line that was made, where there was memory for it, and gives the status: the one given, that of a put that failed, or that of
-/// no memory. At every moment both areas are what they were; without memory nothing is done.
+/// no memory. At every moment both areas are what they were; without memory nothing is put.
 pub fn put_last<E: RunStatus, W: World>(world: &mut W, made: Result<Bytes, Memory>, status: E) -> E
-    ensures put { IfOk made (λ line. EndsReply line status E.put_failed (W.view world.old) result (W.view world.new)) }
-    ensures unmade { OnErr made ((result ≡ E.no_memory) × (world.new ≡ world.old)) }
+    ensures ends { (line : List ℕ) → IfOk made (λ made. made ≡ line) → EndsLast line status E.put_failed E.no_memory (W.view world.old) result (W.view world.new) }
     ensures areas { KeepsAreas (W.view world.old) (W.view world.new) }
     ensures last { (result ≡ status) ⊎ ((result ≡ E.no_memory) ⊎ W.failed world.new) }
 {

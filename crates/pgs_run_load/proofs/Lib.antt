@@ -1,4 +1,3 @@
-pub mod Failing
 pub mod LoadEnds
 pub mod Loads
 pub mod Replied

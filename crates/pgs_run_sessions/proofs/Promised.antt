@@ -5,7 +5,7 @@ use Rattle.pgs_run_lines.specs.AreasKept.{KeepsAreas, keeps_none}
 use Rattle.pgs_run_lines.specs.Ending.{Faults, faults_of}
 use Rattle.pgs_run_lines.specs.Machine.{Told}
 use Rattle.pgs_run_lines.specs.Pieces.{Shown, ShowsAll, ShowsFirst, shown_of}
-use Rattle.pgs_run_lines.specs.Replies.{EndsReply}
+use Rattle.pgs_run_lines.specs.Replies.{EndsLast}
 use Rattle.pgs_run_lines.proofs.Causes.{world_same}
 use Rattle.pgs_run_lines.proofs.RunEnds.{within_unread}
 use Rattle.pgs_run_lines.proofs.Showing.{shows_none}
@@ -140,20 +140,17 @@ other_promised words other budget left reads old new status alone ends cause are
     shown input = subst (λ (t : Told Status). Ends (shown_of old) t status (shown_of new)) (sym (told_other words other input budget)) ends
 
 pub refused : (words : List (List ℕ)) → asks_run words ≡ false → (budget : ℕ) (left : Option (List ℕ)) (reads : ℕ) (old new : View) (status : Status) → KeepsAreas old new
-    → EndsReply words_refused_line BadWords PutFault old status new → KeepsPromise words budget (setting_of left reads old) (setting_of left reads new) status
-refused words other budget left reads old new status areas (inl whole) =
+    → EndsLast words_refused_line BadWords PutFault Memory old status new → KeepsPromise words budget (setting_of left reads old) (setting_of left reads new) status
+refused words other budget left reads old new status areas (inl (inl whole)) =
     subst (KeepsPromise words budget (setting_of left reads old) (setting_of left reads new)) (sym whole.0)
     (other_promised words other budget left reads old new BadWords ((λ e. cc), (λ e. cc)) (whole.1, refl) (other, world_same reads reads old new refl whole.2) areas)
-refused words other budget left reads old new status areas (inr torn) =
+refused words other budget left reads old new status areas (inl (inr torn)) =
     subst (KeepsPromise words budget (setting_of left reads old) (setting_of left reads new)) (sym torn.0)
     (other_promised words other budget left reads old new PutFault ((λ e. cc), (λ e. cc)) torn.1 (torn.2.0, refl, torn.2.2) areas)
-
--- no memory for the line
-pub no_memory : (words : List (List ℕ)) → asks_run words ≡ false → (budget : ℕ) (left : Option (List ℕ)) (reads : ℕ) (view : View) → IsTimed view
-    → KeepsPromise words budget (setting_of left reads view) (setting_of left reads view) Memory
-no_memory words other budget left reads view timed =
-    other_promised words other budget left reads view view Memory ((λ e. cc), (λ e. cc))
-    (record { first = []; later = words_refused_line ∷ []; parts = refl; shows = shows_none (shown_of view) }) refl (keeps_none view timed)
+refused words other budget left reads old new status areas (inr none) =
+    subst (KeepsPromise words budget (setting_of left reads old) (setting_of left reads new)) (sym none.0)
+    (other_promised words other budget left reads old new Memory ((λ e. cc), (λ e. cc))
+    (record { first = []; later = words_refused_line ∷ []; parts = refl; shows = none.1 }) (world_same reads reads old new refl none.2) areas)
 
 -- ---- statuses
 

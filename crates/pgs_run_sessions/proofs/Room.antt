@@ -1,5 +1,5 @@
 -- Room for counting lines and commits.
-use Rattle.std.proofs.Common.{◌≡◌, ℕ, ◌+◌, ◌-◌, ◌<◌, ◌^◌, Bool, true, false, List, Result, Ok, Err, refl, arith}
+use Rattle.std.proofs.Common.{◌≡◌, ℕ, ◌+◌, ◌-◌, ◌<◌, ◌^◌, Bool, true, false, List, Result, Ok, Err, OnOk, refl, sym, subst, arith}
 use Rattle.pgs_syntax.specs.declared.resolved.Resolved.{Resolved}
 use Rattle.pgs_run_base.specs.Answers.{schema_answer}
 use Rattle.pgs_run_base.specs.Input.{is_separator, is_skipped}
@@ -26,3 +26,7 @@ room_end lines (Lines schema s) line room =
     let after = counted_line n schema s line (is_skipped line) refl before in
     ((let h = after.lines in omega arith), (let h = after.commits in omega arith))
 room_end lines Refused line room = tt
+
+pub room_step : {T E : Type 0} (result : Result T E) (old new : Stand) (line : List ℕ) → OnOk result (new ≡ after_end old line) → OnOk result ((lines : ℕ) → HasRoom (lines + 1) old → HasRoom lines new)
+room_step (Ok done) old new line is = λ lines room. subst (HasRoom lines) (sym is) (room_end lines old line room)
+room_step (Err fault) old new line is = tt

@@ -1,5 +1,4 @@
 pub mod Lines
-pub mod Opening
 pub mod Promise
 pub mod Running
 pub mod State

@@ -2,10 +2,9 @@
 use Rattle.std.specs.Prelude.{◌≡◌, ◌<◌, ◌^◌, ℕ, ◌+◌, true, false, List, [], ◌∷◌, ◌++◌, Result, Ok, Err, not, if◌then◌else◌}
 use Rattle.std.specs.List.{list_any, join_with_byte}
 use Rattle.pgs_answer.specs.Lines.{schema_refused_line}
-use Rattle.pgs_run_lines.specs.declared.stop.Stop.{Stop}
-use Rattle.pgs_run_lines.specs.declared.stop.Stop.TheVariants as stops
 use Rattle.pgs_run_lines.specs.Input.{front_of}
 use Rattle.pgs_run_lines.specs.Machine.{Machine, Standing as RunStanding, Told, Going, Ended}
+use Rattle.pgs_run_lines.specs.Telling.{Teller, telling}
 use Rattle.pgs_run_base.specs.declared.status.Status.{Status}
 use Rattle.pgs_run_base.specs.declared.status.Status.TheVariants as statuses
 use Rattle.pgs_run_base.specs.Answers.{schema_answer}
@@ -70,35 +69,25 @@ told_after (Schema part) = told_schema brief_sessions true (schema_answer part.t
 told_after (Lines schema s) = record { pieces = []; status = status_after s.refused }
 told_after Refused = record { pieces = []; status = statuses.SchemaRefused }
 
--- the last line has no line feed
-abbrev pub told_last : Stand → List ℕ → Told Status
-told_last stand line =
-    let after = told_after (after_end stand line) in
-    record { pieces = pieces_at_end stand line ++ after.pieces; status = after.status }
-
--- it touches no area
-abbrev pub MayStop : Stop Status → Type 0
-MayStop (stops.Ended status) = Unit {0}
-MayStop stops.ReadFault = ⊥
-MayStop stops.AreaFault = ⊥
-MayStop stops.PutFault = Unit {0}
-MayStop stops.Memory = Unit {0}
-
 -- lines and commits that can be counted so many further
 abbrev pub HasRoom : ℕ → Stand → Type 0
 HasRoom lines (Schema part) = lines < 2 ^ 64
 HasRoom lines (Lines schema s) = (s.number + lines < 2 ^ 64) × (s.state.commits + lines < 2 ^ 64)
 HasRoom lines Refused = Unit {0}
 
-abbrev pub running : Machine Status
-running = record {
+abbrev pub run_teller : Teller Status
+run_teller = record {
   State = Stand;
-  line = λ stand line. record { pieces = pieces_at_end stand line; next = next_of (after_end stand line) };
-  rest = told_last;
-  cut = λ stand. statuses.InputTooLong;
-  MayStop = MayStop;
+  after = after_end;
+  pieces = pieces_at_end;
+  next = next_of;
+  told = told_after;
+  cut = statuses.InputTooLong;
   HasRoom = HasRoom;
 }
+
+abbrev pub running : Machine Status
+running = telling run_teller
 
 -- before the first line
 abbrev pub first_stand : Stand

@@ -5,7 +5,6 @@
 //! in brief, which is all that further lines ask of them.
 #![tactic(auto)]
 
-mod open_fault;
 mod phase;
 mod run;
 mod running;

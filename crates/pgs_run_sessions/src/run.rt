@@ -1,12 +1,7 @@
-ghost use Rattle.std.specs.Prelude.{◌≡◌, ◌<◌, ◌≤◌, ◌^◌, List, ℕ, Option, Some, true, false};
+ghost use Rattle.std.specs.Prelude.{◌≡◌, ◌<◌, ◌≤◌, ◌^◌, List, ℕ, Option, true, false};
 ghost use Rattle.pgs_run_lines.specs.Calls.{Reads};
 ghost use Rattle.pgs_run_base.specs.Calls.{fails_read, fails_world};
-ghost use Rattle.pgs_run_lines.specs.AreasKept.{KeepsAreas};
-ghost use Rattle.pgs_run_lines.specs.Ending.{faults_of};
-ghost use Rattle.pgs_run_lines.specs.Pieces.{shown_of};
-ghost use Rattle.pgs_run_base.specs.Run.{IsRead, EndsAs, HasCommandCause};
 ghost use Rattle.pgs_run_sessions.specs.Promise.{KeepsPromise, setting_of, status_of};
-ghost use Rattle.pgs_run_sessions.specs.Told.{told_sessions};
 ghost use Rattle.pgs_run_sessions.specs.Words.{asks_run};
 
 use crate::status::SessionStatus;
@@ -15,7 +10,7 @@ use crate::words::asks_run;
 use pgs_answer::words_refused_line;
 use pgs_base::Words;
 use pgs_run_base::{Status, status_at};
-use pgs_run_lines::{Reply, put_reply, run_lines};
+use pgs_run_lines::{Telling, put_last, run_lines};
 use pgs_world::{Source, World};
 use std::alloc::Global;
 
@@ -25,43 +20,13 @@ pub const BUDGET: u64 = 1 << 40;
 /// The most bytes of a line as it comes: those of a line, and a carriage return.
 const LINE_LIMIT: usize = 1_048_577;
 
-// Runs over an input within a budget of bytes.
-fn run_input<S: Source, W: World>(
-    alloc: Global,
-    source: &mut S,
-    world: &mut W,
-    budget: u64,
-) -> Status
-    requires { budget ≤ 2 ^ 40 }
-    ensures ends { (input : List ℕ) → S.left source.old ≡ Some input
-        → EndsAs (told_sessions input) (shown_of (W.view world.old)) input budget (S.left source.new) result (shown_of (W.view world.new)) }
-    ensures read_to_end { IsRead (S.left source.new) result }
-    ensures cause { HasCommandCause true false (faults_of (S.faults source.old) (W.view world.old)) (faults_of (S.faults source.new) (W.view world.new)) result }
-    ensures areas { KeepsAreas (W.view world.old) (W.view world.new) }
-    ensures last { fails_world result ≡ true → W.failed world.new }
-    ensures calls { Reads S.read_made budget source.old (fails_read result) source.new }
-{
-    let mut taking = Taking::new(alloc, world.seed());
-    let stop = run_lines(&mut taking, alloc, source, world, LINE_LIMIT, budget);
-    status_at(stop)
-}
-
 // Refuses the words.
 fn refuse_words<W: World>(alloc: Global, world: &mut W) -> Status
     ensures answer { (words : List (List ℕ)) (budget : ℕ) (left : Option (List ℕ)) (reads : ℕ) → asks_run words ≡ false
         → KeepsPromise words budget (setting_of left reads (W.view world.old)) (setting_of left reads (W.view world.new)) result }
     ensures last { fails_world result ≡ true → W.failed world.new }
 {
-    match words_refused_line(alloc) {
-        Ok(line) => put_reply(
-            world,
-            &Reply {
-                line,
-                status: Status::BadWords,
-            },
-        ),
-        Err(_) => Status::Memory,
-    }
+    put_last(world, words_refused_line(alloc), Status::BadWords)
 }
 
 // Runs the words.
@@ -81,7 +46,11 @@ fn run_words<S: Source, W: World>(
     if !asks_run(words) {
         return refuse_words(alloc, world);
     }
-    run_input(alloc, source, world, budget)
+    let mut taking = Telling {
+        teller: Taking::new(alloc, world.seed()),
+    };
+    let stop = run_lines(&mut taking, alloc, source, world, LINE_LIMIT, budget);
+    status_at(stop)
 }
 
 /// Runs the words of `pgsession` over an input, an output and a budget of bytes of the input, 1 to 2^40, and answers the status. The one

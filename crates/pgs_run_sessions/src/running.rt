@@ -2,17 +2,16 @@ ghost use Rattle.std.specs.Prelude.{◌≡◌, ◌+◌, ◌-◌, ◌<◌, ◌^�
 ghost use Rattle.pgs_answer.specs.Lines.{refused_line};
 ghost use Rattle.pgs_events.specs.Events.{event_answer};
 ghost use Rattle.pgs_run_base.specs.Answers.{schema_answer};
-ghost use Rattle.pgs_run_base.specs.Pieces.{pieces_in};
+ghost use Rattle.pgs_run_base.specs.Opening.{IsRefused};
+ghost use Rattle.pgs_run_lines.specs.Pieces.{pieces_in};
 ghost use Rattle.pgs_run_sessions.specs.Lines.{first, after_refusal, after_event, event_line, after_answer, answer_line, after_line, pieces_of_line};
-ghost use Rattle.pgs_run_sessions.specs.Opening.{IsRefused};
 ghost use Rattle.pgs_run_sessions.specs.State.{schema_in, standing_in, brief_sessions};
 
-use crate::open_fault::OpenFault;
 use crate::stepping::step;
 use pgs_answer::refused_line;
 use pgs_base::{Bytes, Limits, Memory, Seed};
 use pgs_events::{Asked, event_of, is_refusal, reply_line};
-use pgs_run_base::{TEXT_LIMIT, refusal_of};
+use pgs_run_base::{OpenFault, TEXT_LIMIT, refusal_of};
 use pgs_run_lines::is_blank;
 use pgs_sessions::{Event, Sessions};
 use std::alloc::Global;

@@ -1,18 +1,19 @@
-ghost use Rattle.std.specs.Prelude.{◌≡◌, [], true};
+ghost use Rattle.std.specs.Prelude.{◌≡◌, [], true, IfOk, OnOk};
 ghost use Rattle.pgs_run_lines.specs.Calls.{is_of_world};
-ghost use Rattle.pgs_run_lines.specs.Areas.{keeps_areas};
 ghost use Rattle.pgs_run_lines.specs.AreasKept.{KeepsAreas};
 ghost use Rattle.pgs_run_lines.specs.Ending.{Ends, HasCause, faults_of};
-ghost use Rattle.pgs_run_lines.specs.Pieces.{shown_of};
+ghost use Rattle.pgs_run_lines.specs.Machine.{HasRoomFor};
+ghost use Rattle.pgs_run_lines.specs.May.{MayPut};
+ghost use Rattle.pgs_run_lines.specs.Pieces.{pieces_in, shown_of};
 ghost use Rattle.pgs_run_base.specs.Answers.{schema_answer};
-ghost use Rattle.pgs_run_sessions.specs.Running.{running, stand_of, first_stand, told_after, MayStop};
+ghost use Rattle.pgs_run_sessions.specs.Running.{running, run_teller, stand_of, first_stand, after_end, pieces_at_end};
 ghost use Rattle.pgs_run_sessions.specs.State.{brief_sessions};
 ghost use Rattle.pgs_run_sessions.specs.Told.{status_after, told_schema};
 
 use crate::phase::{Phase, judge};
-use pgs_base::Seed;
-use pgs_run_base::{SchemaPart, Status, put_any};
-use pgs_run_lines::{LineTaker, Stop};
+use pgs_base::{Bytes, Memory, Seed};
+use pgs_run_base::{SchemaPart, Status};
+use pgs_run_lines::{LineTeller, Stop, put_any};
 use pgs_world::World;
 use std::alloc::Global;
 
@@ -50,17 +51,15 @@ fn status_after(refused: bool) -> Status
 fn end_schema<W: World>(text: &[u8], alloc: Global, world: &mut W, seed: Seed) -> Stop<Status>
     ensures ends { Ends (shown_of (W.view world.old)) (told_schema brief_sessions true (schema_answer text.now) []) result (shown_of (W.view world.new)) }
     ensures cause { HasCause (faults_of 0 (W.view world.old)) (faults_of 0 (W.view world.new)) result }
-    ensures may { MayStop result }
+    ensures may { MayPut result }
     ensures areas { KeepsAreas (W.view world.old) (W.view world.new) }
     ensures last { is_of_world result ≡ true → W.failed world.new }
 {
-    let (phase, piece) = match judge(alloc, text, seed) {
-        Ok(next) => next,
-        Err(_) => return Stop::Memory,
+    let Ok((phase, piece)) = judge(alloc, text, seed) else {
+        return Stop::Memory;
     };
-    match put_any(world, piece) {
-        Ok(()) => {}
-        Err(stop) => return stop,
+    if let Err(stop) = put_any(world, piece) {
+        return stop;
     }
     match phase {
         Phase::Lines(running) => Stop::Ended(status_after(running.is_refused())),
@@ -69,63 +68,51 @@ fn end_schema<W: World>(text: &[u8], alloc: Global, world: &mut W, seed: Seed) -
 }
 
 impl Taking {
-    // Ends a run after its last line.
-    fn end<W: World>(&self, alloc: Global, world: &mut W) -> Stop<Status>
-        ensures ends { Ends (shown_of (W.view world.old)) (told_after (stand_of self.now.phase)) result (shown_of (W.view world.new)) }
-        ensures cause { HasCause (faults_of 0 (W.view world.old)) (faults_of 0 (W.view world.new)) result }
-        ensures may { MayStop result }
-        ensures areas { KeepsAreas (W.view world.old) (W.view world.new) }
-        ensures last { is_of_world result ≡ true → W.failed world.new }
+    // Takes a line, and gives what it tells, if anything. After `Memory` the value isn't used any more.
+    fn step(&mut self, alloc: Global, line: &[u8]) -> Result<Option<Bytes>, Memory>
+        requires { HasRoomFor running 1 (stand_of self.old.phase) }
+        ensures stand { OnOk result (stand_of self.new.phase ≡ after_end (stand_of self.old.phase) line.now) }
+        ensures piece { IfOk result (λ piece. pieces_in piece ≡ pieces_at_end (stand_of self.old.phase) line.now) }
     {
+        match &mut self.phase {
+            Phase::Schema(part) => {
+                if !part.take_line(line)? {
+                    return Ok(None);
+                }
+                let (next, piece) = judge(alloc, part.text(), self.seed)?;
+                self.phase = next;
+                Ok(piece)
+            }
+            Phase::Lines(running) => running.take_line(alloc, line),
+            Phase::Refused => Ok(None),
+        }
+    }
+}
+
+impl LineTeller for Taking {
+    type Status = Status;
+
+    ghost teller = { run_teller };
+
+    ghost stands = { λ taker. stand_of taker.phase };
+
+    fn take_line(&mut self, alloc: Global, line: &[u8]) -> Result<Option<Bytes>, Memory> {
+        self.step(alloc, line)
+    }
+
+    fn ended(&self) -> Option<Status> {
+        match &self.phase {
+            Phase::Refused => Some(Status::SchemaRefused),
+            Phase::Schema(_) | Phase::Lines(_) => None,
+        }
+    }
+
+    fn end<W: World>(&mut self, alloc: Global, world: &mut W) -> Stop<Status> {
         match &self.phase {
             Phase::Schema(part) => end_schema(part.text(), alloc, world, self.seed),
             Phase::Lines(running) => Stop::Ended(status_after(running.is_refused())),
             Phase::Refused => Stop::Ended(Status::SchemaRefused),
         }
-    }
-}
-
-impl LineTaker for Taking {
-    type Status = Status;
-
-    ghost machine = { running };
-
-    ghost rule = { keeps_areas running };
-
-    ghost stands = { λ taker. stand_of taker.phase };
-
-    ghost kept = { λ taker. tt };
-
-    fn end_line<W: World>(
-        &mut self,
-        alloc: Global,
-        world: &mut W,
-        line: &[u8],
-    ) -> Result<(), Stop<Status>> {
-        let piece = match self.phase.end_line(alloc, self.seed, line) {
-            Ok(piece) => piece,
-            Err(_) => return Err(Stop::Memory),
-        };
-        match put_any(world, piece) {
-            Ok(()) => {}
-            Err(stop) => return Err(stop),
-        }
-        if matches!(self.phase, Phase::Refused) {
-            return Err(Stop::Ended(Status::SchemaRefused));
-        }
-        Ok(())
-    }
-
-    fn end_input<W: World>(&mut self, alloc: Global, world: &mut W, rest: &[u8]) -> Stop<Status> {
-        let piece = match self.phase.end_line(alloc, self.seed, rest) {
-            Ok(piece) => piece,
-            Err(_) => return Stop::Memory,
-        };
-        match put_any(world, piece) {
-            Ok(()) => {}
-            Err(stop) => return stop,
-        }
-        self.end(alloc, world)
     }
 
     fn end_budget(&self) -> Status {

@@ -1,11 +1,9 @@
--- What is opened under a schema text, and why nothing is.
-use Rattle.std.specs.Prelude.{◌≡◌, ℕ, List, Ok, Err}
+-- What is opened under a schema text.
+use Rattle.std.specs.Prelude.{◌≡◌, ℕ, List, Ok}
 use Rattle.pgs_base.specs.Graph.{empty_graph}
 use Rattle.pgs_run_base.specs.Answers.{schema_answer}
 use Rattle.pgs_run_try.specs.declared.decider.Decider.{Decider}
 use Rattle.pgs_run_try.specs.declared.judging.Judging.{Judging}
-use Rattle.pgs_run_try.specs.declared.open_fault.OpenFault.{OpenFault}
-use Rattle.pgs_run_try.specs.declared.open_fault.OpenFault.TheVariants.{Refused, Memory}
 use Rattle.pgs_run_try.specs.State.{judging_in, schema_in, graph_in, commits_in, HasStandardLimits}
 
 -- it judges so, by the schema of this text, from the empty graph on
@@ -15,8 +13,3 @@ pub record IsOpened (judging : Judging) (text : List ℕ) (decider : Decider) : 
   pub empty : graph_in decider ≡ empty_graph
   pub commits : commits_in decider ≡ 0
   pub limits : HasStandardLimits decider
-
--- the text is refused so
-abbrev pub IsRefused : List ℕ → OpenFault → Type 0
-IsRefused text (Refused refusal) = schema_answer text ≡ Err refusal
-IsRefused text Memory = Unit {0}

@@ -1,9 +1,8 @@
 -- The commands `try` and `validate` as one machine over lines.
 use Rattle.std.specs.Prelude.{◌≡◌, ◌<◌, ◌^◌, ℕ, ◌+◌, true, false, List, [], ◌∷◌, ◌++◌, Result, Ok, Err, not, if◌then◌else◌}
 use Rattle.std.specs.List.{list_any, join_with_byte}
-use Rattle.pgs_run_lines.specs.declared.stop.Stop.{Stop}
-use Rattle.pgs_run_lines.specs.declared.stop.Stop.TheVariants as stops
 use Rattle.pgs_run_lines.specs.Machine.{Machine, Standing as RunStanding, Told, Going, Ended}
+use Rattle.pgs_run_lines.specs.Telling.{Teller, telling}
 use Rattle.pgs_syntax.specs.declared.resolved.Resolved.{Resolved}
 use Rattle.pgs_answer.specs.Lines.{schema_refused_line}
 use Rattle.pgs_run_base.specs.declared.status.Status.{Status}
@@ -52,35 +51,25 @@ told_after (Schema judging part) = told_schema judging true (schema_answer part.
 told_after (Lines s) = told_end s.judging s.schema s.standing
 told_after Refused = record { pieces = []; status = statuses.SchemaRefused }
 
--- the last line has no line feed
-abbrev pub told_last : Phase → List ℕ → Told Status
-told_last phase line =
-    let after = told_after (after_end phase line) in
-    record { pieces = pieces_at_end phase line ++ after.pieces; status = after.status }
-
--- it touches no area
-abbrev pub MayStop : Stop Status → Type 0
-MayStop (stops.Ended status) = Unit {0}
-MayStop stops.ReadFault = ⊥
-MayStop stops.AreaFault = ⊥
-MayStop stops.PutFault = Unit {0}
-MayStop stops.Memory = Unit {0}
-
 -- lines and commits that can be counted so many further
 abbrev pub HasRoom : ℕ → Phase → Type 0
 HasRoom lines (Schema judging part) = lines < 2 ^ 64
 HasRoom lines (Lines s) = (s.standing.number + lines < 2 ^ 64) × (s.standing.commits + lines < 2 ^ 64)
 HasRoom lines Refused = Unit {0}
 
-abbrev pub trying : Machine Status
-trying = record {
+abbrev pub try_teller : Teller Status
+try_teller = record {
   State = Phase;
-  line = λ phase line. record { pieces = pieces_at_end phase line; next = next_of (after_end phase line) };
-  rest = told_last;
-  cut = λ phase. statuses.InputTooLong;
-  MayStop = MayStop;
+  after = after_end;
+  pieces = pieces_at_end;
+  next = next_of;
+  told = told_after;
+  cut = statuses.InputTooLong;
   HasRoom = HasRoom;
 }
+
+abbrev pub trying : Machine Status
+trying = telling try_teller
 
 -- before the first line
 abbrev pub first_phase : Judging → Phase

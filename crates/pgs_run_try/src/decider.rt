@@ -5,15 +5,15 @@ ghost use Rattle.pgs_violation.specs.Decision.{decide};
 ghost use Rattle.pgs_violation.specs.Violations.{verdict};
 ghost use Rattle.pgs_run_try.specs.declared.judging.Judging.TheVariants.{EachLine};
 ghost use Rattle.pgs_run_try.specs.Judging.{verdict_by};
-ghost use Rattle.pgs_run_try.specs.Opening.{IsOpened, IsRefused};
+ghost use Rattle.pgs_run_base.specs.Opening.{IsRefused};
+ghost use Rattle.pgs_run_try.specs.Opening.{IsOpened};
 ghost use Rattle.pgs_run_try.specs.State.{judging_in, schema_in, graph_in, commits_in, HasStandardLimits};
 
 use crate::Judging;
-use crate::open_fault::OpenFault;
 use crate::staged::Staged;
 use pgs_base::{Limits, Seed, Steps};
 use pgs_graph::Txn;
-use pgs_run_base::{refusal_of, schema_of};
+use pgs_run_base::{OpenFault, refusal_of, schema_of};
 use pgs_store::{Guard, GuardRefusal};
 use pgs_tables::Tables;
 use std::alloc::Global;

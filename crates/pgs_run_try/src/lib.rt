@@ -8,7 +8,6 @@
 mod decider;
 mod judging;
 mod listing;
-mod open_fault;
 mod phase;
 mod run;
 mod session;

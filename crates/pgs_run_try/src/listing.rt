@@ -6,7 +6,7 @@ ghost use Rattle.pgs_run_lines.specs.Ending.{Ends, HasCause, HasAnyCause, faults
 ghost use Rattle.pgs_run_lines.specs.Pieces.{shown_of};
 ghost use Rattle.pgs_run_lines.specs.Puts.{StopsPutting};
 ghost use Rattle.pgs_run_try.specs.Told.{listed_line, status_after, told_end};
-ghost use Rattle.pgs_run_try.specs.Trying.{MayStop};
+ghost use Rattle.pgs_run_lines.specs.May.{MayPut};
 
 use crate::session::Session;
 use pgs_answer::{violation_line, violation_text};
@@ -82,7 +82,7 @@ fn status_after(refused: bool, found: &[Violation]) -> Status
 pub fn end_session<W: World>(session: &Session, alloc: Global, world: &mut W) -> Stop<Status>
     ensures ends { Ends (shown_of (W.view world.old)) (told_end session.now.judging session.now.schema session.now.standing) result (shown_of (W.view world.new)) }
     ensures cause { HasCause (faults_of 0 (W.view world.old)) (faults_of 0 (W.view world.new)) result }
-    ensures may { MayStop result }
+    ensures may { MayPut result }
     ensures areas { KeepsAreas (W.view world.old) (W.view world.new) }
     ensures last { is_of_world result ≡ true → W.failed world.new }
 {

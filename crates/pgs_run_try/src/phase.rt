@@ -1,15 +1,13 @@
-ghost use Rattle.std.specs.Prelude.{◌≡◌, [], IfOk, IfSome, IfNone, OnOk};
-ghost use Rattle.pgs_run_lines.specs.Machine.{HasRoomFor};
+ghost use Rattle.std.specs.Prelude.{◌≡◌, IfOk};
 ghost use Rattle.pgs_run_base.specs.Answers.{schema_answer};
-ghost use Rattle.pgs_run_base.specs.Pieces.{pieces_in};
-ghost use Rattle.pgs_run_try.specs.Trying.{trying, after_schema, pieces_of_schema, after_end, pieces_at_end};
+ghost use Rattle.pgs_run_lines.specs.Pieces.{pieces_in};
+ghost use Rattle.pgs_run_try.specs.Trying.{after_schema, pieces_of_schema};
 
 use crate::Judging;
-use crate::open_fault::OpenFault;
 use crate::session::Session;
 use pgs_answer::schema_refused_line;
 use pgs_base::{Bytes, Memory, Seed};
-use pgs_run_base::{SchemaPart, is_separator};
+use pgs_run_base::{OpenFault, SchemaPart};
 use std::alloc::Global;
 
 /// Whether the schema part goes on, the transaction lines go on, or the schema was refused.
@@ -37,54 +35,5 @@ pub fn judge(
             Ok((Phase::Refused, Some(piece)))
         }
         Err(OpenFault::Memory) => Err(Memory),
-    }
-}
-
-// Ends a line of the schema part. Where the line ends the part: the phase after it, and the line of a refusal.
-fn end_schema_line(
-    alloc: Global,
-    judging: Judging,
-    part: &mut SchemaPart,
-    seed: Seed,
-    line: &[u8],
-) -> Result<Option<(Phase, Option<Bytes>)>, Memory>
-    ensures goes_on { IfOk result (λ next. IfNone next (Phase.Schema judging part.new ≡ after_end (Phase.Schema judging part.old) line.now)) }
-    ensures no_piece { IfOk result (λ next. IfNone next ([] ≡ pieces_at_end (Phase.Schema judging part.old) line.now)) }
-    ensures phase { IfOk result (λ next. IfSome next (λ next. next.0 ≡ after_end (Phase.Schema judging part.old) line.now)) }
-    ensures piece { IfOk result (λ next. IfSome next (λ next. pieces_in next.1 ≡ pieces_at_end (Phase.Schema judging part.old) line.now)) }
-{
-    if is_separator(line) {
-        let next = judge(alloc, judging, part.text(), seed)?;
-        return Ok(Some(next));
-    }
-    part.push_line(line)?;
-    Ok(None)
-}
-
-impl Phase {
-    /// Ends a line, and gives what it tells, if anything. After `Memory` the phase isn't used any more.
-    pub fn end_line(
-        &mut self,
-        alloc: Global,
-        seed: Seed,
-        line: &[u8],
-    ) -> Result<Option<Bytes>, Memory>
-        requires { HasRoomFor trying 1 self.old }
-        ensures phase { OnOk result (self.new ≡ after_end self.old line.now) }
-        ensures piece { IfOk result (λ piece. pieces_in piece ≡ pieces_at_end self.old line.now) }
-    {
-        match self {
-            Phase::Schema(judging, part) => {
-                match end_schema_line(alloc, *judging, part, seed, line)? {
-                    Some((next, piece)) => {
-                        *self = next;
-                        Ok(piece)
-                    }
-                    None => Ok(None),
-                }
-            }
-            Phase::Lines(session) => session.take_line(alloc, line),
-            Phase::Refused => Ok(None),
-        }
     }
 }

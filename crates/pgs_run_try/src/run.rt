@@ -10,7 +10,7 @@ ghost use Rattle.pgs_run_try.specs.Told.{told_judging};
 use crate::Judging;
 use crate::trying::Trying;
 use pgs_run_base::{Status, TEXT_LIMIT, status_at};
-use pgs_run_lines::run_lines;
+use pgs_run_lines::{Telling, run_lines};
 use pgs_world::{Source, World};
 use std::alloc::Global;
 
@@ -32,7 +32,9 @@ pub fn run_judging<S: Source, W: World>(
     ensures last { fails_world result ≡ true → W.failed world.new }
     ensures calls { Reads S.read_made budget source.old (fails_read result) source.new }
 {
-    let mut trying = Trying::new(alloc, judging, world.seed());
+    let mut trying = Telling {
+        teller: Trying::new(alloc, judging, world.seed()),
+    };
     let stop = run_lines(&mut trying, alloc, source, world, TEXT_LIMIT, budget);
     status_at(stop)
 }

@@ -1,20 +1,19 @@
 ghost use Rattle.std.specs.Prelude.{◌≡◌, ◌+◌, ◌-◌, ◌<◌, ◌^◌, ◌∷◌, [], Ok, Err, IfOk, IfErr, OnOk};
 ghost use Rattle.pgs_answer.specs.Lines.{committed_line};
 ghost use Rattle.pgs_run_base.specs.Answers.{schema_answer};
-ghost use Rattle.pgs_run_base.specs.Pieces.{pieces_in};
+ghost use Rattle.pgs_run_lines.specs.Pieces.{pieces_in};
 ghost use Rattle.pgs_run_base.specs.Session.{with_text, answer_to, answer_to_txn, after_answer, after_refusal};
 ghost use Rattle.pgs_run_try.specs.Judging.{verdict_by, telling_by, listed};
-ghost use Rattle.pgs_run_try.specs.Opening.{IsRefused};
+ghost use Rattle.pgs_run_base.specs.Opening.{IsRefused};
 ghost use Rattle.pgs_run_try.specs.State.{session_after, session_pieces};
 ghost use Rattle.pgs_run_try.specs.Told.{start};
 
 use crate::Judging;
 use crate::decider::{Decider, apply, open_decider};
-use crate::open_fault::OpenFault;
 use pgs_answer::{committed_line, refused_line, rejection_text};
 use pgs_base::{Bytes, Limits, List, Memory, Seed};
 use pgs_graph::Txn;
-use pgs_run_base::{TEXT_LIMIT, txn_of};
+use pgs_run_base::{OpenFault, TEXT_LIMIT, txn_of};
 use pgs_run_lines::is_blank;
 use pgs_store::GuardRefusal;
 use pgs_violation::{Rejection, Violation};

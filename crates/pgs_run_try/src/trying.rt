@@ -1,19 +1,20 @@
-ghost use Rattle.std.specs.Prelude.{◌≡◌, [], true};
+ghost use Rattle.std.specs.Prelude.{◌≡◌, [], true, IfOk, OnOk};
 ghost use Rattle.pgs_run_lines.specs.Calls.{is_of_world};
-ghost use Rattle.pgs_run_lines.specs.Areas.{keeps_areas};
 ghost use Rattle.pgs_run_lines.specs.AreasKept.{KeepsAreas};
 ghost use Rattle.pgs_run_lines.specs.Ending.{Ends, HasCause, faults_of};
-ghost use Rattle.pgs_run_lines.specs.Pieces.{shown_of};
+ghost use Rattle.pgs_run_lines.specs.Machine.{HasRoomFor};
+ghost use Rattle.pgs_run_lines.specs.May.{MayPut};
+ghost use Rattle.pgs_run_lines.specs.Pieces.{pieces_in, shown_of};
 ghost use Rattle.pgs_run_base.specs.Answers.{schema_answer};
 ghost use Rattle.pgs_run_try.specs.Told.{told_schema};
-ghost use Rattle.pgs_run_try.specs.Trying.{trying, first_phase, told_after, MayStop};
+ghost use Rattle.pgs_run_try.specs.Trying.{trying, try_teller, first_phase, after_end, pieces_at_end};
 
 use crate::Judging;
 use crate::listing::end_session;
 use crate::phase::{Phase, judge};
-use pgs_base::Seed;
-use pgs_run_base::{SchemaPart, Status, put_any};
-use pgs_run_lines::{LineTaker, Stop};
+use pgs_base::{Bytes, Memory, Seed};
+use pgs_run_base::{SchemaPart, Status};
+use pgs_run_lines::{LineTeller, Stop, put_any};
 use pgs_world::World;
 use std::alloc::Global;
 
@@ -46,17 +47,15 @@ fn end_schema<W: World>(
 ) -> Stop<Status>
     ensures ends { Ends (shown_of (W.view world.old)) (told_schema judging true (schema_answer text.now) []) result (shown_of (W.view world.new)) }
     ensures cause { HasCause (faults_of 0 (W.view world.old)) (faults_of 0 (W.view world.new)) result }
-    ensures may { MayStop result }
+    ensures may { MayPut result }
     ensures areas { KeepsAreas (W.view world.old) (W.view world.new) }
     ensures last { is_of_world result ≡ true → W.failed world.new }
 {
-    let (phase, piece) = match judge(alloc, judging, text, seed) {
-        Ok(next) => next,
-        Err(_) => return Stop::Memory,
+    let Ok((phase, piece)) = judge(alloc, judging, text, seed) else {
+        return Stop::Memory;
     };
-    match put_any(world, piece) {
-        Ok(()) => {}
-        Err(stop) => return stop,
+    if let Err(stop) = put_any(world, piece) {
+        return stop;
     }
     match phase {
         Phase::Lines(session) => end_session(&session, alloc, world),
@@ -65,14 +64,46 @@ fn end_schema<W: World>(
 }
 
 impl Trying {
-    // Ends a run after its last line.
-    fn end<W: World>(&self, alloc: Global, world: &mut W) -> Stop<Status>
-        ensures ends { Ends (shown_of (W.view world.old)) (told_after self.now.phase) result (shown_of (W.view world.new)) }
-        ensures cause { HasCause (faults_of 0 (W.view world.old)) (faults_of 0 (W.view world.new)) result }
-        ensures may { MayStop result }
-        ensures areas { KeepsAreas (W.view world.old) (W.view world.new) }
-        ensures last { is_of_world result ≡ true → W.failed world.new }
+    // Takes a line, and gives what it tells, if anything. After `Memory` the value isn't used any more.
+    fn step(&mut self, alloc: Global, line: &[u8]) -> Result<Option<Bytes>, Memory>
+        requires { HasRoomFor trying 1 self.old.phase }
+        ensures phase { OnOk result (self.new.phase ≡ after_end self.old.phase line.now) }
+        ensures piece { IfOk result (λ piece. pieces_in piece ≡ pieces_at_end self.old.phase line.now) }
     {
+        match &mut self.phase {
+            Phase::Schema(judging, part) => {
+                if !part.take_line(line)? {
+                    return Ok(None);
+                }
+                let (next, piece) = judge(alloc, *judging, part.text(), self.seed)?;
+                self.phase = next;
+                Ok(piece)
+            }
+            Phase::Lines(session) => session.take_line(alloc, line),
+            Phase::Refused => Ok(None),
+        }
+    }
+}
+
+impl LineTeller for Trying {
+    type Status = Status;
+
+    ghost teller = { try_teller };
+
+    ghost stands = { λ taker. taker.phase };
+
+    fn take_line(&mut self, alloc: Global, line: &[u8]) -> Result<Option<Bytes>, Memory> {
+        self.step(alloc, line)
+    }
+
+    fn ended(&self) -> Option<Status> {
+        match &self.phase {
+            Phase::Refused => Some(Status::SchemaRefused),
+            Phase::Schema(_, _) | Phase::Lines(_) => None,
+        }
+    }
+
+    fn end<W: World>(&mut self, alloc: Global, world: &mut W) -> Stop<Status> {
         match &self.phase {
             Phase::Schema(judging, part) => {
                 end_schema(*judging, part.text(), alloc, world, self.seed)
@@ -80,50 +111,6 @@ impl Trying {
             Phase::Lines(session) => end_session(session, alloc, world),
             Phase::Refused => Stop::Ended(Status::SchemaRefused),
         }
-    }
-}
-
-impl LineTaker for Trying {
-    type Status = Status;
-
-    ghost machine = { trying };
-
-    ghost rule = { keeps_areas trying };
-
-    ghost stands = { λ taker. taker.phase };
-
-    ghost kept = { λ taker. tt };
-
-    fn end_line<W: World>(
-        &mut self,
-        alloc: Global,
-        world: &mut W,
-        line: &[u8],
-    ) -> Result<(), Stop<Status>> {
-        let piece = match self.phase.end_line(alloc, self.seed, line) {
-            Ok(piece) => piece,
-            Err(_) => return Err(Stop::Memory),
-        };
-        match put_any(world, piece) {
-            Ok(()) => {}
-            Err(stop) => return Err(stop),
-        }
-        if matches!(self.phase, Phase::Refused) {
-            return Err(Stop::Ended(Status::SchemaRefused));
-        }
-        Ok(())
-    }
-
-    fn end_input<W: World>(&mut self, alloc: Global, world: &mut W, rest: &[u8]) -> Stop<Status> {
-        let piece = match self.phase.end_line(alloc, self.seed, rest) {
-            Ok(piece) => piece,
-            Err(_) => return Stop::Memory,
-        };
-        match put_any(world, piece) {
-            Ok(()) => {}
-            Err(stop) => return stop,
-        }
-        self.end(alloc, world)
     }
 
     fn end_budget(&self) -> Status {

@@ -7,7 +7,8 @@ use Rattle.pgs_run_base.proofs.WholeInput.{cause_with_text, ends_with_text, ends
 use Rattle.pgs_run_base.specs.Ending.{Ends}
 use Rattle.pgs_run_saved.specs.Opening.{IsAnswer}
 use Rattle.pgs_run_evolve.specs.Told.{told_new}
-use Rattle.pgs_run_evolve.proofs.Failing.{unread_answer, read_whole, read_fails, world_fails}
+use Rattle.pgs_run_base.proofs.Failing.{read_whole, read_fails, world_fails}
+use Rattle.pgs_run_saved.proofs.Stopping.{unread_answer}
 use Rattle.pgs_run_evolve.proofs.Leaving.{leaves_on, leaves_quiet, leaves_whole}
 use Rattle.pgs_run_evolve.proofs.Running.{ready_quiet, told_front, without_made}
 use Rattle.pgs_run_evolve.proofs.evolving.evolve_store.Goals as goal

@@ -1,6 +1,6 @@
 use Rattle.std.proofs.Common.{refl}
 use Rattle.pgs_run_base.specs.declared.status.Status.TheVariants.{SchemaRefused}
-use Rattle.pgs_run_evolve.proofs.Failing.{last_made}
+use Rattle.pgs_run_base.proofs.Failing.{last_made}
 use Rattle.pgs_run_evolve.proofs.Replied.{early_by, refused_by}
 use Rattle.pgs_run_evolve.proofs.replying.refuse_text.Goals as goal
 

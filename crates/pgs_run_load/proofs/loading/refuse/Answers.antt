@@ -1,6 +1,6 @@
 use Rattle.std.proofs.Common.{refl}
 use Rattle.pgs_run_base.specs.declared.status.Status.TheVariants.{SchemaRefused}
-use Rattle.pgs_run_load.proofs.Failing.{last_of}
+use Rattle.pgs_run_base.proofs.Failing.{last_of}
 use Rattle.pgs_run_load.proofs.Loads.{refused_text, untouched}
 use Rattle.pgs_resolve.specs.SchemaOf.{schema_of}
 use Rattle.pgs_run_load.proofs.loading.refuse.Goals as goal

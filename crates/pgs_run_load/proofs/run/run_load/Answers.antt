@@ -11,7 +11,8 @@ use Rattle.pgs_run_saved.specs.Opening.{IsAnswer}
 use Rattle.pgs_run_base.proofs.Images.{area_of_images, area_on, images_on, images_quiet}
 use Rattle.pgs_run_load.specs.Loading.{IsLoading}
 use Rattle.pgs_run_load.specs.Told.{told_text}
-use Rattle.pgs_run_load.proofs.Failing.{unread_answer, read_whole, read_fails, world_fails}
+use Rattle.pgs_run_base.proofs.Failing.{read_whole, read_fails, world_fails}
+use Rattle.pgs_run_saved.proofs.Stopping.{unread_answer}
 use Rattle.pgs_run_load.proofs.Stops.{loading_start}
 use Rattle.pgs_run_base.proofs.WholeInput.{cause_with_text, whole_at}
 use Rattle.pgs_run_load.proofs.LoadEnds.{unmade, ends_loaded, ends_unloaded, found_back, found_quiet, collects_at, stops_loaded}

@@ -3,8 +3,7 @@ use Rattle.pgs_run_base.specs.Calls.{fails_world}
 use Rattle.pgs_run_lines.specs.Machine.{Told}
 use Rattle.pgs_run_base.specs.declared.status.Status.{Status}
 use Rattle.pgs_run_explain.specs.Explaining.{explained}
-use Rattle.pgs_run_saved.proofs.Stopping.{until_cause, until_ends, until_told}
-use Rattle.pgs_run_explain.proofs.Failing.{stop_fails}
+use Rattle.pgs_run_saved.proofs.Stopping.{stop_fails, until_cause, until_ends, until_told}
 use Rattle.pgs_run_explain.proofs.explaining.ExplainingStoreReader.tell.Goals as goal
 
 pub returns-in-Err : goal.returns-in-Err

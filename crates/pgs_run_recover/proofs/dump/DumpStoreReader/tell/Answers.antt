@@ -4,8 +4,7 @@ use Rattle.pgs_run_lines.specs.Machine.{Told}
 use Rattle.pgs_run_base.specs.declared.status.Status.{Status}
 use Rattle.pgs_run_base.specs.declared.status.Status.TheVariants.{Accepted}
 use Rattle.pgs_run_recover.specs.Dump.{dump}
-use Rattle.pgs_run_saved.proofs.Stopping.{until_cause, until_ends, until_told}
-use Rattle.pgs_run_recover.proofs.Failing.{stop_fails}
+use Rattle.pgs_run_saved.proofs.Stopping.{stop_fails, until_cause, until_ends, until_told}
 use Rattle.pgs_run_recover.proofs.dump.DumpStoreReader.tell.Goals as goal
 
 pub returns-in-Err : goal.returns-in-Err

@@ -1,8 +1,8 @@
--- Why no sessions are opened under a schema text.
+-- Why nothing is opened under a schema text.
 use Rattle.std.specs.Prelude.{◌≡◌, ℕ, List, Err}
 use Rattle.pgs_run_base.specs.Answers.{schema_answer}
-use Rattle.pgs_run_sessions.specs.declared.open_fault.OpenFault.{OpenFault}
-use Rattle.pgs_run_sessions.specs.declared.open_fault.OpenFault.TheVariants.{Refused, Memory}
+use Rattle.pgs_run_base.specs.declared.open_fault.OpenFault.{OpenFault}
+use Rattle.pgs_run_base.specs.declared.open_fault.OpenFault.TheVariants.{Refused, Memory}
 
 -- the text is refused so
 abbrev pub IsRefused : List ℕ → OpenFault → Type 0

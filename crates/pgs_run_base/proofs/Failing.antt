@@ -1,7 +1,8 @@
 -- Which statuses say that a call failed.
-use Rattle.std.proofs.Common.{◌≡◌, ◌⊎◌, ◌∙◌, inl, inr, Bool, true, false, true≢false, Result, Ok, Err, List, ℕ, refl, sym, ap}
+use Rattle.std.proofs.Common.{◌≡◌, ◌⊎◌, ◌∙◌, inl, inr, IfOk, OnErr, Bool, true, false, true≢false, Result, Ok, Err, List, ℕ, refl, sym, ap}
 use Rattle.pgs_run_lines.specs.declared.stop.Stop.{Stop}
 use Rattle.pgs_run_lines.specs.declared.stop.Stop.TheVariants as stops
+use Rattle.pgs_run_lines.specs.declared.reply.Reply.{Reply}
 use Rattle.pgs_run_lines.specs.Calls.{is_of_source, is_of_world}
 use Rattle.pgs_run_base.specs.declared.collecting.Collected.{Collected}
 use Rattle.pgs_run_base.specs.declared.collecting.Collected.TheVariants.{Text, Cut}
@@ -9,20 +10,6 @@ use Rattle.pgs_run_base.specs.declared.status.Status.{Status}
 use Rattle.pgs_run_base.specs.declared.status.Status.TheVariants.{Accepted, Refused, BadWords, SchemaRefused, StoreRefused, DiskFault, ReadFault, PutFault, Memory, InputTooLong}
 use Rattle.pgs_run_base.specs.Calls.{fails_read, fails_world}
 use Rattle.pgs_run_base.specs.Collecting.{collected}
-use Rattle.pgs_run_saved.specs.Opening.{IsAnswer}
-
--- a command that reads no more says of no read that it failed
-pub unread_answer : (status : Status) → IsAnswer status → fails_read status ≡ false
-unread_answer Accepted answer = refl
-unread_answer Refused answer = refl
-unread_answer BadWords answer = refl
-unread_answer SchemaRefused answer = refl
-unread_answer StoreRefused answer = refl
-unread_answer DiskFault answer = refl
-unread_answer ReadFault answer = absurd answer
-unread_answer PutFault answer = refl
-unread_answer Memory answer = refl
-unread_answer InputTooLong answer = refl
 
 abbrev read_of : Result (List ℕ) Status → Bool
 read_of (Ok text) = false
@@ -63,3 +50,10 @@ world_fails stop status is = ap world_of (sym is) ∙ worlds stop
 pub last_of : {P : Type 0} (result status known : Status) → status ≡ known → fails_world known ≡ false → (result ≡ status) ⊎ P → fails_world result ≡ true → P
 last_of result status known same none (inl is) fails = absurd (true≢false (sym fails ∙ ap fails_world (is ∙ same) ∙ none))
 last_of result status known same none (inr last) fails = last
+
+-- the same of a reply that was to be made, and for which there may have been no memory
+pub last_made : {E P : Type 0} (made : Result (Reply Status) E) (result known : Status) → IfOk made (λ reply. reply.status ≡ known) → fails_world known ≡ false
+    → OnErr made (result ≡ Memory) → IfOk made (λ reply. (result ≡ reply.status) ⊎ P) → fails_world result ≡ true → P
+last_made (Ok reply) result known same none memory (inl is) fails = absurd (true≢false (sym fails ∙ ap fails_world (is ∙ same) ∙ none))
+last_made (Ok reply) result known same none memory (inr last) fails = last
+last_made (Err fault) result known same none memory last fails = absurd (true≢false (sym fails ∙ ap fails_world memory))

@@ -1,6 +1,6 @@
 use pgs_base::{Bytes, Memory};
 
-/// Why no sessions are opened under a schema text.
+/// Why nothing is opened under a schema text.
 #[derive(Debug, Drop)]
 pub enum OpenFault {
     /// The text is refused: the text of its refusal.
@@ -11,7 +11,7 @@ pub enum OpenFault {
 
 impl From<Memory> for OpenFault {
     ghost use Rattle.std.specs.Prelude.{◌≡◌};
-    ghost use Rattle.pgs_run_sessions.specs.declared.open_fault.OpenFault.TheVariants as faults;
+    ghost use Rattle.pgs_run_base.specs.declared.open_fault.OpenFault.TheVariants as faults;
 
     ghost from_gives = { λ _ fault. fault ≡ faults.Memory };
 
