@@ -4,7 +4,7 @@ ghost use Rattle.std.specs.Prelude.{◌≡◌, ◌<◌, ◌≤◌, ◌&&◌, ◌
 ghost use Rattle.std.specs.List.{list_all, list_any};
 ghost use Rattle.pgs_contain.specs.Regions.{Point, in_region, in_some_region, is_possible, without, lies_in, meets, IsCovered, IsLeft};
 
-use crate::options::{is_possible, is_within, common_options, without};
+use crate::options::{common_options, is_possible, is_within, without};
 use pgs_base::{List, Memory};
 use pgs_conform::Options;
 use std::alloc::Global;
