@@ -12,7 +12,7 @@ use Rattle.pgs_base.specs.Value.{kind_of}
 use Rattle.pgs_conform.proofs.Walks.{later, later_is}
 use Rattle.pgs_conform.specs.Shapes.{admits, admits_kind}
 use Rattle.pgs_conform.specs.declared.options.Options.{Options}
-use Rattle.pgs_contain.specs.Regions.{Point, in_region, in_some_region, is_possible, without, shared, is_within, lies_in, meets, IsCovered, IsLeft}
+use Rattle.pgs_contain.specs.Regions.{Point, in_region, in_some_region, is_possible, without, common_options, is_within, lies_in, meets, IsCovered, IsLeft}
 
 -- ---- one key
 
@@ -26,11 +26,11 @@ admits_without a b (Some value) = by (kind_of value)
     by kinds.Bool = refl
     by kinds.Date = refl
 
-pub admits_shared : (a b : Options) (v : Option Value) → admits (shared a b) v ≡ (admits a v && admits b v)
-admits_shared a b None = refl
-admits_shared a b (Some value) = by (kind_of value)
+pub admits_common : (a b : Options) (v : Option Value) → admits (common_options a b) v ≡ (admits a v && admits b v)
+admits_common a b None = refl
+admits_common a b (Some value) = by (kind_of value)
   where
-    by : (kind : Kind) → admits_kind (shared a b) kind ≡ (admits_kind a kind && admits_kind b kind)
+    by : (kind : Kind) → admits_kind (common_options a b) kind ≡ (admits_kind a kind && admits_kind b kind)
     by kinds.Text = refl
     by kinds.Int = refl
     by kinds.Bool = refl
@@ -107,14 +107,14 @@ no_meeting [] (y ∷ ys) (v ∷ vs) h e = absurd (true≢false (sym e))
 no_meeting (x ∷ xs) [] [] h e = absurd (true≢false (sym e))
 no_meeting (x ∷ xs) [] (v ∷ vs) h e = refl
 no_meeting (x ∷ xs) (y ∷ ys) [] h e = refl
-no_meeting (x ∷ xs) (y ∷ ys) (v ∷ vs) h e = by (is_possible (shared x y)) refl h (λ rest. no_meeting xs ys vs rest (and_parts _ _ e).1)
+no_meeting (x ∷ xs) (y ∷ ys) (v ∷ vs) h e = by (is_possible (common_options x y)) refl h (λ rest. no_meeting xs ys vs rest (and_parts _ _ e).1)
   where
-    by : (s : Bool) → is_possible (shared x y) ≡ s → (s && meets xs ys) ≡ false → (meets xs ys ≡ false → in_region ys vs ≡ false) →
+    by : (s : Bool) → is_possible (common_options x y) ≡ s → (s && meets xs ys) ≡ false → (meets xs ys ≡ false → in_region ys vs ≡ false) →
         (admits y v && in_region ys vs) ≡ false
     by true is rest later = and_right (admits y v) (in_region ys vs) (later rest)
     by false is rest later =
         and_left (admits y v) (in_region ys vs)
-        (ap (λ s. s && admits y v) (sym (and_parts _ _ e).0) ∙ sym (admits_shared x y v) ∙ impossible (shared x y) v is)
+        (ap (λ s. s && admits y v) (sym (and_parts _ _ e).0) ∙ sym (admits_common x y v) ∙ impossible (common_options x y) v is)
 
 pub meeting_lengths : (a b : List Options) → meets a b ≡ true → length a ≡ length b
 meeting_lengths [] [] h = refl
@@ -150,12 +150,12 @@ split_later false x y z w u h = refl
 
 split : (kept : List Options) (own other : Options) (owns others : List Options) (v : Point) →
     IsSplit (in_region (kept ++ own ∷ owns) v) (in_region (kept ++ other ∷ others) v) (in_region (kept ++ without own other ∷ owns) v)
-    (in_region (kept ++ shared own other ∷ owns) v) (in_region (kept ++ shared own other ∷ others) v)
+    (in_region (kept ++ common_options own other ∷ owns) v) (in_region (kept ++ common_options own other ∷ others) v)
 split [] own other owns others [] = refl
 split [] own other owns others (v ∷ vs) =
     split_key (admits own v) (admits other v) (in_region owns vs) (in_region others vs)
     ∙ ap (λ s. (s && in_region owns vs) || (((admits own v && admits other v) && in_region owns vs) && not ((admits own v && admits other v) && in_region others vs))) (sym (admits_without own other v))
-    ∙ ap (λ s. (admits (without own other) v && in_region owns vs) || ((s && in_region owns vs) && not (s && in_region others vs))) (sym (admits_shared own other v))
+    ∙ ap (λ s. (admits (without own other) v && in_region owns vs) || ((s && in_region owns vs) && not (s && in_region others vs))) (sym (admits_common own other v))
 split (k ∷ ks) own other owns others [] = refl
 split (k ∷ ks) own other owns others (v ∷ vs) = split_later (admits k v) _ _ _ _ _ (split ks own other owns others vs)
 
@@ -179,12 +179,12 @@ IsDifference region taken parts kept left right =
 pub key_more : (region taken : List Options) (parts new_parts : List (List Options)) (kept new_kept left right : List Options) (d e : Options) →
     1 ≤ length left → 1 ≤ length right →
     ((v : Point) → in_some_region new_parts v ≡ (in_some_region parts v || in_region (kept ++ without (get_or left 0 d) (get_or right 0 e) ∷ later left) v)) →
-    new_kept ≡ kept ++ shared (get_or left 0 d) (get_or right 0 e) ∷ [] → IsDifference region taken parts kept left right →
+    new_kept ≡ kept ++ common_options (get_or left 0 d) (get_or right 0 e) ∷ [] → IsDifference region taken parts kept left right →
     IsDifference region taken new_parts new_kept (later left) (later right)
 key_more region taken parts new_parts kept new_kept [] right d e some_left some_right put pushed h = absurd (omega arith)
 key_more region taken parts new_parts kept new_kept (x ∷ xs) [] d e some_left some_right put pushed h = absurd (omega arith)
 key_more region taken parts new_parts kept new_kept (x ∷ xs) (y ∷ ys) d e some_left some_right put pushed h =
-    (λ v. h.0 v ∙ ap (λ b. in_some_region parts v || b) (both v) ∙ sym (or_assoc (in_some_region parts v) (in_region (kept ++ without x y ∷ xs) v) (in_region (kept ++ shared x y ∷ xs) v && not (in_region (kept ++ shared x y ∷ ys) v))) ∙ ends v, omega (arith, length_of))
+    (λ v. h.0 v ∙ ap (λ b. in_some_region parts v || b) (both v) ∙ sym (or_assoc (in_some_region parts v) (in_region (kept ++ without x y ∷ xs) v) (in_region (kept ++ common_options x y ∷ xs) v && not (in_region (kept ++ common_options x y ∷ ys) v))) ∙ ends v, omega (arith, length_of))
   where
     length_of : length (later (x ∷ xs)) ≡ length (later (y ∷ ys))
     length_of = ap length (later_is x xs) ∙ (let e : length xs ≡ length ys = omega (arith, h.1) in e) ∙ ap length (sym (later_is y ys))
@@ -194,18 +194,18 @@ key_more region taken parts new_parts kept new_kept (x ∷ xs) (y ∷ ys) d e so
     or_assoc false b c = refl
 
     both : (v : Point) → (in_region (kept ++ x ∷ xs) v && not (in_region (kept ++ y ∷ ys) v))
-        ≡ (in_region (kept ++ without x y ∷ xs) v || (in_region (kept ++ shared x y ∷ xs) v && not (in_region (kept ++ shared x y ∷ ys) v)))
+        ≡ (in_region (kept ++ without x y ∷ xs) v || (in_region (kept ++ common_options x y ∷ xs) v && not (in_region (kept ++ common_options x y ∷ ys) v)))
     both v = split kept x y xs ys v
 
-    grown : (zs : List Options) → new_kept ++ zs ≡ kept ++ shared x y ∷ zs
-    grown zs = ap (λ ks. ks ++ zs) pushed ∙ append_assoc kept (shared x y ∷ []) zs
+    grown : (zs : List Options) → new_kept ++ zs ≡ kept ++ common_options x y ∷ zs
+    grown zs = ap (λ ks. ks ++ zs) pushed ∙ append_assoc kept (common_options x y ∷ []) zs
 
-    ends : (v : Point) → ((in_some_region parts v || in_region (kept ++ without x y ∷ xs) v) || (in_region (kept ++ shared x y ∷ xs) v && not (in_region (kept ++ shared x y ∷ ys) v)))
+    ends : (v : Point) → ((in_some_region parts v || in_region (kept ++ without x y ∷ xs) v) || (in_region (kept ++ common_options x y ∷ xs) v && not (in_region (kept ++ common_options x y ∷ ys) v)))
         ≡ (in_some_region new_parts v || (in_region (new_kept ++ later (x ∷ xs)) v && not (in_region (new_kept ++ later (y ∷ ys)) v)))
     ends v =
-        ap (λ zs. (in_some_region parts v || in_region (kept ++ without x y ∷ zs) v) || (in_region (kept ++ shared x y ∷ xs) v && not (in_region (kept ++ shared x y ∷ ys) v))) (sym (later_is x xs))
-        ∙ ap (λ b. b || (in_region (kept ++ shared x y ∷ xs) v && not (in_region (kept ++ shared x y ∷ ys) v))) (sym (put v))
-        ∙ ap (λ zs. in_some_region new_parts v || (in_region zs v && not (in_region (kept ++ shared x y ∷ ys) v))) (sym (grown xs) ∙ ap (λ zs. new_kept ++ zs) (sym (later_is x xs)))
+        ap (λ zs. (in_some_region parts v || in_region (kept ++ without x y ∷ zs) v) || (in_region (kept ++ common_options x y ∷ xs) v && not (in_region (kept ++ common_options x y ∷ ys) v))) (sym (later_is x xs))
+        ∙ ap (λ b. b || (in_region (kept ++ common_options x y ∷ xs) v && not (in_region (kept ++ common_options x y ∷ ys) v))) (sym (put v))
+        ∙ ap (λ zs. in_some_region new_parts v || (in_region zs v && not (in_region (kept ++ common_options x y ∷ ys) v))) (sym (grown xs) ∙ ap (λ zs. new_kept ++ zs) (sym (later_is x xs)))
         ∙ ap (λ zs. in_some_region new_parts v || (in_region (new_kept ++ later (x ∷ xs)) v && not (in_region zs v))) (sym (grown ys) ∙ ap (λ zs. new_kept ++ zs) (sym (later_is y ys)))
 
 pub kept_same : (parts new_parts : List (List Options)) (given kept : List Options) (o : Options) (rest : List Options) → given ≡ kept →

@@ -1,12 +1,11 @@
 -- A triple of shapes whose regions together are covered by others has no triple of pairs outside of them, and what is left of them
 -- gives one.
-use Rattle.std.proofs.Common.{◌≡◌, ℕ, ◌+◌, ◌<◌, Bool, true, false, ◌&&◌, ◌||◌, List, [], ◌∷◌, ◌++◌, take, drop, get_or, map, length, Option, Some, None, MatchOption, refl, sym, ◌∙◌, ap, true≢false, ⊎_elim, arith, length-append, length-take, length-drop}
+use Rattle.std.proofs.Common.{◌≡◌, ℕ, ◌+◌, ◌<◌, Bool, true, false, ◌&&◌, ◌||◌, List, [], ◌∷◌, ◌++◌, take, drop, get_or, map, length, Option, Some, None, is_some, MatchOption, refl, sym, ◌∙◌, ap, true≢false, ⊎_elim, arith, length-append, length-take, length-drop}
 use Rattle.std.specs.List.{list_all}
 use Rattle.std.proofs.lemmas.Bool.{and_parts, and_from, or_cases, or_left, or_right}
 use Rattle.std.proofs.lemmas.List.{take_more, length-map, take-append-drop}
 use Rattle.std.proofs.lemmas.List.Folds.{list_any-append, list_any_at}
 use Rattle.std.proofs.Math.Bool.{or-false}
-use Rattle.std.proofs.lemmas.Option.{MatchOption-at_some, MatchOption-at_none}
 use Rattle.pgs_base.specs.declared.row.NodeRow.{NodeRow}
 use Rattle.pgs_base.specs.Order.{ascends}
 use Rattle.pgs_base.specs.Pair.{is_pair, value_at}
@@ -343,19 +342,20 @@ pub all_triples_contained : (triples others : List ShapeTriple) (test typed : Tr
 all_triples_contained triples others test typed own other h t good fits = sym (other t good) ∙ h t good (own t good ∙ fits)
 
 pub none_triple_out : (triples others : List ShapeTriple) (i : ℕ) (shapes : ShapeTriple) (answer : Option OwnedTriple) → i < length triples → shapes ≡ get_or triples i shapes →
-    MatchOption answer (IsInOtherTriples shapes others) (λ own. IsOutOfOtherTriples (shapes ∷ []) others (owned_triple own)) → answer ≡ None → AreInOtherTriples (take i triples) others →
+    MatchOption answer (IsInOtherTriples shapes others) (λ own. IsOutOfOtherTriples (shapes ∷ []) others (owned_triple own)) → is_some answer ≡ false → AreInOtherTriples (take i triples) others →
     AreInOtherTriples (take (i + 1) triples) others
-none_triple_out triples others i shapes answer lt is h none before t good there =
-    ⊎_elim (before t good) (MatchOption-at_none (IsInOtherTriples shapes others) (λ own. IsOutOfOtherTriples (shapes ∷ []) others (owned_triple own)) none h t good)
+none_triple_out triples others i shapes (Some own) lt is h none before t good there = absurd (true≢false none)
+none_triple_out triples others i shapes None lt is h none before t good there =
+    ⊎_elim (before t good) (h t good)
     (or_cases (in_some_triple (take i triples) t) (in_triple shapes t)
     (sym (ap (λ ss. in_some_triple ss t) (take_more triples i shapes lt ∙ ap (λ s. take i triples ++ s ∷ []) (sym is))
     ∙ list_any-append (λ s. in_triple s t) (take i triples) (shapes ∷ []) ∙ ap (λ b. in_some_triple (take i triples) t || b) (or-false (in_triple shapes t))) ∙ there))
 
-pub triple_found_out : (triples others : List ShapeTriple) (i : ℕ) (shapes : ShapeTriple) (answer : Option OwnedTriple) (own : OwnedTriple) → i < length triples → shapes ≡ get_or triples i shapes →
-    MatchOption answer (IsInOtherTriples shapes others) (λ one. IsOutOfOtherTriples (shapes ∷ []) others (owned_triple one)) → answer ≡ Some own →
-    IsOutOfOtherTriples triples others (owned_triple own)
-triple_found_out triples others i shapes answer own lt is h some =
-    let out = MatchOption-at_some (IsInOtherTriples shapes others) (λ one. IsOutOfOtherTriples (shapes ∷ []) others (owned_triple one)) own some h in
+pub triple_found_out : (triples others : List ShapeTriple) (i : ℕ) (shapes : ShapeTriple) (answer : Option OwnedTriple) → i < length triples → shapes ≡ get_or triples i shapes →
+    MatchOption answer (IsInOtherTriples shapes others) (λ own. IsOutOfOtherTriples (shapes ∷ []) others (owned_triple own)) → is_some answer ≡ true →
+    MatchOption answer (AreInOtherTriples triples others) (λ own. IsOutOfOtherTriples triples others (owned_triple own))
+triple_found_out triples others i shapes None lt is h some = absurd (true≢false (sym some))
+triple_found_out triples others i shapes (Some own) lt is out some =
     record {
       triple = out.triple;
       inside = list_any_at (λ s. in_triple s (owned_triple own)) triples i shapes lt (ap (λ s. in_triple s (owned_triple own)) (sym is) ∙ sym (or-false (in_triple shapes (owned_triple own))) ∙ out.inside);

@@ -1,9 +1,8 @@
 -- A shape whose region is covered by others has no pair outside of them, and what is left of its region gives one.
-use Rattle.std.proofs.Common.{◌≡◌, ℕ, ◌+◌, ◌<◌, ◌++◌, take, get_or, Bool, true, false, ◌&&◌, ◌||◌, List, [], ◌∷◌, map, length, suc, Option, Some, None, MatchOption, refl, sym, ◌∙◌, ap, subst, true≢false, ⊎_elim}
+use Rattle.std.proofs.Common.{◌≡◌, ℕ, ◌+◌, ◌<◌, ◌++◌, take, get_or, Bool, true, false, ◌&&◌, ◌||◌, List, [], ◌∷◌, map, length, suc, Option, Some, None, is_some, MatchOption, refl, sym, ◌∙◌, ap, subst, true≢false, ⊎_elim}
 use Rattle.std.specs.List.{list_all}
 use Rattle.std.specs.Map.{keys_of}
 use Rattle.std.proofs.lemmas.Bool.{and_parts, and_from, or_cases, or_left, or_right}
-use Rattle.std.proofs.lemmas.Option.{MatchOption-at_some, MatchOption-at_none}
 use Rattle.std.proofs.Math.Bool.{or-false}
 use Rattle.std.proofs.lemmas.List.{take_more, length-map}
 use Rattle.std.proofs.lemmas.List.Folds.{list_any-append, list_any_at}
@@ -204,15 +203,14 @@ out_of_all shapes others i shape p lt is out = record {
 }
 
 -- what one shape gives, of all of them
-pub found_out : (shapes others : List Shape) (i : ℕ) (shape : Shape) (answer : Option OwnedPair) (own : OwnedPair) → i < length shapes → shape ≡ get_or shapes i shape →
-    MatchOption answer (IsInOthers shape others) (λ pair. IsOutOfOthers (shape ∷ []) others (pair_in pair)) → answer ≡ Some own → IsOutOfOthers shapes others (pair_in own)
-found_out shapes others i shape answer own lt is h some =
-    out_of_all shapes others i shape (pair_in own) lt is
-    (MatchOption-at_some (IsInOthers shape others) (λ pair. IsOutOfOthers (shape ∷ []) others (pair_in pair)) own some h)
+pub found_out : (shapes others : List Shape) (i : ℕ) (shape : Shape) (answer : Option OwnedPair) → i < length shapes → shape ≡ get_or shapes i shape →
+    MatchOption answer (IsInOthers shape others) (λ own. IsOutOfOthers (shape ∷ []) others (pair_in own)) → is_some answer ≡ true →
+    MatchOption answer (AreInOthers shapes others) (λ own. IsOutOfOthers shapes others (pair_in own))
+found_out shapes others i shape None lt is h some = absurd (true≢false (sym some))
+found_out shapes others i shape (Some own) lt is h some = out_of_all shapes others i shape (pair_in own) lt is h
 
 pub none_out : (shapes others : List Shape) (i : ℕ) (shape : Shape) (answer : Option OwnedPair) → i < length shapes → shape ≡ get_or shapes i shape →
-    MatchOption answer (IsInOthers shape others) (λ pair. IsOutOfOthers (shape ∷ []) others (pair_in pair)) → answer ≡ None → AreInOthers (take i shapes) others →
+    MatchOption answer (IsInOthers shape others) (λ own. IsOutOfOthers (shape ∷ []) others (pair_in own)) → is_some answer ≡ false → AreInOthers (take i shapes) others →
     AreInOthers (take (i + 1) shapes) others
-none_out shapes others i shape answer lt is h none before =
-    shapes_more shapes others i shape lt is before
-    (MatchOption-at_none (IsInOthers shape others) (λ pair. IsOutOfOthers (shape ∷ []) others (pair_in pair)) none h)
+none_out shapes others i shape None lt is h none before = shapes_more shapes others i shape lt is before h
+none_out shapes others i shape (Some own) lt is h none before = absurd (true≢false none)

@@ -35,8 +35,8 @@ without a b = record {
   date = a.date && not b.date;
 }
 
-abbrev pub shared : Options → Options → Options
-shared a b = record {
+abbrev pub common_options : Options → Options → Options
+common_options a b = record {
   absent = a.absent && b.absent;
   text = a.text && b.text;
   int = a.int && b.int;
@@ -62,7 +62,7 @@ abbrev pub meets : List Options → List Options → Bool
 meets [] [] = true
 meets [] (b ∷ bs) = false
 meets (a ∷ as') [] = false
-meets (a ∷ as') (b ∷ bs) = is_possible (shared a b) && meets as' bs
+meets (a ∷ as') (b ∷ bs) = is_possible (common_options a b) && meets as' bs
 
 -- each point of a region is in some of others
 abbrev pub IsCovered : List Options → List (List Options) → Type 0

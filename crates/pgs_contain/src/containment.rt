@@ -23,12 +23,11 @@ fn contained_node(
         (λ own. IsNodeOutside first.now number second.now (pair_in own))) }
 {
     let others = typed_shapes(alloc, second)?;
-    let answer = outside_of_shapes(
+    outside_of_shapes(
         alloc,
         first.shapes_of_node(number).as_slice(),
         others.as_slice(),
-    )?;
-    Ok(answer)
+    )
 }
 
 // A triple of pairs that fits an edge type of the first schema and is untyped in the second, with the plainest values.
@@ -43,12 +42,11 @@ fn contained_edge(
         (λ own. IsEdgeOutside first.now number second.now (owned_triple own))) }
 {
     let others = typed_triples(alloc, second)?;
-    let answer = outside_of_triples(
+    outside_of_triples(
         alloc,
         first.shapes_of_edge(number).as_slice(),
         others.as_slice(),
-    )?;
-    Ok(answer)
+    )
 }
 
 /// What is outside of a type of the first schema, by its number, which is in range: a pair, or a triple of pairs, that fits it and is

@@ -1,7 +1,7 @@
 //! What may stand at one key, by two options.
 
 ghost use Rattle.std.specs.Prelude.{◌≡◌};
-ghost use Rattle.pgs_contain.specs.Regions.{is_possible, without, shared, is_within};
+ghost use Rattle.pgs_contain.specs.Regions.{is_possible, without, common_options, is_within};
 
 use pgs_conform::Options;
 
@@ -26,8 +26,8 @@ pub(crate) fn without(own: Options, taken: Options) -> Options
 }
 
 // What may stand at a key by both.
-pub(crate) fn shared(first: Options, second: Options) -> Options
-    ensures { result ≡ shared first second }
+pub(crate) fn common_options(first: Options, second: Options) -> Options
+    ensures { result ≡ common_options first second }
 {
     Options {
         absent: first.absent & second.absent,

@@ -4,7 +4,7 @@ ghost use Rattle.std.specs.Prelude.{◌≡◌, ◌<◌, ◌≤◌, ◌&&◌, ◌
 ghost use Rattle.std.specs.List.{list_all, list_any};
 ghost use Rattle.pgs_contain.specs.Regions.{Point, in_region, in_some_region, is_possible, without, lies_in, meets, IsCovered, IsLeft};
 
-use crate::options::{is_possible, is_within, shared, without};
+use crate::options::{common_options, is_possible, is_within, without};
 use pgs_base::{List, Memory};
 use pgs_conform::Options;
 use std::alloc::Global;
@@ -38,7 +38,7 @@ fn meets(region: &[Options], other: &[Options]) -> bool
         let [wide, wides @ ..] = right else {
             return false;
         };
-        if !is_possible(shared(*own, *wide)) {
+        if !is_possible(common_options(*own, *wide)) {
             return false;
         }
         left = owns;
@@ -125,7 +125,7 @@ fn parts_left(
             unreachable!()
         };
         push_wrong(alloc, kept.as_slice(), own, other, owns, &mut parts)?;
-        let both = shared(*own, *other);
+        let both = common_options(*own, *other);
         kept.push(both)?;
         left = owns;
         right = others;
@@ -167,8 +167,7 @@ pub(crate) fn left_of(
     }
     let met = from_first_met(region, taken);
     let [first, later @ ..] = met else {
-        let rest = whole(alloc, region)?;
-        return Ok(rest);
+        return whole(alloc, region);
     };
     let parts = parts_left(alloc, region, first.as_slice())?;
     for part in parts.as_slice() {

@@ -24,8 +24,7 @@ fn left_in_frame(
     ensures { IfOk result (Leaves (in_some_of others.now frame.now.labels frame.now.keys) frame.now.region) }
 {
     let taken = regions_of(alloc, others, frame)?;
-    let left = left_of(alloc, frame.region.as_slice(), taken.as_slice())?;
-    Ok(left)
+    left_of(alloc, frame.region.as_slice(), taken.as_slice())
 }
 
 // A pair of a shape that is in none of others. `None` exactly where there is none.
@@ -64,9 +63,8 @@ pub(crate) fn outside_of_shapes(
     let words = vocabulary_of(alloc, shapes, others)?;
     for shape in shapes {
         let found = outside_of_shape(alloc, shape, others, &words)?;
-        match found {
-            Some(own) => return Ok(Some(own)),
-            None => {}
+        if found.is_some() {
+            return Ok(found);
         }
     }
     Ok(None)

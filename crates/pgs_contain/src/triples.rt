@@ -60,7 +60,7 @@ impl Frames {
 }
 
 // Three regions, one after another as one.
-fn joined(
+fn region_of_three(
     alloc: Global,
     source: &[Options],
     middle: &[Options],
@@ -79,13 +79,12 @@ fn joined(
 fn region_in(alloc: Global, frames: &Frames) -> Result<List<Options>, Memory>
     ensures { IfOk result (λ region. region ≡ region_in frames.now) }
 {
-    let region = joined(
+    region_of_three(
         alloc,
         frames.source.region.as_slice(),
         frames.middle.region.as_slice(),
         frames.target.region.as_slice(),
-    )?;
-    Ok(region)
+    )
 }
 
 // Whether another triple of shapes may have a triple of pairs of the frames.
@@ -108,13 +107,12 @@ fn options_of_three(
     let source = options_of(alloc, &triple.source, frames.source.keys.as_slice())?;
     let middle = options_of(alloc, &triple.middle, frames.middle.keys.as_slice())?;
     let target = options_of(alloc, &triple.target, frames.target.keys.as_slice())?;
-    let region = joined(
+    region_of_three(
         alloc,
         source.as_slice(),
         middle.as_slice(),
         target.as_slice(),
-    )?;
-    Ok(region)
+    )
 }
 
 // What the triples of shapes that may have a triple of pairs of the frames say of their keys.
@@ -176,8 +174,7 @@ fn left_in_frames(
     }
     let taken = regions_of_triples(alloc, others, frames)?;
     let region = region_in(alloc, frames)?;
-    let left = left_of(alloc, region.as_slice(), taken.as_slice())?;
-    Ok(left)
+    left_of(alloc, region.as_slice(), taken.as_slice())
 }
 
 // The plainest pairs of the frames, of what is left of their regions: its parts are as long as their keys.
@@ -230,8 +227,7 @@ fn outside_of_triple(
 {
     let frames = frames_of(alloc, triple, words)?;
     frames.facts();
-    let answer = outside_of_frames(alloc, &frames, others)?;
-    Ok(answer)
+    outside_of_frames(alloc, &frames, others)
 }
 
 /// A triple of pairs of some triples of shapes that is in none of others. `None` exactly where there is none.
@@ -246,9 +242,8 @@ pub(crate) fn outside_of_triples(
     let words = vocabulary_of_triples(alloc, triples, others)?;
     for triple in triples {
         let found = outside_of_triple(alloc, triple, others, &words)?;
-        match found {
-            Some(own) => return Ok(Some(own)),
-            None => {}
+        if found.is_some() {
+            return Ok(found);
         }
     }
     Ok(None)

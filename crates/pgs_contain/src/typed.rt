@@ -6,11 +6,11 @@ ghost use Rattle.pgs_base.specs.Pair.{is_pair};
 ghost use Rattle.pgs_syntax.specs.Join.{Triple as Pairs};
 ghost use Rattle.pgs_syntax.specs.Triples.{is_triple};
 ghost use Rattle.pgs_syntax.specs.Typed.{is_typed_node, is_typed_triple, types_node, types_edge};
-ghost use Rattle.pgs_conform.specs.Shapes.{in_some, in_triple, in_some_triple, Denotes, DenotesTriples};
+ghost use Rattle.pgs_conform.specs.Shapes.{in_some, in_some_triple, Denotes, DenotesTriples};
 
 use pgs_base::{List, Memory};
 use pgs_conform::{Compiled, Shape, Triple};
-use pgs_product::copy_shape;
+use pgs_product::{copy_shape, copy_triple};
 use pgs_syntax::TypeNo;
 use std::alloc::Global;
 
@@ -40,8 +40,7 @@ fn push_type(
     };
     match schema.resolved().nodes.at(number as usize) {
         Some(node_type) if !node_type.hidden => {
-            push_shapes(alloc, schema.shapes_of_node(number).as_slice(), all)?;
-            Ok(())
+            push_shapes(alloc, schema.shapes_of_node(number).as_slice(), all)
         }
         _ => Ok(()),
     }
@@ -70,19 +69,6 @@ fn push_triples(alloc: Global, triples: &[Triple], all: &mut Vec<Triple>) -> Res
     Ok(())
 }
 
-fn copy_triple(alloc: Global, triple: &Triple) -> Result<Triple, Memory>
-    ensures { IfOk result (λ copy. (t : Pairs) → in_triple copy t ≡ in_triple triple.now t) }
-{
-    let source = copy_shape(alloc, &triple.source)?;
-    let middle = copy_shape(alloc, &triple.middle)?;
-    let target = copy_shape(alloc, &triple.target)?;
-    Ok(Triple {
-        source,
-        middle,
-        target,
-    })
-}
-
 // Puts the triples of shapes of an edge type last, where it isn't abstract.
 fn push_edge_type(
     alloc: Global,
@@ -98,8 +84,7 @@ fn push_edge_type(
     };
     match schema.resolved().edges.at(number as usize) {
         Some(edge_type) if !edge_type.hidden => {
-            push_triples(alloc, schema.shapes_of_edge(number).as_slice(), all)?;
-            Ok(())
+            push_triples(alloc, schema.shapes_of_edge(number).as_slice(), all)
         }
         _ => Ok(()),
     }

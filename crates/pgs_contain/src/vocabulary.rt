@@ -106,8 +106,7 @@ pub(crate) fn vocabulary_of(
     let mut keys = Labels::new(alloc);
     learn_shapes(alloc, first, &mut labels, &mut keys)?;
     learn_shapes(alloc, second, &mut labels, &mut keys)?;
-    let words = with_strange(alloc, labels, keys)?;
-    Ok(words)
+    with_strange(alloc, labels, keys)
 }
 
 // Puts in what a triple of shapes names.
@@ -153,6 +152,5 @@ pub(crate) fn vocabulary_of_triples(
     let mut keys = Labels::new(alloc);
     learn_triples(alloc, first, &mut labels, &mut keys)?;
     learn_triples(alloc, second, &mut labels, &mut keys)?;
-    let words = with_strange(alloc, labels, keys)?;
-    Ok(words)
+    with_strange(alloc, labels, keys)
 }

@@ -94,7 +94,7 @@ fn validity()
 {}
 
 /// The types compiled.
-pub fn compiled(alloc: Global) -> Result<Compiled, Fail>
+pub fn compiled_types(alloc: Global) -> Result<Compiled, Fail>
     ensures { IfOk result (λ compiled. compiled ≡ abstract_types) }
 {
     validity();

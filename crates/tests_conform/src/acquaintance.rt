@@ -7,7 +7,7 @@ ghost use Rattle.pgs_conform.specs.Counts.{AreWithin, widths_of_nodes, widths_of
 ghost use Rattle.pgs_conform.specs.Standing.{EachDenotes, EachDenotesTriples};
 ghost use Rattle.tests_conform.specs.Exact.{HasExactly};
 
-use crate::sample::{exactly, label, listed, name, node_type, two_lists, word};
+use crate::sample::{exactly, label, name, node_type, one_item, two_lists, word};
 use pgs_base::{Labels, List, Memory, Name};
 use pgs_conform::{Compiled, Shape, Triple};
 use pgs_syntax::{EdgeType, Guarding, Leaf, NodeType, Resolved, Spec, TypeNo, samples};
@@ -57,7 +57,7 @@ fn edges(alloc: Global) -> Result<List<EdgeType<Leaf>>, Fail>
         middle: word(alloc, "knows")?,
         target: Spec::Word(Leaf::Named(0)),
     };
-    Ok(listed(alloc, e)?)
+    Ok(one_item(alloc, e)?)
 }
 
 fn schema(alloc: Global) -> Result<Resolved, Fail>
@@ -118,7 +118,7 @@ fn edge_shapes(alloc: Global) -> Result<List<List<Triple>>, Fail>
     let source = q_shape(alloc)?;
     let middle = knows_shape(alloc)?;
     let target = p_shape(alloc)?;
-    let triples = listed(
+    let triples = one_item(
         alloc,
         Triple {
             source,
@@ -126,12 +126,12 @@ fn edge_shapes(alloc: Global) -> Result<List<List<Triple>>, Fail>
             target,
         },
     )?;
-    let lists = listed(alloc, triples)?;
+    let lists = one_item(alloc, triples)?;
     Ok(lists)
 }
 
 /// The types compiled.
-pub fn compiled(alloc: Global) -> Result<Compiled, Fail>
+pub fn compiled_types(alloc: Global) -> Result<Compiled, Fail>
     ensures { IfOk result (λ compiled. compiled ≡ acquaintance) }
 {
     samples::validity();

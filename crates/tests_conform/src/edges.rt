@@ -3,7 +3,7 @@
 ghost use Rattle.std.specs.Prelude.{◌≡◌};
 ghost use Rattle.pgs_syntax.specs.Samples.{acquaintance};
 
-use crate::acquaintance::compiled;
+use crate::acquaintance::compiled_types;
 use crate::sample::labels;
 use pgs_base::{Labels, Props};
 use pgs_conform::{Compiled, Pair, edge_fits, edge_typed};
@@ -11,7 +11,7 @@ use std::alloc::Global;
 use std::test::Fail;
 
 /// Whether an edge of these labels, and those of its source and its target, fits the edge type and is typed.
-fn tested(
+fn answers_of(
     compiled: &Compiled,
     none: &Props,
     source: &Labels,
@@ -38,7 +38,7 @@ fn tested(
     )
 }
 
-fn labelled(
+fn labels_of_three(
     alloc: Global,
     source: &[&str],
     own: &[&str],
@@ -50,15 +50,15 @@ fn labelled(
     Ok((source, own, target))
 }
 
-fn answered(
+fn edge_answers(
     alloc: Global,
     source: &[&str],
     own: &[&str],
     target: &[&str],
 ) -> Result<(bool, bool), Fail> {
-    let compiled = compiled(alloc)?;
-    let (source, own, target) = labelled(alloc, source, own, target)?;
-    Ok(tested(&compiled, &Props::new(alloc), &source, &own, &target))
+    let compiled = compiled_types(alloc)?;
+    let (source, own, target) = labels_of_three(alloc, source, own, target)?;
+    Ok(answers_of(&compiled, &Props::new(alloc), &source, &own, &target))
 }
 
 /// The labels of a source, an edge and a target, and whether the edge fits. The second and the third differ from the first at one
@@ -75,7 +75,10 @@ const EDGES: &[(&[&str], &[&str], &[&str], bool)] = &[
 #[test]
 fn an_edge_fits_by_its_ends_and_its_own_labels(rt: HostRuntime) -> Result<(), Fail> {
     for (source, own, target, fits) in EDGES {
-        assert_eq!(rt; answered(rt.alloc(), source, own, target)?, (*fits, *fits));
+        assert_eq!(rt;
+            edge_answers(rt.alloc(), source, own, target)?,
+            (*fits, *fits)
+        );
     }
     Ok(())
 }

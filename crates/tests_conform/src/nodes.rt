@@ -1,7 +1,6 @@
 //! Which nodes fit and are typed, by their labels.
 
-ghost use Rattle.std.specs.Prelude.{◌≡◌};
-ghost use Rattle.pgs_syntax.specs.Samples.{acquaintance, abstract_types};
+ghost use Rattle.std.specs.Prelude.{◌<◌, length};
 
 use crate::sample::labels;
 use crate::{abstract_types, acquaintance};
@@ -13,8 +12,8 @@ use std::test::Fail;
 /// Whether a node fits the type 0, fits the type 1, and is typed.
 type Answers = (bool, bool, bool);
 
-fn tested(compiled: &Compiled, labels: &Labels, props: &Props) -> Answers
-    requires { compiled.now ≡ acquaintance }
+fn answers_of(compiled: &Compiled, labels: &Labels, props: &Props) -> Answers
+    requires { 1 < length compiled.now.nodes }
 {
     let own = Pair { labels, props };
     (
@@ -24,11 +23,11 @@ fn tested(compiled: &Compiled, labels: &Labels, props: &Props) -> Answers
     )
 }
 
-fn answered(alloc: Global, texts: &[&str]) -> Result<Answers, Fail> {
-    let compiled = acquaintance::compiled(alloc)?;
+fn acquaintance_answers(alloc: Global, texts: &[&str]) -> Result<Answers, Fail> {
+    let compiled = acquaintance::compiled_types(alloc)?;
     let labels = labels(alloc, texts)?;
     let props = Props::new(alloc);
-    Ok(tested(&compiled, &labels, &props))
+    Ok(answers_of(&compiled, &labels, &props))
 }
 
 /// Labels of a node, against `(p: P)` and `(q: P & Q)`.
@@ -43,27 +42,16 @@ const NODES: &[(&[&str], Answers)] = &[
 #[test]
 fn a_node_fits_a_closed_type_by_exactly_its_labels(rt: HostRuntime) -> Result<(), Fail> {
     for (labels, want) in NODES {
-        assert_eq!(rt; answered(rt.alloc(), labels)?, *want);
+        assert_eq!(rt; acquaintance_answers(rt.alloc(), labels)?, *want);
     }
     Ok(())
 }
 
-fn abstractly_tested(compiled: &Compiled, labels: &Labels, props: &Props) -> Answers
-    requires { compiled.now ≡ abstract_types }
-{
-    let own = Pair { labels, props };
-    (
-        node_fits(compiled, 0, labels, props),
-        node_fits(compiled, 1, labels, props),
-        node_typed(compiled, &own),
-    )
-}
-
-fn abstractly_answered(alloc: Global, texts: &[&str]) -> Result<Answers, Fail> {
-    let compiled = abstract_types::compiled(alloc)?;
+fn abstract_answers(alloc: Global, texts: &[&str]) -> Result<Answers, Fail> {
+    let compiled = abstract_types::compiled_types(alloc)?;
     let labels = labels(alloc, texts)?;
     let props = Props::new(alloc);
-    Ok(abstractly_tested(&compiled, &labels, &props))
+    Ok(answers_of(&compiled, &labels, &props))
 }
 
 /// Labels of a node, against `ABSTRACT (t: A)` and `ABSTRACT (u: B)`.
@@ -76,7 +64,7 @@ const OF_ABSTRACT_TYPES: &[(&[&str], Answers)] = &[
 #[test]
 fn an_abstract_type_is_fitted_and_types_no_node(rt: HostRuntime) -> Result<(), Fail> {
     for (labels, want) in OF_ABSTRACT_TYPES {
-        assert_eq!(rt; abstractly_answered(rt.alloc(), labels)?, *want);
+        assert_eq!(rt; abstract_answers(rt.alloc(), labels)?, *want);
     }
     Ok(())
 }

@@ -64,7 +64,7 @@ pub fn labels(alloc: Global, texts: &[&str]) -> Result<Labels, Fail> {
 }
 
 /// The list of one item.
-pub fn listed<T: Drop>(alloc: Global, item: T) -> Result<List<T>, Memory>
+pub fn one_item<T: Drop>(alloc: Global, item: T) -> Result<List<T>, Memory>
     ensures { IfOk result (λ list. list ≡ item ∷ []) }
 {
     let mut items = Vec::new(alloc);
@@ -88,8 +88,8 @@ pub fn exactly(alloc: Global, labels: Labels) -> Shape
 pub fn two_lists(alloc: Global, first: Shape, second: Shape) -> Result<List<List<Shape>>, Memory>
     ensures { IfOk result (λ lists. lists ≡ (first ∷ []) ∷ (second ∷ []) ∷ []) }
 {
-    let first = listed(alloc, first)?;
-    let second = listed(alloc, second)?;
+    let first = one_item(alloc, first)?;
+    let second = one_item(alloc, second)?;
     let lists = vec![in alloc; first, second]?;
     Ok(List::from_vec(lists))
 }

@@ -134,7 +134,7 @@ fn shape(alloc: Global, form: &Form) -> Result<Shape, Fail> {
 }
 
 /// Whether the walk and the plain program answer alike, and whether the pair is in the shape.
-fn compared(shape: &Shape, labels: &Labels, props: &Props) -> (bool, bool) {
+fn compare(shape: &Shape, labels: &Labels, props: &Props) -> (bool, bool) {
     let own = Pair { labels, props };
     let has = shape.has(&own);
     (
@@ -143,19 +143,19 @@ fn compared(shape: &Shape, labels: &Labels, props: &Props) -> (bool, bool) {
     )
 }
 
-fn numbered(alloc: Global, shape: &Shape, number: u32) -> Result<(bool, bool), Fail> {
+fn compare_number(alloc: Global, shape: &Shape, number: u32) -> Result<(bool, bool), Fail> {
     let labels = some_labels(alloc, number / 27)?;
     let props = some_props(alloc, number % 27)?;
-    Ok(compared(shape, &labels, &props))
+    Ok(compare(shape, &labels, &props))
 }
 
 /// Of the 216 pairs how many are answered alike, and how many are in the shape.
-fn counted(alloc: Global, form: &Form) -> Result<(u32, u32), Fail> {
+fn count_alike(alloc: Global, form: &Form) -> Result<(u32, u32), Fail> {
     let shape = shape(alloc, form)?;
     let mut alike: u32 = 0;
     let mut inside: u32 = 0;
     for number in 0..216 {
-        let (same, has) = numbered(alloc, &shape, number)?;
+        let (same, has) = compare_number(alloc, &shape, number)?;
         alike = alike.saturating_add(u32::from(same));
         inside = inside.saturating_add(u32::from(has));
     }
@@ -184,7 +184,7 @@ const SHAPES: &[(Form, u32)] = &[
 #[test]
 fn a_walk_answers_as_looking_each_name_up_does(rt: HostRuntime) -> Result<(), Fail> {
     for (form, inside) in SHAPES {
-        assert_eq!(rt; counted(rt.alloc(), form)?, (216, *inside));
+        assert_eq!(rt; count_alike(rt.alloc(), form)?, (216, *inside));
     }
     Ok(())
 }

@@ -1,4 +1,5 @@
 use Rattle.std.proofs.Common.{ap, sym, ◌∙◌, length}
+use Rattle.std.proofs.lemmas.Result.{IfOk-weaker}
 use Rattle.pgs_contain.proofs.Parts.{lies_in_one_points, none_met, first_length}
 use Rattle.pgs_contain.proofs.regions.+left_of.Goals as goal
 
@@ -7,7 +8,9 @@ returns-then-lies_in_one t c = λ v there. lies_in_one_points c.args.region.now 
 
 pub returns-in_default : goal.returns-in_default
 returns-in_default t c =
-    none_met c.args.region.now c.args.taken.now c.from_first_met-met.result.now c.in_ok-rest.rest c.in_default.len_below c.from_first_met-met.ensures.same c.in_ok-rest.ensures
+    IfOk-weaker c.whole.result _ _
+    (λ rest. none_met c.args.region.now c.args.taken.now c.from_first_met-met.result.now rest c.in_default.len_below c.from_first_met-met.ensures.same)
+    c.whole.ensures
 
 pub parts_left-requires : goal.parts_left-requires
 parts_left-requires t c =
