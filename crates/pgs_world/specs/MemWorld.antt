@@ -130,71 +130,21 @@ refuses meter more = fails_next meter || nat_lt meter.room (handed_with meter.ha
 
 -- after a call that is counted
 abbrev pub counted : Meter → Meter
-counted meter =
-    record {
-      room = meter.room;
-      most = meter.most;
-      fail = meter.fail;
-      calls = raised meter.calls;
-      handed = meter.handed;
-      area_faults = meter.area_faults;
-      put_faults = meter.put_faults;
-      puts = meter.puts;
-    }
+counted meter = record meter { calls = raised meter.calls }
 
 -- and its piece too
 abbrev pub handed_in : Meter → ℕ → Meter
-handed_in meter more =
-    record {
-      room = meter.room;
-      most = meter.most;
-      fail = meter.fail;
-      calls = raised meter.calls;
-      handed = handed_with meter.handed more;
-      area_faults = meter.area_faults;
-      put_faults = meter.put_faults;
-      puts = meter.puts;
-    }
+handed_in meter more = record meter { calls = raised meter.calls; handed = handed_with meter.handed more }
 
 abbrev pub area_failed : Meter → Meter
-area_failed meter =
-    record {
-      room = meter.room;
-      most = meter.most;
-      fail = meter.fail;
-      calls = meter.calls;
-      handed = meter.handed;
-      area_faults = raised meter.area_faults;
-      put_faults = meter.put_faults;
-      puts = meter.puts;
-    }
+area_failed meter = record meter { area_faults = raised meter.area_faults }
 
 abbrev pub put_failed : Meter → Meter
-put_failed meter =
-    record {
-      room = meter.room;
-      most = meter.most;
-      fail = meter.fail;
-      calls = meter.calls;
-      handed = meter.handed;
-      area_faults = meter.area_faults;
-      put_faults = raised meter.put_faults;
-      puts = meter.puts;
-    }
+put_failed meter = record meter { put_faults = raised meter.put_faults }
 
 -- after a put that succeeds
 abbrev pub put_done : Meter → Meter
-put_done meter =
-    record {
-      room = meter.room;
-      most = meter.most;
-      fail = meter.fail;
-      calls = meter.calls;
-      handed = meter.handed;
-      area_faults = meter.area_faults;
-      put_faults = meter.put_faults;
-      puts = meter.puts + 1;
-    }
+put_done meter = record meter { puts = meter.puts + 1 }
 
 -- the same state under other counts
 abbrev pub unchanged : Kept → Meter → Kept

@@ -1,5 +1,5 @@
 -- A world that tells nothing, and fails as listed.
-use Rattle.std.specs.Prelude.{ℕ, ◌+◌, ◌-◌, ◌^◌, Bool, not, ◌||◌, List, nat_eq, nat_lt, if◌then◌else◌}
+use Rattle.std.specs.Prelude.{ℕ, ◌+◌, ◌-◌, ◌^◌, Bool, not, ◌||◌, List, nat_eq, if◌then◌else◌}
 use Rattle.pgs_world.specs.Count.{raised, is_listed}
 use Rattle.pgs_world.specs.Untold.{untold}
 use Rattle.pgs_world.specs.World.{View}

@@ -1,9 +1,7 @@
--- A world that tells nothing, as real files do: no more is known of it than its counts.
-use Rattle.std.specs.Prelude.{ℕ, ◌≤◌, false, [], refl}
-use Rattle.std.proofs.Common.{inl}
-use Rattle.std.proofs.lemmas.Bool.{false≢true}
-use Rattle.pgs_world.specs.World.{View}
-use Rattle.pgs_world.specs.Moment.{IsTimed, Passes, IsQuiet, ShowsOne}
+-- Worlds of which nothing is said of stops, as of real files. Where such a world tells nothing, no more is known of it than its counts.
+use Rattle.std.specs.Prelude.{ℕ, Bool, false, []}
+use Rattle.pgs_world.specs.World.{Triple, View}
+use Rattle.pgs_world.specs.Moment.{IsTimed}
 
 pub record Counts : Type 0 where
   -- the calls of all kinds, which are its moments
@@ -13,13 +11,14 @@ pub record Counts : Type 0 where
   -- the puts that answered Ok
   pub puts : ℕ
 
-abbrev pub untold : Counts → View
-untold counts =
+-- what it shows, as far as it tells, and its counts
+abbrev pub without_stops : (tells_bytes tells_output : Bool) → Triple → Counts → View
+without_stops tells_bytes tells_output shown counts =
     record {
       honest = false;
-      tells_bytes = false;
-      tells_output = false;
-      shown = record { a = []; b = []; output = [] };
+      tells_bytes = tells_bytes;
+      tells_output = tells_output;
+      shown = shown;
       moment = counts.calls;
       area_faults = counts.area_faults;
       put_faults = counts.put_faults;
@@ -28,15 +27,11 @@ untold counts =
       left_since = λ _ _. ⊥;
     }
 
--- no count fell
-pub record NoneFell (old new : Counts) : Type 0 where
-  pub calls : old.calls ≤ new.calls
-  pub area_faults : old.area_faults ≤ new.area_faults
-  pub put_faults : old.put_faults ≤ new.put_faults
-  pub puts : old.puts ≤ new.puts
+abbrev pub untold : Counts → View
+untold counts = without_stops false false (record { a = []; b = []; output = [] }) counts
 
-pub timed_untold : (counts : Counts) → IsTimed (untold counts)
-timed_untold counts =
+pub timed_without_stops : (tells_bytes tells_output : Bool) (shown : Triple) (counts : Counts) → IsTimed (without_stops tells_bytes tells_output shown counts)
+timed_without_stops tells_bytes tells_output shown counts =
     record {
       now = λ t c le left. left;
       only_now = λ c left. left;
@@ -44,28 +39,5 @@ timed_untold counts =
       output = λ honest _ c left. absurd left;
     }
 
-pub passes_untold : (old new : Counts) → NoneFell old new → Passes (untold old) (untold new)
-passes_untold old new none =
-    record {
-      honest = refl;
-      tells_bytes = refl;
-      tells_output = refl;
-      later = none.calls;
-      area_faults = none.area_faults;
-      put_faults = none.put_faults;
-      puts = none.puts;
-      since = λ t c le left. inl left;
-      past = λ t c le left. left;
-      timed = timed_untold new;
-    }
-
-pub quiet_untold : (old new : Counts) → NoneFell old new → IsQuiet (untold old) (untold new)
-quiet_untold old new none =
-    record {
-      passes = passes_untold old new none;
-      shown = refl;
-      stops = λ honest c left. left;
-    }
-
-pub image_untold : (counts : Counts) → ShowsOne (untold counts)
-image_untold counts honest = absurd (false≢true honest)
+pub timed_untold : (counts : Counts) → IsTimed (untold counts)
+timed_untold counts = timed_without_stops false false (record { a = []; b = []; output = [] }) counts

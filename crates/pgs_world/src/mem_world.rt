@@ -1,10 +1,9 @@
 ghost use Rattle.std.specs.Prelude.{◌≡◌, ◌+◌, ◌≤◌, ◌^◌, [], not, length, take, drop, min, is_some, is_err, Some, IfSome, IfOk, OnOk, OnErr, IsTrue};
 ghost use Rattle.pgs_world.specs.Calls.{Reaches, HasLength, HasBytes, IsWrittenOver, IsCutTo, IsAreaCall, IsPutCall};
-ghost use Rattle.pgs_world.specs.Count.{Rose, RoseByOne};
-ghost use Rattle.pgs_world.specs.Disk.{written_over, IsSameBeside, Writes, Cuts, Puts};
+ghost use Rattle.pgs_world.specs.Disk.{IsSameBeside, Writes, Cuts, Puts};
 ghost use Rattle.pgs_world.specs.Left.{left_of};
 ghost use Rattle.pgs_world.specs.MemWorld.{IsKnown, view_of, area_of, begun, fails_next, refuses, len_fails, write_fails, after_read, after_write_at, after_cut_to, after_sync, after_put};
-ghost use Rattle.pgs_world.specs.Moment.{Passes, StopsBy, IsQuiet, ShowsOne, IsSynced, IsSettled, MakesNoPut};
+ghost use Rattle.pgs_world.specs.Moment.{Passes, StopsBy, IsQuiet, IsSynced, IsSettled};
 ghost use Rattle.pgs_world.specs.World.{output_of, part, Adds, AddsFront};
 
 use crate::area_limit::passes_limit;

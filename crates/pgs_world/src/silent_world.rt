@@ -1,10 +1,10 @@
-ghost use Rattle.std.specs.Prelude.{◌≡◌, ◌+◌, ◌≤◌, ◌^◌, false, length, take, drop, is_err, IsTrue, IfOk, OnOk, OnErr};
+ghost use Rattle.std.specs.Prelude.{◌≡◌, ◌+◌, ◌≤◌, ◌^◌, false, length, is_err, IfOk, OnOk, OnErr};
 ghost use Rattle.pgs_world.specs.Calls.{Reaches, HasLength, HasBytes, IsWrittenOver, IsCutTo, IsAreaCall, IsPutCall};
 ghost use Rattle.pgs_world.specs.Count.{Rose, RoseByOne};
-ghost use Rattle.pgs_world.specs.Disk.{written_over, IsSameBeside, Writes, Cuts, Puts};
-ghost use Rattle.pgs_world.specs.Moment.{Passes, StopsBy, IsQuiet, ShowsOne, IsSynced, MakesNoPut};
+ghost use Rattle.pgs_world.specs.Disk.{IsSameBeside, Writes, Cuts, Puts};
+ghost use Rattle.pgs_world.specs.Moment.{Passes, StopsBy, IsQuiet, IsSynced};
 ghost use Rattle.pgs_world.specs.Silent.{silent_view, put_fails, area_fails, is_outside, after_area_call, after_put};
-ghost use Rattle.pgs_world.specs.World.{output_of, part, Adds, AddsFront};
+ghost use Rattle.pgs_world.specs.World.{output_of, Adds, AddsFront};
 
 use crate::{Area, AreaFault, PutFault, World};
 use pgs_base::List;

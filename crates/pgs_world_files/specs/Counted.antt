@@ -3,7 +3,9 @@
 use Rattle.std.specs.Prelude.{ℕ, Bool, true, false, List, [], Option, Some, None}
 use Rattle.std.specs.Option.{unwrap_or}
 use Rattle.pgs_world.specs.Moment.{IsTimed}
-use Rattle.pgs_world.specs.World.{View}
+use Rattle.pgs_world.specs.Untold.{without_stops, timed_without_stops}
+use Rattle.pgs_world.specs.Untold.{Counts as UntoldCounts}
+use Rattle.pgs_world.specs.World.{Triple, View}
 use Rattle.pgs_world_files.specs.declared.area_files.AreaFiles.{AreaFiles}
 use Rattle.pgs_world_files.specs.declared.counts.Counts.{Counts}
 use Rattle.pgs_world_files.specs.declared.file_world.FileWorld.{FileWorld}
@@ -22,20 +24,15 @@ bytes_in false contents handle = []
 abbrev pub bytes_of : {H : Type 0} → Bool → (H → List ℕ) → AreaFiles H → Bytes
 bytes_of tells contents areas = record { a = bytes_in tells contents areas.a.handle; b = bytes_in tells contents areas.b.handle }
 
+abbrev pub shown_of : Bytes → Option (List ℕ) → Triple
+shown_of bytes contents = record { a = bytes.a; b = bytes.b; output = unwrap_or contents [] }
+
+abbrev pub counts_of : Counts → UntoldCounts
+counts_of counts = record { calls = counts.calls; area_faults = counts.area_faults; put_faults = counts.put_faults; puts = counts.puts }
+
 abbrev pub view_of : (tells_bytes : Bool) → Bytes → (tells_output : Bool) → Option (List ℕ) → Counts → View
 view_of tells_bytes bytes tells_output contents counts =
-    record {
-      honest = false;
-      tells_bytes = tells_bytes;
-      tells_output = tells_output;
-      shown = record { a = bytes.a; b = bytes.b; output = unwrap_or contents [] };
-      moment = counts.calls;
-      area_faults = counts.area_faults;
-      put_faults = counts.put_faults;
-      puts = counts.puts;
-      may_leave = λ _. ⊥;
-      left_since = λ _ _. ⊥;
-    }
+    without_stops tells_bytes tells_output (shown_of bytes contents) (counts_of counts)
 
 -- the same, by what the writer and the files tell
 abbrev pub seen : {W H : Type 0} → Bool → (W → Option (List ℕ)) → Bool → (H → List ℕ) → FileWorld W H → View
@@ -45,12 +42,7 @@ seen tells_output contents tells_bytes bytes world =
 pub timed_view : (tells_bytes : Bool) (bytes : Bytes) (tells_output : Bool) (contents : Option (List ℕ)) (counts : Counts)
     → IsTimed (view_of tells_bytes bytes tells_output contents counts)
 timed_view tells_bytes bytes tells_output contents counts =
-    record {
-      now = λ t c le left. left;
-      only_now = λ c left. left;
-      earlier = λ t u c le left. left;
-      output = λ honest _ c left. absurd left;
-    }
+    timed_without_stops tells_bytes tells_output (shown_of bytes contents) (counts_of counts)
 
 -- the bytes of a feed into a file aren't told
 abbrev pub untold_bytes : Option (List ℕ)

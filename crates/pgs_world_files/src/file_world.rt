@@ -1,10 +1,10 @@
-ghost use Rattle.std.specs.Prelude.{◌≡◌, ◌+◌, ◌^◌, ◌≤◌, length, take, drop, IsTrue, IfOk, OnOk, OnErr};
+ghost use Rattle.std.specs.Prelude.{◌≡◌, ◌+◌, ◌^◌, ◌≤◌, length, IfOk, OnOk, OnErr};
 ghost use Rattle.std.specs.Io.KnownBytes.{Appends};
 ghost use Rattle.pgs_world.specs.Calls.{Reaches, HasLength, HasBytes, IsWrittenOver, IsCutTo, IsAreaCall, IsPutCall};
-ghost use Rattle.pgs_world.specs.Count.{Rose, RoseByOne, raised};
-ghost use Rattle.pgs_world.specs.Disk.{written_over, IsSameBeside, Writes, Cuts, Puts};
-ghost use Rattle.pgs_world.specs.Moment.{Passes, StopsBy, IsQuiet, ShowsOne, IsSynced, MakesNoPut};
-ghost use Rattle.pgs_world.specs.World.{output_of, part, other, Adds, AddsFront};
+ghost use Rattle.pgs_world.specs.Count.{Rose, raised};
+ghost use Rattle.pgs_world.specs.Disk.{IsSameBeside, Writes, Cuts, Puts};
+ghost use Rattle.pgs_world.specs.Moment.{Passes, StopsBy, IsQuiet, IsSynced};
+ghost use Rattle.pgs_world.specs.World.{output_of, other, Adds, AddsFront};
 ghost use Rattle.pgs_world_files.specs.Counted.{seen};
 ghost use Rattle.pgs_world_files.specs.Handles.{LengthIs, ReadIs, WriteIs, CallIs, IfOpen, handle_in};
 ghost use Rattle.pgs_world_streams.specs.Pieces.{AppendsFront, PutIs};
