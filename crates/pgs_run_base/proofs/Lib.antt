@@ -2,6 +2,7 @@ pub mod Failing
 pub mod Following
 pub mod Images
 pub mod Joining
+pub mod OwnEnds
 pub mod ReadLines
 pub mod Replied
 pub mod SameFronts

@@ -50,9 +50,8 @@ pub fn run_contain<S: Source, W: World>(
     ensures last { fails_world result ≡ true → W.failed world.new }
     ensures calls { Reads S.read_made budget source.old (fails_read result) source.new }
 {
-    let mut comparing = Telling {
-        teller: Comparing::new(alloc),
-    };
+    let teller = Comparing::new(alloc);
+    let mut comparing = Telling { teller };
     let stop = run_lines(&mut comparing, alloc, source, world, TEXT_LIMIT, budget);
     end_run(alloc, world, stop)
 }

@@ -46,9 +46,8 @@ fn run_words<S: Source, W: World>(
     if !asks_run(words) {
         return refuse_words(alloc, world);
     }
-    let mut taking = Telling {
-        teller: Taking::new(alloc, world.seed()),
-    };
+    let teller = Taking::new(alloc, world.seed());
+    let mut taking = Telling { teller };
     let stop = run_lines(&mut taking, alloc, source, world, LINE_LIMIT, budget);
     status_at(stop)
 }

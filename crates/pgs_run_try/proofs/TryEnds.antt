@@ -10,7 +10,7 @@ use Rattle.pgs_run_lines.specs.Machine.{Told, Ended, told_by}
 use Rattle.pgs_run_lines.specs.May.{MayCome}
 use Rattle.pgs_run_lines.specs.Pieces.{Shown, ShowsAll}
 use Rattle.pgs_run_lines.specs.Run as over
-use Rattle.pgs_run_lines.specs.Run.{EndsBy, EndsAtLine, EndsAtEnd, EndsAtCut}
+use Rattle.pgs_run_lines.specs.Run.{EndsBy}
 use Rattle.pgs_run_lines.proofs.RunEnds.{taken_length}
 use Rattle.pgs_syntax.specs.declared.resolved.Resolved.{Resolved}
 use Rattle.pgs_violation.specs.declared.violation.Violation.{Violation}
@@ -24,6 +24,7 @@ use Rattle.pgs_run_base.specs.Ending.{Ends, status_at}
 use Rattle.pgs_run_lines.specs.Input.{lines_of}
 use Rattle.pgs_run_base.specs.Input.{text_limit, schema_part, after_separator}
 use Rattle.pgs_run_base.specs.Run.{IsRead, EndsAs, HasCommandCause}
+use Rattle.pgs_run_base.proofs.OwnEnds.{IsDone, EndsAlone, not_done, ends_alone, read_alone, cause_alone, fails_alone}
 use Rattle.pgs_run_base.specs.Answers.{schema_answer}
 use Rattle.pgs_run_base.specs.Session.{Standing, after_lines}
 use Rattle.pgs_run_try.specs.declared.judging.Judging.{Judging}
@@ -33,10 +34,6 @@ use Rattle.pgs_run_try.specs.Trying.{trying, first_phase, next_of, after_end, to
 use Rattle.pgs_run_try.proofs.Machine.{told_by_judging}
 
 -- ---- the statuses of the machine's own
-
--- the statuses after an input that was read to its end
-abbrev pub IsDone : Status → Type 0
-IsDone status = (status ≡ Accepted) ⊎ ((status ≡ Refused) ⊎ (status ≡ SchemaRefused))
 
 line_status : (phase : Phase) (status : Status) → next_of phase ≡ Ended status → status ≡ SchemaRefused
 line_status (phases.Schema judging part) status is = cc
@@ -61,127 +58,30 @@ done_after (phases.Schema judging part) = done_schema judging (schema_answer par
 done_after (phases.Lines s) = done_end s.judging s.schema s.standing
 done_after phases.Refused = inr (inr refl)
 
--- an end of the machine's own: a refused schema, the end of the input, or the end of the budget
-abbrev pub IsOwn : ℕ → Option (List ℕ) → Option (List ℕ) → Status → Type 0
-IsOwn budget before left status = (status ≡ SchemaRefused) ⊎ ((IsDone status × IsAtEnd left) ⊎ ((status ≡ InputTooLong) × EndsAtCut trying budget before left status))
-
-own_of : (budget : ℕ) (before left : Option (List ℕ)) (status : Status) → EndsAtLine trying status ⊎ (EndsAtEnd trying left status ⊎ EndsAtCut trying budget before left status) → IsOwn budget before left status
-own_of budget before left status (inl line) = inl (line_status (after_end line.state line.line) status line.is)
-own_of budget before left status (inr (inl end)) = inr (inl (subst IsDone end.is (done_after (after_end end.state end.rest)), end.at_end))
-own_of budget before left status (inr (inr cut)) = inr (inr (sym cut.is, cut))
-
--- ---- what is shown
-
-own_shown : (start now : Shown) (told : Told Status) (status so : Status) → status ≡ so → Ends start told so now → Ends start told status now
-own_shown start now told status so is ends = subst (λ s. Ends start told s now) (sym is) ends
-
-done_shown : (start now : Shown) (told : Told Status) (status : Status) → IsDone status → ShowsAll start told.pieces now × (told.status ≡ status) → Ends start told status now
-done_shown start now told status (inl is) ends = own_shown start now told status Accepted is (ends.0, ends.1 ∙ is)
-done_shown start now told status (inr (inl is)) ends = own_shown start now told status Refused is (ends.0, ends.1 ∙ is)
-done_shown start now told status (inr (inr is)) ends = own_shown start now told status SchemaRefused is (ends.0, ends.1 ∙ is)
-
-ended_shown : (start now : Shown) (told : Told Status) (budget : ℕ) (before left : Option (List ℕ)) (status : Status) → IsOwn budget before left status → ShowsAll start told.pieces now × (told.status ≡ status) → Ends start told status now
-ended_shown start now told budget before left status (inl is) ends = own_shown start now told status SchemaRefused is (ends.0, ends.1 ∙ is)
-ended_shown start now told budget before left status (inr (inl done)) ends = done_shown start now told status done.0 ends
-ended_shown start now told budget before left status (inr (inr cut)) ends = own_shown start now told status InputTooLong cut.0 (ends.0, ends.1 ∙ cut.0)
-
-shown_at : (start now : Shown) (told : Told Status) (budget : ℕ) (before left : Option (List ℕ)) (stop : Stop Status) → EndsBy trying budget before left stop → lines.Ends start told stop now → Ends start told (status_at stop) now
-shown_at start now told budget before left (stops.Ended status) by ends = ended_shown start now told budget before left status (own_of budget before left status by) ends
-shown_at start now told budget before left stops.ReadFault by ends = ends
-shown_at start now told budget before left stops.AreaFault by ends = ends
-shown_at start now told budget before left stops.PutFault by ends = ends
-shown_at start now told budget before left stops.Memory by ends = ends
-
--- ---- when the budget is spent
-
-not_done : (status : Status) → IsDone status → status ≡ InputTooLong → ⊥
-not_done status (inl is) cut = cc
-not_done status (inr (inl is)) cut = cc
-not_done status (inr (inr is)) cut = cc
-
-cut_length : (input rest : List ℕ) (budget : ℕ) (before left : Option (List ℕ)) (status : Status) → before ≡ Some input → left ≡ Some rest → IsOwn budget before left status → status ≡ InputTooLong → length input ≡ budget + length rest
-cut_length input rest budget before left status is left_is (inl refused) cut = let no : SchemaRefused ≡ InputTooLong = sym refused ∙ cut in cc
-cut_length input rest budget before left status is left_is (inr (inl done)) cut = absurd (not_done status done.0 cut)
-cut_length input rest budget before left status is left_is (inr (inr own)) cut =
-    taken_length input rest own.1.bytes before left is own.1.taken left_is ∙ ap (λ n. n + length rest) own.1.full
-
-too_long_at : (input rest : List ℕ) (budget : ℕ) (before left : Option (List ℕ)) (stop : Stop Status) → before ≡ Some input → left ≡ Some rest → EndsBy trying budget before left stop → status_at stop ≡ InputTooLong → length input ≡ budget + length rest
-too_long_at input rest budget before left (stops.Ended status) is left_is by cut = cut_length input rest budget before left status is left_is (own_of budget before left status by) cut
-too_long_at input rest budget before left stops.ReadFault is left_is by cut = cc
-too_long_at input rest budget before left stops.AreaFault is left_is by cut = cc
-too_long_at input rest budget before left stops.PutFault is left_is by cut = cc
-too_long_at input rest budget before left stops.Memory is left_is by cut = cc
-
-own_fault : (budget : ℕ) (before left : Option (List ℕ)) (status : Status) → IsOwn budget before left status → status ≡ ReadFault → ⊥
-own_fault budget before left status (inl is) fault = cc
-own_fault budget before left status (inr (inl (inl is, end))) fault = cc
-own_fault budget before left status (inr (inl (inr (inl is), end))) fault = cc
-own_fault budget before left status (inr (inl (inr (inr is), end))) fault = cc
-own_fault budget before left status (inr (inr (is, cut))) fault = cc
-
-fault_at : (budget : ℕ) (before left : Option (List ℕ)) (stop : Stop Status) → EndsBy trying budget before left stop → status_at stop ≡ ReadFault → stop ≡ stops.ReadFault
-fault_at budget before left (stops.Ended status) by fault = absurd (own_fault budget before left status (own_of budget before left status by) fault)
-fault_at budget before left stops.ReadFault by fault = refl
-fault_at budget before left stops.AreaFault by fault = cc
-fault_at budget before left stops.PutFault by fault = cc
-fault_at budget before left stops.Memory by fault = cc
+alone : EndsAlone trying
+alone = record {
+  line = λ phase line status is. line_status (after_end phase line) status is;
+  rest = λ phase rest. done_after (after_end phase rest);
+  cut = λ phase. refl;
+  no_area = λ may. may;
+}
 
 -- ---- the run
 
-pub try_ends : (judging : Judging) (start now : Shown) (input : List ℕ) (budget : ℕ) (before left : Option (List ℕ)) (phase : Phase) (stop : Stop Status) (status : Status) → before ≡ Some input → phase ≡ first_phase judging → status ≡ status_at stop → EndsBy trying budget before left stop → over.EndsAs (told_by trying text_limit phase input) start input budget left stop now → EndsAs (told_judging judging input) start input budget left status now
-try_ends judging start now input budget before left phase stop status is first same by ends = record {
-  shown = subst (λ s. Ends start (told_judging judging input budget) s now) (sym same) (shown_at start now (told_judging judging input budget) budget before left stop by (subst (λ (t : Told Status). lines.Ends start t stop now) (tells budget) ends.shown));
-  read_fault = λ rest left_is fault. subst (λ (t : Told Status). ShowsAll start t.pieces now) (tells (length input - length rest)) (ends.read_fault rest left_is (fault_at budget before left stop by (sym same ∙ fault)));
-  within = ends.within;
-  too_long = λ rest left_is cut. too_long_at input rest budget before left stop is left_is by (sym same ∙ cut);
-}
-  where
-    tells : (n : ℕ) → told_by trying text_limit phase input n ≡ told_judging judging input n
-    tells n = ap (λ p. told_by trying text_limit p input n) first ∙ told_by_judging judging input n
-
-read_any : (left : Option (List ℕ)) (status : Status) → IsAtEnd left → IsRead left status
-read_any left Accepted end = end
-read_any left Refused end = end
-read_any left BadWords end = tt
-read_any left SchemaRefused end = tt
-read_any left StoreRefused end = tt
-read_any left DiskFault end = tt
-read_any left ReadFault end = tt
-read_any left PutFault end = tt
-read_any left Memory end = tt
-read_any left InputTooLong end = tt
-
-own_read : (budget : ℕ) (before left : Option (List ℕ)) (status : Status) → IsOwn budget before left status → IsRead left status
-own_read budget before left status (inl is) = subst (IsRead left) (sym is) tt
-own_read budget before left status (inr (inl done)) = read_any left status done.1
-own_read budget before left status (inr (inr cut)) = subst (IsRead left) (sym cut.0) tt
-
-read_at : (budget : ℕ) (before left : Option (List ℕ)) (stop : Stop Status) → EndsBy trying budget before left stop → IsRead left (status_at stop)
-read_at budget before left (stops.Ended status) by = own_read budget before left status (own_of budget before left status by)
-read_at budget before left stops.ReadFault by = tt
-read_at budget before left stops.AreaFault by = tt
-read_at budget before left stops.PutFault by = tt
-read_at budget before left stops.Memory by = tt
+pub try_ends : (judging : Judging) (start now : Shown) (input : List ℕ) (budget : ℕ) (before left : Option (List ℕ)) (phase : Phase) (stop : Stop Status) (status : Status) → before ≡ Some input → phase ≡ first_phase judging → status ≡ status_at stop → EndsBy trying budget before left stop
+    → over.EndsAs (told_by trying text_limit phase input) start input budget left stop now → EndsAs (told_judging judging input) start input budget left status now
+try_ends judging start now input budget before left phase stop status is first same by ends =
+    ends_alone trying alone budget before left (told_by trying text_limit phase input) (told_judging judging input)
+    (λ n. ap (λ p. told_by trying text_limit p input n) first ∙ told_by_judging judging input n) start now input stop status is same by ends
 
 pub try_read : (budget : ℕ) (before left : Option (List ℕ)) (stop : Stop Status) (status : Status) → status ≡ status_at stop → EndsBy trying budget before left stop → IsRead left status
-try_read budget before left stop status same by = subst (IsRead left) (sym same) (read_at budget before left stop by)
-
-own_cause : (old new : Faults) (budget : ℕ) (before left : Option (List ℕ)) (status : Status) → IsOwn budget before left status → new ≡ old → HasCommandCause true false old new status
-own_cause old new budget before left status (inl is) same = subst (HasCommandCause true false old new) (sym is) same
-own_cause old new budget before left status (inr (inl (inl is, end))) same = subst (HasCommandCause true false old new) (sym is) same
-own_cause old new budget before left status (inr (inl (inr (inl is), end))) same = subst (HasCommandCause true false old new) (sym is) same
-own_cause old new budget before left status (inr (inl (inr (inr is), end))) same = subst (HasCommandCause true false old new) (sym is) same
-own_cause old new budget before left status (inr (inr (is, cut))) same = subst (HasCommandCause true false old new) (sym is) same
-
-cause_at : (old new : Faults) (budget : ℕ) (before left : Option (List ℕ)) (stop : Stop Status) → EndsBy trying budget before left stop → MayCome trying stop → HasCause old new stop → HasCommandCause true false old new (status_at stop)
-cause_at old new budget before left (stops.Ended status) by may cause = own_cause old new budget before left status (own_of budget before left status by) cause
-cause_at old new budget before left stops.ReadFault by may cause = (refl, cause)
-cause_at old new budget before left stops.AreaFault by may cause = absurd may
-cause_at old new budget before left stops.PutFault by may cause = cause
-cause_at old new budget before left stops.Memory by may cause = cause
+try_read budget before left = read_alone trying alone budget before left
 
 pub try_cause : (old new : Faults) (budget : ℕ) (before left : Option (List ℕ)) (stop : Stop Status) (status : Status) → status ≡ status_at stop → EndsBy trying budget before left stop → MayCome trying stop → HasCause old new stop → HasCommandCause true false old new status
-try_cause old new budget before left stop status same by may cause = subst (HasCommandCause true false old new) (sym same) (cause_at old new budget before left stop by may cause)
+try_cause old new budget before left = cause_alone trying alone budget before left old new
+
+pub try_fails : (budget : ℕ) (before left : Option (List ℕ)) (stop : Stop Status) (status : Status) → status ≡ status_at stop → EndsBy trying budget before left stop → (fails_read status ≡ is_of_source stop) × (fails_world status ≡ is_of_world stop)
+try_fails budget before left = fails_alone trying alone budget before left
 
 -- ---- an input that isn't cut
 
@@ -197,21 +97,3 @@ done_whole judging input =
 pub never_cut : (judging : Judging) (input : List ℕ) (budget : ℕ) → length input < budget → (told_judging judging input budget).status ≡ InputTooLong → ⊥
 never_cut judging input budget short =
     not_done (told_judging judging input budget).status (subst (λ (t : Told Status). IsDone t.status) (sym (whole_below judging input budget short)) (done_whole judging input))
-
--- ---- which calls failed
-
-own_fails : (budget : ℕ) (before left : Option (List ℕ)) (status : Status) → IsOwn budget before left status → (fails_read status ≡ false) × (fails_world status ≡ false)
-own_fails budget before left status (inl is) = (ap fails_read is, ap fails_world is)
-own_fails budget before left status (inr (inl (inl is, end))) = (ap fails_read is, ap fails_world is)
-own_fails budget before left status (inr (inl (inr (inl is), end))) = (ap fails_read is, ap fails_world is)
-own_fails budget before left status (inr (inl (inr (inr is), end))) = (ap fails_read is, ap fails_world is)
-own_fails budget before left status (inr (inr (is, cut))) = (ap fails_read is, ap fails_world is)
-
--- the status says that a call failed exactly where one stopped the run over lines
-pub try_fails : (budget : ℕ) (before left : Option (List ℕ)) (stop : Stop Status) (status : Status) → status ≡ status_at stop → EndsBy trying budget before left stop → (fails_read status ≡ is_of_source stop) × (fails_world status ≡ is_of_world stop)
-try_fails budget before left (stops.Ended own) status same by =
-    let none = own_fails budget before left own (own_of budget before left own by) in (ap fails_read same ∙ none.0, ap fails_world same ∙ none.1)
-try_fails budget before left stops.ReadFault status same by = (ap fails_read same, ap fails_world same)
-try_fails budget before left stops.AreaFault status same by = (ap fails_read same, ap fails_world same)
-try_fails budget before left stops.PutFault status same by = (ap fails_read same, ap fails_world same)
-try_fails budget before left stops.Memory status same by = (ap fails_read same, ap fails_world same)

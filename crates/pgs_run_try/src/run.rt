@@ -32,9 +32,8 @@ pub fn run_judging<S: Source, W: World>(
     ensures last { fails_world result ≡ true → W.failed world.new }
     ensures calls { Reads S.read_made budget source.old (fails_read result) source.new }
 {
-    let mut trying = Telling {
-        teller: Trying::new(alloc, judging, world.seed()),
-    };
+    let teller = Trying::new(alloc, judging, world.seed());
+    let mut trying = Telling { teller };
     let stop = run_lines(&mut trying, alloc, source, world, TEXT_LIMIT, budget);
     status_at(stop)
 }

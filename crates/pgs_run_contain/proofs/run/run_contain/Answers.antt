@@ -5,8 +5,8 @@ use Rattle.pgs_run_contain.proofs.run.run_contain.Goals as goal
 pub returns-clause-ends : goal.returns-clause-ends
 returns-clause-ends g c = λ input is.
     let view = g.W.World.view in
-    contain_ends (shown_of (view c.args.world.now)) (view c.run_lines-stop.new.world) (view c.end_run.new.world) input c.args.budget _ _ c.new.result.phase c.run_lines-stop.result c.end_run.result is
-    c.new.ensures c.run_lines-stop.ensures.by (c.run_lines-stop.ensures.ends input is) c.end_run.ensures.ends
+    contain_ends (shown_of (view c.args.world.now)) (view c.run_lines-stop.new.world) (view c.end_run.new.world) input c.args.budget _ _ c.new-teller.result.phase c.run_lines-stop.result c.end_run.result is
+    c.new-teller.ensures c.run_lines-stop.ensures.by (c.run_lines-stop.ensures.ends input is) c.end_run.ensures.ends
 
 pub returns-clause-read_to_end : goal.returns-clause-read_to_end
 returns-clause-read_to_end g c =

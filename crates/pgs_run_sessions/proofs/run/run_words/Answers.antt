@@ -23,7 +23,7 @@ returns-clause-answer g c =
     let budget = c.args.budget in
     let stop = c.run_lines-stop in
     promised c.args.words.now (sym c.asks_run.ensures ∙ c.if-not-asks_run.false) budget _ _ c.status_at.result
-    (λ input is. run_ends (shown_of (g.W.World.view c.args.world.now)) _ input budget _ _ (stand_of c.new.result.phase) stop.result c.status_at.result is c.new.ensures c.status_at.ensures stop.ensures.by (stop.ensures.ends input is))
+    (λ input is. run_ends (shown_of (g.W.World.view c.args.world.now)) _ input budget _ _ (stand_of c.new-teller.result.phase) stop.result c.status_at.result is c.new-teller.ensures c.status_at.ensures stop.ensures.by (stop.ensures.ends input is))
     (run_read budget _ _ stop.result c.status_at.result c.status_at.ensures stop.ensures.by)
     (run_cause _ _ budget _ _ stop.result c.status_at.result c.status_at.ensures stop.ensures.by stop.ensures.may stop.ensures.cause)
     stop.ensures.allows.allowed
