@@ -1,3 +1,4 @@
+pub mod Apart
 pub mod ByNumber
 pub mod Costs
 pub mod Entered

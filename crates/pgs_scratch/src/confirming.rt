@@ -9,16 +9,17 @@ ghost use Rattle.pgs_match.specs.Near.{HasDegreesWithin};
 ghost use Rattle.pgs_match.specs.Planned.{HaveEdgesWithin, most_edges};
 ghost use Rattle.pgs_violation.specs.Standing.{key_of};
 ghost use Rattle.pgs_violation.specs.Violations.{exclusive_violation, shared_tuple, violations};
-ghost use Rattle.pgs_scratch.specs.Confirmed.{key_numbered, row_in_scope, missing_at, several_at, shared_at, count_at, key_violation_at, violation_at, sharing_if_later};
+ghost use Rattle.pgs_scratch.specs.Confirmed.{key_numbered, missing_at, several_at, shared_at, count_at, key_violation_at, violation_at, sharing_if_later};
 ghost use Rattle.pgs_scratch.specs.Rows.{shared_value};
 
 use crate::key_row::KeyRow;
+use crate::key_search::KeySearch;
 use crate::row_violations::{count_of_row, missing_value, several_values};
 use crate::untyped::{untyped_edge, untyped_node};
 use pgs_base::{Copyable, Elem, List, Memory, Steps, Tuple, TupleSet};
 use pgs_conform::Compiled;
 use pgs_graph::GraphRead;
-use pgs_match::{PlannedKey, each_x, in_scope, key_values};
+use pgs_match::{PlannedKey, each_x};
 use pgs_violation::Violation;
 use std::alloc::Global;
 use std::sync::ledger::Ledger;
@@ -63,221 +64,155 @@ fn shared_value(
     }
 }
 
-// The row of an element, where the key asks for it and the element is in its scope.
-fn row_in_scope<G: GraphRead, L: Ledger>(
-    alloc: Global,
-    graph: &G,
-    compiled: &Compiled,
-    asked: bool,
-    key: &PlannedKey,
-    elem: Elem,
-    steps: &mut Steps<L>,
-) -> Result<Option<KeyRow>, Memory>
-    requires { is_valid_key_of compiled.now key.now ≡ true }
-    ensures row { IfOk result (λ row. row ≡ row_in_scope compiled.now (G.meaning graph.now) asked elem key.now) }
-    ensures no_step_back { steps.old ≤ steps.new }
-    ensures cost { (most : ℕ) → HasDegreesWithin (G.meaning graph.now) most →
-        steps.new ≤ steps.old + 32 * (most + 2) ^ (most_edges key.now + 1) }
-{
-    if !asked {
-        return Ok(None);
+impl<'a, G: GraphRead> KeySearch<'a, G> {
+    // 27 for an element, where the key asks for it and the element is in its scope.
+    fn missing_at<L: Ledger>(
+        &self,
+        elem: Elem,
+        steps: &mut Steps<L>,
+    ) -> Result<Option<Violation>, Memory>
+        requires { is_valid_key_of self.now.compiled.now self.now.key.now ≡ true }
+        ensures found { IfOk result (λ found. found ≡ missing_at self.now.compiled.now (G.meaning self.now.graph.now) self.now.number elem self.now.key.now) }
+        ensures no_step_back { steps.old ≤ steps.new }
+        ensures cost { (most : ℕ) → HasDegreesWithin (G.meaning self.now.graph.now) most →
+            steps.new ≤ steps.old + 32 * (most + 2) ^ (most_edges self.now.key.now + 1) }
+    {
+        let asked = self.key.key().qualifiers.mandatory;
+        match self.row_in_scope(asked, elem, steps)? {
+            Some(row) => Ok(missing_value(self.number, &row)),
+            None => Ok(None),
+        }
     }
-    if !in_scope(graph, compiled, key, elem, steps) {
-        return Ok(None);
-    }
-    let tuples = key_values(alloc, graph, compiled, key, elem, steps)?;
-    Ok(Some(KeyRow { elem, tuples }))
-}
 
-// 27 for an element, where the key asks for it and the element is in its scope.
-fn missing_at<G: GraphRead, L: Ledger>(
-    alloc: Global,
-    graph: &G,
-    compiled: &Compiled,
-    number: u32,
-    key: &PlannedKey,
-    elem: Elem,
-    steps: &mut Steps<L>,
-) -> Result<Option<Violation>, Memory>
-    requires { is_valid_key_of compiled.now key.now ≡ true }
-    ensures found { IfOk result (λ found. found ≡ missing_at compiled.now (G.meaning graph.now) number elem key.now) }
-    ensures no_step_back { steps.old ≤ steps.new }
-    ensures cost { (most : ℕ) → HasDegreesWithin (G.meaning graph.now) most →
-        steps.new ≤ steps.old + 32 * (most + 2) ^ (most_edges key.now + 1) }
-{
-    let asked = key.key().qualifiers.mandatory;
-    match row_in_scope(alloc, graph, compiled, asked, key, elem, steps)? {
-        Some(row) => Ok(missing_value(number, &row)),
-        None => Ok(None),
+    // 28 for an element, where the key asks for it and the element is in its scope.
+    fn several_at<L: Ledger>(
+        &self,
+        elem: Elem,
+        steps: &mut Steps<L>,
+    ) -> Result<Option<Violation>, Memory>
+        requires { is_valid_key_of self.now.compiled.now self.now.key.now ≡ true }
+        ensures found { IfOk result (λ found. found ≡ several_at self.now.compiled.now (G.meaning self.now.graph.now) self.now.number elem self.now.key.now) }
+        ensures no_step_back { steps.old ≤ steps.new }
+        ensures cost { (most : ℕ) → HasDegreesWithin (G.meaning self.now.graph.now) most →
+            steps.new ≤ steps.old + 32 * (most + 2) ^ (most_edges self.now.key.now + 1) }
+    {
+        let asked = self.key.key().qualifiers.singleton;
+        match self.row_in_scope(asked, elem, steps)? {
+            Some(row) => several_values(self.alloc, self.number, &row),
+            None => Ok(None),
+        }
     }
-}
 
-// 28 for an element, where the key asks for it and the element is in its scope.
-fn several_at<G: GraphRead, L: Ledger>(
-    alloc: Global,
-    graph: &G,
-    compiled: &Compiled,
-    number: u32,
-    key: &PlannedKey,
-    elem: Elem,
-    steps: &mut Steps<L>,
-) -> Result<Option<Violation>, Memory>
-    requires { is_valid_key_of compiled.now key.now ≡ true }
-    ensures found { IfOk result (λ found. found ≡ several_at compiled.now (G.meaning graph.now) number elem key.now) }
-    ensures no_step_back { steps.old ≤ steps.new }
-    ensures cost { (most : ℕ) → HasDegreesWithin (G.meaning graph.now) most →
-        steps.new ≤ steps.old + 32 * (most + 2) ^ (most_edges key.now + 1) }
-{
-    let asked = key.key().qualifiers.singleton;
-    match row_in_scope(alloc, graph, compiled, asked, key, elem, steps)? {
-        Some(row) => several_values(alloc, number, &row),
-        None => Ok(None),
+    // The violation that a row makes with an element, where the element comes later and shares a key value.
+    fn sharing_if_later<L: Ledger>(
+        &self,
+        row: &KeyRow,
+        other: Elem,
+        steps: &mut Steps<L>,
+    ) -> Result<Option<Violation>, Memory>
+        requires typed { is_valid_key_of self.now.compiled.now self.now.key.now ≡ true }
+        requires values { row.now.tuples ≡ key_values self.now.compiled.now (G.meaning self.now.graph.now) self.now.key.now row.now.elem }
+        ensures found { IfOk result (λ found.
+            found ≡ sharing_if_later self.now.number (key_values self.now.compiled.now (G.meaning self.now.graph.now) self.now.key.now) row.now.elem other) }
+        ensures no_step_back { steps.old ≤ steps.new }
+        ensures cost { (most : ℕ) → HasDegreesWithin (G.meaning self.now.graph.now) most →
+            steps.new ≤ steps.old + 16 * (most + 2) ^ (most_edges self.now.key.now + 1) }
+    {
+        if row.elem < other {
+            let later = self.row(other, steps)?;
+            shared_value(self.alloc, self.number, row, &later)
+        } else {
+            Ok(None)
+        }
     }
-}
 
-// The violation that a row makes with an element, where the element comes later and shares a key value.
-fn sharing_if_later<G: GraphRead, L: Ledger>(
-    alloc: Global,
-    graph: &G,
-    compiled: &Compiled,
-    number: u32,
-    key: &PlannedKey,
-    row: &KeyRow,
-    other: Elem,
-    steps: &mut Steps<L>,
-) -> Result<Option<Violation>, Memory>
-    requires typed { is_valid_key_of compiled.now key.now ≡ true }
-    requires values { row.now.tuples ≡ key_values compiled.now (G.meaning graph.now) key.now row.now.elem }
-    ensures found { IfOk result (λ found.
-        found ≡ sharing_if_later number (key_values compiled.now (G.meaning graph.now) key.now) row.now.elem other) }
-    ensures no_step_back { steps.old ≤ steps.new }
-    ensures cost { (most : ℕ) → HasDegreesWithin (G.meaning graph.now) most →
-        steps.new ≤ steps.old + 16 * (most + 2) ^ (most_edges key.now + 1) }
-{
-    if row.elem < other {
-        let tuples = key_values(alloc, graph, compiled, key, other, steps)?;
-        let later = KeyRow {
-            elem: other,
-            tuples,
-        };
-        shared_value(alloc, number, row, &later)
-    } else {
+    // 29 for a row of a key, by the first later element of the scope that shares a key value with it.
+    fn first_sharer<L: Ledger>(
+        &self,
+        row: &KeyRow,
+        steps: &mut Steps<L>,
+    ) -> Result<Option<Violation>, Memory>
+        requires typed { is_valid_key_of self.now.compiled.now self.now.key.now ≡ true }
+        requires values { row.now.tuples ≡ key_values self.now.compiled.now (G.meaning self.now.graph.now) self.now.key.now row.now.elem }
+        ensures found { IfOk result (λ found. found ≡ exclusive_violation self.now.number
+            (scope_of self.now.compiled.now (G.meaning self.now.graph.now) self.now.key.now)
+            (key_values self.now.compiled.now (G.meaning self.now.graph.now) self.now.key.now) row.now.elem) }
+        ensures no_step_back { steps.old ≤ steps.new }
+        ensures cost { (most : ℕ) → HasDegreesWithin (G.meaning self.now.graph.now) most →
+            steps.new ≤ steps.old + element_count (G.meaning self.now.graph.now) * (33 * (most + 2) ^ (most_edges self.now.key.now + 1)) }
+    {
+        let scope = each_x(self.alloc, self.graph, self.compiled, self.key, steps)?;
+        let elems = scope.as_slice();
+        for other in elems {
+            let found = self.sharing_if_later(row, *other, steps)?;
+            if let Some(found) = found {
+                return Ok(Some(found));
+            }
+        }
         Ok(None)
     }
-}
 
-// 29 for a row of a key, by the first later element of the scope that shares a key value with it.
-fn first_sharer<G: GraphRead, L: Ledger>(
-    alloc: Global,
-    graph: &G,
-    compiled: &Compiled,
-    number: u32,
-    key: &PlannedKey,
-    row: &KeyRow,
-    steps: &mut Steps<L>,
-) -> Result<Option<Violation>, Memory>
-    requires typed { is_valid_key_of compiled.now key.now ≡ true }
-    requires values { row.now.tuples ≡ key_values compiled.now (G.meaning graph.now) key.now row.now.elem }
-    ensures found { IfOk result (λ found. found ≡ exclusive_violation number
-        (scope_of compiled.now (G.meaning graph.now) key.now) (key_values compiled.now (G.meaning graph.now) key.now) row.now.elem) }
-    ensures no_step_back { steps.old ≤ steps.new }
-    ensures cost { (most : ℕ) → HasDegreesWithin (G.meaning graph.now) most →
-        steps.new ≤ steps.old + element_count (G.meaning graph.now) * (33 * (most + 2) ^ (most_edges key.now + 1)) }
-{
-    let scope = each_x(alloc, graph, compiled, key, steps)?;
-    let elems = scope.as_slice();
-    for other in elems {
-        let found = sharing_if_later(alloc, graph, compiled, number, key, row, *other, steps)?;
-        if let Some(found) = found {
-            return Ok(Some(found));
+    // 29 for an element, where the key asks for it and the element is in its scope.
+    fn shared_at<L: Ledger>(
+        &self,
+        elem: Elem,
+        steps: &mut Steps<L>,
+    ) -> Result<Option<Violation>, Memory>
+        requires { is_valid_key_of self.now.compiled.now self.now.key.now ≡ true }
+        ensures found { IfOk result (λ found. found ≡ shared_at self.now.compiled.now (G.meaning self.now.graph.now) self.now.number elem self.now.key.now) }
+        ensures no_step_back { steps.old ≤ steps.new }
+        ensures cost { (most : ℕ) → HasDegreesWithin (G.meaning self.now.graph.now) most →
+            steps.new ≤ steps.old + 33 * (element_count (G.meaning self.now.graph.now) + 1) * (most + 2) ^ (most_edges self.now.key.now + 1) }
+    {
+        let asked = self.key.key().qualifiers.exclusive;
+        match self.row_in_scope(asked, elem, steps)? {
+            Some(row) => self.first_sharer(&row, steps),
+            None => Ok(None),
         }
     }
-    Ok(None)
-}
 
-// 29 for an element, where the key asks for it and the element is in its scope.
-fn shared_at<G: GraphRead, L: Ledger>(
-    alloc: Global,
-    graph: &G,
-    compiled: &Compiled,
-    number: u32,
-    key: &PlannedKey,
-    elem: Elem,
-    steps: &mut Steps<L>,
-) -> Result<Option<Violation>, Memory>
-    requires { is_valid_key_of compiled.now key.now ≡ true }
-    ensures found { IfOk result (λ found. found ≡ shared_at compiled.now (G.meaning graph.now) number elem key.now) }
-    ensures no_step_back { steps.old ≤ steps.new }
-    ensures cost { (most : ℕ) → HasDegreesWithin (G.meaning graph.now) most →
-        steps.new ≤ steps.old + 33 * (element_count (G.meaning graph.now) + 1) * (most + 2) ^ (most_edges key.now + 1) }
-{
-    let asked = key.key().qualifiers.exclusive;
-    match row_in_scope(alloc, graph, compiled, asked, key, elem, steps)? {
-        Some(row) => first_sharer(alloc, graph, compiled, number, key, &row, steps),
-        None => Ok(None),
-    }
-}
-
-// 39 for an element, where the key counts and the element is in its scope.
-fn count_at<G: GraphRead, L: Ledger>(
-    alloc: Global,
-    graph: &G,
-    compiled: &Compiled,
-    number: u32,
-    key: &PlannedKey,
-    elem: Elem,
-    steps: &mut Steps<L>,
-) -> Result<Option<Violation>, Memory>
-    requires { is_valid_key_of compiled.now key.now ≡ true }
-    ensures found { IfOk result (λ found. found ≡ count_at compiled.now (G.meaning graph.now) number elem key.now) }
-    ensures no_step_back { steps.old ≤ steps.new }
-    ensures cost { (most : ℕ) → HasDegreesWithin (G.meaning graph.now) most →
-        steps.new ≤ steps.old + 32 * (most + 2) ^ (most_edges key.now + 1) }
-{
-    let Some(bounds) = key.key().qualifiers.count else {
-        return Ok(None);
-    };
-    match row_in_scope(alloc, graph, compiled, true, key, elem, steps)? {
-        Some(row) => Ok(count_of_row(number, bounds, &row)),
-        None => Ok(None),
-    }
-}
-
-// The violation of a key that is of the same number and least element as a violation of it.
-fn key_violation_at<G: GraphRead, L: Ledger>(
-    alloc: Global,
-    graph: &G,
-    compiled: &Compiled,
-    key: &PlannedKey,
-    violation: &Violation,
-    steps: &mut Steps<L>,
-) -> Result<Option<Violation>, Memory>
-    requires { is_valid_key_of compiled.now key.now ≡ true }
-    ensures found { IfOk result (λ found. found ≡ key_violation_at compiled.now (G.meaning graph.now) violation.now key.now) }
-    ensures no_step_back { steps.old ≤ steps.new }
-    ensures cost { (most : ℕ) → HasDegreesWithin (G.meaning graph.now) most →
-        steps.new ≤ steps.old + 33 * (element_count (G.meaning graph.now) + 1) * (most + 2) ^ (most_edges key.now + 1) }
-{
-    match violation {
-        Violation::Mandatory { key: number, elem } => {
-            missing_at(alloc, graph, compiled, *number, key, *elem, steps)
+    // 39 for an element, where the key counts and the element is in its scope.
+    fn count_at<L: Ledger>(
+        &self,
+        elem: Elem,
+        steps: &mut Steps<L>,
+    ) -> Result<Option<Violation>, Memory>
+        requires { is_valid_key_of self.now.compiled.now self.now.key.now ≡ true }
+        ensures found { IfOk result (λ found. found ≡ count_at self.now.compiled.now (G.meaning self.now.graph.now) self.now.number elem self.now.key.now) }
+        ensures no_step_back { steps.old ≤ steps.new }
+        ensures cost { (most : ℕ) → HasDegreesWithin (G.meaning self.now.graph.now) most →
+            steps.new ≤ steps.old + 32 * (most + 2) ^ (most_edges self.now.key.now + 1) }
+    {
+        let Some(bounds) = self.key.key().qualifiers.count else {
+            return Ok(None);
+        };
+        match self.row_in_scope(true, elem, steps)? {
+            Some(row) => Ok(count_of_row(self.number, bounds, &row)),
+            None => Ok(None),
         }
-        Violation::Singleton {
-            key: number,
-            elem,
-            ..
-        } => several_at(alloc, graph, compiled, *number, key, *elem, steps),
-        Violation::Exclusive {
-            key: number,
-            first,
-            ..
-        } => shared_at(alloc, graph, compiled, *number, key, *first, steps),
-        Violation::CountOutside {
-            key: number,
-            elem,
-            ..
-        } => count_at(alloc, graph, compiled, *number, key, *elem, steps),
-        _ => Ok(None),
+    }
+
+    // The violation of the key that has the number and the least element of a violation of it.
+    fn violation_at<L: Ledger>(
+        &self,
+        violation: &Violation,
+        steps: &mut Steps<L>,
+    ) -> Result<Option<Violation>, Memory>
+        requires typed { is_valid_key_of self.now.compiled.now self.now.key.now ≡ true }
+        requires number { self.now.number ≡ key_of violation.now }
+        ensures found { IfOk result (λ found.
+            found ≡ key_violation_at self.now.compiled.now (G.meaning self.now.graph.now) violation.now self.now.key.now) }
+        ensures no_step_back { steps.old ≤ steps.new }
+        ensures cost { (most : ℕ) → HasDegreesWithin (G.meaning self.now.graph.now) most →
+            steps.new ≤ steps.old + 33 * (element_count (G.meaning self.now.graph.now) + 1) * (most + 2) ^ (most_edges self.now.key.now + 1) }
+    {
+        match violation {
+            Violation::Mandatory { elem, .. } => self.missing_at(*elem, steps),
+            Violation::Singleton { elem, .. } => self.several_at(*elem, steps),
+            Violation::Exclusive { first, .. } => self.shared_at(*first, steps),
+            Violation::CountOutside { elem, .. } => self.count_at(*elem, steps),
+            _ => Ok(None),
+        }
     }
 }
 
@@ -325,10 +260,20 @@ fn violation_at<G: GraphRead, L: Ledger>(
                 Ok(None)
             }
         }
-        _ => match key_numbered(keys, key_of(violation)) {
-            Some(key) => key_violation_at(alloc, graph, compiled, key, violation, steps),
-            None => Ok(None),
-        },
+        _ => {
+            let number = key_of(violation);
+            let Some(key) = key_numbered(keys, number) else {
+                return Ok(None);
+            };
+            let search = KeySearch {
+                alloc,
+                graph,
+                compiled,
+                number,
+                key,
+            };
+            search.violation_at(violation, steps)
+        }
     }
 }
 

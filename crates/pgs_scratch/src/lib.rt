@@ -8,7 +8,9 @@
 mod confirming;
 mod finding;
 mod key_row;
+mod key_search;
 mod listing;
+mod marks;
 mod owners;
 mod row_violations;
 mod untyped;

@@ -6,7 +6,7 @@ ghost use Rattle.pgs_syntax.specs.Valid.{is_valid_key_of};
 ghost use Rattle.pgs_violation.specs.Violations.{violations, key_violations, keys_violations};
 ghost use Rattle.pgs_scratch.specs.Untyped.{untyped_violations};
 
-use crate::key_row::key_rows;
+use crate::key_search::KeySearch;
 use crate::row_violations::add_rows_violations;
 use crate::untyped::{add_untyped_edges, add_untyped_nodes};
 use pgs_base::{List, Memory, Steps};
@@ -31,27 +31,29 @@ fn add_untyped<G: GraphRead, L: Ledger>(
     if !compiled.resolved().guard.strict {
         return Ok(());
     }
-    add_untyped_nodes(alloc, graph, compiled, found, steps)?;
-    add_untyped_edges(alloc, graph, compiled, found, steps)
+    let nodes = graph.node_ids(alloc, steps)?;
+    add_untyped_nodes(graph, compiled, nodes.as_slice(), found, steps)?;
+    let edges = graph.edge_ids(alloc, steps)?;
+    add_untyped_edges(graph, compiled, edges.as_slice(), found, steps)
 }
 
-// Adds the violations of one key, of this number.
-fn add_key_violations<G: GraphRead, L: Ledger>(
-    alloc: Global,
-    graph: &G,
-    compiled: &Compiled,
-    number: u32,
-    key: &PlannedKey,
-    found: &mut Vec<Violation>,
-    steps: &mut Steps<L>,
-) -> Result<(), Memory>
-    requires typed { is_valid_key_of compiled.now key.now ≡ true }
-    requires graph { is_graph (G.meaning graph.now) ≡ true }
-    ensures key { OnOk result (found.new.items ≡ found.old.items ++ key_violations compiled.now (G.meaning graph.now) number key.now) }
-    ensures no_step_back { steps.old ≤ steps.new }
-{
-    let rows = key_rows(alloc, graph, compiled, key, steps)?;
-    add_rows_violations(alloc, found, key.key().qualifiers, number, rows.as_slice())
+impl<'a, G: GraphRead> KeySearch<'a, G> {
+    // Adds the violations of the key.
+    fn add_violations<L: Ledger>(
+        &self,
+        found: &mut Vec<Violation>,
+        steps: &mut Steps<L>,
+    ) -> Result<(), Memory>
+        requires typed { is_valid_key_of self.now.compiled.now self.now.key.now ≡ true }
+        requires graph { is_graph (G.meaning self.now.graph.now) ≡ true }
+        ensures key { OnOk result (found.new.items
+            ≡ found.old.items ++ key_violations self.now.compiled.now (G.meaning self.now.graph.now) self.now.number self.now.key.now) }
+        ensures no_step_back { steps.old ≤ steps.new }
+    {
+        let rows = self.rows(steps)?;
+        let asked = self.key.key().qualifiers;
+        add_rows_violations(self.alloc, found, asked, self.number, rows.as_slice())
+    }
 }
 
 // Adds the violations of each key, in order.
@@ -71,8 +73,14 @@ fn add_keys_violations<G: GraphRead, L: Ledger>(
     // The schema's clause says that its keys are valid.
     compiled.resolved();
     for (place, key) in keys.iter().enumerate() {
-        let number = place as u32 + 1;
-        add_key_violations(alloc, graph, compiled, number, key, found, steps)?;
+        let search = KeySearch {
+            alloc,
+            graph,
+            compiled,
+            number: place as u32 + 1,
+            key,
+        };
+        search.add_violations(found, steps)?;
     }
     Ok(())
 }

@@ -12,6 +12,7 @@ ghost use Rattle.pgs_scratch.specs.Rows.{shared_values};
 
 use crate::finding::add;
 use crate::key_row::KeyRow;
+use crate::marks::are_apart;
 use pgs_base::{Copyable, Elem, Memory, Tuple};
 use pgs_violation::Violation;
 use std::alloc::Global;
@@ -85,13 +86,8 @@ fn first_sharer<'a>(
     }
 }
 
-/// 29 for each row that shares a key value with a later one, the last first. The rows ascend. One table serves all rows: it is gone
-/// through from the last row, and has the owners among the rows after.
-pub(crate) fn shared_values(
-    alloc: Global,
-    number: u32,
-    rows: &[KeyRow],
-) -> Result<Vec<Violation>, Memory>
+// The same by one table, which is gone through from the last row, and has the owners among the rows after.
+fn shared_by_table(alloc: Global, number: u32, rows: &[KeyRow]) -> Result<Vec<Violation>, Memory>
     requires { ascends elem_cmp (map (λ (row : Row). row.elem) rows.now) ≡ true }
     ensures { IfOk result (λ found. reverse found.items ≡ shared_values number rows.now) }
 {
@@ -102,5 +98,23 @@ pub(crate) fn shared_values(
         let violation = first_sharer(alloc, number, row, &mut table)?;
         add(&mut found, violation)?;
     }
+    Ok(found)
+}
+
+/// 29 for each row that shares a key value with a later one, the last first. The rows ascend. Where their key values are seen to be all
+/// apart, as nearly always, no table is made.
+pub(crate) fn shared_values(
+    alloc: Global,
+    number: u32,
+    rows: &[KeyRow],
+) -> Result<Vec<Violation>, Memory>
+    requires { ascends elem_cmp (map (λ (row : Row). row.elem) rows.now) ≡ true }
+    ensures { IfOk result (λ found. reverse found.items ≡ shared_values number rows.now) }
+{
+    let apart = are_apart(alloc, rows)?;
+    if apart {
+        return Ok(Vec::new(alloc));
+    }
+    let found = shared_by_table(alloc, number, rows)?;
     Ok(found)
 }

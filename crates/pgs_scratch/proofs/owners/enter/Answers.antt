@@ -3,7 +3,8 @@ use Rattle.std.specs.Prelude.{option_map}
 use Rattle.std.specs.BTreeMap as tree
 use Rattle.pgs_base.specs.Order.{tuple_cmp}
 use Rattle.pgs_scratch.specs.Owners.{with_tuple}
-use Rattle.pgs_scratch.proofs.Entered.{more_entered, below_end, stands_there, owner_before}
+use Rattle.pgs_keyindex.proofs.Entered.{more_entered}
+use Rattle.pgs_scratch.proofs.Entered.{below_end, stands_there, owner_before}
 use Rattle.pgs_scratch.proofs.Sharers.{nearest_step}
 use Rattle.pgs_scratch.proofs.owners.enter.Goals as goal
 

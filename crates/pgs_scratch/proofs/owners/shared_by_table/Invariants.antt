@@ -4,7 +4,7 @@ use Rattle.pgs_base.specs.declared.part.Part.{Part}
 use Rattle.pgs_base.specs.Order.{tuple_cmp}
 use Rattle.pgs_scratch.specs.Owners.{owner}
 use Rattle.pgs_scratch.specs.Rows.{shared_values}
-use Rattle.pgs_scratch.proofs.owners.shared_values.Given as goal
+use Rattle.pgs_scratch.proofs.owners.shared_by_table.Given as goal
 
 abbrev pub invariant-loop-place : goal.invariant-loop-place
 invariant-loop-place l = record {

@@ -1,7 +1,7 @@
 use Rattle.std.specs.BTreeMap as tree
 use Rattle.pgs_base.specs.Order.{tuple_cmp}
 use Rattle.pgs_scratch.proofs.Sharers.{row_found, row_owns}
-use Rattle.pgs_scratch.proofs.owners.shared_values.Goals as goal
+use Rattle.pgs_scratch.proofs.owners.shared_by_table.Goals as goal
 
 pub loop-place-preserved : goal.loop-place-preserved
 loop-place-preserved c =
