@@ -1,4 +1,4 @@
-ghost use Rattle.std.specs.Prelude.{◌≡◌, ℕ, ◌<◌, ◌≤◌, ◌+◌, ◌-◌, ◌*◌, ◌^◌, ◌++◌, ◌↔◌, [], length, take, drop, slice_get, IfOk, IfErr, IsSomeAnd, IsTrue, OnOk, MatchResult};
+ghost use Rattle.std.specs.Prelude.{◌≡◌, ◌<◌, ◌≤◌, ◌+◌, ◌*◌, ◌^◌, [], length, take, slice_get, IfOk, IfErr, MatchResult};
 ghost use Rattle.pgs_base.specs.Graph.{edge_cmp};
 ghost use Rattle.std.specs.List.Sorted.{IsStrictlySortedBy};
 ghost use Rattle.pgs_base.specs.Places.{IsKeyAt, IsKeyGap};

@@ -12,10 +12,10 @@ use pgs_base::{EdgeId, Memory};
 use std::alloc::Global;
 use std::marker::Model;
 
-// What a range may cost of which the chunks are shared: the ids of three chunks, of at most 1,024 each.
+// A range may copy the ids of three chunks, of at most 1,024 each. All others are shared.
 const RANGE: u128 = 3 * 1024;
 
-// What ids may cost beside themselves: those of the last chunk, where they have room in it.
+// Ids put last may copy as many beside themselves: those of the last chunk, where they have room in it.
 const LAST: u128 = 1024;
 
 /// How many more ids an edit may copy. Contracts see the number.

@@ -1,6 +1,6 @@
 //! Lists in chunks while they are built.
 
-ghost use Rattle.std.specs.Prelude.{◌≡◌, ℕ, ◌<◌, ◌≤◌, ◌+◌, ◌-◌, ◌*◌, ◌++◌, ◌↔◌, [], length, take, drop, slice_get, IfOk, IsSomeAnd, IsTrue, OnOk};
+ghost use Rattle.std.specs.Prelude.{◌≡◌, ◌<◌, ◌≤◌, ◌+◌, ◌-◌, ◌*◌, ◌++◌, ◌↔◌, [], length, take, drop, slice_get, IfOk, IsSomeAnd, IsTrue, OnOk};
 
 use super::{Chunks, MOST, Part, part_at};
 use crate::{Chunk, Copies};
@@ -39,7 +39,7 @@ fn is_roomy(parts: &[Part], more: usize) -> bool
 }
 
 impl Builder {
-    /// No ids, and memory for so many chunks.
+    /// No ids, and memory for so many chunks. `Memory` where there was none left.
     pub fn with_capacity(alloc: Global, chunks: usize) -> Result<Builder, Memory>
         ensures { IfOk result (λ builder. builder.ids ≡ []) }
     {
@@ -100,7 +100,7 @@ impl Builder {
         Ok(())
     }
 
-    /// Puts ids last. After `Memory` some may be missing.
+    /// Puts ids last. It copies them, and the last chunk where they have room there. After `Memory` some may be missing.
     pub fn append(
         &mut self,
         alloc: Global,
