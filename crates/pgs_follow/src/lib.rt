@@ -10,7 +10,6 @@ mod follower;
 mod laws;
 mod progress;
 mod samples;
-mod staging;
 
 pub use fault::FollowFault;
 pub use follower::Follower;

@@ -5,11 +5,10 @@ ghost use Rattle.pgs_follow.specs.declared.fault.FollowFault.TheVariants.{LineTo
 ghost use Rattle.pgs_follow.specs.Followed.{nothing_followed, faulted, committed, after_commit, after_line};
 
 use crate::fault::FollowFault;
-use crate::staging::delta_of;
 use pgs_base::{Limits, Memory};
 use pgs_graph::{Graph, Txn};
 use pgs_json::{CommitFault, read_commit};
-use pgs_txn::StageFault;
+use pgs_txn::{StageFault, delta_of};
 use std::alloc::Global;
 use std::marker::Model;
 

@@ -1,21 +1,25 @@
 -- How long the pieces of a transaction's text are, and the room that is told for them.
-use Rattle.std.proofs.Common.{◌≡◌, ℕ, suc, ◌+◌, ◌-◌, ◌*◌, ◌^◌, ◌<◌, ◌≤◌, ℤ, pos, negsuc, min, Bool, true, false, ◌&&◌, leb, List, [], ◌∷◌, ◌++◌, length, map, flat_map, decimal, if◌then◌else◌, ◌==◌, Option, Some, None, IfSome, refl, sym, ap, ap₂, arith, length-append}
+use Rattle.std.proofs.Common.{◌≡◌, ℕ, suc, ◌+◌, ◌-◌, ◌*◌, ◌^◌, ◌<◌, ◌≤◌, ℤ, pos, negsuc, min, Bool, true, false, ◌&&◌, leb, List, [], ◌∷◌, ◌++◌, length, map, flat_map, decimal, if◌then◌else◌, ◌==◌, ◌⊎◌, inl, inr, Option, Some, None, IfSome, refl, sym, ap, ap₂, arith, length-append}
 use Rattle.std.specs.Prelude.{codes, nat_lt}
 use Rattle.std.specs.Fmt.{signed_decimal}
 use Rattle.std.specs.List.{list_all, join_with_byte}
-use Rattle.std.proofs.lemmas.Bool.{and_parts, leb-true}
+use Rattle.std.proofs.lemmas.Bool.{and_parts, leb-true, ltb-true}
 use Rattle.std.proofs.lemmas.Bool.Decides.{nat_tests}
 use Rattle.std.proofs.lemmas.Fmt.{length-decimal-le, decimal_nonempty, length_signed_le}
 use Rattle.pgs_base.specs.Day.{is_day}
 use Rattle.pgs_base.specs.Name.{is_name, is_name_start, is_name_byte}
-use Rattle.pgs_base.specs.Value.{is_number}
+use Rattle.pgs_base.specs.Graph.{is_element_number}
+use Rattle.pgs_base.specs.Pair.{pair_of, is_pair}
+use Rattle.pgs_base.specs.Value.{is_number, is_value}
 use Rattle.pgs_base.specs.declared.element.NodeId.{NodeId}
 use Rattle.pgs_base.specs.declared.element.EdgeId.{EdgeId}
 use Rattle.pgs_base.specs.declared.value.Value.{Value}
 use Rattle.pgs_base.specs.declared.value.Value.TheVariants as values
 use Rattle.pgs_base_text.specs.Text.{escaped, quoted}
-use Rattle.pgs_graph.specs.declared.operation.Op.TheVariants.{AddNode, AddEdge}
+use Rattle.pgs_graph.specs.declared.operation.Op.{Op}
+use Rattle.pgs_graph.specs.declared.operation.Op.TheVariants.{AddNode, AddEdge, RemoveNode, DetachNode, RemoveEdge}
 use Rattle.pgs_graph.specs.declared.operation.Txn.{Txn}
+use Rattle.pgs_graph.specs.Operations.{is_well_formed_op}
 use Rattle.pgs_base_text.proofs.Plain.{plain_by_range}
 use Rattle.pgs_json.specs.Canonical.{value_text, member_text, object_text, labels_text, props_text, op_text, ops_text, text_of_txn}
 use Rattle.pgs_json.specs.Pieces.{further, listed, prop_text}
@@ -179,43 +183,63 @@ around_pair labels props l p pair own most room count around_labels around_props
 
 -- ---- operations and transactions
 
-pub add_node_room : (id : NodeId) (labels : List (List ℕ)) (props : List (List ℕ × Value)) (digits pair room : ℕ) → length (decimal id.0) ≤ digits → digits ≤ 20
-    → IsRoom pair (length (flat_map (further quoted) labels) + length (flat_map (further prop_text) props)) → room ≡ min (pair + (37 + digits)) (2 ^ 64 - 1)
+-- the ids of what is well formed are short
+pub short_id : (id : ℕ) → is_element_number id ≡ true → length (decimal id) ≤ 20
+short_id id well = id_digits id (ltb-true id (2 ^ 64) well)
+
+pub short_first : (id : ℕ) (rest : Bool) → (is_element_number id && rest) ≡ true → length (decimal id) ≤ 20
+short_first id rest well = short_id id (and_parts (is_element_number id) rest well).0
+
+pub add_node_room : (id : NodeId) (labels : List (List ℕ)) (props : List (List ℕ × Value)) (pair room : ℕ) → is_well_formed_op (AddNode id labels props) ≡ true
+    → IsRoom pair (length (flat_map (further quoted) labels) + length (flat_map (further prop_text) props)) → room ≡ min (pair + 57) (2 ^ 64 - 1)
     → IsRoom room (length (further op_text (AddNode id labels props)))
-add_node_room id labels props digits pair room enough short inside is =
+add_node_room id labels props pair room well inside is =
+    let short = short_first id.0 _ well in
     let text = object_length (codes "add_node", decimal id.0) ((codes "labels", labels_text labels) ∷ (codes "props", props_text props) ∷ []) (refl, (refl, (refl, tt))) in
-    around_pair (length (labels_text labels)) (length (props_text props)) _ _ pair (33 + length (decimal id.0)) (37 + digits) room _
+    around_pair (length (labels_text labels)) (length (props_text props)) _ _ pair (33 + length (decimal id.0)) 57 room _
     (labels_bounds labels) (props_bounds props) inside (omega (arith, text)) (omega arith) (omega arith) is
 
-pub add_edge_room : (id : EdgeId) (source target : NodeId) (labels : List (List ℕ)) (props : List (List ℕ × Value)) (digits from to pair room : ℕ)
-    → length (decimal id.0) ≤ digits → digits ≤ 20 → length (decimal source.0) ≤ from → from ≤ 20 → length (decimal target.0) ≤ to → to ≤ 20
-    → IsRoom pair (length (flat_map (further quoted) labels) + length (flat_map (further prop_text) props)) → room ≡ min (pair + (37 + digits + (14 + from + to))) (2 ^ 64 - 1)
+pub add_edge_room : (id : EdgeId) (source target : NodeId) (labels : List (List ℕ)) (props : List (List ℕ × Value)) (pair room : ℕ)
+    → is_well_formed_op (AddEdge id source target labels props) ≡ true
+    → IsRoom pair (length (flat_map (further quoted) labels) + length (flat_map (further prop_text) props)) → room ≡ min (pair + 111) (2 ^ 64 - 1)
     → IsRoom room (length (further op_text (AddEdge id source target labels props)))
-add_edge_room id source target labels props digits from to pair room enough short from_enough from_short to_enough to_short inside is =
+add_edge_room id source target labels props pair room well inside is =
+    let numbers = (and_parts (is_element_number id.0 && is_element_number source.0 && is_element_number target.0) (is_pair (pair_of labels props)) well).0 in
+    let ends = and_parts (is_element_number id.0 && is_element_number source.0) (is_element_number target.0) numbers in
+    let first = and_parts (is_element_number id.0) (is_element_number source.0) ends.0 in
     let text = object_length (codes "add_edge", decimal id.0) ((codes "from", decimal source.0) ∷ (codes "labels", labels_text labels) ∷ (codes "props", props_text props) ∷ (codes "to", decimal target.0) ∷ []) (refl, (refl, (refl, (refl, (refl, tt))))) in
-    around_pair (length (labels_text labels)) (length (props_text props)) _ _ pair (47 + length (decimal id.0) + length (decimal source.0) + length (decimal target.0)) (37 + digits + (14 + from + to)) room _
-    (labels_bounds labels) (props_bounds props) inside (omega (arith, text)) (omega arith) (omega arith) is
+    around_pair (length (labels_text labels)) (length (props_text props)) _ _ pair (47 + length (decimal id.0) + length (decimal source.0) + length (decimal target.0)) 111 room _
+    (labels_bounds labels) (props_bounds props) inside (omega (arith, text)) (omega (arith, short_id id.0 first.0, short_id source.0 first.1, short_id target.0 ends.1)) (omega arith) is
 
-pub id_only_room : (kind : List ℕ) (id digits : ℕ) → flat_map escaped kind ≡ kind → 4 ≤ length kind → length kind ≤ 31 → length (decimal id) ≤ digits → digits ≤ 20
-    → IsRoom (37 + digits) (suc (length (object_text ((kind, decimal id) ∷ []))))
-id_only_room kind id digits plain long short enough bounded =
+pub id_only_room : (kind : List ℕ) (id : ℕ) → is_element_number id ≡ true → flat_map escaped kind ≡ kind → 4 ≤ length kind → length kind ≤ 31
+    → IsRoom 57 (suc (length (object_text ((kind, decimal id) ∷ []))))
+id_only_room kind id well plain long short =
     let text = object_length (kind, decimal id) [] (plain, tt) in
-    plain_room _ _ (omega (arith, text)) (omega (arith, text))
+    plain_room _ _ (omega (arith, text, short_id id well)) (omega (arith, text))
 
-pub named_room : (first kind name : List ℕ) (id digits room : ℕ) → (flat_map escaped first ≡ first) × (flat_map escaped kind ≡ kind) → length first + length kind ≤ 27
-    → length (decimal id) ≤ digits → digits ≤ 20 → room ≡ length (quoted name)
-    → IsRoom (37 + digits + room) (suc (length (object_text ((first, quoted name) ∷ (kind, decimal id) ∷ []))))
-named_room first kind name id digits room plain short enough bounded exact =
+-- an operation with an id alone
+pub bare_room : (op : Op) → is_well_formed_op op ≡ true
+    → ((id : NodeId) × (op ≡ RemoveNode id)) ⊎ (((id : NodeId) × (op ≡ DetachNode id)) ⊎ ((id : EdgeId) × (op ≡ RemoveEdge id)))
+    → IsRoom 57 (length (further op_text op))
+bare_room op well (inl e) = rw e.1 (id_only_room (codes "remove_node") e.0.0 (rw e.1 at well) refl (omega arith) (omega arith))
+bare_room op well (inr (inl e)) = rw e.1 (id_only_room (codes "detach_node") e.0.0 (rw e.1 at well) refl (omega arith) (omega arith))
+bare_room op well (inr (inr e)) = rw e.1 (id_only_room (codes "remove_edge") e.0.0 (rw e.1 at well) refl (omega arith) (omega arith))
+
+pub named_room : (first kind name : List ℕ) (id : ℕ) → (is_element_number id && is_name name) ≡ true → (flat_map escaped first ≡ first) × (flat_map escaped kind ≡ kind)
+    → length first + length kind ≤ 27 → (room : ℕ) → room ≡ length (quoted name)
+    → IsRoom (57 + room) (suc (length (object_text ((first, quoted name) ∷ (kind, decimal id) ∷ []))))
+named_room first kind name id well plain short room exact =
     let text = object_length (first, quoted name) ((kind, decimal id) ∷ []) (plain.0, (plain.1, tt)) in
-    plain_room _ _ (omega (arith, text)) (omega (arith, text))
+    plain_room _ _ (omega (arith, text, exact, short_first id _ well)) (omega (arith, text, exact))
 
-pub set_room : (kind key : List ℕ) (value : Value) (id digits room : ℕ) → flat_map escaped kind ≡ kind → length kind ≤ 16 → length (decimal id) ≤ digits → digits ≤ 20
-    → length (prop_text (key, value)) ≤ room → room ≤ 6 * length (prop_text (key, value))
-    → IsRoom (37 + digits + room) (suc (length (object_text ((codes "key", quoted key) ∷ (kind, decimal id) ∷ (codes "value", value_text value) ∷ []))))
-set_room kind key value id digits room plain short enough bounded prop_enough prop_bounded =
+pub set_room : (kind key : List ℕ) (value : Value) (id : ℕ) → (is_element_number id && is_name key && is_value value) ≡ true → flat_map escaped kind ≡ kind → length kind ≤ 16
+    → (room : ℕ) → length (prop_text (key, value)) ≤ room → room ≤ 6 * length (prop_text (key, value))
+    → IsRoom (57 + room) (suc (length (object_text ((codes "key", quoted key) ∷ (kind, decimal id) ∷ (codes "value", value_text value) ∷ []))))
+set_room kind key value id well plain short room enough bounded =
     let text = object_length (codes "key", quoted key) ((kind, decimal id) ∷ (codes "value", value_text value) ∷ []) (refl, (plain, (refl, tt))) in
     let prop = length-append (quoted key) (58 ∷ value_text value) in
-    plain_room _ _ (omega (arith, text, prop)) (omega (arith, text, prop))
+    let digits = short_first id _ (and_parts (is_element_number id && is_name key) (is_value value) well).0 in
+    plain_room _ _ (omega (arith, text, prop, digits)) (omega (arith, text, prop))
 
 pub txn_enough : (txn : Txn) (commit : Option ℕ) → IfSome commit (λ n. n < 2 ^ 64) → length (text_of_txn txn commit) + 1 ≤ length (flat_map (further op_text) txn.ops) + 41
 unfolding text_of_txn

@@ -1,6 +1,6 @@
 //! How much room the canonical text of a transaction takes, told before it is written.
 
-ghost use Rattle.std.specs.Prelude.{◌≡◌, ◌+◌, ◌*◌, ◌^◌, ◌<◌, ◌≤◌, ℕ, Option, None, IfSome, length, min, flat_map, decimal};
+ghost use Rattle.std.specs.Prelude.{◌≡◌, ◌+◌, ◌*◌, ◌^◌, ◌<◌, ◌≤◌, ℕ, Option, None, IfSome, length, min, flat_map};
 ghost use Rattle.pgs_base_text.specs.Text.{quoted};
 ghost use Rattle.pgs_json.specs.Canonical.{value_text, op_text, text_of_txn};
 ghost use Rattle.pgs_json.specs.Pieces.{further, prop_text};
@@ -15,23 +15,15 @@ const ESCAPED: usize = 6;
 /// The most bytes of a number.
 const NUMBER: usize = 20;
 
-/// The bytes of `,{"add_node":,"labels":[],"props":{}}`. But for the ends of an edge no operation has more beside its id, its names,
-/// its value and what it lists.
-const OP: usize = 37;
+/// The most bytes of `,{"add_node":,"labels":[],"props":{}}` with the id. But for the ends of an edge no operation has more beside its
+/// names, its value and what it lists.
+const OP: usize = 37 + NUMBER;
 
-/// The bytes of `,"from":,"to":`.
-const ENDS: usize = 14;
+/// The most bytes of `,"from":,"to":` with the ids of two nodes.
+const ENDS: usize = 14 + 2 * NUMBER;
 
-/// The bytes of `{"commit":,"ops":[]}`, and a line feed.
-const TXN: usize = 21;
-
-#[tactic(auto, using(crate::proofs::Rooms::id_digits))]
-fn id_room(_id: u64) -> usize
-    ensures enough { length (decimal _id) ≤ result }
-    ensures bounded { result ≤ 20 }
-{
-    NUMBER
-}
+/// The most bytes of `{"commit":,"ops":[]}` with the number, and a line feed.
+const TXN: usize = 21 + NUMBER;
 
 #[tactic(auto, using(crate::proofs::Rooms::quoted_name, crate::proofs::Rooms::short_name))]
 fn name_room(name: &Name) -> usize
@@ -94,30 +86,20 @@ fn pair_room(labels: &Labels, props: &Props) -> usize
 fn op_room(op: &Op) -> usize
     ensures { IsRoom result (length (further op_text op.now)) }
 {
+    op.facts();
     match op {
-        Op::AddNode { id, labels, props } => {
-            pair_room(labels, props).saturating_add(OP + id_room(id.0))
+        Op::AddNode { labels, props, .. } => pair_room(labels, props).saturating_add(OP),
+        Op::AddEdge { labels, props, .. } => pair_room(labels, props).saturating_add(OP + ENDS),
+        Op::RemoveNode { .. } | Op::DetachNode { .. } | Op::RemoveEdge { .. } => OP,
+        Op::SetNode { key, value, .. } | Op::SetEdge { key, value, .. } => {
+            OP + prop_room(key, value)
         }
-        Op::AddEdge {
-            id,
-            source,
-            target,
-            labels,
-            props,
-        } => {
-            let ends = ENDS + id_room(source.0) + id_room(target.0);
-            pair_room(labels, props).saturating_add(OP + id_room(id.0) + ends)
-        }
-        Op::RemoveNode { id } | Op::DetachNode { id } => OP + id_room(id.0),
-        Op::RemoveEdge { id } => OP + id_room(id.0),
-        Op::SetNode { id, key, value } => OP + id_room(id.0) + prop_room(key, value),
-        Op::SetEdge { id, key, value } => OP + id_room(id.0) + prop_room(key, value),
-        Op::UnsetNode { id, key: name }
-        | Op::LabelNode { id, label: name }
-        | Op::UnlabelNode { id, label: name } => OP + id_room(id.0) + name_room(name),
-        Op::UnsetEdge { id, key: name }
-        | Op::LabelEdge { id, label: name }
-        | Op::UnlabelEdge { id, label: name } => OP + id_room(id.0) + name_room(name),
+        Op::UnsetNode { key: name, .. }
+        | Op::UnsetEdge { key: name, .. }
+        | Op::LabelNode { label: name, .. }
+        | Op::UnlabelNode { label: name, .. }
+        | Op::LabelEdge { label: name, .. }
+        | Op::UnlabelEdge { label: name, .. } => OP + name_room(name),
     }
 }
 
@@ -138,5 +120,5 @@ pub fn txn_room(txn: &Txn) -> usize
         → min (length (text_of_txn txn.now commit) + 1) usize.MAX ≤ result }
     ensures bounded { result ≤ 6 * length (text_of_txn txn.now None) }
 {
-    ops_room(txn.ops.as_slice()).saturating_add(TXN + NUMBER)
+    ops_room(txn.ops.as_slice()).saturating_add(TXN)
 }

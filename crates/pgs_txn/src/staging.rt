@@ -1,4 +1,4 @@
-ghost use Rattle.std.specs.Prelude.{◌≡◌, ℕ, ◌+◌, ◌-◌, ◌*◌, ◌^◌, ◌≤◌, Bool, true, Ok, IfOk, IfErr, OnOk, length, min, if◌then◌else◌};
+ghost use Rattle.std.specs.Prelude.{◌≡◌, ℕ, ◌+◌, ◌-◌, ◌*◌, ◌^◌, ◌<◌, ◌≤◌, Bool, true, Ok, IfOk, IfErr, OnOk, length, min, if◌then◌else◌};
 ghost use Rattle.std.specs.List.{list_any};
 ghost use Rattle.pgs_base.specs.declared.element.NodeId.{NodeId};
 ghost use Rattle.pgs_base.specs.declared.element.EdgeId.{EdgeId};
@@ -15,7 +15,8 @@ use pgs_base::{Limits, Steps};
 use pgs_graph::{Delta, GraphRead, Op, Txn};
 use pgs_violation::Structural;
 use std::alloc::Global;
-use std::sync::ledger::Ledger;
+use std::marker::Brand;
+use std::sync::ledger::{Blank, Ledger};
 
 // Does one operation.
 fn do_op<G: GraphRead, L: Ledger>(
@@ -164,4 +165,37 @@ pub fn stage<G: GraphRead, L: Ledger>(
     txn.facts();
     let delta = rows.into_delta(alloc)?;
     Ok(delta)
+}
+
+// The delta that a transaction makes of a graph, with steps of a counter of its own.
+fn delta_counted<G: GraphRead, L: Ledger>(
+    alloc: Global,
+    graph: &G,
+    limits: &Limits,
+    txn: &Txn,
+    blank: Blank,
+) -> Result<Delta, StageFault>
+    requires name { blank.name ≡ L.name }
+    requires parts { blank.parts ≡ L.parts }
+    requires some { 0 < blank.parts }
+    ensures sound { IfOk result (λ delta. is_sound (G.meaning graph.now) delta ≡ true) }
+    ensures staged { IfOk result (λ delta. staged limits.now (G.meaning graph.now) txn.now ≡ Ok (changed (G.meaning graph.now) delta)) }
+    ensures refused { IfErr result (λ fault. IsRefusal fault (staged limits.now (G.meaning graph.now) txn.now)) }
+{
+    let mut steps: Steps<L> = Steps::begin(blank);
+    stage(alloc, graph, limits, txn, &mut steps)
+}
+
+/// Does what `stage` does, for a caller that counts no steps: the delta that a transaction makes of a graph, and the same refusals.
+pub fn delta_of<G: GraphRead>(
+    alloc: Global,
+    graph: &G,
+    limits: &Limits,
+    txn: &Txn,
+) -> Result<Delta, StageFault>
+    ensures sound { IfOk result (λ delta. is_sound (G.meaning graph.now) delta ≡ true) }
+    ensures staged { IfOk result (λ delta. staged limits.now (G.meaning graph.now) txn.now ≡ Ok (changed (G.meaning graph.now) delta)) }
+    ensures refused { IfErr result (λ fault. IsRefusal fault (staged limits.now (G.meaning graph.now) txn.now)) }
+{
+    delta_counted::<G, Brand>(alloc, graph, limits, txn, Blank::new(1))
 }

@@ -1,16 +1,11 @@
 //! Schemas by their texts, and graphs by lines that make them of nothing.
 
-ghost use Rattle.std.specs.Prelude.{◌≡◌, ◌<◌, IfOk, true};
-ghost use Rattle.pgs_graph.specs.Changed.{is_sound};
-
-use pgs_base::{Limits, Memory, Steps};
-use pgs_graph::{Delta, Graph, Txn};
+use pgs_base::{Limits, Memory};
+use pgs_graph::{Graph, Txn};
 use pgs_json::read_txn;
 use pgs_schema::Schema;
-use pgs_txn::{StageFault, stage};
+use pgs_txn::delta_of;
 use std::alloc::Global;
-use std::marker::Brand;
-use std::sync::ledger::{Blank, Ledger};
 
 /// The schema of a text. A refusal is told as want of memory, which no text here meets.
 pub fn schema_of(alloc: Global, text: &str) -> Result<Schema, Memory> {
@@ -20,30 +15,9 @@ pub fn schema_of(alloc: Global, text: &str) -> Result<Schema, Memory> {
     }
 }
 
-fn staged_by<L: Ledger>(
-    alloc: Global,
-    graph: &Graph,
-    txn: &Txn,
-    blank: Blank,
-) -> Result<Delta, StageFault>
-    requires name { blank.name ≡ L.name }
-    requires parts { blank.parts ≡ L.parts }
-    requires some { 0 < blank.parts }
-    ensures { IfOk result (λ delta. is_sound graph.now delta ≡ true) }
-{
-    let mut steps: Steps<L> = Steps::begin(blank);
-    stage(alloc, graph, &Limits::standard(), txn, &mut steps)
-}
-
-fn staged(alloc: Global, graph: &Graph, txn: &Txn) -> Result<Delta, StageFault>
-    ensures { IfOk result (λ delta. is_sound graph.now delta ≡ true) }
-{
-    staged_by::<Brand>(alloc, graph, txn, Blank::new(1))
-}
-
 fn made(alloc: Global, txn: &Txn) -> Result<Graph, Memory> {
     let mut graph = Graph::new(alloc);
-    match staged(alloc, &graph, txn) {
+    match delta_of(alloc, &graph, &Limits::standard(), txn) {
         Ok(delta) => {
             graph.change(delta)?;
             Ok(graph)

@@ -1,15 +1,10 @@
 //! Operations of plain numbers, and a graph to which transactions of them are applied.
 
-ghost use Rattle.std.specs.Prelude.{◌≡◌, ◌<◌, IfOk, true};
-ghost use Rattle.pgs_graph.specs.Changed.{is_sound};
-
-use pgs_base::{EdgeId, Labels, Limits, List, Memory, Name, NodeId, Props, Steps, Value};
-use pgs_graph::{Delta, Graph, Op, Txn};
-use pgs_txn::{StageFault, stage};
+use pgs_base::{EdgeId, Labels, Limits, List, Memory, Name, NodeId, Props, Value};
+use pgs_graph::{Graph, Op, Txn};
+use pgs_txn::{StageFault, delta_of};
 use pgs_violation::Structural;
 use std::alloc::Global;
-use std::marker::Brand;
-use std::sync::ledger::{Blank, Ledger};
 
 /// An operation by numbers. Labels and keys are named by number too.
 #[derive(Clone, Copy)]
@@ -126,31 +121,6 @@ fn transaction(alloc: Global, ops: &[PlainOp]) -> Result<Txn, Memory> {
     })
 }
 
-fn staged_by<L: Ledger>(
-    alloc: Global,
-    graph: &Graph,
-    limits: &Limits,
-    txn: &Txn,
-    blank: Blank,
-) -> Result<Delta, StageFault>
-    requires name { blank.name ≡ L.name }
-    requires parts { blank.parts ≡ L.parts }
-    requires some { 0 < blank.parts }
-    ensures { IfOk result (λ delta. is_sound graph.now delta ≡ true) }
-{
-    let mut steps: Steps<L> = Steps::begin(blank);
-    match stage(alloc, graph, limits, txn, &mut steps) {
-        Ok(delta) => Ok(delta),
-        Err(fault) => Err(fault),
-    }
-}
-
-fn staged(alloc: Global, graph: &Graph, limits: &Limits, txn: &Txn) -> Result<Delta, StageFault>
-    ensures { IfOk result (λ delta. is_sound graph.now delta ≡ true) }
-{
-    staged_by::<Brand>(alloc, graph, limits, txn, Blank::new(1))
-}
-
 /// Applies a transaction. Answers its refusal, if it has one; the graph is as it was then.
 pub fn apply(
     alloc: Global,
@@ -159,7 +129,7 @@ pub fn apply(
     ops: &[PlainOp],
 ) -> Result<Option<Structural>, Memory> {
     let txn = transaction(alloc, ops)?;
-    match staged(alloc, graph, limits, &txn) {
+    match delta_of(alloc, graph, limits, &txn) {
         Ok(delta) => {
             graph.change(delta)?;
             Ok(None)
