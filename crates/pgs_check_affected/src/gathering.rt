@@ -20,10 +20,10 @@ ghost use Rattle.pgs_check_affected.specs.Local.{is_one_of};
 ghost use Rattle.pgs_check_affected.specs.Touched.{IsSparseInBoth, AreSparseInBoth};
 
 use crate::Known;
-use pgs_base::{EdgeId, Elem, List, Memory, NodeId, Steps};
+use pgs_base::{Elem, List, Memory, NodeId, Steps};
 use pgs_conform::{Compiled, Pair};
 use pgs_graph::GraphRead;
-use pgs_match::{PlannedKey, Side, own_passes, reach};
+use pgs_match::{PlannedKey, Side, edge_along, own_passes, reach};
 use pgs_syntax::Pattern;
 use std::alloc::Global;
 use std::sync::ledger::Ledger;
@@ -48,24 +48,6 @@ pub(crate) fn in_order(elems: Vec<Elem>) -> List<Elem>
     ensures few { length result ≤ length elems.items }
 {
     each_once(elems)
-}
-
-// The edge at a place among those that go out of a node, or that come in at it.
-fn edge_along<G: GraphRead, L: Ledger>(
-    graph: &G,
-    id: NodeId,
-    forward: bool,
-    nth: usize,
-    steps: &mut Steps<L>,
-) -> Option<EdgeId>
-    ensures value { result ≡ slice_get (cond forward (out_edges_of (G.meaning graph.now) id) (in_edges_of (G.meaning graph.now) id)) nth }
-    ensures tick { steps.new ≡ steps.old + 1 }
-{
-    if forward {
-        graph.out_edge(id, nth, steps)
-    } else {
-        graph.in_edge(id, nth, steps)
-    }
 }
 
 // Adds the edges that go out of a node, or that come in at it, with a look-up for each and one more.
@@ -209,35 +191,7 @@ impl<'a> Sought<'a> {
         Ok(())
     }
 
-    // Adds what is found in a pattern of one variable, without a search.
-    fn add_alone<G: GraphRead, H: GraphRead, L: Ledger>(
-        &self,
-        before: &G,
-        after: &H,
-        known: &Known<'_>,
-        elems: &mut Vec<Elem>,
-        steps: &mut Steps<L>,
-    ) -> Result<(), Memory>
-        requires typed { is_valid_key_of self.now.compiled.now self.now.key.now ≡ true }
-        requires known { known.now ≡ known_in (G.meaning before.now) (H.meaning after.now) known.now.elem }
-        ensures elems { OnOk result (elems.new.items ≡ elems.old.items
-            ++ found_alone self.now.compiled.now (G.meaning before.now) (H.meaning after.now) known.now.elem
-            (pattern_of self.now.side self.now.key.now)) }
-        ensures no_step_back { steps.old ≤ steps.new }
-        ensures cost { (most : ℕ) → IsSparseInBoth (G.meaning before.now) (H.meaning after.now) (most_edges self.now.key.now) known.now.elem most →
-            steps.new ≤ steps.old + 2 * (most + 2) }
-    {
-        let elem = known.elem;
-        if self.passes(0, elem, &known.before) || self.passes(0, elem, &known.after) {
-            elems.push(elem)?;
-        }
-        if is_edge(self.key.pattern(self.side)) {
-            add_edges_at_both(before, after, elem, elems, steps)?;
-        }
-        Ok(())
-    }
-
-    // Adds what is found from an element of a change.
+    // Adds what is found from an element of a change. A pattern of one variable needs no search.
     fn add_found<G: GraphRead, H: GraphRead, L: Ledger>(
         &self,
         alloc: Global,
@@ -257,11 +211,17 @@ impl<'a> Sought<'a> {
             steps.new ≤ steps.old + 640 * (most + 2) ^ (most_edges self.now.key.now + 1) }
     {
         let vars = self.key.pattern(self.side).edge_vars.len();
-        if vars == 1 {
-            self.add_alone(before, after, known, elems, steps)
-        } else {
-            self.add_searched(alloc, before, after, known, vars as u32, elems, steps)
+        if vars != 1 {
+            return self.add_searched(alloc, before, after, known, vars as u32, elems, steps);
         }
+        let elem = known.elem;
+        if self.passes(0, elem, &known.before) || self.passes(0, elem, &known.after) {
+            elems.push(elem)?;
+        }
+        if is_edge(self.key.pattern(self.side)) {
+            add_edges_at_both(before, after, elem, elems, steps)?;
+        }
+        Ok(())
     }
 }
 
