@@ -1,7 +1,7 @@
-ghost use Rattle.std.specs.Prelude.{◌≡◌, ◌∷◌, [], ◌+◌, ◌<◌, ◌≤◌, length, true, OnOk, IfOk, MatchOption, ⊤, List, ℕ};
+ghost use Rattle.std.specs.Prelude.{◌≡◌, ◌∷◌, [], ◌+◌, ◌<◌, ◌≤◌, true, OnOk, IfOk, MatchOption, ⊤, List, ℕ};
 ghost use Rattle.pgs_resolve_order.specs.Links.{leads_back, IsSomeBack};
 ghost use Rattle.pgs_resolve_order.specs.Searching.{mark_at, unseen_work};
-ghost use Rattle.pgs_resolve_order.specs.DepthFirst.{way_of, IsNext, IsDepthFirst, StayMarked, left_work, visit_work, search_steps};
+ghost use Rattle.pgs_resolve_order.specs.DepthFirst.{way_of, IsNext, IsDepthFirst, StayMarked, left_work, search_steps};
 
 use crate::links::row_at;
 use crate::marks::{mark_of, set_mark};
