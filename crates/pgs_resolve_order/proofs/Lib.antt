@@ -1,4 +1,5 @@
 pub mod Backs
+pub mod DepthFirst
 pub mod Kept
 pub mod Leading
 pub mod Leasts

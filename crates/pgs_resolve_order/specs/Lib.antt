@@ -1,3 +1,4 @@
+pub mod DepthFirst
 pub mod Links
 pub mod Listing
 pub mod Reached

@@ -25,6 +25,13 @@ leads_in rows (suc steps) from to = list_any (λ number. number == to || leads_i
 abbrev pub leads_back : List (List ℕ) → ℕ → Bool
 leads_back rows number = leads_in rows (length rows) number number
 
+-- that some number leads back to itself, and whether such a number was found
+abbrev pub SomeBack : List (List ℕ) → Type 0
+SomeBack rows = (number : ℕ) × (leads_back rows number ≡ true)
+
+abbrev pub IsSomeBack : List (List ℕ) → Option ℕ → Type 0
+IsSomeBack rows found = MatchOption found ((number : ℕ) → leads_back rows number ≡ false) (λ number. leads_back rows number ≡ true)
+
 -- whether a number is that of the first place of its name
 abbrev pub IsFirst : List (List ℕ) → ℕ → Type 0
 IsFirst names number = position (same_name (slice_index_or names number [])) names ≡ Some number

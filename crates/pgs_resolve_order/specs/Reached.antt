@@ -1,7 +1,7 @@
 -- Numbers that are reached from a start, in the order in which they are, with a flag for each number that some link led to.
-use Rattle.std.specs.Prelude.{◌≡◌, ℕ, suc, ◌+◌, ◌==◌, ◌<◌, ◌≤◌, Bool, true, false, not, List, [], ◌∷◌, ◌++◌, length, slice_index_or, if◌then◌else◌}
+use Rattle.std.specs.Prelude.{◌≡◌, ℕ, suc, ◌==◌, ◌<◌, ◌≤◌, Bool, true, not, List, [], ◌∷◌, ◌++◌, length, slice_index_or, if◌then◌else◌}
 use Rattle.std.specs.List.{list_any, count_by}
-use Rattle.pgs_resolve_order.specs.Links.{row_at, leads_in, is_set}
+use Rattle.pgs_resolve_order.specs.Links.{leads_in, is_set}
 
 -- whether a number is among numbers
 abbrev pub is_among : List ℕ → ℕ → Bool

@@ -2,6 +2,7 @@ ghost use Rattle.std.specs.Prelude.{◌≡◌, ◌≢◌, ◌+◌, ◌<◌, ◌�
 ghost use Rattle.pgs_resolve_order.specs.Searching.{IsSearch, mark_at, unseen_work, frame_work, work_of};
 
 use crate::links::row_at;
+use crate::marks::{mark_of, set_mark};
 use pgs_base::{List, Memory};
 use std::alloc::Global;
 
@@ -22,23 +23,6 @@ struct Search<'a> {
     open: Vec<usize>,
     order: usize,
     rank: usize,
-}
-
-fn mark_of(marks: &[usize], number: usize) -> usize
-    ensures { result ≡ mark_at marks.now number }
-{
-    match marks.get(number) {
-        Some(mark) => *mark,
-        None => usize::MAX,
-    }
-}
-
-fn set_mark(marks: &mut Vec<usize>, number: usize, mark: usize)
-    ensures { marks.new.items ≡ slice_set marks.old.items number mark }
-{
-    if number < marks.len() {
-        marks[number] = mark;
-    }
 }
 
 // Takes over a mark, where it is earlier.

@@ -3,17 +3,20 @@ ghost use Rattle.std.specs.Bool.{OnTrue};
 ghost use Rattle.std.specs.List.{list_any, list_all};
 ghost use Rattle.std.specs.Option.{option_copied};
 ghost use Rattle.pgs_syntax.specs.declared.script.Script.{Script};
-ghost use Rattle.pgs_resolve_order.specs.Links.{AreLinks, row_at, leads_in, leads_back, IsFirst, first_of, lesser_of, is_before, rank_of, never_falls, stays, is_set, IsLeastSet, IsLeastBack};
+ghost use Rattle.pgs_resolve_order.specs.Links.{AreLinks, row_at, leads_in, leads_back, SomeBack, IsFirst, first_of, lesser_of, is_before, rank_of, never_falls, stays, is_set, IsLeastSet, IsLeastBack};
 ghost use Rattle.pgs_resolve_declared.specs.Refused.{cyclic, least, cycle, named_by, imported_by};
 ghost use Rattle.pgs_resolve_declared.specs.Tables.{AreOf};
 
 use crate::components::ranks;
+use crate::depth_first::some_back;
 use crate::links::{graph_rows, row_at, type_names, type_rows};
 use crate::reached::reached_from;
-use pgs_base::{Copyable, List, Memory, Name};
+use pgs_base::{Copyable, List, Memory, Name, Steps};
 use pgs_resolve_declared::{Declarations, Names};
 use std::alloc::Global;
 use std::cmp::Ordering;
+use std::marker::Brand;
+use std::sync::ledger::{Blank, Ledger};
 
 // ---- ranks that prove that numbers don't lead back to themselves
 
@@ -143,8 +146,9 @@ fn first_place(names: &Names, number: usize) -> usize
 }
 
 // Of each number whether it is the first one of its name and leads back to itself, each by a search of its own: this is
-// asked only where a proposal fails its test.
+// asked only where there is a cycle, and where a proposal fails its test.
 fn leading_back(alloc: Global, names: &Names, rows: &[List<u32>]) -> Result<Vec<bool>, Memory>
+    requires { SomeBack rows.now }
     ensures len { IfOk result (λ flags. length flags.items ≡ length names.now) }
     ensures flags { IfOk result (λ flags. (number : ℕ) → number < length names.now → is_set flags.items number ≡ (first_of names.now number == number && leads_back rows.now number)) }
 {
@@ -157,13 +161,14 @@ fn leading_back(alloc: Global, names: &Names, rows: &[List<u32>]) -> Result<Vec<
 }
 
 fn least_by_steps(alloc: Global, names: &Names, rows: &[List<u32>]) -> Result<Option<usize>, Memory>
+    requires { SomeBack rows.now }
     ensures { IfOk result (IsLeastBack names.now rows.now) }
 {
     let flags = leading_back(alloc, names, rows)?;
     Ok(least_set(names.as_slice(), &flags))
 }
 
-// The number of the least name that leads back to itself, where ranks never fall along a link: names whose ranks don't
+// The number of the least name that leads back to itself, where some number does and ranks never fall along a link: names whose ranks don't
 // stay along a link don't lead back, and the least of the others is led back to.
 fn least_by_ranks(
     alloc: Global,
@@ -171,6 +176,7 @@ fn least_by_ranks(
     rows: &[List<u32>],
     ranks: &[usize],
 ) -> Result<Option<usize>, Memory>
+    requires { SomeBack rows.now }
     ensures { ((number : ℕ) → never_falls rows.now ranks.now number ≡ true) → IfOk result (IsLeastBack names.now rows.now) }
 {
     let flags = staying(alloc, names.as_slice().len(), rows, ranks)?;
@@ -186,7 +192,10 @@ fn least_by_ranks(
     }
 }
 
-fn least_number(alloc: Global, names: &Names, rows: &[List<u32>]) -> Result<Option<usize>, Memory>
+// The number of the least name that leads back to itself, where some number does: by ranks that are proposed, and where
+// these fail their test by a search from each name.
+fn least_back(alloc: Global, names: &Names, rows: &[List<u32>]) -> Result<Option<usize>, Memory>
+    requires { SomeBack rows.now }
     ensures { IfOk result (IsLeastBack names.now rows.now) }
 {
     let ranks = ranks(alloc, rows)?;
@@ -195,6 +204,32 @@ fn least_number(alloc: Global, names: &Names, rows: &[List<u32>]) -> Result<Opti
     } else {
         least_by_steps(alloc, names, rows)
     }
+}
+
+// Whether any number leads back is decided along each link once; only where one does the least of them is looked for. No one
+// asks for the steps.
+fn least_counted<L: Ledger>(
+    alloc: Global,
+    names: &Names,
+    rows: &[List<u32>],
+    blank: Blank,
+) -> Result<Option<usize>, Memory>
+    requires name { blank.name ≡ L.name }
+    requires parts { blank.parts ≡ L.parts }
+    requires some { 0 < blank.parts }
+    ensures { IfOk result (IsLeastBack names.now rows.now) }
+{
+    let mut steps: Steps<L> = Steps::begin(blank);
+    match some_back(alloc, rows, &mut steps)? {
+        Some(_) => least_back(alloc, names, rows),
+        None => Ok(None),
+    }
+}
+
+fn least_number(alloc: Global, names: &Names, rows: &[List<u32>]) -> Result<Option<usize>, Memory>
+    ensures { IfOk result (IsLeastBack names.now rows.now) }
+{
+    least_counted::<Brand>(alloc, names, rows, Blank::new(1))
 }
 
 fn name_at(names: &Names, number: usize) -> Option<&Name>

@@ -6,8 +6,10 @@
 
 mod components;
 mod cycles;
+mod depth_first;
 mod links;
 mod listing;
+mod marks;
 mod reached;
 
 pub use cycles::least_on_cycle;

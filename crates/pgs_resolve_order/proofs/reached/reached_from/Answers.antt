@@ -1,4 +1,4 @@
-use Rattle.std.proofs.Common.{◌≡◌, ℕ, length, get_or, sym, ◌∙◌, arith}
+use Rattle.std.proofs.Common.{◌≡◌, get_or, sym, ◌∙◌, arith}
 use Rattle.std.proofs.lemmas.Grind.{common_steps}
 use Rattle.pgs_resolve_order.proofs.Reaching.{follow_more, all_led}
 use Rattle.pgs_resolve_order.proofs.reached.reached_from.Goals as goal

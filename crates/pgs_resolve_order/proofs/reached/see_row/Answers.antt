@@ -1,4 +1,4 @@
-use Rattle.std.proofs.Common.{ℕ, ◌+◌, Bool, List, length, get_or, take, sym, ◌∙◌, ap, subst, arith}
+use Rattle.std.proofs.Common.{◌+◌, Bool, List, get_or, take, sym, ◌∙◌, ap, subst, arith}
 use Rattle.pgs_resolve_order.specs.Links.{is_set}
 use Rattle.pgs_resolve_order.specs.Reached.{AreSeen, StayReached}
 use Rattle.pgs_resolve_order.proofs.Reaching.{sees, same_reached, a_link, seen_more, set_stays, stay_more}
