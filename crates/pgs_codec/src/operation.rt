@@ -17,8 +17,11 @@ fn read_add_node(alloc: Global, reader: &mut Reader<'_>) -> Result<Op, Unread>
     ensures { Reads (λ op. op) result reader.new.rest.now (kind_in op_kinds 1 reader.old.rest.now) }
 {
     let (id, row) = <(NodeId, NodeRow)>::read(alloc, reader)?;
-    let NodeRow { labels, props } = row;
-    Ok(Op::AddNode { id, labels, props })
+    Ok(Op::AddNode {
+        id,
+        labels: row.labels,
+        props: row.props,
+    })
 }
 
 #[tactic(auto, unfolding(crate::specs::Reading::named_at, crate::specs::Reading::edge_at))]
@@ -26,18 +29,12 @@ fn read_add_edge(alloc: Global, reader: &mut Reader<'_>) -> Result<Op, Unread>
     ensures { Reads (λ op. op) result reader.new.rest.now (kind_in op_kinds 2 reader.old.rest.now) }
 {
     let (id, row) = <(EdgeId, EdgeRow)>::read(alloc, reader)?;
-    let EdgeRow {
-        source,
-        target,
-        labels,
-        props,
-    } = row;
     Ok(Op::AddEdge {
         id,
-        source,
-        target,
-        labels,
-        props,
+        source: row.source,
+        target: row.target,
+        labels: row.labels,
+        props: row.props,
     })
 }
 
