@@ -3,25 +3,25 @@
 ghost use Rattle.std.specs.Prelude.{◌≡◌, true, length, IfOk};
 ghost use Rattle.pgs_syntax.specs.Valid.{is_valid_spec};
 
-use crate::generated::{Dice, generated};
+use crate::generated::{Dice, random_spec};
 use crate::plain::{PAIRS, Small, Table, has, labels_of, props_of, table_of};
-use crate::schemas::edge_compiled;
+use crate::schemas::compile_edge;
 use pgs_base::{Labels, Props};
 use pgs_conform::{Compiled, Pair, edge_fits};
 use pgs_syntax::{Leaf, Spec};
 use std::alloc::Global;
 use std::test::Fail;
 
-type Carried = (Labels, Props);
+type OwnedPair = (Labels, Props);
 
-fn carried(alloc: Global, number: usize) -> Result<Carried, Fail> {
+fn small_pair(alloc: Global, number: usize) -> Result<OwnedPair, Fail> {
     let pair = Small::of(number);
     let labels = labels_of(alloc, pair)?;
     let props = props_of(alloc, pair)?;
     Ok((labels, props))
 }
 
-fn fits_carried(compiled: &Compiled, source: &Carried, own: &Carried, target: &Carried) -> bool
+fn fits_pairs(compiled: &Compiled, source: &OwnedPair, own: &OwnedPair, target: &OwnedPair) -> bool
     requires { length compiled.now.edges ≡ 1 }
 {
     let source = Pair {
@@ -43,26 +43,26 @@ fn fits_carried(compiled: &Compiled, source: &Carried, own: &Carried, target: &C
 fn fits_from(
     alloc: Global,
     compiled: &Compiled,
-    source: &Carried,
+    source: &OwnedPair,
     numbers: [usize; 2],
 ) -> Result<bool, Fail>
     requires { length compiled.now.edges ≡ 1 }
 {
-    let own = carried(alloc, numbers[0])?;
-    let target = carried(alloc, numbers[1])?;
-    Ok(fits_carried(compiled, source, &own, &target))
+    let own = small_pair(alloc, numbers[0])?;
+    let target = small_pair(alloc, numbers[1])?;
+    Ok(fits_pairs(compiled, source, &own, &target))
 }
 
 fn fits(alloc: Global, compiled: &Compiled, numbers: [usize; 3]) -> Result<bool, Fail>
     requires { length compiled.now.edges ≡ 1 }
 {
     let [source, own, target] = numbers;
-    let source = carried(alloc, source)?;
+    let source = small_pair(alloc, source)?;
     fits_from(alloc, compiled, &source, [own, target])
 }
 
 // A pair that is in the table or isn't, as wanted, where there is one.
-fn picked(table: &[bool], dice: &mut Dice, wanted: bool) -> usize {
+fn pick(table: &[bool], dice: &mut Dice, wanted: bool) -> usize {
     let start = dice.roll(96) as usize;
     for step in 0..PAIRS {
         let number = (start + step) % PAIRS;
@@ -83,10 +83,10 @@ struct Tables {
 
 impl Tables {
     // Three pairs, each in its table or not by a bit of the number.
-    fn picked(&self, dice: &mut Dice, bits: u32) -> [usize; 3] {
-        let source = picked(&self.source, dice, bits % 2 == 0);
-        let middle = picked(&self.middle, dice, bits / 2 % 2 == 0);
-        let target = picked(&self.target, dice, bits / 4 % 2 == 0);
+    fn pick(&self, dice: &mut Dice, bits: u32) -> [usize; 3] {
+        let source = pick(&self.source, dice, bits % 2 == 0);
+        let middle = pick(&self.middle, dice, bits / 2 % 2 == 0);
+        let target = pick(&self.target, dice, bits / 4 % 2 == 0);
         [source, middle, target]
     }
 
@@ -97,7 +97,7 @@ impl Tables {
 }
 
 // How many of 24 triples fit the type, and how many are answered alike.
-fn counted(
+fn count_alike(
     alloc: Global,
     compiled: &Compiled,
     tables: &Tables,
@@ -108,7 +108,7 @@ fn counted(
     let mut inside: u32 = 0;
     let mut alike: u32 = 0;
     for bits in 0..24 {
-        let numbers = tables.picked(dice, bits);
+        let numbers = tables.pick(dice, bits);
         let fits = fits(alloc, compiled, numbers)?;
         inside = inside.saturating_add(u32::from(fits));
         alike = alike.saturating_add(u32::from(fits == tables.have(numbers)));
@@ -124,14 +124,14 @@ struct Parts {
     target: Spec<Leaf>,
 }
 
-fn generated_parts(alloc: Global, dice: &mut Dice) -> Result<Parts, Fail>
+fn random_parts(alloc: Global, dice: &mut Dice) -> Result<Parts, Fail>
     ensures source { IfOk result (λ parts. is_valid_spec 0 parts.source ≡ true) }
     ensures middle { IfOk result (λ parts. is_valid_spec 0 parts.middle ≡ true) }
     ensures target { IfOk result (λ parts. is_valid_spec 0 parts.target ≡ true) }
 {
-    let source = generated(alloc, dice, 2)?;
-    let middle = generated(alloc, dice, 2)?;
-    let target = generated(alloc, dice, 2)?;
+    let source = random_spec(alloc, dice, 2)?;
+    let middle = random_spec(alloc, dice, 2)?;
+    let target = random_spec(alloc, dice, 2)?;
     Ok(Parts {
         source,
         middle,
@@ -150,25 +150,25 @@ fn tables_of(alloc: Global, parts: &Parts) -> Result<Tables, Fail> {
     })
 }
 
-fn compared(alloc: Global, dice: &mut Dice) -> Result<(u32, u32), Fail> {
-    let parts = generated_parts(alloc, dice)?;
+fn compare(alloc: Global, dice: &mut Dice) -> Result<(u32, u32), Fail> {
+    let parts = random_parts(alloc, dice)?;
     let tables = tables_of(alloc, &parts)?;
     let Parts {
         source,
         middle,
         target,
     } = parts;
-    let compiled = edge_compiled(alloc, source, middle, target)?;
-    counted(alloc, &compiled, &tables, dice)
+    let compiled = compile_edge(alloc, source, middle, target)?;
+    count_alike(alloc, &compiled, &tables, dice)
 }
 
 // Of so many edge types: whether some triples fit, and not all, and how many answers are alike.
-fn all_compared(alloc: Global, types: u32) -> Result<(bool, u32), Fail> {
+fn compare_all(alloc: Global, types: u32) -> Result<(bool, u32), Fail> {
     let mut dice = Dice::new(11);
     let mut some: u32 = 0;
     let mut alike: u32 = 0;
     for _ in 0..types {
-        let (inside, same) = compared(alloc, &mut dice)?;
+        let (inside, same) = compare(alloc, &mut dice)?;
         some = some.saturating_add(inside);
         alike = alike.saturating_add(same);
     }
@@ -177,6 +177,6 @@ fn all_compared(alloc: Global, types: u32) -> Result<(bool, u32), Fail> {
 
 #[test]
 fn compiled_edge_types_answer_by_their_three_parts(rt: HostRuntime) -> Result<(), Fail> {
-    assert_eq!(rt; all_compared(rt.alloc(), 20)?, (true, 480));
+    assert_eq!(rt; compare_all(rt.alloc(), 20)?, (true, 480));
     Ok(())
 }

@@ -31,7 +31,7 @@ impl Dice {
     }
 }
 
-fn generated_braces(alloc: Global, dice: &mut Dice) -> Result<Spec<Leaf>, Fail>
+fn random_braces(alloc: Global, dice: &mut Dice) -> Result<Spec<Leaf>, Fail>
     ensures { IfOk result (λ spec. (bound : ℕ) → is_valid_spec bound spec ≡ true) }
 {
     let kind = if dice.roll(2) == 0 {
@@ -45,7 +45,7 @@ fn generated_braces(alloc: Global, dice: &mut Dice) -> Result<Spec<Leaf>, Fail>
     braces(alloc, key, kind, optional, more)
 }
 
-fn generated_leaf(alloc: Global, dice: &mut Dice) -> Result<Spec<Leaf>, Fail>
+fn random_leaf(alloc: Global, dice: &mut Dice) -> Result<Spec<Leaf>, Fail>
     ensures { IfOk result (λ spec. (bound : ℕ) → is_valid_spec bound spec ≡ true) }
 {
     match dice.roll(8) {
@@ -53,33 +53,33 @@ fn generated_leaf(alloc: Global, dice: &mut Dice) -> Result<Spec<Leaf>, Fail>
         1 => Ok(open_labels()),
         2 | 3 => label(alloc, "A"),
         4 => label(alloc, "B"),
-        _ => generated_braces(alloc, dice),
+        _ => random_braces(alloc, dice),
     }
 }
 
 /// A specification of at most so many levels of `&`, `|` and `?`.
-pub fn generated(alloc: Global, dice: &mut Dice, levels: u32) -> Result<Spec<Leaf>, Fail>
+pub fn random_spec(alloc: Global, dice: &mut Dice, levels: u32) -> Result<Spec<Leaf>, Fail>
     ensures { IfOk result (λ spec. (bound : ℕ) → is_valid_spec bound spec ≡ true) }
 {
     if levels == 0 {
-        return generated_leaf(alloc, dice);
+        return random_leaf(alloc, dice);
     }
     match dice.roll(5) {
-        0 => generated_leaf(alloc, dice),
+        0 => random_leaf(alloc, dice),
         1 => {
-            let part = generated(alloc, dice, levels - 1)?;
+            let part = random_spec(alloc, dice, levels - 1)?;
             let spec = maybe(alloc, part)?;
             Ok(spec)
         }
         2 => {
-            let first = generated(alloc, dice, levels - 1)?;
-            let second = generated(alloc, dice, levels - 1)?;
+            let first = random_spec(alloc, dice, levels - 1)?;
+            let second = random_spec(alloc, dice, levels - 1)?;
             let spec = either(alloc, first, second)?;
             Ok(spec)
         }
         _ => {
-            let first = generated(alloc, dice, levels - 1)?;
-            let second = generated(alloc, dice, levels - 1)?;
+            let first = random_spec(alloc, dice, levels - 1)?;
+            let second = random_spec(alloc, dice, levels - 1)?;
             let spec = both(alloc, first, second)?;
             Ok(spec)
         }

@@ -45,7 +45,7 @@ impl Small {
     }
 
     // What stands at a key in a join, where the two agree.
-    fn united_at(first: usize, second: usize) -> Option<usize> {
+    fn join_at(first: usize, second: usize) -> Option<usize> {
         if first == 0 || first == second {
             Some(second)
         } else if second == 0 {
@@ -56,12 +56,12 @@ impl Small {
     }
 
     /// The join of two pairs.
-    fn united(self, other: Small) -> Option<Small> {
+    fn join(self, other: Small) -> Option<Small> {
         let [k, l, m] = self.keys;
         let [other_k, other_l, other_m] = other.keys;
-        let k = Small::united_at(k, other_k)?;
-        let l = Small::united_at(l, other_l)?;
-        let m = Small::united_at(m, other_m)?;
+        let k = Small::join_at(k, other_k)?;
+        let l = Small::join_at(l, other_l)?;
+        let m = Small::join_at(m, other_m)?;
         Some(Small {
             labels: self.labels | other.labels,
             keys: [k, l, m],
@@ -171,7 +171,7 @@ fn add_all(table: &mut Table, others: &[bool]) {
 fn add_joins(table: &mut Table, first: Small, others: &[bool]) {
     for number in 0..PAIRS {
         if has(others, number) {
-            if let Some(pair) = first.united(Small::of(number)) {
+            if let Some(pair) = first.join(Small::of(number)) {
                 add(table, pair.number());
             }
         }

@@ -32,7 +32,8 @@ pub fn label(alloc: Global, text: &str) -> Result<Spec<Leaf>, Fail>
     Ok(Spec::Word(Leaf::Label(name)))
 }
 
-pub fn named(number: u32) -> Spec<Leaf>
+/// The specification of a named type, by its number.
+pub fn named_type(number: u32) -> Spec<Leaf>
     ensures { (bound : ℕ) → nat_lt number bound ≡ true → is_valid_spec bound result ≡ true }
 {
     Spec::Word(Leaf::Named(number))

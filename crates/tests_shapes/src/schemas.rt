@@ -60,13 +60,12 @@ pub fn one_type(alloc: Global, spec: Spec<Leaf>) -> Result<Resolved, Fail>
 }
 
 /// The one type compiled.
-pub fn compiled(alloc: Global, spec: Spec<Leaf>) -> Result<Compiled, Fail>
+pub fn compile_one(alloc: Global, spec: Spec<Leaf>) -> Result<Compiled, Fail>
     requires { is_valid_spec 0 spec ≡ true }
     ensures { IfOk result (λ compiled. length compiled.nodes ≡ 1) }
 {
     let resolved = one_type(alloc, spec)?;
-    let compiled = compile(alloc, resolved)?;
-    Ok(compiled)
+    Ok(compile(alloc, resolved)?)
 }
 
 // Two node types of places 1 and 2.
@@ -106,7 +105,7 @@ fn three_nodes(
 }
 
 /// Three node types compiled, of which some are members. A type may name those before it.
-pub fn three_compiled(
+pub fn compile_three(
     alloc: Global,
     hidden: bool,
     first: Spec<Leaf>,
@@ -130,7 +129,7 @@ pub fn three_compiled(
 }
 
 /// One edge type compiled, whose specifications name no type.
-pub fn edge_compiled(
+pub fn compile_edge(
     alloc: Global,
     source: Spec<Leaf>,
     middle: Spec<Leaf>,
@@ -156,6 +155,5 @@ pub fn edge_compiled(
         edges: List::from_vec(edges),
         guard,
     };
-    let compiled = compile(alloc, resolved)?;
-    Ok(compiled)
+    Ok(compile(alloc, resolved)?)
 }

@@ -5,8 +5,10 @@ ghost use Rattle.std.specs.List.{list_all};
 ghost use Rattle.pgs_syntax.specs.Valid.{is_valid_spec};
 ghost use Rattle.tests_shapes.specs.Schemas.{is_node_below};
 
-use crate::sample::{both, braces, either, empty, label, labels, maybe, name, named, open_labels};
-use crate::schemas::{compiled, three_compiled};
+use crate::sample::{
+    both, braces, either, empty, label, labels, maybe, name, named_type, open_labels,
+};
+use crate::schemas::{compile_one, compile_three};
 use pgs_base::{Kind, Props, Text, Value};
 use pgs_conform::{Compiled, Pair, node_typed};
 use pgs_syntax::{Leaf, Spec, TypeNo};
@@ -51,7 +53,7 @@ fn props(alloc: Global, entries: &[(&str, Given)]) -> Result<Props, Fail> {
     Ok(props)
 }
 
-fn typed(alloc: Global, compiled: &Compiled, row: &Row) -> Result<bool, Fail> {
+fn is_typed(alloc: Global, compiled: &Compiled, row: &Row) -> Result<bool, Fail> {
     let labels = labels(alloc, row.0)?;
     let props = props(alloc, row.1)?;
     let own = Pair {
@@ -64,7 +66,7 @@ fn typed(alloc: Global, compiled: &Compiled, row: &Row) -> Result<bool, Fail> {
 // The place of the first row that is answered otherwise.
 fn wrong(alloc: Global, compiled: &Compiled, rows: &[Row]) -> Result<Option<usize>, Fail> {
     for (place, row) in rows.iter().enumerate() {
-        if typed(alloc, compiled, row)? != row.2 {
+        if is_typed(alloc, compiled, row)? != row.2 {
             return Ok(Some(place));
         }
     }
@@ -84,7 +86,7 @@ fn heir(alloc: Global) -> Result<Spec<Leaf>, Fail>
     ensures { IfOk result (λ spec. (bound : ℕ) → nat_lt 0 bound ≡ true → is_valid_spec bound spec ≡ true) }
 {
     let employee = label(alloc, "Employee")?;
-    let spec = both(alloc, named(0), employee)?;
+    let spec = both(alloc, named_type(0), employee)?;
     Ok(spec)
 }
 
@@ -103,21 +105,21 @@ fn staff(alloc: Global, types: &[TypeNo]) -> Result<Compiled, Fail>
 {
     let first = person(alloc)?;
     let second = employee(alloc)?;
-    three_compiled(alloc, false, first, second, empty(), types)
+    compile_three(alloc, false, first, second, empty(), types)
 }
 
 // (a {k INT}), (b {OPTIONAL k STRING}), (c: a & b), of which c is a member.
 fn shared_key(alloc: Global) -> Result<Compiled, Fail> {
-    let join = both(alloc, named(0), named(1))?;
+    let join = both(alloc, named_type(0), named_type(1))?;
     let number = braces(alloc, "k", Kind::Int, false, false)?;
     let text = braces(alloc, "k", Kind::Text, true, false)?;
-    three_compiled(alloc, false, number, text, join, &[TypeNo::Node(2)])
+    compile_three(alloc, false, number, text, join, &[TypeNo::Node(2)])
 }
 
 // (t {OPTIONAL age INT, OPEN}).
 fn open_type(alloc: Global) -> Result<Compiled, Fail> {
     let spec = braces(alloc, "age", Kind::Int, true, true)?;
-    compiled(alloc, spec)
+    compile_one(alloc, spec)
 }
 
 // ABSTRACT (a: A), ABSTRACT (b: B), and a third that is no member.
@@ -125,14 +127,14 @@ fn abstract_types(alloc: Global) -> Result<Compiled, Fail> {
     let first = label(alloc, "A")?;
     let second = label(alloc, "B")?;
     let types = &[TypeNo::Node(0), TypeNo::Node(1)];
-    three_compiled(alloc, true, first, second, empty(), types)
+    compile_three(alloc, true, first, second, empty(), types)
 }
 
 // (t: A OPEN).
 fn labels_open(alloc: Global) -> Result<Compiled, Fail> {
     let a = label(alloc, "A")?;
     let spec = both(alloc, a, open_labels())?;
-    compiled(alloc, spec)
+    compile_one(alloc, spec)
 }
 
 fn b_and_maybe_c(alloc: Global) -> Result<Spec<Leaf>, Fail>
@@ -150,7 +152,7 @@ fn either_type(alloc: Global) -> Result<Compiled, Fail> {
     let second = b_and_maybe_c(alloc)?;
     let a = label(alloc, "A")?;
     let spec = either(alloc, a, second)?;
-    compiled(alloc, spec)
+    compile_one(alloc, spec)
 }
 
 /// The schemas of the tables.
@@ -175,7 +177,7 @@ fn compiled_of(alloc: Global, schema: Schema) -> Result<Compiled, Fail> {
         Schema::Abstract => abstract_types(alloc),
         Schema::OpenLabels => labels_open(alloc),
         Schema::Either => either_type(alloc),
-        Schema::Bare => compiled(alloc, empty()),
+        Schema::Bare => compile_one(alloc, empty()),
     }
 }
 

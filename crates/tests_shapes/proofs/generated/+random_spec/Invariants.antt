@@ -1,4 +1,4 @@
-use Rattle.tests_shapes.proofs.generated.+generated.Given as goal
+use Rattle.tests_shapes.proofs.generated.+random_spec.Given as goal
 
-abbrev pub decreases-generated : goal.decreases-generated
-decreases-generated l = l.levels
+abbrev pub decreases-random_spec : goal.decreases-random_spec
+decreases-random_spec l = l.levels
