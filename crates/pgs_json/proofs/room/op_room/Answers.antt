@@ -32,20 +32,20 @@ returns-in-UnsetNode c =
     elim c.in-UnsetNode.is [
       | inl e ↦ rw e.1 (named_room (codes "key") (codes "unset_node") c.in-UnsetNode.name e.0.0 (rw e.1 at c.facts.ensures) (refl, refl) (omega arith) _ c.name_room.ensures.exact)
       | inr others ↦
-        elim others [
-          | inl e ↦ rw e.1 (named_room (codes "key") (codes "unset_edge") c.in-UnsetNode.name e.0.0 (rw e.1 at c.facts.ensures) (refl, refl) (omega arith) _ c.name_room.ensures.exact)
-          | inr others ↦
-            elim others [
-              | inl e ↦ rw e.1 (named_room (codes "label") (codes "label_node") c.in-UnsetNode.name e.0.0 (rw e.1 at c.facts.ensures) (refl, refl) (omega arith) _ c.name_room.ensures.exact)
-              | inr others ↦
+          elim others [
+            | inl e ↦ rw e.1 (named_room (codes "key") (codes "unset_edge") c.in-UnsetNode.name e.0.0 (rw e.1 at c.facts.ensures) (refl, refl) (omega arith) _ c.name_room.ensures.exact)
+            | inr others ↦
                 elim others [
-                  | inl e ↦ rw e.1 (named_room (codes "label") (codes "unlabel_node") c.in-UnsetNode.name e.0.0 (rw e.1 at c.facts.ensures) (refl, refl) (omega arith) _ c.name_room.ensures.exact)
+                  | inl e ↦ rw e.1 (named_room (codes "label") (codes "label_node") c.in-UnsetNode.name e.0.0 (rw e.1 at c.facts.ensures) (refl, refl) (omega arith) _ c.name_room.ensures.exact)
                   | inr others ↦
-                    elim others [
-                      | inl e ↦ rw e.1 (named_room (codes "label") (codes "label_edge") c.in-UnsetNode.name e.0.0 (rw e.1 at c.facts.ensures) (refl, refl) (omega arith) _ c.name_room.ensures.exact)
-                      | inr e ↦ rw e.1 (named_room (codes "label") (codes "unlabel_edge") c.in-UnsetNode.name e.0.0 (rw e.1 at c.facts.ensures) (refl, refl) (omega arith) _ c.name_room.ensures.exact)
-                    ]
+                      elim others [
+                        | inl e ↦ rw e.1 (named_room (codes "label") (codes "unlabel_node") c.in-UnsetNode.name e.0.0 (rw e.1 at c.facts.ensures) (refl, refl) (omega arith) _ c.name_room.ensures.exact)
+                        | inr others ↦
+                            elim others [
+                              | inl e ↦ rw e.1 (named_room (codes "label") (codes "label_edge") c.in-UnsetNode.name e.0.0 (rw e.1 at c.facts.ensures) (refl, refl) (omega arith) _ c.name_room.ensures.exact)
+                              | inr e ↦ rw e.1 (named_room (codes "label") (codes "unlabel_edge") c.in-UnsetNode.name e.0.0 (rw e.1 at c.facts.ensures) (refl, refl) (omega arith) _ c.name_room.ensures.exact)
+                            ]
+                      ]
                 ]
-            ]
-        ]
+          ]
     ]
