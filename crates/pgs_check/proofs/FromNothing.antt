@@ -1,6 +1,6 @@
 -- The rows of all scopes, put into an index without rows, make it stand for the graph: without rows it stands for the empty graph.
-use Rattle.std.proofs.Common.{◌≡◌, ℕ, true, false, List, [], map, Option, Some, None, refl, sym, ◌∙◌, ap, true≢false}
-use Rattle.std.specs.Prelude.{length}
+use Rattle.std.proofs.Common.{◌≡◌, ℕ, Bool, true, false, List, [], map, filter, Option, Some, None, is_some, refl, sym, ◌∙◌, ap, true≢false}
+use Rattle.std.specs.Prelude.{length, if◌then◌else◌}
 use Rattle.std.specs.List.Sorted.{IsStrictlySortedBy}
 use Rattle.std.specs.Map.{keys_of}
 use Rattle.pgs_base.specs.declared.element.Elem.{Elem}
@@ -8,7 +8,7 @@ use Rattle.pgs_base.specs.declared.part.Part.{Part}
 use Rattle.pgs_base.specs.Graph.{Graph, empty_graph, is_graph}
 use Rattle.pgs_syntax.specs.declared.key.Key.{Key}
 use Rattle.pgs_syntax.specs.declared.resolved.Resolved.{Resolved}
-use Rattle.pgs_syntax.specs.KeyValues.{scope_of}
+use Rattle.pgs_syntax.specs.KeyValues.{is_in_scope, scope_of, key_values}
 use Rattle.pgs_syntax.proofs.InOrder.{scope_ascends}
 use Rattle.pgs_syntax.proofs.Members.{contains_none}
 use Rattle.pgs_keyindex.specs.declared.change.KeyChange.{KeyChange}
@@ -47,6 +47,15 @@ module _ (resolved : Resolved) where
       outside elem beside None is = refl
       outside elem beside (Some tuples) is =
           absurd (true≢false (sym (there_listed (scope_of resolved h key) elem (row_found resolved h key elem tuples is).0) ∙ beside))
+
+  -- an element is in the scope exactly where it has key values there
+  pub some_in_scope : (h : Graph) (key : Key) (elems : List Elem) →
+      filter (λ elem. is_some (values_in_scope resolved h key elem)) elems ≡ filter (is_in_scope resolved h key) elems
+  some_in_scope h key elems = ap (λ (p : Elem → Bool). filter p elems) (λ i elem. same elem (is_in_scope resolved h key elem) i)
+    where
+      same : (elem : Elem) (b : Bool) → is_some (if b then Some (key_values resolved h key elem) else None) ≡ b
+      same elem true = refl
+      same elem false = refl
 
   pub new_stands : (keys : List Key) (index : IndexState) → index.exclusive ≡ exclusive_keys keys → index.rows ≡ [] →
       StandsFor resolved empty_graph keys index

@@ -1,9 +1,9 @@
+pub mod Alone
 pub mod Bounds
 pub mod Chosen
 pub mod Costly
 pub mod Covered
 pub mod ElemOrder
-pub mod Entered
 pub mod Firsts
 pub mod FromNothing
 pub mod Indexed

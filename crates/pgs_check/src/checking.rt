@@ -18,7 +18,7 @@ ghost use Rattle.pgs_keyindex.specs.Rows.{IsOwned, is_exclusive, rows_changed};
 ghost use Rattle.pgs_keyindex.specs.Standing.{StandsFor, key_at, values_in_scope};
 ghost use Rattle.pgs_check.specs.Clashes.{IsOwner, tuples_of};
 ghost use Rattle.pgs_check.specs.Costs.{HaveEdgesWithin};
-ghost use Rattle.pgs_check.specs.Rows.{first_outside, first_shared, first_several, first_of_rows, change_of};
+ghost use Rattle.pgs_check.specs.Rows.{first_outside, first_of_rows, change_of};
 ghost use Rattle.pgs_check.specs.Standing.{IsFirst, IsFirstOf, IsFound, AreRows, AreChanges, ChangeEachOnce, index_changed};
 
 use crate::check_types;
@@ -74,56 +74,7 @@ fn first_outside(
     }
 }
 
-// The first 29 or 39 of a key that rows make.
-fn first_shared<L: Ledger>(
-    alloc: Global,
-    owners: &Owners<'_>,
-    asked: Qualifiers,
-    rows: &[KeyChange],
-    steps: &mut Steps<L>,
-) -> Result<Option<Violation>, Memory>
-    requires exclusive { asked.exclusive ≡ true → is_exclusive owners.now.index.now.exclusive owners.now.number ≡ true }
-    requires ascending { ascends elem_cmp owners.now.changed.now ≡ true }
-    ensures first { (owner : Items Part → Option Elem) →
-        (asked.exclusive ≡ true → IsOwner owners.now.index.now.rows owners.now.number owners.now.changed.now owner) →
-        IfOk result (λ found. found ≡ first_shared asked owners.now.number owner rows.now) }
-    ensures no_step_back { steps.old ≤ steps.new }
-    ensures cost { steps.new ≤ steps.old + sum_by (λ row. length (tuples_of row)) rows.now }
-{
-    if !asked.exclusive {
-        return first_outside(alloc, asked.count, owners.number, rows);
-    }
-    let shared = owners.least_shared(alloc, rows, steps)?;
-    match shared {
-        Some(found) => Ok(Some(found)),
-        None => first_outside(alloc, asked.count, owners.number, rows),
-    }
-}
-
-// The first 28, 29 or 39 of a key that rows make.
-fn first_several<L: Ledger>(
-    alloc: Global,
-    owners: &Owners<'_>,
-    asked: Qualifiers,
-    rows: &[KeyChange],
-    steps: &mut Steps<L>,
-) -> Result<Option<Violation>, Memory>
-    requires exclusive { asked.exclusive ≡ true → is_exclusive owners.now.index.now.exclusive owners.now.number ≡ true }
-    requires ascending { ascends elem_cmp owners.now.changed.now ≡ true }
-    ensures first { (owner : Items Part → Option Elem) →
-        (asked.exclusive ≡ true → IsOwner owners.now.index.now.rows owners.now.number owners.now.changed.now owner) →
-        IfOk result (λ found. found ≡ first_several asked owners.now.number owner rows.now) }
-    ensures no_step_back { steps.old ≤ steps.new }
-    ensures cost { steps.new ≤ steps.old + sum_by (λ row. length (tuples_of row)) rows.now }
-{
-    let several = first_if(alloc, asked.singleton, Rule::Singleton, owners.number, rows)?;
-    match several {
-        Some(found) => Ok(Some(found)),
-        None => first_shared(alloc, owners, asked, rows, steps),
-    }
-}
-
-// The first violation of a key that rows make.
+// The first violation of a key that rows make: 27, else 28, else 29, else 39.
 fn first_of_rows<L: Ledger>(
     alloc: Global,
     owners: &Owners<'_>,
@@ -140,9 +91,17 @@ fn first_of_rows<L: Ledger>(
     ensures cost { steps.new ≤ steps.old + sum_by (λ row. length (tuples_of row)) rows.now }
 {
     let missing = first_if(alloc, asked.mandatory, Rule::Mandatory, owners.number, rows)?;
-    match missing {
+    if let Some(found) = missing {
+        return Ok(Some(found));
+    }
+    let several = first_if(alloc, asked.singleton, Rule::Singleton, owners.number, rows)?;
+    if let Some(found) = several {
+        return Ok(Some(found));
+    }
+    let shared = owners.least_shared(alloc, asked.exclusive, rows, steps)?;
+    match shared {
         Some(found) => Ok(Some(found)),
-        None => first_several(alloc, owners, asked, rows, steps),
+        None => first_outside(alloc, asked.count, owners.number, rows),
     }
 }
 
@@ -202,8 +161,9 @@ fn kept_rows<L: Ledger>(
     }
 }
 
-// The rows of one key, of this number, from the elements that the change affects, where the changed graph doesn't violate it.
-fn check_affected<L: Ledger>(
+// The rows of one key, of this number, from the elements that the change affects, where the changed graph doesn't violate it. No list is
+// made where the change can't alter anything under the key.
+fn check_key<L: Ledger>(
     alloc: Global,
     index: &KeyIndex,
     compiled: &Compiled,
@@ -230,46 +190,13 @@ fn check_affected<L: Ledger>(
 {
     // The count's clause says that what is read is a graph.
     new.count();
+    if !change.can_alter(compiled, key) {
+        return Ok(Vec::new(alloc));
+    }
     let changed = change.affected(alloc, compiled, key, steps)?;
     let elems = changed.as_slice();
     let rows = key_rows(alloc, new, compiled, number, key, elems, steps)?;
     kept_rows(alloc, index, number, key, elems, rows, steps)
-}
-
-// The rows of one key, of this number, where the changed graph doesn't violate it. No list is made where the change can't alter anything
-// under the key.
-fn check_key<L: Ledger>(
-    alloc: Global,
-    index: &KeyIndex,
-    compiled: &Compiled,
-    number: u32,
-    key: &PlannedKey,
-    change: &Change<'_>,
-    new: &Overlay<'_>,
-    steps: &mut Steps<L>,
-) -> Result<Vec<KeyChange>, CheckFault>
-    requires typed { is_valid_key_of compiled.now key.now ≡ true }
-    requires number { key_at compiled.now.guard.keys number ≡ Some key.now }
-    requires before { is_graph change.now.before ≡ true }
-    requires after { new.now ≡ change.now.after }
-    requires index { StandsFor compiled.now change.now.before compiled.now.guard.keys index.now }
-    requires conforms { key_violations compiled.now change.now.before number key.now ≡ [] }
-    ensures violated { IfErr result (IsFirstOf (key_violations compiled.now new.now number key.now)) }
-    ensures none { OnOk result (key_violations compiled.now new.now number key.now ≡ []) }
-    ensures rows { IfOk result (λ rows. AreRows number (values_in_scope compiled.now change.now.before key.now)
-        (values_in_scope compiled.now new.now key.now) rows.items) }
-    ensures no_step_back { steps.old ≤ steps.new }
-    ensures cost { (edges most : ℕ) → most_edges key.now ≤ edges →
-        AreSparse change.now.before change.now.after (2 * edges) (touched change.now.before change.now.elems) most →
-        steps.new ≤ steps.old + 2048 * length (touched change.now.before change.now.elems) * (most + 2) ^ (2 * edges + 2) }
-{
-    if change.can_alter(compiled, key) {
-        check_affected(alloc, index, compiled, number, key, change, new, steps)
-    } else {
-        // The count's clause says that what is read is a graph.
-        new.count();
-        Ok(Vec::new(alloc))
-    }
 }
 
 // The rows of all keys, where the changed graph violates none of them.

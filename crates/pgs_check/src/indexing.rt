@@ -8,16 +8,17 @@ ghost use Rattle.pgs_keyindex.specs.Standing.{StandsFor, values_in_scope};
 ghost use Rattle.pgs_check.specs.Standing.{AreRows, AreChanges};
 
 use crate::checking::append;
-use crate::key_rows::key_rows;
+use crate::key_rows::key_row;
 use pgs_base::{List, Memory, Seed, Steps};
 use pgs_conform::Compiled;
 use pgs_graph::GraphRead;
 use pgs_keyindex::{KeyChange, KeyIndex};
-use pgs_match::{PlannedKey, each_x};
+use pgs_match::{PlannedKey, each_element};
 use std::alloc::Global;
 use std::sync::ledger::Ledger;
 
-// The rows of a key's scope, which are all that the graph has and the empty graph lacks.
+// The rows of a key's scope, which are all that the graph has and the empty graph lacks. Each element is asked whether it is in the scope,
+// and its key values are searched right after, while its row is at hand.
 fn scope_rows<G: GraphRead, L: Ledger>(
     alloc: Global,
     graph: &G,
@@ -32,8 +33,15 @@ fn scope_rows<G: GraphRead, L: Ledger>(
         (values_in_scope compiled.now (G.meaning graph.now) key.now) rows.items) }
     ensures no_step_back { steps.old ≤ steps.new }
 {
-    let scope = each_x(alloc, graph, compiled, key, steps)?;
-    let rows = key_rows(alloc, graph, compiled, number, key, scope.as_slice(), steps)?;
+    let elements = each_element(alloc, graph, key, steps)?;
+    let elems = elements.as_slice();
+    let mut rows = Vec::new(alloc);
+    for elem in elems {
+        let row = key_row(alloc, graph, compiled, number, key, *elem, steps)?;
+        if row.values.is_some() {
+            rows.push(row)?;
+        }
+    }
     Ok(rows)
 }
 

@@ -17,8 +17,8 @@ use pgs_match::{PlannedKey, in_scope, key_values};
 use std::alloc::Global;
 use std::sync::ledger::Ledger;
 
-// The row of an element.
-fn key_row<G: GraphRead, L: Ledger>(
+/// The row of an element, with its key values where it is in the scope.
+pub(crate) fn key_row<G: GraphRead, L: Ledger>(
     alloc: Global,
     graph: &G,
     compiled: &Compiled,

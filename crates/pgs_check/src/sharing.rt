@@ -9,8 +9,8 @@ ghost use Rattle.pgs_base.specs.Order.{ascends, elem_cmp, tuple_cmp};
 ghost use Rattle.pgs_base.specs.Places.{IsKeyAt, IsKeyGap};
 ghost use Rattle.pgs_check_affected.specs.Local.{is_one_of};
 ghost use Rattle.pgs_keyindex.specs.Rows.{has_tuple, has_value, is_exclusive};
-ghost use Rattle.pgs_check.specs.Clashes.{IsOwner, tuples_of, with_holders, with_owners, with_earlier};
-ghost use Rattle.pgs_check.specs.Rows.{least_shared};
+ghost use Rattle.pgs_check.specs.Clashes.{IsOwner, tuples_of, with_holders, with_earlier};
+ghost use Rattle.pgs_check.specs.Rows.{first_if, least_shared};
 
 use crate::clash::with_holder;
 use pgs_base::{Elem, Memory, Steps, Tuple};
@@ -97,45 +97,32 @@ impl<'a> Owners<'a> {
         Ok(found)
     }
 
-    // The least that rows make with the unchanged owners of their tuples.
-    fn with_owners<L: Ledger>(
+    /// The least violation that rows make by their key values, with the unchanged owners of these and among each other, where the key asks
+    /// for it. One look-up for each key value.
+    pub(crate) fn least_shared<L: Ledger>(
         &self,
         alloc: Global,
+        asked: bool,
         rows: &[KeyChange],
         steps: &mut Steps<L>,
     ) -> Result<Option<Violation>, Memory>
-        requires exclusive { is_exclusive self.now.index.now.exclusive self.now.number ≡ true }
+        requires exclusive { asked ≡ true → is_exclusive self.now.index.now.exclusive self.now.number ≡ true }
         requires ascending { ascends elem_cmp self.now.changed.now ≡ true }
-        ensures least { (owner : Items Part → Option Elem) → IsOwner self.now.index.now.rows self.now.number self.now.changed.now owner →
-            IfOk result (λ least. least ≡ with_owners self.now.number owner None rows.now) }
+        ensures least { (owner : Items Part → Option Elem) →
+            (asked ≡ true → IsOwner self.now.index.now.rows self.now.number self.now.changed.now owner) →
+            IfOk result (λ least. least ≡ first_if asked (least_shared self.now.number owner rows.now)) }
         ensures no_step_back { steps.old ≤ steps.new }
         ensures cost { steps.new ≤ steps.old + sum_by (λ row. length (tuples_of row)) rows.now }
     {
+        if !asked {
+            return Ok(None);
+        }
         let mut found = None;
         for row in rows {
             let tuples = tuples_of(row);
             let least = self.with_owners_of(alloc, row.elem, found, tuples, steps)?;
             found = least;
         }
-        Ok(found)
-    }
-
-    /// The least violation that rows make by their key values, with the unchanged owners of these and among each other. One look-up for
-    /// each key value.
-    pub(crate) fn least_shared<L: Ledger>(
-        &self,
-        alloc: Global,
-        rows: &[KeyChange],
-        steps: &mut Steps<L>,
-    ) -> Result<Option<Violation>, Memory>
-        requires exclusive { is_exclusive self.now.index.now.exclusive self.now.number ≡ true }
-        requires ascending { ascends elem_cmp self.now.changed.now ≡ true }
-        ensures least { (owner : Items Part → Option Elem) → IsOwner self.now.index.now.rows self.now.number self.now.changed.now owner →
-            IfOk result (λ least. least ≡ least_shared self.now.number owner rows.now) }
-        ensures no_step_back { steps.old ≤ steps.new }
-        ensures cost { steps.new ≤ steps.old + sum_by (λ row. length (tuples_of row)) rows.now }
-    {
-        let found = self.with_owners(alloc, rows, steps)?;
         // A row alone has none before it.
         if rows.len() < 2 {
             return Ok(found);

@@ -3,17 +3,16 @@
 ghost use Rattle.std.specs.Prelude.{◌≡◌, ◌+◌, ◌*◌, ◌≤◌, ℕ, true, cond, [], ◌∷◌, None, length, filter_map, flat_map, slice_get, option_map, Contains};
 ghost use Rattle.std.specs.Map.{keys_of};
 ghost use Rattle.pgs_base.specs.Graph.{edge_cmp};
-ghost use Rattle.pgs_base.specs.Pair.{pair_of};
 ghost use Rattle.pgs_graph.specs.Changed.{changed, is_sound};
-ghost use Rattle.pgs_graph.specs.Reads.{edge_row, out_edges_of, in_edges_of, degree_of};
+ghost use Rattle.pgs_graph.specs.Reads.{out_edges_of, in_edges_of, degree_of};
 ghost use Rattle.pgs_overlay.specs.Standing.{row_count};
-ghost use Rattle.pgs_syntax.specs.Typed.{is_typed_edge};
 ghost use Rattle.pgs_violation.specs.declared.violation.Violation.TheVariants.{UntypedEdge};
 ghost use Rattle.pgs_check.specs.Untyped.{HaveDegreesWithin, IsSettled, untyped_violations, untyped_change, is_untyped_edge, is_found_before, least_edge, edges_at, touched_edges};
 
 use pgs_base::{EdgeId, EdgeRow, NodeId, NodeRow, Steps};
-use pgs_conform::{Compiled, Pair, edge_typed, node_typed};
-use pgs_graph::{Delta, EdgeRef, GraphRead, NodeRef};
+use pgs_conform::{Compiled, Pair, node_typed};
+use pgs_graph::{Delta, GraphRead};
+use pgs_match::{edge_along, is_edge_typed};
 use pgs_overlay::Overlay;
 use pgs_tables::Tables;
 use pgs_violation::Violation;
@@ -51,41 +50,6 @@ fn first_untyped_change(
         }
     }
     None
-}
-
-// What a node carries, as a pair.
-fn pair_of(node: NodeRef<'_>) -> Pair<'_>
-    ensures { result ≡ pair_of node.entry.labels.now node.entry.props.now }
-{
-    Pair {
-        labels: node.labels,
-        props: node.props,
-    }
-}
-
-// Whether an edge is typed, by the pairs of its ends in the graph and its own.
-fn is_edge_typed<G: GraphRead, L: Ledger>(
-    graph: &G,
-    compiled: &Compiled,
-    edge: EdgeRef<'_>,
-    steps: &mut Steps<L>,
-) -> bool
-    ensures typed { result ≡ is_typed_edge compiled.now (G.meaning graph.now)
-        (edge_row edge.entry.source edge.entry.target edge.entry.labels.now edge.entry.props.now) }
-    ensures no_step_back { steps.old ≤ steps.new }
-    ensures at_most { steps.new ≤ steps.old + 2 }
-{
-    let Some(source) = graph.node(edge.source, steps) else {
-        return false;
-    };
-    let Some(target) = graph.node(edge.target, steps) else {
-        return false;
-    };
-    let own = Pair {
-        labels: edge.labels,
-        props: edge.props,
-    };
-    edge_typed(compiled, &pair_of(source), &own, &pair_of(target))
 }
 
 // Whether the edge of a number is there and isn't typed.
@@ -185,24 +149,6 @@ fn lesser_untested<G: GraphRead, L: Ledger>(
         found
     } else {
         lesser_untyped(graph, compiled, found, id, steps)
-    }
-}
-
-// The edge at a place among those that go out of a node, or that come in at it.
-fn edge_along<G: GraphRead, L: Ledger>(
-    graph: &G,
-    node: NodeId,
-    forward: bool,
-    nth: usize,
-    steps: &mut Steps<L>,
-) -> Option<EdgeId>
-    ensures value { result ≡ slice_get (cond forward (out_edges_of (G.meaning graph.now) node) (in_edges_of (G.meaning graph.now) node)) nth }
-    ensures tick { steps.new ≡ steps.old + 1 }
-{
-    if forward {
-        graph.out_edge(node, nth, steps)
-    } else {
-        graph.in_edge(node, nth, steps)
     }
 }
 

@@ -1,5 +1,5 @@
 use Rattle.std.proofs.Common.{refl}
-use Rattle.pgs_check.proofs.Entered.{more_entered}
+use Rattle.pgs_keyindex.proofs.Entered.{more_entered}
 use Rattle.pgs_check.proofs.sharing.enter.Goals as goal
 
 pub loop-tuple-preserved : goal.loop-tuple-preserved

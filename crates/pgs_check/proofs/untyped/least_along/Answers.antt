@@ -1,4 +1,4 @@
-use Rattle.std.proofs.Common.{◌<◌, ◌+◌, ◌≤◌, cond, length, take, sym, arith}
+use Rattle.std.proofs.Common.{◌<◌, cond, length, take, sym, arith}
 use Rattle.std.specs.Map.{keys_of}
 use Rattle.pgs_graph.specs.Reads.{out_edges_of, in_edges_of}
 use Rattle.pgs_match.proofs.Along.{at_place, past_end}
