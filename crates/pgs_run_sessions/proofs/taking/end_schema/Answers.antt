@@ -10,9 +10,9 @@ use Rattle.pgs_run_sessions.specs.Told.{told_schema}
 use Rattle.pgs_run_sessions.proofs.SchemaEnds.{schema_stop, schema_ends}
 use Rattle.pgs_run_sessions.proofs.taking.end_schema.Goals as goal
 
-pub returns-in-Err-put_any-clause-ends : goal.returns-in-Err-put_any-clause-ends
-returns-in-Err-put_any-clause-ends g c =
-    schema_stop (schema_answer c.args.text.now) _ c.in-Err-put_any.stop (shown_of (g.W.World.view c.args.world.now)) (shown_of (g.W.World.view c.put_any.new.world)) c.in-Ok.ensures.piece c.in-Err-put_any.ensures.fault c.in-Err-put_any.ensures.shows
+pub returns-in-Err-clause-ends : goal.returns-in-Err-clause-ends
+returns-in-Err-clause-ends g c =
+    schema_stop (schema_answer c.args.text.now) _ c.in-Err.stop (shown_of (g.W.World.view c.args.world.now)) (shown_of (g.W.World.view c.put_any.new.world)) c.in-Ok.ensures.piece c.in-Err.ensures.fault c.in-Err.ensures.shows
 
 pub returns-in-Lines-clause-ends : goal.returns-in-Lines-clause-ends
 returns-in-Lines-clause-ends g c =
@@ -21,4 +21,4 @@ returns-in-Lines-clause-ends g c =
     let told = told_schema brief_sessions true (schema_answer c.args.text.now) [] in
     subst (λ (s : Status). Ends start told (stops.Ended s) now) (sym c.status_after.ensures)
     (schema_ends (schema_answer c.args.text.now) (schema_in c.in-Lines.running) (standing_in c.in-Lines.running) c.is_refused.result _ start now
-    (ap stand_of (sym c.in-Lines.is) ∙ c.in-Ok.ensures.phase) c.is_refused.ensures c.in-Ok.ensures.piece c.in-Ok-put_any.ensures.shows)
+    (ap stand_of (sym c.in-Lines.is) ∙ c.in-Ok.ensures.phase) c.is_refused.ensures c.in-Ok.ensures.piece c.in_default-put_any.ensures.shows)
