@@ -1,5 +1,5 @@
 ghost use Rattle.std.specs.Prelude.{◌≡◌, ◌+◌, ◌≤◌, ◌^◌, length, take, IsTrue, OnOk, OnErr};
-ghost use Rattle.pgs_world.specs.Count.{RoseByOne};
+ghost use Rattle.pgs_world.specs.Calls.{IsAreaCall};
 ghost use Rattle.pgs_world.specs.Disk.{written_over, IsSameBeside, Writes, Cuts};
 ghost use Rattle.pgs_world.specs.Moment.{Passes, StopsBy, IsQuiet, ShowsOne, IsSynced, IsSettled, MakesNoPut};
 ghost use Rattle.pgs_world.specs.World.{part};
@@ -22,11 +22,8 @@ pub fn write_synced<W: World>(
     ensures passes { Passes (W.view world.old) (W.view world.new) }
     ensures synced { OnOk result (IsSynced area (W.view world.new)) }
     ensures settled { OnOk result (IsSettled (W.view world.old) → IsSettled (W.view world.new)) }
-    ensures image { ShowsOne (W.view world.new) }
-    ensures cause { OnErr result (RoseByOne (W.view world.old).area_faults (W.view world.new).area_faults) }
+    ensures call { IsAreaCall (W.view world.old) result (W.view world.new) }
     ensures last { OnErr result (W.failed world.new) }
-    ensures no_cause { OnOk result ((W.view world.new).area_faults ≡ (W.view world.old).area_faults) }
-    ensures no_put { MakesNoPut (W.view world.old) (W.view world.new) }
 {
     world.write_at(area, at, bytes)?;
     world.sync(area)
@@ -42,11 +39,8 @@ pub fn cut_synced<W: World>(world: &mut W, area: Area, len: u64) -> Result<(), A
     ensures passes { Passes (W.view world.old) (W.view world.new) }
     ensures synced { OnOk result (IsSynced area (W.view world.new)) }
     ensures settled { OnOk result (IsSettled (W.view world.old) → IsSettled (W.view world.new)) }
-    ensures image { ShowsOne (W.view world.new) }
-    ensures cause { OnErr result (RoseByOne (W.view world.old).area_faults (W.view world.new).area_faults) }
+    ensures call { IsAreaCall (W.view world.old) result (W.view world.new) }
     ensures last { OnErr result (W.failed world.new) }
-    ensures no_cause { OnOk result ((W.view world.new).area_faults ≡ (W.view world.old).area_faults) }
-    ensures no_put { MakesNoPut (W.view world.old) (W.view world.new) }
 {
     world.cut(area, len)?;
     world.sync(area)
@@ -56,11 +50,8 @@ pub fn cut_synced<W: World>(world: &mut W, area: Area, len: u64) -> Result<(), A
 pub fn sync_both<W: World>(world: &mut W) -> Result<(), AreaFault>
     ensures settled { OnOk result (IsTrue (W.view world.old).honest → IsTrue (W.view world.old).tells_bytes → IsSettled (W.view world.new)) }
     ensures quiet { IsQuiet (W.view world.old) (W.view world.new) }
-    ensures image { ShowsOne (W.view world.new) }
-    ensures cause { OnErr result (RoseByOne (W.view world.old).area_faults (W.view world.new).area_faults) }
+    ensures call { IsAreaCall (W.view world.old) result (W.view world.new) }
     ensures last { OnErr result (W.failed world.new) }
-    ensures no_cause { OnOk result ((W.view world.new).area_faults ≡ (W.view world.old).area_faults) }
-    ensures no_put { MakesNoPut (W.view world.old) (W.view world.new) }
 {
     world.sync(Area::A)?;
     world.sync(Area::B)

@@ -1,4 +1,5 @@
 ghost use Rattle.std.specs.Prelude.{◌≡◌, ◌+◌, ◌^◌, ◌≤◌, length, take, drop, IsTrue, IfOk, OnOk, OnErr, ⊤};
+ghost use Rattle.pgs_world.specs.Calls.{IsAreaCall};
 ghost use Rattle.pgs_world.specs.Count.{Rose, RoseByOne};
 ghost use Rattle.pgs_world.specs.Disk.{written_over, IsSameBeside, Writes, Cuts, Puts};
 ghost use Rattle.pgs_world.specs.Moment.{IsTimed, Passes, StopsBy, IsQuiet, ShowsOne, IsSynced, MakesNoPut};
@@ -24,12 +25,8 @@ pub trait World {
         ensures length { IfOk result (λ count. IsTrue (view self.old).tells_bytes → count ≡ length (part area (view self.old).shown)) }
         ensures limit { IfOk result (λ count. count ≤ 2 ^ 40) }
         ensures quiet { IsQuiet (view self.old) (view self.new) }
-        ensures moment { Rose (view self.old).moment (view self.new).moment }
-        ensures image { ShowsOne (view self.new) }
-        ensures cause { OnErr result (RoseByOne (view self.old).area_faults (view self.new).area_faults) }
-        ensures last { OnErr result (failed self.new) }
-        ensures no_cause { OnOk result ((view self.new).area_faults ≡ (view self.old).area_faults) }
-        ensures no_put { MakesNoPut (view self.old) (view self.new) };
+        ensures call { IsAreaCall (view self.old) result (view self.new) }
+        ensures last { OnErr result (failed self.new) };
 
     /// Fills the buffer with the bytes of an area from a place on. Where the length is told, no caller may ask
     /// for a range outside the area; where it isn't, an implementation should make such a range a fault.
@@ -37,12 +34,8 @@ pub trait World {
         requires { IsTrue (view self.old).tells_bytes → at + length buf.old ≤ length (part area (view self.old).shown) }
         ensures bytes { OnOk result (IsTrue (view self.old).tells_bytes → buf.new ≡ take (length buf.old) (drop at (part area (view self.old).shown))) }
         ensures quiet { IsQuiet (view self.old) (view self.new) }
-        ensures moment { Rose (view self.old).moment (view self.new).moment }
-        ensures image { ShowsOne (view self.new) }
-        ensures cause { OnErr result (RoseByOne (view self.old).area_faults (view self.new).area_faults) }
-        ensures last { OnErr result (failed self.new) }
-        ensures no_cause { OnOk result ((view self.new).area_faults ≡ (view self.old).area_faults) }
-        ensures no_put { MakesNoPut (view self.old) (view self.new) };
+        ensures call { IsAreaCall (view self.old) result (view self.new) }
+        ensures last { OnErr result (failed self.new) };
 
     /// Writes over what is there, and past the end. Until a sync of the area, a stop may leave any bytes in
     /// the range and any length between the old and the new one. A write past 2^40 bytes is a fault. After
@@ -54,12 +47,8 @@ pub trait World {
         ensures beside { IsSameBeside area (view self.old).shown (view self.new).shown }
         ensures stops { StopsBy (Writes area at (length bytes.now)) (view self.old) (view self.new) }
         ensures passes { Passes (view self.old) (view self.new) }
-        ensures moment { Rose (view self.old).moment (view self.new).moment }
-        ensures image { ShowsOne (view self.new) }
-        ensures cause { OnErr result (RoseByOne (view self.old).area_faults (view self.new).area_faults) }
-        ensures last { OnErr result (failed self.new) }
-        ensures no_cause { OnOk result ((view self.new).area_faults ≡ (view self.old).area_faults) }
-        ensures no_put { MakesNoPut (view self.old) (view self.new) };
+        ensures call { IsAreaCall (view self.old) result (view self.new) }
+        ensures last { OnErr result (failed self.new) };
 
     /// Cuts an area to a length. Until a sync of the area, a stop may leave any bytes behind the cut, up to
     /// the old length. After a fault the bytes are as if part of it had been done.
@@ -69,23 +58,15 @@ pub trait World {
         ensures beside { IsSameBeside area (view self.old).shown (view self.new).shown }
         ensures stops { StopsBy (Cuts area len) (view self.old) (view self.new) }
         ensures passes { Passes (view self.old) (view self.new) }
-        ensures moment { Rose (view self.old).moment (view self.new).moment }
-        ensures image { ShowsOne (view self.new) }
-        ensures cause { OnErr result (RoseByOne (view self.old).area_faults (view self.new).area_faults) }
-        ensures last { OnErr result (failed self.new) }
-        ensures no_cause { OnOk result ((view self.new).area_faults ≡ (view self.old).area_faults) }
-        ensures no_put { MakesNoPut (view self.old) (view self.new) };
+        ensures call { IsAreaCall (view self.old) result (view self.new) }
+        ensures last { OnErr result (failed self.new) };
 
     /// After it, a stop leaves of the area what a read gives.
     fn sync(&mut self, area: Area) -> Result<(), AreaFault>
         ensures synced { OnOk result (IsSynced area (view self.new)) }
         ensures quiet { IsQuiet (view self.old) (view self.new) }
-        ensures moment { Rose (view self.old).moment (view self.new).moment }
-        ensures image { ShowsOne (view self.new) }
-        ensures cause { OnErr result (RoseByOne (view self.old).area_faults (view self.new).area_faults) }
-        ensures last { OnErr result (failed self.new) }
-        ensures no_cause { OnOk result ((view self.new).area_faults ≡ (view self.old).area_faults) }
-        ensures no_put { MakesNoPut (view self.old) (view self.new) };
+        ensures call { IsAreaCall (view self.old) result (view self.new) }
+        ensures last { OnErr result (failed self.new) };
 
     /// Puts the piece at the end of the output; the count of puts is then one more. After `PutFault` some front
     /// of the piece may have been put, the count of put faults rose, and the count of puts is as it was. A stop
