@@ -1,13 +1,17 @@
 use crate::unread::Unread;
+use thiserror::Error;
 
 /// Why a line gives no commit.
-#[derive(Clone, Copy, Debug, PartialEq, Eq)]
+#[derive(Clone, Copy, Debug, PartialEq, Eq, Error)]
 pub enum CommitFault {
     /// There was no memory for it.
+    #[error("there is not enough memory")]
     Memory,
     /// The line is no commit.
+    #[error("the line is not a commit")]
     Unreadable,
     /// The line has over 2,097,152 bytes.
+    #[error("the line is longer than 2097152 bytes")]
     LineTooLong,
 }
 

@@ -1,13 +1,17 @@
 use crate::unread::Unread;
+use thiserror::Error;
 
 /// Why a line gives no transaction.
-#[derive(Clone, Copy, Debug, PartialEq, Eq)]
+#[derive(Clone, Copy, Debug, PartialEq, Eq, Error)]
 pub enum LineFault {
     /// There was no memory for it.
+    #[error("there is not enough memory")]
     Memory,
     /// The line is no transaction.
+    #[error("the line is not a transaction")]
     Unreadable,
     /// The line has over 1,048,576 bytes.
+    #[error("the line is longer than 1048576 bytes")]
     LineTooLong,
 }
 

@@ -2,16 +2,19 @@ use pgs_base::Memory;
 use pgs_schema::{SchemaFault, SchemaUnread};
 use pgs_snapshot::ChooseFault;
 use pgs_violation::{Rejection, Violation};
+use thiserror::Error;
 
 /// Why there is no guard: there was no memory, or the text is no schema.
 pub type GuardFault = SchemaUnread;
 
 /// Why a guard didn't take a transaction.
-#[derive(Debug, Drop)]
+#[derive(Debug, Drop, Error)]
 pub enum GuardRefusal {
     /// There was no memory.
+    #[error("there is not enough memory")]
     Memory,
     /// The transaction is rejected.
+    #[error("the transaction is rejected")]
     Rejected(Rejection),
 }
 
@@ -27,62 +30,82 @@ impl From<Memory> for GuardRefusal {
 }
 
 /// Why no store was made.
-#[derive(Debug, Drop)]
+#[derive(Debug, Drop, Error)]
 pub enum LoadFault {
     /// There was no memory.
+    #[error("there is not enough memory")]
     Memory,
     /// A call on an area failed: the count of area faults rose.
+    #[error("a call on an area failed")]
     DiskFault,
     /// 31: an area is a store.
+    #[error("an area is a store")]
     AlreadyStore,
     /// 32: an area is another program's file, and none is a store.
+    #[error("an area is the file of another program")]
     Foreign,
     /// 10 to 19: the text is no schema.
+    #[error("the text is no schema: {0}")]
     Schema(SchemaFault),
 }
 
 /// Why no store was recovered.
-#[derive(Debug, Drop)]
+#[derive(Debug, Drop, Error)]
 pub enum RecoverFault {
     /// There was no memory.
+    #[error("there is not enough memory")]
     Memory,
     /// A call on an area failed: the count of area faults rose.
+    #[error("a call on an area failed")]
     DiskFault,
     /// 30: no area is a store, and none is another program's file.
+    #[error("no area is a store")]
     NoStore,
     /// 32: an area is another program's file, and none is a store.
+    #[error("an area is the file of another program")]
     Foreign,
     /// 33: the chosen store is damaged at this record.
+    #[error("record {number} is damaged")]
     BadRecord { number: u64 },
     /// 34: this record is the first that is rejected: its transaction, its snapshot's graph, or the graph so far under its schema.
+    #[error("record {number} is rejected")]
     BadHistory { number: u64, rejection: Rejection },
     /// 10 to 19: a stored text, the first or a later one, is no schema.
+    #[error("the text is no schema: {0}")]
     Schema(SchemaFault),
 }
 
 /// Why a store didn't take a transaction.
-#[derive(Debug, Drop)]
+#[derive(Debug, Drop, Error)]
 pub enum ApplyFault {
     /// There was no memory. It comes before the first call on the world.
+    #[error("there is not enough memory")]
     Memory,
     /// A call on an area failed: the count of area faults rose. The transaction may be in the areas or not.
+    #[error("a call on an area failed")]
     DiskFault,
     /// An earlier call on this store answered `DiskFault`, so it has to be recovered.
+    #[error("an earlier call failed, so the store has to be recovered")]
     NeedsReopen,
     /// The transaction is rejected.
+    #[error("the transaction is rejected")]
     Rejected(Rejection),
 }
 
 /// Why a store made no checkpoint.
-#[derive(Debug, Drop)]
+#[derive(Debug, Drop, Error)]
 pub enum CheckpointFault {
     /// There was no memory. It comes before the first call on the world.
+    #[error("there is not enough memory")]
     Memory,
     /// A call on an area failed: the count of area faults rose.
+    #[error("a call on an area failed")]
     DiskFault,
     /// An earlier call on this store answered `DiskFault`, so it has to be recovered.
+    #[error("an earlier call failed, so the store has to be recovered")]
     NeedsReopen,
     /// 37: the store has the last epoch.
+    #[error("the store has the last epoch")]
     EpochsSpent,
 }
 
@@ -98,19 +121,25 @@ pub(crate) enum SchemaRefusal {
 }
 
 /// Why a store wasn't put under another schema.
-#[derive(Debug, Drop)]
+#[derive(Debug, Drop, Error)]
 pub enum EvolveFault {
     /// There was no memory. It comes before the first call on the world.
+    #[error("there is not enough memory")]
     Memory,
     /// A call on an area failed: the count of area faults rose. The schema may be in the areas or not.
+    #[error("a call on an area failed")]
     DiskFault,
     /// An earlier call on this store answered `DiskFault`, so it has to be recovered.
+    #[error("an earlier call failed, so the store has to be recovered")]
     NeedsReopen,
     /// 41: the chosen area is of the first format, which has no later schemas. A checkpoint makes a store of the second.
+    #[error("the store is of the first format, which has no later schemas")]
     OldFormat,
     /// 10 to 19: the text is no schema.
+    #[error("the text is no schema: {0}")]
     Schema(SchemaFault),
     /// 25 to 29 and 39: the graph's first violation under the schema.
+    #[error("the graph violates the schema")]
     Violated(Violation),
 }
 
