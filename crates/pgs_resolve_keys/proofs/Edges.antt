@@ -1,11 +1,11 @@
 -- How many edge places paths have.
-use Rattle.std.proofs.Common.{arith, ◌≡◌, ◌∙◌, ◌+◌, ◌-◌, ◌≤◌, ℕ, suc, List, [], ◌∷◌, ◌++◌, ap, sym, refl, filter, flat_map, length, take, drop, get_or, length-append}
+use Rattle.std.proofs.Common.{arith, ◌≡◌, ◌∙◌, ◌+◌, ◌-◌, ◌≤◌, ℕ, suc, List, [], ◌∷◌, ap, sym, refl, flat_map, length, take, drop, get_or, length-append}
 use Rattle.std.proofs.lemmas.Grind.{common_steps}
 use Rattle.std.proofs.lemmas.List.Elements.{filter-append}
 use Rattle.pgs_syntax.specs.declared.raw.RawPath.{RawPath}
 use Rattle.pgs_syntax.specs.declared.raw.RawStep.{RawStep}
 use Rattle.pgs_resolve_keys.specs.KeyFaults.{edge_places}
-use Rattle.pgs_resolve_keys.specs.Patterns.{Place, places_of, places_of_path, places_of_step}
+use Rattle.pgs_resolve_keys.specs.Patterns.{Place, places_of, places_of_step}
 
 abbrev pub edges_in : List RawPath → ℕ
 edges_in paths = length (edge_places (places_of paths))
