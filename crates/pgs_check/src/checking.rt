@@ -1,24 +1,22 @@
 //! The first violation of a changed graph, or the changes of the index that stands for it.
 
-ghost use Rattle.std.specs.Prelude.{◌≡◌, ◌+◌, ◌*◌, ◌^◌, ◌≤◌, ◌++◌, ℕ, true, false, [], Some, None, Option, List as Items, length, map, slice_get, IfErr, IfOk, OnOk};
-ghost use Rattle.std.specs.List.{All, sum_by};
-ghost use Rattle.pgs_base.specs.Graph.{Graph, is_graph};
+ghost use Rattle.std.specs.Prelude.{◌≡◌, ◌+◌, ◌*◌, ◌^◌, ◌≤◌, ◌++◌, ℕ, true, [], Some, None, Option, List as Items, length, IfErr, IfOk, OnOk};
+ghost use Rattle.std.specs.List.{sum_by};
+ghost use Rattle.pgs_base.specs.Graph.{is_graph};
 ghost use Rattle.pgs_base.specs.declared.part.Part.{Part};
 ghost use Rattle.pgs_base.specs.declared.element.Elem.{Elem};
 ghost use Rattle.pgs_base.specs.Order.{ascends, elem_cmp};
 ghost use Rattle.pgs_graph.specs.Changed.{changed, is_sound};
 ghost use Rattle.pgs_syntax.specs.Valid.{is_valid_key_of};
 ghost use Rattle.pgs_violation.specs.Violations.{conforms, key_violations, keys_violations};
-ghost use Rattle.pgs_match.specs.Near.{IsSparse};
 ghost use Rattle.pgs_match.specs.Planned.{most_edges};
 ghost use Rattle.pgs_check_affected.specs.Changes.{elems_of};
-ghost use Rattle.pgs_check_affected.specs.Local.{is_one_of, HasOneRow};
 ghost use Rattle.pgs_check_affected.specs.Touched.{touched, AreSparse};
 ghost use Rattle.pgs_keyindex.specs.Rows.{IsOwned, is_exclusive, rows_changed};
 ghost use Rattle.pgs_keyindex.specs.Standing.{StandsFor, key_at, values_in_scope};
 ghost use Rattle.pgs_check.specs.Clashes.{IsOwner, tuples_of};
 ghost use Rattle.pgs_check.specs.Costs.{HaveEdgesWithin};
-ghost use Rattle.pgs_check.specs.Rows.{first_outside, first_of_rows, change_of};
+ghost use Rattle.pgs_check.specs.Rows.{first_outside, first_of_rows};
 ghost use Rattle.pgs_check.specs.Standing.{IsFirst, IsFirstOf, IsFound, AreRows, AreChanges, ChangeEachOnce, index_changed};
 
 use crate::check_types;

@@ -1,8 +1,8 @@
 //! 29: changed elements that share a key value with each other, or with an element that isn't changed.
 
-ghost use Rattle.std.specs.Prelude.{◌≡◌, ◌↔◌, ◌+◌, ◌≤◌, ℕ, true, false, cond, None, Some, Option, List as Items, length, IfOk, OnOk, MatchResult};
+ghost use Rattle.std.specs.Prelude.{◌≡◌, ◌↔◌, ◌+◌, ◌≤◌, true, false, cond, None, Some, Option, List as Items, length, IfOk, OnOk, MatchResult};
 ghost use Rattle.std.specs.BTreeMap as tree;
-ghost use Rattle.std.specs.List.{list_any, sum_by};
+ghost use Rattle.std.specs.List.{sum_by};
 ghost use Rattle.pgs_base.specs.declared.element.Elem.{Elem};
 ghost use Rattle.pgs_base.specs.declared.part.Part.{Part};
 ghost use Rattle.pgs_base.specs.Order.{ascends, elem_cmp, tuple_cmp};

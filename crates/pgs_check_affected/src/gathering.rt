@@ -15,7 +15,7 @@ ghost use Rattle.pgs_match.specs.Reached.{reached};
 ghost use Rattle.pgs_match.specs.Tests.{own_passes};
 ghost use Rattle.pgs_check_affected.specs.declared.known.Known.{Known};
 ghost use Rattle.pgs_check_affected.specs.Changes.{known_in};
-ghost use Rattle.pgs_check_affected.specs.Found.{edges_at, found_alone, found_from, found_in, found_by, found};
+ghost use Rattle.pgs_check_affected.specs.Found.{edges_at, found_from, found_in, found_by, found};
 ghost use Rattle.pgs_check_affected.specs.Local.{is_one_of};
 ghost use Rattle.pgs_check_affected.specs.Touched.{IsSparseInBoth, AreSparseInBoth};
 

@@ -83,43 +83,7 @@ fn staged_delta<L: Ledger>(
     }
 }
 
-// Checks a pending change of a graph that conforms: the changes of the index.
-fn checked<L: Ledger>(
-    alloc: Global,
-    graph: &Tables,
-    index: &KeyIndex,
-    compiled: &Compiled,
-    keys: &List<PlannedKey>,
-    new: &Overlay<'_>,
-    delta: &Delta,
-    steps: &mut Steps<L>,
-) -> Result<List<KeyChange>, DecideFault>
-    requires sound { is_sound graph.now.graph delta.now ≡ true }
-    requires overlay { new.now ≡ changed graph.now.graph delta.now }
-    requires conforms { conforms compiled.now graph.now.graph ≡ true }
-    requires index { StandsFor compiled.now graph.now.graph compiled.now.guard.keys index.now }
-    requires keys { keys.now ≡ compiled.now.guard.keys }
-    ensures conforms { OnOk result (conforms compiled.now new.now ≡ true) }
-    ensures rejected { IfErr result (IsRejected (conforming new.now (verdict compiled.now new.now))) }
-    ensures once { IfOk result ChangeEachOnce }
-    ensures owned { IfOk result (λ changes. IsOwned index.now.exclusive (rows_changed index.now.rows changes)) }
-    ensures stands { IfOk result (λ changes. StandsFor compiled.now new.now compiled.now.guard.keys (index_changed index.now changes)) }
-    ensures no_step_back { steps.old ≤ steps.new }
-    ensures cost { (edges most : ℕ) → HaveEdgesWithin keys.now edges →
-        AreSparse graph.now.graph new.now (2 * edges) (touched graph.now.graph (elems_of delta.now)) most →
-        steps.new ≤ steps.old
-        + 3072 * (length keys.now + 1) * (length (touched graph.now.graph (elems_of delta.now)) + 1) * (most + 2) ^ (2 * edges + 2) }
-{
-    match check(alloc, graph, index, compiled, keys, new, delta, steps) {
-        Ok(changes) => Ok(changes),
-        Err(CheckFault::Memory) => Err(DecideFault::Memory),
-        Err(CheckFault::Violated(violation)) => {
-            Err(DecideFault::Rejected(Rejection::Violation(violation)))
-        }
-    }
-}
-
-// Sees a sound delta as a pending change of a graph that conforms, and checks it.
+// Sees a sound delta as a pending change of a graph that conforms, and checks it: the changes of the index.
 fn checked_changes<L: Ledger>(
     alloc: Global,
     graph: &Tables,
@@ -149,7 +113,13 @@ fn checked_changes<L: Ledger>(
     // The count's clause says that what is read is a graph.
     graph.count();
     let overlay = Overlay::new(alloc, graph, delta, steps)?;
-    checked(alloc, graph, index, compiled, keys, &overlay, delta, steps)
+    match check(alloc, graph, index, compiled, keys, &overlay, delta, steps) {
+        Ok(changes) => Ok(changes),
+        Err(CheckFault::Memory) => Err(DecideFault::Memory),
+        Err(CheckFault::Violated(violation)) => {
+            Err(DecideFault::Rejected(Rejection::Violation(violation)))
+        }
+    }
 }
 
 /// Decides a transaction on a graph in tables: the delta that it makes of it, and the changes that make the index that of the changed

@@ -1,5 +1,5 @@
 -- A row that is entered into a table of owners: its tuples ascend, so none stands before itself, and each finds the owner before the row.
-use Rattle.std.proofs.Common.{◌≡◌, ℕ, zero, suc, ◌<◌, Bool, false, cond, List, [], ◌∷◌, take, get_or, length, Some, refl, ap, ◌∙◌, subst, arith, Less}
+use Rattle.std.proofs.Common.{◌≡◌, ℕ, zero, suc, ◌<◌, false, cond, List, [], ◌∷◌, take, get_or, length, Some, refl, ap, ◌∙◌, subst, arith, Less}
 use Rattle.std.specs.Prelude.{◌||◌}
 use Rattle.std.specs.Borrow.{Bor}
 use Rattle.std.specs.BTreeMap.{BTreeMap, is_at}

@@ -1,6 +1,6 @@
 //! Rows that share a key value, by one table from each tuple to the first of the later rows that has it.
 
-ghost use Rattle.std.specs.Prelude.{◌≡◌, ◌++◌, true, [], Some, None, List as Items, map, reverse, option_map, cond, IfOk, OnOk};
+ghost use Rattle.std.specs.Prelude.{◌≡◌, true, Some, None, List as Items, map, reverse, option_map, cond, IfOk, OnOk};
 ghost use Rattle.std.specs.BTreeMap as tree;
 ghost use Rattle.std.specs.List.{list_any};
 ghost use Rattle.pgs_base.specs.declared.part.Part.{Part};

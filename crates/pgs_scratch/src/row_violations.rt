@@ -2,7 +2,6 @@
 
 ghost use Rattle.std.specs.Prelude.{◌≡◌, ◌++◌, true, map, filter_map, IfOk, OnOk};
 ghost use Rattle.pgs_base.specs.Order.{ascends, elem_cmp};
-ghost use Rattle.pgs_violation.specs.Violations.{where_asked};
 ghost use Rattle.pgs_scratch.specs.declared.key_row.KeyRow.{KeyRow as Row};
 ghost use Rattle.pgs_scratch.specs.Rows.{missing_value, several_values, shared_values, count_of_row, rows_violations};
 

@@ -1,7 +1,7 @@
-use Rattle.std.proofs.Common.{Ok, Some, sym, ◌∙◌}
+use Rattle.std.proofs.Common.{sym, ◌∙◌}
 use Rattle.pgs_check.specs.declared.rule.Rule.TheVariants as rules
-use Rattle.pgs_check.specs.Rows.{first_if, first_found, first_several, first_shared, first_outside, least_shared}
-use Rattle.pgs_check.proofs.Chosen.{or_found, or_next}
+use Rattle.pgs_check.specs.Rows.{first_if, first_found, first_several}
+use Rattle.pgs_check.proofs.Chosen.{or_found}
 use Rattle.pgs_check.proofs.checking.first_of_rows.Goals as goal
 
 pub returns-in-Some-clause-first : goal.returns-in-Some-clause-first
