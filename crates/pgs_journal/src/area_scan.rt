@@ -3,7 +3,6 @@ ghost use Rattle.pgs_journal.specs.Area.{area_state, HoldsStore};
 ghost use Rattle.pgs_journal.specs.Bounds.{IsBounded};
 ghost use Rattle.pgs_journal.specs.Calls.{HasAreaCauseWhere};
 ghost use Rattle.pgs_journal.specs.Seen.{HasLength, Stand, Decide, IsStateOf};
-ghost use Rattle.pgs_world.specs.Count.{RoseByOne};
 ghost use Rattle.pgs_world.specs.Moment.{IsQuiet, ShowsOne, MakesNoPut};
 ghost use Rattle.pgs_world.specs.World.{part};
 
@@ -60,9 +59,7 @@ pub fn scan<W: World>(alloc: Global, world: &mut W, area: Area) -> Result<AreaSt
     ensures bounds { IfOk result IsBounded }
     ensures quiet { IsQuiet (W.view world.old) (W.view world.new) }
     ensures image { ShowsOne (W.view world.new) }
-    ensures cause { result ≡ Err ScanFault.AreaFault → RoseByOne (W.view world.old).area_faults (W.view world.new).area_faults }
-    ensures last { result ≡ Err ScanFault.AreaFault → W.failed world.new }
-    ensures no_cause { (result ≡ Err ScanFault.AreaFault → ⊥) → (W.view world.new).area_faults ≡ (W.view world.old).area_faults }
+    ensures faults { HasAreaCauseWhere (result ≡ Err ScanFault.AreaFault) (W.failed world.new) (W.view world.old) (W.view world.new) }
     ensures no_put { MakesNoPut (W.view world.old) (W.view world.new) }
 {
     let front = Front::read(world, area)?;

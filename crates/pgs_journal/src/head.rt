@@ -1,10 +1,9 @@
-ghost use Rattle.std.specs.Prelude.{◌≡◌, ◌≤◌, ◌^◌, ℕ, length, Some, None, IsTrue, IfOk, OnOk, OnErr, if◌then◌else◌};
+ghost use Rattle.std.specs.Prelude.{◌≡◌, ◌≤◌, ◌^◌, ℕ, length, Some, None, IsTrue, IfOk, if◌then◌else◌};
 ghost use Rattle.pgs_journal.specs.declared.format.Format.{Format};
 ghost use Rattle.pgs_journal.specs.Area.{epoch_of, format_in, head_format, head_with, head_of, head_in};
 ghost use Rattle.pgs_journal.specs.Calls.{HasAreaCause};
 ghost use Rattle.pgs_journal.specs.Seen.{HasLength, Stand, IsFront};
 ghost use Rattle.pgs_journal.specs.declared.head.Head.TheVariants as heads;
-ghost use Rattle.pgs_world.specs.Count.{RoseByOne};
 ghost use Rattle.pgs_world.specs.Moment.{IsQuiet, ShowsOne, MakesNoPut};
 ghost use Rattle.pgs_world.specs.World.{part};
 
@@ -112,9 +111,7 @@ pub fn read_head<W: World>(world: &mut W, area: Area) -> Result<Head, AreaFault>
     ensures head { IfOk result (λ head. IsTrue (W.view world.old).tells_bytes → head ≡ head_of (part area (W.view world.old).shown)) }
     ensures quiet { IsQuiet (W.view world.old) (W.view world.new) }
     ensures image { ShowsOne (W.view world.new) }
-    ensures cause { OnErr result (RoseByOne (W.view world.old).area_faults (W.view world.new).area_faults) }
-    ensures last { OnErr result (W.failed world.new) }
-    ensures no_cause { OnOk result ((W.view world.new).area_faults ≡ (W.view world.old).area_faults) }
+    ensures faults { HasAreaCause result (W.failed world.new) (W.view world.old) (W.view world.new) }
     ensures no_put { MakesNoPut (W.view world.old) (W.view world.new) }
 {
     let front = Front::read(world, area)?;

@@ -1,8 +1,8 @@
 ghost use Rattle.std.specs.Prelude.{◌≡◌, ◌+◌, ◌≤◌, ◌<◌, ◌^◌, ◌++◌, ◌∷◌, [], List, ℕ, length, Some, IsTrue, IfOk, OnOk, OnErr};
 ghost use Rattle.pgs_codec.specs.Frame.{framed};
+ghost use Rattle.pgs_journal.specs.Calls.{HasAreaCause};
 ghost use Rattle.pgs_journal.specs.Format.{advanced, is_epoch, Holds, IsFrames, IsNextWithin};
 ghost use Rattle.pgs_journal.specs.Stops.{Turns, Appends, Creates};
-ghost use Rattle.pgs_world.specs.Count.{RoseByOne};
 ghost use Rattle.pgs_world.specs.Disk.{IsSameBeside};
 ghost use Rattle.pgs_world.specs.Moment.{Passes, StopsBy, ShowsOne, IsSynced, IsSettled, MakesNoPut};
 ghost use Rattle.pgs_world.specs.World.{part};
@@ -70,9 +70,7 @@ impl Journal {
 
         ensures passes { Passes (W.view world.old) (W.view world.new) }
         ensures image { ShowsOne (W.view world.new) }
-        ensures cause { OnErr result (RoseByOne (W.view world.old).area_faults (W.view world.new).area_faults) }
-        ensures last { OnErr result (W.failed world.new) }
-        ensures no_cause { OnOk result ((W.view world.new).area_faults ≡ (W.view world.old).area_faults) }
+        ensures faults { HasAreaCause result (W.failed world.new) (W.view world.old) (W.view world.new) }
         ensures no_put { MakesNoPut (W.view world.old) (W.view world.new) }
     {
         close_gate(world, area)?;
@@ -123,9 +121,7 @@ impl Journal {
 
         ensures passes { Passes (W.view world.old) (W.view world.new) }
         ensures image { ShowsOne (W.view world.new) }
-        ensures cause { OnErr result (RoseByOne (W.view world.old).area_faults (W.view world.new).area_faults) }
-        ensures last { OnErr result (W.failed world.new) }
-        ensures no_cause { OnOk result ((W.view world.new).area_faults ≡ (W.view world.old).area_faults) }
+        ensures faults { HasAreaCause result (W.failed world.new) (W.view world.old) (W.view world.new) }
         ensures no_put { MakesNoPut (W.view world.old) (W.view world.new) }
     {
         write_synced(world, self.area, self.end + 1, frame)?;

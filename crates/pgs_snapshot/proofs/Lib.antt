@@ -1,4 +1,5 @@
 pub mod Choices
+pub mod Finding
 pub mod Fitness
 pub mod Heads
 pub mod Histories

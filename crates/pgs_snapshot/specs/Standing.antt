@@ -1,9 +1,10 @@
 -- What a call on two areas finds, and what holds of the images then.
-use Rattle.std.specs.Prelude.{◌≡◌, ℕ, Bool, true, false, List, Option, Some, None, Result, Ok, Err}
+use Rattle.std.specs.Prelude.{◌≡◌, ℕ, Bool, true, false, List, Option, Some, None, Result, Ok, Err, IsTrue, IfOk, IfErr}
 use Rattle.pgs_codec.specs.declared.command.Command.{Command}
 use Rattle.pgs_codec.specs.declared.command.Command.TheVariants.{Schema, Snapshot, Txn}
 use Rattle.pgs_world.specs.declared.area.Area.{Area}
-use Rattle.pgs_world.specs.World.{Triple, part}
+use Rattle.pgs_world.specs.World.{Triple, View, part}
+use Rattle.pgs_journal.specs.Bounds.{IsBoundedStore}
 use Rattle.pgs_journal.specs.Format.{Holds}
 use Rattle.pgs_snapshot.specs.Choice.{Choice, choice_of}
 use Rattle.pgs_snapshot.specs.Choice as choices
@@ -43,3 +44,11 @@ is_read (Ok chosen) = true
 is_read (Err faults.Memory) = false
 is_read (Err faults.DiskFault) = false
 is_read (Err fault) = true
+
+-- What is found in two areas that are only read: the store that is chosen, or why there is none, as far as the world tells its bytes. What
+-- is given of a store is within its bounds on every world.
+pub record Finds (result : Result Chosen ChooseFault) (old new : View) : Type 0 where
+  pub chosen : IfOk result (λ it. IsTrue old.tells_bytes → choice_of old.shown.a old.shown.b ≡ choices.chosen it.area it.epoch it.end it.next it.payloads)
+  pub refused : IfErr result (λ fault. IsTrue old.tells_bytes → Refuses fault (choice_of old.shown.a old.shown.b))
+  pub stands : IfOk result (λ it. IsTrue new.tells_bytes → HasStore it.area it.epoch it.end it.next it.payloads new.shown)
+  pub bounds : IfOk result (λ it. IsBoundedStore it.epoch it.end it.next it.payloads)

@@ -1,7 +1,7 @@
-ghost use Rattle.std.specs.Prelude.{◌≡◌, ◌+◌, ◌≤◌, ◌<◌, ◌^◌, List, ℕ, length, Some, IsTrue, IfOk, OnOk, OnErr};
+ghost use Rattle.std.specs.Prelude.{◌≡◌, ◌+◌, ◌≤◌, ◌<◌, ◌^◌, List, ℕ, length, Some, IsTrue, IfOk, OnOk};
+ghost use Rattle.pgs_journal.specs.Calls.{HasAreaCause};
 ghost use Rattle.pgs_journal.specs.Format.{is_epoch, Holds, IsFrames};
 ghost use Rattle.pgs_journal.specs.Stops.{Turns, Creates};
-ghost use Rattle.pgs_world.specs.Count.{RoseByOne};
 ghost use Rattle.pgs_world.specs.Disk.{IsSameBeside};
 ghost use Rattle.pgs_world.specs.Moment.{Passes, StopsBy, ShowsOne, IsSynced, IsSettled, MakesNoPut};
 ghost use Rattle.pgs_world.specs.World.{Triple, part};
@@ -48,9 +48,7 @@ pub fn checkpoint<W: World>(
 
     ensures passes { Passes (W.view world.old) (W.view world.new) }
     ensures image { ShowsOne (W.view world.new) }
-    ensures cause { OnErr result (RoseByOne (W.view world.old).area_faults (W.view world.new).area_faults) }
-    ensures last { OnErr result (W.failed world.new) }
-    ensures no_cause { OnOk result ((W.view world.new).area_faults ≡ (W.view world.old).area_faults) }
+    ensures faults { HasAreaCause result (W.failed world.new) (W.view world.old) (W.view world.new) }
     ensures no_put { MakesNoPut (W.view world.old) (W.view world.new) }
 {
     Journal::create(world, area, epoch, first, next)

@@ -1,9 +1,9 @@
 ghost use Rattle.std.specs.Prelude.{◌≡◌, true, Some, None, Err, IsTrue, IfOk, IfErr, OnErr};
 ghost use Rattle.pgs_journal.specs.Bounds.{IsBounded, IsBoundedStore};
-ghost use Rattle.pgs_snapshot.specs.Choice.{choice_of, greater, head_epoch, is_foreign_head, leading, taken, without_heads};
+ghost use Rattle.pgs_journal.specs.Calls.{HasAreaCauseWhere};
+ghost use Rattle.pgs_snapshot.specs.Choice.{greater, head_epoch, is_foreign_head, leading, taken, without_heads};
 ghost use Rattle.pgs_snapshot.specs.Choice as choices;
-ghost use Rattle.pgs_snapshot.specs.Standing.{HasStore, Refuses, is_read};
-ghost use Rattle.pgs_world.specs.Count.{RoseByOne};
+ghost use Rattle.pgs_snapshot.specs.Standing.{Finds, Refuses, is_read};
 ghost use Rattle.pgs_world.specs.Moment.{IsQuiet, ShowsOne, IsSettled, MakesNoPut};
 
 use crate::ChooseFault;
@@ -109,19 +109,10 @@ fn store_in(area: Area, state: AreaState) -> Result<Chosen, ChooseFault>
 /// then the chosen one is scanned.
 fn read_chosen<W: World>(alloc: Global, world: &mut W) -> Result<Chosen, ChooseFault>
     requires { IsTrue (W.view world.old).honest → IsTrue (W.view world.old).tells_bytes → IsSettled (W.view world.old) }
-    ensures chosen { IfOk result (λ it. IsTrue (W.view world.old).tells_bytes
-        → choice_of (W.view world.old).shown.a (W.view world.old).shown.b ≡ choices.chosen it.area it.epoch it.end it.next it.payloads) }
-    ensures refused { IfErr result (λ fault. IsTrue (W.view world.old).tells_bytes
-        → Refuses fault (choice_of (W.view world.old).shown.a (W.view world.old).shown.b)) }
-    ensures stands { IfOk result (λ it. IsTrue (W.view world.new).tells_bytes
-        → HasStore it.area it.epoch it.end it.next it.payloads (W.view world.new).shown) }
-    ensures bounds { IfOk result (λ it. IsBoundedStore it.epoch it.end it.next it.payloads) }
+    ensures found { Finds result (W.view world.old) (W.view world.new) }
     ensures quiet { IsQuiet (W.view world.old) (W.view world.new) }
     ensures image { ShowsOne (W.view world.new) }
-    ensures cause { result ≡ Err ChooseFault.DiskFault → RoseByOne (W.view world.old).area_faults (W.view world.new).area_faults }
-    ensures last { result ≡ Err ChooseFault.DiskFault → W.failed world.new }
-    ensures no_cause { (result ≡ Err ChooseFault.DiskFault → ⊥)
-        → (W.view world.new).area_faults ≡ (W.view world.old).area_faults }
+    ensures faults { HasAreaCauseWhere (result ≡ Err ChooseFault.DiskFault) (W.failed world.new) (W.view world.old) (W.view world.new) }
     ensures no_put { MakesNoPut (W.view world.old) (W.view world.new) }
 {
     let a = read_head(world, Area::A)?;
@@ -141,23 +132,14 @@ fn read_chosen<W: World>(alloc: Global, world: &mut W) -> Result<Chosen, ChooseF
 /// the count of area faults rose. `Memory` may come wherever there is none. Whether the records lead anywhere isn't judged.
 #[tactic(auto, using(pgs_world::proofs::Moments::settled_quiet))]
 pub fn choose_area<W: World>(alloc: Global, world: &mut W) -> Result<Chosen, ChooseFault>
-    // It is what the definition says of both areas, where the world tells its bytes.
-    ensures chosen { IfOk result (λ it. IsTrue (W.view world.old).tells_bytes
-        → choice_of (W.view world.old).shown.a (W.view world.old).shown.b ≡ choices.chosen it.area it.epoch it.end it.next it.payloads) }
-    ensures refused { IfErr result (λ fault. IsTrue (W.view world.old).tells_bytes
-        → Refuses fault (choice_of (W.view world.old).shown.a (W.view world.old).shown.b)) }
-    // The areas are so now, and the chosen one holds the records, as `Journal::append` asks it of this epoch and this end.
-    ensures stands { IfOk result (λ it. IsTrue (W.view world.new).tells_bytes
-        → HasStore it.area it.epoch it.end it.next it.payloads (W.view world.new).shown) }
-    ensures bounds { IfOk result (λ it. IsBoundedStore it.epoch it.end it.next it.payloads) }
+    // It is what the definition says of both areas, and the areas are so now: the chosen one holds the records, as
+    // `Journal::append` asks it of this epoch and this end.
+    ensures found { Finds result (W.view world.old) (W.view world.new) }
     ensures settled { is_read result ≡ true → IsTrue (W.view world.old).honest → IsTrue (W.view world.old).tells_bytes
         → IsSettled (W.view world.new) }
     ensures quiet { IsQuiet (W.view world.old) (W.view world.new) }
     ensures image { ShowsOne (W.view world.new) }
-    ensures cause { result ≡ Err ChooseFault.DiskFault → RoseByOne (W.view world.old).area_faults (W.view world.new).area_faults }
-    ensures last { result ≡ Err ChooseFault.DiskFault → W.failed world.new }
-    ensures no_cause { (result ≡ Err ChooseFault.DiskFault → ⊥)
-        → (W.view world.new).area_faults ≡ (W.view world.old).area_faults }
+    ensures faults { HasAreaCauseWhere (result ≡ Err ChooseFault.DiskFault) (W.failed world.new) (W.view world.old) (W.view world.new) }
     ensures no_put { MakesNoPut (W.view world.old) (W.view world.new) }
 {
     sync_both(world)?;

@@ -43,16 +43,21 @@ pub returns-in_err-area-clause-quiet : goal.returns-in_err-area-clause-quiet
 returns-in_err-area-clause-quiet g c =
     quiet_on (g.W.World.view c.args.world.now) (g.W.World.view c.read_head.new.world) (g.W.World.view c.read_head-2.new.world) c.read_head.ensures.quiet c.read_head-2.ensures.quiet
 
-pub returns-in_err-area-clause-refused : goal.returns-in_err-area-clause-refused
-returns-in_err-area-clause-refused g c =
+pub returns-in_err-area-clause-found : goal.returns-in_err-area-clause-found
+returns-in_err-area-clause-found g c =
     let first = g.W.World.view c.args.world.now in
     let one = g.W.World.view c.read_head.new.world in
     let p = err_from_is_err_and c.from_residual-in_err-area.result c.from_residual-in_err-area.ensures.1 in
     rw (p.1, p.2)
-    (λ told.
-    subst (Refuses c.in_err-area.field-0.0)
-    (sym (headless_choice c.in_ok-a.a c.in_ok-b.b first.shown (heads_read first one c.read_head.ensures.quiet c.in_ok-a.a c.in_ok-b.b c.in_ok-a.ensures.head c.in_ok-b.ensures.head told) c.in_err-area.ensures.none))
-    c.in_err-area.ensures.refused)
+    (record {
+      chosen = tt;
+      refused = λ told.
+          subst (Refuses c.in_err-area.field-0.0)
+          (sym (headless_choice c.in_ok-a.a c.in_ok-b.b first.shown (heads_read first one c.read_head.ensures.quiet c.in_ok-a.a c.in_ok-b.b c.in_ok-a.ensures.head c.in_ok-b.ensures.head told) c.in_err-area.ensures.none))
+          c.in_err-area.ensures.refused;
+      stands = tt;
+      bounds = tt;
+    })
 
 pub returns-in_err-state-clause-quiet : goal.returns-in_err-state-clause-quiet
 returns-in_err-state-clause-quiet g c =
@@ -68,44 +73,29 @@ returns-clause-quiet g c =
     quiet_on first two (g.W.World.view c.scan.new.world)
     (quiet_on first (g.W.World.view c.read_head.new.world) two c.read_head.ensures.quiet c.read_head-2.ensures.quiet) c.scan.ensures.quiet
 
-pub returns-clause-chosen : goal.returns-clause-chosen
-returns-clause-chosen g c =
-    let first = g.W.World.view c.args.world.now in
-    let one = g.W.World.view c.read_head.new.world in
-    let two = g.W.World.view c.read_head-2.new.world in
-    IfOk-weaker c.store_in.result _ _
-    (λ it is told.
-    scanned first two (quiet_on first one two c.read_head.ensures.quiet c.read_head-2.ensures.quiet) c.in_ok-a.a c.in_ok-b.b c.in_ok-area.area c.in_ok-state.state
-    (heads_read first one c.read_head.ensures.quiet c.in_ok-a.a c.in_ok-b.b c.in_ok-a.ensures.head c.in_ok-b.ensures.head) c.in_ok-area.ensures.leads c.in_ok-state.ensures.state told
-    ∙ is) c.store_in.ensures.chosen
-
-pub returns-clause-refused : goal.returns-clause-refused
-returns-clause-refused g c =
-    let first = g.W.World.view c.args.world.now in
-    let one = g.W.World.view c.read_head.new.world in
-    let two = g.W.World.view c.read_head-2.new.world in
-    IfErr-weaker c.store_in.result _ _
-    (λ fault is told.
-    subst (Refuses fault)
-    (sym (scanned first two (quiet_on first one two c.read_head.ensures.quiet c.read_head-2.ensures.quiet) c.in_ok-a.a c.in_ok-b.b c.in_ok-area.area c.in_ok-state.state
-    (heads_read first one c.read_head.ensures.quiet c.in_ok-a.a c.in_ok-b.b c.in_ok-a.ensures.head c.in_ok-b.ensures.head) c.in_ok-area.ensures.leads c.in_ok-state.ensures.state told))
-    is) c.store_in.ensures.refused
-
-pub returns-clause-stands : goal.returns-clause-stands
-returns-clause-stands g c =
+pub returns-clause-found : goal.returns-clause-found
+returns-clause-found g c =
     let first = g.W.World.view c.args.world.now in
     let one = g.W.World.view c.read_head.new.world in
     let two = g.W.World.view c.read_head-2.new.world in
     let three = g.W.World.view c.scan.new.world in
+    let area = c.in_ok-area.area in
+    let state = c.in_ok-state.state in
     let q = quiet_on first one two c.read_head.ensures.quiet c.read_head-2.ensures.quiet in
     let all = quiet_on first two three q c.scan.ensures.quiet in
-    IfOk-weaker c.store_in.result _ _
-    (λ it is now.
+    let heads = heads_read first one c.read_head.ensures.quiet c.in_ok-a.a c.in_ok-b.b c.in_ok-a.ensures.head c.in_ok-b.ensures.head in
+    let choice = scanned first two q c.in_ok-a.a c.in_ok-b.b area state heads c.in_ok-area.ensures.leads c.in_ok-state.ensures.state in
     record {
-      choice =
-          subst (λ (t : Triple). choice_of t.a t.b ≡ chosen it.area it.epoch it.end it.next it.payloads) (sym all.shown)
-          (scanned first two q c.in_ok-a.a c.in_ok-b.b c.in_ok-area.area c.in_ok-state.state
-          (heads_read first one c.read_head.ensures.quiet c.in_ok-a.a c.in_ok-b.b c.in_ok-a.ensures.head c.in_ok-b.ensures.head) c.in_ok-area.ensures.leads c.in_ok-state.ensures.state (sym all.passes.tells_bytes ∙ now)
-          ∙ is);
-      holds = holds_taken c.in_ok-area.area it.area c.in_ok-state.state it.epoch it.end it.next it.payloads three.shown is (c.in_ok-state.ensures.holds now);
-    }) c.store_in.ensures.chosen
+      chosen = IfOk-weaker c.store_in.result _ _ (λ it is told. choice told ∙ is) c.store_in.ensures.chosen;
+      refused = IfErr-weaker c.store_in.result _ _ (λ fault is told. subst (Refuses fault) (sym (choice told)) is) c.store_in.ensures.refused;
+      stands =
+          IfOk-weaker c.store_in.result _ _
+          (λ it is now.
+          record {
+            choice =
+                subst (λ (t : Triple). choice_of t.a t.b ≡ chosen it.area it.epoch it.end it.next it.payloads) (sym all.shown)
+                (choice (sym all.passes.tells_bytes ∙ now) ∙ is);
+            holds = holds_taken area it.area state it.epoch it.end it.next it.payloads three.shown is (c.in_ok-state.ensures.holds now);
+          }) c.store_in.ensures.chosen;
+      bounds = c.store_in.ensures.bounds;
+    }

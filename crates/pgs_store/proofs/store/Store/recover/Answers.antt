@@ -12,7 +12,7 @@ pub returns-in_err-chosen-clause-answer : goal.returns-in_err-chosen-clause-answ
 returns-in_err-chosen-clause-answer g c =
     let p = err_from_is_err_and c.from_residual.result c.from_residual.ensures.1 in
     let shown = (g.W.World.view c.args.world.now).shown in
-    rw (p.1, p.2) (λ told. unchosen_saves c.args.limits shown.a shown.b c.in_err-chosen.field-0.0 (c.in_err-chosen.ensures.refused told))
+    rw (p.1, p.2) (λ told. unchosen_saves c.args.limits shown.a shown.b c.in_err-chosen.field-0.0 (c.in_err-chosen.ensures.found.refused told))
 
 pub returns-in_err-guard-clause-answer : goal.returns-in_err-guard-clause-answer
 returns-in_err-guard-clause-answer g c =
@@ -22,14 +22,14 @@ returns-in_err-guard-clause-answer g c =
     rw (p.1, p.2)
     (λ told.
     subst (λ (s : SavedState). IsUnrecovered s c.in_err-guard.field-0.0)
-    (sym (chosen_saves c.args.limits shown.a shown.b (choices.chosen it.area it.epoch it.end it.next it.payloads) (c.in_ok-chosen.ensures.chosen told)))
+    (sym (chosen_saves c.args.limits shown.a shown.b (choices.chosen it.area it.epoch it.end it.next it.payloads) (c.in_ok-chosen.ensures.found.chosen told)))
     c.in_err-guard.ensures.refused)
 
 pub invariant_of-result : goal.invariant_of-result
 invariant_of-result g c =
     let it = c.in_ok-chosen.chosen in
     let guard = c.in_ok-guard.guard in
-    let bounds = c.in_ok-chosen.ensures.bounds in
+    let bounds = c.in_ok-chosen.ensures.found.bounds in
     record {
       epoch = bounds.numbered;
       end = bounds.end_below;
@@ -48,12 +48,12 @@ returns-clause-answer g c =
       limits_kept = c.in_ok-guard.ensures.limits;
       whole = refl;
       saves = λ told.
-          chosen_saves c.args.limits old.shown.a old.shown.b (choices.chosen it.area it.epoch it.end it.next it.payloads) (c.in_ok-chosen.ensures.chosen told) ∙ saves;
+          chosen_saves c.args.limits old.shown.a old.shown.b (choices.chosen it.area it.epoch it.end it.next it.payloads) (c.in_ok-chosen.ensures.found.chosen told) ∙ saves;
       stands = record {
         saved = λ told. (
           it.payloads,
           record {
-            has = c.in_ok-chosen.ensures.stands told;
+            has = c.in_ok-chosen.ensures.found.stands told;
             saves = ap (λ (l : Limits). saved_of l it.payloads) c.in_ok-guard.ensures.limits ∙ saves;
           },
         );
