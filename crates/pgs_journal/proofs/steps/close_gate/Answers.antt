@@ -61,7 +61,7 @@ returns-in_ok-write_synced-clause-step g c =
     let write = c.write_synced.ensures in
     record {
       passes = passes_on (g.W.World.view c.args.world.now) (g.W.World.view c.must_close.new.world) (g.W.World.view c.write_synced.new.world) read.quiet.passes write.passes;
-      image = write.image;
-      faults = record { cause = tt; last = tt; no_cause = c.in_ok-write_synced.ensures.no_cause ∙ c.in_ok-must_close.ensures.faults.no_cause };
-      no_put = record { puts = write.no_put.puts ∙ read.no_put.puts; put_faults = write.no_put.put_faults ∙ read.no_put.put_faults };
+      image = write.call.image;
+      faults = record { cause = tt; last = tt; no_cause = c.in_ok-write_synced.ensures.call.no_cause ∙ c.in_ok-must_close.ensures.faults.no_cause };
+      no_put = record { puts = write.call.no_put.puts ∙ read.no_put.puts; put_faults = write.call.no_put.put_faults ∙ read.no_put.put_faults };
     }
