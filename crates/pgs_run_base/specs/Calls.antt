@@ -1,7 +1,7 @@
 -- Which statuses say that a call outside failed.
 use Rattle.std.specs.Prelude.{Bool, true, false}
 use Rattle.pgs_run_base.specs.declared.status.Status.{Status}
-use Rattle.pgs_run_base.specs.declared.status.Status.TheVariants.{Accepted, Refused, BadWords, SchemaRefused, StoreRefused, DiskFault, ReadFault, PutFault, Memory, InputTooLong}
+use Rattle.pgs_run_base.specs.declared.status.Status.TheVariants.{DiskFault, ReadFault, PutFault}
 
 -- a read failed
 abbrev pub fails_read : Status → Bool

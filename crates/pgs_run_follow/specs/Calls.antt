@@ -1,7 +1,7 @@
 -- Which statuses say that a call outside failed.
 use Rattle.std.specs.Prelude.{Bool, true, false}
 use Rattle.pgs_run_follow.specs.declared.status.FollowStatus.{FollowStatus}
-use Rattle.pgs_run_follow.specs.declared.status.FollowStatus.TheVariants.{Accepted, Refused, BadWords, ReadFault, PutFault, Memory, InputTooLong}
+use Rattle.pgs_run_follow.specs.declared.status.FollowStatus.TheVariants.{ReadFault, PutFault}
 
 -- a read failed
 abbrev pub fails_read : FollowStatus → Bool
