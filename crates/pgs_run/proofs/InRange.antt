@@ -9,7 +9,7 @@ use Rattle.pgs_run_words.specs.declared.command_word.CommandWord.{CommandWord}
 use Rattle.pgs_run_words.specs.declared.command_word.CommandWord.TheVariants as words
 use Rattle.pgs_run_words.specs.Further.{are_plain}
 use Rattle.pgs_run_words.specs.Words as reading
-use Rattle.pgs_run_words.specs.Words.{count_of, number_of, generated, explained, elem_of, command_in, command_word, command_of_plain}
+use Rattle.pgs_run_words.specs.Words.{count_of, number_of, with_counts, with_element, elem_of, command_in, command_word, command_of_plain}
 use Rattle.pgs_run.specs.Command.{IsInRange}
 
 -- a workload has at most so many transactions
@@ -30,7 +30,7 @@ gen_few None count few = tt
 gen_few (Some s) None few = tt
 gen_few (Some s) (Some c) few = few
 
-generated_few : (further : List (List ℕ)) → IfSome (generated further) HasFew
+generated_few : (further : List (List ℕ)) → IfSome (with_counts further) HasFew
 generated_few [] = tt
 generated_few (start ∷ []) = tt
 generated_few (start ∷ count ∷ []) = gen_few (number_of start) (count_of count) (few_of (number_of count))
@@ -40,7 +40,7 @@ explained_few : (elem : Option Elem) → IfSome (option_map Explain elem) HasFew
 explained_few None = tt
 explained_few (Some elem) = tt
 
-explain_few : (further : List (List ℕ)) → IfSome (explained further) HasFew
+explain_few : (further : List (List ℕ)) → IfSome (with_element further) HasFew
 explain_few [] = tt
 explain_few (name ∷ []) = tt
 explain_few (name ∷ elem ∷ []) = explained_few (elem_of elem)

@@ -18,13 +18,13 @@ use Rattle.pgs_syntax.specs.declared.specification.Leaf.{Leaf}
 use Rattle.pgs_syntax.specs.Matches.{carried}
 
 -- whether the type of a number is abstract, and its name; a valid schema has each type of its guard
-abbrev pub named : Resolved → TypeNo → Option (Bool × List ℕ)
-named resolved (Node number) = option_map (λ (type : NodeType Leaf). (type.hidden, type.name)) (slice_get resolved.nodes number)
-named resolved (Edge number) = option_map (λ (type : EdgeType Leaf). (type.hidden, type.name)) (slice_get resolved.edges number)
+abbrev pub hidden_and_name : Resolved → TypeNo → Option (Bool × List ℕ)
+hidden_and_name resolved (Node number) = option_map (λ (type : NodeType Leaf). (type.hidden, type.name)) (slice_get resolved.nodes number)
+hidden_and_name resolved (Edge number) = option_map (λ (type : EdgeType Leaf). (type.hidden, type.name)) (slice_get resolved.edges number)
 
 -- the line of a type
 abbrev pub line_of_type : Resolved → TypeNo → Option (List ℕ)
-line_of_type resolved type = option_map (λ (own : Bool × List ℕ). type_line own.0 own.1) (named resolved type)
+line_of_type resolved type = option_map (λ (own : Bool × List ℕ). type_line own.0 own.1) (hidden_and_name resolved type)
 
 -- types, each by its line
 abbrev pub type_lines : Resolved → List TypeNo → List (List ℕ)

@@ -3,7 +3,7 @@
 ghost use Rattle.std.specs.Prelude.{◌≡◌, ◌∷◌, [], option_map, true};
 ghost use Rattle.pgs_run_lines.specs.Calls.{stops_of_world};
 ghost use Rattle.pgs_run_lines.specs.Puts.{Puts};
-ghost use Rattle.pgs_run_explain.specs.Explaining.{named, type_lines};
+ghost use Rattle.pgs_run_explain.specs.Explaining.{hidden_and_name, type_lines};
 
 use pgs_answer::type_line;
 use pgs_base::Name;
@@ -14,8 +14,8 @@ use pgs_world::World;
 use std::alloc::Global;
 
 // Whether the type of a number is abstract, and its name.
-fn named(resolved: &Resolved, type_no: TypeNo) -> Option<(bool, &Name)>
-    ensures { option_map (λ own. (own.0, own.1.now)) result ≡ named resolved.now type_no }
+fn hidden_and_name(resolved: &Resolved, type_no: TypeNo) -> Option<(bool, &Name)>
+    ensures { option_map (λ own. (own.0, own.1.now)) result ≡ hidden_and_name resolved.now type_no }
 {
     match type_no {
         TypeNo::Node(number) => match resolved.nodes.at(number as usize) {
@@ -39,7 +39,7 @@ fn put_type<W: World>(
     ensures puts { Puts (W.view world.old) (type_lines resolved.now (type_no ∷ [])) result (W.view world.new) }
     ensures last { stops_of_world result ≡ true → W.failed world.new }
 {
-    match named(resolved, type_no) {
+    match hidden_and_name(resolved, type_no) {
         Some((hidden, name)) => put_made(world, type_line(alloc, hidden, name)),
         None => Ok(()),
     }

@@ -46,7 +46,7 @@ fn delta_counted<L: Ledger>(
 }
 
 // The delta of a transaction that can be done within the limits.
-fn decided(alloc: Global, graph: &Tables, txn: &Txn) -> Result<Delta, GuardRefusal>
+fn delta_within_limits(alloc: Global, graph: &Tables, txn: &Txn) -> Result<Delta, GuardRefusal>
     ensures sound { IfOk result (λ delta. is_sound graph.now.graph delta ≡ true) }
     ensures accepted { IfOk result (λ delta. decision_on judges_nothing graph.now.graph txn.now ≡ Ok (changed graph.now.graph delta)) }
     ensures rejected { IfErr result (IsRejected (decision_on judges_nothing graph.now.graph txn.now)) }
@@ -87,7 +87,7 @@ impl Staged {
         ensures commits { OnOk result (self.new.commits ≡ self.old.commits + 1) }
         ensures unchanged { OnErr result ((self.new.graph.graph ≡ self.old.graph.graph) × (self.new.commits ≡ self.old.commits)) }
     {
-        let delta = decided(alloc, &self.graph, txn)?;
+        let delta = delta_within_limits(alloc, &self.graph, txn)?;
         let prepared = self.graph.prepare(delta)?;
         self.graph.commit(prepared);
         self.commits += 1;

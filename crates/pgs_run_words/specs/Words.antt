@@ -44,35 +44,35 @@ alone command [] = Some command
 alone command (word ∷ further) = None
 
 -- a command with the name of a store
-abbrev pub named : Command → List (List ℕ) → Option Command
-named command (name ∷ []) = Some command
-named command _ = None
+abbrev pub with_name : Command → List (List ℕ) → Option Command
+with_name command (name ∷ []) = Some command
+with_name command _ = None
 
 -- a command with the name of a store and any number of feeds
-abbrev pub fed : Command → List (List ℕ) → Option Command
-fed command [] = None
-fed command (name ∷ feeds) = Some command
+abbrev pub with_feeds : Command → List (List ℕ) → Option Command
+with_feeds command [] = None
+with_feeds command (name ∷ feeds) = Some command
 
-abbrev pub explained : List (List ℕ) → Option Command
-explained (name ∷ elem ∷ []) = option_map Explain (elem_of elem)
-explained _ = None
+abbrev pub with_element : List (List ℕ) → Option Command
+with_element (name ∷ elem ∷ []) = option_map Explain (elem_of elem)
+with_element _ = None
 
-abbrev pub generated : List (List ℕ) → Option Command
-generated (start ∷ count ∷ []) = option_and_then (λ s. option_map (Gen s) (count_of count)) (number_of start)
-generated _ = None
+abbrev pub with_counts : List (List ℕ) → Option Command
+with_counts (start ∷ count ∷ []) = option_and_then (λ s. option_map (Gen s) (count_of count)) (number_of start)
+with_counts _ = None
 
 -- the command of a first word and the further ones
 abbrev pub command_in : CommandWord → List (List ℕ) → Option Command
 command_in words.Try = alone Try
 command_in words.Validate = alone Validate
-command_in words.Load = named Load
-command_in words.Apply = fed Apply
-command_in words.Recover = named Recover
-command_in words.Explain = explained
-command_in words.Gen = generated
-command_in words.Checkpoint = named Checkpoint
+command_in words.Load = with_name Load
+command_in words.Apply = with_feeds Apply
+command_in words.Recover = with_name Recover
+command_in words.Explain = with_element
+command_in words.Gen = with_counts
+command_in words.Checkpoint = with_name Checkpoint
 command_in words.Contain = alone Contain
-command_in words.Evolve = named Evolve
+command_in words.Evolve = with_name Evolve
 
 -- ---- all words
 

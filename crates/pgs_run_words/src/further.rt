@@ -1,6 +1,6 @@
 ghost use Rattle.std.specs.Prelude.{◌≡◌, IfOk, map, option_map, option_and_then, true};
 ghost use Rattle.pgs_run_words.specs.Further.{are_plain};
-ghost use Rattle.pgs_run_words.specs.Words.{elem_of, number_of, count_of, alone, named, fed, explained, generated, command_in};
+ghost use Rattle.pgs_run_words.specs.Words.{elem_of, number_of, count_of, alone, with_name, with_feeds, with_element, with_counts, command_in};
 ghost use Rattle.pgs_run_words.specs.declared.command.Command.TheVariants.{Explain, Gen};
 
 use crate::Command;
@@ -31,13 +31,13 @@ fn alone<'a>(
 }
 
 // A command that has the name of a store.
-fn named<'a>(
+fn with_name<'a>(
     alloc: Global,
     command: Command,
     words: &'a [&'a str],
 ) -> Result<Option<Command>, Memory>
     requires { are_plain (map (λ w. w.now) words.now) ≡ true }
-    ensures { IfOk result (λ r. r ≡ named command (map (λ w. w.now) words.entry.now)) }
+    ensures { IfOk result (λ r. r ≡ with_name command (map (λ w. w.now) words.entry.now)) }
 {
     match read_one_word(alloc, words)? {
         Some(_) => Ok(Some(command)),
@@ -46,9 +46,13 @@ fn named<'a>(
 }
 
 // A command that has the name of a store, and feeds.
-fn fed<'a>(alloc: Global, command: Command, words: &'a [&'a str]) -> Result<Option<Command>, Memory>
+fn with_feeds<'a>(
+    alloc: Global,
+    command: Command,
+    words: &'a [&'a str],
+) -> Result<Option<Command>, Memory>
     requires { are_plain (map (λ w. w.now) words.now) ≡ true }
-    ensures { IfOk result (λ r. r ≡ fed command (map (λ w. w.now) words.entry.now)) }
+    ensures { IfOk result (λ r. r ≡ with_feeds command (map (λ w. w.now) words.entry.now)) }
 {
     match read_name_and_feeds(alloc, words)? {
         Some(_) => Ok(Some(command)),
@@ -56,9 +60,9 @@ fn fed<'a>(alloc: Global, command: Command, words: &'a [&'a str]) -> Result<Opti
     }
 }
 
-fn explained<'a>(alloc: Global, words: &'a [&'a str]) -> Result<Option<Command>, Memory>
+fn with_element<'a>(alloc: Global, words: &'a [&'a str]) -> Result<Option<Command>, Memory>
     requires { are_plain (map (λ w. w.now) words.now) ≡ true }
-    ensures { IfOk result (λ r. r ≡ explained (map (λ w. w.now) words.entry.now)) }
+    ensures { IfOk result (λ r. r ≡ with_element (map (λ w. w.now) words.entry.now)) }
 {
     match read_two_words(alloc, words)? {
         Some((_, elem)) => Ok(explain(elem)),
@@ -75,9 +79,9 @@ fn explain(elem: &str) -> Option<Command>
     }
 }
 
-fn generated<'a>(alloc: Global, words: &'a [&'a str]) -> Result<Option<Command>, Memory>
+fn with_counts<'a>(alloc: Global, words: &'a [&'a str]) -> Result<Option<Command>, Memory>
     requires { are_plain (map (λ w. w.now) words.now) ≡ true }
-    ensures { IfOk result (λ r. r ≡ generated (map (λ w. w.now) words.entry.now)) }
+    ensures { IfOk result (λ r. r ≡ with_counts (map (λ w. w.now) words.entry.now)) }
 {
     match read_two_words(alloc, words)? {
         Some((start, count)) => Ok(generate(start, count)),
@@ -105,13 +109,13 @@ pub fn command_in<'a>(
     match word {
         CommandWord::Try => alone(alloc, Command::Try, further),
         CommandWord::Validate => alone(alloc, Command::Validate, further),
-        CommandWord::Load => named(alloc, Command::Load, further),
-        CommandWord::Apply => fed(alloc, Command::Apply, further),
-        CommandWord::Recover => named(alloc, Command::Recover, further),
-        CommandWord::Explain => explained(alloc, further),
-        CommandWord::Gen => generated(alloc, further),
-        CommandWord::Checkpoint => named(alloc, Command::Checkpoint, further),
+        CommandWord::Load => with_name(alloc, Command::Load, further),
+        CommandWord::Apply => with_feeds(alloc, Command::Apply, further),
+        CommandWord::Recover => with_name(alloc, Command::Recover, further),
+        CommandWord::Explain => with_element(alloc, further),
+        CommandWord::Gen => with_counts(alloc, further),
+        CommandWord::Checkpoint => with_name(alloc, Command::Checkpoint, further),
         CommandWord::Contain => alone(alloc, Command::Contain, further),
-        CommandWord::Evolve => named(alloc, Command::Evolve, further),
+        CommandWord::Evolve => with_name(alloc, Command::Evolve, further),
     }
 }

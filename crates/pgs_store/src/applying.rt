@@ -19,7 +19,7 @@ ghost use Rattle.pgs_store.specs.World.{StaysBeside, CountsFault};
 ghost use Rattle.pgs_world.specs.Moment.{EachSince};
 
 use crate::changing::{commit, prepare};
-use crate::judging::decided;
+use crate::judging::decision_of;
 use crate::{ApplyFault, Guard, GuardRefusal, Store};
 use pgs_base::{Copyable, Limits, Memory, Steps};
 use pgs_codec::Command;
@@ -78,7 +78,7 @@ fn framed_decision<L: Ledger>(
     ensures frame { IfOk result (λ it. it.1.items ≡ framed number (payload_of (Transaction txn.now))) }
     ensures decoded { OnOk result (decoded_by (payload_of (Transaction txn.now)) ≡ Some (Transaction txn.now)) }
 {
-    let decided = decided(alloc, schema, limits, graph, index, txn, steps)?;
+    let decided = decision_of(alloc, schema, limits, graph, index, txn, steps)?;
     let frame = txn_frame(alloc, txn, number)?;
     Ok((decided, frame))
 }

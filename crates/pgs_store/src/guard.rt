@@ -12,7 +12,7 @@ ghost use Rattle.pgs_store.specs.State.{IsGuarded};
 
 use crate::changing::{commit, prepare};
 use crate::explaining::types_of;
-use crate::judging::decided;
+use crate::judging::decision_of;
 use crate::{GuardFault, GuardRefusal};
 use pgs_base::{Elem, Limits, List, Memory, Seed, Steps, TupleSet};
 use pgs_conform::Compiled;
@@ -143,7 +143,7 @@ impl Guard {
         ensures no_step_back { steps.old ≤ steps.new }
         ensures cost { IsWithin self.old txn.now steps.old steps.new }
     {
-        let decided = decided(
+        let decided = decision_of(
             self.alloc,
             &self.schema,
             &self.limits,

@@ -28,7 +28,7 @@ use std::alloc::Global;
 use std::sync::ledger::Ledger;
 
 /// Decides a transaction on a guard's graph by its index: what it makes of both, or why it is rejected.
-pub(crate) fn decided<L: Ledger>(
+pub(crate) fn decision_of<L: Ledger>(
     alloc: Global,
     schema: &Schema,
     limits: &Limits,

@@ -248,7 +248,7 @@ fn first_guard(
 }
 
 // The guard that the records of a store lead to.
-fn recovered<L: Ledger>(
+fn guard_of_records<L: Ledger>(
     alloc: Global,
     limits: Limits,
     seed: Seed,
@@ -299,7 +299,13 @@ impl Store {
             next,
             payloads,
         } = chosen;
-        let guard = recovered::<Brand>(alloc, limits, world.seed(), payloads, Blank::new(1))?;
+        let guard = guard_of_records::<Brand>(
+            alloc,
+            limits,
+            world.seed(),
+            payloads,
+            Blank::new(1),
+        )?;
         Ok(Store {
             guard,
             journal: Journal {

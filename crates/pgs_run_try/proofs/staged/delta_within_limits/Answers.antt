@@ -3,7 +3,7 @@ use Rattle.pgs_txn.specs.Answers.{IsRefusal}
 use Rattle.pgs_violation.specs.Staging.{staged}
 use Rattle.pgs_run_base.specs.Session.{standard}
 use Rattle.pgs_run_try.proofs.Done.{done_accepted, undone_rejected}
-use Rattle.pgs_run_try.proofs.staged.decided.Goals as goal
+use Rattle.pgs_run_try.proofs.staged.delta_within_limits.Goals as goal
 
 pub returns-in-Ok-clause-accepted : goal.returns-in-Ok-clause-accepted
 returns-in-Ok-clause-accepted c = done_accepted c.args.graph.now.graph _ c.args.txn.now c.in-Ok.ensures.staged

@@ -4,7 +4,7 @@ use Rattle.pgs_base.specs.declared.limits.Limits.{Limits}
 use Rattle.pgs_snapshot.specs.Saved.{Replayed, replay, start, text_of}
 use Rattle.pgs_store.specs.Recovers.{IsUnreplayed, replayed_in}
 use Rattle.pgs_store.proofs.Replaying.{unreplayed_saves, replayed_saves, not_of_area, at_start}
-use Rattle.pgs_store.proofs.recovering.recovered.Goals as goal
+use Rattle.pgs_store.proofs.recovering.guard_of_records.Goals as goal
 
 pub returns-in_err-replay-clause-refused : goal.returns-in_err-replay-clause-refused
 returns-in_err-replay-clause-refused g c =

@@ -5,7 +5,7 @@ use Rattle.pgs_syntax.specs.declared.resolved.Resolved.{Resolved}
 use Rattle.pgs_violation.specs.Decision.{decide}
 use Rattle.pgs_violation.specs.Violations.{conforms, verdict}
 use Rattle.pgs_store.proofs.Decided.{by_verdict, guarded, sized}
-use Rattle.pgs_store.proofs.judging.decided.Goals as goal
+use Rattle.pgs_store.proofs.judging.decision_of.Goals as goal
 
 pub decide-requires-clause-conforms : goal.decide-requires-clause-conforms
 decide-requires-clause-conforms g c =
