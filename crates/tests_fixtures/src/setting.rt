@@ -1,3 +1,5 @@
+ghost use Rattle.std.specs.Prelude.{◌<◌, ◌≤◌};
+
 use pgs_base::{List, Memory, Words};
 use pgs_world::{MemSource, MemWorld};
 use std::alloc::Global;
@@ -46,7 +48,11 @@ impl Setting {
     }
 
     /// The budget of bytes, at least 1 and at most the greatest.
-    pub fn budget_within(&self, greatest: u64) -> u64 {
+    pub fn budget_within(&self, greatest: u64) -> u64
+        requires { 0 < greatest }
+        ensures positive { 0 < result }
+        ensures within { result ≤ greatest }
+    {
         self.budget.max(1).min(greatest)
     }
 }
