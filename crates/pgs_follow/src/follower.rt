@@ -9,12 +9,10 @@ use crate::fault::FollowFault;
 use crate::progress::Progress;
 use pgs_base::{Limits, Memory};
 use pgs_graph::Graph;
+use pgs_json::COMMIT_LIMIT;
 use pgs_run_lines::line_end;
 use std::alloc::Global;
 use std::marker::Model;
-
-/// The most bytes of a line.
-const LONGEST: usize = 2_097_152;
 
 /// A follower of a feed. It takes the feed's bytes piece by piece and keeps one graph and one unfinished line. Contracts see the limits,
 /// what was followed of the ended lines, or the fault that ended it, and the bytes of the unfinished line.
@@ -139,7 +137,7 @@ impl Follower {
         if self.line.is_empty() {
             return self.progress.take_line(part);
         }
-        if part.len() > LONGEST - self.line.len() {
+        if part.len() > COMMIT_LIMIT - self.line.len() {
             self.end_long_line(part);
             return Ok(());
         }
@@ -156,7 +154,7 @@ impl Follower {
         ensures limits { self.new.limits ≡ self.old.limits }
         ensures err { OnErr result (self.new ≡ self.old) }
     {
-        if part.len() > LONGEST - self.line.len() {
+        if part.len() > COMMIT_LIMIT - self.line.len() {
             self.end_too_long();
             return Ok(());
         }

@@ -18,8 +18,8 @@ use pgs_graph::{Op, Txn};
 use std::alloc::Global;
 use std::str;
 
-/// The most bytes of a line of a feed.
-const LONGEST: usize = 2_097_152;
+/// The most bytes of a line of a feed (docs/FORMATS.md).
+pub const COMMIT_LIMIT: usize = 2_097_152;
 
 /// The number that a member is, which has to be there: an id that isn't 0.
 fn number_part(part: Option<&Json<'_>>) -> Result<u64, Unread>
@@ -81,7 +81,7 @@ fn line_commit(alloc: Global, line: &[u8]) -> Result<(u64, Txn), Unread>
 pub fn read_commit(alloc: Global, line: &[u8]) -> Result<(u64, Txn), CommitFault>
     ensures { ReadsCommit result line.now }
 {
-    if line.len() > LONGEST {
+    if line.len() > COMMIT_LIMIT {
         return Err(CommitFault::LineTooLong);
     }
     let commit = line_commit(alloc, line)?;

@@ -25,7 +25,7 @@ mod tree;
 mod unread;
 
 pub use canonical::{push_txn, write_txn};
-pub use commit::read_commit;
+pub use commit::{COMMIT_LIMIT, read_commit};
 pub use commit_fault::CommitFault;
 pub use laws::{written_commit_is_read, written_is_read};
 pub use line::read_txn;

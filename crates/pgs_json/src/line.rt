@@ -9,12 +9,10 @@ use crate::line_fault::LineFault;
 use crate::tree::Json;
 use crate::unread::Unread;
 use json::Scratch;
+use pgs_base::TEXT_LIMIT;
 use pgs_graph::Txn;
 use std::alloc::Global;
 use std::str;
-
-/// The most bytes of a line.
-const LONGEST: usize = 1_048_576;
 
 fn text_txn(alloc: Global, text: &str) -> Result<Txn, Unread>
     ensures { Gives (λ txn. txn) result (option_and_then form (read text.now)) }
@@ -41,7 +39,7 @@ fn line_txn(alloc: Global, line: &[u8]) -> Result<Txn, Unread>
 pub fn read_txn(alloc: Global, line: &[u8]) -> Result<Txn, LineFault>
     ensures { Reads result line.now }
 {
-    if line.len() > LONGEST {
+    if line.len() > TEXT_LIMIT {
         return Err(LineFault::LineTooLong);
     }
     let txn = line_txn(alloc, line)?;

@@ -10,4 +10,5 @@ mod top_call;
 mod words;
 
 pub use pgs_run_base::Status;
-pub use top_call::{BUDGET, run, run_within};
+pub use pgs_run_lines::BUDGET;
+pub use top_call::{run, run_within};

@@ -9,11 +9,9 @@ use crate::Status;
 use crate::words::run_words;
 use pgs_base::Words;
 use pgs_feed::FeedList;
+use pgs_run_lines::BUDGET;
 use pgs_world::{Feed, Source, World};
 use std::alloc::Global;
-
-/// The budget of a run of the program: 2^40 bytes.
-pub const BUDGET: u64 = 1 << 40;
 
 /// Runs the program's words over an input, an output and a budget of bytes of the input, 1 to 2^40, and answers
 /// the status. What it puts and answers is what `told` tells (docs/DEFINITIONS.md, "What a run tells"). A read asks

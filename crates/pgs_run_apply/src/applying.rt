@@ -15,10 +15,10 @@ ghost use Rattle.pgs_run_apply.specs.Told.{status_after};
 
 use crate::asking::ask;
 use pgs_answer::{committed_line, feed_line, refused_line, rejection_text};
-use pgs_base::{Bytes, Limits, Memory};
+use pgs_base::{Bytes, Limits, Memory, TEXT_LIMIT};
 use pgs_feed::FeedList;
 use pgs_graph::Txn;
-use pgs_run_base::{Status, TEXT_LIMIT, txn_of};
+use pgs_run_base::{Status, txn_of};
 use pgs_run_lines::{LineTaker, Stop, is_blank, put_piece};
 use pgs_store::Store;
 use pgs_violation::Rejection;

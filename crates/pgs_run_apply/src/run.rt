@@ -22,8 +22,9 @@ ghost use Rattle.pgs_run_apply.specs.Told.{told_apply};
 
 use crate::applying::Applying;
 use pgs_answer::feeds_lost_line;
+use pgs_base::TEXT_LIMIT;
 use pgs_feed::FeedList;
-use pgs_run_base::{Status, TEXT_LIMIT, status_at};
+use pgs_run_base::{Status, status_at};
 use pgs_run_lines::{Reply, Stop, put_reply, run_lines};
 use pgs_run_saved::{end_unopened, open_store};
 use pgs_world::{Feed, Source, World};

@@ -15,7 +15,7 @@ mod status;
 mod txn_answer;
 
 pub use collecting::{Collected, Collecting, text_of};
-pub use lines::{TEXT_LIMIT, is_separator};
+pub use lines::is_separator;
 pub use open_fault::OpenFault;
 pub use schema_answer::{refusal_of, schema_of};
 pub use schema_part::SchemaPart;

@@ -1,9 +1,6 @@
 ghost use Rattle.std.specs.Prelude.{◌≡◌};
 ghost use Rattle.pgs_run_base.specs.Input.{is_separator};
 
-/// The most bytes of a schema text and of a transaction line.
-pub const TEXT_LIMIT: usize = 1_048_576;
-
 /// Whether a line ends the schema part: `---`, with or without a carriage return.
 #[tactic(auto, unfolding(crate::specs::Input::is_separator))]
 pub fn is_separator(line: &[u8]) -> bool

@@ -2,8 +2,8 @@ ghost use Rattle.std.specs.Prelude.{◌≡◌, false, true, IfOk, Ok, OnOk};
 ghost use Rattle.pgs_run_base.specs.Input.{is_separator};
 ghost use Rattle.pgs_run_base.specs.Part.{no_part, with_line};
 
-use crate::{TEXT_LIMIT, is_separator};
-use pgs_base::Memory;
+use crate::is_separator;
+use pgs_base::{Memory, TEXT_LIMIT};
 use pgs_run_lines::LineBuffer;
 use std::alloc::Global;
 use std::marker::Model;

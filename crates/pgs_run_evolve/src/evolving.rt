@@ -14,7 +14,8 @@ ghost use Rattle.pgs_run_evolve.specs.Taking.{IsReady, Takes};
 ghost use Rattle.pgs_run_evolve.specs.Told.{told_input, told_new, told_text};
 
 use crate::replying::{evolved_reply, refuse_old_format, refuse_text, refuse_violation};
-use pgs_run_base::{Collecting, Status, TEXT_LIMIT, text_of};
+use pgs_base::TEXT_LIMIT;
+use pgs_run_base::{Collecting, Status, text_of};
 use pgs_run_lines::{put_reply, run_lines};
 use pgs_schema::Schema;
 use pgs_store::{EvolveFault, Store};

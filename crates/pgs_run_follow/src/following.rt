@@ -15,13 +15,11 @@ use crate::texts::{fault_line, followed_line};
 use pgs_base::Limits;
 use pgs_dump::put_graph;
 use pgs_follow::Progress;
+use pgs_json::COMMIT_LIMIT;
 use pgs_run_lines::{LineTaker, Stop, put_made};
 use pgs_world::World;
 use std::alloc::Global;
 use std::marker::Model;
-
-/// The most bytes of a line.
-pub const LONGEST: usize = 2_097_152;
 
 /// Following under the limits of the program, between two lines. Contracts see what was followed.
 #[derive(Drop)]
@@ -113,7 +111,7 @@ impl Following {
         if self.progress.has_fault() {
             return;
         }
-        if rest.len() > LONGEST {
+        if rest.len() > COMMIT_LIMIT {
             self.progress.end_too_long();
         }
     }

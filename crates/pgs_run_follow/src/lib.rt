@@ -10,6 +10,7 @@ mod run;
 mod status;
 mod texts;
 
-pub use run::{BUDGET, run_follow, run_follow_within};
+pub use pgs_run_lines::BUDGET;
+pub use run::{run_follow, run_follow_within};
 pub use status::FollowStatus;
 pub use texts::{fault_line, followed_line};

@@ -8,16 +8,14 @@ ghost use Rattle.pgs_run_follow.specs.Ending.{Ends, HasCause, IsRead, IsUnended,
 ghost use Rattle.pgs_run_follow.specs.Promise.{KeepsPromise, setting_of};
 ghost use Rattle.pgs_run_follow.specs.Told.{is_follow, told, told_follow};
 
-use crate::following::{Following, LONGEST};
+use crate::following::Following;
 use crate::status::{FollowStatus, status_at};
 use pgs_answer::words_refused_line;
 use pgs_base::Words;
-use pgs_run_lines::{put_last, run_lines};
+use pgs_json::COMMIT_LIMIT;
+use pgs_run_lines::{BUDGET, put_last, run_lines};
 use pgs_world::{Source, World};
 use std::alloc::Global;
-
-/// The budget of a run of the program: 2^40 bytes.
-pub const BUDGET: u64 = 1 << 40;
 
 // Whether the words are the one word `follow`.
 fn is_follow(words: &Words) -> bool
@@ -60,7 +58,7 @@ fn follow<S: Source, W: World>(
     ensures calls { Reads S.read_made budget source.old (fails_read result) source.new }
 {
     let mut following = Following::new(alloc);
-    let stop = run_lines(&mut following, alloc, source, world, LONGEST, budget);
+    let stop = run_lines(&mut following, alloc, source, world, COMMIT_LIMIT, budget);
     status_at(stop)
 }
 

@@ -9,6 +9,7 @@
 //! put last, with its status, goes by `put_reply`: `EndsReply` (`specs/Replies.antt`) says what comes of it.
 #![tactic(auto)]
 
+mod budget;
 mod driving;
 mod line_buffer;
 mod lines;
@@ -20,6 +21,7 @@ mod stop;
 mod taker;
 mod telling;
 
+pub use budget::BUDGET;
 pub use line_buffer::LineBuffer;
 pub use lines::{is_blank, line_end};
 pub use putting::{put_any, put_made, put_piece, put_pieces};

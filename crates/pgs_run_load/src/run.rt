@@ -14,7 +14,8 @@ ghost use Rattle.pgs_run_load.specs.Loading.{IsLoading, IsLoadingAt, IsMade, IsN
 ghost use Rattle.pgs_run_load.specs.Told.{told_load};
 
 use crate::loading::load_text;
-use pgs_run_base::{Collecting, Status, TEXT_LIMIT, text_of};
+use pgs_base::TEXT_LIMIT;
+use pgs_run_base::{Collecting, Status, text_of};
 use pgs_run_lines::run_lines;
 use pgs_world::{Source, World};
 use std::alloc::Global;

@@ -13,5 +13,6 @@ mod stepping;
 mod taking;
 mod words;
 
-pub use run::{BUDGET, run_sessions, run_sessions_within};
+pub use pgs_run_lines::BUDGET;
+pub use run::{run_sessions, run_sessions_within};
 pub use status::SessionStatus;

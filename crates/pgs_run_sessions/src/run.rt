@@ -8,17 +8,14 @@ use crate::status::SessionStatus;
 use crate::taking::Taking;
 use crate::words::asks_run;
 use pgs_answer::words_refused_line;
-use pgs_base::Words;
+use pgs_base::{TEXT_LIMIT, Words};
 use pgs_run_base::{Status, status_at};
-use pgs_run_lines::{Telling, put_last, run_lines};
+use pgs_run_lines::{BUDGET, Telling, put_last, run_lines};
 use pgs_world::{Source, World};
 use std::alloc::Global;
 
-/// The budget of a run of the program: 2^40 bytes.
-pub const BUDGET: u64 = 1 << 40;
-
 /// The most bytes of a line as it comes: those of a line, and a carriage return.
-const LINE_LIMIT: usize = 1_048_577;
+const LINE_LIMIT: usize = TEXT_LIMIT + 1;
 
 // Refuses the words.
 fn refuse_words<W: World>(alloc: Global, world: &mut W) -> Status

@@ -9,9 +9,9 @@ ghost use Rattle.pgs_run_sessions.specs.State.{schema_in, standing_in, brief_ses
 
 use crate::stepping::step;
 use pgs_answer::refused_line;
-use pgs_base::{Bytes, Limits, Memory, Seed};
+use pgs_base::{Bytes, Limits, Memory, Seed, TEXT_LIMIT};
 use pgs_events::{Asked, event_of, is_refusal, reply_line};
-use pgs_run_base::{OpenFault, TEXT_LIMIT, refusal_of};
+use pgs_run_base::{OpenFault, refusal_of};
 use pgs_run_lines::is_blank;
 use pgs_sessions::{Event, Sessions};
 use std::alloc::Global;

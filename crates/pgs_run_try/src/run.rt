@@ -9,7 +9,8 @@ ghost use Rattle.pgs_run_try.specs.Told.{told_judging};
 
 use crate::Judging;
 use crate::trying::Trying;
-use pgs_run_base::{Status, TEXT_LIMIT, status_at};
+use pgs_base::TEXT_LIMIT;
+use pgs_run_base::{Status, status_at};
 use pgs_run_lines::{Telling, run_lines};
 use pgs_world::{Source, World};
 use std::alloc::Global;

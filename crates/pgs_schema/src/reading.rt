@@ -11,6 +11,7 @@ ghost use Rattle.pgs_syntax.specs.Width.{first_too_wide};
 ghost use Rattle.pgs_schema.specs.Told.{IsRefused, IsUnresolved};
 
 use crate::{SchemaFault, SchemaUnread};
+use pgs_base::TEXT_LIMIT;
 use pgs_conform::Compiled;
 use pgs_lexer::{LexFault, Tokens, lex};
 use pgs_parser::{ParseFault, parse};
@@ -18,9 +19,6 @@ use pgs_resolve::{ResolveFault, resolve};
 use pgs_shapes::{CompileFault, compile};
 use pgs_syntax::{Resolved, Script};
 use std::alloc::Global;
-
-/// The most bytes of a schema text.
-const LONGEST: usize = 1_048_576;
 
 // The tokens of a text.
 fn lexed(alloc: Global, text: &[u8]) -> Result<Tokens<'_>, SchemaUnread>
@@ -102,7 +100,7 @@ pub fn read_schema(alloc: Global, text: &[u8]) -> Result<Compiled, SchemaUnread>
     ensures valid { IfOk result (λ compiled. is_valid compiled ≡ true) }
     ensures refused { IfErr result (IsRefused (schema_of text.now)) }
 {
-    if text.len() > LONGEST {
+    if text.len() > TEXT_LIMIT {
         return Err(SchemaUnread::Schema(SchemaFault::TooLong));
     }
     let tokens = lexed(alloc, text)?;

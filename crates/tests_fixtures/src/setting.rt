@@ -7,9 +7,6 @@ use std::alloc::Global;
 /// The bytes and the calls that the output of a run has room for.
 pub const ROOM: u64 = 65_536;
 
-// The most bytes that a run reads, where nothing else is said.
-const BUDGET: u64 = 1 << 40;
-
 /// How a run is disturbed. The reads and the puts that fail are counted from 1; 0 is none.
 #[derive(Clone, Copy, Debug)]
 pub struct Setting {
@@ -25,7 +22,7 @@ pub fn quiet(piece: usize) -> Setting {
         piece,
         failing_read: 0,
         failing_put: 0,
-        budget: BUDGET,
+        budget: u64::MAX,
     }
 }
 
