@@ -193,7 +193,7 @@ impl KeyTable {
         Ok(())
     }
 
-    // The same at a digest that is kept, where there is one.
+    // Tidies the holders at a digest that is kept, where there is one.
     fn tidy_kept(&mut self, kept: Option<Digest>) -> Result<(), Memory>
         ensures { SameRows self.old self.new }
     {
@@ -203,7 +203,7 @@ impl KeyTable {
         }
     }
 
-    // The same at all digests that are kept, which then are forgotten.
+    // Tidies the holders at all digests that are kept, which then are forgotten.
     fn tidy_all_kept(&mut self) -> Result<(), Memory>
         ensures { SameRows self.old self.new }
     {
