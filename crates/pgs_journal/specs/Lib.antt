@@ -1,6 +1,7 @@
 pub mod Area
 pub mod Bounds
 pub mod Calls
+pub mod Creating
 pub mod Format
 pub mod Reading
 pub mod Samples

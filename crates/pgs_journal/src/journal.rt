@@ -1,8 +1,9 @@
-ghost use Rattle.std.specs.Prelude.{◌≡◌, ◌+◌, ◌≤◌, ◌<◌, ◌^◌, ◌++◌, ◌∷◌, [], List, ℕ, length, Some, IsTrue, IfOk, OnOk, OnErr};
+ghost use Rattle.std.specs.Prelude.{◌≡◌, ◌+◌, ◌≤◌, ◌<◌, ◌^◌, ◌++◌, ◌∷◌, [], List, ℕ, length, IsTrue, OnOk, OnErr};
 ghost use Rattle.pgs_codec.specs.Frame.{framed};
 ghost use Rattle.pgs_journal.specs.Calls.{HasAreaCause};
+ghost use Rattle.pgs_journal.specs.Creating.{IsStoreMade};
 ghost use Rattle.pgs_journal.specs.Format.{advanced, is_epoch, Holds, IsFrames, IsNextWithin};
-ghost use Rattle.pgs_journal.specs.Stops.{Turns, Appends, Creates};
+ghost use Rattle.pgs_journal.specs.Stops.{Turns, Appends};
 ghost use Rattle.pgs_world.specs.Disk.{IsSameBeside};
 ghost use Rattle.pgs_world.specs.Moment.{Passes, StopsBy, ShowsOne, IsSynced, IsSettled, MakesNoPut};
 ghost use Rattle.pgs_world.specs.World.{part};
@@ -50,28 +51,10 @@ impl Journal {
         requires some { 2 ≤ next }
         requires frames { (payloads : List (List ℕ)) × IsFrames payloads next first.now }
 
-        // After Ok the area is the new store, and it is on the disk.
-        ensures holds { (payloads : List (List ℕ)) → IsFrames payloads next first.now
-            → IfOk result (λ journal. IsTrue (W.view world.old).tells_bytes
-            → Holds journal.next epoch payloads journal.end (part area (W.view world.new).shown)) }
+        // What it makes of the area, and of the world at every moment.
+        ensures made { IsStoreMade area epoch next first.now result (W.failed world.new) (W.view world.old) (W.view world.new) }
+        // After Ok the new store is on the disk.
         ensures synced { OnOk result (IsSynced area (W.view world.new)) }
-        ensures settled { OnOk result (IsSettled (W.view world.old) → IsSettled (W.view world.new)) }
-        ensures journal { IfOk result (λ journal. journal
-            ≡ record { area = area; epoch = epoch; end = 16 + length first.now; next = Some next }) }
-        ensures within { IfOk result (λ journal. journal.end < 2 ^ 40) }
-        ensures next_within { IfOk result (λ journal. next ≤ journal.end) }
-
-        // What a stop leaves at any moment of the call, where the area was synced.
-        ensures stops { (payloads : List (List ℕ)) → IsFrames payloads next first.now
-            → IsTrue (W.view world.old).tells_bytes → IsSynced area (W.view world.old)
-            → StopsBy (Turns area (Creates epoch payloads (16 + length first.now))) (W.view world.old) (W.view world.new) }
-        ensures stops_beside { StopsBy (IsSameBeside area) (W.view world.old) (W.view world.new) }
-        ensures beside { IsSameBeside area (W.view world.old).shown (W.view world.new).shown }
-
-        ensures passes { Passes (W.view world.old) (W.view world.new) }
-        ensures image { ShowsOne (W.view world.new) }
-        ensures faults { HasAreaCause result (W.failed world.new) (W.view world.old) (W.view world.new) }
-        ensures no_put { MakesNoPut (W.view world.old) (W.view world.new) }
     {
         close_gate(world, area)?;
         cut_synced(world, area, 1)?;

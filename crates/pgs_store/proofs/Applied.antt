@@ -112,10 +112,20 @@ pub txn_leads : (guard : GuardState) (payload : List ℕ) (txn : Txn) (graph : G
 txn_leads guard payload txn graph of_text accepted read payloads some saves =
     one_more_saves guard.limits payloads payload guard.text guard.commits guard.graph graph guard.schema txn some saves of_text read accepted
 
-pub applied : (guard : GuardState) (journal : Journal) (txn : Txn) (graph : Graph) (triple : Triple)
+applied : (guard : GuardState) (journal : Journal) (txn : Txn) (graph : Graph) (triple : Triple)
     → decide guard.limits (verdict guard.schema) guard.graph txn ≡ Ok graph
     → IsSavedIn guard journal triple ⊎ IsSavedIn (committed guard graph) (longer journal (Transaction txn)) triple → IsAppliedIn guard journal txn triple
 applied guard journal txn graph triple accepted saved = ⊎_elim inl (λ after. inr (graph, accepted, after)) saved
+
+-- what a stop leaves while a transaction is appended
+pub applying_stops : (guard : GuardState) (journal : Journal) (txn : Txn) (graph : Graph) {old new : View} → schema_of guard.text ≡ schema guard.schema
+    → decide guard.limits (verdict guard.schema) guard.graph txn ≡ Ok graph → decoded (payload_of (Transaction txn)) ≡ Some (Transaction txn)
+    → journal.end + length (framed journal.next (payload_of (Transaction txn))) < 2 ^ 64 → StandsOn guard journal old → IsTrue old.honest → IsTrue old.tells_bytes
+    → StopsBy (Turns journal.area (Appends journal.next journal.epoch journal.end (payload_of (Transaction txn)))) old new → EachSince (IsAppliedIn guard journal txn) old new
+applying_stops guard journal txn graph {old} {new} of_text accepted read small =
+    stops_after guard (committed guard graph) journal (Transaction txn) (may_append_txn journal.next (payload_of (Transaction txn)) txn read)
+    (txn_leads guard (payload_of (Transaction txn)) txn graph of_text accepted read) small (IsAppliedIn guard journal txn) old new
+    (λ triple. applied guard journal txn graph triple accepted)
 
 -- ---- a schema
 
@@ -130,10 +140,20 @@ schema_leads guard payload text resolved guarded of_text read payloads some save
     one_more_schema_saves guard.limits payloads payload guard.text text guard.commits guard.graph resolved some saves read of_text
     (judged_within resolved guard.limits guard.graph guarded)
 
-pub in_force : (guard : GuardState) (journal : Journal) (text : List ℕ) (resolved : Resolved) (triple : Triple) → IsConforming guard text resolved
+in_force : (guard : GuardState) (journal : Journal) (text : List ℕ) (resolved : Resolved) (triple : Triple) → IsConforming guard text resolved
     → IsSavedIn guard journal triple ⊎ IsSavedIn (evolved guard text resolved) (longer journal (Schema text)) triple
     → IsEvolvedIn guard journal text triple
 in_force guard journal text resolved triple conforming saved = ⊎_elim inl (λ after. inr (resolved, conforming, after)) saved
+
+-- what a stop leaves while a schema is appended
+pub evolving_stops : (guard : GuardState) (journal : Journal) (text : List ℕ) (resolved : Resolved) {old new : View} → IsNumbered journal
+    → decoded (payload_of (Schema text)) ≡ Some (Schema text) → IsGuarded resolved guard.limits guard.graph → schema_of text ≡ schema resolved
+    → journal.end + length (framed journal.next (payload_of (Schema text))) < 2 ^ 64 → StandsOn guard journal old → IsTrue old.honest → IsTrue old.tells_bytes
+    → StopsBy (Turns journal.area (Appends journal.next journal.epoch journal.end (payload_of (Schema text)))) old new → EachSince (IsEvolvedIn guard journal text) old new
+evolving_stops guard journal text resolved {old} {new} numbered read guarded of_text small =
+    stops_after guard (evolved guard text resolved) journal (Schema text) (may_append_schema journal (payload_of (Schema text)) text numbered read)
+    (schema_leads guard (payload_of (Schema text)) text resolved guarded of_text read) small (IsEvolvedIn guard journal text) old new
+    (λ triple. in_force guard journal text resolved triple (of_text, guarded.conforms))
 
 -- ---- journals and frames
 

@@ -1,10 +1,13 @@
 -- What a stop while a first store is made leaves, and what stands after it.
-use Rattle.std.proofs.Common.{◌≡◌, false, Err, refl, inl, inr, ⊎_elim, ℕ, ◌<◌, ◌^◌, IsTrue, List, [], ◌∷◌, Some, sym, ◌∙◌, ap, subst}
+use Rattle.std.proofs.Common.{◌≡◌, false, Err, refl, inl, inr, ⊎_elim, ℕ, ◌+◌, ◌<◌, ◌^◌, IsTrue, List, [], ◌∷◌, length, Result, Some, sym, ◌∙◌, ap, subst}
 use Rattle.pgs_base.specs.declared.limits.Limits.{Limits}
 use Rattle.pgs_base.specs.Graph.{Graph, empty_graph}
 use Rattle.pgs_codec.specs.declared.command.Command.TheVariants.{Schema}
+use Rattle.pgs_codec.specs.Payload.{payload_of}
 use Rattle.pgs_codec.specs.Reading.{decoded}
-use Rattle.pgs_journal.specs.Format.{Holds}
+use Rattle.pgs_journal.specs.Creating.{IsStoreMade}
+use Rattle.pgs_journal.specs.declared.journal.Journal.{Journal}
+use Rattle.pgs_journal.specs.Format.{Holds, IsFrames}
 use Rattle.pgs_journal.specs.Stops.{Turns, Creates}
 use Rattle.pgs_resolve.specs.SchemaOf.{schema, schema_of}
 use Rattle.pgs_snapshot.specs.Choice.{choice_of, no_store}
@@ -18,6 +21,7 @@ use Rattle.pgs_store.specs.State.{GuardState}
 use Rattle.pgs_store.specs.Stored.{StandsOn, IsLoadedIn, opened, first_journal}
 use Rattle.pgs_syntax.specs.declared.resolved.Resolved.{Resolved}
 use Rattle.pgs_world.specs.declared.area.Area.TheVariants.{A}
+use Rattle.pgs_world.specs.declared.fault.AreaFault.{AreaFault}
 use Rattle.pgs_world.specs.Disk.{IsSameBeside}
 use Rattle.pgs_world.specs.Moment.{Passes, StopsBy, EachSince, IsQuiet, IsSynced, IsSettled}
 use Rattle.pgs_world.specs.World.{Triple, View}
@@ -68,6 +72,13 @@ module _ (limits : Limits) (text : List ℕ) (resolved : Resolved) (payload : Li
         );
     settled = λ honest told. kept (settled (sym quiet.passes.honest ∙ (sym passes.honest ∙ honest)) (sym quiet.passes.tells_bytes ∙ (sym passes.tells_bytes ∙ told)));
   }
+
+-- what a stop leaves while the call makes the store of this text, in area A
+pub loading_stops : (limits : Limits) (text : List ℕ) (resolved : Resolved) (first : List ℕ) {result : Result Journal AreaFault} {failed : Type 0} {old mid new : View}
+    → schema_of text ≡ schema resolved → decoded (payload_of (Schema text)) ≡ Some (Schema text) → 16 + length first < 2 ^ 64 → IsFrames (payload_of (Schema text) ∷ []) 2 first
+    → FindsNone old → IsSettled old → IsQuiet old mid → IsStoreMade A 1 2 first result failed mid new → EachSince (IsLoadedIn limits text) old new
+loading_stops limits text resolved first {result} {failed} {old} {mid} {new} of_text read small frames free settled quiet made =
+    load_stops limits text resolved (payload_of (Schema text)) (16 + length first) of_text read small old mid new free settled quiet made.step.passes (made.stops (payload_of (Schema text) ∷ []) frames)
 
 -- a guard that was just made
 pub just_made : (guard : GuardState) (text : List ℕ) (limits : Limits) → guard.text ≡ text → guard.limits ≡ limits → guard.graph ≡ empty_graph → guard.commits ≡ 0

@@ -1,5 +1,5 @@
 -- What a stop during a checkpoint leaves of a store, and what stands after it.
-use Rattle.std.proofs.Common.{◌≡◌, inl, inr, ⊎_elim, ℕ, ◌+◌, ◌-◌, ◌*◌, ◌^◌, ◌<◌, ◌≤◌, true, IsTrue, Some, sym, ◌∙◌, arith}
+use Rattle.std.proofs.Common.{◌≡◌, inl, inr, ⊎_elim, ℕ, ◌+◌, ◌-◌, ◌*◌, ◌^◌, ◌<◌, ◌≤◌, true, IsTrue, List, length, Result, Some, sym, ◌∙◌, subst, arith}
 use Rattle.std.proofs.lemmas.Bool.{and_from}
 use Rattle.std.proofs.lemmas.Bool.Decides.{nat_tests}
 use Rattle.pgs_base.specs.Graph.{is_graph}
@@ -7,9 +7,10 @@ use Rattle.pgs_codec.specs.declared.command.Command.TheVariants.{Schema}
 use Rattle.pgs_codec.specs.Encodable.{is_sized}
 use Rattle.pgs_codec.specs.Payload.{payload_of}
 use Rattle.pgs_codec.specs.Reading.{decoded}
+use Rattle.pgs_journal.specs.Creating.{IsStoreMade}
 use Rattle.pgs_journal.specs.declared.journal.Journal.{Journal}
 use Rattle.pgs_journal.specs.declared.format.Format.TheVariants.{Second}
-use Rattle.pgs_journal.specs.Format.{Holds, is_epoch}
+use Rattle.pgs_journal.specs.Format.{Holds, IsFrames, is_epoch}
 use Rattle.pgs_journal.specs.Stops.{Turns, Creates}
 use Rattle.pgs_records.specs.Small.{has_small_rows}
 use Rattle.pgs_resolve.specs.SchemaOf.{schema, schema_of}
@@ -18,7 +19,9 @@ use Rattle.pgs_snapshot.proofs.Fitness.{AreFit, checkpoint_fit}
 use Rattle.pgs_snapshot.proofs.Histories.{snapshot_saves}
 use Rattle.pgs_snapshot.proofs.Stores.{checkpoint_left, next_chosen, same_other}
 use Rattle.pgs_store.specs.State.{GuardState, IsGuarded}
-use Rattle.pgs_store.specs.Stored.{IsSavedBy, IsSavedIn, IsRenewedIn, StandsOn, next_journal, renewed, snapshot_of}
+use Rattle.pgs_store.specs.Stored.{IsBounded, IsSavedBy, IsSavedIn, IsRenewedIn, StandsOn, next_journal, renewed, snapshot_of}
+use Rattle.pgs_world.specs.declared.area.Area.{Area}
+use Rattle.pgs_world.specs.declared.fault.AreaFault.{AreaFault}
 use Rattle.pgs_world.specs.Disk.{IsSameBeside}
 use Rattle.pgs_world.specs.Moment.{Passes, StopsBy, EachSince, IsSynced, IsSettled}
 use Rattle.pgs_world.specs.World.{Triple, View, part, other}
@@ -94,6 +97,16 @@ epoch_test epoch least most = grind (arith, nat_tests)
 
 pub next_epoch : (epoch : ℕ) → IsTrue (is_epoch epoch) → (epoch ≡ 16777215 → ⊥) → IsTrue (is_epoch (epoch + 1))
 next_epoch epoch numbered last = let bounds = at_most epoch numbered in epoch_test (epoch + 1) (omega arith) (omega (arith, bounds.1, last))
+
+-- what a stop leaves while the call makes the store that a guard begins anew, in the other area
+pub renewing_stops : (guard : GuardState) (journal : Journal) (area : Area) (first : List ℕ) {result : Result Journal AreaFault} {failed : Type 0} {old new : View}
+    → schema_of guard.text ≡ schema guard.schema → IsGuarded guard.schema guard.limits guard.graph → decoded (payload_of (Schema guard.text)) ≡ Some (Schema guard.text)
+    → decoded (payload_of (snapshot_of guard)) ≡ Some (snapshot_of guard) → IsBounded journal guard.commits → 16 + length first < 2 ^ 64 → area ≡ other journal.area
+    → IsFrames (renewed guard) 3 first → IsStoreMade area (journal.epoch + 1) 3 first result failed old new → StandsOn guard journal old
+    → IsTrue old.honest → IsTrue old.tells_bytes → EachSince (IsRenewedIn guard journal) old new
+renewing_stops guard journal area first {result} {failed} {old} {new} of_text guarded schema_read snapshot_read bounded small is frames made stands honest told =
+    stops_renewed guard journal (16 + length first) of_text guarded schema_read snapshot_read (few_before journal.epoch journal.end guard.commits bounded.epoch bounded.end bounded.most) small old new stands honest told
+    (subst (λ (a : Area). IsTrue old.tells_bytes → IsSynced a old → StopsBy (Turns a (Creates (journal.epoch + 1) (renewed guard) (16 + length first))) old new) is (made.stops (renewed guard) frames))
 
 -- the rows of a guard's graph have a payload
 pub snapshot_sized : (guard : GuardState) → has_small_rows guard.graph ≡ true → is_graph guard.graph ≡ true → IsTrue (is_sized (snapshot_of guard))

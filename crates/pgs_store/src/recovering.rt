@@ -243,8 +243,7 @@ fn first_guard(
     ensures judged { is_disk_fault result ≡ false }
 {
     let text = text_in(alloc, payloads)?;
-    let guard = Guard::with_seed(alloc, text.as_slice(), limits, seed)?;
-    Ok(guard)
+    Ok(Guard::with_seed(alloc, text.as_slice(), limits, seed)?)
 }
 
 // The guard that the records of a store lead to.

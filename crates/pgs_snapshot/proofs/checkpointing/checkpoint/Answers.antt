@@ -8,8 +8,9 @@ both_of (Err e) P Q S follows p s = tt
 
 pub returns-clause-every_image : goal.returns-clause-every_image
 returns-clause-every_image g c = λ payloads frames.
+    let made = c.create.ensures.made in
     both_of c.create.result _ _ _
     (λ journal holds synced honest told triple left.
     subst (λ (image : List ℕ). Holds journal.next c.args.epoch payloads journal.end image)
-    (sym (synced (c.create.ensures.passes.honest ∙ honest) (c.create.ensures.passes.tells_bytes ∙ told) triple left)) (holds told))
-    (c.create.ensures.holds payloads frames) c.create.ensures.synced
+    (sym (synced (made.step.passes.honest ∙ honest) (made.step.passes.tells_bytes ∙ told) triple left)) (holds told))
+    (made.holds payloads frames) c.create.ensures.synced

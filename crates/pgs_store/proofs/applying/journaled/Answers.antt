@@ -8,9 +8,9 @@ use Rattle.pgs_journal.specs.Format.{Holds}
 use Rattle.pgs_store.specs.Applies.{decided}
 use Rattle.pgs_store.specs.Costs.{IsWithin}
 use Rattle.pgs_store.specs.State.{GuardState, IsGuarded}
-use Rattle.pgs_store.specs.Stored.{StandsOn, IsAppliedIn, committed, longer}
+use Rattle.pgs_store.specs.Stored.{StandsOn, committed, longer}
 use Rattle.pgs_world.specs.World.{part}
-use Rattle.pgs_store.proofs.Applied.{applied, may_append_txn, same_journal, small_frame, stands_after, stops_after, txn_leads}
+use Rattle.pgs_store.proofs.Applied.{applying_stops, may_append_txn, same_journal, small_frame, stands_after, txn_leads}
 use Rattle.pgs_store.proofs.Indexed.{made_graph, made_stands, still_stands}
 use Rattle.pgs_store.proofs.applying.journaled.Goals as goal
 
@@ -54,32 +54,24 @@ returns-in-Ok-clause-answer g c =
 pub returns-in-Ok-clause-stops : goal.returns-in-Ok-clause-stops
 returns-in-Ok-clause-stops g c = λ honest told.
     let payload = payload_of (Transaction c.args.txn.now) in
+    let made = c.in_ok-decided.ensures in
     let vec = c.in_ok-decided.frame in
-    let read = c.in_ok-decided.ensures.decoded in
-    let guard = c.args.guard.now in
     let journal = c.args.journal.now in
-    let small = small_frame journal.end journal.next vec.items payload vec.len vec.cap c.in_ok-decided.ensures.frame vec.ok.0 vec.ok.1 vec.small c.requires.bounded.end in
     let next = changed c.guard.inside.graph.graph c.in_ok-decided.decided.delta in
-    let accepted = subst (λ (s : GuardState). decided s c.args.txn.now ≡ Ok next) c.guard.view_is c.in_ok-decided.ensures.accepted in
-    stops_after guard (committed guard next) journal (Transaction c.args.txn.now) (may_append_txn journal.next payload c.args.txn.now read)
-    (txn_leads guard payload c.args.txn.now next c.facts.ensures.schema accepted read) small (IsAppliedIn guard journal c.args.txn.now)
-    (g.W.World.view c.args.world.now) (g.W.World.view c.append.new.world) (λ triple. applied guard journal c.args.txn.now next triple accepted) c.requires.stands
-    honest told (c.append.ensures.stops payload (c.as_slice.ensures.value ∙ c.in_ok-decided.ensures.frame) told)
+    applying_stops c.args.guard.now journal c.args.txn.now next c.facts.ensures.schema (subst (λ (s : GuardState). decided s c.args.txn.now ≡ Ok next) c.guard.view_is made.accepted) made.decoded
+    (small_frame journal.end journal.next vec.items payload vec.len vec.cap made.frame vec.ok.0 vec.ok.1 vec.small c.requires.bounded.end) c.requires.stands
+    honest told (c.append.ensures.stops payload (c.as_slice.ensures.value ∙ made.frame) told)
 
 pub returns-clause-stops : goal.returns-clause-stops
 returns-clause-stops g c = λ honest told.
     let payload = payload_of (Transaction c.args.txn.now) in
+    let made = c.in_ok-decided.ensures in
     let vec = c.in_ok-decided.frame in
-    let read = c.in_ok-decided.ensures.decoded in
-    let guard = c.args.guard.now in
     let journal = c.args.journal.now in
-    let small = small_frame journal.end journal.next vec.items payload vec.len vec.cap c.in_ok-decided.ensures.frame vec.ok.0 vec.ok.1 vec.small c.requires.bounded.end in
     let next = changed c.guard.inside.graph.graph c.in_ok-decided.decided.delta in
-    let accepted = subst (λ (s : GuardState). decided s c.args.txn.now ≡ Ok next) c.guard.view_is c.in_ok-decided.ensures.accepted in
-    stops_after guard (committed guard next) journal (Transaction c.args.txn.now) (may_append_txn journal.next payload c.args.txn.now read)
-    (txn_leads guard payload c.args.txn.now next c.facts.ensures.schema accepted read) small (IsAppliedIn guard journal c.args.txn.now)
-    (g.W.World.view c.args.world.now) (g.W.World.view c.append.new.world) (λ triple. applied guard journal c.args.txn.now next triple accepted) c.requires.stands
-    honest told (c.append.ensures.stops payload (c.as_slice.ensures.value ∙ c.in_ok-decided.ensures.frame) told)
+    applying_stops c.args.guard.now journal c.args.txn.now next c.facts.ensures.schema (subst (λ (s : GuardState). decided s c.args.txn.now ≡ Ok next) c.guard.view_is made.accepted) made.decoded
+    (small_frame journal.end journal.next vec.items payload vec.len vec.cap made.frame vec.ok.0 vec.ok.1 vec.small c.requires.bounded.end) c.requires.stands
+    honest told (c.append.ensures.stops payload (c.as_slice.ensures.value ∙ made.frame) told)
 
 pub returns-in-Ok-clause-cost : goal.returns-in-Ok-clause-cost
 returns-in-Ok-clause-cost g c =

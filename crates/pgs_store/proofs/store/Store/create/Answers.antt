@@ -1,4 +1,4 @@
-use Rattle.std.proofs.Common.{◌≡◌, ◌+◌, ◌∷◌, [], ℕ, List, Option, Some, length, refl, sym, ap, subst, arith}
+use Rattle.std.proofs.Common.{◌≡◌, ◌+◌, ◌∷◌, [], ℕ, List, Option, Some, refl, sym, ap, subst, arith}
 use Rattle.std.proofs.lemmas.Result.{err_from_is_err_and}
 use Rattle.pgs_codec.specs.declared.command.Command.TheVariants.{Schema as SchemaCommand}
 use Rattle.pgs_codec.specs.Payload.{payload_of}
@@ -10,7 +10,7 @@ use Rattle.pgs_store.specs.Stored.{StandsOn, opened, first_journal}
 use Rattle.pgs_world.specs.declared.area.Area.TheVariants.{A}
 use Rattle.pgs_store.proofs.Applied.{small_first, same_journal}
 use Rattle.pgs_store.proofs.Composed.{then_beside}
-use Rattle.pgs_store.proofs.Loaded.{load_stops, load_stands, just_made, occupied_answer, not_of_text}
+use Rattle.pgs_store.proofs.Loaded.{loading_stops, load_stands, just_made, occupied_answer, not_of_text}
 use Rattle.pgs_store.proofs.store.Store.create.Goals as goal
 
 pub returns-in_err-frame-clause-answer : goal.returns-in_err-frame-clause-answer
@@ -60,12 +60,12 @@ returns-in-Ok-clause-answer g c =
     let quiet = c.refuse_occupied.ensures.quiet in
     let guard : c.args.guard ≡ opened c.args.guard.text c.args.guard.schema c.args.guard.limits = just_made c.args.guard c.args.guard.text c.args.guard.limits refl refl c.requires.empty c.requires.unchanged in
     let journal : c.in-Ok.journal ≡ first_journal end =
-    same_journal (first_journal end) c.in-Ok.journal (ap (λ (j : Journal). j.area) c.in-Ok.ensures.journal) (ap (λ (j : Journal). j.epoch) c.in-Ok.ensures.journal) refl
-    (ap (λ (j : Journal). j.next) c.in-Ok.ensures.journal) in
-    let stands = load_stands c.args.guard.limits c.args.guard.text c.args.guard.schema payload end of_text read (omega (arith, c.in-Ok.ensures.within))
-    old (g.W.World.view c.refuse_occupied.new.world) new c.in_ok-refuse_occupied.ensures.free quiet c.create.ensures.passes
-    (λ told. subst (λ (n : Option ℕ). Holds n 1 (payload ∷ []) end new.shown.a) (ap (λ (j : Journal). j.next) c.in-Ok.ensures.journal) (c.in-Ok.ensures.holds (payload ∷ []) frames told))
-    c.create.ensures.beside c.in_ok-refuse_occupied.ensures.settled c.in-Ok.ensures.settled in
+    same_journal (first_journal end) c.in-Ok.journal (ap (λ (j : Journal). j.area) c.in-Ok.ensures.made.journal) (ap (λ (j : Journal). j.epoch) c.in-Ok.ensures.made.journal) refl
+    (ap (λ (j : Journal). j.next) c.in-Ok.ensures.made.journal) in
+    let stands = load_stands c.args.guard.limits c.args.guard.text c.args.guard.schema payload end of_text read (omega (arith, c.in-Ok.ensures.made.within))
+    old (g.W.World.view c.refuse_occupied.new.world) new c.in_ok-refuse_occupied.ensures.free quiet c.create.ensures.made.step.passes
+    (λ told. subst (λ (n : Option ℕ). Holds n 1 (payload ∷ []) end new.shown.a) (ap (λ (j : Journal). j.next) c.in-Ok.ensures.made.journal) (c.in-Ok.ensures.made.holds (payload ∷ []) frames told))
+    c.create.ensures.made.beside c.in_ok-refuse_occupied.ensures.settled c.in-Ok.ensures.made.settled in
     record {
       resolved = c.args.guard.schema;
       of_text = of_text;
@@ -80,41 +80,35 @@ returns-in-Ok-clause-answer g c =
 
 pub returns-in-Ok-clause-stops : goal.returns-in-Ok-clause-stops
 returns-in-Ok-clause-stops g c = λ free settled.
-    let payload = payload_of (SchemaCommand c.args.guard.text) in
-    let first = c.as_slice.result.now in
-    let frames : IsFrames (payload ∷ []) 2 first =
-    subst (λ (t : List ℕ). IsFrames (payload_of (SchemaCommand t) ∷ []) 2 first) c.schema_text.ensures.text (rw c.as_slice.ensures.value (c.in_ok-frame.ensures.first refl)) in
-    let read = subst (λ (t : List ℕ). decoded (payload_of (SchemaCommand t)) ≡ Some (SchemaCommand t)) c.schema_text.ensures.text c.in_ok-frame.ensures.decoded in
     let vec = c.in_ok-frame.frame in
-    load_stops c.args.guard.limits c.args.guard.text c.args.guard.schema payload (16 + length first) c.schema_text.ensures.schema read
+    let first = c.as_slice.result.now in
+    let frames : IsFrames (payload_of (SchemaCommand c.schema_text.result.now) ∷ []) 2 first = rw c.as_slice.ensures.value (c.in_ok-frame.ensures.first refl) in
+    loading_stops c.args.guard.limits c.args.guard.text c.args.guard.schema first c.schema_text.ensures.schema
+    (subst (λ (t : List ℕ). decoded (payload_of (SchemaCommand t)) ≡ Some (SchemaCommand t)) c.schema_text.ensures.text c.in_ok-frame.ensures.decoded)
     (small_first first vec.items vec.len vec.cap c.as_slice.ensures.value vec.ok.0 vec.ok.1 vec.small)
-    (g.W.World.view c.args.world.now) (g.W.World.view c.refuse_occupied.new.world) (g.W.World.view c.create.new.world) free settled c.refuse_occupied.ensures.quiet c.create.ensures.passes
-    (c.create.ensures.stops (payload ∷ []) frames)
+    (subst (λ (t : List ℕ). IsFrames (payload_of (SchemaCommand t) ∷ []) 2 first) c.schema_text.ensures.text frames) free settled c.refuse_occupied.ensures.quiet c.create.ensures.made
 
 pub returns-in-Ok-clause-beside : goal.returns-in-Ok-clause-beside
 returns-in-Ok-clause-beside g c =
     let quiet = c.refuse_occupied.ensures in
-    let made = c.create.ensures in
-    then_beside A (g.W.World.view c.args.world.now) (g.W.World.view c.refuse_occupied.new.world) (g.W.World.view c.create.new.world) quiet.quiet quiet.no_put made.passes made.beside made.stops_beside made.no_put
+    let made = c.create.ensures.made in
+    then_beside A (g.W.World.view c.args.world.now) (g.W.World.view c.refuse_occupied.new.world) (g.W.World.view c.create.new.world) quiet.quiet quiet.no_put made.step.passes made.beside made.stops_beside made.step.no_put
 
 pub returns-in-Err-clause-stops : goal.returns-in-Err-clause-stops
 returns-in-Err-clause-stops g c = λ free settled.
-    let payload = payload_of (SchemaCommand c.args.guard.text) in
-    let first = c.as_slice.result.now in
-    let frames : IsFrames (payload ∷ []) 2 first =
-    subst (λ (t : List ℕ). IsFrames (payload_of (SchemaCommand t) ∷ []) 2 first) c.schema_text.ensures.text (rw c.as_slice.ensures.value (c.in_ok-frame.ensures.first refl)) in
-    let read = subst (λ (t : List ℕ). decoded (payload_of (SchemaCommand t)) ≡ Some (SchemaCommand t)) c.schema_text.ensures.text c.in_ok-frame.ensures.decoded in
     let vec = c.in_ok-frame.frame in
-    load_stops c.args.guard.limits c.args.guard.text c.args.guard.schema payload (16 + length first) c.schema_text.ensures.schema read
+    let first = c.as_slice.result.now in
+    let frames : IsFrames (payload_of (SchemaCommand c.schema_text.result.now) ∷ []) 2 first = rw c.as_slice.ensures.value (c.in_ok-frame.ensures.first refl) in
+    loading_stops c.args.guard.limits c.args.guard.text c.args.guard.schema first c.schema_text.ensures.schema
+    (subst (λ (t : List ℕ). decoded (payload_of (SchemaCommand t)) ≡ Some (SchemaCommand t)) c.schema_text.ensures.text c.in_ok-frame.ensures.decoded)
     (small_first first vec.items vec.len vec.cap c.as_slice.ensures.value vec.ok.0 vec.ok.1 vec.small)
-    (g.W.World.view c.args.world.now) (g.W.World.view c.refuse_occupied.new.world) (g.W.World.view c.create.new.world) free settled c.refuse_occupied.ensures.quiet c.create.ensures.passes
-    (c.create.ensures.stops (payload ∷ []) frames)
+    (subst (λ (t : List ℕ). IsFrames (payload_of (SchemaCommand t) ∷ []) 2 first) c.schema_text.ensures.text frames) free settled c.refuse_occupied.ensures.quiet c.create.ensures.made
 
 pub returns-in-Err-clause-beside : goal.returns-in-Err-clause-beside
 returns-in-Err-clause-beside g c =
     let quiet = c.refuse_occupied.ensures in
-    let made = c.create.ensures in
-    then_beside A (g.W.World.view c.args.world.now) (g.W.World.view c.refuse_occupied.new.world) (g.W.World.view c.create.new.world) quiet.quiet quiet.no_put made.passes made.beside made.stops_beside made.no_put
+    let made = c.create.ensures.made in
+    then_beside A (g.W.World.view c.args.world.now) (g.W.World.view c.refuse_occupied.new.world) (g.W.World.view c.create.new.world) quiet.quiet quiet.no_put made.step.passes made.beside made.stops_beside made.step.no_put
 
 pub returns-in-Ok-clause-kept : goal.returns-in-Ok-clause-kept
 returns-in-Ok-clause-kept g c = λ occupied. absurd (occupied c.in_ok-refuse_occupied.ensures.free)
