@@ -6,7 +6,7 @@ use Rattle.pgs_base.specs.Graph.{node_cmp, node_at, is_graph}
 use Rattle.pgs_tables.specs.Adjacency.{node_edges}
 use Rattle.pgs_tables.specs.Relists.{edges_edited}
 use Rattle.pgs_tables.proofs.Ends.{absent_node, no_node}
-use Rattle.pgs_tables.proofs.tables.Tables.edited.Goals as goal
+use Rattle.pgs_tables.proofs.tables.Tables.edited_edges.Goals as goal
 
 pub returns-in-None : goal.returns-in-None
 returns-in-None c =
@@ -16,4 +16,4 @@ returns-in-None c =
     let unmade : lookup (is_at (node_cmp c.args.id)) c.args.touched.now ≡ None = sym c.get.ensures ∙ ap option_copied c.in_default.is in
     let before : c.new.result ≡ unwrap_or (lookup (is_at (node_cmp c.args.id)) c.args.touched.now) (node_edges graph c.args.id) =
     c.new.ensures ∙ sym absent ∙ ap (λ o. unwrap_or o (node_edges graph c.args.id)) (sym unmade) in
-    subst (λ e. IfOk c.edited-in-None.result (λ edges. edges ≡ edges_edited c.args.edit e)) before c.edited-in-None.ensures
+    subst (λ e. IfOk c.with_edit-in-None.result (λ edges. edges ≡ edges_edited c.args.edit e)) before c.with_edit-in-None.ensures

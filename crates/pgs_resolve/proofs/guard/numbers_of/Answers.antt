@@ -1,7 +1,7 @@
 use Rattle.std.proofs.Common.{[], arith}
 use Rattle.pgs_resolve.specs.Guard.{type_no}
 use Rattle.pgs_resolve_declared.proofs.Walks.{more_kept}
-use Rattle.pgs_resolve.proofs.guard.numbered.Goals as goal
+use Rattle.pgs_resolve.proofs.guard.numbers_of.Goals as goal
 
 pub loop-name-preserved : goal.loop-name-preserved
 loop-name-preserved c =

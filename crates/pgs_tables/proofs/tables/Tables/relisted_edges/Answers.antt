@@ -7,7 +7,7 @@ use Rattle.pgs_base.specs.Graph.{node_cmp, is_graph}
 use Rattle.pgs_tables.specs.Relists.{kept_at, relisted_all}
 use Rattle.pgs_graph.proofs.Deltas.{ascending_changed_nodes}
 use Rattle.pgs_tables.proofs.Touched.{all_relisted}
-use Rattle.pgs_tables.proofs.tables.Tables.relisted.Goals as goal
+use Rattle.pgs_tables.proofs.tables.Tables.relisted_edges.Goals as goal
 
 pub relist_edges-requires : goal.relist_edges-requires
 relist_edges-requires c =
@@ -35,6 +35,6 @@ returns c =
     ∙ ap (λ l. relisted_all graph l q c.as_slice.result.now (lookup (is_at (node_cmp q)) c.new-touched.result)) c.as_slice-nodes.ensures
     ∙ ap (λ l. relisted_all graph delta.nodes q l (lookup (is_at (node_cmp q)) c.new-touched.result)) c.as_slice.ensures
     ∙ ap (λ l. relisted_all graph delta.nodes q delta.edges (lookup (is_at (node_cmp q)) l)) c.new-touched.ensures) in
-    both_ok _ _ _ c.listed.result
+    both_ok _ _ _ c.list_of.result
     (λ lists same ascending. all_relisted graph delta graph_is c.requires lists ascending (λ q. ap (lookup (is_at (node_cmp q))) same ∙ each q))
-    c.listed.ensures.lists c.listed.ensures.ascending
+    c.list_of.ensures.lists c.list_of.ensures.ascending

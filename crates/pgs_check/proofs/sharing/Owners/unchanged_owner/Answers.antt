@@ -2,7 +2,7 @@ use Rattle.std.proofs.Common.{sym, ◌∙◌}
 use Rattle.pgs_keyindex.specs.Rows.{has_value}
 use Rattle.pgs_check_affected.specs.Local.{is_one_of}
 use Rattle.pgs_check.proofs.Owned.{no_owner, listed_owner, own_owner}
-use Rattle.pgs_check.proofs.sharing.Owners.unchanged.Goals as goal
+use Rattle.pgs_check.proofs.sharing.Owners.unchanged_owner.Goals as goal
 
 pub returns-in_default-clause-owner : goal.returns-in_default-clause-owner
 returns-in_default-clause-owner g c =
