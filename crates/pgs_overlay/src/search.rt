@@ -43,11 +43,11 @@ fn bounds<B: GraphRead, L: Ledger>(
     ensures never_back { steps.old ≤ steps.new }
     ensures cost { (k : ℕ) → length list.now < 2 ^ k → steps.new ≤ steps.old + k + 1 }
 {
-    let limit = list.limit();
+    list.facts();
     let mut low = from;
     let mut step = 1;
     loop {
-        let place = low + limit.saturating_sub(low).min(step - 1);
+        let place = low.saturating_add(step - 1);
         if !is_below(list, place, edge, steps) {
             return (low, place);
         }
@@ -108,7 +108,8 @@ fn without_gap<B: GraphRead, L: Ledger>(
         return Some(from);
     }
     let missing = (edge.0 - found.0 - 1) as usize;
-    let place = from + list.limit().saturating_sub(from).min(missing);
+    list.facts();
+    let place = from.saturating_add(missing);
     if is_below(list, place, edge, steps) {
         Some(place + 1)
     } else {
