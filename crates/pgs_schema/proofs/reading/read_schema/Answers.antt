@@ -4,7 +4,7 @@ use Rattle.pgs_syntax.specs.Valid.{is_valid}
 use Rattle.pgs_schema.proofs.Answered.{of_long, of_short, of_tokens, of_script, of_resolved, of_narrow}
 use Rattle.pgs_schema.proofs.reading.read_schema.Goals as goal
 
-pub returns-then-text-gt-TEXT_LIMIT-clause-refused : goal.returns-then-text-gt-LONGEST-clause-refused
+pub returns-then-text-gt-TEXT_LIMIT-clause-refused : goal.returns-then-text-gt-TEXT_LIMIT-clause-refused
 returns-then-text-gt-TEXT_LIMIT-clause-refused c = of_long c.args.text.now (omega arith)
 
 pub returns-in_err-tokens-clause-refused : goal.returns-in_err-tokens-clause-refused
