@@ -57,7 +57,7 @@ fn bounds<B: GraphRead, L: Ledger>(
 }
 
 // The first place from which no edge is lower, between a place before which all are and one from which none is.
-fn halved<B: GraphRead, L: Ledger>(
+fn place_between<B: GraphRead, L: Ledger>(
     list: &BaseList<'_, B>,
     bounds: (usize, usize),
     edge: EdgeId,
@@ -136,7 +136,7 @@ fn lower_bound<B: GraphRead, L: Ledger>(
         return place;
     }
     let bounds = bounds(list, from, edge, steps);
-    halved(list, bounds, edge, steps)
+    place_between(list, bounds, edge, steps)
 }
 
 /// Where an edge stands in a list of the base, or where it would go, at or behind a place before which all edges are lower.

@@ -1,6 +1,6 @@
 use Rattle.std.proofs.Common.{◌+◌, ◌-◌, ◌/◌, refl, arith}
 use Rattle.pgs_overlay.proofs.Halving.{halved_once}
-use Rattle.pgs_overlay.proofs.search.halved.Goals as goal
+use Rattle.pgs_overlay.proofs.search.place_between.Goals as goal
 
 pub loop-low-preserved-then-is_below : goal.loop-low-preserved-then-is_below
 loop-low-preserved-then-is_below g c =

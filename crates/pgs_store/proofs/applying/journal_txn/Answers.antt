@@ -12,7 +12,7 @@ use Rattle.pgs_store.specs.Stored.{StandsOn, committed, longer}
 use Rattle.pgs_world.specs.World.{part}
 use Rattle.pgs_store.proofs.Applied.{applying_stops, may_append_txn, same_journal, small_frame, stands_after, txn_leads}
 use Rattle.pgs_store.proofs.Indexed.{made_graph, made_stands, still_stands}
-use Rattle.pgs_store.proofs.applying.journaled.Goals as goal
+use Rattle.pgs_store.proofs.applying.journal_txn.Goals as goal
 
 pub returns-in-Ok-clause-answer : goal.returns-in-Ok-clause-answer
 returns-in-Ok-clause-answer g c =

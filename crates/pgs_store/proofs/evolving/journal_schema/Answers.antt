@@ -8,7 +8,7 @@ use Rattle.pgs_store.specs.State.{GuardState}
 use Rattle.pgs_store.specs.Stored.{StandsOn, evolved, longer}
 use Rattle.pgs_world.specs.World.{part}
 use Rattle.pgs_store.proofs.Applied.{evolving_stops, may_append_schema, same_journal, schema_leads, small_frame, stands_after}
-use Rattle.pgs_store.proofs.evolving.renewed.Goals as goal
+use Rattle.pgs_store.proofs.evolving.journal_schema.Goals as goal
 
 pub returns-in-Ok-clause-answer : goal.returns-in-Ok-clause-answer
 returns-in-Ok-clause-answer g c =

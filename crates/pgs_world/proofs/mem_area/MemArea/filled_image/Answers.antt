@@ -1,7 +1,7 @@
 use Rattle.std.proofs.Common.{List, ℕ, map, unwrap_or, ◌∙◌, ap}
 use Rattle.std.specs.declared.option.Option.{Option}
 use Rattle.pgs_world.proofs.Images.{filled_as}
-use Rattle.pgs_world.proofs.mem_area.MemArea.filled.Goals as goal
+use Rattle.pgs_world.proofs.mem_area.MemArea.filled_image.Goals as goal
 
 pub returns : goal.returns
 returns c =

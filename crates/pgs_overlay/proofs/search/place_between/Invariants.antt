@@ -2,7 +2,7 @@ use Rattle.std.proofs.Common.{ℕ, ◌+◌, ◌-◌, ◌^◌, ◌<◌, ◌≤◌
 use Rattle.pgs_tables_edges.specs.Numbers.{AllBelow}
 use Rattle.pgs_overlay.specs.Found.{AllFrom}
 use Rattle.pgs_overlay.proofs.Halving.{IsWithin}
-use Rattle.pgs_overlay.proofs.search.halved.Given as goal
+use Rattle.pgs_overlay.proofs.search.place_between.Given as goal
 
 abbrev pub invariant-loop-low : goal.invariant-loop-low
 invariant-loop-low g l = record {
