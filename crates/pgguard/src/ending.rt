@@ -40,7 +40,7 @@ impl Causes {
         }
     }
 
-    /// The same, but that an input which was closed when the program began isn't open.
+    /// The causes, but that an input which was closed when the program began isn't open.
     pub fn with_closed_input(self, numbers: &StandardNumbers) -> Causes {
         Causes {
             streams: self.streams.with_closed_input(numbers),

@@ -111,12 +111,13 @@ props_cmp_total =
 
 -- ---- what compares `Equal` is equal
 
-both_Equal : (a b : Ordering) → ordering_then a b ≡ Equal → (a ≡ Equal) × (b ≡ Equal)
+-- both of two comparisons, one after the other, are `Equal` where they together are
+pub both_Equal : (a b : Ordering) → ordering_then a b ≡ Equal → (a ≡ Equal) × (b ≡ Equal)
 both_Equal Less b h = cc
 both_Equal Equal b h = (refl, h)
 both_Equal Greater b h = cc
 
-exact_bool : (x y : Bool) → bool_cmp x y ≡ Equal → x ≡ y
+pub exact_bool : (x y : Bool) → bool_cmp x y ≡ Equal → x ≡ y
 exact_bool true true h = refl
 exact_bool false false h = refl
 exact_bool x y h = cc

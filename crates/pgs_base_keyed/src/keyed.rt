@@ -113,10 +113,7 @@ impl<K: Ord + Drop, V: Drop> Keyed<K, V> {
     {
         match &mut self.form {
             Form::Few(rows) => rows.set(key, value),
-            Form::Many(map) => {
-                let old = map.insert(key, value)?;
-                Ok(old)
-            }
+            Form::Many(map) => Ok(map.insert(key, value)?),
         }
     }
 
@@ -153,10 +150,7 @@ impl<K: Ord + Drop, V: Drop> Keyed<K, V> {
         self.facts();
         match self.form {
             Form::Few(rows) => Ok(rows.into_vec()),
-            Form::Many(map) => {
-                let rows = map.into_iter().collect::<Vec<_>>(alloc)?;
-                Ok(rows)
-            }
+            Form::Many(map) => Ok(map.into_iter().collect(alloc)?),
         }
     }
 }

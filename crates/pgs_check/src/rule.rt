@@ -113,7 +113,7 @@ pub(crate) fn first_found(
     Ok(None)
 }
 
-/// The same, where the key asks for it.
+/// The first violation of a key by a rule, where the key asks for it.
 pub(crate) fn first_if(
     alloc: Global,
     asked: bool,

@@ -56,7 +56,7 @@ fn is_one_of(elems: &[Elem], elem: Elem) -> bool
 
 impl<'a> Owners<'a> {
     // The owner of a tuple, where it has one that isn't changed. One look-up.
-    fn unchanged<L: Ledger>(&self, tuple: &Tuple, steps: &mut Steps<L>) -> Option<Elem>
+    fn unchanged_owner<L: Ledger>(&self, tuple: &Tuple, steps: &mut Steps<L>) -> Option<Elem>
         requires exclusive { is_exclusive self.now.index.now.exclusive self.now.number ≡ true }
         requires ascending { ascends elem_cmp self.now.changed.now ≡ true }
         ensures owner { (elem : Elem) → ((has_value self.now.index.now.rows self.now.number elem tuple.now ≡ true)
@@ -90,7 +90,7 @@ impl<'a> Owners<'a> {
         ensures cost { steps.new ≤ steps.old + length tuples.now }
     {
         for tuple in tuples {
-            let owner = self.unchanged(tuple, steps);
+            let owner = self.unchanged_owner(tuple, steps);
             let least = with_holder(alloc, self.number, elem, found, tuple, owner)?;
             found = least;
         }

@@ -1,5 +1,5 @@
 -- Reading a snapshot: its parts, and then that they are a graph.
-use Rattle.std.proofs.Common.{◌≡◌, ℕ, Bool, true, false, cond, List, Option, Some, None, refl, sym, ap, ◌∙◌}
+use Rattle.std.proofs.Common.{◌≡◌, ℕ, Bool, true, false, cond, List, Option, Some, None, Result, Ok, Err, refl, sym, ap, ◌∙◌}
 use Rattle.std.specs.List.{list_all}
 use Rattle.std.specs.Map.{keys_of}
 use Rattle.std.proofs.lemmas.Bool.{cond-true}
@@ -17,7 +17,7 @@ use Rattle.pgs_codec.specs.declared.unread.Unread.{Unread}
 use Rattle.pgs_codec.specs.declared.unread.Unread.TheVariants as unread
 use Rattle.pgs_codec.specs.Encodable.{snapshot_graph}
 use Rattle.pgs_codec.specs.Reading.{named_at, tested_at, snapshot_parts_at, snapshot_at}
-use Rattle.pgs_codec.specs.Unread.{Fails}
+use Rattle.pgs_codec.specs.Unread.{Fails, Gives, Reads}
 use Rattle.pgs_codec.proofs.Exact.{same_given}
 
 -- the snapshot where the rows are a graph
@@ -48,12 +48,16 @@ module _ (rest left : List ℕ) (commits : ℕ) (nodes : List (NodeId × NodeRow
   unfolding snapshot_at named_at tested_at
   snapshot_read = rw read (named_test (is_graph (snapshot_graph nodes edges)) (commits, (nodes, edges)) left)
 
-  pub snapshot_found : (command : Command) → if_graph commits nodes edges ≡ Some command → snapshot_at rest ≡ Some (command, left)
+  snapshot_found : (command : Command) → if_graph commits nodes edges ≡ Some command → snapshot_at rest ≡ Some (command, left)
   snapshot_found command e = snapshot_read ∙ with_rest (is_graph (snapshot_graph nodes edges)) (Snapshot commits nodes edges) left command e
 
-  pub no_snapshot : (e : Unread) → Fails e (if_graph commits nodes edges) → Fails e (snapshot_at rest)
+  no_snapshot : (e : Unread) → Fails e (if_graph commits nodes edges) → Fails e (snapshot_at rest)
   no_snapshot unread.Memory f = tt
   no_snapshot unread.Unfit f = snapshot_read ∙ none_left (is_graph (snapshot_graph nodes edges)) (Snapshot commits nodes edges) left f
+
+  pub snapshot_reads : (r : Result Command Unread) → Gives r (if_graph commits nodes edges) → Reads (λ command. command) r left (snapshot_at rest)
+  snapshot_reads (Ok command) e = snapshot_found command e
+  snapshot_reads (Err e) f = no_snapshot e f
 
 -- rows that pass the three tests are a graph, since each can stand in one
 pub graph_found : (commits : ℕ) (nodes same_nodes : List (NodeId × NodeRow)) (edges same_edges : List (EdgeId × EdgeRow)) → ascends node_cmp (keys_of nodes) ≡ true →

@@ -44,8 +44,7 @@ fn read_rows<F: Field>(alloc: Global, reader: &mut Reader<'_>) -> Result<Vec<F>,
     ensures { Reads (λ rows. rows.items) result reader.new.rest.now (counted_at w64 (2 ^ 64) F.field_at reader.old.rest.now) }
 {
     let count = reader.number64()?;
-    let rows = read_all(alloc, reader, count as usize)?;
-    Ok(rows)
+    read_all(alloc, reader, count as usize)
 }
 
 // Whether both ends of each edge are among the nodes.
@@ -95,8 +94,7 @@ fn read_snapshot(alloc: Global, reader: &mut Reader<'_>) -> Result<Command, Unre
     ensures { Reads (λ command. command) result reader.new.rest.now (snapshot_at reader.old.rest.now) }
 {
     let (commits, nodes, edges) = read_parts(alloc, reader)?;
-    let command = snapshot_of(commits, nodes, edges)?;
-    Ok(command)
+    snapshot_of(commits, nodes, edges)
 }
 
 #[tactic(auto, unfolding(crate::specs::Reading::byte_at))]

@@ -26,8 +26,7 @@ fn read_counted<F: Field>(
     if count > most {
         return Err(Unread::Unfit);
     }
-    let fields = read_all(alloc, reader, usize::from(count))?;
-    Ok(fields)
+    read_all(alloc, reader, usize::from(count))
 }
 
 impl Field for Labels {

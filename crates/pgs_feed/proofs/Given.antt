@@ -1,12 +1,12 @@
 -- Lines that are given to a list of feeds, one after another.
-use Rattle.std.proofs.Common.{◌≡◌, ◌∙◌, ℕ, List, [], ◌∷◌, ◌++◌, Bool, Option, Some, None, refl, sym, ap, subst, append_assoc}
+use Rattle.std.proofs.Common.{◌≡◌, ◌∙◌, ℕ, List, [], ◌∷◌, ◌++◌, Option, Some, None, refl, sym, ap, subst, append_assoc}
 use Rattle.std.specs.List.{AllZip, concat}
 use Rattle.std.specs.Option.{option_map}
 use Rattle.std.proofs.lemmas.List.{append-nil}
 use Rattle.std.proofs.lemmas.List.Folds.{concat-append}
 use Rattle.pgs_world.specs.Count.{RoseByOne}
-use Rattle.pgs_world.specs.World.{Adds, AddsFront}
-use Rattle.pgs_feed.specs.Places.{FeedState, Place, Fed, Lost, Dropped, TookLine, Failed, IsFed, Delivers}
+use Rattle.pgs_world.specs.World.{Adds}
+use Rattle.pgs_feed.specs.Places.{FeedState, Place, Fed, Lost, Dropped, TookLine, Failed, Delivers}
 use Rattle.pgs_feed.specs.Given.{TookAll, FailedIn, TakesLines, IsGiven, AreGiven}
 
 adds_none : (taken : Option (List ℕ)) → Adds taken taken []

@@ -91,7 +91,7 @@ impl Follower {
     }
 
     // How many bytes of the unfinished line are kept; none once there is a fault.
-    fn unfinished(&self) -> u64
+    fn unfinished_len(&self) -> u64
         ensures { result ≡ rest_in self.now }
     {
         match self.progress.fault() {
@@ -224,6 +224,6 @@ impl Follower {
         ensures rest { result ≡ rest_in self.now }
         ensures stands { (bytes : List ℕ) → StandsFor bytes self.now → result ≡ rest_of self.now.limits bytes }
     {
-        self.unfinished()
+        self.unfinished_len()
     }
 }

@@ -97,7 +97,7 @@ fn relist_node(
     ensures { OnOk result ((q : NodeId) → listed_after (present lists.now) made.new q
         ≡ cond (id.0 == q.0) (list_edited adds edge (listed_after (present lists.now) made.old q)) (listed_after (present lists.now) made.old q)) }
 {
-    let list = edited(alloc, list_at(lists, made, id), adds, edge)?;
+    let list = edited_list(alloc, list_at(lists, made, id), adds, edge)?;
     made.set(id, some_unless_empty(list))?;
     Ok(())
 }
@@ -113,7 +113,7 @@ fn list_at<'a>(lists: &'a EdgeLists, made: &'a NewLists, id: NodeId) -> Option<&
 }
 
 // A list, empty where there is none, with an edge put in or taken out.
-fn edited(
+fn edited_list(
     alloc: Global,
     list: Option<&EdgeList>,
     adds: bool,

@@ -12,7 +12,7 @@ pub enum Format {
 
 impl Format {
     /// The number that a record bears.
-    pub(crate) fn numbered(self, number: u64) -> Option<u64>
+    pub(crate) fn record_number(self, number: u64) -> Option<u64>
         ensures { result ≡ record_number self number }
     {
         match self {

@@ -12,8 +12,8 @@ use crate::journal::OPEN;
 use byteorder::{BigEndian, ByteOrder};
 use pgs_world::{Area, AreaFault, World};
 
-/// The greatest epoch.
-const LAST_EPOCH: u64 = 16_777_215;
+/// The greatest epoch of a store (docs/BYTES.md).
+pub const LAST_EPOCH: u64 = 16_777_215;
 
 /// What the head of an area says of it.
 #[derive(Clone, Copy, Debug)]

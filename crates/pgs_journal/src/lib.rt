@@ -19,6 +19,6 @@ mod steps;
 pub use area_scan::scan;
 pub use area_state::AreaState;
 pub use format::Format;
-pub use head::{Head, read_head};
+pub use head::{Head, LAST_EPOCH, read_head};
 pub use journal::Journal;
 pub use scan_fault::ScanFault;

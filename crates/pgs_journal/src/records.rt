@@ -217,7 +217,7 @@ impl RecordReader {
         Ok(AreaState::Store {
             epoch: self.epoch,
             end: at,
-            next: self.format.numbered(payloads.len() as u64 + 1),
+            next: self.format.record_number(payloads.len() as u64 + 1),
             payloads: List::from_vec(payloads),
         })
     }

@@ -84,6 +84,5 @@ pub fn read_commit(alloc: Global, line: &[u8]) -> Result<(u64, Txn), CommitFault
     if line.len() > COMMIT_LIMIT {
         return Err(CommitFault::LineTooLong);
     }
-    let commit = line_commit(alloc, line)?;
-    Ok(commit)
+    Ok(line_commit(alloc, line)?)
 }

@@ -70,8 +70,7 @@ fn many_labels(alloc: Global, items: &[Json<'_>]) -> Result<Labels, Unread>
     ensures { Gives (λ x. x) result (option_and_then (λ names. Some (label_set names)) (each_item name_of (items_view items.now))) }
 {
     let names = label_names(alloc, items)?;
-    let labels = sorted_labels(alloc, names)?;
-    Ok(labels)
+    Ok(sorted_labels(alloc, names)?)
 }
 
 fn sorted_labels(alloc: Global, names: BTreeSet<Name>) -> Result<Labels, Memory>

@@ -42,6 +42,5 @@ pub fn read_txn(alloc: Global, line: &[u8]) -> Result<Txn, LineFault>
     if line.len() > TEXT_LIMIT {
         return Err(LineFault::LineTooLong);
     }
-    let txn = line_txn(alloc, line)?;
-    Ok(txn)
+    Ok(line_txn(alloc, line)?)
 }

@@ -54,8 +54,7 @@ fn many_sorted<'a>(alloc: Global, members: Vec<Member<'a>>) -> Result<Vec<Member
     for (name, part) in members {
         drop(found.insert(name, part)?);
     }
-    let found = found.into_iter().collect(alloc)?;
-    Ok(found)
+    Ok(found.into_iter().collect(alloc)?)
 }
 
 /// The members put in the order of their names. Of a name that stands twice the last value counts.

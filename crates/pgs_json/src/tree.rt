@@ -201,6 +201,5 @@ fn read_members<'a>(
         (members (value depth) (length reader.old) reader.old) ≡ None }
 {
     let found = read_pairs(alloc, reader, depth)?;
-    let found = in_order(alloc, found)?;
-    Ok(found)
+    Ok(in_order(alloc, found)?)
 }

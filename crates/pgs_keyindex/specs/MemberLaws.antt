@@ -1,23 +1,14 @@
 -- Members and digests that compare `Equal` are equal, and the element of a member is found again.
-use Rattle.std.proofs.Common.{◌≡◌, ℕ, Bool, true, false, cond, refl, Ordering, Less, Equal, Greater}
-use Rattle.std.specs.Ordering.{bool_cmp, ordering_then}
+use Rattle.std.proofs.Common.{◌≡◌, ℕ, Bool, cond, refl, Ordering, Equal}
+use Rattle.std.specs.Ordering.{bool_cmp}
 use Rattle.std.specs.Cmp.{IsTotalOrder, nat_cmp_total, bool_cmp_total, on_total, then_total}
 use Rattle.std.proofs.lemmas.Map.Lookups.{CmpEqualImpliesEq, exact_unsigned}
+use Rattle.pgs_base.specs.OrderLaws.{both_Equal, exact_bool}
 use Rattle.pgs_base.specs.declared.element.Elem.{Elem}
 use Rattle.pgs_base.specs.declared.element.Elem.TheVariants.{Node, Edge}
 use Rattle.pgs_keyindex.specs.declared.digest.Digest.{Digest}
 use Rattle.pgs_keyindex.specs.declared.member.Member.{Member}
 use Rattle.pgs_keyindex.specs.Members.{member_of, member_cmp, digest_cmp}
-
-both_Equal : (a b : Ordering) → ordering_then a b ≡ Equal → (a ≡ Equal) × (b ≡ Equal)
-both_Equal Less b h = cc
-both_Equal Equal b h = (refl, h)
-both_Equal Greater b h = cc
-
-exact_bool : (x y : Bool) → bool_cmp x y ≡ Equal → x ≡ y
-exact_bool true true h = refl
-exact_bool false false h = refl
-exact_bool x y h = cc
 
 pub exact_member : CmpEqualImpliesEq member_cmp
 exact_member x y h =

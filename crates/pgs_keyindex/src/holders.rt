@@ -14,7 +14,7 @@ use pgs_tables::Numbered;
 use std::alloc::Global;
 
 /// The elements that are listed at a digest.
-pub(crate) fn listed(holders: &Numbered<Digest, Few>, digest: Digest) -> &[Elem]
+pub(crate) fn elements_at(holders: &Numbered<Digest, Few>, digest: Digest) -> &[Elem]
     ensures { result.now ≡ listed_at holders.now.rows digest }
 {
     match holders.get(digest) {

@@ -54,7 +54,7 @@ impl KeyIndex {
         KeyIndex::with_seed(alloc, keys, Seed::Fixed)
     }
 
-    /// The same, hashed by a seed of one's own.
+    /// The index of these keys without rows, hashed by the given seed.
     pub fn with_seed(alloc: Global, keys: &List<Key>, seed: Seed) -> Result<KeyIndex, Memory>
         ensures exclusive { IfOk result (λ index. index.exclusive ≡ exclusive_keys keys.now) }
         ensures rows { IfOk result (λ index. index.rows ≡ []) }

@@ -13,7 +13,7 @@ ghost use Rattle.pgs_keyindex.specs.Table.{has_digest, has_elem, has_room, is_li
 use crate::KeyChange;
 use crate::digest::Digest;
 use crate::few::Few;
-use crate::holders::{has_elem, listed, relist, with_elem};
+use crate::holders::{elements_at, has_elem, relist, with_elem};
 use crate::member::Member;
 use pgs_base::{Elem, List, Memory, Seed, Tuple, TupleSet};
 use pgs_tables::Numbered;
@@ -120,7 +120,7 @@ impl KeyTable {
             (λ elem. has_value self.now.rows.rows key elem tuple.now ≡ true) }
     {
         let digest = Digest::of(self.seed, key, tuple);
-        let elems = listed(&self.holders, digest);
+        let elems = elements_at(&self.holders, digest);
         for elem in elems {
             if self.has_value(key, *elem, tuple) {
                 return Some(*elem);
@@ -159,7 +159,7 @@ impl KeyTable {
     fn standing(&self, digest: Digest) -> Result<Few, Memory>
         ensures { IfOk result (λ few. few ≡ filter (stands self.now digest) (listed_at self.now.holders.rows digest)) }
     {
-        let elems = listed(&self.holders, digest);
+        let elems = elements_at(&self.holders, digest);
         let mut standing = Vec::new(self.alloc);
         for elem in elems {
             if self.stands(digest, *elem) {
@@ -171,7 +171,7 @@ impl KeyTable {
 
     // Whether each element listed at a digest has a value of it.
     fn all_stand(&self, digest: Digest) -> bool {
-        let elems = listed(&self.holders, digest);
+        let elems = elements_at(&self.holders, digest);
         for elem in elems {
             if !self.stands(digest, *elem) {
                 return false;
@@ -193,7 +193,7 @@ impl KeyTable {
         Ok(())
     }
 
-    // The same at a digest that is kept, where there is one.
+    // Tidies the holders at a digest that is kept, where there is one.
     fn tidy_kept(&mut self, kept: Option<Digest>) -> Result<(), Memory>
         ensures { SameRows self.old self.new }
     {
@@ -203,7 +203,7 @@ impl KeyTable {
         }
     }
 
-    // The same at all digests that are kept, which then are forgotten.
+    // Tidies the holders at all digests that are kept, which then are forgotten.
     fn tidy_all_kept(&mut self) -> Result<(), Memory>
         ensures { SameRows self.old self.new }
     {
@@ -234,7 +234,7 @@ impl KeyTable {
     {
         // The slot is made first, so that it is found again without hashing.
         self.holders.make_slot(digest)?;
-        let elems = listed(&self.holders, digest);
+        let elems = elements_at(&self.holders, digest);
         if has_elem(elems, elem) {
             return Ok(());
         }

@@ -76,7 +76,7 @@ pub fn lex(alloc: Global, text: &[u8]) -> Result<Tokens<'_>, LexFault>
     ensures tokens { IfOk result (AreTokensOf text.now) }
     ensures bad_byte { (line : ℕ) → IsErrOf result (LexFault.Lex line) → HasBadByteOn text.now line }
 
-    // The same as a function of the text.
+    // What is given, as a function of the text.
     ensures computed { Gives (λ tokens. tokens) result (tokens_of text.now) }
 {
     match cut(alloc, text) {

@@ -68,7 +68,7 @@ impl Bindings {
         }
     }
 
-    /// The same with one variable bound, and not as it was before. A variable past the last is left out.
+    /// The bindings with one variable bound, and not as it was before. A variable past the last is left out.
     pub fn with(&self, var: u32, bound: Bound) -> Bindings
         ensures { result ≡ with_bound self.now var bound }
     {

@@ -4,13 +4,10 @@ ghost use Rattle.std.specs.Prelude.{◌≡◌, ◌<◌, true, cond, length, IfOk
 ghost use Rattle.pgs_syntax.specs.Valid.{is_valid_pattern};
 ghost use Rattle.pgs_match.specs.Plans.{is_known, is_step, is_plan, known_alone, asks_alone, asked_of, is_as_good, step_between, step_at, better, IsBestOf, AreBest};
 
-use crate::Step;
+use crate::{MOST_VARIABLES, Step};
 use pgs_base::{List, Memory};
 use pgs_syntax::{Atom, Pattern};
 use std::alloc::Global;
-
-// The most variables that a pattern has.
-const MOST_VARIABLES: usize = 20;
 
 /// A plan of a valid pattern from one of its variables. At each point it takes the best of all steps that are possible there: an end of
 /// an edge before the edges of a node, and else one whose variable is asked for as much as that of any other.

@@ -1,5 +1,5 @@
 -- What one edit of a list that stands over the base's makes of it.
-use Rattle.std.proofs.Common.{◌≡◌, ◌∙◌, ℕ, ◌+◌, ◌≤◌, append_assoc, true, false, List, [], ◌∷◌, ◌++◌, take, drop, Result, Ok, Err, OnOk, sym, true≢false, arith, inl, inr}
+use Rattle.std.proofs.Common.{◌≡◌, ◌∙◌, ℕ, ◌+◌, ◌≤◌, append_assoc, true, false, List, [], ◌∷◌, ◌++◌, take, drop, sym, true≢false, arith, inl, inr}
 use Rattle.std.specs.List.{list_any}
 use Rattle.std.specs.List.Sorted.{IsStrictlySortedBy}
 use Rattle.std.specs.BTreeMap.{is_at}
@@ -15,10 +15,6 @@ use Rattle.pgs_overlay.specs.declared.edited_list.EditedList.{EditedList}
 use Rattle.pgs_overlay.specs.Edited.{IsEdited}
 use Rattle.pgs_overlay.specs.Found.{StandsAt}
 use Rattle.pgs_overlay.specs.Parts.{IsBuiltOn, built}
-
-pub on_ok : {A E : Type 0} {P Q : Type 0} (r : Result A E) → (P → Q) → OnOk r P → OnOk r Q
-on_ok (Ok x) f p = f p
-on_ok (Err e) f p = tt
 
 module _ (xs : List EdgeId) (up : IsStrictlySortedBy edge_cmp xs) (edge : EdgeId) (place : ℕ) where
   -- an edge that stands there is in the list, and one that would isn't

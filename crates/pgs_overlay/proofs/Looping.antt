@@ -14,7 +14,7 @@ use Rattle.pgs_tables.specs.Adjacency.{is_end_of, ends_here}
 use Rattle.pgs_overlay.specs.declared.side.Side.{Side}
 use Rattle.pgs_overlay.specs.declared.side.Side.TheVariants.{Out, In}
 use Rattle.pgs_overlay.specs.declared.edited_list.EditedList.{EditedList}
-use Rattle.pgs_overlay.specs.Passed.{list_at, is_here, FollowsChange, AreReady, ArePassed, AllFollow, HasFew, end_on}
+use Rattle.pgs_overlay.specs.Passed.{list_at, edit_between, FollowsChange, AreReady, ArePassed, AllFollow, HasFew, end_on}
 use Rattle.pgs_overlay.specs.Sides.{edges_at}
 use Rattle.pgs_overlay.proofs.Before.{first_of_rest, last_of_front, ascending_before, ascending_from, fresh_at}
 use Rattle.pgs_overlay.proofs.Passing.{passed_ready, passed_more}
@@ -47,10 +47,10 @@ holds_on_ok (Err e) p = tt
 -- what is edited at two ends follows the change
 pub all_follow : (side : Side) (g : Graph) (c : Change) (first second : Option NodeId) (old new : List (NodeId × EditedList))
     → first ≡ end_on side (edge_at g c.0) → second ≡ end_on side c.1
-    → ((id : NodeId) → FollowsChange (edges_at side id g.edges) c.0 (is_here id first) (is_here id second) (list_at old id) (list_at new id)) → AllFollow side g c old new
+    → ((id : NodeId) → FollowsChange (edges_at side id g.edges) c.0 (edit_between id first second) (list_at old id) (list_at new id)) → AllFollow side g c old new
 all_follow side g c first second old new one two follows id =
-    subst (λ e. FollowsChange (edges_at side id g.edges) c.0 (is_here id e) (is_here id (end_on side c.1)) (list_at old id) (list_at new id)) one
-    (subst (λ e. FollowsChange (edges_at side id g.edges) c.0 (is_here id first) (is_here id e) (list_at old id) (list_at new id)) two (follows id))
+    subst (λ e. FollowsChange (edges_at side id g.edges) c.0 (edit_between id e (end_on side c.1)) (list_at old id) (list_at new id)) one
+    (subst (λ e. FollowsChange (edges_at side id g.edges) c.0 (edit_between id first e) (list_at old id) (list_at new id)) two (follows id))
 
 -- ---- costs
 

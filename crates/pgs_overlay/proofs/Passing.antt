@@ -1,5 +1,5 @@
 -- What an edge's change makes of the lists of a side.
-use Rattle.std.proofs.Common.{◌≡◌, ◌∙◌, ℕ, suc, ◌==◌, Bool, true, false, cond, ◌&&◌, List, [], ◌∷◌, ◌++◌, Option, Some, None, IfSome, refl, sym, ap, true≢false, arith}
+use Rattle.std.proofs.Common.{◌≡◌, ◌∙◌, ℕ, suc, ◌==◌, Bool, true, false, cond, ◌&&◌, List, [], ◌∷◌, ◌++◌, Option, Some, None, IfSome, refl, sym, ap, subst, true≢false, arith}
 use Rattle.std.specs.Cmp.{Equal-is}
 use Rattle.std.specs.Option.{option_map}
 use Rattle.std.specs.List.{list_any}
@@ -19,9 +19,11 @@ use Rattle.pgs_graph.proofs.Deltas.{edge_cmp_total, exact_edge, ascending_edges,
 use Rattle.pgs_graph.specs.Lists.{has_end}
 use Rattle.pgs_graph.proofs.EdgeLists.{edited-changed, any-edges_with, ascending-edges_with}
 use Rattle.pgs_overlay.specs.declared.side.Side.{Side}
+use Rattle.pgs_overlay.specs.declared.edit.EditKind.{EditKind}
+use Rattle.pgs_overlay.specs.declared.edit.EditKind.TheVariants.{PutIn, TakeOut}
 use Rattle.pgs_overlay.specs.declared.edited_list.EditedList.{EditedList}
 use Rattle.pgs_overlay.specs.Edited.{IsEditedAt}
-use Rattle.pgs_overlay.specs.Passed.{list_at, is_here, list_changed, FollowsChange, IsEditAt, IsReadyAt, AreReady, ArePassed, AllFollow, end_on}
+use Rattle.pgs_overlay.specs.Passed.{list_at, is_here, edit_here, edit_between, list_changed, FollowsChange, IsEditAt, IsReadyAt, AreReady, ArePassed, AllFollow, end_on}
 use Rattle.pgs_overlay.specs.Sides.{end_at, edges_at}
 use Rattle.pgs_overlay.proofs.Before.{entries_push}
 use Rattle.pgs_overlay.proofs.Lists.{ascending_list}
@@ -41,17 +43,21 @@ edited_later : (xs edited : List EdgeId) (edge : EdgeId) (later : List EdgeId) (
 edited_later xs edited edge later None was = copied_later xs 0 [] edited edge later was
 edited_later xs edited edge later (Some list) was = record { stands = was.stands; copied = copied_later xs list.done _ edited edge later was.copied }
 
-pub follows_none : (xs : List EdgeId) (edge : EdgeId) (had : Bool) (kept : Option EditedList) → FollowsChange xs edge had had kept kept
+-- the edit between a list that had an edge or not, and one that has it or not
+abbrev pub edit_by : Bool → Bool → Option EditKind
+edit_by had has = cond had (cond has None (Some TakeOut)) (cond has (Some PutIn) None)
+
+pub follows_none : (xs : List EdgeId) (edge : EdgeId) (had : Bool) (kept : Option EditedList) → FollowsChange xs edge (edit_by had had) kept kept
 follows_none xs edge true kept edited later was rising = edited_later xs edited edge later kept was
 follows_none xs edge false kept edited later was rising = edited_later xs edited edge later kept was
 
 -- taken out at the old end, then put in at the new one
 pub follows_both : (xs : List EdgeId) (edge : EdgeId) (had has : Bool) → (had && has) ≡ false → (old between new : Option EditedList) →
-    IsEditAt xs edge false had old between → IsEditAt xs edge true has between new → FollowsChange xs edge had has old new
+    IsEditAt xs edge (cond had (Some TakeOut) None) old between → IsEditAt xs edge (cond has (Some PutIn) None) between new → FollowsChange xs edge (edit_by had has) old new
 follows_both xs edge true true apart old between new first second = absurd (true≢false apart)
-follows_both xs edge true false apart old between new first second = rw (second.elsewhere refl) (first.here refl)
-follows_both xs edge false true apart old between new first second = rw (sym (first.elsewhere refl)) (second.here refl)
-follows_both xs edge false false apart old between new first second = rw (second.elsewhere refl ∙ first.elsewhere refl) (follows_none xs edge false old)
+follows_both xs edge true false apart old between new first second = rw second first
+follows_both xs edge false true apart old between new first second = rw (sym first) second
+follows_both xs edge false false apart old between new first second = rw (second ∙ first) (follows_none xs edge false old)
 
 -- a node has an edge in its list exactly where it is its end
 module _ (side : Side) (g : Graph) (graph : is_graph g ≡ true) (edge : EdgeId) where
@@ -87,11 +93,14 @@ ready_at edge side g lists ready (Some id) = ready id
 -- after the edge was taken out elsewhere, the new end is ready still
 pub ready_after : (edge : EdgeId) (side : Side) (g : Graph) (lists after : List (NodeId × EditedList)) → AreReady edge side g lists → (old end : Option NodeId) →
     ((id : NodeId) → (is_here id old && is_here id end) ≡ false) →
-    ((id : NodeId) → IsEditAt (edges_at side id g.edges) edge false (is_here id old) (list_at lists id) (list_at after id)) →
+    ((id : NodeId) → IsEditAt (edges_at side id g.edges) edge (edit_here TakeOut id old) (list_at lists id) (list_at after id)) →
     IfSome end (λ id. IsReadyAt edge (edges_at side id g.edges) (list_at after id))
 ready_after edge side g lists after ready old None apart taken = tt
-ready_after edge side g lists after ready old (Some id) apart taken = rw ((taken id).elsewhere (other (is_here id old) (apart id))) (ready id)
+ready_after edge side g lists after ready old (Some id) apart taken = rw (stays (other (is_here id old) (apart id))) (ready id)
   where
+    stays : is_here id old ≡ false → list_at after id ≡ list_at lists id
+    stays e = subst (λ b. IsEditAt (edges_at side id g.edges) edge (cond b (Some TakeOut) None) (list_at lists id) (list_at after id)) e (taken id)
+
     other : (b : Bool) → (b && (id.0 == id.0)) ≡ false → b ≡ false
     other true e = absurd (true≢false (sym (itself id.0) ∙ e))
     other false e = refl
@@ -101,7 +110,7 @@ ready_after edge side g lists after ready old (Some id) apart taken = rw ((taken
 -- the list of a node after a change of an edge
 pub edges_changed : (end : End) (q : NodeId) (es : List (EdgeId × EdgeRow)) (edge : EdgeId) (new : Option EdgeRow) → IsStrictlySortedBy edge_cmp (keys_of es) →
     edges_with end q (entry_changed edge_cmp es edge new)
-    ≡ list_changed (has_end end q (lookup (is_at (edge_cmp edge)) es)) (has_end end q new) edge (edges_with end q es)
+    ≡ list_changed (edit_by (has_end end q (lookup (is_at (edge_cmp edge)) es)) (has_end end q new)) edge (edges_with end q es)
 unfolding IsStrictlySortedBy
 edges_changed end q es edge new sorted = by (has_end end q (lookup (is_at (edge_cmp edge)) es)) (has_end end q new) refl refl
   where
@@ -126,7 +135,7 @@ edges_changed end q es edge new sorted = by (has_end end q (lookup (is_at (edge_
         either x false apart = refl
 
     by : (had has : Bool) → has_end end q (lookup (is_at (edge_cmp edge)) es) ≡ had → has_end end q new ≡ has →
-        edges_with end q (entry_changed edge_cmp es edge new) ≡ list_changed had has edge list
+        edges_with end q (entry_changed edge_cmp es edge new) ≡ list_changed (edit_by had has) edge list
     by true true h n = kept (h ∙ sym n)
     by false false h n = kept (h ∙ sym n)
     by true false h n = sym (edited-changed end q es edge sorted new) ∙ rw (h, n) refl
@@ -160,10 +169,10 @@ module _ (side : Side) (g : Graph) (graph : is_graph g ≡ true) where
         before = lookup-entries_changed edge_cmp_total change.0 g.edges changes (ascending_edges g graph) sorted ∙ ap (λ o. after_changes o (edge_at g change.0)) fresh
 
         whole : edges_at side q (entries_changed edge_cmp g.edges (changes ++ change ∷ []))
-            ≡ list_changed (is_here q (end_on side (edge_at g change.0))) (is_here q (end_on side change.1)) change.0 (edges_at side q es)
+            ≡ list_changed (edit_between q (end_on side (edge_at g change.0)) (end_on side change.1)) change.0 (edges_at side q es)
         whole =
             ap (edges_at side q) (entries_push edge_cmp g.edges changes change)
             ∙ edges_changed (end_at side) q es change.0 change.1 (ascending-entries_changed edge_cmp_total g.edges changes (ascending_edges g graph))
-            ∙ ap (λ o. list_changed (has_end (end_at side) q o) (has_end (end_at side) q change.1) change.0 (edges_at side q es)) before
-            ∙ ap (λ b. list_changed b (has_end (end_at side) q change.1) change.0 (edges_at side q es)) (ends_here side g graph change.0 q (edge_at g change.0))
-            ∙ ap (λ b. list_changed (is_here q (end_on side (edge_at g change.0))) b change.0 (edges_at side q es)) (ends_here side g graph change.0 q change.1)
+            ∙ ap (λ o. list_changed (edit_by (has_end (end_at side) q o) (has_end (end_at side) q change.1)) change.0 (edges_at side q es)) before
+            ∙ ap (λ b. list_changed (edit_by b (has_end (end_at side) q change.1)) change.0 (edges_at side q es)) (ends_here side g graph change.0 q (edge_at g change.0))
+            ∙ ap (λ b. list_changed (edit_by (is_here q (end_on side (edge_at g change.0))) b) change.0 (edges_at side q es)) (ends_here side g graph change.0 q change.1)

@@ -1,5 +1,5 @@
 -- What becomes of the lists that are kept, when the list of one node is edited.
-use Rattle.std.proofs.Common.{◌≡◌, ◌∙◌, ℕ, ◌==◌, Bool, true, false, cond, not, List, ◌∷◌, Option, Some, None, refl, sym, ap, subst, true≢false, arith, rules, is_eq}
+use Rattle.std.proofs.Common.{◌≡◌, ◌∙◌, ℕ, ◌==◌, Bool, true, false, cond, List, ◌∷◌, Option, Some, None, refl, ap, subst, arith, rules, is_eq}
 use Rattle.std.specs.Cmp.{Equal-is}
 use Rattle.std.specs.Ordering.{nat_cmp}
 use Rattle.std.specs.List.Sorted.{IsStrictlySortedBy}
@@ -9,11 +9,11 @@ use Rattle.pgs_base.specs.declared.element.NodeId.{NodeId}
 use Rattle.pgs_base.specs.declared.element.EdgeId.{EdgeId}
 use Rattle.pgs_base.specs.Graph.{node_cmp, edge_cmp}
 use Rattle.pgs_base.proofs.Lookups.{lookup-insert_entry, lookup-remove_key}
-use Rattle.pgs_graph.specs.Lists.{list_edited}
 use Rattle.pgs_graph.proofs.Deltas.{node_cmp_total, exact_node}
+use Rattle.pgs_overlay.specs.declared.edit.EditKind.{EditKind}
 use Rattle.pgs_overlay.specs.declared.edited_list.EditedList.{EditedList}
 use Rattle.pgs_overlay.specs.Edited.{IsEdited, IsEditedAt, IsReadyFor}
-use Rattle.pgs_overlay.specs.Passed.{list_at, is_here, list_changed, FollowsChange, IsEditAt, IsListOf, IsReadyAt}
+use Rattle.pgs_overlay.specs.Passed.{list_at, edit_here, list_changed, FollowsChange, IsEditAt, IsListOf, IsReadyAt}
 
 nat_tied : (a b : ℕ) → is_eq (nat_cmp a b) ≡ (a == b)
 nat_tied a b = search rules
@@ -57,22 +57,18 @@ module _ (lists : List (NodeId × EditedList)) (up : IsStrictlySortedBy node_cmp
 pub same_node : (a b : NodeId) → (a.0 == b.0) ≡ true → a ≡ b
 same_node a b e = exact_node a b ((Equal-is (node_cmp a b)).0 (nat_tied a.0 b.0 ∙ e))
 
--- an edge put in or taken out is a change of whether the list has it
-edit_changes : (adds : Bool) (edge : EdgeId) (list : List EdgeId) → list_edited adds edge list ≡ list_changed (not adds) adds edge list
-edit_changes true edge list = refl
-edit_changes false edge list = refl
-
--- an edit at an end, and none where there is no end
-pub edited_at : (xs_of : NodeId → List EdgeId) (edge : EdgeId) (adds : Bool) (lists : List (NodeId × EditedList)) → IsStrictlySortedBy node_cmp (keys_of lists)
+-- an edit at an end
+pub edited_at : (xs_of : NodeId → List EdgeId) (edge : EdgeId) (kind : EditKind) (lists : List (NodeId × EditedList)) → IsStrictlySortedBy node_cmp (keys_of lists)
     → (id : NodeId) (list : EditedList) (rest new : List (NodeId × EditedList)) → rest ≡ remove_entry (is_at (node_cmp id)) lists → new ≡ insert_entry node_cmp rest id list
     → ((edited later : List EdgeId) → IsEditedAt (xs_of id) edited (edge ∷ later) (list_at lists id) → IsStrictlySortedBy edge_cmp (edge ∷ later)
-    → IsEdited (xs_of id) (list_edited adds edge edited) later list)
-    → (end : Option NodeId) → end ≡ Some id → (q : NodeId) → IsEditAt (xs_of q) edge adds (is_here q end) (list_at lists q) (list_at new q)
-edited_at xs_of edge adds lists up id list rest new left put follows end at q = rw at (record {
-  here = λ same. rw (put, left) (subst (λ n. FollowsChange (xs_of n) edge (not adds) adds (list_at lists n) (list_at (insert_entry node_cmp (remove_entry (is_at (node_cmp id)) lists) id list) n))
-      (same_node id q same) (λ edited later was rising. rw (kept_here lists up id list, sym (edit_changes adds edge edited)) (follows edited later was rising)));
-  elsewhere = λ other. rw (put, left) (kept_other lists up id list q other);
-})
+    → IsEdited (xs_of id) (list_changed (Some kind) edge edited) later list)
+    → (end : Option NodeId) → end ≡ Some id → (q : NodeId) → IsEditAt (xs_of q) edge (edit_here kind q end) (list_at lists q) (list_at new q)
+edited_at xs_of edge kind lists up id list rest new left put follows end at q = rw (at, put, left) (either (id.0 == q.0) refl)
+  where
+    put_back : List (NodeId × EditedList)
+    put_back = insert_entry node_cmp (remove_entry (is_at (node_cmp id)) lists) id list
 
-pub edited_nowhere : (xs : List EdgeId) (edge : EdgeId) (adds : Bool) (old : Option EditedList) → IsEditAt xs edge adds false old old
-edited_nowhere xs edge adds old = record { here = λ e. absurd (true≢false (sym e)); elsewhere = λ e. refl }
+    either : (here : Bool) → (id.0 == q.0) ≡ here → IsEditAt (xs_of q) edge (cond here (Some kind) None) (list_at lists q) (list_at put_back q)
+    either true same = subst (λ n. FollowsChange (xs_of n) edge (Some kind) (list_at lists n) (list_at put_back n))
+        (same_node id q same) (λ edited later was rising. rw (kept_here lists up id list) (follows edited later was rising))
+    either false other = kept_other lists up id list q other

@@ -1,5 +1,5 @@
 -- The lists of the nodes of one side while a delta's edges are gone through, one by one.
-use Rattle.std.specs.Prelude.{◌≡◌, ℕ, ◌≤◌, ◌==◌, Bool, true, false, not, List, [], ◌∷◌, length, Option, Some, None}
+use Rattle.std.specs.Prelude.{◌≡◌, ℕ, ◌≤◌, ◌==◌, Bool, true, false, cond, List, [], ◌∷◌, length, Option, Some, None}
 use Rattle.std.specs.Option.{option_map}
 use Rattle.std.specs.List.Sorted.{IsStrictlySortedBy}
 use Rattle.std.specs.Map.{lookup}
@@ -14,6 +14,8 @@ use Rattle.pgs_graph.specs.Reads.{end_of}
 use Rattle.pgs_graph.specs.Changed.{entries_changed}
 use Rattle.pgs_overlay.specs.declared.side.Side.{Side}
 use Rattle.pgs_overlay.specs.declared.side.Side.TheVariants.{Out, In}
+use Rattle.pgs_overlay.specs.declared.edit.EditKind.{EditKind}
+use Rattle.pgs_overlay.specs.declared.edit.EditKind.TheVariants.{PutIn, TakeOut}
 use Rattle.pgs_overlay.specs.declared.edited_list.EditedList.{EditedList}
 use Rattle.pgs_overlay.specs.Edited.{IsEditedAt, IsReadyFor}
 use Rattle.pgs_overlay.specs.Parts.{StandsOn}
@@ -28,23 +30,35 @@ abbrev pub is_here : NodeId → Option NodeId → Bool
 is_here id None = false
 is_here id (Some end) = end.0 == id.0
 
--- a list after a change of an edge, by whether it had the edge and whether it has it then
-abbrev pub list_changed : Bool → Bool → EdgeId → List EdgeId → List EdgeId
-list_changed true true edge list = list
-list_changed true false edge list = remove_key (is_at (edge_cmp edge)) list
-list_changed false true edge list = insert_key edge_cmp list edge
-list_changed false false edge list = list
+-- whether an edit is of an edge that the list has
+abbrev pub takes_out : EditKind → Bool
+takes_out PutIn = false
+takes_out TakeOut = true
 
--- what is kept for a node follows such a change: where it was the list before, with this edge and later ones still to come, it then is
--- the changed list, with the later ones to come
-abbrev pub FollowsChange : List EdgeId → EdgeId → Bool → Bool → Option EditedList → Option EditedList → Type 0
-FollowsChange xs edge had has old new = (edited later : List EdgeId) → IsEditedAt xs edited (edge ∷ later) old →
-    IsStrictlySortedBy edge_cmp (edge ∷ later) → IsEditedAt xs (list_changed had has edge edited) later new
+-- the edit of a node's list where an edge is put in or taken out at an end: none where that is another node, or no node
+abbrev pub edit_here : EditKind → NodeId → Option NodeId → Option EditKind
+edit_here kind id end = cond (is_here id end) (Some kind) None
 
--- where the node is the end, what is kept follows the edge being put in or taken out, and else it stays
-pub record IsEditAt (xs : List EdgeId) (edge : EdgeId) (adds is_end : Bool) (old new : Option EditedList) : Type 0 where
-  pub here : is_end ≡ true → FollowsChange xs edge (not adds) adds old new
-  pub elsewhere : is_end ≡ false → new ≡ old
+-- the edit of a node's list where an edge goes from an old end to a new one: none where both are the node, or neither is
+abbrev pub edit_between : NodeId → Option NodeId → Option NodeId → Option EditKind
+edit_between id old new = cond (is_here id old) (cond (is_here id new) None (Some TakeOut)) (cond (is_here id new) (Some PutIn) None)
+
+-- a list after an edit of an edge, where there is one
+abbrev pub list_changed : Option EditKind → EdgeId → List EdgeId → List EdgeId
+list_changed None edge list = list
+list_changed (Some PutIn) edge list = insert_key edge_cmp list edge
+list_changed (Some TakeOut) edge list = remove_key (is_at (edge_cmp edge)) list
+
+-- what is kept for a node follows an edit: where it was the list before, with this edge and later ones still to come, it then is the
+-- changed list, with the later ones to come
+abbrev pub FollowsChange : List EdgeId → EdgeId → Option EditKind → Option EditedList → Option EditedList → Type 0
+FollowsChange xs edge edit old new = (edited later : List EdgeId) → IsEditedAt xs edited (edge ∷ later) old →
+    IsStrictlySortedBy edge_cmp (edge ∷ later) → IsEditedAt xs (list_changed edit edge edited) later new
+
+-- what is kept for a node follows an edit, and stays where there is none
+abbrev pub IsEditAt : List EdgeId → EdgeId → Option EditKind → Option EditedList → Option EditedList → Type 0
+IsEditAt xs edge None old new = new ≡ old
+IsEditAt xs edge (Some kind) old new = FollowsChange xs edge (Some kind) old new
 
 -- the list that an edit begins with: what is kept, and else the base's list as it is
 abbrev pub IsListOf : Option EditedList → EditedList → Type 0
@@ -74,11 +88,7 @@ pub record HasFew (g : Graph) (most : ℕ) (id : NodeId) : Type 0 where
 abbrev pub end_on : Side → Option EdgeRow → Option NodeId
 end_on side row = option_map (end_of (end_at side)) row
 
--- whether a side lists an edge of this row, where there is one, at a node
-abbrev pub lists_row : Side → NodeId → Option EdgeRow → Bool
-lists_row side id row = is_here id (end_on side row)
-
 -- all lists of a side follow a change of an edge of a graph, from its old row to its new one
 abbrev pub AllFollow : Side → Graph → EdgeId × Option EdgeRow → List (NodeId × EditedList) → List (NodeId × EditedList) → Type 0
 AllFollow side g change old new = (id : NodeId) → FollowsChange (edges_at side id g.edges) change.0
-    (lists_row side id (edge_at g change.0)) (lists_row side id change.1) (list_at old id) (list_at new id)
+    (edit_between id (end_on side (edge_at g change.0)) (end_on side change.1)) (list_at old id) (list_at new id)

@@ -1,4 +1,4 @@
-ghost use Rattle.std.specs.Prelude.{◌≡◌, ◌+◌, ◌≤◌, length, slice_get};
+ghost use Rattle.std.specs.Prelude.{◌≡◌, ◌+◌, ◌^◌, ◌<◌, length, slice_get};
 ghost use Rattle.std.specs.List.Sorted.{IsStrictlySortedBy};
 ghost use Rattle.pgs_base.specs.Graph.{edge_cmp};
 ghost use Rattle.pgs_overlay.specs.Sides.{edges_at};
@@ -47,10 +47,10 @@ impl<'a, B: GraphRead> BaseList<'a, B> {
         }
     }
 
-    /// A number that is at least the length.
-    pub fn limit(&self) -> usize
-        ensures { length self.now ≤ result }
+    /// What every such list meets: a `usize` holds its length. Nothing is done.
+    pub fn facts(&self)
+        ensures { length self.now < 2 ^ 64 }
     {
-        self.base.count() as usize
+        let _count = self.base.count();
     }
 }

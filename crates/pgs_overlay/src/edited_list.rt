@@ -137,12 +137,8 @@ impl EditedList {
         ensures value { result ≡ slice_get (drop self.now.done base.now) place }
         ensures tick { steps.new ≡ steps.old + 1 }
     {
-        if place < base.limit().saturating_sub(self.done) {
-            base.at(self.done + place, steps)
-        } else {
-            steps.tick();
-            None
-        }
+        base.facts();
+        base.at(self.done.saturating_add(place), steps)
     }
 }
 

@@ -43,11 +43,11 @@ fn bounds<B: GraphRead, L: Ledger>(
     ensures never_back { steps.old ≤ steps.new }
     ensures cost { (k : ℕ) → length list.now < 2 ^ k → steps.new ≤ steps.old + k + 1 }
 {
-    let limit = list.limit();
+    list.facts();
     let mut low = from;
     let mut step = 1;
     loop {
-        let place = low + limit.saturating_sub(low).min(step - 1);
+        let place = low.saturating_add(step - 1);
         if !is_below(list, place, edge, steps) {
             return (low, place);
         }
@@ -57,7 +57,7 @@ fn bounds<B: GraphRead, L: Ledger>(
 }
 
 // The first place from which no edge is lower, between a place before which all are and one from which none is.
-fn halved<B: GraphRead, L: Ledger>(
+fn place_between<B: GraphRead, L: Ledger>(
     list: &BaseList<'_, B>,
     bounds: (usize, usize),
     edge: EdgeId,
@@ -108,7 +108,8 @@ fn without_gap<B: GraphRead, L: Ledger>(
         return Some(from);
     }
     let missing = (edge.0 - found.0 - 1) as usize;
-    let place = from + list.limit().saturating_sub(from).min(missing);
+    list.facts();
+    let place = from.saturating_add(missing);
     if is_below(list, place, edge, steps) {
         Some(place + 1)
     } else {
@@ -135,7 +136,7 @@ fn lower_bound<B: GraphRead, L: Ledger>(
         return place;
     }
     let bounds = bounds(list, from, edge, steps);
-    halved(list, bounds, edge, steps)
+    place_between(list, bounds, edge, steps)
 }
 
 /// Where an edge stands in a list of the base, or where it would go, at or behind a place before which all edges are lower.

@@ -1,6 +1,6 @@
 //! The lists of one side of the nodes at which a delta's edges stand, edited edge by edge.
 
-ghost use Rattle.std.specs.Prelude.{◌≡◌, ◌+◌, ◌*◌, ◌^◌, ◌<◌, ◌≤◌, ℕ, true, false, not, ◌&&◌, length, option_map, OnOk, IfSome};
+ghost use Rattle.std.specs.Prelude.{◌≡◌, ◌+◌, ◌*◌, ◌^◌, ◌<◌, ◌≤◌, ℕ, true, false, ◌&&◌, length, option_map, OnOk, IfSome};
 ghost use Rattle.std.specs.List.{list_any};
 ghost use Rattle.std.specs.List.Sorted.{IsStrictlySortedBy};
 ghost use Rattle.std.specs.Map.{keys_of, remove_entry};
@@ -8,11 +8,11 @@ ghost use Rattle.std.specs.BTreeMap.{is_at};
 ghost use Rattle.pgs_base.specs.declared.element.NodeId.{NodeId};
 ghost use Rattle.pgs_base.specs.Graph.{Graph, node_cmp, edge_cmp, edge_at, is_graph};
 ghost use Rattle.pgs_graph.specs.Reads.{end_of};
-ghost use Rattle.pgs_overlay.specs.Passed.{list_at, is_here, AreReady, FollowsChange, IsEditAt, IsListOf, IsReadyAt};
+ghost use Rattle.pgs_overlay.specs.Passed.{list_at, is_here, edit_here, edit_between, takes_out, AreReady, FollowsChange, IsEditAt, IsListOf, IsReadyAt};
 ghost use Rattle.pgs_overlay.specs.Sides.{end_at, edges_at};
 
 use crate::base_list::BaseList;
-use crate::edit::{Edit, edit_list};
+use crate::edit::{Edit, EditKind, edit_list};
 use crate::edited_list::EditedList;
 use crate::side::Side;
 use pgs_base::{EdgeId, Memory, NodeId, Steps};
@@ -44,9 +44,9 @@ fn edit_at<B: GraphRead, L: Ledger>(
     steps: &mut Steps<L>,
 ) -> Result<(), Memory>
     requires ready { IfSome end (λ id. IsReadyAt edit.edge (edges_at edit.side id (B.meaning base.now).edges) (list_at lists.old id)) }
-    requires fits { IfSome end (λ id. list_any (is_at (edge_cmp edit.edge)) (edges_at edit.side id (B.meaning base.now).edges) ≡ not edit.adds) }
-    ensures edited { OnOk result ((id : NodeId) → IsEditAt (edges_at edit.side id (B.meaning base.now).edges) edit.edge edit.adds (is_here id end)
-        (list_at lists.old id) (list_at lists.new id)) }
+    requires fits { IfSome end (λ id. list_any (is_at (edge_cmp edit.edge)) (edges_at edit.side id (B.meaning base.now).edges) ≡ takes_out edit.kind) }
+    ensures edited { OnOk result ((id : NodeId) → IsEditAt (edges_at edit.side id (B.meaning base.now).edges) edit.edge
+        (edit_here edit.kind id end) (list_at lists.old id) (list_at lists.new id)) }
     ensures never_back { steps.old ≤ steps.new }
     ensures cost { (most k : ℕ) → most < 2 ^ k → IfSome end (λ id. length (edges_at edit.side id (B.meaning base.now).edges) ≤ most) →
         steps.new ≤ steps.old + 2 * k + 4 }
@@ -86,7 +86,7 @@ pub(crate) fn edit_side<B: GraphRead, L: Ledger>(
     requires ready { AreReady edge side (B.meaning base.now) lists.old }
     requires old_end { ends.0 ≡ option_map (end_of (end_at side)) (edge_at (B.meaning base.now) edge) }
     ensures edited { OnOk result ((id : NodeId) → FollowsChange (edges_at side id (B.meaning base.now).edges) edge
-        (is_here id ends.0) (is_here id ends.1) (list_at lists.old id) (list_at lists.new id)) }
+        (edit_between id ends.0 ends.1) (list_at lists.old id) (list_at lists.new id)) }
     ensures never_back { steps.old ≤ steps.new }
     ensures cost { (most k : ℕ) → most < 2 ^ k → IfSome ends.0 (λ id. length (edges_at side id (B.meaning base.now).edges) ≤ most) →
         IfSome ends.1 (λ id. length (edges_at side id (B.meaning base.now).edges) ≤ most) → steps.new ≤ steps.old + 4 * k + 8 }
@@ -97,13 +97,13 @@ pub(crate) fn edit_side<B: GraphRead, L: Ledger>(
     }
     let take_out = Edit {
         side,
-        adds: false,
+        kind: EditKind::TakeOut,
         edge,
     };
     edit_at(lists, alloc, base, old, take_out, steps)?;
     let put_in = Edit {
         side,
-        adds: true,
+        kind: EditKind::PutIn,
         edge,
     };
     edit_at(lists, alloc, base, new, put_in, steps)?;

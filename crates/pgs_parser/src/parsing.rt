@@ -110,7 +110,7 @@ pub fn parse(alloc: Global, tokens: &Tokens<'_>) -> Result<Script, ParseFault>
     ensures only_script { (script : ScriptTree) → IsScript script tokens.now → Parses (λ script. script) result (Ok script) }
     ensures only_statement { (n : ℕ) → IsNoScriptFrom n tokens.now → Parses (λ script. script) result (Err n) }
 
-    // The same as a function of the tokens.
+    // What is given, as a function of the tokens.
     ensures computed { Parses (λ script. script) result (script_of tokens.now) }
 {
     script(alloc, tokens)

@@ -257,7 +257,7 @@ impl Parser<'_> {
 
     /// What is declared after CREATE and maybe ABSTRACT.
     #[tactic(auto, unfolding(crate::specs::StatementReaders::declared_at))]
-    fn declared(&mut self, earlier: bool, place: u32) -> Result<Statement, Unread>
+    fn declaration(&mut self, earlier: bool, place: u32) -> Result<Statement, Unread>
         requires { place + length self.old < 2 ^ 32 }
         ensures { Reads result self.new (declared_at earlier place self.old) }
     {
@@ -282,7 +282,7 @@ impl Parser<'_> {
     {
         self.keyword(b"CREATE")?;
         let earlier = self.keyword_if(b"ABSTRACT");
-        let declared = self.declared(earlier, place)?;
+        let declared = self.declaration(earlier, place)?;
         self.sign(b";")?;
         Ok(declared)
     }

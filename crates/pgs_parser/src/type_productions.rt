@@ -17,7 +17,7 @@ use std::alloc::Global;
 const DEEPEST: u32 = 64;
 
 /// Nothing is empty, one part is itself, and several are joined.
-fn joined(mut parts: Vec<Spec<Name>>) -> Spec<Name>
+fn join_of(mut parts: Vec<Spec<Name>>) -> Spec<Name>
     ensures { result ≡ together parts.items }
 {
     if parts.len() > 1 {
@@ -80,7 +80,7 @@ fn body_of(
         (None, false, Some(braces)) => Ok(Spec::Braces(braces)),
         (labels, is_open, braces) => {
             let written = parts(alloc, labels, is_open, braces)?;
-            Ok(joined(written))
+            Ok(join_of(written))
         }
     }
 }
@@ -159,7 +159,7 @@ impl Parser<'_> {
             return Ok(first);
         }
         let units = self.units(first, further)?;
-        Ok(joined(units.into_vec()))
+        Ok(join_of(units.into_vec()))
     }
 
     /// The first conjunction and those that follow it.

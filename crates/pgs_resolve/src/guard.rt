@@ -79,7 +79,7 @@ fn push_number(numbering: &Numbering, name: &Name, types: &mut Vec<TypeNo>) -> R
     Ok(())
 }
 
-fn numbered(alloc: Global, numbering: &Numbering, names: &[Name]) -> Result<Vec<TypeNo>, Memory>
+fn numbers_of(alloc: Global, numbering: &Numbering, names: &[Name]) -> Result<Vec<TypeNo>, Memory>
     ensures { IfOk result (λ types. types.items ≡ filter_map (type_no numbering.now) names.now) }
 {
     let mut types = Vec::new(alloc);
@@ -99,7 +99,7 @@ fn listed_types(
         (each_once (map name_of (flat_map (λ graph. graph.now.members) graphs.now)))) }
 {
     let names = member_names(alloc, graphs)?;
-    numbered(alloc, numbering, names.as_slice())
+    numbers_of(alloc, numbering, names.as_slice())
 }
 
 // The guard's own word STRICT, and false where there is no graph type.

@@ -47,7 +47,7 @@ fn first_refusal(
 }
 
 // The schema of a script, the scope of each of whose keys names a variable.
-fn resolved(alloc: Global, declarations: &Declarations<'_>) -> Result<Resolved, Memory>
+fn resolution_of(alloc: Global, declarations: &Declarations<'_>) -> Result<Resolved, Memory>
     requires { AreKeyed declarations.now }
     ensures { (script : Script) → AreOf script declarations.now → IfOk result (λ schema. schema ≡ resolved script) }
 {
@@ -74,5 +74,5 @@ pub fn resolve(alloc: Global, script: &Script) -> Result<Resolved, ResolveFault>
     if let Some(fault) = first_refusal(alloc, script, &declarations)? {
         return Err(fault);
     }
-    Ok(resolved(alloc, &declarations)?)
+    Ok(resolution_of(alloc, &declarations)?)
 }

@@ -252,7 +252,7 @@ fn least_name<'a>(
     }
 }
 
-fn copied(alloc: Global, name: Option<&Name>) -> Result<Option<Name>, Memory>
+fn copy_of(alloc: Global, name: Option<&Name>) -> Result<Option<Name>, Memory>
     ensures { IfOk result (λ copy. copy ≡ option_copied name.entry) }
 {
     match name {
@@ -268,7 +268,7 @@ fn least_type(alloc: Global, declarations: &Declarations<'_>) -> Result<Option<N
 {
     let names = type_names(alloc, declarations)?;
     let rows = type_rows(alloc, declarations, &names)?;
-    copied(alloc, least_name(alloc, &names, &rows)?)
+    copy_of(alloc, least_name(alloc, &names, &rows)?)
 }
 
 // The least name of all graph types on a cycle of imports.
@@ -277,7 +277,7 @@ fn least_graph(alloc: Global, declarations: &Declarations<'_>) -> Result<Option<
         IfOk result (λ name. name ≡ least (cyclic (imported_by script) declarations.now.graph_names)) }
 {
     let rows = graph_rows(alloc, declarations)?;
-    copied(alloc, least_name(alloc, &declarations.graph_names, &rows)?)
+    copy_of(alloc, least_name(alloc, &declarations.graph_names, &rows)?)
 }
 
 // The lesser of two names, where there are two.

@@ -1,9 +1,9 @@
 pub mod AreasPut
 pub mod Begun
-pub mod Budget
 pub mod Causes
 pub mod Cutting
 pub mod Driven
+pub mod FirstBytes
 pub mod Fronts
 pub mod LineEnd
 pub mod ReadingOn

@@ -15,7 +15,7 @@ use Rattle.pgs_run_lines.specs.Machine.{Standing, Going, Ended, Machine, Rule, S
 use Rattle.pgs_run_lines.specs.Pieces.{Shown, shown_of, ShowsAll}
 use Rattle.pgs_run_lines.specs.Reading.{StopsIn, Reads}
 use Rattle.pgs_run_lines.specs.Run.{EndsAs, EndsAtLine, EndsBy, IsBetween, IsToldBy, IsFar, Allows}
-use Rattle.pgs_run_lines.proofs.Budget.{by_whole, by_cut, tells_on, ended_by}
+use Rattle.pgs_run_lines.proofs.FirstBytes.{by_whole, by_cut, tells_on, ended_by}
 use Rattle.pgs_run_lines.proofs.Causes.{no_rise}
 use Rattle.pgs_run_lines.proofs.ReadingOn.{none_taken}
 use Rattle.pgs_run_lines.proofs.Showing.{shows_none, first_of_more, torn_of_more, ends_on}

@@ -40,7 +40,7 @@ fn refused_store(alloc: Global, text: &[u8]) -> Result<Unopened, Memory>
 }
 
 // Why no store is opened where none is recovered.
-fn refused(alloc: Global, fault: RecoverFault) -> Result<Unopened, Memory>
+fn unopened_of(alloc: Global, fault: RecoverFault) -> Result<Unopened, Memory>
     ensures refused { IfOk result (λ unopened. Unopens fault unopened) }
     ensures memory { OnErr result (is_of_area fault ≡ false) }
 {
@@ -71,7 +71,7 @@ fn refused(alloc: Global, fault: RecoverFault) -> Result<Unopened, Memory>
 fn reason_for(alloc: Global, fault: RecoverFault) -> Unopened
     ensures { Unopens fault result }
 {
-    match refused(alloc, fault) {
+    match unopened_of(alloc, fault) {
         Ok(unopened) => unopened,
         Err(_) => Unopened::Memory,
     }

@@ -82,7 +82,7 @@ impl Session {
     }
 
     // The piece of a committed line, whose number the line has behind those so far.
-    fn committed(&self, alloc: Global, commit: u64) -> Result<Option<Bytes>, Memory>
+    fn committed_piece(&self, alloc: Global, commit: u64) -> Result<Option<Bytes>, Memory>
         requires lines { self.now.standing.number < 2 ^ 64 - 1 }
         ensures each_line { self.now.judging ≡ Judging.EachLine → IfOk result (λ piece. pieces_in piece ≡ committed_line (self.now.standing.number + 1) commit ∷ []) }
         ensures at_end { self.now.judging ≡ Judging.AtEnd → IfOk result (λ piece. pieces_in piece ≡ []) }
@@ -132,7 +132,7 @@ impl Session {
     {
         match apply(alloc, &mut self.decider, txn) {
             Ok(commit) => {
-                let piece = self.committed(alloc, commit)?;
+                let piece = self.committed_piece(alloc, commit)?;
                 self.number += 1;
                 Ok(piece)
             }

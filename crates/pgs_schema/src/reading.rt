@@ -21,7 +21,7 @@ use pgs_syntax::{Resolved, Script};
 use std::alloc::Global;
 
 // The tokens of a text.
-fn lexed(alloc: Global, text: &[u8]) -> Result<Tokens<'_>, SchemaUnread>
+fn tokens_of(alloc: Global, text: &[u8]) -> Result<Tokens<'_>, SchemaUnread>
     requires { length text.now ≤ 1048576 }
     ensures tokens { IfOk result (λ tokens. tokens_of text.now ≡ Ok tokens) }
     ensures refused { IfErr result (IsRefused (answer_of_finding (found_in (tokens_of text.now)))) }
@@ -34,7 +34,7 @@ fn lexed(alloc: Global, text: &[u8]) -> Result<Tokens<'_>, SchemaUnread>
 }
 
 // The script that tokens are.
-fn parsed(alloc: Global, tokens: &Tokens<'_>) -> Result<Script, SchemaUnread>
+fn script_of(alloc: Global, tokens: &Tokens<'_>) -> Result<Script, SchemaUnread>
     ensures script { IfOk result (λ script. IsScript script tokens.now) }
     ensures computed { IfOk result (λ script. script_of tokens.now ≡ Ok script) }
     ensures refused { IfErr result (IsRefused (answer_of_finding (found_in (Ok tokens.now)))) }
@@ -49,7 +49,7 @@ fn parsed(alloc: Global, tokens: &Tokens<'_>) -> Result<Script, SchemaUnread>
 }
 
 // What a script that doesn't resolve is refused for.
-fn unresolved(fault: ResolveFault) -> SchemaUnread
+fn unread_of(fault: ResolveFault) -> SchemaUnread
     ensures { IsUnresolved fault result }
 {
     match fault {
@@ -66,19 +66,19 @@ fn unresolved(fault: ResolveFault) -> SchemaUnread
 }
 
 // The schema of a script.
-fn resolved(alloc: Global, script: &Script) -> Result<Resolved, SchemaUnread>
+fn resolution_of(alloc: Global, script: &Script) -> Result<Resolved, SchemaUnread>
     ensures schema { IfOk result (λ schema. resolution script.now ≡ Ok schema) }
     ensures valid { IfOk result (λ schema. (tokens : List Lexeme) → IsScript script.now tokens → is_valid schema ≡ true) }
     ensures refused { IfErr result (IsRefused (answer_of_script (resolution script.now))) }
 {
     match resolve(alloc, script) {
         Ok(schema) => Ok(schema),
-        Err(fault) => Err(unresolved(fault)),
+        Err(fault) => Err(unread_of(fault)),
     }
 }
 
 // A schema with its types compiled.
-fn compiled(alloc: Global, resolved: Resolved) -> Result<Compiled, SchemaUnread>
+fn compiled_of(alloc: Global, resolved: Resolved) -> Result<Compiled, SchemaUnread>
     requires { is_valid resolved ≡ true }
     ensures kept { IfOk result (λ compiled. compiled ≡ resolved) }
     ensures narrow { OnOk result (first_too_wide resolved ≡ None) }
@@ -103,8 +103,8 @@ pub fn read_schema(alloc: Global, text: &[u8]) -> Result<Compiled, SchemaUnread>
     if text.len() > TEXT_LIMIT {
         return Err(SchemaUnread::Schema(SchemaFault::TooLong));
     }
-    let tokens = lexed(alloc, text)?;
-    let script = parsed(alloc, &tokens)?;
-    let resolved = resolved(alloc, &script)?;
-    compiled(alloc, resolved)
+    let tokens = tokens_of(alloc, text)?;
+    let script = script_of(alloc, &tokens)?;
+    let resolved = resolution_of(alloc, &script)?;
+    compiled_of(alloc, resolved)
 }

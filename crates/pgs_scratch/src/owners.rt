@@ -115,6 +115,5 @@ pub(crate) fn shared_values(
     if apart {
         return Ok(Vec::new(alloc));
     }
-    let found = shared_by_table(alloc, number, rows)?;
-    Ok(found)
+    shared_by_table(alloc, number, rows)
 }

@@ -84,7 +84,7 @@ fn framed_decision<L: Ledger>(
 }
 
 // Decides a transaction, journals it where it is accepted, and then does it. All memory is taken before the first call on the world.
-fn journaled<W: World, L: Ledger>(
+fn journal_txn<W: World, L: Ledger>(
     guard: &mut Guard,
     journal: &mut Journal,
     world: &mut W,
@@ -160,7 +160,7 @@ impl Store {
         if self.failed {
             return Err(ApplyFault::NeedsReopen);
         }
-        let answer = journaled(&mut self.guard, &mut self.journal, world, txn, steps);
+        let answer = journal_txn(&mut self.guard, &mut self.journal, world, txn, steps);
         self.failed = is_disk_fault(&answer);
         answer
     }

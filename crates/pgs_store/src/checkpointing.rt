@@ -13,14 +13,12 @@ ghost use Rattle.pgs_world.specs.World.{other as other_than};
 use crate::{CheckpointFault, Guard, Store};
 use pgs_base::{List, Memory, Steps};
 use pgs_codec::Command;
+use pgs_journal::LAST_EPOCH;
 use pgs_records::{edge_rows, first_frames, node_rows};
 use pgs_snapshot::checkpoint;
 use pgs_world::{Area, World};
 use std::marker::Brand;
 use std::sync::ledger::{Blank, Ledger};
-
-/// The last epoch.
-const LAST_EPOCH: u64 = 16_777_215;
 
 fn other(area: Area) -> Area
     ensures { result ≡ other_than area }

@@ -129,7 +129,7 @@ fn framed_renewal<L: Ledger>(
 
 // Judges the graph under a schema, journals the schema where the graph conforms, and then puts the guard under it. All memory is taken
 // before the first call on the world.
-fn renewed<W: World>(
+fn journal_schema<W: World>(
     guard: &mut Guard,
     journal: &mut Journal,
     world: &mut W,
@@ -214,7 +214,7 @@ impl Store {
         if self.journal.next.is_none() {
             return Err(EvolveFault::OldFormat);
         }
-        let answer = renewed(&mut self.guard, &mut self.journal, world, schema);
+        let answer = journal_schema(&mut self.guard, &mut self.journal, world, schema);
         self.failed = is_disk_fault(&answer);
         answer
     }

@@ -100,7 +100,7 @@ fn restore<L: Ledger>(
 }
 
 // Why the record of this number isn't taken, by a guard's refusal.
-fn untaken(number: u64, refusal: GuardRefusal) -> RecoverFault
+fn record_fault(number: u64, refusal: GuardRefusal) -> RecoverFault
     ensures { result ≡ of_refusal number refusal }
 {
     match refusal {
@@ -109,8 +109,8 @@ fn untaken(number: u64, refusal: GuardRefusal) -> RecoverFault
     }
 }
 
-// The same by what is said of a later schema.
-fn unrenewed(number: u64, refusal: SchemaRefusal) -> RecoverFault
+// Why the record of this number isn't taken, by the refusal of its schema.
+fn renewal_fault(number: u64, refusal: SchemaRefusal) -> RecoverFault
     ensures { result ≡ of_schema_refusal number refusal }
 {
     match refusal {
@@ -162,7 +162,7 @@ fn take_command<L: Ledger>(
     match command {
         Command::Txn(txn) => match guard.apply(&txn, steps) {
             Ok(_) => Ok(()),
-            Err(refusal) => Err(untaken(number, refusal)),
+            Err(refusal) => Err(record_fault(number, refusal)),
         },
         Command::Snapshot {
             commits,
@@ -170,11 +170,11 @@ fn take_command<L: Ledger>(
             edges,
         } => match restore(guard, seed, commits, nodes, edges, steps) {
             Ok(()) => Ok(()),
-            Err(refusal) => Err(untaken(number, refusal)),
+            Err(refusal) => Err(record_fault(number, refusal)),
         },
         Command::Schema(text) => match take_schema(guard, seed, text.as_slice(), steps) {
             Ok(()) => Ok(()),
-            Err(refusal) => Err(unrenewed(number, refusal)),
+            Err(refusal) => Err(renewal_fault(number, refusal)),
         },
     }
 }

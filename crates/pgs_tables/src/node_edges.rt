@@ -34,7 +34,7 @@ impl NodeEdges {
     }
 
     /// The edges after an edit. `Memory` where none was left.
-    pub(crate) fn edited(&self, alloc: Global, edit: Edit) -> Result<NodeEdges, Memory>
+    pub(crate) fn with_edit(&self, alloc: Global, edit: Edit) -> Result<NodeEdges, Memory>
         ensures { IfOk result (λ edges. edges ≡ edges_edited edit self.now) }
     {
         match edit.side {

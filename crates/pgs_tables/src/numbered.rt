@@ -113,7 +113,7 @@ impl<K: Number, V: Drop> Numbered<K, V> {
     pub fn ids(&self, alloc: Global) -> Result<List<K>, Memory>
         ensures { IfOk result (λ ids. ids ≡ keys_of self.now.rows) }
     {
-        let mut ids = listed(&self.slots, alloc)?;
+        let mut ids = present_ids(&self.slots, alloc)?;
         ids.sort_unstable();
         Ok(List::from_vec(ids))
     }
@@ -141,7 +141,7 @@ impl<K: Number, V: Drop> Numbered<K, V> {
 }
 
 // The numbers of the rows, in the order in which they got their slots.
-fn listed<K: Number, V: Drop>(
+fn present_ids<K: Number, V: Drop>(
     slots: &IndexMap<K, Option<V>, Seed>,
     alloc: Global,
 ) -> Result<Vec<K>, Memory>
@@ -168,7 +168,7 @@ fn stands_at<K: Number, V: Drop>(slots: &IndexMap<K, Option<V>, Seed>, place: us
 }
 
 // The place of the slot of a number, where it is one of those that are tried before a number is hashed.
-fn tried<K: Number, V: Drop>(
+fn near_place<K: Number, V: Drop>(
     slots: &IndexMap<K, Option<V>, Seed>,
     last: &Places,
     id: K,
@@ -196,7 +196,7 @@ fn find<K: Number, V: Drop>(
     ensures unique { IsDistinct K.eq (keys_of slots.now.entries) }
 {
     let _unique = slots.len();
-    if let Some(place) = tried(slots, last, id) {
+    if let Some(place) = near_place(slots, last, id) {
         last.note(id.number(), place);
         return Some(place);
     }

@@ -55,7 +55,7 @@ fn leaves(changes: &[(NodeId, Option<NodeRow>)], id: NodeId) -> bool
 }
 
 // Edges by node as a list, by ascending number.
-fn listed(
+fn list_of(
     alloc: Global,
     touched: Keyed<NodeId, NodeEdges>,
 ) -> Result<List<(NodeId, NodeEdges)>, Memory>
@@ -69,7 +69,7 @@ fn listed(
 impl Tables {
     /// The edges at a node, after a sound delta, of each node that is there then and that the delta touches. `Memory` where none was
     /// left.
-    pub(crate) fn relisted(&self, delta: &Delta) -> Result<List<(NodeId, NodeEdges)>, Memory>
+    pub(crate) fn relisted_edges(&self, delta: &Delta) -> Result<List<(NodeId, NodeEdges)>, Memory>
         requires { is_sound self.now.graph delta.now ≡ true }
         ensures { IfOk result (λ lists. lists ≡ touched_edges self.now.graph delta.now) }
     {
@@ -78,7 +78,7 @@ impl Tables {
         let mut touched = Keyed::new(self.alloc, changes);
         self.relist_edges(&mut touched, nodes, delta.edges.as_slice())?;
         self.keep_nodes(&mut touched, nodes)?;
-        listed(self.alloc, touched)
+        list_of(self.alloc, touched)
     }
 
     // The edges at a node, where it is there.
@@ -92,7 +92,7 @@ impl Tables {
     }
 
     // The edges at a node after an edit: of those that are made already, and else of those that it had.
-    fn edited(
+    fn edited_edges(
         &self,
         touched: &Keyed<NodeId, NodeEdges>,
         id: NodeId,
@@ -102,11 +102,11 @@ impl Tables {
             (unwrap_or (lookup (is_at (node_cmp id)) touched.now) (node_edges self.now.graph id))) }
     {
         if let Some(edges) = touched.get(&id) {
-            return edges.edited(self.alloc, edit);
+            return edges.with_edit(self.alloc, edit);
         }
         match self.edges_at(id) {
-            Some(edges) => edges.edited(self.alloc, edit),
-            None => NodeEdges::new(self.alloc).edited(self.alloc, edit),
+            Some(edges) => edges.with_edit(self.alloc, edit),
+            None => NodeEdges::new(self.alloc).with_edit(self.alloc, edit),
         }
     }
 
@@ -125,7 +125,7 @@ impl Tables {
         if !leaves(nodes, id) {
             return Ok(());
         }
-        let edges = self.edited(touched, id, edit)?;
+        let edges = self.edited_edges(touched, id, edit)?;
         touched.set(id, edges)?;
         Ok(())
     }

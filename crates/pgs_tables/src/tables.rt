@@ -88,7 +88,7 @@ impl Tables {
         ensures slots { self.new.slots ≤ most_slots self.old.graph delta }
     {
         self.make_room(&delta)?;
-        match self.relisted(&delta) {
+        match self.relisted_edges(&delta) {
             Ok(lists) => Ok(Prepared { delta, lists }),
             Err(fault) => {
                 self.ready = None;

@@ -85,8 +85,7 @@ impl ChangedRows {
         ensures edges { self.new.edges ≡ self.old.edges }
         ensures indexed { OnOk result (IsIndexed self.new) }
     {
-        let earlier = self.nodes.set(id, row)?;
-        Ok(earlier)
+        self.nodes.set(id, row)
     }
 
     /// Puts an edge in that was not changed, or was removed.

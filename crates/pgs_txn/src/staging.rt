@@ -163,8 +163,7 @@ pub fn stage<G: GraphRead, L: Ledger>(
         return Err(StageFault::Refused(Structural::TooManyElements { count }));
     }
     txn.facts();
-    let delta = rows.into_delta(alloc)?;
-    Ok(delta)
+    Ok(rows.into_delta(alloc)?)
 }
 
 // The delta that a transaction makes of a graph, with steps of a counter of its own.

@@ -92,16 +92,16 @@ impl MemArea {
         match how {
             Leave::Old => List::from_slice(alloc, &self.synced[..self.kept.len()]),
             Leave::New => List::from_slice(alloc, &self.bytes),
-            Leave::Fill(byte) => self.filled(alloc, byte),
+            Leave::Fill(byte) => self.filled_image(alloc, byte),
         }
     }
 
     /// The image of the greatest length with this byte wherever a stop may leave any.
-    fn filled(&self, alloc: Global, byte: u8) -> Result<Bytes, Memory>
+    fn filled_image(&self, alloc: Global, byte: u8) -> Result<Bytes, Memory>
         ensures { IfOk result (λ bytes. bytes ≡ filled byte self.now.kept.items self.now.greatest) }
     {
         let front = kept_or(alloc, &self.kept, byte)?;
-        let image = padded(front, self.greatest, byte)?;
+        let image = padded_image(front, self.greatest, byte)?;
         Ok(List::from_vec(image))
     }
 }
@@ -118,7 +118,7 @@ fn kept_or(alloc: Global, kept: &[Option<u8>], byte: u8) -> Result<Vec<u8>, Memo
 }
 
 /// The image, and behind it this byte up to a length.
-fn padded(image: Vec<u8>, len: usize, byte: u8) -> Result<Vec<u8>, Memory>
+fn padded_image(image: Vec<u8>, len: usize, byte: u8) -> Result<Vec<u8>, Memory>
     ensures { IfOk result (λ all. all.items ≡ image.items ++ replicate (len - length image.items) byte) }
 {
     let mut all = image;

@@ -1,12 +1,13 @@
 ghost use Rattle.std.specs.Prelude.{◌≡◌, ℕ, ◌+◌, ◌≤◌, ◌++◌, ◌∷◌, [], length, IfOk, vec_len, vec_capacity};
 ghost use Rattle.pgs_world.specs.declared.area.Area.{Area};
-ghost use Rattle.pgs_world.specs.Held.{after_write, after_cut, on_disk};
+ghost use Rattle.pgs_world.specs.Held.{IsWell, after_write, after_cut, on_disk};
+ghost use Rattle.pgs_world.specs.Left.{left_of};
 ghost use Rattle.pgs_world.specs.MemArea.{held_of, area_in, state_of, size_in, HasRoom};
-ghost use Rattle.pgs_world.specs.MemWorld.{with_area, with_output};
+ghost use Rattle.pgs_world.specs.MemWorld.{Leaves, with_area, with_output};
 
-use crate::Area;
 use crate::mem_area::MemArea;
-use pgs_base::{Bytes, Memory};
+use crate::{Area, Leave};
+use pgs_base::{Bytes, List, Memory};
 use std::alloc::Global;
 
 /// A call that changed a world in memory, with the number of bytes that it was handed.
@@ -102,6 +103,20 @@ impl Contents {
         ensures output { vec_capacity self.old.output ≤ vec_capacity self.new.output }
     {
         self.output.extend_from_slice(piece).unwrap();
+    }
+
+    /// Both areas and the output, as a stop leaves them.
+    pub(crate) fn images(&self, alloc: Global, how: Leave) -> Result<(Bytes, Bytes, Bytes), Memory>
+        requires { (area : Area) → IsWell (held_of (area_in area self.now)) }
+        ensures may_leave { IfOk result (λ left. Leaves (state_of self.now) (record { a = left.0; b = left.1; output = left.2 })) }
+        ensures a { IfOk result (λ left. left.0 ≡ left_of how (held_of self.now.a)) }
+        ensures b { IfOk result (λ left. left.1 ≡ left_of how (held_of self.now.b)) }
+        ensures output { IfOk result (λ left. left.2 ≡ self.now.output.items) }
+    {
+        let a = self.a.left(alloc, how)?;
+        let b = self.b.left(alloc, how)?;
+        let output = List::from_slice(alloc, &self.output)?;
+        Ok((a, b, output))
     }
 }
 

@@ -129,10 +129,7 @@ impl MemWorld {
         ensures b { IfOk result (λ left. left.1 ≡ left_of how self.now.b) }
         ensures output { IfOk result (λ left. left.2 ≡ self.now.output) }
     {
-        let a = self.contents.a.left(alloc, how)?;
-        let b = self.contents.b.left(alloc, how)?;
-        let output = List::from_slice(alloc, &self.contents.output)?;
-        Ok((a, b, output))
+        self.contents.images(alloc, how)
     }
 
     /// Writes, or says that the call fails.

@@ -6,7 +6,6 @@ use Rattle.std.specs.Option.{unwrap_or}
 use Rattle.std.specs.Path.{path_parent}
 use Rattle.std.specs.declared.fs.options.OpenOptions.{OpenOptions}
 use Rattle.std.specs.declared.io.Error.{Error}
-use Rattle.std.specs.declared.io.ErrorKind.{ErrorKind}
 use Rattle.std.specs.declared.io.ErrorKind.TheVariants.{InvalidInput, Unsupported}
 use Rattle.pgs_world_files.specs.declared.access.Access.{Access}
 use Rattle.pgs_world_files.specs.declared.access.Access.TheVariants.{Read, Make}

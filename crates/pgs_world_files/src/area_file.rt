@@ -1,10 +1,13 @@
 ghost use Rattle.std.specs.Prelude.{◌≡◌, None, Some};
+ghost use Rattle.std.specs.Io.{ReadsAtMost, WritesAtMost};
 ghost use Rattle.std.specs.Option.{is_some};
 ghost use Rattle.pgs_world_files.specs.Handles.{LengthIs, ReadIs, WriteIs, CallIs, IfOpen};
+ghost use Rattle.pgs_world_streams.specs.Tries.{ReadIsTried, WriteIsTried};
 
 use crate::{FileCause, Handle};
 use pgs_world::{AreaFault, passes_limit};
 use pgs_world_streams::{Cause, is_tried_again};
+use std::io;
 
 /// An area in a file: an open and locked file, or none, and then every call is a fault. An area has at most 2^40 bytes. It keeps the cause
 /// of its last fault, and where there is no file, why.
@@ -132,6 +135,36 @@ fn length_within<H: Handle>(handle: &mut H) -> Result<u64, FileCause>
     }
 }
 
+/// One read, made again where it is interrupted.
+fn read_some<H: Handle>(handle: &mut H, at: u64, buf: &mut [u8]) -> io::Result<usize>
+    ensures bound { ReadsAtMost result buf.new }
+    ensures tried { ReadIsTried H.read_gives handle.old at buf.new result handle.new }
+{
+    let mut tries = 0;
+    loop {
+        let answer = handle.read_once(at, buf);
+        tries += 1;
+        if !is_tried_again(&answer, tries) {
+            return answer;
+        }
+    }
+}
+
+/// One write, made again where it is interrupted.
+fn write_some<H: Handle>(handle: &mut H, at: u64, bytes: &[u8]) -> io::Result<usize>
+    ensures bound { WritesAtMost result bytes.now }
+    ensures tried { WriteIsTried H.write_gives handle.old at bytes.now result handle.new }
+{
+    let mut tries = 0;
+    loop {
+        let answer = handle.write_once(at, bytes);
+        tries += 1;
+        if !is_tried_again(&answer, tries) {
+            return answer;
+        }
+    }
+}
+
 /// A read of a range that ends by 2^40.
 fn read_within<H: Handle>(handle: &mut H, at: u64, buf: &mut [u8]) -> Result<(), FileCause>
     ensures { ReadIs H.read_gives handle.old at buf.new result handle.new }
@@ -140,20 +173,11 @@ fn read_within<H: Handle>(handle: &mut H, at: u64, buf: &mut [u8]) -> Result<(),
         return Err(FileCause::Long);
     }
     let mut done = 0;
-    let mut interruptions = 0;
     while done < buf.len() {
-        match handle.read_once(at + done as u64, &mut buf[done..]) {
+        match read_some(handle, at + done as u64, &mut buf[done..]) {
             Ok(0) => return Err(FileCause::Short),
-            Ok(count) => {
-                done += count;
-                interruptions = 0;
-            }
-            Err(error) => {
-                interruptions += 1;
-                if !is_tried_again(&error, interruptions) {
-                    return Err(FileCause::of(&error));
-                }
-            }
+            Ok(count) => done += count,
+            Err(error) => return Err(FileCause::of(&error)),
         }
     }
     Ok(())
@@ -167,20 +191,11 @@ fn write_within<H: Handle>(handle: &mut H, at: u64, bytes: &[u8]) -> Result<(), 
         return Err(FileCause::Long);
     }
     let mut done = 0;
-    let mut interruptions = 0;
     while done < bytes.len() {
-        match handle.write_once(at + done as u64, &bytes[done..]) {
+        match write_some(handle, at + done as u64, &bytes[done..]) {
             Ok(0) => return Err(FileCause::Call(Cause::NoSpace)),
-            Ok(count) => {
-                done += count;
-                interruptions = 0;
-            }
-            Err(error) => {
-                interruptions += 1;
-                if !is_tried_again(&error, interruptions) {
-                    return Err(FileCause::of(&error));
-                }
-            }
+            Ok(count) => done += count,
+            Err(error) => return Err(FileCause::of(&error)),
         }
     }
     Ok(())

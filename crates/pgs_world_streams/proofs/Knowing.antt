@@ -1,13 +1,15 @@
 -- Bytes that are known of a reader and of a writer.
-use Rattle.std.proofs.Common.{◌≡◌, ℕ, ◌+◌, ◌-◌, Bool, List, [], ◌++◌, length, take, drop, Option, Some, None, sym, ap, ◌∙◌, subst, refl, append_assoc, append-nil}
+use Rattle.std.proofs.Common.{◌≡◌, ℕ, ◌+◌, ◌-◌, Bool, List, [], ◌++◌, length, take, drop, Option, Some, None, Result, Ok, Err, sym, ap, ◌∙◌, subst, refl, append_assoc, append-nil}
 use Rattle.std.proofs.lemmas.List.{take-append-drop, take_rest}
 use Rattle.std.proofs.Math.Seq.{take-add}
 use Rattle.std.proofs.lemmas.Bool.{false≢true}
 use Rattle.std.specs.Option.{is_some}
-use Rattle.std.specs.Io.KnownBytes.{Keeps, Appends, Consumes}
+use Rattle.std.specs.declared.io.Error.{Error}
+use Rattle.std.specs.Io.KnownBytes.{Keeps, Appends, Consumes, WriteAppends}
 use Rattle.std.specs.Io.KnownBytes.{IsAtEnd as IsEnd}
 use Rattle.pgs_world.specs.Source.{Takes, IsAtEnd}
 use Rattle.pgs_world_streams.specs.Pieces.{AppendsFront}
+use Rattle.pgs_world_streams.specs.Tries.{WasInterrupted}
 
 pub takes_known : (old new : Option (List ℕ)) (tells : Bool) (taken : List ℕ) → is_some old ≡ tells → is_some new ≡ tells → Consumes old new taken → Takes old new taken
 takes_known None None tells taken was is consumes = refl
@@ -60,6 +62,29 @@ appends_at old mid new piece done count now is first second =
     subst (λ n. Appends old new (take n piece)) (sym is)
     (subst (Appends old new) (sym (take-add done count piece)) (appends_more old mid new (take done piece) (take count (drop done piece)) first added))
 
--- a write that took nothing
-pub appends_same : (old mid new : Option (List ℕ)) (piece : List ℕ) (done now : ℕ) → now ≡ done → Appends old mid (take done piece) → Keeps mid new → Appends old new (take now piece)
-appends_same old mid new piece done now is first keeps = subst (λ n. Appends old new (take n piece)) (sym is) (appends_kept old mid new (take done piece) first keeps)
+-- two calls that wrote nothing
+pub kept_twice : (old mid new : Option (List ℕ)) → Keeps old mid → Keeps mid new → Keeps old new
+kept_twice None mid new first second = tt
+kept_twice (Some xs) None new first second = absurd first
+kept_twice (Some xs) (Some ys) None first second = absurd second
+kept_twice (Some xs) (Some ys) (Some zs) first second = second ∙ first
+
+pub kept_none : (old : Option (List ℕ)) → Keeps old old
+kept_none None = tt
+kept_none (Some xs) = refl
+
+-- a call that was interrupted, after some that wrote nothing
+pub kept_interrupted : (old mid new : Option (List ℕ)) (answer : Result ℕ Error) (bytes : List ℕ) → Keeps old mid → WriteAppends mid new answer bytes → WasInterrupted answer → Keeps old new
+kept_interrupted old mid new (Ok count) bytes first wrote was = absurd was
+kept_interrupted old mid new (Err error) bytes first wrote was = kept_twice old mid new first wrote
+
+-- a write, after calls that wrote nothing
+appends_behind : (old mid new : Option (List ℕ)) (done : List ℕ) → Keeps old mid → Appends mid new done → Appends old new done
+appends_behind None mid new done first second = tt
+appends_behind (Some xs) None new done first second = absurd first
+appends_behind (Some xs) (Some ys) None done first second = absurd second
+appends_behind (Some xs) (Some ys) (Some zs) done first second = second ∙ ap (λ (b : List ℕ). b ++ done) first
+
+pub write_behind : (old mid new : Option (List ℕ)) (answer : Result ℕ Error) (bytes : List ℕ) → Keeps old mid → WriteAppends mid new answer bytes → WriteAppends old new answer bytes
+write_behind old mid new (Ok count) bytes first wrote = appends_behind old mid new (take count bytes) first wrote
+write_behind old mid new (Err error) bytes first wrote = kept_twice old mid new first wrote

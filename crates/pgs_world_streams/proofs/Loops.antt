@@ -8,6 +8,8 @@ use Rattle.std.specs.declared.io.Error.{Error}
 use Rattle.pgs_world_streams.specs.Given.{PlacedCall, HasRead, HasWritten, HasFailed}
 use Rattle.pgs_world_streams.specs.Given.HasRead.{read_some, read_failed}
 use Rattle.pgs_world_streams.specs.Given.HasWritten.{wrote_some, write_failed}
+use Rattle.pgs_world_streams.specs.Tries.{WasInterrupted, AreInterrupted}
+use Rattle.pgs_world_streams.specs.Tries.AreInterrupted.{no_try, one_more}
 
 pub failed_by_error : {H : Type 0} (gives : PlacedCall H) (before : H) (at : ℕ) (bytes : List ℕ) (error : Error) (after : H) → gives before at bytes (Err error) after → HasFailed gives
 failed_by_error gives before at bytes error after gave =
@@ -39,10 +41,22 @@ wrote_more gives start at bytes done count now before after is first gave =
     subst (λ n. HasWritten gives start at bytes n after) (sym is) (wrote_some first (subst (λ xs. gives before (at + done) xs (Ok count) after) (rest_is bytes done) gave))
 
 -- a write that failed
-pub wrote_no_more : {H : Type 0} (gives : PlacedCall H) (start : H) (at : ℕ) (bytes : List ℕ) (done now : ℕ) (error : Error) (before after : H) → now ≡ done → HasWritten gives start at bytes done before
-    → gives before (at + done) (take (length bytes - done) (drop done bytes)) (Err error) after → HasWritten gives start at bytes now after
-wrote_no_more gives start at bytes done now error before after is first gave =
-    subst (λ n. HasWritten gives start at bytes n after) (sym is) (write_failed first (subst (λ xs. gives before (at + done) xs (Err error) after) (rest_is bytes done) gave))
+pub wrote_no_more : {H : Type 0} (gives : PlacedCall H) (start : H) (at : ℕ) (bytes : List ℕ) (done : ℕ) (error : Error) (before after : H) → HasWritten gives start at bytes done before
+    → gives before (at + done) (take (length bytes - done) (drop done bytes)) (Err error) after → HasWritten gives start at bytes done after
+wrote_no_more gives start at bytes done error before after first gave =
+    write_failed first (subst (λ xs. gives before (at + done) xs (Err error) after) (rest_is bytes done) gave)
+
+write_interrupted : {H : Type 0} (gives : PlacedCall H) (start : H) (at : ℕ) (bytes : List ℕ) (done : ℕ) (before after : H) (answer : Result ℕ Error) → HasWritten gives start at bytes done before
+    → gives before (at + done) (take (length bytes - done) (drop done bytes)) answer after → WasInterrupted answer → HasWritten gives start at bytes done after
+write_interrupted gives start at bytes done before after (Ok count) first gave was = absurd was
+write_interrupted gives start at bytes done before after (Err error) first gave was = wrote_no_more gives start at bytes done error before after first gave
+
+-- writes that were interrupted
+pub writes_interrupted : {H : Type 0} (gives : PlacedCall H) (start : H) (at : ℕ) (bytes : List ℕ) (done : ℕ) (before : H) (tries : ℕ) (after : H) → HasWritten gives start at bytes done before
+    → AreInterrupted (λ old answer new. gives old (at + done) (take (length bytes - done) (drop done bytes)) answer new) before tries after → HasWritten gives start at bytes done after
+writes_interrupted gives start at bytes done before _ _ first no_try = first
+writes_interrupted gives start at bytes done before _ after first (one_more {tries = tries} {answer = answer} {before = mid} earlier gave was) =
+    write_interrupted gives start at bytes done mid after answer (writes_interrupted gives start at bytes done before tries mid first earlier) gave was
 
 -- the buffer is full
 pub read_all : {H : Type 0} (gives : PlacedCall H) (start : H) (at : ℕ) (xs : List ℕ) (done : ℕ) (after : H) → length xs ≤ done → HasRead gives start at (take done xs) after → HasRead gives start at xs after
@@ -78,9 +92,20 @@ module _ (xs ys : List ℕ) (done : ℕ) where
         subst (λ n. HasRead gives start at (take n (put_mid done (length xs - done) xs ys)) after) (sym is)
         (subst (λ b. HasRead gives start at b after) (sym (front_grows count within fits)) (read_some first (at_place within gave)))
 
-    -- a read that failed
-    pub read_no_more : (now : ℕ) (error : Error) → now ≡ done → done ≤ length xs → HasRead gives start at (take done xs) before
-        → gives before (at + done) ys (Err error) after → HasRead gives start at (take now (put_mid done (length xs - done) xs ys)) after
-    read_no_more now error is within first gave =
-        subst (λ n. HasRead gives start at (take n (put_mid done (length xs - done) xs ys)) after) (sym is)
-        (subst (λ b. HasRead gives start at b after) (sym (front_stays within)) (read_failed first (at_place within gave)))
+-- a read that failed
+pub read_no_more : {H : Type 0} (gives : PlacedCall H) (start : H) (at : ℕ) (xs left : List ℕ) (done : ℕ) (error : Error) (before after : H) → done ≤ length xs → HasRead gives start at (take done xs) before
+    → gives before (at + done) left (Err error) after → HasRead gives start at (take done xs) after
+read_no_more gives start at xs left done error before after within first gave =
+    read_failed first (subst (λ n. gives before (at + n) left (Err error) after) (sym (length-take-le done xs within)) gave)
+
+read_interrupted : {H : Type 0} (gives : PlacedCall H) (start : H) (at : ℕ) (xs left : List ℕ) (done : ℕ) (before after : H) (answer : Result ℕ Error) → done ≤ length xs → HasRead gives start at (take done xs) before
+    → gives before (at + done) left answer after → WasInterrupted answer → HasRead gives start at (take done xs) after
+read_interrupted gives start at xs left done before after (Ok count) within first gave was = absurd was
+read_interrupted gives start at xs left done before after (Err error) within first gave was = read_no_more gives start at xs left done error before after within first gave
+
+-- reads that were interrupted
+pub reads_interrupted : {H : Type 0} (gives : PlacedCall H) (start : H) (at : ℕ) (xs : List ℕ) (done : ℕ) (before : H) (tries : ℕ) (after : H) → done ≤ length xs → HasRead gives start at (take done xs) before
+    → AreInterrupted (λ old answer new. (left : List ℕ) × gives old (at + done) left answer new) before tries after → HasRead gives start at (take done xs) after
+reads_interrupted gives start at xs done before _ _ within first no_try = first
+reads_interrupted gives start at xs done before _ after within first (one_more {tries = tries} {answer = answer} {before = mid} earlier gave was) =
+    read_interrupted gives start at xs gave.0 done mid after answer within (reads_interrupted gives start at xs done before tries mid within first earlier) gave.1 was

@@ -1,3 +1,4 @@
 pub mod Given
 pub mod Pieces
 pub mod ProgramWords
+pub mod Tries

@@ -18,7 +18,7 @@ mod whole;
 
 pub use cause::Cause;
 pub use command_line::program_words;
-pub use interruption::is_tried_again;
+pub use interruption::{MOST_TRIES, is_tried_again};
 pub use standard_error::{tell, tell_usage};
 pub use standard_numbers::{StandardNumbers, is_above_standard};
 pub use stdin_source::StdinSource;

@@ -11,7 +11,7 @@ use std::io::{self, Read, Stdin, Stdout, Write};
 /// A reader that always tells the bytes that are left, or never does, and whose each answer is a fact.
 pub trait SteadyRead: Read {
     /// Whether it tells the bytes that are left.
-    ghost tells: { Bool };
+    ghost tells: { Bool } = { false };
 
     /// What one read put into its buffer, and answered.
     ghost read_gives: { Self → List ℕ → Result ℕ Error → Self → Type 0 } = { λ _ _ _ _. ⊤ };
@@ -29,7 +29,7 @@ pub trait SteadyRead: Read {
 /// A writer that always tells the bytes that it holds, or never does, and whose each answer is a fact.
 pub trait SteadyWrite: Write {
     /// Whether it tells the bytes that it holds.
-    ghost tells: { Bool };
+    ghost tells: { Bool } = { false };
 
     /// What one write of some bytes answered.
     ghost write_gives: { Self → List ℕ → Result ℕ Error → Self → Type 0 } = { λ _ _ _ _. ⊤ };
@@ -53,8 +53,6 @@ pub trait SteadyWrite: Write {
 }
 
 impl SteadyRead for Stdin {
-    ghost tells = { false };
-
     ghost steady = { λ _. refl };
 
     fn read_once(&mut self, buf: &mut [u8]) -> io::Result<usize> {
@@ -73,8 +71,6 @@ impl SteadyRead for &[u8] {
 }
 
 impl SteadyWrite for Stdout {
-    ghost tells = { false };
-
     ghost steady = { λ _. refl };
 
     fn write_once(&mut self, bytes: &[u8]) -> io::Result<usize> {
@@ -87,8 +83,6 @@ impl SteadyWrite for Stdout {
 }
 
 impl SteadyWrite for File {
-    ghost tells = { false };
-
     ghost steady = { λ _. refl };
 
     fn write_once(&mut self, bytes: &[u8]) -> io::Result<usize> {

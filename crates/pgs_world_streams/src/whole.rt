@@ -1,28 +1,42 @@
-ghost use Rattle.pgs_world_streams.specs.Pieces.{HoldsPiece, PieceIs};
+ghost use Rattle.std.specs.Io.{WritesAtMost};
+ghost use Rattle.std.specs.Io.KnownBytes.{WriteAppends};
+ghost use Rattle.pgs_world_streams.specs.Pieces.{HoldsPiece, PieceIs, placeless};
+ghost use Rattle.pgs_world_streams.specs.Tries.{WriteIsTried};
 
 use crate::{SteadyWrite, is_tried_again};
 use std::io::{self, ErrorKind};
 
-/// Writes the whole piece and flushes it. After an error some front of it was written.
+#[cfg(test)]
+mod tests;
+
+/// One write, made again where it is interrupted.
+fn write_some<W: SteadyWrite>(writer: &mut W, bytes: &[u8]) -> io::Result<usize>
+    ensures bound { WritesAtMost result bytes.now }
+    ensures bytes { WriteAppends (W.contents writer.old) (W.contents writer.new) result bytes.now }
+    ensures tried { WriteIsTried (placeless W.write_gives) writer.old 0 bytes.now result writer.new }
+{
+    let mut tries = 0;
+    loop {
+        let answer = writer.write_once(bytes);
+        tries += 1;
+        if !is_tried_again(&answer, tries) {
+            return answer;
+        }
+    }
+}
+
+/// Writes the whole piece and flushes it. After an error some front of it was written. A write that is interrupted is made again,
+/// at most 999 times in a row.
 pub fn write_whole<W: SteadyWrite>(writer: &mut W, piece: &[u8]) -> io::Result<()>
     ensures holds { HoldsPiece W.contents writer.old piece.now result writer.new }
     ensures given { PieceIs W.write_gives W.flush_gives writer.old piece.now result writer.new }
 {
     let mut done = 0;
-    let mut interruptions = 0;
     while done < piece.len() {
-        match writer.write_once(&piece[done..]) {
+        match write_some(writer, &piece[done..]) {
             Ok(0) => return Err(io::Error::from(ErrorKind::WriteZero)),
-            Ok(count) => {
-                done += count;
-                interruptions = 0;
-            }
-            Err(error) => {
-                interruptions += 1;
-                if !is_tried_again(&error, interruptions) {
-                    return Err(error);
-                }
-            }
+            Ok(count) => done += count,
+            Err(error) => return Err(error),
         }
     }
     writer.flush_once()

@@ -76,8 +76,7 @@ fn node_shapes(alloc: Global) -> Result<List<List<Shape>>, Fail>
 {
     let t = a_shape(alloc)?;
     let u = b_shape(alloc)?;
-    let lists = two_lists(alloc, t, u)?;
-    Ok(lists)
+    Ok(two_lists(alloc, t, u)?)
 }
 
 fn edge_shapes(alloc: Global) -> List<List<Triple>>

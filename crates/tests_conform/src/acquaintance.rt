@@ -106,8 +106,7 @@ fn node_shapes(alloc: Global) -> Result<List<List<Shape>>, Fail>
 {
     let p = p_shape(alloc)?;
     let q = q_shape(alloc)?;
-    let lists = two_lists(alloc, p, q)?;
-    Ok(lists)
+    Ok(two_lists(alloc, p, q)?)
 }
 
 fn edge_shapes(alloc: Global) -> Result<List<List<Triple>>, Fail>
@@ -126,8 +125,7 @@ fn edge_shapes(alloc: Global) -> Result<List<List<Triple>>, Fail>
             target,
         },
     )?;
-    let lists = one_item(alloc, triples)?;
-    Ok(lists)
+    Ok(one_item(alloc, triples)?)
 }
 
 /// The types compiled.

@@ -68,20 +68,17 @@ pub fn random_spec(alloc: Global, dice: &mut Dice, levels: u32) -> Result<Spec<L
         0 => random_leaf(alloc, dice),
         1 => {
             let part = random_spec(alloc, dice, levels - 1)?;
-            let spec = maybe(alloc, part)?;
-            Ok(spec)
+            maybe(alloc, part)
         }
         2 => {
             let first = random_spec(alloc, dice, levels - 1)?;
             let second = random_spec(alloc, dice, levels - 1)?;
-            let spec = either(alloc, first, second)?;
-            Ok(spec)
+            either(alloc, first, second)
         }
         _ => {
             let first = random_spec(alloc, dice, levels - 1)?;
             let second = random_spec(alloc, dice, levels - 1)?;
-            let spec = both(alloc, first, second)?;
-            Ok(spec)
+            both(alloc, first, second)
         }
     }
 }

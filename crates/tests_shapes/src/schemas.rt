@@ -81,8 +81,7 @@ fn two_nodes(
 {
     let first = node(alloc, "a", 1, hidden, first)?;
     let second = node(alloc, "b", 2, hidden, second)?;
-    let nodes = vec![in alloc; first, second]?;
-    Ok(nodes)
+    Ok(vec![in alloc; first, second]?)
 }
 
 // Three node types of places 1 to 3.

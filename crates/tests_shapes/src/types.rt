@@ -78,16 +78,14 @@ fn person(alloc: Global) -> Result<Spec<Leaf>, Fail>
 {
     let person = label(alloc, "Person")?;
     let name = braces(alloc, "name", Kind::Text, false, false)?;
-    let spec = both(alloc, person, name)?;
-    Ok(spec)
+    both(alloc, person, name)
 }
 
 fn heir(alloc: Global) -> Result<Spec<Leaf>, Fail>
     ensures { IfOk result (λ spec. (bound : ℕ) → nat_lt 0 bound ≡ true → is_valid_spec bound spec ≡ true) }
 {
     let employee = label(alloc, "Employee")?;
-    let spec = both(alloc, named_type(0), employee)?;
-    Ok(spec)
+    both(alloc, named_type(0), employee)
 }
 
 fn employee(alloc: Global) -> Result<Spec<Leaf>, Fail>
@@ -95,8 +93,7 @@ fn employee(alloc: Global) -> Result<Spec<Leaf>, Fail>
 {
     let heir = heir(alloc)?;
     let salary = braces(alloc, "salary", Kind::Int, false, false)?;
-    let spec = both(alloc, heir, salary)?;
-    Ok(spec)
+    both(alloc, heir, salary)
 }
 
 // (a: Person {name STRING}), (b: a & Employee {salary INT}), (c), and which of them are members.
@@ -143,8 +140,7 @@ fn b_and_maybe_c(alloc: Global) -> Result<Spec<Leaf>, Fail>
     let c = label(alloc, "C")?;
     let c = maybe(alloc, c)?;
     let b = label(alloc, "B")?;
-    let spec = both(alloc, b, c)?;
-    Ok(spec)
+    both(alloc, b, c)
 }
 
 // (t: A | (B & C?)).

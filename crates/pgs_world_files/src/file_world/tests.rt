@@ -1,4 +1,4 @@
-ghost use Rattle.std.specs.Prelude.{false, refl};
+ghost use Rattle.std.specs.Prelude.{refl};
 
 use super::*;
 use crate::{Access, StoreFile, SystemFile, SystemOpening};
@@ -93,43 +93,24 @@ fn each_call_in_a_missing_folder_is_a_counted_fault(rt: HostRuntime) -> Result<(
     Ok(())
 }
 
-/// Keeps one byte of each write, and is interrupted or fails at some of them, counted from 1.
+/// Keeps one byte of each write, and is interrupted at the second, and fails at the fifth.
 #[derive(Drop)]
 struct Slow {
     kept: Vec<u8>,
     writes: u32,
-    /// The first write that is interrupted, and the last of those right behind it that are.
-    interrupted: (u32, u32),
-    /// The write that fails.
-    failing: u32,
-}
-
-impl Slow {
-    fn new(alloc: Global, interrupted: (u32, u32), failing: u32) -> Slow {
-        Slow {
-            kept: Vec::new(alloc),
-            writes: 0,
-            interrupted,
-            failing,
-        }
-    }
 }
 
 impl Write for Slow {
     fn write(&mut self, buf: &[u8]) -> io::Result<usize> {
         self.writes = self.writes.saturating_add(1);
-        if self.writes == self.failing {
-            return Err(io::Error::from(ErrorKind::BrokenPipe));
-        }
-        if self.interrupted.0 <= self.writes && self.writes <= self.interrupted.1 {
-            return Err(io::Error::from(ErrorKind::Interrupted));
-        }
-        match buf.first() {
-            Some(byte) => {
+        match (self.writes, buf.first()) {
+            (2, _) => Err(io::Error::from(ErrorKind::Interrupted)),
+            (5, _) => Err(io::Error::from(ErrorKind::BrokenPipe)),
+            (_, Some(byte)) => {
                 self.kept.push(*byte)?;
                 Ok(1)
             }
-            None => Ok(0),
+            _ => Ok(0),
         }
     }
 
@@ -139,8 +120,6 @@ impl Write for Slow {
 }
 
 impl SteadyWrite for Slow {
-    ghost tells = { false };
-
     ghost steady = { λ _. refl };
 
     fn write_once(&mut self, bytes: &[u8]) -> io::Result<usize> {
@@ -154,7 +133,10 @@ impl SteadyWrite for Slow {
 
 #[test]
 fn pieces_are_put_whole_and_faults_counted(rt: HostRuntime) -> Result<(), Fail> {
-    let slow = Slow::new(rt.alloc(), (2, 2), 5);
+    let slow = Slow {
+        kept: Vec::new(rt.alloc()),
+        writes: 0,
+    };
     let areas: AreaFiles<System<'_>> = AreaFiles::absent();
     let mut world = FileWorld::new(areas, slow, Seed::Fixed);
     let answers = [world.put(b"ab"), world.put(b"cd"), world.put(b"e")];
@@ -165,20 +147,5 @@ fn pieces_are_put_whole_and_faults_counted(rt: HostRuntime) -> Result<(), Fail> 
         (answers, counted, kept.as_slice()),
         (want, (2, 1), b"abce".as_slice())
     );
-    Ok(())
-}
-
-#[test]
-fn a_put_that_is_interrupted_too_often_in_a_row_is_a_fault(rt: HostRuntime) -> Result<(), Fail> {
-    let mut seen = [(Ok(()), 0); 2];
-    let lasts = [1_000, 1_001];
-    for (place, last) in seen.iter_mut().zip(lasts) {
-        let slow = Slow::new(rt.alloc(), (2, last), 0);
-        let areas: AreaFiles<System<'_>> = AreaFiles::absent();
-        let mut world = FileWorld::new(areas, slow, Seed::Fixed);
-        let answer = world.put(b"ab");
-        *place = (answer, world.into_writer().writes);
-    }
-    assert_eq!(rt; seen, [(Ok(()), 1_001), (Err(PutFault), 1_001)]);
     Ok(())
 }

@@ -1,4 +1,4 @@
-ghost use Rattle.std.specs.Prelude.{false, refl};
+ghost use Rattle.std.specs.Prelude.{refl};
 
 use super::*;
 use std::io::{self, Read};
@@ -25,8 +25,6 @@ impl Read for Flaky {
 }
 
 impl SteadyRead for Flaky {
-    ghost tells = { false };
-
     ghost steady = { λ _. refl };
 
     fn read_once(&mut self, buf: &mut [u8]) -> io::Result<usize> {

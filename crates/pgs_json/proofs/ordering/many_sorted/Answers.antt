@@ -26,5 +26,5 @@ pub returns : goal.returns
 returns c =
     let at = c.loop-name in
     let none : into_iter_items at.name-iterator ≡ [] = nothing_left _ (sym at.invariant.1 ∙ c.in-None.ensures.steps.0) in
-    let collected : c.in_ok-found.found.items ≡ at.found.entries = search rules in
+    let collected : c.in_ok-collect.field-0.items ≡ at.found.entries = search rules in
     ap members_view collected ∙ sym (ap (λ ms. put_all (members_view ms) (members_view at.found.entries)) none) ∙ at.invariant.0

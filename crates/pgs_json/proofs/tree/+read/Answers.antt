@@ -192,4 +192,4 @@ read_members-returns-in_err-found-clause-unfit t c unfit = object_refused (membe
 
 pub read_members-returns-clause-ok : goal.read_members-returns-clause-ok
 read_members-returns-clause-ok t c =
-    object_read (members (value c.args.depth) (length c.args.reader.now) c.args.reader.now) _ _ c.in_ok-found.ensures.ok ∙ ap (λ ms. Some (ms, c.read_pairs.new.reader)) (sym c.in_ok-found-2.ensures)
+    object_read (members (value c.args.depth) (length c.args.reader.now) c.args.reader.now) _ _ c.in_ok-found.ensures.ok ∙ ap (λ ms. Some (ms, c.read_pairs.new.reader)) (sym c.in_ok-in_order.ensures)

@@ -12,15 +12,15 @@ pub loop-edge-preserved : goal.loop-edge-preserved
 loop-edge-preserved g c =
     let known = c.loop-edge.invariant in
     let below = c.if-not-is_below.ensures.lower refl in
-    let within = c.limit-limit.ensures in
+    let within = c.facts.ensures in
     let begun = c.loop-edge.steps - c.args.steps.now in
     let spent = c.is_below.new.steps - c.args.steps.now in
     let next : spent ≡ suc begun = omega (arith, known.never_back, c.is_below.ensures.tick) in
     let twice : 2 ^ spent ≡ 2 ^ begun * 2 = doubled begun spent next in
-    let whole : c.min.result ≡ c.loop-edge.step - 1 = omega (arith, c.min.ensures, c.saturating_sub.ensures, below.in_range, within) in
+    let whole : c.saturating_add-place.result ≡ c.loop-edge.low + (c.loop-edge.step - 1) = omega (arith, c.saturating_add-place.ensures, below.in_range, within) in
     let room : c.loop-edge.low + 1 < 2 ^ 64 = omega (arith, below.in_range, within) in
     let before : 2 ^ begun ≤ c.loop-edge.step = known.doubled room in
-    let far : 2 ^ spent + c.args.from ≤ c.loop-edge.low + c.min.result + 1 + 1 = omega (arith, twice, whole, before, known.far, known.some) in
+    let far : 2 ^ spent + c.args.from ≤ c.saturating_add-place.result + 1 + 1 = omega (arith, twice, whole, before, known.far, known.some) in
     record {
       in_range = omega (arith, below.in_range);
       lower = below.all;

@@ -15,4 +15,4 @@ invariant-loop-edge g l = record {
 }
 
 abbrev pub decreases-loop-edge : goal.decreases-loop-edge
-decreases-loop-edge g l = l.limit - l.low
+decreases-loop-edge g l = length l.list - l.low

@@ -1,4 +1,4 @@
-use Rattle.std.proofs.Common.{◌+◌, refl, sym, arith}
+use Rattle.std.proofs.Common.{refl, sym, arith}
 use Rattle.pgs_overlay.proofs.Searching.{from_at, above_gap}
 use Rattle.pgs_overlay.proofs.search.without_gap.Goals as goal
 
@@ -10,7 +10,7 @@ returns-then-edge-found-clause-upper g c =
 pub returns-then-is_below-clause-upper : goal.returns-then-is_below-clause-upper
 returns-then-is_below-clause-upper g c =
     let below = c.if-is_below.ensures.lower refl in
-    let within = c.limit.ensures in
+    let within = c.facts.ensures in
     above_gap _ c.at.ensures.ascending c.args.edge c.args.from c.in-Some.found
-    (sym c.in-Some.ensures.value) (c.args.from + c.min.result) (omega arith)
-    (omega (arith, below.in_range, within, c.min.ensures, c.saturating_sub.ensures, c.if-edge-found.false))
+    (sym c.in-Some.ensures.value) c.saturating_add-place.result (omega (arith, c.saturating_add-place.ensures))
+    (omega (arith, below.in_range, within, c.saturating_add-place.ensures, c.if-edge-found.false))

@@ -27,7 +27,7 @@ returns-clause-schema c =
 pub returns-clause-valid : goal.returns-clause-valid
 returns-clause-valid c =
     let valid = c.in_ok-resolved.ensures.valid _ c.in_ok-script.ensures.script in
-    IfOk-weaker c.compiled.result (λ compiled. compiled ≡ c.in_ok-resolved.resolved) (λ compiled. is_valid compiled ≡ true) (λ compiled kept. ap is_valid kept ∙ valid) c.compiled.ensures.kept
+    IfOk-weaker c.compiled_of.result (λ compiled. compiled ≡ c.in_ok-resolved.resolved) (λ compiled. is_valid compiled ≡ true) (λ compiled kept. ap is_valid kept ∙ valid) c.compiled_of.ensures.kept
 
 pub returns-clause-refused : goal.returns-clause-refused
 returns-clause-refused c =

@@ -19,7 +19,7 @@ returns-clause-sound g c =
     let few : length c.args.txn.now.ops ≤ c.args.limits.now.ops = omega arith in
     let within = c.if-count-limits.false in
     let small : element_count (graph_now m w) ≤ c.args.limits.now.elements = omega arith in
-    ap (λ delta. is_sound m delta) c.in_ok-delta.ensures
+    ap (λ delta. is_sound m delta) c.in_ok-into_delta.ensures
     ∙ sound_delta m w stands
     (staged_graph c.args.limits.now m (graph_now m w) c.args.txn.now c.facts.ensures
     (staged_is c.args.limits.now m (graph_now m w) c.args.txn.now few (ap (after_ops m 1) (sym c.as_slice.ensures) ∙ c.in_ok-working.ensures.done) small) stands.base)

@@ -1,13 +1,12 @@
-use Rattle.std.proofs.Common.{◌+◌, ◌-◌, ◌*◌, ◌<◌, ◌≤◌, length, take}
+use Rattle.std.proofs.Common.{◌-◌, ◌≤◌, length, take}
 use Rattle.pgs_world_streams.specs.Given.{HasRead}
 use Rattle.pgs_world_files.proofs.area_file.read_within.Given as goal
 
 abbrev pub invariant-loop-done : goal.invariant-loop-done
 invariant-loop-done g l = record {
   within : l.done ≤ length l.buf;
-  few : l.interruptions < 1000;
   given : HasRead g.H.Handle.read_gives l.fn.handle l.at (take l.done l.buf) l.handle;
 }
 
 abbrev pub decreases-loop-done : goal.decreases-loop-done
-decreases-loop-done g l = (length l.buf - l.done) * 1000 + (1000 - l.interruptions)
+decreases-loop-done g l = length l.buf - l.done

@@ -1,13 +1,12 @@
-use Rattle.std.proofs.Common.{◌+◌, ◌-◌, ◌*◌, ◌<◌, ◌≤◌, length}
+use Rattle.std.proofs.Common.{◌-◌, ◌≤◌, length}
 use Rattle.pgs_world_streams.specs.Given.{HasWritten}
 use Rattle.pgs_world_files.proofs.area_file.write_within.Given as goal
 
 abbrev pub invariant-loop-done : goal.invariant-loop-done
 invariant-loop-done g l = record {
   within : l.done ≤ length l.bytes;
-  few : l.interruptions < 1000;
   written : HasWritten g.H.Handle.write_gives l.fn.handle l.at l.fn.bytes l.done l.handle;
 }
 
 abbrev pub decreases-loop-done : goal.decreases-loop-done
-decreases-loop-done g l = (length l.bytes - l.done) * 1000 + (1000 - l.interruptions)
+decreases-loop-done g l = length l.bytes - l.done

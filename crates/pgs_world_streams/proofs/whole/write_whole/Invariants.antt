@@ -1,4 +1,4 @@
-use Rattle.std.proofs.Common.{◌+◌, ◌-◌, ◌*◌, ◌<◌, ◌≤◌, length, take}
+use Rattle.std.proofs.Common.{◌-◌, ◌≤◌, length, take}
 use Rattle.std.specs.Io.KnownBytes.{Appends}
 use Rattle.pgs_world_streams.specs.Given.{HasWritten}
 use Rattle.pgs_world_streams.specs.Pieces.{placeless}
@@ -7,10 +7,9 @@ use Rattle.pgs_world_streams.proofs.whole.write_whole.Given as goal
 abbrev pub invariant-loop-done : goal.invariant-loop-done
 invariant-loop-done g l = record {
   within : l.done ≤ length l.piece;
-  few : l.interruptions < 1000;
   known : Appends (g.W.Write.contents l.fn.writer) (g.W.Write.contents l.writer) (take l.done l.fn.piece);
   written : HasWritten (placeless g.W.SteadyWrite.write_gives) l.fn.writer 0 l.fn.piece l.done l.writer;
 }
 
 abbrev pub decreases-loop-done : goal.decreases-loop-done
-decreases-loop-done g l = (length l.piece - l.done) * 1000 + (1000 - l.interruptions)
+decreases-loop-done g l = length l.piece - l.done

@@ -10,7 +10,7 @@ loop-tuple-preserved g c = record {
       holders_step c.args.self.now.number owner c.args.elem (with_holders c.args.self.now.number owner c.args.elem c.args.found c.args.tuples.now) c.args.tuples.now
       c.loop-tuple.tuple-index c.tuple-item.result c.tuple-item.is c.loop-tuple-test.true c.loop-tuple.found c.in_ok-least.least
       (c.in_ok-least.ensures ∙ ap (with_holder c.args.self.now.number c.args.elem c.loop-tuple.found c.tuple-item.result)
-      (one_owner _ c.unchanged-owner.result (owner c.tuple-item.result) c.unchanged-owner.ensures.owner (owns c.tuple-item.result)))
+      (one_owner _ c.unchanged_owner-owner.result (owner c.tuple-item.result) c.unchanged_owner-owner.ensures.owner (owns c.tuple-item.result)))
       (c.loop-tuple.invariant.so_far owner owns);
   no_step_back = omega arith;
   cost = omega arith;

@@ -3,4 +3,4 @@ use Rattle.pgs_follow.proofs.Standing.{rest_told}
 use Rattle.pgs_follow.proofs.follower.Follower.rest.Goals as goal
 
 pub returns-clause-stands : goal.returns-clause-stands
-returns-clause-stands c = λ bytes stands. c.unfinished.ensures ∙ rest_told c.args.self.now bytes stands
+returns-clause-stands c = λ bytes stands. c.unfinished_len.ensures ∙ rest_told c.args.self.now bytes stands

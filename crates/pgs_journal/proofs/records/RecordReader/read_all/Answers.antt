@@ -64,8 +64,8 @@ returns-clause-decided g c =
     let self = c.args.self.now in
     let at = c.loop-gate.at in
     let payloads = c.loop-gate.payloads in
-    let follows : c.numbered.result ≡ next_after self.format payloads.items =
-    c.numbered.ensures ∙ ap (λ n. record_number self.format (n + 1)) (let same : c.len-2.result ≡ length payloads.items = omega (arith, c.len-2.ensures, payloads.ok.0) in same) in
+    let follows : c.record_number.result ≡ next_after self.format payloads.items =
+    c.record_number.ensures ∙ ap (λ n. record_number self.format (n + 1)) (let same : c.len-2.result ≡ length payloads.items = omega (arith, c.len-2.ensures, payloads.ok.0) in same) in
     subst (λ next. Decide view self.area self.len 0 (IsStateOf (Store self.epoch at next c.from_vec.result))) (sym follows)
     (subst (λ (ps : List (List ℕ)). Decide view self.area self.len 0 (IsStateOf (Store self.epoch at (next_after self.format payloads.items) ps))) (sym c.from_vec.ensures)
     (store_at view self.area self.len self.format self.epoch at payloads.items c.requires.epoch c.requires.limit c.loop-gate.gate c.loop-gate.invariant.at

@@ -84,7 +84,7 @@ conj-returns-in_err-units t c =
 
 pub conj-returns : goal.conj-returns
 conj-returns t c = conj_of_all (inner_at c.args.further) c.args.self.now (c.in_ok-first.first, c.unit.new.self) c.in_ok-first.ensures (c.in_ok-units.units, c.units.new.self) c.in_ok-units.ensures
-    ∙ ap (λ spec. Some (spec, c.units.new.self)) (ap together (sym c.into_vec.ensures.items) ∙ sym c.joined.ensures)
+    ∙ ap (λ spec. Some (spec, c.units.new.self)) (ap together (sym c.into_vec.ensures.items) ∙ sym c.join_of.ensures)
 
 pub level-returns-in_err-first : goal.level-returns-in_err-first
 level-returns-in_err-first t c =

@@ -1,7 +1,6 @@
-use Rattle.std.proofs.Common.{refl, ap, length, rules}
 use Rattle.pgs_world_files.specs.Handles.{handle_in}
-use Rattle.pgs_world_files.proofs.Over.{length_stays, length_told}
-use Rattle.pgs_world_files.proofs.Worlds.{Called, passes_called, quiet_called, beside_called, length_called}
+use Rattle.pgs_world_files.proofs.Over.{length_stays}
+use Rattle.pgs_world_files.proofs.Worlds.{quiet_called, length_called}
 use Rattle.pgs_world_files.proofs.file_world.FileWorldWorld.len.Goals as goal
 
 pub returns-clause-quiet : goal.returns-clause-quiet

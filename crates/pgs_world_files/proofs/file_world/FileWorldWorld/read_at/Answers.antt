@@ -1,7 +1,7 @@
-use Rattle.std.proofs.Common.{refl, ap, length, rules}
+use Rattle.std.proofs.Common.{length, rules}
 use Rattle.pgs_world_files.specs.Handles.{handle_in}
-use Rattle.pgs_world_files.proofs.Over.{read_stays, read_told}
-use Rattle.pgs_world_files.proofs.Worlds.{Called, passes_called, quiet_called, beside_called, read_called}
+use Rattle.pgs_world_files.proofs.Over.{read_stays}
+use Rattle.pgs_world_files.proofs.Worlds.{quiet_called, read_called}
 use Rattle.pgs_world_files.proofs.file_world.FileWorldWorld.read_at.Goals as goal
 
 pub returns-clause-quiet : goal.returns-clause-quiet

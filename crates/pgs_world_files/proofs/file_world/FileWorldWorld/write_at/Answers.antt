@@ -1,7 +1,4 @@
-use Rattle.std.proofs.Common.{refl, ap, length, rules}
-use Rattle.pgs_world_files.specs.Handles.{handle_in}
-use Rattle.pgs_world_files.proofs.Over.{write_told}
-use Rattle.pgs_world_files.proofs.Worlds.{Called, passes_called, quiet_called, beside_called, write_called}
+use Rattle.pgs_world_files.proofs.Worlds.{passes_called, beside_called, write_called}
 use Rattle.pgs_world_files.proofs.file_world.FileWorldWorld.write_at.Goals as goal
 
 pub returns-clause-passes : goal.returns-clause-passes
