@@ -5,9 +5,9 @@ use Rattle.pgs_journal.specs.declared.journal.Journal.{Journal}
 use Rattle.pgs_journal.specs.Format.{Holds}
 use Rattle.pgs_schema.specs.State.{SchemaState}
 use Rattle.pgs_store.specs.State.{GuardState}
-use Rattle.pgs_store.specs.Stored.{StandsOn, evolved, longer}
+use Rattle.pgs_store.specs.Stored.{StandsOn, IsEvolvedIn, evolved, longer}
 use Rattle.pgs_world.specs.World.{part}
-use Rattle.pgs_store.proofs.Applied.{evolving_stops, may_append_schema, same_journal, schema_leads, small_frame, stands_after}
+use Rattle.pgs_store.proofs.Applied.{in_force, may_append_schema, same_journal, schema_leads, small_frame, stands_after, stops_after}
 use Rattle.pgs_store.proofs.evolving.journal_schema.Goals as goal
 
 pub returns-in-Ok-clause-answer : goal.returns-in-Ok-clause-answer
@@ -44,13 +44,20 @@ returns-in-Ok-clause-answer g c =
 
 pub returns-in-Ok-clause-stops : goal.returns-in-Ok-clause-stops
 returns-in-Ok-clause-stops g c = λ honest told.
-    let payload = payload_of (SchemaCommand c.args.schema.text) in
+    let text = c.args.schema.text in
+    let payload = payload_of (SchemaCommand text) in
     let made = c.in_ok-renewal.ensures in
+    let frame = c.as_slice.ensures.value ∙ made.frame in
     let vec = c.in_ok-renewal.frame in
+    let guard = c.args.guard.now in
     let journal = c.args.journal.now in
-    evolving_stops c.args.guard.now journal c.args.schema.text c.args.schema.resolved c.requires.numbered made.decoded made.indexed.guarded made.schema
-    (small_frame journal.end journal.next vec.items payload vec.len vec.cap made.frame vec.ok.0 vec.ok.1 vec.small c.requires.bounded.end) c.requires.stands
-    honest told (c.append.ensures.stops payload (c.as_slice.ensures.value ∙ made.frame) told)
+    let resolved = c.args.schema.resolved in
+    let small = small_frame journal.end journal.next vec.items payload vec.len vec.cap made.frame vec.ok.0 vec.ok.1 vec.small c.requires.bounded.end in
+    stops_after guard (evolved guard text resolved) journal (SchemaCommand text) (may_append_schema journal payload text c.requires.numbered made.decoded)
+    (schema_leads guard payload text resolved made.indexed.guarded made.schema made.decoded) small (IsEvolvedIn guard journal text)
+    (g.W.World.view c.args.world.now) (g.W.World.view c.append.new.world)
+    (λ triple. in_force guard journal text resolved triple (made.schema, made.indexed.guarded.conforms)) c.requires.stands
+    honest told (c.append.ensures.stops payload frame told)
 
 pub returns-in-Err-clause-answer : goal.returns-in-Err-clause-answer
 returns-in-Err-clause-answer g c =
@@ -59,10 +66,17 @@ returns-in-Err-clause-answer g c =
 
 pub returns-in-Err-clause-stops : goal.returns-in-Err-clause-stops
 returns-in-Err-clause-stops g c = λ honest told.
-    let payload = payload_of (SchemaCommand c.args.schema.text) in
+    let text = c.args.schema.text in
+    let payload = payload_of (SchemaCommand text) in
     let made = c.in_ok-renewal.ensures in
+    let frame = c.as_slice.ensures.value ∙ made.frame in
     let vec = c.in_ok-renewal.frame in
+    let guard = c.args.guard.now in
     let journal = c.args.journal.now in
-    evolving_stops c.args.guard.now journal c.args.schema.text c.args.schema.resolved c.requires.numbered made.decoded made.indexed.guarded made.schema
-    (small_frame journal.end journal.next vec.items payload vec.len vec.cap made.frame vec.ok.0 vec.ok.1 vec.small c.requires.bounded.end) c.requires.stands
-    honest told (c.append.ensures.stops payload (c.as_slice.ensures.value ∙ made.frame) told)
+    let resolved = c.args.schema.resolved in
+    let small = small_frame journal.end journal.next vec.items payload vec.len vec.cap made.frame vec.ok.0 vec.ok.1 vec.small c.requires.bounded.end in
+    stops_after guard (evolved guard text resolved) journal (SchemaCommand text) (may_append_schema journal payload text c.requires.numbered made.decoded)
+    (schema_leads guard payload text resolved made.indexed.guarded made.schema made.decoded) small (IsEvolvedIn guard journal text)
+    (g.W.World.view c.args.world.now) (g.W.World.view c.append.new.world)
+    (λ triple. in_force guard journal text resolved triple (made.schema, made.indexed.guarded.conforms)) c.requires.stands
+    honest told (c.append.ensures.stops payload frame told)
