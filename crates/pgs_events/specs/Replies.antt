@@ -1,6 +1,5 @@
 -- The line of a reply, and whether it is a refusal. It begins with the number of the event's line.
 use Rattle.std.specs.Prelude.{ℕ, Bool, true, false, List, [], ◌∷◌, ◌++◌, Option, Some, None, codes, decimal}
-use Rattle.std.specs.Option.{option_map_or}
 use Rattle.pgs_base.specs.declared.element.Elem.{Elem}
 use Rattle.pgs_base.specs.declared.element.Elem.TheVariants as elems
 use Rattle.pgs_base_text.specs.Text.{elem_text}
@@ -10,7 +9,7 @@ use Rattle.pgs_answer.specs.Lines.{absent_line, committed_line, refused_line, tx
 use Rattle.pgs_answer.specs.Refusals.{rejection_text}
 use Rattle.pgs_run_base.specs.Session.{standard}
 use Rattle.pgs_sessions_machine.specs.declared.event.Content.{Content}
-use Rattle.pgs_sessions_machine.specs.declared.event.Content.TheVariants.{Absent, Node, Edge}
+use Rattle.pgs_sessions_machine.specs.declared.event.Content.TheVariants.{Node, Edge}
 use Rattle.pgs_sessions_machine.specs.declared.event.Event.{Event}
 use Rattle.pgs_sessions_machine.specs.declared.event.Event.TheVariants.{Begin, Read, Stage, Commit, Abort}
 use Rattle.pgs_sessions_machine.specs.declared.event.Reply.{Reply}

@@ -18,7 +18,7 @@ use pgs_answer::{committed_line, feed_line, refused_line, rejection_text};
 use pgs_base::{Bytes, Limits, Memory, TEXT_LIMIT};
 use pgs_feed::FeedList;
 use pgs_graph::Txn;
-use pgs_run_base::{Status, txn_of};
+use pgs_run_base::{Status, TextFault, txn_of};
 use pgs_run_lines::{LineTaker, Stop, is_blank, put_piece};
 use pgs_store::Store;
 use pgs_violation::Rejection;
@@ -153,9 +153,9 @@ impl<F: Feed> Applying<F> {
             return Ok(());
         }
         match txn_of(alloc, line) {
-            Ok(Ok(txn)) => self.take_txn(alloc, world, &txn),
-            Ok(Err(text)) => self.refuse(alloc, world, text.as_slice()),
-            Err(_) => Err(Stop::Memory),
+            Ok(txn) => self.take_txn(alloc, world, &txn),
+            Err(TextFault::Refused(text)) => self.refuse(alloc, world, text.as_slice()),
+            Err(TextFault::Memory) => Err(Stop::Memory),
         }
     }
 

@@ -13,7 +13,6 @@ ghost use Rattle.pgs_run_base.specs.Areas.{areas_of};
 ghost use Rattle.pgs_run_base.specs.Ending.{status_at as status_at_stop};
 ghost use Rattle.pgs_run_base.specs.Images.{KeepsArea, KeepsImages};
 ghost use Rattle.pgs_run_base.specs.Run.{IsRead, EndsAs, HasCommandCause, TakesWithin};
-ghost use Rattle.pgs_run_base.specs.Session.{standard};
 ghost use Rattle.pgs_run_saved.specs.Opening.{IsRefusal};
 ghost use Rattle.pgs_run_saved.specs.Refusing.{SavedStore};
 ghost use Rattle.pgs_run_apply.specs.Ending.{EndsRun, is_done, last_piece};

@@ -7,5 +7,6 @@ pub mod ReadLines
 pub mod Replied
 pub mod SameFronts
 pub mod Separating
+pub mod Standard
 pub mod WholeInput
 pub mod WholeText

@@ -6,7 +6,7 @@ pub mod Ending
 pub mod ExitStatus
 pub mod Images
 pub mod Input
-pub mod Opening
 pub mod Part
 pub mod Run
 pub mod Session
+pub mod TextFaults

@@ -8,16 +8,16 @@
 
 mod collecting;
 mod lines;
-mod open_fault;
 mod schema_answer;
 mod schema_part;
 mod status;
+mod text_fault;
 mod txn_answer;
 
 pub use collecting::{Collected, Collecting, text_of};
 pub use lines::is_separator;
-pub use open_fault::OpenFault;
 pub use schema_answer::{refusal_of, schema_of};
 pub use schema_part::SchemaPart;
 pub use status::{Status, status_at};
+pub use text_fault::TextFault;
 pub use txn_answer::txn_of;

@@ -2,7 +2,9 @@ ghost use Rattle.std.specs.Prelude.{◌≡◌, Ok, Err, IfOk, IfErr};
 ghost use Rattle.pgs_resolve.specs.SchemaOf.{Answer};
 ghost use Rattle.pgs_schema.specs.Told.{answer_of, IsRefused};
 ghost use Rattle.pgs_run_base.specs.Answers.{schema_or_text, schema_answer};
+ghost use Rattle.pgs_run_base.specs.TextFaults.{IsFaultOf};
 
+use crate::TextFault;
 use pgs_answer::{
     bad_key_text, cycle_text, duplicate_text, kind_text, lex_text, no_graph_type_text, syntax_text,
     too_long_text, too_wide_text, unknown_text,
@@ -39,18 +41,18 @@ pub fn refusal_of(alloc: Global, unread: SchemaUnread) -> Result<Bytes, Memory>
     }
 }
 
-/// The schema of a text, or the text of its refusal.
+/// The schema of a text, or the text of its refusal. `Memory` where there was none.
 #[tactic(auto, unfolding(crate::specs::Answers::schema_answer))]
-pub fn schema_of(alloc: Global, text: &[u8]) -> Result<Result<Schema, Bytes>, Memory>
-    ensures schema { IfOk result (λ answer. IfOk answer (λ schema. schema_answer text.now ≡ Ok schema.resolved)) }
-    ensures text { IfOk result (λ answer. IfOk answer (λ schema. schema.text ≡ text.now)) }
-    ensures refused { IfOk result (λ answer. IfErr answer (λ refusal. schema_answer text.now ≡ Err refusal)) }
+pub fn schema_of(alloc: Global, text: &[u8]) -> Result<Schema, TextFault>
+    ensures schema { IfOk result (λ schema. schema_answer text.now ≡ Ok schema.resolved) }
+    ensures text { IfOk result (λ schema. schema.text ≡ text.now) }
+    ensures refused { IfErr result (IsFaultOf (schema_answer text.now)) }
 {
     match Schema::read(alloc, text) {
-        Ok(schema) => Ok(Ok(schema)),
+        Ok(schema) => Ok(schema),
         Err(unread) => {
             let refusal = refusal_of(alloc, unread)?;
-            Ok(Err(refusal))
+            Err(TextFault::Refused(refusal))
         }
     }
 }

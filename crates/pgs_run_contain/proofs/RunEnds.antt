@@ -15,7 +15,7 @@ use Rattle.pgs_run_lines.specs.May.{MayCome}
 use Rattle.pgs_run_lines.specs.Pieces.{Shown, ShowsAll, ShowsFirst, ShowsTorn, shown_of}
 use Rattle.pgs_run_lines.specs.Puts.{StopsPutting}
 use Rattle.pgs_run_lines.specs.Run as over
-use Rattle.pgs_run_lines.specs.Run.{EndsBy, EndsAtLine, EndsAtEnd, EndsAtCut}
+use Rattle.pgs_run_lines.specs.Run.{EndsBy}
 use Rattle.pgs_run_lines.proofs.Causes.{cause_on, world_cause, world_same}
 use Rattle.pgs_run_lines.proofs.RunEnds.{taken_length}
 use Rattle.pgs_run_lines.proofs.Showing.{shows_on, first_on, torn_on}

@@ -9,12 +9,12 @@ ghost use Rattle.pgs_run_contain.specs.Comparing.{compare_teller, first_phase};
 ghost use Rattle.pgs_run_contain.specs.Told.{told_first, told_second, second_refused};
 
 use crate::ending::Ending;
-use crate::judging::judged;
 use crate::phase::{Phase, judge_first};
+use crate::reading::compiled_of;
 use pgs_answer::second_refused_line;
 use pgs_base::{Bytes, Memory};
 use pgs_conform::Compiled;
-use pgs_run_base::SchemaPart;
+use pgs_run_base::{SchemaPart, TextFault};
 use pgs_run_lines::{LineTeller, Stop, put_any, put_piece};
 use pgs_world::World;
 use std::alloc::Global;
@@ -63,10 +63,10 @@ fn end_second<W: World>(alloc: Global, world: &mut W, first: Compiled, text: &[u
     ensures areas { KeepsAreas (W.view world.old) (W.view world.new) }
     ensures last { is_of_world result ≡ true → W.failed world.new }
 {
-    match judged(alloc, text) {
-        Ok(Ok(second)) => Stop::Ended(Ending::Fit { first, second }),
-        Ok(Err(refusal)) => refuse_second(alloc, world, refusal.as_slice()),
-        Err(_) => Stop::Memory,
+    match compiled_of(alloc, text) {
+        Ok(second) => Stop::Ended(Ending::Fit { first, second }),
+        Err(TextFault::Refused(refusal)) => refuse_second(alloc, world, refusal.as_slice()),
+        Err(TextFault::Memory) => Stop::Memory,
     }
 }
 

@@ -10,8 +10,8 @@
 mod answer;
 mod comparing;
 mod ending;
-mod judging;
 mod phase;
+mod reading;
 mod run;
 mod types;
 

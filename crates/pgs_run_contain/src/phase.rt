@@ -3,11 +3,11 @@ ghost use Rattle.pgs_run_base.specs.Answers.{schema_answer};
 ghost use Rattle.pgs_run_lines.specs.Pieces.{pieces_in};
 ghost use Rattle.pgs_run_contain.specs.Comparing.{after_first, pieces_of_first};
 
-use crate::judging::judged;
+use crate::reading::compiled_of;
 use pgs_answer::schema_refused_line;
 use pgs_base::{Bytes, Memory};
 use pgs_conform::Compiled;
-use pgs_run_base::SchemaPart;
+use pgs_run_base::{SchemaPart, TextFault};
 use std::alloc::Global;
 
 /// Whether the first text goes on, the second one does, or the first schema was refused.
@@ -23,11 +23,12 @@ pub(crate) fn judge_first(alloc: Global, text: &[u8]) -> Result<(Phase, Option<B
     ensures phase { IfOk result (λ next. next.0 ≡ after_first (schema_answer text.now)) }
     ensures piece { IfOk result (λ next. pieces_in next.1 ≡ pieces_of_first (schema_answer text.now)) }
 {
-    match judged(alloc, text)? {
+    match compiled_of(alloc, text) {
         Ok(first) => Ok((Phase::Second(first, SchemaPart::new(alloc)), None)),
-        Err(text) => {
+        Err(TextFault::Refused(text)) => {
             let piece = schema_refused_line(alloc, text.as_slice())?;
             Ok((Phase::Refused, Some(piece)))
         }
+        Err(TextFault::Memory) => Err(Memory),
     }
 }

@@ -54,9 +54,6 @@ pub never_unread : (text : List ℕ) (unread : SchemaUnread) (fault : SchemaFaul
 never_unread text unread fault is same refused =
     never_refused text fault same (subst (λ (u : SchemaUnread). IsRefused (schema_of text) u) is refused)
 
-pub standard_is : (limits : Limits) → limits.ops ≡ 10000 → limits.elements ≡ 1000000 → limits ≡ standard
-standard_is limits ops elements = ap₂ (λ o e. record { ops = o; elements = e }) ops elements
-
 own_status : (all : Bool) → cond all Accepted Refused ≡ InputTooLong → ⊥
 own_status true cut = cc
 own_status false cut = cc

@@ -12,7 +12,7 @@ use pgs_gen::generate;
 use pgs_graph::Txn;
 use pgs_store::{Guard, GuardRefusal};
 use std::alloc::Global;
-use std::sync::ledger::{Blank, Ledger};
+use std::sync::ledger::Ledger;
 
 // Whether the guard takes a transaction. After `Memory` it is as it was.
 fn takes<L: Ledger>(guard: &mut Guard, txn: &Txn, steps: &mut Steps<L>) -> Result<bool, Memory>

@@ -1,5 +1,5 @@
 -- What the end of a command whose store isn't opened says of the calls outside.
-use Rattle.std.proofs.Common.{◌≡◌, ◌⊎◌, inl, inr, true, false, true≢false, refl, sym, ap, subst, ◌∙◌, Err}
+use Rattle.std.proofs.Common.{◌≡◌, inl, inr, true, false, true≢false, refl, sym, ap, subst, ◌∙◌, Err}
 use Rattle.pgs_run_base.specs.Calls.{fails_read, fails_world}
 use Rattle.pgs_run_base.specs.declared.status.Status.{Status}
 use Rattle.pgs_run_base.specs.declared.status.Status.TheVariants.{Accepted, Refused as Rejected, BadWords, SchemaRefused, StoreRefused, DiskFault as AreaFailed, ReadFault, PutFault, Memory as Wanting, InputTooLong}

@@ -1,5 +1,5 @@
 -- What the opening answers, by what the recovery does.
-use Rattle.std.proofs.Common.{◌≡◌, Err, sym, ◌∙◌, ap, ap₂, subst}
+use Rattle.std.proofs.Common.{◌≡◌, Err, sym, ◌∙◌, ap, subst}
 use Rattle.pgs_base.specs.declared.limits.Limits.{Limits}
 use Rattle.pgs_resolve.specs.SchemaOf.{schema, schema_of}
 use Rattle.pgs_run_base.specs.Answers.{schema_or_text, schema_answer}
@@ -13,9 +13,6 @@ use Rattle.pgs_run_saved.specs.declared.opening.Unopened.{Unopened}
 use Rattle.pgs_run_saved.specs.declared.opening.Unopened.TheVariants.{Refused, DiskFault, Memory}
 use Rattle.pgs_run_saved.specs.Opening.{IsOpened, Opens, Unopens}
 use Rattle.pgs_run_saved.specs.Refusing.{told_of_areas}
-
-pub standard_is : (limits : Limits) → limits.ops ≡ 10000 → limits.elements ≡ 1000000 → limits ≡ standard
-standard_is limits ops elements = ap₂ (λ o e. record { ops = o; elements = e }) ops elements
 
 -- ---- none
 

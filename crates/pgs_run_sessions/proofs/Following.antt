@@ -1,6 +1,6 @@
 -- What lines tell one after another, and that each counts once at most.
-use Rattle.std.proofs.Common.{◌≡◌, ℕ, suc, ◌+◌, ◌≤◌, Bool, true, false, cond, List, [], ◌∷◌, ◌++◌, length, Option, Some, None, Result, Ok, Err, refl, sym, ap, ◌∙◌, append_assoc, arith}
-use Rattle.std.specs.Prelude.{if◌then◌else◌, nat_le}
+use Rattle.std.proofs.Common.{◌≡◌, ℕ, suc, ◌+◌, ◌≤◌, Bool, true, false, List, [], ◌∷◌, ◌++◌, length, Option, Some, None, Result, Ok, Err, refl, sym, ap, ◌∙◌, append_assoc, arith}
+use Rattle.std.specs.Prelude.{nat_le}
 use Rattle.std.proofs.lemmas.List.{append-nil}
 use Rattle.pgs_base.specs.declared.element.Elem.{Elem}
 use Rattle.pgs_base.specs.Graph.{Graph}
@@ -13,7 +13,7 @@ use Rattle.pgs_run_sessions.specs.State.{brief_sessions}
 use Rattle.pgs_sessions.specs.State.{deciding}
 use Rattle.pgs_sessions.specs.Open.{at_number}
 use Rattle.pgs_sessions.specs.Summary as brief
-use Rattle.pgs_sessions.specs.Summary.{Summary, Brought}
+use Rattle.pgs_sessions.specs.Summary.{Summary}
 use Rattle.pgs_sessions_machine.specs.declared.event.Event.{Event}
 use Rattle.pgs_sessions_machine.specs.declared.event.Event.TheVariants.{Begin, Read, Stage, Commit, Abort}
 use Rattle.pgs_sessions_machine.specs.Machine.{Session, least_after, watched, number_of}

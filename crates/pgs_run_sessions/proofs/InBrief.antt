@@ -1,23 +1,19 @@
 -- Sessions in brief tell what the machine of sessions tells.
-use Rattle.std.proofs.Common.{◌≡◌, ℕ, ◌+◌, Bool, true, false, ◌||◌, List, [], ◌∷◌, ◌++◌, length, nat_le, take, Result, Ok, Err, refl, sym, ap, ◌∙◌}
-use Rattle.std.specs.Prelude.{if◌then◌else◌}
+use Rattle.std.proofs.Common.{◌≡◌, ℕ, ◌+◌, Bool, true, false, ◌||◌, List, [], ◌∷◌, ◌++◌, length, nat_le, take, Result, Ok, Err, refl, ap, ◌∙◌}
 use Rattle.std.specs.List.{list_any}
 use Rattle.pgs_events.specs.Events.{event_answer}
 use Rattle.pgs_events.specs.Replies.{line_of, is_refusal}
 use Rattle.pgs_run_lines.specs.Input.{lines_of}
-use Rattle.pgs_run_lines.specs.Machine.{Told}
-use Rattle.pgs_run_base.specs.declared.status.Status.{Status}
 use Rattle.pgs_run_base.specs.Answers.{schema_answer}
 use Rattle.pgs_run_base.specs.Input.{is_separator, is_skipped, schema_part, after_separator}
 use Rattle.pgs_run_base.specs.Session.{standard}
-use Rattle.pgs_run_sessions.specs.Lines.{Stepped, Standing, first, after_event, event_line, after_answer, answer_line, after_line, pieces_of_line, after_lines, pieces_of_lines}
+use Rattle.pgs_run_sessions.specs.Lines.{Stepped, Standing, first, after_event, after_answer, answer_line, after_line, pieces_of_line, after_lines, pieces_of_lines}
 use Rattle.pgs_run_sessions.specs.State.{brief_sessions, brought}
-use Rattle.pgs_run_sessions.specs.Told.{with_end, told_schema, told_lines, told_whole, told_cut, told_input, machine_sessions, stepped}
+use Rattle.pgs_run_sessions.specs.Told.{with_end, told_schema, told_lines, told_input, machine_sessions}
 use Rattle.pgs_sessions.specs.State.{deciding}
-use Rattle.pgs_sessions.specs.Summary.{Summary, Brought, summary_of}
+use Rattle.pgs_sessions.specs.Summary.{Summary, summary_of}
 use Rattle.pgs_sessions.proofs.Brief.{step_same}
 use Rattle.pgs_sessions_machine.specs.declared.event.Event.{Event}
-use Rattle.pgs_sessions_machine.specs.Machine as machine
 use Rattle.pgs_sessions_machine.specs.Machine.{State}
 use Rattle.pgs_syntax.specs.declared.resolved.Resolved.{Resolved}
 

@@ -1,5 +1,5 @@
 -- The machine of a run tells what `told_sessions` says.
-use Rattle.std.proofs.Common.{◌≡◌, ℕ, Bool, true, false, nat_le, List, [], ◌∷◌, ◌++◌, length, take, map, Result, Ok, Err, refl, sym, ap, subst, ◌∙◌, append_assoc}
+use Rattle.std.proofs.Common.{◌≡◌, ℕ, Bool, true, false, nat_le, List, [], ◌∷◌, ◌++◌, length, take, map, Ok, Err, refl, sym, ap, subst, ◌∙◌, append_assoc}
 use Rattle.std.proofs.lemmas.List.{append-nil}
 use Rattle.std.specs.List.{list_any, join_with_byte}
 use Rattle.pgs_run_lines.specs.Input.{lines_of, kept_of}
@@ -16,7 +16,7 @@ use Rattle.pgs_run_base.proofs.Separating.{before-none, after-none}
 use Rattle.pgs_run_sessions.specs.Lines.{Standing, first, after_lines, pieces_of_lines}
 use Rattle.pgs_run_sessions.specs.Running.{running, first_stand, Stand, Schema, Lines, Refused, Stands, next_of, after_end, pieces_at_end, told_after, line_limit, line_front}
 use Rattle.pgs_run_sessions.specs.State.{brief_sessions}
-use Rattle.pgs_run_sessions.specs.Told.{status_after, told_schema, told_lines, told_cut, told_whole, told_input, told_sessions, machine_sessions}
+use Rattle.pgs_run_sessions.specs.Told.{status_after, told_schema, told_lines, told_cut, told_whole, told_input, told_sessions}
 use Rattle.pgs_run_sessions.proofs.InBrief.{input_brief}
 use Rattle.pgs_run_sessions.proofs.Telling.{told_found, told_without, told_refused, pieces_so_far, stands_end, pieces_end, status_refused}
 use Rattle.pgs_sessions.specs.Summary.{Summary}

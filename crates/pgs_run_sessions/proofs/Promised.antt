@@ -1,26 +1,24 @@
 -- What is promised of a run, from the facts of its parts.
-use Rattle.std.proofs.Common.{◌≡◌, ◌⊎◌, inl, inr, ℕ, ◌-◌, ◌<◌, Bool, true, false, true≢false, List, [], ◌∷◌, length, Option, Some, refl, sym, ap, subst, ◌∙◌}
+use Rattle.std.proofs.Common.{◌≡◌, ◌⊎◌, inl, inr, ℕ, ◌-◌, Bool, true, false, true≢false, List, [], ◌∷◌, length, Option, Some, refl, sym, ap, subst, ◌∙◌}
 use Rattle.pgs_answer.specs.Lines.{words_refused_line}
-use Rattle.pgs_run_lines.specs.AreasKept.{KeepsAreas, keeps_none}
+use Rattle.pgs_run_lines.specs.AreasKept.{KeepsAreas}
 use Rattle.pgs_run_lines.specs.Ending.{Faults, faults_of}
 use Rattle.pgs_run_lines.specs.Machine.{Told}
-use Rattle.pgs_run_lines.specs.Pieces.{Shown, ShowsAll, ShowsFirst, shown_of}
+use Rattle.pgs_run_lines.specs.Pieces.{Shown, ShowsAll, shown_of}
 use Rattle.pgs_run_lines.specs.Replies.{EndsLast}
 use Rattle.pgs_run_lines.proofs.Causes.{world_same}
 use Rattle.pgs_run_lines.proofs.RunEnds.{within_unread}
-use Rattle.pgs_run_lines.proofs.Showing.{shows_none}
 use Rattle.pgs_run_base.specs.declared.status.Status.{Status}
 use Rattle.pgs_run_base.specs.declared.status.Status.TheVariants.{Accepted, Refused, BadWords, SchemaRefused, StoreRefused, DiskFault, ReadFault, PutFault, Memory, InputTooLong}
 use Rattle.pgs_run_base.specs.Calls.{fails_read}
 use Rattle.pgs_run_base.specs.Ending.{Ends}
-use Rattle.pgs_run_base.specs.Run.{IsRead, EndsAs, HasCommandCause, TakesWithin, IsDisturbed, IsComplete}
+use Rattle.pgs_run_base.specs.Run.{IsRead, EndsAs, HasCommandCause, IsDisturbed, IsComplete}
 use Rattle.pgs_run_sessions.specs.Promise.{Setting, setting_of, faults_in, HasCause, Knows, KeepsPromise}
 use Rattle.pgs_run_sessions.specs.Statuses.{is_sessions}
 use Rattle.pgs_run_sessions.specs.Told.{told, told_sessions}
 use Rattle.pgs_run_sessions.specs.Words.{asks_run}
 use Rattle.pgs_run_sessions.proofs.RunEnds.{never_cut}
 use Rattle.pgs_world.specs.Count.{RoseByOne}
-use Rattle.pgs_world.specs.Moment.{IsTimed}
 use Rattle.pgs_world.specs.World.{View}
 
 -- where the source isn't asked for no read failed

@@ -4,12 +4,11 @@ use Rattle.pgs_run_lines.specs.declared.stop.Stop.{Stop}
 use Rattle.pgs_run_lines.specs.declared.stop.Stop.TheVariants as stops
 use Rattle.pgs_run_lines.specs.Ending.{Shows, Ends}
 use Rattle.pgs_run_lines.specs.Pieces.{Shown, ShowsAll, ShowsTorn}
-use Rattle.pgs_run_lines.proofs.Showing.{torn_of_more}
 use Rattle.pgs_syntax.specs.declared.resolved.Resolved.{Resolved}
 use Rattle.pgs_run_base.specs.declared.status.Status.{Status}
 use Rattle.pgs_run_base.specs.declared.status.Status.TheVariants.{SchemaRefused}
 use Rattle.pgs_run_sessions.specs.Lines.{Standing, first}
-use Rattle.pgs_run_sessions.specs.Running.{Stand, Lines, after_schema, pieces_of_schema}
+use Rattle.pgs_run_sessions.specs.Running.{Lines, after_schema, pieces_of_schema}
 use Rattle.pgs_run_sessions.specs.Running as stands
 use Rattle.pgs_run_sessions.specs.State.{brief_sessions}
 use Rattle.pgs_run_sessions.specs.Told.{status_after, told_schema}

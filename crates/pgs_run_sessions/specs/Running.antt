@@ -1,5 +1,5 @@
 -- The run as a machine over lines, its sessions in brief.
-use Rattle.std.specs.Prelude.{◌≡◌, ◌<◌, ◌^◌, ℕ, ◌+◌, true, false, List, [], ◌∷◌, ◌++◌, Result, Ok, Err, not, if◌then◌else◌}
+use Rattle.std.specs.Prelude.{◌≡◌, ◌<◌, ◌^◌, ℕ, ◌+◌, true, false, List, [], ◌∷◌, Result, Ok, Err, not, if◌then◌else◌}
 use Rattle.std.specs.List.{list_any, join_with_byte}
 use Rattle.pgs_answer.specs.Lines.{schema_refused_line}
 use Rattle.pgs_run_lines.specs.Input.{front_of}

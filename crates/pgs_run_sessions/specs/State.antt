@@ -1,5 +1,5 @@
 -- What contracts see of a run between two event lines, and its sessions in brief.
-use Rattle.std.specs.Prelude.{◌≡◌, ℕ, Bool}
+use Rattle.std.specs.Prelude.{ℕ, Bool}
 use Rattle.pgs_run_base.specs.Session.{standard}
 use Rattle.pgs_run_sessions.specs.Lines.{Stepped, Standing}
 use Rattle.pgs_run_sessions.specs.Told.{Sessions}

@@ -1,5 +1,5 @@
 -- What `pgsession` tells of its words and of an input within a budget: pieces of output, and a status.
-use Rattle.std.specs.Prelude.{ℕ, Bool, true, false, ◌&&◌, ◌||◌, List, [], ◌∷◌, ◌++◌, length, take, Result, Ok, Err, nat_le, if◌then◌else◌}
+use Rattle.std.specs.Prelude.{ℕ, Bool, true, false, ◌||◌, List, [], ◌∷◌, ◌++◌, length, take, Result, Ok, Err, nat_le, if◌then◌else◌}
 use Rattle.std.specs.List.{list_any}
 use Rattle.pgs_answer.specs.Lines.{schema_refused_line, words_refused_line}
 use Rattle.pgs_run_lines.specs.Input.{lines_of}
@@ -9,7 +9,7 @@ use Rattle.pgs_run_base.specs.declared.status.Status.TheVariants.{Accepted, Refu
 use Rattle.pgs_run_base.specs.Answers.{schema_answer}
 use Rattle.pgs_run_base.specs.Input.{is_separator, schema_part, after_separator}
 use Rattle.pgs_run_base.specs.Session.{standard}
-use Rattle.pgs_run_sessions.specs.Lines.{Stepped, Standing, first, after_lines, pieces_of_lines}
+use Rattle.pgs_run_sessions.specs.Lines.{Stepped, first, after_lines, pieces_of_lines}
 use Rattle.pgs_run_sessions.specs.Words.{asks_run}
 use Rattle.pgs_sessions.specs.State.{deciding}
 use Rattle.pgs_sessions_machine.specs.declared.event.Event.{Event}

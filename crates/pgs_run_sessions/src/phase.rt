@@ -6,7 +6,7 @@ ghost use Rattle.pgs_run_sessions.specs.Running.{stand_of, after_schema, pieces_
 use crate::running::Running;
 use pgs_answer::schema_refused_line;
 use pgs_base::{Bytes, Memory, Seed};
-use pgs_run_base::{OpenFault, SchemaPart};
+use pgs_run_base::{SchemaPart, TextFault};
 use std::alloc::Global;
 
 /// Whether the schema part goes on, the event lines go on, or the schema was refused.
@@ -24,10 +24,10 @@ pub fn judge(alloc: Global, text: &[u8], seed: Seed) -> Result<(Phase, Option<By
 {
     match Running::open(alloc, text, seed) {
         Ok(running) => Ok((Phase::Lines(running), None)),
-        Err(OpenFault::Refused(text)) => {
+        Err(TextFault::Refused(text)) => {
             let piece = schema_refused_line(alloc, text.as_slice())?;
             Ok((Phase::Refused, Some(piece)))
         }
-        Err(OpenFault::Memory) => Err(Memory),
+        Err(TextFault::Memory) => Err(Memory),
     }
 }

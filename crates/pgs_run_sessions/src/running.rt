@@ -1,8 +1,8 @@
-ghost use Rattle.std.specs.Prelude.{◌≡◌, ◌+◌, ◌-◌, ◌<◌, ◌^◌, ◌∷◌, [], Ok, IfOk, IfErr, OnOk};
+ghost use Rattle.std.specs.Prelude.{◌≡◌, ◌+◌, ◌-◌, ◌<◌, ◌^◌, Ok, IfOk, IfErr, OnOk};
 ghost use Rattle.pgs_answer.specs.Lines.{refused_line};
 ghost use Rattle.pgs_events.specs.Events.{event_answer};
 ghost use Rattle.pgs_run_base.specs.Answers.{schema_answer};
-ghost use Rattle.pgs_run_base.specs.Opening.{IsRefused};
+ghost use Rattle.pgs_run_base.specs.TextFaults.{IsFaultOf};
 ghost use Rattle.pgs_run_lines.specs.Pieces.{pieces_in};
 ghost use Rattle.pgs_run_sessions.specs.Lines.{first, after_refusal, after_event, event_line, after_answer, answer_line, after_line, pieces_of_line};
 ghost use Rattle.pgs_run_sessions.specs.State.{schema_in, standing_in, brief_sessions};
@@ -11,7 +11,7 @@ use crate::stepping::step;
 use pgs_answer::refused_line;
 use pgs_base::{Bytes, Limits, Memory, Seed, TEXT_LIMIT};
 use pgs_events::{Asked, event_of, is_refusal, reply_line};
-use pgs_run_base::{OpenFault, refusal_of};
+use pgs_run_base::{TextFault, refusal_of};
 use pgs_run_lines::is_blank;
 use pgs_sessions::{Event, Sessions};
 use std::alloc::Global;
@@ -54,10 +54,10 @@ impl Drop for Running {
 impl Running {
     /// Before the first line, under the schema of a text.
     #[tactic(auto, unfolding(pgs_run_base::specs::Answers::schema_answer))]
-    pub fn open(alloc: Global, text: &[u8], seed: Seed) -> Result<Running, OpenFault>
+    pub fn open(alloc: Global, text: &[u8], seed: Seed) -> Result<Running, TextFault>
         ensures schema { IfOk result (λ s. schema_answer text.now ≡ Ok (schema_in s)) }
         ensures standing { IfOk result (λ s. standing_in s ≡ first brief_sessions.begin) }
-        ensures refused { IfErr result (IsRefused text.now) }
+        ensures refused { IfErr result (IsFaultOf (schema_answer text.now)) }
     {
         match Sessions::with_seed(alloc, text, Limits::standard(), seed) {
             Ok(sessions) => Ok(Running {
@@ -67,7 +67,7 @@ impl Running {
             }),
             Err(unread) => {
                 let refusal = refusal_of(alloc, unread)?;
-                Err(OpenFault::Refused(refusal))
+                Err(TextFault::Refused(refusal))
             }
         }
     }
@@ -117,9 +117,10 @@ impl Running {
         ensures standing { OnOk result (standing_in self.new ≡ after_answer (brief_sessions.step (schema_in self.old)) (standing_in self.old) (event_answer line.now)) }
         ensures line { IfOk result (λ told. told ≡ answer_line (brief_sessions.step (schema_in self.old)) (standing_in self.old) (event_answer line.now)) }
     {
-        match event_of(alloc, line)? {
+        match event_of(alloc, line) {
             Ok(event) => self.take_event(alloc, event),
-            Err(text) => self.refuse(alloc, text.as_slice()),
+            Err(TextFault::Refused(text)) => self.refuse(alloc, text.as_slice()),
+            Err(TextFault::Memory) => Err(Memory),
         }
     }
 

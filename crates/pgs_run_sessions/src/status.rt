@@ -1,4 +1,4 @@
-ghost use Rattle.std.specs.Prelude.{◌≡◌, true, false};
+ghost use Rattle.std.specs.Prelude.{◌≡◌, true};
 ghost use Rattle.pgs_run_base.specs.ExitStatus.{status_number};
 ghost use Rattle.pgs_run_sessions.specs.Promise.{status_of};
 ghost use Rattle.pgs_run_sessions.specs.Statuses.{is_sessions};

@@ -29,11 +29,15 @@ within_staged : (limits : Limits) (g after : Graph) (txn : Txn) → staged limit
 within_staged limits g after txn is = staged_by limits g after txn (nat_lt limits.ops (length txn.ops)) refl is
 
 -- a transaction that can be done within the limits is accepted
-pub done_accepted : (g after : Graph) (txn : Txn) → staged standard g txn ≡ Ok after → decision_on judges_nothing g txn ≡ Ok after
+pub done_accepted : (limits : Limits) (g after : Graph) (txn : Txn) → limits ≡ standard → staged limits g txn ≡ Ok after → decision_on judges_nothing g txn ≡ Ok after
 unfolding decision_on
-done_accepted g after txn is = rw (is, within_staged standard g after txn is) refl
+done_accepted limits g after txn same is =
+    let done : staged standard g txn ≡ Ok after = subst (λ (l : Limits). staged l g txn ≡ Ok after) same is in
+    rw (done, within_staged standard g after txn done) refl
 
 -- and one that can't be done is rejected for that
-pub undone_rejected : (g : Graph) (txn : Txn) (structural : Structural) → staged standard g txn ≡ Err structural → decision_on judges_nothing g txn ≡ Err (ByStructure structural)
+pub undone_rejected : (limits : Limits) (g : Graph) (txn : Txn) (structural : Structural) → limits ≡ standard → staged limits g txn ≡ Err structural → decision_on judges_nothing g txn ≡ Err (ByStructure structural)
 unfolding decision_on
-undone_rejected g txn structural is = rw is refl
+undone_rejected limits g txn structural same is =
+    let undone : staged standard g txn ≡ Err structural = subst (λ (l : Limits). staged l g txn ≡ Err structural) same is in
+    rw undone refl

@@ -21,7 +21,7 @@ use Rattle.pgs_run_try.specs.Judging.{verdict_by, telling_by}
 use Rattle.pgs_run_try.specs.State.{SessionState}
 use Rattle.pgs_run_try.specs.Told.{start, told_end, told_schema, told_lines, told_cut, told_whole, told_judging}
 use Rattle.pgs_run_try.specs.Trying.{trying, first_phase, Stands, next_of, after_end, pieces_at_end, told_after}
-use Rattle.pgs_run_try.proofs.Telling.{told_with, told_found, told_without, told_refused, pieces_so_far, stands_end, pieces_end, status_refused}
+use Rattle.pgs_run_try.proofs.Telling.{told_found, told_without, told_refused, pieces_so_far, stands_end, pieces_end, status_refused}
 
 -- where a run stands after lines: in a phase to which they lead, or at the end behind a refused schema
 abbrev StandsAt : Judging → List (List ℕ) → Standing Phase Status → Type 0

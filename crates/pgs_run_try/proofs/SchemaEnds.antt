@@ -3,7 +3,6 @@ use Rattle.std.proofs.Common.{◌≡◌, ℕ, true, List, [], Result, Ok, Err, s
 use Rattle.pgs_run_lines.specs.declared.stop.Stop.{Stop}
 use Rattle.pgs_run_lines.specs.declared.stop.Stop.TheVariants as stops
 use Rattle.pgs_run_lines.specs.Ending.{Shows, Ends}
-use Rattle.pgs_run_lines.specs.Machine.{Told}
 use Rattle.pgs_run_lines.specs.Pieces.{Shown, ShowsAll, ShowsTorn}
 use Rattle.pgs_run_lines.proofs.Showing.{ends_on, torn_of_more}
 use Rattle.pgs_syntax.specs.declared.resolved.Resolved.{Resolved}

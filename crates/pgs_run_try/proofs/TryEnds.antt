@@ -1,26 +1,23 @@
 -- The status of a run, by how its run over lines ended.
-use Rattle.std.proofs.Common.{◌≡◌, ◌⊎◌, inl, inr, ℕ, ◌+◌, ◌-◌, ◌<◌, Bool, true, false, nat_le, List, [], ◌∷◌, ◌++◌, length, Option, Some, Result, Ok, Err, refl, sym, ap, subst, ◌∙◌, arith}
+use Rattle.std.proofs.Common.{◌≡◌, inl, inr, ℕ, ◌+◌, ◌<◌, Bool, true, false, nat_le, List, [], ◌∷◌, ◌++◌, length, Option, Some, Result, Ok, Err, refl, sym, ap, subst, ◌∙◌, arith}
 use Rattle.std.proofs.lemmas.Bool.Decides.{nat_tests}
 use Rattle.pgs_run_lines.specs.declared.stop.Stop.{Stop}
-use Rattle.pgs_run_lines.specs.declared.stop.Stop.TheVariants as stops
 use Rattle.pgs_run_lines.specs.Calls.{is_of_source, is_of_world}
 use Rattle.pgs_run_lines.specs.Ending as lines
 use Rattle.pgs_run_lines.specs.Ending.{Faults, HasCause}
 use Rattle.pgs_run_lines.specs.Machine.{Told, Ended, told_by}
 use Rattle.pgs_run_lines.specs.May.{MayCome}
-use Rattle.pgs_run_lines.specs.Pieces.{Shown, ShowsAll}
+use Rattle.pgs_run_lines.specs.Pieces.{Shown}
 use Rattle.pgs_run_lines.specs.Run as over
 use Rattle.pgs_run_lines.specs.Run.{EndsBy}
-use Rattle.pgs_run_lines.proofs.RunEnds.{taken_length}
 use Rattle.pgs_syntax.specs.declared.resolved.Resolved.{Resolved}
 use Rattle.pgs_violation.specs.declared.violation.Violation.{Violation}
-use Rattle.pgs_world.specs.Source.{IsAtEnd}
 use Rattle.pgs_run_base.specs.declared.status.Status.{Status}
-use Rattle.pgs_run_base.specs.declared.status.Status.TheVariants.{Accepted, Refused, BadWords, SchemaRefused, StoreRefused, DiskFault, ReadFault, PutFault, Memory, InputTooLong}
+use Rattle.pgs_run_base.specs.declared.status.Status.TheVariants.{Refused, SchemaRefused, InputTooLong}
 use Rattle.pgs_run_try.specs.declared.phase.Phase.{Phase}
 use Rattle.pgs_run_try.specs.declared.phase.Phase.TheVariants as phases
 use Rattle.pgs_run_base.specs.Calls.{fails_read, fails_world}
-use Rattle.pgs_run_base.specs.Ending.{Ends, status_at}
+use Rattle.pgs_run_base.specs.Ending.{status_at}
 use Rattle.pgs_run_lines.specs.Input.{lines_of}
 use Rattle.pgs_run_base.specs.Input.{text_limit, schema_part, after_separator}
 use Rattle.pgs_run_base.specs.Run.{IsRead, EndsAs, HasCommandCause}

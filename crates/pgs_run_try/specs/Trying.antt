@@ -1,5 +1,5 @@
 -- The commands `try` and `validate` as one machine over lines.
-use Rattle.std.specs.Prelude.{◌≡◌, ◌<◌, ◌^◌, ℕ, ◌+◌, true, false, List, [], ◌∷◌, ◌++◌, Result, Ok, Err, not, if◌then◌else◌}
+use Rattle.std.specs.Prelude.{◌≡◌, ◌<◌, ◌^◌, ℕ, ◌+◌, true, false, List, [], ◌∷◌, Result, Ok, Err, not, if◌then◌else◌}
 use Rattle.std.specs.List.{list_any, join_with_byte}
 use Rattle.pgs_run_lines.specs.Machine.{Machine, Standing as RunStanding, Told, Going, Ended}
 use Rattle.pgs_run_lines.specs.Telling.{Teller, telling}

@@ -7,7 +7,7 @@ use crate::Judging;
 use crate::session::Session;
 use pgs_answer::schema_refused_line;
 use pgs_base::{Bytes, Memory, Seed};
-use pgs_run_base::{OpenFault, SchemaPart};
+use pgs_run_base::{SchemaPart, TextFault};
 use std::alloc::Global;
 
 /// Whether the schema part goes on, the transaction lines go on, or the schema was refused.
@@ -30,10 +30,10 @@ pub fn judge(
 {
     match Session::open(alloc, judging, text, seed) {
         Ok(session) => Ok((Phase::Lines(session), None)),
-        Err(OpenFault::Refused(text)) => {
+        Err(TextFault::Refused(text)) => {
             let piece = schema_refused_line(alloc, text.as_slice())?;
             Ok((Phase::Refused, Some(piece)))
         }
-        Err(OpenFault::Memory) => Err(Memory),
+        Err(TextFault::Memory) => Err(Memory),
     }
 }

@@ -4,7 +4,7 @@ ghost use Rattle.pgs_run_base.specs.Answers.{schema_answer};
 ghost use Rattle.pgs_run_lines.specs.Pieces.{pieces_in};
 ghost use Rattle.pgs_run_base.specs.Session.{with_text, answer_to, answer_to_txn, after_answer, after_refusal};
 ghost use Rattle.pgs_run_try.specs.Judging.{verdict_by, telling_by, listed};
-ghost use Rattle.pgs_run_base.specs.Opening.{IsRefused};
+ghost use Rattle.pgs_run_base.specs.TextFaults.{IsFaultOf};
 ghost use Rattle.pgs_run_try.specs.State.{session_after, session_pieces};
 ghost use Rattle.pgs_run_try.specs.Told.{start};
 
@@ -13,7 +13,7 @@ use crate::decider::{Decider, apply, open_decider};
 use pgs_answer::{committed_line, refused_line, rejection_text};
 use pgs_base::{Bytes, Limits, List, Memory, Seed, TEXT_LIMIT};
 use pgs_graph::Txn;
-use pgs_run_base::{OpenFault, txn_of};
+use pgs_run_base::{TextFault, txn_of};
 use pgs_run_lines::is_blank;
 use pgs_store::GuardRefusal;
 use pgs_violation::{Rejection, Violation};
@@ -49,11 +49,11 @@ impl Session {
         judging: Judging,
         text: &[u8],
         seed: Seed,
-    ) -> Result<Session, OpenFault>
+    ) -> Result<Session, TextFault>
         ensures schema { IfOk result (λ session. schema_answer text.now ≡ Ok session.schema) }
         ensures judging { IfOk result (λ session. session.judging ≡ judging) }
         ensures standing { IfOk result (λ session. session.standing ≡ start) }
-        ensures refused { IfErr result (IsRefused text.now) }
+        ensures refused { IfErr result (IsFaultOf (schema_answer text.now)) }
     {
         let decider = open_decider(alloc, judging, text, seed)?;
         Ok(Session {
@@ -153,9 +153,10 @@ impl Session {
         ensures piece { IfOk result (λ piece. pieces_in piece ≡ telling_by self.old.judging self.old.standing
             (answer_to (verdict_by self.old.judging self.old.schema) self.old.standing.graph line.now)) }
     {
-        match txn_of(alloc, line)? {
+        match txn_of(alloc, line) {
             Ok(txn) => self.take_txn(alloc, &txn),
-            Err(text) => self.refuse(alloc, text.as_slice()),
+            Err(TextFault::Refused(text)) => self.refuse(alloc, text.as_slice()),
+            Err(TextFault::Memory) => Err(Memory),
         }
     }
 

@@ -1,10 +1,10 @@
-ghost use Rattle.std.specs.Prelude.{◌≡◌, ◌+◌, ◌-◌, ◌<◌, ◌^◌, true, Ok, IfOk, IfErr, OnOk, OnErr};
+ghost use Rattle.std.specs.Prelude.{◌≡◌, ◌-◌, ◌<◌, ◌^◌, true, Ok, IfOk, IfErr};
 ghost use Rattle.pgs_graph.specs.Changed.{changed, is_sound};
-ghost use Rattle.pgs_violation.specs.Staging.{staged};
 ghost use Rattle.pgs_violation.specs.Violations.{violations};
 ghost use Rattle.pgs_store.specs.Refused.{IsRejected};
-ghost use Rattle.pgs_txn.specs.Answers.{IsRefusal};
-ghost use Rattle.pgs_run_base.specs.Session.{standard, decision_on};
+ghost use Rattle.pgs_run_base.specs.Session.{decision_on};
+ghost use Rattle.pgs_run_try.specs.declared.decider.Decider.TheVariants.{Unjudged};
+ghost use Rattle.pgs_run_try.specs.Deciding.{Decides};
 ghost use Rattle.pgs_run_try.specs.Judging.{judges_nothing};
 
 use pgs_base::{Limits, List, Memory, Steps};
@@ -13,7 +13,7 @@ use pgs_schema::Schema;
 use pgs_scratch::violations;
 use pgs_store::GuardRefusal;
 use pgs_tables::Tables;
-use pgs_txn::{StageFault, stage};
+use pgs_txn::{StageFault, delta_of};
 use pgs_violation::{Rejection, Violation};
 use std::alloc::Global;
 use std::marker::Brand;
@@ -27,31 +27,13 @@ pub struct Staged {
     pub commits: u64,
 }
 
-// The delta that a transaction makes of a graph. No one asks for its steps.
-fn delta_counted<L: Ledger>(
-    alloc: Global,
-    graph: &Tables,
-    txn: &Txn,
-    blank: Blank,
-) -> Result<Delta, StageFault>
-    requires name { blank.name ≡ L.name }
-    requires parts { blank.parts ≡ L.parts }
-    requires some { 0 < blank.parts }
-    ensures sound { IfOk result (λ delta. is_sound graph.now.graph delta ≡ true) }
-    ensures staged { IfOk result (λ delta. staged standard graph.now.graph txn.now ≡ Ok (changed graph.now.graph delta)) }
-    ensures refused { IfErr result (λ fault. IsRefusal fault (staged standard graph.now.graph txn.now)) }
-{
-    let mut steps: Steps<L> = Steps::begin(blank);
-    stage(alloc, graph, &Limits::standard(), txn, &mut steps)
-}
-
 // The delta of a transaction that can be done within the limits.
 fn delta_within_limits(alloc: Global, graph: &Tables, txn: &Txn) -> Result<Delta, GuardRefusal>
     ensures sound { IfOk result (λ delta. is_sound graph.now.graph delta ≡ true) }
     ensures accepted { IfOk result (λ delta. decision_on judges_nothing graph.now.graph txn.now ≡ Ok (changed graph.now.graph delta)) }
     ensures rejected { IfErr result (IsRejected (decision_on judges_nothing graph.now.graph txn.now)) }
 {
-    match delta_counted::<Brand>(alloc, graph, txn, Blank::new(1)) {
+    match delta_of(alloc, graph, &Limits::standard(), txn) {
         Ok(delta) => Ok(delta),
         Err(StageFault::Memory) => Err(GuardRefusal::Memory),
         Err(StageFault::Refused(structural)) => {
@@ -78,14 +60,10 @@ fn violations_counted<L: Ledger>(
 impl Staged {
     /// Does a transaction, where it can be done within the limits: the number of transactions done. Where it is rejected, the graph stays
     /// as it was.
+    #[tactic(auto, unfolding(crate::specs::Judging::verdict_by))]
     pub fn apply(&mut self, alloc: Global, txn: &Txn) -> Result<u64, GuardRefusal>
         requires { self.old.commits < 2 ^ 64 - 1 }
-        ensures number { IfOk result (λ number. number ≡ self.old.commits + 1) }
-        ensures accepted { OnOk result (decision_on judges_nothing self.old.graph.graph txn.now ≡ Ok self.new.graph.graph) }
-        ensures rejected { IfErr result (IsRejected (decision_on judges_nothing self.old.graph.graph txn.now)) }
-        ensures schema { self.new.schema ≡ self.old.schema }
-        ensures commits { OnOk result (self.new.commits ≡ self.old.commits + 1) }
-        ensures unchanged { OnErr result ((self.new.graph.graph ≡ self.old.graph.graph) × (self.new.commits ≡ self.old.commits)) }
+        ensures { Decides (Unjudged self.old) txn.now result (Unjudged self.new) }
     {
         let delta = delta_within_limits(alloc, &self.graph, txn)?;
         let prepared = self.graph.prepare(delta)?;

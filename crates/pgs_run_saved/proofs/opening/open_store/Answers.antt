@@ -1,4 +1,5 @@
-use Rattle.pgs_run_saved.proofs.Unopening.{just_opened, not_opened, standard_is}
+use Rattle.pgs_run_base.proofs.Standard.{standard_is}
+use Rattle.pgs_run_saved.proofs.Unopening.{just_opened, not_opened}
 use Rattle.pgs_run_saved.proofs.opening.open_store.Goals as goal
 
 pub returns-in-Ok-clause-answer : goal.returns-in-Ok-clause-answer

@@ -1,5 +1,7 @@
-use Rattle.std.proofs.Common.{◌∙◌, Ok, Err, ap, sym}
+use Rattle.std.proofs.Common.{◌≡◌, ◌∙◌, Ok, Err, ap, subst, sym}
 use Rattle.pgs_feed.specs.Seen.{places}
+use Rattle.pgs_run_base.specs.Answers.{txn_answer}
+use Rattle.pgs_run_base.specs.TextFaults.{IsFaultOf}
 use Rattle.pgs_run_apply.specs.Outcome.{outcome_of}
 use Rattle.pgs_run_apply.specs.Seen.{state_of}
 use Rattle.pgs_run_apply.proofs.Outcomes.{blank_outcome, line_outcome}
@@ -12,20 +14,21 @@ returns-then-is_blank-clause-answer g c =
     take_as (blank_outcome s c.args.line.now (sym c.is_blank.ensures ∙ c.if-is_blank.true))
     (take_skipped s tt (g.W.World.view c.args.world.now) (places g.F.Feed.taken g.F.Feed.faults c.args.self.now.feeds) (g.met.W.World.timed c.args.world.now) c.requires.holds)
 
-pub returns-in-Ok-Ok-clause-answer : goal.returns-in-Ok-Ok-clause-answer
-returns-in-Ok-Ok-clause-answer g c =
+pub returns-in-Ok-clause-answer : goal.returns-in-Ok-clause-answer
+returns-in-Ok-clause-answer g c =
     take_as
-    (line_outcome (state_of c.args.self.now) c.args.line.now (Ok c.in-Ok-Ok.txn) (sym c.is_blank.ensures ∙ c.if-is_blank.false)
-    (sym c.in-Ok-Ok.field-0-is ∙ c.in-Ok-Ok.ensures)) c.take_txn.ensures.answer
+    (line_outcome (state_of c.args.self.now) c.args.line.now (Ok c.in-Ok.txn) (sym c.is_blank.ensures ∙ c.if-is_blank.false) (sym c.in-Ok.ensures))
+    c.take_txn.ensures.answer
 
-pub returns-in-Ok-Err-clause-answer : goal.returns-in-Ok-Err-clause-answer
-returns-in-Ok-Err-clause-answer g c =
+pub returns-in-Err-Refused-clause-answer : goal.returns-in-Err-Refused-clause-answer
+returns-in-Err-Refused-clause-answer g c =
+    let refused : txn_answer c.args.line.now ≡ Err c.in-Err-Refused.text = subst (IsFaultOf (txn_answer c.args.line.now)) c.in-Err-Refused.field-0-is c.in-Err-Refused.ensures in
     take_as
     (line_outcome (state_of c.args.self.now) c.args.line.now (Err c.as_slice.result.now) (sym c.is_blank.ensures ∙ c.if-is_blank.false)
-    (ap Err c.as_slice.ensures ∙ (sym c.in-Ok-Err.field-0-is ∙ c.in-Ok-Err.ensures))) c.refuse.ensures.answer
+    (ap Err c.as_slice.ensures ∙ sym refused)) c.refuse.ensures.answer
 
-pub returns-in-Err-clause-answer : goal.returns-in-Err-clause-answer
-returns-in-Err-clause-answer g c =
+pub returns-in-Err-Memory-clause-answer : goal.returns-in-Err-Memory-clause-answer
+returns-in-Err-Memory-clause-answer g c =
     let s = state_of c.args.self.now in
     take_none s (outcome_of s c.args.line.now) s (g.W.World.view c.args.world.now) (places g.F.Feed.taken g.F.Feed.faults c.args.self.now.feeds)
     (g.met.W.World.timed c.args.world.now) c.requires.holds

@@ -1,4 +1,4 @@
-use Rattle.pgs_run_try.proofs.decider.apply_guarded.Given as goal
+use Rattle.pgs_run_try.proofs.decider.apply.Given as goal
 
 abbrev pub ghosts-apply_counted : goal.ghosts-apply_counted
 ghosts-apply_counted a = record { name = a.blank.name; parts = a.blank.parts }
