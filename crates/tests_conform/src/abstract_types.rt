@@ -76,7 +76,8 @@ fn node_shapes(alloc: Global) -> Result<List<List<Shape>>, Fail>
 {
     let t = a_shape(alloc)?;
     let u = b_shape(alloc)?;
-    Ok(two_lists(alloc, t, u)?)
+    let lists = two_lists(alloc, t, u)?;
+    Ok(lists)
 }
 
 fn edge_shapes(alloc: Global) -> List<List<Triple>>

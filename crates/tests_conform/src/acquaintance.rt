@@ -106,7 +106,8 @@ fn node_shapes(alloc: Global) -> Result<List<List<Shape>>, Fail>
 {
     let p = p_shape(alloc)?;
     let q = q_shape(alloc)?;
-    Ok(two_lists(alloc, p, q)?)
+    let lists = two_lists(alloc, p, q)?;
+    Ok(lists)
 }
 
 fn edge_shapes(alloc: Global) -> Result<List<List<Triple>>, Fail>
@@ -125,7 +126,8 @@ fn edge_shapes(alloc: Global) -> Result<List<List<Triple>>, Fail>
             target,
         },
     )?;
-    Ok(one_item(alloc, triples)?)
+    let lists = one_item(alloc, triples)?;
+    Ok(lists)
 }
 
 /// The types compiled.

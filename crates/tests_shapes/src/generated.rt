@@ -68,17 +68,20 @@ pub fn random_spec(alloc: Global, dice: &mut Dice, levels: u32) -> Result<Spec<L
         0 => random_leaf(alloc, dice),
         1 => {
             let part = random_spec(alloc, dice, levels - 1)?;
-            maybe(alloc, part)
+            let spec = maybe(alloc, part)?;
+            Ok(spec)
         }
         2 => {
             let first = random_spec(alloc, dice, levels - 1)?;
             let second = random_spec(alloc, dice, levels - 1)?;
-            either(alloc, first, second)
+            let spec = either(alloc, first, second)?;
+            Ok(spec)
         }
         _ => {
             let first = random_spec(alloc, dice, levels - 1)?;
             let second = random_spec(alloc, dice, levels - 1)?;
-            both(alloc, first, second)
+            let spec = both(alloc, first, second)?;
+            Ok(spec)
         }
     }
 }

@@ -81,7 +81,8 @@ fn two_nodes(
 {
     let first = node(alloc, "a", 1, hidden, first)?;
     let second = node(alloc, "b", 2, hidden, second)?;
-    Ok(vec![in alloc; first, second]?)
+    let nodes = vec![in alloc; first, second]?;
+    Ok(nodes)
 }
 
 // Three node types of places 1 to 3.

@@ -78,14 +78,16 @@ fn person(alloc: Global) -> Result<Spec<Leaf>, Fail>
 {
     let person = label(alloc, "Person")?;
     let name = braces(alloc, "name", Kind::Text, false, false)?;
-    both(alloc, person, name)
+    let spec = both(alloc, person, name)?;
+    Ok(spec)
 }
 
 fn heir(alloc: Global) -> Result<Spec<Leaf>, Fail>
     ensures { IfOk result (λ spec. (bound : ℕ) → nat_lt 0 bound ≡ true → is_valid_spec bound spec ≡ true) }
 {
     let employee = label(alloc, "Employee")?;
-    both(alloc, named_type(0), employee)
+    let spec = both(alloc, named_type(0), employee)?;
+    Ok(spec)
 }
 
 fn employee(alloc: Global) -> Result<Spec<Leaf>, Fail>
@@ -93,7 +95,8 @@ fn employee(alloc: Global) -> Result<Spec<Leaf>, Fail>
 {
     let heir = heir(alloc)?;
     let salary = braces(alloc, "salary", Kind::Int, false, false)?;
-    both(alloc, heir, salary)
+    let spec = both(alloc, heir, salary)?;
+    Ok(spec)
 }
 
 // (a: Person {name STRING}), (b: a & Employee {salary INT}), (c), and which of them are members.
@@ -140,7 +143,8 @@ fn b_and_maybe_c(alloc: Global) -> Result<Spec<Leaf>, Fail>
     let c = label(alloc, "C")?;
     let c = maybe(alloc, c)?;
     let b = label(alloc, "B")?;
-    both(alloc, b, c)
+    let spec = both(alloc, b, c)?;
+    Ok(spec)
 }
 
 // (t: A | (B & C?)).

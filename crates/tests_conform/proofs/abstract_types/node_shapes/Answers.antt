@@ -9,8 +9,8 @@ use Rattle.tests_conform.proofs.Standing.{abstract_nodes, abstract_nodes_within}
 
 pub returns-clause-denotes : goal.returns-clause-denotes
 returns-clause-denotes c =
-    subst (λ (lists : List (List Shape)). EachDenotes lists (fits_node abstract_types)) (sym c.in_ok-two_lists.ensures)
+    subst (λ (lists : List (List Shape)). EachDenotes lists (fits_node abstract_types)) (sym c.in_ok-lists.ensures)
     (abstract_nodes c.in_ok-t.t c.in_ok-u.u c.in_ok-t.ensures c.in_ok-u.ensures)
 
 pub returns-clause-within : goal.returns-clause-within
-returns-clause-within c = subst (AreWithin (widths_of_nodes abstract_types)) (sym c.in_ok-two_lists.ensures) (abstract_nodes_within c.in_ok-t.t c.in_ok-u.u)
+returns-clause-within c = subst (AreWithin (widths_of_nodes abstract_types)) (sym c.in_ok-lists.ensures) (abstract_nodes_within c.in_ok-t.t c.in_ok-u.u)

@@ -11,11 +11,11 @@ pub returns-clause-denotes : goal.returns-clause-denotes
 returns-clause-denotes c =
     let e : Triple = record { source = c.in_ok-source.source; middle = c.in_ok-middle.middle; target = c.in_ok-target.target } in
     subst (λ (lists : List (List Triple)). EachDenotesTriples lists (fits_edge acquaintance))
-    (sym (c.in_ok-one_item-2.ensures ∙ ap (λ triples. triples ∷ []) c.in_ok-triples.ensures))
+    (sym (c.in_ok-lists.ensures ∙ ap (λ triples. triples ∷ []) c.in_ok-triples.ensures))
     (acquaintance_edges e.target e.source c.in_ok-target.ensures c.in_ok-source.ensures e refl c.in_ok-middle.ensures refl)
 
 pub returns-clause-within : goal.returns-clause-within
 returns-clause-within c =
     let e : Triple = record { source = c.in_ok-source.source; middle = c.in_ok-middle.middle; target = c.in_ok-target.target } in
-    subst (AreWithin (widths_of_edges acquaintance)) (sym (c.in_ok-one_item-2.ensures ∙ ap (λ triples. triples ∷ []) c.in_ok-triples.ensures))
+    subst (AreWithin (widths_of_edges acquaintance)) (sym (c.in_ok-lists.ensures ∙ ap (λ triples. triples ∷ []) c.in_ok-triples.ensures))
     (acquaintance_edges_within e)

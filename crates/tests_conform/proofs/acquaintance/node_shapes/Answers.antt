@@ -9,8 +9,8 @@ use Rattle.tests_conform.proofs.Standing.{acquaintance_nodes, acquaintance_nodes
 
 pub returns-clause-denotes : goal.returns-clause-denotes
 returns-clause-denotes c =
-    subst (λ (lists : List (List Shape)). EachDenotes lists (fits_node acquaintance)) (sym c.in_ok-two_lists.ensures)
+    subst (λ (lists : List (List Shape)). EachDenotes lists (fits_node acquaintance)) (sym c.in_ok-lists.ensures)
     (acquaintance_nodes c.in_ok-p.p c.in_ok-q.q c.in_ok-p.ensures c.in_ok-q.ensures)
 
 pub returns-clause-within : goal.returns-clause-within
-returns-clause-within c = subst (AreWithin (widths_of_nodes acquaintance)) (sym c.in_ok-two_lists.ensures) (acquaintance_nodes_within c.in_ok-p.p c.in_ok-q.q)
+returns-clause-within c = subst (AreWithin (widths_of_nodes acquaintance)) (sym c.in_ok-lists.ensures) (acquaintance_nodes_within c.in_ok-p.p c.in_ok-q.q)
