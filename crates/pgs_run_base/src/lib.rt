@@ -16,7 +16,7 @@ mod txn_answer;
 
 pub use collecting::{Collected, Collecting, text_of};
 pub use lines::is_separator;
-pub use schema_answer::{refusal_of, schema_of};
+pub use schema_answer::{fault_of, refusal_of, schema_of};
 pub use schema_part::SchemaPart;
 pub use status::{Status, status_at};
 pub use text_fault::TextFault;

@@ -41,6 +41,17 @@ pub fn refusal_of(alloc: Global, unread: SchemaUnread) -> Result<Bytes, Memory>
     }
 }
 
+/// Why a schema text gave no schema: the text of its refusal, or `Memory` where that was for want of memory, or where there is none for
+/// the text.
+pub fn fault_of(alloc: Global, unread: SchemaUnread) -> TextFault
+    ensures { (answer : Answer) → IsRefused answer unread → IsFaultOf (schema_or_text answer) result }
+{
+    match refusal_of(alloc, unread) {
+        Ok(refusal) => TextFault::Refused(refusal),
+        Err(Memory) => TextFault::Memory,
+    }
+}
+
 /// The schema of a text, or the text of its refusal. `Memory` where there was none.
 #[tactic(auto, unfolding(crate::specs::Answers::schema_answer))]
 pub fn schema_of(alloc: Global, text: &[u8]) -> Result<Schema, TextFault>
@@ -50,9 +61,6 @@ pub fn schema_of(alloc: Global, text: &[u8]) -> Result<Schema, TextFault>
 {
     match Schema::read(alloc, text) {
         Ok(schema) => Ok(schema),
-        Err(unread) => {
-            let refusal = refusal_of(alloc, unread)?;
-            Err(TextFault::Refused(refusal))
-        }
+        Err(unread) => Err(fault_of(alloc, unread)),
     }
 }

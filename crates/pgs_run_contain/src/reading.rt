@@ -2,7 +2,7 @@ ghost use Rattle.pgs_run_base.specs.Answers.{schema_answer};
 ghost use Rattle.pgs_run_base.specs.TextFaults.{Gives};
 
 use pgs_conform::Compiled;
-use pgs_run_base::{TextFault, refusal_of};
+use pgs_run_base::{TextFault, fault_of};
 use pgs_schema::read_schema;
 use std::alloc::Global;
 
@@ -13,9 +13,6 @@ pub(crate) fn compiled_of(alloc: Global, text: &[u8]) -> Result<Compiled, TextFa
 {
     match read_schema(alloc, text) {
         Ok(compiled) => Ok(compiled),
-        Err(unread) => {
-            let refusal = refusal_of(alloc, unread)?;
-            Err(TextFault::Refused(refusal))
-        }
+        Err(unread) => Err(fault_of(alloc, unread)),
     }
 }

@@ -1,6 +1,5 @@
 -- What a reply to a load says of the text and of the areas, and how a run ends that puts it.
 use Rattle.std.proofs.Common.{◌≡◌, ℕ, Bool, true, false, cond, IsTrue, IfOk, List, [], ◌∷◌, Some, None, Result, Ok, Err, refl, sym, ap, subst, ◌∙◌}
-use Rattle.pgs_base.specs.declared.limits.Limits.{Limits}
 use Rattle.pgs_base.specs.declared.memory.Memory.{Memory as NoMemory}
 use Rattle.pgs_run_lines.specs.declared.reply.Reply.{Reply}
 use Rattle.pgs_run_lines.specs.Ending.{Faults, faults_of}
@@ -34,13 +33,6 @@ use Rattle.pgs_run_base.proofs.SameFronts.{schema_of_front}
 use Rattle.pgs_run_saved.specs.Refusing.{told_under, store_refused}
 use Rattle.pgs_run_load.specs.Replying.{Replies, with_status}
 use Rattle.pgs_run_load.specs.Told.{line_of, told_choice, told_text}
-
--- the limits of the program
-pub is_standard : (limits : Limits) → limits.ops ≡ 10000 → limits.elements ≡ 1000000 → limits ≡ standard
-is_standard limits ops elements = ap (λ n. both n limits.elements) ops ∙ ap (both 10000) elements
-  where
-    both : ℕ → ℕ → Limits
-    both ops elements = record { ops = ops; elements = elements }
 
 -- ---- the reply is made
 

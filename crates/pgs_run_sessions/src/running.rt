@@ -11,7 +11,7 @@ use crate::stepping::step;
 use pgs_answer::refused_line;
 use pgs_base::{Bytes, Limits, Memory, Seed, TEXT_LIMIT};
 use pgs_events::{Asked, event_of, is_refusal, reply_line};
-use pgs_run_base::{TextFault, refusal_of};
+use pgs_run_base::{TextFault, fault_of};
 use pgs_run_lines::is_blank;
 use pgs_sessions::{Event, Sessions};
 use std::alloc::Global;
@@ -65,10 +65,7 @@ impl Running {
                 number: 0,
                 refused: false,
             }),
-            Err(unread) => {
-                let refusal = refusal_of(alloc, unread)?;
-                Err(TextFault::Refused(refusal))
-            }
+            Err(unread) => Err(fault_of(alloc, unread)),
         }
     }
 

@@ -9,7 +9,7 @@ use crate::Judging;
 use crate::staged::Staged;
 use pgs_base::{Limits, Seed, Steps};
 use pgs_graph::Txn;
-use pgs_run_base::{TextFault, refusal_of, schema_of};
+use pgs_run_base::{TextFault, fault_of, schema_of};
 use pgs_store::{Guard, GuardRefusal};
 use pgs_tables::Tables;
 use std::alloc::Global;
@@ -33,10 +33,7 @@ fn guard_under(alloc: Global, text: &[u8], seed: Seed) -> Result<Decider, TextFa
 {
     match Guard::with_seed(alloc, text, Limits::standard(), seed) {
         Ok(guard) => Ok(Decider::Guarded(guard)),
-        Err(unread) => {
-            let refusal = refusal_of(alloc, unread)?;
-            Err(TextFault::Refused(refusal))
-        }
+        Err(unread) => Err(fault_of(alloc, unread)),
     }
 }
 

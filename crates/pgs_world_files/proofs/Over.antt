@@ -5,9 +5,12 @@ use Rattle.std.proofs.lemmas.List.{take_at, drop_at, drop-drop, take-append-drop
 use Rattle.std.proofs.Math.Seq.{take-add}
 use Rattle.std.specs.declared.io.Error.{Error}
 use Rattle.pgs_world.specs.Disk.{written_over}
-use Rattle.pgs_world_streams.specs.Given.{PlacedCall, BareCall, HasRead, HasWritten}
-use Rattle.pgs_world_streams.specs.Given.HasRead.{read_none, read_some, read_failed}
-use Rattle.pgs_world_streams.specs.Given.HasWritten.{wrote_none, wrote_some, write_failed}
+use Rattle.pgs_world_streams.specs.Given.{PlacedCall, BareCall}
+use Rattle.pgs_world_streams.specs.Tries.{AreInterrupted, WasInterrupted, ReadIsTried, WriteIsTried}
+use Rattle.pgs_world_streams.specs.Tries.AreInterrupted.{no_try, one_more}
+use Rattle.pgs_world_streams.specs.Whole.{HasRead, HasWritten}
+use Rattle.pgs_world_streams.specs.Whole.HasRead.{read_none, read_some}
+use Rattle.pgs_world_streams.specs.Whole.HasWritten.{wrote_none, wrote_some}
 use Rattle.pgs_world_files.specs.Contents.{IsOver}
 use Rattle.pgs_world_files.specs.Counted.{bytes_in}
 use Rattle.pgs_world_files.specs.Handles.{LengthIs, ReadIs, WriteIs, CallIs, IfOpen}
@@ -47,48 +50,71 @@ module _ (bytes piece : List ℕ) (at : ℕ) (inside : at ≤ length bytes) wher
 
 module _ {H : Type 0} (bytes : H → List ℕ) (lengths : H → Result ℕ Error → H → Type 0) (reads writes : PlacedCall H) (cuts : H → ℕ → Bool → H → Type 0)
     (syncs : BareCall H) where
-  module _ (over : IsOver bytes lengths reads writes cuts syncs) (start : H) (at : ℕ) where
-    read_keeps : (got : List ℕ) (after : H) → HasRead reads start at got after → bytes after ≡ bytes start
-    read_keeps got after read_none = refl
-    read_keeps got after (read_some {bytes = first} {buf = buf} {count = count} {before = before} reading gave) =
-        over.read_keeps before after (at + length first) buf (Ok count) gave ∙ read_keeps first before reading
-    read_keeps got after (read_failed {buf = buf} {error = error} {before = before} reading gave) =
-        over.read_keeps before after (at + length got) buf (Err error) gave ∙ read_keeps got before reading
+  module _ (over : IsOver bytes lengths reads writes cuts syncs) where
+    -- calls that were interrupted
+    reads_keep : (at : ℕ) (old : H) (tries : ℕ) (new : H) → AreInterrupted (λ before answer after. (left : List ℕ) × reads before at left answer after) old tries new → bytes new ≡ bytes old
+    reads_keep at old _ _ no_try = refl
+    reads_keep at old _ new (one_more {tries = tries} {answer = answer} {before = mid} earlier gave was) =
+        over.read_keeps mid new at gave.0 answer gave.1 ∙ reads_keep at old tries mid earlier
 
-    reads_there : (got : List ℕ) (after : H) → HasRead reads start at got after → got ≡ take (length got) (drop at (bytes start))
-    reads_there got after read_none = refl
-    reads_there got after (read_some {bytes = first} {buf = buf} {count = count} {before = before} reading gave) =
-        let more = take count buf in
-        let there : more ≡ take (length more) (drop (length first) (drop at (bytes start))) =
-        over.read before after (at + length first) buf count gave ∙ ap (λ (l : List ℕ). take (length more) (drop (at + length first) l)) (read_keeps first before reading)
-        ∙ ap (take (length more)) (sym (drop-drop (length first) at (bytes start))) in
-        ap (λ (l : List ℕ). l ++ more) (reads_there first before reading) ∙ ap (λ (l : List ℕ). take (length first) (drop at (bytes start)) ++ l) there
-        ∙ sym (take-add (length first) (length more) (drop at (bytes start))) ∙ ap (λ n. take n (drop at (bytes start))) (sym (length-append first more))
-    reads_there got after (read_failed {before = before} reading gave) = reads_there got before reading
+    write_keeps : (at : ℕ) (piece : List ℕ) (old new : H) (answer : Result ℕ Error) → writes old at piece answer new → WasInterrupted answer → bytes new ≡ bytes old
+    write_keeps at piece old new (Ok count) gave was = absurd was
+    write_keeps at piece old new (Err error) gave was = over.write_fails old new at piece error gave
 
-    module _ (piece : List ℕ) (inside : at ≤ length (bytes start)) where
-      pub record Wrote (done : ℕ) (after : H) : Type 0 where
-        pub within : done ≤ length piece
-        pub is : bytes after ≡ written_over (bytes start) at (take done piece)
+    writes_keep : (at : ℕ) (piece : List ℕ) (old : H) (tries : ℕ) (new : H) → AreInterrupted (λ before answer after. writes before at piece answer after) old tries new → bytes new ≡ bytes old
+    writes_keep at piece old _ _ no_try = refl
+    writes_keep at piece old _ new (one_more {tries = tries} {answer = answer} {before = mid} earlier gave was) =
+        write_keeps at piece mid new answer gave was ∙ writes_keep at piece old tries mid earlier
 
-      writes_there : (done : ℕ) (after : H) → HasWritten writes start at piece done after → Wrote done after
-      writes_there done after wrote_none = record { within = omega arith; is = sym (written_none (bytes start) at) }
-      writes_there done after (wrote_some {done = d} {count = count} {before = before} writing gave) =
-          let was = writes_there d before writing in
-          let size : length (take d piece) ≡ d = length-take-le d piece was.within in
-          let few : count ≤ length (drop d piece) = over.fits before after (at + d) (drop d piece) count gave in
-          let left : length (drop d piece) ≡ length piece - d = length-drop d piece in
-          let behind : at + d ≤ length (bytes before) =
-          subst (λ n. at + n ≤ length (bytes before)) size (subst (λ (l : List ℕ). at + length (take d piece) ≤ length l) (sym was.is) (behind_written (bytes start) (take d piece) at inside)) in
-          record {
-            within = omega (arith, was.within);
-            is = over.written before after (at + d) (drop d piece) count gave behind ∙ ap (λ (l : List ℕ). written_over l (at + d) (take count (drop d piece))) was.is
-                ∙ ap (λ n. written_over (written_over (bytes start) at (take d piece)) (at + n) (take count (drop d piece))) (sym size)
-                ∙ written_on (bytes start) (take d piece) at inside (take count (drop d piece)) ∙ ap (written_over (bytes start) at) (sym (take-add d count piece));
-          }
-      writes_there done after (write_failed {error = error} {before = before} writing gave) =
-          let was = writes_there done before writing in
-          record { within = was.within; is = over.write_fails before after (at + done) (drop done piece) error gave ∙ was.is }
+    -- the last of calls of which the others were interrupted
+    tried_keeps : (at : ℕ) (buf : List ℕ) (answer : Result ℕ Error) (old new : H) → ReadIsTried reads old at buf answer new → bytes new ≡ bytes old
+    tried_keeps at buf answer old new tried = over.read_keeps tried.mid new at buf answer tried.gave ∙ reads_keep at old tried.tries tried.mid tried.interrupted
+
+    tried_reads : (at : ℕ) (buf : List ℕ) (count : ℕ) (old new : H) → ReadIsTried reads old at buf (Ok count) new → take count buf ≡ take (length (take count buf)) (drop at (bytes old))
+    tried_reads at buf count old new tried =
+        over.read tried.mid new at buf count tried.gave ∙ ap (λ (l : List ℕ). take (length (take count buf)) (drop at l)) (reads_keep at old tried.tries tried.mid tried.interrupted)
+
+    tried_writes : (at : ℕ) (piece : List ℕ) (count : ℕ) (old new : H) → WriteIsTried writes old at piece (Ok count) new → at ≤ length (bytes old) → bytes new ≡ written_over (bytes old) at (take count piece)
+    tried_writes at piece count old new tried inside =
+        let same = writes_keep at piece old tried.tries tried.mid tried.interrupted in
+        over.written tried.mid new at piece count tried.gave (subst (λ (l : List ℕ). at ≤ length l) (sym same) inside) ∙ ap (λ (l : List ℕ). written_over l at (take count piece)) same
+
+    module _ (start : H) (at : ℕ) where
+      read_keeps : (got : List ℕ) (after : H) → HasRead reads start at got after → bytes after ≡ bytes start
+      read_keeps got after read_none = refl
+      read_keeps got after (read_some {bytes = first} {buf = buf} {count = count} {before = before} reading tried) =
+          tried_keeps (at + length first) buf (Ok count) before after tried ∙ read_keeps first before reading
+
+      reads_there : (got : List ℕ) (after : H) → HasRead reads start at got after → got ≡ take (length got) (drop at (bytes start))
+      reads_there got after read_none = refl
+      reads_there got after (read_some {bytes = first} {buf = buf} {count = count} {before = before} reading tried) =
+          let more = take count buf in
+          let there : more ≡ take (length more) (drop (length first) (drop at (bytes start))) =
+          tried_reads (at + length first) buf count before after tried ∙ ap (λ (l : List ℕ). take (length more) (drop (at + length first) l)) (read_keeps first before reading)
+          ∙ ap (take (length more)) (sym (drop-drop (length first) at (bytes start))) in
+          ap (λ (l : List ℕ). l ++ more) (reads_there first before reading) ∙ ap (λ (l : List ℕ). take (length first) (drop at (bytes start)) ++ l) there
+          ∙ sym (take-add (length first) (length more) (drop at (bytes start))) ∙ ap (λ n. take n (drop at (bytes start))) (sym (length-append first more))
+
+      module _ (piece : List ℕ) (inside : at ≤ length (bytes start)) where
+        pub record Wrote (done : ℕ) (after : H) : Type 0 where
+          pub within : done ≤ length piece
+          pub is : bytes after ≡ written_over (bytes start) at (take done piece)
+
+        writes_there : (done : ℕ) (after : H) → HasWritten writes start at piece done after → Wrote done after
+        writes_there done after wrote_none = record { within = omega arith; is = sym (written_none (bytes start) at) }
+        writes_there done after (wrote_some {done = d} {count = count} {before = before} writing tried) =
+            let was = writes_there d before writing in
+            let size : length (take d piece) ≡ d = length-take-le d piece was.within in
+            let few : count ≤ length (drop d piece) = over.fits tried.mid after (at + d) (drop d piece) count tried.gave in
+            let left : length (drop d piece) ≡ length piece - d = length-drop d piece in
+            let behind : at + d ≤ length (bytes before) =
+            subst (λ n. at + n ≤ length (bytes before)) size (subst (λ (l : List ℕ). at + length (take d piece) ≤ length l) (sym was.is) (behind_written (bytes start) (take d piece) at inside)) in
+            record {
+              within = omega (arith, was.within);
+              is = tried_writes (at + d) (drop d piece) count before after tried behind ∙ ap (λ (l : List ℕ). written_over l (at + d) (take count (drop d piece))) was.is
+                  ∙ ap (λ n. written_over (written_over (bytes start) at (take d piece)) (at + n) (take count (drop d piece))) (sym size)
+                  ∙ written_on (bytes start) (take d piece) at inside (take count (drop d piece)) ∙ ap (written_over (bytes start) at) (sym (take-add d count piece));
+            }
 
   -- the calls that leave the bytes
   pub length_stays : {F : Type 0} (tells : Bool) → (IsTrue tells → IsOver bytes lengths reads writes cuts syncs) → (old new : Option H) (answer : Result ℕ F) → IfOpen (LengthIs lengths) old answer new → bytes_in tells bytes new ≡ bytes_in tells bytes old
@@ -107,7 +133,9 @@ module _ {H : Type 0} (bytes : H → List ℕ) (lengths : H → Result ℕ Error
   read_stays true law at buf (Some old) None answer given = absurd given
   read_stays true law at buf (Some old) (Some new) (Ok done) given = read_keeps (law refl) old at buf new given
   read_stays true law at buf (Some old) (Some new) (Err fault) (inl given) = ap bytes given.1
-  read_stays true law at buf (Some old) (Some new) (Err fault) (inr given) = read_keeps (law refl) old at given.1 new given.2
+  read_stays true law at buf (Some old) (Some new) (Err fault) (inr given) =
+      tried_keeps (law refl) (at + given.done) (drop given.done buf) given.answer given.before new given.tried
+      ∙ read_keeps (law refl) old at (take given.done buf) given.before given.front
 
   pub sync_stays : {A F : Type 0} (tells : Bool) → (IsTrue tells → IsOver bytes lengths reads writes cuts syncs) → (old new : Option H) (answer : Result A F) → IfOpen (CallIs syncs) old answer new → bytes_in tells bytes new ≡ bytes_in tells bytes old
   sync_stays false law old new answer given = refl

@@ -5,7 +5,8 @@ use Rattle.std.specs.declared.io.Error.{Error}
 use Rattle.pgs_world.specs.declared.area.Area.{Area}
 use Rattle.pgs_world.specs.declared.area.Area.TheVariants.{A, B}
 use Rattle.pgs_world_files.specs.declared.area_files.AreaFiles.{AreaFiles}
-use Rattle.pgs_world_streams.specs.Given.{PlacedCall, BareCall, HasRead, HasWritten, HasFailed}
+use Rattle.pgs_world_streams.specs.Given.{PlacedCall, BareCall}
+use Rattle.pgs_world_streams.specs.Whole.{HasRead, HasWritten, HasFailedToRead, HasFailedToWrite}
 
 -- the length that was given, of at most 2^40 bytes; a fault where none was given, or a greater one
 abbrev pub LengthIs : {H F : Type 0} → (H → Result ℕ Error → H → Type 0) → H → Result ℕ F → H → Type 0
@@ -13,17 +14,17 @@ LengthIs gives old (Ok count) new = gives old (Ok count) new × (count ≤ 2 ^ 4
 LengthIs gives old (Err _) new =
     ((count : ℕ) × gives old (Ok count) new × (2 ^ 40 < count)) ⊎ ((error : Error) × gives old (Err error) new)
 
--- the whole buffer was read; a fault where it reaches past 2^40, and else after a front of it, where a read failed
+-- the whole buffer was read; a fault where it reaches past 2^40, and else after a front of it, where the next read failed
 abbrev pub ReadIs : {H A F : Type 0} → PlacedCall H → H → ℕ → List ℕ → Result A F → H → Type 0
 ReadIs gives old at buf (Ok _) new = HasRead gives old at buf new
 ReadIs gives old at buf (Err _) new =
-    ((2 ^ 40 < at + length buf) × (new ≡ old)) ⊎ (HasFailed gives × (front : List ℕ) × HasRead gives old at front new)
+    ((2 ^ 40 < at + length buf) × (new ≡ old)) ⊎ HasFailedToRead gives old at buf new
 
--- all bytes were written; a fault where they reach past 2^40, and else after a front of them, where a write failed
+-- all bytes were written; a fault where they reach past 2^40, and else after a front of them, where the next write failed
 abbrev pub WriteIs : {H A F : Type 0} → PlacedCall H → H → ℕ → List ℕ → Result A F → H → Type 0
 WriteIs gives old at bytes (Ok _) new = (at + length bytes ≤ 2 ^ 40) × HasWritten gives old at bytes (length bytes) new
 WriteIs gives old at bytes (Err _) new =
-    ((2 ^ 40 < at + length bytes) × (new ≡ old)) ⊎ (HasFailed gives × (done : ℕ) × HasWritten gives old at bytes done new)
+    ((2 ^ 40 < at + length bytes) × (new ≡ old)) ⊎ HasFailedToWrite gives old at bytes new
 
 -- one call, and its answer
 abbrev pub CallIs : {H A F : Type 0} → BareCall H → H → Result A F → H → Type 0

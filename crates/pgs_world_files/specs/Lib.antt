@@ -5,4 +5,5 @@ pub mod Handles
 pub mod Head
 pub mod Named
 pub mod Opened
+pub mod Rewriting
 pub mod SystemFiles

@@ -15,9 +15,6 @@ use pgs_base::Seed;
 use pgs_world::{Area, AreaFault, PutFault, World};
 use pgs_world_streams::{Cause, SteadyWrite, write_whole};
 
-#[cfg(test)]
-mod tests;
-
 /// A world over two files and a writer. It tells the output where the writer tells, and its areas where the files tell; it counts its
 /// calls, its faults and its puts, and keeps the causes of the last faults.
 ///

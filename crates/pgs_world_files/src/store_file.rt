@@ -1,11 +1,10 @@
 ghost use Rattle.std.specs.Prelude.{◌≡◌};
+ghost use Rattle.std.specs.Int.{div_ceil};
 ghost use Rattle.pgs_world_files.specs.Named.{SyncIs};
+ghost use Rattle.pgs_world_files.specs.Rewriting.{HasRewritten, IsByteRewritten, IsRewritten};
 
 use crate::{Handle, NamedFile};
 use std::io;
-
-#[cfg(test)]
-mod tests;
 
 // The least part of a file that a disk writes for itself, and the system marks as written or not.
 const BLOCK: u64 = 512;
@@ -28,18 +27,35 @@ impl<F: NamedFile> StoreFile<F> {
     // as written though the disk has older bytes: the next sync would succeed without writing it, and a later run would build on what
     // isn't there. Now the next sync has to write all. A stop here changes nothing, and what isn't in memory needs nothing: so a read or
     // a write that fails is passed over.
-    fn write_again(&mut self) {
+    fn write_again(&mut self)
+        ensures { IsRewritten F.length_gives F.read_gives F.write_gives self.new.file }
+    {
         self.file.open_to_write();
-        let Ok(len) = self.file.ask_length() else {
-            return;
-        };
-        let mut byte = [0];
-        for block in 0..len.div_ceil(BLOCK) {
-            let at = block.saturating_mul(BLOCK);
-            if let Ok(1) = self.file.read_from(at, &mut byte) {
-                let _passed_over = self.file.write_from(at, &byte);
-            }
+        if let Ok(len) = self.file.ask_length() {
+            rewrite_blocks(&mut self.file, len);
         }
+    }
+}
+
+// Writes one byte of each block of a file of this length again.
+fn rewrite_blocks<F: NamedFile>(file: &mut F, len: u64)
+    ensures { HasRewritten F.read_gives F.write_gives file.old (div_ceil len BLOCK) file.new }
+{
+    for block in 0..len.div_ceil(BLOCK) {
+        rewrite_byte(file, block.saturating_mul(BLOCK));
+    }
+}
+
+// Writes the byte at a place again, if it can be read.
+fn rewrite_byte<F: NamedFile>(file: &mut F, at: u64)
+    ensures { IsByteRewritten F.read_gives F.write_gives file.old at file.new }
+{
+    let mut byte = [0];
+    let Ok(count) = file.read_from(at, &mut byte) else {
+        return;
+    };
+    if count == 1 {
+        let _passed_over = file.write_from(at, &byte);
     }
 }
 
@@ -56,7 +72,7 @@ impl<F: NamedFile> Handle for StoreFile<F> {
 
     ghost cut_gives = { λ old len succeeds new. F.cut_gives old.file len succeeds new.file };
 
-    ghost sync_gives = { λ old succeeds new. SyncIs F.sync_gives F.name_gives old.file succeeds new.file };
+    ghost sync_gives = { λ old succeeds new. SyncIs F.sync_gives F.name_gives F.length_gives F.read_gives F.write_gives old.file succeeds new.file };
 
     fn length_once(&mut self) -> io::Result<u64> {
         self.file.ask_length()

@@ -14,9 +14,6 @@ use std::io::ErrorKind;
 use std::os::unix::fs::OpenOptionsExt;
 use std::path::{AsPath, Path};
 
-#[cfg(test)]
-mod tests;
-
 // The rights of a file that is made: its owner alone reads and writes it.
 const RIGHTS: u32 = 0o600;
 

@@ -1,7 +1,8 @@
 -- What a writer does with a piece.
 use Rattle.std.specs.Prelude.{◌≡◌, ◌⊎◌, ℕ, ◌-◌, ◌^◌, true, false, List, ◌++◌, length, Option, Result, Ok, Err}
 use Rattle.std.specs.Io.KnownBytes.{Appends}
-use Rattle.pgs_world_streams.specs.Given.{PlacedCall, PlainCall, BareCall, HasWritten, HasFailed}
+use Rattle.pgs_world_streams.specs.Given.{PlacedCall, PlainCall, BareCall}
+use Rattle.pgs_world_streams.specs.Whole.{HasWritten, HasFailedToWrite}
 
 -- known bytes grow by some front of the piece
 pub record AppendsFront (old new : Option (List ℕ)) (piece : List ℕ) : Type 0 where
@@ -19,14 +20,14 @@ HoldsPiece contents old piece (Err _) new = AppendsFront (contents old) (content
 abbrev pub placeless : {W : Type 0} → PlainCall W → PlacedCall W
 placeless writes old at bytes answer new = writes old bytes answer new
 
--- The whole piece was written, and then flushed. Else a front of it was written, where a write failed, or all of it, where
--- the flush failed.
+-- The whole piece was written, and then flushed. Else all of it was written and the flush failed, or a front of it, and the next write
+-- failed.
 abbrev pub PieceIs : {W A F : Type 0} → PlainCall W → BareCall W → W → List ℕ → Result A F → W → Type 0
 PieceIs writes flushes old piece (Ok _) new =
     (mid : _) × HasWritten (placeless writes) old 0 piece (length piece) mid × flushes mid true new
 PieceIs writes flushes old piece (Err _) new =
     ((mid : _) × HasWritten (placeless writes) old 0 piece (length piece) mid × flushes mid false new)
-    ⊎ (HasFailed (placeless writes) × (done : ℕ) × HasWritten (placeless writes) old 0 piece done new)
+    ⊎ HasFailedToWrite (placeless writes) old 0 piece new
 
 -- the same of a put, which fails with nothing written where no more puts can be counted
 abbrev pub PutIs : {W A F : Type 0} → PlainCall W → BareCall W → ℕ → W → List ℕ → Result A F → W → Type 0

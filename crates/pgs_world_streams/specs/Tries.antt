@@ -3,7 +3,6 @@ use Rattle.std.specs.Prelude.{◌≡◌, ℕ, ◌+◌, ◌<◌, ◌≤◌, List,
 use Rattle.std.specs.IoError.{error_kind}
 use Rattle.std.specs.declared.io.Error.{Error}
 use Rattle.std.specs.declared.io.ErrorKind.TheVariants.{Interrupted}
-use Rattle.pgs_world_streams.specs.declared.interruption.TheConstants.{MOST_TRIES}
 use Rattle.pgs_world_streams.specs.Given.{PlacedCall}
 
 -- the call was interrupted
@@ -21,14 +20,14 @@ pub data AreInterrupted {H : Type 0} (gives : OneCall H) (start : H) : ℕ → H
   one_more : {tries : ℕ} {answer : Result ℕ Error} {before after : H} → AreInterrupted gives start tries before
       → gives before answer after → WasInterrupted answer → AreInterrupted gives start (tries + 1) after
 
--- The last of at most MOST_TRIES calls gave this answer. Those before it were interrupted, and it wasn't, or no more are allowed.
+-- The last of at most 1,000 calls gave this answer. Those before it were interrupted, and it wasn't, or no more are allowed.
 pub record IsTried {H : Type 0} (tried last : OneCall H) (old : H) (answer : Result ℕ Error) (new : H) : Type 0 where
   pub tries : ℕ
   pub mid : H
   pub interrupted : AreInterrupted tried old tries mid
   pub gave : last mid answer new
-  pub few : tries < MOST_TRIES
-  pub ends : WasInterrupted answer → MOST_TRIES ≤ tries + 1
+  pub few : tries < 1000
+  pub ends : WasInterrupted answer → 1000 ≤ tries + 1
 
 -- the same of a write of these bytes at a place
 abbrev pub WriteIsTried : {H : Type 0} → PlacedCall H → H → ℕ → List ℕ → Result ℕ Error → H → Type 0

@@ -47,18 +47,3 @@ impl StandardNumbers {
         }
     }
 }
-
-#[cfg(test)]
-mod tests {
-    use super::*;
-    use std::test::Fail;
-
-    #[test]
-    fn open_streams_leave_no_number_free(rt: HostRuntime) -> Result<(), Fail> {
-        let numbers = StandardNumbers::take(&rt);
-        let file = fs::open(&rt, FOLDER)?;
-        let seen = (numbers.input_was_closed(), is_above_standard(&file));
-        assert_eq!(rt; seen, (false, true));
-        Ok(())
-    }
-}

@@ -7,9 +7,6 @@ ghost use Rattle.pgs_world_streams.specs.Given.{ReadsOnce};
 use crate::{Cause, SteadyRead};
 use pgs_world::{Source, SourceFault};
 
-#[cfg(test)]
-mod tests;
-
 /// A reader as a source. It tells of the bytes that are left what the reader tells, counts its faults, and keeps the cause of the last.
 #[derive(Drop)]
 pub struct StdinSource<R: SteadyRead> {

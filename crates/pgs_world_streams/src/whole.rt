@@ -6,9 +6,6 @@ ghost use Rattle.pgs_world_streams.specs.Tries.{WriteIsTried};
 use crate::{SteadyWrite, is_tried_again};
 use std::io::{self, ErrorKind};
 
-#[cfg(test)]
-mod tests;
-
 /// One write, made again where it is interrupted.
 fn write_some<W: SteadyWrite>(writer: &mut W, bytes: &[u8]) -> io::Result<usize>
     ensures bound { WritesAtMost result bytes.now }
@@ -33,10 +30,9 @@ pub fn write_whole<W: SteadyWrite>(writer: &mut W, piece: &[u8]) -> io::Result<(
 {
     let mut done = 0;
     while done < piece.len() {
-        match write_some(writer, &piece[done..]) {
-            Ok(0) => return Err(io::Error::from(ErrorKind::WriteZero)),
-            Ok(count) => done += count,
-            Err(error) => return Err(error),
+        match write_some(writer, &piece[done..])? {
+            0 => return Err(io::Error::from(ErrorKind::WriteZero)),
+            count => done += count,
         }
     }
     writer.flush_once()

@@ -1,11 +1,11 @@
 use Rattle.std.proofs.Common.{subst, ◌∙◌}
+use Rattle.pgs_run_base.proofs.Standard.{standard_is}
 use Rattle.pgs_run_load.proofs.Loads.{untouched}
-use Rattle.pgs_run_load.proofs.Replied.{is_standard}
 use Rattle.pgs_run_load.specs.Loading.{LoadsText}
 use Rattle.pgs_run_load.proofs.loading.load_text.Goals as goal
 
 pub save-requires-clause-limits : goal.save-requires-clause-limits
-save-requires-clause-limits g c = c.in-Ok.ensures.limits ∙ is_standard c.standard.result c.standard.ensures.ops c.standard.ensures.elements
+save-requires-clause-limits g c = c.in-Ok.ensures.limits ∙ standard_is c.standard.result c.standard.ensures.ops c.standard.ensures.elements
 
 pub returns-in-Ok-line_of-clause-answer : goal.returns-in-Ok-line_of-clause-answer
 returns-in-Ok-line_of-clause-answer g c =

@@ -1,5 +1,5 @@
 use Rattle.std.proofs.Common.{◌-◌, ◌≤◌, length, take}
-use Rattle.pgs_world_streams.specs.Given.{HasRead}
+use Rattle.pgs_world_streams.specs.Whole.{HasRead}
 use Rattle.pgs_world_files.proofs.area_file.read_within.Given as goal
 
 abbrev pub invariant-loop-done : goal.invariant-loop-done

@@ -1,13 +1,12 @@
 use Rattle.std.proofs.Common.{◌-◌, ◌<◌}
-use Rattle.pgs_world_streams.specs.declared.interruption.TheConstants.{MOST_TRIES}
 use Rattle.pgs_world_streams.specs.Tries.{AreInterrupted}
 use Rattle.pgs_world_files.proofs.area_file.write_some.Given as goal
 
 abbrev pub invariant-loop-answer : goal.invariant-loop-answer
 invariant-loop-answer g l = record {
-  few : l.tries < MOST_TRIES;
+  few : l.tries < 1000;
   interrupted : AreInterrupted (λ before answer after. g.H.Handle.write_gives before l.at l.bytes answer after) l.fn.handle l.tries l.handle;
 }
 
 abbrev pub decreases-loop-answer : goal.decreases-loop-answer
-decreases-loop-answer g l = MOST_TRIES - l.tries
+decreases-loop-answer g l = 1000 - l.tries

@@ -1,5 +1,5 @@
 use Rattle.std.proofs.Common.{◌-◌, ◌≤◌, length}
-use Rattle.pgs_world_streams.specs.Given.{HasWritten}
+use Rattle.pgs_world_streams.specs.Whole.{HasWritten}
 use Rattle.pgs_world_files.proofs.area_file.write_within.Given as goal
 
 abbrev pub invariant-loop-done : goal.invariant-loop-done

@@ -1,6 +1,6 @@
 use Rattle.std.proofs.Common.{◌-◌, ◌≤◌, length, take}
 use Rattle.std.specs.Io.KnownBytes.{Appends}
-use Rattle.pgs_world_streams.specs.Given.{HasWritten}
+use Rattle.pgs_world_streams.specs.Whole.{HasWritten}
 use Rattle.pgs_world_streams.specs.Pieces.{placeless}
 use Rattle.pgs_world_streams.proofs.whole.write_whole.Given as goal
 

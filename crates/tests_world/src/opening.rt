@@ -1,5 +1,10 @@
-use super::*;
+//! Files that are opened by their names: locks, what a new store isn't made over, and names that are lost.
+
+use pgs_base::Memory;
 use pgs_world::Feed;
+use pgs_world_files::{
+    Access, AreaFile, FileCause, Opening, StoreFile, SystemFile, SystemOpening,
+};
 use pgs_world_streams::Cause;
 use std::fs;
 use std::os::unix::fs::MetadataExt;

@@ -1,14 +1,22 @@
-use super::*;
-use std::io::ErrorKind;
+//! A sync that failed: what was written may be lost though the next sync succeeds.
+
+use pgs_base::Memory;
+use pgs_world_files::{Handle, NamedFile, StoreFile};
+use std::alloc::Global;
+use std::cell::Cell;
+use std::io::{self, ErrorKind};
+use std::rc::Rc;
 use std::test::Fail;
 
-/// A file of 1,025 bytes, each the number of its block, whose first sync fails. It keeps what was written.
+/// A place and a byte for each write so far.
+type Written = Rc<Cell<[Option<(u64, u8)>; 4]>>;
+
+/// A file of 1,025 bytes, each the number of its block, whose first sync fails. It tells what was written.
 #[derive(Drop)]
 struct Failing {
     syncs: u32,
     named: bool,
-    written: [(u64, u8); 3],
-    writes: usize,
+    written: Written,
 }
 
 impl NamedFile for Failing {
@@ -31,14 +39,14 @@ impl NamedFile for Failing {
     }
 
     fn write_from(&mut self, at: u64, bytes: &[u8]) -> io::Result<usize> {
-        match (self.written.get_mut(self.writes), bytes.first()) {
-            (Some(place), Some(byte)) => {
-                *place = (at, *byte);
-                self.writes = self.writes.saturating_add(1);
-                Ok(1)
-            }
-            _ => Ok(0),
-        }
+        let mut written = self.written.get();
+        let free = written.iter_mut().find(|place| place.is_none());
+        let (Some(place), Some(byte)) = (free, bytes.first()) else {
+            return Ok(0);
+        };
+        *place = Some((at, *byte));
+        self.written.set(written);
+        Ok(1)
     }
 
     fn cut_to(&mut self, _len: u64) -> io::Result<()> {
@@ -64,26 +72,30 @@ impl NamedFile for Failing {
 }
 
 /// Whether each of two syncs fails, and what was written between.
-fn synced_twice(named: bool) -> ([bool; 2], usize, [(u64, u8); 3]) {
+fn synced_twice(
+    alloc: Global,
+    named: bool,
+) -> Result<([bool; 2], [Option<(u64, u8)>; 4]), Memory> {
+    let written = Rc::new(alloc, Cell::new([None; 4]))?;
     let mut store = StoreFile::new(Failing {
         syncs: 0,
         named,
-        written: [(0, 0); 3],
-        writes: 0,
+        written: written.clone()?,
     });
     let answers = [store.sync_once().is_err(), store.sync_once().is_err()];
-    (answers, store.file.writes, store.file.written)
+    Ok((answers, written.get()))
 }
 
 #[test]
 fn a_failed_sync_writes_a_byte_of_each_block_again(rt: HostRuntime) -> Result<(), Fail> {
-    let want = ([true, false], 3, [(0, 0), (512, 1), (1024, 2)]);
-    assert_eq!(rt; synced_twice(true), want);
+    let blocks = [Some((0, 0)), Some((512, 1)), Some((1024, 2)), None];
+    assert_eq!(rt; synced_twice(rt.alloc(), true)?, ([true, false], blocks));
     Ok(())
 }
 
 #[test]
 fn a_file_without_its_name_is_not_synced(rt: HostRuntime) -> Result<(), Fail> {
-    assert_eq!(rt; synced_twice(false).0, [true, true]);
+    let (answers, _) = synced_twice(rt.alloc(), false)?;
+    assert_eq!(rt; answers, [true, true]);
     Ok(())
 }

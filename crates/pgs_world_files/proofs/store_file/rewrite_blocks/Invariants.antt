@@ -1,0 +1,5 @@
+use Rattle.pgs_world_files.specs.Rewriting.{HasRewritten}
+use Rattle.pgs_world_files.proofs.store_file.rewrite_blocks.Given as goal
+
+abbrev pub invariant-loop-block : goal.invariant-loop-block
+invariant-loop-block g l = HasRewritten g.F.NamedFile.read_gives g.F.NamedFile.write_gives l.fn.file l.block l.file
