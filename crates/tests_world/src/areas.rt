@@ -68,11 +68,11 @@ fn seen_of(world: &mut FileWorld<Vec<u8>, System<'_>>, area: Area) -> Seen {
 }
 
 /// What is seen of both areas of a store, whose files are removed then.
-fn seen_of_both(rt: &HostRuntime) -> Result<[Seen; 2], Fail> {
-    let mut world = world_at(rt, rt.alloc(), "world")?;
-    let seen = [seen_of(&mut world, Area::A), seen_of(&mut world, Area::B)];
-    fs::remove_file(rt, "world.a")?;
-    fs::remove_file(rt, "world.b")?;
+fn seen_of_both(rt: &HostRuntime, store: &str) -> Result<[Seen; 2], Memory> {
+    let mut world = world_at(rt, rt.alloc(), store)?;
+    let seen = [Area::A, Area::B].map(|area| seen_of(&mut world, area));
+    let _removed = fs::remove_file(rt, "world.a");
+    let _removed_too = fs::remove_file(rt, "world.b");
     Ok(seen)
 }
 
@@ -86,13 +86,12 @@ fn both_files_give_back_what_was_written(rt: HostRuntime) -> Result<(), Fail> {
         within: Ok(*b"bcd"),
         past_the_end: Err(AreaFault),
     };
-    assert_eq!(rt; seen_of_both(&rt)?, [want, want]);
+    assert_eq!(rt; seen_of_both(&rt, "world")?, [want, want]);
     Ok(())
 }
 
 #[test]
 fn each_call_in_a_missing_folder_is_a_fault(rt: HostRuntime) -> Result<(), Fail> {
-    let mut world = world_at(&rt, rt.alloc(), "missing/world")?;
     let want = Seen {
         written: [true; 3],
         before: Err(AreaFault),
@@ -101,6 +100,6 @@ fn each_call_in_a_missing_folder_is_a_fault(rt: HostRuntime) -> Result<(), Fail>
         within: Err(AreaFault),
         past_the_end: Err(AreaFault),
     };
-    assert_eq!(rt; seen_of(&mut world, Area::A), want);
+    assert_eq!(rt; seen_of_both(&rt, "missing/world")?, [want, want]);
     Ok(())
 }

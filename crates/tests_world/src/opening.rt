@@ -2,9 +2,7 @@
 
 use pgs_base::Memory;
 use pgs_world::Feed;
-use pgs_world_files::{
-    Access, AreaFile, FileCause, Opening, StoreFile, SystemFile, SystemOpening,
-};
+use pgs_world_files::{Access, AreaFile, FileCause, Opening, StoreFile, SystemFile, SystemOpening};
 use pgs_world_streams::Cause;
 use std::fs;
 use std::os::unix::fs::MetadataExt;
@@ -17,91 +15,116 @@ fn opened<'a>(rt: &'a HostRuntime, name: &str, access: Access) -> Result<Area<'a
     SystemOpening::new(rt, rt.alloc()).open_area(String::from_str(rt.alloc(), name)?, access)
 }
 
-/// Why a second run can't open the file that a first has open.
-fn refused(
-    rt: &HostRuntime,
-    name: &str,
-    first: Access,
-    second: Access,
-) -> Result<Option<FileCause>, Memory> {
-    let _open = opened(rt, name, first)?;
-    Ok(opened(rt, name, second)?.cause())
+/// Why a file isn't opened, or `None` where it is.
+fn cause_of(rt: &HostRuntime, name: &str, access: Access) -> Result<Option<FileCause>, Memory> {
+    Ok(opened(rt, name, access)?.cause())
 }
 
-/// Why a file of these bytes can't be opened for an access.
-fn cause_over(rt: &HostRuntime, bytes: &[u8], access: Access) -> Result<Option<FileCause>, Fail> {
-    fs::write(rt, "bytes.a", bytes)?;
-    let area = opened(rt, "bytes.a", access)?;
-    fs::remove_file(rt, "bytes.a")?;
-    Ok(area.cause())
+/// Why a second run can't open the file that a first has open.
+fn refused(rt: &HostRuntime, first: Access, second: Access) -> Result<Option<FileCause>, Memory> {
+    let _open = opened(rt, "lock.a", first)?;
+    cause_of(rt, "lock.a", second)
 }
 
 #[test]
 fn readers_share_and_writers_do_not(rt: HostRuntime) -> Result<(), Fail> {
-    let seen = [
-        refused(&rt, "lock.a", Access::Read, Access::Read)?,
-        refused(&rt, "lock.a", Access::Read, Access::Write)?,
-        refused(&rt, "lock.a", Access::Write, Access::Read)?,
+    let pairs = [
+        (Access::Read, Access::Read),
+        (Access::Read, Access::Write),
+        (Access::Write, Access::Read),
     ];
-    fs::remove_file(&rt, "lock.a")?;
+    let mut seen = [None; 3];
+    for (place, (first, second)) in seen.iter_mut().zip(pairs) {
+        *place = refused(&rt, first, second)?;
+    }
+    let _removed = fs::remove_file(&rt, "lock.a");
     let locked = Some(FileCause::Locked);
     assert_eq!(rt; seen, [None, locked, locked]);
     Ok(())
 }
 
+/// Why a file of these bytes can't be opened for an access.
+fn cause_over(rt: &HostRuntime, bytes: &[u8], access: Access) -> Result<Option<FileCause>, Memory> {
+    let _written = fs::write(rt, "bytes.a", bytes);
+    let cause = cause_of(rt, "bytes.a", access)?;
+    let _removed = fs::remove_file(rt, "bytes.a");
+    Ok(cause)
+}
+
 #[test]
 fn a_new_store_goes_over_no_file_of_something_else(rt: HostRuntime) -> Result<(), Fail> {
-    let seen = [
-        cause_over(&rt, b"1\n2\n", Access::Make)?,
-        cause_over(&rt, b"1\n2\n", Access::Read)?,
-        cause_over(&rt, b"#PGSGRD1", Access::Make)?,
-        cause_over(&rt, b"#PGSGRD2", Access::Make)?,
-        cause_over(&rt, b"#", Access::Make)?,
-        cause_over(&rt, b"\0\n", Access::Make)?,
-    ];
+    let files: [&[u8]; 5] = [b"1\n2\n", b"#PGSGRD1", b"#PGSGRD2", b"#", b"\0\n"];
+    let mut seen = [None; 5];
+    for (place, bytes) in seen.iter_mut().zip(files) {
+        *place = cause_over(&rt, bytes, Access::Make)?;
+    }
+    assert_eq!(rt; seen, [Some(FileCause::Others), None, None, None, None]);
+    Ok(())
+}
+
+#[test]
+fn a_reader_opens_a_file_of_something_else(rt: HostRuntime) -> Result<(), Fail> {
+    assert_eq!(rt; cause_over(&rt, b"1\n2\n", Access::Read)?, None);
+    Ok(())
+}
+
+/// The rights of a file that an opening made.
+fn rights_of_new(rt: &HostRuntime) -> Result<u32, Fail> {
+    let _new = cause_of(rt, "new.a", Access::Write)?;
+    let rights = fs::metadata(rt, "new.a")?.mode() & 0o777;
+    let _removed = fs::remove_file(rt, "new.a");
+    Ok(rights)
+}
+
+#[test]
+fn a_new_file_is_its_owners(rt: HostRuntime) -> Result<(), Fail> {
+    assert_eq!(rt; rights_of_new(&rt)?, 0o600);
+    Ok(())
+}
+
+#[test]
+fn a_folder_is_no_file(rt: HostRuntime) -> Result<(), Fail> {
+    let _made = fs::create_dir(&rt, "folder.a");
+    let cause = cause_of(&rt, "folder.a", Access::Write)?;
+    let _removed = fs::remove_dir(&rt, "folder.a");
+    assert_eq!(rt; cause, Some(FileCause::NotRegular));
+    Ok(())
+}
+
+#[test]
+fn no_file_is_made_in_a_missing_folder(rt: HostRuntime) -> Result<(), Fail> {
+    let absent = FileCause::Call(Cause::Absent);
     assert_eq!(rt;
-        seen,
-        [Some(FileCause::Others), None, None, None, None, None]
+        cause_of(&rt, "missing/new.a", Access::Write)?,
+        Some(absent)
     );
     Ok(())
 }
 
-/// What is made, or refused, under three names: the rights of a new file, and why a folder and a name in no folder aren't opened.
-fn made(rt: &HostRuntime) -> Result<(u32, [Option<FileCause>; 2]), Fail> {
-    fs::create_dir(rt, "folder.a")?;
-    let folder = opened(rt, "folder.a", Access::Write)?.cause();
-    fs::remove_dir(rt, "folder.a")?;
-    let missing = opened(rt, "missing/new.a", Access::Write)?.cause();
-    let _new = opened(rt, "new.a", Access::Write)?;
-    let rights = fs::metadata(rt, "new.a")?.mode() & 0o777;
-    fs::remove_file(rt, "new.a")?;
-    Ok((rights, [folder, missing]))
+/// Whether a sync fails, and why.
+fn sync_of(area: &mut Area<'_>) -> (bool, Option<FileCause>) {
+    (area.sync().is_err(), area.cause())
 }
 
-#[test]
-fn a_new_file_is_its_owners_and_a_folder_is_no_file(rt: HostRuntime) -> Result<(), Fail> {
-    let absent = FileCause::Call(Cause::Absent);
-    let want = (0o600, [Some(FileCause::NotRegular), Some(absent)]);
-    assert_eq!(rt; made(&rt)?, want);
-    Ok(())
+fn replace(rt: &HostRuntime) {
+    let _written = fs::write(rt, "other.a", "x");
+    let _renamed = fs::rename(rt, "other.a", "gone.a");
 }
 
-/// Whether a sync fails, and why: of a file that stays, one that was replaced, and one that was removed.
-fn synced(rt: &HostRuntime) -> Result<[(bool, Option<FileCause>); 3], Fail> {
+/// Syncs of a file that stays, of one that was replaced, and of one that was removed.
+fn three_syncs(rt: &HostRuntime) -> Result<[(bool, Option<FileCause>); 3], Memory> {
     let mut area = opened(rt, "gone.a", Access::Write)?;
-    let stays = (area.sync().is_err(), area.cause());
-    fs::write(rt, "other.a", "x")?;
-    fs::rename(rt, "other.a", "gone.a")?;
-    let replaced = (area.sync().is_err(), area.cause());
-    fs::remove_file(rt, "gone.a")?;
-    let removed = (area.sync().is_err(), area.cause());
-    Ok([stays, replaced, removed])
+    let stays = sync_of(&mut area);
+    replace(rt);
+    let replaced = sync_of(&mut area);
+    let _removed = fs::remove_file(rt, "gone.a");
+    Ok([stays, replaced, sync_of(&mut area)])
 }
 
 #[test]
 fn a_sync_fails_where_the_file_lost_its_name(rt: HostRuntime) -> Result<(), Fail> {
     let lost = (true, Some(FileCause::Replaced));
-    assert_eq!(rt; synced(&rt)?, [(false, None), lost, lost]);
+    assert_eq!(rt; three_syncs(&rt)?, [(false, None), lost, lost]);
     Ok(())
 }
 
@@ -111,21 +134,33 @@ fn put_two(system: &mut SystemOpening<'_, HostRuntime>, name: &str) -> Result<[b
     Ok([feed.put(b"a\n").is_err(), feed.put(b"bc\n").is_err()])
 }
 
+/// Puts into a file, into the same by another name, and into one that can't be made.
+fn three_feeds(rt: &HostRuntime) -> Result<[[bool; 2]; 3], Memory> {
+    let mut system = SystemOpening::new(rt, rt.alloc());
+    let mut seen = [[false; 2]; 3];
+    for (place, name) in seen
+        .iter_mut()
+        .zip(["feed.out", "link.out", "missing/feed.out"])
+    {
+        *place = put_two(&mut system, name)?;
+    }
+    Ok(seen)
+}
+
+/// The same over a file that an earlier run left, and what the file holds then.
+fn feeds_and_text(rt: &HostRuntime) -> Result<([[bool; 2]; 3], String), Fail> {
+    let _written = fs::write(rt, "feed.out", "0\n");
+    let _linked = fs::hard_link(rt, "feed.out", "link.out");
+    let seen = three_feeds(rt)?;
+    let text = fs::read_to_string(rt, "feed.out")?;
+    let _removed = fs::remove_file(rt, "feed.out");
+    let _unlinked = fs::remove_file(rt, "link.out");
+    Ok((seen, text))
+}
+
 #[test]
 fn a_feed_stands_behind_an_earlier_run_and_is_no_file_of_this(rt: HostRuntime) -> Result<(), Fail> {
-    // A run of this test that was stopped may have left it.
-    let _absent = fs::remove_file(&rt, "feed.out");
-    fs::write(&rt, "feed.out", "0\n")?;
-    fs::hard_link(&rt, "feed.out", "link.out")?;
-    let mut system = SystemOpening::new(&rt, rt.alloc());
-    let seen = [
-        put_two(&mut system, "feed.out")?,
-        put_two(&mut system, "link.out")?,
-        put_two(&mut system, "missing/feed.out")?,
-    ];
-    let text = fs::read_to_string(&rt, "feed.out")?;
-    fs::remove_file(&rt, "feed.out")?;
-    fs::remove_file(&rt, "link.out")?;
+    let (seen, text) = feeds_and_text(&rt)?;
     let want = [[false; 2], [true; 2], [true; 2]];
     assert_eq!(rt; (seen, text.as_str()), (want, "0\na\nbc\n"));
     Ok(())

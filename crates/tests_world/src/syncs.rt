@@ -72,10 +72,7 @@ impl NamedFile for Failing {
 }
 
 /// Whether each of two syncs fails, and what was written between.
-fn synced_twice(
-    alloc: Global,
-    named: bool,
-) -> Result<([bool; 2], [Option<(u64, u8)>; 4]), Memory> {
+fn synced_twice(alloc: Global, named: bool) -> Result<([bool; 2], [Option<(u64, u8)>; 4]), Memory> {
     let written = Rc::new(alloc, Cell::new([None; 4]))?;
     let mut store = StoreFile::new(Failing {
         syncs: 0,

@@ -80,16 +80,16 @@ fn the_thousandth_interruption_in_a_row_is_a_fault(rt: HostRuntime) -> Result<()
 type NoAreas<'a> = AreaFiles<StoreFile<SystemFile<'a, HostRuntime>>>;
 
 /// What three puts answer where the second write is interrupted and the fifth fails, and what was written.
-fn three_puts<'a>(alloc: Global) -> ([Result<(), PutFault>; 3], Vec<u8>) {
-    let areas: NoAreas<'a> = AreaFiles::absent();
-    let mut world = FileWorld::new(areas, Slow::new(alloc, 2, 5), Seed::Fixed);
+fn three_puts(rt: &HostRuntime) -> ([Result<(), PutFault>; 3], Vec<u8>) {
+    let areas: NoAreas<'_> = AreaFiles::absent();
+    let mut world = FileWorld::new(areas, Slow::new(rt.alloc(), 2, 5), Seed::Fixed);
     let answers = [world.put(b"ab"), world.put(b"cd"), world.put(b"e")];
     (answers, world.into_writer().kept)
 }
 
 #[test]
 fn pieces_are_put_whole_or_a_front_of_them_is(rt: HostRuntime) -> Result<(), Fail> {
-    let (answers, kept) = three_puts(rt.alloc());
+    let (answers, kept) = three_puts(&rt);
     let want = [Ok(()), Err(PutFault), Ok(())];
     assert_eq!(rt; (answers, kept.as_slice()), (want, b"abce".as_slice()));
     Ok(())
