@@ -67,13 +67,10 @@ fn seen_of(world: &mut FileWorld<Vec<u8>, System<'_>>, area: Area) -> Seen {
     }
 }
 
-/// What is seen of both areas of a store, whose files are removed then.
+/// What is seen of both areas of a store.
 fn seen_of_both(rt: &HostRuntime, store: &str) -> Result<[Seen; 2], Memory> {
     let mut world = world_at(rt, rt.alloc(), store)?;
-    let seen = [Area::A, Area::B].map(|area| seen_of(&mut world, area));
-    let _removed = fs::remove_file(rt, "world.a");
-    let _removed_too = fs::remove_file(rt, "world.b");
-    Ok(seen)
+    Ok([Area::A, Area::B].map(|area| seen_of(&mut world, area)))
 }
 
 #[test]
@@ -86,7 +83,10 @@ fn both_files_give_back_what_was_written(rt: HostRuntime) -> Result<(), Fail> {
         within: Ok(*b"bcd"),
         past_the_end: Err(AreaFault),
     };
-    assert_eq!(rt; seen_of_both(&rt, "world")?, [want, want]);
+    let seen = seen_of_both(&rt, "world")?;
+    let _removed = fs::remove_file(&rt, "world.a");
+    let _removed_too = fs::remove_file(&rt, "world.b");
+    assert_eq!(rt; seen, [want, want]);
     Ok(())
 }
 
