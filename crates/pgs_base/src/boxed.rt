@@ -6,7 +6,6 @@ use std::marker::Model;
 
 /// A `Box` that contracts see as the value in it, so that two boxes of one value are equal. A type that
 /// holds itself is written with it.
-#[derive(Debug)]
 pub struct Boxed<T> {
     inner: Box<T>,
 }

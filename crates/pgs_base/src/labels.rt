@@ -13,7 +13,6 @@ use std::alloc::Global;
 use std::marker::Model;
 
 /// The labels of an element: a set of names. Contracts see them as a list that ascends strictly.
-#[derive(Debug)]
 pub struct Labels {
     names: Ordered<Name>,
 }

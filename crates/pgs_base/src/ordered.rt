@@ -13,7 +13,6 @@ use std::alloc::Global;
 use std::marker::Model;
 
 /// Keys that ascend strictly by their order, in a `Vec`. Contracts see the list of them.
-#[derive(Debug)]
 pub struct Ordered<K: Ord> {
     keys: Vec<K>,
 }

@@ -18,7 +18,6 @@ use std::marker::Model;
 
 /// The properties of an element: a partial map from names to values. Contracts see them as a list of pairs
 /// whose names ascend strictly.
-#[derive(Debug)]
 pub struct Props {
     rows: Rows<Name, Value>,
 }

@@ -7,14 +7,14 @@ use crate::{Copyable, EdgeId, Labels, Memory, NodeId, Props};
 use std::alloc::Global;
 
 /// What a node carries.
-#[derive(Debug, Drop)]
+#[derive(Drop)]
 pub struct NodeRow {
     pub labels: Labels,
     pub props: Props,
 }
 
 /// The ends of an edge, which may be one node, and what it carries.
-#[derive(Debug, Drop)]
+#[derive(Drop)]
 pub struct EdgeRow {
     pub source: NodeId,
     pub target: NodeId,

@@ -13,7 +13,6 @@ use std::marker::Model;
 use std::mem;
 
 /// Values by keys that ascend strictly by their order, in a `Vec`. Contracts see the list of the pairs.
-#[derive(Debug)]
 pub struct Rows<K: Ord, V> {
     rows: Vec<(K, V)>,
 }

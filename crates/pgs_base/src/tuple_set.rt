@@ -14,14 +14,13 @@ use std::slice;
 /// A set of tuples. Contracts see it as a list of tuples that ascends strictly.
 ///
 /// A set of one tuple takes no memory beside the tuple's own.
-#[derive(Debug)]
 pub struct TupleSet {
     alloc: Global,
     kept: Kept,
 }
 
 // Nearly every element has one key value, so that one tuple lies in the set itself.
-#[derive(Debug, Drop)]
+#[derive(Drop)]
 pub(crate) enum Kept {
     One(Tuple),
     Many(Ordered<Tuple>),

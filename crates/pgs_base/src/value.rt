@@ -5,7 +5,7 @@ use crate::{Copyable, Day, Memory, Text};
 use std::alloc::Global;
 
 /// The kind of a value: STRING, INT, BOOL or DATE of the schema language.
-#[derive(Clone, Copy, Debug, PartialEq, Eq)]
+#[derive(Clone, Copy, PartialEq, Eq)]
 pub enum Kind {
     Text,
     Int,

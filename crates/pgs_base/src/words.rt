@@ -6,7 +6,6 @@ use std::alloc::Global;
 use std::marker::Model;
 
 /// The words of a command line, after the program's name.
-#[derive(Debug)]
 pub struct Words {
     alloc: Global,
     words: Vec<String>,

@@ -13,7 +13,6 @@ use std::collections::BTreeMap;
 use std::marker::Model;
 
 /// Rows by key, each in a slot. Contracts see the slots by ascending key: a key, and its row or `None`.
-#[derive(Debug)]
 pub struct Slots<K: Ord, V> {
     slots: BTreeMap<K, Option<V>>,
     live: usize,

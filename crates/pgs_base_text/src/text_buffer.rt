@@ -8,7 +8,7 @@ use std::alloc::Global;
 use std::marker::Model;
 
 /// Bytes of a text that is being written. After `Memory` a buffer may hold a front of what was pushed; a text is then given up.
-#[derive(Debug, Drop)]
+#[derive(Drop)]
 pub struct TextBuffer {
     bytes: Vec<u8>,
 }

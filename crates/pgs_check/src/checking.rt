@@ -38,7 +38,7 @@ use std::mem;
 use std::sync::ledger::Ledger;
 
 /// Why a check gives no changes.
-#[derive(Debug, Drop)]
+#[derive(Drop)]
 pub enum CheckFault {
     /// No memory was left.
     Memory,

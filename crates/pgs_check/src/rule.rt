@@ -10,7 +10,7 @@ use pgs_violation::Violation;
 use std::alloc::Global;
 
 /// What a key asks of an element alone: that it has a key value, that it has at most one, or that their number is within bounds.
-#[derive(Clone, Copy, Debug)]
+#[derive(Clone, Copy)]
 pub(crate) enum Rule {
     Mandatory,
     Singleton,

@@ -2,7 +2,7 @@ use pgs_base::{Bytes, EdgeId, EdgeRow, List, NodeId, NodeRow};
 use pgs_graph::Txn;
 
 /// What one record of a journal holds.
-#[derive(Debug, Drop)]
+#[derive(Drop)]
 pub enum Command {
     /// The text of a schema, in any bytes.
     Schema(Bytes),

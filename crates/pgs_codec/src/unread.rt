@@ -5,11 +5,11 @@ use pgs_base::Memory;
 use std::alloc::AllocFailed;
 
 /// The bytes are not those of what is read.
-#[derive(Clone, Copy, Debug, PartialEq, Eq)]
+#[derive(Clone, Copy, PartialEq, Eq)]
 pub(crate) struct Unfit;
 
 /// Why nothing was read.
-#[derive(Clone, Copy, Debug, PartialEq, Eq)]
+#[derive(Clone, Copy, PartialEq, Eq)]
 pub(crate) enum Unread {
     /// There was no memory for it.
     Memory,

@@ -12,7 +12,6 @@ use std::marker::Model;
 
 /// A valid schema with its types compiled: for each type the list of its shapes, which denotes exactly what the definitions of
 /// fitting say of the type, and has no more shapes than the type's width counts forms. Contracts see the schema.
-#[derive(Debug)]
 pub struct Compiled {
     resolved: Resolved,
     nodes: List<List<Shape>>,

@@ -4,7 +4,7 @@ ghost use Rattle.pgs_conform.specs.Shapes.{admits_kind};
 use pgs_base::Kind;
 
 /// What may stand at a key: nothing, or a value of a kind.
-#[derive(Clone, Copy, Debug, PartialEq, Eq)]
+#[derive(Clone, Copy, PartialEq, Eq)]
 pub struct Options {
     pub absent: bool,
     pub text: bool,

@@ -5,7 +5,7 @@ use pgs_base::{Labels, Props, pair_facts};
 use std::marker::Model;
 
 /// What an element carries, lent. Contracts see it as the pair of the definitions.
-#[derive(Debug, Drop)]
+#[derive(Drop)]
 pub struct Pair<'a> {
     pub labels: &'a Labels,
     pub props: &'a Props,

@@ -10,7 +10,7 @@ use pgs_base::{Labels, List, Name};
 /// A set of pairs of labels and properties. A pair is in it where it has all of `labels`, and no further one unless
 /// `more_labels`; at each key of `keys` it has what the options admit; and it has no further key unless `more_keys`. The keys ascend
 /// strictly. The rule stands in `specs/Shapes.antt`, as `in_shape`.
-#[derive(Debug, Drop)]
+#[derive(Drop)]
 pub struct Shape {
     pub labels: Labels,
     pub more_labels: bool,
@@ -20,7 +20,7 @@ pub struct Shape {
 }
 
 /// A set of triples of pairs: of an edge's source, of the edge itself, and of its target, each in its shape.
-#[derive(Debug, Drop)]
+#[derive(Drop)]
 pub struct Triple {
     pub source: Shape,
     pub middle: Shape,

@@ -21,7 +21,7 @@ use pgs_product::free_options;
 use std::alloc::Global;
 
 /// The labels of what may be outside, the keys at which values may stand in it, and what may stand at each.
-#[derive(Debug, Drop)]
+#[derive(Drop)]
 pub(crate) struct Frame {
     pub labels: Labels,
     pub keys: Labels,

@@ -1,7 +1,7 @@
 use pgs_base::{Labels, Props};
 
 /// What an element carries, owned.
-#[derive(Debug, Drop)]
+#[derive(Drop)]
 pub struct OwnedPair {
     pub labels: Labels,
     pub props: Props,
@@ -9,7 +9,7 @@ pub struct OwnedPair {
 
 /// What fits a type of one schema and is untyped in another: a node's pair, or the pairs of an edge's source, of the edge itself
 /// and of its target.
-#[derive(Debug, Drop)]
+#[derive(Drop)]
 pub enum Outside {
     Node(OwnedPair),
     Edge {

@@ -18,7 +18,7 @@ use pgs_conform::{Options, Triple};
 use std::alloc::Global;
 
 /// The frames of a triple of shapes.
-#[derive(Debug, Drop)]
+#[derive(Drop)]
 pub(crate) struct Frames {
     source: Frame,
     middle: Frame,
@@ -26,7 +26,7 @@ pub(crate) struct Frames {
 }
 
 /// Pairs of an edge's source, of the edge itself and of its target.
-#[derive(Debug, Drop)]
+#[derive(Drop)]
 pub(crate) struct OwnedTriple {
     pub source: OwnedPair,
     pub middle: OwnedPair,

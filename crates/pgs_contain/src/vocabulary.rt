@@ -14,7 +14,7 @@ use pgs_conform::{Options, Shape, Triple};
 use std::alloc::Global;
 
 /// The labels and keys that shapes name, and one of each that none of them names.
-#[derive(Debug, Drop)]
+#[derive(Drop)]
 pub(crate) struct Vocabulary {
     pub labels: Labels,
     pub keys: Labels,

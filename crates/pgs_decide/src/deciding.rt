@@ -39,7 +39,7 @@ pub struct Decided {
 }
 
 /// Why a transaction isn't accepted.
-#[derive(Debug, Drop)]
+#[derive(Drop)]
 pub enum DecideFault {
     /// There was no memory.
     Memory,

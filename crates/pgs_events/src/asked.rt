@@ -6,7 +6,7 @@ use pgs_base::Elem;
 use pgs_sessions_machine::Event;
 
 /// What the line of a reply says of its event: the session, and the element that it reads, if it reads one.
-#[derive(Clone, Copy, Debug)]
+#[derive(Clone, Copy)]
 pub struct Asked {
     pub session: u64,
     pub elem: Option<Elem>,

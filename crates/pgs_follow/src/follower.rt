@@ -16,7 +16,6 @@ use std::marker::Model;
 
 /// A follower of a feed. It takes the feed's bytes piece by piece and keeps one graph and one unfinished line. Contracts see the limits,
 /// what was followed of the ended lines, or the fault that ended it, and the bytes of the unfinished line.
-#[derive(Debug)]
 pub struct Follower {
     progress: Progress,
     line: Vec<u8>,

@@ -14,7 +14,6 @@ use std::marker::Model;
 
 /// What was followed of whole lines: the graph, the number of its commits, the number of lines read without a fault, and the fault
 /// that ended it. Contracts see these, and the limits.
-#[derive(Debug)]
 pub struct Progress {
     alloc: Global,
     limits: Limits,

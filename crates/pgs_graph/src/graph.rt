@@ -13,7 +13,6 @@ use crate::{Delta, EdgeRef, GraphRead, NodeRef, tick_each};
 use pgs_base::{Copyable, EdgeId, EdgeRow, List, Memory, NodeId, NodeRow, Steps};
 use pgs_base_slots::Slots;
 use std::alloc::Global;
-use std::fmt::{self, Debug, Formatter, Write};
 use std::marker::Model;
 use std::sync::ledger::Ledger;
 
@@ -37,15 +36,6 @@ impl Drop for Graph {
             outgoing: _,
             incoming: _,
         } = self;
-    }
-}
-
-impl Debug for Graph {
-    fn fmt<W: Write>(&self, f: &mut Formatter<W>) -> fmt::Result {
-        f.debug_struct("Graph")
-            .field("nodes", &self.nodes)
-            .field("edges", &self.edges)
-            .finish_non_exhaustive()
     }
 }
 

@@ -4,9 +4,8 @@ ghost use Rattle.pgs_graph.specs.declared.operation.Op.TheVariants.{AddNode, Add
 
 use pgs_base::{Copyable, EdgeId, Labels, List, Memory, Name, NodeId, Props, Value, pair_facts};
 use std::alloc::Global;
-use std::fmt::{self, Debug, Formatter, Write};
 
-/// One change of a graph. Its `Debug` shows the kind alone; the whole is the canonical text of `pgs_json`.
+/// One change of a graph.
 #[derive(Drop)]
 pub enum Op {
     AddNode {
@@ -69,7 +68,6 @@ pub enum Op {
 }
 
 /// Operations that are done together or not at all. Only the graph after all of them is judged.
-#[derive(Debug)]
 pub struct Txn {
     pub ops: List<Op>,
 }
@@ -169,25 +167,6 @@ fn unlabel_edge(alloc: Global, id: EdgeId, label: &Name) -> Result<Op, Memory>
 }
 
 impl Op {
-    // The kind's name.
-    fn kind(&self) -> &'static str {
-        match self {
-            Op::AddNode { .. } => "AddNode",
-            Op::AddEdge { .. } => "AddEdge",
-            Op::RemoveNode { .. } => "RemoveNode",
-            Op::DetachNode { .. } => "DetachNode",
-            Op::RemoveEdge { .. } => "RemoveEdge",
-            Op::SetNode { .. } => "SetNode",
-            Op::UnsetNode { .. } => "UnsetNode",
-            Op::LabelNode { .. } => "LabelNode",
-            Op::UnlabelNode { .. } => "UnlabelNode",
-            Op::SetEdge { .. } => "SetEdge",
-            Op::UnsetEdge { .. } => "UnsetEdge",
-            Op::LabelEdge { .. } => "LabelEdge",
-            Op::UnlabelEdge { .. } => "UnlabelEdge",
-        }
-    }
-
     /// What every operation meets: it is well formed. Nothing is done.
     pub fn facts(&self)
         ensures { is_well_formed_op self.now ≡ true }
@@ -234,12 +213,6 @@ impl Op {
                 let _name = name.bytes();
             }
         }
-    }
-}
-
-impl Debug for Op {
-    fn fmt<W: Write>(&self, f: &mut Formatter<W>) -> fmt::Result {
-        f.write_str(self.kind())
     }
 }
 

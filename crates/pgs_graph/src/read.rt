@@ -10,7 +10,7 @@ use std::alloc::Global;
 use std::sync::ledger::Ledger;
 
 /// What a node carries, where the graph has it.
-#[derive(Clone, Copy, Debug)]
+#[derive(Clone, Copy)]
 pub struct NodeRef<'a> {
     pub labels: &'a Labels,
     pub props: &'a Props,
@@ -29,7 +29,7 @@ impl<'a> NodeRef<'a> {
 }
 
 /// The ends of an edge and what it carries, where the graph has it.
-#[derive(Clone, Copy, Debug)]
+#[derive(Clone, Copy)]
 pub struct EdgeRef<'a> {
     pub source: NodeId,
     pub target: NodeId,

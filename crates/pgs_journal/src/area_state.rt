@@ -1,7 +1,7 @@
 use pgs_base::{Bytes, List};
 
 /// What an area is.
-#[derive(Debug, Drop)]
+#[derive(Drop)]
 pub enum AreaState {
     /// It has fewer than 17 bytes, or its gate is closed.
     NoStore,

@@ -2,7 +2,7 @@ ghost use Rattle.std.specs.Prelude.{◌≡◌};
 ghost use Rattle.pgs_journal.specs.Format.{field_bytes, record_number};
 
 /// The forms in which a store is written. The second gives each record its number, and so admits a schema at any place.
-#[derive(Clone, Copy, Debug, PartialEq, Eq)]
+#[derive(Clone, Copy, PartialEq, Eq)]
 pub enum Format {
     /// `PGSGRD1`: a record is its payload's length and its payload.
     First,

@@ -16,7 +16,7 @@ use pgs_world::{Area, AreaFault, World};
 pub const LAST_EPOCH: u64 = 16_777_215;
 
 /// What the head of an area says of it.
-#[derive(Clone, Copy, Debug)]
+#[derive(Clone, Copy)]
 pub enum Head {
     /// The area has fewer than 17 bytes, or its gate is closed.
     NoStore,
@@ -27,7 +27,7 @@ pub enum Head {
 }
 
 /// An area's length, and its first 17 bytes where it has so many: its gate, its head and the first record's gate.
-#[derive(Clone, Copy, Debug)]
+#[derive(Clone, Copy)]
 pub(crate) struct Front {
     pub(crate) area: Area,
     pub(crate) len: u64,

@@ -15,7 +15,7 @@ use pgs_world::{Area, AreaFault, World, cut_synced, write_synced};
 pub(crate) const OPEN: u8 = 1;
 
 /// The journal of a store in one area.
-#[derive(Debug, Drop)]
+#[derive(Drop)]
 pub struct Journal {
     pub area: Area,
     pub epoch: u64,

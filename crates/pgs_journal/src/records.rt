@@ -70,7 +70,7 @@ fn zeros(alloc: Global, count: usize) -> Result<Vec<u8>, Memory>
 }
 
 /// Reads the records of an area whose head is that of a store of this format and epoch.
-#[derive(Clone, Copy, Debug)]
+#[derive(Clone, Copy)]
 pub(crate) struct RecordReader {
     pub(crate) area: Area,
     pub(crate) len: u64,

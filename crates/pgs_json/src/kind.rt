@@ -7,7 +7,7 @@ ghost use Rattle.pgs_json.specs.Tree.{members_view};
 use crate::tree::Member;
 
 /// A kind of operation.
-#[derive(Clone, Copy, Debug, PartialEq, Eq)]
+#[derive(Clone, Copy, PartialEq, Eq)]
 pub enum Kind {
     AddNode,
     AddEdge,

@@ -1,7 +1,7 @@
 use std::alloc::AllocFailed;
 
 /// Why nothing was read.
-#[derive(Clone, Copy, Debug, PartialEq, Eq)]
+#[derive(Clone, Copy, PartialEq, Eq)]
 pub enum Unread {
     /// There was no memory for it.
     Memory,

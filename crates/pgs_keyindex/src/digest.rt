@@ -10,7 +10,7 @@ use pgs_tables::{Number, Numeric};
 use std::hash::{BuildHasher, DefaultHasher, Hash, Hasher};
 
 /// The digest of a tuple under a key. Others may have the same.
-#[derive(Clone, Copy, Debug, PartialEq, Eq, PartialOrd, Ord)]
+#[derive(Clone, Copy, PartialEq, Eq, PartialOrd, Ord)]
 pub(crate) struct Digest {
     pub(crate) key: u32,
     pub(crate) hash: u32,

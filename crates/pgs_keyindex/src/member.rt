@@ -10,7 +10,7 @@ use pgs_tables::{Number, Numeric};
 use std::hash::{Hash, Hasher};
 
 /// An element as a member of the scope of a key, in 16 bytes.
-#[derive(Clone, Copy, Debug, PartialEq, Eq, PartialOrd, Ord)]
+#[derive(Clone, Copy, PartialEq, Eq, PartialOrd, Ord)]
 pub(crate) struct Member {
     key: u32,
     edge: bool,

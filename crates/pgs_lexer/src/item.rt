@@ -11,7 +11,7 @@ use crate::string_item::string_size;
 use crate::word::{starts_name, word_size};
 
 /// What an item of a schema text is.
-#[derive(Clone, Copy, Debug, PartialEq, Eq)]
+#[derive(Clone, Copy, PartialEq, Eq)]
 pub enum ItemKind {
     Space,
     Comment,
@@ -25,7 +25,7 @@ pub enum ItemKind {
 }
 
 /// An item at the front of bytes: its kind, and how many bytes it has.
-#[derive(Clone, Copy, Debug)]
+#[derive(Clone, Copy)]
 pub struct Item {
     pub kind: ItemKind,
     pub size: usize,

@@ -5,7 +5,7 @@ use crate::item::ItemKind;
 use crate::keyword::is_keyword;
 
 /// What a token is.
-#[derive(Clone, Copy, Debug, PartialEq, Eq)]
+#[derive(Clone, Copy, PartialEq, Eq)]
 pub enum TokenKind {
     /// A word that is no keyword, or a name in backquotes.
     Name,

@@ -9,7 +9,7 @@ use std::marker::Model;
 
 /// A token: its kind, the places of its first byte and of the byte after its last one, and its bytes.
 /// A quoted name has its backquotes, and a string its quotes, with each quote inside it still written twice.
-#[derive(Clone, Copy, Debug)]
+#[derive(Clone, Copy)]
 pub struct Token<'a> {
     pub kind: TokenKind,
     pub start: usize,
@@ -18,7 +18,7 @@ pub struct Token<'a> {
 }
 
 /// Where a token is. A text is short enough for 32 bits.
-#[derive(Clone, Copy, Debug)]
+#[derive(Clone, Copy)]
 pub struct Span {
     pub kind: TokenKind,
     pub start: u32,
@@ -27,7 +27,7 @@ pub struct Span {
 
 /// All tokens of a text, which it borrows. Contracts see the list of its tokens. In every value they are the tokens of
 /// a text of at most 1,048,576 bytes and at most so many, in order, each the text's part at its span: `len` says so.
-#[derive(Debug, Drop)]
+#[derive(Drop)]
 pub struct Tokens<'a> {
     pub(crate) text: &'a [u8],
     pub(crate) spans: Vec<Span>,

@@ -8,7 +8,7 @@ use std::marker::Model;
 pub const MOST_VARIABLES: usize = 20;
 
 /// To what a variable is bound: a node, or an edge with its ends.
-#[derive(Clone, Copy, Debug)]
+#[derive(Clone, Copy)]
 pub enum Bound {
     Node(NodeId),
     Edge {

@@ -11,7 +11,7 @@ use std::alloc::Global;
 use std::marker::Model;
 
 /// One of the two patterns of a key.
-#[derive(Clone, Copy, Debug, PartialEq, Eq)]
+#[derive(Clone, Copy, PartialEq, Eq)]
 pub enum Side {
     Scope,
     Descriptor,

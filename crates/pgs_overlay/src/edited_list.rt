@@ -12,7 +12,7 @@ use std::alloc::Global;
 use std::sync::ledger::Ledger;
 
 /// A list of edges of a node as a delta leaves it: parts that are built, and behind them what the base's list has from the place `done` on.
-#[derive(Debug, Drop)]
+#[derive(Drop)]
 pub struct EditedList {
     pub parts: Vec<Placed>,
     pub len: usize,

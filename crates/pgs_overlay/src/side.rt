@@ -1,5 +1,5 @@
 /// One of the two lists of edges at a node.
-#[derive(Clone, Copy, Debug)]
+#[derive(Clone, Copy)]
 pub enum Side {
     /// The edges that go out of it.
     Out,

@@ -4,7 +4,7 @@ ghost use Rattle.pgs_parser.specs.declared.fault.ParseFault.TheVariants as fault
 use std::alloc::AllocFailed;
 
 /// Why tokens are no script.
-#[derive(Clone, Copy, Debug, PartialEq, Eq)]
+#[derive(Clone, Copy, PartialEq, Eq)]
 pub enum ParseFault {
     /// There was no memory for the tree.
     Memory,

@@ -16,7 +16,7 @@ use std::alloc::Global;
 use std::marker::Model;
 
 /// Reads trees from tokens. Contracts see the tokens that are left to read.
-#[derive(Debug, Drop)]
+#[derive(Drop)]
 pub struct Parser<'a> {
     pub(crate) alloc: Global,
     tokens: &'a Tokens<'a>,

@@ -1,5 +1,5 @@
 /// What the keys of a schema ask, as it is written.
-#[derive(Clone, Copy, Debug, PartialEq, Eq)]
+#[derive(Clone, Copy, PartialEq, Eq)]
 pub enum Qualifier {
     Exclusive,
     Mandatory,

@@ -5,7 +5,7 @@ use pgs_base::Memory;
 use std::alloc::{AllocError, AllocFailed};
 
 /// Why a text wasn't read.
-#[derive(Clone, Copy, Debug, PartialEq, Eq)]
+#[derive(Clone, Copy, PartialEq, Eq)]
 pub enum Unread {
     /// There was no memory.
     Memory,

@@ -5,7 +5,7 @@ use pgs_syntax::KeyCause;
 
 /// Why a script is no schema. The refusals are tested in this order over the whole script, each by its first place in
 /// it, and `Cycle` by the least name.
-#[derive(Debug, Drop)]
+#[derive(Drop)]
 pub enum ResolveFault {
     /// There was no memory.
     Memory,

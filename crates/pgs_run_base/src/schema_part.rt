@@ -10,7 +10,7 @@ use std::marker::Model;
 
 /// The schema text so far: its lines, with a line feed between each two. Of a text that is too long it keeps a front, one byte longer
 /// than a text may be.
-#[derive(Debug, Drop)]
+#[derive(Drop)]
 pub struct SchemaPart {
     text: LineBuffer,
     /// Whether there was a line.

@@ -1,7 +1,7 @@
 use pgs_base::{Bytes, Memory};
 
 /// Why a schema text or a line gives nothing.
-#[derive(Debug, Drop)]
+#[derive(Drop)]
 pub enum TextFault {
     /// It is refused: the text of its refusal.
     Refused(Bytes),

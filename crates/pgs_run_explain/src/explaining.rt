@@ -21,7 +21,7 @@ use std::sync::ledger::{Blank, Ledger};
 /// Tells of one element of a saved store: a line for each type of the guard that it fits, abstract ones too, and for each key in whose
 /// scope it is a line, and one for each of its values. Where the element is not in the graph one line says so, and the status is
 /// `Refused`.
-#[derive(Clone, Copy, Debug)]
+#[derive(Clone, Copy)]
 pub struct Explaining {
     /// The element.
     pub elem: Elem,

@@ -5,7 +5,7 @@ ghost use Rattle.pgs_run_follow.specs.ExitStatus.{status_number};
 use pgs_run_lines::{RunStatus, Stop};
 
 /// How a run ended. The number is the exit status of the program.
-#[derive(Clone, Copy, Debug, PartialEq, Eq)]
+#[derive(Clone, Copy, PartialEq, Eq)]
 pub enum FollowStatus {
     /// 0: the feed was read to its end and followed.
     Accepted,

@@ -7,7 +7,7 @@ use std::marker::Model;
 
 /// The front of a line of any length: as many bytes as a limit, and one more. So a line that is too long is
 /// known to be so, and takes no more memory.
-#[derive(Debug, Drop)]
+#[derive(Drop)]
 pub struct LineBuffer {
     bytes: Vec<u8>,
     limit: usize,

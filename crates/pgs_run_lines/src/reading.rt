@@ -20,7 +20,7 @@ use std::alloc::Global;
 const READ_SIZE: usize = 65_536;
 
 /// How the reading of an input ended.
-#[derive(Clone, Copy, Debug, PartialEq, Eq)]
+#[derive(Clone, Copy, PartialEq, Eq)]
 pub enum End {
     /// The input was read to its end.
     Whole,

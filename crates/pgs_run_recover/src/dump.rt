@@ -14,7 +14,7 @@ use std::alloc::Global;
 
 /// Tells a saved store as text: its schema's text, the line `---`, and one operation a line that makes its graph from the empty one.
 /// Of each node by number there is an add with its labels and then one operation for each property by name; then of each edge.
-#[derive(Clone, Copy, Debug)]
+#[derive(Clone, Copy)]
 pub struct Dump;
 
 // Puts the dump of a store.

@@ -1,5 +1,5 @@
 /// When graphs are judged, and what is told of it.
-#[derive(Clone, Copy, Debug, PartialEq, Eq)]
+#[derive(Clone, Copy, PartialEq, Eq)]
 pub enum Judging {
     /// The graph of each transaction is judged, and each line has its verdict line: the command `try`.
     EachLine,

@@ -1,7 +1,7 @@
 use pgs_base::Elem;
 
 /// A command of the program, with what its words say beside names of files.
-#[derive(Clone, Copy, Debug, PartialEq, Eq)]
+#[derive(Clone, Copy, PartialEq, Eq)]
 pub enum Command {
     /// `try`: a schema and lines of transactions, decided one after another; nothing is stored.
     Try,

@@ -3,7 +3,7 @@ ghost use Rattle.std.specs.List.{find};
 ghost use Rattle.pgs_run_words.specs.Words.{command_word, found_in};
 
 /// The first word of a command line.
-#[derive(Clone, Copy, Debug)]
+#[derive(Clone, Copy)]
 pub enum CommandWord {
     Try,
     Validate,

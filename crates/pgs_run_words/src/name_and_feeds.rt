@@ -9,7 +9,7 @@ use pgs_base::Memory;
 use std::alloc::{AllocError, Global};
 
 /// The name of a store and those of feeds.
-#[derive(Debug, Drop)]
+#[derive(Drop)]
 pub struct NameAndFeeds<'a> {
     pub name: &'a str,
     pub feeds: Vec<&'a str>,

@@ -3,7 +3,7 @@ use pgs_graph::Txn;
 use pgs_violation::Rejection;
 
 /// What comes to many sessions, each by its number.
-#[derive(Debug, Drop)]
+#[derive(Drop)]
 pub enum Event {
     /// A session begins.
     Begin(u64),
@@ -18,7 +18,7 @@ pub enum Event {
 }
 
 /// What an element is in a graph. The edges at a node aren't part of it.
-#[derive(Debug, Drop)]
+#[derive(Drop)]
 pub enum Content {
     Absent,
     Node(NodeRow),
@@ -26,7 +26,7 @@ pub enum Content {
 }
 
 /// What an event is answered.
-#[derive(Debug, Drop)]
+#[derive(Drop)]
 pub enum Reply {
     Began,
     /// The element in the graph of this moment, without what the session staged.

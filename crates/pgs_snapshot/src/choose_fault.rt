@@ -5,7 +5,7 @@ use pgs_journal::ScanFault;
 use pgs_world::AreaFault;
 
 /// Why no store was chosen.
-#[derive(Clone, Copy, Debug, PartialEq, Eq)]
+#[derive(Clone, Copy, PartialEq, Eq)]
 pub enum ChooseFault {
     /// There was no memory for the bytes of an area or for its payloads.
     Memory,

@@ -13,7 +13,7 @@ use pgs_world::{Area, World, sync_both};
 use std::alloc::Global;
 
 /// The store of two areas: the chosen area, and what stands in it.
-#[derive(Debug, Drop)]
+#[derive(Drop)]
 pub struct Chosen {
     pub area: Area,
     pub epoch: u64,

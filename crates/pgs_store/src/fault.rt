@@ -110,7 +110,7 @@ pub enum CheckpointFault {
 }
 
 /// Why a graph isn't put under another schema.
-#[derive(Debug, Drop)]
+#[derive(Drop)]
 pub(crate) enum SchemaRefusal {
     /// There was no memory.
     Memory,

@@ -3,7 +3,7 @@ use pgs_base::Name;
 
 /// A node type. `hidden` is the word ABSTRACT: the type makes no node typed. `place` is the number of the declaration
 /// in the script, from 1, over element types, graph types and keys together.
-#[derive(Debug, Drop)]
+#[derive(Drop)]
 pub struct NodeType<N> {
     pub name: Name,
     pub hidden: bool,
@@ -13,7 +13,7 @@ pub struct NodeType<N> {
 
 /// An edge type, with specifications of its source, of the edge and of its target. `hidden` and `place` are as in
 /// [`NodeType`].
-#[derive(Debug, Drop)]
+#[derive(Drop)]
 pub struct EdgeType<N> {
     pub name: Name,
     pub hidden: bool,

@@ -4,7 +4,7 @@ use pgs_base::List;
 /// What a key asks: MANDATORY, that each element of the scope has a key value; SINGLETON, that it has at most one;
 /// EXCLUSIVE, that no two elements of the scope share one. IDENTIFIER is these three. COUNT asks that the number of different key
 /// values of each element of the scope is at least `count`'s first number and at most its second.
-#[derive(Clone, Copy, Debug, PartialEq, Eq)]
+#[derive(Clone, Copy, PartialEq, Eq)]
 pub struct Qualifiers {
     pub mandatory: bool,
     pub singleton: bool,
@@ -13,7 +13,7 @@ pub struct Qualifiers {
 }
 
 /// A key: `FOR scope qualifiers exprs WITHIN descriptor`. Variable 0 is the element in both patterns.
-#[derive(Debug, Drop)]
+#[derive(Drop)]
 pub struct Key {
     pub qualifiers: Qualifiers,
     pub scope: Pattern,

@@ -1,7 +1,7 @@
 use pgs_base::{List, Name, Value};
 
 /// One demand of a pattern. Variables and types are numbered from 0.
-#[derive(Debug, Drop)]
+#[derive(Drop)]
 pub enum Atom {
     /// The edge has this source and this target.
     Ends { edge: u32, source: u32, target: u32 },
@@ -16,14 +16,14 @@ pub enum Atom {
 }
 
 /// A pattern: which of its variables are edges (the others are nodes), and what must hold of them.
-#[derive(Debug, Drop)]
+#[derive(Drop)]
 pub struct Pattern {
     pub edge_vars: List<bool>,
     pub atoms: List<Atom>,
 }
 
 /// What a key reads under a match: the element of a variable, or a property of it.
-#[derive(Debug, PartialEq, Eq, Drop)]
+#[derive(PartialEq, Eq, Drop)]
 pub enum Expr {
     Element(u32),
     Property { var: u32, key: Name },

@@ -2,7 +2,7 @@ use crate::{EdgeType, Key, Leaf, NodeType};
 use pgs_base::List;
 
 /// The number of a node type or of an edge type, from 0 in each kind.
-#[derive(Clone, Copy, Debug, PartialEq, Eq)]
+#[derive(Clone, Copy, PartialEq, Eq)]
 pub enum TypeNo {
     Node(u32),
     Edge(u32),
@@ -10,7 +10,7 @@ pub enum TypeNo {
 
 /// What the guard, the last graph type of a script, asks: whether each element must be typed, by which types, and its
 /// keys, which are numbered from 1.
-#[derive(Debug, Drop)]
+#[derive(Drop)]
 pub struct Guarding {
     pub strict: bool,
     pub types: List<TypeNo>,
@@ -19,7 +19,7 @@ pub struct Guarding {
 
 /// A schema with its names resolved. Node types, and apart from them edge types, stand so that a named number in a node
 /// type, or in an edge type's middle, is less than the number of the type that holds it.
-#[derive(Debug, Drop)]
+#[derive(Drop)]
 pub struct Resolved {
     pub nodes: List<NodeType<Leaf>>,
     pub edges: List<EdgeType<Leaf>>,

@@ -3,7 +3,7 @@ use pgs_base::{Boxed, List, Name};
 
 /// A member of a graph type: the name of an element type, or a type declared on the spot. Types are in boxes, so that
 /// a list of names takes little memory.
-#[derive(Debug, Drop)]
+#[derive(Drop)]
 pub enum Member {
     Named(Name),
     Node(Boxed<NodeType<Name>>),
@@ -12,7 +12,7 @@ pub enum Member {
 
 /// A graph type as written. `strict` is the word STRICT in place of LOOSE; `place` is the number of the declaration in
 /// the script, from 1.
-#[derive(Debug, Drop)]
+#[derive(Drop)]
 pub struct GraphType {
     pub name: Name,
     pub strict: bool,
@@ -23,7 +23,7 @@ pub struct GraphType {
 }
 
 /// A declaration of a script.
-#[derive(Debug, Drop)]
+#[derive(Drop)]
 pub enum Statement {
     Node(Boxed<NodeType<Name>>),
     Edge(Boxed<EdgeType<Name>>),
@@ -31,7 +31,7 @@ pub enum Statement {
 }
 
 /// A schema as written.
-#[derive(Debug, Drop)]
+#[derive(Drop)]
 pub struct Script {
     pub statements: List<Statement>,
 }

@@ -1,7 +1,7 @@
 use pgs_base::{Boxed, Kind, List, Name};
 
 /// What stands in a label position of a specification.
-#[derive(Debug, PartialEq, Eq, Drop)]
+#[derive(PartialEq, Eq, Drop)]
 pub enum Leaf {
     /// A label.
     Label(Name),
@@ -10,7 +10,7 @@ pub enum Leaf {
 }
 
 /// A property that braces name: its key, the kind of its value, and whether it may be absent.
-#[derive(Debug, PartialEq, Eq, Drop)]
+#[derive(PartialEq, Eq, Drop)]
 pub struct Property {
     pub key: Name,
     pub kind: Kind,
@@ -18,7 +18,7 @@ pub struct Property {
 }
 
 /// The properties between braces. With `more` the keys that they don't name are free; without it there is no other key.
-#[derive(Debug, Drop)]
+#[derive(Drop)]
 pub struct Braces {
     pub properties: List<Property>,
     pub more: bool,
@@ -27,7 +27,7 @@ pub struct Braces {
 /// A specification of elements: which pairs of a label set and a property map it admits. What each form means is the
 /// definition `fits` in `specs/Fitting.antt`. `N` is what stands in a label position, a `Name` as written or a `Leaf`
 /// as resolved.
-#[derive(Debug, Drop)]
+#[derive(Drop)]
 pub enum Spec<N> {
     /// Nothing written: no labels, no properties.
     Empty,

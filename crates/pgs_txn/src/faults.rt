@@ -5,7 +5,7 @@ use pgs_base::Memory;
 use pgs_violation::{Cause, Structural};
 
 /// Why a transaction was not staged.
-#[derive(Clone, Copy, Debug, PartialEq, Eq)]
+#[derive(Clone, Copy, PartialEq, Eq)]
 pub enum StageFault {
     /// There was no memory for it.
     Memory,
@@ -14,7 +14,7 @@ pub enum StageFault {
 }
 
 /// Why an operation was not done.
-#[derive(Clone, Copy, Debug, PartialEq, Eq)]
+#[derive(Clone, Copy, PartialEq, Eq)]
 pub(crate) enum OpFault {
     /// There was no memory for it.
     Memory,

@@ -181,7 +181,7 @@ impl Ord for Violation {
 }
 
 /// The judgement of a graph: its first violation, or that it conforms.
-#[derive(Debug, PartialEq, Eq, Drop)]
+#[derive(PartialEq, Eq, Drop)]
 pub enum Verdict {
     Conforms,
     Refused(Violation),

@@ -6,7 +6,7 @@ ghost use Rattle.pgs_width.specs.Capped.{capped, capped_width};
 pub const CAP: u64 = 4_194_305;
 
 /// The width of a specification or of a type, with each number counted up to the cap.
-#[derive(Clone, Copy, Debug)]
+#[derive(Clone, Copy)]
 pub struct CappedWidth {
     pub count: u64,
     pub weight: u64,

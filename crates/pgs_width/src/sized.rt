@@ -10,7 +10,7 @@ use pgs_syntax::{EdgeType, Leaf, NodeType, Resolved};
 use std::alloc::Global;
 
 /// A type: its name, its place in the script, and its width.
-#[derive(Debug, Drop)]
+#[derive(Drop)]
 pub struct SizedType {
     pub name: Name,
     pub place: u32,

@@ -1,5 +1,5 @@
 /// One of the two areas of bytes that a world has.
-#[derive(Clone, Copy, Debug, PartialEq, Eq)]
+#[derive(Clone, Copy, PartialEq, Eq)]
 pub enum Area {
     A,
     B,

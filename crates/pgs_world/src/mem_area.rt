@@ -9,7 +9,7 @@ use pgs_base::{Bytes, List, Memory};
 use std::alloc::Global;
 
 /// An area in memory, with what a stop may leave of it. No change of it asks for memory.
-#[derive(Debug, Drop)]
+#[derive(Drop)]
 pub(crate) struct MemArea {
     /// What a read gives.
     pub(crate) bytes: Vec<u8>,

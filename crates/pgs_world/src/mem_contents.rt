@@ -11,7 +11,7 @@ use pgs_base::{Bytes, List, Memory};
 use std::alloc::Global;
 
 /// A call that changed a world in memory, with the number of bytes that it was handed.
-#[derive(Clone, Copy, Debug)]
+#[derive(Clone, Copy)]
 pub(crate) enum Note {
     Write(Area, u64, u64),
     Cut(Area, u64),
@@ -20,14 +20,14 @@ pub(crate) enum Note {
 }
 
 /// The same, with the number of calls before it.
-#[derive(Clone, Copy, Debug)]
+#[derive(Clone, Copy)]
 pub(crate) struct Noted {
     pub(crate) before: u64,
     pub(crate) note: Note,
 }
 
 /// The two areas of a world in memory, and all that was put.
-#[derive(Debug, Drop)]
+#[derive(Drop)]
 pub(crate) struct Contents {
     pub(crate) a: MemArea,
     pub(crate) b: MemArea,

@@ -9,7 +9,7 @@ use std::alloc::Global;
 use std::marker::Model;
 
 /// A feed in memory: it tells its bytes, and fails exactly at the puts that are listed and at a piece for which it has no room.
-#[derive(Debug, Drop)]
+#[derive(Drop)]
 pub struct MemFeed {
     bytes: Vec<u8>,
     room: usize,

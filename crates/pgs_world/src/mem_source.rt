@@ -8,7 +8,7 @@ use pgs_base::{Bytes, List};
 use std::marker::Model;
 
 /// A source in memory: it tells its bytes, and fails exactly at the reads that are listed.
-#[derive(Debug, Drop)]
+#[derive(Drop)]
 pub struct MemSource {
     bytes: Bytes,
     at: usize,

@@ -17,7 +17,7 @@ use std::marker::Model;
 /// A world in memory. It is honest, tells its bytes and its output, and fails exactly as listed.
 ///
 /// It takes its memory when it is made, and no call asks for more.
-#[derive(Debug, Drop)]
+#[derive(Drop)]
 pub struct MemWorld {
     first_a: Bytes,
     first_b: Bytes,

@@ -4,7 +4,7 @@ ghost use Rattle.pgs_world.specs.MemWorld.{fails_next, refuses, counted, handed_
 use pgs_base::List;
 
 /// What a world in memory counts, and where it fails.
-#[derive(Debug, Drop)]
+#[derive(Drop)]
 pub(crate) struct Meter {
     /// How many calls, and how many bytes, there is memory for.
     pub(crate) room: u64,

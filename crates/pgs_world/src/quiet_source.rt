@@ -6,7 +6,7 @@ use pgs_base::Bytes;
 use std::marker::Model;
 
 /// A source in memory that tells its bytes and never fails.
-#[derive(Debug, Drop)]
+#[derive(Drop)]
 pub struct QuietSource {
     bytes: Bytes,
     at: usize,

@@ -13,7 +13,7 @@ use std::marker::Model;
 /// A world that tells nothing: contracts know no more of it than its counts, as of real files.
 ///
 /// Its areas are empty and take nothing in, and what is put goes nowhere. It also fails at the listed calls.
-#[derive(Debug, Drop)]
+#[derive(Drop)]
 pub struct SilentWorld {
     fail: List<u64>,
     calls: u64,

@@ -1,5 +1,5 @@
 /// What a run does with the files of a store.
-#[derive(Clone, Copy, Debug, PartialEq, Eq)]
+#[derive(Clone, Copy, PartialEq, Eq)]
 pub enum Access {
     /// It reads them, beside other runs that read.
     Read,

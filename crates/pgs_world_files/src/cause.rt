@@ -51,7 +51,7 @@ impl FileCause {
 }
 
 /// Why a file isn't opened: a cause that lies in the file, or want of memory.
-#[derive(Clone, Copy, Debug, PartialEq, Eq)]
+#[derive(Clone, Copy, PartialEq, Eq)]
 pub enum OpenFault {
     File(FileCause),
     Memory,

@@ -3,7 +3,7 @@ ghost use Rattle.pgs_world.specs.Count.{Rose, RoseByOne, raised};
 
 /// How often the world was called, how often a call on an area and a put failed, and how often a put didn't. A
 /// count of calls or faults stops at the end of a u64.
-#[derive(Clone, Copy, Debug, PartialEq, Eq)]
+#[derive(Clone, Copy, PartialEq, Eq)]
 pub struct Counts {
     pub calls: u64,
     pub area_faults: u64,

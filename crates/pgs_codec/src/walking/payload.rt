@@ -12,7 +12,7 @@ use pgs_base::Memory;
 use std::alloc::Global;
 
 /// What kind of command bytes are the payload of.
-#[derive(Clone, Copy, Debug, PartialEq, Eq)]
+#[derive(Clone, Copy, PartialEq, Eq)]
 pub enum PayloadKind {
     /// The text of a schema.
     Schema,
