@@ -112,7 +112,7 @@ fn count_key<L: Ledger>(
     for number in 0..2 * ELEMENTS {
         let elem = elem_of(number);
         let differs = differs(sides, key, elem, steps)?;
-        counts.count(differs, given.contains(&elem));
+        counts.count(differs, given.as_slice().contains(&elem));
     }
     Ok(())
 }

@@ -1,7 +1,7 @@
 //! Whether a list of violations is that of the plain program, which walks along it: from each place where violations of one kind are to
 //! begin to the place behind them, or to none where others stand there.
 
-use super::listing::{Row, Rows};
+use super::listing::{Row, Rows, pair};
 use pgs_base::{Elem, Tuple, TupleSet};
 use pgs_conform::{Compiled, edge_typed, node_typed};
 use pgs_syntax::Qualifiers;
@@ -14,14 +14,11 @@ pub struct Valued {
     pub tuples: TupleSet,
 }
 
-fn is_typed(compiled: &Compiled, rows: &[Row<'_>], row: &Row<'_>) -> Option<bool> {
+fn is_typed(compiled: &Compiled, row: &Row<'_>) -> bool {
+    let own = pair(row.own);
     match row.elem {
-        Elem::Node(_) => Some(node_typed(compiled, &row.pair())),
-        Elem::Edge(_) => {
-            let source = rows.get(row.source.0 as usize)?;
-            let target = rows.get(row.target.0 as usize)?;
-            Some(edge_typed(compiled, &source.pair(), &row.pair(), &target.pair()))
-        }
+        Elem::Node(_) => node_typed(compiled, &own),
+        Elem::Edge(_) => edge_typed(compiled, &pair(row.at_source), &own, &pair(row.at_target)),
     }
 }
 
@@ -35,10 +32,9 @@ fn is_untyped(found: &Violation, untyped: Elem) -> bool {
 
 /// The place behind the violations of elements that fit no type.
 pub fn after_untyped(compiled: &Compiled, rows: &Rows<'_>, list: &[Violation]) -> Option<usize> {
-    let rows = rows.rows.as_slice();
     let mut place = 0usize;
-    for row in rows {
-        if compiled.resolved().guard.strict && !is_typed(compiled, rows, row)? {
+    for row in rows.rows.as_slice() {
+        if compiled.resolved().guard.strict && !is_typed(compiled, row) {
             if !is_untyped(list.get(place)?, row.elem) {
                 return None;
             }

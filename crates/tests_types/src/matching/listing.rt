@@ -1,29 +1,28 @@
 //! The plain program of patterns: all matches, by listing all ways to give each variable an element.
 
-use pgs_base::{EdgeId, Elem, Labels, Memory, Name, NodeId, Part, Props, Steps, Tuple, Value};
+use pgs_base::{EdgeId, Elem, Memory, Name, NodeId, Part, Steps, Tuple, Value};
 use pgs_conform::{Compiled, Pair, edge_fits, node_fits};
-use pgs_graph::{Graph, GraphRead};
+use pgs_graph::{Graph, GraphRead, NodeRef};
 use pgs_syntax::{Atom, Expr, Pattern};
 use std::alloc::Global;
 use std::sync::ledger::Ledger;
 
-/// An element with what it carries. A node has itself at both ends.
+/// An element with what it carries, and what its ends carry. A node has itself at both ends.
 #[derive(Clone, Copy)]
 pub struct Row<'a> {
     pub elem: Elem,
     pub source: NodeId,
     pub target: NodeId,
-    pub labels: &'a Labels,
-    pub props: &'a Props,
+    pub own: NodeRef<'a>,
+    pub at_source: NodeRef<'a>,
+    pub at_target: NodeRef<'a>,
 }
 
-impl Row<'_> {
-    /// What the element carries.
-    pub fn pair(&self) -> Pair<'_> {
-        Pair {
-            labels: self.labels,
-            props: self.props,
-        }
+/// What is carried, as a pair.
+pub fn pair(carried: NodeRef<'_>) -> Pair<'_> {
+    Pair {
+        labels: carried.labels,
+        props: carried.props,
     }
 }
 
@@ -31,28 +30,36 @@ impl Row<'_> {
 #[derive(Drop)]
 pub struct Rows<'a> {
     pub rows: Vec<Row<'a>>,
-    pub nodes: usize,
+    nodes: usize,
 }
 
 fn node_row<'a, L: Ledger>(graph: &'a Graph, id: NodeId, steps: &mut Steps<L>) -> Option<Row<'a>> {
-    let node = graph.node(id, steps)?;
+    let own = graph.node(id, steps)?;
     Some(Row {
         elem: Elem::Node(id),
         source: id,
         target: id,
-        labels: node.labels,
-        props: node.props,
+        own,
+        at_source: own,
+        at_target: own,
     })
 }
 
 fn edge_row<'a, L: Ledger>(graph: &'a Graph, id: EdgeId, steps: &mut Steps<L>) -> Option<Row<'a>> {
     let edge = graph.edge(id, steps)?;
+    let at_source = graph.node(edge.source, steps)?;
+    let at_target = graph.node(edge.target, steps)?;
+    let own = NodeRef {
+        labels: edge.labels,
+        props: edge.props,
+    };
     Some(Row {
         elem: Elem::Edge(id),
         source: edge.source,
         target: edge.target,
-        labels: edge.labels,
-        props: edge.props,
+        own,
+        at_source,
+        at_target,
     })
 }
 
@@ -85,6 +92,13 @@ impl Rows<'_> {
         } else {
             self.nodes as u64
         }
+    }
+
+    // The row of a number among those that a variable may take.
+    fn row(&self, is_edge: bool, nth: u64) -> Option<&Row<'_>> {
+        let first = if is_edge { self.nodes } else { 0 };
+        let place = nth.saturating_add(first as u64);
+        self.rows.get(place as usize)
     }
 
     // How many assignments variables of these kinds have.
@@ -161,10 +175,9 @@ impl Listing<'_> {
             return None;
         };
         let count = self.rows.count(*is_edge);
-        let nth = number.checked_div(self.rows.assignment_count(later))?;
-        let first = if *is_edge { self.rows.nodes } else { 0 };
-        let place = nth.checked_rem(count)?.checked_add(first as u64)?;
-        self.rows.rows.get(place as usize)
+        let nth = number.checked_div(self.rows.assignment_count(later));
+        let nth = nth.unwrap_or(0).checked_rem(count).unwrap_or(0);
+        self.rows.row(*is_edge, nth)
     }
 
     // The element that an assignment gives a variable.
@@ -172,24 +185,29 @@ impl Listing<'_> {
         Some(self.row(number, var)?.elem)
     }
 
-    // The value of a property of the element that an assignment gives a variable.
+    fn has_label(&self, number: u64, var: u32, label: &Name) -> Option<bool> {
+        Some(self.row(number, var)?.own.labels.contains(label))
+    }
+
     fn value(&self, number: u64, var: u32, key: &Name) -> Option<&Value> {
-        self.row(number, var)?.props.get(key)
+        self.row(number, var)?.own.props.get(key)
     }
 
     // Whether an assignment gives a variable an edge with these ends.
     fn leads(&self, number: u64, edge: u32, source: u32, target: u32) -> Option<bool> {
         let edge = self.row(number, edge)?;
-        let is_source = self.elem(number, source)? == Elem::Node(edge.source);
-        Some(is_source && self.elem(number, target)? == Elem::Node(edge.target))
+        Some(
+            self.elem(number, source) == Some(Elem::Node(edge.source))
+                && self.elem(number, target) == Some(Elem::Node(edge.target)),
+        )
     }
 
     fn fits_node(&self, number: u64, var: u32, type_no: u32) -> Option<bool> {
         if type_no as usize >= self.compiled.resolved().nodes.len() {
             return None;
         }
-        let row = self.row(number, var)?;
-        Some(node_fits(self.compiled, type_no, row.labels, row.props))
+        let own = self.row(number, var)?.own;
+        Some(node_fits(self.compiled, type_no, own.labels, own.props))
     }
 
     fn fits_edge(&self, number: u64, var: u32, type_no: u32) -> Option<bool> {
@@ -197,9 +215,8 @@ impl Listing<'_> {
             return None;
         }
         let row = self.row(number, var)?;
-        let source = self.rows.rows.get(row.source.0 as usize)?.pair();
-        let target = self.rows.rows.get(row.target.0 as usize)?.pair();
-        Some(edge_fits(self.compiled, type_no, &source, &row.pair(), &target))
+        let (source, target) = (pair(row.at_source), pair(row.at_target));
+        Some(edge_fits(self.compiled, type_no, &source, &pair(row.own), &target))
     }
 
     // Whether an atom holds under an assignment. Nothing is as good as `false`.
@@ -210,10 +227,10 @@ impl Listing<'_> {
                 source,
                 target,
             } => self.leads(nth, *edge, *source, *target),
-            Atom::HasLabel { var, label } => Some(self.row(nth, *var)?.labels.contains(label)),
+            Atom::HasLabel { var, label } => self.has_label(nth, *var, label),
             Atom::FitsNode { var, number } => self.fits_node(nth, *var, *number),
             Atom::FitsEdge { var, number } => self.fits_edge(nth, *var, *number),
-            Atom::Equals { var, key, value } => Some(self.value(nth, *var, key)? == value),
+            Atom::Equals { var, key, value } => Some(self.value(nth, *var, key) == Some(value)),
         }
     }
 
