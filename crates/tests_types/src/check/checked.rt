@@ -91,7 +91,8 @@ fn answered<L: Ledger>(
     requires kept { IsKept schema.now.resolved tables.now.graph index.now }
     ensures { IfOk result (λ changes. IfSome changes (Keeps schema.now.resolved new.now index.now)) }
 {
-    let (compiled, keys) = (schema.compiled(), schema.keys());
+    let compiled = schema.compiled();
+    let keys = schema.keys();
     match check(alloc, tables, index, compiled, keys, new, delta, steps) {
         Ok(changes) => {
             tally.tell_change(None, first);

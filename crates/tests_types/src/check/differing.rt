@@ -42,7 +42,8 @@ fn differs<L: Ledger>(
 ) -> Result<bool, Memory>
     requires { is_valid_key_of sides.now.compiled.now key.now ≡ true }
 {
-    let (alloc, compiled) = (sides.alloc, sides.compiled);
+    let alloc = sides.alloc;
+    let compiled = sides.compiled;
     let was = in_scope(sides.before, compiled, key, elem, steps);
     let is = in_scope(sides.after, compiled, key, elem, steps);
     let old = key_values(alloc, sides.before, compiled, key, elem, steps)?;

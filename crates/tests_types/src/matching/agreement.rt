@@ -96,9 +96,17 @@ fn variable_agrees<L: Ledger>(
     requires typed { is_valid_key_of asked.now.compiled.now asked.now.key.now ≡ true }
     requires in_range { var < length (pattern_of side asked.now.key.now).edge_vars }
 {
-    let (alloc, graph, compiled, key) = (asked.alloc, asked.graph, asked.compiled, asked.key);
     for row in plain.rows() {
-        let elems = reach(alloc, graph, compiled, key, side, var, row.elem, steps)?;
+        let elems = reach(
+            asked.alloc,
+            asked.graph,
+            asked.compiled,
+            asked.key,
+            side,
+            var,
+            row.elem,
+            steps,
+        )?;
         if bits(elems.as_slice()) != Some(plain.reached(var, row.elem)) {
             return Ok(false);
         }
@@ -141,9 +149,9 @@ pub fn agreed<L: Ledger>(
 ) -> Result<Option<Vec<Valued>>, Memory>
     requires { is_valid_key_of asked.now.compiled.now asked.now.key.now ≡ true }
 {
-    let (alloc, compiled, key) = (asked.alloc, asked.compiled, asked.key.key());
-    let scope = Listing::new(alloc, compiled, rows, &key.scope)?;
-    let descriptor = Listing::new(alloc, compiled, rows, &key.descriptor)?;
+    let key = asked.key.key();
+    let scope = Listing::new(asked.alloc, asked.compiled, rows, &key.scope)?;
+    let descriptor = Listing::new(asked.alloc, asked.compiled, rows, &key.descriptor)?;
     let firsts = scope.firsts();
     if scope_agrees(asked, firsts, steps)?
         && reach_agrees(asked, Side::Scope, &scope, steps)?

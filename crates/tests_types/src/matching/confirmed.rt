@@ -68,8 +68,8 @@ fn confirmed_by<L: Ledger>(
     requires some { 0 < blank.parts }
 {
     let mut steps: Steps<L> = Steps::begin(blank);
-    let (compiled, keys) = (schema.compiled(), schema.keys());
-    confirms(alloc, graph, compiled, keys, violation, &mut steps)
+    let compiled = schema.compiled();
+    confirms(alloc, graph, compiled, schema.keys(), violation, &mut steps)
 }
 
 // Whether a violation is confirmed of the graph of a line.

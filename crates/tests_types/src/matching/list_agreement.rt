@@ -64,6 +64,21 @@ fn sharer<'a>(row: &'a Valued, later: &[Valued]) -> Option<(Elem, &'a Tuple)> {
     None
 }
 
+// The key and the element, the first where there are two, that a violation names.
+fn subject(found: &Violation) -> Option<(u32, Elem)> {
+    match found {
+        Violation::UntypedNode { .. } | Violation::UntypedEdge { .. } => None,
+        Violation::Mandatory { key, elem }
+        | Violation::Singleton { key, elem, .. }
+        | Violation::Exclusive {
+            key,
+            first: elem,
+            ..
+        }
+        | Violation::CountOutside { key, elem, .. } => Some((*key, *elem)),
+    }
+}
+
 // What a key demands of the elements of its scope.
 #[derive(Clone, Copy)]
 enum Demand {
@@ -87,50 +102,26 @@ impl Demand {
 
     // Whether a violation says of a key and an element that doesn't meet the demand why it doesn't.
     fn is_told(self, found: &Violation, number: u32, row: &Valued, later: &[Valued]) -> bool {
+        if subject(found) != Some((number, row.elem)) {
+            return false;
+        }
         match (self, found) {
-            (Demand::Mandatory, Violation::Mandatory { key, elem }) => {
-                *key == number && *elem == row.elem
+            (Demand::Mandatory, Violation::Mandatory { .. }) => true,
+            (Demand::Singleton, Violation::Singleton { first, second, .. }) => {
+                row.tuples.at(0) == Some(first) && row.tuples.at(1) == Some(second)
             }
-            (
-                Demand::Singleton,
-                Violation::Singleton {
-                    key,
-                    elem,
-                    first,
-                    second,
-                },
-            ) => {
-                *key == number
-                    && *elem == row.elem
-                    && row.tuples.at(0) == Some(first)
-                    && row.tuples.at(1) == Some(second)
-            }
-            (
-                Demand::Exclusive,
-                Violation::Exclusive {
-                    key,
-                    first,
-                    second,
-                    tuple,
-                },
-            ) => {
-                *key == number && *first == row.elem && sharer(row, later) == Some((*second, tuple))
+            (Demand::Exclusive, Violation::Exclusive { second, tuple, .. }) => {
+                sharer(row, later) == Some((*second, tuple))
             }
             (
                 Demand::Count(at_least, at_most),
                 Violation::CountOutside {
-                    key,
-                    elem,
                     count,
                     least,
                     most,
+                    ..
                 },
-            ) => {
-                *key == number
-                    && *elem == row.elem
-                    && *count == row.tuples.len() as u64
-                    && (*least, *most) == (at_least, at_most)
-            }
+            ) => { *count == row.tuples.len() as u64 && (*least, *most) == (at_least, at_most) }
             _ => false,
         }
     }
