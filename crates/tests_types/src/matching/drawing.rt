@@ -24,10 +24,10 @@ strictness=STRICT|LOOSE
 types=(t: A {k INT}), ABSTRACT (u: B OPEN {OPEN}), (:t)-[e: r {OPTIONAL k INT}]->(:t), ABSTRACT (:u)-[f OPEN {OPEN}]->(OPEN {OPEN})
 key=, FOR %key of x%|, FOR %key of edges%|, FOR %key of edges%|, FOR %key of nodes%|, FOR %key of nodes%
 
-key of x=(x%node test%)%qualifiers%%expressions of x%
-key of nodes=%scope of nodes%%qualifiers%%expressions of nodes% WITHIN %descriptor of nodes%
-key of edges=%scope of edges%%qualifiers%%expressions of edges% WITHIN %descriptor of edges%
-qualifiers= IDENTIFIER | EXCLUSIVE | MANDATORY | SINGLETON | EXCLUSIVE MANDATORY | SINGLETON, EXCLUSIVE | COUNT 1..2 OF | MANDATORY, COUNT 0..1 OF EXCLUSIVE 
+key of x=(x%node test%) %qualifiers% %expressions of x%
+key of nodes=%scope of nodes% %qualifiers% %expressions of nodes% WITHIN %descriptor of nodes%
+key of edges=%scope of edges% %qualifiers% %expressions of edges% WITHIN %descriptor of edges%
+qualifiers=IDENTIFIER|EXCLUSIVE|MANDATORY|SINGLETON|EXCLUSIVE MANDATORY|SINGLETON, EXCLUSIVE|COUNT 1..2 OF|MANDATORY, COUNT 0..1 OF EXCLUSIVE
 expressions of x=x|x.k|x.k, x
 expressions of nodes=x.k|c|v|v.k|c.k, v|v.k, x.k
 expressions of edges=x.k|u|v.k|u, v|u.k, x.k|v.k, x
