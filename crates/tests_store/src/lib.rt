@@ -1,34 +1,18 @@
-//! Tests of `pgs_store`.
-//!
-//! `Guard`: worked schemas with lines of transactions, each line's answer beside what it is to be; the answers are the lines that the
-//! program prints. `Store`, over the world in memory: worked calls, schemas one after the other, faults of the disk, areas that are refused, and each
-//! stop.
-//! What they answer is proved where it stands. That their calls ever answer `Ok` no contract says, and these tests show it.
+//! Tests of what is on the disk and of the calls and commands that keep it there: payloads and areas, guards and stores, whole runs that are
+//! stopped or that fail, and feeds. What is plainly a run of a command stands in the rows of `tests_rows` (`disk_`, `store_` and `hostile_`);
+//! here stand the loops over all stops with each leaving, all failing calls and all changed bytes, and what no command shows.
+//! What these calls answer is proved where it stands. That they ever answer `Ok` no contract says, and these tests show it.
 #![tactic(auto)]
 
 #[cfg(test)]
-mod costs;
+mod disk;
 #[cfg(test)]
-mod deciding;
+mod feeds;
 #[cfg(test)]
-mod evolving;
+mod images;
 #[cfg(test)]
-mod faults;
-#[cfg(test)]
-mod guard_limits;
-#[cfg(test)]
-mod keys;
-#[cfg(test)]
-mod refusals;
-#[cfg(test)]
-mod refused_schemas;
-#[cfg(test)]
-mod scenario;
-#[cfg(test)]
-mod specifications;
+mod runs;
 #[cfg(test)]
 mod stops;
 #[cfg(test)]
-mod store_limits;
-#[cfg(test)]
-mod typing;
+mod store;
