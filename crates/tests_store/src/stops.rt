@@ -43,14 +43,15 @@ impl Written {
         Ok(())
     }
 
-    /// What is read back of two areas.
+    /// What is read back of two areas: of what no store writes ten times the epoch and the number of records, 0 for no store, else 90.
     fn read(&self, alloc: Global, a: Bytes, b: Bytes) -> Result<u64, Memory> {
         match self {
             Written::Calls(_) => recovered(alloc, a, b),
-            _ => {
-                let ((_, epoch), records) = chosen(alloc, a, b)?;
-                Ok(epoch.saturating_mul(10).saturating_add(records))
-            }
+            _ => match chosen(alloc, a, b)? {
+                ((0, _), _) => Ok(0),
+                ((3 | 4, epoch), records) => Ok(epoch.saturating_mul(10).saturating_add(records)),
+                _ => Ok(90),
+            },
         }
     }
 
