@@ -47,11 +47,18 @@ impl Written {
     fn read(&self, alloc: Global, a: Bytes, b: Bytes) -> Result<u64, Memory> {
         match self {
             Written::Calls(_) => recovered(alloc, a, b),
-            _ => match chosen(alloc, a, b)? {
-                ((0, _), _) => Ok(0),
-                ((3 | 4, epoch), records) => Ok(epoch.saturating_mul(10).saturating_add(records)),
-                _ => Ok(90),
-            },
+            _ => {
+                let ((kind, epoch), records) = chosen(alloc, a, b)?;
+                let number = epoch.saturating_mul(10).saturating_add(records);
+                let is_store = kind == 3 || kind == 4;
+                Ok(if kind == 0 {
+                    0
+                } else if is_store {
+                    number
+                } else {
+                    90
+                })
+            }
         }
     }
 
