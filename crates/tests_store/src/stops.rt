@@ -43,13 +43,21 @@ impl Written {
         Ok(())
     }
 
-    /// What is read back of two areas.
+    /// What is read back of two areas: of what no store writes ten times the epoch and the number of records, 0 for no store, else 90.
     fn read(&self, alloc: Global, a: Bytes, b: Bytes) -> Result<u64, Memory> {
         match self {
             Written::Calls(_) => recovered(alloc, a, b),
             _ => {
-                let ((_, epoch), records) = chosen(alloc, a, b)?;
-                Ok(epoch.saturating_mul(10).saturating_add(records))
+                let ((kind, epoch), records) = chosen(alloc, a, b)?;
+                let number = epoch.saturating_mul(10).saturating_add(records);
+                let is_store = kind == 3 || kind == 4;
+                Ok(if kind == 0 {
+                    0
+                } else if is_store {
+                    number
+                } else {
+                    90
+                })
             }
         }
     }

@@ -119,7 +119,7 @@ fn both_taken(alloc: Global, line: &str) -> Result<(u8, u8), Memory> {
 
 #[test]
 fn each_field_is_kept_from_its_nearest_misses(rt: HostRuntime) -> Result<(), Fail> {
-    for line in MISSES.lines() {
+    for line in MISSES.split_terminator('\n') {
         assert_eq!(rt; both_taken(rt.alloc(), line)?, (1, 0), "{line}");
     }
     Ok(())

@@ -8,7 +8,7 @@ use std::alloc::Global;
 use tests_fixtures::words_of;
 
 /// The bytes and the calls that a run has room for.
-pub const ROOM: u64 = 4_096;
+pub const ROOM: u64 = 1_024;
 
 /// Runs the words over an input, read by seven bytes at a time, and a world, with no feed.
 pub fn run_over(

@@ -3,78 +3,141 @@
 ghost use Rattle.std.specs.Prelude.{◌≡◌, ◌<◌};
 
 use crate::store::scenario::PROGRAM;
-use pgs_base::{Memory, Steps};
-use pgs_graph::Txn;
-use pgs_json::{LineFault, read_txn};
+use pgs_base::{EdgeId, Labels, List, Memory, Name, NodeId, Props, Steps, Text, Value};
+use pgs_graph::{Op, Txn};
 use pgs_store::{Guard, GuardFault, GuardRefusal};
 use std::alloc::Global;
 use std::marker::Brand;
 use std::sync::ledger::{Blank, Ledger};
 use std::test::Fail;
 
-/// A schema; the operations of the first transaction; those of one number, of which each further transaction has so many; those of the one behind
-/// all of them; and those of the one whose look-ups are counted. `#` is the number, and `~` the one before it.
-type Growth = (
-    &'static str,
-    &'static str,
-    (&'static str, u64),
-    &'static str,
-    &'static str,
-);
+const PERSONS: &str =
+    "CREATE GRAPH TYPE g STRICT {(p: Person {mail STRING}), FOR (x:p) EXCLUSIVE x.mail};";
 
-const PERSON: &str = r#"{"add_node":#,"labels":["Person"],"props":{"mail":"u#@x.org"}}"#;
+const CHAIN: &str =
+    "CREATE GRAPH TYPE g LOOSE {FOR (x:A) MANDATORY z.v WITHIN (x)-[:r]->()-[:r]->(z)};";
 
-/// Persons, whose mails are all different, and one more.
-const PERSONS: Growth = (
-    "CREATE GRAPH TYPE g STRICT {(p: Person {mail STRING}), FOR (x:p) EXCLUSIVE x.mail};",
-    PERSON,
-    (PERSON, 5_000),
-    "",
-    PERSON,
-);
+fn name(alloc: Global, text: &str) -> Result<Name, Fail> {
+    match Name::new(alloc, text.as_bytes())? {
+        Some(name) => Ok(name),
+        None => Err(Fail::new("no name")),
+    }
+}
 
-/// Edges one behind another, of whose nodes one is in the scope of a key; and another value of the second node behind it.
-const CHAIN: Growth = (
-    "CREATE GRAPH TYPE g LOOSE {FOR (x:A) MANDATORY z.v WITHIN (x)-[:r]->()-[:r]->(z)};",
-    r#"{"add_node":#,"props":{"v":1}}"#,
-    (
-        r#"{"add_node":#,"props":{"v":1}},{"add_edge":#,"from":~,"to":#,"labels":["r"]}"#,
-        1_000,
-    ),
-    r#"{"label_node":500,"label":"A"}"#,
-    r#"{"set_node":502,"key":"v","value":2}"#,
-);
+fn label(alloc: Global, text: &str) -> Result<Labels, Fail> {
+    let mut labels = Labels::new(alloc);
+    labels.insert(name(alloc, text)?)?;
+    Ok(labels)
+}
 
-/// Adds operations for a number.
-fn add_ops(line: &mut String, alloc: Global, ops: &str, number: u64) -> Result<(), Memory> {
-    let before = format!(in alloc; "{}", number.saturating_sub(1))?;
-    let number = format!(in alloc; "{number}")?;
-    for letter in ops.chars() {
-        match letter {
-            '#' => line.push_str(number.as_str())?,
-            '~' => line.push_str(before.as_str())?,
-            _ => line.push(letter)?,
+fn prop(alloc: Global, key: &str, value: Value) -> Result<Props, Fail> {
+    let mut props = Props::new(alloc);
+    props.set(name(alloc, key)?, value)?;
+    Ok(props)
+}
+
+/// A mail that no other number has.
+fn mail(alloc: Global, number: u64) -> Result<Value, Fail> {
+    let text = format!(in alloc; "u{number}@x.org")?;
+    match Text::new(alloc, text.as_str())? {
+        Some(text) => Ok(Value::Text(text)),
+        None => Err(Fail::new("no text")),
+    }
+}
+
+fn person(alloc: Global, number: u64) -> Result<Op, Fail> {
+    Ok(Op::AddNode {
+        id: NodeId(number),
+        labels: label(alloc, "Person")?,
+        props: prop(alloc, "mail", mail(alloc, number)?)?,
+    })
+}
+
+/// A node of the chain. That of number 500 has a label, by which it is in the scope of the key.
+fn link(alloc: Global, number: u64) -> Result<Op, Fail> {
+    let labels = match number {
+        500 => label(alloc, "A")?,
+        _ => Labels::new(alloc),
+    };
+    Ok(Op::AddNode {
+        id: NodeId(number),
+        labels,
+        props: prop(alloc, "v", Value::Int(1))?,
+    })
+}
+
+/// The edge from the node of a number to the next one.
+fn forward(alloc: Global, number: u64) -> Result<Op, Fail> {
+    Ok(Op::AddEdge {
+        id: EdgeId(number),
+        source: NodeId(number),
+        target: NodeId(number.saturating_add(1)),
+        labels: label(alloc, "r")?,
+        props: Props::new(alloc),
+    })
+}
+
+/// A graph that grows by like transactions.
+#[derive(Clone, Copy)]
+enum Growth {
+    /// Persons, 5,000 in each.
+    Persons,
+    /// A chain of nodes, 1,000 in each.
+    Chain,
+}
+
+impl Growth {
+    fn schema(self) -> &'static str {
+        match self {
+            Growth::Persons => PERSONS,
+            Growth::Chain => CHAIN,
+        }
+    }
+
+    fn count(self) -> u64 {
+        match self {
+            Growth::Persons => 5_000,
+            Growth::Chain => 1_000,
+        }
+    }
+}
+
+/// Adds the operations of a number, from 1 on: a person, or a node and the edge to it from the one before.
+fn add_number(ops: &mut Vec<Op>, alloc: Global, growth: Growth, number: u64) -> Result<(), Fail> {
+    match growth {
+        Growth::Persons => ops.push(person(alloc, number)?)?,
+        Growth::Chain => {
+            ops.push(link(alloc, number)?)?;
+            if number > 1 {
+                ops.push(forward(alloc, number.saturating_sub(1))?)?;
+            }
         }
     }
     Ok(())
 }
 
-/// The transaction of operations for so many numbers, from a first one on.
-fn txn(alloc: Global, ops: &str, first: u64, count: u64) -> Result<Txn, Fail> {
-    let mut line = String::new(alloc);
-    line.push_str("{\"ops\":[")?;
-    for place in 0..count {
-        if place > 0 {
-            line.push_str(",")?;
-        }
-        add_ops(&mut line, alloc, ops, first.saturating_add(place))?;
+/// The transaction that adds so many numbers behind a number.
+fn growing(alloc: Global, growth: Growth, behind: u64, count: u64) -> Result<Txn, Fail> {
+    let mut ops = Vec::new(alloc);
+    for place in 1..=count {
+        add_number(&mut ops, alloc, growth, behind.saturating_add(place))?;
     }
-    line.push_str("]}")?;
-    match read_txn(alloc, line.as_bytes()) {
-        Ok(txn) => Ok(txn),
-        Err(LineFault::Memory) => Err(Fail::from(Memory)),
-        Err(LineFault::Unreadable | LineFault::LineTooLong) => Err(Fail::new("no transaction")),
-    }
+    Ok(Txn {
+        ops: List::from_vec(ops),
+    })
+}
+
+/// The transaction that gives node 502 another value.
+fn other_value(alloc: Global) -> Result<Txn, Fail> {
+    let mut ops = Vec::new(alloc);
+    ops.push(Op::SetNode {
+        id: NodeId(502),
+        key: name(alloc, "v")?,
+        value: Value::Int(2),
+    })?;
+    Ok(Txn {
+        ops: List::from_vec(ops),
+    })
 }
 
 fn guard(alloc: Global, schema: &str) -> Result<Guard, Fail> {
@@ -98,11 +161,11 @@ fn taken<L: Ledger>(guard: &mut Guard, txn: &Txn, steps: &mut Steps<L>) -> Resul
     }
 }
 
-/// How many look-ups the last transaction takes after so many further ones.
+/// How many look-ups one person more, or another value of one node, takes after so many transactions.
 fn counted_by<L: Ledger>(
     alloc: Global,
     guard: &mut Guard,
-    growth: &Growth,
+    growth: Growth,
     times: u64,
     blank: Blank,
 ) -> Result<u64, Fail>
@@ -110,32 +173,33 @@ fn counted_by<L: Ledger>(
     requires parts { blank.parts ≡ L.parts }
     requires some { 0 < blank.parts }
 {
-    let (_, begin, (ops, count), behind, last) = *growth;
     let mut steps: Steps<L> = Steps::begin(blank);
-    taken(guard, &txn(alloc, begin, 0, 1)?, &mut steps)?;
+    let count = growth.count();
     for place in 0..times {
-        let first = place.saturating_mul(count).saturating_add(1);
-        taken(guard, &txn(alloc, ops, first, count)?, &mut steps)?;
+        let txn = growing(alloc, growth, place.saturating_mul(count), count)?;
+        taken(guard, &txn, &mut steps)?;
     }
-    taken(guard, &txn(alloc, behind, 0, 1)?, &mut steps)?;
-    let next = times.saturating_mul(count).saturating_add(1);
-    taken(guard, &txn(alloc, last, next, 1)?, &mut steps)
+    let txn = match growth {
+        Growth::Persons => growing(alloc, growth, times.saturating_mul(count), 1)?,
+        Growth::Chain => other_value(alloc)?,
+    };
+    taken(guard, &txn, &mut steps)
 }
 
-fn counted(alloc: Global, growth: &Growth, times: u64) -> Result<u64, Fail> {
-    let mut guard = guard(alloc, growth.0)?;
+fn counted(alloc: Global, growth: Growth, times: u64) -> Result<u64, Fail> {
+    let mut guard = guard(alloc, growth.schema())?;
     counted_by::<Brand>(alloc, &mut guard, growth, times, Blank::new(1))
 }
 
 #[test]
-fn one_more_takes_few_look_ups_on_a_great_graph(rt: HostRuntime) -> Result<(), Fail> {
-    let person = counted(rt.alloc(), &PERSONS, 40)?;
-    let great = counted(rt.alloc(), &CHAIN, 100)?;
-    let small = counted(rt.alloc(), &CHAIN, 1)?;
-    assert_eq!(rt;
-        (person <= 147_456, great <= small),
-        (true, true),
-        "{person} {great} {small}"
-    );
+fn one_person_more(rt: HostRuntime) -> Result<(), Fail> {
+    assert!(rt; counted(rt.alloc(), Growth::Persons, 40)? <= 147_456);
+    Ok(())
+}
+
+#[test]
+fn another_value_on_a_chain(rt: HostRuntime) -> Result<(), Fail> {
+    let great = counted(rt.alloc(), Growth::Chain, 100)?;
+    assert!(rt; great <= counted(rt.alloc(), Growth::Chain, 1)?);
     Ok(())
 }
