@@ -117,7 +117,11 @@ const LONG: &[(u64, u64, usize)] = &[
 #[test]
 fn long_lists_are_as_a_sorted_vec(rt: HostRuntime) -> Result<(), Fail> {
     for (step, taken, left) in LONG {
-        assert_eq!(rt; compared(rt.alloc(), *step, *taken)?, (*left, *left), "{step}");
+        assert_eq!(rt;
+            compared(rt.alloc(), *step, *taken)?,
+            (*left, *left),
+            "{step}"
+        );
     }
     Ok(())
 }

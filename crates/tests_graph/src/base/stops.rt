@@ -44,7 +44,11 @@ const WAYS: &[(Leave, usize, u8)] = &[
 
 fn is_image(image: &[u8], want: &str, fills: u8) -> bool {
     let fits = image.iter().zip(want.as_bytes()).all(|(found, want)| *found
-        == if *want == b'.' { fills } else { want.wrapping_sub(b'0') });
+        == if *want == b'.' {
+            fills
+        } else {
+            want.wrapping_sub(b'0')
+        });
     image.len() == want.len() && fits
 }
 

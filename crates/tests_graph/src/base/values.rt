@@ -148,7 +148,10 @@ fn tell_props(alloc: Global, told: &mut Told) -> Result<(), Memory> {
 
 /// A number, and then a truth value.
 fn pair(alloc: Global, number: i64) -> Result<Tuple, Memory> {
-    let parts = vec![in alloc; Part::Value(Value::Int(number)), Part::Value(Value::Bool(true))]?;
+    let parts = vec![in alloc;
+        Part::Value(Value::Int(number)),
+        Part::Value(Value::Bool(true)),
+    ]?;
     Ok(Tuple::new(List::from_vec(parts)))
 }
 

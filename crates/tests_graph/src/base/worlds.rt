@@ -2,9 +2,7 @@
 
 use crate::told::Told;
 use pgs_base::{List, Memory};
-use pgs_world::{
-    Area, Leave, MemWorld, SilentWorld, World, cut_synced, sync_both, write_synced,
-};
+use pgs_world::{Area, Leave, MemWorld, SilentWorld, World, cut_synced, sync_both, write_synced};
 use std::alloc::Global;
 use std::test::Fail;
 

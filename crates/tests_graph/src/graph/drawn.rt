@@ -15,7 +15,7 @@ use std::sync::ledger::{Blank, Ledger};
 use std::test::Fail;
 use tests_fixtures::Numbers;
 
-/// An operation in so many of 64 draws: `#` and `&` stand for nodes, `@` for an edge, `%` for one of three.
+/// An operation in so many of 64 draws: `#` and `&` stand for nodes, `@` for an edge, `%` for one of three, `$` for 65 labels.
 type Kind = (u64, &'static str);
 
 const ENDS: &[Kind] = &[
@@ -39,7 +39,7 @@ const ALL: &[Kind] = &[
     (2, r#"{"remove_node":#}"#),
     (3, r#"{"detach_node":#}"#),
     (3, r#"{"remove_edge":@}"#),
-    (1, LARGE),
+    (1, r#"{"add_node":#,"labels":[$]}"#),
     (5, r#"{"set_node":#,"key":"p%","value":7}"#),
     (4, r#"{"unset_node":#,"key":"p%"}"#),
     (4, r#"{"label_node":#,"label":"p%"}"#),
@@ -49,9 +49,6 @@ const ALL: &[Kind] = &[
     (3, r#"{"label_edge":@,"label":"p%"}"#),
     (3, r#"{"unlabel_edge":@,"label":"p%"}"#),
 ];
-
-/// A node of 65 labels.
-pub const LARGE: &str = r#"{"add_node":#,"labels":["a","b","c","d","e","f","g","h","i","j","k","l","m","n","o","p","q","r","s","t","u","v","w","x","y","z","A","B","C","D","E","F","G","H","I","J","K","L","M","N","O","P","Q","R","S","T","U","V","W","X","Y","Z","p0","p1","p2","p3","p4","p5","p6","p7","p8","p9","p10","p11","p12"]}"#;
 
 /// What is drawn, of which numbers, and within which limits.
 struct Draws {
@@ -69,17 +66,18 @@ struct Draws {
     least: [u64; 5],
 }
 
-const STANDARD: Limits = Limits {
+/// The standard limits.
+pub const STANDARD: Limits = Limits {
     ops: 10_000,
     elements: 1_000_000,
 };
 
-const NONE: Range = Range { nodes: 0, edges: 0 };
+const NONE: Range = (0, 0);
 
 const DRAWS: &[Draws] = &[
     Draws {
         kinds: ENDS,
-        range: Range { nodes: 12, edges: 40 },
+        range: (12, 40),
         limits: STANDARD,
         ops: (1, 2),
         tries: 1,
@@ -88,8 +86,11 @@ const DRAWS: &[Draws] = &[
     },
     Draws {
         kinds: ALL,
-        range: Range { nodes: 8, edges: 12 },
-        limits: Limits { ops: 37, elements: 14 },
+        range: (8, 12),
+        limits: Limits {
+            ops: 37,
+            elements: 14,
+        },
         ops: (0, 41),
         tries: 8,
         rounds: (1, 500, 1),
@@ -97,7 +98,7 @@ const DRAWS: &[Draws] = &[
     },
     Draws {
         kinds: MANY,
-        range: Range { nodes: 2_000, edges: 6_000 },
+        range: (2_000, 6_000),
         limits: STANDARD,
         ops: (1, 1),
         tries: 1,
@@ -124,9 +125,9 @@ impl Draws {
     /// A node, a node, an edge and one of three.
     fn elements(&self, numbers: &mut Numbers) -> [u64; 4] {
         [
-            numbers.below(self.range.nodes),
-            numbers.below(self.range.nodes),
-            numbers.below(self.range.edges),
+            numbers.below(self.range.0),
+            numbers.below(self.range.0),
+            numbers.below(self.range.1),
             numbers.below(3),
         ]
     }
@@ -153,7 +154,11 @@ impl Draws {
     fn ops(&self, alloc: Global, numbers: &mut Numbers, plain: &Plain) -> Result<Told, Memory> {
         let count = self.ops.0.saturating_add(numbers.below(self.ops.1));
         let mut told = Told::new(alloc);
-        let mut draft = if self.tries > 1 { plain.copy(alloc)? } else { Plain::new(alloc, NONE)? };
+        let mut draft = if self.tries > 1 {
+            plain.copy(alloc)?
+        } else {
+            Plain::new(alloc, NONE)?
+        };
         for place in 0..count {
             if place > 0 {
                 told.word(",");
@@ -164,8 +169,10 @@ impl Draws {
     }
 }
 
-/// Where an answer is counted. Past the last where a form is apart.
-fn place(answer: Answer) -> usize {
+/// Where an answer is counted, at last that a form is apart.
+fn place(answer: Answer) -> usize
+    ensures { result < 6 }
+{
     match answer {
         Answer::Done => 0,
         Answer::Refused(Structural::TooManyOps { .. }) => 1,
@@ -190,14 +197,18 @@ fn counts<L: Ledger>(
         let ops = draws.ops(alloc, numbers, &forms.plain)?;
         let txn = txn_of(alloc, ops.text()?)?;
         let looks = number.checked_rem(each) == Some(0);
-        let place = place(forms.apply(alloc, &txn, looks, steps)?);
-        counts[place] = counts[place].saturating_add(1);
+        let at = place(forms.apply(alloc, &txn, looks, steps)?);
+        counts[at] = counts[at].saturating_add(1);
     }
     Ok(counts)
 }
 
 fn are_as_wanted(counts: [u64; 6], least: &[u64; 5]) -> bool {
-    counts[5] == 0 && counts.iter().zip(least).all(|(count, least)| *count >= *least)
+    counts[5] == 0
+        && counts
+            .iter()
+            .zip(least)
+            .all(|(count, least)| *count >= *least)
 }
 
 /// How many rounds went as wanted.

@@ -6,7 +6,16 @@ use pgs_graph::Txn;
 use pgs_json::read_txn;
 use std::alloc::Global;
 
-/// Writes a text, with a number for each `#`, for each `&`, for each `@` and for each `%`.
+/// Writes 65 labels.
+fn put_labels(told: &mut Told) {
+    told.word("\"l\"");
+    for number in 0..64 {
+        told.number(",\"l", number);
+        told.word("\"");
+    }
+}
+
+/// Writes a text, with a number for each `#`, for each `&`, for each `@` and for each `%`, and 65 labels for each `$`.
 pub fn fill(text: &str, numbers: [u64; 4], told: &mut Told) {
     for letter in text.chars() {
         match letter {
@@ -14,6 +23,7 @@ pub fn fill(text: &str, numbers: [u64; 4], told: &mut Told) {
             '&' => told.number("", numbers[1]),
             '@' => told.number("", numbers[2]),
             '%' => told.number("", numbers[3]),
+            '$' => put_labels(told),
             _ => told.letter(letter),
         }
     }

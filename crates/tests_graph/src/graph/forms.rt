@@ -151,7 +151,11 @@ impl Forms {
             Some(structural) => Answer::Refused(structural),
             None => Answer::Done,
         };
-        let listing = if looks { Some(self.plain.listing(alloc)?) } else { None };
+        let listing = if looks {
+            Some(self.plain.listing(alloc)?)
+        } else {
+            None
+        };
         let want = Want {
             limits: self.limits,
             range: self.range,
@@ -161,7 +165,11 @@ impl Forms {
             },
         };
         let answer = self.apply_to_both(alloc, txn, &want, steps)?;
-        Ok(if answer == wanted { answer } else { Answer::Apart })
+        Ok(if answer == wanted {
+            answer
+        } else {
+            Answer::Apart
+        })
     }
 
     /// Applies a transaction to all, which are to answer as the plain program. Where it is looked at, all are to be read as that too, and a

@@ -7,11 +7,7 @@ use std::alloc::Global;
 use std::sync::ledger::Ledger;
 
 /// How many numbers of nodes and of edges are asked for. No node has as many edges.
-#[derive(Clone, Copy)]
-pub struct Range {
-    pub nodes: u64,
-    pub edges: u64,
-}
+pub type Range = (u64, u64);
 
 fn tell_carried(labels: &Labels, props: &Props, told: &mut Told) {
     for label in labels.as_slice() {
@@ -33,7 +29,7 @@ fn tell_out<G: GraphRead, L: Ledger>(
     told: &mut Told,
     steps: &mut Steps<L>,
 ) {
-    for place in 0..range.edges {
+    for place in 0..range.1 {
         match graph.out_edge(id, place as usize, steps) {
             Some(edge) => told.number(" >", edge.0),
             None => break,
@@ -48,7 +44,7 @@ fn tell_into<G: GraphRead, L: Ledger>(
     told: &mut Told,
     steps: &mut Steps<L>,
 ) {
-    for place in 0..range.edges {
+    for place in 0..range.1 {
         match graph.in_edge(id, place as usize, steps) {
             Some(edge) => told.number(" <", edge.0),
             None => break,
@@ -62,7 +58,7 @@ fn tell_nodes<G: GraphRead, L: Ledger>(
     told: &mut Told,
     steps: &mut Steps<L>,
 ) {
-    for id in 0..range.nodes {
+    for id in 0..range.0 {
         if let Some(node) = graph.node(NodeId(id), steps) {
             told.number(" n", id);
             tell_carried(node.labels, node.props, told);
@@ -78,7 +74,7 @@ fn tell_edges<G: GraphRead, L: Ledger>(
     told: &mut Told,
     steps: &mut Steps<L>,
 ) {
-    for id in 0..range.edges {
+    for id in 0..range.1 {
         if let Some(edge) = graph.edge(EdgeId(id), steps) {
             told.number(" e", id);
             told.number(" ", edge.source.0);

@@ -1,5 +1,7 @@
 //! A plain program of the definition of staging, over a graph in two lists with a place for each number.
 
+ghost use Rattle.std.specs.Prelude.{◌<◌};
+
 use super::listing::Range;
 use crate::told::Told;
 use pgs_base::{EdgeId, Elem, Labels, Limits, Memory, Name, NodeId, Props, Value};
@@ -19,8 +21,8 @@ struct Carried {
 
 #[derive(Clone, Copy)]
 struct PlainEdge {
-    source: u64,
-    target: u64,
+    /// Its source and its target.
+    ends: (u64, u64),
     carried: Carried,
 }
 
@@ -43,10 +45,12 @@ fn no_node<T>(id: u64) -> Result<T, Fault> {
 }
 
 /// The place of a name.
-fn place(name: &Name) -> usize {
+fn place(name: &Name) -> usize
+    ensures { result < 3 }
+{
     match name.bytes() {
-        b"p0" => 0,
-        b"p1" => 1,
+        [_, b'0'] => 0,
+        [_, b'1'] => 1,
         _ => 2,
     }
 }
@@ -123,15 +127,19 @@ impl Plain {
     /// The empty graph, with places for so many numbers.
     pub fn new(alloc: Global, range: Range) -> Result<Plain, Memory> {
         let mut nodes = Vec::new(alloc);
-        for _ in 0..range.nodes {
+        for _ in 0..range.0 {
             nodes.push(None)?;
         }
         let mut edges = Vec::new(alloc);
-        for _ in 0..range.edges {
+        for _ in 0..range.1 {
             edges.push(None)?;
         }
         let counts = (0, 0);
-        Ok(Plain { nodes, edges, counts })
+        Ok(Plain {
+            nodes,
+            edges,
+            counts,
+        })
     }
 
     pub fn copy(&self, alloc: Global) -> Result<Plain, Memory> {
@@ -140,7 +148,11 @@ impl Plain {
         let mut edges = Vec::new(alloc);
         edges.extend_from_slice(self.edges.as_slice())?;
         let counts = self.counts;
-        Ok(Plain { nodes, edges, counts })
+        Ok(Plain {
+            nodes,
+            edges,
+            counts,
+        })
     }
 
     fn node(&self, id: u64) -> Option<Carried> {
@@ -177,7 +189,7 @@ impl Plain {
     fn least_edge(&self, node: u64) -> Option<u64> {
         for id in 0..self.edges.len() {
             if let Some(edge) = self.edge(id as u64) {
-                if edge.source == node || edge.target == node {
+                if edge.ends.0 == node || edge.ends.1 == node {
                     return Some(id as u64);
                 }
             }
@@ -197,16 +209,16 @@ impl Plain {
         Ok(())
     }
 
-    fn add_edge(&mut self, id: u64, edge: PlainEdge) -> Result<(), Fault> {
+    fn add_edge(&mut self, id: u64, ends: (u64, u64), carried: Carried) -> Result<(), Fault> {
         if self.edge(id).is_some() {
             return Err(Fault::Unable(Cause::AlreadyThere(Elem::Edge(EdgeId(id)))));
         }
-        for node in [edge.source, edge.target] {
+        for node in [ends.0, ends.1] {
             if self.node(node).is_none() {
                 return no_node(node);
             }
         }
-        self.put_edge(id, Some(edge));
+        self.put_edge(id, Some(PlainEdge { ends, carried }));
         self.counts.1 = self.counts.1.saturating_add(1);
         Ok(())
     }
@@ -258,11 +270,13 @@ impl Plain {
     fn step(&mut self, op: &Op) -> Result<(), Fault> {
         match op {
             Op::AddNode { id, labels, props } => self.add_node(id.0, labels, props),
-            Op::AddEdge { id, source, target, labels, props } => {
-                let (source, target) = (source.0, target.0);
-                let carried = Carried::new(labels, props);
-                self.add_edge(id.0, PlainEdge { source, target, carried })
-            }
+            Op::AddEdge {
+                id,
+                source,
+                target,
+                labels,
+                props,
+            } => self.add_edge(id.0, (source.0, target.0), Carried::new(labels, props)),
             Op::RemoveNode { id } => self.remove_node(id.0, false),
             Op::DetachNode { id } => self.remove_node(id.0, true),
             Op::RemoveEdge { id } => self.remove_edge(id.0),
@@ -292,7 +306,10 @@ impl Plain {
             match self.step(op) {
                 Ok(()) => {}
                 Err(Fault::Unable(cause)) => {
-                    return Some(Structural::BadOp { op: op_number, cause });
+                    return Some(Structural::BadOp {
+                        op: op_number,
+                        cause,
+                    });
                 }
                 Err(Fault::TooLarge) => return Some(Structural::ElementTooLarge { op: op_number }),
             }
@@ -310,7 +327,11 @@ impl Plain {
     ) -> Result<Option<Structural>, Memory> {
         // One operation that can't be done changes nothing.
         let may_change = txn.ops.len() > 1 || self.count() >= limits.elements;
-        let before = if may_change { Some(self.copy(alloc)?) } else { None };
+        let before = if may_change {
+            Some(self.copy(alloc)?)
+        } else {
+            None
+        };
         let refusal = self.do_all(txn, limits);
         if let (Some(_), Some(before)) = (refusal, before) {
             *self = before;
@@ -339,7 +360,7 @@ impl Plain {
         let mut ends = Vec::new(alloc);
         for id in 0..self.edges.len() {
             if let Some(edge) = self.edge(id as u64) {
-                let end = if of_source { edge.source } else { edge.target };
+                let end = if of_source { edge.ends.0 } else { edge.ends.1 };
                 ends.push((end, id as u64))?;
             }
         }
@@ -366,8 +387,8 @@ impl Plain {
         for id in 0..self.edges.len() {
             if let Some(edge) = self.edge(id as u64) {
                 told.number(" e", id as u64);
-                told.number(" ", edge.source);
-                told.number(" ", edge.target);
+                told.number(" ", edge.ends.0);
+                told.number(" ", edge.ends.1);
                 edge.carried.tell(told);
             }
         }
