@@ -15,21 +15,19 @@ fn name(alloc: Global, text: &str) -> Result<Name, Memory> {
     }
 }
 
-/// The calls on labels: `+` puts one in, `-` takes it out, `?` asks for it, and `=` compares with the copy that `c` makes.
-const LABELS: &[(char, &str)] = &[
-    ('+', "b"),
-    ('+', "a"),
-    ('+', "b"),
-    ('+', "ab"),
-    ('c', "x"),
-    ('=', "x"),
-    ('-', "a"),
-    ('=', "x"),
-    ('-', "a"),
-    ('?', "a"),
-    ('?', "ab"),
-    ('?', "b"),
-];
+/// Calls, each of a letter and a name: `+` puts it in, `-` takes it out, `?` asks for it, and `=` compares with the copy that `c` makes.
+type Calls = (&'static str, &'static [&'static str]);
+
+const LABELS: Calls = (
+    "++++c=-=-???",
+    &["b", "a", "b", "ab", "x", "x", "a", "x", "a", "a", "ab", "b"],
+);
+
+/// Of properties; what is put in is the place of the call, from 1.
+const PROPS: Calls = (
+    "+++c=-=-??",
+    &["b", "a", "b", "x", "x", "a", "x", "a", "a", "b"],
+);
 
 #[derive(Drop)]
 struct TwoLabels {
@@ -67,27 +65,13 @@ fn tell_labels(alloc: Global, told: &mut Told) -> Result<(), Memory> {
         labels: Labels::new(alloc),
         copied: Labels::new(alloc),
     };
-    for (call, text) in LABELS {
-        told.truth(two.call(alloc, *call, text)?);
+    for (call, text) in LABELS.0.chars().zip(LABELS.1) {
+        told.truth(two.call(alloc, call, text)?);
     }
     tell_list(&two.labels, told);
     tell_list(&two.copied, told);
     Ok(())
 }
-
-/// The same of properties, by names and numbers.
-const PROPS: &[(char, &str, i64)] = &[
-    ('+', "b", 1),
-    ('+', "a", 2),
-    ('+', "b", 3),
-    ('c', "x", 0),
-    ('=', "x", 0),
-    ('-', "a", 0),
-    ('=', "x", 0),
-    ('-', "a", 0),
-    ('?', "a", 0),
-    ('?', "b", 0),
-];
 
 #[derive(Drop)]
 struct TwoProps {
@@ -108,12 +92,14 @@ impl TwoProps {
     fn tell_call(
         &mut self,
         alloc: Global,
-        call: &(char, &'static str, i64),
+        call: char,
+        text: &str,
+        number: i64,
         told: &mut Told,
     ) -> Result<(), Memory> {
-        let name = name(alloc, call.1)?;
-        match call.0 {
-            '+' => tell_number(self.props.set(name, Value::Int(call.2))?.as_ref(), told),
+        let name = name(alloc, text)?;
+        match call {
+            '+' => tell_number(self.props.set(name, Value::Int(number))?.as_ref(), told),
             '-' => tell_number(self.props.unset(&name).as_ref(), told),
             '?' => tell_number(self.props.get(&name), told),
             'c' => self.copied = self.props.copy(alloc)?,
@@ -138,8 +124,10 @@ fn tell_props(alloc: Global, told: &mut Told) -> Result<(), Memory> {
         props: Props::new(alloc),
         copied: Props::new(alloc),
     };
-    for call in PROPS {
-        two.tell_call(alloc, call, told)?;
+    let mut number = 0i64;
+    for (call, text) in PROPS.0.chars().zip(PROPS.1) {
+        number = number.saturating_add(1);
+        two.tell_call(alloc, call, text, number, told)?;
     }
     tell_rows(&two.props, told);
     tell_rows(&two.copied, told);

@@ -26,13 +26,6 @@ const ENDS: &[Kind] = &[
     (32, r#"{"add_edge":@,"from":#,"to":&}"#),
 ];
 
-const MANY: &[Kind] = &[
-    (16, r#"{"add_node":#}"#),
-    (2, r#"{"detach_node":#}"#),
-    (8, r#"{"remove_edge":@}"#),
-    (38, r#"{"add_edge":@,"from":#,"to":&}"#),
-];
-
 const ALL: &[Kind] = &[
     (10, r#"{"add_node":#}"#),
     (16, r#"{"add_edge":@,"from":#,"to":&}"#),
@@ -54,7 +47,7 @@ const ALL: &[Kind] = &[
 struct Draws {
     kinds: &'static [Kind],
     range: Range,
-    limits: Limits,
+    limits: (u32, u64),
     /// A transaction has at least the first number of operations, and fewer than both together.
     ops: (u64, u64),
     /// Each operation that can't be done is drawn again fewer times than this.
@@ -66,11 +59,8 @@ struct Draws {
     least: [u64; 5],
 }
 
-/// The standard limits.
-pub const STANDARD: Limits = Limits {
-    ops: 10_000,
-    elements: 1_000_000,
-};
+/// The standard limits: so many operations, and so many elements.
+pub const STANDARD: (u32, u64) = (10_000, 1_000_000);
 
 const NONE: Range = (0, 0);
 
@@ -87,17 +77,14 @@ const DRAWS: &[Draws] = &[
     Draws {
         kinds: ALL,
         range: (8, 12),
-        limits: Limits {
-            ops: 37,
-            elements: 14,
-        },
+        limits: (37, 14),
         ops: (0, 41),
         tries: 8,
         rounds: (1, 500, 1),
         least: [10, 1, 10, 1, 1],
     },
     Draws {
-        kinds: MANY,
+        kinds: ENDS,
         range: (2_000, 6_000),
         limits: STANDARD,
         ops: (1, 1),
@@ -142,7 +129,7 @@ impl Draws {
         let mut op = self.op(alloc, numbers);
         for _ in 0..numbers.below(self.tries) {
             let txn = txn_of(alloc, op.text()?)?;
-            if draft.apply(alloc, &txn, &STANDARD)?.is_none() {
+            if draft.apply(alloc, &txn, &Limits::standard())?.is_none() {
                 break;
             }
             op = self.op(alloc, numbers);

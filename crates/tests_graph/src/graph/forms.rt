@@ -40,8 +40,11 @@ struct Want<'a> {
     listing: Option<&'a str>,
 }
 
-fn done_if(alike: bool) -> Answer {
-    if alike { Answer::Done } else { Answer::Apart }
+impl Answer {
+    /// The answer, or that a form was read apart.
+    fn if_alike(self, alike: bool) -> Answer {
+        if alike { self } else { Answer::Apart }
+    }
 }
 
 fn refused(fault: StageFault) -> Result<Answer, Memory> {
@@ -77,7 +80,7 @@ fn change<L: Ledger>(
         Ok(delta) => {
             let alike = is_seen(alloc, graph, &delta, want, steps)?;
             graph.change(delta)?;
-            Ok(done_if(alike))
+            Ok(Answer::Done.if_alike(alike))
         }
         Err(fault) => refused(fault),
     }
@@ -96,7 +99,7 @@ fn put_in<L: Ledger>(
     let alike = is_seen(alloc, tables, &delta, want, steps)?;
     let prepared = tables.prepare(delta)?;
     tables.commit(prepared);
-    Ok(done_if(alike))
+    Ok(Answer::Done.if_alike(alike))
 }
 
 /// The same on the tables.
@@ -114,7 +117,10 @@ fn commit<L: Ledger>(
 }
 
 impl Forms {
-    pub fn new(alloc: Global, range: Range, limits: Limits) -> Result<Forms, Memory> {
+    /// The empty graph, of which these numbers are read, with at most so many operations at once and elements.
+    pub fn new(alloc: Global, range: Range, limits: (u32, u64)) -> Result<Forms, Memory> {
+        let (ops, elements) = limits;
+        let limits = Limits { ops, elements };
         Ok(Forms {
             plain: Plain::new(alloc, range)?,
             graph: Graph::new(alloc),
@@ -137,7 +143,7 @@ impl Forms {
         let alike = answer == other
             && is_read(alloc, &self.graph, want.range, want.listing, steps)?
             && is_read(alloc, &self.tables, want.range, want.listing, steps)?;
-        Ok(if alike { answer } else { Answer::Apart })
+        Ok(answer.if_alike(alike))
     }
 
     fn apply_to_all<L: Ledger>(
@@ -165,11 +171,7 @@ impl Forms {
             },
         };
         let answer = self.apply_to_both(alloc, txn, &want, steps)?;
-        Ok(if answer == wanted {
-            answer
-        } else {
-            Answer::Apart
-        })
+        Ok(answer.if_alike(answer == wanted))
     }
 
     /// Applies a transaction to all, which are to answer as the plain program. Where it is looked at, all are to be read as that too, and a
@@ -188,6 +190,6 @@ impl Forms {
         let copied = self.graph.copy(alloc)?;
         let answer = self.apply_to_all(alloc, txn, true, steps)?;
         let stays = is_read(alloc, &copied, self.range, Some(old.text()?), steps)?;
-        Ok(if stays { answer } else { Answer::Apart })
+        Ok(answer.if_alike(stays))
     }
 }

@@ -22,7 +22,8 @@ fn tell_carried(labels: &Labels, props: &Props, told: &mut Told) {
     }
 }
 
-fn tell_out<G: GraphRead, L: Ledger>(
+/// The edges out of a node, and those into it.
+fn tell_edges_at<G: GraphRead, L: Ledger>(
     graph: &G,
     id: NodeId,
     range: Range,
@@ -35,15 +36,6 @@ fn tell_out<G: GraphRead, L: Ledger>(
             None => break,
         }
     }
-}
-
-fn tell_into<G: GraphRead, L: Ledger>(
-    graph: &G,
-    id: NodeId,
-    range: Range,
-    told: &mut Told,
-    steps: &mut Steps<L>,
-) {
     for place in 0..range.1 {
         match graph.in_edge(id, place as usize, steps) {
             Some(edge) => told.number(" <", edge.0),
@@ -63,8 +55,7 @@ fn tell_nodes<G: GraphRead, L: Ledger>(
             told.number(" n", id);
             tell_carried(node.labels, node.props, told);
         }
-        tell_out(graph, NodeId(id), range, told, steps);
-        tell_into(graph, NodeId(id), range, told, steps);
+        tell_edges_at(graph, NodeId(id), range, told, steps);
     }
 }
 

@@ -26,12 +26,17 @@ struct PlainEdge {
     carried: Carried,
 }
 
+/// A place for each number, and how many are taken.
+#[derive(Drop)]
+struct Places<T> {
+    rows: Vec<Option<T>>,
+    count: u64,
+}
+
 #[derive(Drop)]
 pub struct Plain {
-    nodes: Vec<Option<Carried>>,
-    edges: Vec<Option<PlainEdge>>,
-    /// How many nodes and how many edges there are.
-    counts: (u64, u64),
+    nodes: Places<Carried>,
+    edges: Places<PlainEdge>,
 }
 
 /// Why an operation can't be done: 23 with its cause, or 38.
@@ -123,74 +128,72 @@ fn tell_at(ends: &[(u64, u64)], first: usize, node: u64, before: &str, told: &mu
     ends.len()
 }
 
+impl<T: Copy + Drop> Places<T> {
+    fn new(alloc: Global, count: u64) -> Result<Places<T>, Memory> {
+        let mut rows = Vec::new(alloc);
+        for _ in 0..count {
+            rows.push(None)?;
+        }
+        Ok(Places { rows, count: 0 })
+    }
+
+    fn copy(&self, alloc: Global) -> Result<Places<T>, Memory> {
+        let mut rows = Vec::new(alloc);
+        rows.extend_from_slice(self.rows.as_slice())?;
+        let count = self.count;
+        Ok(Places { rows, count })
+    }
+
+    fn len(&self) -> u64 {
+        self.rows.len() as u64
+    }
+
+    fn get(&self, id: u64) -> Option<T> {
+        match self.rows.get(id as usize) {
+            Some(row) => *row,
+            None => None,
+        }
+    }
+
+    fn put(&mut self, id: u64, row: Option<T>) {
+        let others = self.count.saturating_sub(u64::from(self.get(id).is_some()));
+        self.count = others.saturating_add(u64::from(row.is_some()));
+        if let Some(there) = self.rows.get_mut(id as usize) {
+            *there = row;
+        }
+    }
+
+    fn tell_ids(&self, told: &mut Told) {
+        for id in 0..self.len() {
+            if self.get(id).is_some() {
+                told.number(" ", id);
+            }
+        }
+        told.word(" |");
+    }
+}
+
 impl Plain {
     /// The empty graph, with places for so many numbers.
     pub fn new(alloc: Global, range: Range) -> Result<Plain, Memory> {
-        let mut nodes = Vec::new(alloc);
-        for _ in 0..range.0 {
-            nodes.push(None)?;
-        }
-        let mut edges = Vec::new(alloc);
-        for _ in 0..range.1 {
-            edges.push(None)?;
-        }
-        let counts = (0, 0);
         Ok(Plain {
-            nodes,
-            edges,
-            counts,
+            nodes: Places::new(alloc, range.0)?,
+            edges: Places::new(alloc, range.1)?,
         })
     }
 
     pub fn copy(&self, alloc: Global) -> Result<Plain, Memory> {
-        let mut nodes = Vec::new(alloc);
-        nodes.extend_from_slice(self.nodes.as_slice())?;
-        let mut edges = Vec::new(alloc);
-        edges.extend_from_slice(self.edges.as_slice())?;
-        let counts = self.counts;
         Ok(Plain {
-            nodes,
-            edges,
-            counts,
+            nodes: self.nodes.copy(alloc)?,
+            edges: self.edges.copy(alloc)?,
         })
-    }
-
-    fn node(&self, id: u64) -> Option<Carried> {
-        match self.nodes.get(id as usize) {
-            Some(node) => *node,
-            None => None,
-        }
-    }
-
-    fn edge(&self, id: u64) -> Option<PlainEdge> {
-        match self.edges.get(id as usize) {
-            Some(edge) => *edge,
-            None => None,
-        }
-    }
-
-    fn put_node(&mut self, id: u64, node: Option<Carried>) {
-        if let Some(there) = self.nodes.get_mut(id as usize) {
-            *there = node;
-        }
-    }
-
-    fn put_edge(&mut self, id: u64, edge: Option<PlainEdge>) {
-        if let Some(there) = self.edges.get_mut(id as usize) {
-            *there = edge;
-        }
-    }
-
-    fn take_edge(&mut self, id: u64) {
-        self.put_edge(id, None);
-        self.counts.1 = self.counts.1.saturating_sub(1);
     }
 
     fn least_edge(&self, node: u64) -> Option<u64> {
         for id in 0..self.edges.len() {
-            if let Some(edge) = self.edge(id as u64) {
+            if let Some(edge) = self.edges.get(id) {
                 if edge.ends.0 == node || edge.ends.1 == node {
-                    return Some(id as u64);
+                    return Some(id);
                 }
             }
         }
@@ -198,33 +201,31 @@ impl Plain {
     }
 
     fn add_node(&mut self, id: u64, labels: &Labels, props: &Props) -> Result<(), Fault> {
-        if self.node(id).is_some() {
+        if self.nodes.get(id).is_some() {
             return Err(Fault::Unable(Cause::AlreadyThere(Elem::Node(NodeId(id)))));
         }
         if labels.len() > 64 {
             return Err(Fault::TooLarge);
         }
-        self.put_node(id, Some(Carried::new(labels, props)));
-        self.counts.0 = self.counts.0.saturating_add(1);
+        self.nodes.put(id, Some(Carried::new(labels, props)));
         Ok(())
     }
 
     fn add_edge(&mut self, id: u64, ends: (u64, u64), carried: Carried) -> Result<(), Fault> {
-        if self.edge(id).is_some() {
+        if self.edges.get(id).is_some() {
             return Err(Fault::Unable(Cause::AlreadyThere(Elem::Edge(EdgeId(id)))));
         }
         for node in [ends.0, ends.1] {
-            if self.node(node).is_none() {
+            if self.nodes.get(node).is_none() {
                 return no_node(node);
             }
         }
-        self.put_edge(id, Some(PlainEdge { ends, carried }));
-        self.counts.1 = self.counts.1.saturating_add(1);
+        self.edges.put(id, Some(PlainEdge { ends, carried }));
         Ok(())
     }
 
     fn remove_node(&mut self, id: u64, detaches: bool) -> Result<(), Fault> {
-        if self.node(id).is_none() {
+        if self.nodes.get(id).is_none() {
             return no_node(id);
         }
         for _ in 0..self.edges.len() {
@@ -234,36 +235,35 @@ impl Plain {
             if !detaches {
                 return Err(Fault::Unable(Cause::HasEdges(NodeId(id), EdgeId(edge))));
             }
-            self.take_edge(edge);
+            self.edges.put(edge, None);
         }
-        self.put_node(id, None);
-        self.counts.0 = self.counts.0.saturating_sub(1);
+        self.nodes.put(id, None);
         Ok(())
     }
 
     fn remove_edge(&mut self, id: u64) -> Result<(), Fault> {
-        if self.edge(id).is_none() {
+        if self.edges.get(id).is_none() {
             return Err(Fault::Unable(Cause::NoEdge(EdgeId(id))));
         }
-        self.take_edge(id);
+        self.edges.put(id, None);
         Ok(())
     }
 
     fn change_node(&mut self, id: u64, op: &Op) -> Result<(), Fault> {
-        let Some(mut carried) = self.node(id) else {
+        let Some(mut carried) = self.nodes.get(id) else {
             return no_node(id);
         };
         carried.change(op);
-        self.put_node(id, Some(carried));
+        self.nodes.put(id, Some(carried));
         Ok(())
     }
 
     fn change_edge(&mut self, id: u64, op: &Op) -> Result<(), Fault> {
-        let Some(mut edge) = self.edge(id) else {
+        let Some(mut edge) = self.edges.get(id) else {
             return Err(Fault::Unable(Cause::NoEdge(EdgeId(id))));
         };
         edge.carried.change(op);
-        self.put_edge(id, Some(edge));
+        self.edges.put(id, Some(edge));
         Ok(())
     }
 
@@ -292,7 +292,7 @@ impl Plain {
     }
 
     fn count(&self) -> u64 {
-        self.counts.0.saturating_add(self.counts.1)
+        self.nodes.count.saturating_add(self.edges.count)
     }
 
     /// Does the operations of a transaction. The refusal, if it has one; then some may have been done.
@@ -339,29 +339,13 @@ impl Plain {
         Ok(refusal)
     }
 
-    fn tell_ids(&self, told: &mut Told) {
-        for id in 0..self.nodes.len() {
-            if self.node(id as u64).is_some() {
-                told.number(" ", id as u64);
-            }
-        }
-        told.word(" |");
-        for id in 0..self.edges.len() {
-            if self.edge(id as u64).is_some() {
-                told.number(" ", id as u64);
-            }
-        }
-        told.number(" | ", self.count());
-        told.word(" |");
-    }
-
     /// Each edge behind its source, or behind its target.
     fn ends(&self, alloc: Global, of_source: bool) -> Result<Vec<(u64, u64)>, Memory> {
         let mut ends = Vec::new(alloc);
         for id in 0..self.edges.len() {
-            if let Some(edge) = self.edge(id as u64) {
+            if let Some(edge) = self.edges.get(id) {
                 let end = if of_source { edge.ends.0 } else { edge.ends.1 };
-                ends.push((end, id as u64))?;
+                ends.push((end, id))?;
             }
         }
         ends.sort_unstable();
@@ -373,20 +357,20 @@ impl Plain {
         let into = self.ends(alloc, false)?;
         let (mut first_out, mut first_in) = (0, 0);
         for id in 0..self.nodes.len() {
-            if let Some(carried) = self.node(id as u64) {
-                told.number(" n", id as u64);
+            if let Some(carried) = self.nodes.get(id) {
+                told.number(" n", id);
                 carried.tell(told);
             }
-            first_out = tell_at(out.as_slice(), first_out, id as u64, " >", told);
-            first_in = tell_at(into.as_slice(), first_in, id as u64, " <", told);
+            first_out = tell_at(out.as_slice(), first_out, id, " >", told);
+            first_in = tell_at(into.as_slice(), first_in, id, " <", told);
         }
         Ok(())
     }
 
     fn tell_edges(&self, told: &mut Told) {
         for id in 0..self.edges.len() {
-            if let Some(edge) = self.edge(id as u64) {
-                told.number(" e", id as u64);
+            if let Some(edge) = self.edges.get(id) {
+                told.number(" e", id);
                 told.number(" ", edge.ends.0);
                 told.number(" ", edge.ends.1);
                 edge.carried.tell(told);
@@ -396,7 +380,10 @@ impl Plain {
 
     /// Tells what a listing of such a graph tells, without the ticks.
     pub fn tell(&self, alloc: Global, told: &mut Told) -> Result<(), Memory> {
-        self.tell_ids(told);
+        self.nodes.tell_ids(told);
+        self.edges.tell_ids(told);
+        told.number(" ", self.count());
+        told.word(" |");
         self.tell_nodes(alloc, told)?;
         self.tell_edges(told);
         Ok(())
@@ -405,12 +392,16 @@ impl Plain {
     /// How often the reads of a listing tick: once for each number that is asked for, three times for each node whose edges are asked
     /// for, and once for each number and each edge in a list.
     fn ticks(&self) -> u64 {
-        let (nodes, edges) = self.counts;
-        let asked = (self.nodes.len() as u64).wrapping_mul(3);
-        asked
-            .wrapping_add(self.edges.len() as u64)
-            .wrapping_add(nodes)
-            .wrapping_add(edges.wrapping_mul(3))
+        let asked = self
+            .nodes
+            .len()
+            .wrapping_mul(3)
+            .wrapping_add(self.edges.len());
+        let listed = self
+            .nodes
+            .count
+            .wrapping_add(self.edges.count.wrapping_mul(3));
+        asked.wrapping_add(listed)
     }
 
     /// What a listing of such a graph is.

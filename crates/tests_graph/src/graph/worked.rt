@@ -7,24 +7,18 @@ use super::filled::{fill, txn_of};
 use super::forms::{Answer, Forms};
 use super::listing::Range;
 use crate::told::Told;
-use pgs_base::{Limits, Memory, Steps};
+use pgs_base::{Memory, Steps};
 use std::alloc::Global;
 use std::marker::Brand;
 use std::sync::ledger::{Blank, Ledger};
 use std::test::Fail;
 
 /// Which numbers are read, and the limits.
-type Bounds = (Range, Limits);
+type Bounds = (Range, (u32, u64));
 
 const SMALL: Bounds = ((9, 9), STANDARD);
 
-const ONE: Bounds = (
-    (9, 9),
-    Limits {
-        ops: 1,
-        elements: 1,
-    },
-);
+const ONE: Bounds = ((9, 9), (1, 1));
 
 const HUB: Bounds = ((2_000, 4_000), STANDARD);
 
