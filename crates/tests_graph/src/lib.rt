@@ -1,17 +1,15 @@
-//! Tests of the public calls of `pgs_graph`: a small graph that is changed, copied and read through the trait, where what is expected was
-//! written by hand; and graphs of thousands of rows beside two lists of rows.
+//! Tests of the public calls below the decision: values and worlds, lists of edges, and graphs in all their forms, changed by
+//! transactions. Rows are texts and tables that were worked out by hand; what is drawn stands beside a plain program.
+//!
+//! What the calls give is proved where they stand. That they ever succeed no contract says, and these tests show it.
 //! Nothing but tests stands here.
 #![tactic(auto)]
 
 #[cfg(test)]
-mod changes;
+mod base;
 #[cfg(test)]
-mod copies;
+mod edges;
 #[cfg(test)]
-mod drawn;
+mod graph;
 #[cfg(test)]
-mod reads;
-#[cfg(test)]
-mod sample;
-#[cfg(test)]
-mod two_lists;
+mod told;

@@ -1,0 +1,149 @@
+//! Worlds in memory: which calls fail, what is there then, and what a stop leaves.
+
+use crate::told::Told;
+use pgs_base::{List, Memory};
+use pgs_world::{Area, Leave, MemWorld, SilentWorld, World, cut_synced, sync_both, write_synced};
+use std::alloc::Global;
+use std::test::Fail;
+
+/// A call: its letter, its area, a place or a length, and bytes.
+pub type Call = (char, Area, u64, &'static [u8]);
+
+/// Whether a call succeeded. None is made at a place outside the area.
+fn is_done(world: &mut MemWorld, call: &Call) -> bool {
+    let (letter, area, at, bytes) = *call;
+    let is_inside = at <= world.bytes(area).len() as u64;
+    match letter {
+        'p' => world.put(bytes).is_ok(),
+        's' => world.sync(area).is_ok(),
+        'S' => sync_both(world).is_ok(),
+        'e' => is_inside && world.read_at(area, at, &mut []).is_ok(),
+        'w' => is_inside && world.write_at(area, at, bytes).is_ok(),
+        'W' => is_inside && write_synced(world, area, at, bytes).is_ok(),
+        'c' => is_inside && world.cut(area, at).is_ok(),
+        _ => is_inside && cut_synced(world, area, at).is_ok(),
+    }
+}
+
+/// The byte at a place.
+fn tell_byte(world: &mut MemWorld, area: Area, at: u64, told: &mut Told) {
+    let mut byte = [0];
+    let is_inside = at < world.bytes(area).len() as u64;
+    told.truth(is_inside && world.read_at(area, at, &mut byte).is_ok());
+    told.bytes("", &byte);
+}
+
+/// What a call answers: a length, a byte, or whether it succeeded.
+pub fn tell_call(world: &mut MemWorld, call: &Call, told: &mut Told) {
+    match call.0 {
+        'l' => match world.len(call.1) {
+            Ok(len) => told.number("", len),
+            Err(_) => told.truth(false),
+        },
+        'r' => tell_byte(world, call.1, call.2, told),
+        _ => told.truth(is_done(world, call)),
+    }
+}
+
+/// One call of each kind, and one past the room for six.
+const EACH: &[Call] = &[
+    ('l', Area::A, 0, &[]),
+    ('e', Area::A, 0, &[]),
+    ('w', Area::B, 0, &[]),
+    ('c', Area::B, 0, &[]),
+    ('s', Area::A, 0, &[]),
+    ('p', Area::A, 0, &[]),
+    ('p', Area::A, 0, &[]),
+];
+
+/// With room for six bytes, a write and a put of five, and what comes then.
+const FULL: &[Call] = &[
+    ('w', Area::A, 0, &[1, 2]),
+    ('p', Area::A, 0, &[3, 4, 5]),
+    ('w', Area::B, 0, &[6, 7]),
+    ('p', Area::A, 0, &[]),
+    ('l', Area::A, 0, &[]),
+    ('r', Area::A, 1, &[]),
+];
+
+/// A write at the second of three bytes and a cut behind it, both synced.
+const SYNCED: &[Call] = &[
+    ('W', Area::A, 1, &[7]),
+    ('C', Area::A, 2, &[]),
+    ('S', Area::A, 0, &[]),
+];
+
+/// The first area, the room, which call fails, the calls; what each answers, both areas and the output then, and what a stop leaves of
+/// the first area where unsynced bytes are filled with 0.
+const WORLDS: &[(&[u8], u64, u64, &[Call], &str)] = &[
+    (&[], 6, 1, EACH, "nyyyyyn;;;;"),
+    (&[], 6, 2, EACH, "0nyyyyn;;;;"),
+    (&[], 6, 3, EACH, "0ynyyyn;;;;"),
+    (&[], 6, 4, EACH, "0yynyyn;;;;"),
+    (&[], 6, 5, EACH, "0yyynyn;;;;"),
+    (&[], 6, 6, EACH, "0yyyynn;;;;"),
+    (&[], 6, 0, FULL, "yynn2y2;12;;345;00"),
+    (&[1, 2, 3], 10, 0, SYNCED, "yyy;17;;;17"),
+];
+
+fn world(alloc: Global, a: &[u8], room: u64, fails: u64) -> Result<MemWorld, Memory> {
+    let a = List::from_slice(alloc, a)?;
+    let fail = List::from_slice(alloc, &[fails])?;
+    MemWorld::new(alloc, a, List::new(alloc), room.min(10), fail)
+}
+
+/// What the calls answer, and what there is then.
+fn tell_world(
+    alloc: Global,
+    mut world: MemWorld,
+    calls: &[Call],
+    told: &mut Told,
+) -> Result<(), Memory> {
+    for call in calls {
+        tell_call(&mut world, call, told);
+    }
+    told.bytes(";", world.bytes(Area::A));
+    told.bytes(";", world.bytes(Area::B));
+    told.bytes(";", world.output());
+    let (left, _, _) = world.left(alloc, Leave::Fill(0))?;
+    told.bytes(";", left.as_slice());
+    Ok(())
+}
+
+/// The rows that are told otherwise.
+fn differing(alloc: Global) -> Result<Told, Memory> {
+    let mut differing = Told::new(alloc);
+    for (a, room, fails, calls, want) in WORLDS {
+        let mut told = Told::new(alloc);
+        tell_world(alloc, world(alloc, a, *room, *fails)?, calls, &mut told)?;
+        if told.text()? != *want {
+            differing.number(" row ", *fails);
+            differing.word(told.text()?);
+        }
+    }
+    Ok(differing)
+}
+
+/// The length of an area of a world that tells nothing and fails at its second call, and which later calls succeed.
+fn tell_silent(alloc: Global, told: &mut Told) -> Result<(), Memory> {
+    let mut world = SilentWorld::new(List::from_slice(alloc, &[2])?);
+    told.number("", world.len(Area::A).unwrap_or(9));
+    told.truth(sync_both(&mut world).is_ok());
+    told.truth(sync_both(&mut world).is_ok());
+    told.truth(write_synced(&mut world, Area::A, 0, &[1]).is_ok());
+    told.truth(cut_synced(&mut world, Area::B, 0).is_ok());
+    told.truth(world.put(b"x").is_ok());
+    Ok(())
+}
+
+fn told(alloc: Global) -> Result<Told, Memory> {
+    let mut told = differing(alloc)?;
+    tell_silent(alloc, &mut told)?;
+    Ok(told)
+}
+
+#[test]
+fn worlds_fail_as_listed_and_past_their_room(rt: HostRuntime) -> Result<(), Fail> {
+    assert_eq!(rt; told(rt.alloc())?.text()?, "0nynyy");
+    Ok(())
+}
