@@ -157,7 +157,7 @@ fn compiled_script(alloc: Global) -> Result<Compiled, Fail> {
 fn compiled_types_answer_as_joining_all_pairs_does(rt: HostRuntime) -> Result<(), Fail> {
     let compiled = compiled_script(rt.alloc())?;
     let counts = compare_nodes(rt.alloc(), &compiled)?;
-    assert_eq!(rt; (counts.yes, counts.alike), (506, 7_488));
+    assert_eq!(rt; (counts.yes, counts.alike), (573, 7_488));
     Ok(())
 }
 
