@@ -34,7 +34,7 @@ fn word_of(name: &Name) -> &str {
     str::from_utf8(name.bytes()).unwrap_or("?")
 }
 
-fn word_if(holds: bool, word: &'static str) -> &'static str {
+fn word_if<'a>(holds: bool, word: &'a str) -> &'a str {
     if holds { word } else { "" }
 }
 

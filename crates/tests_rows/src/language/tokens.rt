@@ -20,7 +20,8 @@ fn put_token(out: &mut String, text: &[u8], token: Token<'_>) -> Put {
     } else {
         "!"
     };
-    put(out, &[sign, str::from_utf8(token.slice).unwrap_or("?")])
+    put(out, &[sign])?;
+    put(out, &[str::from_utf8(token.slice).unwrap_or("?")])
 }
 
 /// The tokens that are counted, and an exclamation mark where there is one more.

@@ -8,10 +8,16 @@ use pgs_syntax::{
 };
 
 // Nothing where there is no name.
-fn put_names(out: &mut String, before: &str, names: &[Name], between: &str) -> Put {
+fn put_names(
+    out: &mut String,
+    before: &'static str,
+    names: &[Name],
+    between: &'static str,
+) -> Put {
     let mut sign = before;
     for name in names {
-        put(out, &[sign, word_of(name)])?;
+        put(out, &[sign])?;
+        put(out, &[word_of(name)])?;
         sign = between;
     }
     Ok(())
@@ -31,16 +37,10 @@ fn put_braces(out: &mut String, braces: &Braces) -> Put {
     put(out, &["{"])?;
     let mut sign = "";
     for property in braces.properties.as_slice() {
-        let kind = kind_word(property.kind);
-        put(
-            out,
-            &[
-                sign,
-                word_of(&property.key),
-                kind,
-                word_if(property.optional, "?"),
-            ],
-        )?;
+        put(out, &[sign])?;
+        put(out, &[word_of(&property.key)])?;
+        let optional = word_if(property.optional, "?");
+        put(out, &[kind_word(property.kind), optional])?;
         sign = ",";
     }
     put(out, &[word_if(braces.more, "+"), "}"])

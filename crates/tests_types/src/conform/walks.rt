@@ -6,46 +6,50 @@ use pgs_conform::{Options, Shape};
 use std::alloc::Global;
 use std::test::Fail;
 
-/// A key, the bits of what stands there, and whether nothing, a text or a number may.
-type Key = (&'static str, u32, [bool; 3]);
+/// A key, the bits of what stands there, and what may: 1 for nothing, 2 for a text, 4 for a number, and their sums.
+type Key = (&'static str, u32, u32);
 
 /// The bits of labels, keys, and whether further labels and further keys are free.
 type Form = (u32, &'static [Key], bool, bool);
 
+// What stands where these bits are.
+fn sort_of(found: u32) -> u32 {
+    if found == 0 {
+        1
+    } else if found & 56 == found {
+        2
+    } else {
+        4
+    }
+}
+
 // Whether a pair is in a shape.
 fn plain_has(form: &Form, pair: u32) -> bool {
-    let (labels, keys, more_labels, more_keys) = form;
+    let labels = form.0;
     let mut further = pair & !labels;
-    for (_, bits, [nothing, text, number]) in *keys {
-        let found = pair & bits;
-        let is_met = if found == 0 {
-            *nothing
-        } else if found & 56 == found {
-            *text
-        } else {
-            *number
-        };
-        if !is_met {
+    for (_, bits, allowed) in form.1 {
+        if sort_of(pair & bits) & allowed == 0 {
             return false;
         }
         further &= !bits;
     }
-    pair & labels == *labels
-        && (*more_labels || further & 7 == 0)
-        && (*more_keys || further & 504 == 0)
+    pair & labels == labels && (form.2 || further & 7 == 0) && (form.3 || further & 504 == 0)
+}
+
+fn options_of(allowed: u32) -> Options {
+    Options {
+        absent: allowed & 1 != 0,
+        text: allowed & 2 != 0,
+        int: allowed & 4 != 0,
+        boolean: false,
+        date: false,
+    }
 }
 
 fn shape(alloc: Global, form: &Form) -> Result<Shape, Fail> {
     let mut keys: Rows<Name, Options> = Rows::new(alloc);
-    for (text, _, [absent, text_too, int]) in form.1 {
-        let options = Options {
-            absent: *absent,
-            text: *text_too,
-            int: *int,
-            boolean: false,
-            date: false,
-        };
-        keys.set(name(alloc, text)?, options)?;
+    for (text, _, allowed) in form.1 {
+        keys.set(name(alloc, text)?, options_of(*allowed))?;
     }
     let labels = labels_of(alloc, form.0)?;
     let keys = keys.into_vec();
@@ -74,33 +78,18 @@ fn count_alike(alloc: Global, form: &Form) -> Result<(u32, u32), Fail> {
 
 /// Shapes, and how many of the pairs are in each.
 const SHAPES: &[(Form, u32)] = &[
-    (
-        (
-            1,
-            &[
-                ("k", 72, [false, true, false]),
-                ("m", 288, [true, false, true]),
-            ],
-            false,
-            false,
-        ),
-        2,
-    ),
+    ((1, &[("k", 72, 2), ("m", 288, 5)], false, false), 2),
     ((5, &[], true, true), 54),
     (
         (
             0,
-            &[
-                ("k", 72, [true, false, true]),
-                ("l", 144, [false, true, true]),
-                ("m", 288, [true, false, false]),
-            ],
+            &[("k", 72, 5), ("l", 144, 6), ("m", 288, 1)],
             false,
             true,
         ),
         4,
     ),
-    ((2, &[("l", 144, [false, true, false])], true, false), 4),
+    ((2, &[("l", 144, 2)], true, false), 4),
 ];
 
 #[test]

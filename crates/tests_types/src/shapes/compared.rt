@@ -62,6 +62,21 @@ struct Sets {
     target: u128,
 }
 
+impl Sets {
+    // Three pairs, each in its set or not by a bit of the number.
+    fn pick(self, numbers: &mut Numbers, bits: u32) -> [u32; 3] {
+        let source = pick(numbers, self.source, bits & 1 == 0);
+        let middle = pick(numbers, self.middle, bits & 2 == 0);
+        let target = pick(numbers, self.target, bits & 4 == 0);
+        [source, middle, target]
+    }
+
+    fn have(self, pairs: [u32; 3]) -> bool {
+        let [source, middle, target] = pairs;
+        has(self.source, source) && has(self.middle, middle) && has(self.target, target)
+    }
+}
+
 // The sets of each edge type. The types that middles name ask nothing of their ends.
 fn sets_of_edges(alloc: Global, compiled: &Compiled) -> Result<Vec<Sets>, AllocError> {
     let nodes = sets_of_nodes(alloc, compiled)?;
@@ -91,39 +106,33 @@ fn pick(numbers: &mut Numbers, set: u128, wanted: bool) -> u32 {
     0
 }
 
-fn fits_edge(compiled: &Compiled, number: u32, ends: [&Owned; 2], own: &Owned) -> bool {
-    let [source, target] = ends;
+fn fits_edge(
+    compiled: &Compiled,
+    number: u32,
+    source: &Owned,
+    own: &Owned,
+    target: &Owned,
+) -> bool {
+    let source = source.lent();
+    let own = own.lent();
+    let target = target.lent();
     match compiled.resolved().edges.at(number as usize) {
-        Some(_) => edge_fits(
-            compiled,
-            number,
-            &source.lent(),
-            &own.lent(),
-            &target.lent(),
-        ),
+        Some(_) => edge_fits(compiled, number, &source, &own, &target),
         None => false,
     }
 }
 
-// Counts one triple of a type, of which each pair is in its set or not by a bit.
-fn compare_triple(
+fn fits_pairs(
     alloc: Global,
     compiled: &Compiled,
     number: u32,
-    sets: Sets,
-    bits: u32,
-    numbers: &mut Numbers,
-    counts: &mut Counts,
-) -> Result<(), Fail> {
-    let source = pick(numbers, sets.source, bits & 1 == 0);
-    let middle = pick(numbers, sets.middle, bits & 2 == 0);
-    let target = pick(numbers, sets.target, bits & 4 == 0);
-    let plain = has(sets.source, source) && has(sets.middle, middle) && has(sets.target, target);
+    pairs: [u32; 3],
+) -> Result<bool, Fail> {
+    let [source, own, target] = pairs;
     let source = Owned::of(alloc, source)?;
+    let own = Owned::of(alloc, own)?;
     let target = Owned::of(alloc, target)?;
-    let own = Owned::of(alloc, middle)?;
-    counts.count(fits_edge(compiled, number, [&source, &target], &own), plain);
-    Ok(())
+    Ok(fits_edge(compiled, number, &source, &own, &target))
 }
 
 // 24 triples of each edge type.
@@ -133,15 +142,9 @@ fn compare_edges(alloc: Global, compiled: &Compiled) -> Result<Counts, Fail> {
     let sets = sets_of_edges(alloc, compiled)?;
     for (number, sets) in sets.iter().enumerate() {
         for bits in 0..24 {
-            compare_triple(
-                alloc,
-                compiled,
-                number as u32,
-                *sets,
-                bits,
-                &mut numbers,
-                &mut counts,
-            )?;
+            let pairs = sets.pick(&mut numbers, bits);
+            let fits = fits_pairs(alloc, compiled, number as u32, pairs)?;
+            counts.count(fits, sets.have(pairs));
         }
     }
     Ok(counts)
