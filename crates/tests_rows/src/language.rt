@@ -7,7 +7,10 @@ mod tree;
 use pgs_base::{Memory, Name, TEXT_LIMIT};
 use pgs_lexer::{LexFault, Tokens, lex};
 use pgs_parser::{ParseFault, parse};
+use schema::put_resolved;
 use std::alloc::{AllocError, Global};
+use tokens::put_tokens;
+use tree::put_script;
 
 /// What is told of a text.
 #[derive(Clone, Copy)]
@@ -45,12 +48,18 @@ fn put_parsed(
     view: View,
     tokens: &Tokens<'_>,
 ) -> Result<(), Memory> {
-    match (parse(alloc, tokens), view) {
-        (Err(ParseFault::Memory), _) => Err(Memory),
-        (Err(ParseFault::Syntax { statement }), _) => Ok(put_number(out, "-", statement as i64)?),
-        (Ok(script), View::Schema) => Ok(schema::put_resolved(alloc, out, &script)?),
-        (Ok(script), _) => Ok(tree::put_script(out, &script)?),
+    let script = match parse(alloc, tokens) {
+        Ok(script) => script,
+        Err(ParseFault::Memory) => return Err(Memory),
+        Err(ParseFault::Syntax { statement }) => {
+            return Ok(put_number(out, "-", statement as i64)?);
+        }
+    };
+    match view {
+        View::Schema => put_resolved(alloc, out, &script)?,
+        _ => put_script(out, &script)?,
     }
+    Ok(())
 }
 
 /// What is made of a text: its tokens, its trees or its schema, or the first fault on the way there.
@@ -60,11 +69,13 @@ pub fn told(alloc: Global, view: View, text: &[u8]) -> Result<Vec<u8>, Memory> {
         put(&mut out, &["too long"])?;
         return Ok(out.into_bytes());
     }
-    match (lex(alloc, text), view) {
-        (Err(LexFault::Memory), _) => return Err(Memory),
-        (Err(LexFault::Lex { line }), _) => put_number(&mut out, "line ", line as i64)?,
-        (Ok(tokens), View::Tokens) => tokens::put_tokens(&mut out, text, &tokens)?,
-        (Ok(tokens), _) => put_parsed(alloc, &mut out, view, &tokens)?,
+    match lex(alloc, text) {
+        Err(LexFault::Memory) => return Err(Memory),
+        Err(LexFault::Lex { line }) => put_number(&mut out, "line ", line as i64)?,
+        Ok(tokens) => match view {
+            View::Tokens => put_tokens(&mut out, text, &tokens)?,
+            _ => put_parsed(alloc, &mut out, view, &tokens)?,
+        },
     }
     Ok(out.into_bytes())
 }

@@ -27,7 +27,8 @@ impl Counts {
 fn sets_of_nodes(alloc: Global, compiled: &Compiled) -> Result<Vec<u128>, AllocError> {
     let mut sets = Vec::new(alloc);
     for node in compiled.resolved().nodes.as_slice() {
-        sets.push(set_of(&node.spec, sets.as_slice()))?;
+        let set = set_of(&node.spec, sets.as_slice());
+        sets.push(set)?;
     }
     Ok(sets)
 }
