@@ -8,12 +8,7 @@ use pgs_syntax::{
 };
 
 // Nothing where there is no name.
-fn put_names(
-    out: &mut String,
-    before: &'static str,
-    names: &[Name],
-    between: &'static str,
-) -> Put {
+fn put_names(out: &mut String, before: &'static str, names: &[Name], between: &'static str) -> Put {
     let mut sign = before;
     for name in names {
         put(out, &[sign])?;
