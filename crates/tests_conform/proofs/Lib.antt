@@ -1,2 +1,0 @@
-pub mod Denoting
-pub mod Standing

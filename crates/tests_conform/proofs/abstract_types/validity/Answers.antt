@@ -1,8 +1,0 @@
-use Rattle.std.proofs.Common.{refl}
-use denote.Hole.Carrier.{hidden}
-use Rattle.pgs_syntax.specs.declared.specification.Spec.TheBlock as block
-use Rattle.tests_conform.proofs.abstract_types.validity.Goals as goal
-
-pub returns : goal.returns
-unfolding block.hidden-the_row-Spec-0 hidden
-returns c = refl

@@ -1,0 +1,175 @@
+//! Compiled node types on all small pairs, and compiled edge types on triples of them.
+
+use super::drawn::script;
+use super::pairs::{Owned, is_pair};
+use super::plain::{has, set_of};
+use pgs_conform::{Compiled, edge_fits, node_fits};
+use pgs_schema::read_schema;
+use std::alloc::{AllocError, Global};
+use std::test::Fail;
+use tests_fixtures::Numbers;
+
+/// How many answers were yes, and how many were those of the plain program.
+#[derive(Clone, Copy)]
+struct Counts {
+    yes: u32,
+    alike: u32,
+}
+
+impl Counts {
+    fn count(&mut self, answer: bool, plain: bool) {
+        self.yes = self.yes.saturating_add(u32::from(answer));
+        self.alike = self.alike.saturating_add(u32::from(answer == plain));
+    }
+}
+
+// The pairs that fit each node type.
+fn sets_of_nodes(alloc: Global, compiled: &Compiled) -> Result<Vec<u128>, AllocError> {
+    let mut sets = Vec::new(alloc);
+    for node in compiled.resolved().nodes.as_slice() {
+        let set = set_of(&node.spec, sets.as_slice());
+        sets.push(set)?;
+    }
+    Ok(sets)
+}
+
+fn fits_node(compiled: &Compiled, number: u32, own: &Owned) -> bool {
+    match compiled.resolved().nodes.at(number as usize) {
+        Some(_) => node_fits(compiled, number, &own.labels, &own.props),
+        None => false,
+    }
+}
+
+fn compare_nodes(alloc: Global, compiled: &Compiled) -> Result<Counts, Fail> {
+    let mut counts = Counts { yes: 0, alike: 0 };
+    let sets = sets_of_nodes(alloc, compiled)?;
+    for pair in 0..128 {
+        if is_pair(pair) {
+            let own = Owned::of(alloc, pair)?;
+            for (number, set) in sets.iter().enumerate() {
+                let fits = fits_node(compiled, number as u32, &own);
+                counts.count(fits, has(*set, pair));
+            }
+        }
+    }
+    Ok(counts)
+}
+
+/// The pairs that the source, the middle and the target of an edge type ask for.
+#[derive(Clone, Copy)]
+struct Sets {
+    source: u128,
+    middle: u128,
+    target: u128,
+}
+
+impl Sets {
+    // Three pairs, each in its set or not by a bit of the number.
+    fn pick(self, numbers: &mut Numbers, bits: u32) -> [u32; 3] {
+        let source = pick(numbers, self.source, bits & 1 == 0);
+        let middle = pick(numbers, self.middle, bits & 2 == 0);
+        let target = pick(numbers, self.target, bits & 4 == 0);
+        [source, middle, target]
+    }
+
+    fn have(self, pairs: [u32; 3]) -> bool {
+        let [source, middle, target] = pairs;
+        has(self.source, source) && has(self.middle, middle) && has(self.target, target)
+    }
+}
+
+// The sets of each edge type. The types that middles name ask nothing of their ends.
+fn sets_of_edges(alloc: Global, compiled: &Compiled) -> Result<Vec<Sets>, AllocError> {
+    let nodes = sets_of_nodes(alloc, compiled)?;
+    let mut middles = Vec::new(alloc);
+    let mut sets = Vec::new(alloc);
+    for edge in compiled.resolved().edges.as_slice() {
+        let middle = set_of(&edge.middle, middles.as_slice());
+        middles.push(middle)?;
+        sets.push(Sets {
+            source: set_of(&edge.source, nodes.as_slice()),
+            middle,
+            target: set_of(&edge.target, nodes.as_slice()),
+        })?;
+    }
+    Ok(sets)
+}
+
+// A pair that is in the set or isn't, as wanted, where there is one.
+fn pick(numbers: &mut Numbers, set: u128, wanted: bool) -> u32 {
+    let start = numbers.below(128) as u32;
+    for step in 0..128 {
+        let pair = start.wrapping_add(step) % 128;
+        if is_pair(pair) && has(set, pair) == wanted {
+            return pair;
+        }
+    }
+    0
+}
+
+fn fits_edge(
+    compiled: &Compiled,
+    number: u32,
+    source: &Owned,
+    own: &Owned,
+    target: &Owned,
+) -> bool {
+    let source = source.lent();
+    let own = own.lent();
+    let target = target.lent();
+    match compiled.resolved().edges.at(number as usize) {
+        Some(_) => edge_fits(compiled, number, &source, &own, &target),
+        None => false,
+    }
+}
+
+fn fits_pairs(
+    alloc: Global,
+    compiled: &Compiled,
+    number: u32,
+    pairs: [u32; 3],
+) -> Result<bool, Fail> {
+    let [source, own, target] = pairs;
+    let source = Owned::of(alloc, source)?;
+    let own = Owned::of(alloc, own)?;
+    let target = Owned::of(alloc, target)?;
+    Ok(fits_edge(compiled, number, &source, &own, &target))
+}
+
+// 24 triples of each edge type.
+fn compare_edges(alloc: Global, compiled: &Compiled) -> Result<Counts, Fail> {
+    let mut counts = Counts { yes: 0, alike: 0 };
+    let mut numbers = Numbers::new(11);
+    let sets = sets_of_edges(alloc, compiled)?;
+    for (number, sets) in sets.iter().enumerate() {
+        for bits in 0..24 {
+            let pairs = sets.pick(&mut numbers, bits);
+            let fits = fits_pairs(alloc, compiled, number as u32, pairs)?;
+            counts.count(fits, sets.have(pairs));
+        }
+    }
+    Ok(counts)
+}
+
+fn compiled_script(alloc: Global) -> Result<Compiled, Fail> {
+    let script = script(alloc);
+    Ok(read_schema(alloc, script.text()?.as_bytes())?)
+}
+
+// Of the 18 leaves and the 60 types on 96 pairs each. How many fit was counted by a third program.
+#[test]
+fn compiled_types_answer_as_joining_all_pairs_does(rt: HostRuntime) -> Result<(), Fail> {
+    let compiled = compiled_script(rt.alloc())?;
+    let counts = compare_nodes(rt.alloc(), &compiled)?;
+    assert_eq!(rt; (counts.yes, counts.alike), (573, 7_488));
+    Ok(())
+}
+
+// Of the 18 leaves and the 20 types on 24 triples each.
+#[test]
+fn compiled_edge_types_answer_by_their_three_parts(rt: HostRuntime) -> Result<(), Fail> {
+    let compiled = compiled_script(rt.alloc())?;
+    let counts = compare_edges(rt.alloc(), &compiled)?;
+    assert_eq!(rt; (counts.yes, counts.alike), (102, 912));
+    Ok(())
+}
