@@ -1,0 +1,135 @@
+//! Rows as data: reads each file NAME.rows of the folder that it runs in, makes the steps of its cases through the public calls, with reads
+//! of each size, and tells which leave something else than they must. `tools/rows --help` has the form of a file.
+#![tactic(auto)]
+
+mod language;
+mod lines;
+mod running;
+mod telling;
+mod texts;
+
+use lines::{begin_by, is_step, numbers, text};
+use running::{Areas, Left, Setting, left_by};
+use std::alloc::Global;
+use std::fs;
+use std::process::ExitCode;
+use telling::wanted;
+
+/// The sizes of the reads that each case is made with.
+const SIZES: [usize; 3] = [1, 7, 65_536];
+
+/// How the lines in front of a case's steps begin, and how those of a step.
+const HEAD: [&str; 5] = ["#", "== ", "pieces ", "A", "B"];
+
+const STEP: [&str; 26] = [
+    "#", "guard", "sessions", "follow", "tokens", "tree", "schema", "budget ", "fail world ",
+    "fail read ", "fail feed ", "feeds ", "length a ", "length b ", "= ", "<", ">", "1", "2", "3",
+    "4", "5", "6", "7", "8", "9",
+];
+
+// The names of the files of rows, in order. Here and below nothing is where memory or a file is wanting, or a line is of no form.
+fn names(rt: &HostRuntime) -> Option<Vec<String>> {
+    let mut names = Vec::new(rt.alloc());
+    for entry in fs::read_dir(rt, ".").ok()? {
+        let entry = entry.ok()?;
+        if let Some(name) = entry.file_name().strip_suffix(".rows") {
+            names.push(String::from_str(rt.alloc(), name).ok()?).ok()?;
+        }
+    }
+    names.sort().ok()?;
+    Some(names)
+}
+
+fn lines_of(alloc: Global, text: &str) -> Option<Vec<&str>> {
+    let mut lines = Vec::new(alloc);
+    for line in text.split('\n') {
+        lines.push(line).ok()?;
+    }
+    Some(lines)
+}
+
+// Whether a case is for reads of a size.
+fn is_for(alloc: Global, head: &[&str], size: usize) -> Option<bool> {
+    let sizes = numbers(alloc, head, "pieces ")?;
+    Some(sizes.is_empty() || sizes.as_slice().contains(&(size as u64)))
+}
+
+// What a step leaves within the first of its budgets that leaves something else than it must, or within the last.
+fn left(alloc: Global, step: &[&str], areas: &Areas, size: usize, wanted: &[u8]) -> Option<Left> {
+    let budgets = numbers(alloc, step, "budget ")?;
+    let first = budgets.at(0).copied().unwrap_or(u64::MAX);
+    let last = budgets.at(1).copied().unwrap_or(first);
+    for budget in first..last {
+        let left = left_by(alloc, step, areas, Setting { size, budget })?;
+        if left.told.as_slice() != wanted {
+            return Some(left);
+        }
+    }
+    left_by(alloc, step, areas, Setting { size, budget: last })
+}
+
+// Makes a step, and tells where it is wrong. What it leaves, and whether that is right.
+fn make_step(rt: &HostRuntime, step: &[&str], areas: &Areas, size: usize) -> Option<(Areas, bool)> {
+    let wanted = wanted(rt.alloc(), step)?;
+    let left = left(rt.alloc(), step, areas, size, wanted.as_slice())?;
+    let is_right = begin_by(step, &STEP) && left.told.as_slice() == wanted.as_slice();
+    if !is_right {
+        let (wanted, told) = (str::from_utf8(&wanted).ok()?, str::from_utf8(&left.told).ok()?);
+        println!(rt; "wrong by reads of {size}: {}\nwanted {wanted}\nfound {told}", step.first()?).ok()?;
+    }
+    Some((left.areas, is_right))
+}
+
+// Makes the steps of a case. Whether all are right.
+fn make_case(rt: &HostRuntime, case: &[&str], size: usize) -> Option<bool> {
+    let mut parts = case.chunk_by(|_, next| !is_step(next));
+    let head = parts.next()?;
+    let mut is_right = begin_by(head, &HEAD);
+    if !is_for(rt.alloc(), head, size)? {
+        return Some(is_right);
+    }
+    let (a, b) = (text(rt.alloc(), head, "A")?, text(rt.alloc(), head, "B")?);
+    let mut areas = Areas { a, b };
+    for step in parts {
+        let (left, is_step_right) = make_step(rt, step, &areas, size)?;
+        areas = left;
+        is_right = is_right && is_step_right;
+    }
+    Some(is_right)
+}
+
+// Makes the cases of a file, and tells which are wrong. Whether none is.
+fn make_file(rt: &HostRuntime, name: &str) -> Option<bool> {
+    let path = format!(in rt.alloc(); "{name}.rows").ok()?;
+    let text = fs::read_to_string(rt, path.as_str()).ok()?;
+    let lines = lines_of(rt.alloc(), text.as_str())?;
+    let mut is_right = true;
+    for case in lines.chunk_by(|_, next| !next.starts_with("== ")) {
+        for size in SIZES {
+            if make_case(rt, case, size) != Some(true) {
+                println!(rt; "{name}, {}: wrong, or of no form", case.first()?).ok()?;
+                is_right = false;
+            }
+        }
+    }
+    let cases = lines.iter().filter(|line| line.starts_with("== ")).count();
+    let steps = lines.iter().filter(|line| is_step(line)).count();
+    println!(rt; "{name}: {cases} cases, {steps} steps").ok()?;
+    Some(is_right)
+}
+
+// Makes the cases of each file. Whether none is wrong.
+fn make_all(rt: &HostRuntime) -> Option<bool> {
+    let mut is_right = true;
+    for name in names(rt)?.iter() {
+        is_right = make_file(rt, name.as_str())? && is_right;
+    }
+    Some(is_right)
+}
+
+fn main(rt: HostRuntime) -> ExitCode {
+    match make_all(&rt) {
+        Some(true) => ExitCode::from(0),
+        _ => ExitCode::from(1),
+    }
+}
