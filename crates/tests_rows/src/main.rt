@@ -98,11 +98,8 @@ fn make_case(rt: &HostRuntime, case: &[&str], size: usize) -> Option<bool> {
     Some(is_right)
 }
 
-// Makes the cases of a file, and tells which are wrong. Whether none is.
-fn make_file(rt: &HostRuntime, name: &str) -> Option<bool> {
-    let path = format!(in rt.alloc(); "{name}.rows").ok()?;
-    let text = fs::read_to_string(rt, path.as_str()).ok()?;
-    let lines = lines_of(rt.alloc(), text.as_str())?;
+// Makes cases with reads of each size, and tells which are wrong. Whether none is.
+fn make_cases(rt: &HostRuntime, name: &str, lines: &[&str]) -> Option<bool> {
     let mut is_right = true;
     for case in lines.chunk_by(|_, next| !next.starts_with("== ")) {
         for size in SIZES {
@@ -112,6 +109,15 @@ fn make_file(rt: &HostRuntime, name: &str) -> Option<bool> {
             }
         }
     }
+    Some(is_right)
+}
+
+// Makes the cases of a file. Whether none is wrong.
+fn make_file(rt: &HostRuntime, name: &str) -> Option<bool> {
+    let path = format!(in rt.alloc(); "{name}.rows").ok()?;
+    let text = fs::read_to_string(rt, path.as_str()).ok()?;
+    let lines = lines_of(rt.alloc(), text.as_str())?;
+    let is_right = make_cases(rt, name, lines.as_slice())?;
     let cases = lines.iter().filter(|line| line.starts_with("== ")).count();
     let steps = lines.iter().filter(|line| is_step(line)).count();
     println!(rt; "{name}: {cases} cases, {steps} steps").ok()?;
