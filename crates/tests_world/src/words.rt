@@ -1,3 +1,5 @@
+//! What words are read as, and which are refused. That they are read while there is memory no contract says, and this test shows it.
+
 use pgs_base::{Elem, Memory, Words};
 use pgs_run_words::{Command, command_of, feed_names, store_name};
 use std::alloc::Global;

@@ -7,8 +7,8 @@ use Rattle.pgs_run_lines.specs.declared.stop.Stop.{Stop}
 use Rattle.pgs_run_lines.specs.declared.stop.Stop.TheVariants as stops
 use Rattle.pgs_run_lines.specs.Input.{is_blank}
 use Rattle.pgs_run_lines.specs.Machine.{Machine, Step, Going, Ended}
-use Rattle.tests_run_lines.specs.declared.counting.CountEnd.{CountEnd}
-use Rattle.tests_run_lines.specs.declared.counting.CountEnd.TheVariants.{Counted, Cut, Point}
+use Rattle.tests_world.specs.declared.counting.CountEnd.{CountEnd}
+use Rattle.tests_world.specs.declared.counting.CountEnd.TheVariants.{Counted, Cut, Point}
 
 -- `lines=3`
 unfoldable pub count_line : ℕ → List ℕ

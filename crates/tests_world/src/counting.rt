@@ -4,7 +4,7 @@ ghost use Rattle.pgs_run_lines.specs.AreasKept.{KeepsAreas};
 ghost use Rattle.pgs_run_lines.specs.Machine.{told_by};
 ghost use Rattle.pgs_run_lines.specs.Pieces.{shown_of};
 ghost use Rattle.pgs_run_lines.specs.Run.{EndsAs};
-ghost use Rattle.tests_run_lines.specs.Counting.{counting, count_line};
+ghost use Rattle.tests_world.specs.Counting.{counting, count_line};
 
 use pgs_base::{Bytes, List, Memory};
 use pgs_run_lines::{LineTaker, Stop, is_blank, put_piece, put_pieces, run_lines};

@@ -3,12 +3,12 @@ use pgs_base::{List, Memory};
 use pgs_world::{MemSource, MemWorld};
 use std::alloc::Global;
 use std::test::Fail;
-use tests_fixtures::empty_world;
 
 /// An input with the size of its reads, the read and the put that fail, from 1, and the budget; and what is put, with how it ends.
 type Row = (&'static str, usize, u64, u64, u64, &'static str);
 
-const ROWS: [Row; 6] = [
+/// The last two are a line of 80 spaces, which is blank, and one of 200, which is past the limit.
+const ROWS: [Row; 8] = [
     (
         "a\n\n \t\r\nb\nab",
         65_536,
@@ -29,6 +29,22 @@ const ROWS: [Row; 6] = [
     ("a\nb\n", 3, 0, 0, 4, " Ended(Cut)"),
     ("a\nb\n", 3, 2, 0, 99, " ReadFault"),
     ("a\nb\nc", 3, 0, 2, 99, "lines=2\n PutFault"),
+    (
+        "                                                                                \n",
+        7,
+        0,
+        0,
+        1_048_576,
+        "lines=0\n\n Ended(Counted)",
+    ),
+    (
+        "                                                                                                                                                                                                        \n",
+        7,
+        0,
+        0,
+        1_048_576,
+        "lines=1\n\n Ended(Counted)",
+    ),
 ];
 
 /// What is put, and how it ends.
@@ -38,46 +54,16 @@ fn counted(alloc: Global, row: Row) -> Result<String, Memory> {
     let bytes = List::from_slice(alloc, row.0.as_bytes())?;
     let mut source = MemSource::new(bytes, row.1.max(1), reads);
     let mut world = MemWorld::new(alloc, List::new(alloc), List::new(alloc), 65_536, puts)?;
-    let end = count_lines(alloc, &mut source, &mut world, row.4.min(99));
+    let end = count_lines(alloc, &mut source, &mut world, row.4.min(1_048_576));
     let output = str::from_utf8(world.output()).unwrap_or("not a text");
     Ok(format!(in alloc; "{output} {end:?}")?)
 }
 
 #[test]
-fn rows_by_hand(rt: HostRuntime) -> Result<(), Fail> {
+fn lines_are_counted(rt: HostRuntime) -> Result<(), Fail> {
     for row in ROWS {
         let found = counted(rt.alloc(), row)?;
         assert_eq!(rt; found.as_str(), row.5);
     }
-    Ok(())
-}
-
-/// A line of so many spaces, which is blank up to the limit.
-fn spaces(alloc: Global, count: usize) -> Result<String, Memory> {
-    let mut line = String::new(alloc);
-    for _ in 0..count {
-        line.push_str(" ")?;
-    }
-    line.push_str("\n")?;
-    let reads = List::new(alloc);
-    let bytes = List::from_slice(alloc, line.as_bytes())?;
-    let mut source = MemSource::new(bytes, 7, reads);
-    let mut world = empty_world(alloc, 65_536)?;
-    let end = count_lines(alloc, &mut source, &mut world, 1 << 20);
-    let output = str::from_utf8(world.output()).unwrap_or("not a text");
-    Ok(format!(in alloc; "{output}{end:?}")?)
-}
-
-#[test]
-fn blank_up_to_the_limit(rt: HostRuntime) -> Result<(), Fail> {
-    let found = spaces(rt.alloc(), 80)?;
-    assert_eq!(rt; found.as_str(), "lines=0\n\nEnded(Counted)");
-    Ok(())
-}
-
-#[test]
-fn counted_past_the_limit(rt: HostRuntime) -> Result<(), Fail> {
-    let found = spaces(rt.alloc(), 200)?;
-    assert_eq!(rt; found.as_str(), "lines=1\n\nEnded(Counted)");
     Ok(())
 }
