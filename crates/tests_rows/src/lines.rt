@@ -13,11 +13,23 @@ pub fn is_step(line: &str) -> bool {
     STEPS.contains(&word)
 }
 
-/// Whether each line is empty or begins by one of these signs.
-pub fn begin_by(lines: &[&str], signs: &[&str]) -> bool {
-    lines
-        .iter()
-        .all(|line| line.is_empty() || signs.iter().any(|sign| line.starts_with(*sign)))
+fn begins_by(line: &str, signs: &str) -> bool {
+    for sign in signs.split(',') {
+        if line.starts_with(sign) {
+            return true;
+        }
+    }
+    line.is_empty()
+}
+
+/// Whether each line is empty or begins by one of these signs, which have commas between them.
+pub fn begin_by(lines: &[&str], signs: &str) -> bool {
+    for line in lines {
+        if !begins_by(line, signs) {
+            return false;
+        }
+    }
+    true
 }
 
 /// The numbers behind a sign.

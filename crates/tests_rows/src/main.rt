@@ -13,19 +13,17 @@ use running::{Areas, Left, Setting, left_by};
 use std::alloc::Global;
 use std::fs;
 use std::process::ExitCode;
-use telling::wanted;
+use telling::{has_lengths, wanted};
 
 /// The sizes of the reads that each case is made with.
 const SIZES: [usize; 3] = [1, 7, 65_536];
 
-/// How the lines in front of a case's steps begin, and how those of a step.
-const HEAD: [&str; 5] = ["#", "== ", "pieces ", "A", "B"];
+/// How the lines in front of a case's steps begin.
+const HEAD: &str = "#,== ,pieces ,A,B";
 
-const STEP: [&str; 26] = [
-    "#", "guard", "sessions", "follow", "tokens", "tree", "schema", "budget ", "fail world ",
-    "fail read ", "fail feed ", "feeds ", "length a ", "length b ", "= ", "<", ">", "1", "2", "3",
-    "4", "5", "6", "7", "8", "9",
-];
+/// How the lines of a step begin.
+const STEP: &str =
+    "#,guard,sessions,follow,tokens,tree,schema,budget ,fail world ,fail read ,fail feed ,feeds ,length a ,length b ,= ,<,>,1,2,3,4,5,6,7,8,9";
 
 // The names of the files of rows, in order. Here and below nothing is where memory or a file is wanting, or a line is of no form.
 fn names(rt: &HostRuntime) -> Option<Vec<String>> {
@@ -48,13 +46,26 @@ fn lines_of(alloc: Global, text: &str) -> Option<Vec<&str>> {
     Some(lines)
 }
 
+// How many cases and how many steps there are.
+fn count(lines: &[&str]) -> (u64, u64) {
+    let (mut cases, mut steps) = (0u64, 0u64);
+    for line in lines {
+        if line.starts_with("== ") {
+            cases = cases.saturating_add(1);
+        } else if is_step(line) {
+            steps = steps.saturating_add(1);
+        }
+    }
+    (cases, steps)
+}
+
 // Whether a case is for reads of a size.
 fn is_for(alloc: Global, head: &[&str], size: usize) -> Option<bool> {
     let sizes = numbers(alloc, head, "pieces ")?;
     Some(sizes.is_empty() || sizes.as_slice().contains(&(size as u64)))
 }
 
-// What a step leaves within the first of its budgets that leaves something else than it must, or within the last.
+// What a step leaves within the first of its budgets of which something else is told than it must, or within the last.
 fn left(alloc: Global, step: &[&str], areas: &Areas, size: usize, wanted: &[u8]) -> Option<Left> {
     let budgets = numbers(alloc, step, "budget ")?;
     let first = budgets.at(0).copied().unwrap_or(u64::MAX);
@@ -68,28 +79,45 @@ fn left(alloc: Global, step: &[&str], areas: &Areas, size: usize, wanted: &[u8])
     left_by(alloc, step, areas, Setting { size, budget: last })
 }
 
+fn tell(rt: &HostRuntime, step: &[&str], size: usize, wanted: &[u8], left: &Left) -> Option<()> {
+    let wanted = str::from_utf8(wanted).unwrap_or("no text");
+    let found = str::from_utf8(left.told.as_slice()).unwrap_or("no text");
+    let (a, b) = (left.areas.a.len(), left.areas.b.len());
+    println!(rt;
+        "{}, by reads of {size}: wanted {wanted}\nfound {found}\nareas of {a} and {b}",
+        step.first()?
+    )
+    .ok()
+}
+
 // Makes a step, and tells where it is wrong. What it leaves, and whether that is right.
 fn make_step(rt: &HostRuntime, step: &[&str], areas: &Areas, size: usize) -> Option<(Areas, bool)> {
     let wanted = wanted(rt.alloc(), step)?;
     let left = left(rt.alloc(), step, areas, size, wanted.as_slice())?;
-    let is_right = begin_by(step, &STEP) && left.told.as_slice() == wanted.as_slice();
+    let is_right = begin_by(step, STEP)
+        && left.told.as_slice() == wanted.as_slice()
+        && has_lengths(rt.alloc(), step, &left.areas)?;
     if !is_right {
-        let (wanted, told) = (str::from_utf8(&wanted).ok()?, str::from_utf8(&left.told).ok()?);
-        println!(rt; "wrong by reads of {size}: {}\nwanted {wanted}\nfound {told}", step.first()?).ok()?;
+        tell(rt, step, size, wanted.as_slice(), &left)?;
     }
     Some((left.areas, is_right))
+}
+
+// The areas of a case before its first step.
+fn areas_of(alloc: Global, head: &[&str]) -> Option<Areas> {
+    let (a, b) = (text(alloc, head, "A")?, text(alloc, head, "B")?);
+    Some(Areas { a, b })
 }
 
 // Makes the steps of a case. Whether all are right.
 fn make_case(rt: &HostRuntime, case: &[&str], size: usize) -> Option<bool> {
     let mut parts = case.chunk_by(|_, next| !is_step(next));
     let head = parts.next()?;
-    let mut is_right = begin_by(head, &HEAD);
+    let mut is_right = begin_by(head, HEAD);
     if !is_for(rt.alloc(), head, size)? {
         return Some(is_right);
     }
-    let (a, b) = (text(rt.alloc(), head, "A")?, text(rt.alloc(), head, "B")?);
-    let mut areas = Areas { a, b };
+    let mut areas = areas_of(rt.alloc(), head)?;
     for step in parts {
         let (left, is_step_right) = make_step(rt, step, &areas, size)?;
         areas = left;
@@ -118,8 +146,7 @@ fn make_file(rt: &HostRuntime, name: &str) -> Option<bool> {
     let text = fs::read_to_string(rt, path.as_str()).ok()?;
     let lines = lines_of(rt.alloc(), text.as_str())?;
     let is_right = make_cases(rt, name, lines.as_slice())?;
-    let cases = lines.iter().filter(|line| line.starts_with("== ")).count();
-    let steps = lines.iter().filter(|line| is_step(line)).count();
+    let (cases, steps) = count(lines.as_slice());
     println!(rt; "{name}: {cases} cases, {steps} steps").ok()?;
     Some(is_right)
 }

@@ -2,13 +2,13 @@
 
 use crate::language::{self, View};
 use crate::lines::{numbers, text};
-use crate::telling::{Ending, feed_count, push_feed, told, wanted_ending};
+use crate::telling::{feed_count, push_feed, told};
 use crate::texts::unescaped;
 use pgs_base::{List, Words};
 use pgs_feed::FeedList;
-use pgs_run::{BUDGET, run, run_within};
-use pgs_run_follow::{run_follow, run_follow_within};
-use pgs_run_sessions::{run_sessions, run_sessions_within};
+use pgs_run::{BUDGET, run_within};
+use pgs_run_follow::run_follow_within;
+use pgs_run_sessions::run_sessions_within;
 use pgs_world::{Area, MemFeed, MemSource, MemWorld, World};
 use std::alloc::Global;
 
@@ -64,7 +64,9 @@ fn feeds_of(alloc: Global, step: &[&str]) -> Option<FeedList<MemFeed>> {
     for place in 0..feed_count(alloc, step)? {
         let sign = format!(in alloc; "fail feed {} ", place.saturating_add(1)).ok()?;
         let failing = numbers(alloc, step, sign.as_str())?;
-        feeds.subscribe(MemFeed::new(alloc, ROOM, failing).ok()?).ok()?;
+        feeds
+            .subscribe(MemFeed::new(alloc, ROOM, failing).ok()?)
+            .ok()?;
     }
     Some(feeds)
 }
@@ -77,38 +79,29 @@ struct Outside {
     feeds: FeedList<MemFeed>,
 }
 
-// A run of pgguard.
+// A run of pgguard. `run` is the same within `BUDGET`.
 fn guard(alloc: Global, words: &Words, outside: &mut Outside, budget: u64) -> u8 {
+    let budget = budget.max(1).min(BUDGET);
     let Outside {
         source,
         world,
         feeds,
     } = outside;
-    if budget == BUDGET {
-        run(alloc, words, source, world, feeds).number()
-    } else {
-        run_within(alloc, words, source, world, feeds, budget).number()
-    }
+    run_within(alloc, words, source, world, feeds, budget).number()
 }
 
 // A run of pgsession.
 fn sessions(alloc: Global, words: &Words, outside: &mut Outside, budget: u64) -> u8 {
+    let budget = budget.max(1).min(BUDGET);
     let (source, world) = (&mut outside.source, &mut outside.world);
-    if budget == BUDGET {
-        run_sessions(alloc, words, source, world).number()
-    } else {
-        run_sessions_within(alloc, words, source, world, budget).number()
-    }
+    run_sessions_within(alloc, words, source, world, budget).number()
 }
 
 // A run of pgfollow.
 fn follow(alloc: Global, words: &Words, outside: &mut Outside, budget: u64) -> u8 {
+    let budget = budget.max(1).min(BUDGET);
     let (source, world) = (&mut outside.source, &mut outside.world);
-    if budget == BUDGET {
-        run_follow(alloc, words, source, world).number()
-    } else {
-        run_follow_within(alloc, words, source, world, budget).number()
-    }
+    run_follow_within(alloc, words, source, world, budget).number()
 }
 
 // Puts what the language makes of an input.
@@ -124,7 +117,6 @@ fn make(alloc: Global, step: &[&str], outside: &mut Outside, budget: u64) -> Opt
     let line = step.first()?;
     let (kind, rest) = line.split_once(' ').unwrap_or((line, ""));
     let words = words_of(alloc, rest)?;
-    let budget = budget.max(1).min(BUDGET);
     match kind {
         "guard" => Some(guard(alloc, &words, outside, budget)),
         "sessions" => Some(sessions(alloc, &words, outside, budget)),
@@ -135,15 +127,9 @@ fn make(alloc: Global, step: &[&str], outside: &mut Outside, budget: u64) -> Opt
     }
 }
 
-// What is told of an ending with this status.
+// What is told of a run that ended with this status.
 fn found(alloc: Global, step: &[&str], outside: &Outside, status: u8) -> Option<Vec<u8>> {
-    let (world, wanted) = (&outside.world, wanted_ending(alloc, step)?);
-    let found = Ending {
-        status: u64::from(status),
-        a: wanted.a.and(Some(world.bytes(Area::A).len() as u64)),
-        b: wanted.b.and(Some(world.bytes(Area::B).len() as u64)),
-    };
-    let mut told = told(alloc, found, world.output())?;
+    let mut told = told(alloc, u64::from(status), outside.world.output())?;
     for place in 0..feed_count(alloc, step)? {
         let taken = outside.feeds.shown(place as usize)?;
         push_feed(&mut told, place.saturating_add(1), taken)?;
