@@ -1,4 +1,3 @@
-<<<<<<< HEAD
 //! What `lex`, `parse` and `resolve` make of a text, told as one text.
 
 mod schema;
@@ -14,14 +13,6 @@ use tokens::put_tokens;
 use tree::put_script;
 
 /// What is told of a text.
-=======
-//! What the language makes of a text.
-
-use pgs_base::Memory;
-use std::alloc::Global;
-
-/// What is told of a text: its tokens, its tree, or the schema that it is resolved to.
->>>>>>> 02c82893da47bebb1cc99cbb08d02d7b47448539
 #[derive(Clone, Copy)]
 pub enum View {
     Tokens,
@@ -29,7 +20,6 @@ pub enum View {
     Schema,
 }
 
-<<<<<<< HEAD
 type Put = Result<(), AllocError>;
 
 fn put(out: &mut String, words: &[&str]) -> Put {
@@ -88,9 +78,4 @@ pub fn told(alloc: Global, view: View, text: &[u8]) -> Result<Vec<u8>, Memory> {
         },
     }
     Ok(out.into_bytes())
-=======
-/// What is told of a text.
-pub fn told(alloc: Global, _view: View, _text: &[u8]) -> Result<Vec<u8>, Memory> {
-    Ok(Vec::from_slice(alloc, b"not known\n")?)
->>>>>>> 02c82893da47bebb1cc99cbb08d02d7b47448539
 }
