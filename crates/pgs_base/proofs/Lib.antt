@@ -1,4 +1,5 @@
 pub mod Ascending
+pub mod Edits
 pub mod Graphs
 pub mod Lookups
 pub mod Pairs
