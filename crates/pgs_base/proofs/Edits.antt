@@ -1,5 +1,5 @@
 -- What an edit at the place of a key gives, where it is made on a list that is equal to the keys or entries.
-use Rattle.std.proofs.Common.{◌≡◌, ℕ, true≢false, List, get_or, set, insert, remove, Option, Some, Result, Ok, Err, IfOk, OnOk, OnErr, IsErr, sym, ap, subst, ◌∙◌, Ordering}
+use Rattle.std.proofs.Common.{◌≡◌, ℕ, true≢false, List, get_or, set, insert, remove, Some, Result, Ok, Err, IfOk, OnOk, OnErr, IsErr, sym, ap, subst, ◌∙◌, Ordering}
 use Rattle.std.specs.List.Sorted.{IsStrictlySortedBy}
 use Rattle.std.specs.Map.{keys_of, lookup, remove_entry}
 use Rattle.std.specs.Set.{remove_key}
