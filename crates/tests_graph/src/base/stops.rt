@@ -21,16 +21,16 @@ const CALLS: &[Call] = &[
 
 /// What a stop after none of the calls, after one and so on leaves: each area with unsynced bytes as before, as written, and filled,
 /// where `.` is the byte that fills; and the output.
-const STOPS: &[([&str; 3], [&str; 3], &str)] = &[
-    (["1234", "1234", "1234"], ["9", "9", "9"], ""),
-    (["1234", "12789", "12..."], ["9", "9", "9"], ""),
-    (["1234", "12789", "12..."], ["9", "95", "9."], ""),
-    (["1", "1", "1...."], ["9", "95", "9."], ""),
-    (["1", "1", "1...."], ["9", "95", "9."], "ok"),
-    (["1", "1", "1"], ["9", "95", "9."], "ok"),
-    (["1", "6", "."], ["9", "95", "9."], "ok"),
-    (["1", "6", "."], ["", "", ".."], "ok"),
-    (["1", "6", "."], ["", "", ""], "ok"),
+const STOPS: &[(&[&str], &[&str], &str)] = &[
+    (&["1234", "1234", "1234"], &["9", "9", "9"], ""),
+    (&["1234", "12789", "12..."], &["9", "9", "9"], ""),
+    (&["1234", "12789", "12..."], &["9", "95", "9."], ""),
+    (&["1", "1", "1...."], &["9", "95", "9."], ""),
+    (&["1", "1", "1...."], &["9", "95", "9."], "ok"),
+    (&["1", "1", "1"], &["9", "95", "9."], "ok"),
+    (&["1", "6", "."], &["9", "95", "9."], "ok"),
+    (&["1", "6", "."], &["", "", ".."], "ok"),
+    (&["1", "6", "."], &["", "", ""], "ok"),
 ];
 
 /// How unsynced bytes are left, in which column that stands, and the byte that fills.
@@ -42,7 +42,10 @@ const WAYS: &[(Leave, usize, u8)] = &[
     (Leave::Fill(255), 2, 255),
 ];
 
-fn is_image(image: &[u8], want: &str, fills: u8) -> bool {
+fn is_image(image: &[u8], want: Option<&&str>, fills: u8) -> bool {
+    let Some(want) = want else {
+        return false;
+    };
     let fits = image.iter().zip(want.as_bytes()).all(|(found, want)| *found
         == if *want == b'.' {
             fills
@@ -71,8 +74,8 @@ fn tell_differing(alloc: Global, calls: u64, differing: &mut Told) -> Result<(),
     };
     for (how, column, fills) in WAYS {
         let left = stopped(alloc, calls, *how)?;
-        let is_a = is_image(left.0.as_slice(), a[*column % 3], *fills);
-        let is_b = is_image(left.1.as_slice(), b[*column % 3], *fills);
+        let is_a = is_image(left.0.as_slice(), a.get(*column), *fills);
+        let is_b = is_image(left.1.as_slice(), b.get(*column), *fills);
         if !is_a || !is_b || left.2.as_slice() != output.as_bytes() {
             differing.number(" after ", calls);
             differing.number(" filled by ", u64::from(*fills));
