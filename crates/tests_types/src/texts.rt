@@ -28,9 +28,18 @@ const PAST: [(Structural, &str); 2] = [
 const LINES: &[(&[u8], &str)] = &[
     (b" { \"ops\" :\t[ ]\r\n} ", "{\"ops\":[]}"),
     (b"\n", ""),
-    (b"{\"ops\":[{\"add_node\":1,\"labels\":[],\"props\":{}},{\"add_edge\":2,\"from\":1,\"labels\":[],\"props\":{},\"to\":1},{\"remove_node\":1},{\"detach_node\":2},{\"remove_edge\":3}]}", "="),
-    (b"{\"ops\":[{\"key\":\"k\",\"set_node\":1,\"value\":true},{\"key\":\"k\",\"unset_node\":1},{\"label\":\"A\",\"label_node\":1},{\"label\":\"A\",\"unlabel_node\":1}]}", "="),
-    (b"{\"ops\":[{\"key\":\"k\",\"set_edge\":1,\"value\":false},{\"key\":\"k\",\"unset_edge\":1},{\"label\":\"A\",\"label_edge\":1},{\"label\":\"A\",\"unlabel_edge\":1}]}", "="),
+    (
+        b"{\"ops\":[{\"add_node\":1,\"labels\":[],\"props\":{}},{\"add_edge\":2,\"from\":1,\"labels\":[],\"props\":{},\"to\":1},{\"remove_node\":1},{\"detach_node\":2},{\"remove_edge\":3}]}",
+        "=",
+    ),
+    (
+        b"{\"ops\":[{\"key\":\"k\",\"set_node\":1,\"value\":true},{\"key\":\"k\",\"unset_node\":1},{\"label\":\"A\",\"label_node\":1},{\"label\":\"A\",\"unlabel_node\":1}]}",
+        "=",
+    ),
+    (
+        b"{\"ops\":[{\"key\":\"k\",\"set_edge\":1,\"value\":false},{\"key\":\"k\",\"unset_edge\":1},{\"label\":\"A\",\"label_edge\":1},{\"label\":\"A\",\"unlabel_edge\":1}]}",
+        "=",
+    ),
 ];
 
 fn is(text: Result<Bytes, Memory>, want: &[u8]) -> Result<bool, Memory> {

@@ -46,9 +46,11 @@ fn compare_nodes(alloc: Global, compiled: &Compiled) -> Result<Counts, Fail> {
     for pair in 0..128 {
         if is_pair(pair) {
             let own = Owned::of(alloc, pair)?;
-            for (number, set) in sets.iter().enumerate() {
-                let fits = fits_node(compiled, number as u32, &own);
+            let mut number = 0u32;
+            for set in sets.as_slice() {
+                let fits = fits_node(compiled, number, &own);
                 counts.count(fits, has(*set, pair));
+                number = number.saturating_add(1);
             }
         }
     }
@@ -97,9 +99,9 @@ fn sets_of_edges(alloc: Global, compiled: &Compiled) -> Result<Vec<Sets>, AllocE
 
 // A pair that is in the set or isn't, as wanted, where there is one.
 fn pick(numbers: &mut Numbers, set: u128, wanted: bool) -> u32 {
-    let start = numbers.below(128) as u32;
+    let start = numbers.below(128);
     for step in 0..128 {
-        let pair = start.wrapping_add(step) % 128;
+        let pair = (start.wrapping_add(step) % 128) as u32;
         if is_pair(pair) && has(set, pair) == wanted {
             return pair;
         }
@@ -141,12 +143,14 @@ fn compare_edges(alloc: Global, compiled: &Compiled) -> Result<Counts, Fail> {
     let mut counts = Counts { yes: 0, alike: 0 };
     let mut numbers = Numbers::new(11);
     let sets = sets_of_edges(alloc, compiled)?;
-    for (number, sets) in sets.iter().enumerate() {
+    let mut number = 0u32;
+    for sets in sets.as_slice() {
         for bits in 0..24 {
             let pairs = sets.pick(&mut numbers, bits);
-            let fits = fits_pairs(alloc, compiled, number as u32, pairs)?;
+            let fits = fits_pairs(alloc, compiled, number, pairs)?;
             counts.count(fits, sets.have(pairs));
         }
+        number = number.saturating_add(1);
     }
     Ok(counts)
 }
