@@ -33,6 +33,10 @@ fn put_number(out: &mut String, before: &str, number: i64) -> Put {
     write!(out, "{before}{number}").map_err(|_| AllocError)
 }
 
+fn put_count(out: &mut String, before: &str, count: u64) -> Put {
+    write!(out, "{before}{count}").map_err(|_| AllocError)
+}
+
 fn word_of(name: &Name) -> &str {
     str::from_utf8(name.bytes()).unwrap_or("?")
 }
@@ -52,7 +56,7 @@ fn put_parsed(
         Ok(script) => script,
         Err(ParseFault::Memory) => return Err(Memory),
         Err(ParseFault::Syntax { statement }) => {
-            return Ok(put_number(out, "-", statement as i64)?);
+            return Ok(put_count(out, "-", statement as u64)?);
         }
     };
     match view {
@@ -71,7 +75,7 @@ pub fn told(alloc: Global, view: View, text: &[u8]) -> Result<Vec<u8>, Memory> {
     }
     match lex(alloc, text) {
         Err(LexFault::Memory) => return Err(Memory),
-        Err(LexFault::Lex { line }) => put_number(&mut out, "line ", line as i64)?,
+        Err(LexFault::Lex { line }) => put_count(&mut out, "line ", line as u64)?,
         Ok(tokens) => match view {
             View::Tokens => put_tokens(&mut out, text, &tokens)?,
             _ => put_parsed(alloc, &mut out, view, &tokens)?,

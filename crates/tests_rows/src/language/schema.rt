@@ -1,6 +1,6 @@
 //! The schema of a script, `ok a=&A b=&0&B -e loose n0 e0 keys 1`, or the number and the words of its refusal.
 
-use super::{Put, put, put_number, word_of};
+use super::{Put, put, put_count, put_number, word_of};
 use pgs_resolve::{KeyCause, ResolveFault, resolve};
 use pgs_syntax::{Guarding, Leaf, NodeType, Resolved, Script, Spec, TypeNo};
 use std::alloc::{AllocError, Global};
@@ -34,7 +34,7 @@ fn put_guard(out: &mut String, guard: &Guarding) -> Put {
             TypeNo::Edge(number) => put_number(out, " e", i64::from(*number))?,
         }
     }
-    put_number(out, " keys ", guard.keys.len() as i64)
+    put_count(out, " keys ", guard.keys.len() as u64)
 }
 
 fn put_schema(out: &mut String, schema: &Resolved) -> Put {
@@ -68,7 +68,7 @@ fn put_fault(out: &mut String, fault: &ResolveFault) -> Put {
         ResolveFault::Kind { name } => put(out, &["15 ", word_of(name)]),
         ResolveFault::Cycle { name } => put(out, &["16 ", word_of(name)]),
         ResolveFault::BadKey { key, cause } => {
-            put_number(out, "18 key ", *key as i64)?;
+            put_count(out, "18 key ", *key as u64)?;
             put(out, &[cause_word(*cause)])
         }
     }

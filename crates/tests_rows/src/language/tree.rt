@@ -49,20 +49,22 @@ fn put_spec(out: &mut String, spec: &Spec<Name>) -> Put {
         Spec::OpenLabels => put(out, &["OPEN"]),
         Spec::Braces(braces) => put_braces(out, braces),
         Spec::And(parts) => {
-            let mut sign = "&(";
+            put(out, &["&("])?;
+            let mut is_first = true;
             for part in parts.as_slice() {
-                put(out, &[sign])?;
+                put(out, &[word_if(!is_first, ",")])?;
                 put_spec(out, part)?;
-                sign = ",";
+                is_first = false;
             }
             put(out, &[")"])
         }
         Spec::Or(parts) => {
-            let mut sign = "|(";
+            put(out, &["|("])?;
+            let mut is_first = true;
             for part in parts.as_slice() {
-                put(out, &[sign])?;
+                put(out, &[word_if(!is_first, ",")])?;
                 put_spec(out, part)?;
-                sign = ",";
+                is_first = false;
             }
             put(out, &[")"])
         }
