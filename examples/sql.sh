@@ -1,5 +1,5 @@
 #!/usr/bin/env bash
-# Takes a feed and a dump of a store into PostgreSQL by tools/feed-to-sql and tools/dump-to-sql, and asks there what pgguard doesn't answer. It starts a
+# Takes a feed and a dump of a store into PostgreSQL by tools/feed-to-sql, tools/dump-to-sql and tools/schema-to-sql, and asks there what pgguard doesn't answer. It starts a
 # server of its own in a folder of its own, on a socket alone. Ends with 1 where something differs, and with 77 where no server is installed.
 # Usage: examples/sql.sh, with PGGUARD=EXECUTABLE to try another one than `pgguard` runs
 set -u
@@ -105,7 +105,7 @@ prints "who is killed goes on" "" diff killed.txt dumped.txt
 
 # A gap, lines that are none, and a text that PostgreSQL doesn't take raise an error and change nothing.
 printf '{"commit":9,"ops":[{"add_node":5,"labels":[],"props":{}}]}\n{"commit":8,"ops":[]}\n' >gap.jsonl
-prints "a gap" "0 3" give gap.jsonl
+prints "a gap" 3 sh -c "'$tools/feed-to-sql' gap.jsonl 2>tool.txt | psql -q -v ON_ERROR_STOP=1 2>told.txt; echo \$?"
 prints "is told" 1 grep -c 'expected commit 8, found 9' told.txt
 printf '{"commit":8,"ops":[{"add_no' >torn.jsonl
 prints "a torn line" "1 3" give torn.jsonl
@@ -123,6 +123,79 @@ printf 'CREATE GRAPH TYPE g LOOSE {};\n---\n{"ops":[{"add_edge":7,"from":1,"labe
 prints "a dump with U+0000 ends it" "1" echo $?
 prints "with line, element and key" 1 grep -c '^dump-to-sql: zero.txt:3: e7, k: a text with U+0000' told.txt
 prints "before anything" 0 grep -c '' zero.sql
+
+# Views of a schema: twice the same; a column a property, of the kind that types give it; a property that bears the name of a column; labels of nodes and edges.
+long=$(printf 'L%.0s' $(seq 64))
+cat >views.txt <<L
+CREATE NODE TYPE ABSTRACT (numbered: A {k INT});
+CREATE NODE TYPE ABSTRACT (named: B? {k STRING});
+CREATE NODE TYPE (thing: Thing & (numbered | named) {id STRING, OPTIONAL day DATE, OPTIONAL ok BOOL, n INT});
+CREATE NODE TYPE (\`GRAPH\`: payer & $long {\`null\` DATE});
+CREATE NODE TYPE (payer: pays {OPEN});
+CREATE EDGE TYPE (:thing)-[dated {day DATE}]->(:thing | \`GRAPH\`);
+CREATE EDGE TYPE (:thing)<-[paying: dated & pays]-(:thing);
+CREATE GRAPH TYPE base LOOSE {paying, FOR (x:Thing {ok: TRUE})-[:pays {day: DATE '2024-02-29'}]->() COUNT 0..5 OF y.id, f WITHIN (x)<-[f:pays]-(y)};
+CREATE GRAPH TYPE g LOOSE IMPORTS base {thing, \`GRAPH\`, dated, FOR (x:Thing) EXCLUSIVE, SINGLETON x.n, x.other};
+L
+prints "a schema that pgguard takes" "loaded types=4 keys=2" "$program" load views <views.txt
+prints "views of a schema" "" sh -c "'$tools/schema-to-sql' views.txt | psql -q -v ON_ERROR_STOP=1"
+printf 'CREATE GRAPH TYPE g LOOSE {};\n---\n' >views_dump.txt
+cat >>views_dump.txt <<L
+{"ops":[{"add_node":1,"labels":["A","Thing"],"props":{"id":"x","day":{"date":"0001-02-03"},"ok":true,"n":-9223372036854775808,"k":5}}]}
+{"ops":[{"add_node":2,"labels":["B","Thing"],"props":{"id":5,"k":"5","n":"many","day":7}},{"add_node":3,"labels":["pays","$long"],"props":{"null":{"date":"2024-02-29"}}}]}
+{"ops":[{"add_edge":1,"from":1,"to":2,"labels":["pays"],"props":{"day":{"date":"2024-02-29"}}}]}
+L
+"$tools/dump-to-sql" --commit 7 views_dump.txt | sql
+prints "a view of nodes, also of kinds that its type doesn't have" '1|{A,Thing}|0001-02-03|x|5|-9223372036854775808|t
+2|{B,Thing}|||"5"||' sql -At -c 'SELECT * FROM labels."Thing" ORDER BY id'
+prints "its columns" 'id numeric, labels ARRAY, day date, props.id text, k jsonb, n bigint, ok boolean' sql -At -c "SELECT string_agg(column_name || ' ' || data_type, ', ' ORDER BY ordinal_position) FROM information_schema.columns WHERE table_name = 'Thing'"
+prints "a label beside others has its own properties" 5 sql -At -c 'SELECT k + 0 FROM labels."A"'
+prints "a view of edges whose label nodes have too" '1|1|2|{pays}|2024-02-29' sql -At -c 'SELECT * FROM labels."pays (edge)"'
+prints "a name that is too long" '2024-02-29' sql -At -c "SELECT \"null\" FROM labels.\"${long%L}\""
+prints "all views" "A|B|${long%L}|Thing|pays|pays (edge)" sql -At -c "SELECT string_agg(viewname, '|' ORDER BY viewname COLLATE \"C\") FROM pg_views WHERE schemaname = 'labels'"
+prints "an index for each property that keys look at" 'btree day|hash id|btree n|btree ok|hash other' sql -At -c "SELECT string_agg(substring(indexdef FROM 'USING ([a-z]+)') || ' ' || substring(indexdef FROM 'props -> ''([a-z]+)'), '|' ORDER BY substring(indexdef FROM 'props -> ''([a-z]+)')) FROM pg_indexes WHERE starts_with(indexname, 'graph_key_')"
+prints "which a question to a view takes" 1 sh -c "psql -qAt -c 'SET enable_seqscan = off' -c 'EXPLAIN SELECT * FROM labels.\"Thing\" WHERE n = 5' | grep -c 'Index Scan.*graph_key_'"
+"$tools/schema-to-sql" schema.txt | sql
+prints "another schema's views" "Account|Checked|Holder|Part|Sole|owns|supplies" sql -At -c "SELECT string_agg(viewname, '|' ORDER BY viewname COLLATE \"C\") FROM pg_views WHERE schemaname = 'labels'"
+sql -c 'CREATE SCHEMA mine'
+prints "a schema that is somebody's" "3" sh -c "'$tools/schema-to-sql' --in mine schema.txt | psql -q 2>told.txt; echo \$?"
+prints "is told" 1 grep -c 'the schema mine is there already' told.txt
+"$tools/dump-to-sql" --commit "$commits" dump.txt | sql
+prints "a view of the dump" "DE1|DE2" sql -At -c 'SELECT string_agg(iban, $$|$$ ORDER BY iban) FROM labels."Account"'
+
+# A dump is copied, a row an element, and one that ends anywhere changes nothing.
+"$tools/dump-to-sql" --commit "$commits" dump.txt >dump.sql
+prints "a row an element" "2 1" sh -c 'echo $(grep -c "^COPY" dump.sql) $(grep -c "^UPDATE" dump.sql)'
+sql -c "DELETE FROM graph_edge WHERE id = 5"
+content >before.txt
+size=$(stat -c %s dump.sql)
+for part in 2 3 4 5; do
+  head -c $((size * part / 6)) dump.sql | sql >told.txt 2>&1
+done
+content >after.txt
+prints "a dump that is cut" "" diff before.txt after.txt
+
+# The live way: each commit is there as soon as the feed has it.
+sql -c "TRUNCATE graph_node, graph_edge, graph_commit"
+head -n 6 feed.jsonl >live.jsonl
+mkfifo live.fifo
+tail -n +1 -f live.jsonl >live.fifo &
+follower=$!
+wait_for() {
+  for _ in $(seq 1 100); do
+    [ "$(sql -At -c 'SELECT last FROM graph_commit' 2>told.txt)" = "$1" ] && return
+    sleep 0.1
+  done
+}
+"$tools/feed-to-sql" <live.fifo | sql &
+taker=$!
+wait_for 6
+tail -n 1 feed.jsonl >>live.jsonl
+wait_for 7
+kill "$follower"
+wait "$taker"
+content >live.txt
+prints "a feed that is followed" "" diff live.txt dumped.txt
 
 # The two questions of docs/GUIDE.md.
 prints "accounts that share an owner" 'Ann O'"'"'Hara \ "é"

@@ -17,9 +17,15 @@ different=0
 passed=0
 # What is said of a command, whose own output may go into a file.
 exec 5>&1
-# The tools of PostgreSQL have a check of their own, which goes along.
+# The tools of PostgreSQL, and those of an import, have checks of their own, which go along.
 "$here/sql.sh" >sql.txt 2>&1 &
 sql=$!
+# So do the kills of each tool, in a folder of their own.
+mkdir kills
+(cd kills && exec python3 "$here/kills.py" "$program") >kills.txt 2>&1 &
+kills=$!
+"$here/imports.sh" >imports.txt 2>&1 &
+imports=$!
 
 # Says whether a command ended with a status: ends NAME STATUS COMMAND..
 ends() {
@@ -74,7 +80,8 @@ P
 }
 
 # Each tool tells its words.
-for tool in backup csv-to-lines dump-to-lines dump-to-sql feed-to-lines feed-to-sql journal-to-feed show-dot store-info; do
+for tool in backup dump-to-csv dump-to-lines dump-to-sql dump-to-sqlite feed-to-lines feed-to-sql feed-to-sqlite journal-to-feed restore schema \
+  schema-to-sql show-dot store-info; do
   ends "$tool --help" 0 "$tools/$tool" --help >help.txt
   ends "its usage" 0 grep -q "^usage: $tool" help.txt
 done
@@ -99,54 +106,6 @@ ends "apply of its lines" 0 "$program" apply bank feed.jsonl <lines.txt >verdict
 ends "one line is enough" 0 cmp verdicts.txt one.txt
 printf '{"ops":[{"set_node":11,"key":"frozen","value":false}]}\n{"ops":[{"remove_edge":4}]}\n{"ops":[{"detach_node":2}]}\n' >changes.txt
 ends "apply of changes" 0 "$program" apply bank feed.jsonl <changes.txt >verdicts.txt
-
-# The header of a bulk import, and ids that are no numbers: the map keeps their numbers for the next run.
-printf 'personId:ID(P),name,age:long,member:boolean,note:IGNORE,:LABEL\na,Ann,44,TRUE,x,Person;Employee\nb,Bob,,,y,Person\n' >persons.csv
-printf ':START_ID(P),:END_ID(P),:TYPE,since:date\na,b,knows,2020-05-01\n' >knows.csv
-printf 'personId:ID(P),name,:LABEL\nc,Cyd,Person\n' >more.csv
-printf ':START_ID(P),:END_ID(P),:TYPE\nc,a,knows\n' >more_knows.csv
-cat >any_wanted.txt <<'L'
-{"ops":[{"add_node":1,"labels":["Employee","Person"],"props":{}}]}
-{"ops":[{"key":"age","set_node":1,"value":44}]}
-{"ops":[{"key":"member","set_node":1,"value":true}]}
-{"ops":[{"key":"name","set_node":1,"value":"Ann"}]}
-{"ops":[{"key":"personId","set_node":1,"value":"a"}]}
-{"ops":[{"add_node":2,"labels":["Person"],"props":{}}]}
-{"ops":[{"key":"name","set_node":2,"value":"Bob"}]}
-{"ops":[{"key":"personId","set_node":2,"value":"b"}]}
-{"ops":[{"add_node":3,"labels":["Person"],"props":{}}]}
-{"ops":[{"key":"name","set_node":3,"value":"Cyd"}]}
-{"ops":[{"key":"personId","set_node":3,"value":"c"}]}
-{"ops":[{"add_edge":1,"from":1,"labels":["knows"],"props":{},"to":2}]}
-{"ops":[{"key":"since","set_edge":1,"value":{"date":"2020-05-01"}}]}
-{"ops":[{"add_edge":2,"from":3,"labels":["knows"],"props":{},"to":1}]}
-L
-loose any
-ends "csv-to-lines with a map" 0 "$tools/csv-to-lines" --nodes persons.csv --edges knows.csv --map map.json >mapped.txt
-ends "csv-to-lines goes on" 0 "$tools/csv-to-lines" --nodes more.csv --edges more_knows.csv --map map.json >>mapped.txt
-ends "apply of both" 0 "$program" apply any <mapped.txt >verdicts.txt
-ends "the graph of both" 0 cmp any_wanted.txt <(operations any)
-# Ids that are numbers stay; with a map others come behind them, as do edges without an id.
-printf 'id,labels\n7,P\n9,P\n' >plain.csv
-printf 'id,from,to,labels\n,7,9,k\n5,9,7,k\n' >plain_edges.csv
-printf 'id,labels\nx,P\n' >other.csv
-printf 'from,to,labels\nx,7,k\n' >other_edges.csv
-ends "csv-to-lines of numbers" 0 "$tools/csv-to-lines" --nodes plain.csv --edges plain_edges.csv --map plain.json >plain.txt
-ends "and of other ids behind them" 0 "$tools/csv-to-lines" --nodes other.csv --edges other_edges.csv --map plain.json >>plain.txt
-ends "their numbers" 0 test "$(grep -o '"add_[a-z]*":[0-9]*,\|"from":[0-9]*\|"to":[0-9]*' plain.txt | tr -d '\n' | tr -d '"' | sed 's/add_//g; s/,/ /g')" = \
-  "node:7 node:9 edge:6 from:7to:9edge:5 from:9to:7node:10 edge:7 from:10to:7"
-printf 'id,labels,age:int\n1,P,1.5\n' >bad.csv
-refuses "csv-to-lines refuses a fraction" 1 'bad.csv:2, age: "1.5" is no whole number' "$tools/csv-to-lines" --nodes bad.csv
-printf 'id,labels,age:float\n1,P,1.5\n' >kind.csv
-refuses "csv-to-lines refuses a kind" 1 'kind.csv:1: the field "age:float" has the kind "float"' "$tools/csv-to-lines" --nodes kind.csv
-printf 'id,labels,name\n1,P,Ann\n1,P,Bob\n' >twice.csv
-refuses "csv-to-lines refuses an id that stands twice" 1 'twice.csv:3: the id "1" stood before' "$tools/csv-to-lines" --nodes twice.csv
-printf 'id,labels,name\n1,P,A\377n\n' >bytes.csv
-refuses "csv-to-lines refuses what isn't UTF-8" 1 "bytes.csv:2: isn't UTF-8" "$tools/csv-to-lines" --nodes bytes.csv
-printf 'id,labels,name\n1,P,"Ann\n' >open.csv
-refuses "csv-to-lines refuses an open quote" 1 'open.csv:2: no CSV' "$tools/csv-to-lines" --nodes open.csv
-refuses "csv-to-lines refuses an end that is nowhere" 1 'knows.csv:2: no node has the id "a"' "$tools/csv-to-lines" --nodes more.csv --edges knows.csv
-refuses "csv-to-lines of no file" 1 'none.csv: No such file' "$tools/csv-to-lines" --nodes none.csv
 
 # Out and in again: the dump as lines gives the same dump.
 "$program" recover bank >dump.txt </dev/null
@@ -220,6 +179,74 @@ ends "a feed's line may be longer than a transaction's" 0 test "$(stat -c %s wid
 loose wider
 "$tools/feed-to-lines" wide.jsonl >wide_lines.txt
 ends "feed-to-lines makes it as short as it was" 0 "$program" apply wider <wide_lines.txt >verdicts.txt
+
+# Out as CSV: in the form of bulk imports, with what they have no place for; and exactly, which makes the same graph again.
+cat >many.txt <<'L'
+{"ops":[{"add_node":1,"labels":["A","B"],"props":{"id":"x","labels":"","from":5,"k":5,"t":" a \"q\", b\r\nc\rd\n; "}},{"add_node":2,"props":{"k":"5","z":"a\u0000b","d":{"date":"0001-02-03"}}}]}
+{"ops":[{"add_node":18446744073709551615,"labels":["C"],"props":{"k":true,"n":-9223372036854775808,"b":false}},{"add_edge":7,"from":1,"to":2,"props":{"k":{"date":"2024-02-29"}}}]}
+{"ops":[{"add_edge":18446744073709551615,"from":1,"to":18446744073709551615,"labels":["x","y"],"props":{"e":"","k":"=1"}},{"add_edge":0,"from":2,"to":1,"labels":["x"]}]}
+L
+loose many
+"$program" apply many many.jsonl <many.txt >verdicts.txt
+"$program" recover many >many_dump.txt </dev/null
+cat >many_wanted.txt <<'L'
+import: 3 nodes, 3 edges
+as texts, since their kinds differ: k of nodes
+as texts, since their kinds differ: k of edges
+left out: the numbers of edges
+left out: edges without a label, 1
+left out: labels behind the first, of edges, 1
+:START_ID,:END_ID,:TYPE,e:string,k:string
+2,1,x,,
+1,18446744073709551615,x,"","=1"
+:ID,:LABEL,b:boolean,d:date,from:long,id:string,k:string,labels:string,n:long,t:string,z:string
+18446744073709551615,C,false,,,,"true",,-9223372036854775808,,
+L
+ends "dump-to-csv" 0 "$tools/dump-to-csv" import many_dump.txt >told.txt
+ends "its files, and what is left out" 0 cmp many_wanted.txt <(cat told.txt import/edges.csv; sed -n '1p;$p' import/nodes.csv)
+ends "dump-to-csv --exact" 0 "$tools/dump-to-csv" --exact exact many_dump.txt >told.txt
+{ "$tools/csv-to-lines" --nodes exact/nodes*.csv --edges exact/edges*.csv && cat exact/texts.txt; } >exact.txt
+loose exact_store
+ends "apply of csv-to-lines of it" 0 "$program" apply exact_store <exact.txt >verdicts.txt
+ends "makes the same graph" 0 cmp many_dump.txt <("$program" recover exact_store </dev/null)
+refuses "dump-to-csv goes over nothing" 1 'exact: is there already' "$tools/dump-to-csv" exact many_dump.txt
+refuses "dump-to-csv of what is no dump" 1 'changes.txt:1: set_node in a dump' "$tools/dump-to-csv" none changes.txt
+ends "nor is a folder left" 0 test ! -e none
+
+# Out to SQLite: a feed taken once, twice, and in parts makes the tables of the dump.
+sqlite() {
+  python3 - "$@" <<'P'
+import sqlite3, sys
+for row in sqlite3.connect(sys.argv[1]).execute(sys.argv[2]):
+    print(*row, sep="|")
+P
+}
+tables() {
+  for table in graph_node graph_edge graph_commit; do
+    sqlite "$1" "SELECT * FROM $table ORDER BY 1"
+  done
+}
+ends "dump-to-sqlite" 0 "$tools/dump-to-sqlite" --commit 3 many.sqlite many_dump.txt
+ends "feed-to-sqlite of a front" 0 "$tools/feed-to-sqlite" fed.sqlite <(head -n 2 many.jsonl)
+ends "feed-to-sqlite of all, and once more" 0 "$tools/feed-to-sqlite" fed.sqlite <(cat many.jsonl many.jsonl)
+tables many.sqlite >many_tables.txt
+ends "the same tables" 0 cmp many_tables.txt <(tables fed.sqlite)
+ends "an id of twenty digits, and labels and properties" 0 grep -qxF '18446744073709551615|["C"]|{"b":false,"k":true,"n":-9223372036854775808}' many_tables.txt
+head -c -2 many.jsonl >torn_many.jsonl
+refuses "feed-to-sqlite of a torn line" 1 'torn_many.jsonl:3: torn' "$tools/feed-to-sqlite" part.sqlite torn_many.jsonl
+ends "what stands before was taken" 0 test "$(sqlite part.sqlite 'SELECT last FROM graph_commit')" = 2
+refuses "feed-to-sqlite of a gap" 1 'expected commit 3, found 4' "$tools/feed-to-sqlite" part.sqlite <(sed '3s/:3/:4/' many.jsonl)
+printf '{"commit":3,"ops":[{"remove_edge":7},{"remove_node":99}]}\n' >other.jsonl
+refuses "feed-to-sqlite of another store's feed" 1 "other.jsonl:1: remove_node of n99, which the tables don't have" "$tools/feed-to-sqlite" part.sqlite other.jsonl
+ends "and nothing of it is taken" 0 test "$(sqlite part.sqlite 'SELECT count(*) FROM graph_edge')" = 1
+ends "which the right one is" 0 "$tools/feed-to-sqlite" part.sqlite many.jsonl
+ends "the same tables" 0 cmp many_tables.txt <(tables part.sqlite)
+refuses "dump-to-sqlite into another file" 1 'many.txt: file is not a database' "$tools/dump-to-sqlite" --commit 3 many.txt many_dump.txt
+"$tools/dump-to-sqlite" --commit 4 bank.sqlite dump.txt
+ends "feed-to-sqlite goes on behind a dump" 0 "$tools/feed-to-sqlite" --schema schema.txt bank.sqlite feed.jsonl
+ends "a view of nodes" 0 test "$(sqlite bank.sqlite 'SELECT * FROM Account')" = '10|["Account"]|None|DE1
+11|["Account"]|0|DE2'
+ends "a view of edges" 0 test "$(sqlite bank.sqlite 'SELECT source, target, cents FROM pays')" = '10|11|125000'
 
 # A lost and torn feed is mended from the journal, before and after checkpoints and other schemas.
 # Whether the feed that a store keeps, without its last lines, is mended by the journal: mended STORE FEED FIRST, of commits from FIRST on.
@@ -298,14 +325,55 @@ done
 # Keeping.
 for store in bank old; do
   ends "backup of $store" 0 "$tools/backup" "$store" kept >told.txt
-  "$program" recover "$store" >kept_wanted.txt </dev/null
+  "$program" recover "$store" >"kept_$store.txt" </dev/null
   mkdir "restored_$store"
   cp kept/"$store".[ab] "restored_$store"
   "$program" recover "restored_$store/$store" >kept.txt </dev/null
-  ends "the restored store has the same dump" 0 cmp kept_wanted.txt kept.txt
+  ends "the restored store has the same dump" 0 cmp "kept_$store.txt" kept.txt
 done
 ends "and goes on" 0 "$program" apply restored_old/old <rename.txt >verdicts.txt
 refuses "backup goes over nothing" 1 'kept/bank.a: is there already' "$tools/backup" bank kept
+ends "no other file is left" 0 test "$(find kept -mindepth 1 -printf '%f ' | tr ' ' '\n' | sort | tr -d '\n')" = bank.abank.bold.aold.b
+# What a backup that was killed left behind goes with the next, unless somebody has it.
+mkdir -p left/.bank.new-dead left/.bank.new-held
+cp bank.a left/.bank.new-dead
+flock left/.bank.new-held "$tools/backup" bank left >told.txt
+ends "what was left behind is taken away" 0 test "$(find left -mindepth 1 -printf '%f ' | tr ' ' '\n' | sort | tr -d '\n')" = .bank.new-heldbank.abank.b
+# A store made anew, from a copy, a dump and a feed.
+# Whether restore makes a store whose dump and last commit are those of another: restores NAME COMMITS DUMP WORDS..
+restores() {
+  local name=$1 commits=$2 dump=$3
+  shift 3
+  ends "restore $name" 0 "$tools/restore" "$name" "$@" >told.txt
+  ends "it tells the last commit" 0 grep -q "^$name: made of .*, last commit $commits$" told.txt
+  ends "it has the same dump" 0 cmp "$dump" <("$program" recover "$name" </dev/null)
+}
+: >made_1.a
+restores made_1 7 kept_bank.txt --backup kept/bank
+restores made_2 1 kept_bank.txt --dump kept_bank.txt
+restores made_3 7 kept_bank.txt --schema next.txt --feed feed.jsonl
+restores made_4 4 follower.txt --schema schema.txt --feed feed.jsonl --to 4
+mkdir folder
+restores folder/old 11 <("$program" recover old </dev/null) --backup kept
+ends "and goes on" 0 "$program" apply made_3 <notes.txt >verdicts.txt
+head -c -5 bank.a >broken.a
+for name in made_1 broken; do
+  refuses "restore goes over nothing: $name" 1 "$name.a: is there already" "$tools/restore" "$name" --dump kept_bank.txt
+done
+refuses "restore of a feed that is too short" 1 'feed.jsonl: ends with commit 7, before 10' "$tools/restore" made_5 --schema next.txt --feed feed.jsonl --to 10
+refuses "restore of a torn feed" 1 'torn.jsonl:4: torn' "$tools/restore" made_5 --schema schema.txt --feed torn.jsonl
+refuses "restore under a schema to which the graph doesn't conform" 1 'feed.jsonl: evolve: evolve refused 25' "$tools/restore" made_5 --schema schema.txt --feed feed.jsonl
+refuses "restore of no copy" 1 'nowhere.a: no such file' "$tools/restore" made_5 --backup nowhere
+ends "nothing is left of them" 0 test -z "$(find . -name '.*.new-*' -path './.made*' -o -name 'made_5*')"
+for store in bank old shown2; do
+  ends "schema of $store" 0 cmp <("$tools/schema" "$store"; echo) <("$program" recover "$store" </dev/null | sed '/^---$/,$d')
+done
+mkfifo pipe.a
+for tool in backup journal-to-feed restore schema store-info; do
+  words=$([ "$tool" = backup ] && echo other; [ "$tool" = restore ] && echo "--dump kept_bank.txt")
+  # shellcheck disable=SC2086
+  refuses "$tool of a pipe" 1 'pipe.a: is not a regular file' timeout 10 "$tools/$tool" pipe $words
+done
 mkfifo lines.fifo
 "$program" apply bank <lines.fifo >held.txt &
 writer=$!
@@ -324,6 +392,7 @@ wait "$writer"
 head -c -3 bank.a >short.a
 cp bank.b short.b
 refuses "backup of a damaged store" 1 'short.a: record 2 is damaged' "$tools/backup" short other
+ends "restore without pgguard" 77 env PGGUARD=nowhere/pgguard "$tools/restore" made_5 --dump dump.txt 2>told.txt
 ends "backup without pgguard" 77 env PGGUARD=nowhere/pgguard "$tools/backup" bank other 2>told.txt
 ends "says so" 0 grep -qx "backup: nowhere/pgguard isn't installed" told.txt
 
@@ -349,6 +418,22 @@ ends "show-dot of a ring" 0 "$tools/show-dot" --faults ring_faults.txt refused.t
 ends "all three of it are red, with their owners" 0 test "$(grep -c 'color=red' ring.dot) $(grep -c ': Holder' ring.dot) $(grep -c n13 ring.dot)" = "3 3 0"
 ends "show-dot around a node" 0 "$tools/show-dot" --around n13 --steps 1 refused.txt >around.dot
 ends "only what is near" 0 test "$(grep -c 'label="n' around.dot)" = 2
+# Of a node at fault at most so many neighbours, and how many more; of an edge at fault its ends; and steps without end.
+python3 - >hub.txt <<'P'
+for number in range(700):
+    print('{"ops":[{"add_node":%d,"labels":["P"]}]}' % number)
+for number in range(1, 631):
+    print('{"ops":[{"add_edge":%d,"from":0,"to":%d}]}' % (number, number))
+print('{"ops":[{"add_edge":700,"from":0,"to":650,"labels":["far"]},{"add_edge":701,"from":660,"to":661}]}')
+P
+printf 'violation 27 key 1: n0 has no key value\nviolation 27 key 1: n660 has no key value\n' >hub_faults.txt
+ends "show-dot of a hub" 0 "$tools/show-dot" --faults hub_faults.txt hub.txt >hub.dot
+ends "200 neighbours, and how many more" 0 test "$(grep -c 'label="n' hub.dot) $(grep -c 'label="and 432 more"' hub.dot) $(grep -c n661 hub.dot)" = "202 1 2"
+printf 'violation 26 edge e700 fits no type\n' >hub_faults.txt
+ends "show-dot of an edge" 0 "$tools/show-dot" --faults hub_faults.txt hub.txt >hub.dot
+ends "its ends alone" 0 test "$(grep -c 'label="n' hub.dot)" = 2
+ends "steps without end" 0 timeout 30 "$tools/show-dot" --around n0 --steps 99999999999 hub.txt >hub.dot
+ends "reach what is joined" 0 test "$(grep -c 'label="n' hub.dot)" = 632
 # Texts with signs that a picture has a use for.
 printf '{"ops":[{"add_node":1,"labels":["A","B"],"props":{"k":"a \\"b\\" <i> &lt; \\\\N \\u0001é"}},{"add_edge":1,"from":1,"to":1}]}\n' >signs.txt
 ends "show-dot of signs" 0 "$tools/show-dot" signs.txt >signs.dot
@@ -367,10 +452,14 @@ else
   echo "the picture: passed over, graphviz isn't installed"
   passed=1
 fi
+wait "$kills" || different=1
+cat kills.txt
 wait "$sql"
 found=$?
 cat sql.txt
 [ "$found" = 77 ] && passed=1
 [ "$found" = 0 ] || [ "$found" = 77 ] || different=1
+wait "$imports" || different=1
+cat imports.txt
 [ "$different" = 1 ] && exit 1
 [ "$passed" = 0 ] || exit 77

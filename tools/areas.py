@@ -1,6 +1,7 @@
 """A store's two files, read as docs/BYTES.md says, formats 1 and 2. What the tools of this folder share; not a tool itself."""
 import fcntl
 import os
+import stat
 from graph_lines import Fault, NAME, is_day
 
 MOST_BYTES, LAST_EPOCH = 2**40, 2**24 - 1
@@ -201,6 +202,22 @@ class Area:
         return self.before() + sum(found[0] == "txn" for found in self.commands)
 
 
+def opened(path):
+    """A store's file under its shared lock; one that isn't regular is refused, and never waited for."""
+    try:
+        descriptor = os.open(path, os.O_RDONLY | os.O_NONBLOCK)
+    except FileNotFoundError:
+        raise Fault(path, "no such file") from None
+    if not stat.S_ISREG(os.fstat(descriptor).st_mode):
+        raise Fault(path, "is not a regular file")
+    file = open(path, "rb", opener=lambda *_: descriptor)
+    try:
+        fcntl.flock(file, fcntl.LOCK_SH | fcntl.LOCK_NB)
+    except BlockingIOError:
+        raise Fault(path, "locked by another run") from None
+    return file
+
+
 class Store:
     """Both files of a store under their shared locks, for as long as this stands."""
 
@@ -208,14 +225,7 @@ class Store:
         self.name, self.files, self.areas = name, [], []
         for ending in "ab":
             path = f"{name}.{ending}"
-            try:
-                file = open(path, "rb")
-            except FileNotFoundError:
-                raise Fault(path, "no such file") from None
-            try:
-                fcntl.flock(file, fcntl.LOCK_SH | fcntl.LOCK_NB)
-            except BlockingIOError:
-                raise Fault(path, "locked by another run") from None
+            file = opened(path)
             if os.fstat(file.fileno()).st_size > MOST_BYTES:
                 raise Fault(path, "longer than 2^40 bytes")
             self.files.append(file)
@@ -251,3 +261,29 @@ def snapshot_size(nodes, edges):
     size = 1 + 8 + 8 + 8
     size += sum(8 + row(labels, props) for labels, props in nodes)
     return size + sum(24 + row(labels, props) for labels, props in edges)
+
+
+def head_of(file):
+    """The format and the epoch of a file whose head is a store's, None of any other."""
+    head = os.pread(file.fileno(), 17, 0)
+    form, epoch = WORDS.get(head[1:8]), int.from_bytes(head[8:16], "big")
+    return (form, epoch) if len(head) == 17 and head[0] == 1 and form and 1 <= epoch <= LAST_EPOCH else None
+
+
+def last_schema(file, form):
+    """The text of the last schema among the records of a store's file; all others are passed over unread."""
+    head, size, at, number, text = RECORD_HEADS[form], os.fstat(file.fileno()).st_size, 16, 0, None
+    while True:
+        found = os.pread(file.fileno(), head + 1, at)
+        if found[:1] != b"\1":
+            break
+        number += 1
+        length = int.from_bytes(found[head - 8:head], "big")
+        if at + head + length >= size or (form == 2 and int.from_bytes(found[1:9], "big") != number):
+            raise Fault(file.name, f"record {number} is damaged")
+        if length and found[head] == 1:
+            text = os.pread(file.fileno(), length - 1, at + head + 1)
+        at += head + length
+    if text is None:
+        raise Fault(file.name, "record 1 is damaged")
+    return text

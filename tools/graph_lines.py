@@ -1,4 +1,6 @@
 """Transactions as lines of JSON, read and written as docs/FORMATS.md says. What the tools of this folder share; not a tool itself."""
+import errno
+import io
 import json
 import os
 import re
@@ -15,10 +17,44 @@ class Fault(Exception):
 
     def __init__(self, place, text):
         super().__init__(f"{place}: {text}")
+        self.place, self.text = place, text
 
 
 class Missing(Exception):
     """A program that isn't installed."""
+
+
+class WholeLines(io.BufferedIOBase):
+    """Standard output, which gets whole lines at a time, so that who is killed leaves no front of one."""
+
+    def __init__(self, raw):
+        self.raw, self.kept, self.size = raw, [], 0
+
+    def writable(self):
+        return True
+
+    def write(self, piece):
+        self.kept.append(bytes(piece))
+        self.size += len(piece)
+        if self.size >= 1 << 16:
+            text = b"".join(self.kept)
+            end = text.rfind(b"\n") + 1
+            self.kept, self.size = [text[end:]], len(text) - end
+            self.put(text[:end])
+        return len(piece)
+
+    def flush(self):
+        text = b"".join(self.kept)
+        self.kept, self.size = [], 0
+        self.put(text)
+
+    def put(self, text):
+        left = memoryview(text)
+        while left:
+            count = self.raw.write(left)
+            if count is None:
+                raise OSError(errno.EAGAIN, "is not ready and does not wait")
+            left = left[count:]
 
 
 def run(main):
@@ -26,7 +62,8 @@ def run(main):
     try:
         if sys.stdout is None:
             raise Fault("standard output", "is not open")
-        sys.stdout.reconfigure(encoding="utf-8", newline="\n")
+        raw = open(sys.stdout.fileno(), "wb", buffering=0, closefd=False)
+        sys.stdout = io.TextIOWrapper(WholeLines(raw), encoding="utf-8", newline="\n", write_through=True)
         main()
         sys.stdout.flush()
     except Missing as missing:
@@ -84,11 +121,14 @@ def _no_constant(text):
     raise ValueError(text)
 
 
+_DECODER = json.JSONDecoder(parse_int=_whole, parse_constant=_no_constant)
+
+
 def read_value(line, place):
     """The JSON value of a line, as strictly as the program reads it."""
     try:
         text = line.decode("utf-8")
-        value = json.loads(text, parse_int=_whole, parse_constant=_no_constant)
+        value = _DECODER.decode(text)
         if "\\u" in text:
             json.dumps(value, ensure_ascii=False).encode("utf-8")
         return value
@@ -147,34 +187,34 @@ def _props(props, place):
     return {_name(key, "key", place): _value(props[key], place) for key in sorted(props)}
 
 
-# The member that names an operation, and its other members; those behind `?` may be absent.
+# The member that names an operation, and its other members: those that have to be there, and those that may.
 FORMS = {
-    "add_node": ("", "labels props"),
-    "add_edge": ("from to", "labels props"),
-    "remove_node": ("", ""),
-    "detach_node": ("", ""),
-    "remove_edge": ("", ""),
+    "add_node": ((), ("labels", "props")),
+    "add_edge": (("from", "to"), ("labels", "props")),
+    "remove_node": ((), ()),
+    "detach_node": ((), ()),
+    "remove_edge": ((), ()),
 }
 for _kind in ("node", "edge"):
-    FORMS["set_" + _kind] = ("key value", "")
-    FORMS["unset_" + _kind] = ("key", "")
-    FORMS["label_" + _kind] = ("label", "")
-    FORMS["unlabel_" + _kind] = ("label", "")
+    FORMS["set_" + _kind] = (("key", "value"), ())
+    FORMS["unset_" + _kind] = (("key",), ())
+    FORMS["label_" + _kind] = (("label",), ())
+    FORMS["unlabel_" + _kind] = (("label",), ())
 
 
 def kind_of(op):
     """The name of an operation."""
-    return next(kind for kind in FORMS if kind in op)
+    return next(kind for kind in op if kind in FORMS)
 
 
 def _op(op, place):
     if not isinstance(op, dict):
         raise Fault(place, "an operation is no object")
-    kinds = [kind for kind in FORMS if kind in op]
+    kinds = [kind for kind in op if kind in FORMS]
     if len(kinds) != 1:
         raise Fault(place, "an operation has no kind, or two")
     kind = kinds[0]
-    wanted, optional = (members.split() for members in FORMS[kind])
+    wanted, optional = FORMS[kind]
     for member in op:
         if member != kind and member not in wanted and member not in optional:
             raise Fault(place, f"{kind} has no member {json.dumps(member)}")
@@ -222,9 +262,12 @@ def read_commit(line, place):
     return number, ops_of(value["ops"], place)
 
 
+_canonical = json.JSONEncoder(ensure_ascii=False, sort_keys=True, separators=(",", ":")).encode
+
+
 def written(value):
     """The canonical text: no spaces, members in the order of their bytes."""
-    return json.dumps(value, ensure_ascii=False, sort_keys=True, separators=(",", ":")).encode("utf-8")
+    return _canonical(value).encode("utf-8")
 
 
 def shortest(op):
@@ -245,7 +288,7 @@ class Lines:
     """Puts operations into as few lines as the limits allow, in order."""
 
     def __init__(self, out, most_ops=MOST_OPS):
-        self.out, self.most_ops = out, most_ops
+        self.out, self.most_ops, self.count = out, most_ops, 0
         self.texts, self.size = [], len(b'{"ops":[]}')
 
     def room(self):
@@ -262,6 +305,7 @@ class Lines:
         if self.texts:
             self.out.write(b'{"ops":[' + b",".join(self.texts) + b"]}\n")
             self.texts, self.size = [], len(b'{"ops":[]}')
+            self.count += 1
 
 
 def added(op, lines):
@@ -284,8 +328,9 @@ def added(op, lines):
         lines.add(written(op))
 
 
-def read_dump(path):
-    """Each operation of each line with its place. Where the first line isn't JSON, a schema's text comes first, up to a line `---`."""
+def read_dump(path, schema=None):
+    """Each operation of each line with its place. Where the first line isn't JSON, a schema's text comes first, up to a line `---`; its lines go into a
+    list where one is given."""
     in_schema = begun = False
     for place, line, _ in numbered(path):
         if is_blank(line):
@@ -294,6 +339,8 @@ def read_dump(path):
             begun, in_schema = True, not line.lstrip().startswith(b"{")
         if in_schema:
             in_schema = line.rstrip(b"\r") != b"---"
+            if in_schema and schema is not None:
+                schema.append(line)
             continue
         for op in read_txn(line, place):
             yield place, op

@@ -23,8 +23,12 @@ def literal(text):
     return "'" + text.replace("'", "''") + "'"
 
 
+def json_text(value):
+    return json.dumps(value, ensure_ascii=False, sort_keys=True, separators=(",", ":"))
+
+
 def json_literal(value):
-    return literal(json.dumps(value, ensure_ascii=False, sort_keys=True, separators=(",", ":"))) + "::jsonb"
+    return literal(json_text(value)) + "::jsonb"
 
 
 def labels_literal(labels):
@@ -67,3 +71,55 @@ def statement(op):
     else:
         change = f"labels = array_remove(labels, {literal(op['label'])})"
     return f"UPDATE {table} SET {change} WHERE id = {number};"
+
+
+def copy_row(op):
+    """The line of COPY of an element that is added. In a JSON text no line feed and no tab stands by itself, so the backslash alone is escaped."""
+    ends = f"{op['from']}\t{op['to']}\t" if "add_edge" in op else ""
+    props = json_text(op["props"]).replace("\\", "\\\\")
+    labels = ",".join(f'"{label}"' for label in op["labels"])
+    return f"{op[kind_of(op)]}\t{ends}{{{labels}}}\t{props}\n"
+
+
+def copied(table, rows):
+    """The statement that fills a table with rows."""
+    yield f"COPY {table} FROM STDIN;\n"
+    yield from rows
+    yield "\\.\n"
+
+
+def quoted(name):
+    return '"' + name.replace('"', '""') + '"'
+
+
+# Of a kind of value: what a JSON value of it is to jsonb, and the column that it makes. A cast of a text to a day is not one that an index may have.
+COLUMNS = {
+    "STRING": ("string", "props ->> {key}"),
+    "INT": ("number", "(props ->> {key})::bigint"),
+    "BOOL": ("boolean", "(props ->> {key})::boolean"),
+    "DATE": ("object", "make_date(substr({day}, 1, 4)::int, substr({day}, 6, 2)::int, substr({day}, 9)::int)"),
+}
+
+
+def column(prop, kind):
+    """The value of a property, null where it isn't of this kind; as jsonb where no kind is told."""
+    key = literal(prop)
+    if kind is None:
+        return f"props -> {key}"
+    what, value = COLUMNS[kind]
+    day = f"props -> {key} ->> 'date'"
+    return f"CASE jsonb_typeof(props -> {key}) WHEN '{what}' THEN {value.format(key=key, day=day)} END"
+
+
+def view(schema, one):
+    """The statement that makes a view of a label."""
+    own = "id, labels" if one.kind == "node" else "id, source, target, labels"
+    columns = "".join(f",\n    {column(prop, kind)} AS {quoted(name)}" for name, prop, kind in one.columns)
+    return (f"CREATE VIEW {quoted(schema)}.{quoted(one.name)} AS\n  SELECT {own}{columns}\n"
+            f"  FROM graph_{one.kind} WHERE labels @> ARRAY[{literal(one.label)}]::text[];\n")
+
+
+def index(number, kind, prop, value):
+    """The statement that makes an index of a property. A text may be too long for a tree, so texts are told apart by a hash."""
+    way = "btree" if value in ("INT", "BOOL", "DATE") else "hash"
+    return f"CREATE INDEX graph_key_{number} ON graph_{kind} USING {way} (({column(prop, value)}));\n"

@@ -1,29 +1,35 @@
 //! The files that words name, and all that a run goes over.
 
-ghost use Rattle.std.specs.Prelude.{◌≡◌, [], ◌∷◌, ◌++◌, Some, map, IfOk, OnOk};
+ghost use Rattle.std.specs.Prelude.{◌≡◌, [], ◌∷◌, ◌++◌, Some, map, option_map, IfOk, OnOk};
 ghost use Rattle.std.specs.List.{list_any};
-ghost use Rattle.std.specs.Option.{unwrap_or};
 ghost use Rattle.std.specs.Str.{bytes_eq};
 ghost use Rattle.pgs_feed.specs.Places.{fed};
 ghost use Rattle.pgs_feed.specs.Seen.{feeds_in, places};
 ghost use Rattle.pgs_world_files.specs.Counted.{untold_bytes};
-ghost use Rattle.pgs_run_words.specs.Words.{feeds_of, store_of};
-ghost use Rattle.pgguard.specs.Opened.{AreAreasOf, AreFeedsOf, IsFeedOf, IsOpened, access_of, files_of, is_among, seed_of};
+ghost use Rattle.pgs_program.specs.Outside.{seed_of};
+ghost use Rattle.pgguard.specs.Opened.{AreFeedsOf, AreFilesOf, IsFeedOf, IsOpened, access_of, files_of, is_among};
 
-use crate::outside::Outside;
-use pgs_base::{Memory, Seed, Words};
+use pgs_base::{Memory, Words};
 use pgs_feed::FeedList;
-use pgs_run_words::{Command, command_of, feed_names, store_name};
+use pgs_program::{Outside, seed_of};
+use pgs_run_words::{Command, CommandLine};
 use pgs_world::Feed;
-use pgs_world_files::{Access, AreaFiles, FileFeed, FileWorld, Opening, file_name};
-use pgs_world_streams::{StdinSource, SteadyRead, SteadyWrite};
+use pgs_world_files::{Access, AreaFiles, FileFeed, Handle, Opening, file_name};
+use pgs_world_streams::{SteadyRead, SteadyWrite};
 use std::alloc::Global;
 use std::collections::hash_map::RandomState;
 use std::io;
 
+/// What a run of the program goes over: its input, its files and its output, and its feeds.
+#[derive(Drop)]
+pub struct Opened<R: SteadyRead, W: SteadyWrite, H: Handle, L: SteadyWrite + Drop> {
+    pub outside: Outside<R, W, H>,
+    pub feeds: FeedList<FileFeed<L>>,
+}
+
 // What a command does with the files of its store.
-fn access_of(command: Option<Command>) -> Access
-    ensures { result ≡ access_of command }
+fn access_of(command: &Option<Command>) -> Access
+    ensures { result ≡ access_of command.now }
 {
     match command {
         Some(Command::Recover | Command::Explain { .. }) => Access::Read,
@@ -32,17 +38,16 @@ fn access_of(command: Option<Command>) -> Access
     }
 }
 
-/// The files of the store that the words name, opened for what their command does. Words that name none have no areas.
+/// The files of the store of a command line, opened for what its command does. One that names none has no areas.
 pub fn areas_of<O: Opening>(
     system: &mut O,
     alloc: Global,
-    words: &Words,
+    line: &CommandLine<'_>,
 ) -> Result<AreaFiles<O::Area>, Memory>
-    ensures { IfOk result (AreAreasOf O.area_gives words.now) }
+    ensures { IfOk result (AreFilesOf O.area_gives (option_map (λ name. name.now) line.now.store) (access_of line.now.command)) }
 {
-    let access = access_of(command_of(alloc, words)?);
-    match store_name(alloc, words)? {
-        Some(name) => AreaFiles::open(system, alloc, name, access),
+    match line.store {
+        Some(name) => AreaFiles::open(system, alloc, name, access_of(&line.command)),
         None => Ok(AreaFiles::absent()),
     }
 }
@@ -114,63 +119,41 @@ fn open_feeds<O: Opening>(
     Ok(feeds)
 }
 
-// The name of the store, or none.
-fn store_of<'a>(alloc: Global, words: &'a Words) -> Result<&'a str, Memory>
-    ensures { IfOk result (λ name. name.now ≡ unwrap_or (store_of words.entry.now) []) }
-{
-    match store_name(alloc, words)? {
-        Some(name) => Ok(name),
-        None => Ok(""),
-    }
-}
-
-/// The feeds that the words name, each a file that is written behind its end, in order: none of them has failed yet. A name that stands
+/// The feeds of a command line, each a file that is written behind its end, in order: none of them has failed yet. A name that stands
 /// before it among them, or is a file's of the store, is a feed into no file.
 pub fn feeds_of<O: Opening>(
     system: &mut O,
     alloc: Global,
-    words: &Words,
+    line: &CommandLine<'_>,
 ) -> Result<FeedList<FileFeed<O::Line>>, Memory>
-    ensures feeds { IfOk result (λ feeds. AreFeedsOf O.feed_gives (files_of words.now) (feeds_of words.now) (feeds_in feeds)) }
-    ensures places { let feed = ⟦<FileFeed<O::Line> as Feed>⟧ in IfOk result (λ feeds. places feed.taken feed.faults feeds ≡ map (λ name. fed untold_bytes 0) (feeds_of words.now)) }
+    ensures feeds { IfOk result (λ feeds. AreFeedsOf O.feed_gives (files_of (option_map (λ name. name.now) line.now.store)) (map (λ name. name.now) line.now.feeds) (feeds_in feeds)) }
+    ensures places { let feed = ⟦<FileFeed<O::Line> as Feed>⟧ in IfOk result (λ feeds. places feed.taken feed.faults feeds ≡ map (λ name. fed untold_bytes 0) (map (λ name. name.now) line.now.feeds)) }
 {
-    let store = store_of(alloc, words)?;
+    let store = line.store.unwrap_or("");
     let a = file_name(alloc, store, ".a")?;
     let b = file_name(alloc, store, ".b")?;
-    let names = feed_names(alloc, words)?;
-    open_feeds(system, alloc, &[a.as_str(), b.as_str()], names.as_slice())
-}
-
-// How the program's graphs hash: by keys that no one else knows, so that whoever chooses the numbers of nodes can't make them collide. Where
-// the system draws none, the fixed keys serve, since no answer depends on them.
-fn seed_of(drawn: io::Result<RandomState>) -> Seed
-    ensures { result ≡ seed_of drawn }
-{
-    match drawn {
-        Ok(keys) => Seed::Random(keys),
-        Err(_) => Seed::Fixed,
-    }
+    open_feeds(
+        system,
+        alloc,
+        &[a.as_str(), b.as_str()],
+        line.feeds.as_slice(),
+    )
 }
 
 /// Opens what the words name, over a reader and a writer, with the keys of hashing that were drawn.
-pub fn open_outside<O: Opening, R: SteadyRead + Drop, W: SteadyWrite + Drop>(
+pub fn open<O: Opening, R: SteadyRead + Drop, W: SteadyWrite + Drop>(
     system: &mut O,
     alloc: Global,
     words: &Words,
     reader: R,
     writer: W,
     drawn: io::Result<RandomState>,
-) -> Result<Outside<R, W, O::Area, O::Line>, Memory>
-    ensures { IfOk result (IsOpened O.area_gives O.feed_gives words.now reader writer drawn) }
+) -> Result<Opened<R, W, O::Area, O::Line>, Memory>
+    ensures { IfOk result (IsOpened O.area_gives O.feed_gives words.now reader writer (seed_of drawn)) }
 {
-    let areas = areas_of(system, alloc, words)?;
-    let feeds = feeds_of(system, alloc, words)?;
-    let seed = seed_of(drawn);
-    let source = StdinSource::new(reader);
-    let world = FileWorld::new(areas, writer, seed);
-    Ok(Outside {
-        source,
-        world,
-        feeds,
-    })
+    let line = CommandLine::read(alloc, words)?;
+    let areas = areas_of(system, alloc, &line)?;
+    let feeds = feeds_of(system, alloc, &line)?;
+    let outside = Outside::new(areas, reader, writer, seed_of(drawn));
+    Ok(Opened { outside, feeds })
 }

@@ -1,13 +1,13 @@
 ghost use Rattle.std.specs.Prelude.{IfOk};
 ghost use Rattle.pgguard.specs.Program.{IsRunOf};
+ghost use Rattle.pgs_program.specs.Outside.{seed_of};
 
-use crate::ending::Causes;
-use crate::opening::open_outside;
-use crate::outside::Outside;
+use crate::opening::{Opened, open};
 use pgs_base::{Memory, Words};
+use pgs_program::Ended;
 use pgs_run::{Status, run};
 use pgs_world_files::{Handle, Opening};
-use pgs_world_streams::{SteadyRead, SteadyWrite, StreamCauses};
+use pgs_world_streams::{SteadyRead, SteadyWrite};
 use std::alloc::Global;
 use std::collections::hash_map::RandomState;
 use std::io;
@@ -16,19 +16,13 @@ use std::io;
 #[derive(Drop)]
 pub struct Ran<R: SteadyRead, W: SteadyWrite, H: Handle, L: SteadyWrite + Drop> {
     pub status: Status,
-    pub outside: Outside<R, W, H, L>,
+    pub opened: Opened<R, W, H, L>,
 }
 
 impl<R: SteadyRead, W: SteadyWrite, H: Handle, L: SteadyWrite + Drop> Ran<R, W, H, L> {
-    /// Why its faults came.
-    pub fn causes(&self) -> Causes {
-        Causes {
-            streams: StreamCauses {
-                source: self.outside.source.cause(),
-                output: self.outside.world.put_cause(),
-            },
-            area: self.outside.world.area_cause(),
-        }
+    /// How it ended, and why its faults came.
+    pub fn ended(&self) -> Ended {
+        self.opened.outside.ended(self.status)
     }
 }
 
@@ -42,15 +36,17 @@ pub fn run_program<O: Opening, R: SteadyRead + Drop, W: SteadyWrite + Drop>(
     writer: W,
     drawn: io::Result<RandomState>,
 ) -> Result<Ran<R, W, O::Area, O::Line>, Memory>
-    ensures { IfOk result (IsRunOf O.area_gives O.feed_gives (record { remaining = R.remaining; tells_output = W.tells; written = W.contents; tells_bytes = O.Area.tells; bytes = O.Area.contents }) words.now reader writer drawn) }
+    ensures { IfOk result (IsRunOf O.area_gives O.feed_gives
+        (record { remaining = R.remaining; tells_output = W.tells; written = W.contents; tells_bytes = O.Area.tells; bytes = O.Area.contents })
+        words.now reader writer (seed_of drawn)) }
 {
-    let mut outside = open_outside(system, alloc, words, reader, writer, drawn)?;
+    let mut opened = open(system, alloc, words, reader, writer, drawn)?;
     let status = run(
         alloc,
         words,
-        &mut outside.source,
-        &mut outside.world,
-        &mut outside.feeds,
+        &mut opened.outside.source,
+        &mut opened.outside.world,
+        &mut opened.feeds,
     );
-    Ok(Ran { status, outside })
+    Ok(Ran { status, opened })
 }

@@ -37,6 +37,14 @@ evolved_line types keys = codes "evolved types=" ++ (decimal types ++ (codes " k
 abbrev pub evolve_refused_line : List ℕ → List ℕ
 evolve_refused_line text = codes "evolve refused " ++ (text ++ codes "\n")
 
+-- a feed that can't be followed further
+unfoldable pub feed_refused_line : List ℕ → List ℕ
+feed_refused_line text = codes "refused " ++ (text ++ codes "\n")
+
+-- how many commits of a feed were followed, and how many bytes stand behind its last line feed
+unfoldable pub followed_line : ℕ → ℕ → List ℕ
+followed_line commits rest = codes "followed commits=" ++ (decimal commits ++ (codes " rest=" ++ (decimal rest ++ codes "\n")))
+
 abbrev pub feeds_lost_line : ℕ → List ℕ
 feeds_lost_line lost = codes "feeds lost=" ++ (decimal lost ++ codes "\n")
 

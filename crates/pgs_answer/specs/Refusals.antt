@@ -1,7 +1,9 @@
 -- The number and the words of each refusal and violation. Numbers are plain decimals.
 use Rattle.std.specs.Prelude.{ℕ, List, ◌++◌, codes, decimal}
+use Rattle.pgs_base.specs.declared.element.Elem.{Elem}
 use Rattle.pgs_base.specs.declared.element.Elem.TheVariants.{Node, Edge}
 use Rattle.pgs_base.specs.declared.limits.Limits.{Limits}
+use Rattle.pgs_base.specs.declared.text_limit.TheConstants.{TEXT_LIMIT}
 use Rattle.pgs_base_text.specs.Text.{elem_text, tuple_text}
 use Rattle.pgs_syntax.specs.declared.key_cause.KeyCause.{KeyCause}
 use Rattle.pgs_syntax.specs.declared.key_cause.KeyCause.TheVariants.{NoX, TwoKinds, Shared, Disconnected, UnknownVariable, TooLarge}
@@ -52,7 +54,7 @@ abbrev pub bad_key_text : ℕ → KeyCause → List ℕ
 bad_key_text key cause = codes "18 key " ++ (decimal key ++ (codes ": " ++ key_cause_words cause))
 
 abbrev pub too_long_text : List ℕ
-too_long_text = codes "19 text is longer than 1048576 bytes"
+too_long_text = codes "19 text is longer than " ++ (decimal TEXT_LIMIT ++ codes " bytes")
 
 -- ---- of a transaction
 
@@ -60,7 +62,7 @@ abbrev pub unreadable_text : List ℕ
 unreadable_text = codes "20 line is not a transaction"
 
 abbrev pub line_too_long_text : List ℕ
-line_too_long_text = codes "21 line is longer than 1048576 bytes"
+line_too_long_text = codes "21 line is longer than " ++ (decimal TEXT_LIMIT ++ codes " bytes")
 
 abbrev pub cause_words : Cause → List ℕ
 cause_words (AlreadyThere elem) = elem_text elem ++ codes " is already there"
@@ -123,3 +125,34 @@ epochs_spent_text = codes "37 no epoch is left"
 
 abbrev pub old_format_text : List ℕ
 old_format_text = codes "41 format 1, make a checkpoint first"
+
+-- ---- of an event of a session
+
+abbrev pub already_open_text : ℕ → List ℕ
+already_open_text session = codes "42 session " ++ (decimal session ++ codes " is open")
+
+abbrev pub no_session_text : ℕ → List ℕ
+no_session_text session = codes "43 no session " ++ decimal session
+
+abbrev pub stale_text : Elem → ℕ → List ℕ
+stale_text elem commit = codes "44 " ++ (elem_text elem ++ (codes " changed at commit " ++ decimal commit))
+
+abbrev pub too_many_text : ℕ → List ℕ
+too_many_text sessions = codes "45 " ++ (decimal sessions ++ codes " sessions are open")
+
+abbrev pub no_event_text : List ℕ
+no_event_text = codes "46 line is not an event"
+
+-- ---- of a feed
+
+abbrev pub line_too_long_at_text : ℕ → List ℕ
+line_too_long_at_text line = codes "47 line " ++ (decimal line ++ codes " is too long")
+
+abbrev pub not_a_commit_text : ℕ → List ℕ
+not_a_commit_text line = codes "48 line " ++ (decimal line ++ codes " is not a commit")
+
+abbrev pub gap_text : ℕ → ℕ → List ℕ
+gap_text expected found = codes "49 expected " ++ (decimal expected ++ (codes ", found " ++ decimal found))
+
+abbrev pub bad_commit_text : ℕ → Structural → Limits → List ℕ
+bad_commit_text commit cause limits = codes "50 commit " ++ (decimal commit ++ (codes ": " ++ structural_text cause limits))

@@ -1,6 +1,7 @@
 ghost use Rattle.std.specs.Prelude.{◌≡◌, IfOk};
 ghost use Rattle.pgs_answer.specs.Lines.{second_refused_line, contained_line, outside_line};
 
+use crate::pieces::text_between;
 use pgs_base::{Bytes, Memory, Name};
 use pgs_base_text::TextBuffer;
 use pgs_graph::Txn;
@@ -15,11 +16,7 @@ const ROOM: usize = 96;
 pub fn second_refused_line(alloc: Global, text: &[u8]) -> Result<Bytes, Memory>
     ensures { IfOk result (λ line. line ≡ second_refused_line text.now) }
 {
-    let mut line = TextBuffer::with_room(alloc, text.len().saturating_add(ROOM))?;
-    line.push(b"second schema refused ")?;
-    line.push(text)?;
-    line.push(b"\n")?;
-    Ok(line.into_bytes())
+    text_between(alloc, b"second schema refused ", text, b"\n")
 }
 
 /// The line of a type that is contained in another schema.
@@ -27,11 +24,7 @@ pub fn second_refused_line(alloc: Global, text: &[u8]) -> Result<Bytes, Memory>
 pub fn contained_line(alloc: Global, name: &Name) -> Result<Bytes, Memory>
     ensures { IfOk result (λ line. line ≡ contained_line name.now) }
 {
-    let mut line = TextBuffer::with_room(alloc, ROOM)?;
-    line.push(b"contained ")?;
-    line.push(name.bytes())?;
-    line.push(b"\n")?;
-    Ok(line.into_bytes())
+    text_between(alloc, b"contained ", name.bytes(), b"\n")
 }
 
 /// The line of a type that isn't contained in another schema: its name, and the canonical text of a transaction that adds what is

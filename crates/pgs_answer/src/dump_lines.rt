@@ -1,6 +1,7 @@
 ghost use Rattle.std.specs.Prelude.{◌≡◌, IfOk};
 ghost use Rattle.pgs_answer.specs.Lines.{schema_line, separator_line, type_line, key_scope_line, key_value_line, absent_line};
 
+use crate::pieces::{number_between, text_between};
 use pgs_base::{Bytes, Elem, Memory, Name, Tuple};
 use pgs_base_text::TextBuffer;
 use std::alloc::Global;
@@ -29,26 +30,18 @@ pub fn separator_line(alloc: Global) -> Result<Bytes, Memory>
 pub fn type_line(alloc: Global, hidden: bool, name: &Name) -> Result<Bytes, Memory>
     ensures { IfOk result (λ line. line ≡ type_line hidden name.now) }
 {
-    let mut line = TextBuffer::with_room(alloc, ROOM)?;
     if hidden {
-        line.push(b"abstract ")?;
+        text_between(alloc, b"abstract ", name.bytes(), b"\n")
     } else {
-        line.push(b"type ")?;
+        text_between(alloc, b"type ", name.bytes(), b"\n")
     }
-    line.push(name.bytes())?;
-    line.push(b"\n")?;
-    Ok(line.into_bytes())
 }
 
 /// The line of a key, by its number from 1, in whose scope an element is.
 pub fn key_scope_line(alloc: Global, key: u32) -> Result<Bytes, Memory>
     ensures { IfOk result (λ line. line ≡ key_scope_line key) }
 {
-    let mut line = TextBuffer::with_room(alloc, ROOM)?;
-    line.push(b"key ")?;
-    line.push_number(key as u64)?;
-    line.push(b" scope\n")?;
-    Ok(line.into_bytes())
+    number_between(alloc, b"key ", key as u64, b" scope\n")
 }
 
 /// The line of a key value of an element: the number of the key, from 1, and the tuple.

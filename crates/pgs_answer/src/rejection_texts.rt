@@ -2,7 +2,8 @@ ghost use Rattle.std.specs.Prelude.{◌≡◌, ◌++◌, codes, decimal, IfOk, O
 ghost use Rattle.pgs_base_text.specs.Text.{elem_text, tuple_text};
 ghost use Rattle.pgs_answer.specs.Refusals.{unreadable_text, line_too_long_text, cause_words, bad_op_text, too_large_text, structural_text, violation_text, rejection_text};
 
-use pgs_base::{Bytes, Elem, Limits, Memory, Tuple};
+use crate::pieces::number_between;
+use pgs_base::{Bytes, Elem, Limits, Memory, TEXT_LIMIT, Tuple};
 use pgs_base_text::TextBuffer;
 use pgs_violation::{Cause, Rejection, Structural, Violation};
 use std::alloc::Global;
@@ -17,11 +18,16 @@ pub fn unreadable_text(alloc: Global) -> Result<Bytes, Memory>
     Bytes::from_slice(alloc, b"20 line is not a transaction")
 }
 
-/// Refusal 21: the line has over 1,048,576 bytes.
+/// Refusal 21: the line has over `TEXT_LIMIT` bytes.
 pub fn line_too_long_text(alloc: Global) -> Result<Bytes, Memory>
     ensures { IfOk result (λ text. text ≡ line_too_long_text) }
 {
-    Bytes::from_slice(alloc, b"21 line is longer than 1048576 bytes")
+    number_between(
+        alloc,
+        b"21 line is longer than ",
+        TEXT_LIMIT as u64,
+        b" bytes",
+    )
 }
 
 fn push_cause(text: &mut TextBuffer, cause: Cause) -> Result<(), Memory>
@@ -81,7 +87,8 @@ fn push_too_large(text: &mut TextBuffer, op: u64) -> Result<(), Memory>
     text.push(b": more than 64 labels or 256 properties")
 }
 
-fn push_structural(
+/// Puts the text of a structural refusal last.
+pub(crate) fn push_structural(
     text: &mut TextBuffer,
     structural: Structural,
     limits: &Limits,

@@ -1,6 +1,7 @@
-ghost use Rattle.std.specs.Prelude.{◌≡◌, ◌++◌, decimal, IfOk, OnOk};
-ghost use Rattle.pgs_answer.specs.Lines.{schema_refused_line, store_refused_line, words_refused_line, committed_line, refused_line, violation_line, loaded_line, evolved_line, evolve_refused_line, feeds_lost_line, graph_counts, gen_line, checkpoint_line};
+ghost use Rattle.std.specs.Prelude.{◌≡◌, ◌++◌, IfOk, OnOk};
+ghost use Rattle.pgs_answer.specs.Lines.{schema_refused_line, store_refused_line, words_refused_line, committed_line, refused_line, violation_line, loaded_line, evolved_line, evolve_refused_line, feed_refused_line, followed_line, feeds_lost_line, graph_counts, gen_line, checkpoint_line};
 
+use crate::pieces::{number_between, push_count, text_between, two_numbers_line};
 use pgs_base::{Bytes, Memory};
 use pgs_base_text::TextBuffer;
 use std::alloc::Global;
@@ -8,35 +9,19 @@ use std::alloc::Global;
 // Room for the words of a line and two numbers.
 const ROOM: usize = 64;
 
-// Puts a name with its count last.
-fn push_count(line: &mut TextBuffer, name: &[u8], count: u64) -> Result<(), Memory>
-    ensures { OnOk result (line.new ≡ line.old ++ (name.now ++ decimal count)) }
-{
-    line.push(name)?;
-    line.push_number(count)
-}
-
 /// The line of a refused schema.
 #[tactic(auto, unfolding(crate::specs::Lines::schema_refused_line))]
 pub fn schema_refused_line(alloc: Global, text: &[u8]) -> Result<Bytes, Memory>
     ensures { IfOk result (λ line. line ≡ schema_refused_line text.now) }
 {
-    let mut line = TextBuffer::with_room(alloc, text.len().saturating_add(ROOM))?;
-    line.push(b"schema refused ")?;
-    line.push(text)?;
-    line.push(b"\n")?;
-    Ok(line.into_bytes())
+    text_between(alloc, b"schema refused ", text, b"\n")
 }
 
 /// The line of a refused store.
 pub fn store_refused_line(alloc: Global, text: &[u8]) -> Result<Bytes, Memory>
     ensures { IfOk result (λ line. line ≡ store_refused_line text.now) }
 {
-    let mut line = TextBuffer::with_room(alloc, text.len().saturating_add(ROOM))?;
-    line.push(b"store refused ")?;
-    line.push(text)?;
-    line.push(b"\n")?;
-    Ok(line.into_bytes())
+    text_between(alloc, b"store refused ", text, b"\n")
 }
 
 /// The line of refused words: refusal 35.
@@ -77,54 +62,51 @@ pub fn refused_line(alloc: Global, line_number: u64, text: &[u8]) -> Result<Byte
 pub fn violation_line(alloc: Global, text: &[u8]) -> Result<Bytes, Memory>
     ensures { IfOk result (λ line. line ≡ violation_line text.now) }
 {
-    let mut line = TextBuffer::with_room(alloc, text.len().saturating_add(ROOM))?;
-    line.push(b"violation ")?;
-    line.push(text)?;
-    line.push(b"\n")?;
-    Ok(line.into_bytes())
+    text_between(alloc, b"violation ", text, b"\n")
 }
 
 /// The line of a loaded store: how many types and keys the guard has.
 pub fn loaded_line(alloc: Global, types: u64, keys: u64) -> Result<Bytes, Memory>
     ensures { IfOk result (λ line. line ≡ loaded_line types keys) }
 {
-    let mut line = TextBuffer::with_room(alloc, ROOM)?;
-    push_count(&mut line, b"loaded types=", types)?;
-    push_count(&mut line, b" keys=", keys)?;
-    line.push(b"\n")?;
-    Ok(line.into_bytes())
+    two_numbers_line(alloc, b"loaded types=", types, b" keys=", keys)
 }
 
 /// The line of a store under another schema: how many types and keys its guard has.
 pub fn evolved_line(alloc: Global, types: u64, keys: u64) -> Result<Bytes, Memory>
     ensures { IfOk result (λ line. line ≡ evolved_line types keys) }
 {
-    let mut line = TextBuffer::with_room(alloc, ROOM)?;
-    push_count(&mut line, b"evolved types=", types)?;
-    push_count(&mut line, b" keys=", keys)?;
-    line.push(b"\n")?;
-    Ok(line.into_bytes())
+    two_numbers_line(alloc, b"evolved types=", types, b" keys=", keys)
 }
 
 /// The line of a schema that is refused for a violation of the graph.
 pub fn evolve_refused_line(alloc: Global, text: &[u8]) -> Result<Bytes, Memory>
     ensures { IfOk result (λ line. line ≡ evolve_refused_line text.now) }
 {
-    let mut line = TextBuffer::with_room(alloc, text.len().saturating_add(ROOM))?;
-    line.push(b"evolve refused ")?;
-    line.push(text)?;
-    line.push(b"\n")?;
-    Ok(line.into_bytes())
+    text_between(alloc, b"evolve refused ", text, b"\n")
+}
+
+/// The line of a feed that can't be followed further: 47 to 50.
+#[tactic(auto, unfolding(crate::specs::Lines::feed_refused_line))]
+pub fn feed_refused_line(alloc: Global, text: &[u8]) -> Result<Bytes, Memory>
+    ensures { IfOk result (λ line. line ≡ feed_refused_line text.now) }
+{
+    text_between(alloc, b"refused ", text, b"\n")
+}
+
+/// The line of how many commits of a feed were followed, and how many bytes stand behind its last line feed.
+#[tactic(auto, unfolding(crate::specs::Lines::followed_line))]
+pub fn followed_line(alloc: Global, commits: u64, rest: u64) -> Result<Bytes, Memory>
+    ensures { IfOk result (λ line. line ≡ followed_line commits rest) }
+{
+    two_numbers_line(alloc, b"followed commits=", commits, b" rest=", rest)
 }
 
 /// The last line of a run in which feeds were lost, with their number.
 pub fn feeds_lost_line(alloc: Global, lost: u64) -> Result<Bytes, Memory>
     ensures { IfOk result (λ line. line ≡ feeds_lost_line lost) }
 {
-    let mut line = TextBuffer::with_room(alloc, ROOM)?;
-    push_count(&mut line, b"feeds lost=", lost)?;
-    line.push(b"\n")?;
-    Ok(line.into_bytes())
+    number_between(alloc, b"feeds lost=", lost, b"\n")
 }
 
 // Puts the counts of a graph last: how many nodes and edges there are, and how many edges come in at node 1.
@@ -160,9 +142,5 @@ pub fn gen_line(
 pub fn checkpoint_line(alloc: Global, epoch: u64, commits: u64) -> Result<Bytes, Memory>
     ensures { IfOk result (λ line. line ≡ checkpoint_line epoch commits) }
 {
-    let mut line = TextBuffer::with_room(alloc, ROOM)?;
-    push_count(&mut line, b"checkpoint epoch=", epoch)?;
-    push_count(&mut line, b" commits=", commits)?;
-    line.push(b"\n")?;
-    Ok(line.into_bytes())
+    two_numbers_line(alloc, b"checkpoint epoch=", epoch, b" commits=", commits)
 }

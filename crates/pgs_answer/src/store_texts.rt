@@ -1,6 +1,7 @@
 ghost use Rattle.std.specs.Prelude.{◌≡◌, IfOk};
 ghost use Rattle.pgs_answer.specs.Refusals.{no_store_text, already_store_text, foreign_text, bad_record_text, bad_history_text, epochs_spent_text, old_format_text};
 
+use crate::pieces::number_between;
 use crate::rejection_texts::push_rejection;
 use pgs_base::{Bytes, Limits, Memory};
 use pgs_base_text::TextBuffer;
@@ -35,11 +36,7 @@ pub fn foreign_text(alloc: Global) -> Result<Bytes, Memory>
 pub fn bad_record_text(alloc: Global, number: u64) -> Result<Bytes, Memory>
     ensures { IfOk result (λ text. text ≡ bad_record_text number) }
 {
-    let mut text = TextBuffer::with_room(alloc, ROOM)?;
-    text.push(b"33 record ")?;
-    text.push_number(number)?;
-    text.push(b" is damaged")?;
-    Ok(text.into_bytes())
+    number_between(alloc, b"33 record ", number, b" is damaged")
 }
 
 /// Refusal 34: the number of the record, from 1, and the rejection of what it holds.

@@ -11,3 +11,4 @@ pub mod SnapshotWalk
 pub mod Texts
 pub mod Walked
 pub mod Walks
+pub mod Writing

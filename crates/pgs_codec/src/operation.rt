@@ -133,8 +133,7 @@ fn write_one<A: Field>(kind: u8, first: &A, out: &mut Vec<u8>) -> Result<(), Mem
     ensures fit { OnOk result (IsTrue (A.is_field first.now)) }
 {
     out.push(kind)?;
-    first.write(out)?;
-    Ok(())
+    first.write(out)
 }
 
 // A byte for the kind, and two fields.
@@ -148,10 +147,8 @@ fn write_two<A: Field, B: Field>(
     ensures bytes { OnOk result (out.new.items ≡ out.old.items ++ kind ∷ (A.field first.now ++ B.field second.now)) }
     ensures fit { OnOk result (IsTrue (A.is_field first.now && B.is_field second.now)) }
 {
-    out.push(kind)?;
-    first.write(out)?;
-    second.write(out)?;
-    Ok(())
+    write_one(kind, first, out)?;
+    second.write(out)
 }
 
 // A byte for the kind, and three fields.
@@ -167,11 +164,8 @@ fn write_three<A: Field, B: Field, C: Field>(
         (out.new.items ≡ out.old.items ++ kind ∷ (A.field first.now ++ (B.field second.now ++ C.field third.now))) }
     ensures fit { OnOk result (IsTrue (A.is_field first.now && (B.is_field second.now && C.is_field third.now))) }
 {
-    out.push(kind)?;
-    first.write(out)?;
-    second.write(out)?;
-    third.write(out)?;
-    Ok(())
+    write_two(kind, first, second, out)?;
+    third.write(out)
 }
 
 // A byte for the kind, the number of an edge, its ends, its labels and its properties.
@@ -188,13 +182,9 @@ fn write_add_edge(
         (out.new.items ≡ out.old.items ++ op_field (AddEdge id.now source.now target.now labels.now props.now)) }
     ensures fit { OnOk result (IsTrue (is_op (AddEdge id.now source.now target.now labels.now props.now))) }
 {
-    out.push(2)?;
-    id.write(out)?;
-    source.write(out)?;
-    target.write(out)?;
+    write_three(2, id, source, target, out)?;
     labels.write(out)?;
-    props.write(out)?;
-    Ok(())
+    props.write(out)
 }
 
 impl Field for Op {

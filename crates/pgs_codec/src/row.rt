@@ -200,7 +200,6 @@ impl Field for EdgeRow {
         self.source.write(out)?;
         self.target.write(out)?;
         self.labels.write(out)?;
-        self.props.write(out)?;
-        Ok(())
+        self.props.write(out)
     }
 }

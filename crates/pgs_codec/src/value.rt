@@ -82,24 +82,32 @@ pub(crate) fn read_day(reader: &mut Reader<'_>) -> Result<Day, Unfit>
     }
 }
 
+// A byte for the kind, and bytes.
+fn write_bytes(kind: u8, bytes: &[u8], out: &mut Vec<u8>) -> Result<(), Memory>
+    ensures { OnOk result (out.new.items ≡ out.old.items ++ kind ∷ bytes.now) }
+{
+    out.push(kind)?;
+    out.extend_from_slice(bytes)?;
+    Ok(())
+}
+
 #[tactic(auto, using(crate::proofs::Lengths::text_fits))]
 fn write_text(text: &Text, out: &mut Vec<u8>) -> Result<(), Memory>
-    ensures bytes { OnOk result (out.new.items ≡ out.old.items ++ text_field text.now) }
+    ensures bytes { OnOk result (out.new.items ≡ out.old.items ++ 1 ∷ text_field text.now) }
     ensures fit { OnOk result (IsTrue (is_text text.now)) }
 {
     let text = text.text();
-    out.extend_from_slice(&(text.len() as u16).to_be_bytes())?;
+    write_bytes(1, &(text.len() as u16).to_be_bytes(), out)?;
     out.extend_from_slice(text.as_bytes())?;
     Ok(())
 }
 
 fn write_day(day: &Day, out: &mut Vec<u8>) -> Result<(), Memory>
-    ensures bytes { OnOk result (out.new.items ≡ out.old.items ++ day_field day.now) }
+    ensures bytes { OnOk result (out.new.items ≡ out.old.items ++ 4 ∷ day_field day.now) }
     ensures fit { OnOk result (IsTrue (is_date day.now)) }
 {
-    out.extend_from_slice(&day.year().to_be_bytes())?;
-    out.push(day.month())?;
-    out.push(day.day())?;
+    write_bytes(4, &day.year().to_be_bytes(), out)?;
+    out.extend_from_slice(&[day.month(), day.day()])?;
     Ok(())
 }
 
@@ -134,23 +142,10 @@ impl Field for Value {
 
     fn write(&self, out: &mut Vec<u8>) -> Result<(), Memory> {
         match self {
-            Value::Text(text) => {
-                out.push(1)?;
-                write_text(text, out)?;
-            }
-            Value::Int(number) => {
-                out.push(2)?;
-                out.extend_from_slice(&number.to_be_bytes())?;
-            }
-            Value::Bool(truth) => {
-                out.push(3)?;
-                out.push(u8::from(*truth))?;
-            }
-            Value::Date(day) => {
-                out.push(4)?;
-                write_day(day, out)?;
-            }
+            Value::Text(text) => write_text(text, out),
+            Value::Int(number) => write_bytes(2, &number.to_be_bytes(), out),
+            Value::Bool(truth) => write_bytes(3, &[u8::from(*truth)], out),
+            Value::Date(day) => write_day(day, out),
         }
-        Ok(())
     }
 }

@@ -16,7 +16,8 @@ ghost use Rattle.pgs_check.specs.Standing.{ChangeEachOnce, index_changed};
 ghost use Rattle.pgs_decide.specs.Refused.{IsRejected};
 ghost use Rattle.pgs_decide.specs.Touched.{guarding_count, staged_after, touched_by};
 
-use pgs_base::{Limits, List, Memory, Steps};
+use crate::GuardRefusal;
+use pgs_base::{Limits, List, Steps};
 use pgs_check::{CheckFault, check};
 use pgs_conform::Compiled;
 use pgs_graph::{Delta, GraphRead, Txn};
@@ -38,26 +39,6 @@ pub struct Decided {
     pub changes: List<KeyChange>,
 }
 
-/// Why a transaction isn't accepted.
-#[derive(Drop)]
-pub enum DecideFault {
-    /// There was no memory.
-    Memory,
-    /// The transaction is rejected.
-    Rejected(Rejection),
-}
-
-impl From<Memory> for DecideFault {
-    ghost use Rattle.std.specs.Prelude.{◌≡◌};
-    ghost use Rattle.pgs_decide.specs.declared.deciding.DecideFault.TheVariants as faults;
-
-    ghost from_gives = { λ _ e. e ≡ faults.Memory };
-
-    fn from(_: Memory) -> DecideFault {
-        DecideFault::Memory
-    }
-}
-
 // Stages a transaction: the delta that it makes of a graph.
 fn staged_delta<L: Ledger>(
     alloc: Global,
@@ -65,7 +46,7 @@ fn staged_delta<L: Ledger>(
     limits: &Limits,
     txn: &Txn,
     steps: &mut Steps<L>,
-) -> Result<Delta, DecideFault>
+) -> Result<Delta, GuardRefusal>
     ensures sound { IfOk result (λ delta. is_sound graph.now.graph delta ≡ true) }
     ensures staged { IfOk result (λ delta. staged limits.now graph.now.graph txn.now ≡ Ok (changed graph.now.graph delta)) }
     ensures lists_only { IfOk result (λ delta. lists_only graph.now.graph txn.now.ops delta ≡ true) }
@@ -76,9 +57,9 @@ fn staged_delta<L: Ledger>(
 {
     match stage(alloc, graph, limits, txn, steps) {
         Ok(delta) => Ok(delta),
-        Err(StageFault::Memory) => Err(DecideFault::Memory),
+        Err(StageFault::Memory) => Err(GuardRefusal::Memory),
         Err(StageFault::Refused(structural)) => {
-            Err(DecideFault::Rejected(Rejection::Structural(structural)))
+            Err(GuardRefusal::Rejected(Rejection::Structural(structural)))
         }
     }
 }
@@ -92,7 +73,7 @@ fn checked_changes<L: Ledger>(
     keys: &List<PlannedKey>,
     delta: &Delta,
     steps: &mut Steps<L>,
-) -> Result<List<KeyChange>, DecideFault>
+) -> Result<List<KeyChange>, GuardRefusal>
     requires sound { is_sound graph.now.graph delta.now ≡ true }
     requires conforms { conforms compiled.now graph.now.graph ≡ true }
     requires index { StandsFor compiled.now graph.now.graph compiled.now.guard.keys index.now }
@@ -115,9 +96,9 @@ fn checked_changes<L: Ledger>(
     let overlay = Overlay::new(alloc, graph, delta, steps)?;
     match check(alloc, graph, index, compiled, keys, &overlay, delta, steps) {
         Ok(changes) => Ok(changes),
-        Err(CheckFault::Memory) => Err(DecideFault::Memory),
+        Err(CheckFault::Memory) => Err(GuardRefusal::Memory),
         Err(CheckFault::Violated(violation)) => {
-            Err(DecideFault::Rejected(Rejection::Violation(violation)))
+            Err(GuardRefusal::Rejected(Rejection::Violation(violation)))
         }
     }
 }
@@ -141,7 +122,7 @@ pub fn decide<L: Ledger>(
     limits: &Limits,
     txn: &Txn,
     steps: &mut Steps<L>,
-) -> Result<Decided, DecideFault>
+) -> Result<Decided, GuardRefusal>
     requires conforms { conforms compiled.now graph.now.graph ≡ true }
     requires index { StandsFor compiled.now graph.now.graph compiled.now.guard.keys index.now }
     requires keys { keys.now ≡ compiled.now.guard.keys }

@@ -7,5 +7,7 @@
 
 mod deciding;
 pub mod laws;
+mod refusal;
 
-pub use deciding::{DecideFault, Decided, decide};
+pub use deciding::{Decided, decide};
+pub use refusal::GuardRefusal;

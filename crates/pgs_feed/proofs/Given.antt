@@ -1,12 +1,13 @@
 -- Lines that are given to a list of feeds, one after another.
-use Rattle.std.proofs.Common.{◌≡◌, ◌∙◌, ℕ, List, [], ◌∷◌, ◌++◌, Option, Some, None, refl, sym, ap, subst, append_assoc}
+use Rattle.std.proofs.Common.{◌≡◌, ◌∙◌, ◌+◌, ℕ, cond, arith, List, [], ◌∷◌, ◌++◌, Option, Some, None, refl, sym, ap, subst, append_assoc}
 use Rattle.std.specs.List.{AllZip, concat}
 use Rattle.std.specs.Option.{option_map}
 use Rattle.std.proofs.lemmas.List.{append-nil}
+use Rattle.std.proofs.lemmas.List.Sums.{sum_by-cons}
 use Rattle.std.proofs.lemmas.List.Folds.{concat-append}
 use Rattle.pgs_world.specs.Count.{RoseByOne}
 use Rattle.pgs_world.specs.World.{Adds}
-use Rattle.pgs_feed.specs.Places.{FeedState, Place, Fed, Lost, Dropped, TookLine, Failed, Delivers}
+use Rattle.pgs_feed.specs.Places.{FeedState, Place, Fed, Lost, Dropped, TookLine, Failed, Delivers, is_fed, fed_count}
 use Rattle.pgs_feed.specs.Given.{TookAll, FailedIn, TakesLines, IsGiven, AreGiven}
 
 adds_none : (taken : Option (List ℕ)) → Adds taken taken []
@@ -37,6 +38,18 @@ place_none (Dropped failed) = refl
 pub given_none : (places : List Place) → AreGiven [] places places
 given_none [] = tt
 given_none (place ∷ places) = (place_none place, given_none places)
+
+-- where no feed is fed nothing is given
+place_unfed : (lines : List (List ℕ)) (place : Place) (others : ℕ) → cond (is_fed place) 1 0 + others ≡ 0 → IsGiven lines place place × (others ≡ 0)
+place_unfed lines (Fed feed) others none = absurd (omega arith)
+place_unfed lines (Lost feed) others none = (refl, omega arith)
+place_unfed lines (Dropped failed) others none = (refl, omega arith)
+
+pub given_unfed : (lines : List (List ℕ)) (places : List Place) → fed_count places ≡ 0 → AreGiven lines places places
+given_unfed lines [] none = tt
+given_unfed lines (place ∷ places) none =
+    let here = place_unfed lines place (fed_count places) (sym (sum_by-cons (λ (p : Place). cond (is_fed p) 1 0) place places) ∙ none) in
+    (here.0, given_unfed lines places here.1)
 
 took_line : (line : List ℕ) (before after : FeedState) → TookLine line before after → TookAll (line ∷ []) before after
 took_line line before after took = record {

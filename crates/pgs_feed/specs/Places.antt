@@ -41,6 +41,16 @@ has_feed (Fed feed) = true
 has_feed (Lost feed) = true
 has_feed (Dropped failed) = false
 
+-- a feed is there that hasn't failed
+abbrev pub is_fed : Place → Bool
+is_fed (Fed feed) = true
+is_fed (Lost feed) = false
+is_fed (Dropped failed) = false
+
+-- how many such feeds there are
+abbrev pub fed_count : List Place → ℕ
+fed_count places = count_by is_fed places
+
 -- there is a place, and a feed is there
 abbrev pub is_there : Option Place → Bool
 is_there None = false

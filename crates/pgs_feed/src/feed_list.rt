@@ -1,7 +1,7 @@
 ghost use Rattle.std.specs.Prelude.{◌≡◌, [], ◌∷◌, ◌++◌, Some, length, slice_get, IfOk, IfErr, OnOk, OnErr, option_and_then};
 ghost use Rattle.std.specs.List.{AllZip};
 ghost use Rattle.std.specs.Option.{option_map};
-ghost use Rattle.pgs_feed.specs.Places.{Delivers, RaisesLost, fed, lost_count, is_there, taken_at, without};
+ghost use Rattle.pgs_feed.specs.Places.{Delivers, RaisesLost, fed, fed_count, is_there, lost_count, taken_at, without};
 ghost use Rattle.pgs_feed.specs.Puts.{PutsOnceEach};
 ghost use Rattle.pgs_feed.specs.Seen.{feeds_in, places};
 
@@ -69,6 +69,13 @@ impl<F: Feed> FeedList<F> {
         ensures { result ≡ lost_count (places F.taken F.faults self.now) }
     {
         self.slots.iter().filter(|slot| slot.is_lost).count() as u64
+    }
+
+    /// How many feeds are there that haven't failed. Where none is, a delivery changes nothing.
+    pub fn fed(&self) -> u64
+        ensures { result ≡ fed_count (places F.taken F.faults self.now) }
+    {
+        self.slots.iter().filter(|slot| slot.is_fed()).count() as u64
     }
 
     /// What the feed at the place took. `None` exactly where no feed is there, or where it doesn't tell its bytes.

@@ -1,6 +1,6 @@
 ghost use Rattle.std.specs.Prelude.{◌≡◌, Some, false};
 ghost use Rattle.std.specs.Option.{option_map};
-ghost use Rattle.pgs_feed.specs.Places.{Delivers, dropped, has_feed, taken_at};
+ghost use Rattle.pgs_feed.specs.Places.{Delivers, dropped, has_feed, is_fed, taken_at};
 ghost use Rattle.pgs_feed.specs.Puts.{PutsOnce};
 ghost use Rattle.pgs_feed.specs.Seen.{place_seen};
 
@@ -29,6 +29,13 @@ impl<F: Feed> Slot<F> {
         ensures { option_map (λ bytes. bytes.now) result ≡ taken_at (place_seen F.taken F.faults self.now) }
     {
         self.feed.as_ref()?.shown()
+    }
+
+    /// Whether the feed is fed: it wasn't dropped and hasn't failed.
+    pub fn is_fed(&self) -> bool
+        ensures { result ≡ is_fed (place_seen F.taken F.faults self.now) }
+    {
+        !self.is_lost && self.feed.is_some()
     }
 
     /// Puts the line into the feed, by one put, unless it failed before or was dropped. It is lost exactly where this put fails.

@@ -11,6 +11,7 @@ use Rattle.pgs_graph.specs.declared.operation.Op.{Op}
 use Rattle.pgs_graph.specs.declared.operation.Txn.{Txn}
 use Rattle.pgs_graph.specs.Operations.{is_well_formed_txn}
 use Rattle.pgs_json.specs.Canonical.{op_text, ops_text, text_of_txn}
+use Rattle.pgs_json.specs.declared.commit.TheConstants.{COMMIT_LIMIT}
 use Rattle.pgs_json.specs.Commit.{commit_form, commit_of, read_commit_line}
 use Rattle.pgs_json.specs.Form.{ops_of}
 use Rattle.pgs_json.proofs.Spelt.{Spelt, deeper, read_spelt, spelt_list}
@@ -57,8 +58,8 @@ pub written_commit : (txn : Txn) (n : ℕ) → is_well_formed_txn txn ≡ true �
 written_commit txn n h from_one small =
     commit_of_spelt (text_of_txn txn (Some n)) (commit_data n txn.ops) (spelt_commit txn n h small) ∙ form_read txn n h from_one
 
-pub written_commit_line : (txn : Txn) (n : ℕ) → is_well_formed_txn txn ≡ true → 0 < n → n < 2 ^ 64 → length (text_of_txn txn (Some n)) ≤ 2097152 →
+pub written_commit_line : (txn : Txn) (n : ℕ) → is_well_formed_txn txn ≡ true → 0 < n → n < 2 ^ 64 → length (text_of_txn txn (Some n)) ≤ COMMIT_LIMIT →
     read_commit_line (text_of_txn txn (Some n)) ≡ Ok (n, txn)
 unfolding read_commit_line
 written_commit_line txn n h from_one small short =
-    rw (le-ltb 2097152 (length (text_of_txn txn (Some n))) short, written_commit txn n h from_one small) refl
+    rw (le-ltb COMMIT_LIMIT (length (text_of_txn txn (Some n))) short, written_commit txn n h from_one small) refl

@@ -11,6 +11,7 @@ use Rattle.std.proofs.lemmas.Str.{is_utf8-from_IsUtf8}
 use Rattle.json.proofs.Printed.Utf8.{are_ascii, IsUtf8-are_ascii}
 use Rattle.serde_json.specs.Data.{Data, unsigned, number, string, array, object, no_members, member}
 use Rattle.serde_json.specs.View.{items_of}
+use Rattle.pgs_base.specs.declared.text_limit.TheConstants.{TEXT_LIMIT}
 use Rattle.pgs_base.specs.Graph.{is_element_number}
 use Rattle.pgs_base.specs.declared.value.Value.{Value}
 use Rattle.pgs_base.specs.Name.{is_name}
@@ -242,6 +243,6 @@ txn_of_spelt text d levels s h =
 pub written_read : (txn : Txn) → is_well_formed_txn txn ≡ true → txn_of (text_of_txn txn None) ≡ Some txn
 written_read txn h = txn_of_spelt (text_of_txn txn None) (txn_data txn.ops) 5 (spelt_txn txn h) (omega arith) ∙ form_read txn h
 
-pub written_line_read : (txn : Txn) → is_well_formed_txn txn ≡ true → length (text_of_txn txn None) ≤ 1048576 → read_line (text_of_txn txn None) ≡ Ok txn
+pub written_line_read : (txn : Txn) → is_well_formed_txn txn ≡ true → length (text_of_txn txn None) ≤ TEXT_LIMIT → read_line (text_of_txn txn None) ≡ Ok txn
 unfolding read_line
-written_line_read txn h short = rw (le-ltb 1048576 (length (text_of_txn txn None)) short, written_read txn h) refl
+written_line_read txn h short = rw (le-ltb TEXT_LIMIT (length (text_of_txn txn None)) short, written_read txn h) refl

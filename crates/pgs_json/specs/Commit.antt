@@ -6,6 +6,7 @@ use Rattle.pgs_graph.specs.declared.operation.Txn.{Txn}
 use Rattle.serde_json.specs.Data.{Data}
 use Rattle.serde_json.specs.Read.{read}
 use Rattle.pgs_json.specs.Form.{has_only, part, id_of, ops_of}
+use Rattle.pgs_json.specs.declared.commit.TheConstants.{COMMIT_LIMIT}
 use Rattle.pgs_json.specs.declared.commit_fault.CommitFault.{CommitFault}
 use Rattle.pgs_json.specs.declared.commit_fault.CommitFault.TheVariants.{Memory, Unreadable, LineTooLong}
 use Rattle.pgs_json.specs.declared.unread.Unread.{Unread}
@@ -35,7 +36,7 @@ or_unreadable (Some commit) = Ok commit
 
 -- what a line gives. Its length is tested first
 unfoldable pub read_commit_line : List ℕ → Result (ℕ × Txn) CommitFault
-read_commit_line line = if nat_lt 2097152 (length line) then Err LineTooLong else or_unreadable (commit_of line)
+read_commit_line line = if nat_lt COMMIT_LIMIT (length line) then Err LineTooLong else or_unreadable (commit_of line)
 
 -- what was returned is what the line gives, unless memory ran out
 abbrev pub ReadsCommit : Result (ℕ × Txn) CommitFault → List ℕ → Type 0

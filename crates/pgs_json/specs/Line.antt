@@ -1,6 +1,7 @@
 -- The transaction of a line, and why a line gives none.
 use Rattle.std.specs.Prelude.{◌≡◌, ℕ, List, length, Option, Some, None, Result, Ok, Err, option_and_then, nat_lt, if◌then◌else◌}
 use Rattle.std.specs.Str.{is_utf8}
+use Rattle.pgs_base.specs.declared.text_limit.TheConstants.{TEXT_LIMIT}
 use Rattle.pgs_graph.specs.declared.operation.Txn.{Txn}
 use Rattle.serde_json.specs.Read.{read}
 use Rattle.pgs_json.specs.Form.{form}
@@ -20,7 +21,7 @@ or_unreadable (Some txn) = Ok txn
 
 -- what a line gives. Its length is tested first
 unfoldable pub read_line : List ℕ → Result Txn LineFault
-read_line line = if nat_lt 1048576 (length line) then Err LineTooLong else or_unreadable (txn_of line)
+read_line line = if nat_lt TEXT_LIMIT (length line) then Err LineTooLong else or_unreadable (txn_of line)
 
 -- what was returned is what the line gives, unless memory ran out
 abbrev pub Reads : Result Txn LineFault → List ℕ → Type 0

@@ -75,7 +75,7 @@ fn line_commit(alloc: Global, line: &[u8]) -> Result<(u64, Txn), Unread>
 }
 
 /// The commit of a line of a feed, given without its line feed: its number, from 1, and its transaction. `LineTooLong` exactly where
-/// it has over 2,097,152 bytes, else `Unreadable` exactly where it is no JSON text or its value isn't an object with the two members
+/// it has over `COMMIT_LIMIT` bytes, else `Unreadable` exactly where it is no JSON text or its value isn't an object with the two members
 /// `commit`, an id of at least 1, and `ops`, as docs/FORMATS.md tells.
 #[tactic(auto, unfolding(crate::specs::Commit::read_commit_line))]
 pub fn read_commit(alloc: Global, line: &[u8]) -> Result<(u64, Txn), CommitFault>

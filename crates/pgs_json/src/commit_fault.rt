@@ -1,3 +1,4 @@
+use crate::commit::COMMIT_LIMIT;
 use crate::unread::Unread;
 use thiserror::Error;
 
@@ -10,8 +11,8 @@ pub enum CommitFault {
     /// The line is no commit.
     #[error("the line is not a commit")]
     Unreadable,
-    /// The line has over 2,097,152 bytes.
-    #[error("the line is longer than 2097152 bytes")]
+    /// The line has over `COMMIT_LIMIT` bytes.
+    #[error("the line is longer than {COMMIT_LIMIT} bytes")]
     LineTooLong,
 }
 

@@ -33,7 +33,7 @@ fn line_txn(alloc: Global, line: &[u8]) -> Result<Txn, Unread>
     }
 }
 
-/// The transaction of a line, given without its line feed. `LineTooLong` exactly where it has over 1,048,576 bytes, else
+/// The transaction of a line, given without its line feed. `LineTooLong` exactly where it has over `TEXT_LIMIT` bytes, else
 /// `Unreadable` exactly where it is no JSON text or its value isn't of the form of a transaction, which docs/FORMATS.md tells.
 #[tactic(auto, unfolding(crate::specs::Line::read_line))]
 pub fn read_txn(alloc: Global, line: &[u8]) -> Result<Txn, LineFault>

@@ -1,4 +1,5 @@
 use crate::unread::Unread;
+use pgs_base::TEXT_LIMIT;
 use thiserror::Error;
 
 /// Why a line gives no transaction.
@@ -10,8 +11,8 @@ pub enum LineFault {
     /// The line is no transaction.
     #[error("the line is not a transaction")]
     Unreadable,
-    /// The line has over 1,048,576 bytes.
-    #[error("the line is longer than 1048576 bytes")]
+    /// The line has over `TEXT_LIMIT` bytes.
+    #[error("the line is longer than {TEXT_LIMIT} bytes")]
     LineTooLong,
 }
 

@@ -24,3 +24,4 @@ pub mod Few
 pub mod Planning
 pub mod Rates
 pub mod Walked
+pub mod FirstOfMatches

@@ -1,16 +1,17 @@
-//! Laws on searches along plans, from a variable to which an element is bound. The functions do nothing; their contracts are the
-//! statements.
+//! Laws on searches along plans, from a variable to which an element is bound, and on the elements that are reached from an element. The
+//! functions do nothing; their contracts are the statements.
 
-ghost use Rattle.std.specs.Prelude.{◌≡◌, ◌+◌, ◌*◌, ◌^◌, ◌<◌, ◌≤◌, ℕ, Bool, true, false, List, [], length, slice_get, Some};
+ghost use Rattle.std.specs.Prelude.{◌≡◌, ◌↔◌, ◌+◌, ◌*◌, ◌^◌, ◌<◌, ◌≤◌, ℕ, Bool, true, false, List, [], length, slice_get, Some, Contains};
 ghost use Rattle.std.specs.Option.{option_map_or};
 ghost use Rattle.std.specs.List.{list_any, All};
 ghost use Rattle.pgs_base.specs.declared.element.Elem.{Elem};
 ghost use Rattle.pgs_base.specs.Graph.{Graph, is_graph};
+ghost use Rattle.pgs_base.specs.Order.{ascends, elem_cmp};
 ghost use Rattle.pgs_syntax.specs.declared.key.Key.{Key};
 ghost use Rattle.pgs_syntax.specs.declared.pattern.Pattern.{Pattern};
 ghost use Rattle.pgs_syntax.specs.declared.resolved.Resolved.{Resolved};
-ghost use Rattle.pgs_syntax.specs.KeyValues.{key_values};
-ghost use Rattle.pgs_syntax.specs.Matches.{matches};
+ghost use Rattle.pgs_syntax.specs.KeyValues.{starts_at, key_values};
+ghost use Rattle.pgs_syntax.specs.Matches.{is_match, matches};
 ghost use Rattle.pgs_syntax.specs.Valid.{edge_count, is_valid_pattern, is_valid_key};
 ghost use Rattle.pgs_match.specs.declared.step.Step.{Step};
 ghost use Rattle.pgs_match.specs.Plans.{is_plan};
@@ -48,6 +49,19 @@ pub fn a_search_is_short_where_few_edges_are_near()
         var < length pattern.edge_vars → (plan : List Step) → is_plan pattern var plan ≡ true → (elem : Elem) (bound : Bound) →
         admitted resolved g pattern var elem ≡ Some bound → (edges most : ℕ) → edge_count pattern.edge_vars ≤ edges → IsSparse g edges elem most →
         length (completions resolved g pattern.atoms plan (with_bound nothing_bound var bound)) ≤ (most + 2) ^ edges }
+{}
+
+/// What is reached ascends strictly: each element stands once, in order.
+pub fn what_is_reached_ascends()
+    ensures { (resolved : Resolved) (g : Graph) (pattern : Pattern) (var : ℕ) (elem : Elem) → is_graph g ≡ true →
+        ascends elem_cmp (reached resolved g pattern var elem) ≡ true }
+{}
+
+/// What is reached from an element are exactly the elements that variable 0 takes in the matches in which the variable takes the element.
+pub fn what_is_reached_is_by_matches()
+    ensures { (resolved : Resolved) (g : Graph) (pattern : Pattern) (var : ℕ) (elem first : Elem) →
+        Contains (reached resolved g pattern var elem) first
+        ↔ ((elems : List Elem) × (is_match resolved g pattern elems ≡ true) × (stands_at var elem elems ≡ true) × (starts_at first elems ≡ true)) }
 {}
 
 /// The elements that are reached from an element lie within as many edges of it as the pattern has edge variables, and they are few

@@ -26,6 +26,7 @@ mod own;
 mod planned;
 mod planner;
 mod reads;
+pub mod samples;
 mod search;
 mod searching;
 mod step;

@@ -1,264 +1,50 @@
--- The samples' texts are the scripts that the samples say, each by its derivation.
-use Rattle.std.proofs.Common.{◌≡◌, true, false, [], ◌∷◌, Some, None, inl, inr, refl, arith, codes}
+-- What the samples' texts are found to be, computed.
+use Rattle.std.proofs.Common.{◌≡◌, refl}
 use Rattle.std.specs.Char.{encode_utf8}
 use Rattle.std.specs.Str.{is_utf8, chars}
 use Rattle.std.specs.Str.Lossy.{utf8_valid_len}
 use Rattle.pgs_lexer.specs.Scan.{item_at}
 use Rattle.pgs_lexer.specs.Cut.{tokens_of, tokens_from}
 use Rattle.pgs_base.specs.DayForm.{day_in}
-use Rattle.pgs_base.specs.declared.value.Kind.TheVariants as kinds
-use Rattle.pgs_syntax.specs.declared.specification.Spec.{Word, Or, And, Opt}
-use Rattle.pgs_parser.specs.Production.{here}
-use Rattle.pgs_parser.specs.declared.qualifier.Qualifier.TheVariants.{Exclusive, Mandatory, Singleton, Count}
-use Rattle.pgs_parser.proofs.OneToken.{◌⟨◌⟩◌}
-use Rattle.pgs_parser.specs.Types.{named, parenthesised, plain, optional, one_unit, units, one_conj, conjs}
+use Rattle.pgs_parser.specs.Reader.{keyword_if_at, maybe_at, more, numbered}
+use Rattle.pgs_parser.specs.TypeReaders.{parenthesised_at, atom_at, unit_at, conj_at, level_at, inner_at, labels_at, kind_at, property_at, properties_at, open_at, braces_rest_at, body_at, node_type_at, end_at, middle_at, arrow_type_at, edge_type_at}
+use Rattle.pgs_parser.specs.KeyReaders.{literal_at, test_at, names_at, tests_at, name_if_at, place_at, node_at, edge_at, arrow_at, step_at, path_at, bound_at, bounds_at, qualifier_at, qualifier_list_at, qualifiers_at, expr_at, key_at}
+use Rattle.pgs_parser.specs.StatementReaders.{element_type_at, element_at, elements_if_at, keys_if_at, mode_at, imports_at, members_at, graph_type_at, hidden_at, declared_node_at, declared_edge_at, declared_at, statement_at, statement_of, statements_of, script_of}
 use Rattle.pgs_parser.specs.Samples as samples
-use Rattle.pgs_parser.specs.Samples.{word}
-use Rattle.pgs_parser.specs.Text.{IsFound, script, is_script, no_item, has_no_item}
+use Rattle.pgs_parser.specs.Text.{IsFound, found, script, no_item}
+use Rattle.pgs_parser.proofs.Findings.{findings}
 
--- the day in one of the texts
-leap_day : day_in (codes "2024-02-29") ≡ Some (2024, 2, 29)
-unfolding day_in
-leap_day = refl
+abbrev AllComputed : Type 0
+AllComputed =
+    (found samples.least_text ≡ script samples.least_script)
+    × (found samples.staff_text ≡ script samples.staff_script)
+    × (found samples.acquaintance_text ≡ script samples.acquaintance_script)
+    × (found samples.moderator_text ≡ script samples.moderator_script)
+    × (found samples.mail_text ≡ script samples.mail_script)
+    × (found samples.forms_text ≡ script samples.forms_script)
+    × (found samples.bad_byte_text ≡ no_item 1)
+
+computed : AllComputed
+unfolding found tokens_of tokens_from item_at is_utf8 utf8_valid_len chars encode_utf8 day_in keyword_if_at maybe_at more numbered parenthesised_at atom_at unit_at conj_at level_at inner_at labels_at kind_at property_at properties_at open_at braces_rest_at body_at node_type_at end_at middle_at arrow_type_at edge_type_at literal_at test_at names_at tests_at name_if_at place_at node_at edge_at arrow_at step_at path_at bound_at bounds_at qualifier_at qualifier_list_at qualifiers_at expr_at key_at element_type_at element_at elements_if_at keys_if_at mode_at imports_at members_at graph_type_at hidden_at declared_node_at declared_edge_at declared_at statement_at statement_of statements_of script_of
+computed = (refl, refl, refl, refl, refl, refl, refl)
 
 pub least_found : IsFound samples.least_text (script samples.least_script)
-unfolding tokens_of tokens_from item_at is_utf8 utf8_valid_len chars encode_utf8
-least_found = is_script (omega arith) refl (record {
-  statements = (
-    _ ⟨ here (refl, refl) ⟩ _ ⟨ here (refl, refl) ⟩ _ ⟨ here (refl, refl) ⟩ _ ⟨ here (refl, refl) ⟩
-        _ ⟨ here (refl, refl) ⟩ _ ⟨ refl ⟩ _ ⟨ here (refl, refl) ⟩ _ ⟨ refl ⟩ _ ⟨ here (refl, refl) ⟩
-        here (refl, refl),
-    tt,
-  );
-  places = refl;
-})
+least_found = (findings samples.least_text (script samples.least_script)).0 computed.0
 
 pub staff_found : IsFound samples.staff_text (script samples.staff_script)
-unfolding tokens_of tokens_from item_at is_utf8 utf8_valid_len chars encode_utf8
-staff_found = is_script (omega arith) refl (record {
-  statements = (
-    _ ⟨ (_ ⟨ here (refl, refl) ⟩ _ ⟨ here (refl, refl) ⟩ here (refl, refl)) ⟩
-        _ ⟨ (_ ⟨ here (refl, refl) ⟩ _ ⟨ here (refl, refl) ⟩
-        _ ⟨ (
-          Some (Word (codes "Person")),
-          false,
-          Some (record { properties = record { key = codes "name"; kind = kinds.Text; optional = false } ∷ []; more = false }),
-          refl,
-          _ ⟨ (_ ⟨ here (refl, refl) ⟩
-              one_conj (one_unit (plain (named (here (refl, refl)))))) ⟩ _ ⟨ refl ⟩ _ ⟨ here (refl, refl) ⟩
-              _ ⟨ (_ ⟨ (_ ⟨ refl ⟩ _ ⟨ here (refl, refl) ⟩ here (refl, refl)) ⟩ refl) ⟩ here (refl, refl),
-        ) ⟩
-        here (refl, refl)) ⟩ here (refl, refl),
-    (
-      _ ⟨ (_ ⟨ here (refl, refl) ⟩ _ ⟨ here (refl, refl) ⟩
-          here (refl, refl)) ⟩ _ ⟨ (_ ⟨ here (refl, refl) ⟩ _ ⟨ here (refl, refl) ⟩
-          _ ⟨ (
-            Some (And (Word (codes "personType") ∷ Word (codes "Employee") ∷ [])),
-            false,
-            Some (record { properties = record { key = codes "salary"; kind = kinds.Int; optional = false } ∷ []; more = false }),
-            refl,
-            _ ⟨ (_ ⟨ here (refl, refl) ⟩
-                one_conj (units (Word (codes "personType")) (Word (codes "Employee")) ([]) (_ ⟨ plain (named (here (refl, refl))) ⟩
-                _ ⟨ (_ ⟨ here (refl, refl) ⟩ plain (named (here (refl, refl)))) ⟩ refl))) ⟩ _ ⟨ refl ⟩
-                _ ⟨ here (refl, refl) ⟩ _ ⟨ (_ ⟨ (_ ⟨ refl ⟩ _ ⟨ here (refl, refl) ⟩ here (refl, refl)) ⟩
-                refl) ⟩ here (refl, refl),
-          ) ⟩ here (refl, refl)) ⟩ here (refl, refl),
-      (
-        _ ⟨ here (refl, refl) ⟩
-            _ ⟨ here (refl, refl) ⟩ _ ⟨ here (refl, refl) ⟩ _ ⟨ here (refl, refl) ⟩ _ ⟨ here (refl, refl) ⟩
-            _ ⟨ refl ⟩ _ ⟨ here (refl, refl) ⟩ _ ⟨ (_ ⟨ here (refl, refl) ⟩ _ ⟨ (_ ⟨ here (refl, refl) ⟩
-            here (refl, refl)) ⟩ refl) ⟩ _ ⟨ here (refl, refl) ⟩ here (refl, refl),
-        tt,
-      ),
-    ),
-  );
-  places = refl;
-})
+staff_found = (findings samples.staff_text (script samples.staff_script)).0 computed.1
 
 pub acquaintance_found : IsFound samples.acquaintance_text (script samples.acquaintance_script)
-unfolding tokens_of tokens_from item_at is_utf8 utf8_valid_len chars encode_utf8
-acquaintance_found = is_script (omega arith) refl (record {
-  statements = (
-    _ ⟨ here (refl, refl) ⟩ _ ⟨ here (refl, refl) ⟩ _ ⟨ here (refl, refl) ⟩ _ ⟨ here (refl, refl) ⟩
-        _ ⟨ here (refl, refl) ⟩ _ ⟨ refl ⟩ _ ⟨ here (refl, refl) ⟩ _ ⟨ (_ ⟨ (_ ⟨ refl ⟩
-        _ ⟨ here (refl, refl) ⟩ _ ⟨ here (refl, refl) ⟩
-        _ ⟨ (
-          Some (Word (codes "P")),
-          false,
-          None,
-          refl,
-          _ ⟨ (_ ⟨ here (refl, refl) ⟩
-              one_conj (one_unit (plain (named (here (refl, refl)))))) ⟩ _ ⟨ refl ⟩ refl,
-        ) ⟩
-        here (refl, refl)) ⟩ _ ⟨ (_ ⟨ here (refl, refl) ⟩ _ ⟨ refl ⟩ _ ⟨ here (refl, refl) ⟩
-        _ ⟨ here (refl, refl) ⟩
-        _ ⟨ (
-          Some (And (Word (codes "P") ∷ Word (codes "Q") ∷ [])),
-          false,
-          None,
-          refl,
-          _ ⟨ (_ ⟨ here (refl, refl) ⟩
-              one_conj (units (Word (codes "P")) (Word (codes "Q")) ([]) (_ ⟨ plain (named (here (refl, refl))) ⟩
-              _ ⟨ (_ ⟨ here (refl, refl) ⟩ plain (named (here (refl, refl)))) ⟩ refl))) ⟩ _ ⟨ refl ⟩ refl,
-        ) ⟩
-        here (refl, refl)) ⟩ _ ⟨ (_ ⟨ here (refl, refl) ⟩ _ ⟨ refl ⟩ inl (_ ⟨ (_ ⟨ here (refl, refl) ⟩
-        _ ⟨ (
-          Some (Word (codes "q")),
-          false,
-          None,
-          refl,
-          _ ⟨ (_ ⟨ here (refl, refl) ⟩
-              one_conj (one_unit (plain (named (here (refl, refl)))))) ⟩ _ ⟨ refl ⟩ refl,
-        ) ⟩
-        here (refl, refl)) ⟩ _ ⟨ here (refl, refl) ⟩ _ ⟨ (_ ⟨ here (refl, refl) ⟩ _ ⟨ here (refl, refl) ⟩
-        _ ⟨ (
-          Some (Word (codes "knows")),
-          false,
-          None,
-          refl,
-          _ ⟨ (_ ⟨ here (refl, refl) ⟩
-              one_conj (one_unit (plain (named (here (refl, refl)))))) ⟩ _ ⟨ refl ⟩ refl,
-        ) ⟩
-        here (refl, refl)) ⟩ _ ⟨ here (refl, refl) ⟩ _ ⟨ here (refl, refl) ⟩
-        _ ⟨ (
-          Some (Word (codes "p")),
-          false,
-          None,
-          refl,
-          _ ⟨ (_ ⟨ here (refl, refl) ⟩
-              one_conj (one_unit (plain (named (here (refl, refl)))))) ⟩ _ ⟨ refl ⟩ refl,
-        ) ⟩
-        here (refl, refl))) ⟩ refl) ⟩ _ ⟨ here (refl, refl) ⟩ here (refl, refl),
-    tt,
-  );
-  places = refl;
-})
+acquaintance_found = (findings samples.acquaintance_text (script samples.acquaintance_script)).0 computed.2
 
 pub moderator_found : IsFound samples.moderator_text (script samples.moderator_script)
-unfolding tokens_of tokens_from item_at is_utf8 utf8_valid_len chars encode_utf8
-moderator_found = is_script (omega arith) refl (record {
-  statements = (
-    _ ⟨ here (refl, refl) ⟩ _ ⟨ here (refl, refl) ⟩ _ ⟨ here (refl, refl) ⟩ _ ⟨ here (refl, refl) ⟩
-        _ ⟨ here (refl, refl) ⟩ _ ⟨ refl ⟩ _ ⟨ here (refl, refl) ⟩ _ ⟨ (_ ⟨ (_ ⟨ here (refl, refl) ⟩
-        _ ⟨ (_ ⟨ (_ ⟨ (_ ⟨ here (refl, refl) ⟩ _ ⟨ (_ ⟨ here (refl, refl) ⟩ _ ⟨ (_ ⟨ here (refl, refl) ⟩
-        _ ⟨ here (refl, refl) ⟩ refl) ⟩ refl) ⟩ here (refl, refl)) ⟩ _ ⟨ (_ ⟨ (_ ⟨ here (refl, refl) ⟩
-        _ ⟨ here (refl, refl) ⟩ _ ⟨ (_ ⟨ refl ⟩ _ ⟨ (_ ⟨ here (refl, refl) ⟩ _ ⟨ here (refl, refl) ⟩
-        refl) ⟩ refl) ⟩ _ ⟨ here (refl, refl) ⟩ here (refl, refl)) ⟩ _ ⟨ here (refl, refl) ⟩
-        _ ⟨ (_ ⟨ refl ⟩ _ ⟨ (_ ⟨ here (refl, refl) ⟩ _ ⟨ here (refl, refl) ⟩ refl) ⟩ refl) ⟩
-        here (refl, refl)) ⟩ refl) ⟩ refl) ⟩ _ ⟨ inl (refl, here (refl, refl)) ⟩
-        _ ⟨ (_ ⟨ (_ ⟨ here (refl, refl) ⟩ _ ⟨ here (refl, refl) ⟩ here (refl, refl)) ⟩
-        _ ⟨ (_ ⟨ here (refl, refl) ⟩ _ ⟨ here (refl, refl) ⟩ refl) ⟩ refl) ⟩ _ ⟨ here (refl, refl) ⟩
-        _ ⟨ (_ ⟨ (_ ⟨ here (refl, refl) ⟩ _ ⟨ (_ ⟨ here (refl, refl) ⟩ _ ⟨ refl ⟩ refl) ⟩
-        here (refl, refl)) ⟩ _ ⟨ (_ ⟨ (_ ⟨ here (refl, refl) ⟩ _ ⟨ here (refl, refl) ⟩ _ ⟨ (_ ⟨ refl ⟩
-        _ ⟨ (_ ⟨ here (refl, refl) ⟩ _ ⟨ here (refl, refl) ⟩ refl) ⟩ refl) ⟩ _ ⟨ here (refl, refl) ⟩
-        here (refl, refl)) ⟩ _ ⟨ here (refl, refl) ⟩ _ ⟨ (_ ⟨ here (refl, refl) ⟩
-        _ ⟨ (_ ⟨ here (refl, refl) ⟩ _ ⟨ here (refl, refl) ⟩ refl) ⟩ refl) ⟩ here (refl, refl)) ⟩
-        refl) ⟩ refl) ⟩ refl) ⟩ _ ⟨ here (refl, refl) ⟩ here (refl, refl),
-    tt,
-  );
-  places = refl;
-})
+moderator_found = (findings samples.moderator_text (script samples.moderator_script)).0 computed.3
 
 pub mail_found : IsFound samples.mail_text (script samples.mail_script)
-unfolding tokens_of tokens_from item_at is_utf8 utf8_valid_len chars encode_utf8
-mail_found = is_script (omega arith) refl (record {
-  statements = (
-    _ ⟨ here (refl, refl) ⟩ _ ⟨ here (refl, refl) ⟩ _ ⟨ here (refl, refl) ⟩ _ ⟨ here (refl, refl) ⟩
-        _ ⟨ here (refl, refl) ⟩ _ ⟨ refl ⟩ _ ⟨ here (refl, refl) ⟩ _ ⟨ (_ ⟨ (_ ⟨ (_ ⟨ refl ⟩
-        _ ⟨ here (refl, refl) ⟩ _ ⟨ here (refl, refl) ⟩
-        _ ⟨ (
-          Some (Word (codes "Person")),
-          false,
-          Some (record { properties = record { key = codes "mail"; kind = kinds.Text; optional = false } ∷ []; more = false }),
-          refl,
-          _ ⟨ (_ ⟨ here (refl, refl) ⟩
-              one_conj (one_unit (plain (named (here (refl, refl)))))) ⟩ _ ⟨ refl ⟩ _ ⟨ here (refl, refl) ⟩
-              _ ⟨ (_ ⟨ (_ ⟨ refl ⟩ _ ⟨ here (refl, refl) ⟩ here (refl, refl)) ⟩ refl) ⟩ here (refl, refl),
-        ) ⟩
-        here (refl, refl)) ⟩ refl) ⟩ _ ⟨ here (refl, refl) ⟩ _ ⟨ (_ ⟨ here (refl, refl) ⟩
-        _ ⟨ (_ ⟨ (_ ⟨ (_ ⟨ here (refl, refl) ⟩ _ ⟨ (_ ⟨ here (refl, refl) ⟩ _ ⟨ (_ ⟨ here (refl, refl) ⟩
-        _ ⟨ here (refl, refl) ⟩ refl) ⟩ refl) ⟩ here (refl, refl)) ⟩ refl) ⟩ refl) ⟩
-        _ ⟨ (inr (Exclusive ∷ [], refl, refl, _ ⟨ here (refl, refl) ⟩ refl)) ⟩
-        _ ⟨ (_ ⟨ (_ ⟨ here (refl, refl) ⟩ _ ⟨ here (refl, refl) ⟩ here (refl, refl)) ⟩ refl) ⟩ refl) ⟩
-        refl) ⟩ _ ⟨ here (refl, refl) ⟩ here (refl, refl),
-    tt,
-  );
-  places = refl;
-})
+mail_found = (findings samples.mail_text (script samples.mail_script)).0 computed.4
 
 pub forms_found : IsFound samples.forms_text (script samples.forms_script)
-unfolding tokens_of tokens_from item_at is_utf8 utf8_valid_len chars encode_utf8
-forms_found = is_script (omega arith) refl (record {
-  statements = (
-    _ ⟨ (inr (_ ⟨ here (refl, refl) ⟩ _ ⟨ here (refl, refl) ⟩ _ ⟨ here (refl, refl) ⟩
-        here (refl, refl))) ⟩ _ ⟨ (_ ⟨ here (refl, refl) ⟩ _ ⟨ here (refl, refl) ⟩
-        _ ⟨ (
-          Some (And (Opt (Or (Word (codes "A") ∷ Word (codes "B") ∷ [])) ∷ Word (codes "NODE") ∷ [])),
-          true,
-          Some (record { properties = record { key = codes "k"; kind = kinds.Date; optional = true } ∷ []; more = true }),
-          refl,
-          _ ⟨ (_ ⟨ here (refl, refl) ⟩
-              one_conj (units (Opt (Or (Word (codes "A") ∷ Word (codes "B") ∷ []))) (Word (codes "NODE")) ([]) (_ ⟨ (optional (_ ⟨ (parenthesised (_ ⟨ here (refl, refl) ⟩
-              _ ⟨ (conjs (Word (codes "A")) (Word (codes "B")) ([]) (_ ⟨ one_unit (plain (named (here (refl, refl)))) ⟩
-              _ ⟨ (_ ⟨ here (refl, refl) ⟩ one_unit (plain (named (here (refl, refl))))) ⟩ refl)) ⟩
-              here (refl, refl))) ⟩ here (refl, refl))) ⟩ _ ⟨ (_ ⟨ here (refl, refl) ⟩
-              plain (named (here (refl, refl)))) ⟩ refl))) ⟩ _ ⟨ here (refl, refl) ⟩ _ ⟨ here (refl, refl) ⟩
-              _ ⟨ (_ ⟨ (_ ⟨ (_ ⟨ here (refl, refl) ⟩ _ ⟨ here (refl, refl) ⟩ here (refl, refl)) ⟩ refl) ⟩
-              _ ⟨ here (refl, refl) ⟩ here (refl, refl)) ⟩ here (refl, refl),
-        ) ⟩ here (refl, refl)) ⟩
-        here (refl, refl),
-    (
-      _ ⟨ here (refl, refl) ⟩ _ ⟨ here (refl, refl) ⟩ _ ⟨ here (refl, refl) ⟩
-          _ ⟨ here (refl, refl) ⟩ _ ⟨ here (refl, refl) ⟩ _ ⟨ (_ ⟨ here (refl, refl) ⟩
-          _ ⟨ here (refl, refl) ⟩ refl) ⟩ _ ⟨ here (refl, refl) ⟩ _ ⟨ (_ ⟨ (_ ⟨ (_ ⟨ refl ⟩
-          inr (_ ⟨ (_ ⟨ here (refl, refl) ⟩
-          _ ⟨ (
-            Some (Word (codes "t")),
-            false,
-            None,
-            refl,
-            _ ⟨ (_ ⟨ here (refl, refl) ⟩
-                one_conj (one_unit (plain (named (here (refl, refl)))))) ⟩ _ ⟨ refl ⟩ refl,
-          ) ⟩
-          here (refl, refl)) ⟩ _ ⟨ here (refl, refl) ⟩ _ ⟨ (_ ⟨ here (refl, refl) ⟩ _ ⟨ here (refl, refl) ⟩
-          _ ⟨ (None, false, None, refl, _ ⟨ refl ⟩ _ ⟨ refl ⟩ refl) ⟩ here (refl, refl)) ⟩
-          _ ⟨ here (refl, refl) ⟩ _ ⟨ here (refl, refl) ⟩ _ ⟨ (
-            None,
-            true,
-            None,
-            refl,
-            _ ⟨ refl ⟩
-                _ ⟨ here (refl, refl) ⟩ refl,
-          ) ⟩ here (refl, refl))) ⟩ refl) ⟩ _ ⟨ here (refl, refl) ⟩
-          _ ⟨ (_ ⟨ here (refl, refl) ⟩ _ ⟨ (_ ⟨ (_ ⟨ (_ ⟨ here (refl, refl) ⟩ _ ⟨ (_ ⟨ here (refl, refl) ⟩
-          _ ⟨ (_ ⟨ here (refl, refl) ⟩ _ ⟨ here (refl, refl) ⟩ refl) ⟩ _ ⟨ here (refl, refl) ⟩
-          _ ⟨ (_ ⟨ (_ ⟨ here (refl, refl) ⟩ _ ⟨ here (refl, refl) ⟩ _ ⟨ here (refl, refl) ⟩
-          here (refl, leap_day)) ⟩ _ ⟨ (_ ⟨ here (refl, refl) ⟩ _ ⟨ here (refl, refl) ⟩ _ ⟨ here (refl, refl) ⟩
-          here (refl, refl, omega arith)) ⟩ _ ⟨ (_ ⟨ here (refl, refl) ⟩ _ ⟨ here (refl, refl) ⟩
-          _ ⟨ here (refl, refl) ⟩ here (refl, refl, omega arith)) ⟩ refl) ⟩ here (refl, refl)) ⟩
-          here (refl, refl)) ⟩ refl) ⟩ refl) ⟩
-          _ ⟨ (inr (
-            Exclusive ∷ Mandatory ∷ Singleton ∷ Count 0 12 ∷ [],
-            refl,
-            refl,
-            _ ⟨ here (refl, refl) ⟩
-                _ ⟨ (_ ⟨ inl (here (refl, refl)) ⟩ here (refl, refl)) ⟩ _ ⟨ (_ ⟨ inr refl ⟩ here (refl, refl)) ⟩
-                _ ⟨ (_ ⟨ inr refl ⟩ _ ⟨ here (refl, refl) ⟩ (
-                  omega arith,
-                  omega arith,
-                  _ ⟨ here (refl, refl, omega arith) ⟩
-                      _ ⟨ here (refl, refl) ⟩ _ ⟨ here (refl, refl, omega arith) ⟩ here (refl, refl),
-                )) ⟩
-                refl,
-          )) ⟩ _ ⟨ (_ ⟨ (_ ⟨ here (refl, refl) ⟩ _ ⟨ here (refl, refl) ⟩ here (refl, refl)) ⟩
-          _ ⟨ (_ ⟨ here (refl, refl) ⟩ _ ⟨ here (refl, refl) ⟩ refl) ⟩ refl) ⟩ refl) ⟩ refl) ⟩
-          _ ⟨ here (refl, refl) ⟩ here (refl, refl),
-      tt,
-    ),
-  );
-  places = refl;
-})
+forms_found = (findings samples.forms_text (script samples.forms_script)).0 computed.5
 
 pub bad_byte_found : IsFound samples.bad_byte_text (no_item 1)
-unfolding tokens_of tokens_from item_at
-bad_byte_found = has_no_item (omega arith) refl
+bad_byte_found = (findings samples.bad_byte_text (no_item 1)).0 computed.6

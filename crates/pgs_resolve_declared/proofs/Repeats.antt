@@ -1,11 +1,15 @@
 -- Names that stand before, an item at a time.
 use Rattle.std.proofs.Common.{◌≡◌, ℕ, ◌+◌, ◌<◌, Bool, true, false, cond, List, [], ◌∷◌, ◌++◌, ◌||◌, length, take, drop, map, get_or, Some, refl, sym, ◌∙◌, ap}
-use Rattle.std.specs.List.{list_any, slice_get, filter_map}
+use denote.Bor.{Bor}
+use Rattle.std.specs.List.{list_any, slice_get, filter_map, flat_map}
 use Rattle.std.proofs.lemmas.List.{append-nil, append_assoc, take-append-drop, map-append}
+use Rattle.std.proofs.lemmas.List.Concat.{flat_map-append}
 use Rattle.pgs_syntax.specs.declared.specification.Property.{Property}
+use Rattle.pgs_syntax.specs.declared.specification.Spec.{Spec}
 use Rattle.pgs_base.specs.Pair.{same_name, has_name}
 use Rattle.pgs_resolve_declared.specs.declared.duplicates.Mark.{Mark}
 use Rattle.pgs_resolve_declared.specs.declared.duplicates.Mark.TheVariants.{Element, Graph, Again}
+use Rattle.pgs_resolve_declared.specs.Declarations.{keys_in}
 use Rattle.pgs_resolve_declared.specs.Refused.{repeated_after, element_in, graph_in, marked, is_after, is_second, seconds_after}
 use Rattle.pgs_resolve_declared.proofs.Walks.{one_more}
 
@@ -121,3 +125,16 @@ graphs_marked name [] = refl
 graphs_marked name (Element other ∷ xs) = graphs_marked name xs
 graphs_marked name (Graph other ∷ xs) = ap (λ b. same_name name other || b) (graphs_marked name xs)
 graphs_marked name (Again other ∷ xs) = graphs_marked name xs
+
+-- the marks of the pieces of a specification
+abbrev pub marks_of_piece : Bor (Spec (List ℕ)) → List Mark
+marks_of_piece piece = map Again (flat_map (repeated_after []) (keys_in piece.now))
+
+pub marks_of_pieces : (pieces : List (Bor (Spec (List ℕ)))) →
+    flat_map marks_of_piece pieces ≡ map Again (flat_map (repeated_after []) (flat_map keys_in (map (λ piece. piece.now) pieces)))
+marks_of_pieces [] = refl
+marks_of_pieces (piece ∷ pieces) =
+    let keys : List (List (List ℕ)) = flat_map keys_in (map (λ piece. piece.now) pieces) in
+    ap (λ ms. marks_of_piece piece ++ ms) (marks_of_pieces pieces)
+    ∙ sym (ap (map Again) (flat_map-append (repeated_after []) (keys_in piece.now) keys)
+    ∙ map-append Again (flat_map (repeated_after []) (keys_in piece.now)) (flat_map (repeated_after []) keys))

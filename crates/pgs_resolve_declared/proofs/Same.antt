@@ -1,5 +1,5 @@
 -- Names that are the same, and their places in a list.
-use Rattle.std.proofs.Common.{◌≡◌, ℕ, ◌+◌, ◌≤◌, Bool, true, false, not, cond, List, [], ◌∷◌, ◌++◌, length, Option, Some, None, refl, sym, ◌∙◌, ap, arith, ltb, eqb, length-append}
+use Rattle.std.proofs.Common.{◌≡◌, ℕ, ◌+◌, ◌≤◌, Bool, true, false, not, ◌||◌, cond, List, [], ◌∷◌, ◌++◌, length, Option, Some, None, refl, sym, ◌∙◌, ap, arith, ltb, eqb, length-append}
 use Rattle.std.specs.Option.{is_some}
 use Rattle.std.specs.List.{list_any, position, position_or_len}
 use Rattle.std.proofs.lemmas.Bool.Decides.{nat_tests, same_from_decides}
@@ -90,3 +90,32 @@ pub new_place : (names : List (List ℕ)) (name q : List ℕ) → is_some (posit
 new_place names name q there =
     ap (λ b. cond b (Some (length names)) (position (same_name q) names)) (in_turn name q)
     ∙ sym (place_after (same_name q) names name ∙ new_by _ name q names refl there)
+
+-- a name is put last, and has a number from then on
+pub placed : (names after : List (List ℕ)) (name : List ℕ) (number : ℕ) (old new : List ℕ → Option ℕ) → ((q : List ℕ) → old q ≡ position (same_name q) names) →
+    number ≡ length names → after ≡ names ++ name ∷ [] → (q : List ℕ) → new q ≡ cond (is_some (old name) || not (same_name name q)) (old q) (Some number) →
+    new q ≡ position (same_name q) after
+placed names after name number old new known size put q given =
+    given ∙ (λ j. cond (is_some (known name j) || not (same_name name q)) (known q j) (Some (size j)))
+    ∙ by (is_some (position (same_name name) names)) refl ∙ ap (position (same_name q)) (sym put)
+  where
+    turned : (b : Bool) → cond (not b) (position (same_name q) names) (Some (length names)) ≡ cond b (Some (length names)) (position (same_name q) names)
+    turned true = refl
+    turned false = refl
+
+    by : (b : Bool) → is_some (position (same_name name) names) ≡ b →
+        cond (is_some (position (same_name name) names) || not (same_name name q)) (position (same_name q) names) (Some (length names)) ≡ position (same_name q) (names ++ name ∷ [])
+    by true there = ap (λ b. cond (b || not (same_name name q)) (position (same_name q) names) (Some (length names))) there ∙ sym (known_stays names name q there)
+    by false there =
+        ap (λ b. cond (b || not (same_name name q)) (position (same_name q) names) (Some (length names))) there ∙ turned (same_name name q) ∙ new_place names name q there
+
+-- what a look-up gives once a name has a number: as before where it had one, and else with it
+pub had_number : (there same : Bool) (o : Option ℕ) (number : ℕ) → there ≡ true → o ≡ cond (there || not same) o (Some number)
+had_number there same o number is = ap (λ b. cond (b || not same) o (Some number)) (sym is)
+
+pub gets_number : (there same : Bool) (o : Option ℕ) (number : ℕ) → there ≡ false → cond same (Some number) o ≡ cond (there || not same) o (Some number)
+gets_number there same o number is = by same ∙ ap (λ b. cond (b || not same) o (Some number)) (sym is)
+  where
+    by : (same : Bool) → cond same (Some number) o ≡ cond (not same) o (Some number)
+    by true = refl
+    by false = refl

@@ -1,4 +1,4 @@
-ghost use Rattle.std.specs.Prelude.{◌≡◌, ◌++◌, ◌≤◌, length, slice_get, map, filter_map, IfSome, IfOk, OnOk};
+ghost use Rattle.std.specs.Prelude.{◌≡◌, [], ◌∷◌, ◌++◌, ◌≤◌, length, slice_get, map, filter_map, flat_map, IfSome, IfOk, OnOk};
 ghost use Rattle.std.specs.Option.{option_to_list, option_copied};
 ghost use Rattle.std.specs.List.{sum_by};
 ghost use Rattle.pgs_resolve_declared.specs.Declarations.{nodes_of, edges_of, graphs_of, declared_in, node_in, edge_in, graph_in, is_node_type, is_edge_type, is_graph_type, graph_named, node_named, edge_named};
@@ -28,6 +28,14 @@ pub fn at<T: Copy>(items: &[T], place: usize) -> Option<T>
     items.get(place).copied()
 }
 
+/// Puts a reference last.
+pub fn put<'a, T>(items: &mut Vec<&'a T>, item: &'a T) -> Result<(), Memory>
+    ensures { OnOk result (map (λ item. item.now) items.new.items ≡ map (λ item. item.now) items.old.items ++ item.now ∷ []) }
+{
+    items.push(item)?;
+    Ok(())
+}
+
 // Puts the types that a member declares last.
 fn list_member<'a>(
     member: &'a Member,
@@ -38,9 +46,23 @@ fn list_member<'a>(
     ensures edges { OnOk result (map (λ type. type.now) edges.new.items ≡ map (λ type. type.now) edges.old.items ++ option_to_list (edge_in member.now)) }
 {
     match member {
-        Member::Named(_) => {}
-        Member::Node(node) => nodes.push(node.get())?,
-        Member::Edge(edge) => edges.push(edge.get())?,
+        Member::Named(_) => Ok(()),
+        Member::Node(node) => put(nodes, node.get()),
+        Member::Edge(edge) => put(edges, edge.get()),
+    }
+}
+
+// Puts the types that members declare last.
+fn list_members<'a>(
+    members: &'a [Member],
+    nodes: &mut Vec<&'a NodeType<Name>>,
+    edges: &mut Vec<&'a EdgeType<Name>>,
+) -> Result<(), Memory>
+    ensures nodes { OnOk result (map (λ type. type.now) nodes.new.items ≡ map (λ type. type.now) nodes.old.items ++ filter_map node_in members.now) }
+    ensures edges { OnOk result (map (λ type. type.now) edges.new.items ≡ map (λ type. type.now) edges.old.items ++ filter_map edge_in members.now) }
+{
+    for member in members {
+        list_member(member, nodes, edges)?;
     }
     Ok(())
 }
@@ -57,47 +79,94 @@ fn list_statement<'a>(
     ensures graphs { OnOk result (map (λ type. type.now) graphs.new.items ≡ map (λ type. type.now) graphs.old.items ++ option_to_list (graph_in statement.now)) }
 {
     match statement {
-        Statement::Node(node) => nodes.push(node.get())?,
-        Statement::Edge(edge) => edges.push(edge.get())?,
+        Statement::Node(node) => put(nodes, node.get()),
+        Statement::Edge(edge) => put(edges, edge.get()),
         Statement::Graph(graph) => {
             let graph = graph.get();
-            for member in graph.members.as_slice() {
-                list_member(member, nodes, edges)?;
-            }
-            graphs.push(graph)?;
+            list_members(graph.members.as_slice(), nodes, edges)?;
+            put(graphs, graph)
         }
+    }
+}
+
+// Puts the types that statements declare last.
+fn list_statements<'a>(
+    statements: &'a [Statement],
+    nodes: &mut Vec<&'a NodeType<Name>>,
+    edges: &mut Vec<&'a EdgeType<Name>>,
+    graphs: &mut Vec<&'a GraphType>,
+) -> Result<(), Memory>
+    ensures nodes { OnOk result (map (λ type. type.now) nodes.new.items
+        ≡ map (λ type. type.now) nodes.old.items ++ filter_map node_in (flat_map declared_in statements.now)) }
+    ensures edges { OnOk result (map (λ type. type.now) edges.new.items
+        ≡ map (λ type. type.now) edges.old.items ++ filter_map edge_in (flat_map declared_in statements.now)) }
+    ensures graphs { OnOk result (map (λ type. type.now) graphs.new.items ≡ map (λ type. type.now) graphs.old.items ++ filter_map graph_in statements.now) }
+{
+    for statement in statements {
+        list_statement(statement, nodes, edges, graphs)?;
     }
     Ok(())
 }
 
-fn node_names(alloc: Global, nodes: &[&NodeType<Name>]) -> Result<Names, Memory>
-    ensures { IfOk result (λ names. names ≡ map (λ type. type.now.name) nodes.now) }
+// Puts the names of node types last.
+fn put_node_names(alloc: Global, nodes: &[&NodeType<Name>], names: &mut Names) -> Result<(), Memory>
+    ensures { OnOk result (names.new ≡ names.old ++ map (λ type. type.now.name) nodes.now) }
 {
-    let mut names = Names::new(alloc);
     for node in nodes {
         names.push(alloc, node.name.copy(alloc)?)?;
     }
-    Ok(names)
+    Ok(())
 }
 
-fn edge_names(alloc: Global, edges: &[&EdgeType<Name>]) -> Result<Names, Memory>
-    ensures { IfOk result (λ names. names ≡ map (λ type. type.now.name) edges.now) }
+// Puts the names of edge types last.
+fn put_edge_names(alloc: Global, edges: &[&EdgeType<Name>], names: &mut Names) -> Result<(), Memory>
+    ensures { OnOk result (names.new ≡ names.old ++ map (λ type. type.now.name) edges.now) }
 {
-    let mut names = Names::new(alloc);
     for edge in edges {
         names.push(alloc, edge.name.copy(alloc)?)?;
     }
-    Ok(names)
+    Ok(())
 }
 
-fn graph_names(alloc: Global, graphs: &[&GraphType]) -> Result<Names, Memory>
-    ensures { IfOk result (λ names. names ≡ map (λ type. type.now.name) graphs.now) }
+// Puts the names of graph types last.
+fn put_graph_names(alloc: Global, graphs: &[&GraphType], names: &mut Names) -> Result<(), Memory>
+    ensures { OnOk result (names.new ≡ names.old ++ map (λ type. type.now.name) graphs.now) }
 {
-    let mut names = Names::new(alloc);
     for graph in graphs {
         names.push(alloc, graph.name.copy(alloc)?)?;
     }
-    Ok(names)
+    Ok(())
+}
+
+// The names of node types, of edge types and of graph types.
+#[derive(Drop)]
+struct TypeNames {
+    nodes: Names,
+    edges: Names,
+    graphs: Names,
+}
+
+fn names_of(
+    alloc: Global,
+    nodes: &[&NodeType<Name>],
+    edges: &[&EdgeType<Name>],
+    graphs: &[&GraphType],
+) -> Result<TypeNames, Memory>
+    ensures nodes { IfOk result (λ names. names.nodes ≡ map (λ type. type.now.name) nodes.now) }
+    ensures edges { IfOk result (λ names. names.edges ≡ map (λ type. type.now.name) edges.now) }
+    ensures graphs { IfOk result (λ names. names.graphs ≡ map (λ type. type.now.name) graphs.now) }
+{
+    let mut node_names = Names::new(alloc);
+    put_node_names(alloc, nodes, &mut node_names)?;
+    let mut edge_names = Names::new(alloc);
+    put_edge_names(alloc, edges, &mut edge_names)?;
+    let mut graph_names = Names::new(alloc);
+    put_graph_names(alloc, graphs, &mut graph_names)?;
+    Ok(TypeNames {
+        nodes: node_names,
+        edges: edge_names,
+        graphs: graph_names,
+    })
 }
 
 impl<'a> Declarations<'a> {
@@ -108,12 +177,14 @@ impl<'a> Declarations<'a> {
         let mut nodes = Vec::new(alloc);
         let mut edges = Vec::new(alloc);
         let mut graphs = Vec::new(alloc);
-        for statement in script.statements.as_slice() {
-            list_statement(statement, &mut nodes, &mut edges, &mut graphs)?;
-        }
-        let node_names = node_names(alloc, &nodes)?;
-        let edge_names = edge_names(alloc, &edges)?;
-        let graph_names = graph_names(alloc, &graphs)?;
+        let statements = script.statements.as_slice();
+        list_statements(statements, &mut nodes, &mut edges, &mut graphs)?;
+        let names = names_of(alloc, &nodes, &edges, &graphs)?;
+        let TypeNames {
+            nodes: node_names,
+            edges: edge_names,
+            graphs: graph_names,
+        } = names;
         Ok(Declarations {
             nodes,
             edges,

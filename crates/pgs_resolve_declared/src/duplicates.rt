@@ -52,14 +52,21 @@ fn mark_repeated(
     Ok(())
 }
 
+fn mark_piece(alloc: Global, piece: &Spec<Name>, marks: &mut Vec<Mark>) -> Result<(), Memory>
+    ensures { OnOk result (marks.new.items ≡ marks.old.items ++ map marked.Again (flat_map (repeated_after []) (keys_in piece.now))) }
+{
+    match piece {
+        Spec::Braces(braces) => mark_repeated(alloc, braces.properties.as_slice(), marks),
+        _ => Ok(()),
+    }
+}
+
 fn mark_pieces(alloc: Global, pieces: &[&Spec<Name>], marks: &mut Vec<Mark>) -> Result<(), Memory>
     ensures { OnOk result (marks.new.items ≡ marks.old.items
         ++ map marked.Again (flat_map (repeated_after []) (flat_map keys_in (map (λ piece. piece.now) pieces.now)))) }
 {
     for piece in pieces {
-        if let Spec::Braces(braces) = piece {
-            mark_repeated(alloc, braces.properties.as_slice(), marks)?;
-        }
+        mark_piece(alloc, piece, marks)?;
     }
     Ok(())
 }

@@ -7,7 +7,7 @@ ghost use Rattle.pgs_resolve_declared.specs.Imports.{walked, last_of, walked_gra
 ghost use Rattle.pgs_resolve_declared.specs.Refused.{imported_by};
 ghost use Rattle.pgs_resolve_declared.specs.Tables.{AreOf};
 
-use crate::declarations::{Declarations, at};
+use crate::declarations::{Declarations, at, put};
 use crate::names::Names;
 use pgs_base::{Copyable, Memory, Name};
 use pgs_syntax::GraphType;
@@ -106,25 +106,23 @@ fn push_graph<'a>(
         OnOk result (map (λ graph. graph.now) graphs.new.items ≡ map (λ graph. graph.now) graphs.old.items ++ option_to_list (graph_named script name.now)) }
 {
     match declarations.graph(name) {
-        Some(graph) => graphs.push(graph)?,
-        None => {}
+        Some(graph) => put(graphs, graph),
+        None => Ok(()),
     }
-    Ok(())
 }
 
-fn named_graphs<'a>(
-    alloc: Global,
+fn push_graphs<'a>(
     declarations: &Declarations<'a>,
     names: &[Name],
-) -> Result<Vec<&'a GraphType>, Memory>
+    graphs: &mut Vec<&'a GraphType>,
+) -> Result<(), Memory>
     ensures { (script : Script) → AreOf script declarations.now →
-        IfOk result (λ graphs. map (λ graph. graph.now) graphs.items ≡ filter_map (graph_named script) names.now) }
+        OnOk result (map (λ graph. graph.now) graphs.new.items ≡ map (λ graph. graph.now) graphs.old.items ++ filter_map (graph_named script) names.now) }
 {
-    let mut graphs = Vec::new(alloc);
     for name in names {
-        push_graph(declarations, name, &mut graphs)?;
+        push_graph(declarations, name, graphs)?;
     }
-    Ok(graphs)
+    Ok(())
 }
 
 /// The graph types whose members and keys count, in order: the last one, after those that it imports.
@@ -138,7 +136,9 @@ pub fn guard_graphs<'a>(
     match last_graph(declarations) {
         Some(last) => {
             let names = walk(alloc, declarations, &last.name)?;
-            named_graphs(alloc, declarations, names.as_slice())
+            let mut graphs = Vec::new(alloc);
+            push_graphs(declarations, names.as_slice(), &mut graphs)?;
+            Ok(graphs)
         }
         None => Ok(Vec::new(alloc)),
     }

@@ -78,14 +78,20 @@ fn use_step(alloc: Global, step: &RawStep, uses: &mut Vec<Use>) -> Result<(), Me
     use_names(alloc, false, step.node.filter.names.as_slice(), uses)
 }
 
+fn use_steps(alloc: Global, steps: &[RawStep], uses: &mut Vec<Use>) -> Result<(), Memory>
+    ensures { OnOk result (uses.new.items ≡ uses.old.items ++ flat_map uses_in_step steps.now) }
+{
+    for step in steps {
+        use_step(alloc, step, uses)?;
+    }
+    Ok(())
+}
+
 fn use_path(alloc: Global, path: &RawPath, uses: &mut Vec<Use>) -> Result<(), Memory>
     ensures { OnOk result (uses.new.items ≡ uses.old.items ++ uses_in_path path.now) }
 {
     use_names(alloc, false, path.start.filter.names.as_slice(), uses)?;
-    for step in path.steps.as_slice() {
-        use_step(alloc, step, uses)?;
-    }
-    Ok(())
+    use_steps(alloc, path.steps.as_slice(), uses)
 }
 
 fn use_paths(alloc: Global, paths: &[RawPath], uses: &mut Vec<Use>) -> Result<(), Memory>

@@ -1,4 +1,7 @@
-ghost use Rattle.std.specs.Prelude.{◌≡◌, ◌↔◌, ◌<◌, ◌^◌, [], ◌∷◌, ◌++◌, length, slice_get, IfOk, IsOk, OnOk, OnErr};
+ghost use Rattle.std.specs.Prelude.{◌≡◌, ◌↔◌, ◌<◌, ◌^◌, ◌||◌, ℕ, List, Some, [], ◌∷◌, ◌++◌, not, is_some, length, slice_get, if◌then◌else◌, IfOk, IsOk, OnOk, OnErr};
+ghost use Rattle.std.specs.BTreeMap.{get};
+ghost use Rattle.std.specs.Cmp.Lexicographic.{slice_cmp};
+ghost use Rattle.std.specs.Ordering.{nat_cmp};
 ghost use Rattle.std.specs.List.{position};
 ghost use Rattle.std.specs.Option.{option_copied};
 ghost use Rattle.pgs_base.specs.Pair.{same_name, has_name};
@@ -41,6 +44,25 @@ pub fn next_number(len: usize) -> Result<u32, Memory>
     }
 }
 
+// Gives a name the number, unless it has one.
+fn place_first(
+    alloc: Global,
+    places: &mut BTreeMap<Name, u32>,
+    name: &Name,
+    number: u32,
+) -> Result<(), Memory>
+    ensures ok { OnOk result ((q : List ℕ) → get (slice_cmp nat_cmp) places.new q
+        ≡ (if is_some (get (slice_cmp nat_cmp) places.old name.now) || not (same_name name.now q) then get (slice_cmp nat_cmp) places.old q else Some number)) }
+    ensures err { OnErr result ((q : List ℕ) → get (slice_cmp nat_cmp) places.new q ≡ get (slice_cmp nat_cmp) places.old q) }
+{
+    if places.contains_key(name) {
+        return Ok(());
+    }
+    let key = name.copy(alloc)?;
+    places.insert(key, number)?;
+    Ok(())
+}
+
 impl Names {
     /// No names.
     pub fn new(alloc: Global) -> Names
@@ -59,10 +81,7 @@ impl Names {
     {
         let number = next_number(self.items.len())?;
         self.items.reserve(1)?;
-        if !self.places.contains_key(&name) {
-            let key = name.copy(alloc)?;
-            self.places.insert(key, number)?;
-        }
+        place_first(alloc, &mut self.places, &name, number)?;
         self.items.push(name)?;
         Ok(())
     }

@@ -36,16 +36,22 @@ pub fn pieces_of<'a>(alloc: Global, spec: &'a Spec<Name>) -> Result<Vec<&'a Spec
     Ok(pieces)
 }
 
-fn words_in(alloc: Global, pieces: &[&Spec<Name>]) -> Result<Vec<Name>, Memory>
-    ensures { IfOk result (λ words. words.items ≡ flat_map word_in (map (λ piece. piece.now) pieces.now)) }
+fn push_word(alloc: Global, piece: &Spec<Name>, words: &mut Vec<Name>) -> Result<(), Memory>
+    ensures { OnOk result (words.new.items ≡ words.old.items ++ word_in piece.now) }
 {
-    let mut words = Vec::new(alloc);
-    for piece in pieces {
-        if let Spec::Word(name) = piece {
-            words.push(name.copy(alloc)?)?;
-        }
+    if let Spec::Word(name) = piece {
+        words.push(name.copy(alloc)?)?;
     }
-    Ok(words)
+    Ok(())
+}
+
+fn push_words(alloc: Global, pieces: &[&Spec<Name>], words: &mut Vec<Name>) -> Result<(), Memory>
+    ensures { OnOk result (words.new.items ≡ words.old.items ++ flat_map word_in (map (λ piece. piece.now) pieces.now)) }
+{
+    for piece in pieces {
+        push_word(alloc, piece, words)?;
+    }
+    Ok(())
 }
 
 /// The names in the label positions of a specification, in order.
@@ -53,5 +59,7 @@ pub fn words_of(alloc: Global, spec: &Spec<Name>) -> Result<Vec<Name>, Memory>
     ensures { IfOk result (λ words. words.items ≡ words_of spec.now) }
 {
     let pieces = pieces_of(alloc, spec)?;
-    words_in(alloc, &pieces)
+    let mut words = Vec::new(alloc);
+    push_words(alloc, &pieces, &mut words)?;
+    Ok(words)
 }

@@ -1,5 +1,1 @@
-pub mod InRange
-pub mod RunFacts
-pub mod RunWords
-pub mod Uncut
-pub mod Unmoved
+pub mod Named

@@ -1,21 +1,20 @@
-ghost use Rattle.std.specs.Prelude.{◌≤◌, ◌^◌, Some, ◌≡◌, true};
-ghost use Rattle.pgs_run_lines.specs.Calls.{Reads};
-ghost use Rattle.pgs_run_base.specs.Calls.{fails_read, fails_world};
+ghost use Rattle.std.specs.Prelude.{◌≤◌, ◌^◌, ◌≡◌, true};
+ghost use Rattle.pgs_command.specs.Calls.{fails_read, fails_world};
+ghost use Rattle.pgs_command.specs.Promise.{Promise};
+ghost use Rattle.pgs_command.specs.Setting.{setting_of};
 ghost use Rattle.pgs_feed.specs.Seen.{places};
-ghost use Rattle.pgs_run.specs.Command.{IsInRange};
-ghost use Rattle.pgs_run.specs.Runs.{Runs, setting_of};
+ghost use Rattle.pgs_run.specs.Commands.{spec_of};
+ghost use Rattle.pgs_run_lines.specs.Calls.{Reads};
 
+use pgs_command::Status;
 use pgs_feed::FeedList;
 use pgs_run_apply::run_apply;
-use pgs_run_base::Status;
 use pgs_run_checkpoint::run_checkpoint;
 use pgs_run_contain::run_contain;
 use pgs_run_evolve::run_evolve;
-use pgs_run_explain::Explaining;
 use pgs_run_gen::run_gen;
 use pgs_run_load::run_load;
-use pgs_run_recover::Dump;
-use pgs_run_saved::run_reader;
+use pgs_run_store::{Dump, Explaining, run_reader};
 use pgs_run_try::{Judging, run_judging};
 use pgs_run_words::Command;
 use pgs_world::{Feed, Source, World};
@@ -30,9 +29,8 @@ pub fn run_command<S: Source, W: World, F: Feed>(
     feeds: &mut FeedList<F>,
     budget: u64,
 ) -> Status
-    requires within { budget ≤ 2 ^ 40 }
-    requires in_range { IsInRange command }
-    ensures runs { let seen = places F.taken F.faults in Runs (Some command) budget
+    requires { budget ≤ 2 ^ 40 }
+    ensures promise { let seen = places F.taken F.faults in Promise (spec_of command) budget
         (setting_of (S.left source.old) (S.faults source.old) (W.view world.old) (seen feeds.old))
         (setting_of (S.left source.new) (S.faults source.new) (W.view world.new) (seen feeds.new)) result }
     ensures last { fails_world result ≡ true → W.failed world.new }
@@ -45,7 +43,7 @@ pub fn run_command<S: Source, W: World, F: Feed>(
         Command::Apply => run_apply(alloc, source, world, feeds, budget),
         Command::Recover => run_reader(alloc, world, &Dump),
         Command::Explain { elem } => run_reader(alloc, world, &Explaining { elem }),
-        Command::Gen { start, count } => run_gen(alloc, world, start, count),
+        Command::Gen { workload } => run_gen(alloc, world, workload.start(), workload.count()),
         Command::Checkpoint => run_checkpoint(alloc, world),
         Command::Contain => run_contain(alloc, source, world, budget),
         Command::Evolve => run_evolve(alloc, source, world, budget),

@@ -1,5 +1,6 @@
 -- What images save that hold the store of a state.
-use Rattle.std.proofs.Common.{◌≡◌, ◌⊎◌, inl, inr, ⊎_elim, ℕ, Bool, List, [], ◌∷◌, ◌++◌, Some, Ok, IsTrue, sym, ap, subst, ◌∙◌}
+use Rattle.std.proofs.Common.{◌≡◌, ◌⊎◌, inl, inr, ⊎_elim, ℕ, Bool, List, [], ◌∷◌, ◌++◌, Some, Ok, IsTrue, refl, sym, ap, subst, ◌∙◌, append_assoc}
+use Rattle.std.proofs.lemmas.List.{append-nil}
 use Rattle.std.specs.List.{concat}
 use Rattle.pgs_base.specs.declared.limits.Limits.{Limits}
 use Rattle.pgs_base.specs.Graph.{Graph}
@@ -10,24 +11,21 @@ use Rattle.pgs_snapshot.specs.Saved.{saved, store}
 use Rattle.pgs_store.specs.State.{GuardState}
 use Rattle.pgs_store.specs.Stored.{StoreState, IsSavedIn}
 use Rattle.pgs_syntax.specs.declared.resolved.Resolved.{Resolved}
+use Rattle.pgs_violation.specs.Violations.{verdict}
 use Rattle.pgs_world.specs.declared.area.Area.{Area}
 use Rattle.pgs_world.specs.World.{Triple}
-use Rattle.pgs_run_base.specs.Answers.{schema_answer}
-use Rattle.pgs_run_base.specs.Session.{Standing, standard}
-use Rattle.pgs_run_saved.specs.Opening.{saved_in}
-use Rattle.pgs_run_saved.specs.Refusing.{SavedStore}
-use Rattle.pgs_run_saved.proofs.Conforming.{chosen_saves, saved_conforms}
-use Rattle.pgs_run_apply.specs.Following.{all_append}
-use Rattle.pgs_run_apply.specs.Left.{IsLeft, IsWithin, IsSavedAt, state_after_all}
+use Rattle.pgs_run_input.specs.Answers.{schema_answer}
+use Rattle.pgs_run_input.specs.Session.{Standing, standard}
+use Rattle.pgs_run_store.specs.Opening.{saved_in}
+use Rattle.pgs_run_store.specs.Refusing.{SavedStore}
+use Rattle.pgs_run_store.proofs.Conforming.{chosen_saves, saved_conforms}
+use Rattle.pgs_run_apply.specs.Applying.{IsLeft, IsWithin}
+use Rattle.pgs_run_apply.specs.Outcome.{Outcome, outcome_of_all}
 use Rattle.pgs_run_apply.specs.Run.{Saves, SavesAt, SavesOn, SavesNext, SavesAll, IsAppliedAt, IsGrown}
-use Rattle.pgs_run_apply.specs.State.{ApplyState, standing_of}
 use Rattle.pgs_run_apply.specs.Told.{after, verdicts, all_lines}
-use Rattle.pgs_run_apply.proofs.Standings.{first_state, stays_all, standing_all, pieces_behind}
-
--- what is saved, and what is chosen
-saved_in_images : (guard : GuardState) (journal : Journal) (triple : Triple) → IsSavedIn guard journal triple → saved guard.limits triple.a triple.b ≡ store guard.text guard.commits guard.graph
-saved_in_images guard journal triple is =
-    chosen_saves guard.limits triple.a triple.b (choices.chosen journal.area journal.epoch journal.end journal.next is.0) is.1.has.choice ∙ is.1.saves
+use Rattle.pgs_run_apply.specs.Rule.{outcome_append}
+use Rattle.pgs_run_apply.proofs.Following.{follows_at}
+use Rattle.pgs_run_apply.proofs.Machine.{first_state, told_follows}
 
 -- the images hold some store of this area and epoch
 pub record Chooses (journal : Journal) (triple : Triple) : Type 0 where
@@ -37,94 +35,84 @@ pub record Chooses (journal : Journal) (triple : Triple) : Type 0 where
 pub chooses : (guard : GuardState) (journal : Journal) (triple : Triple) → IsSavedIn guard journal triple → Chooses journal triple
 chooses guard journal triple is = record { area = ap area_chosen is.1.has.choice; epoch = ap epoch_chosen is.1.has.choice }
 
-store_as : (text same_text : List ℕ) (commits same_commits : ℕ) (graph same_graph : Graph) → text ≡ same_text → commits ≡ same_commits → graph ≡ same_graph → store text commits graph ≡ store same_text same_commits same_graph
-store_as text same_text commits same_commits graph same_graph t c g =
-    ap (λ (x : List ℕ). store x commits graph) t ∙ ap (λ (x : ℕ). store same_text x graph) c ∙ ap (λ (x : Graph). store same_text same_commits x) g
+saved_in_images : (guard : GuardState) (journal : Journal) (triple : Triple) → IsSavedIn guard journal triple → saved guard.limits triple.a triple.b ≡ store guard.text guard.commits guard.graph
+saved_in_images guard journal triple is =
+    chosen_saves guard.limits triple.a triple.b (choices.chosen journal.area journal.epoch journal.end journal.next is.0) is.1.has.choice ∙ is.1.saves
 
-module _ (it : StoreState) (limits : it.guard.limits ≡ standard) (of_text : schema_answer it.guard.text ≡ Ok it.guard.schema) where
+store_as : (text same_text : List ℕ) (at same : Standing) → text ≡ same_text → at ≡ same → store text at.commits at.graph ≡ store same_text same.commits same.graph
+store_as text same_text at same t s = ap (λ (x : List ℕ). store x at.commits at.graph) t ∙ ap (λ (x : Standing). store same_text x.commits x.graph) s
+
+module _ (it : StoreState) (limits : it.guard.limits ≡ standard) (of_text : schema_answer it.guard.text ≡ Ok it.guard.schema) (was : Triple) (chosen : Chooses it.journal was) where
+  abbrev HoldsAfter : List (List ℕ) → Triple → Type 0
+  HoldsAfter lines triple = let s = (outcome_of_all (first_state it) lines).state in IsSavedIn s.guard s.journal triple
+
   -- the images hold the store of the state after lines
-  pub saves_at : (lines : List (List ℕ)) (triple : Triple) → IsSavedAt (state_after_all (first_state it) lines) triple → SavesAt (saved_in it) (after (saved_in it) lines) triple
-  saves_at lines triple is =
-      let s = first_state it in
-      let t = state_after_all s lines in
-      let stays = stays_all s lines in
+  pub saves_on : (lines : List (List ℕ)) (triple : Triple) → HoldsAfter lines triple → SavesOn (saved_in it) (after (saved_in it) lines) was triple
+  saves_on lines triple held =
+      let t = (outcome_of_all (first_state it) lines).state in
+      let follows = told_follows it lines in
       let at = after (saved_in it) lines in
-      let standing : standing_of t ≡ at = standing_all s lines in
+      let now = chooses t.guard t.journal triple held in
       let saves : saved standard triple.a triple.b ≡ store it.guard.text at.commits at.graph =
-      ap (λ (l : Limits). saved l triple.a triple.b) (sym (stays.limits ∙ limits))
-      ∙ saved_in_images t.guard t.journal triple is
-      ∙ store_as t.guard.text it.guard.text t.guard.commits at.commits t.guard.graph at.graph stays.text (ap (λ (u : Standing). u.commits) standing) (ap (λ (u : Standing). u.graph) standing) in
-      record { saves = saves; conforms = saved_conforms standard triple.a triple.b it.guard.text at.commits at.graph it.guard.schema saves of_text }
-
-  -- and choose the area and the epoch of the first one
-  pub chooses_at : (lines : List (List ℕ)) (triple : Triple) → IsSavedAt (state_after_all (first_state it) lines) triple → Chooses it.journal triple
-  chooses_at lines triple is =
-      let s = first_state it in
-      let t = state_after_all s lines in
-      let stays = stays_all s lines in
-      let chosen = chooses t.guard t.journal triple is in
+      ap (λ (l : Limits). saved l triple.a triple.b) (sym (follows.limits ∙ limits))
+      ∙ saved_in_images t.guard t.journal triple held
+      ∙ store_as t.guard.text it.guard.text (record { number = t.number; commits = t.guard.commits; refused = t.refused; graph = t.guard.graph }) at follows.text follows.standing in
       record {
-        area = chosen.area ∙ ap (λ (area : Area). Some area) stays.area;
-        epoch = chosen.epoch ∙ ap (λ (epoch : ℕ). Some epoch) stays.epoch;
+        saves = record { saves = saves; conforms = saved_conforms standard triple.a triple.b it.guard.text at.commits at.graph it.guard.schema saves of_text };
+        area = now.area ∙ ap (λ (area : Area). Some area) follows.area ∙ sym chosen.area;
+        epoch = now.epoch ∙ ap (λ (epoch : ℕ). Some epoch) follows.epoch ∙ sym chosen.epoch;
       }
 
-  module _ (was : Triple) (chosen : Chooses it.journal was) (input : List ℕ) (lost : ℕ) (triple : Triple) where
+  held_next : (until later : List (List ℕ)) (told : Bool) (output : List ℕ) (triple : Triple) → (within : IsWithin (outcome_of_all (first_state it) until).state later told output triple) → HoldsAfter (until ++ within.line ∷ []) triple
+  held_next until later told output triple within =
+      subst (λ (o : Outcome). IsSavedIn o.state.guard o.state.journal triple) (sym (outcome_append (first_state it) until (within.line ∷ []))) within.past.saved.1
+
+  -- what a stop inside the lines leaves, whatever is told
+  pub left_grown : (lines : List (List ℕ)) (told : Bool) (output : List ℕ) (triple : Triple) → IsLeft (first_state it) lines told output triple → IsGrown (saved_in it) was triple
+  left_grown lines told output triple left =
+      ⊎_elim (λ even. grown left.until even.1)
+      (λ within. grown (left.until ++ within.line ∷ []) (held_next left.until left.later told (output ++ concat (outcome_of_all (first_state it) left.until).pieces) triple within)) left.state
+    where
+      grown : (lines : List (List ℕ)) → HoldsAfter lines triple → IsGrown (saved_in it) was triple
+      grown lines held = record { lines = lines; saves = saves_on lines triple held }
+
+  module _ (input : List ℕ) (lost : ℕ) (triple : Triple) where
     -- a state after lines, by what is out
-    pub applied_at : (until later : List (List ℕ)) (front : List ℕ) → all_lines input ≡ until ++ later → triple.output ≡ was.output ++ (concat (verdicts (saved_in it) until) ++ front) → Chooses it.journal triple
+    pub applied_at : (until later : List (List ℕ)) (front : List ℕ) (at : Standing) → all_lines input ≡ until ++ later → triple.output ≡ was.output ++ (concat (verdicts (saved_in it) until) ++ front) → SavesOn (saved_in it) at was triple
         → ((front ≡ []) × SavesAt (saved_in it) (after (saved_in it) until) triple) ⊎ (SavesNext (saved_in it) until later front triple ⊎ SavesAll (saved_in it) lost until later front triple)
         → IsAppliedAt was (saved_in it) input lost triple
-    applied_at until later front parts out now state = record {
-      until = until;
-      later = later;
-      parts = parts;
-      front = front;
-      out = out;
-      state = state;
-      area = now.area ∙ sym chosen.area;
-      epoch = now.epoch ∙ sym chosen.epoch;
-    }
-
-    next_at : (until later : List (List ℕ)) (front : List ℕ) → IsWithin (state_after_all (first_state it) until) later front triple → SavesNext (saved_in it) until later front triple × Chooses it.journal triple
-    next_at until later front within =
-        let s = first_state it in
-        let held = subst (λ (t : ApplyState). IsSavedAt t triple) (sym (all_append s until (within.line ∷ []))) within.saved in (
-          record {
-            line = within.line;
-            more = within.more;
-            next = within.next;
-            back = within.back;
-            piece = sym (pieces_behind s until within.line) ∙ within.piece;
-            saves = saves_at (until ++ within.line ∷ []) triple held;
-          },
-          chooses_at (until ++ within.line ∷ []) triple held,
-        )
+    applied_at until later front at parts out on state =
+        record { until = until; later = later; parts = parts; front = front; out = out; state = state; area = on.area; epoch = on.epoch }
 
     -- what a stop inside the lines leaves
-    pub left_applied : (tells : Bool) → IsTrue tells → IsLeft (first_state it) (all_lines input) tells was.output triple → IsAppliedAt was (saved_in it) input lost triple
-    left_applied tells told left =
-        ⊎_elim
-        (λ even. applied_at left.until left.later left.front left.parts (left.out told) (chooses_at left.until triple even.1) (inl (even.0, saves_at left.until triple even.1)))
-        (λ within. let next = next_at left.until left.later left.front within in applied_at left.until left.later left.front left.parts (left.out told) next.1 (inr (inl next.0)))
-        left.state
+    pub left_applied : (told : Bool) → IsTrue told → IsLeft (first_state it) (all_lines input) told was.output triple → IsAppliedAt was (saved_in it) input lost triple
+    left_applied told tells left = ⊎_elim even within left.state
+      where
+        o : Outcome
+        o = outcome_of_all (first_state it) left.until
 
-  module _ (was : Triple) (chosen : Chooses it.journal was) (triple : Triple) where
-    -- the images hold the store of the state after lines
-    pub saves_on : (lines : List (List ℕ)) → IsSavedAt (state_after_all (first_state it) lines) triple → SavesOn (saved_in it) (after (saved_in it) lines) was triple
-    saves_on lines held =
-        let now = chooses_at lines triple held in
-        record { saves = saves_at lines triple held; area = now.area ∙ sym chosen.area; epoch = now.epoch ∙ sym chosen.epoch }
+        out : List ℕ
+        out = was.output ++ concat o.pieces
 
-    grown_at : (lines : List (List ℕ)) → IsSavedAt (state_after_all (first_state it) lines) triple → IsGrown (saved_in it) was triple
-    grown_at lines held = record { lines = lines; saves = saves_on lines held }
+        said : concat o.pieces ≡ concat (verdicts (saved_in it) left.until)
+        said = ap (λ (pieces : List (List ℕ)). concat pieces) (told_follows it left.until).pieces
 
-    -- what a stop inside the lines leaves, whatever is told
-    pub left_grown : (lines : List (List ℕ)) (tells : Bool) (output : List ℕ) → IsLeft (first_state it) lines tells output triple → IsGrown (saved_in it) was triple
-    left_grown lines tells output left =
-        ⊎_elim (λ even. grown_at left.until even.1)
-        (λ within.
-        grown_at (left.until ++ within.line ∷ [])
-        (subst (λ (t : ApplyState). IsSavedAt t triple) (sym (all_append (first_state it) left.until (within.line ∷ []))) within.saved))
-        left.state
+        behind : (front : List ℕ) → out ++ front ≡ was.output ++ (concat (verdicts (saved_in it) left.until) ++ front)
+        behind front = append_assoc was.output (concat o.pieces) front ∙ ap (λ (bytes : List ℕ). was.output ++ (bytes ++ front)) said
+
+        even : (IsTrue told → triple.output ≡ out) × IsSavedIn o.state.guard o.state.journal triple → IsAppliedAt was (saved_in it) input lost triple
+        even saved =
+            let on = saves_on left.until triple saved.1 in
+            applied_at left.until left.later [] (after (saved_in it) left.until) left.parts (saved.0 tells ∙ sym (append-nil out) ∙ behind []) on (inl (refl, on.saves))
+
+        within : IsWithin o.state left.later told out triple → IsAppliedAt was (saved_in it) input lost triple
+        within at =
+            let lines = left.until ++ at.line ∷ [] in
+            let on = saves_on lines triple (held_next left.until left.later told out triple at) in
+            let follows = told_follows it left.until in
+            let line = follows_at (verdict it.guard.schema) (after (saved_in it) left.until) o.state at.line (ap verdict follows.schema) follows.standing in
+            applied_at left.until left.later at.past.front (after (saved_in it) lines) left.parts (at.past.saved.0 tells ∙ behind at.past.front) on
+            (inr (inl (record { line = at.line; more = at.more; next = at.next; back = at.past.back; piece = sym line.pieces ∙ at.past.piece; saves = on.saves })))
 
 -- ---- the store that is known to be saved is the one that is opened
 

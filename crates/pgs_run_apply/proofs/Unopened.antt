@@ -1,38 +1,73 @@
--- What is said of a run whose store isn't opened, where one is saved.
-use Rattle.std.proofs.Common.{◌≡◌, ◌⊎◌, inl, inr, ℕ, false, List, Err, IsTrue, refl, sym, subst}
-use Rattle.pgs_feed.specs.Places.{Place}
-use Rattle.pgs_world.specs.Moment.{IsTimed, IsQuiet, IsSettled, MakesNoPut, EachSince}
-use Rattle.pgs_world.specs.World.{View}
-use Rattle.pgs_run_base.specs.declared.status.Status.{Status}
-use Rattle.pgs_run_base.specs.declared.status.Status.TheVariants.{DiskFault, Memory}
-use Rattle.pgs_run_saved.specs.declared.opening.Unopened.{Unopened}
-use Rattle.pgs_run_saved.specs.declared.opening.Unopened.TheVariants as unopened
-use Rattle.pgs_run_saved.specs.Ending.{EndsUnopened, is_refusal}
-use Rattle.pgs_run_saved.specs.Opening.{Opens}
-use Rattle.pgs_run_saved.specs.Refusing.{SavedStore}
-use Rattle.pgs_run_saved.proofs.Saving.{never_refused}
+-- The promise of a run whose store isn't opened.
+use Rattle.std.proofs.Common.{◌≡◌, inl, inr, ℕ, true, false, List, Err, IsTrue, refl, sym, subst}
+use Rattle.pgs_feed.specs.Places.{Place, lost_count}
+use Rattle.pgs_run_store.specs.declared.opening.Unopened.{Unopened}
+use Rattle.pgs_run_store.specs.declared.opening.Unopened.TheVariants as unopened
+use Rattle.pgs_run_store.specs.Ending.{EndsUnopened, is_refusal}
+use Rattle.pgs_run_store.specs.Opening.{Opens}
+use Rattle.pgs_run_store.specs.Refusing.{SavedStore}
+use Rattle.pgs_run_store.proofs.Saving.{never_refused}
+use Rattle.pgs_run_store.proofs.Unread.{RunsUnopened, unopened_answer, unopened_cause, unopened_ends, unopened_images, unopened_read, unopened_short, unopened_takes}
+use Rattle.pgs_world.specs.Moment.{EachSince, IsTimed}
+use Rattle.pgs_world.specs.World.{View, other}
+use Rattle.pgs_command.specs.declared.status.Status.{Status}
+use Rattle.pgs_command.specs.declared.status.Status.TheVariants.{DiskFault, Memory}
+use Rattle.pgs_command.specs.Images.{KeepsImages}
+use Rattle.pgs_command.specs.Promise.{Promise}
+use Rattle.pgs_command.specs.Setting.{SourceState}
+use Rattle.pgs_command.proofs.Images.{area_of_images, settled_images}
+use Rattle.pgs_command.proofs.Promising.{promise_reading}
+use Rattle.pgs_run_apply.specs.Leaving.{FeedsApplied, LeavesApplied}
 use Rattle.pgs_run_apply.specs.Run.{Saves, IsAppliedAt, IsDecided}
-use Rattle.pgs_run_apply.proofs.Beginning.{decided_start, quiet_applied}
+use Rattle.pgs_run_apply.specs.Spec.{apply_spec}
+use Rattle.pgs_run_apply.specs.Told.{told_apply, told_lines, with_last}
+use Rattle.pgs_run_apply.proofs.Unmoved.{decided_start, grown_kept, quiet_applied}
 
--- it isn't refused
-saved_opens : (reason : Unopened) (old mid : View) (it : SavedStore) → IsTrue old.tells_bytes → Saves it old.shown → Opens (Err reason) old mid → is_refusal reason ≡ false
-saved_opens (unopened.Refused reply) old mid it tells known opens = absurd (never_refused old it.text it.commits it.graph reply.line reply.status tells known.saves opens.1)
-saved_opens unopened.DiskFault old mid it tells known opens = refl
-saved_opens unopened.Memory old mid it tells known opens = refl
+-- where a store is saved, an area failed, or there was no memory, and nothing was put
+saved_by : (P : View → Status → Type 0) (reason : Unopened) (old mid new : View) (result : Status) (it : SavedStore) → IsTrue old.tells_bytes → Saves it old.shown → Opens (Err reason) old mid → EndsUnopened reason mid result new
+    → (is_refusal reason ≡ false → new ≡ mid) → P mid DiskFault → P mid Memory → P new result
+saved_by P (unopened.Refused reply) old mid new result it tells known opens ends early area memory = absurd (never_refused old it.text it.commits it.graph reply.line reply.status tells known.saves opens.1)
+saved_by P unopened.DiskFault old mid new result it tells known opens ends early area memory = subst (λ (s : Status). P new s) (sym ends.0) (subst (λ (v : View). P v DiskFault) (sym (early refl)) area)
+saved_by P unopened.Memory old mid new result it tells known opens ends early area memory = subst (λ (s : Status). P new s) (sym ends.0) (subst (λ (v : View). P v Memory) (sym (early refl)) memory)
 
--- an area failed, or there was no memory
-failed_by : (reason : Unopened) (old mid new : View) (result : Status) (it : SavedStore) → IsTrue old.tells_bytes → Saves it old.shown → Opens (Err reason) old mid → EndsUnopened reason mid result new → (result ≡ DiskFault) ⊎ (result ≡ Memory)
-failed_by (unopened.Refused reply) old mid new result it tells known opens ends = absurd (never_refused old it.text it.commits it.graph reply.line reply.status tells known.saves opens.1)
-failed_by unopened.DiskFault old mid new result it tells known opens ends = inl ends.0
-failed_by unopened.Memory old mid new result it tells known opens ends = inr ends.0
+module _ (reason : Unopened) (old mid new : View) (result : Status) (timed : IsTimed old) (early : is_refusal reason ≡ false → new ≡ mid) (ran : RunsUnopened reason old mid new result) (budget : ℕ) (source : SourceState) (places : List Place) where
+  images : KeepsImages old new
+  images = unopened_images reason old mid new result ran
 
-module _ (reason : Unopened) (old mid new : View) (early : is_refusal reason ≡ false → new ≡ mid) (quiet : IsQuiet old mid) (none : MakesNoPut old mid) (it : SavedStore) (input : List ℕ) (result : Status) where
-  pub unopened_decided : (lost : ℕ) (places same : List Place) → same ≡ places → IsTrue old.tells_bytes → Saves it old.shown → Opens (Err reason) old mid → EndsUnopened reason mid result new → IsDecided it input lost old new places same result
-  unopened_decided lost places same is tells known opens ends =
-      subst (λ (now : List Place). IsDecided it input lost old new places now result) (sym is)
-      (subst (λ (v : View). IsDecided it input lost old v places places result) (sym (early (saved_opens reason old mid it tells known opens)))
-      (decided_start it input lost old mid places result (failed_by reason old mid new result it tells known opens ends) quiet none known))
+  leaves : LeavesApplied source.left (lost_count places) old new
+  leaves = record {
+    passes = images.passes;
+    stops = λ input it is saves tells settled.
+        saved_by (λ (v : View) (s : Status). EachSince (IsAppliedAt old.shown it input (lost_count places)) old v) reason old mid new result it settled.tells_bytes saves ran.opens ran.ends early
+        (quiet_applied old mid it input (lost_count places) timed tells settled ran.quiet saves) (quiet_applied old mid it input (lost_count places) timed tells settled ran.quiet saves);
+    grows = λ it saves settled. grown_kept old new it settled images saves;
+    unsaved = λ tells none. images;
+    beside = λ tells area is. area_of_images (other area) old new images;
+  }
 
-  pub unopened_stops : (lost : ℕ) → IsTimed old → IsTrue old.tells_output → IsSettled old → Saves it old.shown → Opens (Err reason) old mid → EachSince (IsAppliedAt old.shown it input lost) old new
-  unopened_stops lost timed tells settled known opens =
-      subst (λ (v : View). EachSince (IsAppliedAt old.shown it input lost) old v) (sym (early (saved_opens reason old mid it settled.tells_bytes known opens))) (quiet_applied old mid it input lost timed tells settled quiet known)
+  feeds : FeedsApplied source.left old new places places result
+  feeds = record {
+    decided = λ tells input it is saves.
+        saved_by (λ (v : View) (s : Status). IsDecided it input (lost_count places) old v places places s) reason old mid new result it tells saves ran.opens ran.ends early
+        (decided_start it input (lost_count places) old mid places DiskFault (inl refl) ran.quiet ran.no_put saves) (decided_start it input (lost_count places) old mid places Memory (inr refl) ran.quiet ran.no_put saves);
+    unsaved = λ tells none. refl;
+  }
+
+  pub promised_unopened : Promise apply_spec budget (record { source = source; view = old; places = places }) (record { source = source; view = new; places = places }) result
+  unfolding told_apply
+  promised_unopened =
+      promise_reading apply_spec budget (record { source = source; view = old; places = places }) (record { source = source; view = new; places = places }) result refl
+      (record {
+        choice = tt;
+        right = tt;
+        ends = λ input knows is. unopened_ends reason old mid new result ran input budget source.left is (λ bytes store. with_last (lost_count places) (told_lines input bytes store)) (knows.bytes tt);
+        takes = λ input rest is left_is. unopened_takes reason old mid new result ran input budget source.left is rest left_is;
+        full = λ long. absurd (unopened_short reason old mid new result ran long);
+        in_vain = λ vain. refl;
+        read_to_end = unopened_read reason old mid new result ran source.left;
+        may_end = unopened_answer reason old mid new result ran;
+        cause = unopened_cause reason old mid new result ran true source.faults;
+        leaves = leaves;
+        settles = λ settled alive. settled_images old new settled images;
+        feeds = feeds;
+      })

@@ -10,7 +10,7 @@ use Rattle.pgs_store.specs.Stored.{StoreState, StandsOn, committed, longer}
 use Rattle.pgs_violation.specs.declared.rejection.Rejection.{Rejection}
 use Rattle.pgs_world.specs.Count.{RoseByOne}
 use Rattle.pgs_world.specs.World.{View}
-use Rattle.pgs_run_base.specs.declared.status.Status.{Status}
+use Rattle.pgs_command.specs.declared.status.Status.{Status}
 
 -- it comes before the first call on the world
 abbrev pub is_early : Result (Option Rejection) (Stop Status) → Bool
@@ -18,7 +18,7 @@ is_early (Ok None) = false
 is_early (Ok (Some rejection)) = true
 is_early (Err (stops.Ended status)) = false
 is_early (Err stops.ReadFault) = false
-is_early (Err stops.AreaFault) = false
+is_early (Err stops.DiskFault) = false
 is_early (Err stops.PutFault) = false
 is_early (Err stops.Memory) = true
 
@@ -36,6 +36,6 @@ Asks (Ok None) before after txn old new = IsDoneBy before after txn old new
 Asks (Ok (Some rejection)) before after txn old new = (decided before.guard txn ≡ Err rejection) × (after ≡ before)
 Asks (Err (stops.Ended status)) before after txn old new = ⊥
 Asks (Err stops.ReadFault) before after txn old new = ⊥
-Asks (Err stops.AreaFault) before after txn old new = RoseByOne old.area_faults new.area_faults
+Asks (Err stops.DiskFault) before after txn old new = RoseByOne old.area_faults new.area_faults
 Asks (Err stops.PutFault) before after txn old new = ⊥
 Asks (Err stops.Memory) before after txn old new = after ≡ before

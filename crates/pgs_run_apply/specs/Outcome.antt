@@ -1,28 +1,30 @@
--- What a line comes to, and how far its taking came.
-use Rattle.std.specs.Prelude.{◌≡◌, ◌⊎◌, ℕ, ◌+◌, Bool, List, [], ◌∷◌, ◌++◌, length, Result, Ok, Err, IsTrue}
+-- What lines come to, one after another, and how far the taking of one came.
+use Rattle.std.specs.Prelude.{◌≡◌, ◌⊎◌, ℕ, ◌+◌, Bool, true, false, List, [], ◌∷◌, ◌++◌, length, Option, Some, None, Result, Ok, Err, IfErr, OnOk, IsTrue, if◌then◌else◌}
 use Rattle.pgs_base.specs.Graph.{Graph}
 use Rattle.pgs_feed.specs.Given.{AreGiven}
 use Rattle.pgs_feed.specs.Places.{Place}
 use Rattle.pgs_graph.specs.declared.operation.Txn.{Txn}
 use Rattle.pgs_run_lines.specs.declared.stop.Stop.{Stop}
 use Rattle.pgs_run_lines.specs.declared.stop.Stop.TheVariants as stops
-use Rattle.pgs_run_lines.specs.Ending.{AreasRose, PutsRose, faults_of}
+use Rattle.pgs_run_lines.specs.Driving.{LineShows}
+use Rattle.pgs_run_lines.specs.Ending.{HasAnyCause, faults_of}
 use Rattle.pgs_run_lines.specs.Machine.{Scene}
-use Rattle.pgs_run_lines.specs.Pieces.{shown_of, ShowsAll, ShowsTorn}
+use Rattle.pgs_run_lines.specs.Pieces.{Shown, ShowsAll, shown_of}
+use Rattle.pgs_store.specs.Stored.{IsSavedIn}
 use Rattle.pgs_violation.specs.declared.rejection.Rejection.{Rejection}
 use Rattle.pgs_violation.specs.Violations.{verdict}
 use Rattle.pgs_world.specs.Moment.{EachSince, Passes}
 use Rattle.pgs_world.specs.World.{Triple, other}
 use Rattle.pgs_answer.specs.Lines.{committed_line, refused_line, feed_line}
 use Rattle.pgs_answer.specs.Refusals.{rejection_text}
-use Rattle.pgs_run_base.specs.declared.status.Status.{Status}
-use Rattle.pgs_run_base.specs.Images.{KeepsArea}
-use Rattle.pgs_run_base.specs.Session.{standard, decision_on}
-use Rattle.pgs_run_apply.specs.Committing.{feed_lines_at}
-use Rattle.pgs_run_apply.specs.Left.{IsSavedAt, pieces_at}
-use Rattle.pgs_run_apply.specs.State.{ApplyState, HoldsStore, standing_of, with_refusal, with_commit, state_after}
+use Rattle.pgs_command.specs.declared.status.Status.{Status}
+use Rattle.pgs_command.specs.Images.{KeepsArea}
+use Rattle.pgs_run_input.specs.Answers.{txn_answer}
+use Rattle.pgs_run_input.specs.Input.{is_skipped}
+use Rattle.pgs_run_input.specs.Session.{standard, decision_on}
+use Rattle.pgs_run_apply.specs.State.{ApplyState, HoldsStore, with_refusal, with_commit}
 
--- the state after a line, what the line tells, and what it gives to feeds
+-- the state after lines, what they tell, and what they give to feeds
 pub record Outcome : Type 0 where
   pub state : ApplyState
   pub pieces : List (List ℕ)
@@ -48,66 +50,86 @@ answering s (Ok txn) = deciding s txn (decision_on (verdict s.guard.schema) s.gu
 answering s (Err text) = refusing s text
 
 -- the outcome of a line
-abbrev pub outcome_of : ApplyState → List ℕ → Outcome
-outcome_of s line =
-    record { state = state_after s line; pieces = pieces_at s line; given = feed_lines_at (verdict s.guard.schema) (standing_of s) line }
+unfoldable pub outcome_of : ApplyState → List ℕ → Outcome
+outcome_of s line = if is_skipped line then skipping s else answering s (txn_answer line)
 
--- the images hold the store after the line, and of its piece this front is out
+-- one outcome, and then one from its state on
+abbrev pub and_then : Outcome → Outcome → Outcome
+and_then o p = record { state = p.state; pieces = o.pieces ++ p.pieces; given = o.given ++ p.given }
+
+-- the outcome of lines
+abbrev pub outcome_of_all : ApplyState → List (List ℕ) → Outcome
+outcome_of_all s [] = skipping s
+outcome_of_all s (line ∷ lines) = and_then (outcome_of s line) (outcome_of_all (outcome_of s line).state lines)
+
+-- ---- what a stop leaves
+
+-- the images hold the store of this state, and this output is out, where that is told
+abbrev pub IsSavedAt : ApplyState → (told : Bool) → (output : List ℕ) → Triple → Type 0
+IsSavedAt s told output triple = (IsTrue told → triple.output ≡ output) × IsSavedIn s.guard s.journal triple
+
+-- they hold the store after the line, and behind this output a front of its piece is out
 pub record IsPast (o : Outcome) (told : Bool) (output : List ℕ) (triple : Triple) : Type 0 where
   pub front : List ℕ
   pub back : List ℕ
   pub piece : o.pieces ≡ (front ++ back) ∷ []
-  pub out : IsTrue told → triple.output ≡ output ++ front
-  pub saved : IsSavedAt o.state triple
+  pub saved : IsSavedAt o.state told (output ++ front) triple
 
--- what a stop during the taking of a line leaves: all as it was, or the store after the line; of the output where it is told
-abbrev pub IsLeftBy : ApplyState → Outcome → Bool → List ℕ → Triple → Type 0
-IsLeftBy s o told output triple = ((IsTrue told → triple.output ≡ output) × IsSavedAt s triple) ⊎ IsPast o told output triple
+-- during the taking of a line: all as it was, or the store after the line
+abbrev pub IsLeftBy : ApplyState → Outcome → (told : Bool) → (output : List ℕ) → Triple → Type 0
+IsLeftBy s o told output triple = IsSavedAt s told output triple ⊎ IsPast o told output triple
 
--- the line was taken
-pub record IsWhole (o : Outcome) (now : ApplyState) (old new : Scene (List Place)) : Type 0 where
-  pub state : now ≡ o.state
-  pub holds : HoldsStore o.state new.view
-  pub shows : ShowsAll (shown_of old.view) o.pieces (shown_of new.view)
+-- ---- how far lines were taken, by what stopped it
+
+abbrev pub is_struck : Option (Stop Status) → Bool
+is_struck (Some stops.DiskFault) = true
+is_struck stop = false
+
+abbrev pub is_torn : Option (Stop Status) → Bool
+is_torn (Some stops.PutFault) = true
+is_torn stop = false
+
+-- each piece was put, or the put of the last one failed
+abbrev pub HasPut : (torn : Bool) → Shown → List (List ℕ) → Shown → Type 0
+HasPut false start pieces now = ShowsAll start pieces now
+HasPut true start pieces now = now.puts + 1 ≡ start.puts + length pieces
+
+-- This outcome was reached: unless an area failed the store stands on the world, the pieces were put, and feeds were given the lines.
+pub record IsReached (o : Outcome) (stop : Option (Stop Status)) (old new : Scene (List Place)) : Type 0 where
+  pub holds : is_struck stop ≡ false → HoldsStore o.state new.view
+  pub put : HasPut (is_torn stop) (shown_of old.view) o.pieces (shown_of new.view)
   pub given : AreGiven o.given old.kept new.kept
-  pub faults : faults_of 0 new.view ≡ faults_of 0 old.view
 
--- there was no memory for it: nothing was done
-pub record IsUntaken (s : ApplyState) (old new : Scene (List Place)) : Type 0 where
-  pub holds : HoldsStore s new.view
-  pub shows : ShowsAll (shown_of old.view) [] (shown_of new.view)
-  pub given : AreGiven [] old.kept new.kept
-  pub faults : faults_of 0 new.view ≡ faults_of 0 old.view
+abbrev pub stop_of : {T : Type 0} → Result T (Stop Status) → Option (Stop Status)
+stop_of (Ok done) = None
+stop_of (Err stop) = Some stop
 
--- an area failed at it: nothing was put, and no feed was given anything
-pub record IsStruck (old new : Scene (List Place)) : Type 0 where
-  pub shows : ShowsAll (shown_of old.view) [] (shown_of new.view)
-  pub given : AreGiven [] old.kept new.kept
-  pub faults : AreasRose (faults_of 0 old.view) (faults_of 0 new.view)
+-- what a line came to whose outcome is this: nothing, where the world or the memory failed before its put
+abbrev pub come_to : ApplyState → Outcome → Option (Stop Status) → Outcome
+come_to s o None = o
+come_to s o (Some (stops.Ended status)) = o
+come_to s o (Some stops.ReadFault) = skipping s
+come_to s o (Some stops.DiskFault) = skipping s
+come_to s o (Some stops.PutFault) = o
+come_to s o (Some stops.Memory) = skipping s
 
--- the put of its piece failed
-pub record IsTorn (o : Outcome) (old new : Scene (List Place)) : Type 0 where
-  pub holds : HoldsStore o.state new.view
-  pub shows : ShowsTorn (shown_of old.view) o.pieces (shown_of new.view)
-  pub puts : new.view.puts + 1 ≡ old.view.puts + length o.pieces
-  pub given : AreGiven o.given old.kept new.kept
-  pub faults : PutsRose (faults_of 0 old.view) (faults_of 0 new.view)
+-- what stops the taking of a line: a call on the world that failed, or want of memory
+abbrev pub IsFault : Stop Status → Type 0
+IsFault (stops.Ended status) = ⊥
+IsFault stops.ReadFault = ⊥
+IsFault stops.DiskFault = Unit {0}
+IsFault stops.PutFault = Unit {0}
+IsFault stops.Memory = Unit {0}
 
--- how far a line of this outcome was taken, by what its taking answered
-abbrev pub IsTaken : {T : Type 0} → ApplyState → Outcome → Result T (Stop Status) → ApplyState → Scene (List Place) → Scene (List Place)
-    → Type 0
-IsTaken s o (Ok done) now old new = IsWhole o now old new
-IsTaken s o (Err (stops.Ended status)) now old new = ⊥
-IsTaken s o (Err stops.ReadFault) now old new = ⊥
-IsTaken s o (Err stops.AreaFault) now old new = IsStruck old new
-IsTaken s o (Err stops.PutFault) now old new = IsTorn o old new
-IsTaken s o (Err stops.Memory) now old new = IsUntaken s old new
-
--- the taking of a line from a state on
+-- the taking of a line of this outcome from a state on
 pub record Takes {T : Type 0} (s : ApplyState) (o : Outcome) (result : Result T (Stop Status)) (now : ApplyState)
     (old new : Scene (List Place)) : Type 0 where
   pub passes : Passes old.view new.view
-  pub taken : IsTaken s o result now old new
+  pub leads : OnOk result (now ≡ o.state)
+  pub shows : LineShows (shown_of old.view) o.pieces result (shown_of new.view)
+  pub cause : HasAnyCause (faults_of 0 old.view) (faults_of 0 new.view) result
+  pub may : IfErr result IsFault
+  pub reached : IsReached (come_to s o (stop_of result)) (stop_of result) old new
   -- at every moment
   pub stops : IsTrue old.view.honest → IsTrue old.view.tells_bytes
       → EachSince (IsLeftBy s o old.view.tells_output old.view.shown.output) old.view new.view

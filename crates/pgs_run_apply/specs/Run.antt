@@ -9,11 +9,11 @@ use Rattle.pgs_snapshot.specs.Saved.{saved, store}
 use Rattle.pgs_violation.specs.declared.violation.Verdict.TheVariants.{Conforms}
 use Rattle.pgs_violation.specs.Violations.{verdict}
 use Rattle.pgs_world.specs.World.{Triple, View}
-use Rattle.pgs_run_base.specs.declared.status.Status.{Status}
-use Rattle.pgs_run_base.specs.declared.status.Status.TheVariants.{Accepted, Refused, DiskFault, PutFault}
-use Rattle.pgs_run_base.specs.Answers.{schema_answer}
-use Rattle.pgs_run_base.specs.Session.{Standing, standard, every_verdict, pieces_of_line}
-use Rattle.pgs_run_saved.specs.Refusing.{SavedStore}
+use Rattle.pgs_command.specs.declared.status.Status.{Status}
+use Rattle.pgs_command.specs.declared.status.Status.TheVariants.{Accepted, Refused, DiskFault, PutFault}
+use Rattle.pgs_run_input.specs.Answers.{schema_answer}
+use Rattle.pgs_run_input.specs.Session.{Standing, standard, every_verdict, pieces_of_line}
+use Rattle.pgs_run_store.specs.Refusing.{SavedStore}
 use Rattle.pgs_run_apply.specs.Committing.{feed_lines}
 use Rattle.pgs_run_apply.specs.Told.{start, after, verdicts, all_lines, lost_pieces}
 use Rattle.std.specs.Prelude.{Ok}

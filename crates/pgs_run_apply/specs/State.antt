@@ -1,17 +1,13 @@
 -- Where a run of `apply` stands between two lines: the store, and what was counted.
-use Rattle.std.specs.Prelude.{◌≡◌, ℕ, ◌+◌, Bool, true, false, List, Result, Ok, Err, if◌then◌else◌}
+use Rattle.std.specs.Prelude.{◌≡◌, ℕ, ◌+◌, Bool, true, false}
 use Rattle.pgs_base.specs.Graph.{Graph}
 use Rattle.pgs_codec.specs.declared.command.Command.TheVariants.{Txn as Transaction}
 use Rattle.pgs_graph.specs.declared.operation.Txn.{Txn}
 use Rattle.pgs_journal.specs.declared.journal.Journal.{Journal}
 use Rattle.pgs_store.specs.State.{GuardState}
 use Rattle.pgs_store.specs.Stored.{StandsOn, committed, longer}
-use Rattle.pgs_violation.specs.declared.rejection.Rejection.{Rejection}
-use Rattle.pgs_violation.specs.Violations.{verdict}
 use Rattle.pgs_world.specs.World.{View}
-use Rattle.pgs_run_base.specs.Answers.{txn_answer}
-use Rattle.pgs_run_base.specs.Input.{is_skipped}
-use Rattle.pgs_run_base.specs.Session.{Standing, standard, decision_on}
+use Rattle.pgs_run_input.specs.Session.{Standing, standard}
 
 -- the store, how many lines are numbered so far, and whether one was refused
 pub record ApplyState : Type 0 where
@@ -39,18 +35,6 @@ with_commit s txn g = record {
   number = s.number + 1;
   refused = s.refused;
 }
-
-abbrev pub after_decision : ApplyState → Txn → Result Graph Rejection → ApplyState
-after_decision s txn (Ok g) = with_commit s txn g
-after_decision s txn (Err rejection) = with_refusal s
-
-abbrev pub after_txn : ApplyState → Result Txn (List ℕ) → ApplyState
-after_txn s (Ok txn) = after_decision s txn (decision_on (verdict s.guard.schema) s.guard.graph txn)
-after_txn s (Err text) = with_refusal s
-
--- the state after a line
-unfoldable pub state_after : ApplyState → List ℕ → ApplyState
-state_after s line = if is_skipped line then s else after_txn s (txn_answer line)
 
 -- the store is within the limits of the program, no area failed under it, and it stands on the world
 pub record HoldsStore (s : ApplyState) (view : View) : Type 0 where

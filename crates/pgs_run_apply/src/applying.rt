@@ -1,12 +1,14 @@
-ghost use Rattle.std.specs.Prelude.{◌≡◌, ◌+◌, ◌-◌, ◌^◌, ◌<◌, false, IfOk, true};
+ghost use Rattle.std.specs.Prelude.{List, ℕ, [], ◌∷◌, ◌≡◌, ◌+◌, ◌-◌, ◌^◌, ◌<◌, false, IfOk, true};
 ghost use Rattle.pgs_run_lines.specs.Calls.{stops_of_world};
 ghost use Rattle.pgs_answer.specs.Lines.{committed_line, feed_line};
 ghost use Rattle.pgs_answer.specs.Refusals.{rejection_text};
+ghost use Rattle.pgs_feed.specs.Given.{AreGiven};
 ghost use Rattle.pgs_feed.specs.Seen.{places};
 ghost use Rattle.pgs_run_lines.specs.Machine.{scene_of};
 ghost use Rattle.pgs_violation.specs.Violations.{verdict};
-ghost use Rattle.pgs_run_base.specs.Session.{standard, decision_on};
+ghost use Rattle.pgs_run_input.specs.Session.{standard, decision_on};
 ghost use Rattle.pgs_run_apply.specs.Applying.{applying};
+ghost use Rattle.pgs_run_apply.specs.Committing.{IsLineFor};
 ghost use Rattle.pgs_run_apply.specs.Outcome.{Takes, refusing, deciding, outcome_of};
 ghost use Rattle.pgs_run_apply.specs.Rule.{applies_rule};
 ghost use Rattle.pgs_run_apply.specs.Seen.{state_of, state_with};
@@ -16,9 +18,10 @@ ghost use Rattle.pgs_run_apply.specs.Told.{status_after};
 use crate::asking::ask;
 use pgs_answer::{committed_line, feed_line, refused_line, rejection_text};
 use pgs_base::{Bytes, Limits, Memory, TEXT_LIMIT};
+use pgs_command::Status;
 use pgs_feed::FeedList;
 use pgs_graph::Txn;
-use pgs_run_base::{Status, TextFault, txn_of};
+use pgs_run_input::{TextFault, txn_of};
 use pgs_run_lines::{LineTaker, Stop, is_blank, put_piece};
 use pgs_store::Store;
 use pgs_violation::Rejection;
@@ -55,15 +58,26 @@ impl<F: Feed> Applying<F> {
         self.feeds
     }
 
+    // The feed line of a transaction, where a feed is to get it.
+    fn feed_line_for(&self, alloc: Global, txn: &Txn, commit: u64) -> Result<Option<Bytes>, Memory>
+        ensures { IfOk result (λ made. IsLineFor (places F.taken F.faults self.now.feeds) (feed_line txn.now commit) made) }
+    {
+        if self.feeds.fed() == 0 {
+            return Ok(None);
+        }
+        Ok(Some(feed_line(alloc, txn, commit)?))
+    }
+
     // The verdict line and the feed line that a transaction has where it is committed.
-    fn lines_of(&self, alloc: Global, txn: &Txn) -> Result<(Bytes, Bytes), Memory>
+    fn lines_of(&self, alloc: Global, txn: &Txn) -> Result<(Bytes, Option<Bytes>), Memory>
         requires { self.now.number < 2 ^ 64 - 1 }
         ensures verdict { IfOk result (λ lines. lines.0 ≡ committed_line (self.now.number + 1) (self.now.store.guard.commits + 1)) }
-        ensures feed { IfOk result (λ lines. lines.1 ≡ feed_line txn.now (self.now.store.guard.commits + 1)) }
+        ensures feed { IfOk result (λ lines.
+            IsLineFor (places F.taken F.faults self.now.feeds) (feed_line txn.now (self.now.store.guard.commits + 1)) lines.1) }
     {
         let commit = self.store.next_commit();
         let verdict = committed_line(alloc, self.number + 1, commit)?;
-        let feed = feed_line(alloc, txn, commit)?;
+        let feed = self.feed_line_for(alloc, txn, commit)?;
         Ok((verdict, feed))
     }
 
@@ -126,7 +140,7 @@ impl<F: Feed> Applying<F> {
         let (verdict, feed) = self.lines_of(alloc, txn)?;
         match ask(&mut self.store, world, txn) {
             Ok(None) => {
-                self.feeds.deliver(feed.as_slice());
+                deliver_made(&mut self.feeds, feed);
                 self.number += 1;
                 put_piece(world, verdict.as_slice())
             }
@@ -168,6 +182,16 @@ impl<F: Feed> Applying<F> {
         } else {
             Status::Accepted
         }
+    }
+}
+
+// Gives feeds the line that was made for them.
+fn deliver_made<F: Feed>(feeds: &mut FeedList<F>, made: Option<Bytes>)
+    ensures { let seen = places F.taken F.faults in (line : List ℕ) → IsLineFor (seen feeds.old) line made → AreGiven (line ∷ []) (seen feeds.old) (seen feeds.new) }
+{
+    match made {
+        Some(line) => feeds.deliver(line.as_slice()),
+        None => {}
     }
 }
 

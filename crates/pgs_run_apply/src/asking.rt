@@ -7,8 +7,8 @@ ghost use Rattle.pgs_world.specs.Moment.{EachSince};
 ghost use Rattle.pgs_run_apply.specs.Asking.{Asks, is_early};
 
 use pgs_base::Steps;
+use pgs_command::Status;
 use pgs_graph::Txn;
-use pgs_run_base::Status;
 use pgs_run_lines::Stop;
 use pgs_store::{ApplyFault, Store};
 use pgs_violation::Rejection;
@@ -40,7 +40,7 @@ fn apply_counted<W: World, L: Ledger>(
 }
 
 /// Has a store under which no area failed decide a transaction, and do it where it is accepted. `None`: it is done, and on the disk.
-/// `Some`: why it is rejected. After that and after `Memory` the store and the world are as they were. `AreaFault` comes only where the
+/// `Some`: why it is rejected. After that and after `Memory` the store and the world are as they were. `DiskFault` comes only where the
 /// count of area faults rose, and the store isn't used after it; no other stop comes.
 pub fn ask<W: World>(
     store: &mut Store,
@@ -60,7 +60,7 @@ pub fn ask<W: World>(
         Ok(_) => Ok(None),
         Err(ApplyFault::Rejected(rejection)) => Ok(Some(rejection)),
         Err(ApplyFault::Memory) => Err(Stop::Memory),
-        Err(ApplyFault::DiskFault) => Err(Stop::AreaFault),
+        Err(ApplyFault::DiskFault) => Err(Stop::DiskFault),
         Err(ApplyFault::NeedsReopen) => unreachable!(),
     }
 }

@@ -1,4 +1,3 @@
-pub mod Leaving
-pub mod Line
-pub mod Resting
-pub mod Stopped
+pub mod Kept
+pub mod Promised
+pub mod Renewing

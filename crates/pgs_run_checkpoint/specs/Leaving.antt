@@ -1,34 +1,73 @@
--- What a stop leaves while an opened store is renewed, and what there is at the end.
-use Rattle.std.specs.Prelude.{◌≡◌, ℕ, [], IsTrue, Some}
+-- What a run of `checkpoint` leaves of the world, at every moment and at its end.
+use Rattle.std.specs.Prelude.{◌≡◌, ◌⊎◌, ℕ, ◌+◌, List, [], ◌∷◌, ◌++◌, IsTrue, Some}
+use Rattle.pgs_base.specs.Graph.{Graph}
+use Rattle.pgs_codec.specs.declared.command.Command.TheVariants.{Schema, Snapshot}
+use Rattle.pgs_codec.specs.Payload.{payload_of}
 use Rattle.pgs_run_lines.specs.Machine.{Told}
-use Rattle.pgs_run_base.specs.declared.status.Status.{Status}
-use Rattle.pgs_run_base.specs.declared.status.Status.TheVariants.{Accepted, DiskFault}
-use Rattle.pgs_run_base.specs.Images.{IsUnwritten, KeepsArea, KeepsImages}
-use Rattle.pgs_run_saved.specs.Opening.{saved_in}
-use Rattle.pgs_store.specs.Stored.{StoreState, IsRenewedIn, IsSavedBy, next_journal, renewed}
-use Rattle.pgs_world.specs.Moment.{IsSettled}
-use Rattle.pgs_world.specs.World.{Triple, View}
-use Rattle.pgs_run_checkpoint.specs.Putting.{PutsFront}
-use Rattle.pgs_run_checkpoint.specs.Told.{told_by}
+use Rattle.pgs_snapshot.specs.Choice.{choice_of, chosen, chosen_area, chosen_epoch}
+use Rattle.pgs_snapshot.specs.Saved.{SavedState, saved, store}
+use Rattle.pgs_world.specs.declared.area.Area.{Area}
+use Rattle.pgs_world.specs.Moment.{EachSince, IsSettled, Passes}
+use Rattle.pgs_world.specs.World.{Triple, View, other}
+use Rattle.pgs_command.specs.declared.status.Status.{Status}
+use Rattle.pgs_command.specs.declared.status.Status.TheVariants.{Accepted, DiskFault}
+use Rattle.pgs_command.specs.Areas.{areas_of}
+use Rattle.pgs_command.specs.Images.{IsUnwritten, KeepsArea, KeepsImages}
+use Rattle.pgs_run_input.specs.Session.{standard}
+use Rattle.pgs_run_checkpoint.specs.Told.{told_checkpoint}
 
--- what is told of a store
-abbrev pub told_in : StoreState → Told Status
-told_in it = told_by (Some it.journal.epoch) (saved_in it)
+-- what two images save
+abbrev pub saved_there : Triple → SavedState
+saved_there c = saved standard c.a c.b
 
--- the new records in the other area, of the next epoch, hold the store
-abbrev pub IsNew : StoreState → Triple → Type 0
-IsNew it c = (end : ℕ) × IsSavedBy it.guard (next_journal it.journal end) (renewed it.guard) c
+abbrev pub IsStore : SavedState → Type 0
+IsStore state = (text : List ℕ) × (commits : ℕ) × (graph : Graph) × (state ≡ store text commits graph)
 
--- The store is as it was, or renewed; and it is renewed where the whole line of a checkpoint is in the output.
-pub record Leaves (it : StoreState) (start : View) (c : Triple) : Type 0 where
-  pub puts : PutsFront (told_in it) start c
-  pub store : IsRenewedIn it.guard it.journal c
-  pub whole : puts.back ≡ [] → (told_in it).status ≡ Accepted → IsNew it c
+-- the records with which a store begins anew: the schema's text and the snapshot alone
+abbrev pub records_of : SavedState → List (List ℕ)
+records_of (store text commits graph) = payload_of (Schema text) ∷ payload_of (Snapshot commits graph.nodes graph.edges) ∷ []
+records_of state = []
 
--- What the renewing of an opened store leaves at its end.
-pub record Rests (it : StoreState) (old new : View) (result : Status) : Type 0 where
-  pub unwritten : IsUnwritten result → KeepsImages old new
-  pub beside : KeepsArea it.journal.area old new
-  pub settled : IsTrue old.honest → IsTrue old.tells_bytes → (result ≡ DiskFault → ⊥) → IsSettled new
-  pub kept : IsTrue old.tells_bytes → (result ≡ DiskFault → ⊥) → IsRenewedIn it.guard it.journal new.shown
-  pub renewed : IsTrue old.tells_bytes → result ≡ Accepted → IsNew it new.shown
+-- the area and the epoch that are chosen are those of the start
+pub record IsAsBefore (start c : Triple) : Type 0 where
+  pub area : chosen_area c.a c.b ≡ chosen_area start.a start.b
+  pub epoch : chosen_epoch c.a c.b ≡ chosen_epoch start.a start.b
+
+-- the other area is chosen, with the next epoch, and its records are the new ones, in the second format
+pub record IsRenewed (start c : Triple) : Type 0 where
+  pub area : Area
+  pub epoch : ℕ
+  pub end : ℕ
+  pub was_area : chosen_area start.a start.b ≡ Some area
+  pub was_epoch : chosen_epoch start.a start.b ≡ Some epoch
+  pub choice : choice_of c.a c.b ≡ chosen (other area) (epoch + 1) end (Some 3) (records_of (saved_there start))
+
+-- the output of a triple that a stop could leave at the start, and then a front of the one line that is told
+pub record PutsFront (told : Told Status) (start : View) (c : Triple) : Type 0 where
+  pub line : List ℕ
+  pub one : told.pieces ≡ line ∷ []
+  pub left : Triple
+  pub before : start.may_leave left
+  pub front : List ℕ
+  pub back : List ℕ
+  pub parts : line ≡ front ++ back
+  pub output : c.output ≡ left.output ++ front
+
+-- A stop leaves what was saved at the start, and a front of the line that is told. What is chosen is as at the start, or renewed; and it is
+-- renewed where the whole line of a checkpoint is in the output.
+pub record StopsRenewing (start : View) (c : Triple) : Type 0 where
+  pub puts : PutsFront (told_checkpoint (areas_of start)) start c
+  pub saves : saved_there c ≡ saved_there start.shown
+  pub chosen_as : IsAsBefore start.shown c ⊎ IsRenewed start.shown c
+  pub whole : puts.back ≡ [] → (told_checkpoint (areas_of start)).status ≡ Accepted → IsRenewed start.shown c
+
+pub record LeavesRenewed (old new : View) (status : Status) : Type 0 where
+  pub passes : Passes old new
+  pub stops : IsSettled old → IsStore (saved_there old.shown) → EachSince (StopsRenewing old) old new
+  -- where no store is saved, and with most statuses, both areas are as they were at every moment; and the area that is chosen always is
+  pub unsaved : IsTrue old.tells_bytes → (IsStore (saved_there old.shown) → ⊥) → KeepsImages old new
+  pub unwritten : IsUnwritten status → KeepsImages old new
+  pub beside : IsTrue old.tells_bytes → (area : Area) → chosen_area old.shown.a old.shown.b ≡ Some area → KeepsArea area old new
+  -- Unless an area failed, the same is saved at the end; and where the line of a checkpoint was put, the renewed store is chosen.
+  pub kept : IsTrue old.tells_bytes → (status ≡ DiskFault → ⊥) → saved_there new.shown ≡ saved_there old.shown
+  pub renewed : IsTrue old.tells_bytes → status ≡ Accepted → IsRenewed old.shown new.shown

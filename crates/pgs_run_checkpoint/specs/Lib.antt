@@ -1,4 +1,3 @@
 pub mod Leaving
-pub mod Putting
-pub mod Renewing
+pub mod Spec
 pub mod Told

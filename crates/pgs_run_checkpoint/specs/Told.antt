@@ -3,10 +3,10 @@ use Rattle.std.specs.Prelude.{ℕ, ◌+◌, ◌==◌, [], ◌∷◌, Option, Som
 use Rattle.pgs_answer.specs.Lines.{checkpoint_line}
 use Rattle.pgs_answer.specs.Refusals.{epochs_spent_text, no_store_text}
 use Rattle.pgs_run_lines.specs.Machine.{Told}
-use Rattle.pgs_run_base.specs.declared.status.Status.{Status}
-use Rattle.pgs_run_base.specs.declared.status.Status.TheVariants.{Accepted}
-use Rattle.pgs_run_base.specs.Areas.{Areas}
-use Rattle.pgs_run_saved.specs.Refusing.{SavedStore, store_refused, told_of_areas}
+use Rattle.pgs_command.specs.declared.status.Status.{Status}
+use Rattle.pgs_command.specs.declared.status.Status.TheVariants.{Accepted}
+use Rattle.pgs_command.specs.Areas.{Areas}
+use Rattle.pgs_run_store.specs.Refusing.{SavedStore, store_refused, told_of_areas}
 use Rattle.pgs_snapshot.specs.Choice.{chosen_epoch}
 
 -- what is told of a store of this epoch: the next epoch and the commits; the last epoch has no next one

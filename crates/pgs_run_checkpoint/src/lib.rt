@@ -2,12 +2,10 @@
 //! a snapshot alone, and then a line says so.
 //!
 //! The one rule: what is put and answered is what `told_checkpoint` tells (`specs/Told.antt`), and what is saved is the same at every
-//! moment (`specs/Renewing.antt`). The line is put after the store is renewed: where it is in the output, the renewed store is in both
+//! moment (`specs/Leaving.antt`). The line is put after the store is renewed: where it is in the output, the renewed store is in both
 //! areas. `pgs_run` calls `run_checkpoint` where the words name the command.
 #![tactic(auto)]
 
-mod putting;
-mod renewing;
 mod running;
 
 pub use running::run_checkpoint;

@@ -16,7 +16,7 @@ use Rattle.pgs_syntax.specs.declared.resolved.TypeNo.{TypeNo}
 use Rattle.pgs_world.specs.Moment.{IsTimed}
 use Rattle.pgs_world.specs.World.{View}
 use Rattle.pgs_contain.specs.Contained.{IsContained, IsOutside}
-use Rattle.pgs_run_base.specs.declared.status.Status.{Status}
+use Rattle.pgs_command.specs.declared.status.Status.{Status}
 use Rattle.pgs_run_contain.specs.Answers.{Answer, Listed, listed_name, listed_at, listed, answer_line, answer_lines, AreRight}
 use Rattle.pgs_run_contain.specs.Running.{TellsAll, TellsSome, Tells}
 

@@ -1,5 +1,4 @@
 pub mod Answered
 pub mod Machine
-pub mod RunEnds
+pub mod Promised
 pub mod SchemaEnds
-pub mod Telling

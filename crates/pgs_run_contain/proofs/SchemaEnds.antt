@@ -6,25 +6,26 @@ use Rattle.pgs_run_lines.specs.Ending.{Shows, Ends}
 use Rattle.pgs_run_lines.specs.Pieces.{Shown, ShowsAll, ShowsTorn}
 use Rattle.pgs_run_lines.proofs.Showing.{ends_on, torn_of_more}
 use Rattle.pgs_syntax.specs.declared.resolved.Resolved.{Resolved}
-use Rattle.pgs_run_base.specs.Answers.{schema_answer}
-use Rattle.pgs_run_base.specs.Part.{Part}
+use Rattle.pgs_run_input.specs.Answers.{schema_answer}
+use Rattle.pgs_run_input.specs.Judged.{pieces_of_schema}
+use Rattle.pgs_run_input.specs.Part.{Part}
 use Rattle.pgs_run_contain.specs.declared.ending.Ending.{Ending}
 use Rattle.pgs_run_contain.specs.declared.phase.Phase.TheVariants.{Second}
-use Rattle.pgs_run_contain.specs.Comparing.{after_first, pieces_of_first}
+use Rattle.pgs_run_contain.specs.Comparing.{after_first}
 use Rattle.pgs_run_contain.specs.Told.{told_first, told_second}
 
-first_torn : (answer : Result Resolved (List ℕ)) (start now : Shown) → ShowsTorn start (pieces_of_first answer) now → ShowsTorn start (told_first true answer []).pieces now
+first_torn : (answer : Result Resolved (List ℕ)) (start now : Shown) → ShowsTorn start (pieces_of_schema answer) now → ShowsTorn start (told_first true answer []).pieces now
 first_torn (Err text) start now torn = torn
 first_torn (Ok first) start now torn = torn_of_more start now [] (told_second first (schema_answer [])).pieces torn
 
 -- the line of a refusal couldn't be put
-pub first_stop : (answer : Result Resolved (List ℕ)) (pieces : List (List ℕ)) (stop : Stop Ending) (start now : Shown) → pieces ≡ pieces_of_first answer → stop ≡ stops.PutFault → Shows start pieces stop now → Ends start (told_first true answer []) stop now
+pub first_stop : (answer : Result Resolved (List ℕ)) (pieces : List (List ℕ)) (stop : Stop Ending) (start now : Shown) → pieces ≡ pieces_of_schema answer → stop ≡ stops.PutFault → Shows start pieces stop now → Ends start (told_first true answer []) stop now
 first_stop answer pieces stop start now is fault shows =
     subst (λ s. Ends start (told_first true answer []) s now) (sym fault)
     (first_torn answer start now (subst (λ ps. ShowsTorn start ps now) is (subst (λ s. Shows start pieces s now) fault shows)))
 
 -- the first schema isn't refused, and the second text is empty
-pub first_ends : (answer : Result Resolved (List ℕ)) (first : Resolved) (part : Part) (pieces : List (List ℕ)) (stop : Stop Ending) (start mid now : Shown) → Second first part ≡ after_first answer → pieces ≡ pieces_of_first answer → ShowsAll start pieces mid → Ends mid (told_second first (schema_answer [])) stop now → Ends start (told_first true answer []) stop now
+pub first_ends : (answer : Result Resolved (List ℕ)) (first : Resolved) (part : Part) (pieces : List (List ℕ)) (stop : Stop Ending) (start mid now : Shown) → Second first part ≡ after_first answer → pieces ≡ pieces_of_schema answer → ShowsAll start pieces mid → Ends mid (told_second first (schema_answer [])) stop now → Ends start (told_first true answer []) stop now
 first_ends (Err text) first part pieces stop start mid now is told shows ends = cc
 first_ends (Ok schema) first part pieces stop start mid now is told shows ends =
     let same : first ≡ schema = cc in

@@ -1,45 +1,41 @@
--- How a run of `contain` ends. Its answers are free: a run says that there are some, each right.
-use Rattle.std.specs.Prelude.{◌≡◌, ◌⊎◌, ℕ, Bool, true, false, List, [], ◌++◌, Option, Result, Ok, Err, is_some}
+-- How a run of `contain` ends, by how the reading of both texts stopped. Its answers are free, as long as they are right.
+use Rattle.std.specs.Prelude.{◌≡◌, Bool, List, [], ◌++◌, Result, Ok, Err, is_some, refl}
 use Rattle.std.specs.List.{list_any}
 use Rattle.pgs_run_lines.specs.declared.stop.Stop.{Stop}
 use Rattle.pgs_run_lines.specs.declared.stop.Stop.TheVariants as stops
-use Rattle.pgs_run_lines.specs.Pieces.{Shown}
+use Rattle.pgs_run_lines.specs.AreasKept.{KeepsAreas}
+use Rattle.pgs_run_lines.specs.Ending.{faults_of}
+use Rattle.pgs_run_lines.specs.Pieces.{shown_of}
 use Rattle.pgs_run_lines.specs.Puts.{PutsAll, PutsUntil}
 use Rattle.pgs_syntax.specs.declared.resolved.Resolved.{Resolved}
 use Rattle.pgs_syntax.specs.declared.resolved.TypeNo.{TypeNo}
 use Rattle.pgs_world.specs.World.{View}
-use Rattle.pgs_run_base.specs.declared.status.Status.{Status}
-use Rattle.pgs_run_base.specs.declared.status.Status.TheVariants.{Accepted, Refused, SchemaRefused, DiskFault, ReadFault, PutFault, Memory, InputTooLong}
-use Rattle.pgs_run_base.specs.Ending.{status_at}
-use Rattle.pgs_run_base.specs.Run.{EndsAs}
+use Rattle.pgs_command.specs.declared.status.Status.{Status}
+use Rattle.pgs_command.specs.declared.status.Status.TheVariants.{Accepted, Refused, SchemaRefused, InputTooLong}
 use Rattle.pgs_run_contain.specs.declared.ending.Ending.{Ending}
 use Rattle.pgs_run_contain.specs.declared.ending.Ending.TheVariants as endings
 use Rattle.pgs_run_contain.specs.Answers.{Answer, Listed, listed, answer_lines, AreRight}
-use Rattle.pgs_run_contain.specs.Told.{told_texts, told_contain}
+use Rattle.pgs_run_contain.specs.Told.{status_by}
 
 -- with these statuses each type has its line
-abbrev pub IsDone : Status → Type 0
-IsDone status = (status ≡ Accepted) ⊎ (status ≡ Refused)
+abbrev pub HasAllLines : Status → Type 0
+HasAllLines Accepted = Unit {0}
+HasAllLines Refused = Unit {0}
+HasAllLines status = ⊥
 
--- right answers to the first of some types, and to all of them where the run is done
+-- right answers to the first of some types, and to all of them where each has its line
 pub record Answered (first second : Resolved) (types : List Listed) (answers : List Answer) (status : Status) : Type 0 where
   pub answered : List Listed
   pub later : List Listed
   pub parts : types ≡ answered ++ later
   pub right : AreRight first second answered answers
-  pub whole : IsDone status → later ≡ []
+  pub whole : HasAllLines status → later ≡ []
 
 -- the same of the types of the first guard, where both texts are schemas
 abbrev pub AnsweredAt : Ending → List Answer → Status → Type 0
 AnsweredAt (endings.Fit first second) answers status = Answered first second (listed first first.guard.types) answers status
 AnsweredAt endings.Refused answers status = Unit {0}
 AnsweredAt endings.Cut answers status = Unit {0}
-
--- There are right answers by which a run ended so over this input, with this left of it.
-pub record RunsAs (start : Shown) (input : List ℕ) (budget : ℕ) (left : Option (List ℕ)) (status : Status) (now : Shown) : Type 0 where
-  pub answers : List Answer
-  pub right : AnsweredAt (told_texts input budget).status answers status
-  pub ends : EndsAs (told_contain answers input) start input budget left status now
 
 -- ---- the types
 
@@ -63,28 +59,32 @@ abbrev pub Tells : Resolved → Resolved → List TypeNo → Result Bool (Stop S
 Tells first second numbers (Ok some) old new = TellsAll first second numbers some old new
 Tells first second numbers (Err stop) old new = TellsSome first second numbers stop old new
 
--- the status by whether something is outside, or by the stop
-abbrev pub status_by : Result Bool (Stop Status) → Status
-status_by (Ok true) = Refused
-status_by (Ok false) = Accepted
-status_by (Err stop) = status_at stop
+-- the end of a run by whether something is outside, or by the stop
+abbrev pub stop_by : Result Bool (Stop Status) → Stop Status
+stop_by (Ok some) = stops.Ended (status_by some)
+stop_by (Err stop) = stop
 
--- behind two schemas the types are told
-pub record TellsTypes (first second : Resolved) (old : View) (status : Status) (new : View) : Type 0 where
-  pub result : Result Bool (Stop Status)
-  pub is : status ≡ status_by result
-  pub tells : Tells first second first.guard.types result old new
+-- ---- behind the texts
 
--- behind everything else nothing is put, and the status is that of the stop
-pub record Leaves (so : Status) (old : View) (status : Status) (new : View) : Type 0 where
-  pub is : status ≡ so
-  pub puts : PutsAll old [] new
+-- the types of the first guard were told
+pub record TellsTypes (first second : Resolved) (old : View) (stop : Stop Status) (new : View) : Type 0 where
+  pub told : Result Bool (Stop Status)
+  pub is : stop ≡ stop_by told
+  pub tells : Tells first second first.guard.types told old new
 
-abbrev pub EndsRun : Stop Ending → View → Status → View → Type 0
-EndsRun (stops.Ended (endings.Fit first second)) old status new = TellsTypes first second old status new
-EndsRun (stops.Ended endings.Refused) old status new = Leaves SchemaRefused old status new
-EndsRun (stops.Ended endings.Cut) old status new = Leaves InputTooLong old status new
-EndsRun stops.ReadFault old status new = Leaves ReadFault old status new
-EndsRun stops.AreaFault old status new = Leaves DiskFault old status new
-EndsRun stops.PutFault old status new = Leaves PutFault old status new
-EndsRun stops.Memory old status new = Leaves Memory old status new
+-- nothing was put, and the run stops so
+pub record PutsNothing (so : Stop Status) (old : View) (stop : Stop Status) (new : View) : Type 0 where
+  pub is : stop ≡ so
+  pub shown : shown_of new ≡ shown_of old
+  pub faults : faults_of 0 new ≡ faults_of 0 old
+  pub areas : KeepsAreas old new
+
+-- behind two schemas the types are told; else the run stops as the reading did
+abbrev pub Follows : Stop Ending → View → Stop Status → View → Type 0
+Follows (stops.Ended (endings.Fit first second)) old stop new = TellsTypes first second old stop new
+Follows (stops.Ended endings.Refused) old stop new = PutsNothing (stops.Ended SchemaRefused) old stop new
+Follows (stops.Ended endings.Cut) old stop new = PutsNothing (stops.Ended InputTooLong) old stop new
+Follows stops.ReadFault old stop new = PutsNothing stops.ReadFault old stop new
+Follows stops.DiskFault old stop new = PutsNothing stops.DiskFault old stop new
+Follows stops.PutFault old stop new = PutsNothing stops.PutFault old stop new
+Follows stops.Memory old stop new = PutsNothing stops.Memory old stop new

@@ -5,10 +5,10 @@ use Rattle.pgs_run_lines.specs.Input.{lines_of}
 use Rattle.pgs_run_lines.specs.Machine.{Told}
 use Rattle.pgs_syntax.specs.declared.resolved.Resolved.{Resolved}
 use Rattle.pgs_answer.specs.Lines.{schema_refused_line, second_refused_line}
-use Rattle.pgs_run_base.specs.declared.status.Status.{Status}
-use Rattle.pgs_run_base.specs.declared.status.Status.TheVariants as statuses
-use Rattle.pgs_run_base.specs.Answers.{schema_answer}
-use Rattle.pgs_run_base.specs.Input.{is_separator, schema_part, after_separator}
+use Rattle.pgs_command.specs.declared.status.Status.{Status}
+use Rattle.pgs_command.specs.declared.status.Status.TheVariants as statuses
+use Rattle.pgs_run_input.specs.Answers.{schema_answer}
+use Rattle.pgs_run_input.specs.Input.{is_separator, schema_part, after_separator}
 use Rattle.pgs_run_contain.specs.declared.ending.Ending.{Ending}
 use Rattle.pgs_run_contain.specs.declared.ending.Ending.TheVariants.{Fit, Refused, Cut}
 use Rattle.pgs_run_contain.specs.Answers.{Answer, listed, answer_lines}
@@ -50,14 +50,14 @@ told_cut input = told_lines false (lines_of input).ended
 unfoldable pub told_texts : List ℕ → ℕ → Told Ending
 told_texts input budget = if nat_le budget (length input) then told_cut (take budget input) else told_whole input
 
--- whether something is outside
-abbrev pub status_of : List Answer → Status
-status_of answers = if list_any is_some answers then statuses.Refused else statuses.Accepted
+-- the status by whether something is outside
+abbrev pub status_by : Bool → Status
+status_by some = if some then statuses.Refused else statuses.Accepted
 
 -- what follows, by how the texts end: the lines of the types of the first guard that aren't abstract, in its order
 abbrev pub told_behind : List Answer → List (List ℕ) → Ending → Told Status
 told_behind answers pieces (Fit first second) =
-    record { pieces = pieces ++ answer_lines (listed first first.guard.types) answers; status = status_of answers }
+    record { pieces = pieces ++ answer_lines (listed first first.guard.types) answers; status = status_by (list_any is_some answers) }
 told_behind answers pieces Refused = record { pieces = pieces; status = statuses.SchemaRefused }
 told_behind answers pieces Cut = record { pieces = pieces; status = statuses.InputTooLong }
 

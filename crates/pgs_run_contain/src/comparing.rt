@@ -4,7 +4,7 @@ ghost use Rattle.pgs_run_lines.specs.AreasKept.{KeepsAreas};
 ghost use Rattle.pgs_run_lines.specs.Ending.{Ends, HasCause, faults_of};
 ghost use Rattle.pgs_run_lines.specs.May.{MayPut};
 ghost use Rattle.pgs_run_lines.specs.Pieces.{shown_of};
-ghost use Rattle.pgs_run_base.specs.Answers.{schema_answer};
+ghost use Rattle.pgs_run_input.specs.Answers.{schema_answer};
 ghost use Rattle.pgs_run_contain.specs.Comparing.{compare_teller, first_phase};
 ghost use Rattle.pgs_run_contain.specs.Told.{told_first, told_second, second_refused};
 
@@ -14,7 +14,7 @@ use crate::reading::compiled_of;
 use pgs_answer::second_refused_line;
 use pgs_base::{Bytes, Memory};
 use pgs_conform::Compiled;
-use pgs_run_base::{SchemaPart, TextFault};
+use pgs_run_input::{SchemaPart, TextFault};
 use pgs_run_lines::{LineTeller, Stop, put_any, put_piece};
 use pgs_world::World;
 use std::alloc::Global;

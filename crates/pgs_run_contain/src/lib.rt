@@ -2,7 +2,7 @@
 //! second schema text.
 //!
 //! The one rule: `told_contain` (`specs/Told.antt`) says what it tells of an input within a budget, by the answers to the types. Of these
-//! it is only said that each is right: what is outside is any pair or triple that is (`specs/Running.antt`). The reading of both texts is
+//! it is only said that each is right: what is outside is any pair or triple that is (`specs/Answers.antt`). The reading of both texts is
 //! one machine over lines (`specs/Comparing.antt`), which `pgs_run_lines` runs; it ends with both schemas, and then each type that
 //! isn't abstract has its line, put as soon as it is made.
 #![tactic(auto)]

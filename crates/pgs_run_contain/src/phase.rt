@@ -1,13 +1,14 @@
 ghost use Rattle.std.specs.Prelude.{◌≡◌, IfOk};
-ghost use Rattle.pgs_run_base.specs.Answers.{schema_answer};
+ghost use Rattle.pgs_run_input.specs.Answers.{schema_answer};
+ghost use Rattle.pgs_run_input.specs.Judged.{pieces_of_schema};
 ghost use Rattle.pgs_run_lines.specs.Pieces.{pieces_in};
-ghost use Rattle.pgs_run_contain.specs.Comparing.{after_first, pieces_of_first};
+ghost use Rattle.pgs_run_contain.specs.Comparing.{after_first};
 
 use crate::reading::compiled_of;
 use pgs_answer::schema_refused_line;
 use pgs_base::{Bytes, Memory};
 use pgs_conform::Compiled;
-use pgs_run_base::{SchemaPart, TextFault};
+use pgs_run_input::{SchemaPart, TextFault};
 use std::alloc::Global;
 
 /// Whether the first text goes on, the second one does, or the first schema was refused.
@@ -21,7 +22,7 @@ pub(crate) enum Phase {
 /// Judges the first text: the phase after it, and the line of its refusal.
 pub(crate) fn judge_first(alloc: Global, text: &[u8]) -> Result<(Phase, Option<Bytes>), Memory>
     ensures phase { IfOk result (λ next. next.0 ≡ after_first (schema_answer text.now)) }
-    ensures piece { IfOk result (λ next. pieces_in next.1 ≡ pieces_of_first (schema_answer text.now)) }
+    ensures piece { IfOk result (λ next. pieces_in next.1 ≡ pieces_of_schema (schema_answer text.now)) }
 {
     match compiled_of(alloc, text) {
         Ok(first) => Ok((Phase::Second(first, SchemaPart::new(alloc)), None)),

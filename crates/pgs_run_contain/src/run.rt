@@ -1,35 +1,35 @@
-ghost use Rattle.std.specs.Prelude.{◌≡◌, ◌≤◌, ◌^◌, List, ℕ, Some, true, false};
+ghost use Rattle.std.specs.Prelude.{◌≡◌, ◌≤◌, ◌^◌, List, true};
+ghost use Rattle.pgs_command.specs.Calls.{fails_read, fails_world};
+ghost use Rattle.pgs_command.specs.Promise.{Promise};
+ghost use Rattle.pgs_command.specs.Setting.{setting_of};
+ghost use Rattle.pgs_feed.specs.Places.{Place};
 ghost use Rattle.pgs_run_lines.specs.Calls.{Reads, is_of_world};
-ghost use Rattle.pgs_run_base.specs.Calls.{fails_read, fails_world};
-ghost use Rattle.pgs_run_lines.specs.AreasKept.{KeepsAreas};
-ghost use Rattle.pgs_run_lines.specs.Ending.{faults_of};
-ghost use Rattle.pgs_run_lines.specs.Pieces.{shown_of};
-ghost use Rattle.pgs_run_base.specs.Run.{IsRead, HasCommandCause};
-ghost use Rattle.pgs_run_contain.specs.Running.{EndsRun, RunsAs};
+ghost use Rattle.pgs_run_contain.specs.Running.{Follows};
+ghost use Rattle.pgs_run_contain.specs.Spec.{contain_spec};
 
 use crate::comparing::Comparing;
 use crate::ending::Ending;
 use crate::types::put_guard;
 use pgs_base::TEXT_LIMIT;
-use pgs_run_base::Status;
+use pgs_command::{Status, status_at};
 use pgs_run_lines::{Stop, Telling, run_lines};
 use pgs_world::{Source, World};
 use std::alloc::Global;
 
-// Ends a run: behind two schemas the types are told.
-fn end_run<W: World>(alloc: Global, world: &mut W, stop: Stop<Ending>) -> Status
-    requires { is_of_world stop ≡ true → W.failed world.old }
-    ensures ends { EndsRun stop (W.view world.old) result (W.view world.new) }
-    ensures last { fails_world result ≡ true → W.failed world.new }
+// Ends a run behind the texts: of two schemas the types are told.
+fn end_run<W: World>(alloc: Global, world: &mut W, texts: Stop<Ending>) -> Stop<Status>
+    requires { is_of_world texts ≡ true → W.failed world.old }
+    ensures follows { Follows texts (W.view world.old) result (W.view world.new) }
+    ensures last { is_of_world result ≡ true → W.failed world.new }
 {
-    match stop {
+    match texts {
         Stop::Ended(Ending::Fit { first, second }) => put_guard(alloc, world, &first, &second),
-        Stop::Ended(Ending::Refused) => Status::SchemaRefused,
-        Stop::Ended(Ending::Cut) => Status::InputTooLong,
-        Stop::ReadFault => Status::ReadFault,
-        Stop::AreaFault => Status::DiskFault,
-        Stop::PutFault => Status::PutFault,
-        Stop::Memory => Status::Memory,
+        Stop::Ended(Ending::Refused) => Stop::Ended(Status::SchemaRefused),
+        Stop::Ended(Ending::Cut) => Stop::Ended(Status::InputTooLong),
+        Stop::ReadFault => Stop::ReadFault,
+        Stop::DiskFault => Stop::DiskFault,
+        Stop::PutFault => Stop::PutFault,
+        Stop::Memory => Stop::Memory,
     }
 }
 
@@ -43,16 +43,14 @@ pub fn run_contain<S: Source, W: World>(
     budget: u64,
 ) -> Status
     requires { budget ≤ 2 ^ 40 }
-    ensures ends { (input : List ℕ) → S.left source.old ≡ Some input
-        → RunsAs (shown_of (W.view world.old)) input budget (S.left source.new) result (shown_of (W.view world.new)) }
-    ensures read_to_end { IsRead (S.left source.new) result }
-    ensures cause { HasCommandCause true false (faults_of (S.faults source.old) (W.view world.old)) (faults_of (S.faults source.new) (W.view world.new)) result }
-    ensures areas { KeepsAreas (W.view world.old) (W.view world.new) }
+    ensures promise { (places : List Place) → Promise contain_spec budget (setting_of (S.left source.old) (S.faults source.old) (W.view world.old) places)
+        (setting_of (S.left source.new) (S.faults source.new) (W.view world.new) places) result }
     ensures last { fails_world result ≡ true → W.failed world.new }
     ensures calls { Reads S.read_made budget source.old (fails_read result) source.new }
 {
     let teller = Comparing::new(alloc);
     let mut comparing = Telling { teller };
-    let stop = run_lines(&mut comparing, alloc, source, world, TEXT_LIMIT, budget);
-    end_run(alloc, world, stop)
+    let texts = run_lines(&mut comparing, alloc, source, world, TEXT_LIMIT, budget);
+    let stop = end_run(alloc, world, texts);
+    status_at(stop)
 }

@@ -1,17 +1,16 @@
 //! The lines of the types of the first guard.
 
 ghost use Rattle.std.specs.Prelude.{◌≡◌, ◌∷◌, [], true, Some, IsSome, option_map};
-ghost use Rattle.pgs_run_lines.specs.Calls.{stops_of_world};
-ghost use Rattle.pgs_run_base.specs.Calls.{fails_world};
+ghost use Rattle.pgs_run_lines.specs.Calls.{is_of_world, stops_of_world};
 ghost use Rattle.pgs_contain.specs.Contained.{has_type};
 ghost use Rattle.pgs_run_contain.specs.Answers.{shown_name, listed_name};
-ghost use Rattle.pgs_run_contain.specs.Running.{Tells, TellsTypes, status_by};
+ghost use Rattle.pgs_run_contain.specs.Running.{Tells, TellsTypes, stop_by};
 
 use crate::answer::answer_line;
 use pgs_base::Name;
+use pgs_command::Status;
 use pgs_conform::Compiled;
 use pgs_contain::contained;
-use pgs_run_base::{Status, status_at};
 use pgs_run_lines::{Stop, put_made};
 use pgs_syntax::{Resolved, TypeNo};
 use pgs_world::World;
@@ -103,28 +102,28 @@ fn put_types<W: World>(
     Ok(some)
 }
 
-// The status by whether something is outside, or by the stop.
-fn status_by(told: Result<bool, Stop<Status>>) -> Status
-    ensures { result ≡ status_by told }
+// The end of a run by whether something is outside, or by the stop.
+fn stop_by(told: Result<bool, Stop<Status>>) -> Stop<Status>
+    ensures { result ≡ stop_by told }
 {
     match told {
-        Ok(true) => Status::Refused,
-        Ok(false) => Status::Accepted,
-        Err(stop) => status_at(stop),
+        Ok(true) => Stop::Ended(Status::Refused),
+        Ok(false) => Stop::Ended(Status::Accepted),
+        Err(stop) => stop,
     }
 }
 
-/// Puts a line for each type of the first guard that isn't abstract, in its order, and gives the status.
+/// Puts a line for each type of the first guard that isn't abstract, in its order: how the run ends.
 pub(crate) fn put_guard<W: World>(
     alloc: Global,
     world: &mut W,
     first: &Compiled,
     second: &Compiled,
-) -> Status
+) -> Stop<Status>
     ensures answer { TellsTypes first.now second.now (W.view world.old) result (W.view world.new) }
-    ensures last { fails_world result ≡ true → W.failed world.new }
+    ensures last { is_of_world result ≡ true → W.failed world.new }
 {
     let numbers = first.resolved().guard.types.as_slice();
     let told = put_types(alloc, world, first, second, numbers);
-    status_by(told)
+    stop_by(told)
 }

@@ -1,36 +1,27 @@
 -- What images save, by the store that they hold, and that the same images save the same.
 use Rattle.std.proofs.Common.{◌≡◌, ◌⊎◌, inl, inr, ⊎_elim, ℕ, IsTrue, List, [], Some, Ok, refl, sym, ◌∙◌, ap, ap₂, subst}
-use Rattle.std.proofs.lemmas.List.{append-nil}
 use Rattle.pgs_base.specs.declared.limits.Limits.{Limits}
 use Rattle.pgs_base.specs.Graph.{Graph}
 use Rattle.pgs_codec.specs.declared.command.Command.TheVariants.{Schema}
 use Rattle.pgs_journal.specs.declared.journal.Journal.{Journal}
-use Rattle.pgs_resolve.specs.SchemaOf.{schema, schema_of}
-use Rattle.pgs_run_base.specs.Answers.{schema_answer, schema_or_text}
-use Rattle.pgs_run_base.specs.Input.{text_front}
-use Rattle.pgs_run_base.specs.Session.{standard}
-use Rattle.pgs_run_base.proofs.SameFronts.{schema_of_front, whole_text}
+use Rattle.pgs_run_input.specs.Answers.{schema_answer}
+use Rattle.pgs_run_input.specs.Input.{text_front}
+use Rattle.pgs_run_input.specs.Session.{standard}
+use Rattle.pgs_run_input.proofs.Answering.{answer_ok}
+use Rattle.pgs_run_input.proofs.SameFronts.{schema_of_front, whole_text}
 use Rattle.pgs_snapshot.specs.Choice.{area_chosen, chosen_area, chosen_epoch, chosen_next, epoch_chosen, next_chosen}
 use Rattle.pgs_snapshot.specs.Choice as choices
 use Rattle.pgs_snapshot.specs.Saved.{saved, saved_of, store}
 use Rattle.pgs_store.specs.State.{GuardState}
-use Rattle.pgs_store.specs.Stored.{StoreState, StandsOn, IsConforming, IsEvolvedIn, IsSavedIn, evolved, longer}
-use Rattle.pgs_run_saved.proofs.Conforming.{chosen_saves}
+use Rattle.pgs_store.specs.Stored.{StoreState, IsConforming, IsEvolvedIn, IsSavedIn, evolved, longer}
+use Rattle.pgs_run_store.proofs.Conforming.{chosen_saves}
 use Rattle.pgs_syntax.specs.declared.resolved.Resolved.{Resolved}
-use Rattle.pgs_world.specs.Moment.{IsSettled, IsTimed}
 use Rattle.pgs_world.specs.World.{Triple, View}
 use Rattle.pgs_run_evolve.specs.Evolving.{Kept, IsEvolving, IsEvolvingAt, IsRenewed, IsUnder}
-use Rattle.pgs_run_evolve.specs.Leaving.{SavesAs, kept_of}
-use Rattle.pgs_run_evolve.proofs.Lines.{not_empty}
+use Rattle.pgs_run_evolve.specs.Leaving.{IsEvolvable, SavesAs, kept_of}
+use Rattle.pgs_run_evolve.proofs.Unmoved.{same_under}
 
 -- ---- images of the same areas
-
-pub same_under : (it : Kept) (text : List ℕ) (d c : Triple) → c.a ≡ d.a → c.b ≡ d.b → IsUnder it text d → IsUnder it text c
-same_under it text d c a b under = record {
-  saves = ap₂ (saved standard) a b ∙ under.saves;
-  area = ap₂ chosen_area a b ∙ under.area;
-  epoch = ap₂ chosen_epoch a b ∙ under.epoch;
-}
 
 pub same_renewed : (it : Kept) (text : List ℕ) (d c : Triple) → c.a ≡ d.a → c.b ≡ d.b → IsRenewed it text d → IsRenewed it text c
 same_renewed it text d c a b renewed = record {
@@ -43,15 +34,6 @@ same_renewed it text d c a b renewed = record {
 pub same_evolving : (it : Kept) (before : List ℕ) (d c : Triple) → c.a ≡ d.a → c.b ≡ d.b → IsEvolving it before d → IsEvolving it before c
 same_evolving it before d c a b (inl under) = inl (same_under it before d c a b under)
 same_evolving it before d c a b (inr (text, renewed)) = inr (text, same_renewed it text d c a b renewed)
-
--- the output is as it was
-pub evolving_here : (it : Kept) (before text : List ℕ) (c : Triple) → c.output ≡ it.was.output → IsUnder it before c ⊎ IsRenewed it text c → IsEvolvingAt it before text c
-evolving_here it before text c same state = record {
-  front = [];
-  out = same ∙ sym (append-nil it.was.output);
-  state = state;
-  evolved = λ resolved is said. absurd (not_empty resolved said);
-}
 
 -- ---- a text by its front
 
@@ -69,19 +51,6 @@ evolving_whole it before input c at = record {
   evolved = λ resolved is said. renewed_whole it input c (at.evolved resolved (schema_of_front input ∙ is) said);
 }
 
--- ---- at the start
-
-module _ (view : View) (before : List ℕ) (commits : ℕ) (graph : Graph) (saves : SavesAs view before commits graph) where
-  starts_under : IsUnder (kept_of view commits graph) before view.shown
-  starts_under = record { saves = saves; area = refl; epoch = refl }
-
-  pub settled_under : IsSettled view → (c : Triple) → view.may_leave c → IsUnder (kept_of view commits graph) before c
-  settled_under settled c may = same_under (kept_of view commits graph) before view.shown c (settled.a c may) (settled.b c may) starts_under
-
-  pub starts_at : (text : List ℕ) → IsTimed view → IsTrue view.tells_output → IsSettled view → (c : Triple) → view.may_leave c → IsEvolvingAt (kept_of view commits graph) before text c
-  starts_at text timed tells settled c may =
-      evolving_here (kept_of view commits graph) before text c (timed.output settled.honest tells c may) (inl (settled_under settled c may))
-
 -- ---- images that hold a store
 
 saves_in : (guard : GuardState) (journal : Journal) (c : Triple) → guard.limits ≡ standard → IsSavedIn guard journal c → saved standard c.a c.b ≡ store guard.text guard.commits guard.graph
@@ -98,10 +67,6 @@ epoch_in guard journal c is = ap epoch_chosen is.1.has.choice
 next_in : (guard : GuardState) (journal : Journal) (c : Triple) → IsSavedIn guard journal c → chosen_next c.a c.b ≡ journal.next
 next_in guard journal c is = ap next_chosen is.1.has.choice
 
-answer_of : (text : List ℕ) (resolved : Resolved) → schema_of text ≡ schema resolved → schema_answer text ≡ Ok resolved
-unfolding schema_answer
-answer_of text resolved is = ap schema_or_text is
-
 -- what is saved is one text, one number of commits and one graph
 same_store : (text before : List ℕ) (n commits : ℕ) (g graph : Graph) → store text n g ≡ store before commits graph → (P : List ℕ → ℕ → Graph → Type 0) → P text n g → P before commits graph
 same_store text before n commits g graph is P holds =
@@ -111,18 +76,18 @@ same_store text before n commits g graph is P holds =
     subst (λ (t : List ℕ). P t commits graph) texts (subst (λ (k : ℕ). P text k graph) numbers (subst (λ (h : Graph). P text n h) graphs holds))
 
 -- a store that stands on a world that tells its bytes
-module _ (it : StoreState) (view : View) (limits : it.guard.limits ≡ standard) (stands : StandsOn it.guard it.journal view) (tells : IsTrue view.tells_bytes) where
+module _ (it : StoreState) (view : View) (ready : IsEvolvable it view) (tells : IsTrue view.tells_bytes) where
   abbrev pub kept : Kept
   kept = kept_of view it.guard.commits it.guard.graph
 
   pub saves_there : SavesAs view it.guard.text it.guard.commits it.guard.graph
-  saves_there = saves_in it.guard it.journal view.shown limits (stands.saved tells)
+  saves_there = saves_in it.guard it.journal view.shown ready.limits (ready.stands.saved tells)
 
   pub area_there : chosen_area view.shown.a view.shown.b ≡ Some it.journal.area
-  area_there = area_in it.guard it.journal view.shown (stands.saved tells)
+  area_there = area_in it.guard it.journal view.shown (ready.stands.saved tells)
 
   pub next_there : chosen_next view.shown.a view.shown.b ≡ it.journal.next
-  next_there = next_in it.guard it.journal view.shown (stands.saved tells)
+  next_there = next_in it.guard it.journal view.shown (ready.stands.saved tells)
 
   -- whatever is known of its text, commits and graph is known of what is saved
   pub as_saved : (before : List ℕ) (commits : ℕ) (graph : Graph) → SavesAs view before commits graph → (P : List ℕ → ℕ → Graph → Type 0) → P it.guard.text it.guard.commits it.guard.graph → P before commits graph
@@ -130,20 +95,20 @@ module _ (it : StoreState) (view : View) (limits : it.guard.limits ≡ standard)
 
   under_in : (c : Triple) → IsSavedIn it.guard it.journal c → IsUnder kept it.guard.text c
   under_in c is = record {
-    saves = saves_in it.guard it.journal c limits is;
+    saves = saves_in it.guard it.journal c ready.limits is;
     area = area_in it.guard it.journal c is ∙ sym area_there;
-    epoch = epoch_in it.guard it.journal c is ∙ sym (epoch_in it.guard it.journal view.shown (stands.saved tells));
+    epoch = epoch_in it.guard it.journal c is ∙ sym (epoch_in it.guard it.journal view.shown (ready.stands.saved tells));
   }
 
   pub renewed_in : (c : Triple) (text : List ℕ) (resolved : Resolved) → IsConforming it.guard text resolved → IsSavedIn (evolved it.guard text resolved) (longer it.journal (Schema text)) c → IsRenewed kept text c
   renewed_in c text resolved conforming is = record {
     schema = resolved;
-    of_text = answer_of text resolved conforming.0;
+    of_text = answer_ok text resolved conforming.0;
     conforms = conforming.1;
     under = record {
-      saves = saves_in (evolved it.guard text resolved) (longer it.journal (Schema text)) c limits is;
+      saves = saves_in (evolved it.guard text resolved) (longer it.journal (Schema text)) c ready.limits is;
       area = area_in (evolved it.guard text resolved) (longer it.journal (Schema text)) c is ∙ sym area_there;
-      epoch = epoch_in (evolved it.guard text resolved) (longer it.journal (Schema text)) c is ∙ sym (epoch_in it.guard it.journal view.shown (stands.saved tells));
+      epoch = epoch_in (evolved it.guard text resolved) (longer it.journal (Schema text)) c is ∙ sym (epoch_in it.guard it.journal view.shown (ready.stands.saved tells));
     };
   }
 

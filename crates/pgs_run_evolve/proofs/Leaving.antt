@@ -1,23 +1,28 @@
 -- What is left of the world where it was only read, where a refusal was put, and by calls that come one after another.
-use Rattle.std.proofs.Common.{◌≡◌, inl, ℕ, IsTrue, List, ◌++◌, Option, Some, None, refl, sym, ◌∙◌, ap, subst}
+use Rattle.std.proofs.Common.{◌≡◌, inl, ℕ, IsTrue, List, ◌++◌, Option, Some, None, Result, Ok, refl, sym, ◌∙◌, ap, subst}
 use Rattle.pgs_base.specs.Graph.{Graph}
-use Rattle.pgs_run_base.specs.declared.status.Status.{Status}
-use Rattle.pgs_run_base.specs.declared.status.Status.TheVariants.{Accepted, Refused, BadWords, SchemaRefused, StoreRefused, DiskFault, ReadFault, PutFault, Memory, InputTooLong}
-use Rattle.pgs_run_base.specs.Images.{KeepsImages}
-use Rattle.pgs_run_base.specs.Input.{text_front}
-use Rattle.pgs_run_base.proofs.Images.{area_of_images, area_on, each_images, images_on, images_quiet}
-use Rattle.pgs_run_base.proofs.SameFronts.{schema_of_front}
-use Rattle.pgs_run_base.specs.Session.{standard}
+use Rattle.pgs_command.specs.declared.status.Status.{Status}
+use Rattle.pgs_command.specs.declared.status.Status.TheVariants.{Accepted, PutFault}
+use Rattle.pgs_command.specs.Images.{KeepsImages}
+use Rattle.pgs_run_input.specs.Answers.{schema_answer}
+use Rattle.pgs_run_input.specs.Input.{text_front}
+use Rattle.pgs_command.proofs.Images.{area_of_images, area_on, each_images, images_on, images_quiet}
+use Rattle.pgs_run_input.proofs.SameFronts.{schema_of_front}
+use Rattle.pgs_run_input.specs.Session.{standard}
 use Rattle.pgs_snapshot.specs.Choice.{chosen_area, chosen_next}
 use Rattle.pgs_snapshot.specs.Saved.{saved, store}
+use Rattle.pgs_syntax.specs.declared.resolved.Resolved.{Resolved}
+use Rattle.pgs_violation.specs.declared.violation.Verdict.TheVariants.{Conforms}
+use Rattle.pgs_violation.specs.Violations.{verdict}
 use Rattle.pgs_world.specs.Disk.{Puts}
 use Rattle.pgs_world.specs.Moment.{EachSince, IsQuiet, IsSettled, IsTimed, StopsBy}
 use Rattle.pgs_world.specs.World.{Triple, View, other}
 use Rattle.pgs_world.proofs.Moments.{each_on, each_quiet, passes_on, settled_quiet}
 use Rattle.pgs_run_evolve.specs.Evolving.{IsEvolving, IsEvolvingAt, IsRenewed}
 use Rattle.pgs_run_evolve.specs.Leaving.{LeavesEvolved, IsConforming, IsMade, SavesAs, kept_of}
-use Rattle.pgs_run_evolve.proofs.Kept.{evolving_whole, renewed_whole, same_evolving, same_under, settled_under, starts_at}
-use Rattle.pgs_run_evolve.proofs.Lines.{IsUnlike}
+use Rattle.pgs_run_evolve.proofs.Unmoved.{same_under, settled_under, starts_at}
+use Rattle.pgs_run_evolve.proofs.Kept.{evolving_whole, renewed_whole, same_evolving}
+use Rattle.pgs_run_evolve.proofs.Unlike.{IsUnlike}
 
 -- ---- the areas are what they were
 
@@ -121,17 +126,11 @@ leaves_on left old mid new status timed quiet later = record {
 
 -- ---- the front of an input
 
-made_front : (next : Option ℕ) (input : List ℕ) (graph : Graph) (status : Status) → IsMade next input graph status → IsMade next (text_front input) graph status
-made_front next input graph Accepted made = tt
-made_front next input graph PutFault made = (made.0, made.1, (made.2.0, schema_of_front input ∙ made.2.1, made.2.2))
-made_front next input graph Refused made = absurd made
-made_front next input graph BadWords made = absurd made
-made_front next input graph SchemaRefused made = absurd made
-made_front next input graph StoreRefused made = absurd made
-made_front next input graph DiskFault made = absurd made
-made_front next input graph ReadFault made = absurd made
-made_front next input graph Memory made = absurd made
-made_front next input graph InputTooLong made = absurd made
+-- that the schema is in force, by the answer to its text
+abbrev made_by : Option ℕ → Result Resolved (List ℕ) → Graph → Status → Type 0
+made_by next answer graph Accepted = Unit {0}
+made_by next answer graph PutFault = (number : ℕ) × (next ≡ Some number) × ((schema : Resolved) × (answer ≡ Ok schema) × (verdict schema graph ≡ Conforms))
+made_by next answer graph status = ⊥
 
 conforming_front : (input : List ℕ) (graph : Graph) → IsConforming (text_front input) graph → IsConforming input graph
 conforming_front input graph conforming = (conforming.0, sym (schema_of_front input) ∙ conforming.1, conforming.2)
@@ -158,5 +157,5 @@ leaves_whole left text old new status front leaves = record {
       renewed_whole (kept_of old commits graph) input new.shown
       (subst (λ (t : List ℕ). IsRenewed (kept_of old commits graph) t new.shown) (front input is)
       (leaves.made tells text before commits graph refl saves
-      (subst (λ (t : List ℕ). IsMade next t graph status) (sym (front input is)) (made_front next input graph status made))));
+      (subst (λ (a : Result Resolved (List ℕ)). made_by next a graph status) (sym (ap schema_answer (front input is) ∙ schema_of_front input)) made)));
 }

@@ -1,8 +1,7 @@
+pub mod Evolves
 pub mod Kept
 pub mod Leaving
-pub mod Lines
-pub mod Replied
-pub mod Running
-pub mod Taking
+pub mod Promised
+pub mod Unlike
 pub mod Unmoved
 pub mod Unopened

@@ -1,21 +1,20 @@
 -- What is left where no store was opened.
 use Rattle.std.proofs.Common.{◌≡◌, ℕ, false, List, Option, Err, IsTrue, refl, sym, subst}
 use Rattle.pgs_base.specs.Graph.{Graph}
-use Rattle.pgs_run_lines.specs.AreasKept.{KeepsAreas}
-use Rattle.pgs_run_base.specs.declared.status.Status.{Status}
-use Rattle.pgs_run_base.proofs.Images.{images_areas, images_on, images_quiet}
-use Rattle.pgs_run_saved.specs.declared.opening.Unopened.{Unopened}
-use Rattle.pgs_run_saved.specs.declared.opening.Unopened.TheVariants as unopened
-use Rattle.pgs_run_saved.specs.Ending.{EndsUnopened, is_refusal}
-use Rattle.pgs_run_saved.specs.Opening.{Opens}
-use Rattle.pgs_run_saved.proofs.Saving.{never_refused}
+use Rattle.pgs_command.specs.declared.status.Status.{Status}
+use Rattle.pgs_run_store.specs.declared.opening.Unopened.{Unopened}
+use Rattle.pgs_run_store.specs.declared.opening.Unopened.TheVariants as unopened
+use Rattle.pgs_run_store.specs.Ending.{EndsUnopened, is_refusal}
+use Rattle.pgs_run_store.specs.Opening.{Opens}
+use Rattle.pgs_run_store.proofs.Saving.{never_refused}
+use Rattle.pgs_run_store.proofs.Unread.{RunsUnopened, unopened_images}
 use Rattle.pgs_snapshot.specs.Choice.{chosen_next}
-use Rattle.pgs_world.specs.Moment.{EachSince, IsQuiet, IsTimed}
+use Rattle.pgs_world.specs.Moment.{EachSince, IsTimed}
 use Rattle.pgs_world.specs.World.{View}
 use Rattle.pgs_world.proofs.Moments.{each_quiet}
 use Rattle.pgs_run_evolve.specs.Evolving.{IsEvolvingAt}
 use Rattle.pgs_run_evolve.specs.Leaving.{LeavesEvolved, IsMade, SavesAs, kept_of}
-use Rattle.pgs_run_evolve.proofs.Kept.{starts_at}
+use Rattle.pgs_run_evolve.proofs.Unmoved.{starts_at}
 use Rattle.pgs_run_evolve.proofs.Leaving.{leaves_kept}
 
 -- what is saved isn't refused
@@ -32,13 +31,12 @@ unmade (unopened.Refused reply) old mid new result before commits graph opens en
 unmade unopened.DiskFault old mid new result before commits graph opens ends tells saves next input made = subst (IsMade next input graph) ends.0 made
 unmade unopened.Memory old mid new result before commits graph opens ends tells saves next input made = subst (IsMade next input graph) ends.0 made
 
-pub leaves_unopened : (left : Option (List ℕ)) (reason : Unopened) (old mid new : View) (result : Status) → IsTimed old → Opens (Err reason) old mid → IsQuiet old mid → EndsUnopened reason mid result new → KeepsAreas mid new
-    → (is_refusal reason ≡ false → new ≡ mid) → LeavesEvolved left old new result
-leaves_unopened left reason old mid new result timed opens quiet ends areas early =
-    leaves_kept left old new result (images_on old mid new (images_quiet old mid quiet) (images_areas mid new areas))
+pub leaves_unopened : (left : Option (List ℕ)) (reason : Unopened) (old mid new : View) (result : Status) → IsTimed old → RunsUnopened reason old mid new result → (is_refusal reason ≡ false → new ≡ mid) → LeavesEvolved left old new result
+leaves_unopened left reason old mid new result timed ran early =
+    leaves_kept left old new result (unopened_images reason old mid new result ran)
     (λ input before commits graph is saves tells settled.
     let P = IsEvolvingAt (kept_of old commits graph) before input in
-    subst (λ (v : View). EachSince P old v) (sym (early (not_refused reason old mid before commits graph opens settled.tells_bytes saves)))
-    (each_quiet old mid P settled.honest quiet (starts_at old before commits graph saves input timed tells settled)))
+    subst (λ (v : View). EachSince P old v) (sym (early (not_refused reason old mid before commits graph ran.opens settled.tells_bytes saves)))
+    (each_quiet old mid P settled.honest ran.quiet (starts_at old before commits graph saves input timed tells settled)))
     (λ tells input before commits graph is saves made.
-    unmade reason old mid new result before commits graph opens ends tells saves (chosen_next old.shown.a old.shown.b) input made)
+    unmade reason old mid new result before commits graph ran.opens ran.ends tells saves (chosen_next old.shown.a old.shown.b) input made)

@@ -1,8 +1,8 @@
 -- What a stop during the run of `evolve` leaves of what is saved and of the output.
 use Rattle.std.specs.Prelude.{◌≡◌, ◌⊎◌, ℕ, List, ◌++◌, Ok}
 use Rattle.pgs_base.specs.Graph.{Graph}
-use Rattle.pgs_run_base.specs.Answers.{schema_answer}
-use Rattle.pgs_run_base.specs.Session.{standard}
+use Rattle.pgs_run_input.specs.Answers.{schema_answer}
+use Rattle.pgs_run_input.specs.Session.{standard}
 use Rattle.pgs_snapshot.specs.Choice.{chosen_area, chosen_epoch}
 use Rattle.pgs_snapshot.specs.Saved.{saved, store}
 use Rattle.pgs_syntax.specs.declared.resolved.Resolved.{Resolved}

@@ -1,13 +1,16 @@
--- What a run of `evolve` leaves of the world at every moment and at its end.
-use Rattle.std.specs.Prelude.{◌≡◌, ℕ, List, Option, Some, None, Ok, IsTrue}
+-- What a run of `evolve`, and what is done with its text, leave of the world at every moment and at its end.
+use Rattle.std.specs.Prelude.{◌≡◌, ℕ, false, List, Option, Some, None, Ok, IsTrue}
 use Rattle.pgs_base.specs.Graph.{Graph}
-use Rattle.pgs_run_base.specs.declared.status.Status.{Status}
-use Rattle.pgs_run_base.specs.declared.status.Status.TheVariants.{Accepted, PutFault}
-use Rattle.pgs_run_base.specs.Answers.{schema_answer}
-use Rattle.pgs_run_base.specs.Images.{IsUnwritten, KeepsArea, KeepsImages}
-use Rattle.pgs_run_base.specs.Session.{standard}
+use Rattle.pgs_run_lines.specs.Machine.{Told}
+use Rattle.pgs_command.specs.declared.status.Status.{Status}
+use Rattle.pgs_command.specs.declared.status.Status.TheVariants.{Accepted, DiskFault, PutFault}
+use Rattle.pgs_run_input.specs.Answers.{schema_answer}
+use Rattle.pgs_command.specs.Images.{IsUnwritten, KeepsArea, KeepsImages}
+use Rattle.pgs_run_input.specs.Session.{standard}
+use Rattle.pgs_run_input.specs.Text.{AnswersText}
 use Rattle.pgs_snapshot.specs.Choice.{chosen_area, chosen_next}
 use Rattle.pgs_snapshot.specs.Saved.{saved, store}
+use Rattle.pgs_store.specs.Stored.{StandsOn, StoreState}
 use Rattle.pgs_syntax.specs.declared.resolved.Resolved.{Resolved}
 use Rattle.pgs_violation.specs.declared.violation.Verdict.TheVariants.{Conforms}
 use Rattle.pgs_violation.specs.Violations.{verdict}
@@ -56,3 +59,15 @@ pub record LeavesEvolved (left : Option (List ℕ)) (old new : View) (status : S
   pub made : IsTrue old.tells_bytes → (input before : List ℕ) (commits : ℕ) (graph : Graph) → left ≡ Some input
       → SavesAs old before commits graph → IsMade (chosen_next old.shown.a old.shown.b) input graph status
       → IsRenewed (kept_of old commits graph) input new.shown
+
+-- a store within the limits of the program, of which no call answered `DiskFault`, and which stands on the world
+pub record IsEvolvable (it : StoreState) (view : View) : Type 0 where
+  pub limits : it.guard.limits ≡ standard
+  pub whole : it.failed ≡ false
+  pub stands : StandsOn it.guard it.journal view
+
+-- What is done with a text on an opened store: what is told of it is put, and what a run leaves whose input it is.
+pub record EvolvesText (told : Told Status) (text : List ℕ) (old new : View) (status : Status) : Type 0 where
+  pub answers : AnswersText told old new status
+  pub leaves : LeavesEvolved (Some text) old new status
+  pub settles : IsSettled old → (status ≡ DiskFault → ⊥) → IsSettled new

@@ -1,4 +1,4 @@
 pub mod Evolving
 pub mod Leaving
-pub mod Taking
+pub mod Spec
 pub mod Told

@@ -4,11 +4,11 @@ use Rattle.pgs_base.specs.Graph.{Graph}
 use Rattle.pgs_answer.specs.Lines.{evolve_refused_line, evolved_line}
 use Rattle.pgs_answer.specs.Refusals.{old_format_text, violation_text}
 use Rattle.pgs_run_lines.specs.Machine.{Told}
-use Rattle.pgs_run_base.specs.declared.status.Status.{Status}
-use Rattle.pgs_run_base.specs.declared.status.Status.TheVariants.{Accepted, Refused, InputTooLong}
-use Rattle.pgs_run_base.specs.Answers.{schema_answer}
-use Rattle.pgs_run_base.specs.Areas.{Areas}
-use Rattle.pgs_run_saved.specs.Refusing.{SavedStore, store_refused, told_of_areas, told_under}
+use Rattle.pgs_command.specs.declared.status.Status.{Status}
+use Rattle.pgs_command.specs.declared.status.Status.TheVariants.{Accepted, Refused, InputTooLong}
+use Rattle.pgs_run_input.specs.Answers.{schema_answer}
+use Rattle.pgs_command.specs.Areas.{Areas}
+use Rattle.pgs_run_store.specs.Refusing.{SavedStore, store_refused, told_of_areas, told_under}
 use Rattle.pgs_snapshot.specs.Choice.{chosen_next}
 use Rattle.pgs_syntax.specs.declared.resolved.Resolved.{Resolved}
 use Rattle.pgs_violation.specs.declared.violation.Verdict.{Verdict}

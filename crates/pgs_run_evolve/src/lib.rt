@@ -6,7 +6,7 @@
 #![tactic(auto)]
 
 mod evolving;
-mod replying;
+mod lines;
 mod run;
 
 pub use run::run_evolve;

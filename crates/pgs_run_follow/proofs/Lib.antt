@@ -1,4 +1,2 @@
-pub mod FollowEnds
 pub mod Machine
 pub mod Promised
-pub mod Refusing

@@ -9,8 +9,8 @@ use Rattle.pgs_run_lines.specs.Machine.{Told, Standing, Going, told_by, told_at_
 use Rattle.pgs_run_lines.proofs.Fronts.{same_of_front}
 use Rattle.pgs_follow.specs.declared.fault.FollowFault.TheVariants.{LineTooLong}
 use Rattle.pgs_follow.specs.Followed.{Followed, nothing_followed, faulted, after_line, after_lines, with_rest, followed, rest_of}
-use Rattle.pgs_run_follow.specs.declared.status.FollowStatus.{FollowStatus}
-use Rattle.pgs_run_follow.specs.declared.status.FollowStatus.TheVariants as statuses
+use Rattle.pgs_command.specs.declared.status.Status.{Status}
+use Rattle.pgs_command.specs.declared.status.Status.TheVariants.{InputTooLong}
 use Rattle.pgs_run_follow.specs.Following.{following, rest_after, told_last}
 use Rattle.pgs_run_follow.specs.Texts.{standard}
 use Rattle.pgs_run_follow.specs.Told.{told_of, told_follow}
@@ -31,7 +31,7 @@ lines_lead : (f : Followed) (lines : List (List ℕ)) → machine.after_lines fo
 lines_lead f [] = refl
 lines_lead f (line ∷ lines) =
     lines_lead (after_line standard f (front_of 2097152 line)) lines
-    ∙ ap (λ (g : Followed). let at : Standing Followed FollowStatus = Going (after_lines standard g lines) in at) (line_of_front f line)
+    ∙ ap (λ (g : Followed). let at : Standing Followed Status = Going (after_lines standard g lines) in at) (line_of_front f line)
 
 lines_tell : (f : Followed) (lines : List (List ℕ)) → machine.pieces_of_lines following (Going f) (map (front_of 2097152) lines) ≡ []
 lines_tell f [] = refl
@@ -57,15 +57,15 @@ rest_of_front f rest = rest_by f rest (is_some f.fault) refl
 
 -- ---- an input
 
-abbrev told_with : List (List ℕ) → FollowStatus → Told FollowStatus
+abbrev told_with : List (List ℕ) → Status → Told Status
 told_with pieces status = record { pieces = pieces; status = status }
 
-cut_is : (input : List ℕ) → machine.told_cut following 2097152 nothing_followed input ≡ told_with [] statuses.InputTooLong
+cut_is : (input : List ℕ) → machine.told_cut following 2097152 nothing_followed input ≡ told_with [] InputTooLong
 unfolding kept_of
 cut_is input =
     let lines = (lines_of input).ended in
     ap (λ (pieces : List (List ℕ)). told_with pieces (status_at_cut following (machine.after_lines following (Going nothing_followed) (map (front_of 2097152) lines)))) (lines_tell nothing_followed lines)
-    ∙ ap (λ (at : Standing Followed FollowStatus). told_with [] (status_at_cut following at)) (lines_lead nothing_followed lines)
+    ∙ ap (λ (at : Standing Followed Status). told_with [] (status_at_cut following at)) (lines_lead nothing_followed lines)
 
 whole_is : (input : List ℕ) → machine.told_whole following 2097152 nothing_followed input ≡ told_of (followed standard input) (rest_of standard input)
 unfolding kept_of followed rest_of
@@ -74,7 +74,7 @@ whole_is input =
     let rest = (lines_of input).rest in
     let end = told_at_end following (machine.after_lines following (Going nothing_followed) (map (front_of 2097152) lines)) (front_of 2097152 rest) in
     ap (λ (pieces : List (List ℕ)). told_with (pieces ++ end.pieces) end.status) (lines_tell nothing_followed lines)
-    ∙ ap (λ (at : Standing Followed FollowStatus). told_at_end following at (front_of 2097152 rest)) (lines_lead nothing_followed lines)
+    ∙ ap (λ (at : Standing Followed Status). told_at_end following at (front_of 2097152 rest)) (lines_lead nothing_followed lines)
     ∙ rest_of_front (after_lines standard nothing_followed lines) rest
 
 by_budget : (input : List ℕ) (budget : ℕ) (cut : Bool) → nat_le budget (length input) ≡ cut → told_by following 2097152 nothing_followed input budget ≡ told_follow input budget

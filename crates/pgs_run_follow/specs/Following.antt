@@ -6,8 +6,8 @@ use Rattle.pgs_run_lines.specs.Machine.{Machine, Rule, Extent, Whole, Inside, At
 use Rattle.pgs_run_lines.specs.May.{MayPut}
 use Rattle.pgs_run_lines.specs.Pieces.{Shown, shown_of}
 use Rattle.pgs_follow.specs.Followed.{Followed, after_line, with_rest}
-use Rattle.pgs_run_follow.specs.declared.status.FollowStatus.{FollowStatus}
-use Rattle.pgs_run_follow.specs.declared.status.FollowStatus.TheVariants as statuses
+use Rattle.pgs_command.specs.declared.status.Status.{Status}
+use Rattle.pgs_command.specs.declared.status.Status.TheVariants.{InputTooLong}
 use Rattle.pgs_run_follow.specs.Texts.{standard}
 use Rattle.pgs_run_follow.specs.Told.{told_of}
 
@@ -16,27 +16,27 @@ abbrev pub rest_after : Followed → List ℕ → ℕ
 rest_after f rest = if is_some f.fault then 0 else length rest
 
 -- what the end of the input tells, behind this rest
-abbrev pub told_last : Followed → List ℕ → Told FollowStatus
+abbrev pub told_last : Followed → List ℕ → Told Status
 told_last f rest = told_of (with_rest f rest) (rest_after (with_rest f rest) rest)
 
 -- lines tell nothing before the end
-abbrev pub following : Machine FollowStatus
+abbrev pub following : Machine Status
 following = record {
   State = Followed;
   line = λ f line. record { pieces = []; next = Going (after_line standard f line) };
   rest = told_last;
-  cut = λ f. statuses.InputTooLong;
+  cut = λ f. InputTooLong;
   MayStop = MayPut;
   HasRoom = λ lines f. f.lines + lines < 2 ^ 64;
 }
 
 -- nothing is put before the end of the input
-abbrev pub PutsLast : Extent FollowStatus → Shown → Shown → Type 0
+abbrev pub PutsLast : Extent Status → Shown → Shown → Type 0
 PutsLast Whole old new = new ≡ old
 PutsLast (Inside stop) old new = new ≡ old
 PutsLast (AtEnd rest stop) old new = MayPut stop
 
-pub puts_last_on : (extent : Extent FollowStatus) (old mid new : Shown) → mid ≡ old → PutsLast extent mid new → PutsLast extent old new
+pub puts_last_on : (extent : Extent Status) (old mid new : Shown) → mid ≡ old → PutsLast extent mid new → PutsLast extent old new
 puts_last_on Whole old mid new p q = q ∙ p
 puts_last_on (Inside stop) old mid new p q = q ∙ p
 puts_last_on (AtEnd rest stop) old mid new p q = q

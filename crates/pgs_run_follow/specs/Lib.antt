@@ -1,7 +1,4 @@
-pub mod Calls
-pub mod Ending
-pub mod ExitStatus
 pub mod Following
-pub mod Promise
+pub mod Spec
 pub mod Texts
 pub mod Told

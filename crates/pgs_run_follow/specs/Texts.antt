@@ -1,7 +1,8 @@
--- The texts of faults, and the lines that a run puts. Numbers are plain decimals.
-use Rattle.std.specs.Prelude.{ℕ, List, ◌++◌, codes, decimal}
+-- The texts of faults, and their line.
+use Rattle.std.specs.Prelude.{ℕ, List}
 use Rattle.pgs_base.specs.declared.limits.Limits.{Limits}
-use Rattle.pgs_answer.specs.Refusals.{structural_text}
+use Rattle.pgs_answer.specs.Lines.{feed_refused_line}
+use Rattle.pgs_answer.specs.Refusals.{line_too_long_at_text, not_a_commit_text, gap_text, bad_commit_text}
 use Rattle.pgs_follow.specs.declared.fault.FollowFault.{FollowFault}
 use Rattle.pgs_follow.specs.declared.fault.FollowFault.TheVariants.{LineTooLong, BadLine, Gap, BadCommit}
 
@@ -11,14 +12,10 @@ standard = record { ops = 10000; elements = 1000000 }
 
 -- the number and the words of a fault
 abbrev pub fault_text : FollowFault → List ℕ
-fault_text (LineTooLong line) = codes "47 line " ++ (decimal line ++ codes " is too long")
-fault_text (BadLine line) = codes "48 line " ++ (decimal line ++ codes " is not a commit")
-fault_text (Gap expected found) = codes "49 expected " ++ (decimal expected ++ (codes ", found " ++ decimal found))
-fault_text (BadCommit commit cause) = codes "50 commit " ++ (decimal commit ++ (codes ": " ++ structural_text cause standard))
+fault_text (LineTooLong line) = line_too_long_at_text line
+fault_text (BadLine line) = not_a_commit_text line
+fault_text (Gap expected found) = gap_text expected found
+fault_text (BadCommit commit cause) = bad_commit_text commit cause standard
 
-unfoldable pub fault_line : FollowFault → List ℕ
-fault_line fault = codes "refused " ++ (fault_text fault ++ codes "\n")
-
--- how many commits were followed, and how many bytes stand behind the last line feed
-unfoldable pub followed_line : ℕ → ℕ → List ℕ
-followed_line commits rest = codes "followed commits=" ++ (decimal commits ++ (codes " rest=" ++ (decimal rest ++ codes "\n")))
+abbrev pub fault_line : FollowFault → List ℕ
+fault_line fault = feed_refused_line (fault_text fault)

@@ -10,9 +10,10 @@ ghost use Rattle.pgs_follow.specs.Followed.{nothing_followed, with_rest};
 ghost use Rattle.pgs_run_follow.specs.Following.{following, puts_last, rest_after};
 ghost use Rattle.pgs_run_follow.specs.Told.{fault_lines, told_of};
 
-use crate::status::FollowStatus;
-use crate::texts::{fault_line, followed_line};
+use crate::texts::fault_line;
+use pgs_answer::followed_line;
 use pgs_base::Limits;
+use pgs_command::Status;
 use pgs_dump::put_graph;
 use pgs_follow::Progress;
 use pgs_json::COMMIT_LIMIT;
@@ -44,7 +45,7 @@ fn put_fault<W: World>(
     alloc: Global,
     world: &mut W,
     progress: &Progress,
-) -> Result<(), Stop<FollowStatus>>
+) -> Result<(), Stop<Status>>
     ensures puts { Puts (W.view world.old) (fault_lines progress.now.followed.fault) result (W.view world.new) }
     ensures last { stops_of_world result ≡ true → W.failed world.new }
 {
@@ -60,7 +61,7 @@ fn put_told<W: World>(
     world: &mut W,
     progress: &Progress,
     rest: u64,
-) -> Result<(), Stop<FollowStatus>>
+) -> Result<(), Stop<Status>>
     ensures puts { Puts (W.view world.old) (told_of progress.now.followed rest).pieces result (W.view world.new) }
     ensures last { stops_of_world result ≡ true → W.failed world.new }
 {
@@ -70,13 +71,13 @@ fn put_told<W: World>(
 }
 
 // The status of what was followed.
-fn status_of(progress: &Progress) -> FollowStatus
+fn followed_status(progress: &Progress) -> Status
     ensures { (rest : ℕ) → result ≡ (told_of progress.now.followed rest).status }
 {
     if progress.has_fault() {
-        FollowStatus::Refused
+        Status::Refused
     } else {
-        FollowStatus::Accepted
+        Status::Accepted
     }
 }
 
@@ -91,7 +92,7 @@ impl Following {
     }
 
     // Takes a line.
-    fn take_line(&mut self, line: &[u8]) -> Result<(), Stop<FollowStatus>>
+    fn take_line(&mut self, line: &[u8]) -> Result<(), Stop<Status>>
         requires { self.old.lines < 2 ^ 64 - 1 }
         ensures leads { LineLeads following self.old line.now self.new result }
         ensures counted { self.new.lines ≤ self.old.lines + 1 }
@@ -127,7 +128,7 @@ impl Following {
     }
 
     // Puts what is told at the end, and gives the status.
-    fn tell<W: World>(&self, alloc: Global, world: &mut W, rest: u64) -> Stop<FollowStatus>
+    fn tell<W: World>(&self, alloc: Global, world: &mut W, rest: u64) -> Stop<Status>
         ensures ends { Ends (shown_of (W.view world.old)) (told_of self.now rest) result (shown_of (W.view world.new)) }
         ensures cause { HasCause (faults_of 0 (W.view world.old)) (faults_of 0 (W.view world.new)) result }
         ensures may { MayPut result }
@@ -138,12 +139,12 @@ impl Following {
             Ok(()) => {}
             Err(stop) => return stop,
         }
-        Stop::Ended(status_of(&self.progress))
+        Stop::Ended(followed_status(&self.progress))
     }
 }
 
 impl LineTaker for Following {
-    type Status = FollowStatus;
+    type Status = Status;
 
     ghost machine = { following };
 
@@ -158,22 +159,17 @@ impl LineTaker for Following {
         alloc: Global,
         world: &mut W,
         line: &[u8],
-    ) -> Result<(), Stop<FollowStatus>> {
+    ) -> Result<(), Stop<Status>> {
         self.take_line(line)
     }
 
-    fn end_input<W: World>(
-        &mut self,
-        alloc: Global,
-        world: &mut W,
-        rest: &[u8],
-    ) -> Stop<FollowStatus> {
+    fn end_input<W: World>(&mut self, alloc: Global, world: &mut W, rest: &[u8]) -> Stop<Status> {
         self.end_unfinished(rest);
         let count = self.rest_after(rest);
         self.tell(alloc, world, count)
     }
 
-    fn end_budget(&self) -> FollowStatus {
-        FollowStatus::InputTooLong
+    fn end_budget(&self) -> Status {
+        Status::InputTooLong
     }
 }

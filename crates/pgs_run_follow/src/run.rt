@@ -1,19 +1,20 @@
-ghost use Rattle.std.specs.Prelude.{◌≡◌, ◌≤◌, ◌<◌, ◌^◌, List, ℕ, Some, false, true};
+ghost use Rattle.std.specs.Prelude.{◌≡◌, ◌≤◌, ◌<◌, ◌^◌, ◌⊎◌, List, true};
+ghost use Rattle.pgs_command.specs.Answers.{IsOfWords};
+ghost use Rattle.pgs_command.specs.Calls.{fails_read, fails_world};
+ghost use Rattle.pgs_command.specs.Promise.{Promise};
+ghost use Rattle.pgs_command.specs.Setting.{setting_of};
+ghost use Rattle.pgs_feed.specs.Places.{Place};
 ghost use Rattle.pgs_run_lines.specs.Calls.{Reads};
-ghost use Rattle.pgs_run_follow.specs.Calls.{fails_read, fails_world};
-ghost use Rattle.pgs_run_lines.specs.AreasKept.{KeepsAreas};
-ghost use Rattle.pgs_run_lines.specs.Ending.{faults_of};
-ghost use Rattle.pgs_run_lines.specs.Pieces.{shown_of};
-ghost use Rattle.pgs_run_follow.specs.Ending.{Ends, HasCause, IsRead, IsUnended, RefusesWords, TakesWithin};
-ghost use Rattle.pgs_run_follow.specs.Promise.{KeepsPromise, setting_of};
-ghost use Rattle.pgs_run_follow.specs.Told.{is_follow, told, told_follow};
+ghost use Rattle.pgs_run_follow.specs.Spec.{IsOfFollower, follow_spec, spec_for, status_of};
+ghost use Rattle.pgs_run_follow.specs.Told.{is_follow};
 
 use crate::following::Following;
-use crate::status::{FollowStatus, status_at};
+use crate::status::FollowStatus;
 use pgs_answer::words_refused_line;
 use pgs_base::Words;
+use pgs_command::{Status, refuse_words, status_at};
 use pgs_json::COMMIT_LIMIT;
-use pgs_run_lines::{BUDGET, put_last, run_lines};
+use pgs_run_lines::{BUDGET, run_lines};
 use pgs_world::{Source, World};
 use std::alloc::Global;
 
@@ -27,33 +28,12 @@ fn is_follow(words: &Words) -> bool
     }
 }
 
-// Refuses the words.
-fn refuse_words<W: World>(alloc: Global, world: &mut W) -> FollowStatus
-    ensures ends { (input : List ℕ) (budget : ℕ) (words : List (List ℕ)) → is_follow words ≡ false
-        → Ends (shown_of (W.view world.old)) (told words input budget) result (shown_of (W.view world.new)) }
-    ensures answer { RefusesWords result }
-    ensures cause { (reads : ℕ) → HasCause (faults_of reads (W.view world.old)) (faults_of reads (W.view world.new)) result }
-    ensures areas { KeepsAreas (W.view world.old) (W.view world.new) }
-    ensures last { fails_world result ≡ true → W.failed world.new }
-{
-    put_last(world, words_refused_line(alloc), FollowStatus::BadWords)
-}
-
 // Follows the feed of an input.
-fn follow<S: Source, W: World>(
-    alloc: Global,
-    source: &mut S,
-    world: &mut W,
-    budget: u64,
-) -> FollowStatus
+fn follow<S: Source, W: World>(alloc: Global, source: &mut S, world: &mut W, budget: u64) -> Status
     requires { budget ≤ 2 ^ 40 }
-    ensures ends { (input : List ℕ) → S.left source.old ≡ Some input
-        → Ends (shown_of (W.view world.old)) (told_follow input budget) result (shown_of (W.view world.new)) }
-    ensures silent { IsUnended result → shown_of (W.view world.new) ≡ shown_of (W.view world.old) }
-    ensures takes { (input rest : List ℕ) → S.left source.old ≡ Some input → S.left source.new ≡ Some rest → TakesWithin input budget rest result }
-    ensures reads { IsRead (S.left source.new) result }
-    ensures cause { HasCause (faults_of (S.faults source.old) (W.view world.old)) (faults_of (S.faults source.new) (W.view world.new)) result }
-    ensures areas { KeepsAreas (W.view world.old) (W.view world.new) }
+    ensures promise { (places : List Place) → Promise follow_spec budget
+        (setting_of (S.left source.old) (S.faults source.old) (W.view world.old) places)
+        (setting_of (S.left source.new) (S.faults source.new) (W.view world.new) places) result }
     ensures last { fails_world result ≡ true → W.failed world.new }
     ensures calls { Reads S.read_made budget source.old (fails_read result) source.new }
 {
@@ -62,11 +42,34 @@ fn follow<S: Source, W: World>(
     status_at(stop)
 }
 
+// Follows, or refuses the words.
+fn run_words<S: Source, W: World>(
+    alloc: Global,
+    words: &Words,
+    source: &mut S,
+    world: &mut W,
+    budget: u64,
+) -> Status
+    requires { budget ≤ 2 ^ 40 }
+    ensures promise { (places : List Place) → Promise (spec_for words.now) budget
+        (setting_of (S.left source.old) (S.faults source.old) (W.view world.old) places)
+        (setting_of (S.left source.new) (S.faults source.new) (W.view world.new) places) result }
+    ensures answer { IsOfFollower result ⊎ IsOfWords result }
+    ensures last { fails_world result ≡ true → W.failed world.new }
+    ensures calls { Reads S.read_made budget source.old (fails_read result) source.new }
+{
+    if is_follow(words) {
+        follow(alloc, source, world, budget)
+    } else {
+        refuse_words(world, words_refused_line(alloc))
+    }
+}
+
 /// Runs the program's words over an input, an output and a budget of bytes of the input, 1 to 2^40, and answers the status. The one word
 /// `follow` reads the feed to its end, and then puts the fault, if there is one, how far it came, and the graph (docs/DEFINITIONS.md,
 /// "A feed that is followed"); other words put one line and leave the source unread. A read asks for at most 65,536 bytes and never
-/// for more than is left of the budget; each line that is put is one `put`. What is promised of it, part by part, is `KeepsPromise`
-/// (specs/Promise.antt).
+/// for more than is left of the budget; each line that is put is one `put`. What is promised of it is the `Promise` of the command that
+/// the words are (specs/Spec.antt).
 pub fn run_follow_within<S: Source, W: World>(
     alloc: Global,
     words: &Words,
@@ -76,17 +79,13 @@ pub fn run_follow_within<S: Source, W: World>(
 ) -> FollowStatus
     requires positive { 0 < budget }
     requires within { budget ≤ 2 ^ 40 }
-    ensures promise { KeepsPromise words.now budget
-        (setting_of (S.left source.old) (S.faults source.old) (W.view world.old))
-        (setting_of (S.left source.new) (S.faults source.new) (W.view world.new)) result }
-    ensures last { fails_world result ≡ true → W.failed world.new }
-    ensures calls { Reads S.read_made budget source.old (fails_read result) source.new }
+    ensures promise { (places : List Place) → Promise (spec_for words.now) budget
+        (setting_of (S.left source.old) (S.faults source.old) (W.view world.old) places)
+        (setting_of (S.left source.new) (S.faults source.new) (W.view world.new) places) (status_of result) }
+    ensures last { fails_world (status_of result) ≡ true → W.failed world.new }
+    ensures calls { Reads S.read_made budget source.old (fails_read (status_of result)) source.new }
 {
-    if is_follow(words) {
-        follow(alloc, source, world, budget)
-    } else {
-        refuse_words(alloc, world)
-    }
+    FollowStatus::of(run_words(alloc, words, source, world, budget))
 }
 
 /// Runs the program's words over an input and an output: `run_follow_within` with a budget of 2^40 bytes.
@@ -96,11 +95,11 @@ pub fn run_follow<S: Source, W: World>(
     source: &mut S,
     world: &mut W,
 ) -> FollowStatus
-    ensures promise { KeepsPromise words.now (2 ^ 40)
-        (setting_of (S.left source.old) (S.faults source.old) (W.view world.old))
-        (setting_of (S.left source.new) (S.faults source.new) (W.view world.new)) result }
-    ensures last { fails_world result ≡ true → W.failed world.new }
-    ensures calls { Reads S.read_made (2 ^ 40) source.old (fails_read result) source.new }
+    ensures promise { (places : List Place) → Promise (spec_for words.now) (2 ^ 40)
+        (setting_of (S.left source.old) (S.faults source.old) (W.view world.old) places)
+        (setting_of (S.left source.new) (S.faults source.new) (W.view world.new) places) (status_of result) }
+    ensures last { fails_world (status_of result) ≡ true → W.failed world.new }
+    ensures calls { Reads S.read_made (2 ^ 40) source.old (fails_read (status_of result)) source.new }
 {
     run_follow_within(alloc, words, source, world, BUDGET)
 }

@@ -1,8 +1,9 @@
-ghost use Rattle.std.specs.Prelude.{◌≡◌};
-ghost use Rattle.pgs_run_follow.specs.Ending.{status_at};
-ghost use Rattle.pgs_run_follow.specs.ExitStatus.{status_number};
+ghost use Rattle.std.specs.Prelude.{◌≡◌, ◌⊎◌};
+ghost use Rattle.pgs_command.specs.Answers.{IsOfWords};
+ghost use Rattle.pgs_command.specs.ExitStatus.{status_number};
+ghost use Rattle.pgs_run_follow.specs.Spec.{IsOfFollower, status_of};
 
-use pgs_run_lines::{RunStatus, Stop};
+use pgs_command::Status;
 
 /// How a run ended. The number is the exit status of the program.
 #[derive(Clone, Copy, PartialEq, Eq)]
@@ -24,47 +25,42 @@ pub enum FollowStatus {
 }
 
 impl FollowStatus {
-    /// The number of the status, as `pgguard` has it.
-    #[tactic(auto, unfolding(crate::specs::ExitStatus::status_number))]
-    pub fn number(self) -> u8
-        ensures { result ≡ status_number self }
+    /// The status of a run that followed, or whose words were refused.
+    pub(crate) fn of(status: Status) -> FollowStatus
+        requires { IsOfFollower status ⊎ IsOfWords status }
+        ensures { status_of result ≡ status }
     {
-        match self {
-            FollowStatus::Accepted => 0,
-            FollowStatus::Refused => 1,
-            FollowStatus::BadWords => 2,
-            FollowStatus::ReadFault => 6,
-            FollowStatus::PutFault => 7,
-            FollowStatus::Memory => 8,
-            FollowStatus::InputTooLong => 9,
+        match status {
+            Status::Accepted => FollowStatus::Accepted,
+            Status::Refused => FollowStatus::Refused,
+            Status::BadWords => FollowStatus::BadWords,
+            Status::ReadFault => FollowStatus::ReadFault,
+            Status::PutFault => FollowStatus::PutFault,
+            Status::Memory => FollowStatus::Memory,
+            Status::InputTooLong => FollowStatus::InputTooLong,
+            Status::SchemaRefused | Status::StoreRefused | Status::DiskFault => unreachable!(),
         }
     }
-}
 
-impl RunStatus for FollowStatus {
-    ghost use Rattle.pgs_run_follow.specs.declared.status.FollowStatus.TheVariants.{Memory, PutFault};
-
-    ghost put_failed = { PutFault };
-
-    ghost no_memory = { Memory };
-
-    fn put_fault() -> FollowStatus {
-        FollowStatus::PutFault
+    /// As a status of a command.
+    pub fn status(self) -> Status
+        ensures { result ≡ status_of self }
+    {
+        match self {
+            FollowStatus::Accepted => Status::Accepted,
+            FollowStatus::Refused => Status::Refused,
+            FollowStatus::BadWords => Status::BadWords,
+            FollowStatus::ReadFault => Status::ReadFault,
+            FollowStatus::PutFault => Status::PutFault,
+            FollowStatus::Memory => Status::Memory,
+            FollowStatus::InputTooLong => Status::InputTooLong,
+        }
     }
 
-    fn memory() -> FollowStatus {
-        FollowStatus::Memory
-    }
-}
-
-/// The status of a run over lines that stopped so.
-pub fn status_at(stop: Stop<FollowStatus>) -> FollowStatus
-    ensures { result ≡ status_at stop }
-{
-    match stop {
-        Stop::Ended(status) => status,
-        Stop::ReadFault => FollowStatus::ReadFault,
-        Stop::PutFault => FollowStatus::PutFault,
-        Stop::AreaFault | Stop::Memory => FollowStatus::Memory,
+    /// The number of the status, as `pgguard` has it.
+    pub fn number(self) -> u8
+        ensures { result ≡ status_number (status_of self) }
+    {
+        self.status().number()
     }
 }

@@ -22,7 +22,7 @@ use Rattle.pgs_violation.specs.declared.structural.Structural.TheVariants.{TooMa
 use Rattle.pgs_violation.specs.Decision.{conforming, decide, graph_after, judged, judging}
 use Rattle.pgs_violation.specs.Staging.{◌>>=◌, StepFault, Unable, after_ops, found_or, going_on, step, within_limit}
 use Rattle.pgs_violation.specs.Violations.{verdict}
-use Rattle.pgs_run_base.specs.Session.{standard}
+use Rattle.pgs_run_input.specs.Session.{standard}
 use Rattle.pgs_run_gen.specs.Persons.{persons}
 use Rattle.pgs_run_gen.specs.Workload.{accepted_of, decided, graph_left, rejected_of}
 use Rattle.pgs_run_gen.proofs.Conforming.{edge_id, edge_row, graph_conforms, graph_to, known_before, node_id, node_row}

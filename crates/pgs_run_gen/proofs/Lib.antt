@@ -3,7 +3,7 @@ pub mod Conforming
 pub mod Decided
 pub mod Incoming
 pub mod Numbered
-pub mod Replied
+pub mod Promised
 pub mod SchemaText
 pub mod Telling
 pub mod Typed

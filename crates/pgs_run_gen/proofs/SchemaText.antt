@@ -24,7 +24,7 @@ use Rattle.pgs_syntax.specs.declared.specification.Spec.{Word, And}
 use Rattle.pgs_syntax.specs.declared.specification.Spec.TheBlock as block
 use Rattle.pgs_syntax.specs.Samples.{property, qualifiers}
 use Rattle.pgs_syntax.specs.Width.{first_too_wide}
-use Rattle.pgs_run_base.specs.Answers.{schema_answer, schema_or_text}
+use Rattle.pgs_run_input.specs.Answers.{schema_answer, schema_or_text}
 use Rattle.pgs_run_gen.specs.Persons.{persons}
 
 abbrev key_of : ℕ → List ℕ → RawKey

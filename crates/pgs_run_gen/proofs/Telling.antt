@@ -1,6 +1,5 @@
 -- What is told of a workload: all its transactions are accepted.
-use Rattle.std.proofs.Common.{◌≡◌, ℕ, ◌≤◌, Bool, true, false, cond, List, sym, ap, ap₂, subst, ◌∙◌}
-use Rattle.std.specs.Prelude.{◌==◌}
+use Rattle.std.proofs.Common.{◌≡◌, ℕ, ◌≤◌, List, sym, ap, ap₂, subst, ◌∙◌}
 use Rattle.pgs_base.specs.declared.limits.Limits.{Limits}
 use Rattle.pgs_resolve.specs.SchemaOf.{schema, schema_of}
 use Rattle.pgs_schema.specs.declared.fault.SchemaFault.{SchemaFault}
@@ -11,11 +10,11 @@ use Rattle.pgs_schema.specs.Told.{IsRefused, answer_of}
 use Rattle.pgs_gen.specs.Generated.{schema_text}
 use Rattle.pgs_syntax.specs.declared.resolved.Resolved.{Resolved}
 use Rattle.pgs_violation.specs.Violations.{verdict}
-use Rattle.pgs_run_base.specs.declared.status.Status.TheVariants.{Accepted, Refused, InputTooLong}
-use Rattle.pgs_run_base.specs.Session.{standard}
+use Rattle.pgs_command.specs.declared.status.Status.TheVariants.{Accepted}
+use Rattle.pgs_run_input.specs.Session.{standard}
 use Rattle.pgs_run_gen.specs.Persons.{persons}
 use Rattle.pgs_run_gen.specs.Told.{status_of, told_of, told_gen}
-use Rattle.pgs_run_gen.specs.Workload.{decided, rejected_of}
+use Rattle.pgs_run_gen.specs.Workload.{decided}
 use Rattle.pgs_run_gen.proofs.Accepting.{all_accepted}
 use Rattle.pgs_run_gen.proofs.SchemaText.{text_has_schema}
 
@@ -53,12 +52,3 @@ never_refused text fault same is = no_refusal persons fault (sym text_has_schema
 pub never_unread : (text : List ℕ) (unread : SchemaUnread) (fault : SchemaFault) → unread ≡ Schema fault → text ≡ schema_text → IsRefused (schema_of text) unread → ⊥
 never_unread text unread fault is same refused =
     never_refused text fault same (subst (λ (u : SchemaUnread). IsRefused (schema_of text) u) is refused)
-
-own_status : (all : Bool) → cond all Accepted Refused ≡ InputTooLong → ⊥
-own_status true cut = cc
-own_status false cut = cc
-
--- what is told is never that the input is too long
-pub never_cut : (start count : ℕ) → (told_gen start count).status ≡ InputTooLong → ⊥
-unfolding told_gen
-never_cut start count cut = own_status (rejected_of (decided standard (verdict persons) start count) == 0) cut

@@ -1,4 +1,4 @@
-pub mod Answer
 pub mod Persons
+pub mod Spec
 pub mod Told
 pub mod Workload

@@ -6,9 +6,9 @@ use Rattle.pgs_graph.specs.Reads.{in_edges_of}
 use Rattle.pgs_run_lines.specs.Machine.{Told}
 use Rattle.pgs_violation.specs.declared.rejection.Rejection.{Rejection}
 use Rattle.pgs_violation.specs.Violations.{verdict}
-use Rattle.pgs_run_base.specs.declared.status.Status.{Status}
-use Rattle.pgs_run_base.specs.declared.status.Status.TheVariants.{Accepted, Refused}
-use Rattle.pgs_run_base.specs.Session.{standard}
+use Rattle.pgs_command.specs.declared.status.Status.{Status}
+use Rattle.pgs_command.specs.declared.status.Status.TheVariants.{Accepted, Refused}
+use Rattle.pgs_run_input.specs.Session.{standard}
 use Rattle.pgs_run_gen.specs.Persons.{persons}
 use Rattle.pgs_run_gen.specs.Workload.{decided, graph_left, accepted_of, rejected_of}
 

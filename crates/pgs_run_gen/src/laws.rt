@@ -3,8 +3,8 @@
 ghost use Rattle.std.specs.Prelude.{◌≡◌, ◌≤◌, ℕ, Ok};
 ghost use Rattle.pgs_gen.specs.Generated.{schema_text};
 ghost use Rattle.pgs_violation.specs.Violations.{verdict};
-ghost use Rattle.pgs_run_base.specs.Answers.{schema_answer};
-ghost use Rattle.pgs_run_base.specs.Session.{standard};
+ghost use Rattle.pgs_run_input.specs.Answers.{schema_answer};
+ghost use Rattle.pgs_run_input.specs.Session.{standard};
 ghost use Rattle.pgs_run_gen.specs.Persons.{persons};
 ghost use Rattle.pgs_run_gen.specs.Workload.{accepted_of, decided, rejected_of};
 

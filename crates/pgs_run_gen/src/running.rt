@@ -1,23 +1,19 @@
-ghost use Rattle.std.specs.Prelude.{◌≡◌, ◌<◌, ◌≤◌, ◌∷◌, [], ℕ, false, IfOk, true};
-ghost use Rattle.pgs_run_base.specs.Calls.{fails_world};
+ghost use Rattle.std.specs.Prelude.{◌≡◌, ◌<◌, ◌≤◌, ◌∷◌, [], IfOk, true};
+ghost use Rattle.pgs_command.specs.Calls.{fails_world};
 ghost use Rattle.pgs_base.specs.Graph.{empty_graph};
-ghost use Rattle.pgs_run_lines.specs.AreasKept.{KeepsAreas};
-ghost use Rattle.pgs_run_lines.specs.Ending.{faults_of};
-ghost use Rattle.pgs_run_lines.specs.Pieces.{shown_of};
 ghost use Rattle.pgs_violation.specs.Violations.{verdict};
-ghost use Rattle.pgs_run_base.specs.Ending.{Ends};
-ghost use Rattle.pgs_run_base.specs.Run.{HasCommandCause};
-ghost use Rattle.pgs_run_base.specs.Session.{standard};
-ghost use Rattle.pgs_run_gen.specs.Answer.{IsAnswer};
+ghost use Rattle.pgs_command.specs.Promise.{PromiseAlone};
+ghost use Rattle.pgs_run_input.specs.Session.{standard};
 ghost use Rattle.pgs_run_gen.specs.Persons.{persons};
+ghost use Rattle.pgs_run_gen.specs.Spec.{gen_spec};
 ghost use Rattle.pgs_run_gen.specs.Told.{told_gen, told_of};
 ghost use Rattle.pgs_run_gen.specs.Workload.{decided};
 
 use crate::deciding::decide_workload;
 use crate::summary::summary;
 use pgs_base::{Limits, Memory, Seed, Steps};
+use pgs_command::Status;
 use pgs_gen::schema;
-use pgs_run_base::Status;
 use pgs_run_lines::{Reply, put_reply};
 use pgs_schema::SchemaUnread;
 use pgs_store::Guard;
@@ -85,10 +81,7 @@ fn reply_of(alloc: Global, seed: Seed, start: u64, count: u64) -> Result<Reply<S
 /// rose, or `Memory`.
 pub fn run_gen<W: World>(alloc: Global, world: &mut W, start: u64, count: u64) -> Status
     requires { count ≤ 500000 }
-    ensures shown { Ends (shown_of (W.view world.old)) (told_gen start count) result (shown_of (W.view world.new)) }
-    ensures answer { IsAnswer result }
-    ensures cause { (reads : ℕ) → HasCommandCause false false (faults_of reads (W.view world.old)) (faults_of reads (W.view world.new)) result }
-    ensures areas { KeepsAreas (W.view world.old) (W.view world.new) }
+    ensures promise { PromiseAlone (gen_spec start count) (W.view world.old) (W.view world.new) result }
     ensures last { fails_world result ≡ true → W.failed world.new }
 {
     match reply_of(alloc, world.seed(), start, count) {

@@ -11,7 +11,7 @@ use Rattle.pgs_run_lines.specs.Ending.{Faults, faults_of, HasCause}
 pub cause_on : {E : Type 0} (before mid now : Faults) (stop : Stop E) → mid ≡ before → HasCause mid now stop → HasCause before now stop
 cause_on before mid now (stops.Ended status) same cause = cause ∙ same
 cause_on before mid now stops.ReadFault same cause = rw (sym same) cause
-cause_on before mid now stops.AreaFault same cause = rw (sym same) cause
+cause_on before mid now stops.DiskFault same cause = rw (sym same) cause
 cause_on before mid now stops.PutFault same cause = rw (sym same) cause
 cause_on before mid now stops.Memory same cause = cause ∙ same
 
@@ -28,7 +28,7 @@ same_world reads old new same =
 pub world_cause : {E : Type 0} (reads : ℕ) (old new : View) (stop : Stop E) → HasCause (faults_of 0 old) (faults_of 0 new) stop → HasCause (faults_of reads old) (faults_of reads new) stop
 world_cause reads old new (stops.Ended status) cause = same_world reads old new cause
 world_cause reads old new stops.ReadFault cause = absurd (no_rise 0 cause.0 refl)
-world_cause reads old new stops.AreaFault cause = (cause.0, refl, cause.2)
+world_cause reads old new stops.DiskFault cause = (cause.0, refl, cause.2)
 world_cause reads old new stops.PutFault cause = (cause.0, refl, cause.2)
 world_cause reads old new stops.Memory cause = same_world reads old new cause
 
@@ -39,6 +39,6 @@ world_same reads now old new is same = ap (λ n. faults_of n new) is ∙ same_wo
 pub not_of_source : {E : Type 0} (old new : View) (stop : Stop E) → HasCause (faults_of 0 old) (faults_of 0 new) stop → is_of_source stop ≡ false
 not_of_source old new (stops.Ended status) cause = refl
 not_of_source old new stops.ReadFault cause = absurd (no_rise 0 cause.0 refl)
-not_of_source old new stops.AreaFault cause = refl
+not_of_source old new stops.DiskFault cause = refl
 not_of_source old new stops.PutFault cause = refl
 not_of_source old new stops.Memory cause = refl

@@ -20,7 +20,7 @@ map_more : (left : Option (List ℕ)) (seen chunk : List ℕ) → option_map (λ
 map_more None seen chunk = refl
 map_more (Some rest) seen chunk = ap Some (sym (append_assoc seen chunk rest))
 
-takes_on : (before mid left : Option (List ℕ)) (seen chunk : List ℕ) → Takes before mid seen → Takes mid left chunk → Takes before left (seen ++ chunk)
+pub takes_on : (before mid left : Option (List ℕ)) (seen chunk : List ℕ) → Takes before mid seen → Takes mid left chunk → Takes before left (seen ++ chunk)
 takes_on before mid left seen chunk first second =
     first ∙ ap (λ o. option_map (λ (rest : List ℕ). seen ++ rest) o) second ∙ map_more left seen chunk
 
@@ -38,7 +38,7 @@ module _ {E : Type 0} (m : Machine E) (rule : Rule m) (limit : ℕ) where
   stops_in s start seen state line (stops.Ended status) old now cause stopped = stopped
   stops_in s start seen state line stops.ReadFault old now cause stopped = absurd (no_rise 0 cause.0 refl)
   stops_in s start seen state line stops.PutFault old now cause stopped = stopped
-  stops_in s start seen state line stops.AreaFault old now cause stopped = stopped
+  stops_in s start seen state line stops.DiskFault old now cause stopped = stopped
   stops_in s start seen state line stops.Memory old now cause stopped = stopped
 
   -- before the first read

@@ -146,11 +146,11 @@ module _ {E : Type 0} (m : Machine E) (rule : Rule m) (limit : ℕ) (s : m.State
       let tells = tells_on m limit s input bytes of.rest at.until at.later budget of.parts at.parts few in
       ended input bytes stops.PutFault now is taken few (λ e. cc)
       (subst (λ pieces. Ends (shown_of start.view) (record { pieces = pieces; status = (told_by m limit s input budget).status }) stops.PutFault (shown_of now.view)) (sym tells.is) (torn_of_more (shown_of start.view) (shown_of now.view) (pieces_of_lines m (Going s) at.until) tells.later at.shows))
-  stop_ends input bytes state line stops.AreaFault now is taken few at =
+  stop_ends input bytes state line stops.DiskFault now is taken few at =
       let of = rest_of input bytes before left is taken in
       let tells = tells_on m limit s input bytes of.rest at.until at.later budget of.parts at.parts few in
-      ended input bytes stops.AreaFault now is taken few (λ e. cc)
-      (subst (λ pieces. Ends (shown_of start.view) (record { pieces = pieces; status = (told_by m limit s input budget).status }) stops.AreaFault (shown_of now.view)) (sym tells.is) (first_of_more (shown_of start.view) (shown_of now.view) (pieces_of_lines m (Going s) at.until) tells.later at.shows))
+      ended input bytes stops.DiskFault now is taken few (λ e. cc)
+      (subst (λ pieces. Ends (shown_of start.view) (record { pieces = pieces; status = (told_by m limit s input budget).status }) stops.DiskFault (shown_of now.view)) (sym tells.is) (first_of_more (shown_of start.view) (shown_of now.view) (pieces_of_lines m (Going s) at.until) tells.later at.shows))
   stop_ends input bytes state line stops.Memory now is taken few at =
       let of = rest_of input bytes before left is taken in
       let tells = tells_on m limit s input bytes of.rest at.until at.later budget of.parts at.parts few in
@@ -163,7 +163,7 @@ module _ {E : Type 0} (m : Machine E) (rule : Rule m) (limit : ℕ) (s : m.State
   pub stopped_by : (state : m.State) (line : List ℕ) (stop : Stop E) (now : Scene rule.Kept) → Reads m rule limit s start budget before left state line (Err stop) now → EndsBy m budget before left stop
   stopped_by state line (stops.Ended status) now r = inl (ended_at m s r.ends.1.until status r.ends.1.ends)
   stopped_by state line stops.ReadFault now r = tt
-  stopped_by state line stops.AreaFault now r = tt
+  stopped_by state line stops.DiskFault now r = tt
   stopped_by state line stops.PutFault now r = tt
   stopped_by state line stops.Memory now r = tt
 
@@ -205,7 +205,7 @@ module _ {E : Type 0} (m : Machine E) (rule : Rule m) (limit : ℕ) (s : m.State
   pub stopped_allows : (state : m.State) (line : List ℕ) (stop : Stop E) (now : Scene rule.Kept) → Reads m rule limit s start budget before left state line (Err stop) now → Allowed stop now
   stopped_allows state line (stops.Ended status) now r = allows_at r.bytes (stops.Ended status) now r.taken r.ends.1
   stopped_allows state line stops.ReadFault now r = allows_runs r.bytes state line stops.ReadFault now r.taken r.ends.1 refl
-  stopped_allows state line stops.AreaFault now r = allows_at r.bytes stops.AreaFault now r.taken r.ends.1
+  stopped_allows state line stops.DiskFault now r = allows_at r.bytes stops.DiskFault now r.taken r.ends.1
   stopped_allows state line stops.PutFault now r = allows_at r.bytes stops.PutFault now r.taken r.ends.1
   stopped_allows state line stops.Memory now r = allows_at r.bytes stops.Memory now r.taken r.ends.1
 
@@ -217,7 +217,7 @@ module _ {E : Type 0} (m : Machine E) (rule : Rule m) (limit : ℕ) (s : m.State
   told_at : (told : Told E) (stop : Stop E) (old now : Shown) → Ends old told stop now → IsToldBy told stop
   told_at told (stops.Ended status) old now ends = ends.1
   told_at told stops.ReadFault old now ends = tt
-  told_at told stops.AreaFault old now ends = tt
+  told_at told stops.DiskFault old now ends = tt
   told_at told stops.PutFault old now ends = tt
   told_at told stops.Memory old now ends = tt
 
@@ -273,7 +273,7 @@ no_read_fault old new stop cause is = let c = subst (HasCause (faults_of 0 old) 
 pub whole_by : {E : Type 0} (m : Machine E) (rule : Rule m) (limit : ℕ) (s : m.State) (start : Scene rule.Kept) (budget : ℕ) (before left : Option (List ℕ)) (state : m.State) (line : List ℕ) (mid : Scene rule.Kept) (old now : Shown) (stop : Stop E) → Reads m rule limit s start budget before left state line (Ok readings.Whole) mid → Ends old (m.rest state line) stop now → EndsBy m budget before left stop
 whole_by m rule limit s start budget before left state line mid old now (stops.Ended status) r ends = inr (inl (record { state = state; rest = line; is = ends.1; at_end = r.ends.1 }))
 whole_by m rule limit s start budget before left state line mid old now stops.ReadFault r ends = tt
-whole_by m rule limit s start budget before left state line mid old now stops.AreaFault r ends = tt
+whole_by m rule limit s start budget before left state line mid old now stops.DiskFault r ends = tt
 whole_by m rule limit s start budget before left state line mid old now stops.PutFault r ends = tt
 whole_by m rule limit s start budget before left state line mid old now stops.Memory r ends = tt
 

@@ -89,7 +89,7 @@ pub stop_on : {E : Type 0} (stop : Stop E) (start mid now : Shown) (xs ys : List
 stop_on (stops.Ended status) start mid now xs ys p q = shows_on start mid now xs ys p q
 stop_on stops.ReadFault start mid now xs ys p q = first_on start mid now xs ys p q
 stop_on stops.PutFault start mid now xs ys p q = torn_on start mid now xs ys p q
-stop_on stops.AreaFault start mid now xs ys p q = first_on start mid now xs ys p q
+stop_on stops.DiskFault start mid now xs ys p q = first_on start mid now xs ys p q
 stop_on stops.Memory start mid now xs ys p q = first_on start mid now xs ys p q
 
 -- what shows some first pieces shows them too where more follow
@@ -121,7 +121,7 @@ pub ends_on : {E : Type 0} (stop : Stop E) (start mid now : Shown) (xs : List (L
 ends_on (stops.Ended status) start mid now xs told p q = (shows_on start mid now xs told.pieces p q.0, q.1)
 ends_on stops.ReadFault start mid now xs told p q = first_on start mid now xs told.pieces p q
 ends_on stops.PutFault start mid now xs told p q = torn_on start mid now xs told.pieces p q
-ends_on stops.AreaFault start mid now xs told p q = first_on start mid now xs told.pieces p q
+ends_on stops.DiskFault start mid now xs told p q = first_on start mid now xs told.pieces p q
 ends_on stops.Memory start mid now xs told p q = first_on start mid now xs told.pieces p q
 
 parts_at : (pieces : List (List ℕ)) (place : ℕ) (d : List ℕ) → place < length pieces → pieces ≡ (take place pieces ++ get_or pieces place d ∷ []) ++ drop (place + 1) pieces

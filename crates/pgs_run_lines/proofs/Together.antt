@@ -47,7 +47,7 @@ stops_on {E} {old} {mid} {new} {xs} {ys} {stop} p q = record {
 until_more : {E : Type 0} (stop : Stop E) (start now : Shown) (pieces later : List (List ℕ)) → StopsPutting stop → Shows start pieces stop now → Shows start (pieces ++ later) stop now
 until_more (stops.Ended status) start now pieces later only p = absurd only
 until_more stops.ReadFault start now pieces later only p = absurd only
-until_more stops.AreaFault start now pieces later only p = absurd only
+until_more stops.DiskFault start now pieces later only p = absurd only
 until_more stops.PutFault start now pieces later only p = torn_of_more start now pieces later p
 until_more stops.Memory start now pieces later only p = first_of_more start now pieces later p
 

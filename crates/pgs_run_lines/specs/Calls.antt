@@ -25,7 +25,7 @@ pub data Reads {S : Type 0} (made : S → ℕ → Option ℕ → S → Type 0) (
 abbrev pub is_of_source : {E : Type 0} → Stop E → Bool
 is_of_source (stops.Ended status) = false
 is_of_source stops.ReadFault = true
-is_of_source stops.AreaFault = false
+is_of_source stops.DiskFault = false
 is_of_source stops.PutFault = false
 is_of_source stops.Memory = false
 
@@ -33,7 +33,7 @@ is_of_source stops.Memory = false
 abbrev pub is_of_world : {E : Type 0} → Stop E → Bool
 is_of_world (stops.Ended status) = false
 is_of_world stops.ReadFault = false
-is_of_world stops.AreaFault = true
+is_of_world stops.DiskFault = true
 is_of_world stops.PutFault = true
 is_of_world stops.Memory = false
 

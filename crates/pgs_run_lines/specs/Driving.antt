@@ -11,7 +11,7 @@ use Rattle.pgs_run_lines.specs.Pieces.{Shown, shown_of, ShowsAll}
 abbrev pub IsEndAt : {S E : Type 0} → Standing S E → Stop E → Type 0
 IsEndAt at (stops.Ended status) = at ≡ Ended status
 IsEndAt at stops.ReadFault = Unit {0}
-IsEndAt at stops.AreaFault = Unit {0}
+IsEndAt at stops.DiskFault = Unit {0}
 IsEndAt at stops.PutFault = Unit {0}
 IsEndAt at stops.Memory = Unit {0}
 

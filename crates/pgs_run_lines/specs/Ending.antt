@@ -12,7 +12,7 @@ use Rattle.pgs_run_lines.specs.Pieces.{Shown, ShowsAll, ShowsFirst, ShowsTorn}
 abbrev pub Shows : {E : Type 0} → Shown → List (List ℕ) → Stop E → Shown → Type 0
 Shows start pieces (stops.Ended status) now = ShowsAll start pieces now
 Shows start pieces stops.ReadFault now = ShowsFirst start pieces now
-Shows start pieces stops.AreaFault now = ShowsFirst start pieces now
+Shows start pieces stops.DiskFault now = ShowsFirst start pieces now
 Shows start pieces stops.PutFault now = ShowsTorn start pieces now
 Shows start pieces stops.Memory now = ShowsFirst start pieces now
 
@@ -20,7 +20,7 @@ Shows start pieces stops.Memory now = ShowsFirst start pieces now
 abbrev pub Ends : {E : Type 0} → Shown → Told E → Stop E → Shown → Type 0
 Ends start told (stops.Ended status) now = ShowsAll start told.pieces now × (told.status ≡ status)
 Ends start told stops.ReadFault now = ShowsFirst start told.pieces now
-Ends start told stops.AreaFault now = ShowsFirst start told.pieces now
+Ends start told stops.DiskFault now = ShowsFirst start told.pieces now
 Ends start told stops.PutFault now = ShowsTorn start told.pieces now
 Ends start told stops.Memory now = ShowsFirst start told.pieces now
 
@@ -47,7 +47,7 @@ PutsRose before now = RoseByOne before.puts now.puts × (now.reads ≡ before.re
 abbrev pub HasCause : {E : Type 0} → Faults → Faults → Stop E → Type 0
 HasCause before now (stops.Ended status) = now ≡ before
 HasCause before now stops.ReadFault = ReadsRose before now
-HasCause before now stops.AreaFault = AreasRose before now
+HasCause before now stops.DiskFault = AreasRose before now
 HasCause before now stops.PutFault = PutsRose before now
 HasCause before now stops.Memory = now ≡ before
 

@@ -7,7 +7,7 @@ use Rattle.pgs_run_lines.specs.Machine.{Machine}
 abbrev pub MayPut : {E : Type 0} → Stop E → Type 0
 MayPut (stops.Ended status) = Unit {0}
 MayPut stops.ReadFault = ⊥
-MayPut stops.AreaFault = ⊥
+MayPut stops.DiskFault = ⊥
 MayPut stops.PutFault = Unit {0}
 MayPut stops.Memory = Unit {0}
 
@@ -15,6 +15,6 @@ MayPut stops.Memory = Unit {0}
 abbrev pub MayCome : {E : Type 0} → Machine E → Stop E → Type 0
 MayCome m (stops.Ended status) = Unit {0}
 MayCome m stops.ReadFault = Unit {0}
-MayCome m stops.AreaFault = m.MayStop stops.AreaFault
+MayCome m stops.DiskFault = m.MayStop stops.DiskFault
 MayCome m stops.PutFault = m.MayStop stops.PutFault
 MayCome m stops.Memory = Unit {0}

@@ -11,7 +11,7 @@ use Rattle.pgs_world.specs.World.{View}
 abbrev pub StopsPutting : {E : Type 0} → Stop E → Type 0
 StopsPutting (stops.Ended status) = ⊥
 StopsPutting stops.ReadFault = ⊥
-StopsPutting stops.AreaFault = ⊥
+StopsPutting stops.DiskFault = ⊥
 StopsPutting stops.PutFault = Unit {0}
 StopsPutting stops.Memory = Unit {0}
 

@@ -15,7 +15,7 @@ abbrev pub StopsIn : {E : Type 0} (m : Machine E) (rule : Rule m) → ℕ → m.
 StopsIn m rule limit s start seen state line stops.ReadFault now = Runs m rule limit s start seen state line now
 StopsIn m rule limit s start seen state line (stops.Ended status) now =
     StopsAt m rule s start (kept_of limit seen).ended (stops.Ended status) now
-StopsIn m rule limit s start seen state line stops.AreaFault now = StopsAt m rule s start (kept_of limit seen).ended stops.AreaFault now
+StopsIn m rule limit s start seen state line stops.DiskFault now = StopsAt m rule s start (kept_of limit seen).ended stops.DiskFault now
 StopsIn m rule limit s start seen state line stops.PutFault now = StopsAt m rule s start (kept_of limit seen).ended stops.PutFault now
 StopsIn m rule limit s start seen state line stops.Memory now = StopsAt m rule s start (kept_of limit seen).ended stops.Memory now
 

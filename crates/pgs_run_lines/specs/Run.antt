@@ -44,7 +44,7 @@ pub record EndsAtCut {E : Type 0} (m : Machine E) (budget : ℕ) (before left : 
 abbrev pub EndsBy : {E : Type 0} → Machine E → ℕ → Option (List ℕ) → Option (List ℕ) → Stop E → Type 0
 EndsBy m budget before left (stops.Ended status) = EndsAtLine m status ⊎ (EndsAtEnd m left status ⊎ EndsAtCut m budget before left status)
 EndsBy m budget before left stops.ReadFault = Unit {0}
-EndsBy m budget before left stops.AreaFault = Unit {0}
+EndsBy m budget before left stops.DiskFault = Unit {0}
 EndsBy m budget before left stops.PutFault = Unit {0}
 EndsBy m budget before left stops.Memory = Unit {0}
 
@@ -53,7 +53,7 @@ abbrev pub IsBetween : {E : Type 0} (m : Machine E) (s : m.State) (budget : ℕ)
 IsBetween m s budget bytes lines later (stops.Ended status) =
     (later ≡ []) × (length bytes ≡ budget) × (status_at_cut m (after_lines m (Going s) lines) ≡ status)
 IsBetween m s budget bytes lines later stops.ReadFault = later ≡ []
-IsBetween m s budget bytes lines later stops.AreaFault = ⊥
+IsBetween m s budget bytes lines later stops.DiskFault = ⊥
 IsBetween m s budget bytes lines later stops.PutFault = ⊥
 IsBetween m s budget bytes lines later stops.Memory = Unit {0}
 
@@ -61,7 +61,7 @@ IsBetween m s budget bytes lines later stops.Memory = Unit {0}
 abbrev pub IsToldBy : {E : Type 0} → Told E → Stop E → Type 0
 IsToldBy told (stops.Ended status) = told.status ≡ status
 IsToldBy told stops.ReadFault = Unit {0}
-IsToldBy told stops.AreaFault = Unit {0}
+IsToldBy told stops.DiskFault = Unit {0}
 IsToldBy told stops.PutFault = Unit {0}
 IsToldBy told stops.Memory = Unit {0}
 

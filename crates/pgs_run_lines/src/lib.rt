@@ -25,6 +25,7 @@ pub use budget::BUDGET;
 pub use line_buffer::LineBuffer;
 pub use lines::{is_blank, line_end};
 pub use putting::{put_any, put_made, put_piece, put_pieces};
+pub use reading::{read_buffer, read_some};
 pub use reply::{Reply, RunStatus, put_last, put_reply};
 pub use run::run_lines;
 pub use stop::Stop;

@@ -42,8 +42,12 @@ pub fn read_buffer(alloc: Global) -> Result<Vec<u8>, Memory>
     zeros(alloc, READ_SIZE)
 }
 
-// Reads into the front of the buffer, and never more than is left of the budget.
-fn read_some<S: Source>(source: &mut S, buffer: &mut [u8], left: u64) -> Result<usize, SourceFault>
+/// Reads into the front of the buffer, and never more than is left of the budget.
+pub fn read_some<S: Source>(
+    source: &mut S,
+    buffer: &mut [u8],
+    left: u64,
+) -> Result<usize, SourceFault>
     requires buffer { (0 < length buffer.old) × (length buffer.old ≤ 65536) }
     requires left { 0 < left }
     ensures made { (asked : ℕ) × MayAsk left asked × S.read_made source.old asked (result_ok result) source.new }

@@ -47,9 +47,10 @@ pub fn put_reply<E: RunStatus, W: World>(world: &mut W, reply: &Reply<E>) -> E
 }
 
 /// Puts a line that was made, where there was memory for it, and gives the status: the one given, that of a put that failed, or that of
-/// no memory. At every moment both areas are what they were; without memory nothing is put.
+/// no memory. At every moment both areas are what they were, and a front of the line is out; without memory nothing is put.
 pub fn put_last<E: RunStatus, W: World>(world: &mut W, made: Result<Bytes, Memory>, status: E) -> E
     ensures ends { (line : List ℕ) → IfOk made (λ made. made ≡ line) → EndsLast line status E.put_failed E.no_memory (W.view world.old) result (W.view world.new) }
+    ensures stops { (line : List ℕ) → IfOk made (λ made. made ≡ line) → StopsBy (PutsFront line) (W.view world.old) (W.view world.new) }
     ensures areas { KeepsAreas (W.view world.old) (W.view world.new) }
     ensures last { (result ≡ status) ⊎ ((result ≡ E.no_memory) ⊎ W.failed world.new) }
 {

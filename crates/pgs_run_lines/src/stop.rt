@@ -8,7 +8,7 @@ pub enum Stop<E> {
     /// A read failed.
     ReadFault,
     /// A call on an area failed.
-    AreaFault,
+    DiskFault,
     /// A put failed.
     PutFault,
     /// There was no memory.

@@ -1,4 +1,5 @@
-pub mod LoadEnds
+pub mod Leaving
 pub mod Loads
-pub mod Replied
+pub mod Promised
 pub mod Stops
+pub mod Unmoved

@@ -1,243 +1,240 @@
 -- What the loading of a text does, by what its calls did.
-use Rattle.std.proofs.Common.{◌≡◌, inl, inr, ℕ, Bool, true, false, cond, IsTrue, List, [], Result, Ok, Err, refl, sym, ap, subst, ◌∙◌}
+use Rattle.std.proofs.Common.{◌≡◌, inl, inr, ℕ, true, IsTrue, List, [], ◌∷◌, ◌++◌, Some, Ok, Err, refl, sym, ap, ap₂, subst, ◌∙◌}
+use Rattle.pgs_answer.specs.Lines.{schema_refused_line, store_refused_line}
+use Rattle.pgs_answer.specs.Refusals.{already_store_text}
 use Rattle.pgs_resolve.specs.SchemaOf.{schema, schema_of}
-use Rattle.pgs_run_lines.specs.declared.reply.Reply.{Reply}
-use Rattle.pgs_run_lines.specs.AreasKept.{KeepsAreas}
-use Rattle.pgs_run_lines.specs.Ending.{faults_of}
 use Rattle.pgs_run_lines.specs.Machine.{Told}
-use Rattle.pgs_run_lines.specs.Pieces.{Shown, ShowsAll, ShowsFirst, shown_of}
-use Rattle.pgs_run_lines.specs.Replies.{EndsReply}
-use Rattle.pgs_run_lines.proofs.Showing.{shows_none}
-use Rattle.pgs_store.specs.declared.fault.LoadFault.{LoadFault}
-use Rattle.pgs_store.specs.declared.fault.LoadFault.TheVariants as faults
-use Rattle.pgs_store.specs.Loads.{FindsNone, Loads, is_disk_fault, is_of_area, is_written}
-use Rattle.pgs_store.specs.Stored.{StoreState, IsLoadedIn}
+use Rattle.pgs_run_lines.specs.Pieces.{shown_of}
+use Rattle.pgs_run_lines.specs.Replies.{EndsReply, PutsReply}
+use Rattle.pgs_snapshot.specs.Choice.{Choice, choice_of, no_store}
+use Rattle.pgs_snapshot.specs.Choice as choices
+use Rattle.pgs_snapshot.specs.Saved.{saved}
+use Rattle.pgs_store.specs.Loads.{FindsNone, IsLoaded, IsStore}
+use Rattle.pgs_store.specs.State.{GuardState}
+use Rattle.pgs_store.specs.Stored.{IsLoadedIn, IsSavedIn, StoreState, first_journal, opened}
 use Rattle.pgs_store.specs.World.{CountsFault, StaysBeside}
 use Rattle.pgs_syntax.specs.declared.resolved.Resolved.{Resolved}
 use Rattle.pgs_world.specs.declared.area.Area.TheVariants.{A, B}
 use Rattle.pgs_world.specs.Disk.{Puts}
 use Rattle.pgs_world.specs.Moment.{EachSince, IsQuiet, IsSettled, IsTimed, StopsBy}
-use Rattle.pgs_world.specs.World.{View}
-use Rattle.pgs_world.proofs.Moments.{each_none, each_now, each_on, each_weaker, passes_none, passes_on, settled_quiet}
-use Rattle.pgs_run_base.specs.declared.status.Status.{Status}
-use Rattle.pgs_run_base.specs.declared.status.Status.TheVariants.{SchemaRefused, DiskFault, PutFault, Memory}
-use Rattle.pgs_run_base.specs.Answers.{schema_or_text, schema_answer}
-use Rattle.pgs_run_base.specs.Areas.{areas_of}
-use Rattle.pgs_run_base.specs.Ending.{Ends}
-use Rattle.pgs_run_base.specs.Images.{IsUnwritten, KeepsArea, KeepsImages}
-use Rattle.pgs_run_base.specs.Input.{text_front}
-use Rattle.pgs_run_base.specs.Run.{HasCommandCause}
-use Rattle.pgs_run_base.specs.Session.{standard}
-use Rattle.pgs_run_base.proofs.Images.{images_none, images_quiet, images_areas, images_on, area_none, area_on, area_of_images, area_beside, each_images, settled_images}
-use Rattle.pgs_run_base.proofs.Replied.{IsOwn, reply_cause}
-use Rattle.pgs_run_saved.specs.Opening.{IsAnswer}
-use Rattle.pgs_answer.specs.Lines.{schema_refused_line}
-use Rattle.pgs_run_load.specs.Loading.{IsLoadingAt, IsLoading, IsMade, LoadsText}
-use Rattle.pgs_run_load.specs.Replying.{Replies, RepliesRefused}
-use Rattle.pgs_run_load.specs.Told.{told_text}
-use Rattle.pgs_run_load.proofs.Replied.{answer_of_front, cause_reply, ends_reply, replied_status, same_faults, same_line, shown_same, tells_reply, told_line, told_refused}
-use Rattle.pgs_run_load.proofs.Stops.{loading_in, loading_same, loading_start, loads_at, made_shown, puts_at, same_new, starts_at, stops_reply}
+use Rattle.pgs_world.specs.World.{Triple, View}
+use Rattle.pgs_world.proofs.Moments.{each_now, each_on, each_quiet, each_weaker, passes_on, quiet_now, settled_quiet}
+use Rattle.pgs_command.specs.declared.status.Status.{Status}
+use Rattle.pgs_command.specs.declared.status.Status.TheVariants.{Accepted, SchemaRefused, StoreRefused, DiskFault, PutFault, Memory}
+use Rattle.pgs_command.specs.Answers.{IsOfCommand}
+use Rattle.pgs_command.specs.Areas.{Areas, areas_of}
+use Rattle.pgs_command.specs.Images.{IsUnwritten, KeepsArea, KeepsImages}
+use Rattle.pgs_command.proofs.Images.{area_beside, area_of_images, area_on, each_images, images_areas, images_on, images_quiet, settled_images}
+use Rattle.pgs_command.proofs.Replied.{IsOwn, by_last}
+use Rattle.pgs_run_input.specs.Answers.{schema_answer}
+use Rattle.pgs_run_input.specs.Session.{standard}
+use Rattle.pgs_run_input.proofs.Answering.{answer_ok}
+use Rattle.pgs_run_input.proofs.OneLine.{IsSilent, PutsLine, answers_failed, answers_line, answers_none, line_of_reply, same_shown, told_line}
+use Rattle.pgs_run_store.specs.Refusing.{store_refused, told_under}
+use Rattle.pgs_run_load.specs.Leaving.{LoadsText}
+use Rattle.pgs_run_load.specs.Loading.{IsLoading, IsLoadingAt, IsMade, IsNewStore, TellsFor}
+use Rattle.pgs_run_load.specs.Told.{line_of, told_choice, told_text}
+use Rattle.pgs_run_load.proofs.Unmoved.{starts_at, starts_empty}
+use Rattle.pgs_run_load.proofs.Leaving.{leaves_kept, leaves_quiet}
+use Rattle.pgs_run_load.proofs.Stops.{loading_at, loading_in, new_store, same_loading, same_new}
 
--- ---- statuses
+told_schema : (text : List ℕ) (areas : Areas) (resolved : Resolved) (choice : Choice) → schema_answer text ≡ Ok resolved → choice_of areas.a areas.b ≡ choice → told_text text areas ≡ told_choice resolved choice
+told_schema text areas resolved choice is found =
+    ap (λ answer. told_under answer (λ s. told_choice s (choice_of areas.a areas.b))) is ∙ ap (told_choice resolved) found
 
--- the status of a reply, or a put that failed
-answer_of : (line : List ℕ) (status result : Status) (old new : View) → IsAnswer status → EndsReply line status PutFault old result new → IsAnswer result
-answer_of line status result old new answer (inl whole) = subst IsAnswer (sym whole.0) answer
-answer_of line status result old new answer (inr torn) = subst IsAnswer (sym torn.0) tt
+-- ---- nothing was written
 
-unwritten_of : (line : List ℕ) (status result : Status) (old new : View) → EndsReply line status PutFault old result new → IsUnwritten result → IsUnwritten status
-unwritten_of line status result old new (inl whole) is = subst IsUnwritten whole.0 is
-unwritten_of line status result old new (inr torn) is = absurd (subst IsUnwritten torn.0 is)
-
-nothing_put : (told : Told Status) (old mid : View) → shown_of mid ≡ shown_of old → ShowsFirst (shown_of old) told.pieces (shown_of mid)
-nothing_put told old mid same =
-    record { first = []; later = told.pieces; parts = refl; shows = subst (λ (s : Shown). ShowsAll (shown_of old) [] s) (sym same) (shows_none (shown_of old)) }
-
--- ---- nothing was done
-
-pub untouched : (front : List ℕ) (view : View) → IsTimed view → LoadsText front view view Memory
-untouched front view timed = record {
-  ends = λ text is tells. nothing_put (told_text text (areas_of view)) view view refl;
-  answer = tt;
-  cause = λ reads. refl;
-  passes = passes_none view timed;
-  loads = λ text is free tells settled. each_none view (IsLoadingAt view.shown text) timed (starts_at view text timed free tells settled);
-  grows = λ free settled. each_none view IsLoading timed (loading_start view free settled);
-  occupied = λ taken. images_none view timed;
-  unwritten = λ is. images_none view timed;
-  refused = λ text why is no. images_none view timed;
-  beside = area_none B view timed;
-  settled = λ settled no. settled;
-  made = λ tells text is free made. absurd made;
+-- for want of memory
+pub loads_none : (text : List ℕ) (old new : View) → IsTimed old → IsQuiet old new → IsSilent old new → LoadsText text old new Memory
+loads_none text old new timed quiet silent = record {
+  told = told_text text (areas_of old);
+  is_told = λ tells. refl;
+  answers = answers_none (told_text text (areas_of old)) old new silent;
+  leaves = leaves_quiet (Some text) old new Memory timed quiet (λ input made. made);
+  settles = λ settled no. settled_quiet old new settled quiet;
 }
 
--- ---- the text is no schema
+-- a refusal: its line is told, and the text isn't loaded
+pub record Refuses (text line : List ℕ) (status : Status) (old : View) : Type 0 where
+  pub own : IsOwn true status
+  pub may_end : IsOfCommand status
+  pub unmade : (text : List ℕ) → IsMade text status → ⊥
+  pub told : TellsFor text old → told_text text (areas_of old) ≡ told_line line status
+  pub unfit : FindsNone old → IsTrue old.tells_bytes → (resolved : Resolved) → schema_answer text ≡ Ok resolved → ⊥
 
-made_refused : (text why : List ℕ) (result : Status) (line : List ℕ) (old new : View) → schema_answer text ≡ Err why → EndsReply line SchemaRefused PutFault old result new → IsMade text result → ⊥
-made_refused text why result line old new is (inl whole) made = subst (IsMade text) whole.0 made
-made_refused text why result line old new is (inr torn) made =
-    let put = subst (IsMade text) torn.0 made in let no : Ok put.0 ≡ Err why = sym put.1 ∙ is in cc
+pub refuses_text : (text why : List ℕ) (old : View) → schema_answer text ≡ Err why → Refuses text (schema_refused_line why) SchemaRefused old
+refuses_text text why old is = record {
+  own = tt;
+  may_end = tt;
+  unmade = λ text made. made;
+  told = λ tells. ap (λ answer. told_under answer (λ s. told_choice s (choice_of old.shown.a old.shown.b))) is;
+  unfit = λ free tells resolved good. let no : Ok resolved ≡ Err why = sym good ∙ is in cc;
+}
 
-pub refused_text : (front : List ℕ) (reply : Reply Status) (old new : View) (result : Status) → IsTimed old → RepliesRefused (schema_of front) reply → EndsReply reply.line reply.status PutFault old result new
-    → StopsBy (Puts reply.line) old new → KeepsAreas old new → LoadsText front old new result
-refused_text front reply old new result timed replies put stops areas =
-    let kept = images_areas old new areas in
-    let own : IsOwn true reply.status = subst (IsOwn true) (sym replies.1) tt in
-    record {
-      ends = λ text is tells. ends_reply (told_text text (areas_of old)) (shown_of old) reply old new result refl (told text is) own put;
-      answer = answer_of reply.line reply.status result old new (subst IsAnswer (sym replies.1) tt) put;
-      cause = λ reads. reply_cause false true reads reply.line reply.status result old new own put;
-      passes = areas.passes;
-      loads = λ text is free tells settled.
-          puts_at old.shown text reply.line old new settled.honest (λ d left. timed.output settled.honest tells d left) (starts_at old text timed free tells settled)
-          (λ resolved good. let no : Ok resolved ≡ Err replies.0.text = sym good ∙ why text is in absurd (cc)) stops;
-      grows = λ free settled. each_images old new IsLoading settled.honest loading_same kept (loading_start old free settled);
-      occupied = λ taken. kept;
-      unwritten = λ is. kept;
-      refused = λ text why is no. kept;
-      beside = area_of_images B old new kept;
-      settled = λ settled no. settled_images old new settled kept;
-      made = λ tells text is free made.
-          absurd (made_refused text replies.0.text result reply.line old new (why text is)
-          (subst (λ (s : Status). EndsReply reply.line s PutFault old result new) replies.1 put) made);
-    }
+told_store : (resolved : Resolved) (choice : Choice) → IsStore choice → told_choice resolved choice ≡ store_refused already_store_text
+told_store resolved (choices.chosen area epoch end next payloads) is = refl
+told_store resolved (choices.damaged area epoch number) is = refl
+told_store resolved choices.no_store is = absurd is
+told_store resolved choices.foreign is = absurd is
+
+-- an area is a store, or another program's file
+pub refuses_areas : (text why : List ℕ) (resolved : Resolved) (old : View) → schema_of text ≡ schema resolved
+    → (IsTrue old.tells_bytes → told_choice resolved (choice_of old.shown.a old.shown.b) ≡ store_refused why) → Refuses text (store_refused_line why) StoreRefused old
+refuses_areas text why resolved old of_text refused = record {
+  own = refl;
+  may_end = tt;
+  unmade = λ text made. made;
+  told = λ tells.
+      let is = answer_ok text resolved of_text in
+      told_schema text (areas_of old) resolved (choice_of old.shown.a old.shown.b) is refl ∙ refused (tells resolved is);
+  unfit = λ free tells other good.
+      let same : told_choice resolved no_store ≡ store_refused why = ap (told_choice resolved) (sym (free tells)) ∙ refused tells in
+      let no : Accepted ≡ StoreRefused = ap (λ (t : Told Status). t.status) same in cc;
+}
+
+pub found_store : (resolved : Resolved) (old : View) → (IsTrue old.tells_bytes → IsStore (choice_of old.shown.a old.shown.b)) → IsTrue old.tells_bytes
+    → told_choice resolved (choice_of old.shown.a old.shown.b) ≡ store_refused already_store_text
+found_store resolved old found tells = told_store resolved (choice_of old.shown.a old.shown.b) (found tells)
+
+-- the areas were only read, and then the line of a refusal was put, or there was no memory for it
+pub loads_refused : (text line : List ℕ) (status result : Status) (old mid new : View) → IsTimed old → IsQuiet old mid → IsSilent old mid → Refuses text line status old → PutsLine line status mid result new → LoadsText text old new result
+loads_refused text line status result old mid new timed quiet silent refuses put = record {
+  told = told_line line status;
+  is_told = refuses.told;
+  answers = answers_line (told_line line status) line status result old mid new silent refuses.own refuses.may_end refl put;
+  leaves = leaves_kept (Some text) old new result kept
+      (λ input is free tells settled.
+      let P = IsLoadingAt old.shown input in
+      each_on old mid new P quiet.passes put.areas.passes (each_quiet old mid P settled.honest quiet (starts_at old input timed free tells settled)) (putting input (same input is) free tells settled))
+      (λ input is free tells.
+      by_last (λ (s : Status). IsMade input s → ⊥) line status result mid new (refuses.unmade input)
+      (λ made. unfit input (same input is) free tells made.0 made.1) (λ made. made) put.ends);
+  settles = λ settled no. settled_images old new settled kept;
+}
   where
-    why : (text : List ℕ) → front ≡ text_front text → schema_answer text ≡ Err replies.0.text
-    why text is = answer_of_front front text is ∙ replies.0.refused
+    kept : KeepsImages old new
+    kept = images_on old mid new (images_quiet old mid quiet) (images_areas mid new put.areas)
 
-    told : (text : List ℕ) → front ≡ text_front text → told_text text (areas_of old) ≡ told_line reply.line reply.status
-    told text is =
-        told_refused text (areas_of old) replies.0.text (why text is) ∙ same_line reply (schema_refused_line replies.0.text) SchemaRefused replies.0.is replies.1
+    same : (input : List ℕ) → Some text ≡ Some input → input ≡ text
+    same input is = cc
 
--- ---- the text is a schema
+    unfit : (input : List ℕ) → input ≡ text → FindsNone old → IsTrue old.tells_bytes → (resolved : Resolved) → schema_answer input ≡ Ok resolved → ⊥
+    unfit input is free tells resolved good = refuses.unfit free tells resolved (ap schema_answer (sym is) ∙ good)
 
--- what a reply says of what was written
-unwritten_reply : (loaded : Result StoreState LoadFault) (reply : Reply Status) → Replies (Ok reply) loaded → IsUnwritten reply.status → is_written loaded ≡ false
-unwritten_reply (Ok store) reply replies is = absurd (subst IsUnwritten replies.1 is)
-unwritten_reply (Err faults.AlreadyStore) reply replies is = refl
-unwritten_reply (Err faults.Foreign) reply replies is = refl
-unwritten_reply (Err (faults.Schema fault)) reply replies is = refl
-unwritten_reply (Err faults.Memory) reply replies is = refl
-unwritten_reply (Err faults.DiskFault) reply replies is = absurd replies
+    putting : (input : List ℕ) → input ≡ text → FindsNone old → IsTrue old.tells_output → IsSettled old → EachSince (IsLoadingAt old.shown input) mid new
+    putting input is free tells settled c left =
+        let from = put.stops (quiet.passes.honest ∙ settled.honest) c left in
+        let may = quiet_now old mid quiet settled.honest from.0 from.1 in
+        record {
+          front = from.2.front;
+          out = from.2.added ∙ ap (λ output. output ++ from.2.front) (timed.output settled.honest tells from.0 may);
+          state = inl (ap₂ (saved standard) from.2.a from.2.b ∙ starts_empty old free settled from.0 may);
+          loaded = λ resolved good said. absurd (unfit input is free settled.tells_bytes resolved good);
+        }
 
-answer_reply : (loaded : Result StoreState LoadFault) (reply : Reply Status) → Replies (Ok reply) loaded → IsAnswer reply.status
-answer_reply (Ok store) reply replies = subst IsAnswer (sym replies.1) tt
-answer_reply (Err faults.AlreadyStore) reply replies = subst IsAnswer (sym replies.1) tt
-answer_reply (Err faults.Foreign) reply replies = subst IsAnswer (sym replies.1) tt
-answer_reply (Err (faults.Schema fault)) reply replies = absurd replies
-answer_reply (Err faults.Memory) reply replies = absurd replies
-answer_reply (Err faults.DiskFault) reply replies = absurd replies
+-- ---- area A was written
 
--- nothing is pending behind a load with a reply
-settled_reply : (loaded : Result StoreState LoadFault) (reply : Reply Status) (front : List ℕ) (old mid : View) → Replies (Ok reply) loaded → Loads loaded standard front old mid → (is_written loaded ≡ false → IsQuiet old mid) → IsTrue mid.honest → IsTrue mid.tells_bytes → IsSettled old → IsSettled mid
-settled_reply (Ok store) reply front old mid replies loads unwritten honest tells settled = loads.stands.settled honest tells
-settled_reply (Err faults.AlreadyStore) reply front old mid replies loads unwritten honest tells settled = settled_quiet old mid settled (unwritten refl)
-settled_reply (Err faults.Foreign) reply front old mid replies loads unwritten honest tells settled = settled_quiet old mid settled (unwritten refl)
-settled_reply (Err (faults.Schema fault)) reply front old mid replies loads unwritten honest tells settled = absurd replies
-settled_reply (Err faults.Memory) reply front old mid replies loads unwritten honest tells settled = absurd replies
-settled_reply (Err faults.DiskFault) reply front old mid replies loads unwritten honest tells settled = absurd replies
-
-module _ (front : List ℕ) (resolved : Resolved) (of_text : schema_of front ≡ schema resolved) (loaded : Result StoreState LoadFault) (old mid : View) (timed : IsTimed old)
-    (loads : Loads loaded standard front old mid) (counts : CountsFault (is_disk_fault loaded) old mid) (free_kept : (FindsNone old → ⊥) → IsQuiet old mid) (unwritten : is_written loaded ≡ false → IsQuiet old mid)
-    (each : FindsNone old → IsSettled old → EachSince (IsLoadedIn standard front) old mid) (beside : StaysBeside A old mid) where
-  good : (text : List ℕ) → front ≡ text_front text → schema_answer text ≡ Ok resolved
-  good text is = answer_of_front front text is ∙ ap schema_or_text of_text
-
+module _ (text : List ℕ) (resolved : Resolved) (of_text : schema_of text ≡ schema resolved) (old mid : View) (timed : IsTimed old) (free_kept : (FindsNone old → ⊥) → IsQuiet old mid)
+    (each : FindsNone old → IsSettled old → EachSince (IsLoadedIn standard text) old mid) (beside : StaysBeside A old mid) where
   shown : shown_of mid ≡ shown_of old
-  shown = shown_same old mid beside.passes.tells_output beside.shown.output beside.no_put.puts
+  shown = same_shown old mid beside.passes.tells_output beside.shown.output beside.no_put
 
   other_area : KeepsArea B old mid
   other_area = area_beside A old mid beside.passes beside.shown beside.stops
 
-  inside : FindsNone old → IsSettled old → EachSince IsLoading old mid
-  inside free settled = each_weaker old mid (IsLoadedIn standard front) IsLoading (λ c so. loading_in front c so) (each free settled)
+  no_refusal : (input why : List ℕ) → Some text ≡ Some input → schema_answer input ≡ Err why → ⊥
+  no_refusal input why is refused =
+      let same : input ≡ text = cc in
+      let never : Ok resolved ≡ Err why = sym (answer_ok text resolved of_text) ∙ ap schema_answer (sym same) ∙ refused in cc
 
-  -- a reply was put
-  pub replied_text : (reply : Reply Status) (new : View) (result : Status) → Replies (Ok reply) loaded → EndsReply reply.line reply.status PutFault mid result new → StopsBy (Puts reply.line) mid new → KeepsAreas mid new
-      → LoadsText front old new result
-  replied_text reply new result replies put stops areas =
-      let kept = images_areas mid new areas in
-      record {
-        ends = λ text is tells.
-            ends_reply (told_text text (areas_of old)) (shown_of old) reply mid new result shown
-            (tells_reply front text loaded reply old mid is (tells resolved (good text is)) loads replies) (replied_status loaded reply replies) put;
-        answer = answer_of reply.line reply.status result mid new (answer_reply loaded reply replies) put;
-        cause = λ reads. cause_reply reads loaded reply old mid new result counts beside.no_put replies put;
-        passes = passes_on old mid new beside.passes areas.passes;
-        loads = λ text is free tells settled. stops_reply front text loaded reply old mid new is timed free tells settled beside (each free settled) loads replies areas.passes stops;
-        grows = λ free settled.
-            each_on old mid new IsLoading beside.passes areas.passes (inside free settled)
-            (each_images mid new IsLoading (beside.passes.honest ∙ settled.honest) loading_same kept (each_now old mid IsLoading beside.passes (inside free settled)));
-        occupied = λ taken. images_on old mid new (images_quiet old mid (free_kept taken)) kept;
-        unwritten = λ is. images_on old mid new (images_quiet old mid (unwritten (unwritten_reply loaded reply replies (unwritten_of reply.line reply.status result mid new put is)))) kept;
-        refused = λ text why is no. let never : Ok resolved ≡ Err why = sym (good text is) ∙ no in absurd (cc);
-        beside = area_on B old mid new other_area (area_of_images B mid new kept);
-        settled = λ settled no.
-            settled_images mid new (settled_reply loaded reply front old mid replies loads unwritten (beside.passes.honest ∙ settled.honest) (beside.passes.tells_bytes ∙ settled.tells_bytes) settled) kept;
-        made = λ tells text is free made. same_new text new.shown mid.shown kept.a kept.b (made_shown front text loaded reply old mid is free tells (beside.passes.tells_bytes ∙ tells) loads replies);
-      }
+  during : IsTrue old.tells_output → FindsNone old → IsSettled old → EachSince (IsLoadingAt old.shown text) old mid
+  during tells free settled c left =
+      let from = beside.stops settled.honest c left in
+      loading_at old.shown c text (from.2.output ∙ timed.output settled.honest tells from.0 from.1) (each free settled c left)
 
--- what is said of a status alone
-record Failed (old mid : View) (status : Status) : Type 0 where
-  pub ends : (told : Told Status) → Ends (shown_of old) told status (shown_of mid)
-  pub answer : IsAnswer status
-  pub cause : (reads : ℕ) → HasCommandCause false true (faults_of reads old) (faults_of reads mid) status
-  pub unwritten : IsUnwritten status → KeepsImages old mid
-  pub settled : IsSettled old → (status ≡ DiskFault → ⊥) → IsSettled mid
-  pub unmade : (text : List ℕ) → IsMade text status → ⊥
+  grows : FindsNone old → IsSettled old → EachSince IsLoading old mid
+  grows free settled = each_weaker old mid (IsLoadedIn standard text) IsLoading (loading_in text) (each free settled)
 
--- no reply was put
-pub failed_text : (front : List ℕ) (resolved : Resolved) (of_text : schema_of front ≡ schema resolved) (fault : LoadFault) (status : Status) (old mid : View) (timed : IsTimed old) → Replies (Err status) (Err fault) → CountsFault (is_of_area fault) old mid
-    → ((FindsNone old → ⊥) → IsQuiet old mid) → (is_of_area fault ≡ false → IsQuiet old mid) → (FindsNone old → IsSettled old → EachSince (IsLoadedIn standard front) old mid) → StaysBeside A old mid → LoadsText front old mid status
-failed_text front resolved of_text fault status old mid timed replies counts free_kept unwritten each beside = by_fault (is_of_area fault) refl
-  where
-    shown : shown_of mid ≡ shown_of old
-    shown = shown_same old mid beside.passes.tells_output beside.shown.output beside.no_put.puts
-
-    all : Failed old mid status → LoadsText front old mid status
-    all failed = record {
-      ends = λ text is tells. failed.ends (told_text text (areas_of old));
-      answer = failed.answer;
-      cause = failed.cause;
+  -- an area failed
+  pub loads_failed : CountsFault true old mid → LoadsText text old mid DiskFault
+  loads_failed rose = record {
+    told = told_text text (areas_of old);
+    is_told = λ tells. refl;
+    answers = answers_failed (told_text text (areas_of old)) old mid shown rose beside.no_put.put_faults;
+    leaves = record {
       passes = beside.passes;
-      loads = λ text is free tells settled. loads_at front text old mid is timed tells settled beside (each free settled);
-      grows = λ free settled. each_weaker old mid (IsLoadedIn standard front) IsLoading (λ c so. loading_in front c so) (each free settled);
+      stops = λ input is free tells settled.
+          let same : text ≡ input = cc in
+          subst (λ (t : List ℕ). EachSince (IsLoadingAt old.shown t) old mid) same (during tells free settled);
+      grows = grows;
       occupied = λ taken. images_quiet old mid (free_kept taken);
-      unwritten = failed.unwritten;
-      refused = λ text why is no.
-          let never : Ok resolved ≡ Err why = sym (answer_of_front front text is ∙ ap schema_or_text of_text) ∙ no in absurd (cc);
-      beside = area_beside A old mid beside.passes beside.shown beside.stops;
-      settled = failed.settled;
-      made = λ tells text is free made. absurd (failed.unmade text made);
-    }
-
-    struck : is_of_area fault ≡ true → Failed old mid DiskFault
-    struck is = record {
-      ends = λ told. nothing_put told old mid shown;
-      answer = tt;
-      cause = λ reads. (refl, (subst (λ b. CountsFault b old mid) is counts, refl, beside.no_put.put_faults));
+      refused = λ input why is no. absurd (no_refusal input why is no);
       unwritten = λ no. absurd no;
-      settled = λ settled no. absurd (no refl);
-      unmade = λ text made. made;
+      beside = other_area;
+      made = λ tells input is free made. absurd made;
+    };
+    settles = λ settled no. absurd (no refl);
+  }
+
+  -- the store was made, and then its line was put
+  module _ (store : StoreState) (made : IsLoaded standard text store old mid) (areas_same : mid.area_faults ≡ old.area_faults) (new : View) (result : Status)
+      (put : PutsReply (line_of store.guard.schema) Accepted PutFault mid result new) where
+    kept : KeepsImages mid new
+    kept = images_areas mid new put.areas
+
+    told_made : IsTrue old.tells_bytes → told_text text (areas_of old) ≡ told_line (line_of store.guard.schema) Accepted
+    told_made tells =
+        told_schema text (areas_of old) made.resolved no_store (answer_ok text made.resolved made.of_text) (made.free tells)
+        ∙ ap (λ (g : GuardState). told_line (line_of g.schema) Accepted) (sym made.guard)
+
+    there : IsTrue old.tells_bytes → IsNewStore text mid.shown
+    there tells =
+        new_store text made.resolved store.journal.end mid.shown
+        (subst (λ (g : GuardState). IsSavedIn g (first_journal store.journal.end) mid.shown) made.guard
+        (subst (λ j. IsSavedIn store.guard j mid.shown) made.journal (made.stands.saved (beside.passes.tells_bytes ∙ tells))))
+
+    settled_mid : IsSettled old → IsSettled mid
+    settled_mid settled = made.stands.settled (beside.passes.honest ∙ settled.honest) (beside.passes.tells_bytes ∙ settled.tells_bytes)
+
+    putting : IsTrue old.tells_output → IsSettled old → EachSince (IsLoadingAt old.shown text) mid new
+    putting tells settled c left =
+        let stands = settled_mid settled in
+        let from = put.stops stands.honest c left in
+        let saves = same_new text mid.shown c (from.2.a ∙ stands.a from.0 from.1) (from.2.b ∙ stands.b from.0 from.1) (there settled.tells_bytes) in
+        record {
+          front = from.2.front;
+          out = from.2.added
+              ∙ ap (λ output. output ++ from.2.front) (beside.passes.timed.output stands.honest (beside.passes.tells_output ∙ tells) from.0 from.1 ∙ beside.shown.output);
+          state = inr saves;
+          loaded = λ schema is said. saves;
+        }
+
+    written : EndsReply (line_of store.guard.schema) Accepted PutFault mid result new → IsUnwritten result → ⊥
+    written (inl whole) is = subst IsUnwritten whole.0 is
+    written (inr torn) is = subst IsUnwritten torn.0 is
+
+    pub loads_made : LoadsText text old new result
+    loads_made = record {
+      told = told_line (line_of store.guard.schema) Accepted;
+      is_told = λ tells. told_made (tells resolved (answer_ok text resolved of_text));
+      answers = answers_line (told_line (line_of store.guard.schema) Accepted) (line_of store.guard.schema) Accepted result old mid new
+          (record { shown = shown; area_faults = areas_same; put_faults = beside.no_put.put_faults }) tt tt refl (line_of_reply (line_of store.guard.schema) Accepted mid result new put);
+      leaves = record {
+        passes = passes_on old mid new beside.passes put.areas.passes;
+        stops = λ input is free tells settled.
+            let same : text ≡ input = cc in
+            subst (λ (t : List ℕ). EachSince (IsLoadingAt old.shown t) old new) same
+            (each_on old mid new (IsLoadingAt old.shown text) beside.passes put.areas.passes (during tells free settled) (putting tells settled));
+        grows = λ free settled.
+            each_on old mid new IsLoading beside.passes put.areas.passes (grows free settled)
+            (each_images mid new IsLoading (beside.passes.honest ∙ settled.honest) same_loading kept (each_now old mid IsLoading beside.passes (grows free settled)));
+        occupied = λ taken. images_on old mid new (images_quiet old mid (free_kept taken)) kept;
+        refused = λ input why is no. absurd (no_refusal input why is no);
+        unwritten = λ is. absurd (written put.ends is);
+        beside = area_on B old mid new other_area (area_of_images B mid new kept);
+        made = λ tells input is free made.
+            let same : text ≡ input = cc in
+            subst (λ (t : List ℕ). IsNewStore t new.shown) same (same_new text mid.shown new.shown kept.a kept.b (there tells));
+      };
+      settles = λ settled no. settled_images mid new (settled_mid settled) kept;
     }
-
-    empty : is_of_area fault ≡ false → Failed old mid Memory
-    empty is = record {
-      ends = λ told. nothing_put told old mid shown;
-      answer = tt;
-      cause = λ reads. same_faults reads old mid (subst (λ b. CountsFault b old mid) is counts) beside.no_put.put_faults;
-      unwritten = λ no. images_quiet old mid (unwritten is);
-      settled = λ settled no. settled_quiet old mid settled (unwritten is);
-      unmade = λ text made. made;
-    }
-
-    by_fault : (area : Bool) → is_of_area fault ≡ area → LoadsText front old mid status
-    by_fault true is = all (subst (Failed old mid) (sym (replies ∙ ap (λ (b : Bool). cond b DiskFault Memory) is)) (struck is))
-    by_fault false is = all (subst (Failed old mid) (sym (replies ∙ ap (λ (b : Bool). cond b DiskFault Memory) is)) (empty is))
-
--- the same of a load that answered so
-pub failed_load : (front : List ℕ) (resolved : Resolved) (of_text : schema_of front ≡ schema resolved) (loaded : Result StoreState LoadFault) (status : Status) (old mid : View) (timed : IsTimed old) → Replies (Err status) loaded → CountsFault (is_disk_fault loaded) old mid
-    → ((FindsNone old → ⊥) → IsQuiet old mid) → (is_written loaded ≡ false → IsQuiet old mid) → (FindsNone old → IsSettled old → EachSince (IsLoadedIn standard front) old mid) → StaysBeside A old mid → LoadsText front old mid status
-failed_load front resolved of_text (Ok store) status old mid timed replies counts free_kept unwritten each beside = absurd replies
-failed_load front resolved of_text (Err fault) status old mid timed replies counts free_kept unwritten each beside =
-    failed_text front resolved of_text fault status old mid timed replies counts free_kept unwritten each beside

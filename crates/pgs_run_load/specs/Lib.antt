@@ -1,3 +1,4 @@
+pub mod Leaving
 pub mod Loading
-pub mod Replying
+pub mod Spec
 pub mod Told

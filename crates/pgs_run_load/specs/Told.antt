@@ -4,11 +4,11 @@ use Rattle.pgs_run_lines.specs.Machine.{Told}
 use Rattle.pgs_syntax.specs.declared.resolved.Resolved.{Resolved}
 use Rattle.pgs_answer.specs.Lines.{loaded_line}
 use Rattle.pgs_answer.specs.Refusals.{already_store_text, foreign_text}
-use Rattle.pgs_run_base.specs.declared.status.Status.{Status}
-use Rattle.pgs_run_base.specs.declared.status.Status.TheVariants.{Accepted, InputTooLong}
-use Rattle.pgs_run_base.specs.Answers.{schema_answer}
-use Rattle.pgs_run_base.specs.Areas.{Areas}
-use Rattle.pgs_run_saved.specs.Refusing.{store_refused, told_under}
+use Rattle.pgs_command.specs.declared.status.Status.{Status}
+use Rattle.pgs_command.specs.declared.status.Status.TheVariants.{Accepted, InputTooLong}
+use Rattle.pgs_run_input.specs.Answers.{schema_answer}
+use Rattle.pgs_command.specs.Areas.{Areas}
+use Rattle.pgs_run_store.specs.Refusing.{store_refused, told_under}
 use Rattle.pgs_snapshot.specs.Choice.{Choice, choice_of}
 use Rattle.pgs_snapshot.specs.Choice as choices
 

@@ -1,20 +1,21 @@
 //! The loading of a text that was read whole.
 
 ghost use Rattle.std.specs.Prelude.{◌≡◌, true};
-ghost use Rattle.pgs_run_base.specs.Calls.{fails_world};
+ghost use Rattle.pgs_command.specs.Calls.{fails_world};
 ghost use Rattle.pgs_base.specs.Graph.{empty_graph};
 ghost use Rattle.pgs_resolve.specs.SchemaOf.{schema_of};
 ghost use Rattle.pgs_schema.specs.Told.{IsRefused};
-ghost use Rattle.pgs_run_base.specs.Session.{standard};
-ghost use Rattle.pgs_run_load.specs.Loading.{LoadsText};
+ghost use Rattle.pgs_run_input.specs.Session.{standard};
+ghost use Rattle.pgs_run_load.specs.Leaving.{LoadsText};
 ghost use Rattle.pgs_run_load.specs.Told.{line_of};
 
-use crate::replying::{line_of, refused_reply, reply_to};
+use crate::lines::{foreign_line, line_of, occupied_line};
 use pgs_base::{Bytes, Limits};
-use pgs_run_base::Status;
-use pgs_run_lines::put_reply;
+use pgs_command::Status;
+use pgs_run_input::refused_line;
+use pgs_run_lines::{Reply, put_last, put_reply};
 use pgs_schema::SchemaUnread;
-use pgs_store::{Guard, Store};
+use pgs_store::{Guard, LoadFault, Store};
 use pgs_world::World;
 use std::alloc::Global;
 
@@ -24,8 +25,9 @@ fn refuse<W: World>(alloc: Global, unread: SchemaUnread, text: &[u8], world: &mu
     ensures answer { LoadsText text.now (W.view world.old) (W.view world.new) result }
     ensures last { fails_world result ≡ true → W.failed world.new }
 {
-    match refused_reply(alloc, unread) {
-        Ok(reply) => put_reply(world, &reply),
+    let status = Status::SchemaRefused;
+    match refused_line(alloc, unread) {
+        Ok(line) => put_reply(world, &Reply { line, status }),
         Err(_) => Status::Memory,
     }
 }
@@ -41,15 +43,19 @@ fn save<W: World>(alloc: Global, guard: Guard, line: Bytes, world: &mut W) -> St
 {
     // What every guard promises of its text: it is the schema's.
     guard.schema_text();
-    let made = Store::create(alloc, guard, world);
-    match reply_to(alloc, line, made) {
-        Ok(reply) => put_reply(world, &reply),
-        Err(status) => status,
+    let status = Status::Accepted;
+    match Store::create(alloc, guard, world) {
+        Ok(_store) => put_reply(world, &Reply { line, status }),
+        Err(LoadFault::AlreadyStore) => put_last(world, occupied_line(alloc), Status::StoreRefused),
+        Err(LoadFault::Foreign) => put_last(world, foreign_line(alloc), Status::StoreRefused),
+        Err(LoadFault::DiskFault) => Status::DiskFault,
+        Err(LoadFault::Memory) => Status::Memory,
+        Err(LoadFault::Schema(_)) => unreachable!(),
     }
 }
 
-/// Makes the empty store of a text of which this is the front, in area A, and puts the line of what was loaded or why it wasn't. The
-/// line is made before the store, so that no want of memory comes behind it.
+/// Makes the empty store of a text, in area A, and puts the line of what was loaded or why it wasn't. The line is made before the store,
+/// so that no want of memory comes behind it.
 pub fn load_text<W: World>(alloc: Global, text: &[u8], world: &mut W) -> Status
     ensures answer { LoadsText text.now (W.view world.old) (W.view world.new) result }
     ensures last { fails_world result ≡ true → W.failed world.new }

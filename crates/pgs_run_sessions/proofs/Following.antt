@@ -4,11 +4,11 @@ use Rattle.std.specs.Prelude.{nat_le}
 use Rattle.std.proofs.lemmas.List.{append-nil}
 use Rattle.pgs_base.specs.declared.element.Elem.{Elem}
 use Rattle.pgs_base.specs.Graph.{Graph}
-use Rattle.pgs_events.specs.Events.{event_answer}
+use Rattle.pgs_run_sessions.specs.Events.{event_answer}
 use Rattle.pgs_graph.specs.declared.operation.Txn.{Txn}
-use Rattle.pgs_run_base.specs.Input.{is_skipped}
-use Rattle.pgs_run_base.specs.Session.{standard}
-use Rattle.pgs_run_sessions.specs.Lines.{Stepped, Standing, after_answer, after_line, after_lines, pieces_of_line, pieces_of_lines}
+use Rattle.pgs_run_input.specs.Input.{is_skipped}
+use Rattle.pgs_run_input.specs.Session.{standard}
+use Rattle.pgs_run_sessions.specs.EventLines.{Stepped, Standing, after_answer, after_line, after_lines, pieces_of_line, pieces_of_lines}
 use Rattle.pgs_run_sessions.specs.State.{brief_sessions}
 use Rattle.pgs_sessions.specs.State.{deciding}
 use Rattle.pgs_sessions.specs.Open.{at_number}

@@ -5,14 +5,14 @@ use Rattle.std.proofs.lemmas.Bool.Decides.{nat_tests}
 use Rattle.std.proofs.lemmas.List.{take-take, length-take}
 use Rattle.pgs_answer.specs.Lines.{refused_line}
 use Rattle.pgs_answer.specs.Refusals.{line_too_long_text}
-use Rattle.pgs_events.specs.Events.{event_answer}
-use Rattle.pgs_events.specs.Words.{without_return}
+use Rattle.pgs_run_sessions.specs.Events.{event_answer}
+use Rattle.pgs_run_sessions.specs.LineWords.{without_return}
 use Rattle.pgs_run_lines.specs.Input.{front_of, is_blank}
 use Rattle.pgs_run_lines.proofs.Fronts.{same_of_front, front_right}
-use Rattle.pgs_run_base.specs.Input.{text_limit, text_front, is_separator, is_skipped}
-use Rattle.pgs_run_base.specs.Part.{Part, with_line}
-use Rattle.pgs_run_sessions.specs.Lines.{Stepped, Standing, after_refusal, after_line, pieces_of_line}
-use Rattle.pgs_run_sessions.specs.Running.{line_limit, line_front}
+use Rattle.pgs_run_input.specs.Input.{text_limit, text_front, is_separator, is_skipped}
+use Rattle.pgs_run_input.specs.Part.{Part, with_line}
+use Rattle.pgs_run_sessions.specs.EventLines.{Stepped, Standing, after_refusal, after_line, pieces_of_line}
+use Rattle.pgs_run_sessions.specs.InputMachine.{line_limit, line_front}
 use Rattle.pgs_sessions_machine.specs.declared.event.Event.{Event}
 
 -- ---- of the schema part

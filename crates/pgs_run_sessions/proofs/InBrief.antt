@@ -1,13 +1,13 @@
 -- Sessions in brief tell what the machine of sessions tells.
 use Rattle.std.proofs.Common.{◌≡◌, ℕ, ◌+◌, Bool, true, false, ◌||◌, List, [], ◌∷◌, ◌++◌, length, nat_le, take, Result, Ok, Err, refl, ap, ◌∙◌}
 use Rattle.std.specs.List.{list_any}
-use Rattle.pgs_events.specs.Events.{event_answer}
-use Rattle.pgs_events.specs.Replies.{line_of, is_refusal}
+use Rattle.pgs_run_sessions.specs.Events.{event_answer}
+use Rattle.pgs_run_sessions.specs.Replies.{line_of, is_refusal}
 use Rattle.pgs_run_lines.specs.Input.{lines_of}
-use Rattle.pgs_run_base.specs.Answers.{schema_answer}
-use Rattle.pgs_run_base.specs.Input.{is_separator, is_skipped, schema_part, after_separator}
-use Rattle.pgs_run_base.specs.Session.{standard}
-use Rattle.pgs_run_sessions.specs.Lines.{Stepped, Standing, first, after_event, after_answer, answer_line, after_line, pieces_of_line, after_lines, pieces_of_lines}
+use Rattle.pgs_run_input.specs.Answers.{schema_answer}
+use Rattle.pgs_run_input.specs.Input.{is_separator, is_skipped, schema_part, after_separator}
+use Rattle.pgs_run_input.specs.Session.{standard}
+use Rattle.pgs_run_sessions.specs.EventLines.{Stepped, Standing, first, after_event, after_answer, answer_line, after_line, pieces_of_line, after_lines, pieces_of_lines}
 use Rattle.pgs_run_sessions.specs.State.{brief_sessions, brought}
 use Rattle.pgs_run_sessions.specs.Told.{with_end, told_schema, told_lines, told_input, machine_sessions}
 use Rattle.pgs_sessions.specs.State.{deciding}

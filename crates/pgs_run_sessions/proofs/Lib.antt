@@ -5,6 +5,4 @@ pub mod Machine
 pub mod OneWord
 pub mod Promised
 pub mod Room
-pub mod RunEnds
 pub mod SchemaEnds
-pub mod Telling

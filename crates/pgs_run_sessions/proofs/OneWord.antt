@@ -2,7 +2,7 @@
 use Rattle.std.proofs.Common.{◌≡◌, ℕ, false, List, [], ◌∷◌, length, Some, None, refl, ap, codes, arith}
 use Rattle.std.specs.Prelude.{slice_get}
 use Rattle.std.specs.Str.{bytes_eq}
-use Rattle.pgs_run_sessions.specs.Words.{asks_run}
+use Rattle.pgs_run_sessions.specs.Spec.{asks_run}
 
 pub asked : (words : List (List ℕ)) (word : List ℕ) → length words ≡ 1 → Some word ≡ slice_get words 0 → bytes_eq word (codes "run") ≡ asks_run words
 asked [] word one is = absurd (omega (arith, one))

@@ -1,166 +1,81 @@
--- What is promised of a run, from the facts of its parts.
-use Rattle.std.proofs.Common.{◌≡◌, ◌⊎◌, inl, inr, ℕ, ◌-◌, Bool, true, false, true≢false, List, [], ◌∷◌, length, Option, Some, refl, sym, ap, subst, ◌∙◌}
-use Rattle.pgs_answer.specs.Lines.{words_refused_line}
+-- What is promised of a run, by how its run over lines ended.
+use Rattle.std.proofs.Common.{◌≡◌, inl, inr, ℕ, Bool, true, false, true≢false, List, [], Some, Result, Ok, Err, refl, sym, ap, subst, ◌∙◌}
+use Rattle.pgs_run_lines.specs.declared.stop.Stop.{Stop}
 use Rattle.pgs_run_lines.specs.AreasKept.{KeepsAreas}
-use Rattle.pgs_run_lines.specs.Ending.{Faults, faults_of}
-use Rattle.pgs_run_lines.specs.Machine.{Told}
-use Rattle.pgs_run_lines.specs.Pieces.{Shown, ShowsAll, shown_of}
-use Rattle.pgs_run_lines.specs.Replies.{EndsLast}
-use Rattle.pgs_run_lines.proofs.Causes.{world_same}
-use Rattle.pgs_run_lines.proofs.RunEnds.{within_unread}
-use Rattle.pgs_run_base.specs.declared.status.Status.{Status}
-use Rattle.pgs_run_base.specs.declared.status.Status.TheVariants.{Accepted, Refused, BadWords, SchemaRefused, StoreRefused, DiskFault, ReadFault, PutFault, Memory, InputTooLong}
-use Rattle.pgs_run_base.specs.Calls.{fails_read}
-use Rattle.pgs_run_base.specs.Ending.{Ends}
-use Rattle.pgs_run_base.specs.Run.{IsRead, EndsAs, HasCommandCause, IsDisturbed, IsComplete}
-use Rattle.pgs_run_sessions.specs.Promise.{Setting, setting_of, faults_in, HasCause, Knows, KeepsPromise}
-use Rattle.pgs_run_sessions.specs.Statuses.{is_sessions}
-use Rattle.pgs_run_sessions.specs.Told.{told, told_sessions}
-use Rattle.pgs_run_sessions.specs.Words.{asks_run}
-use Rattle.pgs_run_sessions.proofs.RunEnds.{never_cut}
-use Rattle.pgs_world.specs.Count.{RoseByOne}
-use Rattle.pgs_world.specs.World.{View}
+use Rattle.pgs_run_lines.specs.Ending as lines
+use Rattle.pgs_run_lines.specs.Ending.{Faults}
+use Rattle.pgs_run_lines.specs.Machine.{Ended, told_by}
+use Rattle.pgs_run_lines.specs.May.{MayCome}
+use Rattle.pgs_run_lines.specs.Pieces.{shown_of}
+use Rattle.pgs_run_lines.specs.Run.{EndsAs, EndsBy}
+use Rattle.pgs_syntax.specs.declared.resolved.Resolved.{Resolved}
+use Rattle.pgs_command.specs.declared.status.Status.{Status}
+use Rattle.pgs_command.specs.declared.status.Status.TheVariants.{SchemaRefused, StoreRefused, DiskFault}
+use Rattle.pgs_command.specs.Ending.{status_at}
+use Rattle.pgs_command.specs.Promise.{Promise}
+use Rattle.pgs_command.specs.Run.{HasCause}
+use Rattle.pgs_command.specs.Setting.{Setting, faults_in}
+use Rattle.pgs_command.proofs.OwnEnds.{IsDone, EndsAlone}
+use Rattle.pgs_command.proofs.OwnPromise.{promise_own}
+use Rattle.pgs_run_input.specs.Answers.{schema_answer}
+use Rattle.pgs_run_sessions.specs.EventLines.{first, after_lines}
+use Rattle.pgs_run_sessions.specs.InputMachine as stands
+use Rattle.pgs_run_sessions.specs.InputMachine.{input_machine, first_stand, Stand, Schema, Lines, next_of, after_end, told_after, line_limit}
+use Rattle.pgs_run_sessions.specs.Spec.{sessions_spec, spec_where}
+use Rattle.pgs_run_sessions.specs.State.{brief_sessions}
+use Rattle.pgs_run_sessions.specs.Told.{status_after, told_schema, told_sessions}
+use Rattle.pgs_run_sessions.proofs.Machine.{told_by_input}
 
--- where the source isn't asked for no read failed
-pub unread : (runs : Bool) (before now : Faults) (status : Status) → runs ≡ false → HasCause runs before now status → fails_read status ≡ false
-unread runs before now Accepted none cause = refl
-unread runs before now Refused none cause = refl
-unread runs before now BadWords none cause = refl
-unread runs before now SchemaRefused none cause = refl
-unread runs before now StoreRefused none cause = refl
-unread runs before now DiskFault none cause = refl
-unread runs before now ReadFault none cause = absurd (true≢false (sym cause.0 ∙ none))
-unread runs before now PutFault none cause = refl
-unread runs before now Memory none cause = refl
-unread runs before now InputTooLong none cause = refl
+-- ---- the statuses of the machine's own
 
--- a run that nothing disturbed has the status told
-exact_of : (start now : Shown) (told : Told Status) (status : Status) → Ends start told status now → IsDisturbed status ⊎ (status ≡ told.status)
-exact_of start now told Accepted ends = inr (sym ends.1)
-exact_of start now told Refused ends = inr (sym ends.1)
-exact_of start now told BadWords ends = inr (sym ends.1)
-exact_of start now told SchemaRefused ends = inr (sym ends.1)
-exact_of start now told StoreRefused ends = inr (sym ends.1)
-exact_of start now told InputTooLong ends = inr (sym ends.1)
-exact_of start now told PutFault ends = inl (inr (inl refl))
-exact_of start now told Memory ends = inl (inr (inr (inl refl)))
-exact_of start now told ReadFault ends = inl (inl refl)
-exact_of start now told DiskFault ends = inl (inr (inr (inr refl)))
+line_status : (stand : Stand) (status : Status) → next_of stand ≡ Ended status → status ≡ SchemaRefused
+line_status (Schema part) status is = cc
+line_status (Lines schema s) status is = cc
+line_status stands.Refused status is = cc
 
-complete_of : (runs : Bool) → runs ≡ true → (start now : Shown) (told : Told Status) (status : Status) (old new : Faults) → (told.status ≡ InputTooLong → ⊥)
-    → (told.status ≡ SchemaRefused → ⊥) → (RoseByOne old.reads new.reads → ⊥) → (RoseByOne old.puts new.puts → ⊥) → HasCause runs old new status → Ends start told status now
-    → IsComplete start told status now
-complete_of runs is start now told Accepted old new cut schema reads puts cause ends = inr (inl refl, ends.0)
-complete_of runs is start now told Refused old new cut schema reads puts cause ends = inr (inr refl, ends.0)
-complete_of runs is start now told BadWords old new cut schema reads puts cause ends = absurd (true≢false (sym is ∙ cause.0))
-complete_of runs is start now told SchemaRefused old new cut schema reads puts cause ends = absurd (schema ends.1)
-complete_of runs is start now told StoreRefused old new cut schema reads puts cause ends = absurd cause
-complete_of runs is start now told InputTooLong old new cut schema reads puts cause ends = absurd (cut ends.1)
-complete_of runs is start now told PutFault old new cut schema reads puts cause ends = absurd (puts cause.0)
-complete_of runs is start now told Memory old new cut schema reads puts cause ends = inl refl
-complete_of runs is start now told ReadFault old new cut schema reads puts cause ends = absurd (reads cause.1.0)
-complete_of runs is start now told DiskFault old new cut schema reads puts cause ends = absurd cause
+done_status : (refused : Bool) → IsDone (status_after refused)
+done_status true = inr (inl refl)
+done_status false = inl refl
 
--- ---- of the one word
+done_schema : (schema : Result Resolved (List ℕ)) → IsDone (told_schema brief_sessions true schema []).status
+done_schema (Ok schema) = done_status (after_lines (brief_sessions.step schema) (first brief_sessions.begin) []).refused
+done_schema (Err text) = inr (inr refl)
 
-cause_of : (runs : Bool) → runs ≡ true → (old new : Faults) (status : Status) → HasCommandCause true false old new status → HasCause runs old new status
-cause_of runs is old new Accepted cause = (is, cause)
-cause_of runs is old new Refused cause = (is, cause)
-cause_of runs is old new BadWords cause = absurd cause
-cause_of runs is old new SchemaRefused cause = (is, cause)
-cause_of runs is old new StoreRefused cause = true≢false (sym cause.0)
-cause_of runs is old new DiskFault cause = true≢false (sym cause.0)
-cause_of runs is old new ReadFault cause = (is, cause.1)
-cause_of runs is old new PutFault cause = cause
-cause_of runs is old new Memory cause = cause
-cause_of runs is old new InputTooLong cause = (is, cause)
+done_after : (stand : Stand) → IsDone (told_after stand).status
+done_after (Schema part) = done_schema (schema_answer part.text)
+done_after (Lines schema s) = done_status s.refused
+done_after stands.Refused = inr (inr refl)
 
-told_run : (words : List (List ℕ)) → asks_run words ≡ true → (input : List ℕ) (budget : ℕ) → told words input budget ≡ told_sessions input budget
-unfolding told
-told_run words is input budget = rw is refl
-
-pub promised : (words : List (List ℕ)) → asks_run words ≡ true → (budget : ℕ) (old new : Setting) (status : Status)
-    → ((input : List ℕ) → old.left ≡ Some input → EndsAs (told_sessions input) (shown_of old.view) input budget new.left status (shown_of new.view))
-    → IsRead new.left status → HasCommandCause true false (faults_in old) (faults_in new) status → KeepsAreas old.view new.view
-    → KeepsPromise words budget old new status
-promised words is budget old new status ends read cause areas = record {
-  shown = shown;
-  read_fault = λ input rest left left_is fault.
-      subst (λ (t : Told Status). ShowsAll (shown_of old.view) t.pieces (shown_of new.view)) (sym (told_run words is input (length input - length rest)))
-      ((ends input left).read_fault rest left_is fault);
-  takes = λ input rest left left_is. record { within = (ends input left).within rest left_is; too_long = (ends input left).too_long rest left_is };
-  words_alone = λ other. absurd (true≢false (sym is ∙ other));
-  words_no_fault = λ other. absurd (true≢false (sym is ∙ other));
-  read_to_end = λ runs. read;
-  cause = causes;
-  exact = λ input known. exact_of (shown_of old.view) (shown_of new.view) (told words input budget) status (shown input known);
-  complete = λ input known runs short schema reads puts.
-      complete_of (asks_run words) is (shown_of old.view) (shown_of new.view) (told words input budget) status (faults_in old) (faults_in new)
-      (λ cut. never_cut input budget short (ap (λ (t : Told Status). t.status) (sym (told_run words is input budget)) ∙ cut)) schema reads puts causes (shown input known);
-  areas = areas;
+pub alone : EndsAlone input_machine
+alone = record {
+  line = λ stand line status is. line_status (after_end stand line) status is;
+  rest = λ stand rest. done_after (after_end stand rest);
+  cut = λ stand. refl;
+  no_area = λ may. may;
 }
-  where
-    shown : (input : List ℕ) → Knows words old input → Ends (shown_of old.view) (told words input budget) status (shown_of new.view)
-    shown input known =
-        subst (λ (t : Told Status). Ends (shown_of old.view) t status (shown_of new.view)) (sym (told_run words is input budget)) (ends input (known is)).shown
 
-    causes : HasCause (asks_run words) (faults_in old) (faults_in new) status
-    causes = cause_of (asks_run words) is (faults_in old) (faults_in new) status cause
+-- ---- the run
 
--- ---- of other words
+pub promised : (budget : ℕ) (old new : Setting) (stand : Stand) (stop : Stop Status) (status : Status) → stand ≡ first_stand → status ≡ status_at stop
+    → ((input : List ℕ) → old.source.left ≡ Some input → EndsAs (told_by input_machine line_limit stand input) (shown_of old.view) input budget new.source.left stop (shown_of new.view))
+    → EndsBy input_machine budget old.source.left new.source.left stop → MayCome input_machine stop → lines.HasCause (faults_in old) (faults_in new) stop → KeepsAreas old.view new.view
+    → new.places ≡ old.places → Promise sessions_spec budget old new status
+promised budget old new stand stop status begin =
+    promise_own input_machine alone (told_by input_machine line_limit stand) told_sessions (λ input n. ap (λ s. told_by input_machine line_limit s input n) begin ∙ told_by_input input n) budget old new stop status
 
-told_other : (words : List (List ℕ)) → asks_run words ≡ false → (input : List ℕ) (budget : ℕ) → told words input budget ≡ record { pieces = words_refused_line ∷ []; status = BadWords }
-unfolding told
-told_other words other input budget = rw other refl
+-- ---- no status of a store
 
--- the statuses of refused words
-abbrev IsAlone : Status → Type 0
-IsAlone status = (status ≡ ReadFault → ⊥) × (status ≡ InputTooLong → ⊥)
+uses_none : (runs : Bool) → (spec_where runs).uses_areas ≡ false
+uses_none true = refl
+uses_none false = refl
 
-other_promised : (words : List (List ℕ)) → asks_run words ≡ false → (budget : ℕ) (left : Option (List ℕ)) (reads : ℕ) (old new : View) (status : Status) → IsAlone status
-    → Ends (shown_of old) (record { pieces = words_refused_line ∷ []; status = BadWords }) status (shown_of new)
-    → HasCause (asks_run words) (faults_of reads old) (faults_of reads new) status → KeepsAreas old new
-    → KeepsPromise words budget (setting_of left reads old) (setting_of left reads new) status
-other_promised words other budget left reads old new status alone ends cause areas = record {
-  shown = λ input known. shown input;
-  read_fault = λ input rest left_all left_is fault. absurd (alone.0 fault);
-  takes = λ input rest left_all left_is. record { within = within_unread input rest budget left left_all left_is; too_long = λ cut. absurd (alone.1 cut) };
-  words_alone = λ unread. refl;
-  words_no_fault = λ unread. refl;
-  read_to_end = λ runs. absurd (true≢false (sym runs ∙ other));
-  cause = cause;
-  exact = λ input known. exact_of (shown_of old) (shown_of new) (told words input budget) status (shown input);
-  complete = λ input known runs. absurd (true≢false (sym runs ∙ other));
-  areas = areas;
-}
-  where
-    shown : (input : List ℕ) → Ends (shown_of old) (told words input budget) status (shown_of new)
-    shown input = subst (λ (t : Told Status). Ends (shown_of old) t status (shown_of new)) (sym (told_other words other input budget)) ends
+module _ (runs : Bool) (before now : Faults) (status : Status) (cause : HasCause (spec_where runs).reads_source (spec_where runs).uses_areas before now status) where
+  pub never_store : status ≡ StoreRefused → ⊥
+  never_store is =
+      let c : HasCause (spec_where runs).reads_source (spec_where runs).uses_areas before now StoreRefused = subst (HasCause (spec_where runs).reads_source (spec_where runs).uses_areas before now) is cause in
+      true≢false (sym c.0 ∙ uses_none runs)
 
-pub refused : (words : List (List ℕ)) → asks_run words ≡ false → (budget : ℕ) (left : Option (List ℕ)) (reads : ℕ) (old new : View) (status : Status) → KeepsAreas old new
-    → EndsLast words_refused_line BadWords PutFault Memory old status new → KeepsPromise words budget (setting_of left reads old) (setting_of left reads new) status
-refused words other budget left reads old new status areas (inl (inl whole)) =
-    subst (KeepsPromise words budget (setting_of left reads old) (setting_of left reads new)) (sym whole.0)
-    (other_promised words other budget left reads old new BadWords ((λ e. cc), (λ e. cc)) (whole.1, refl) (other, world_same reads reads old new refl whole.2) areas)
-refused words other budget left reads old new status areas (inl (inr torn)) =
-    subst (KeepsPromise words budget (setting_of left reads old) (setting_of left reads new)) (sym torn.0)
-    (other_promised words other budget left reads old new PutFault ((λ e. cc), (λ e. cc)) torn.1 (torn.2.0, refl, torn.2.2) areas)
-refused words other budget left reads old new status areas (inr none) =
-    subst (KeepsPromise words budget (setting_of left reads old) (setting_of left reads new)) (sym none.0)
-    (other_promised words other budget left reads old new Memory ((λ e. cc), (λ e. cc))
-    (record { first = []; later = words_refused_line ∷ []; parts = refl; shows = none.1 }) (world_same reads reads old new refl none.2) areas)
-
--- ---- statuses
-
--- a run of sessions ends with no status of a store
-pub status_sessions : (words : List (List ℕ)) (budget : ℕ) (old new : Setting) (status : Status) → KeepsPromise words budget old new status → is_sessions status ≡ true
-status_sessions words budget old new Accepted kept = refl
-status_sessions words budget old new Refused kept = refl
-status_sessions words budget old new BadWords kept = refl
-status_sessions words budget old new SchemaRefused kept = refl
-status_sessions words budget old new StoreRefused kept = absurd kept.cause
-status_sessions words budget old new DiskFault kept = absurd kept.cause
-status_sessions words budget old new ReadFault kept = refl
-status_sessions words budget old new PutFault kept = refl
-status_sessions words budget old new Memory kept = refl
-status_sessions words budget old new InputTooLong kept = refl
+  pub never_disk : status ≡ DiskFault → ⊥
+  never_disk is =
+      let c : HasCause (spec_where runs).reads_source (spec_where runs).uses_areas before now DiskFault = subst (HasCause (spec_where runs).reads_source (spec_where runs).uses_areas before now) is cause in
+      true≢false (sym c.0 ∙ uses_none runs)

@@ -1,10 +1,10 @@
 -- Room for counting lines and commits.
 use Rattle.std.proofs.Common.{◌≡◌, ℕ, ◌+◌, ◌-◌, ◌<◌, ◌^◌, Bool, true, false, List, Result, Ok, Err, OnOk, refl, sym, subst, arith}
 use Rattle.pgs_syntax.specs.declared.resolved.Resolved.{Resolved}
-use Rattle.pgs_run_base.specs.Answers.{schema_answer}
-use Rattle.pgs_run_base.specs.Input.{is_separator, is_skipped}
-use Rattle.pgs_run_base.specs.Part.{Part}
-use Rattle.pgs_run_sessions.specs.Running.{Stand, Schema, Lines, Refused, HasRoom, after_schema, after_end}
+use Rattle.pgs_run_input.specs.Answers.{schema_answer}
+use Rattle.pgs_run_input.specs.Input.{is_separator, is_skipped}
+use Rattle.pgs_run_input.specs.Part.{Part}
+use Rattle.pgs_run_sessions.specs.InputMachine.{Stand, Schema, Lines, Refused, HasRoom, after_schema, after_end}
 use Rattle.pgs_run_sessions.proofs.Following.{IsCounted, counted_line}
 
 room_schema : (lines : ℕ) (schema : Result Resolved (List ℕ)) → lines + 1 < 2 ^ 64 → HasRoom lines (after_schema schema)

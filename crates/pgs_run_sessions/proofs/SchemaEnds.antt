@@ -5,11 +5,12 @@ use Rattle.pgs_run_lines.specs.declared.stop.Stop.TheVariants as stops
 use Rattle.pgs_run_lines.specs.Ending.{Shows, Ends}
 use Rattle.pgs_run_lines.specs.Pieces.{Shown, ShowsAll, ShowsTorn}
 use Rattle.pgs_syntax.specs.declared.resolved.Resolved.{Resolved}
-use Rattle.pgs_run_base.specs.declared.status.Status.{Status}
-use Rattle.pgs_run_base.specs.declared.status.Status.TheVariants.{SchemaRefused}
-use Rattle.pgs_run_sessions.specs.Lines.{Standing, first}
-use Rattle.pgs_run_sessions.specs.Running.{Lines, after_schema, pieces_of_schema}
-use Rattle.pgs_run_sessions.specs.Running as stands
+use Rattle.pgs_command.specs.declared.status.Status.{Status}
+use Rattle.pgs_command.specs.declared.status.Status.TheVariants.{SchemaRefused}
+use Rattle.pgs_run_sessions.specs.EventLines.{Standing, first}
+use Rattle.pgs_run_input.specs.Judged.{pieces_of_schema}
+use Rattle.pgs_run_sessions.specs.InputMachine.{Lines, after_schema}
+use Rattle.pgs_run_sessions.specs.InputMachine as stands
 use Rattle.pgs_run_sessions.specs.State.{brief_sessions}
 use Rattle.pgs_run_sessions.specs.Told.{status_after, told_schema}
 use Rattle.pgs_sessions.specs.Summary.{Summary}

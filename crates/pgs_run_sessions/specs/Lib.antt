@@ -1,7 +1,9 @@
-pub mod Lines
-pub mod Promise
-pub mod Running
+pub mod EventLines
+pub mod Events
+pub mod InputMachine
+pub mod LineWords
+pub mod Replies
+pub mod Spec
 pub mod State
 pub mod Statuses
 pub mod Told
-pub mod Words

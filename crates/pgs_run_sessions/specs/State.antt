@@ -1,7 +1,7 @@
 -- What contracts see of a run between two event lines, and its sessions in brief.
 use Rattle.std.specs.Prelude.{ℕ, Bool}
-use Rattle.pgs_run_base.specs.Session.{standard}
-use Rattle.pgs_run_sessions.specs.Lines.{Stepped, Standing}
+use Rattle.pgs_run_input.specs.Session.{standard}
+use Rattle.pgs_run_sessions.specs.EventLines.{Stepped, Standing}
 use Rattle.pgs_run_sessions.specs.Told.{Sessions}
 use Rattle.pgs_sessions.specs.State.{SessionsState, deciding, summary_in}
 use Rattle.pgs_sessions.specs.Summary as brief
@@ -10,16 +10,16 @@ use Rattle.pgs_sessions_machine.specs.Machine.{start}
 use Rattle.pgs_syntax.specs.declared.resolved.Resolved.{Resolved}
 
 -- the sessions, how many lines are numbered so far, and whether one was refused
-pub record RunningState : Type 0 where
+pub record EventLinesState : Type 0 where
   pub sessions : SessionsState
   pub number : ℕ
   pub refused : Bool
 
-abbrev pub schema_in : RunningState → Resolved
+abbrev pub schema_in : EventLinesState → Resolved
 schema_in s = s.sessions.guard.schema
 
 -- where it stands, its sessions in brief
-abbrev pub standing_in : RunningState → Standing Summary
+abbrev pub standing_in : EventLinesState → Standing Summary
 standing_in s = record { number = s.number; refused = s.refused; state = summary_in s.sessions }
 
 -- sessions in brief, under the standard limits

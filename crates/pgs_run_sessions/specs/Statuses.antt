@@ -1,17 +1,15 @@
--- Which statuses of `pgguard` a run of sessions has.
-use Rattle.std.specs.Prelude.{Bool, true, false}
-use Rattle.pgs_run_base.specs.declared.status.Status.{Status}
-use Rattle.pgs_run_base.specs.declared.status.Status.TheVariants.{Accepted, Refused, BadWords, SchemaRefused, StoreRefused, DiskFault, ReadFault, PutFault, Memory, InputTooLong}
+-- Which status of `pgguard` each status of a run of sessions is.
+use Rattle.pgs_command.specs.declared.status.Status.{Status}
+use Rattle.pgs_command.specs.declared.status.Status.TheVariants.{Accepted, Refused, BadWords, SchemaRefused, ReadFault, PutFault, Memory, InputTooLong}
+use Rattle.pgs_run_sessions.specs.declared.status.SessionStatus.{SessionStatus}
+use Rattle.pgs_run_sessions.specs.declared.status.SessionStatus.TheVariants as sessions
 
--- those that aren't of a store
-abbrev pub is_sessions : Status → Bool
-is_sessions Accepted = true
-is_sessions Refused = true
-is_sessions BadWords = true
-is_sessions SchemaRefused = true
-is_sessions StoreRefused = false
-is_sessions DiskFault = false
-is_sessions ReadFault = true
-is_sessions PutFault = true
-is_sessions Memory = true
-is_sessions InputTooLong = true
+abbrev pub status_of : SessionStatus → Status
+status_of sessions.Accepted = Accepted
+status_of sessions.Refused = Refused
+status_of sessions.BadWords = BadWords
+status_of sessions.SchemaRefused = SchemaRefused
+status_of sessions.ReadFault = ReadFault
+status_of sessions.PutFault = PutFault
+status_of sessions.Memory = Memory
+status_of sessions.InputTooLong = InputTooLong

@@ -1,16 +1,15 @@
--- What `pgsession` tells of its words and of an input within a budget: pieces of output, and a status.
+-- What `pgsession` tells of an input within a budget: pieces of output, and a status.
 use Rattle.std.specs.Prelude.{ℕ, Bool, true, false, ◌||◌, List, [], ◌∷◌, ◌++◌, length, take, Result, Ok, Err, nat_le, if◌then◌else◌}
 use Rattle.std.specs.List.{list_any}
-use Rattle.pgs_answer.specs.Lines.{schema_refused_line, words_refused_line}
+use Rattle.pgs_answer.specs.Lines.{schema_refused_line}
 use Rattle.pgs_run_lines.specs.Input.{lines_of}
 use Rattle.pgs_run_lines.specs.Machine.{Told}
-use Rattle.pgs_run_base.specs.declared.status.Status.{Status}
-use Rattle.pgs_run_base.specs.declared.status.Status.TheVariants.{Accepted, Refused, BadWords, SchemaRefused, InputTooLong}
-use Rattle.pgs_run_base.specs.Answers.{schema_answer}
-use Rattle.pgs_run_base.specs.Input.{is_separator, schema_part, after_separator}
-use Rattle.pgs_run_base.specs.Session.{standard}
-use Rattle.pgs_run_sessions.specs.Lines.{Stepped, first, after_lines, pieces_of_lines}
-use Rattle.pgs_run_sessions.specs.Words.{asks_run}
+use Rattle.pgs_command.specs.declared.status.Status.{Status}
+use Rattle.pgs_command.specs.declared.status.Status.TheVariants.{Accepted, Refused, SchemaRefused, InputTooLong}
+use Rattle.pgs_run_input.specs.Answers.{schema_answer}
+use Rattle.pgs_run_input.specs.Input.{is_separator, schema_part, after_separator}
+use Rattle.pgs_run_input.specs.Session.{standard}
+use Rattle.pgs_run_sessions.specs.EventLines.{Stepped, first, after_lines, pieces_of_lines}
 use Rattle.pgs_sessions.specs.State.{deciding}
 use Rattle.pgs_sessions_machine.specs.declared.event.Event.{Event}
 use Rattle.pgs_sessions_machine.specs.Machine as machine
@@ -68,7 +67,3 @@ machine_sessions = record { begin = machine.start; step = λ schema state event.
 -- what is told of an input within a budget by the machine of sessions
 abbrev pub told_sessions : List ℕ → ℕ → Told Status
 told_sessions input budget = told_input machine_sessions input budget
-
--- what a run tells of its words and of an input within a budget
-unfoldable pub told : List (List ℕ) → List ℕ → ℕ → Told Status
-told words input budget = if asks_run words then told_sessions input budget else record { pieces = words_refused_line ∷ []; status = BadWords }

@@ -1,12 +1,11 @@
-ghost use Rattle.std.specs.Prelude.{◌≡◌, true};
-ghost use Rattle.pgs_run_base.specs.ExitStatus.{status_number};
-ghost use Rattle.pgs_run_sessions.specs.Promise.{status_of};
-ghost use Rattle.pgs_run_sessions.specs.Statuses.{is_sessions};
+ghost use Rattle.std.specs.Prelude.{◌≡◌};
+ghost use Rattle.pgs_command.specs.ExitStatus.{status_number};
+ghost use Rattle.pgs_run_sessions.specs.Statuses.{status_of};
 
-use pgs_run_base::Status;
+use pgs_command::Status;
 
 /// How a run of `pgsession` ended. The number is the exit status of the program, as of `pgguard`.
-#[derive(Clone, Copy, Debug, PartialEq, Eq)]
+#[derive(Clone, Copy, PartialEq, Eq)]
 pub enum SessionStatus {
     /// 0: the input was read to its end, and nothing was refused.
     Accepted,
@@ -27,25 +26,33 @@ pub enum SessionStatus {
 }
 
 impl SessionStatus {
+    /// The status as one of `pgguard`.
+    pub fn status(self) -> Status
+        ensures { result ≡ status_of self }
+    {
+        match self {
+            SessionStatus::Accepted => Status::Accepted,
+            SessionStatus::Refused => Status::Refused,
+            SessionStatus::BadWords => Status::BadWords,
+            SessionStatus::SchemaRefused => Status::SchemaRefused,
+            SessionStatus::ReadFault => Status::ReadFault,
+            SessionStatus::PutFault => Status::PutFault,
+            SessionStatus::Memory => Status::Memory,
+            SessionStatus::InputTooLong => Status::InputTooLong,
+        }
+    }
+
     /// The number of the status.
     pub fn number(self) -> u8
         ensures { result ≡ status_number (status_of self) }
     {
-        match self {
-            SessionStatus::Accepted => 0,
-            SessionStatus::Refused => 1,
-            SessionStatus::BadWords => 2,
-            SessionStatus::SchemaRefused => 3,
-            SessionStatus::ReadFault => 6,
-            SessionStatus::PutFault => 7,
-            SessionStatus::Memory => 8,
-            SessionStatus::InputTooLong => 9,
-        }
+        self.status().number()
     }
 
     /// Of a status that isn't of a store.
     pub(crate) fn of(status: Status) -> SessionStatus
-        requires { is_sessions status ≡ true }
+        requires store { status ≡ Status.StoreRefused → ⊥ }
+        requires disk { status ≡ Status.DiskFault → ⊥ }
         ensures { status_of result ≡ status }
     {
         match status {

@@ -6,7 +6,7 @@ use Rattle.pgs_graph.specs.declared.operation.Txn.{Txn}
 use Rattle.pgs_violation.specs.declared.rejection.Rejection.TheVariants.{Structural as ByStructure}
 use Rattle.pgs_violation.specs.declared.structural.Structural.{Structural}
 use Rattle.pgs_violation.specs.Staging.{◌>>=◌, after_ops, within_limit, staged}
-use Rattle.pgs_run_base.specs.Session.{standard, decision_on}
+use Rattle.pgs_run_input.specs.Session.{standard, decision_on}
 use Rattle.pgs_run_try.specs.Judging.{judges_nothing}
 
 abbrev IsWithin : Limits → Graph → Type 0

@@ -3,7 +3,7 @@ use Rattle.std.proofs.Common.{◌≡◌, ℕ, ◌+◌, List, [], ◌∷◌, Resu
 use Rattle.pgs_base.specs.Graph.{Graph}
 use Rattle.pgs_violation.specs.declared.rejection.Rejection.{Rejection}
 use Rattle.pgs_answer.specs.Lines.{committed_line, refused_line}
-use Rattle.pgs_run_base.specs.Session.{Standing, with_text}
+use Rattle.pgs_run_input.specs.Session.{Standing, with_text}
 use Rattle.pgs_run_try.specs.declared.judging.Judging.{Judging}
 use Rattle.pgs_run_try.specs.declared.judging.Judging.TheVariants.{EachLine, AtEnd}
 use Rattle.pgs_run_try.specs.Judging.{telling_by}

@@ -2,7 +2,6 @@ pub mod Done
 pub mod Judged
 pub mod Listed
 pub mod Machine
+pub mod Promised
 pub mod Room
 pub mod SchemaEnds
-pub mod Telling
-pub mod TryEnds

@@ -1,10 +1,10 @@
 -- Room for counting lines and commits.
 use Rattle.std.proofs.Common.{◌≡◌, ℕ, ◌+◌, ◌-◌, ◌<◌, ◌^◌, Bool, true, false, List, Result, Ok, Err, OnOk, refl, sym, subst, arith}
 use Rattle.pgs_syntax.specs.declared.resolved.Resolved.{Resolved}
-use Rattle.pgs_run_base.specs.Answers.{schema_answer}
-use Rattle.pgs_run_base.specs.Input.{is_separator, is_skipped}
-use Rattle.pgs_run_base.specs.Part.{Part}
-use Rattle.pgs_run_base.proofs.Following.{IsCounted, counted_line}
+use Rattle.pgs_run_input.specs.Answers.{schema_answer}
+use Rattle.pgs_run_input.specs.Input.{is_separator, is_skipped}
+use Rattle.pgs_run_input.specs.Part.{Part}
+use Rattle.pgs_run_input.proofs.Following.{IsCounted, counted_line}
 use Rattle.pgs_run_try.specs.declared.judging.Judging.{Judging}
 use Rattle.pgs_run_try.specs.declared.phase.Phase.{Phase}
 use Rattle.pgs_run_try.specs.declared.phase.Phase.TheVariants.{Schema, Lines, Refused}

@@ -6,12 +6,13 @@ use Rattle.pgs_run_lines.specs.Ending.{Shows, Ends}
 use Rattle.pgs_run_lines.specs.Pieces.{Shown, ShowsAll, ShowsTorn}
 use Rattle.pgs_run_lines.proofs.Showing.{ends_on, torn_of_more}
 use Rattle.pgs_syntax.specs.declared.resolved.Resolved.{Resolved}
-use Rattle.pgs_run_base.specs.declared.status.Status.{Status}
+use Rattle.pgs_command.specs.declared.status.Status.{Status}
+use Rattle.pgs_run_input.specs.Judged.{pieces_of_schema}
 use Rattle.pgs_run_try.specs.declared.judging.Judging.{Judging}
 use Rattle.pgs_run_try.specs.declared.phase.Phase.TheVariants.{Lines}
 use Rattle.pgs_run_try.specs.State.{SessionState}
 use Rattle.pgs_run_try.specs.Told.{start as first_standing, told_end, told_schema}
-use Rattle.pgs_run_try.specs.Trying.{after_schema, pieces_of_schema}
+use Rattle.pgs_run_try.specs.Trying.{after_schema}
 
 schema_torn : (judging : Judging) (answer : Result Resolved (List ℕ)) (start now : Shown) → ShowsTorn start (pieces_of_schema answer) now → ShowsTorn start (told_schema judging true answer []).pieces now
 schema_torn judging (Err text) start now torn = torn

@@ -3,9 +3,9 @@ use Rattle.std.specs.Prelude.{◌≡◌, ℕ, ◌+◌, Result, Ok, IfOk, IfErr, 
 use Rattle.pgs_base.specs.Graph.{Graph}
 use Rattle.pgs_graph.specs.declared.operation.Txn.{Txn}
 use Rattle.pgs_violation.specs.declared.rejection.Rejection.{Rejection}
-use Rattle.pgs_store.specs.declared.fault.GuardRefusal.{GuardRefusal}
-use Rattle.pgs_store.specs.Refused.{IsRejected}
-use Rattle.pgs_run_base.specs.Session.{decision_on}
+use Rattle.pgs_decide.specs.declared.refusal.GuardRefusal.{GuardRefusal}
+use Rattle.pgs_decide.specs.Refused.{IsRejected}
+use Rattle.pgs_run_input.specs.Session.{decision_on}
 use Rattle.pgs_run_try.specs.declared.decider.Decider.{Decider}
 use Rattle.pgs_run_try.specs.Judging.{verdict_by}
 use Rattle.pgs_run_try.specs.State.{judging_in, schema_in, graph_in, commits_in, HasStandardLimits}

@@ -6,7 +6,7 @@ use Rattle.pgs_violation.specs.declared.violation.Verdict.{Verdict}
 use Rattle.pgs_violation.specs.declared.violation.Verdict.TheVariants.{Conforms}
 use Rattle.pgs_violation.specs.declared.violation.Violation.{Violation}
 use Rattle.pgs_violation.specs.Violations.{verdict, violations}
-use Rattle.pgs_run_base.specs.Session.{Telling, every_verdict, refusals_alone}
+use Rattle.pgs_run_input.specs.Session.{Telling, every_verdict, refusals_alone}
 use Rattle.pgs_run_try.specs.declared.judging.Judging.{Judging}
 use Rattle.pgs_run_try.specs.declared.judging.Judging.TheVariants.{EachLine, AtEnd}
 

@@ -1,7 +1,7 @@
 -- What is opened under a schema text.
 use Rattle.std.specs.Prelude.{◌≡◌, ℕ, List, Ok}
 use Rattle.pgs_base.specs.Graph.{empty_graph}
-use Rattle.pgs_run_base.specs.Answers.{schema_answer}
+use Rattle.pgs_run_input.specs.Answers.{schema_answer}
 use Rattle.pgs_run_try.specs.declared.decider.Decider.{Decider}
 use Rattle.pgs_run_try.specs.declared.judging.Judging.{Judging}
 use Rattle.pgs_run_try.specs.State.{judging_in, schema_in, graph_in, commits_in, HasStandardLimits}

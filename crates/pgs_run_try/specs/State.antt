@@ -2,7 +2,7 @@
 use Rattle.std.specs.Prelude.{◌≡◌, ℕ, List}
 use Rattle.pgs_base.specs.Graph.{Graph}
 use Rattle.pgs_syntax.specs.declared.resolved.Resolved.{Resolved}
-use Rattle.pgs_run_base.specs.Session.{Standing, standard, after_line, pieces_of_line}
+use Rattle.pgs_run_input.specs.Session.{Standing, standard, after_line, pieces_of_line}
 use Rattle.pgs_run_try.specs.declared.decider.Decider.{Decider}
 use Rattle.pgs_run_try.specs.declared.decider.Decider.TheVariants.{Guarded, Unjudged}
 use Rattle.pgs_run_try.specs.declared.judging.Judging.{Judging}

@@ -8,11 +8,11 @@ use Rattle.pgs_syntax.specs.declared.resolved.Resolved.{Resolved}
 use Rattle.pgs_violation.specs.declared.violation.Violation.{Violation}
 use Rattle.pgs_answer.specs.Lines.{schema_refused_line, violation_line}
 use Rattle.pgs_answer.specs.Refusals.{violation_text}
-use Rattle.pgs_run_base.specs.declared.status.Status.{Status}
-use Rattle.pgs_run_base.specs.declared.status.Status.TheVariants.{Accepted, Refused, SchemaRefused, InputTooLong}
-use Rattle.pgs_run_base.specs.Answers.{schema_answer}
-use Rattle.pgs_run_base.specs.Input.{is_separator, schema_part, after_separator}
-use Rattle.pgs_run_base.specs.Session.{Standing, after_lines, pieces_of_lines}
+use Rattle.pgs_command.specs.declared.status.Status.{Status}
+use Rattle.pgs_command.specs.declared.status.Status.TheVariants.{Accepted, Refused, SchemaRefused, InputTooLong}
+use Rattle.pgs_run_input.specs.Answers.{schema_answer}
+use Rattle.pgs_run_input.specs.Input.{is_separator, schema_part, after_separator}
+use Rattle.pgs_run_input.specs.Session.{Standing, after_lines, pieces_of_lines}
 use Rattle.pgs_run_try.specs.declared.judging.Judging.{Judging}
 use Rattle.pgs_run_try.specs.declared.judging.Judging.TheVariants.{EachLine, AtEnd}
 use Rattle.pgs_run_try.specs.Judging.{verdict_by, telling_by, listed}

@@ -1,31 +1,24 @@
 -- The commands `try` and `validate` as one machine over lines.
-use Rattle.std.specs.Prelude.{◌≡◌, ◌<◌, ◌^◌, ℕ, ◌+◌, true, false, List, [], ◌∷◌, Result, Ok, Err, not, if◌then◌else◌}
-use Rattle.std.specs.List.{list_any, join_with_byte}
+use Rattle.std.specs.Prelude.{◌<◌, ◌^◌, ℕ, ◌+◌, true, List, [], Result, Ok, Err, if◌then◌else◌}
 use Rattle.pgs_run_lines.specs.Machine.{Machine, Standing as RunStanding, Told, Going, Ended}
 use Rattle.pgs_run_lines.specs.Telling.{Teller, telling}
 use Rattle.pgs_syntax.specs.declared.resolved.Resolved.{Resolved}
-use Rattle.pgs_answer.specs.Lines.{schema_refused_line}
-use Rattle.pgs_run_base.specs.declared.status.Status.{Status}
-use Rattle.pgs_run_base.specs.declared.status.Status.TheVariants as statuses
-use Rattle.pgs_run_base.specs.Answers.{schema_answer}
-use Rattle.pgs_run_base.specs.Input.{text_front, is_separator, schema_part, after_separator}
-use Rattle.pgs_run_base.specs.Part.{with_line, no_part, has_none}
-use Rattle.pgs_run_base.specs.Session.{after_lines}
+use Rattle.pgs_command.specs.declared.status.Status.{Status}
+use Rattle.pgs_command.specs.declared.status.Status.TheVariants as statuses
+use Rattle.pgs_run_input.specs.Answers.{schema_answer}
+use Rattle.pgs_run_input.specs.Input.{is_separator}
+use Rattle.pgs_run_input.specs.Judged.{pieces_of_schema}
+use Rattle.pgs_run_input.specs.Part.{with_line, no_part}
 use Rattle.pgs_run_try.specs.declared.judging.Judging.{Judging}
 use Rattle.pgs_run_try.specs.declared.phase.Phase.{Phase}
 use Rattle.pgs_run_try.specs.declared.phase.Phase.TheVariants.{Schema, Lines, Refused}
-use Rattle.pgs_run_try.specs.Judging.{verdict_by}
 use Rattle.pgs_run_try.specs.State.{session_after, session_pieces}
 use Rattle.pgs_run_try.specs.Told.{start, told_end, told_schema}
 
--- the phase after the judgement of a schema text, and what it tells
+-- the phase after the judgement of a schema text
 abbrev pub after_schema : Judging → Result Resolved (List ℕ) → Phase
 after_schema judging (Ok schema) = Lines (record { judging = judging; schema = schema; standing = start })
 after_schema judging (Err text) = Refused
-
-abbrev pub pieces_of_schema : Result Resolved (List ℕ) → List (List ℕ)
-pieces_of_schema (Ok schema) = []
-pieces_of_schema (Err text) = schema_refused_line text ∷ []
 
 -- the phase after one more line, and what it tells
 abbrev pub after_end : Phase → List ℕ → Phase
@@ -74,13 +67,3 @@ trying = telling try_teller
 -- before the first line
 abbrev pub first_phase : Judging → Phase
 first_phase judging = Schema judging no_part
-
--- the phase is where these ended lines lead, judged so
-abbrev pub Stands : Judging → List (List ℕ) → Phase → Type 0
-Stands judging lines (Schema j part) =
-    (j ≡ judging) × (list_any is_separator lines ≡ false) × (part.text ≡ text_front (join_with_byte 10 lines))
-    × (part.begun ≡ not (has_none lines))
-Stands judging lines (Lines s) =
-    (s.judging ≡ judging) × (list_any is_separator lines ≡ true) × (schema_answer (schema_part lines) ≡ Ok s.schema)
-    × (s.standing ≡ after_lines (verdict_by s.judging s.schema) start (after_separator lines))
-Stands judging lines Refused = (list_any is_separator lines ≡ true) × ((text : List ℕ) × (schema_answer (schema_part lines) ≡ Err text))

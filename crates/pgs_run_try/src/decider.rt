@@ -1,6 +1,6 @@
 ghost use Rattle.std.specs.Prelude.{◌≡◌, ◌<◌, IfOk, IfErr};
-ghost use Rattle.pgs_run_base.specs.Answers.{schema_answer};
-ghost use Rattle.pgs_run_base.specs.TextFaults.{IsFaultOf};
+ghost use Rattle.pgs_run_input.specs.Answers.{schema_answer};
+ghost use Rattle.pgs_run_input.specs.TextFaults.{IsFaultOf};
 ghost use Rattle.pgs_run_try.specs.Deciding.{Decides};
 ghost use Rattle.pgs_run_try.specs.Opening.{IsOpened};
 ghost use Rattle.pgs_run_try.specs.State.{commits_in, HasStandardLimits};
@@ -9,7 +9,7 @@ use crate::Judging;
 use crate::staged::Staged;
 use pgs_base::{Limits, Seed, Steps};
 use pgs_graph::Txn;
-use pgs_run_base::{TextFault, fault_of, schema_of};
+use pgs_run_input::{TextFault, fault_of, schema_of};
 use pgs_store::{Guard, GuardRefusal};
 use pgs_tables::Tables;
 use std::alloc::Global;
@@ -26,7 +26,7 @@ pub enum Decider {
 }
 
 // A guard under a schema text.
-#[tactic(auto, unfolding(pgs_run_base::specs::Answers::schema_answer))]
+#[tactic(auto, unfolding(pgs_run_input::specs::Answers::schema_answer))]
 fn guard_under(alloc: Global, text: &[u8], seed: Seed) -> Result<Decider, TextFault>
     ensures opened { IfOk result (IsOpened Judging.EachLine text.now) }
     ensures refused { IfErr result (IsFaultOf (schema_answer text.now)) }
@@ -67,7 +67,7 @@ pub fn open_decider(
 }
 
 // No one asks for the steps of a decision.
-#[tactic(auto, unfolding(crate::specs::Judging::verdict_by, pgs_run_base::specs::Session::decision_on))]
+#[tactic(auto, unfolding(crate::specs::Judging::verdict_by, pgs_run_input::specs::Session::decision_on))]
 fn apply_counted<L: Ledger>(
     alloc: Global,
     decider: &mut Decider,

@@ -1,18 +1,17 @@
-ghost use Rattle.std.specs.Prelude.{◌≡◌, ◌∷◌, [], map, IfOk, IfErr, true};
-ghost use Rattle.pgs_run_lines.specs.Calls.{is_of_world, stops_of_world};
+ghost use Rattle.std.specs.Prelude.{◌≡◌, map, IfOk, true};
 ghost use Rattle.pgs_run_lines.specs.AreasKept.{KeepsAreas};
-ghost use Rattle.pgs_run_lines.specs.Driving.{LineShows};
-ghost use Rattle.pgs_run_lines.specs.Ending.{Ends, HasCause, HasAnyCause, faults_of};
-ghost use Rattle.pgs_run_lines.specs.Pieces.{shown_of};
-ghost use Rattle.pgs_run_lines.specs.Puts.{StopsPutting};
-ghost use Rattle.pgs_run_try.specs.Told.{listed_line, status_after, told_end};
+ghost use Rattle.pgs_run_lines.specs.Calls.{is_of_world, stops_of_world};
+ghost use Rattle.pgs_run_lines.specs.Ending.{Ends, HasCause, faults_of};
 ghost use Rattle.pgs_run_lines.specs.May.{MayPut};
+ghost use Rattle.pgs_run_lines.specs.Pieces.{shown_of};
+ghost use Rattle.pgs_run_lines.specs.Puts.{Puts};
+ghost use Rattle.pgs_run_try.specs.Told.{listed_line, status_after, told_end};
 
 use crate::session::Session;
 use pgs_answer::{violation_line, violation_text};
 use pgs_base::{Bytes, Memory};
-use pgs_run_base::Status;
-use pgs_run_lines::{Stop, put_piece};
+use pgs_command::Status;
+use pgs_run_lines::{Stop, put_made};
 use pgs_violation::Violation;
 use pgs_world::World;
 use std::alloc::Global;
@@ -26,42 +25,17 @@ fn listed_line(alloc: Global, violation: &Violation) -> Result<Bytes, Memory>
     violation_line(alloc, text.as_slice())
 }
 
-// Puts the line of a violation.
-fn put_listed<W: World>(
-    alloc: Global,
-    world: &mut W,
-    violation: &Violation,
-) -> Result<(), Stop<Status>>
-    ensures shows { LineShows (shown_of (W.view world.old)) (listed_line violation.now ∷ []) result (shown_of (W.view world.new)) }
-    ensures stop { IfErr result StopsPutting }
-    ensures cause { HasAnyCause (faults_of 0 (W.view world.old)) (faults_of 0 (W.view world.new)) result }
-    ensures areas { KeepsAreas (W.view world.old) (W.view world.new) }
-    ensures last { stops_of_world result ≡ true → W.failed world.new }
-{
-    let line = match listed_line(alloc, violation) {
-        Ok(line) => line,
-        Err(_) => return Err(Stop::Memory),
-    };
-    put_piece(world, line.as_slice())
-}
-
 // Puts the lines of violations, one after another.
 fn put_all_listed<W: World>(
     alloc: Global,
     world: &mut W,
     found: &[Violation],
 ) -> Result<(), Stop<Status>>
-    ensures shows { LineShows (shown_of (W.view world.old)) (map listed_line found.now) result (shown_of (W.view world.new)) }
-    ensures stop { IfErr result StopsPutting }
-    ensures cause { HasAnyCause (faults_of 0 (W.view world.old)) (faults_of 0 (W.view world.new)) result }
-    ensures areas { KeepsAreas (W.view world.old) (W.view world.new) }
+    ensures puts { Puts (W.view world.old) (map listed_line found.now) result (W.view world.new) }
     ensures last { stops_of_world result ≡ true → W.failed world.new }
 {
     for violation in found {
-        match put_listed(alloc, world, violation) {
-            Ok(()) => {}
-            Err(stop) => return Err(stop),
-        }
+        put_made(world, listed_line(alloc, violation))?;
     }
     Ok(())
 }

@@ -1,13 +1,14 @@
 ghost use Rattle.std.specs.Prelude.{◌≡◌, IfOk};
-ghost use Rattle.pgs_run_base.specs.Answers.{schema_answer};
+ghost use Rattle.pgs_run_input.specs.Answers.{schema_answer};
+ghost use Rattle.pgs_run_input.specs.Judged.{pieces_of_schema};
 ghost use Rattle.pgs_run_lines.specs.Pieces.{pieces_in};
-ghost use Rattle.pgs_run_try.specs.Trying.{after_schema, pieces_of_schema};
+ghost use Rattle.pgs_run_try.specs.Trying.{after_schema};
 
 use crate::Judging;
 use crate::session::Session;
 use pgs_answer::schema_refused_line;
 use pgs_base::{Bytes, Memory, Seed};
-use pgs_run_base::{SchemaPart, TextFault};
+use pgs_run_input::{SchemaPart, TextFault};
 use std::alloc::Global;
 
 /// Whether the schema part goes on, the transaction lines go on, or the schema was refused.

@@ -1,16 +1,15 @@
-ghost use Rattle.std.specs.Prelude.{◌≡◌, ◌≤◌, ◌^◌, List, ℕ, Some, true, false};
+ghost use Rattle.std.specs.Prelude.{◌≡◌, ◌≤◌, ◌^◌, List, true};
+ghost use Rattle.pgs_command.specs.Calls.{fails_read, fails_world};
+ghost use Rattle.pgs_command.specs.Promise.{Promise};
+ghost use Rattle.pgs_command.specs.Setting.{setting_of};
+ghost use Rattle.pgs_feed.specs.Places.{Place};
 ghost use Rattle.pgs_run_lines.specs.Calls.{Reads};
-ghost use Rattle.pgs_run_base.specs.Calls.{fails_read, fails_world};
-ghost use Rattle.pgs_run_lines.specs.AreasKept.{KeepsAreas};
-ghost use Rattle.pgs_run_lines.specs.Ending.{faults_of};
-ghost use Rattle.pgs_run_lines.specs.Pieces.{shown_of};
-ghost use Rattle.pgs_run_base.specs.Run.{IsRead, EndsAs, HasCommandCause};
-ghost use Rattle.pgs_run_try.specs.Told.{told_judging};
+ghost use Rattle.pgs_run_try.specs.Spec.{judging_spec};
 
 use crate::Judging;
 use crate::trying::Trying;
 use pgs_base::TEXT_LIMIT;
-use pgs_run_base::{Status, status_at};
+use pgs_command::{Status, status_at};
 use pgs_run_lines::{Telling, run_lines};
 use pgs_world::{Source, World};
 use std::alloc::Global;
@@ -25,11 +24,8 @@ pub fn run_judging<S: Source, W: World>(
     budget: u64,
 ) -> Status
     requires { budget ≤ 2 ^ 40 }
-    ensures ends { (input : List ℕ) → S.left source.old ≡ Some input
-        → EndsAs (told_judging judging input) (shown_of (W.view world.old)) input budget (S.left source.new) result (shown_of (W.view world.new)) }
-    ensures read_to_end { IsRead (S.left source.new) result }
-    ensures cause { HasCommandCause true false (faults_of (S.faults source.old) (W.view world.old)) (faults_of (S.faults source.new) (W.view world.new)) result }
-    ensures areas { KeepsAreas (W.view world.old) (W.view world.new) }
+    ensures promise { (places : List Place) → Promise (judging_spec judging) budget (setting_of (S.left source.old) (S.faults source.old) (W.view world.old) places)
+        (setting_of (S.left source.new) (S.faults source.new) (W.view world.new) places) result }
     ensures last { fails_world result ≡ true → W.failed world.new }
     ensures calls { Reads S.read_made budget source.old (fails_read result) source.new }
 {

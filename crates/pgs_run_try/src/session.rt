@@ -1,10 +1,10 @@
 ghost use Rattle.std.specs.Prelude.{◌≡◌, ◌+◌, ◌-◌, ◌<◌, ◌^◌, ◌∷◌, [], Ok, Err, IfOk, IfErr, OnOk};
 ghost use Rattle.pgs_answer.specs.Lines.{committed_line};
-ghost use Rattle.pgs_run_base.specs.Answers.{schema_answer};
+ghost use Rattle.pgs_run_input.specs.Answers.{schema_answer};
 ghost use Rattle.pgs_run_lines.specs.Pieces.{pieces_in};
-ghost use Rattle.pgs_run_base.specs.Session.{with_text, answer_to, answer_to_txn, after_answer, after_refusal};
+ghost use Rattle.pgs_run_input.specs.Session.{with_text, answer_to, answer_to_txn, after_answer, after_refusal};
 ghost use Rattle.pgs_run_try.specs.Judging.{verdict_by, telling_by, listed};
-ghost use Rattle.pgs_run_base.specs.TextFaults.{IsFaultOf};
+ghost use Rattle.pgs_run_input.specs.TextFaults.{IsFaultOf};
 ghost use Rattle.pgs_run_try.specs.State.{session_after, session_pieces};
 ghost use Rattle.pgs_run_try.specs.Told.{start};
 
@@ -13,7 +13,7 @@ use crate::decider::{Decider, apply, open_decider};
 use pgs_answer::{committed_line, refused_line, rejection_text};
 use pgs_base::{Bytes, Limits, List, Memory, Seed, TEXT_LIMIT};
 use pgs_graph::Txn;
-use pgs_run_base::{TextFault, txn_of};
+use pgs_run_input::{TextFault, txn_of};
 use pgs_run_lines::is_blank;
 use pgs_store::GuardRefusal;
 use pgs_violation::{Rejection, Violation};
@@ -142,7 +142,7 @@ impl Session {
     }
 
     // Answers a line that isn't blank.
-    #[tactic(auto, unfolding(pgs_run_base::specs::Session::answer_to))]
+    #[tactic(auto, unfolding(pgs_run_input::specs::Session::answer_to))]
     fn answer(&mut self, alloc: Global, line: &[u8]) -> Result<Option<Bytes>, Memory>
         requires lines { self.old.standing.number < 2 ^ 64 - 1 }
         requires commits { self.old.standing.commits < 2 ^ 64 - 1 }
@@ -162,7 +162,7 @@ impl Session {
 
     /// Takes the next line, and gives what it tells, if anything. A blank line isn't numbered. After `Memory` the session isn't used any
     /// more.
-    #[tactic(auto, unfolding(pgs_run_base::specs::Session::after_line, pgs_run_base::specs::Session::pieces_of_line))]
+    #[tactic(auto, unfolding(pgs_run_input::specs::Session::after_line, pgs_run_input::specs::Session::pieces_of_line))]
     pub fn take_line(&mut self, alloc: Global, line: &[u8]) -> Result<Option<Bytes>, Memory>
         requires lines { self.old.standing.number < 2 ^ 64 - 1 }
         requires commits { self.old.standing.commits < 2 ^ 64 - 1 }

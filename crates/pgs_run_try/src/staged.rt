@@ -1,8 +1,8 @@
 ghost use Rattle.std.specs.Prelude.{◌≡◌, ◌-◌, ◌<◌, ◌^◌, true, Ok, IfOk, IfErr};
 ghost use Rattle.pgs_graph.specs.Changed.{changed, is_sound};
 ghost use Rattle.pgs_violation.specs.Violations.{violations};
-ghost use Rattle.pgs_store.specs.Refused.{IsRejected};
-ghost use Rattle.pgs_run_base.specs.Session.{decision_on};
+ghost use Rattle.pgs_decide.specs.Refused.{IsRejected};
+ghost use Rattle.pgs_run_input.specs.Session.{decision_on};
 ghost use Rattle.pgs_run_try.specs.declared.decider.Decider.TheVariants.{Unjudged};
 ghost use Rattle.pgs_run_try.specs.Deciding.{Decides};
 ghost use Rattle.pgs_run_try.specs.Judging.{judges_nothing};

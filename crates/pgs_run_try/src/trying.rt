@@ -5,7 +5,7 @@ ghost use Rattle.pgs_run_lines.specs.Ending.{Ends, HasCause, faults_of};
 ghost use Rattle.pgs_run_lines.specs.Machine.{HasRoomFor};
 ghost use Rattle.pgs_run_lines.specs.May.{MayPut};
 ghost use Rattle.pgs_run_lines.specs.Pieces.{pieces_in, shown_of};
-ghost use Rattle.pgs_run_base.specs.Answers.{schema_answer};
+ghost use Rattle.pgs_run_input.specs.Answers.{schema_answer};
 ghost use Rattle.pgs_run_try.specs.Told.{told_schema};
 ghost use Rattle.pgs_run_try.specs.Trying.{trying, try_teller, first_phase, after_end, pieces_at_end};
 
@@ -13,7 +13,8 @@ use crate::Judging;
 use crate::listing::end_session;
 use crate::phase::{Phase, judge};
 use pgs_base::{Bytes, Memory, Seed};
-use pgs_run_base::{SchemaPart, Status};
+use pgs_command::Status;
+use pgs_run_input::SchemaPart;
 use pgs_run_lines::{LineTeller, Stop, put_any};
 use pgs_world::World;
 use std::alloc::Global;

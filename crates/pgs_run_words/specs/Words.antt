@@ -32,9 +32,13 @@ elem_of (kind ∷ digits) =
     if kind == 110 then option_map (λ number. Node (record { 0 = number })) (number_of digits)
     else (if kind == 101 then option_map (λ number. Edge (record { 0 = number })) (number_of digits) else None)
 
--- the greatest number of transactions that are made from a number
-abbrev pub count_of : List ℕ → Option ℕ
-count_of word = option_and_then (λ count. if nat_le count 500000 then Some count else None) (number_of word)
+-- at most 500,000 transactions are made from a number
+abbrev pub few_from : (start count : ℕ) → Option (ℕ × ℕ)
+few_from start count = if nat_le count 500000 then Some (start, count) else None
+
+-- the workload of two words, a start and a number of transactions
+abbrev pub workload_of : (start count : List ℕ) → Option (ℕ × ℕ)
+workload_of start count = option_and_then (λ s. option_and_then (few_from s) (number_of count)) (number_of start)
 
 -- ---- further words
 
@@ -58,7 +62,7 @@ with_element (name ∷ elem ∷ []) = option_map Explain (elem_of elem)
 with_element _ = None
 
 abbrev pub with_counts : List (List ℕ) → Option Command
-with_counts (start ∷ count ∷ []) = option_and_then (λ s. option_map (Gen s) (count_of count)) (number_of start)
+with_counts (start ∷ count ∷ []) = option_map Gen (workload_of start count)
 with_counts _ = None
 
 -- the command of a first word and the further ones
@@ -103,7 +107,7 @@ command_of words = if are_plain words then command_of_plain words else None
 abbrev pub has_store : Command → Bool
 has_store Try = false
 has_store Validate = false
-has_store (Gen start count) = false
+has_store (Gen workload) = false
 has_store Contain = false
 has_store _ = true
 
@@ -111,10 +115,16 @@ abbrev pub has_feeds : Command → Bool
 has_feeds Apply = true
 has_feeds _ = false
 
--- the name of the store, where the words are those of a command that has one
+-- the name of the store, where the command has one
+abbrev pub store_in : Option Command → List (List ℕ) → Option (List ℕ)
+store_in command words = if option_map_or has_store command false then slice_get words 1 else None
+
 abbrev pub store_of : List (List ℕ) → Option (List ℕ)
-store_of words = if option_map_or has_store (command_of words) false then slice_get words 1 else None
+store_of words = store_in (command_of words) words
 
 -- the names of the feeds
+abbrev pub feeds_in : Option Command → List (List ℕ) → List (List ℕ)
+feeds_in command words = if option_map_or has_feeds command false then drop 2 words else []
+
 abbrev pub feeds_of : List (List ℕ) → List (List ℕ)
-feeds_of words = if option_map_or has_feeds (command_of words) false then drop 2 words else []
+feeds_of words = feeds_in (command_of words) words

@@ -1,7 +1,8 @@
+use crate::Workload;
 use pgs_base::Elem;
 
 /// A command of the program, with what its words say beside names of files.
-#[derive(Clone, Copy, PartialEq, Eq)]
+#[derive(Clone, Copy)]
 pub enum Command {
     /// `try`: a schema and lines of transactions, decided one after another; nothing is stored.
     Try,
@@ -16,7 +17,7 @@ pub enum Command {
     /// `explain NAME ELEM`: the types and the key values of an element of a store.
     Explain { elem: Elem },
     /// `gen START COUNT`: so many transactions made from a number.
-    Gen { start: u64, count: u64 },
+    Gen { workload: Workload },
     /// `checkpoint NAME`: a store written whole into its other area.
     Checkpoint,
     /// `contain`: two schemas; whether each type of the first is contained in the second.

@@ -1,16 +1,16 @@
 ghost use Rattle.std.specs.Prelude.{◌≡◌, IfOk, map, option_map, option_and_then, true};
 ghost use Rattle.pgs_run_words.specs.Further.{are_plain};
-ghost use Rattle.pgs_run_words.specs.Words.{elem_of, number_of, count_of, alone, with_name, with_feeds, with_element, with_counts, command_in};
+ghost use Rattle.pgs_run_words.specs.Words.{elem_of, number_of, workload_of, alone, with_name, with_feeds, with_element, with_counts, command_in};
 ghost use Rattle.pgs_run_words.specs.declared.command.Command.TheVariants.{Explain, Gen};
 
-use crate::Command;
 use crate::command_word::CommandWord;
 use crate::elements::element;
 use crate::name_and_feeds::read_name_and_feeds;
 use crate::no_word::read_no_word;
-use crate::numbers::{count, number};
+use crate::numbers::number;
 use crate::one_word::read_one_word;
 use crate::two_words::read_two_words;
+use crate::{Command, Workload};
 use pgs_base::Memory;
 use std::alloc::Global;
 
@@ -89,12 +89,21 @@ fn with_counts<'a>(alloc: Global, words: &'a [&'a str]) -> Result<Option<Command
     }
 }
 
-fn generate(start: &str, transactions: &str) -> Option<Command>
-    ensures { result ≡ option_and_then (λ s. option_map (Gen s) (count_of transactions.now)) (number_of start.now) }
+fn workload(start: &str, transactions: &str) -> Option<Workload>
+    ensures { result ≡ workload_of start.now transactions.now }
 {
     let start = number(start.as_bytes())?;
-    let count = count(transactions.as_bytes())?;
-    Some(Command::Gen { start, count })
+    let count = number(transactions.as_bytes())?;
+    Workload::new(start, count)
+}
+
+fn generate(start: &str, transactions: &str) -> Option<Command>
+    ensures { result ≡ option_map Gen (workload_of start.now transactions.now) }
+{
+    match workload(start, transactions) {
+        Some(workload) => Some(Command::Gen { workload }),
+        None => None,
+    }
 }
 
 /// The command of a first word and its further words. `None` exactly where these aren't the command's.

@@ -1,6 +1,6 @@
 ghost use Rattle.std.specs.Prelude.{◌≡◌, ◌+◌, ◌*◌, ◌^◌, Some, None, ◌&&◌, nat_lt, if◌then◌else◌};
 ghost use Rattle.std.specs.Char.{is_ascii_digit, digit_value};
-ghost use Rattle.pgs_run_words.specs.Words.{number_after, number_of, count_of};
+ghost use Rattle.pgs_run_words.specs.Words.{number_after, number_of};
 
 // The number with one more digit. `None` exactly where the byte is no digit, or the number is 2^64 or more.
 fn with_digit(number: u64, byte: u8) -> Option<u64>
@@ -31,12 +31,4 @@ pub fn number(word: &[u8]) -> Option<u64>
         return None;
     }
     digits(word)
-}
-
-/// A number of at most 500,000.
-pub fn count(word: &[u8]) -> Option<u64>
-    ensures { result ≡ count_of word.now }
-{
-    let count = number(word)?;
-    if count <= 500_000 { Some(count) } else { None }
 }

@@ -1,6 +1,6 @@
 -- A staged graph that conforms is one that a guard may have.
 use Rattle.std.proofs.Common.{◌≡◌, ℕ, ◌^◌, ◌<◌, ◌≤◌, Bool, true, false, IsTrue, List, Result, Ok, Err, refl, ◌∙◌, ap, subst, arith}
-use Rattle.std.specs.Prelude.{if◌then◌else◌, nat_lt, length}
+use Rattle.std.specs.Prelude.{if◌then◌else◌, nat_lt, length, IfOk, OnOk}
 use Rattle.std.proofs.lemmas.Bool.{and_parts}
 use Rattle.std.proofs.lemmas.Bool.Decides.{nat_tests}
 use Rattle.pgs_base.specs.declared.limits.Limits.{Limits}
@@ -11,16 +11,20 @@ use Rattle.pgs_base.specs.declared.row.EdgeRow.{EdgeRow}
 use Rattle.pgs_base.specs.Graph.{Graph, element_count, is_graph}
 use Rattle.pgs_codec.specs.declared.command.Command.TheVariants.{Snapshot, Txn as Transaction}
 use Rattle.pgs_codec.specs.Encodable.{is_sized, snapshot_graph}
+use Rattle.pgs_decide.specs.declared.deciding.Decided.{Decided}
+use Rattle.pgs_decide.specs.declared.refusal.GuardRefusal.{GuardRefusal}
+use Rattle.pgs_graph.specs.Changed.{changed}
 use Rattle.pgs_graph.specs.declared.operation.Txn.{Txn}
-use Rattle.pgs_records.specs.Small.{has_small_rows}
-use Rattle.pgs_records.proofs.Steps.{staged_small, staged_sized}
+use Rattle.pgs_saved_graph.specs.Small.{has_small_rows}
+use Rattle.pgs_saved_graph.proofs.Steps.{staged_small, staged_sized}
 use Rattle.pgs_store.specs.State.{IsGuarded}
 use Rattle.pgs_syntax.specs.declared.resolved.Resolved.{Resolved}
 use Rattle.pgs_violation.specs.declared.structural.Structural.{Structural}
 use Rattle.pgs_violation.specs.declared.structural.Structural.TheVariants.{TooManyElements, TooManyOps}
-use Rattle.pgs_violation.specs.declared.rejection.Rejection.TheVariants.{Structural as ByStructure}
+use Rattle.pgs_violation.specs.declared.rejection.Rejection.TheVariants.{Structural as ByStructure, Violation as ByViolation}
 use Rattle.pgs_violation.specs.declared.violation.Verdict.{Verdict}
 use Rattle.pgs_violation.specs.declared.violation.Verdict.TheVariants.{Conforms, Refused}
+use Rattle.pgs_violation.specs.declared.violation.Violation.{Violation}
 use Rattle.pgs_violation.specs.Decision.{conforming, decide, judged, judging}
 use Rattle.pgs_violation.specs.Staging.{◌>>=◌, after_ops, within_limit, staged}
 use Rattle.pgs_violation.specs.Violations.{conforms, verdict, violations}
@@ -92,6 +96,20 @@ pub small_rows : (commits : ℕ) (nodes : List (NodeId × NodeRow)) (edges : Lis
 small_rows commits nodes edges g same sizes =
     ap has_small_rows same ∙ (and_parts (has_small_rows (snapshot_graph nodes edges)) (is_graph (snapshot_graph nodes edges)) sizes).0
 
+-- ---- a decision that is handed on as it is
+
+module _ (resolved : Resolved) (limits : Limits) (g : Graph) (txn : Txn) where
+  pub each_guarded : (answer : Result Decided GuardRefusal) → has_small_rows g ≡ true → IfOk answer (λ (it : Decided). conforms resolved (changed g it.delta) ≡ true)
+      → IfOk answer (λ (it : Decided). decide limits (verdict resolved) g txn ≡ Ok (changed g it.delta))
+      → IfOk answer (λ (it : Decided). IsGuarded resolved limits (changed g it.delta))
+  each_guarded (Ok it) small fine accepted = guarded resolved limits g (changed g it.delta) txn fine accepted small
+  each_guarded (Err refusal) small fine accepted = tt
+
+  pub each_sized : (answer : Result Decided GuardRefusal) → limits.ops < 2 ^ 32
+      → IfOk answer (λ (it : Decided). decide limits (verdict resolved) g txn ≡ Ok (changed g it.delta)) → OnOk answer (IsTrue (is_sized (Transaction txn)))
+  each_sized (Ok it) few accepted = sized resolved limits g (changed g it.delta) txn few accepted
+  each_sized (Err refusal) few accepted = tt
+
 -- ---- a graph that is judged again
 
 not_over : (count most : ℕ) → count ≤ most → nat_lt most count ≡ false
@@ -100,3 +118,8 @@ not_over count most within = grind (arith, nat_tests)
 -- a graph that a guard may have is accepted
 pub judged_within : (resolved : Resolved) (limits : Limits) (g : Graph) → IsGuarded resolved limits g → judged limits (verdict resolved) g ≡ Ok g
 judged_within resolved limits g guarded = rw (not_over (element_count g) limits.elements guarded.within) (ap (conforming g) guarded.conforms)
+
+-- and one that is within the limits is rejected for its first violation
+pub judged_violated : (resolved : Resolved) (limits : Limits) (g : Graph) (violation : Violation) → element_count g ≤ limits.elements → verdict resolved g ≡ Refused violation
+    → judged limits (verdict resolved) g ≡ Err (ByViolation violation)
+judged_violated resolved limits g violation within is = rw (not_over (element_count g) limits.elements within) (ap (conforming g) is)

@@ -1,8 +1,10 @@
+pub mod Answered
 pub mod Applied
 pub mod Bounds
 pub mod Composed
 pub mod Decided
 pub mod Evolved
+pub mod Exits
 pub mod Fitting
 pub mod Indexed
 pub mod Loaded

@@ -1,5 +1,5 @@
 -- What a stop during a checkpoint leaves of a store, and what stands after it.
-use Rattle.std.proofs.Common.{◌≡◌, inl, inr, ⊎_elim, ℕ, ◌+◌, ◌-◌, ◌*◌, ◌^◌, ◌<◌, ◌≤◌, true, IsTrue, List, length, Result, Some, sym, ◌∙◌, subst, arith}
+use Rattle.std.proofs.Common.{◌≡◌, inl, inr, ⊎_elim, ℕ, ◌+◌, ◌-◌, ◌*◌, ◌^◌, ◌<◌, ◌≤◌, true, IsTrue, List, length, Option, Result, Some, sym, ◌∙◌, ap, subst, arith}
 use Rattle.std.proofs.lemmas.Bool.{and_from}
 use Rattle.std.proofs.lemmas.Bool.Decides.{nat_tests}
 use Rattle.pgs_base.specs.Graph.{is_graph}
@@ -10,9 +10,9 @@ use Rattle.pgs_codec.specs.Reading.{decoded}
 use Rattle.pgs_journal.specs.Creating.{IsStoreMade}
 use Rattle.pgs_journal.specs.declared.journal.Journal.{Journal}
 use Rattle.pgs_journal.specs.declared.format.Format.TheVariants.{Second}
-use Rattle.pgs_journal.specs.Format.{Holds, IsFrames, is_epoch}
+use Rattle.pgs_journal.specs.Format.{Holds, IsFrames, IsNextWithin, is_epoch}
 use Rattle.pgs_journal.specs.Stops.{Turns, Creates}
-use Rattle.pgs_records.specs.Small.{has_small_rows}
+use Rattle.pgs_saved_graph.specs.Small.{has_small_rows}
 use Rattle.pgs_resolve.specs.SchemaOf.{schema, schema_of}
 use Rattle.pgs_snapshot.specs.Saved.{saved_of, store}
 use Rattle.pgs_snapshot.proofs.Fitness.{AreFit, checkpoint_fit}
@@ -111,3 +111,17 @@ renewing_stops guard journal area first {result} {failed} {old} {new} of_text gu
 -- the rows of a guard's graph have a payload
 pub snapshot_sized : (guard : GuardState) → has_small_rows guard.graph ≡ true → is_graph guard.graph ≡ true → IsTrue (is_sized (snapshot_of guard))
 snapshot_sized guard small graph = and_from (has_small_rows guard.graph) (is_graph guard.graph) small graph
+
+-- the journal of the next epoch has no more commits than it may
+pub next_bounded : (journal after : Journal) (area : Area) (commits end : ℕ) → IsBounded journal commits → (journal.epoch ≡ 16777215 → ⊥)
+    → after ≡ record { area = area; epoch = journal.epoch + 1; end = end; next = Some 3 } → after.end < 2 ^ 40 → 3 ≤ after.end → IsBounded after commits
+next_bounded journal after area commits end bounded last is below within =
+    let epoch : after.epoch ≡ journal.epoch + 1 = ap (λ (j : Journal). j.epoch) is in
+    let few = few_before journal.epoch journal.end commits bounded.epoch bounded.end bounded.most in
+    let before : journal.epoch + 1 - 1 ≡ journal.epoch = omega arith in
+    record {
+      epoch = subst (λ (e : ℕ). IsTrue (is_epoch e)) (sym epoch) (next_epoch journal.epoch bounded.epoch last);
+      end = below;
+      next = subst (λ (n : Option ℕ). IsNextWithin n after.end) (sym (ap (λ (j : Journal). j.next) is)) within;
+      most = rw (epoch, before) (omega (arith, few));
+    }

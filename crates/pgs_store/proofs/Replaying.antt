@@ -2,7 +2,7 @@
 use Rattle.std.proofs.Common.{◌≡◌, ℕ, zero, suc, ◌+◌, ◌-◌, ◌*◌, ◌^◌, ◌<◌, ◌≤◌, Bool, true, false, List, [], ◌∷◌, length, drop, get_or, Option, Some, None, Result, Ok, Err, refl, sym, ◌∙◌, ap, arith, add-one, drop-cons, length-drop}
 use Rattle.std.specs.Prelude.{if◌then◌else◌}
 use Rattle.pgs_base.specs.declared.limits.Limits.{Limits}
-use Rattle.pgs_base.specs.Graph.{Graph, empty_graph}
+use Rattle.pgs_base.specs.Graph.{Graph, element_count, empty_graph}
 use Rattle.pgs_codec.specs.declared.command.Command.{Command}
 use Rattle.pgs_codec.specs.declared.command.Command.TheVariants.{Schema, Txn as Transaction, Snapshot}
 use Rattle.pgs_codec.specs.Encodable.{snapshot_graph}
@@ -15,6 +15,7 @@ use Rattle.pgs_schema.specs.declared.fault.SchemaFault.{SchemaFault}
 use Rattle.pgs_schema.specs.declared.fault.SchemaFault.TheVariants as schema_faults
 use Rattle.pgs_schema.specs.declared.fault.SchemaUnread.{SchemaUnread}
 use Rattle.pgs_schema.specs.declared.fault.SchemaUnread.TheVariants as unreads
+use Rattle.pgs_schema.specs.State.{SchemaState}
 use Rattle.pgs_schema.specs.Told.{IsRefused, answer_of}
 use Rattle.pgs_snapshot.specs.Choice.{Choice, choice_of}
 use Rattle.pgs_snapshot.specs.Choice as choices
@@ -25,13 +26,18 @@ use Rattle.pgs_snapshot.specs.declared.choose_fault.ChooseFault.TheVariants as c
 use Rattle.pgs_snapshot.proofs.Fitness.{snapshot_within}
 use Rattle.pgs_store.specs.declared.fault.RecoverFault.{RecoverFault}
 use Rattle.pgs_store.specs.declared.fault.RecoverFault.TheVariants as recovers
-use Rattle.pgs_store.specs.Recovers.{IsUnreplayed, IsUnrecovered, IsUntaken, is_of_area, replayed_in}
-use Rattle.pgs_store.specs.State.{GuardState}
-use Rattle.pgs_store.specs.Unread.{of_choice, of_recover}
+use Rattle.pgs_store.specs.declared.fault.SchemaRefusal.{SchemaRefusal}
+use Rattle.pgs_store.specs.declared.fault.SchemaRefusal.TheVariants as refusals
+use Rattle.pgs_store.specs.Evolves.{IsUnfit}
+use Rattle.pgs_store.specs.Recovers.{IsUnreplayed, IsUnrecovered, IsUntaken, is_of_area, of_schema_refusal, replayed_in}
+use Rattle.pgs_store.specs.State.{GuardState, IsGuarded}
+use Rattle.pgs_store.specs.Stored.{evolved}
+use Rattle.pgs_store.specs.Unread.{of_choice, of_recover, of_schema}
 use Rattle.pgs_syntax.specs.declared.resolved.Resolved.{Resolved}
 use Rattle.pgs_violation.specs.declared.rejection.Rejection.{Rejection}
 use Rattle.pgs_violation.specs.Decision.{decide, judged}
 use Rattle.pgs_violation.specs.Violations.{verdict}
+use Rattle.pgs_store.proofs.Decided.{judged_violated, judged_within}
 
 -- ---- one record
 
@@ -142,6 +148,51 @@ fit_at format epoch number (first ∷ payloads) (suc place) payload fit within h
         → is_fit format epoch (number + suc place) payload ≡ true
     at true rest go = let same : number + suc place ≡ suc number + place = omega arith in ap (λ (n : ℕ). is_fit format epoch n payload) same ∙ go rest
     at false rest go = absurd (let o : Option ℕ = None in let h : Some number ≡ o = rest in cc)
+
+-- ---- a later schema
+
+module _ (guard : GuardState) (text : List ℕ) where
+  abbrev judged_as : Answer → Result Replayed RecordFault
+  judged_as answer = under_schema guard.limits (replayed_in guard) text answer
+
+  unread_text : (fault : SchemaFault) → judged_as (answer_of fault) ≡ Err (refused (answer_of fault))
+  unread_text (schema_faults.Lex line) = refl
+  unread_text (schema_faults.Syntax statement) = refl
+  unread_text schema_faults.NoGraphType = refl
+  unread_text (schema_faults.Duplicate name) = refl
+  unread_text (schema_faults.Unknown name) = refl
+  unread_text (schema_faults.Kind name) = refl
+  unread_text (schema_faults.Cycle name) = refl
+  unread_text (schema_faults.TooWide name) = refl
+  unread_text (schema_faults.BadKey key cause) = refl
+  unread_text schema_faults.TooLong = refl
+
+  -- it isn't in force, since its text wasn't read, or since the graph so far doesn't conform
+  pub unfit_untaken : (refusal : SchemaRefusal) (number : ℕ) → element_count guard.graph ≤ guard.limits.elements → IsUnfit guard text refusal
+      → IsUntaken number (judged_as (schema_of text)) (of_schema_refusal number refusal)
+  unfit_untaken refusals.Memory number within unfit = tt
+  unfit_untaken (refusals.Schema fault) number within unfit = ap judged_as unfit ∙ unread_text fault
+  unfit_untaken (refusals.Violated violation) number within unfit = (
+    refl,
+    ap judged_as unfit.1.0
+        ∙ ap (taken (record (replayed_in guard) { text = text; schema = unfit.0 })) (judged_violated unfit.0 guard.limits guard.graph violation within unfit.1.1),
+  )
+
+  -- a text that wasn't read
+  pub unread_untaken : (why : SchemaUnread) (number : ℕ) → IsRefused (schema_of text) why
+      → IsUntaken number (judged_as (schema_of text)) (of_schema_refusal number (of_schema why))
+  unread_untaken unreads.Memory number is = tt
+  unread_untaken (unreads.Schema fault) number is = ap judged_as is ∙ unread_text fault
+
+  -- it is in force
+  pub schema_taken : (next : GuardState) (given read : SchemaState) → read.text ≡ text → given ≡ read → next ≡ evolved guard given.text given.resolved
+      → schema_of read.text ≡ schema read.resolved → IsGuarded read.resolved guard.limits guard.graph → judged_as (schema_of text) ≡ Ok (replayed_in next)
+  schema_taken next given read same_text same done of_text guarded =
+      let after : next ≡ evolved guard text read.resolved =
+      done ∙ ap (λ (s : SchemaState). evolved guard s.text s.resolved) same ∙ ap (λ (t : List ℕ). evolved guard t read.resolved) same_text in
+      ap judged_as (ap schema_of (sym same_text) ∙ of_text)
+      ∙ ap (taken (record (replayed_in guard) { text = text; schema = read.resolved })) (judged_within read.resolved guard.limits guard.graph guarded)
+      ∙ ap (λ (s : GuardState). let r : Result Replayed RecordFault = Ok (replayed_in s) in r) (sym after)
 
 -- ---- what is saved
 

@@ -4,8 +4,8 @@ use Rattle.pgs_base.specs.declared.limits.Limits.{Limits}
 use Rattle.pgs_schema.specs.Told.{answer_of}
 use Rattle.pgs_snapshot.specs.Saved.{History, RecordFault, Replayed, SavedState, refused, rejected, saved, store}
 use Rattle.pgs_snapshot.specs.Saved as states
-use Rattle.pgs_store.specs.declared.fault.GuardRefusal.{GuardRefusal}
-use Rattle.pgs_store.specs.declared.fault.GuardRefusal.TheVariants as guards
+use Rattle.pgs_decide.specs.declared.refusal.GuardRefusal.{GuardRefusal}
+use Rattle.pgs_decide.specs.declared.refusal.GuardRefusal.TheVariants as guards
 use Rattle.pgs_store.specs.declared.fault.RecoverFault.{RecoverFault}
 use Rattle.pgs_store.specs.declared.fault.SchemaRefusal.{SchemaRefusal}
 use Rattle.pgs_store.specs.declared.fault.SchemaRefusal.TheVariants as refusals

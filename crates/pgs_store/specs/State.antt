@@ -4,7 +4,7 @@ use Rattle.pgs_base.specs.declared.limits.Limits.{Limits}
 use Rattle.pgs_base.specs.Graph.{Graph, element_count}
 use Rattle.pgs_keyindex.specs.Index.{IndexState}
 use Rattle.pgs_keyindex.specs.Standing.{StandsFor}
-use Rattle.pgs_records.specs.Small.{has_small_rows}
+use Rattle.pgs_saved_graph.specs.Small.{has_small_rows}
 use Rattle.pgs_syntax.specs.declared.resolved.Resolved.{Resolved}
 use Rattle.pgs_violation.specs.declared.violation.Verdict.TheVariants.{Conforms}
 use Rattle.pgs_violation.specs.Violations.{verdict}

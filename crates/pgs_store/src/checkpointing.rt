@@ -14,7 +14,7 @@ use crate::{CheckpointFault, Guard, Store};
 use pgs_base::{List, Memory, Steps};
 use pgs_codec::Command;
 use pgs_journal::LAST_EPOCH;
-use pgs_records::{edge_rows, first_frames, node_rows};
+use pgs_saved_graph::{edge_rows, first_frames, node_rows};
 use pgs_snapshot::checkpoint;
 use pgs_world::{Area, World};
 use std::marker::Brand;

@@ -1,4 +1,5 @@
 use pgs_base::Memory;
+use pgs_decide::GuardRefusal;
 use pgs_schema::{SchemaFault, SchemaUnread};
 use pgs_snapshot::ChooseFault;
 use pgs_violation::{Rejection, Violation};
@@ -6,28 +7,6 @@ use thiserror::Error;
 
 /// Why there is no guard: there was no memory, or the text is no schema.
 pub type GuardFault = SchemaUnread;
-
-/// Why a guard didn't take a transaction.
-#[derive(Debug, Drop, Error)]
-pub enum GuardRefusal {
-    /// There was no memory.
-    #[error("there is not enough memory")]
-    Memory,
-    /// The transaction is rejected.
-    #[error("the transaction is rejected")]
-    Rejected(Rejection),
-}
-
-impl From<Memory> for GuardRefusal {
-    ghost use Rattle.std.specs.Prelude.{◌≡◌};
-    ghost use Rattle.pgs_store.specs.declared.fault.GuardRefusal.TheVariants as faults;
-
-    ghost from_gives = { λ _ e. e ≡ faults.Memory };
-
-    fn from(_: Memory) -> GuardRefusal {
-        GuardRefusal::Memory
-    }
-}
 
 /// Why no store was made.
 #[derive(Debug, Drop, Error)]

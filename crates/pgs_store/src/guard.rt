@@ -7,7 +7,7 @@ ghost use Rattle.pgs_violation.specs.Decision.{decide};
 ghost use Rattle.pgs_violation.specs.Violations.{verdict};
 ghost use Rattle.pgs_store.specs.Costs.{IsWithin};
 ghost use Rattle.pgs_store.specs.Explained.{types_of, key_values_of};
-ghost use Rattle.pgs_store.specs.Refused.{IsRejected};
+ghost use Rattle.pgs_decide.specs.Refused.{IsRejected};
 ghost use Rattle.pgs_store.specs.State.{IsGuarded};
 
 use crate::changing::{commit, prepare};

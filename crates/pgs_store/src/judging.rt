@@ -5,6 +5,7 @@ ghost use Rattle.pgs_base.specs.Graph.{element_count};
 ghost use Rattle.pgs_check.specs.Standing.{ChangeEachOnce, index_changed};
 ghost use Rattle.pgs_codec.specs.declared.command.Command.TheVariants.{Txn as Transaction};
 ghost use Rattle.pgs_codec.specs.Encodable.{is_sized};
+ghost use Rattle.pgs_decide.specs.Refused.{IsRejected};
 ghost use Rattle.pgs_graph.specs.Changed.{changed, is_sound};
 ghost use Rattle.pgs_keyindex.specs.Rows.{IsOwned, rows_changed};
 ghost use Rattle.pgs_keyindex.specs.Standing.{StandsFor};
@@ -12,12 +13,12 @@ ghost use Rattle.pgs_violation.specs.Decision.{conforming, decide, judged};
 ghost use Rattle.pgs_violation.specs.declared.violation.Verdict.TheVariants.{Conforms};
 ghost use Rattle.pgs_violation.specs.Violations.{verdict};
 ghost use Rattle.pgs_store.specs.Costs.{TakesWithin};
-ghost use Rattle.pgs_store.specs.Refused.{IsRejected, verdict_by};
+ghost use Rattle.pgs_store.specs.Refused.{verdict_by};
 ghost use Rattle.pgs_store.specs.State.{IsGuarded, IsIndexed};
 
 use crate::GuardRefusal;
 use pgs_base::{Limits, List, Memory, Steps};
-use pgs_decide::{DecideFault, Decided, decide};
+use pgs_decide::{Decided, decide};
 use pgs_graph::{GraphRead, Txn};
 use pgs_keyindex::KeyIndex;
 use pgs_schema::Schema;
@@ -54,7 +55,7 @@ pub(crate) fn decision_of<L: Ledger>(
     ensures cost { TakesWithin schema.now.resolved limits.now graph.now.graph txn.now steps.old steps.new }
 {
     let _most = limits.ops;
-    match decide(
+    decide(
         alloc,
         graph,
         index,
@@ -63,11 +64,7 @@ pub(crate) fn decision_of<L: Ledger>(
         limits,
         txn,
         steps,
-    ) {
-        Ok(decided) => Ok(decided),
-        Err(DecideFault::Memory) => Err(GuardRefusal::Memory),
-        Err(DecideFault::Rejected(rejection)) => Err(GuardRefusal::Rejected(rejection)),
-    }
+    )
 }
 
 // The first of a list of violations.

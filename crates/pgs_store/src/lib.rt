@@ -22,8 +22,7 @@ mod loading;
 mod recovering;
 mod store;
 
-pub use fault::{
-    ApplyFault, CheckpointFault, EvolveFault, GuardFault, GuardRefusal, LoadFault, RecoverFault,
-};
+pub use fault::{ApplyFault, CheckpointFault, EvolveFault, GuardFault, LoadFault, RecoverFault};
 pub use guard::Guard;
+pub use pgs_decide::GuardRefusal;
 pub use store::Store;

@@ -15,7 +15,7 @@ use crate::{Guard, LoadFault, Store};
 use pgs_base::{Limits, List, Memory};
 use pgs_codec::Command;
 use pgs_journal::Journal;
-use pgs_records::record_frame;
+use pgs_saved_graph::record_frame;
 use pgs_snapshot::{ChooseFault, choose_area};
 use pgs_world::{Area, World};
 use std::alloc::Global;

@@ -8,7 +8,7 @@ ghost use Rattle.pgs_snapshot.specs.Saved.{after_record, replay as replay_of, sa
 ghost use Rattle.pgs_store.specs.Recovers.{IsUnrecovered, IsUnreplayed, IsUntaken, Recovers, is_disk_fault};
 ghost use Rattle.pgs_store.specs.Recovers.{of_refusal, of_schema_refusal, replayed_in};
 ghost use Rattle.pgs_resolve.specs.SchemaOf.{schema, schema_of};
-ghost use Rattle.pgs_store.specs.Refused.{IsRejected};
+ghost use Rattle.pgs_decide.specs.Refused.{IsRejected};
 ghost use Rattle.pgs_store.specs.World.{CountsFault};
 ghost use Rattle.pgs_keyindex.specs.Standing.{StandsFor};
 ghost use Rattle.pgs_violation.specs.declared.violation.Verdict.TheVariants.{Conforms};
@@ -25,7 +25,7 @@ use pgs_check::index_of;
 use pgs_codec::{Command, decode};
 use pgs_journal::Journal;
 use pgs_keyindex::KeyIndex;
-use pgs_records::tables_of;
+use pgs_saved_graph::tables_of;
 use pgs_snapshot::{Chosen, choose_area};
 use pgs_tables::Tables;
 use pgs_violation::Rejection;

@@ -24,7 +24,7 @@ after_line count line =
 abbrev pub MayStop : Stop CountEnd → Type 0
 MayStop (stops.Ended status) = Unit {0}
 MayStop stops.ReadFault = ⊥
-MayStop stops.AreaFault = ⊥
+MayStop stops.DiskFault = ⊥
 MayStop stops.PutFault = Unit {0}
 MayStop stops.Memory = Unit {0}
 

@@ -111,7 +111,7 @@ pub fn count_lines<S: Source, W: World>(
     requires { budget ≤ 2 ^ 40 }
     ensures ends { (input : List ℕ) → S.left source.old ≡ Some input
         → EndsAs (told_by counting 80 0 input) (shown_of (W.view world.old)) input budget (S.left source.new) result (shown_of (W.view world.new)) }
-    ensures no_area { result ≡ Stop.AreaFault → ⊥ }
+    ensures no_area { result ≡ Stop.DiskFault → ⊥ }
     ensures areas { KeepsAreas (W.view world.old) (W.view world.new) }
 {
     let mut counting = Counting { lines: 0 };

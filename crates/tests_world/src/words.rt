@@ -74,7 +74,9 @@ fn command(alloc: Global, command: Option<Command>) -> Result<String, Memory> {
             let elem = element(alloc, elem)?;
             format!(in alloc; "explain {elem}")?
         }
-        Some(Command::Gen { start, count }) => format!(in alloc; "gen {start} {count}")?,
+        Some(Command::Gen { workload }) => {
+            format!(in alloc; "gen {} {}", workload.start(), workload.count())?
+        }
     };
     Ok(text)
 }

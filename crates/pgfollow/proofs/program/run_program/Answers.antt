@@ -2,15 +2,8 @@ use Rattle.pgfollow.proofs.program.run_program.Goals as goal
 
 pub returns : goal.returns
 returns g c = record {
-  source = c.new-source.result;
-  world = c.new-world.result;
-  fresh = record {
-    reader_is = c.new-source.ensures.reader;
-    unread = c.new-source.ensures.faults;
-    writer_is = c.new-world.ensures.writer;
-    no_a = rw c.new-world.ensures.areas c.absent.ensures.a;
-    no_b = rw c.new-world.ensures.areas c.absent.ensures.b;
-    counts = c.new-world.ensures.counts;
-  };
-  promise = c.run_follow-status.ensures.promise;
+  start = c.without_files-outside.result;
+  fresh = c.without_files-outside.ensures.fresh;
+  no_files = c.without_files-outside.ensures.no_files;
+  promise = λ places. rw c.status.ensures (c.run_follow-ended.ensures.promise places);
 }

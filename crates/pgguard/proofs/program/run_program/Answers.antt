@@ -1,4 +1,4 @@
 use Rattle.pgguard.proofs.program.run_program.Goals as goal
 
 pub returns : goal.returns
-returns g c = record { start = c.in_ok-outside.outside; opened = c.in_ok-outside.ensures; promise = c.run-status.ensures.promise }
+returns g c = record { start = c.in_ok-opened.opened; opened = c.in_ok-opened.ensures; promise = c.run-status.ensures.promise }

@@ -2,7 +2,7 @@ use Rattle.std.proofs.Common.{◌∙◌, sym}
 use Rattle.pgs_graph.specs.Reads.{edge_row}
 use Rattle.pgs_run_lines.proofs.Together.{exits, item_on, item_stop}
 use Rattle.pgs_dump.specs.Parts.{edge_lines}
-use Rattle.pgs_records.proofs.Listed.{is_there, one_more, edges_sorted, edge_total}
+use Rattle.pgs_saved_graph.proofs.Listed.{is_there, one_more, edges_sorted, edge_total}
 use Rattle.pgs_dump.proofs.Tells.{edge_lines-append, edge_lines_one}
 use Rattle.pgs_dump.proofs.elements.put_edges.Goals as goal
 

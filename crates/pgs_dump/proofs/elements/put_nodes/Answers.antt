@@ -2,7 +2,7 @@ use Rattle.std.proofs.Common.{◌∙◌, sym}
 use Rattle.pgs_base.specs.Pair.{pair_of}
 use Rattle.pgs_run_lines.proofs.Together.{exits, item_on, item_stop}
 use Rattle.pgs_dump.specs.Parts.{node_lines}
-use Rattle.pgs_records.proofs.Listed.{is_there, one_more, nodes_sorted, node_total}
+use Rattle.pgs_saved_graph.proofs.Listed.{is_there, one_more, nodes_sorted, node_total}
 use Rattle.pgs_dump.proofs.Tells.{node_lines-append, node_lines_one}
 use Rattle.pgs_dump.proofs.elements.put_nodes.Goals as goal
 

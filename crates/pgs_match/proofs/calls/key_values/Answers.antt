@@ -1,12 +1,15 @@
-use Rattle.std.proofs.Common.{[], ap, ◌∙◌}
+use Rattle.std.proofs.Common.{◌≤◌, [], sym, ap, subst, ◌∙◌}
 use Rattle.std.specs.Option.{option_map_or}
 use Rattle.std.proofs.lemmas.Bool.{and_parts}
 use Rattle.pgs_syntax.specs.KeyValues.{key_values}
+use Rattle.pgs_syntax.specs.Valid.{edge_count}
+use Rattle.pgs_match.specs.declared.planned.Side.TheVariants.{Descriptor}
+use Rattle.pgs_match.specs.Planned.{most_edges}
 use Rattle.pgs_match.specs.Bounds.{with_bound, nothing_bound}
 use Rattle.pgs_match.specs.Search.{gathered}
 use Rattle.pgs_match.specs.Tests.{admitted}
 use Rattle.pgs_match.proofs.Values.{gathered_are_values}
-use Rattle.pgs_match.proofs.Scopes.{ok_same, some_variable}
+use Rattle.pgs_match.proofs.Scopes.{ok_same, some_variable, side_edges}
 use Rattle.pgs_match.proofs.calls.key_values.Goals as goal
 
 pub returns-clause-values : goal.returns-clause-values
@@ -23,3 +26,13 @@ returns-clause-values g c =
     (c.as_slice-exprs.ensures ∙ ap (λ k. k.exprs) c.key.ensures)
     ∙ gathered_are_values resolved graph key valid (some_variable key valid) plan c.plan.ensures c.args.elem)
     c.tuples.ensures.value
+
+pub returns-clause-cost : goal.returns-clause-cost
+returns-clause-cost g c = λ most sparse.
+    let key = c.args.key.now in
+    c.tuples.ensures.cost (most_edges key) most (subst (λ p. edge_count p.edge_vars ≤ most_edges key) (sym c.pattern.ensures.pattern) (side_edges Descriptor key)) sparse
+
+pub returns-clause-few : goal.returns-clause-few
+returns-clause-few g c = λ most sparse.
+    let key = c.args.key.now in
+    c.tuples.ensures.few (most_edges key) most (subst (λ p. edge_count p.edge_vars ≤ most_edges key) (sym c.pattern.ensures.pattern) (side_edges Descriptor key)) sparse

@@ -1,10 +1,7 @@
-use Rattle.std.proofs.Common.{◌≡◌, ◌++◌, [], map, take}
+use Rattle.std.proofs.Common.{◌≡◌, ◌++◌, take}
 use Rattle.std.specs.List.{flat_map}
-use Rattle.pgs_resolve_declared.specs.declared.duplicates.Mark.TheVariants as marked
-use Rattle.pgs_resolve_declared.specs.Declarations.{keys_in}
-use Rattle.pgs_resolve_declared.specs.Refused.{repeated_after}
+use Rattle.pgs_resolve_declared.proofs.Repeats.{marks_of_piece}
 use Rattle.pgs_resolve_declared.proofs.duplicates.mark_pieces.Given as goal
 
 abbrev pub invariant-loop-piece : goal.invariant-loop-piece
-invariant-loop-piece l = l.marks.items ≡ l.fn.marks.items
-    ++ map marked.Again (flat_map (repeated_after []) (flat_map keys_in (map (λ piece. piece.now) (take l.piece-index l.pieces))))
+invariant-loop-piece l = l.marks.items ≡ l.fn.marks.items ++ flat_map marks_of_piece (take l.piece-index l.pieces)

@@ -1,118 +1,70 @@
-use Rattle.std.proofs.Common.{Some, refl, ap, ⊎_elim, Option, List, [], ℕ, true, false}
-use Rattle.pgs_run.specs.Runs.{SourceState}
-use Rattle.pgs_run_base.proofs.Images.{images_areas, settled_images}
-use Rattle.pgs_run_words.specs.declared.command.Command.TheVariants.{Try, Validate, Load, Apply, Recover, Explain, Gen, Checkpoint, Contain, Evolve}
-use Rattle.pgs_run.proofs.RunFacts.{runs_as, cause_of, takes_of, runs_alone, runs_reading, runs_by, unread_answer, unread_gen, unread_status, reads_nothing}
+use Rattle.std.proofs.Common.{ap, ap₂, refl, sym, ◌∙◌}
+use Rattle.pgs_command.specs.Setting.{SourceState}
+use Rattle.pgs_feed.specs.Seen.{places}
+use Rattle.pgs_run_checkpoint.specs.Spec.{checkpoint_spec}
+use Rattle.pgs_run_gen.specs.Spec.{gen_spec}
+use Rattle.pgs_run_store.specs.Dump.{told_dump}
+use Rattle.pgs_run_store.specs.Explaining.{told_element}
+use Rattle.pgs_run_store.specs.Spec.{reader_spec}
+use Rattle.pgs_run.specs.Commands.{spec_of}
+use Rattle.pgs_run.proofs.Named.{promise_as, calls_of}
 use Rattle.pgs_run.proofs.commands.run_command.Goals as goal
 
-abbrev state_of : Option (List ℕ) → ℕ → SourceState
-state_of left faults = record { left = left; faults = faults }
+-- ---- of a command that reads its source
 
-pub returns-in-Try-clause-runs : goal.returns-in-Try-clause-runs
-returns-in-Try-clause-runs g c =
-    runs_as (Some Try) (Some c.args.command) c.args.budget _ _ c.run_judging.result (ap Some c.in-Try.is)
-    (runs_reading Try c.args.budget _ _ c.run_judging.result [] tt refl (λ input known is. c.run_judging.ensures.ends input is)
-    (λ input rest is left_is. takes_of _ _ input rest c.args.budget _ c.run_judging.result _ left_is (c.run_judging.ensures.ends input is))
-    c.run_judging.ensures.read_to_end c.run_judging.ensures.cause (λ vain. absurd vain) c.run_judging.ensures.areas (λ settled no. settled_images _ _ settled (images_areas _ _ c.run_judging.ensures.areas)) refl)
+pub returns-in-Try-clause-promise : goal.returns-in-Try-clause-promise
+returns-in-Try-clause-promise g c =
+    promise_as _ _ c.args.budget _ _ c.run_judging.result (ap spec_of c.in-Try.is) (c.run_judging.ensures.promise (places g.F.Feed.taken g.F.Feed.faults c.args.feeds.now))
 
-pub returns-in-Validate-clause-runs : goal.returns-in-Validate-clause-runs
-returns-in-Validate-clause-runs g c =
-    let r = c.run_judging-in-Validate in
-    runs_as (Some Validate) (Some c.args.command) c.args.budget _ _ r.result (ap Some c.in-Validate.is)
-    (runs_reading Validate c.args.budget _ _ r.result [] tt refl (λ input known is. r.ensures.ends input is)
-    (λ input rest is left_is. takes_of _ _ input rest c.args.budget _ r.result _ left_is (r.ensures.ends input is))
-    r.ensures.read_to_end r.ensures.cause (λ vain. absurd vain) r.ensures.areas (λ settled no. settled_images _ _ settled (images_areas _ _ r.ensures.areas)) refl)
+pub returns-in-Validate-clause-promise : goal.returns-in-Validate-clause-promise
+returns-in-Validate-clause-promise g c =
+    promise_as _ _ c.args.budget _ _ c.run_judging-in-Validate.result (ap spec_of c.in-Validate.is) (c.run_judging-in-Validate.ensures.promise (places g.F.Feed.taken g.F.Feed.faults c.args.feeds.now))
 
-pub returns-in-Load-clause-runs : goal.returns-in-Load-clause-runs
-returns-in-Load-clause-runs g c =
-    let r = c.run_load in
-    runs_as (Some Load) (Some c.args.command) c.args.budget _ _ r.result (ap Some c.in-Load.is)
-    (runs_reading Load c.args.budget _ _ r.result [] tt refl (λ input known is. r.ensures.ends input is (λ schema good. known.bytes (schema, good)))
-    r.ensures.takes r.ensures.read_to_end r.ensures.cause (λ vain. absurd vain)
-    (record {
-      passes = r.ensures.passes;
-      stops = r.ensures.loads;
-      grows = r.ensures.grows;
-      occupied = r.ensures.occupied;
-      refused = r.ensures.refused;
-      unwritten = r.ensures.unwritten;
-      beside = r.ensures.beside;
-      made = r.ensures.made;
-    }) r.ensures.settled refl)
+pub returns-in-Load-clause-promise : goal.returns-in-Load-clause-promise
+returns-in-Load-clause-promise g c =
+    promise_as _ _ c.args.budget _ _ c.run_load.result (ap spec_of c.in-Load.is) (c.run_load.ensures.promise (places g.F.Feed.taken g.F.Feed.faults c.args.feeds.now))
 
-pub returns-in-Recover-clause-runs : goal.returns-in-Recover-clause-runs
-returns-in-Recover-clause-runs g c =
-    let r = c.run_reader in
-    runs_as (Some Recover) (Some c.args.command) c.args.budget _ _ r.result (ap Some c.in-Recover.is)
-    (runs_alone (Some Recover) c.args.budget _ _ _ _ _ r.result refl (unread_answer r.result r.ensures.answer) (λ input known. r.ensures.ends (known.bytes refl))
-    (cause_of Recover _ _ r.result (λ long. absurd ((unread_answer r.result r.ensures.answer).1 long)) (r.ensures.cause (g.S.Source.faults c.args.source.now))) r.ensures.images (λ settled no. settled_images _ _ settled r.ensures.images) refl)
+pub returns-in-Contain-clause-promise : goal.returns-in-Contain-clause-promise
+returns-in-Contain-clause-promise g c =
+    promise_as _ _ c.args.budget _ _ c.run_contain.result (ap spec_of c.in-Contain.is) (c.run_contain.ensures.promise (places g.F.Feed.taken g.F.Feed.faults c.args.feeds.now))
 
-pub returns-in-Explain-clause-runs : goal.returns-in-Explain-clause-runs
-returns-in-Explain-clause-runs g c =
-    let r = c.run_reader-in-Explain in
-    runs_as (Some (Explain c.in-Explain.elem)) (Some c.args.command) c.args.budget _ _ r.result (ap Some c.in-Explain.is)
-    (runs_alone (Some (Explain c.in-Explain.elem)) c.args.budget _ _ _ _ _ r.result refl (unread_answer r.result r.ensures.answer) (λ input known. r.ensures.ends (known.bytes refl))
-    (cause_of (Explain c.in-Explain.elem) _ _ r.result (λ long. absurd ((unread_answer r.result r.ensures.answer).1 long)) (r.ensures.cause (g.S.Source.faults c.args.source.now))) r.ensures.images (λ settled no. settled_images _ _ settled r.ensures.images) refl)
+pub returns-in-Evolve-clause-promise : goal.returns-in-Evolve-clause-promise
+returns-in-Evolve-clause-promise g c =
+    promise_as _ _ c.args.budget _ _ c.run_evolve.result (ap spec_of c.in-Evolve.is) (c.run_evolve.ensures.promise (places g.F.Feed.taken g.F.Feed.faults c.args.feeds.now))
 
-pub returns-in-Gen-clause-runs : goal.returns-in-Gen-clause-runs
-returns-in-Gen-clause-runs g c =
-    let r = c.run_gen in
-    runs_as (Some (Gen c.in-Gen.start c.in-Gen.count)) (Some c.args.command) c.args.budget _ _ r.result (ap Some c.in-Gen.is)
-    (runs_alone (Some (Gen c.in-Gen.start c.in-Gen.count)) c.args.budget _ _ _ _ _ r.result refl (unread_gen r.result r.ensures.answer) (λ input known. r.ensures.shown)
-    (cause_of (Gen c.in-Gen.start c.in-Gen.count) _ _ r.result (λ long. absurd ((unread_gen r.result r.ensures.answer).1 long)) (r.ensures.cause (g.S.Source.faults c.args.source.now))) r.ensures.areas (λ settled no. settled_images _ _ settled (images_areas _ _ r.ensures.areas)) refl)
+pub returns-in-Apply-clause-promise : goal.returns-in-Apply-clause-promise
+returns-in-Apply-clause-promise g c = promise_as _ _ c.args.budget _ _ c.run_apply.result (ap spec_of c.in-Apply.is) c.run_apply.ensures.promise
 
-pub returns-in-Checkpoint-clause-runs : goal.returns-in-Checkpoint-clause-runs
-returns-in-Checkpoint-clause-runs g c =
-    let r = c.run_checkpoint in
-    runs_as (Some Checkpoint) (Some c.args.command) c.args.budget _ _ r.result (ap Some c.in-Checkpoint.is)
-    (runs_alone (Some Checkpoint) c.args.budget _ _ _ _ _ r.result refl (unread_answer r.result r.ensures.answer) (λ input known. r.ensures.ends (known.bytes refl))
-    (cause_of Checkpoint _ _ r.result (λ long. absurd ((unread_answer r.result r.ensures.answer).1 long)) (r.ensures.cause (g.S.Source.faults c.args.source.now)))
-    (record { passes = r.ensures.passes; stops = r.ensures.renews; unsaved = r.ensures.unsaved; rests = r.ensures.rests }) r.ensures.rests.settled refl)
+-- ---- of one that doesn't
 
-pub returns-in-Contain-clause-runs : goal.returns-in-Contain-clause-runs
-returns-in-Contain-clause-runs g c =
-    let r = c.run_contain in
-    let by = runs_by _ (g.S.Source.left c.args.source.now) c.args.budget _ r.result _ r.ensures.ends in
-    runs_as (Some Contain) (Some c.args.command) c.args.budget _ _ r.result (ap Some c.in-Contain.is)
-    (runs_reading Contain c.args.budget _ _ r.result by.answers by.right refl (λ input known is. by.ends input is)
-    (λ input rest is left_is. takes_of _ _ input rest c.args.budget _ r.result _ left_is (by.ends input is))
-    r.ensures.read_to_end r.ensures.cause (λ vain. absurd vain) r.ensures.areas (λ settled no. settled_images _ _ settled (images_areas _ _ r.ensures.areas)) refl)
-
-pub returns-in-Evolve-clause-runs : goal.returns-in-Evolve-clause-runs
-returns-in-Evolve-clause-runs g c =
-    let r = c.run_evolve in
-    runs_as (Some Evolve) (Some c.args.command) c.args.budget _ _ r.result (ap Some c.in-Evolve.is)
-    (runs_reading Evolve c.args.budget _ _ r.result [] tt refl (λ input known is. r.ensures.ends (known.bytes refl) input is)
-    r.ensures.takes r.ensures.read_to_end r.ensures.cause
-    (λ vain. ap (λ source. state_of (g.S.Source.left source) (g.S.Source.faults source)) (r.ensures.unread vain.0 vain.1))
-    r.ensures.leaves r.ensures.settled refl)
-
-pub returns-in-Apply-clause-runs : goal.returns-in-Apply-clause-runs
-returns-in-Apply-clause-runs g c =
-    let r = c.run_apply in
-    runs_as (Some Apply) (Some c.args.command) c.args.budget _ _ r.result (ap Some c.in-Apply.is)
-    (runs_reading Apply c.args.budget _ _ r.result [] tt refl (λ input known is. r.ensures.ends (known.bytes refl) input is)
-    r.ensures.takes r.ensures.read_to_end r.ensures.cause
-    (λ vain. ap (λ source. state_of (g.S.Source.left source) (g.S.Source.faults source)) (⊎_elim (λ refused. r.ensures.refused refused) (λ none. r.ensures.unread none.0 none.1) vain))
-    (record { passes = r.ensures.passes; stops = r.ensures.stops; grows = r.ensures.grows; unsaved = r.ensures.unsaved; beside = r.ensures.beside })
-    r.ensures.settled (record { decided = r.ensures.decided; unsaved = r.ensures.unfed }))
+pub returns-in-Recover-clause-promise : goal.returns-in-Recover-clause-promise
+returns-in-Recover-clause-promise g c =
+    let source : SourceState = record { left = g.S.Source.left c.args.source.now; faults = g.S.Source.faults c.args.source.now } in
+    promise_as _ _ c.args.budget _ _ c.run_reader.result (ap spec_of c.in-Recover.is) (c.run_reader.ensures.promise c.args.budget source (places g.F.Feed.taken g.F.Feed.faults c.args.feeds.now))
 
 pub returns-in-Recover-clause-calls : goal.returns-in-Recover-clause-calls
-returns-in-Recover-clause-calls g c =
-    let r = c.run_reader in
-    reads_nothing g.S.Source.read_made c.args.budget c.args.source.now _ (unread_status true _ _ r.result (r.ensures.cause (g.S.Source.faults c.args.source.now)))
+returns-in-Recover-clause-calls g c = calls_of g.S.Source.read_made c.args.source.now (reader_spec told_dump) c.args.budget _ _ c.run_reader.result refl c.run_reader.ensures.promise
+
+pub returns-in-Explain-clause-promise : goal.returns-in-Explain-clause-promise
+returns-in-Explain-clause-promise g c =
+    let source : SourceState = record { left = g.S.Source.left c.args.source.now; faults = g.S.Source.faults c.args.source.now } in
+    promise_as _ _ c.args.budget _ _ c.run_reader-in-Explain.result (ap spec_of c.in-Explain.is) (c.run_reader-in-Explain.ensures.promise c.args.budget source (places g.F.Feed.taken g.F.Feed.faults c.args.feeds.now))
 
 pub returns-in-Explain-clause-calls : goal.returns-in-Explain-clause-calls
-returns-in-Explain-clause-calls g c =
-    let r = c.run_reader-in-Explain in
-    reads_nothing g.S.Source.read_made c.args.budget c.args.source.now _ (unread_status true _ _ r.result (r.ensures.cause (g.S.Source.faults c.args.source.now)))
+returns-in-Explain-clause-calls g c = calls_of g.S.Source.read_made c.args.source.now (reader_spec (told_element c.in-Explain.elem)) c.args.budget _ _ c.run_reader-in-Explain.result refl c.run_reader-in-Explain.ensures.promise
+
+pub returns-in-Gen-clause-promise : goal.returns-in-Gen-clause-promise
+returns-in-Gen-clause-promise g c =
+    let source : SourceState = record { left = g.S.Source.left c.args.source.now; faults = g.S.Source.faults c.args.source.now } in
+    promise_as _ _ c.args.budget _ _ c.run_gen.result (ap spec_of c.in-Gen.is ∙ sym (ap₂ gen_spec c.start.ensures c.count.ensures.value)) (c.run_gen.ensures.promise c.args.budget source (places g.F.Feed.taken g.F.Feed.faults c.args.feeds.now))
 
 pub returns-in-Gen-clause-calls : goal.returns-in-Gen-clause-calls
-returns-in-Gen-clause-calls g c =
-    let r = c.run_gen in
-    reads_nothing g.S.Source.read_made c.args.budget c.args.source.now _ (unread_status false _ _ r.result (r.ensures.cause (g.S.Source.faults c.args.source.now)))
+returns-in-Gen-clause-calls g c = calls_of g.S.Source.read_made c.args.source.now (gen_spec c.start.result c.count.result) c.args.budget _ _ c.run_gen.result refl c.run_gen.ensures.promise
+
+pub returns-in-Checkpoint-clause-promise : goal.returns-in-Checkpoint-clause-promise
+returns-in-Checkpoint-clause-promise g c =
+    let source : SourceState = record { left = g.S.Source.left c.args.source.now; faults = g.S.Source.faults c.args.source.now } in
+    promise_as _ _ c.args.budget _ _ c.run_checkpoint.result (ap spec_of c.in-Checkpoint.is) (c.run_checkpoint.ensures.promise c.args.budget source (places g.F.Feed.taken g.F.Feed.faults c.args.feeds.now))
 
 pub returns-in-Checkpoint-clause-calls : goal.returns-in-Checkpoint-clause-calls
-returns-in-Checkpoint-clause-calls g c =
-    let r = c.run_checkpoint in
-    reads_nothing g.S.Source.read_made c.args.budget c.args.source.now _ (unread_status true _ _ r.result (r.ensures.cause (g.S.Source.faults c.args.source.now)))
+returns-in-Checkpoint-clause-calls g c = calls_of g.S.Source.read_made c.args.source.now (checkpoint_spec) c.args.budget _ _ c.run_checkpoint.result refl c.run_checkpoint.ensures.promise

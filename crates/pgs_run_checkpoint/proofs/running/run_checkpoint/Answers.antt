@@ -1,68 +1,75 @@
-use Rattle.std.proofs.Common.{true, false, rules, sym, subst}
-use Rattle.pgs_run_lines.specs.Ending.{Faults, faults_of}
-use Rattle.pgs_run_base.specs.Run.{HasCommandCause}
-use Rattle.pgs_run_base.proofs.Images.{images_areas, images_on, images_quiet}
-use Rattle.pgs_run_saved.proofs.Shown.{same_faults}
-use Rattle.pgs_world.specs.Moment.{EachSince}
-use Rattle.pgs_world.proofs.Moments.{passes_on}
-use Rattle.pgs_run_checkpoint.specs.Renewing.{Renews}
-use Rattle.pgs_run_checkpoint.specs.Told.{told_checkpoint}
-use Rattle.pgs_run_checkpoint.proofs.Stopped.{ends_checkpoint, not_refused, renews_opened, renews_quiet}
-use Rattle.pgs_run_checkpoint.proofs.Resting.{rests_opened, rests_unopened}
-use Rattle.pgs_run_saved.proofs.Last.{last_unopened}
+use Rattle.std.proofs.Common.{refl, sym, ap, subst}
+use Rattle.pgs_answer.specs.Lines.{store_refused_line}
+use Rattle.pgs_answer.specs.Refusals.{epochs_spent_text}
+use Rattle.pgs_run_lines.specs.declared.reply.Reply.{Reply}
+use Rattle.pgs_run_lines.specs.Replies.{PutsReply}
+use Rattle.pgs_command.specs.declared.status.Status.{Status}
+use Rattle.pgs_command.specs.declared.status.Status.TheVariants.{StoreRefused, PutFault, Memory}
+use Rattle.pgs_command.specs.Promise.{PromiseAlone}
+use Rattle.pgs_run_checkpoint.specs.Spec.{checkpoint_spec}
+use Rattle.pgs_run_checkpoint.proofs.Promised.{promised_failed, promised_memory, promised_renewed, promised_spent, promised_unopened}
 use Rattle.pgs_run_checkpoint.proofs.running.run_checkpoint.Goals as goal
 
-pub returns-in-Ok-clause-ends : goal.returns-in-Ok-clause-ends
-returns-in-Ok-clause-ends g c = λ told.
-    ends_checkpoint c.in-Ok.store (g.W.World.view c.args.world.now) (g.W.World.view c.open_store.new.world) c.in-Ok.ensures.answer c.open_store.ensures.quiet told c.renew.result (g.W.World.view c.renew.new.world)
-    c.open_store.ensures.no_put c.renew.ensures.ends
+pub returns-in-Err-clause-promise : goal.returns-in-Err-clause-promise
+returns-in-Err-clause-promise g c =
+    promised_unopened c.in-Err.unopened (g.W.World.view c.args.world.now) (g.W.World.view c.open_store.new.world) (g.W.World.view c.end_unopened.new.world) c.end_unopened.result
+    (record {
+      opens = c.in-Err.ensures.answer;
+      counts = c.in-Err.ensures.faults;
+      quiet = c.open_store.ensures.quiet;
+      no_put = c.open_store.ensures.no_put;
+      ends = c.end_unopened.ensures.ends;
+      areas = c.end_unopened.ensures.areas;
+    }) (λ none. ap g.W.World.view (c.end_unopened.ensures.early none))
 
-pub returns-in-Ok-clause-cause : goal.returns-in-Ok-clause-cause
-returns-in-Ok-clause-cause g c = λ reads.
-    subst (λ (before : Faults). HasCommandCause false true before (faults_of reads (g.W.World.view c.renew.new.world)) c.renew.result)
-    (same_faults reads (g.W.World.view c.args.world.now) (g.W.World.view c.open_store.new.world) c.in-Ok.ensures.faults c.open_store.ensures.no_put.put_faults) (c.renew.ensures.cause reads)
+pub returns-in-Err-renewed_reply-clause-promise : goal.returns-in-Err-renewed_reply-clause-promise
+returns-in-Err-renewed_reply-clause-promise g c =
+    promised_memory c.in-Ok.store (g.W.World.view c.args.world.now) (g.W.World.view c.open_store.new.world)
+    (record { opened = c.in-Ok.ensures.answer; areas = c.in-Ok.ensures.faults; quiet = c.open_store.ensures.quiet; no_put = c.open_store.ensures.no_put })
 
-pub returns-in-Ok-clause-renews : goal.returns-in-Ok-clause-renews
-returns-in-Ok-clause-renews g c = λ text commits graph settled saves.
-    renews_opened c.in-Ok.store (g.W.World.view c.args.world.now) (g.W.World.view c.open_store.new.world) (g.W.World.view c.renew.new.world) text commits graph c.in-Ok.ensures.answer c.open_store.ensures.quiet
-    c.renew.ensures.passes c.renew.ensures.stops settled saves
+pub returns-in-Ok-checkpoint-clause-promise : goal.returns-in-Ok-checkpoint-clause-promise
+returns-in-Ok-checkpoint-clause-promise g c =
+    let late = g.W.World.view c.checkpoint.new.world in
+    let new = g.W.World.view c.put_reply.new.world in
+    promised_renewed c.in-Ok.store (g.W.World.view c.args.world.now) (g.W.World.view c.open_store.new.world)
+    (record { opened = c.in-Ok.ensures.answer; areas = c.in-Ok.ensures.faults; quiet = c.open_store.ensures.quiet; no_put = c.open_store.ensures.no_put })
+    late c.checkpoint.ensures.beside (c.checkpoint.ensures.stops c.in-Ok.ensures.answer.whole) c.in-Ok-checkpoint.ensures.faults c.checkpoint.new.self.journal c.in-Ok-checkpoint.field-0
+    c.in-Ok-checkpoint.ensures.answer.3 c.epoch.ensures.numbered new c.put_reply.result
+    (subst (λ (r : Reply Status). PutsReply r.line r.status PutFault late c.put_reply.result new) c.in-Ok-renewed_reply.ensures
+    (record { ends = c.put_reply.ensures.ends; stops = c.put_reply.ensures.stops; areas = c.put_reply.ensures.areas }))
 
-pub returns-in-Ok-clause-unsaved : goal.returns-in-Ok-clause-unsaved
-returns-in-Ok-clause-unsaved g c = λ told none.
-    let it = c.in-Ok.store.guard in
-    absurd (none it.text it.commits it.graph (c.in-Ok.ensures.answer.saves told))
+pub returns-in-Ok-spent_reply-clause-promise : goal.returns-in-Ok-spent_reply-clause-promise
+returns-in-Ok-spent_reply-clause-promise g c =
+    let put = c.put_reply-in-Ok-spent_reply in
+    let new = g.W.World.view put.new.world in
+    let answer = rw c.in-Err-EpochsSpent.field-0-is at c.in-Err-EpochsSpent.ensures.answer in
+    let early = rw c.in-Err-EpochsSpent.field-0-is at c.in-Err-EpochsSpent.ensures.early in
+    promised_spent c.in-Ok.store (g.W.World.view c.args.world.now) (g.W.World.view c.open_store.new.world)
+    (record { opened = c.in-Ok.ensures.answer; areas = c.in-Ok.ensures.faults; quiet = c.open_store.ensures.quiet; no_put = c.open_store.ensures.no_put })
+    answer.1 new put.result
+    (subst (λ w. PutsReply (store_refused_line epochs_spent_text) StoreRefused PutFault (g.W.World.view w) put.result new) (early refl)
+    (subst (λ (r : Reply Status). PutsReply r.line r.status PutFault (g.W.World.view c.checkpoint.new.world) put.result new) c.in-Ok-spent_reply.ensures
+    (record { ends = put.ensures.ends; stops = put.ensures.stops; areas = put.ensures.areas })))
 
-pub returns-in-Ok-clause-passes : goal.returns-in-Ok-clause-passes
-returns-in-Ok-clause-passes g c =
-    passes_on (g.W.World.view c.args.world.now) (g.W.World.view c.open_store.new.world) (g.W.World.view c.renew.new.world) c.open_store.ensures.quiet.passes c.renew.ensures.passes
-
-pub returns-in-Err-clause-ends : goal.returns-in-Err-clause-ends
-unfolding told_checkpoint
-returns-in-Err-clause-ends g c = search rules
-
-pub returns-in-Err-clause-renews : goal.returns-in-Err-clause-renews
-returns-in-Err-clause-renews g c = λ text commits graph settled saves.
+pub returns-in-Err-EpochsSpent-clause-promise : goal.returns-in-Err-EpochsSpent-clause-promise
+returns-in-Err-EpochsSpent-clause-promise g c =
     let old = g.W.World.view c.args.world.now in
-    let mid = g.W.World.view c.open_store.new.world in
-    let same = c.end_unopened.ensures.early (not_refused c.in-Err.unopened old mid text commits graph c.in-Err.ensures.answer settled.tells_bytes saves) in
-    subst (λ w. EachSince (Renews old text commits graph) old (g.W.World.view w)) (sym same) (renews_quiet old mid text commits graph settled saves c.open_store.ensures.quiet)
+    let early = rw c.in-Err-EpochsSpent.field-0-is at c.in-Err-EpochsSpent.ensures.early in
+    subst (λ w. PromiseAlone checkpoint_spec old (g.W.World.view w) Memory) (sym (early refl))
+    (promised_memory c.in-Ok.store old (g.W.World.view c.open_store.new.world)
+    (record { opened = c.in-Ok.ensures.answer; areas = c.in-Ok.ensures.faults; quiet = c.open_store.ensures.quiet; no_put = c.open_store.ensures.no_put }))
 
-pub returns-in-Err-clause-unsaved : goal.returns-in-Err-clause-unsaved
-returns-in-Err-clause-unsaved g c = λ told none.
+pub returns-in-Err-Memory-clause-promise : goal.returns-in-Err-Memory-clause-promise
+returns-in-Err-Memory-clause-promise g c =
     let old = g.W.World.view c.args.world.now in
-    let mid = g.W.World.view c.open_store.new.world in
-    let new = g.W.World.view c.end_unopened.new.world in
-    images_on old mid new (images_quiet old mid c.open_store.ensures.quiet) (images_areas mid new c.end_unopened.ensures.areas)
+    let early = rw c.in-Err-Memory.field-0-is at c.in-Err-Memory.ensures.early in
+    subst (λ w. PromiseAlone checkpoint_spec old (g.W.World.view w) Memory) (sym (early refl))
+    (promised_memory c.in-Ok.store old (g.W.World.view c.open_store.new.world)
+    (record { opened = c.in-Ok.ensures.answer; areas = c.in-Ok.ensures.faults; quiet = c.open_store.ensures.quiet; no_put = c.open_store.ensures.no_put }))
 
-pub returns-in-Ok-clause-rests : goal.returns-in-Ok-clause-rests
-returns-in-Ok-clause-rests g c =
-    rests_opened c.in-Ok.store (g.W.World.view c.args.world.now) (g.W.World.view c.open_store.new.world) (g.W.World.view c.renew.new.world) c.renew.result c.in-Ok.ensures.answer c.open_store.ensures.quiet c.renew.ensures.rests
-
-pub returns-in-Err-clause-rests : goal.returns-in-Err-clause-rests
-returns-in-Err-clause-rests g c =
-    rests_unopened c.in-Err.unopened (g.W.World.view c.args.world.now) (g.W.World.view c.open_store.new.world) (g.W.World.view c.end_unopened.new.world) c.end_unopened.result c.in-Err.ensures.answer c.open_store.ensures.quiet c.end_unopened.ensures.ends
-    c.end_unopened.ensures.areas
-
-pub returns-in-Err-clause-last : goal.returns-in-Err-clause-last
-returns-in-Err-clause-last g c =
-    last_unopened g.W.World.failed c.open_store.new.world c.end_unopened.new.world _ _ _ c.in-Err.unopened c.end_unopened.result c.in-Err.ensures.answer c.end_unopened.ensures.ends c.end_unopened.ensures.last c.in-Err.ensures.last c.end_unopened.ensures.early
+pub returns-in-Err-DiskFault-clause-promise : goal.returns-in-Err-DiskFault-clause-promise
+returns-in-Err-DiskFault-clause-promise g c =
+    let rose = rw c.in-Err-DiskFault.field-0-is at c.in-Err-DiskFault.ensures.faults in
+    promised_failed c.in-Ok.store (g.W.World.view c.args.world.now) (g.W.World.view c.open_store.new.world)
+    (record { opened = c.in-Ok.ensures.answer; areas = c.in-Ok.ensures.faults; quiet = c.open_store.ensures.quiet; no_put = c.open_store.ensures.no_put })
+    (g.W.World.view c.checkpoint.new.world) c.checkpoint.ensures.beside (c.checkpoint.ensures.stops c.in-Ok.ensures.answer.whole) rose

@@ -1,7 +1,7 @@
 use Rattle.std.proofs.Common.{sym, ◌∙◌}
 use Rattle.pgs_run_lines.specs.AreasKept.{keeps_on}
 use Rattle.pgs_run_lines.specs.Pieces.{shown_of}
-use Rattle.pgs_run_base.specs.Answers.{schema_answer}
+use Rattle.pgs_run_input.specs.Answers.{schema_answer}
 use Rattle.pgs_run_contain.proofs.SchemaEnds.{first_stop, first_ends}
 use Rattle.pgs_run_contain.proofs.comparing.end_first.Goals as goal
 

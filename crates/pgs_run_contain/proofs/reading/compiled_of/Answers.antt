@@ -1,5 +1,5 @@
 use Rattle.pgs_resolve.specs.SchemaOf.{schema_of}
-use Rattle.pgs_run_base.specs.Answers.{schema_answer}
+use Rattle.pgs_run_input.specs.Answers.{schema_answer}
 use Rattle.pgs_run_contain.proofs.reading.compiled_of.Goals as goal
 
 pub returns-in-Err : goal.returns-in-Err

@@ -1,24 +1,35 @@
-use Rattle.pgs_run_lines.specs.Pieces.{shown_of}
-use Rattle.pgs_run_contain.proofs.RunEnds.{contain_ends, contain_read, contain_cause, contain_areas}
+use Rattle.std.proofs.Common.{Bool, [], sym, subst, ◌∙◌}
+use Rattle.pgs_run_lines.specs.Calls.{Reads}
+use Rattle.pgs_command.specs.Setting.{SourceState, setting_of}
+use Rattle.pgs_run_contain.proofs.Promised.{ended, fails, promised}
 use Rattle.pgs_run_contain.proofs.run.run_contain.Goals as goal
 
-pub returns-clause-ends : goal.returns-clause-ends
-returns-clause-ends g c = λ input is.
-    let view = g.W.World.view in
-    contain_ends (shown_of (view c.args.world.now)) (view c.run_lines-stop.new.world) (view c.end_run.new.world) input c.args.budget _ _ c.new-teller.result.phase c.run_lines-stop.result c.end_run.result is
-    c.new-teller.ensures c.run_lines-stop.ensures.by (c.run_lines-stop.ensures.ends input is) c.end_run.ensures.ends
+pub returns-clause-promise : goal.returns-clause-promise
+returns-clause-promise g c = λ places.
+    let left : SourceState = record { left = g.S.Source.left c.run_lines-texts.new.source; faults = g.S.Source.faults c.run_lines-texts.new.source } in
+    let old = setting_of (g.S.Source.left c.args.source.now) (g.S.Source.faults c.args.source.now) (g.W.World.view c.args.world.now) places in
+    let read = c.run_lines-texts in
+    let new = g.W.World.view c.end_run-stop.new.world in
+    let ran = ended c.args.budget old left (g.W.World.view read.new.world) new c.new-teller.result.phase read.result c.end_run-stop.result c.new-teller.ensures read.ensures.ends read.ensures.by read.ensures.may read.ensures.cause
+    read.ensures.allows.allowed c.end_run-stop.ensures.follows in
+    promised c.args.budget old left read.result c.end_run-stop.result c.status_at.result new c.status_at.ensures ran
 
-pub returns-clause-read_to_end : goal.returns-clause-read_to_end
-returns-clause-read_to_end g c =
-    let view = g.W.World.view in
-    contain_read c.args.budget _ _ c.run_lines-stop.result c.end_run.result (view c.run_lines-stop.new.world) (view c.end_run.new.world) c.run_lines-stop.ensures.by c.end_run.ensures.ends
+pub returns-clause-last : goal.returns-clause-last
+returns-clause-last g c = λ failed.
+    let left : SourceState = record { left = g.S.Source.left c.run_lines-texts.new.source; faults = g.S.Source.faults c.run_lines-texts.new.source } in
+    let old = setting_of (g.S.Source.left c.args.source.now) (g.S.Source.faults c.args.source.now) (g.W.World.view c.args.world.now) [] in
+    let read = c.run_lines-texts in
+    let new = g.W.World.view c.end_run-stop.new.world in
+    let ran = ended c.args.budget old left (g.W.World.view read.new.world) new c.new-teller.result.phase read.result c.end_run-stop.result c.new-teller.ensures read.ensures.ends read.ensures.by read.ensures.may read.ensures.cause
+    read.ensures.allows.allowed c.end_run-stop.ensures.follows in
+    c.end_run-stop.ensures.last (sym (fails c.args.budget old left read.result c.end_run-stop.result c.status_at.result new c.status_at.ensures ran).1 ∙ failed)
 
-pub returns-clause-cause : goal.returns-clause-cause
-returns-clause-cause g c =
-    let view = g.W.World.view in
-    contain_cause _ _ c.run_lines-stop.result c.end_run.result (view c.run_lines-stop.new.world) (view c.end_run.new.world) c.run_lines-stop.ensures.may c.run_lines-stop.ensures.cause c.end_run.ensures.ends
-
-pub returns-clause-areas : goal.returns-clause-areas
-returns-clause-areas g c =
-    let view = g.W.World.view in
-    contain_areas (view c.args.world.now) (view c.run_lines-stop.new.world) (view c.end_run.new.world) c.run_lines-stop.result c.end_run.result c.run_lines-stop.ensures.allows.allowed c.end_run.ensures.ends
+pub returns-clause-calls : goal.returns-clause-calls
+returns-clause-calls g c =
+    let left : SourceState = record { left = g.S.Source.left c.run_lines-texts.new.source; faults = g.S.Source.faults c.run_lines-texts.new.source } in
+    let old = setting_of (g.S.Source.left c.args.source.now) (g.S.Source.faults c.args.source.now) (g.W.World.view c.args.world.now) [] in
+    let read = c.run_lines-texts in
+    let new = g.W.World.view c.end_run-stop.new.world in
+    let ran = ended c.args.budget old left (g.W.World.view read.new.world) new c.new-teller.result.phase read.result c.end_run-stop.result c.new-teller.ensures read.ensures.ends read.ensures.by read.ensures.may read.ensures.cause
+    read.ensures.allows.allowed c.end_run-stop.ensures.follows in
+    subst (λ (failed : Bool). Reads g.S.Source.read_made c.args.budget c.args.source.now failed read.new.source) (sym (fails c.args.budget old left read.result c.end_run-stop.result c.status_at.result new c.status_at.ensures ran).0) read.ensures.calls

@@ -1,92 +1,66 @@
-use Rattle.std.proofs.Common.{Bool, true, sym, ap, subst}
-use Rattle.pgs_run_lines.specs.Ending.{Faults, faults_of}
-use Rattle.pgs_run_base.specs.Run.{HasCommandCause}
-use Rattle.pgs_run_base.proofs.Images.{images_areas, images_on, images_quiet, settled_images}
-use Rattle.pgs_run_saved.proofs.Shown.{same_faults}
-use Rattle.pgs_run_saved.proofs.Unread.{unopened_cause, unopened_ends, unopened_read, unopened_takes}
-use Rattle.pgs_snapshot.specs.Choice.{chosen_next}
-use Rattle.pgs_world.proofs.Moments.{settled_quiet}
-use Rattle.pgs_run_evolve.specs.Told.{told_evolve, told_input}
-use Rattle.pgs_run_evolve.proofs.Leaving.{leaves_on}
-use Rattle.pgs_run_evolve.proofs.Running.{ends_evolve, ready_opened}
-use Rattle.pgs_run_evolve.proofs.Unopened.{leaves_unopened}
-use Rattle.pgs_run_saved.proofs.Last.{last_unopened, unread_unopened}
-use Rattle.pgs_run_lines.specs.Calls.{Reads, gave_none, so_far}
+use Rattle.std.proofs.Common.{◌≡◌, ◌∙◌, Bool, true, false, true≢false, refl, sym, ap, subst}
+use Rattle.pgs_run_lines.specs.Calls.{Reads}
+use Rattle.pgs_run_lines.specs.Ending.{faults_of}
+use Rattle.pgs_command.specs.declared.status.Status.{Status}
+use Rattle.pgs_command.specs.Calls.{fails_world}
+use Rattle.pgs_command.specs.Setting.{setting_of}
+use Rattle.pgs_command.proofs.Unread.{reads_nothing, unread_status}
+use Rattle.pgs_run_input.specs.Text.{state_of}
+use Rattle.pgs_run_input.proofs.OneLine.{silent_quiet}
+use Rattle.pgs_run_input.proofs.WholeInput.{by_unread}
+use Rattle.pgs_run_store.proofs.Unread.{RunsUnopened, last_unopened, unopened_unread}
+use Rattle.pgs_run_evolve.specs.Leaving.{EvolvesText}
+use Rattle.pgs_run_evolve.specs.Told.{told_new}
+use Rattle.pgs_run_evolve.proofs.Promised.{evolvable, promised_none, promised_text, promised_unopened}
 use Rattle.pgs_run_evolve.proofs.run.run_evolve.Goals as goal
 
 -- ---- a store was opened
 
-pub evolve_store-requires-clause-ready : goal.evolve_store-requires-clause-ready
-evolve_store-requires-clause-ready g c = ready_opened c.in-Ok.store (g.W.World.view c.args.world.now) (g.W.World.view c.open_store.new.world) c.in-Ok.ensures.answer
+pub evolve_text-requires : goal.evolve_text-requires
+evolve_text-requires g c = evolvable c.in-Ok.store (g.W.World.view c.args.world.now) (g.W.World.view c.open_store.new.world) c.in-Ok.ensures.answer
 
-pub returns-in-Ok-clause-ends : goal.returns-in-Ok-clause-ends
-returns-in-Ok-clause-ends g c = λ tells input is.
-    let view = g.W.World.view in
-    ends_evolve c.in-Ok.store (view c.args.world.now) (view c.open_store.new.world) c.in-Ok.ensures.answer c.open_store.ensures.quiet tells input c.args.budget _ c.evolve_store.result (view c.evolve_store.new.world) c.open_store.ensures.no_put
-    (c.evolve_store.ensures.ends input is)
+pub returns-in-Ok-read_text-clause-promise : goal.returns-in-Ok-read_text-clause-promise
+returns-in-Ok-read_text-clause-promise g c = λ places.
+    let it = c.in-Ok.store in
+    let old = g.W.World.view c.args.world.now in
+    let mid = g.W.World.view c.open_store.new.world in
+    let new = g.W.World.view c.evolve_text.new.world in
+    let quiet = c.open_store.ensures.quiet in
+    promised_text it c.args.budget (setting_of (g.S.Source.left c.args.source.now) (g.S.Source.faults c.args.source.now) old places) mid
+    (record { opened = c.in-Ok.ensures.answer; timed = g.met.W.World.timed c.args.world.now; quiet = quiet; silent = silent_quiet old mid quiet c.open_store.ensures.no_put c.in-Ok.ensures.faults })
+    (state_of (g.S.Source.left c.read_text.new.source) (g.S.Source.faults c.read_text.new.source)) new c.evolve_text.result c.in-Ok-read_text.text.bytes c.in-Ok-read_text.ensures.whole
+    (subst (λ text. EvolvesText (told_new it.journal.next text it.guard.graph) text mid new c.evolve_text.result) c.as_slice.ensures.bytes c.evolve_text.ensures.answer)
 
-pub returns-in-Ok-clause-cause : goal.returns-in-Ok-clause-cause
-returns-in-Ok-clause-cause g c =
-    let view = g.W.World.view in
-    let reads = g.S.Source.faults c.args.source.now in
-    subst (λ (before : Faults). HasCommandCause true true before (faults_of (g.S.Source.faults c.evolve_store.new.source) (view c.evolve_store.new.world)) c.evolve_store.result)
-    (same_faults reads (view c.args.world.now) (view c.open_store.new.world) c.in-Ok.ensures.faults c.open_store.ensures.no_put.put_faults) c.evolve_store.ensures.cause
+pub returns-clause-promise : goal.returns-clause-promise
+returns-clause-promise g c = λ places.
+    let old = g.W.World.view c.args.world.now in
+    let mid = g.W.World.view c.open_store.new.world in
+    let quiet = c.open_store.ensures.quiet in
+    promised_none c.in-Ok.store c.args.budget (setting_of (g.S.Source.left c.args.source.now) (g.S.Source.faults c.args.source.now) old places) mid
+    (record { opened = c.in-Ok.ensures.answer; timed = g.met.W.World.timed c.args.world.now; quiet = quiet; silent = silent_quiet old mid quiet c.open_store.ensures.no_put c.in-Ok.ensures.faults })
+    (state_of (g.S.Source.left c.read_text.new.source) (g.S.Source.faults c.read_text.new.source)) c.in-Err-read_text.status c.in-Err-read_text.ensures.unread
 
-pub returns-in-Ok-clause-leaves : goal.returns-in-Ok-clause-leaves
-returns-in-Ok-clause-leaves g c =
-    let view = g.W.World.view in
-    leaves_on _ (view c.args.world.now) (view c.open_store.new.world) (view c.evolve_store.new.world) c.evolve_store.result (g.met.W.World.timed c.args.world.now) c.open_store.ensures.quiet c.evolve_store.ensures.leaves
+pub returns-in-Ok-read_text-clause-calls : goal.returns-in-Ok-read_text-clause-calls
+returns-in-Ok-read_text-clause-calls g c =
+    subst (λ (fails : Bool). Reads g.S.Source.read_made c.args.budget c.args.source.now fails c.read_text.new.source)
+    (sym (unread_status false true (faults_of 0 (g.W.World.view c.open_store.new.world)) (faults_of 0 (g.W.World.view c.evolve_text.new.world)) c.evolve_text.result refl (c.evolve_text.ensures.answer.answers.cause false 0)))
+    (rw c.in-Ok-read_text.is at c.read_text.ensures.calls)
 
-pub returns-in-Ok-clause-settled : goal.returns-in-Ok-clause-settled
-returns-in-Ok-clause-settled g c = λ settled no.
-    let view = g.W.World.view in
-    c.evolve_store.ensures.settled (settled_quiet (view c.args.world.now) (view c.open_store.new.world) settled c.open_store.ensures.quiet) no
-
-pub returns-in-Ok-clause-unread : goal.returns-in-Ok-clause-unread
-returns-in-Ok-clause-unread g c = λ tells none.
-    let it = c.in-Ok.store.guard in
-    absurd (none it.text it.commits it.graph (c.in-Ok.ensures.answer.saves tells))
+pub returns-clause-last : goal.returns-clause-last
+returns-clause-last g c = λ fails.
+    absurd (true≢false (sym fails ∙ by_unread (λ (s : Status). fails_world s ≡ false) c.args.budget _ _ c.in-Err-read_text.status refl refl refl c.in-Err-read_text.ensures.unread))
 
 -- ---- none was
 
-pub returns-in-Err-clause-ends : goal.returns-in-Err-clause-ends
-unfolding told_evolve
-returns-in-Err-clause-ends g c = λ tells input is.
-    let view = g.W.World.view in
-    let shown = (view c.args.world.now).shown in
-    unopened_ends (view c.args.world.now) (view c.open_store.new.world) (view c.end_unopened.new.world) c.open_store.ensures.quiet c.open_store.ensures.no_put c.in-Err.unopened c.end_unopened.result
-    (λ bytes it. told_input input bytes (chosen_next shown.a shown.b) it.graph) input c.args.budget _ tells is c.in-Err.ensures.answer c.end_unopened.ensures.ends
-
-pub returns-in-Err-clause-takes : goal.returns-in-Err-clause-takes
-returns-in-Err-clause-takes g c = λ input rest is left_is.
-    let view = g.W.World.view in
-    unopened_takes (view c.args.world.now) (view c.open_store.new.world) (view c.end_unopened.new.world) c.open_store.ensures.quiet c.open_store.ensures.no_put c.in-Err.unopened c.end_unopened.result input rest c.args.budget _ is left_is
-    c.in-Err.ensures.answer c.end_unopened.ensures.ends
-
-pub returns-in-Err-clause-read_to_end : goal.returns-in-Err-clause-read_to_end
-returns-in-Err-clause-read_to_end g c =
-    let view = g.W.World.view in
-    unopened_read c.in-Err.unopened _ (view c.args.world.now) (view c.open_store.new.world) (view c.end_unopened.new.world) c.end_unopened.result c.in-Err.ensures.answer c.end_unopened.ensures.ends
-
-pub returns-in-Err-clause-cause : goal.returns-in-Err-clause-cause
-returns-in-Err-clause-cause g c =
-    let view = g.W.World.view in
-    unopened_cause (g.S.Source.faults c.args.source.now) (view c.args.world.now) (view c.open_store.new.world) (view c.end_unopened.new.world) c.open_store.ensures.no_put c.in-Err.unopened c.end_unopened.result c.in-Err.ensures.answer
-    c.in-Err.ensures.faults c.end_unopened.ensures.ends
-
-pub returns-in-Err-clause-leaves : goal.returns-in-Err-clause-leaves
-returns-in-Err-clause-leaves g c =
-    let view = g.W.World.view in
-    leaves_unopened _ c.in-Err.unopened (view c.args.world.now) (view c.open_store.new.world) (view c.end_unopened.new.world) c.end_unopened.result (g.met.W.World.timed c.args.world.now) c.in-Err.ensures.answer c.open_store.ensures.quiet
-    c.end_unopened.ensures.ends c.end_unopened.ensures.areas (λ early. ap view (c.end_unopened.ensures.early early))
-
-pub returns-in-Err-clause-settled : goal.returns-in-Err-clause-settled
-returns-in-Err-clause-settled g c = λ settled no.
+pub returns-in-Err-clause-promise : goal.returns-in-Err-clause-promise
+returns-in-Err-clause-promise g c = λ places.
     let view = g.W.World.view in
     let old = view c.args.world.now in
     let mid = view c.open_store.new.world in
     let new = view c.end_unopened.new.world in
-    settled_images old new settled (images_on old mid new (images_quiet old mid c.open_store.ensures.quiet) (images_areas mid new c.end_unopened.ensures.areas))
+    promised_unopened c.in-Err.unopened c.args.budget (setting_of (g.S.Source.left c.args.source.now) (g.S.Source.faults c.args.source.now) old places) mid new c.end_unopened.result (g.met.W.World.timed c.args.world.now)
+    (record { opens = c.in-Err.ensures.answer; counts = c.in-Err.ensures.faults; quiet = c.open_store.ensures.quiet; no_put = c.open_store.ensures.no_put; ends = c.end_unopened.ensures.ends; areas = c.end_unopened.ensures.areas })
+    (λ early. ap view (c.end_unopened.ensures.early early))
 
 pub returns-in-Err-clause-last : goal.returns-in-Err-clause-last
 returns-in-Err-clause-last g c =
@@ -94,5 +68,7 @@ returns-in-Err-clause-last g c =
 
 pub returns-in-Err-clause-calls : goal.returns-in-Err-clause-calls
 returns-in-Err-clause-calls g c =
-    subst (λ (fails : Bool). Reads g.S.Source.read_made c.args.budget c.args.source.now fails c.args.source.now)
-    (sym (unread_unopened c.in-Err.unopened _ _ _ c.end_unopened.result c.in-Err.ensures.answer c.end_unopened.ensures.ends)) (so_far gave_none)
+    let view = g.W.World.view in
+    let ran : RunsUnopened c.in-Err.unopened (view c.args.world.now) (view c.open_store.new.world) (view c.end_unopened.new.world) c.end_unopened.result =
+    record { opens = c.in-Err.ensures.answer; counts = c.in-Err.ensures.faults; quiet = c.open_store.ensures.quiet; no_put = c.open_store.ensures.no_put; ends = c.end_unopened.ensures.ends; areas = c.end_unopened.ensures.areas } in
+    reads_nothing g.S.Source.read_made c.args.budget c.args.source.now _ (unopened_unread c.in-Err.unopened _ _ _ c.end_unopened.result ran)

@@ -1,7 +1,7 @@
 use Rattle.std.proofs.Common.{◌∷◌}
 use Rattle.pgs_run_lines.proofs.Together.{exits, stops_in, stops_on, result_on}
 use Rattle.pgs_dump.specs.Lines.{graph_lines}
-use Rattle.pgs_run_follow.specs.Texts.{followed_line}
+use Rattle.pgs_answer.specs.Lines.{followed_line}
 use Rattle.pgs_run_follow.proofs.following.put_told.Goals as goal
 
 pub returns-in_err-put_made-clause-puts : goal.returns-in_err-put_made-clause-puts

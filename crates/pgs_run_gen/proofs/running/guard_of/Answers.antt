@@ -1,5 +1,5 @@
 use Rattle.std.proofs.Common.{◌∙◌}
-use Rattle.pgs_run_base.proofs.Standard.{standard_is}
+use Rattle.pgs_run_input.proofs.Standard.{standard_is}
 use Rattle.pgs_run_gen.proofs.Telling.{never_unread, schema_is}
 use Rattle.pgs_run_gen.proofs.running.guard_of.Goals as goal
 

@@ -1,6 +1,6 @@
 use Rattle.std.proofs.Common.{◌≡◌, ◌∷◌, [], IfOk, sym, subst}
 use Rattle.pgs_run_lines.specs.Machine.{Told}
-use Rattle.pgs_run_base.specs.declared.status.Status.{Status}
+use Rattle.pgs_command.specs.declared.status.Status.{Status}
 use Rattle.pgs_run_gen.proofs.Telling.{told_decided}
 use Rattle.pgs_run_gen.proofs.running.reply_of.Goals as goal
 

@@ -1,22 +1,17 @@
-use Rattle.std.proofs.Common.{false, sym, ◌∙◌}
-use Rattle.pgs_run_base.proofs.Replied.{reply_cause, reply_ends}
-use Rattle.pgs_run_gen.specs.Told.{told_gen}
-use Rattle.pgs_run_gen.proofs.Replied.{answer_of, own_accepted}
-use Rattle.pgs_run_gen.proofs.Telling.{told_accepted}
+use Rattle.std.proofs.Common.{refl}
+use Rattle.pgs_command.proofs.Promising.{promise_unbegun}
+use Rattle.pgs_run_lines.specs.AreasKept.{keeps_none}
+use Rattle.pgs_run_gen.specs.Spec.{gen_spec}
+use Rattle.pgs_run_gen.proofs.Promised.{promised}
 use Rattle.pgs_run_gen.proofs.running.run_gen.Goals as goal
 
-pub returns-in-Ok-clause-shown : goal.returns-in-Ok-clause-shown
-returns-in-Ok-clause-shown g c =
+pub returns-in-Ok-clause-promise : goal.returns-in-Ok-clause-promise
+returns-in-Ok-clause-promise g c =
     let reply = c.in-Ok.reply in
-    reply_ends false (told_gen c.args.start c.args.count) reply.line reply.status c.put_reply.result (g.W.World.view c.args.world.now) (g.W.World.view c.put_reply.new.world) (own_accepted reply.status c.in-Ok.ensures.status)
-    c.in-Ok.ensures.line (told_accepted c.args.start c.args.count c.requires ∙ sym c.in-Ok.ensures.status) c.put_reply.ensures.ends
+    promised c.args.start c.args.count reply.line reply.status c.put_reply.result (g.W.World.view c.args.world.now) (g.W.World.view c.put_reply.new.world)
+    c.requires c.in-Ok.ensures.status c.in-Ok.ensures.line c.put_reply.ensures.ends c.put_reply.ensures.areas
 
-pub returns-in-Ok-clause-answer : goal.returns-in-Ok-clause-answer
-returns-in-Ok-clause-answer g c =
-    let reply = c.in-Ok.reply in
-    answer_of reply.line reply.status c.put_reply.result (g.W.World.view c.args.world.now) (g.W.World.view c.put_reply.new.world) c.in-Ok.ensures.status c.put_reply.ensures.ends
-
-pub returns-in-Ok-clause-cause : goal.returns-in-Ok-clause-cause
-returns-in-Ok-clause-cause g c = λ reads.
-    let reply = c.in-Ok.reply in
-    reply_cause false false reads reply.line reply.status c.put_reply.result (g.W.World.view c.args.world.now) (g.W.World.view c.put_reply.new.world) (own_accepted reply.status c.in-Ok.ensures.status) c.put_reply.ensures.ends
+pub returns-in-Err-clause-promise : goal.returns-in-Err-clause-promise
+returns-in-Err-clause-promise g c = λ budget source places.
+    promise_unbegun (gen_spec c.args.start c.args.count) budget (record { source = source; view = g.W.World.view c.args.world.now; places = places }) tt tt tt
+    (keeps_none (g.W.World.view c.args.world.now) (g.met.W.World.timed c.args.world.now)) refl

@@ -1,17 +1,18 @@
-use Rattle.std.proofs.Common.{◌∙◌, add-one}
-use Rattle.pgs_run_lines.specs.AreasKept.{keeps_on}
-use Rattle.pgs_run_lines.specs.Pieces.{shown_of}
-use Rattle.pgs_run_try.proofs.Listed.{listed_on, listed_stop}
+use Rattle.std.proofs.Common.{map, refl}
+use Rattle.pgs_run_lines.proofs.Together.{exits, at_place, item_on, item_stop}
+use Rattle.pgs_run_try.specs.Told.{listed_line}
+use Rattle.pgs_run_try.proofs.Listed.{listed-append}
 use Rattle.pgs_run_try.proofs.listing.put_all_listed.Goals as goal
 
-pub returns-in-Err-clause-shows : goal.returns-in-Err-clause-shows
-returns-in-Err-clause-shows g c =
-    listed_stop (shown_of (g.W.World.view c.args.world.now)) (shown_of (g.W.World.view c.loop-violation.world)) _ c.args.found.now c.loop-violation.violation-index c.violation-item.result c.in-Err.stop c.loop-violation-test.true c.violation-item.is c.in-Err.ensures.stop c.loop-violation.invariant.shows c.in-Err.ensures.shows
+pub returns-in_err-put_made-clause-puts : goal.returns-in_err-put_made-clause-puts
+returns-in_err-put_made-clause-puts g c =
+    let more = at_place c.args.found.now c.loop-violation.violation-index c.violation-item.result c.loop-violation-test.true c.violation-item.is in
+    exits c.from_residual.result c.from_residual.ensures.1
+    (item_stop (map listed_line) listed-append c.args.found.now c.loop-violation.violation-index c.violation-item.result more _ refl c.loop-violation.invariant
+    (c.in_err-put_made.ensures.puts (listed_line c.violation-item.result) c.listed_line.ensures))
 
 pub loop-violation-preserved : goal.loop-violation-preserved
-loop-violation-preserved g c = record {
-  shows = rw add-one
-      (listed_on (shown_of (g.W.World.view c.args.world.now)) (shown_of (g.W.World.view c.loop-violation.world)) _ c.args.found.now c.loop-violation.violation-index c.violation-item.result c.loop-violation-test.true c.violation-item.is c.loop-violation.invariant.shows c.in-Ok.ensures.shows);
-  areas = keeps_on _ (g.W.World.view c.loop-violation.world) _ c.loop-violation.invariant.areas c.put_listed.ensures.areas;
-  faults = c.in-Ok.ensures.cause ∙ c.loop-violation.invariant.faults;
-}
+loop-violation-preserved g c =
+    let more = at_place c.args.found.now c.loop-violation.violation-index c.violation-item.result c.loop-violation-test.true c.violation-item.is in
+    item_on (map listed_line) listed-append c.args.found.now c.loop-violation.violation-index c.violation-item.result more _ refl c.loop-violation.invariant
+    (c.in_ok-put_made.ensures.puts (listed_line c.violation-item.result) c.listed_line.ensures)

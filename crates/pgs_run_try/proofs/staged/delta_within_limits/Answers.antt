@@ -1,7 +1,7 @@
 use Rattle.std.proofs.Common.{subst}
 use Rattle.pgs_txn.specs.Answers.{IsRefusal}
 use Rattle.pgs_violation.specs.Staging.{staged}
-use Rattle.pgs_run_base.proofs.Standard.{standard_is}
+use Rattle.pgs_run_input.proofs.Standard.{standard_is}
 use Rattle.pgs_run_try.proofs.Done.{done_accepted, undone_rejected}
 use Rattle.pgs_run_try.proofs.staged.delta_within_limits.Goals as goal
 

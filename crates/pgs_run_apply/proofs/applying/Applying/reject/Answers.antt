@@ -1,7 +1,7 @@
 use Rattle.std.proofs.Common.{sym}
 use Rattle.pgs_answer.specs.Refusals.{rejection_text}
 use Rattle.pgs_feed.specs.Seen.{places}
-use Rattle.pgs_run_base.specs.Session.{standard}
+use Rattle.pgs_run_input.specs.Session.{standard}
 use Rattle.pgs_run_apply.specs.Outcome.{refusing}
 use Rattle.pgs_run_apply.specs.Seen.{state_of}
 use Rattle.pgs_run_apply.proofs.Taken.{rejecting, take_as, take_untaken}
@@ -10,8 +10,8 @@ use Rattle.pgs_run_apply.proofs.applying.Applying.reject.Goals as goal
 pub returns-in_err-text-clause-answer : goal.returns-in_err-text-clause-answer
 returns-in_err-text-clause-answer g c =
     let s = state_of c.args.self.now in
-    take_untaken s (refusing s (rejection_text c.args.rejection.now standard)) c.from_residual.result s (g.W.World.view c.args.world.now)
-    (places g.F.Feed.taken g.F.Feed.faults c.args.self.now.feeds) c.from_residual.ensures.1 (g.met.W.World.timed c.args.world.now) c.requires.holds
+    take_untaken s (g.W.World.view c.args.world.now) (places g.F.Feed.taken g.F.Feed.faults c.args.self.now.feeds) (g.met.W.World.timed c.args.world.now) c.requires.holds
+    (refusing s (rejection_text c.args.rejection.now standard)) c.from_residual.result s c.from_residual.ensures.1
 
 pub returns-clause-answer : goal.returns-clause-answer
 returns-clause-answer g c =

@@ -1,11 +1,11 @@
-use Rattle.std.proofs.Common.{refl, ◌∙◌}
+use Rattle.std.proofs.Common.{◌+◌, ◌∙◌, refl}
+use Rattle.pgs_answer.specs.Lines.{feed_line}
 use Rattle.pgs_feed.specs.Seen.{places}
 use Rattle.pgs_violation.specs.Violations.{verdict}
-use Rattle.pgs_run_base.specs.Session.{decision_on}
+use Rattle.pgs_run_input.specs.Session.{decision_on}
 use Rattle.pgs_run_apply.specs.Outcome.{deciding}
 use Rattle.pgs_run_apply.specs.Seen.{state_of, state_with}
 use Rattle.pgs_run_apply.proofs.Asked.{still_holds, take_done, take_rejected, take_stopped}
-use Rattle.pgs_run_apply.proofs.Putting.{piece_put}
 use Rattle.pgs_run_apply.proofs.Taken.{take_untaken}
 use Rattle.pgs_run_apply.proofs.applying.Applying.take_txn.Goals as goal
 
@@ -13,19 +13,20 @@ pub returns-in_err-verdict-clause-answer : goal.returns-in_err-verdict-clause-an
 returns-in_err-verdict-clause-answer g c =
     let self = c.args.self.now in
     let s = state_of self in
-    take_untaken s (deciding s c.args.txn.now (decision_on (verdict self.store.guard.schema) self.store.guard.graph c.args.txn.now)) c.from_residual.result s (g.W.World.view c.args.world.now)
-    (places g.F.Feed.taken g.F.Feed.faults self.feeds) c.from_residual.ensures.1 (g.met.W.World.timed c.args.world.now) c.requires.holds
+    take_untaken s (g.W.World.view c.args.world.now) (places g.F.Feed.taken g.F.Feed.faults self.feeds) (g.met.W.World.timed c.args.world.now) c.requires.holds
+    (deciding s c.args.txn.now (decision_on (verdict self.store.guard.schema) self.store.guard.graph c.args.txn.now)) c.from_residual.result s c.from_residual.ensures.1
 
 pub returns-in-Ok-None-clause-answer : goal.returns-in-Ok-None-clause-answer
 returns-in-Ok-None-clause-answer g c =
     let self = c.args.self.now in
     let seen = places g.F.Feed.taken g.F.Feed.faults in
+    let put = c.put_piece.ensures in
     take_done self.store self.number self.refused c.args.txn.now c.put_piece.result c.ask.new.store (g.W.World.view c.args.world.now) (g.W.World.view c.ask.new.world)
-    (g.W.World.view c.put_piece.new.world) (seen self.feeds) (seen c.deliver.new.self) c.as_slice.result.now c.as_slice-in-Ok-None.result.now c.requires.holds
-    (g.met.W.World.timed c.args.world.now) (rw c.in-Ok-None.field-0-is at c.in-Ok-None.ensures.answer) c.ask.ensures.stops c.ask.ensures.beside (c.as_slice.ensures ∙ c.in_ok-verdict.ensures.feed)
-    c.deliver.ensures.delivered (c.as_slice-in-Ok-None.ensures ∙ c.in_ok-verdict.ensures.verdict)
-    (piece_put c.as_slice-in-Ok-None.result.now (g.W.World.view c.ask.new.world) (g.W.World.view c.put_piece.new.world) c.put_piece.ensures.areas c.put_piece.ensures.stops c.put_piece.result
-    c.put_piece.ensures.shows c.put_piece.ensures.fault c.put_piece.ensures.cause)
+    (g.W.World.view c.put_piece.new.world) (seen self.feeds) (seen c.deliver_made.new.feeds) c.as_slice.result.now c.requires.holds
+    (g.met.W.World.timed c.args.world.now) (rw c.in-Ok-None.field-0-is at c.in-Ok-None.ensures.answer) c.ask.ensures.stops c.ask.ensures.beside
+    (c.deliver_made.ensures (feed_line c.args.txn.now (self.store.guard.commits + 1)) c.in_ok-verdict.ensures.feed)
+    (c.as_slice.ensures ∙ c.in_ok-verdict.ensures.verdict)
+    (record { shows = put.shows; fault = put.fault; cause = put.cause; areas = put.areas; stops = put.stops })
 
 pub reject-requires-clause-holds : goal.reject-requires-clause-holds
 reject-requires-clause-holds g c =

@@ -2,7 +2,7 @@ use Rattle.std.proofs.lemmas.Bool.{false≢true}
 use Rattle.pgs_feed.specs.Seen.{places}
 use Rattle.pgs_run_lines.specs.Machine.{scene_of}
 use Rattle.pgs_run_apply.specs.Seen.{state_of}
-use Rattle.pgs_run_apply.proofs.Lines.{end_allows, end_ends, stop_allows, stop_ends, stop_cause, stop_may}
+use Rattle.pgs_run_apply.proofs.Lines.{end_allows, end_ends, may_fault, stop_allows, stop_ends}
 use Rattle.pgs_run_apply.proofs.applying.ApplyingLineTaker.end_input.Goals as goal
 
 pub returns-in-Ok : goal.returns-in-Ok
@@ -14,9 +14,9 @@ returns-in-Ok g c =
     let new = scene_of (g.W.World.view c.take_line.new.world) (places g.F.Feed.taken g.F.Feed.faults c.take_line.new.self.feeds) in
     let takes = c.in-Ok.ensures.answer in
     record {
-      ends = end_ends {T = Unit {0}} s now rest tt c.status.result old new takes.taken c.status.ensures;
+      ends = end_ends {T = Unit {0}} s now rest tt c.status.result old new takes c.status.ensures;
       allows = end_allows {T = Unit {0}} s now rest tt c.status.result old new takes;
-      cause = takes.taken.faults;
+      cause = takes.cause;
       last = λ fails. absurd (false≢true fails);
       may = tt;
     }
@@ -33,7 +33,7 @@ returns-in-Err g c =
     record {
       ends = stop_ends s now rest stop old new takes;
       allows = stop_allows s now rest stop old new takes;
-      cause = stop_cause s now rest stop old new takes;
+      cause = takes.cause;
       last = c.in-Err.ensures.last;
-      may = stop_may s now rest stop old new takes;
+      may = may_fault stop takes.may;
     }

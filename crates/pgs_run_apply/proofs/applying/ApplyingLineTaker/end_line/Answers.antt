@@ -1,7 +1,7 @@
 use Rattle.pgs_feed.specs.Seen.{places}
 use Rattle.pgs_run_lines.specs.Machine.{scene_of}
 use Rattle.pgs_run_apply.specs.Seen.{state_of}
-use Rattle.pgs_run_apply.proofs.Lines.{line_leads, line_shows, line_room, line_holds, line_allows, line_cause, line_may}
+use Rattle.pgs_run_apply.proofs.Lines.{line_leads, line_room, line_holds, line_allows, line_may}
 use Rattle.pgs_run_apply.proofs.applying.ApplyingLineTaker.end_line.Goals as goal
 
 pub returns : goal.returns
@@ -14,12 +14,12 @@ returns g c =
     let new = scene_of (g.W.World.view c.take_line.new.world) (places g.F.Feed.taken g.F.Feed.faults c.take_line.new.self.feeds) in
     let takes = c.take_line.ensures.answer in
     record {
-      leads = line_leads s now line result old new takes.taken;
-      shows = line_shows s now line result old new takes.taken;
-      room = line_room s now line result old new takes.taken;
-      holds = line_holds s now line result old new takes.taken;
+      leads = line_leads s now line result old new takes;
+      shows = takes.shows;
+      room = line_room s now line result old new takes;
+      holds = line_holds s now line result old new takes;
       allows = line_allows s now line result old new takes;
-      cause = line_cause s now line result old new takes.taken;
+      cause = takes.cause;
       last = c.take_line.ensures.last;
-      may = line_may s now line result old new takes.taken;
+      may = line_may s now line result old new takes;
     }

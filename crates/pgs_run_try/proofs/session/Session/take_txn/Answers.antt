@@ -1,6 +1,6 @@
 use Rattle.std.proofs.Common.{◌≡◌, ◌∙◌, subst}
 use Rattle.pgs_run_lines.specs.Pieces.{pieces_in}
-use Rattle.pgs_run_base.specs.Session.{Standing, decision_on, with_text}
+use Rattle.pgs_run_input.specs.Session.{Standing, decision_on, with_text}
 use Rattle.pgs_run_try.specs.Judging.{verdict_by, telling_by}
 use Rattle.pgs_run_try.specs.State.{SessionState, judging_in, graph_in, commits_in}
 use Rattle.pgs_run_try.proofs.Judged.{told_of_done}

@@ -1,15 +1,19 @@
-use Rattle.std.proofs.Common.{◌≡◌, ◌+◌, ℕ, Bool, false, IsTrue, Option, Some, refl, sym, ◌∙◌, ap, subst, arith}
+use Rattle.std.proofs.Common.{◌≡◌, ◌+◌, ℕ, Bool, true, false, IsTrue, length, Option, Some, inl, refl, sym, ◌∙◌, ap, subst, arith}
+use Rattle.std.proofs.lemmas.Result.{err_from_is_err_and}
 use Rattle.pgs_journal.specs.declared.journal.Journal.{Journal}
 use Rattle.pgs_journal.specs.Format.{Holds, IsFrames}
-use Rattle.pgs_store.specs.Checkpoints.{IsRenewed}
+use Rattle.pgs_store.specs.Checkpoints.{IsRenewed, is_disk_fault}
 use Rattle.pgs_store.specs.State.{GuardState}
 use Rattle.pgs_store.specs.Stored.{StoreState, StandsOn, IsSavedBy, IsRenewedIn, next_journal, renewed}
+use Rattle.pgs_store.specs.World.{StaysBeside}
 use Rattle.pgs_world.specs.declared.area.Area.{Area}
 use Rattle.pgs_world.specs.Disk.{IsSameBeside}
 use Rattle.pgs_world.specs.Moment.{EachSince}
-use Rattle.pgs_world.specs.World.{View, part}
+use Rattle.pgs_world.specs.World.{View, other, part}
 use Rattle.pgs_store.proofs.Applied.{small_first, same_journal}
-use Rattle.pgs_store.proofs.Renewed.{few_before, renewing_stops, alone_renewed, stands_renewed}
+use Rattle.pgs_store.proofs.Composed.{none_beside}
+use Rattle.pgs_store.proofs.Exits.{never, still_saved, store_of}
+use Rattle.pgs_store.proofs.Renewed.{few_before, next_bounded, next_epoch, renewing_stops, alone_renewed, stands_renewed}
 use Rattle.pgs_store.proofs.store.Store.checkpoint.Goals as goal
 
 -- what is said of the parts of a store, as it is said of the store
@@ -80,3 +84,118 @@ returns-clause-stops g c =
     (renewing_stops c.self.inside.guard c.self.inside.journal c.other.result c.as_slice.result.now c.facts.ensures.schema c.facts.ensures.guarded c.in_ok-first.ensures.schema c.in_ok-first.ensures.snapshot
     c.self.invariant (small_first c.as_slice.result.now vec.items vec.len vec.cap c.as_slice.ensures.value vec.ok.0 vec.ok.1 vec.small) c.other.ensures
     (rw c.as_slice.ensures.value c.in_ok-first.ensures.frames) c.checkpoint.ensures.made) c.requires.stands
+
+-- ---- an earlier call failed
+
+pub returns-then-self-clause-answer : goal.returns-then-self-clause-answer
+returns-then-self-clause-answer g c = (subst (λ (s : StoreState). s.failed ≡ true) c.self.view_is c.if-self.true, refl)
+
+pub returns-then-self-clause-early : goal.returns-then-self-clause-early
+returns-then-self-clause-early g c = λ early. refl
+
+pub returns-then-self-clause-faults : goal.returns-then-self-clause-faults
+returns-then-self-clause-faults g c = refl
+
+pub returns-then-self-clause-last : goal.returns-then-self-clause-last
+returns-then-self-clause-last g c = never false refl
+
+pub returns-then-self-clause-stops : goal.returns-then-self-clause-stops
+returns-then-self-clause-stops g c = λ whole honest told.
+    never c.args.self.now.failed whole (subst (λ (s : StoreState). s.failed ≡ true) c.self.view_is c.if-self.true)
+
+pub returns-then-self-clause-beside : goal.returns-then-self-clause-beside
+returns-then-self-clause-beside g c = none_beside (other c.args.self.now.journal.area) (g.W.World.view c.args.world.now) (g.met.W.World.timed c.args.world.now)
+
+-- ---- the last epoch
+
+pub returns-then-self-eq-LAST_EPOCH-clause-early : goal.returns-then-self-eq-LAST_EPOCH-clause-early
+returns-then-self-eq-LAST_EPOCH-clause-early g c = λ early. refl
+
+pub returns-then-self-eq-LAST_EPOCH-clause-faults : goal.returns-then-self-eq-LAST_EPOCH-clause-faults
+returns-then-self-eq-LAST_EPOCH-clause-faults g c = refl
+
+pub returns-then-self-eq-LAST_EPOCH-clause-last : goal.returns-then-self-eq-LAST_EPOCH-clause-last
+returns-then-self-eq-LAST_EPOCH-clause-last g c = never false refl
+
+pub returns-then-self-eq-LAST_EPOCH-clause-stops : goal.returns-then-self-eq-LAST_EPOCH-clause-stops
+returns-then-self-eq-LAST_EPOCH-clause-stops g c = λ whole honest told triple left.
+    inl
+    (still_saved c.args.self.now.guard c.args.self.now.journal (g.W.World.view c.args.world.now) (g.met.W.World.timed c.args.world.now) (c.requires.stands whole) honest told triple left)
+
+pub returns-then-self-eq-LAST_EPOCH-clause-beside : goal.returns-then-self-eq-LAST_EPOCH-clause-beside
+returns-then-self-eq-LAST_EPOCH-clause-beside g c = none_beside (other c.args.self.now.journal.area) (g.W.World.view c.args.world.now) (g.met.W.World.timed c.args.world.now)
+
+-- ---- there is no memory
+
+pub returns-in_err-first-clause-answer : goal.returns-in_err-first-clause-answer
+returns-in_err-first-clause-answer g c =
+    let p = err_from_is_err_and c.from_residual.result c.from_residual.ensures.1 in
+    rw (p.1, p.2) (subst (λ (s : StoreState). s.failed ≡ false) c.self.view_is c.if-self.false, refl)
+
+pub returns-in_err-first-clause-early : goal.returns-in_err-first-clause-early
+returns-in_err-first-clause-early g c = λ early. refl
+
+pub returns-in_err-first-clause-faults : goal.returns-in_err-first-clause-faults
+returns-in_err-first-clause-faults g c = let p = err_from_is_err_and c.from_residual.result c.from_residual.ensures.1 in rw (p.1, p.2) refl
+
+pub returns-in_err-first-clause-last : goal.returns-in_err-first-clause-last
+returns-in_err-first-clause-last g c =
+    let p = err_from_is_err_and c.from_residual.result c.from_residual.ensures.1 in never (is_disk_fault c.from_residual.result) (rw (p.1, p.2) refl)
+
+pub returns-in_err-first-clause-stops : goal.returns-in_err-first-clause-stops
+returns-in_err-first-clause-stops g c = λ whole honest told triple left.
+    inl
+    (still_saved c.args.self.now.guard c.args.self.now.journal (g.W.World.view c.args.world.now) (g.met.W.World.timed c.args.world.now) (c.requires.stands whole) honest told triple left)
+
+pub returns-in_err-first-clause-beside : goal.returns-in_err-first-clause-beside
+returns-in_err-first-clause-beside g c = none_beside (other c.args.self.now.journal.area) (g.W.World.view c.args.world.now) (g.met.W.World.timed c.args.world.now)
+
+-- ---- what the other area is asked
+
+pub checkpoint-requires-clause-epoch : goal.checkpoint-requires-clause-epoch
+checkpoint-requires-clause-epoch g c = next_epoch c.self.inside.journal.epoch c.self.invariant.epoch c.if-self-eq-LAST_EPOCH.false
+
+-- ---- the store is renewed
+
+pub invariant_of-self : goal.invariant_of-self
+invariant_of-self g c =
+    let made = c.in-Ok.ensures.made in
+    next_bounded c.self.inside.journal c.in-Ok.journal c.other.result c.self.inside.guard.commits (16 + length c.as_slice.result.now) c.self.invariant c.if-self-eq-LAST_EPOCH.false made.journal made.within made.next_within
+
+pub returns-in-Ok-clause-early : goal.returns-in-Ok-clause-early
+returns-in-Ok-clause-early g c = never false refl
+
+pub returns-in-Ok-clause-faults : goal.returns-in-Ok-clause-faults
+returns-in-Ok-clause-faults g c = c.in-Ok.ensures.made.step.faults.no_cause
+
+pub returns-in-Ok-clause-last : goal.returns-in-Ok-clause-last
+returns-in-Ok-clause-last g c = never false refl
+
+pub returns-in-Ok-clause-beside : goal.returns-in-Ok-clause-beside
+returns-in-Ok-clause-beside g c =
+    let made = c.checkpoint.ensures.made in
+    subst (λ (a : Area). StaysBeside a (g.W.World.view c.args.world.now) (g.W.World.view c.checkpoint.new.world))
+    (c.other.ensures ∙ ap (λ (s : StoreState). other s.journal.area) c.self.view_is)
+    (record { passes = made.step.passes; shown = made.beside; stops = made.stops_beside; no_put = made.step.no_put })
+
+-- ---- an area failed
+
+pub returns-clause-answer : goal.returns-clause-answer
+returns-clause-answer g c =
+    (subst (λ (s : StoreState). s.failed ≡ false) c.self.view_is c.if-self.false, ap (λ (s : StoreState). store_of s.guard s.journal true) c.self.view_is)
+
+pub returns-clause-early : goal.returns-clause-early
+returns-clause-early g c = never false refl
+
+pub returns-clause-faults : goal.returns-clause-faults
+returns-clause-faults g c = c.in-Err.ensures.made.step.faults.cause
+
+pub returns-clause-last : goal.returns-clause-last
+returns-clause-last g c = λ failed. c.in-Err.ensures.made.step.faults.last
+
+pub returns-clause-beside : goal.returns-clause-beside
+returns-clause-beside g c =
+    let made = c.checkpoint.ensures.made in
+    subst (λ (a : Area). StaysBeside a (g.W.World.view c.args.world.now) (g.W.World.view c.checkpoint.new.world))
+    (c.other.ensures ∙ ap (λ (s : StoreState). other s.journal.area) c.self.view_is)
+    (record { passes = made.step.passes; shown = made.beside; stops = made.stops_beside; no_put = made.step.no_put })

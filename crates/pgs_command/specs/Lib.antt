@@ -1,0 +1,12 @@
+pub mod Answers
+pub mod Areas
+pub mod Calls
+pub mod Ending
+pub mod ExitStatus
+pub mod Images
+pub mod Kept
+pub mod Promise
+pub mod Run
+pub mod Setting
+pub mod Spec
+pub mod Words

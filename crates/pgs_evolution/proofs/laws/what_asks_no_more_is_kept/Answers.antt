@@ -1,5 +1,0 @@
-use Rattle.pgs_evolution.proofs.Kept.{kept}
-use Rattle.pgs_evolution.proofs.laws.what_asks_no_more_is_kept.Goals as goal
-
-pub returns : goal.returns
-returns c = kept

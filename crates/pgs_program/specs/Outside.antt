@@ -1,0 +1,41 @@
+-- What a program runs over, before its first call and as contracts see it.
+use Rattle.std.specs.Prelude.{◌≡◌, ℕ, Bool, List, Option, None, Result, Ok, Err}
+use Rattle.std.specs.declared.io.Error.{Error}
+use Rattle.std.specs.declared.random_state.RandomState.{RandomState}
+use Rattle.pgs_base.specs.declared.seed.Seed.{Seed}
+use Rattle.pgs_base.specs.declared.seed.Seed.TheVariants.{Fixed, Random}
+use Rattle.pgs_command.specs.Setting.{Setting, setting_of}
+use Rattle.pgs_feed.specs.Places.{Place}
+use Rattle.pgs_world_files.specs.declared.area_files.AreaFiles.{AreaFiles}
+use Rattle.pgs_world_files.specs.Counted.{seen}
+use Rattle.pgs_program.specs.declared.outside.Outside.{Outside}
+
+-- the keys that were drawn; fixed ones where none were
+abbrev pub seed_of : Result RandomState Error → Seed
+seed_of (Ok keys) = Random keys
+seed_of (Err error) = Fixed
+
+-- this reader and this writer, and graphs that hash by this seed: no call was made, and none failed
+pub record IsFresh {R W H : Type 0} (reader : R) (writer : W) (seed : Seed) (outside : Outside R W H) : Type 0 where
+  pub source : outside.source.reader ≡ reader
+  pub unread : outside.source.faults ≡ 0
+  pub output : outside.world.writer ≡ writer
+  pub counts : outside.world.counts ≡ record { calls = 0; area_faults = 0; put_faults = 0; puts = 0 }
+  pub hashes : outside.world.seed ≡ seed
+
+abbrev pub HasNoFiles : {H : Type 0} → AreaFiles H → Type 0
+HasNoFiles areas = (areas.a.handle ≡ None) × (areas.b.handle ≡ None)
+
+-- what a reader, a writer and files tell: the bytes that are left, those that were written, those that stand in a file
+pub record Telling (R W H : Type 0) : Type 0 where
+  pub remaining : R → Option (List ℕ)
+  pub tells_output : Bool
+  pub written : W → Option (List ℕ)
+  pub tells_bytes : Bool
+  pub bytes : H → List ℕ
+
+-- what contracts see of it, beside feeds that stand so
+abbrev pub setting_in : {R W H : Type 0} → Telling R W H → List Place → Outside R W H → Setting
+setting_in telling places outside =
+    setting_of (telling.remaining outside.source.reader) outside.source.faults
+    (seen telling.tells_output telling.written telling.tells_bytes telling.bytes outside.world) places

@@ -1,5 +1,0 @@
-use Rattle.pgs_records.proofs.Steps.{staged_sized}
-use Rattle.pgs_records.proofs.laws.a_staged_transaction_has_a_payload.Goals as goal
-
-pub returns : goal.returns
-returns c = staged_sized

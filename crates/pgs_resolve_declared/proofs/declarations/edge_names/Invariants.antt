@@ -1,5 +1,0 @@
-use Rattle.std.proofs.Common.{◌≡◌, map, take}
-use Rattle.pgs_resolve_declared.proofs.declarations.edge_names.Given as goal
-
-abbrev pub invariant-loop-edge : goal.invariant-loop-edge
-invariant-loop-edge l = l.names ≡ map (λ type. type.now.name) (take l.edge-index l.edges)

@@ -1,7 +1,0 @@
-use Rattle.std.proofs.Common.{◌≡◌, ◌++◌, false, take}
-use Rattle.std.specs.List.{flat_map}
-use Rattle.pgs_resolve_declared.specs.Refused.{uses_in_step, uses_as}
-use Rattle.pgs_resolve_declared.proofs.kinds.use_path.Given as goal
-
-abbrev pub invariant-loop-step : goal.invariant-loop-step
-invariant-loop-step l = l.uses.items ≡ l.fn.uses.items ++ uses_as false l.path.start.filter.names ++ flat_map uses_in_step (take l.step-index l.step-items)

@@ -1,4 +1,0 @@
-use Rattle.pgs_run_explain.proofs.explaining.ExplainingStoreReader.tell.Given as goal
-
-abbrev pub ghosts-put_explained : goal.ghosts-put_explained
-ghosts-put_explained g a = record { name = a.blank.name; parts = a.blank.parts }

@@ -1,0 +1,12 @@
+pub mod Answering
+pub mod ByLines
+pub mod Following
+pub mod Joining
+pub mod OneLine
+pub mod ReadLines
+pub mod Reading
+pub mod SameFronts
+pub mod SchemaFirst
+pub mod Separating
+pub mod Standard
+pub mod WholeInput

@@ -1,8 +1,0 @@
--- The dump of a store: its schema's text, the separator, and the lines of its graph, one operation a line.
-use Rattle.std.specs.Prelude.{ℕ, List, ◌∷◌}
-use Rattle.pgs_answer.specs.Lines.{schema_line, separator_line}
-use Rattle.pgs_base.specs.Graph.{Graph}
-use Rattle.pgs_dump.specs.Lines.{graph_lines}
-
-abbrev pub dump : List ℕ → Graph → List (List ℕ)
-dump text g = schema_line text ∷ (separator_line ∷ graph_lines g)

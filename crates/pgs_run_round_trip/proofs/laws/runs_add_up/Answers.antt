@@ -1,5 +1,0 @@
-use Rattle.pgs_run_round_trip.proofs.AddUp.{runs_add_up}
-use Rattle.pgs_run_round_trip.proofs.laws.runs_add_up.Goals as goal
-
-pub returns : goal.returns
-returns g c = runs_add_up g.W.World.view

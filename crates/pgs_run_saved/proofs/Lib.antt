@@ -1,9 +1,0 @@
-pub mod Conforming
-pub mod Images
-pub mod Last
-pub mod Reading
-pub mod Saving
-pub mod Shown
-pub mod Stopping
-pub mod Unopening
-pub mod Unread

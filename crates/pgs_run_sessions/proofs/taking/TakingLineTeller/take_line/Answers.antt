@@ -1,6 +1,0 @@
-use Rattle.pgs_run_sessions.specs.Running.{stand_of}
-use Rattle.pgs_run_sessions.proofs.Room.{room_step}
-use Rattle.pgs_run_sessions.proofs.taking.TakingLineTeller.take_line.Goals as goal
-
-pub returns-clause-room : goal.returns-clause-room
-returns-clause-room c = room_step c.step.result (stand_of c.args.self.now.phase) (stand_of c.step.new.self.phase) c.args.line.now c.step.ensures.stand

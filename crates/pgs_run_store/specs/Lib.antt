@@ -1,0 +1,6 @@
+pub mod Dump
+pub mod Ending
+pub mod Explaining
+pub mod Opening
+pub mod Refusing
+pub mod Spec
