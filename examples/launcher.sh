@@ -76,6 +76,8 @@ rm copy/crates/pgs_base/src/more.rt
 tries "which has gone" 0 "gen committed=1*" "*" copy/pgguard gen 1 1
 tries "a folder that comes" 70 "" "*builds*" bash -c 'rm -rf copy/crates/pgfollow/specs.away; mv copy/crates/pgs_json/specs copy/crates/pgs_json/specs.away; exec copy/pgguard gen 1 1'
 
+tries "nothing is left behind of what wasn't built" 0 "" "" find copy/build -name '*.runs.[0-9]*'
+
 # Manual pages and completion.
 if command -v man >/dev/null && command -v nroff >/dev/null; then
   for program in pgguard pgsession pgfollow; do
