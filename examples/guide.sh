@@ -9,7 +9,7 @@ here=$(cd "$(dirname "$(readlink -f "${BASH_SOURCE[0]}")")/.." && pwd)
 . "$here/examples/postgres.sh"
 work=$(mktemp -d) || exit 1
 trap 'stop_server; rm -rf "$work"' EXIT
-ln -s "$here/examples" "$here/tools" "$here/clients" "$here/docs" "$work/"
+ln -s "$here/examples" "$here/tools" "$here/clients" "$here/docs" "$here/crates" "$work/"
 for name in pgguard pgfollow pgsession; do
   given=${name^^}
   program=$(readlink -f "${!given:-$("$here/tools/run" --path "$name")}") || exit 1
@@ -35,7 +35,7 @@ PAGES = ["README.md"] + [f"docs/{name}.md" for name in
 RUN = {"sh": ["bash", "-c"], "sql": ["psql", "-q", "-At", "-v", "ON_ERROR_STOP=1", "bank", "-c"], "python": [sys.executable, "-c"]}
 NEEDED = {"dot": ("graphviz", shutil.which("dot")), "psql": ("PostgreSQL", server)}
 # What every page finds beside its own files.
-THERE = "examples", "tools", "clients", "docs", "pgguard", "pgfollow", "pgsession"
+THERE = "examples", "tools", "clients", "docs", "crates", "pgguard", "pgfollow", "pgsession"
 
 
 def blocks(text):

@@ -86,6 +86,42 @@ for tool in backup dump-to-csv dump-to-lines dump-to-sql dump-to-sqlite feed-to-
   ends "its usage" 0 grep -q "^usage: $tool" help.txt
 done
 
+# How far a tool is, on standard error where that is a terminal, from the first second on: of a file in percent, of a pipe in lines; taken away at the end.
+cat >far.py <<'P'
+import os, pty, re, select, subprocess, sys, time
+
+def shown(words, awaited, first=b"", last=b""):
+    """The status of a tool that isn't read, and gets no more, until what is awaited stands on its terminal; and all that stood there."""
+    ours, terminal = pty.openpty()
+    child = subprocess.Popen(words, stdin=subprocess.PIPE, stdout=subprocess.PIPE, stderr=terminal)
+    os.close(terminal)
+    child.stdin.write(first)
+    child.stdin.flush()
+    told, until = b"", time.monotonic() + 60
+    while not re.search(awaited, told) and time.monotonic() < until:
+        if select.select([ours], [], [], 1)[0]:
+            told += os.read(ours, 4096)
+    child.communicate(last)
+    try:
+        while got := os.read(ours, 4096):
+            told += got
+    except OSError:
+        pass
+    return child.wait(), told
+
+tool, node = sys.argv[1], b'{"ops":[{"add_node":%d}]}\n'
+with open("far.txt", "wb") as file:
+    file.writelines(node % number for number in range(30_000))
+status, told = shown([tool, "far.txt"], awaited=rb"dump-to-lines: far.txt: [0-9]+ %")
+of_file = status == 0 and told.endswith(b"\r\x1b[K")
+status, told = shown([tool], rb"dump-to-lines: standard input: 2 lines, [0-9]+ s", first=node % 1 + node % 2, last=b'{"ops":[{"add_nod":3}]}\n')
+of_pipe = status == 1 and re.search(rb"\r\x1b\[Kdump-to-lines: standard input:3: [^\r\n]*\r\n$", told)
+sys.exit(not (of_file and of_pipe))
+P
+ends "a tool shows how far it is" 0 python3 far.py "$tools/dump-to-lines"
+printf '{"ops":[{"add_node":1}]}\n' | "$tools/dump-to-lines" >put.txt 2>told.txt
+ends "and nothing where there is no terminal" 0 test ! -s told.txt
+
 # The schema of the files below, and the same graph as CSV with the fields of two headers.
 cat >schema.txt <<'L'
 CREATE NODE TYPE (holder: Holder {name STRING, born DATE});

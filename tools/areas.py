@@ -3,6 +3,7 @@ import fcntl
 import os
 import stat
 from graph_lines import Fault, NAME, is_day
+from progress import progress
 
 MOST_BYTES, LAST_EPOCH = 2**40, 2**24 - 1
 WORDS = {b"PGSGRD1": 1, b"PGSGRD2": 2}
@@ -22,8 +23,8 @@ class Unfit(Exception):
 class Reader:
     """The bytes of a payload, from a place on."""
 
-    def __init__(self, payload):
-        self.payload, self.at = payload, 0
+    def __init__(self, payload, begin=0, part=None):
+        self.payload, self.at, self.begin, self.part = payload, 0, begin, part
 
     def take(self, count):
         found = self.payload[self.at:self.at + count]
@@ -105,6 +106,8 @@ class Reader:
             if rows and number <= rows[-1][0]:
                 raise Unfit
             rows.append((number, row()))
+            if self.part is not None:
+                self.part.place = self.begin + self.at
         return rows
 
     def end(self):
@@ -112,9 +115,9 @@ class Reader:
             raise Unfit
 
 
-def command(payload):
-    """What a payload is: ("schema", text), ("snapshot", commits, nodes, edges) or ("txn", operations)."""
-    reader = Reader(payload)
+def command(payload, begin=0, part=None):
+    """What a payload is: ("schema", text), ("snapshot", commits, nodes, edges) or ("txn", operations). Where it begins in its file is said for the progress."""
+    reader = Reader(payload, begin, part)
     kind = reader.number(1)
     if kind == 1:
         return ("schema", payload[1:])
@@ -153,7 +156,9 @@ class Area:
 
     def read_records(self, image):
         head = RECORD_HEADS[self.format]
+        part = progress.reading(self.path, size=len(image))
         while image[self.end] == 1:
+            part.place = self.end
             number = len(self.commands) + 1
             start = self.end + head
             size = int.from_bytes(image[start - 8:start], "big")
@@ -161,7 +166,7 @@ class Area:
                 self.damaged = number
                 return
             try:
-                found = command(image[start:start + size])
+                found = command(image[start:start + size], start, part)
             except Unfit:
                 found = ("nothing",)
             if not self.is_fit(found, number):

@@ -5,6 +5,7 @@ import json
 import os
 import re
 import sys
+from progress import progress
 
 LONGEST_LINE, MOST_OPS = 1_048_576, 10_000
 MOST_ID, MOST_LABELS, MOST_PROPS, LONGEST_TEXT = 2**64 - 1, 64, 256, 65_535
@@ -29,6 +30,7 @@ class WholeLines(io.BufferedIOBase):
 
     def __init__(self, raw):
         self.raw, self.kept, self.size = raw, [], 0
+        self.is_terminal = raw.isatty()
 
     def writable(self):
         return True
@@ -49,6 +51,8 @@ class WholeLines(io.BufferedIOBase):
         self.put(text)
 
     def put(self, text):
+        if text and self.is_terminal:
+            progress.clear()
         left = memoryview(text)
         while left:
             count = self.raw.write(left)
@@ -64,8 +68,10 @@ def run(main):
             raise Fault("standard output", "is not open")
         raw = open(sys.stdout.fileno(), "wb", buffering=0, closefd=False)
         sys.stdout = io.TextIOWrapper(WholeLines(raw), encoding="utf-8", newline="\n", write_through=True)
+        progress.begin(tool_name())
         main()
         sys.stdout.flush()
+        progress.clear()
     except Missing as missing:
         print(f"{tool_name()}: {missing} isn't installed", file=sys.stderr)
         sys.exit(77)
@@ -79,6 +85,7 @@ def run(main):
         # What couldn't be written is left: else the interpreter tries it again at its end.
         os._exit(1)
     except KeyboardInterrupt:
+        progress.clear()
         sys.exit(130)
 
 
@@ -100,7 +107,9 @@ def opened(path):
 def numbered(path):
     """The place of each line and the line without its line feed, and whether it has one."""
     lines, name = opened(path)
+    part = progress.reading(name, lines.fileno())
     for number, line in enumerate(lines, 1):
+        part.lines = number
         whole = line.endswith(b"\n")
         yield f"{name}:{number}", line[:-1] if whole else line, whole
 

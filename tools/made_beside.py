@@ -9,6 +9,7 @@ import subprocess
 import tempfile
 from areas import Store
 from graph_lines import Fault, Missing
+from progress import progress
 
 TOP = os.path.dirname(os.path.dirname(os.path.abspath(__file__)))
 # What a file system answers that has no links.
@@ -106,6 +107,7 @@ def installed():
 
 def proved(program, made, called):
     """What `recover` prints of a store, whose graph conforms to its schema; a fault has the name that a user knows."""
+    progress.reading(f"recover and validate of {called}")
     dump = subprocess.run([program, "recover", made], stdout=subprocess.PIPE, stdin=subprocess.DEVNULL)
     if dump.returncode != 0:
         raise Fault(called, f"recover ends with {dump.returncode}: {dump.stdout[:200].decode('utf-8', 'replace').strip()}")

@@ -5,6 +5,7 @@ import json
 import sys
 from graph_lines import Fault, MOST_LABELS, MOST_PROPS, NAME
 from imports.cells import Field
+from progress import progress
 
 ONCE = {"id": "of the id", "from": "of from", "to": "of to"}
 
@@ -60,6 +61,7 @@ class Table:
         self.spaces = {"id": "", "from": "", "to": ""}
         self.props, self.prop_at, self.prop_names, self.at = [], [], {}, {"id": [], "from": [], "to": [], "labels": []}
         with self._opened(reading) as file:
+            progress.reading(self.name, file.fileno())
             self._read(Taped(file), reading)
 
     def _opened(self, reading):
