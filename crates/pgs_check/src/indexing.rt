@@ -59,7 +59,7 @@ fn all_rows<G: GraphRead, L: Ledger>(
     ensures no_step_back { steps.old ≤ steps.new }
 {
     // The schema's clause says that its keys are valid.
-    compiled.resolved();
+    let _facts = compiled.resolved();
     let mut changes = Vec::new(alloc);
     for (place, key) in keys.iter().enumerate() {
         let number = place as u32 + 1;
@@ -85,7 +85,7 @@ pub fn index_of<G: GraphRead, L: Ledger>(
     ensures no_step_back { steps.old ≤ steps.new }
 {
     // The count's clause says that what is read is a graph.
-    graph.count();
+    let _facts = graph.count();
     let mut index = KeyIndex::with_seed(alloc, &compiled.resolved().guard.keys, seed)?;
     // The rows of an index ascend.
     index.facts();
