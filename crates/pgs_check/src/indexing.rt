@@ -82,6 +82,7 @@ pub fn index_of<G: GraphRead, L: Ledger>(
     requires keys { keys.now ≡ compiled.now.guard.keys }
     requires conforms { conforms compiled.now (G.meaning graph.now) ≡ true }
     ensures stands { IfOk result (StandsFor compiled.now (G.meaning graph.now) compiled.now.guard.keys) }
+    ensures seed { IfOk result (λ index. index.seed ≡ seed) }
     ensures no_step_back { steps.old ≤ steps.new }
 {
     // The count's clause says that what is read is a graph.

@@ -62,6 +62,7 @@ impl KeyTable {
     /// No rows, where it is known which keys are exclusive. It takes no memory.
     pub(crate) fn new(alloc: Global, exclusive: List<bool>, seed: Seed) -> KeyTable
         ensures exclusive { result.exclusive ≡ exclusive }
+        ensures seed { result.seed ≡ seed }
         ensures rows { result.rows.rows ≡ [] }
     {
         KeyTable {

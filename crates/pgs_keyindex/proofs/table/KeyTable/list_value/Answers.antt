@@ -1,7 +1,7 @@
-use Rattle.std.proofs.Common.{◌≡◌, true, ◌∙◌, sym, ap, subst}
+use Rattle.std.proofs.Common.{◌≡◌, true, OnOk, ◌∙◌, sym, ap, subst}
 use Rattle.pgs_keyindex.specs.Digests.{digest_of}
 use Rattle.pgs_keyindex.specs.Rows.{is_exclusive}
-use Rattle.pgs_keyindex.specs.Table.{TableState, Grows, has_elem, listed_at}
+use Rattle.pgs_keyindex.specs.Table.{TableState, has_elem, listed_at}
 use Rattle.pgs_keyindex.proofs.Held.{digest_key}
 use Rattle.pgs_keyindex.proofs.table.KeyTable.list_value.Goals as goal
 
@@ -12,4 +12,7 @@ list-requires c =
     ∙ ap (λ (t : TableState). is_exclusive t.exclusive c.args.key) c.self.view_is ∙ c.requires
 
 pub returns-clause-there : goal.returns-clause-there
-returns-clause-there c = ?
+returns-clause-there c =
+    let new = c.list.new.self in
+    subst (λ d. OnOk c.list.result (has_elem c.args.elem (listed_at new.holders.rows d) ≡ true))
+    (c.of-digest.ensures ∙ ap (λ s. digest_of s c.args.key c.args.tuple.now) (sym c.list.ensures.grows.room.seed)) c.list.ensures.there
