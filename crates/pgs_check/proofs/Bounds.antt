@@ -8,7 +8,7 @@ pub power_more : (most less more : ℕ) → less ≤ more → (most + 2) ^ less 
 power_more most less more h = pow-le-pow_right {n = most + 2} (omega arith) h
 
 -- one key: the search for elements, their rows and the owners of their key values; z is (most + 2) ^ (edges + 1), a is (most + 2) ^ edges
-key_sum : (u a z count searched rows owners : ℕ) → 2 ≤ z → 2 * a ≤ z → searched ≤ 1280 * u * z → count ≤ 80 * u * a → rows ≤ count * (32 * z) → owners ≤ count * a →
+key_sum : (u a z count searched rows owners : ℕ) → 2 ≤ z → 2 * a ≤ z → searched ≤ 1280 * u * z → count ≤ 80 * u * a → rows ≤ count * (32 * z) → owners ≤ 2 * (count * a) →
     searched + rows + owners ≤ 2048 * u * (z * z)
 key_sum u a z count searched rows owners two twice one few each own =
     let uz : u * z * 2 ≤ u * z * z = mul-le-mul_left (u * z) two in
@@ -44,7 +44,7 @@ module _ (most edges : ℕ) where
   pub degree_high : most + 2 ≤ high
   degree_high = let is = high_is in let more : (most + 2) * 1 ≤ (most + 2) * low = mul-le-mul_left (most + 2) one_low in omega arith
 
-  pub key_most : (u count searched rows owners : ℕ) → searched ≤ 1280 * u * high → count ≤ 80 * u * low → rows ≤ count * (32 * high) → owners ≤ count * low →
+  pub key_most : (u count searched rows owners : ℕ) → searched ≤ 1280 * u * high → count ≤ 80 * u * low → rows ≤ count * (32 * high) → owners ≤ 2 * (count * low) →
       searched + rows + owners ≤ 2048 * u * (most + 2) ^ (2 * edges + 2)
   key_most u count searched rows owners one few each own =
       subst (λ n. searched + rows + owners ≤ 2048 * u * n) square (key_sum u low high count searched rows owners two_high low_twice one few each own)

@@ -1,13 +1,17 @@
 -- What the calls of a check of one key take, at each of its exits.
-use Rattle.std.proofs.Common.{ℕ, ◌+◌, ◌*◌, ◌^◌, ◌≤◌, List, arith}
-use Rattle.std.specs.List.{All}
+use Rattle.std.proofs.Common.{ℕ, ◌+◌, ◌*◌, ◌^◌, ◌≤◌, List, [], ◌∷◌, length, arith}
+use Rattle.std.specs.List.{All, sum_by}
 use Rattle.std.proofs.Math.Nat.{mul-le-mul_left}
+use Rattle.std.proofs.lemmas.List.Sums.{sum_by-cons, count_by-le-length}
 use Rattle.pgs_base.specs.declared.element.Elem.{Elem}
 use Rattle.pgs_base.specs.Graph.{Graph}
 use Rattle.pgs_match.specs.Near.{IsSparse}
 use Rattle.pgs_match.proofs.Nearby.{within_less}
+use Rattle.pgs_keyindex.specs.declared.change.KeyChange.{KeyChange}
+use Rattle.pgs_keyindex.specs.Rows.{KeyRows}
 use Rattle.pgs_check_affected.specs.Touched.{IsSparseInBoth}
-use Rattle.pgs_check.proofs.Bounds.{power_more, low, high, key_most}
+use Rattle.pgs_check.specs.Clashes.{comes, look_ups, tuples_of}
+use Rattle.pgs_check.proofs.Bounds.{power_more, low, high, one_low, key_most}
 
 -- what is sparse within more edges is within fewer
 pub fewer_edges : (g h : Graph) (less more most : ℕ) → less ≤ more → (elems : List Elem) → All (λ elem. IsSparseInBoth g h more elem most) elems →
@@ -25,11 +29,12 @@ module _ (most own edges : ℕ) (within : own ≤ edges) (u count : ℕ) (few : 
   owners_more = mul-le-mul_left count (power_more most own edges within)
 
   pub whole_key : (start searched rows owned sum : ℕ) → searched ≤ start + 1280 * u * (most + 2) ^ (edges + 1) → rows ≤ searched + count * (32 * (most + 2) ^ (own + 1)) →
-      owned ≤ rows + sum → sum ≤ count * (most + 2) ^ own → owned ≤ start + 2048 * u * (most + 2) ^ (2 * edges + 2)
+      owned ≤ rows + (count + sum) → sum ≤ count * (most + 2) ^ own → owned ≤ start + 2048 * u * (most + 2) ^ (2 * edges + 2)
   whole_key start searched rows owned sum one two three own_most =
       let more = rows_more in
       let most_owned = owners_more in
-      let all = key_most most edges u count (1280 * u * (most + 2) ^ (edges + 1)) (count * (32 * (most + 2) ^ (own + 1))) sum (omega arith) few more (omega arith) in
+      let once : count * 1 ≤ count * low most edges = mul-le-mul_left count (one_low most edges) in
+      let all = key_most most edges u count (1280 * u * (most + 2) ^ (edges + 1)) (count * (32 * (most + 2) ^ (own + 1))) (count + sum) (omega arith) few more (omega arith) in
       omega arith
 
   pub rows_only : (start searched rows : ℕ) → searched ≤ start + 1280 * u * (most + 2) ^ (edges + 1) → rows ≤ searched + count * (32 * (most + 2) ^ (own + 1)) →
@@ -43,4 +48,14 @@ pub search_only : (most edges u start searched : ℕ) → searched ≤ start + 1
     searched ≤ start + 2048 * u * (most + 2) ^ (2 * edges + 2)
 search_only most edges u start searched one =
     let all = key_most most edges u 0 (1280 * u * (most + 2) ^ (edges + 1)) 0 0 (omega arith) (omega arith) (omega arith) (omega arith) in
+    omega arith
+
+-- the look-ups for the owners of rows: at most one for each row and one for each of its tuples
+pub look_ups_most : (index : KeyRows) (number : ℕ) (rows : List KeyChange) → sum_by (look_ups index number) rows ≤ length rows + sum_by (λ row. length (tuples_of row)) rows
+look_ups_most index number [] = omega arith
+look_ups_most index number (row ∷ rows) =
+    let few = count_by-le-length (comes index number row.elem) (tuples_of row) in
+    let rest = look_ups_most index number rows in
+    let one = sum_by-cons (look_ups index number) row rows in
+    let other = sum_by-cons (λ (r : KeyChange). length (tuples_of r)) row rows in
     omega arith

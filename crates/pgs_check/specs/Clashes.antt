@@ -1,5 +1,5 @@
 -- 29 from the rows of changed elements and the owners of key values: the least of the violations that two elements make.
-use Rattle.std.specs.Prelude.{◌≡◌, ◌↔◌, ℕ, true, false, cond, List, [], ◌∷◌, Option, Some, None, if◌then◌else◌}
+use Rattle.std.specs.Prelude.{◌≡◌, ◌↔◌, ℕ, ◌+◌, Bool, true, false, cond, not, List, [], ◌∷◌, count_by, Option, Some, None, if◌then◌else◌}
 use Rattle.std.specs.declared.cmp.Ordering.{Ordering}
 use Rattle.std.specs.declared.cmp.Ordering.TheVariants.{Less, Equal, Greater}
 use Rattle.std.specs.Option.{unwrap_or}
@@ -43,6 +43,14 @@ with_holders number holder elem found (tuple ∷ tuples) =
 -- the key values that a change gives its element
 abbrev pub tuples_of : KeyChange → List (List Part)
 tuples_of change = unwrap_or change.values []
+
+-- whether a tuple comes to an element: it didn't have it as a key value
+abbrev pub comes : KeyRows → ℕ → Elem → List Part → Bool
+comes rows number elem tuple = not (has_value rows number elem tuple)
+
+-- the look-ups that the owners of a row's tuples take: one for the values that its element had, and one for each tuple that comes to it
+abbrev pub look_ups : KeyRows → ℕ → KeyChange → ℕ
+look_ups rows number row = 1 + count_by (comes rows number row.elem) (tuples_of row)
 
 -- what was found, or what rows make with the owners of their tuples
 abbrev pub with_owners : ℕ → (List Part → Option Elem) → Option Violation → List KeyChange → Option Violation

@@ -1,6 +1,6 @@
 //! The first violation of a changed graph, or the changes of the index that stands for it.
 
-ghost use Rattle.std.specs.Prelude.{◌≡◌, ◌+◌, ◌*◌, ◌^◌, ◌≤◌, ◌++◌, ℕ, true, [], Some, None, Option, List as Items, length, IfErr, IfOk, OnOk};
+ghost use Rattle.std.specs.Prelude.{◌≡◌, ◌+◌, ◌*◌, ◌^◌, ◌≤◌, ◌++◌, ℕ, true, [], Some, None, Option, List as Items, length, map, IfErr, IfOk, OnOk};
 ghost use Rattle.std.specs.List.{sum_by};
 ghost use Rattle.pgs_base.specs.Graph.{is_graph};
 ghost use Rattle.pgs_base.specs.declared.part.Part.{Part};
@@ -12,9 +12,10 @@ ghost use Rattle.pgs_violation.specs.Violations.{conforms, key_violations, keys_
 ghost use Rattle.pgs_match.specs.Planned.{most_edges};
 ghost use Rattle.pgs_check_affected.specs.Changes.{elems_of};
 ghost use Rattle.pgs_check_affected.specs.Touched.{touched, AreSparse};
+ghost use Rattle.pgs_keyindex.specs.declared.change.KeyChange.{KeyChange};
 ghost use Rattle.pgs_keyindex.specs.Rows.{IsOwned, is_exclusive, rows_changed};
 ghost use Rattle.pgs_keyindex.specs.Standing.{StandsFor, key_at, values_in_scope};
-ghost use Rattle.pgs_check.specs.Clashes.{IsOwner, tuples_of};
+ghost use Rattle.pgs_check.specs.Clashes.{IsOwner, look_ups};
 ghost use Rattle.pgs_check.specs.Costs.{HaveEdgesWithin};
 ghost use Rattle.pgs_check.specs.Rows.{first_outside, first_of_rows};
 ghost use Rattle.pgs_check.specs.Standing.{IsFirst, IsFirstOf, IsFound, AreRows, AreChanges, ChangeEachOnce, index_changed};
@@ -82,11 +83,12 @@ fn first_of_rows<L: Ledger>(
 ) -> Result<Option<Violation>, Memory>
     requires exclusive { asked.exclusive ≡ true → is_exclusive owners.now.index.now.exclusive owners.now.number ≡ true }
     requires ascending { ascends elem_cmp owners.now.changed.now ≡ true }
+    requires elems { map (λ (row : KeyChange). row.elem) rows.now ≡ owners.now.changed.now }
     ensures first { (owner : Items Part → Option Elem) →
         (asked.exclusive ≡ true → IsOwner owners.now.index.now.rows owners.now.number owners.now.changed.now owner) →
         IfOk result (λ found. found ≡ first_of_rows asked owners.now.number owner rows.now) }
     ensures no_step_back { steps.old ≤ steps.new }
-    ensures cost { steps.new ≤ steps.old + sum_by (λ row. length (tuples_of row)) rows.now }
+    ensures cost { steps.new ≤ steps.old + sum_by (look_ups owners.now.index.now.rows owners.now.number) rows.now }
 {
     let missing = first_if(alloc, asked.mandatory, Rule::Mandatory, owners.number, rows)?;
     if let Some(found) = missing {
@@ -115,11 +117,12 @@ fn first_of_changed<L: Ledger>(
 ) -> Result<Option<Violation>, Memory>
     requires exclusive { key.now.qualifiers.exclusive ≡ true → is_exclusive index.now.exclusive number ≡ true }
     requires ascending { ascends elem_cmp changed.now ≡ true }
+    requires elems { map (λ (row : KeyChange). row.elem) rows.now ≡ changed.now }
     ensures first { (owner : Items Part → Option Elem) →
         (key.now.qualifiers.exclusive ≡ true → IsOwner index.now.rows number changed.now owner) →
         IfOk result (λ found. found ≡ first_of_rows key.now.qualifiers number owner rows.now) }
     ensures no_step_back { steps.old ≤ steps.new }
-    ensures cost { steps.new ≤ steps.old + sum_by (λ row. length (tuples_of row)) rows.now }
+    ensures cost { steps.new ≤ steps.old + sum_by (look_ups index.now.rows number) rows.now }
 {
     let owners = Owners {
         index,
@@ -142,6 +145,7 @@ fn kept_rows<L: Ledger>(
 ) -> Result<Vec<KeyChange>, CheckFault>
     requires exclusive { key.now.qualifiers.exclusive ≡ true → is_exclusive index.now.exclusive number ≡ true }
     requires ascending { ascends elem_cmp changed.now ≡ true }
+    requires elems { map (λ (row : KeyChange). row.elem) rows.items ≡ changed.now }
     ensures violated { (owner : Items Part → Option Elem) →
         (key.now.qualifiers.exclusive ≡ true → IsOwner index.now.rows number changed.now owner) →
         IfErr result (IsFound (first_of_rows key.now.qualifiers number owner rows.items)) }
@@ -150,7 +154,7 @@ fn kept_rows<L: Ledger>(
         OnOk result (first_of_rows key.now.qualifiers number owner rows.items ≡ None) }
     ensures kept { IfOk result (λ kept. kept.items ≡ rows.items) }
     ensures no_step_back { steps.old ≤ steps.new }
-    ensures cost { steps.new ≤ steps.old + sum_by (λ row. length (tuples_of row)) rows.items }
+    ensures cost { steps.new ≤ steps.old + sum_by (look_ups index.now.rows number) rows.items }
 {
     let found = first_of_changed(alloc, index, number, key, changed, rows.as_slice(), steps)?;
     match found {
@@ -187,7 +191,7 @@ fn check_key<L: Ledger>(
         steps.new ≤ steps.old + 2048 * length (touched change.now.before change.now.elems) * (most + 2) ^ (2 * edges + 2) }
 {
     // The count's clause says that what is read is a graph.
-    new.count();
+    let _facts = new.count();
     if !change.can_alter(compiled, key) {
         return Ok(Vec::new(alloc));
     }
@@ -221,7 +225,7 @@ fn check_keys<L: Ledger>(
         steps.new ≤ steps.old + length keys.now * (2048 * length (touched change.now.before change.now.elems) * (most + 2) ^ (2 * edges + 2)) }
 {
     // The schema's clause says that its keys are valid.
-    compiled.resolved();
+    let _facts = compiled.resolved();
     let mut changes = Vec::new(alloc);
     for (place, key) in keys.iter().enumerate() {
         let number = place as u32 + 1;
@@ -280,7 +284,7 @@ pub fn check<L: Ledger>(
         steps.new ≤ steps.old + 3072 * (length keys.now + 1) * (length (touched old.now.graph (elems_of delta.now)) + 1) * (most + 2) ^ (2 * edges + 2) }
 {
     // What is read is a graph, and the index has one owner for each value of an exclusive key.
-    old.count();
+    let _facts = old.count();
     index.facts();
     if let Some(violation) = check_types(old, compiled, new, delta, steps) {
         return Err(CheckFault::Violated(violation));

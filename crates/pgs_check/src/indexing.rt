@@ -59,7 +59,7 @@ fn all_rows<G: GraphRead, L: Ledger>(
     ensures no_step_back { steps.old ≤ steps.new }
 {
     // The schema's clause says that its keys are valid.
-    compiled.resolved();
+    let _facts = compiled.resolved();
     let mut changes = Vec::new(alloc);
     for (place, key) in keys.iter().enumerate() {
         let number = place as u32 + 1;
@@ -82,10 +82,11 @@ pub fn index_of<G: GraphRead, L: Ledger>(
     requires keys { keys.now ≡ compiled.now.guard.keys }
     requires conforms { conforms compiled.now (G.meaning graph.now) ≡ true }
     ensures stands { IfOk result (StandsFor compiled.now (G.meaning graph.now) compiled.now.guard.keys) }
+    ensures seed { IfOk result (λ index. index.seed ≡ seed) }
     ensures no_step_back { steps.old ≤ steps.new }
 {
     // The count's clause says that what is read is a graph.
-    graph.count();
+    let _facts = graph.count();
     let mut index = KeyIndex::with_seed(alloc, &compiled.resolved().guard.keys, seed)?;
     // The rows of an index ascend.
     index.facts();

@@ -1,19 +1,21 @@
 //! 29: changed elements that share a key value with each other, or with an element that isn't changed.
 
-ghost use Rattle.std.specs.Prelude.{◌≡◌, ◌↔◌, ◌+◌, ◌≤◌, true, false, cond, None, Some, Option, List as Items, length, IfOk, OnOk, MatchResult};
+ghost use Rattle.std.specs.Prelude.{◌≡◌, ◌↔◌, ◌+◌, ◌≤◌, true, false, cond, None, Some, Option, List as Items, map, count_by, IfOk, OnOk, MatchResult};
 ghost use Rattle.std.specs.BTreeMap as tree;
+ghost use Rattle.std.specs.Option.{option_copied, option_map_or};
 ghost use Rattle.std.specs.List.{sum_by};
 ghost use Rattle.pgs_base.specs.declared.element.Elem.{Elem};
 ghost use Rattle.pgs_base.specs.declared.part.Part.{Part};
 ghost use Rattle.pgs_base.specs.Order.{ascends, elem_cmp, tuple_cmp};
 ghost use Rattle.pgs_base.specs.Places.{IsKeyAt, IsKeyGap};
 ghost use Rattle.pgs_check_affected.specs.Local.{is_one_of};
+ghost use Rattle.pgs_keyindex.specs.declared.change.KeyChange.{KeyChange};
 ghost use Rattle.pgs_keyindex.specs.Rows.{has_tuple, has_value, is_exclusive};
-ghost use Rattle.pgs_check.specs.Clashes.{IsOwner, tuples_of, with_holders, with_earlier};
+ghost use Rattle.pgs_check.specs.Clashes.{IsOwner, comes, look_ups, tuples_of, with_holders, with_earlier};
 ghost use Rattle.pgs_check.specs.Rows.{first_if, least_shared};
 
 use crate::clash::with_holder;
-use pgs_base::{Elem, Memory, Steps, Tuple};
+use pgs_base::{Elem, Memory, Steps, Tuple, TupleSet};
 use pgs_keyindex::{KeyChange, KeyIndex};
 use pgs_violation::Violation;
 use std::alloc::Global;
@@ -35,6 +37,16 @@ fn tuples_of(row: &KeyChange) -> &[Tuple]
     match &row.values {
         Some(tuples) => tuples.as_slice(),
         None => &[],
+    }
+}
+
+// Whether a tuple is among the key values that an element had, if any.
+fn is_former(former: Option<&TupleSet>, tuple: &Tuple) -> bool
+    ensures { result ≡ option_map_or (has_tuple tuple.now) (option_copied former) false }
+{
+    match former {
+        Some(tuples) => tuples.contains(tuple),
+        None => false,
     }
 }
 
@@ -73,7 +85,8 @@ impl<'a> Owners<'a> {
         }
     }
 
-    // What was found, or the least that an element makes with the unchanged owners of its tuples.
+    // What was found, or the least that a changed element makes with the unchanged owners of its tuples. No other element owns a tuple that
+    // it had before, so that an owner is looked for of those alone that come to it. One look-up for what it had, and one for each of these.
     fn with_owners_of<L: Ledger>(
         &self,
         alloc: Global,
@@ -84,21 +97,26 @@ impl<'a> Owners<'a> {
     ) -> Result<Option<Violation>, Memory>
         requires exclusive { is_exclusive self.now.index.now.exclusive self.now.number ≡ true }
         requires ascending { ascends elem_cmp self.now.changed.now ≡ true }
+        requires changed { is_one_of self.now.changed.now elem ≡ true }
         ensures least { (owner : Items Part → Option Elem) → IsOwner self.now.index.now.rows self.now.number self.now.changed.now owner →
             IfOk result (λ least. least ≡ with_holders self.now.number owner elem found tuples.now) }
         ensures no_step_back { steps.old ≤ steps.new }
-        ensures cost { steps.new ≤ steps.old + length tuples.now }
+        ensures cost { steps.new ≤ steps.old + 1 + count_by (comes self.now.index.now.rows self.now.number elem) tuples.now }
     {
+        self.index.facts();
+        let former = self.index.values_of(self.number, elem, steps);
         for tuple in tuples {
-            let owner = self.unchanged_owner(tuple, steps);
-            let least = with_holder(alloc, self.number, elem, found, tuple, owner)?;
-            found = least;
+            if !is_former(former, tuple) {
+                let owner = self.unchanged_owner(tuple, steps);
+                let least = with_holder(alloc, self.number, elem, found, tuple, owner)?;
+                found = least;
+            }
         }
         Ok(found)
     }
 
     /// The least violation that rows make by their key values, with the unchanged owners of these and among each other, where the key asks
-    /// for it. One look-up for each key value.
+    /// for it. One look-up for each row, and one for each key value that comes to its element.
     pub(crate) fn least_shared<L: Ledger>(
         &self,
         alloc: Global,
@@ -108,11 +126,12 @@ impl<'a> Owners<'a> {
     ) -> Result<Option<Violation>, Memory>
         requires exclusive { asked ≡ true → is_exclusive self.now.index.now.exclusive self.now.number ≡ true }
         requires ascending { ascends elem_cmp self.now.changed.now ≡ true }
+        requires elems { map (λ (row : KeyChange). row.elem) rows.now ≡ self.now.changed.now }
         ensures least { (owner : Items Part → Option Elem) →
             (asked ≡ true → IsOwner self.now.index.now.rows self.now.number self.now.changed.now owner) →
             IfOk result (λ least. least ≡ first_if asked (least_shared self.now.number owner rows.now)) }
         ensures no_step_back { steps.old ≤ steps.new }
-        ensures cost { steps.new ≤ steps.old + sum_by (λ row. length (tuples_of row)) rows.now }
+        ensures cost { steps.new ≤ steps.old + sum_by (look_ups self.now.index.now.rows self.now.number) rows.now }
     {
         if !asked {
             return Ok(None);

@@ -3,14 +3,16 @@ use Rattle.std.specs.Prelude.{◌≡◌, Bool, true, List, Option, IfSome}
 use Rattle.std.specs.Option.{option_map}
 use Rattle.std.specs.List.{list_all}
 use Rattle.std.specs.declared.snapshot.Snapshot.{Snapshot}
+use Rattle.pgs_base.specs.declared.seed.Seed.{Seed}
 use Rattle.pgs_keyindex.specs.declared.change.KeyChange.{KeyChange}
 use Rattle.pgs_keyindex.specs.declared.change.KeyReady.{KeyReady}
 use Rattle.pgs_keyindex.specs.Rows.{KeyRows, IsOwned, rows_changed}
 use Rattle.pgs_keyindex.specs.Table.{TableState, has_room}
 
--- what contracts see of an index: which keys are exclusive, its rows, and the changes that it is ready for
+-- what contracts see of an index: which keys are exclusive, how its values are hashed, its rows, and the changes that it is ready for
 pub record IndexState : Type 0 where
   pub exclusive : List Bool
+  pub seed : Seed
   pub rows : KeyRows
   pub ready : Option (List KeyChange)
 

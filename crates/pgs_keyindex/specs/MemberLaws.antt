@@ -1,6 +1,5 @@
 -- Members and digests that compare `Equal` are equal, and the element of a member is found again.
-use Rattle.std.proofs.Common.{◌≡◌, ℕ, Bool, cond, refl, Ordering, Equal}
-use Rattle.std.specs.Ordering.{bool_cmp}
+use Rattle.std.proofs.Common.{◌≡◌, ℕ, cond, refl}
 use Rattle.std.specs.Cmp.{IsTotalOrder, nat_cmp_total, bool_cmp_total, on_total, then_total}
 use Rattle.std.proofs.lemmas.Map.Lookups.{CmpEqualImpliesEq, exact_unsigned}
 use Rattle.pgs_base.specs.OrderLaws.{both_Equal, exact_bool}

@@ -4,6 +4,7 @@ ghost use Rattle.std.specs.List.{list_all};
 ghost use Rattle.std.specs.List.Sorted.{IsStrictlySortedBy};
 ghost use Rattle.std.specs.Map.{keys_of};
 ghost use Rattle.pgs_base.specs.declared.element.Elem.{Elem};
+ghost use Rattle.pgs_base.specs.declared.seed.Seed.TheVariants.{Fixed};
 ghost use Rattle.pgs_keyindex.specs.Members.{member_cmp};
 ghost use Rattle.pgs_keyindex.specs.Rows.{values_at, has_value, is_exclusive, rows_changed, IsOwned};
 ghost use Rattle.pgs_keyindex.specs.Standing.{exclusive_keys};
@@ -19,7 +20,8 @@ use std::snapshot::Snapshot;
 use std::sync::ledger::Ledger;
 
 /// For each key the elements of its scope with their key values, and for an exclusive key the owner of each value. Contracts see which
-/// keys are exclusive, the rows, and the changes that the index is ready for, if any. Keys are numbered from 1.
+/// keys are exclusive, the seed by which values are hashed, the rows, and the changes that the index is ready for, if any. Keys are
+/// numbered from 1.
 ///
 /// The changes that it is ready for take no bytes: they are known to contracts alone.
 pub struct KeyIndex {
@@ -32,7 +34,7 @@ impl Model for KeyIndex {
 
     ghost Value = { IndexState };
 
-    ghost view = { λ index. record { exclusive = index.table.exclusive; rows = index.table.rows.rows; ready = ready_for index.ready } };
+    ghost view = { λ index. record { exclusive = index.table.exclusive; seed = index.table.seed; rows = index.table.rows.rows; ready = ready_for index.ready } };
 
     ghost invariant = { λ index. AreIndexed index.table (ready_for index.ready) };
 }
@@ -48,6 +50,7 @@ impl KeyIndex {
     /// The index of these keys without rows, hashed by a seed that is fixed.
     pub fn new(alloc: Global, keys: &List<Key>) -> Result<KeyIndex, Memory>
         ensures exclusive { IfOk result (λ index. index.exclusive ≡ exclusive_keys keys.now) }
+        ensures seed { IfOk result (λ index. index.seed ≡ Fixed) }
         ensures rows { IfOk result (λ index. index.rows ≡ []) }
         ensures ready { IfOk result (λ index. index.ready ≡ None) }
     {
@@ -57,6 +60,7 @@ impl KeyIndex {
     /// The index of these keys without rows, hashed by the given seed.
     pub fn with_seed(alloc: Global, keys: &List<Key>, seed: Seed) -> Result<KeyIndex, Memory>
         ensures exclusive { IfOk result (λ index. index.exclusive ≡ exclusive_keys keys.now) }
+        ensures seed { IfOk result (λ index. index.seed ≡ seed) }
         ensures rows { IfOk result (λ index. index.rows ≡ []) }
         ensures ready { IfOk result (λ index. index.ready ≡ None) }
     {
@@ -105,6 +109,7 @@ impl KeyIndex {
     pub fn prepare(&mut self, changes: List<KeyChange>) -> Result<KeyReady, Memory>
         requires { IsOwned self.old.exclusive (rows_changed self.old.rows changes) }
         ensures exclusive { self.new.exclusive ≡ self.old.exclusive }
+        ensures seed { self.new.seed ≡ self.old.seed }
         ensures rows { self.new.rows ≡ self.old.rows }
         ensures changes { IfOk result (λ ready. ready.changes ≡ changes) }
         ensures ready { OnOk result (self.new.ready ≡ Some changes) }
@@ -122,6 +127,7 @@ impl KeyIndex {
     pub fn commit(&mut self, ready: KeyReady)
         requires { self.old.ready ≡ Some ready.changes }
         ensures exclusive { self.new.exclusive ≡ self.old.exclusive }
+        ensures seed { self.new.seed ≡ self.old.seed }
         ensures rows { self.new.rows ≡ rows_changed self.old.rows ready.changes }
         ensures ready { self.new.ready ≡ None }
     {
@@ -165,6 +171,7 @@ fn make_room(table: &mut KeyTable, changes: &[KeyChange]) -> Result<(), Memory>
 fn put_changes(table: &mut KeyTable, changes: Vec<KeyChange>)
     requires { list_all (has_room table.old) changes.items ≡ true }
     ensures exclusive { table.new.exclusive ≡ table.old.exclusive }
+    ensures seed { table.new.seed ≡ table.old.seed }
     ensures rows { table.new.rows.rows ≡ rows_changed table.old.rows.rows changes.items }
 {
     for change in changes {

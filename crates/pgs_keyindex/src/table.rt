@@ -62,6 +62,7 @@ impl KeyTable {
     /// No rows, where it is known which keys are exclusive. It takes no memory.
     pub(crate) fn new(alloc: Global, exclusive: List<bool>, seed: Seed) -> KeyTable
         ensures exclusive { result.exclusive ≡ exclusive }
+        ensures seed { result.seed ≡ seed }
         ensures rows { result.rows.rows ≡ [] }
     {
         KeyTable {
@@ -243,7 +244,30 @@ impl KeyTable {
         Ok(())
     }
 
-    // Lists an element where each of its values of an exclusive key is looked for.
+    // Whether an element has a value of an exclusive key, which then is listed.
+    fn has_listed(&self, key: u32, elem: Elem, tuple: &Tuple) -> bool
+        requires { is_exclusive self.now.exclusive key ≡ true }
+        ensures { result ≡ true → is_listed self.now key tuple.now elem ≡ true }
+    {
+        let Some(values) = self.rows.get(Member::new(key, elem)) else {
+            return false;
+        };
+        values.contains(tuple)
+    }
+
+    // Lists an element where a value that it is to get under an exclusive key is looked for. The digest is kept.
+    fn list_value(&mut self, key: u32, elem: Elem, tuple: &Tuple) -> Result<(), Memory>
+        requires { is_exclusive self.old.exclusive key ≡ true }
+        ensures grows { Grows self.old self.new }
+        ensures there { OnOk result (is_listed self.new key tuple.now elem ≡ true) }
+    {
+        let digest = Digest::of(self.seed, key, tuple);
+        self.coming.push(digest)?;
+        self.list(digest, elem)
+    }
+
+    // Lists an element where each of its values of an exclusive key is looked for. Those that it has already are listed, so that only those
+    // that come are hashed.
     fn list_at_each(&mut self, key: u32, elem: Elem, values: &TupleSet) -> Result<(), Memory>
         requires { is_exclusive self.old.exclusive key ≡ true }
         ensures grows { Grows self.old self.new }
@@ -251,22 +275,22 @@ impl KeyTable {
     {
         let tuples = values.as_slice();
         for tuple in tuples {
-            let digest = Digest::of(self.seed, key, tuple);
-            self.coming.push(digest)?;
-            self.list(digest, elem)?;
+            if !self.has_listed(key, elem, tuple) {
+                self.list_value(key, elem, tuple)?;
+            }
         }
         Ok(())
     }
 
-    // Keeps the digests of the values that an element has under an exclusive key.
-    fn keep_former(&mut self, key: u32, elem: Elem) -> Result<(), Memory>
+    // Keeps the digests of the values that an element loses by a change under an exclusive key.
+    fn keep_former(&mut self, change: &KeyChange) -> Result<(), Memory>
         ensures { self.new ≡ self.old }
     {
-        if !self.is_exclusive(key) {
+        if !self.is_exclusive(change.key) {
             return Ok(());
         }
-        match self.rows.get(Member::new(key, elem)) {
-            Some(values) => add_digests(&mut self.former, self.seed, key, values),
+        match self.rows.get(Member::new(change.key, change.elem)) {
+            Some(values) => add_lost(&mut self.former, self.seed, values, change),
             None => Ok(()),
         }
     }
@@ -279,10 +303,10 @@ impl KeyTable {
         ensures room { OnOk result (has_room self.new change.now ≡ true) }
     {
         let Some(values) = &change.values else {
-            return self.keep_former(change.key, change.elem);
+            return self.keep_former(change);
         };
         self.rows.make_slot(Member::new(change.key, change.elem))?;
-        self.keep_former(change.key, change.elem)?;
+        self.keep_former(change)?;
         if self.is_exclusive(change.key) {
             self.list_at_each(change.key, change.elem, values)?;
         }
@@ -330,15 +354,25 @@ fn ascend(changes: &[KeyChange]) -> bool {
     true
 }
 
-// Adds the digests of values under a key.
-fn add_digests(
+// Whether a change leaves its element a value.
+fn leaves(change: &KeyChange, tuple: &Tuple) -> bool {
+    match &change.values {
+        Some(values) => values.contains(tuple),
+        None => false,
+    }
+}
+
+// Adds the digests of those of an element's values that a change doesn't leave it.
+fn add_lost(
     digests: &mut Vec<Digest>,
     seed: Seed,
-    key: u32,
     values: &TupleSet,
+    change: &KeyChange,
 ) -> Result<(), Memory> {
     for tuple in values.as_slice() {
-        digests.push(Digest::of(seed, key, tuple))?;
+        if !leaves(change, tuple) {
+            digests.push(Digest::of(seed, change.key, tuple))?;
+        }
     }
     Ok(())
 }

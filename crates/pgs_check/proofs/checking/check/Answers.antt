@@ -22,7 +22,7 @@ pub check_keys-requires-clause-keys : goal.check_keys-requires-clause-keys
 check_keys-requires-clause-keys g c = c.as_slice.ensures ∙ c.requires.keys
 
 pub check_keys-requires-clause-before : goal.check_keys-requires-clause-before
-check_keys-requires-clause-before g c = ap is_graph c.in_ok-change.ensures.before ∙ c.count.ensures.graph
+check_keys-requires-clause-before g c = ap is_graph c.in_ok-change.ensures.before ∙ c.count-facts.ensures.graph
 
 pub check_keys-requires-clause-after : goal.check_keys-requires-clause-after
 check_keys-requires-clause-after g c = sym c.in_ok-change.ensures.after

@@ -21,7 +21,7 @@ loop-place-init g c = record {
 
 pub check_key-requires-clause-typed : goal.check_key-requires-clause-typed
 check_key-requires-clause-typed g c =
-    valid_key c.args.compiled.now c.resolved.ensures.valid c.args.keys.now c.requires.keys c.loop-place.place c.loop-place-test.true
+    valid_key c.args.compiled.now c.resolved-facts.ensures.valid c.args.keys.now c.requires.keys c.loop-place.place c.loop-place-test.true
     c.index-keys-place.result c.index-keys-place.is
 
 pub check_key-requires-clause-number : goal.check_key-requires-clause-number

@@ -15,7 +15,7 @@ loop-place-init g c = record {
 
 pub scope_rows-requires-clause-typed : goal.scope_rows-requires-clause-typed
 scope_rows-requires-clause-typed g c =
-    valid_key c.args.compiled.now c.resolved.ensures.valid c.args.keys.now c.requires.keys c.loop-place.place c.loop-place-test.true
+    valid_key c.args.compiled.now c.resolved-facts.ensures.valid c.args.keys.now c.requires.keys c.loop-place.place c.loop-place-test.true
     c.index-keys-place.result c.index-keys-place.is
 
 pub loop-place-preserved : goal.loop-place-preserved

@@ -14,7 +14,7 @@ prepare-requires g c =
     let resolved = c.args.compiled.now in
     let h = g.G.GraphRead.meaning c.args.graph.now in
     let index = c.in_ok-index.index in
-    owned_after resolved empty_graph h c.count.ensures.graph resolved.guard.keys index
+    owned_after resolved empty_graph h c.count-facts.ensures.graph resolved.guard.keys index
     (new_stands resolved resolved.guard.keys index
     (c.in_ok-index.ensures.exclusive ∙ ap (λ (r : Resolved). exclusive_keys r.guard.keys) c.resolved.ensures.same) c.in_ok-index.ensures.rows)
     c.facts.ensures.ascending c.from_vec.result
@@ -28,7 +28,7 @@ returns-clause-stands g c =
     let resolved = c.args.compiled.now in
     let h = g.G.GraphRead.meaning c.args.graph.now in
     let index = c.in_ok-index.index in
-    whole_stands resolved h c.count.ensures.graph resolved.guard.keys index
+    whole_stands resolved h c.count-facts.ensures.graph resolved.guard.keys index
     (new_stands resolved resolved.guard.keys index
     (c.in_ok-index.ensures.exclusive ∙ ap (λ (r : Resolved). exclusive_keys r.guard.keys) c.resolved.ensures.same) c.in_ok-index.ensures.rows)
     c.facts.ensures.ascending c.from_vec.result

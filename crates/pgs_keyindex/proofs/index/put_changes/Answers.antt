@@ -16,5 +16,6 @@ loop-change-preserved c =
       room = all_given (has_room old) (has_room new) (room_kept old new c.set.ensures.room) rest
           (and_parts _ _ (subst (λ l. list_all (has_room old) l ≡ true) whole c.loop-change.invariant.room)).1;
       exclusive = c.set.ensures.room.exclusive ∙ c.loop-change.invariant.exclusive;
+      seed = c.set.ensures.room.seed ∙ c.loop-change.invariant.seed;
       made = ap (λ r. rows_changed r rest) c.set.ensures.rows ∙ ap (rows_changed old.rows.rows) (sym whole) ∙ c.loop-change.invariant.made;
     }

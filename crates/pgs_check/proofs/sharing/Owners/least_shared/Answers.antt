@@ -1,9 +1,12 @@
-use Rattle.std.proofs.Common.{◌≡◌, ◌∙◌, IfOk, ap, None, length, subst, sym, arith}
+use Rattle.std.proofs.Common.{◌≡◌, ◌∙◌, IfOk, ap, None, subst, sym, arith}
+use Rattle.std.specs.Prelude.{count_by}
 use Rattle.std.proofs.lemmas.List.Sums.{sum_by-take-le}
-use Rattle.pgs_check.specs.Clashes.{tuples_of, with_holders, with_owners, with_earlier}
+use Rattle.pgs_check_affected.specs.Local.{is_one_of}
+use Rattle.pgs_check.specs.Clashes.{comes, look_ups, with_holders, with_owners, with_earlier}
 use Rattle.pgs_check.specs.Rows.{least_shared}
 use Rattle.pgs_check.proofs.Chosen.{asked_is}
 use Rattle.pgs_check.proofs.Alone.{alone_earlier}
+use Rattle.pgs_check.proofs.Owned.{elem_there}
 use Rattle.pgs_check.proofs.Steps.{owners_step, owners_done, sum_next}
 use Rattle.pgs_check.proofs.sharing.Owners.least_shared.Goals as goal
 
@@ -13,8 +16,9 @@ loop-row-preserved g c =
     let rows = c.args.rows.now in
     let i = c.loop-row.row-index in
     let row = c.row-item.result in
-    let next = sum_next (λ r. length (tuples_of r)) rows i row c.row-item.is c.loop-row-test.true in
-    let same = ap length c.tuples_of-tuples.ensures in
+    let index = c.args.self.now.index.now.rows in
+    let next = sum_next (look_ups index number) rows i row c.row-item.is c.loop-row-test.true in
+    let same = ap (count_by (comes index number row.elem)) c.tuples_of-tuples.ensures in
     let before = c.loop-row.invariant.cost in
     record {
       so_far = λ owner owns.
@@ -27,6 +31,10 @@ loop-row-preserved g c =
 
 pub with_owners_of-requires-clause-exclusive : goal.with_owners_of-requires-clause-exclusive
 with_owners_of-requires-clause-exclusive g c = c.requires.exclusive c.if-not-asked.false
+
+pub with_owners_of-requires-clause-changed : goal.with_owners_of-requires-clause-changed
+with_owners_of-requires-clause-changed g c =
+    ap (λ es. is_one_of es c.row-item.result.elem) (sym c.requires.elems) ∙ elem_there c.args.rows.now c.loop-row.row-index c.row-item.result c.row-item.is c.loop-row-test.true
 
 pub returns-then-rows-lt2-clause-least : goal.returns-then-rows-lt2-clause-least
 returns-then-rows-lt2-clause-least g c = λ owner owns.
@@ -48,7 +56,7 @@ returns-clause-least g c = λ owner owns.
     c.with_earlier.ensures
 
 pub returns-then-rows-lt2-clause-cost : goal.returns-then-rows-lt2-clause-cost
-returns-then-rows-lt2-clause-cost g c = let part = sum_by-take-le (λ r. length (tuples_of r)) c.args.rows.now c.loop-row.row-index in omega (arith, c.loop-row.invariant.cost)
+returns-then-rows-lt2-clause-cost g c = let part = sum_by-take-le (look_ups c.args.self.now.index.now.rows c.args.self.now.number) c.args.rows.now c.loop-row.row-index in omega (arith, c.loop-row.invariant.cost)
 
 pub returns-clause-cost : goal.returns-clause-cost
-returns-clause-cost g c = let part = sum_by-take-le (λ r. length (tuples_of r)) c.args.rows.now c.loop-row.row-index in omega (arith, c.loop-row.invariant.cost)
+returns-clause-cost g c = let part = sum_by-take-le (look_ups c.args.self.now.index.now.rows c.args.self.now.number) c.args.rows.now c.loop-row.row-index in omega (arith, c.loop-row.invariant.cost)

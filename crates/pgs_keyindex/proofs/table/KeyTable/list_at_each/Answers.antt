@@ -1,29 +1,38 @@
-use Rattle.std.proofs.Common.{◌≡◌, true, ◌∙◌, sym, ap, subst, take}
-use Rattle.pgs_keyindex.specs.Digests.{digest_of}
-use Rattle.pgs_keyindex.specs.Rows.{is_exclusive}
-use Rattle.pgs_keyindex.specs.Table.{TableState, Grows, has_elem, is_listed, listed_at}
-use Rattle.pgs_keyindex.proofs.Held.{all_given, all_one_more, digest_key, grows_again, listed_kept}
+use Rattle.std.proofs.Common.{◌+◌, ◌∙◌, sym, ap, subst, take}
+use Rattle.std.specs.List.{list_all}
+use Rattle.pgs_keyindex.specs.Table.{Grows, is_listed}
+use Rattle.pgs_keyindex.proofs.Held.{all_given, all_one_more, grows_again, listed_kept}
+use Rattle.pgs_keyindex.proofs.table.KeyTable.list_at_each.Goals.{then-not-has_listed+in_ok-list_value, else-not-has_listed}
 use Rattle.pgs_keyindex.proofs.table.KeyTable.list_at_each.Goals as goal
-
-pub list-requires : goal.list-requires
-list-requires c =
-    let flags = c.self.inside.exclusive in
-    ap (λ d. is_exclusive flags d.key) c.of-digest.ensures ∙ ap (is_exclusive flags) (digest_key c.self.inside.seed c.args.key c.tuple-item.result)
-    ∙ ap (λ f. is_exclusive f c.args.key) (ap (λ (t : TableState). t.exclusive) c.self.view_is ∙ c.loop-tuple.invariant.grows.room.exclusive) ∙ c.requires
 
 pub loop-tuple-preserved : goal.loop-tuple-preserved
 loop-tuple-preserved c =
-    let old = c.loop-tuple.self in
-    let new = c.list.new.self in
-    let grows : Grows old new = subst (λ t. Grows t new) c.self.view_is c.in_ok-list.ensures.grows in
+    let key = c.args.key in
+    let elem = c.args.elem in
     let tuples = c.as_slice-tuples.result.now in
-    let digest = c.of-digest.ensures ∙ ap (λ s. digest_of s c.args.key c.tuple-item.result) (ap (λ (t : TableState). t.seed) c.self.view_is ∙ sym grows.room.seed) in
-    let one : is_listed new c.args.key c.tuple-item.result c.args.elem ≡ true =
-    ap (λ d. has_elem c.args.elem (listed_at new.holders.rows d)) (sym digest) ∙ c.in_ok-list.ensures.there in
-    record {
-      grows = grows_again _ _ _ c.loop-tuple.invariant.grows grows;
-      there = all_one_more (λ tuple. is_listed new c.args.key tuple c.args.elem) tuples c.loop-tuple.tuple-index c.tuple-item.result c.loop-tuple-test.true c.tuple-item.is
-          (all_given (λ tuple. is_listed old c.args.key tuple c.args.elem) (λ tuple. is_listed new c.args.key tuple c.args.elem)
-          (listed_kept old new grows.room c.args.key c.args.elem) (take c.loop-tuple.tuple-index tuples) c.loop-tuple.invariant.there)
-          one;
-    }
+    let i = c.loop-tuple.tuple-index in
+    let tuple = c.tuple-item.result in
+    elim c.if-not-has_listed.branch [
+      | then-not-has_listed+in_ok-list_value w ↦
+          let old = c.loop-tuple.self in
+          let new = w.list_value.new.self in
+          let grows = w.in_ok-list_value.ensures.grows in
+          let grown = grows_again _ _ _ c.loop-tuple.invariant.grows grows in
+          let all =
+          all_one_more (λ t. is_listed new key t elem) tuples i tuple c.loop-tuple-test.true c.tuple-item.is
+          (all_given (λ t. is_listed old key t elem) (λ t. is_listed new key t elem) (listed_kept old new grows.room key elem) (take i tuples) c.loop-tuple.invariant.there)
+          w.in_ok-list_value.ensures.there in
+          record {
+            grows = subst (Grows c.args.self.now) (sym w.self-is) grown;
+            there = ap (λ s. list_all (λ t. is_listed s key t elem) (take (i + 1) tuples)) w.self-is ∙ all;
+          }
+      | else-not-has_listed w ↦
+          let old = c.loop-tuple.self in
+          let all =
+          all_one_more (λ t. is_listed old key t elem) tuples i tuple c.loop-tuple-test.true c.tuple-item.is c.loop-tuple.invariant.there
+          (c.has_listed.ensures w.if-not-has_listed.false) in
+          record {
+            grows = subst (Grows c.args.self.now) (sym w.self-is) c.loop-tuple.invariant.grows;
+            there = ap (λ s. list_all (λ t. is_listed s key t elem) (take (i + 1) tuples)) w.self-is ∙ all;
+          }
+    ]
