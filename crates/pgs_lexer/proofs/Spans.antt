@@ -11,6 +11,7 @@ use Rattle.pgs_lexer.specs.Cut.{token_here, with_front, with_line, tokens_from, 
 use Rattle.pgs_lexer.specs.declared.token.Span.{Span}
 use Rattle.std.proofs.lemmas.Option.{same_Some}
 use Rattle.std.proofs.lemmas.List.Elements.{All-from_recursion}
+use Rattle.pgs_base.specs.declared.text_limit.TheConstants.{TEXT_LIMIT}
 use Rattle.pgs_lexer.specs.declared.kind.TokenKind.{TokenKind}
 use Rattle.pgs_lexer.proofs.Sizes.{item_within}
 use Rattle.pgs_lexer.proofs.Longest.{found_longest}
@@ -146,5 +147,5 @@ IsFromText-spans text spans are = (text, are.short, are.whole, All-from_recursio
 pub AreInOrder-spans : (text : List ℕ) (spans : List Span) → AreSpansOf text spans → AreInOrder (lexemes text spans)
 AreInOrder-spans text spans are = (parts_of text (lexemes text spans) are.whole).ordered
 
-pub few_spans : (text : List ℕ) (spans : List Span) → AreSpansOf text spans → length (lexemes text spans) ≤ 1048576
+pub few_spans : (text : List ℕ) (spans : List Span) → AreSpansOf text spans → length (lexemes text spans) ≤ TEXT_LIMIT
 few_spans text spans are = omega (arith, (parts_of text (lexemes text spans) are.whole).few, are.short)

@@ -1,5 +1,6 @@
 -- The cut of a text into items, and its tokens.
 use Rattle.std.specs.Prelude.{◌≡◌, ℕ, zero, suc, ◌+◌, ◌-◌, ◌<◌, ◌≤◌, List, [], ◌∷◌, ◌++◌, length, take, drop, Some, None, Result, Ok, Err, count_by, map, slice_range, All}
+use Rattle.pgs_base.specs.declared.text_limit.TheConstants.{TEXT_LIMIT}
 use Rattle.pgs_lexer.specs.declared.item.Item.{Item}
 use Rattle.pgs_lexer.specs.declared.token.Span.{Span}
 use Rattle.pgs_lexer.specs.declared.fault.LexFault.{LexFault}
@@ -86,7 +87,7 @@ lexemes text spans = map (lexeme text) spans
 
 -- the spans are those of all tokens of the text
 pub record AreSpansOf (text : List ℕ) (spans : List Span) : Type 0 where
-  pub short : length text ≤ 1048576
+  pub short : length text ≤ TEXT_LIMIT
   pub whole : tokens_of text ≡ Ok (lexemes text spans)
 
 -- each token begins at the place or after it, and where the one before it ends or after that
@@ -101,6 +102,6 @@ AreInOrder tokens = AreInOrderFrom 0 tokens
 abbrev pub IsPartOf : List ℕ → Lexeme → Type 0
 IsPartOf text token = (token.start < token.end) × (token.end ≤ length text) × (token.bytes ≡ slice_range text token.start token.end)
 
--- the tokens are all those of some text of at most 1,048,576 bytes, and parts of it
+-- the tokens are all those of some text of at most TEXT_LIMIT bytes, and parts of it
 abbrev pub IsFromText : List Lexeme → Type 0
-IsFromText tokens = (text : List ℕ) × (length text ≤ 1048576) × (tokens_of text ≡ Ok tokens) × All (IsPartOf text) tokens
+IsFromText tokens = (text : List ℕ) × (length text ≤ TEXT_LIMIT) × (tokens_of text ≡ Ok tokens) × All (IsPartOf text) tokens

@@ -1,4 +1,5 @@
 ghost use Rattle.std.specs.Prelude.{◌≡◌, ◌+◌, ◌<◌, ◌≤◌, ◌++◌, length, drop, OnOk, IfOk, IsErrOf, ℕ};
+ghost use Rattle.pgs_base.specs.declared.text_limit.TheConstants.{TEXT_LIMIT};
 ghost use Rattle.pgs_lexer.specs.Scan.{item_at};
 ghost use Rattle.pgs_lexer.specs.Cut.{AreTokensOf, Gives, HasBadByteOn, lexemes, line_at, token_here, tokens_of};
 
@@ -22,7 +23,7 @@ fn line_at(text: &[u8], place: usize) -> u64
 /// Puts the token last that the item at a place is, where it is one.
 fn push_token(spans: &mut Vec<Span>, text: &[u8], place: usize, item: Item) -> Result<(), Memory>
     requires within { place + item.size ≤ length text.now }
-    requires short { length text.now ≤ 1048576 }
+    requires short { length text.now ≤ TEXT_LIMIT }
     ensures { OnOk result (lexemes text.now spans.new.items ≡ lexemes text.now spans.old.items ++ token_here place (drop place text.now) item) }
 {
     let end = place + item.size;
@@ -41,7 +42,7 @@ fn push_token(spans: &mut Vec<Span>, text: &[u8], place: usize, item: Item) -> R
 
 /// The spans of the tokens, item by item.
 fn cut(alloc: Global, text: &[u8]) -> Result<Vec<Span>, LexFault>
-    requires { length text.now ≤ 1048576 }
+    requires { length text.now ≤ TEXT_LIMIT }
     ensures { Gives (λ spans. lexemes text.now spans.items) result (tokens_of text.now) }
 {
     let mut spans = Vec::new(alloc);
@@ -64,14 +65,14 @@ fn cut(alloc: Global, text: &[u8]) -> Result<Vec<Span>, LexFault>
     Ok(spans)
 }
 
-/// The tokens of a text of at most 1,048,576 bytes, in order. The text is cut from the left, each time by the
+/// The tokens of a text of at most `TEXT_LIMIT` bytes, in order. The text is cut from the left, each time by the
 /// longest item that begins at the place (`docs/GRAMMAR.md`, "Items"), and its items other than spaces and comments
 /// are the tokens. The text is borrowed and never copied; the call takes memory for the list of tokens alone.
 ///
 /// - `Lex` exactly where some byte begins no item. `line` is 1 and the line feeds before the first such byte.
 /// - `Memory` where there is none for the list of tokens.
 pub fn lex(alloc: Global, text: &[u8]) -> Result<Tokens<'_>, LexFault>
-    requires { length text.now ≤ 1048576 }
+    requires { length text.now ≤ TEXT_LIMIT }
     // The tokens are those of the cut of the text.
     ensures tokens { IfOk result (AreTokensOf text.now) }
     ensures bad_byte { (line : ℕ) → IsErrOf result (LexFault.Lex line) → HasBadByteOn text.now line }

@@ -1,5 +1,6 @@
 ghost use Rattle.std.specs.Prelude.{◌≡◌, ◌≤◌, length, slice_get, option_map, IfSome};
 ghost use Rattle.std.specs.Option.{option_copied};
+ghost use Rattle.pgs_base.specs.declared.text_limit.TheConstants.{TEXT_LIMIT};
 ghost use Rattle.pgs_lexer.specs.Cut.{lexeme, AreInOrder, IsFromText};
 ghost use Rattle.pgs_lexer.specs.Token.{IsWellFormed};
 ghost use Rattle.pgs_lexer.specs.Tokens.{lexeme_of};
@@ -26,7 +27,7 @@ pub struct Span {
 }
 
 /// All tokens of a text, which it borrows. Contracts see the list of its tokens. In every value they are the tokens of
-/// a text of at most 1,048,576 bytes and at most so many, in order, each the text's part at its span: `len` says so.
+/// a text of at most `TEXT_LIMIT` bytes and at most so many, in order, each the text's part at its span: `len` says so.
 #[derive(Drop)]
 pub struct Tokens<'a> {
     pub(crate) text: &'a [u8],
@@ -69,10 +70,10 @@ fn span_at(spans: &[Span], place: usize) -> Option<&Span>
 }
 
 impl Tokens<'_> {
-    /// How many tokens there are, at most 1,048,576. The further clauses say what every value keeps.
+    /// How many tokens there are, at most `TEXT_LIMIT`. The further clauses say what every value keeps.
     pub fn len(&self) -> usize
         ensures count { result ≡ length self.now }
-        ensures at_most { length self.now ≤ 1048576 }
+        ensures at_most { length self.now ≤ TEXT_LIMIT }
         ensures in_order { AreInOrder self.now }
         ensures from_text { IsFromText self.now }
     {

@@ -1,6 +1,7 @@
 -- A text is found to be one thing.
 use Rattle.std.proofs.Common.{◌≡◌, ℕ, List, length, Result, Ok, refl, ap, subst, arith, Err, ◌≤◌, Bool, true, false, cond, ◌↔◌, nat_le}
 use Rattle.std.proofs.lemmas.Bool.{leb-true, leb-false}
+use Rattle.pgs_base.specs.declared.text_limit.TheConstants.{TEXT_LIMIT}
 use Rattle.pgs_lexer.specs.Cut.{tokens_of}
 use Rattle.pgs_parser.specs.StatementReaders.{script_of}
 use Rattle.pgs_lexer.specs.Token.{Lexeme}
@@ -35,23 +36,23 @@ one_finding text one other (is_script {tree = tree} {tokens = tokens} h a x) (is
 
 -- ---- what a text is found to be, as a function
 
-of_script : (text : List ℕ) (tokens : List Lexeme) (read : Result Script ℕ) → length text ≤ 1048576 → tokens_of text ≡ Ok tokens → script_of tokens ≡ read →
+of_script : (text : List ℕ) (tokens : List Lexeme) (read : Result Script ℕ) → length text ≤ TEXT_LIMIT → tokens_of text ≡ Ok tokens → script_of tokens ≡ read →
     IsFound text (elim read [ Ok tree ↦ script tree | Err n ↦ no_statement n ])
 of_script text tokens (Ok tree) l e q = is_script l e ((scripts tokens tree).0 q)
 of_script text tokens (Err n) l e q = has_no_statement l e ((no_scripts tokens n).0 q)
 
-of_tokens : (text : List ℕ) (read : Result (List Lexeme) ℕ) → length text ≤ 1048576 → tokens_of text ≡ read → IsFound text (found_in read)
+of_tokens : (text : List ℕ) (read : Result (List Lexeme) ℕ) → length text ≤ TEXT_LIMIT → tokens_of text ≡ read → IsFound text (found_in read)
 of_tokens text (Ok tokens) l e = of_script text tokens (script_of tokens) l e refl
 of_tokens text (Err line) l e = has_no_item l e
 
-of_length : (text : List ℕ) (short : Bool) → nat_le (length text) 1048576 ≡ short → IsFound text (cond short (found_in (tokens_of text)) too_long)
-of_length text true e = of_tokens text (tokens_of text) (leb-true (length text) 1048576 e) refl
-of_length text false e = is_too_long (leb-false (length text) 1048576 e)
+of_length : (text : List ℕ) (short : Bool) → nat_le (length text) TEXT_LIMIT ≡ short → IsFound text (cond short (found_in (tokens_of text)) too_long)
+of_length text true e = of_tokens text (tokens_of text) (leb-true (length text) TEXT_LIMIT e) refl
+of_length text false e = is_too_long (leb-false (length text) TEXT_LIMIT e)
 
 -- what is computed is found
 pub is_found : (text : List ℕ) → IsFound text (found text)
 unfolding found
-is_found text = of_length text (nat_le (length text) 1048576) refl
+is_found text = of_length text (nat_le (length text) TEXT_LIMIT) refl
 
 pub findings : (text : List ℕ) (finding : Found) → (found text ≡ finding) ↔ IsFound text finding
 findings text finding = (λ e. subst (IsFound text) e (is_found text), λ h. one_finding text (found text) finding (is_found text) h)

@@ -2,6 +2,7 @@
 //! are the statements.
 
 ghost use Rattle.std.specs.Prelude.{◌<◌, ℕ, List, length};
+ghost use Rattle.pgs_base.specs.declared.text_limit.TheConstants.{TEXT_LIMIT};
 ghost use Rattle.pgs_parser.specs.Samples.{least_text, least_script, staff_text, staff_script, acquaintance_text, acquaintance_script, moderator_text, moderator_script, mail_text, mail_script, forms_text, forms_script, bad_byte_text, no_mode_text};
 ghost use Rattle.pgs_parser.specs.Text.{IsFound, script, too_long, no_item, no_statement};
 
@@ -15,9 +16,9 @@ pub fn scripts()
     ensures forms { IsFound forms_text (script forms_script) }
 {}
 
-/// Texts that are none: one of over 1,048,576 bytes, one with a byte that begins no item, and one whose statement is none.
+/// Texts that are none: one of over `TEXT_LIMIT` bytes, one with a byte that begins no item, and one whose statement is none.
 pub fn unreadable()
-    ensures long { (text : List ℕ) → 1048576 < length text → IsFound text too_long }
+    ensures long { (text : List ℕ) → TEXT_LIMIT < length text → IsFound text too_long }
     ensures bad_byte { IsFound bad_byte_text (no_item 1) }
     ensures no_mode { IsFound no_mode_text (no_statement 1) }
 {}

@@ -1,5 +1,6 @@
 -- What a line gives, as its reader answers it.
 use Rattle.std.proofs.Common.{◌≡◌, ℕ, Bool, true, false, cond, nat_lt, List, [], length, Option, Some, None, Result, Ok, Err, ap}
+use Rattle.pgs_base.specs.declared.text_limit.TheConstants.{TEXT_LIMIT}
 use Rattle.pgs_graph.specs.declared.operation.Txn.{Txn}
 use Rattle.pgs_json.specs.Line.{txn_of, or_unreadable, read_line}
 use Rattle.pgs_json.specs.declared.line_fault.LineFault.{LineFault}
@@ -20,4 +21,4 @@ answered false (Some txn) so is = ap line_or_text is
 
 pub read_as : (line : List ℕ) (so : Result Txn LineFault) → read_line line ≡ so → txn_answer line ≡ line_or_text so
 unfolding read_line txn_answer
-read_as line so is = answered (nat_lt 1048576 (length line)) (txn_of line) so is
+read_as line so is = answered (nat_lt TEXT_LIMIT (length line)) (txn_of line) so is

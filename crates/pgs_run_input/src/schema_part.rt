@@ -1,4 +1,5 @@
 ghost use Rattle.std.specs.Prelude.{◌≡◌, false, true, IfOk, Ok, OnOk};
+ghost use Rattle.pgs_base.specs.declared.text_limit.TheConstants.{TEXT_LIMIT};
 ghost use Rattle.pgs_run_input.specs.Input.{is_separator};
 ghost use Rattle.pgs_run_input.specs.Part.{no_part, with_line};
 
@@ -25,7 +26,7 @@ impl Model for SchemaPart {
 
     ghost view = { λ part. record { text = part.text.bytes; begun = part.begun } };
 
-    ghost invariant = { λ part. part.text.limit ≡ 1048576 };
+    ghost invariant = { λ part. part.text.limit ≡ TEXT_LIMIT };
 }
 
 impl SchemaPart {

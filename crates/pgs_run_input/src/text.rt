@@ -1,4 +1,5 @@
 ghost use Rattle.std.specs.Prelude.{◌≡◌, ◌<◌, ◌≤◌, [], length, IfErr, IfOk, OnOk};
+ghost use Rattle.pgs_base.specs.declared.text_limit.TheConstants.{TEXT_LIMIT};
 ghost use Rattle.pgs_run_lines.specs.Calls.{Reads};
 ghost use Rattle.pgs_run_input.specs.Text.{IsUnread, IsWhole, fails_reading, state_of};
 
@@ -15,7 +16,7 @@ fn read_into<S: Source>(
     buffer: &mut [u8],
     budget: u64,
 ) -> Result<(), Status>
-    requires text { (text.old.bytes ≡ []) × (text.old.limit ≡ 1048576) }
+    requires text { (text.old.bytes ≡ []) × (text.old.limit ≡ TEXT_LIMIT) }
     requires buffer { (0 < length buffer.old) × (length buffer.old ≤ 65536) }
     ensures whole { OnOk result (IsWhole budget (state_of (S.left source.old) (S.faults source.old)) (state_of (S.left source.new) (S.faults source.new)) text.new.bytes) }
     ensures unread { IfErr result (IsUnread budget (state_of (S.left source.old) (S.faults source.old)) (state_of (S.left source.new) (S.faults source.new))) }

@@ -7,7 +7,7 @@ use pgs_graph::Txn;
 use pgs_json::{LineFault, read_txn};
 use std::alloc::Global;
 
-/// The transaction of a line, given without its line feed, or the text of its refusal: 21 where it is longer than 1,048,576 bytes, then
+/// The transaction of a line, given without its line feed, or the text of its refusal: 21 where it is longer than `TEXT_LIMIT` bytes, then
 /// 20 where it is no transaction. `Memory` where there was none.
 #[tactic(auto, using(crate::proofs::ReadLines::read_as))]
 pub fn txn_of(alloc: Global, line: &[u8]) -> Result<Txn, TextFault>

@@ -1,8 +1,9 @@
--- The lines of a dump's operations: each is one line, of at most 1,048,576 bytes, and is read as its operation.
+-- The lines of a dump's operations: each is one line, of at most TEXT_LIMIT bytes, and is read as its operation.
 use Rattle.std.proofs.Common.{◌≡◌, ℕ, ◌^◌, ◌≤◌, Bool, true, false, ◌&&◌, leb, List, [], ◌∷◌, length, Ok, decimal, refl, arith}
 use Rattle.std.specs.Prelude.{codes}
 use Rattle.std.specs.List.{list_all}
 use Rattle.std.proofs.lemmas.Bool.{and_parts, and_from, leb-true, le-ltb, ltb-true}
+use Rattle.pgs_base.specs.declared.text_limit.TheConstants.{TEXT_LIMIT}
 use Rattle.pgs_base.specs.Graph.{is_element_number}
 use Rattle.pgs_base.specs.declared.value.Value.{Value}
 use Rattle.pgs_base.specs.declared.value.Value.TheVariants as values
@@ -92,17 +93,17 @@ part_op (UnlabelEdge id label) is = absurd is.form
 
 -- ---- their lines
 
-pub part_line : (op : Op) → IsDumpOp op → IsPart (line_of_op op) 1048576
+pub part_line : (op : Op) → IsDumpOp op → IsPart (line_of_op op) TEXT_LIMIT
 unfolding text_of_txn
 part_line op is =
-    longer 1048576 (part_between 123 125 refl refl (part_member (codes "ops") 3 (omega arith) (part_between 91 93 refl refl (part_op op is)))) (omega arith)
+    longer TEXT_LIMIT (part_between 123 125 refl refl (part_member (codes "ops") 3 (omega arith) (part_between 91 93 refl refl (part_op op is)))) (omega arith)
 
 -- it is one line
 pub op_has_no_feed : (op : Op) → IsDumpOp op → has_no_feed (line_of_op op) ≡ true
 op_has_no_feed op is = (part_line op is).line
 
 -- of no more bytes than a transaction line may have
-pub op_is_short : (op : Op) → IsDumpOp op → length (line_of_op op) ≤ 1048576
+pub op_is_short : (op : Op) → IsDumpOp op → length (line_of_op op) ≤ TEXT_LIMIT
 op_is_short op is = (part_line op is).short
 
 and_false : (test : Bool) → (test && false) ≡ false
@@ -123,4 +124,4 @@ rest_is_skipped = refl
 pub op_is_answered : AreReadBack → (op : Op) → IsDumpOp op → txn_answer (line_of_op op) ≡ Ok (txn_of_op op)
 unfolding txn_answer
 op_is_answered reads op is =
-    rw (le-ltb 1048576 (length (line_of_op op)) (op_is_short op is), reads (txn_of_op op) (and_from (is_well_formed_op op) true is.well_formed refl)) refl
+    rw (le-ltb TEXT_LIMIT (length (line_of_op op)) (op_is_short op is), reads (txn_of_op op) (and_from (is_well_formed_op op) true is.well_formed refl)) refl

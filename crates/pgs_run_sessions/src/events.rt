@@ -85,7 +85,7 @@ fn event_in(alloc: Global, line: &[u8]) -> Result<Event, TextFault>
     }
 }
 
-/// The event of a line, given without its line feed, or the text of its refusal: 21 where it is longer than 1,048,576 bytes without the
+/// The event of a line, given without its line feed, or the text of its refusal: 21 where it is longer than `TEXT_LIMIT` bytes without the
 /// carriage return at its end, then 46 where it is no event, then 20 where the JSON part of a stage is no transaction. `Memory` where
 /// there was none.
 #[tactic(auto, unfolding(crate::specs::Events::event_answer))]

@@ -1,4 +1,4 @@
-use pgs_base::{Memory, Name};
+use pgs_base::{Memory, Name, TEXT_LIMIT};
 use pgs_syntax::KeyCause;
 use thiserror::Error;
 
@@ -32,8 +32,8 @@ pub enum SchemaFault {
     /// 18: the key of this number, from 1 in the order of the script, has a fault.
     #[error("key {key} has a fault")]
     BadKey { key: u64, cause: KeyCause },
-    /// 19: the text has over 1,048,576 bytes.
-    #[error("the text is longer than 1048576 bytes")]
+    /// 19: the text has over `TEXT_LIMIT` bytes.
+    #[error("the text is longer than {TEXT_LIMIT} bytes")]
     TooLong,
 }
 

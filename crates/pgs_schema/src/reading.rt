@@ -1,4 +1,5 @@
 ghost use Rattle.std.specs.Prelude.{◌≡◌, ◌≤◌, List, length, true, Ok, None, IfOk, IfErr, OnOk};
+ghost use Rattle.pgs_base.specs.declared.text_limit.TheConstants.{TEXT_LIMIT};
 ghost use Rattle.pgs_lexer.specs.Token.{Lexeme};
 ghost use Rattle.pgs_lexer.specs.Cut.{tokens_of};
 ghost use Rattle.pgs_parser.specs.Text.{found_in};
@@ -22,7 +23,7 @@ use std::alloc::Global;
 
 // The tokens of a text.
 fn tokens_of(alloc: Global, text: &[u8]) -> Result<Tokens<'_>, SchemaUnread>
-    requires { length text.now ≤ 1048576 }
+    requires { length text.now ≤ TEXT_LIMIT }
     ensures tokens { IfOk result (λ tokens. tokens_of text.now ≡ Ok tokens) }
     ensures refused { IfErr result (IsRefused (answer_of_finding (found_in (tokens_of text.now)))) }
 {
