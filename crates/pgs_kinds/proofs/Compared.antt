@@ -68,9 +68,14 @@ module _ (resolved : Resolved) where
       by (numbers.Node number) = ap (λ b. is_concrete_node_type resolved number && b) (node_same p q h number)
       by (numbers.Edge number) = refl
 
-  pub typed_edge_same : (t u : Triple) → triple_looks_same t u ≡ true → is_typed_triple resolved t ≡ is_typed_triple resolved u
-  typed_edge_same t u h = any_same (types_edge resolved t) (types_edge resolved u) by resolved.guard.types
+  pub typed_by_plain : (t u : Triple) → plain_triple t ≡ plain_triple u → is_typed_triple resolved t ≡ is_typed_triple resolved u
+  typed_by_plain t u same = any_same (types_edge resolved t) (types_edge resolved u) by resolved.guard.types
     where
       by : (type : TypeNo) → types_edge resolved t type ≡ types_edge resolved u type
       by (numbers.Node number) = refl
-      by (numbers.Edge number) = ap (λ b. is_concrete_edge_type resolved number && b) (edge_same t u h number)
+      by (numbers.Edge number) =
+          ap (λ b. is_concrete_edge_type resolved number && b)
+          (sym (edge_plain resolved number t) ∙ ap (fits_edge resolved number) same ∙ edge_plain resolved number u)
+
+  pub typed_edge_same : (t u : Triple) → triple_looks_same t u ≡ true → is_typed_triple resolved t ≡ is_typed_triple resolved u
+  typed_edge_same t u h = typed_by_plain t u (one_triple t u h)
