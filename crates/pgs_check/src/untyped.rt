@@ -77,11 +77,10 @@ fn untyped_change<G: GraphRead, L: Ledger>(
     ensures no_step_back { steps.old ≤ steps.new }
     ensures at_most { steps.new ≤ steps.old + 1 }
 {
-    if looks_as_before(old, change, steps) {
-        None
-    } else {
-        untyped_row(compiled, change)
+    if !looks_as_before(old, change, steps) {
+        return untyped_row(compiled, change);
     }
+    None
 }
 
 // 25 for the first node that changes leave untyped, with a look-up for each.

@@ -85,7 +85,7 @@ fn value_of<'a>(own: &Option<Pair<'a>>, key: &Name) -> Option<&'a Value>
 
 // Whether a property is one in both rows, or absent from both.
 fn is_one_value(value: Option<&Value>, other: Option<&Value>) -> bool
-    ensures { result ≡ is_one_value (option_copied value) (option_copied other) }
+    ensures { result ≡ is_one_value (option_copied value.entry) (option_copied other.entry) }
 {
     match (value, other) {
         (Some(value), Some(other)) => value.cmp(other).is_eq(),

@@ -2,6 +2,6 @@ use Rattle.std.proofs.Common.{sym, ◌∙◌}
 use Rattle.pgs_check.proofs.Retyped.{kept_typed}
 use Rattle.pgs_check.proofs.untyped.untyped_change.Goals as goal
 
-pub returns-then-looks_as_before-clause-value : goal.returns-then-looks_as_before-clause-value
-returns-then-looks_as_before-clause-value g c =
-    sym (kept_typed c.args.compiled.now (g.G.GraphRead.meaning c.args.old.now) c.requires c.args.change.now (sym c.looks_as_before.ensures.same ∙ c.if-looks_as_before.true))
+pub returns-clause-value : goal.returns-clause-value
+returns-clause-value g c =
+    sym (kept_typed c.args.compiled.now (g.G.GraphRead.meaning c.args.old.now) c.requires c.args.change.now (sym c.looks_as_before.ensures.same ∙ c.if-not-looks_as_before.false))
