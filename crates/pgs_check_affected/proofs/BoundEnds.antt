@@ -1,43 +1,23 @@
 -- What is bound by a match that binds nothing that may differ is untouched, and so are the ends of an edge there.
 use Rattle.std.proofs.Common.{◌≡◌, ℕ, zero, suc, ◌+◌, add-zero, Bool, true, false, ◌&&◌, ◌||◌, ◌==◌, not, ⊎_elim, List, [], ◌∷◌, length, slice_get, Option, Some, None, refl, sym, ◌∙◌, ap, subst, true≢false, arith}
-use Rattle.std.specs.Prelude.{option_and_then, option_map}
 use Rattle.std.specs.Option.{option_map_or}
 use Rattle.std.specs.List.{list_any, list_all, enumerate_from}
-use Rattle.std.specs.BTreeMap.{is_at}
-use Rattle.std.proofs.lemmas.Bool.{and_parts, and_from, or_cases, or_parts, or_from, or_left, both_ways, eqb-true, false_from_ne_true}
+use Rattle.std.proofs.lemmas.Bool.{and_parts, and_from, or_cases, or_parts, or_from, eqb-true}
 use Rattle.pgs_base.specs.declared.element.NodeId.{NodeId}
 use Rattle.pgs_base.specs.declared.element.EdgeId.{EdgeId}
 use Rattle.pgs_base.specs.declared.element.Elem.{Elem}
 use Rattle.pgs_base.specs.declared.element.Elem.TheVariants.{Node, Edge}
-use Rattle.pgs_base.specs.declared.part.Part.{Part}
-use Rattle.pgs_base.specs.declared.part.Part.TheVariants as parts
-use Rattle.pgs_base.specs.declared.row.NodeRow.{NodeRow}
 use Rattle.pgs_base.specs.declared.row.EdgeRow.{EdgeRow}
-use Rattle.pgs_base.specs.Graph.{Graph, node_at, edge_at}
-use Rattle.pgs_base.specs.Order.{tuple_cmp}
-use Rattle.pgs_base.specs.OrderLaws.{tuple_cmp_total, exact_tuple}
-use Rattle.pgs_base.specs.Pair.{has_name, value_at, pair_of}
-use Rattle.pgs_base.proofs.Ascending.{ascends_decides}
-use Rattle.pgs_base.proofs.Lookups.{same_keys}
-use Rattle.pgs_syntax.specs.declared.key.Key.{Key}
+use Rattle.pgs_base.specs.Graph.{Graph, edge_at}
 use Rattle.pgs_syntax.specs.declared.pattern.Atom.{Atom}
 use Rattle.pgs_syntax.specs.declared.pattern.Atom.TheVariants.{Ends, HasLabel, FitsNode, FitsEdge, Equals}
-use Rattle.pgs_syntax.specs.declared.pattern.Expr.{Expr}
-use Rattle.pgs_syntax.specs.declared.pattern.Expr.TheVariants.{Element, Property}
 use Rattle.pgs_syntax.specs.declared.pattern.Pattern.{Pattern}
 use Rattle.pgs_syntax.specs.declared.resolved.Resolved.{Resolved}
-use Rattle.pgs_syntax.specs.Fitting.{fits_node, fits_edge}
-use Rattle.pgs_syntax.specs.KeyValues.{starts_at, is_in_scope, part_of, tuple_of, key_values}
-use Rattle.pgs_syntax.specs.Matches.{same_elem, same_value, carried, elements, is_node_of_type, is_edge_of_type, leads, carries, holds, are_there, is_match, matches}
-use Rattle.pgs_syntax.specs.Typed.{triple_at}
-use Rattle.pgs_syntax.specs.Valid.{is_edge_var, speaks_of, gives_ends, has_all_ends, is_valid_pattern, is_valid_key}
-use Rattle.pgs_syntax.proofs.Assigned.{match_found, match_given, value_found, value_given}
-use Rattle.pgs_syntax.proofs.Halves.{any_same}
-use Rattle.pgs_syntax.proofs.InOrder.{values_ascend}
+use Rattle.pgs_syntax.specs.Matches.{leads, holds, are_there, is_match}
+use Rattle.pgs_syntax.specs.Valid.{is_edge_var, speaks_of, gives_ends, has_all_ends, is_valid_pattern}
 use Rattle.pgs_match.proofs.Known.{edge_below, valid_speaks}
-use Rattle.pgs_match.proofs.Started.{same_truth}
-use Rattle.pgs_match.proofs.There.{of_kind, IsOfKind, node_there, edge_there, edge_kind}
-use Rattle.pgs_check_affected.specs.Local.{AgreeBut, has_touched_end, is_edge_alone, may_differ, binds_touched}
+use Rattle.pgs_match.proofs.There.{edge_kind}
+use Rattle.pgs_check_affected.specs.Local.{AgreeBut, has_touched_end, is_edge_alone, may_differ}
 
 -- what an item of a list with no item that passes
 pub passes_none : {X : Type 0} (test : X → Bool) (xs : List X) (var : ℕ) (x : X) → list_any test xs ≡ false → slice_get xs var ≡ Some x → test x ≡ false

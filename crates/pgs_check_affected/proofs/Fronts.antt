@@ -1,12 +1,11 @@
 -- The elements of a change that a key may see, as a loop over all gathers them, against all.
-use Rattle.std.proofs.Common.{◌≡◌, ℕ, zero, suc, ◌+◌, ◌*◌, ◌^◌, ◌<◌, ◌≤◌, Bool, true, false, ◌&&◌, ◌||◌, not, cond, List, [], ◌∷◌, ◌++◌, map, filter, length, take, get_or, refl, sym, ◌∙◌, ap, subst, arith}
-use Rattle.std.specs.List.{list_any, Contains}
+use Rattle.std.proofs.Common.{◌≡◌, ℕ, zero, suc, ◌+◌, ◌*◌, ◌<◌, ◌≤◌, Bool, true, false, ◌&&◌, not, cond, List, [], ◌∷◌, ◌++◌, map, filter, length, take, get_or, refl, sym, ◌∙◌, ap, arith}
+use Rattle.std.specs.List.{Contains}
 use Rattle.std.proofs.Math.Nat.{mul-le-mul_right}
-use Rattle.std.proofs.lemmas.Bool.{and_parts, and_from, or_cases, or_left, or_right}
+use Rattle.std.proofs.lemmas.Bool.{and_parts, and_from}
 use Rattle.std.proofs.lemmas.List.{get_or-map, length-append}
 use Rattle.pgs_base.specs.declared.element.Elem.{Elem}
 use Rattle.pgs_base.specs.Graph.{Graph}
-use Rattle.pgs_match.specs.Planned.{most_edges}
 use Rattle.pgs_syntax.specs.declared.key.Key.{Key}
 use Rattle.pgs_syntax.specs.declared.resolved.Resolved.{Resolved}
 use Rattle.pgs_syntax.specs.Matches.{same_elem}
@@ -46,7 +45,11 @@ module _ (keep : Elem → Bool) where
       ap (filter keep) (front_more xs i x below at) ∙ filter_append (take i xs) (x ∷ []) ∙ ap (λ b. filter keep (take i xs) ++ cond b (x ∷ []) []) left
       ∙ append_nil (filter keep (take i xs))
 
-  counted : (b : Bool) (x : Elem) (xs : List Elem) → length (cond b (x ∷ xs) xs) ≡ cond b 1 0 + length xs
+  abbrev one_if : Bool → ℕ
+  one_if true = 1
+  one_if false = 0
+
+  counted : (b : Bool) (x : Elem) (xs : List Elem) → length (cond b (x ∷ xs) xs) ≡ one_if b + length xs
   counted true x xs = let size : length (x ∷ xs) ≡ 1 + length xs = omega arith in size
   counted false x xs = let size : length xs ≡ 0 + length xs = omega arith in size
 
@@ -55,7 +58,7 @@ module _ (keep : Elem → Bool) where
   kept_fewer (y ∷ ys) zero x below at kept =
       let here : keep y ≡ true = ap keep at ∙ kept in
       let size = counted (keep y) y (filter keep ys) in
-      let one : cond (keep y) 1 0 ≡ 1 = ap (λ b. cond b 1 0) here in
+      let one : one_if (keep y) ≡ 1 = ap one_if here in
       omega (arith, size, one)
   kept_fewer (y ∷ ys) (suc i) x below at kept =
       let rest = kept_fewer ys i x (omega (arith, below)) at kept in
@@ -85,7 +88,7 @@ pub elem_at : (known : List Known) (i : ℕ) (one : Known) → i < length known 
 elem_at known i one below at = get_or-map (λ (k : Known). k.elem) known i one one.elem below ∙ ap (λ (k : Known). k.elem) at
 
 module _ (resolved : Resolved) (g h : Graph) (key : Key) (one : Known) (is : one ≡ known_in g h one.elem) where
-  abbrev keeps : Elem → Bool
+  abbrev pub keeps : Elem → Bool
   keeps elem = not (is_left_unseen resolved key (known_in g h elem))
 
   pub is_kept : (b : Bool) → b ≡ is_left_unseen resolved key one → keeps one.elem ≡ not b
@@ -99,7 +102,7 @@ found_more resolved g h key xs x =
 -- ---- against all
 
 module _ (resolved : Resolved) (g h : Graph) (key : Key) (elems : List Elem) where
-  abbrev keep : Elem → Bool
+  abbrev pub keep : Elem → Bool
   keep elem = not (is_left_unseen resolved key (known_in g h elem))
 
   pub seen_sparse : (edges most : ℕ) → AreSparseInBoth g h edges elems most → AreSparseInBoth g h edges (seen_elems resolved g h key elems) most

@@ -1,33 +1,23 @@
 -- An element that a match binds passes what its variable asks, and what is reached from one is there.
-use Rattle.std.proofs.Common.{◌≡◌, ℕ, zero, suc, ◌+◌, ◌<◌, Bool, true, false, ◌&&◌, ◌||◌, ◌==◌, cond, ⊎_elim, List, [], ◌∷◌, ◌++◌, map, filter, length, slice_get, Option, Some, None, refl, sym, ◌∙◌, ap, subst, true≢false, add-one, append_assoc, arith}
+use Rattle.std.proofs.Common.{◌≡◌, ℕ, ◌<◌, Bool, true, false, ◌&&◌, ◌||◌, cond, List, [], ◌∷◌, ◌++◌, filter, length, slice_get, Option, Some, None, refl, sym, ◌∙◌, ap, subst}
 use Rattle.std.specs.Prelude.{option_and_then, option_map}
 use Rattle.std.specs.Option.{option_map_or}
-use Rattle.std.specs.List.{list_any, list_all, Contains}
-use Rattle.std.specs.Map.{keys_of, lookup}
-use Rattle.std.specs.BTreeMap.{is_at}
-use Rattle.std.specs.Cmp.{Equal-is}
-use Rattle.std.proofs.lemmas.Bool.{and_parts, and_from, and_left, or_cases, or_from, or_left, or_right, both_ways, cases_lt, eqb-true, eq-eqb, true_from_ne_false, false_from_ne_true}
-use Rattle.std.proofs.lemmas.List.Folds.{list_any-append, list_any_at, Any-from_list_any}
-use Rattle.pgs_base.specs.declared.element.NodeId.{NodeId}
-use Rattle.pgs_base.specs.declared.element.EdgeId.{EdgeId}
+use Rattle.std.specs.List.{list_any, list_all}
+use Rattle.std.proofs.lemmas.Bool.{and_parts, and_from, and_left, or_left, or_right, both_ways, true_from_ne_false, false_from_ne_true}
+use Rattle.std.proofs.lemmas.List.Folds.{list_any-append}
 use Rattle.pgs_base.specs.declared.element.Elem.{Elem}
 use Rattle.pgs_base.specs.declared.element.Elem.TheVariants.{Node, Edge}
 use Rattle.pgs_base.specs.declared.row.NodeRow.{NodeRow}
 use Rattle.pgs_base.specs.declared.row.EdgeRow.{EdgeRow}
-use Rattle.pgs_base.specs.Graph.{Graph, edge_cmp, node_at, edge_at}
-use Rattle.pgs_base.specs.Order.{elem_cmp}
-use Rattle.pgs_base.specs.OrderLaws.{exact_elem}
+use Rattle.pgs_base.specs.Graph.{Graph, node_at, edge_at}
 use Rattle.pgs_base.specs.Pair.{pair_of}
-use Rattle.pgs_graph.specs.declared.scan.End.TheVariants.{Source, Target}
-use Rattle.pgs_graph.specs.Reads.{ends_at, out_edges_of, in_edges_of}
-use Rattle.pgs_syntax.specs.declared.key.Key.{Key}
 use Rattle.pgs_syntax.specs.declared.pattern.Pattern.{Pattern}
 use Rattle.pgs_syntax.specs.declared.resolved.Resolved.{Resolved}
 use Rattle.pgs_syntax.specs.KeyValues.{starts_at}
 use Rattle.pgs_syntax.specs.Matches.{same_elem, elements, is_match, matches}
-use Rattle.pgs_syntax.specs.Valid.{is_edge_var, is_node_var, is_valid_pattern, is_valid_key}
+use Rattle.pgs_syntax.specs.Valid.{is_edge_var, is_node_var, is_valid_pattern}
 use Rattle.pgs_syntax.proofs.Assigned.{match_found, match_given}
-use Rattle.pgs_syntax.proofs.Halves.{any_map, any_flat_map, any_filter}
+use Rattle.pgs_syntax.proofs.Halves.{any_filter}
 use Rattle.pgs_match.specs.declared.bindings.Bound.TheVariants as bounds
 use Rattle.pgs_match.specs.Bounds.{stands_at, with_bound, nothing_bound}
 use Rattle.pgs_match.specs.Reached.{reaches, reached}
@@ -35,13 +25,12 @@ use Rattle.pgs_match.specs.Search.{can_complete}
 use Rattle.pgs_match.specs.Tests.{pair_meets, triple_meets, node_passes, admitted}
 use Rattle.pgs_match.proofs.Counts.{some_at}
 use Rattle.pgs_match.proofs.Planning.{plan_of}
-use Rattle.pgs_match.proofs.There.{there_at, there_size, IsOfKind, node_there, edge_there}
+use Rattle.pgs_match.proofs.There.{there_at, IsOfKind, node_there, edge_there}
 use Rattle.pgs_match.proofs.Values.{found_by_matches}
-use Rattle.pgs_match.proofs.Walked.{stands}
 use Rattle.pgs_syntax.specs.Typed.{triple_at}
-use Rattle.pgs_check_affected.specs.Found.{passes, edges_at, found_alone, found_from, found_in, found_by, found}
-use Rattle.pgs_check_affected.specs.Local.{is_one_of, AgreeBut, has_touched_end, is_edge_alone, may_differ, binds_touched, HasOneRow}
-use Rattle.pgs_check_affected.proofs.Touching.{any_of, one_that, itself}
+use Rattle.pgs_check_affected.specs.Found.{passes}
+use Rattle.pgs_check_affected.specs.Local.{is_one_of}
+use Rattle.pgs_check_affected.proofs.Touching.{any_of, itself}
 
 none_kept : {X : Type 0} (test : X → Bool) → ((x : X) → test x ≡ false) → (xs : List X) → filter test xs ≡ []
 none_kept test none [] = refl
@@ -102,7 +91,7 @@ module _ (resolved : Resolved) (g : Graph) (pattern : Pattern) where
   pub stands_itself : (var : ℕ) (elem : Elem) (elems : List Elem) → slice_get elems var ≡ Some elem → stands_at var elem elems ≡ true
   stands_itself var elem elems at = ap (λ o. option_map_or (same_elem elem) o false) at ∙ itself elem
 
-  reached_has : (var : ℕ) (elem first : Elem) (elems : List Elem) → is_match resolved g pattern elems ≡ true → slice_get elems var ≡ Some elem → slice_get elems 0 ≡ Some first →
+  pub reached_has : (var : ℕ) (elem first : Elem) (elems : List Elem) → is_match resolved g pattern elems ≡ true → slice_get elems var ≡ Some elem → slice_get elems 0 ≡ Some first →
       0 < length pattern.edge_vars → is_one_of (reached resolved g pattern var elem) first ≡ true
   reached_has var elem first elems match at at_first some =
       any_filter (same_elem first) (reaches resolved g pattern var elem) (elements g false ++ elements g true)

@@ -1,10 +1,10 @@
 -- Two graphs that agree for a key but for seen elements, and when those of a change do.
-use Rattle.std.proofs.Common.{◌≡◌, ℕ, zero, suc, ◌+◌, ◌<◌, Bool, true, false, ◌&&◌, ◌||◌, ◌==◌, not, cond, ⊎_elim, List, [], ◌∷◌, map, filter, length, get_or, slice_get, Option, Some, None, refl, sym, ◌∙◌, ap, subst, true≢false, arith}
+use Rattle.std.proofs.Common.{◌≡◌, ℕ, zero, suc, ◌<◌, Bool, true, false, ◌&&◌, ◌||◌, ◌==◌, not, ⊎_elim, List, [], ◌∷◌, filter, length, get_or, slice_get, Option, Some, None, refl, sym, ◌∙◌, ap, subst, true≢false, arith}
 use Rattle.std.specs.Prelude.{option_and_then, option_map}
 use Rattle.std.specs.Option.{option_map_or}
 use Rattle.std.specs.List.{list_any, list_all, Contains}
 use Rattle.std.specs.Cmp.{Equal-is}
-use Rattle.std.proofs.lemmas.Bool.{and_parts, or_cases, or_parts, or_left, or_right, both_ways, cases_lt, eq-eqb, false_from_ne_true}
+use Rattle.std.proofs.lemmas.Bool.{and_parts, or_parts, or_left, or_right, both_ways, cases_lt, eq-eqb, false_from_ne_true}
 use Rattle.pgs_base.specs.declared.element.NodeId.{NodeId}
 use Rattle.pgs_base.specs.declared.element.EdgeId.{EdgeId}
 use Rattle.pgs_base.specs.declared.element.Elem.{Elem}
@@ -28,23 +28,30 @@ use Rattle.pgs_syntax.specs.declared.pattern.Pattern.{Pattern}
 use Rattle.pgs_syntax.specs.declared.resolved.Resolved.{Resolved}
 use Rattle.pgs_syntax.specs.Fitting.{fits_edge}
 use Rattle.pgs_syntax.specs.KeyValues.{is_in_scope, part_of, tuple_of, key_values}
-use Rattle.pgs_syntax.specs.Matches.{same_elem, same_value, carried, is_match, is_edge_of_type}
+use Rattle.pgs_syntax.specs.Matches.{same_elem, carried, is_match, is_edge_of_type}
 use Rattle.pgs_syntax.specs.Typed.{triple_at}
 use Rattle.pgs_syntax.specs.Valid.{is_valid_pattern, is_valid_key}
 use Rattle.pgs_syntax.proofs.Halves.{any_filter}
 use Rattle.pgs_match.specs.declared.planned.Side.{Side}
 use Rattle.pgs_match.specs.declared.planned.Side.TheVariants.{Scope, Descriptor}
 use Rattle.pgs_match.specs.Planned.{pattern_of}
+use Rattle.pgs_check_affected.specs.declared.known.Known.{Known}
 use Rattle.pgs_check_affected.specs.Changes.{have_same_ends, keeps_ends, known_in}
 use Rattle.pgs_check_affected.specs.Found.{passes}
 use Rattle.pgs_check_affected.specs.Local.{is_one_of, AgreeBut, has_touched_end, may_differ, binds_touched}
-use Rattle.pgs_check_affected.specs.Unseen.{ends_in, property_in, names_edge_type, asks_edge_type, is_edge_of, PassesAlike, FitsAlike, IsAskedAlike, IsUnseen, AgreeForKey, row_passes, is_one_outcome, passes_alike, is_one_value, value_of, gives_alike, asks_some_type, key_asks_edge_types, look_same, is_left_unseen, seen_elems}
+use Rattle.pgs_check_affected.specs.Unseen.{ends_in, property_in, names_edge_type, FitsAlike, IsAskedAlike, IsUnseen, AgreeForKey, row_passes, is_one_outcome, passes_alike, is_one_value, value_of, gives_alike, asks_some_type, key_asks_edge_types, look_same, is_left_unseen, seen_elems}
 use Rattle.pgs_check_affected.proofs.Agreeing.{AgreesOn, match_same, passes_old, starts_same, values_alike}
 use Rattle.pgs_check_affected.proofs.BoundEnds.{passes_none, none_touched, one_node}
 use Rattle.pgs_check_affected.proofs.Locality.{carried_same, type_same, patterns_valid}
 use Rattle.pgs_check_affected.proofs.Touching.{any_implied, any_of, itself}
 
 -- ---- two graphs that agree for a key
+
+abbrev pair_of_ends : EdgeRow → NodeId × NodeId
+pair_of_ends row = (row.source, row.target)
+
+one_pair : (a b : NodeId × NodeId) → Some a ≡ Some b → a ≡ b
+one_pair a b e = cc
 
 module _ (resolved : Resolved) (g h : Graph) (seen : Elem → Bool) (key : Key) (agree : AgreeForKey resolved g h seen key) where
   pub scope_on : AgreesOn resolved seen g h key.scope
@@ -89,14 +96,15 @@ module _ (resolved : Resolved) (g h : Graph) (seen : Elem → Bool) (key : Key) 
   back_ends : (edge : EdgeId) → seen (Edge edge) ≡ false → has_touched_end seen h (Edge edge) ≡ false → has_touched_end seen g (Edge edge) ≡ false
   back_ends edge out none = by (edge_at g edge) (edge_at h edge) (agree.elems (Edge edge) out).ends none
     where
-      by : (o p : Option EdgeRow) → option_map (λ (row : EdgeRow). (row.source, row.target)) o ≡ option_map (λ (row : EdgeRow). (row.source, row.target)) p →
+      by : (o p : Option EdgeRow) → option_map pair_of_ends o ≡ option_map pair_of_ends p →
           option_map_or (λ (row : EdgeRow). seen (Node row.source) || seen (Node row.target)) p false ≡ false →
           option_map_or (λ (row : EdgeRow). seen (Node row.source) || seen (Node row.target)) o false ≡ false
       by None p same none = refl
       by (Some row) None same none = cc
       by (Some row) (Some other) same none =
-          let source : row.source ≡ other.source = cc in
-          let target : row.target ≡ other.target = cc in
+          let both = one_pair (pair_of_ends row) (pair_of_ends other) same in
+          let source : row.source ≡ other.source = ap (λ (e : NodeId × NodeId). e.0) both in
+          let target : row.target ≡ other.target = ap (λ (e : NodeId × NodeId). e.1) both in
           ap (λ n. seen (Node n) || seen (Node row.target)) source ∙ ap (λ n. seen (Node other.source) || seen (Node n)) target ∙ none
 
   pub turned_for : AgreeForKey resolved h g seen key
@@ -107,7 +115,7 @@ module _ (resolved : Resolved) (g h : Graph) (seen : Elem → Bool) (key : Key) 
           ends = sym same.ends;
           scope = λ var below. sym (same.scope var below);
           descriptor = λ var below. sym (same.descriptor var below);
-          values = λ var name inside pass. sym (same.values var name inside (or_swap _ _ pass));
+          values = λ var name inside pass. sym (same.values var name inside (or_swap (passes resolved h key.descriptor var elem) (passes resolved g key.descriptor var elem) pass));
         };
     edges = λ edge out none.
         let same = agree.edges edge out (back_ends edge out none) in (λ number asked. sym (same.0 number asked), λ number asked. sym (same.1 number asked));
@@ -151,7 +159,7 @@ module _ (resolved : Resolved) (g h : Graph) (touched : Elem → Bool) (agree : 
     where
       ends : (elem : Elem) → touched elem ≡ false → ends_in g elem ≡ ends_in h elem
       ends (Node id) out = refl
-      ends (Edge id) out = ap (option_map (λ (row : EdgeRow). (row.source, row.target))) (agree.edges id out)
+      ends (Edge id) out = ap (option_map pair_of_ends) (agree.edges id out)
 
 -- where each touched element that isn't seen is unseen by the key, the graphs agree for it but for the seen ones
 module _ (resolved : Resolved) (g h : Graph) (touched seen : Elem → Bool) (agree : AgreeBut touched g h) (key : Key)
@@ -209,7 +217,7 @@ one_value None (Some b) h = absurd (true≢false (sym h))
 one_value (Some a) None h = absurd (true≢false (sym h))
 one_value (Some a) (Some b) h = ap Some (exact_value a b ((Equal-is (value_cmp a b)).0 h))
 
-one_ends : (o p : Option EdgeRow) → have_same_ends o p ≡ true → option_map (λ (row : EdgeRow). (row.source, row.target)) o ≡ option_map (λ (row : EdgeRow). (row.source, row.target)) p
+one_ends : (o p : Option EdgeRow) → have_same_ends o p ≡ true → option_map pair_of_ends o ≡ option_map pair_of_ends p
 one_ends None None h = refl
 one_ends None (Some b) h = absurd (true≢false (sym h))
 one_ends (Some a) None h = absurd (true≢false (sym h))
@@ -230,6 +238,16 @@ of_all test [] i x all below at = absurd (omega (arith, below))
 of_all test (y ∷ ys) zero x all below at = subst (λ z. test z ≡ true) at (and_parts (test y) _ all).0
 of_all test (y ∷ ys) (suc i) x all below at = of_all test ys i x (and_parts (test y) _ all).1 (omega (arith, below)) at
 
+pub each_outcome : (resolved : Resolved) (pattern : Pattern) (known : Known) (vars : ℕ) → passes_alike resolved pattern vars known ≡ true → (var : ℕ) → var < vars →
+    is_one_outcome (row_passes resolved pattern var known.elem known.before) (row_passes resolved pattern var known.elem known.after) ≡ true
+each_outcome resolved pattern known zero all var below = absurd (omega (arith, below))
+each_outcome resolved pattern known (suc vars) all var below =
+    let here = and_parts (passes_alike resolved pattern vars known) _ all in
+    ⊎_elim (λ less. each_outcome resolved pattern known vars here.0 var less)
+    (λ last. let same : vars ≡ var = omega (arith, below, last) in
+    subst (λ v. is_one_outcome (row_passes resolved pattern v known.elem known.before) (row_passes resolved pattern v known.elem known.after) ≡ true) same here.1)
+    (cases_lt var vars)
+
 module _ (resolved : Resolved) (g h : Graph) (key : Key) (elem : Elem) (left : is_left_unseen resolved key (known_in g h elem) ≡ true) where
   all_parts : (((keeps_ends g h elem && passes_alike resolved key.scope (length key.scope.edge_vars) (known_in g h elem))
       && passes_alike resolved key.descriptor (length key.descriptor.edge_vars) (known_in g h elem))
@@ -239,14 +257,8 @@ module _ (resolved : Resolved) (g h : Graph) (key : Key) (elem : Elem) (left : i
 
   passed_alike : (pattern : Pattern) (vars : ℕ) → passes_alike resolved pattern vars (known_in g h elem) ≡ true → (var : ℕ) → var < vars →
       passes resolved g pattern var elem ≡ passes resolved h pattern var elem
-  passed_alike pattern zero all var below = absurd (omega (arith, below))
-  passed_alike pattern (suc vars) all var below =
-      let here = and_parts (passes_alike resolved pattern vars (known_in g h elem)) _ all in
-      ⊎_elim (λ less. passed_alike pattern vars here.0 var less)
-      (λ last. let same : vars ≡ var = omega (arith, below, last) in
-      subst (λ v. passes resolved g pattern v elem ≡ passes resolved h pattern v elem) same
-      (one_outcome (passes resolved g pattern vars elem) (passes resolved h pattern vars elem) here.1))
-      (cases_lt var vars)
+  passed_alike pattern vars all var below =
+      one_outcome (passes resolved g pattern var elem) (passes resolved h pattern var elem) (each_outcome resolved pattern (known_in g h elem) vars all var below)
 
   pub left_asked : IsAskedAlike resolved g h key elem
   left_asked =
@@ -330,15 +342,16 @@ module _ (resolved : Resolved) (g h : Graph) (key : Key) (elems : List Elem) (ag
   typed_alike asks edge out none ends number = by (edge_at g edge) (edge_at h edge) none ends (looks asks (Edge edge) out)
     where
       by : (o p : Option EdgeRow) → option_map_or (λ (row : EdgeRow). seen (Node row.source) || seen (Node row.target)) o false ≡ false →
-          option_map (λ (row : EdgeRow). (row.source, row.target)) o ≡ option_map (λ (row : EdgeRow). (row.source, row.target)) p →
+          option_map pair_of_ends o ≡ option_map pair_of_ends p →
           option_map plain (option_map (λ (row : EdgeRow). pair_of row.labels row.props) o) ≡ option_map plain (option_map (λ (row : EdgeRow). pair_of row.labels row.props) p) →
           option_map_or (fits_edge resolved number) (option_and_then (triple_at g) o) false ≡ option_map_or (fits_edge resolved number) (option_and_then (triple_at h) p) false
       by None None none ends own = refl
       by None (Some other) none ends own = cc
       by (Some row) None none ends own = cc
       by (Some row) (Some other) none ends own =
-          let source : row.source ≡ other.source = cc in
-          let target : row.target ≡ other.target = cc in
+          let both = one_pair (pair_of_ends row) (pair_of_ends other) ends in
+          let source : row.source ≡ other.source = ap (λ (e : NodeId × NodeId). e.0) both in
+          let target : row.target ≡ other.target = ap (λ (e : NodeId × NodeId). e.1) both in
           let unseen = or_parts (seen (Node row.source)) (seen (Node row.target)) none in
           let same : plain (pair_of row.labels row.props) ≡ plain (pair_of other.labels other.props) = same_some _ _ own in
           fits_looked resolved number (node_at g row.source) (node_at h other.source) (pair_of row.labels row.props) (pair_of other.labels other.props) (node_at g row.target) (node_at h other.target)

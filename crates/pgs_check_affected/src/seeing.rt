@@ -59,12 +59,12 @@ impl<'a> Sought<'a> {
         !passes || is_one_value(value_of(&known.before, key), value_of(&known.after, key))
     }
 
-    // Whether they give all expressions of the key so.
-    fn gives_all_alike(&self, known: &Known<'_>) -> bool
+    // Whether they give all expressions so.
+    fn gives_all_alike(&self, known: &Known<'_>, exprs: &[Expr]) -> bool
         requires { is_valid_key_of self.now.compiled.now self.now.key.now ≡ true }
-        ensures { result ≡ list_all (gives_alike self.now.compiled.now (pattern_of self.now.side self.now.key.now) known.now) self.now.key.now.exprs }
+        ensures { result ≡ list_all (gives_alike self.now.compiled.now (pattern_of self.now.side self.now.key.now) known.now) exprs.now }
     {
-        for expr in self.key.key().exprs.as_slice() {
+        for expr in exprs {
             if !self.gives_alike(known, expr) {
                 return false;
             }
@@ -116,7 +116,11 @@ fn asks_some_type(atom: &Atom) -> bool
 fn asks_edge_types(pattern: &Pattern) -> bool
     ensures { result ≡ list_any asks_some_type pattern.now.atoms }
 {
-    pattern.atoms.as_slice().iter().any(|atom| asks_some_type(atom))
+    pattern
+        .atoms
+        .as_slice()
+        .iter()
+        .any(|atom| asks_some_type(atom))
 }
 
 // Whether a key asks edge types.
@@ -144,6 +148,6 @@ pub(crate) fn is_left_unseen(known: &Known<'_>, compiled: &Compiled, key: &Plann
     known.keeps_ends
         && scope.passes_alike(known)
         && descriptor.passes_alike(known)
-        && descriptor.gives_all_alike(known)
+        && descriptor.gives_all_alike(known, key.key().exprs.as_slice())
         && (!asks_types(key) || look_same(&known.before, &known.after))
 }
