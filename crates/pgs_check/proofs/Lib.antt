@@ -13,6 +13,7 @@ pub mod Least
 pub mod OneKey
 pub mod Owned
 pub mod Owners
+pub mod Retyped
 pub mod Shared
 pub mod Steps
 pub mod Total

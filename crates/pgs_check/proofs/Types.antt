@@ -42,7 +42,7 @@ use Rattle.pgs_check.proofs.Shared.{not_less}
 -- ---- what each row gives, found by its key
 
 module _ {K V : Type 0} {cmp : K → K → Ordering} (total : IsTotalOrder cmp) (exact : CmpEqualImpliesEq cmp) (rows : List (K × V)) where
-  there : (k : K) (v : V) → lookup (is_at (cmp k)) rows ≡ Some v → Contains (keys_of rows) k
+  pub there : (k : K) (v : V) → lookup (is_at (cmp k)) rows ≡ Some v → Contains (keys_of rows) k
   there k v at =
       Contains-from_any (λ a b h. exact a b ((Equal-is (cmp a b)).0 h)) k (keys_of rows) (sym (is_some-lookup (is_at (cmp k)) rows) ∙ ap is_some at)
 
@@ -66,12 +66,12 @@ module _ {K V : Type 0} {cmp : K → K → Ordering} (total : IsTotalOrder cmp) 
 
 -- ---- nodes
 
-some_and : {X Y : Type 0} (f : X → Option Y) (o : Option X) → is_some (option_and_then f o) ≡ true → (x : X) × (o ≡ Some x)
+pub some_and : {X Y : Type 0} (f : X → Option Y) (o : Option X) → is_some (option_and_then f o) ≡ true → (x : X) × (o ≡ Some x)
 some_and f None h = cc
 some_and f (Some x) h = (x, refl)
 
 module _ (resolved : Resolved) (g : Graph) (graph : is_graph g ≡ true) (delta : Delta) (sound : is_sound g delta ≡ true) where
-  abbrev h : Graph
+  abbrev pub h : Graph
   h = changed g delta
 
   abbrev give_node : NodeId → NodeRow → Option Violation
@@ -91,7 +91,7 @@ module _ (resolved : Resolved) (g : Graph) (graph : is_graph g ≡ true) (delta 
   after = changed_graph g delta sound
 
   -- what stands at the number of a node, before or among the changes
-  same_node : (id : NodeId) → lookup (is_at (node_cmp id)) delta.nodes ≡ None → node_at h id ≡ node_at g id
+  pub same_node : (id : NodeId) → lookup (is_at (node_cmp id)) delta.nodes ≡ None → node_at h id ≡ node_at g id
   same_node id none = node_after g delta id graph sound ∙ ap (λ o. after_changes o (node_at g id)) none
 
   module _ (none : filter_map (untyped_node resolved) g.nodes ≡ []) where
@@ -130,33 +130,33 @@ module _ (resolved : Resolved) (g : Graph) (graph : is_graph g ≡ true) (delta 
 
   -- ---- edges
 
-  abbrev give_edge : Graph → EdgeId → EdgeRow → Option Violation
+  abbrev pub give_edge : Graph → EdgeId → EdgeRow → Option Violation
   give_edge graph id row = untyped_edge resolved graph (id, row)
 
-  edge_there : (graph : Graph) (id : EdgeId) → is_untyped_edge resolved graph id ≡ true → Contains (keys_of graph.edges) id
+  pub edge_there : (graph : Graph) (id : EdgeId) → is_untyped_edge resolved graph id ≡ true → Contains (keys_of graph.edges) id
   edge_there graph id gives =
       let row = some_and (give_edge graph id) (edge_at graph id) gives in there edge_cmp_total exact_edge graph.edges id row.0 row.1
 
-  row_there : (id : EdgeId) (row : EdgeRow) → edge_at h id ≡ Some row → Contains h.edges (id, row)
+  pub row_there : (id : EdgeId) (row : EdgeRow) → edge_at h id ≡ Some row → Contains h.edges (id, row)
   row_there id row at = Contains-from_lookup (λ a b t. exact_edge a b ((Equal-is (edge_cmp a b)).0 t)) id row h.edges at
 
-  key_there : (rows : List (EdgeId × EdgeRow)) (row : EdgeId × EdgeRow) → Contains rows row → Contains (keys_of rows) row.0
+  pub key_there : (rows : List (EdgeId × EdgeRow)) (row : EdgeId × EdgeRow) → Contains rows row → Contains (keys_of rows) row.0
   key_there [] row has = absurd (contains_none row has)
   key_there (first ∷ rows) row has =
       ⊎_elim (λ (same : first ≡ row). (0, omega arith, ap (λ (r : EdgeId × EdgeRow). r.0) same))
       (λ later. contains_later first.0 (keys_of rows) row.0 (key_there rows row later)) (contains_cases first rows row has)
 
-  at_end : (end : End) (id : EdgeId) (row : EdgeRow) → Contains h.edges (id, row) → Contains (edges_with end (end_of end row) h.edges) id
+  pub at_end : (end : End) (id : EdgeId) (row : EdgeRow) → Contains h.edges (id, row) → Contains (edges_with end (end_of end row) h.edges) id
   at_end end id row has =
       key_there (filter (ends_at end (end_of end row)) h.edges) (id, row) (kept_given (ends_at end (end_of end row)) h.edges (id, row) has (eq-eqb _ _ refl))
 
-  in_flat : (ids : List NodeId) (node : NodeId) (id : EdgeId) → Contains ids node → Contains (edges_at h node) id → Contains (flat_map (edges_at h) ids) id
+  pub in_flat : (ids : List NodeId) (node : NodeId) (id : EdgeId) → Contains ids node → Contains (edges_at h node) id → Contains (flat_map (edges_at h) ids) id
   in_flat [] node id has is = absurd (contains_none node has)
   in_flat (first ∷ ids) node id has is =
       ⊎_elim (λ (same : first ≡ node). Contains-append_left (edges_at h first) (flat_map (edges_at h) ids) id (subst (λ n. Contains (edges_at h n) id) (sym same) is))
       (λ later. Contains-append_right (edges_at h first) (flat_map (edges_at h) ids) id (in_flat ids node id later is)) (contains_cases first ids node has)
 
-  abbrev candidates : List EdgeId
+  abbrev pub candidates : List EdgeId
   candidates = touched_edges h delta
 
   at_node : (node : NodeId) (id : EdgeId) → Contains (keys_of delta.nodes) node → Contains (edges_at h node) id → Contains candidates id
@@ -164,11 +164,11 @@ module _ (resolved : Resolved) (g : Graph) (graph : is_graph g ≡ true) (delta 
       Contains-append_right (keys_of delta.edges) (flat_map (edges_at h) (keys_of delta.nodes)) id (in_flat (keys_of delta.nodes) node id has is)
 
   module _ (none : filter_map (untyped_edge resolved g) g.edges ≡ []) where
-    no_edge_before : filter_map (untyped_edge_at resolved g) (keys_of g.edges) ≡ []
+    pub no_edge_before : filter_map (untyped_edge_at resolved g) (keys_of g.edges) ≡ []
     no_edge_before = each_by_key edge_cmp_total exact_edge g.edges (give_edge g) (ascending_edges g graph) ∙ none
 
     -- an edge that isn't typed after the delta is one of those that it touches
-    edge_touched : (id : EdgeId) → is_untyped_edge resolved h id ≡ true → Contains candidates id
+    pub edge_touched : (id : EdgeId) → is_untyped_edge resolved h id ≡ true → Contains candidates id
     edge_touched id gives = by (lookup (is_at (edge_cmp id)) delta.edges) refl
       where
         whole : (row : EdgeRow) → edge_at h id ≡ Some row → edge_at g id ≡ Some row → Contains candidates id

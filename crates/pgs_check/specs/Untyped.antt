@@ -1,5 +1,5 @@
 -- 25 and 26: the violations of no key; which elements of a changed graph can make one, and the first that does.
-use Rattle.std.specs.Prelude.{◌≡◌, ◌≤◌, ◌++◌, ℕ, Bool, true, false, List, [], ◌∷◌, Option, Some, Contains, option_and_then, is_some, filter_map, flat_map, not, if◌then◌else◌}
+use Rattle.std.specs.Prelude.{◌≡◌, ◌≤◌, ◌++◌, ℕ, Bool, true, false, List, [], ◌∷◌, Option, Some, Contains, option_and_then, is_some, filter, filter_map, flat_map, not, if◌then◌else◌}
 use Rattle.std.specs.Option.{option_map_or}
 use Rattle.std.specs.Ordering.{is_lt}
 use Rattle.std.specs.Map.{keys_of}
@@ -7,9 +7,10 @@ use Rattle.pgs_base.specs.declared.element.NodeId.{NodeId}
 use Rattle.pgs_base.specs.declared.element.EdgeId.{EdgeId}
 use Rattle.pgs_base.specs.declared.row.NodeRow.{NodeRow}
 use Rattle.pgs_base.specs.declared.row.EdgeRow.{EdgeRow}
-use Rattle.pgs_base.specs.Graph.{Graph, edge_at, edge_cmp}
+use Rattle.pgs_base.specs.Graph.{Graph, node_at, edge_at, edge_cmp}
 use Rattle.pgs_graph.specs.declared.delta.Delta.{Delta}
 use Rattle.pgs_graph.specs.Reads.{out_edges_of, in_edges_of, degree_of}
+use Rattle.pgs_kinds.specs.Kinds.{looks_same}
 use Rattle.pgs_syntax.specs.declared.resolved.Resolved.{Resolved}
 use Rattle.pgs_violation.specs.declared.violation.Violation.{Violation}
 use Rattle.pgs_violation.specs.Violations.{untyped_node, untyped_edge, where_asked}
@@ -51,6 +52,19 @@ edges_at g id = out_edges_of g id ++ in_edges_of g id
 -- the edges that a delta can leave untyped: its own, and those of the changed graph at its nodes
 abbrev pub touched_edges : Graph → Delta → List EdgeId
 touched_edges g delta = keys_of delta.edges ++ flat_map (edges_at g) (keys_of delta.nodes)
+
+-- whether a change leaves a node that looks the same to types as it did
+abbrev pub looks_as_before : Graph → NodeId × Option NodeRow → Bool
+looks_as_before g change =
+    option_map_or (λ (row : NodeRow). option_map_or (λ before. looks_same before row) (node_at g change.0) false) change.1 false
+
+-- the nodes of changes that don't
+abbrev pub retyped_nodes : Graph → List (NodeId × Option NodeRow) → List NodeId
+retyped_nodes g changes = keys_of (filter (λ change. not (looks_as_before g change)) changes)
+
+-- no node of a graph, and no edge, isn't typed
+abbrev pub IsTyped : Resolved → Graph → Type 0
+IsTyped resolved g = (filter_map (untyped_node resolved) g.nodes ≡ []) × (filter_map (untyped_edge resolved g) g.edges ≡ [])
 
 -- none of these nodes has a greater in-degree plus out-degree
 abbrev pub HaveDegreesWithin : Graph → List NodeId → ℕ → Type 0

@@ -31,8 +31,11 @@ use Rattle.pgs_check_affected.specs.Found.{passes}
 use Rattle.pgs_check_affected.specs.Local.{is_one_of, AgreeBut, has_touched_end, is_edge_alone, may_differ, binds_touched, IsAlike}
 use Rattle.pgs_check_affected.specs.Met.{is_end_var, is_taken_at, IsApart}
 use Rattle.pgs_check_affected.proofs.Ending.{has_edge, edge_touched}
-use Rattle.pgs_check_affected.proofs.Finding.{any_slice, contains_it, match_passes, patterns_valid, stands_itself}
-use Rattle.pgs_check_affected.proofs.Locality.{free, passes_none, place_same, turned, untouched_ends, values_same}
+use Rattle.pgs_check_affected.proofs.BoundEnds.{passes_none, untouched_ends}
+use Rattle.pgs_check_affected.proofs.Finding.{any_slice, contains_it}
+use Rattle.pgs_check_affected.proofs.Agreeing.{free}
+use Rattle.pgs_check_affected.proofs.Locality.{patterns_valid, place_same, turned, values_same}
+use Rattle.pgs_check_affected.proofs.Passing.{match_passes, stands_itself}
 
 zero_or_more : (n : ℕ) → (n ≡ 0) ⊎ (1 ≤ n)
 zero_or_more zero = inl refl
@@ -100,7 +103,7 @@ module _ (resolved : Resolved) (elems : List Elem) (key : Key) (valid : is_valid
       start = match_found resolved one key.scope (starts_at x) within
 
       outside : list_any (may_differ (is_one_of elems) one key.scope) start.0 ≡ false
-      outside = free resolved (is_one_of elems) one other agree x key.scope scope_free start.0 start.1 start.2
+      outside = free resolved (is_one_of elems) one key.scope x scope_free start.0 start.1 start.2
 
       first : slice_get start.0 0 ≡ Some x
       first = stands 0 x start.0 start.2
@@ -130,7 +133,7 @@ module _ (resolved : Resolved) (elems : List Elem) (key : Key) (valid : is_valid
           ends id at None row_at = refl
           ends id at (Some row) row_at =
               let kind = own_kind (Edge id) start.0 start.1 at in
-              let both = untouched_ends (is_one_of elems) one other agree resolved key.scope (patterns_valid key valid).0 start.0 outside start.1 0 id row
+              let both = untouched_ends (is_one_of elems) one resolved key.scope (patterns_valid key valid).0 start.0 outside start.1 0 id row
               (edge_var kind.0 id kind.1 kind.2) at row_at in
               or_from _ _ both.0 both.1
 

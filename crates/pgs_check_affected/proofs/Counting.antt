@@ -39,7 +39,8 @@ use Rattle.pgs_match.proofs.Walked.{reached_few, reached_near}
 use Rattle.pgs_check_affected.specs.Found.{passes, edges_at, found_alone, found_from, found_in, found_by, found}
 use Rattle.pgs_check_affected.specs.Local.{is_one_of, AgreeBut, has_touched_end}
 use Rattle.pgs_check_affected.specs.Touched.{touched, AreSparse, IsSparseInBoth, AreSparseInBoth}
-use Rattle.pgs_check_affected.proofs.Finding.{contains_it, has_it, found_is, patterns_valid}
+use Rattle.pgs_check_affected.proofs.Finding.{contains_it, has_it, found_is}
+use Rattle.pgs_check_affected.proofs.Locality.{patterns_valid}
 use Rattle.pgs_check_affected.proofs.Touching.{one_that, itself, touched_is, own_fewer, sparse_touched, sparse_own, sparse_before, sparse_after}
 
 -- ---- powers
@@ -256,7 +257,7 @@ module _ (resolved : Resolved) (g h : Graph) (before : is_graph g ≡ true) (aft
 
     pub found_near : (x : Elem) → Contains (found resolved g h key elems) x → IsNear x
     found_near x inside =
-        let it = one_that (λ elem. is_one_of (found_by resolved g h elem key) x) elems (sym (found_is resolved g h elems agree key valid x) ∙ has_it (found resolved g h key elems) x inside) in
+        let it = one_that (λ elem. is_one_of (found_by resolved g h elem key) x) elems (sym (found_is resolved g h elems key x) ∙ has_it (found resolved g h key elems) x inside) in
         let valids = patterns_valid key valid in
         let scope_edges = side_edges Scope key in
         let descriptor_edges = side_edges Descriptor key in

@@ -1,47 +1,40 @@
 -- What is found from the elements of a change has each element at which a match in either graph starts that binds one that may differ.
 use Rattle.std.proofs.Common.{◌≡◌, ℕ, zero, suc, ◌+◌, ◌<◌, Bool, true, false, ◌&&◌, ◌||◌, ◌==◌, cond, ⊎_elim, List, [], ◌∷◌, ◌++◌, map, filter, length, slice_get, Option, Some, None, refl, sym, ◌∙◌, ap, subst, true≢false, add-one, append_assoc, arith}
-use Rattle.std.specs.Prelude.{option_and_then, option_map}
 use Rattle.std.specs.Option.{option_map_or}
-use Rattle.std.specs.List.{list_any, list_all, Contains}
+use Rattle.std.specs.List.{list_any, Contains}
 use Rattle.std.specs.Map.{keys_of, lookup}
 use Rattle.std.specs.BTreeMap.{is_at}
 use Rattle.std.specs.Cmp.{Equal-is}
-use Rattle.std.proofs.lemmas.Bool.{and_parts, and_from, and_left, or_cases, or_from, or_left, or_right, both_ways, cases_lt, eqb-true, eq-eqb, true_from_ne_false, false_from_ne_true}
+use Rattle.std.proofs.lemmas.Bool.{and_parts, or_cases, or_from, or_left, or_right, both_ways, cases_lt, eqb-true, eq-eqb, false_from_ne_true}
 use Rattle.std.proofs.lemmas.List.Folds.{list_any-append, list_any_at, Any-from_list_any}
 use Rattle.pgs_base.specs.declared.element.NodeId.{NodeId}
 use Rattle.pgs_base.specs.declared.element.EdgeId.{EdgeId}
 use Rattle.pgs_base.specs.declared.element.Elem.{Elem}
 use Rattle.pgs_base.specs.declared.element.Elem.TheVariants.{Node, Edge}
-use Rattle.pgs_base.specs.declared.row.NodeRow.{NodeRow}
 use Rattle.pgs_base.specs.declared.row.EdgeRow.{EdgeRow}
-use Rattle.pgs_base.specs.Graph.{Graph, edge_cmp, node_at, edge_at}
+use Rattle.pgs_base.specs.Graph.{Graph, edge_cmp, edge_at}
 use Rattle.pgs_base.specs.Order.{elem_cmp}
 use Rattle.pgs_base.specs.OrderLaws.{exact_elem}
-use Rattle.pgs_base.specs.Pair.{pair_of}
 use Rattle.pgs_graph.specs.declared.scan.End.TheVariants.{Source, Target}
 use Rattle.pgs_graph.specs.Reads.{ends_at, out_edges_of, in_edges_of}
 use Rattle.pgs_syntax.specs.declared.key.Key.{Key}
 use Rattle.pgs_syntax.specs.declared.pattern.Pattern.{Pattern}
 use Rattle.pgs_syntax.specs.declared.resolved.Resolved.{Resolved}
 use Rattle.pgs_syntax.specs.KeyValues.{starts_at}
-use Rattle.pgs_syntax.specs.Matches.{same_elem, elements, is_match, matches}
-use Rattle.pgs_syntax.specs.Valid.{is_edge_var, is_node_var, is_valid_pattern, is_valid_key}
+use Rattle.pgs_syntax.specs.Matches.{same_elem, is_match}
+use Rattle.pgs_syntax.specs.Valid.{is_valid_pattern, is_valid_key}
 use Rattle.pgs_syntax.proofs.Assigned.{match_found, match_given}
-use Rattle.pgs_syntax.proofs.Halves.{any_map, any_flat_map, any_filter}
-use Rattle.pgs_match.specs.declared.bindings.Bound.TheVariants as bounds
-use Rattle.pgs_match.specs.Bounds.{stands_at, with_bound, nothing_bound}
-use Rattle.pgs_match.specs.Reached.{reaches, reached}
-use Rattle.pgs_match.specs.Search.{can_complete}
-use Rattle.pgs_match.specs.Tests.{pair_meets, triple_meets, node_passes, admitted}
-use Rattle.pgs_match.proofs.Counts.{some_at}
-use Rattle.pgs_match.proofs.Planning.{plan_of}
-use Rattle.pgs_match.proofs.There.{there_at, there_size, IsOfKind, node_there, edge_there}
-use Rattle.pgs_match.proofs.Values.{found_by_matches}
+use Rattle.pgs_syntax.proofs.Halves.{any_map, any_flat_map}
+use Rattle.pgs_match.specs.Bounds.{stands_at}
+use Rattle.pgs_match.specs.Reached.{reached}
+use Rattle.pgs_match.proofs.There.{there_size}
 use Rattle.pgs_match.proofs.Walked.{stands}
-use Rattle.pgs_syntax.specs.Typed.{triple_at}
 use Rattle.pgs_check_affected.specs.Found.{passes, edges_at, found_alone, found_from, found_in, found_by, found}
 use Rattle.pgs_check_affected.specs.Local.{is_one_of, AgreeBut, has_touched_end, is_edge_alone, may_differ, binds_touched, HasOneRow}
-use Rattle.pgs_check_affected.proofs.Locality.{place_same, values_same}
+use Rattle.pgs_check_affected.specs.Unseen.{AgreeForKey, seen_elems}
+use Rattle.pgs_check_affected.proofs.Locality.{patterns_valid}
+use Rattle.pgs_check_affected.proofs.Unseen.{change_agrees, place_alike, key_values_alike}
+use Rattle.pgs_check_affected.proofs.Passing.{match_passes, reached_has, stands_itself}
 use Rattle.pgs_check_affected.proofs.Touching.{any_of, one_that, itself}
 
 -- ---- lists
@@ -61,10 +54,6 @@ any_slice test (x ∷ xs) some =
     ⊎_elim (λ here. (0, x, refl, here, omega arith))
     (λ later. let rest = any_slice test xs later in let below = rest.4 in (suc rest.0, rest.1, rest.2, rest.3, omega (arith, below))) (or_cases (test x) _ some)
 
-none_kept : {X : Type 0} (test : X → Bool) → ((x : X) → test x ≡ false) → (xs : List X) → filter test xs ≡ []
-none_kept test none [] = refl
-none_kept test none (x ∷ xs) = rw (none x) (none_kept test none xs)
-
 listed : {K V : Type 0} (test : K → Bool) (keep : K × V → Bool) (v : V) → ((k : K) → keep (k, v) ≡ true) → (es : List (K × V)) → lookup test es ≡ Some v →
     list_any test (keys_of (filter keep es)) ≡ true
 listed test keep v kept [] at = cc
@@ -83,73 +72,6 @@ listed {K} {V} test keep v kept (e ∷ es) at = by (test e.0) refl at (listed te
     by true first at_first rest =
         let same : e.1 ≡ v = cc in here (keep e) (subst (λ w. keep (e.0, w) ≡ true) (sym same) (kept e.0)) first
     by false first at_later rest = past (keep e) (rest at_later)
-
-pub patterns_valid : (key : Key) → is_valid_key key ≡ true → (is_valid_pattern key.scope ≡ true) × (is_valid_pattern key.descriptor ≡ true)
-patterns_valid key valid = let parts = and_parts _ _ (and_parts _ _ (and_parts _ _ (and_parts _ _ valid).0).0).0 in (parts.0, parts.1)
-
--- ---- what a variable's own test rules out
-
-module _ (resolved : Resolved) (g : Graph) (pattern : Pattern) where
-  admitted_none : (var : ℕ) (elem : Elem) → passes resolved g pattern var elem ≡ false → admitted resolved g pattern var elem ≡ None
-  admitted_none var (Node id) fails = by (is_node_var pattern.edge_vars var) (node_at g id) fails
-    where
-      by : (k : Bool) (o : Option NodeRow) → option_map_or (λ own. cond k (node_passes resolved pattern.atoms var own) false) o false ≡ false →
-          cond k (option_and_then (λ own. cond (node_passes resolved pattern.atoms var own) (Some (bounds.Node id)) None) o) None ≡ None
-      by false o fails = refl
-      by true None fails = refl
-      by true (Some own) fails = ap (λ b. cond b (Some (bounds.Node id)) None) fails
-  admitted_none var (Edge id) fails = by (is_edge_var pattern.edge_vars var) (edge_at g id) fails
-    where
-      by : (k : Bool) (o : Option EdgeRow) →
-          option_map_or (λ own. cond k (list_all (pair_meets var own) pattern.atoms) false) (option_map (λ (row : EdgeRow). pair_of row.labels row.props) o) false ≡ false →
-          cond k (option_and_then (λ (row : EdgeRow).
-          cond (list_all (pair_meets var (pair_of row.labels row.props)) pattern.atoms && list_all (triple_meets resolved var (triple_at g row)) pattern.atoms)
-          (Some (bounds.Edge id row.source row.target)) None) o) None ≡ None
-      by false o fails = refl
-      by true None fails = refl
-      by true (Some row) fails = ap (λ b. cond b (Some (bounds.Edge id row.source row.target)) None) (and_left _ _ fails)
-
-  module _ (valid : is_valid_pattern pattern ≡ true) (var : ℕ) (below : var < length pattern.edge_vars) (elem : Elem) where
-    pub match_passes : list_any (stands_at var elem) (matches resolved g pattern) ≡ true → passes resolved g pattern var elem ≡ true
-    match_passes some =
-        let plan = plan_of pattern valid var below in
-        true_from_ne_false _ (λ fails. both_ways _
-        (sym (found_by_matches resolved g pattern valid var below plan.0 plan.1 elem)
-        ∙ ap (λ o. option_map_or (λ bound. can_complete resolved g pattern.atoms plan.0 (with_bound nothing_bound var bound)) o false) (admitted_none var elem fails))
-        some)
-
-    pub reached_none : passes resolved g pattern var elem ≡ false → reached resolved g pattern var elem ≡ []
-    reached_none fails =
-        none_kept (reaches resolved g pattern var elem)
-        (λ first. false_from_ne_true _ (λ some.
-        let it = match_found resolved g pattern (λ elems. stands_at var elem elems && starts_at first elems) some in
-        both_ways _ fails (match_passes (match_given resolved g pattern (stands_at var elem) it.0 it.1 (and_parts _ _ it.2).0))))
-        (elements g false ++ elements g true)
-
-  -- the element at which a match starts is there
-  is_there : (elems : List Elem) → is_match resolved g pattern elems ≡ true → (first : Elem) → slice_get elems 0 ≡ Some first → 0 < length pattern.edge_vars →
-      is_one_of (elements g false ++ elements g true) first ≡ true
-  is_there elems match first at some =
-      let kind = some_at pattern.edge_vars 0 some in
-      let it = there_at g pattern.edge_vars elems 0 kind.0 (and_parts _ _ match).0 kind.1 in
-      let same : it.0 ≡ first = (let e : Some it.0 ≡ Some first = sym it.1 ∙ at in cc) in
-      list_any-append (same_elem first) (elements g false) (elements g true) ∙ by kind.0 first (subst (IsOfKind g kind.0) same it.2)
-    where
-      by : (kind : Bool) (first : Elem) → IsOfKind g kind first → (list_any (same_elem first) (elements g false) || list_any (same_elem first) (elements g true)) ≡ true
-      by true first form = or_right _ _ (subst (λ e. list_any (same_elem e) (elements g true) ≡ true) (sym form.2) (edge_there g form.0 form.1 form.3))
-      by false first form = or_left _ _ (subst (λ e. list_any (same_elem e) (elements g false) ≡ true) (sym form.2) (node_there g form.0 form.1 form.3))
-
-  pub stands_itself : (var : ℕ) (elem : Elem) (elems : List Elem) → slice_get elems var ≡ Some elem → stands_at var elem elems ≡ true
-  stands_itself var elem elems at = ap (λ o. option_map_or (same_elem elem) o false) at ∙ itself elem
-
-  reached_has : (var : ℕ) (elem first : Elem) (elems : List Elem) → is_match resolved g pattern elems ≡ true → slice_get elems var ≡ Some elem → slice_get elems 0 ≡ Some first →
-      0 < length pattern.edge_vars → is_one_of (reached resolved g pattern var elem) first ≡ true
-  reached_has var elem first elems match at at_first some =
-      any_filter (same_elem first) (reaches resolved g pattern var elem) (elements g false ++ elements g true)
-      ∙ any_of (λ x. reaches resolved g pattern var elem x && same_elem first x) first (elements g false ++ elements g true) (is_there elems match first at_first some)
-      (and_from _ _ (match_given resolved g pattern (λ others. stands_at var elem others && starts_at first others) elems match
-      (and_from _ _ (stands_itself var elem elems at) (stands_itself 0 first elems at_first)))
-      (itself first))
 
 -- ---- one of two graphs
 
@@ -275,39 +197,41 @@ module _ (resolved : Resolved) (g h : Graph) where
 
   -- ---- both patterns of a key
 
-  module _ (elems : List Elem) (agree : AgreeBut (is_one_of elems) g h) (key : Key) (valid : is_valid_key key ≡ true) (x : Elem) where
-    pub found_is : is_one_of (found resolved g h key elems) x
-        ≡ list_any (λ elem. is_one_of (found_by resolved g h elem key) x) elems
-    found_is = any_flat_map (same_elem x) (λ elem. found_by resolved g h elem key) elems
+  pub found_is : (elems : List Elem) (key : Key) (x : Elem) →
+      is_one_of (found resolved g h key elems) x ≡ list_any (λ elem. is_one_of (found_by resolved g h elem key) x) elems
+  found_is elems key x = any_flat_map (same_elem x) (λ elem. found_by resolved g h elem key) elems
 
+  module _ (elems : List Elem) (key : Key) (agree : AgreeForKey resolved g h (is_one_of elems) key) (valid : is_valid_key key ≡ true) (x : Elem) where
     from_scope : list_any (λ elem. is_one_of (found_in resolved g h elem key.scope) x) elems ≡ true → is_one_of (found resolved g h key elems) x ≡ true
     from_scope some =
         let it = one_that (λ elem. is_one_of (found_in resolved g h elem key.scope) x) elems some in
-        found_is ∙ any_of (λ elem. is_one_of (found_by resolved g h elem key) x) it.0 elems it.1 (first_of x (found_in resolved g h it.0 key.scope) _ it.2)
+        found_is elems key x ∙ any_of (λ elem. is_one_of (found_by resolved g h elem key) x) it.0 elems it.1 (first_of x (found_in resolved g h it.0 key.scope) _ it.2)
 
     from_descriptor : list_any (λ elem. is_one_of (found_in resolved g h elem key.descriptor) x) elems ≡ true → is_one_of (found resolved g h key elems) x ≡ true
     from_descriptor some =
         let it = one_that (λ elem. is_one_of (found_in resolved g h elem key.descriptor) x) elems some in
-        found_is ∙ any_of (λ elem. is_one_of (found_by resolved g h elem key) x) it.0 elems it.1 (second_of x (found_in resolved g h it.0 key.scope) _ it.2)
+        found_is elems key x ∙ any_of (λ elem. is_one_of (found_by resolved g h elem key) x) it.0 elems it.1 (second_of x (found_in resolved g h it.0 key.scope) _ it.2)
 
     pub one_row : is_one_of (found resolved g h key elems) x ≡ false → HasOneRow resolved g h key x
     one_row none = record {
-      place = place_same resolved (is_one_of elems) g h agree key valid x
+      place = place_alike resolved g h (is_one_of elems) key agree valid x
           (or_from _ _
           (false_from_ne_true _ (λ some. both_ways _ none (from_scope (covered g is_before elems key.scope (patterns_valid key valid).0 x some))))
           (false_from_ne_true _ (λ some. both_ways _ none (from_scope (covered h is_after elems key.scope (patterns_valid key valid).0 x some)))));
-      values = values_same resolved (is_one_of elems) g h agree key valid x
+      values = key_values_alike resolved g h (is_one_of elems) key agree valid x
           (or_from _ _
           (false_from_ne_true _ (λ some. both_ways _ none (from_descriptor (covered g is_before elems key.descriptor (patterns_valid key valid).1 x some))))
           (false_from_ne_true _ (λ some. both_ways _ none (from_descriptor (covered h is_after elems key.descriptor (patterns_valid key valid).1 x some)))));
     }
 
-    -- so of an answer that has all that is found
-    pub answered : (items result : List Elem) → items ≡ found resolved g h key elems → ((y : Elem) → Contains items y → is_one_of result y ≡ true) → is_one_of result x ≡ false →
-        HasOneRow resolved g h key x
-    answered items result is kept none =
-        one_row (false_from_ne_true _ (λ some.
-        both_ways _ none (kept x (subst (λ xs. Contains xs x) (sym is) (contains_it (found resolved g h key elems) x some)))))
+  -- so of an answer that has all that is found from the seen elements of a change
+  pub answered : (elems : List Elem) → AgreeBut (is_one_of elems) g h → (key : Key) → is_valid_key key ≡ true → (x : Elem) (items result : List Elem) →
+      items ≡ found resolved g h key (seen_elems resolved g h key elems) → ((y : Elem) → Contains items y → is_one_of result y ≡ true) → is_one_of result x ≡ false →
+      HasOneRow resolved g h key x
+  answered elems agree key valid x items result is kept none =
+      one_row (seen_elems resolved g h key elems) key (change_agrees resolved g h key elems agree) valid x
+      (false_from_ne_true _ (λ some.
+      both_ways _ none (kept x (subst (λ xs. Contains xs x) (sym is) (contains_it (found resolved g h key (seen_elems resolved g h key elems)) x some)))))
 
   -- ---- a turn more of the loops
 

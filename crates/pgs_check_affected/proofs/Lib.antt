@@ -1,9 +1,14 @@
-pub mod Locality
+pub mod BoundEnds
 pub mod Touching
+pub mod Passing
+pub mod Agreeing
+pub mod Locality
+pub mod Unseen
 pub mod Finding
 pub mod Ending
 pub mod Apart
 pub mod Counting
 pub mod Knowing
 pub mod Loops
+pub mod Fronts
 pub mod Sorting

@@ -29,7 +29,7 @@ use Rattle.pgs_match.proofs.There.{edge_there}
 use Rattle.pgs_check_affected.specs.Changes.{elems_of}
 use Rattle.pgs_check_affected.specs.Local.{is_one_of, AgreeBut, has_touched_end}
 use Rattle.pgs_check_affected.specs.Touched.{is_beside, touched, is_near, AreSparse, IsSparseInBoth, AreSparseInBoth}
-use Rattle.pgs_check_affected.proofs.Locality.{ends_same}
+use Rattle.pgs_check_affected.proofs.BoundEnds.{ends_same}
 
 -- ---- tests of lists
 

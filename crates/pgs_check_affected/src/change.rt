@@ -1,24 +1,27 @@
 //! A pending change, read once for the searches of all keys.
 
-ghost use Rattle.std.specs.Prelude.{◌≡◌, ◌+◌, ◌*◌, ◌^◌, ◌≤◌, ◌++◌, ℕ, true, false, List as Items, length, map, IfOk, OnOk};
+ghost use Rattle.std.specs.Prelude.{◌≡◌, ◌+◌, ◌*◌, ◌^◌, ◌≤◌, ◌++◌, ℕ, true, false, List as Items, length, map, option_map, IfOk, OnOk};
 ghost use Rattle.std.specs.List.{All};
 ghost use Rattle.std.specs.Map.{keys_of};
 ghost use Rattle.pgs_base.specs.declared.element.Elem.{Elem};
 ghost use Rattle.pgs_base.specs.Order.{ascends, elem_cmp};
+ghost use Rattle.pgs_base.specs.Pair.{pair_of};
 ghost use Rattle.pgs_graph.specs.Changed.{changed, is_sound};
+ghost use Rattle.pgs_graph.specs.Reads.{edge_row};
 ghost use Rattle.pgs_syntax.specs.Matches.{carried};
 ghost use Rattle.pgs_syntax.specs.Valid.{is_valid_key_of};
 ghost use Rattle.pgs_match.specs.Planned.{most_edges};
-ghost use Rattle.pgs_check_affected.specs.Changes.{elems_of, known_in};
+ghost use Rattle.pgs_check_affected.specs.Changes.{elems_of, have_same_ends, known_in};
 ghost use Rattle.pgs_check_affected.specs.Local.{is_one_of, HasOneRow, IsAlike};
 ghost use Rattle.pgs_check_affected.specs.Touched.{touched, AreSparse, IsSparseInBoth, AreSparseInBoth};
+ghost use Rattle.pgs_check_affected.specs.Unseen.{seen_elems};
 
 use crate::Known;
 use crate::gathering::{found_by_all, in_order};
 use crate::meeting::can_meet;
 use pgs_base::{EdgeId, EdgeRow, Elem, List, Memory, NodeId, NodeRow, Steps};
 use pgs_conform::{Compiled, Pair};
-use pgs_graph::{Delta, GraphRead};
+use pgs_graph::{Delta, EdgeRef, GraphRead};
 use pgs_match::PlannedKey;
 use pgs_overlay::Overlay;
 use pgs_tables::Tables;
@@ -80,21 +83,49 @@ fn node_pair<'a, G: GraphRead, L: Ledger>(
     }
 }
 
-// What an edge carries, with one look-up.
-fn edge_pair<'a, G: GraphRead, L: Ledger>(
-    graph: &'a G,
-    id: EdgeId,
-    steps: &mut Steps<L>,
-) -> Option<Pair<'a>>
-    ensures value { result ≡ carried (G.meaning graph.now) (Elem.Edge id) }
-    ensures tick { steps.new ≡ steps.old + 1 }
+// Whether an edge is in neither of two graphs, or in both with the same ends.
+fn have_same_ends(before: &Option<EdgeRef<'_>>, after: &Option<EdgeRef<'_>>) -> bool
+    ensures { result ≡ have_same_ends
+        (option_map (λ edge. edge_row edge.source edge.target edge.labels.now edge.props.now) before.now)
+        (option_map (λ edge. edge_row edge.source edge.target edge.labels.now edge.props.now) after.now) }
 {
-    match graph.edge(id, steps) {
+    match (before, after) {
+        (Some(old), Some(new)) => old.source == new.source && old.target == new.target,
+        (None, None) => true,
+        _ => false,
+    }
+}
+
+// What an edge carries, where it is there.
+fn edge_pair<'a>(edge: &Option<EdgeRef<'a>>) -> Option<Pair<'a>>
+    ensures { result ≡ option_map (λ edge. pair_of edge.labels.now edge.props.now) edge.now }
+{
+    match edge {
         Some(edge) => Some(Pair {
             labels: edge.labels,
             props: edge.props,
         }),
         None => None,
+    }
+}
+
+// What is known of an edge, with two look-ups.
+fn known_edge<'a, G: GraphRead, H: GraphRead, L: Ledger>(
+    before: &'a G,
+    after: &'a H,
+    id: EdgeId,
+    steps: &mut Steps<L>,
+) -> Known<'a>
+    ensures value { result ≡ known_in (G.meaning before.now) (H.meaning after.now) (Elem.Edge id) }
+    ensures tick { steps.new ≡ steps.old + 2 }
+{
+    let old = before.edge(id, steps);
+    let new = after.edge(id, steps);
+    Known {
+        elem: Elem::Edge(id),
+        before: edge_pair(&old),
+        after: edge_pair(&new),
+        keeps_ends: have_same_ends(&old, &new),
     }
 }
 
@@ -117,6 +148,7 @@ fn add_nodes<'a, G: GraphRead, H: GraphRead, L: Ledger>(
             elem: Elem::Node(id),
             before: node_pair(before, id, steps),
             after: node_pair(after, id, steps),
+            keeps_ends: true,
         })?;
     }
     Ok(())
@@ -137,11 +169,7 @@ fn add_edges<'a, G: GraphRead, H: GraphRead, L: Ledger>(
 {
     for edge in edges {
         let id = edge.0;
-        known.push(Known {
-            elem: Elem::Edge(id),
-            before: edge_pair(before, id, steps),
-            after: edge_pair(after, id, steps),
-        })?;
+        known.push(known_edge(before, after, id, steps))?;
     }
     Ok(())
 }
@@ -193,6 +221,10 @@ impl<'a> Change<'a> {
     /// of one of them have more than d edges in either graph, where w is at least the number of edge variables of either pattern. Then
     /// it takes at most 1280 * u * (d + 2)^(w + 1) look-ups, gives at most 80 * u * (d + 2)^w elements, and no node within w edges of
     /// one of these has more than d edges.
+    ///
+    /// No search begins at an element that the key can't see change: by `seen` the look-ups are at most 1280 * s * (d + 2)^(w + 1), for
+    /// the s elements of the change whose own rows differ in what the key asks, where no node within w edges of one of these alone has
+    /// more than d edges. So none are made where there is no such element. The rule is `is_left_unseen` in `specs/Unseen.antt`.
     pub fn affected<L: Ledger>(
         &self,
         alloc: Global,
@@ -208,6 +240,8 @@ impl<'a> Change<'a> {
         ensures cost { (edges most : ℕ) → most_edges key.now ≤ edges →
             AreSparse self.now.before self.now.after (2 * edges) (touched self.now.before self.now.elems) most →
             steps.new ≤ steps.old + 1280 * length (touched self.now.before self.now.elems) * (most + 2) ^ (edges + 1) }
+        ensures seen { let seen = seen_elems compiled.now self.now.before self.now.after key.now self.now.elems in (most : ℕ) →
+            AreSparseInBoth self.now.before self.now.after (most_edges key.now) seen most → steps.new ≤ steps.old + 1280 * length seen * (most + 2) ^ (most_edges key.now + 1) }
         ensures few { (edges most : ℕ) → most_edges key.now ≤ edges →
             AreSparse self.now.before self.now.after (2 * edges) (touched self.now.before self.now.elems) most →
             IfOk result (λ elems. length elems ≤ 80 * length (touched self.now.before self.now.elems) * (most + 2) ^ edges) }

@@ -18,8 +18,10 @@ ghost use Rattle.pgs_check_affected.specs.Changes.{known_in};
 ghost use Rattle.pgs_check_affected.specs.Found.{edges_at, found_from, found_in, found_by, found};
 ghost use Rattle.pgs_check_affected.specs.Local.{is_one_of};
 ghost use Rattle.pgs_check_affected.specs.Touched.{IsSparseInBoth, AreSparseInBoth};
+ghost use Rattle.pgs_check_affected.specs.Unseen.{seen_elems};
 
 use crate::Known;
+use crate::seeing::is_left_unseen;
 use pgs_base::{Elem, List, Memory, NodeId, Steps};
 use pgs_conform::{Compiled, Pair};
 use pgs_graph::GraphRead;
@@ -269,7 +271,7 @@ fn add_found_by<G: GraphRead, H: GraphRead, L: Ledger>(
     Ok(())
 }
 
-/// What is found in both patterns of a key from the elements of a change.
+/// What is found in both patterns of a key from the elements of a change that the key may see change.
 pub(crate) fn found_by_all<G: GraphRead, H: GraphRead, L: Ledger>(
     alloc: Global,
     before: &G,
@@ -281,13 +283,18 @@ pub(crate) fn found_by_all<G: GraphRead, H: GraphRead, L: Ledger>(
 ) -> Result<Vec<Elem>, Memory>
     requires typed { is_valid_key_of compiled.now key.now ≡ true }
     requires known { known.now ≡ map (known_in (G.meaning before.now) (H.meaning after.now)) (map (λ (one : Known). one.elem) known.now) }
-    ensures found { IfOk result (λ elems. elems.items ≡ found compiled.now (G.meaning before.now) (H.meaning after.now) key.now (map (λ (one : Known). one.elem) known.now)) }
+    ensures found { IfOk result (λ elems. elems.items ≡ found compiled.now (G.meaning before.now) (H.meaning after.now) key.now
+        (seen_elems compiled.now (G.meaning before.now) (H.meaning after.now) key.now (map (λ (one : Known). one.elem) known.now))) }
     ensures no_step_back { steps.old ≤ steps.new }
-    ensures cost { (most : ℕ) → AreSparseInBoth (G.meaning before.now) (H.meaning after.now) (most_edges key.now) (map (λ (one : Known). one.elem) known.now) most →
-        steps.new ≤ steps.old + 1280 * length known.now * (most + 2) ^ (most_edges key.now + 1) }
+    ensures cost { (most : ℕ) → let seen = seen_elems compiled.now (G.meaning before.now) (H.meaning after.now) key.now (map (λ (one : Known). one.elem) known.now) in
+        AreSparseInBoth (G.meaning before.now) (H.meaning after.now) (most_edges key.now) seen most →
+        steps.new ≤ steps.old + 1280 * length seen * (most + 2) ^ (most_edges key.now + 1) }
 {
     let mut elems = Vec::new(alloc);
     for one in known {
+        if is_left_unseen(one, compiled, key) {
+            continue;
+        }
         add_found_by(alloc, before, after, one, compiled, key, &mut elems, steps)?;
     }
     Ok(elems)

@@ -3,6 +3,7 @@
 //! The law behind it, in [`laws`]: a match that binds no element of the change is a match before and after it, and gives the same tuple.
 //! So [`affected`] searches, in the old graph and in the new, the matches that bind one, and gives the elements at which they start
 //! (`specs/Local.antt`). How many look-ups that takes is bounded by the degrees near the change (`specs/Touched.antt`).
+//! No search begins at an element that the key can't see change (`specs/Unseen.antt`).
 //! A [`Change`] reads the rows of the delta's elements once, for the keys of a schema one after another.
 #![tactic(auto)]
 
@@ -13,6 +14,7 @@ mod known;
 pub mod laws;
 mod meeting;
 pub mod samples;
+mod seeing;
 
 pub use affecting::affected;
 pub use change::Change;

@@ -1,16 +1,19 @@
-use Rattle.std.proofs.Common.{◌≡◌, ◌+◌, ◌*◌, ◌^◌, ◌≤◌, true, length, map, sym, ap, ◌∙◌, subst, arith}
+use Rattle.std.proofs.Common.{◌≡◌, ℕ, ◌+◌, ◌*◌, ◌^◌, ◌≤◌, true, length, map, sym, ap, ◌∙◌, subst, arith}
 use Rattle.std.specs.List.{Contains}
 use Rattle.std.proofs.lemmas.Bool.{and_parts}
-use Rattle.std.proofs.lemmas.List.{length-map}
 use Rattle.pgs_base.specs.Graph.{is_graph}
 use Rattle.pgs_match.specs.Planned.{most_edges}
+use Rattle.pgs_syntax.specs.declared.key.Key.{Key}
+use Rattle.pgs_syntax.specs.declared.resolved.Resolved.{Resolved}
 use Rattle.pgs_check_affected.specs.declared.known.Known.{Known}
 use Rattle.pgs_check_affected.specs.Changes.{ChangeState, known_in}
 use Rattle.pgs_check_affected.specs.Found.{found}
 use Rattle.pgs_check_affected.specs.Local.{is_one_of, AgreeBut}
 use Rattle.pgs_check_affected.specs.Touched.{AreSparseInBoth}
+use Rattle.pgs_check_affected.specs.Unseen.{seen_elems}
 use Rattle.pgs_check_affected.proofs.Counting.{found_few, found_cost, own_sparse, all_near}
 use Rattle.pgs_check_affected.proofs.Finding.{answered}
+use Rattle.pgs_check_affected.proofs.Fronts.{seen_fewer, seen_found, seen_less, seen_sparse}
 use Rattle.pgs_check_affected.proofs.change.Change.affected.Goals as goal
 
 pub found_by_all-requires-clause-known : goal.found_by_all-requires-clause-known
@@ -27,13 +30,36 @@ returns-clause-holds g c = λ elem none.
     let key = c.args.key.now in
     let agree = subst (λ (s : ChangeState). AgreeBut (is_one_of s.elems) s.before s.after) c.self.view_is c.self.invariant.agree in
     let is = c.in_ok-found.ensures.found
-    ∙ ap (λ known. found resolved inside.before.now.graph inside.after.now key (map (λ (one : Known). one.elem) known)) c.as_slice-known.ensures
-    ∙ ap (λ (s : ChangeState). found resolved s.before s.after key s.elems) c.self.view_is in
+    ∙ ap (λ known. found resolved inside.before.now.graph inside.after.now key (seen_elems resolved inside.before.now.graph inside.after.now key (map (λ (one : Known). one.elem) known))) c.as_slice-known.ensures
+    ∙ ap (λ (s : ChangeState). found resolved s.before s.after key (seen_elems resolved s.before s.after key s.elems)) c.self.view_is in
     answered resolved change.before change.after change.elems agree key (and_parts _ _ (and_parts _ _ c.requires).0).0 elem c.in_ok-found.found.items c.in_order.result is c.in_order.ensures.kept none
+
+-- the look-ups by the elements of a change that a key may see
+abbrev SeenCost : Resolved → Key → ChangeState → ℕ → ℕ → Type 0
+SeenCost resolved key change start now =
+    (most : ℕ) → AreSparseInBoth change.before change.after (most_edges key) (seen_elems resolved change.before change.after key change.elems) most →
+    now ≤ start + 1280 * length (seen_elems resolved change.before change.after key change.elems) * (most + 2) ^ (most_edges key + 1)
+
+pub returns-in_err-found-clause-seen : goal.returns-in_err-found-clause-seen
+returns-in_err-found-clause-seen g c =
+    let inside = c.self.inside in
+    let resolved = c.args.compiled.now in
+    let key = c.args.key.now in
+    subst (λ (s : ChangeState). SeenCost resolved key s c.args.steps.now c.found_by_all.new.steps) c.self.view_is
+    (subst (λ known. SeenCost resolved key (record { before = inside.before.now.graph; after = inside.after.now; elems = map (λ (one : Known). one.elem) known }) c.args.steps.now c.found_by_all.new.steps)
+    c.as_slice-known.ensures c.found_by_all.ensures.cost)
+
+pub returns-clause-seen : goal.returns-clause-seen
+returns-clause-seen g c =
+    let inside = c.self.inside in
+    let resolved = c.args.compiled.now in
+    let key = c.args.key.now in
+    subst (λ (s : ChangeState). SeenCost resolved key s c.args.steps.now c.found_by_all.new.steps) c.self.view_is
+    (subst (λ known. SeenCost resolved key (record { before = inside.before.now.graph; after = inside.after.now; elems = map (λ (one : Known). one.elem) known }) c.args.steps.now c.found_by_all.new.steps)
+    c.as_slice-known.ensures c.found_by_all.ensures.cost)
 
 pub returns-in_err-found-clause-cost : goal.returns-in_err-found-clause-cost
 returns-in_err-found-clause-cost g c = λ edges most few sparse.
-    let inside = c.self.inside in
     let change = c.args.self.now in
     let resolved = c.args.compiled.now in
     let key = c.args.key.now in
@@ -43,16 +69,12 @@ returns-in_err-found-clause-cost g c = λ edges most few sparse.
     let after = subst (λ (s : ChangeState). is_graph s.after ≡ true) c.self.view_is c.self.invariant.after in
     let valid = (and_parts _ _ (and_parts _ _ c.requires).0).0 in
     let whole = own_sparse resolved change.before change.after before after key valid most change.elems agree edges few sparse in
-    let own = subst (λ (s : ChangeState). AreSparseInBoth s.before s.after w s.elems most) (sym c.self.view_is) whole in
-    let listed = subst (λ known. AreSparseInBoth inside.before.now.graph inside.after.now w (map (λ (one : Known). one.elem) known) most) (sym c.as_slice-known.ensures) own in
-    let count : length c.as_slice-known.result.now ≡ length change.elems =
-    ap (λ known. length known) c.as_slice-known.ensures ∙ sym (length-map inside.known (λ (one : Known). one.elem)) ∙ ap (λ (s : ChangeState). length s.elems) c.self.view_is in
     found_cost resolved change.before change.after before after key valid most change.elems agree edges few sparse c.args.steps.now c.found_by_all.new.steps
-    (subst (λ n. c.found_by_all.new.steps ≤ c.args.steps.now + 1280 * n * (most + 2) ^ (w + 1)) count (c.found_by_all.ensures.cost most listed))
+    (seen_less resolved change.before change.after key change.elems ((most + 2) ^ (w + 1)) c.args.steps.now c.found_by_all.new.steps
+    (returns-in_err-found-clause-seen g c most (seen_sparse resolved change.before change.after key change.elems w most whole)))
 
 pub returns-clause-cost : goal.returns-clause-cost
 returns-clause-cost g c = λ edges most few sparse.
-    let inside = c.self.inside in
     let change = c.args.self.now in
     let resolved = c.args.compiled.now in
     let key = c.args.key.now in
@@ -62,12 +84,9 @@ returns-clause-cost g c = λ edges most few sparse.
     let after = subst (λ (s : ChangeState). is_graph s.after ≡ true) c.self.view_is c.self.invariant.after in
     let valid = (and_parts _ _ (and_parts _ _ c.requires).0).0 in
     let whole = own_sparse resolved change.before change.after before after key valid most change.elems agree edges few sparse in
-    let own = subst (λ (s : ChangeState). AreSparseInBoth s.before s.after w s.elems most) (sym c.self.view_is) whole in
-    let listed = subst (λ known. AreSparseInBoth inside.before.now.graph inside.after.now w (map (λ (one : Known). one.elem) known) most) (sym c.as_slice-known.ensures) own in
-    let count : length c.as_slice-known.result.now ≡ length change.elems =
-    ap (λ known. length known) c.as_slice-known.ensures ∙ sym (length-map inside.known (λ (one : Known). one.elem)) ∙ ap (λ (s : ChangeState). length s.elems) c.self.view_is in
     found_cost resolved change.before change.after before after key valid most change.elems agree edges few sparse c.args.steps.now c.found_by_all.new.steps
-    (subst (λ n. c.found_by_all.new.steps ≤ c.args.steps.now + 1280 * n * (most + 2) ^ (w + 1)) count (c.found_by_all.ensures.cost most listed))
+    (seen_less resolved change.before change.after key change.elems ((most + 2) ^ (w + 1)) c.args.steps.now c.found_by_all.new.steps
+    (returns-clause-seen g c most (seen_sparse resolved change.before change.after key change.elems w most whole)))
 
 pub returns-clause-few : goal.returns-clause-few
 returns-clause-few g c = λ edges most few sparse.
@@ -80,11 +99,12 @@ returns-clause-few g c = λ edges most few sparse.
     let after = subst (λ (s : ChangeState). is_graph s.after ≡ true) c.self.view_is c.self.invariant.after in
     let valid = (and_parts _ _ (and_parts _ _ c.requires).0).0 in
     let is = c.in_ok-found.ensures.found
-    ∙ ap (λ known. found resolved inside.before.now.graph inside.after.now key (map (λ (one : Known). one.elem) known)) c.as_slice-known.ensures
-    ∙ ap (λ (s : ChangeState). found resolved s.before s.after key s.elems) c.self.view_is in
+    ∙ ap (λ known. found resolved inside.before.now.graph inside.after.now key (seen_elems resolved inside.before.now.graph inside.after.now key (map (λ (one : Known). one.elem) known))) c.as_slice-known.ensures
+    ∙ ap (λ (s : ChangeState). found resolved s.before s.after key (seen_elems resolved s.before s.after key s.elems)) c.self.view_is in
     let all = found_few resolved change.before change.after before after key valid most change.elems agree edges few sparse in
+    let less = seen_fewer resolved change.before change.after key change.elems in
     let size = ap (λ elems. length elems) is in
-    omega (arith, c.in_order.ensures.few, all, size)
+    omega (arith, c.in_order.ensures.few, all, less, size)
 
 pub returns-clause-near : goal.returns-clause-near
 returns-clause-near g c = λ edges most few sparse.
@@ -97,7 +117,7 @@ returns-clause-near g c = λ edges most few sparse.
     let after = subst (λ (s : ChangeState). is_graph s.after ≡ true) c.self.view_is c.self.invariant.after in
     let valid = (and_parts _ _ (and_parts _ _ c.requires).0).0 in
     let is = c.in_ok-found.ensures.found
-    ∙ ap (λ known. found resolved inside.before.now.graph inside.after.now key (map (λ (one : Known). one.elem) known)) c.as_slice-known.ensures
-    ∙ ap (λ (s : ChangeState). found resolved s.before s.after key s.elems) c.self.view_is in
+    ∙ ap (λ known. found resolved inside.before.now.graph inside.after.now key (seen_elems resolved inside.before.now.graph inside.after.now key (map (λ (one : Known). one.elem) known))) c.as_slice-known.ensures
+    ∙ ap (λ (s : ChangeState). found resolved s.before s.after key (seen_elems resolved s.before s.after key s.elems)) c.self.view_is in
     all_near resolved change.before change.after before after key valid most change.elems agree edges few sparse c.in_order.result
-    (λ x inside_it. subst (λ elems. Contains elems x) is (c.in_order.ensures.no_other x inside_it))
+    (λ x inside_it. seen_found resolved change.before change.after key change.elems x (subst (λ elems. Contains elems x) is (c.in_order.ensures.no_other x inside_it)))

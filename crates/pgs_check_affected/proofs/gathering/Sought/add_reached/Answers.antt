@@ -4,7 +4,7 @@ use Rattle.std.proofs.lemmas.Bool.{and_parts}
 use Rattle.pgs_match.specs.Planned.{pattern_of}
 use Rattle.pgs_match.specs.Tests.{own_passes}
 use Rattle.pgs_match.proofs.Scopes.{side_valid}
-use Rattle.pgs_check_affected.proofs.Finding.{reached_none}
+use Rattle.pgs_check_affected.proofs.Passing.{reached_none}
 use Rattle.pgs_check_affected.proofs.gathering.Sought.add_reached.Goals as goal
 
 pub returns-else-passes-clause-elems : goal.returns-else-passes-clause-elems
