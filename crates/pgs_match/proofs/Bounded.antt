@@ -26,7 +26,7 @@ use Rattle.pgs_match.proofs.There.{edge_kind, node_kind}
 
 -- ---- powers
 
-power_more : (d a w : ℕ) → a ≤ w → (d + 2) ^ a ≤ (d + 2) ^ w
+pub power_more : (d a w : ℕ) → a ≤ w → (d + 2) ^ a ≤ (d + 2) ^ w
 power_more d a zero less = let same : a ≡ 0 = omega arith in rw same (omega arith)
 power_more d a (suc w) less = by (one_or_other a (suc w)) (λ below. power_more d a w below)
   where
@@ -69,7 +69,7 @@ from_one d w last small =
 abbrev pub edge_weight : Bool → ℕ
 edge_weight kind = cond kind 1 0
 
-all_left : (edge_vars : List Bool) (n : ℕ) → (left edge_weight edge_vars (replicate n false) ≡ edge_count edge_vars) × (left (λ kind. 1) edge_vars (replicate n false) ≡ length edge_vars)
+pub all_left : (edge_vars : List Bool) (n : ℕ) → (left edge_weight edge_vars (replicate n false) ≡ edge_count edge_vars) × (left (λ kind. 1) edge_vars (replicate n false) ≡ length edge_vars)
 all_left [] n = (refl, refl)
 all_left (k ∷ ks) zero = let rest = all_left ks 0 in (omega (arith, rest.0), omega (arith, rest.1))
 all_left (k ∷ ks) (suc n) = let rest = all_left ks n in (omega (arith, rest.0), omega (arith, rest.1))

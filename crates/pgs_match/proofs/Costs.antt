@@ -38,7 +38,7 @@ ends (End edge node source ∷ plan) = suc (ends plan)
 
 -- ---- sums
 
-sum_most : {X : Type 0} (f : X → ℕ) (xs : List X) (most : ℕ) → ((i : ℕ) (x : X) → slice_get xs i ≡ Some x → f x ≤ most) → sum_by f xs ≤ length xs * most
+pub sum_most : {X : Type 0} (f : X → ℕ) (xs : List X) (most : ℕ) → ((i : ℕ) (x : X) → slice_get xs i ≡ Some x → f x ≤ most) → sum_by f xs ≤ length xs * most
 sum_most f [] most h = omega arith
 sum_most f (x ∷ xs) most h =
     let first = h 0 x refl in
@@ -87,7 +87,7 @@ module _ (resolved : Resolved) (g : Graph) (graph : is_graph g ≡ true) (atoms 
       by None row_at found = cc
       by (Some row) row_at found = inner row row_at (edge_passes resolved g atoms var row) found
 
-  node_near : (near : ℕ) (source : Bool) (var : ℕ) (o : Option Bound) (x : Bound) → ((y : Bound) → o ≡ Some y → IsNear g elem near y) →
+  pub node_near : (near : ℕ) (source : Bool) (var : ℕ) (o : Option Bound) (x : Bound) → ((y : Bound) → o ≡ Some y → IsNear g elem near y) →
       option_and_then (admitted_node resolved g atoms var) (end_at source o) ≡ Some x → IsNear g elem near x
   node_near near source var o x all admits = by (end_at source o) refl admits
     where
@@ -107,14 +107,14 @@ module _ (resolved : Resolved) (g : Graph) (graph : is_graph g ≡ true) (atoms 
       by (Some id) at found = inner id at found
 
   -- the edges along a near binding are few
-  few_edges : (forward : Bool) (near : ℕ) (o : Option Bound) → near ≤ w → ((y : Bound) → o ≡ Some y → IsNear g elem near y) → length (edges_along g forward o) ≤ d
+  pub few_edges : (forward : Bool) (near : ℕ) (o : Option Bound) → near ≤ w → ((y : Bound) → o ≡ Some y → IsNear g elem near y) → length (edges_along g forward o) ≤ d
   few_edges forward near None less all = omega arith
   few_edges forward near (Some (bounds.Edge id source target)) less all = omega arith
   few_edges forward near (Some (bounds.Node id)) less all =
       let degree = sparse id (within_less g elem near w id less (all (bounds.Node id) refl)) in let some = few_at g elem forward id in omega arith
 
   -- what is admitted by an edge along a near binding is near
-  edges_near : (forward : Bool) (near var : ℕ) (o : Option Bound) (i : ℕ) (id : EdgeId) (x : Bound) → ((y : Bound) → o ≡ Some y → IsNear g elem near y) →
+  pub edges_near : (forward : Bool) (near var : ℕ) (o : Option Bound) (i : ℕ) (id : EdgeId) (x : Bound) → ((y : Bound) → o ≡ Some y → IsNear g elem near y) →
       slice_get (edges_along g forward o) i ≡ Some id → admitted_edge resolved g atoms var id ≡ Some x → IsNear g elem (suc near) x
   edges_near forward near var None i id x all at admits = cc
   edges_near forward near var (Some (bounds.Edge edge source target)) i id x all at admits = cc

@@ -25,3 +25,9 @@ pub mod Planning
 pub mod Rates
 pub mod Walked
 pub mod FirstOfMatches
+pub mod Branching
+pub mod Hanging
+pub mod BranchCosts
+pub mod BranchSteps
+pub mod Asking
+pub mod Acyclic

@@ -34,10 +34,24 @@ any_value {K} {V} test passes (e ∷ es) v found h = by (test e.0) found (λ lat
     by false later rest = or_right _ _ (rest later)
 
 -- to what a variable is bound after it was bound
-bound_is : (b : List (Option Bound)) (var : ℕ) (x y : Bound) → bound_at (with_bound b var x) var ≡ Some y → x ≡ y
+pub bound_is : (b : List (Option Bound)) (var : ℕ) (x y : Bound) → bound_at (with_bound b var x) var ≡ Some y → x ≡ y
 bound_is [] var x y h = cc
 bound_is (o ∷ os) zero x y h = cc
 bound_is (o ∷ os) (suc var) x y h = bound_is os var x y h
+
+-- an edge that is listed at a node has the node as that end
+module _ (g : Graph) (graph : is_graph g ≡ true) where
+  listed_with : (end : End) (from : NodeId) (id : EdgeId) (row : EdgeRow) (i : ℕ) → slice_get (edges_with end from g.edges) i ≡ Some id → edge_at g id ≡ Some row → end_of end row ≡ from
+  listed_with end from id row i at row_at =
+      let ends = listed_end end from g graph i in
+      let here : option_map (end_of end) (edge_at g id) ≡ Some from = subst (λ o. IfSome o (λ edge. option_map (end_of end) (edge_at g edge) ≡ Some from)) at ends in
+      let e : Some (end_of end row) ≡ Some from = sym (ap (option_map (end_of end)) row_at) ∙ here in
+      cc
+
+  pub listed_from : (forward : Bool) (from : NodeId) (id : EdgeId) (row : EdgeRow) (i : ℕ) → slice_get (cond forward (out_edges_of g from) (in_edges_of g from)) i ≡ Some id → edge_at g id ≡ Some row →
+      cond forward row.source row.target ≡ from
+  listed_from true from id row i at row_at = listed_with Source from id row i at row_at
+  listed_from false from id row i at row_at = listed_with Target from id row i at row_at
 
 module _ (g : Graph) (elem : Elem) where
   pub within_more : (near more : ℕ) (id : NodeId) → is_within g near elem id ≡ true → is_within g (more + near) elem id ≡ true

@@ -34,7 +34,7 @@ side_valid Scope key valid = scope_valid key valid
 side_valid Descriptor key valid = descriptor_valid key valid
 
 -- each pattern of a valid key has a variable
-pattern_has : (pattern : Pattern) → is_valid_pattern pattern ≡ true → 0 < length pattern.edge_vars
+pub pattern_has : (pattern : Pattern) → is_valid_pattern pattern ≡ true → 0 < length pattern.edge_vars
 pattern_has pattern valid = leb-true 1 (length pattern.edge_vars) (and_parts _ _ (and_parts _ _ (and_parts _ _ (and_parts _ _ (and_parts _ _ valid).0).0).0).0).0
 
 pub some_variable : (key : Key) → is_valid_key key ≡ true → 0 < length key.descriptor.edge_vars

@@ -4,5 +4,6 @@ pub mod Bounds
 pub mod Near
 pub mod Reached
 pub mod Search
+pub mod Branches
 pub mod Tests
 pub mod Asks

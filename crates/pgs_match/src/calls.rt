@@ -4,6 +4,9 @@ ghost use Rattle.std.specs.Prelude.{◌≡◌, ◌+◌, ◌*◌, ◌^◌, ◌<�
 ghost use Rattle.pgs_syntax.specs.KeyValues.{is_in_scope, scope_of, key_values};
 ghost use Rattle.pgs_syntax.specs.Matches.{elements};
 ghost use Rattle.pgs_syntax.specs.Valid.{is_edge_var, is_valid_key_of};
+ghost use Rattle.pgs_match.specs.declared.step.Step.{Step};
+ghost use Rattle.pgs_match.specs.Branches.{has_no_cycle, walked_from};
+ghost use Rattle.pgs_match.specs.Plans.{is_plan};
 ghost use Rattle.pgs_match.specs.Near.{HasDegreesWithin, IsSparse};
 ghost use Rattle.pgs_match.specs.Reached.{reached};
 ghost use Rattle.pgs_match.specs.Planned.{most_edges, pattern_of, first_elem};
@@ -21,7 +24,8 @@ use std::sync::ledger::Ledger;
 /// `pgs_syntax`.
 ///
 /// It takes at most 16 * (d + 2)^(w + 1) look-ups, where w is the greater number of edge variables of the key's two patterns, and no
-/// node within w edges of the element has an in-degree plus out-degree over d.
+/// node within w edges of the element has an in-degree plus out-degree over d. Where the scope has no cycle its branches add: it takes at
+/// most 80 times the sum of the degrees plus 2 over all that walks along the scope from the element come to, each counted once a walk.
 pub fn in_scope<G: GraphRead, L: Ledger>(
     graph: &G,
     compiled: &Compiled,
@@ -34,6 +38,8 @@ pub fn in_scope<G: GraphRead, L: Ledger>(
     ensures no_step_back { steps.old ≤ steps.new }
     ensures cost { (most : ℕ) → IsSparse (G.meaning graph.now) (most_edges key.now) elem most →
         steps.new ≤ steps.old + 16 * (most + 2) ^ (most_edges key.now + 1) }
+    ensures adds { has_no_cycle key.now.scope ≡ true → (plan : List Step) × (is_plan key.now.scope 0 plan ≡ true)
+        × (steps.new ≤ steps.old + 80 * walked_from compiled.now (G.meaning graph.now) key.now.scope plan 0 elem) }
 {
     let place = Place {
         graph,

@@ -17,6 +17,7 @@ ghost use Rattle.pgs_match.specs.declared.step.Step.{Step};
 ghost use Rattle.pgs_match.specs.Plans.{is_plan};
 ghost use Rattle.pgs_match.specs.declared.bindings.Bound.{Bound};
 ghost use Rattle.pgs_match.specs.Bounds.{with_bound, nothing_bound, stands_at};
+ghost use Rattle.pgs_match.specs.Branches.{is_tree, has_no_cycle, can_be_given, asked_most, walked_from};
 ghost use Rattle.pgs_match.specs.Near.{IsSparse, IsNearTo};
 ghost use Rattle.pgs_match.specs.Reached.{reached};
 ghost use Rattle.pgs_match.specs.Search.{completions, can_complete, gathered, most_steps};
@@ -28,6 +29,34 @@ pub fn a_search_finds_a_match_where_there_is_one()
         (plan : List Step) → is_plan pattern var plan ≡ true → (elem : Elem) →
         option_map_or (λ bound. can_complete resolved g pattern.atoms plan (with_bound nothing_bound var bound)) (admitted resolved g pattern var elem) false
         ≡ list_any (stands_at var elem) (matches resolved g pattern) }
+{}
+
+/// Where a plan goes along each end of each edge place, all that hangs on a variable can be given an element exactly where some match
+/// has the variable's element there.
+pub fn a_tree_has_a_match_where_its_root_can_be_given()
+    ensures { (resolved : Resolved) (g : Graph) (pattern : Pattern) → is_graph g ≡ true → is_valid_pattern pattern ≡ true → (var : ℕ) →
+        var < length pattern.edge_vars → (plan : List Step) → is_plan pattern var plan ≡ true → is_tree pattern.atoms plan ≡ true → (elem : Elem) (bound : Bound) →
+        admitted resolved g pattern var elem ≡ Some bound →
+        can_be_given resolved g pattern.atoms plan var bound ≡ list_any (stands_at var elem) (matches resolved g pattern) }
+{}
+
+/// Where a valid pattern has no cycle, each plan of it has a step for each end of each edge place.
+pub fn a_plan_of_a_pattern_without_cycles_is_a_tree()
+    ensures { (pattern : Pattern) → is_valid_pattern pattern ≡ true → has_no_cycle pattern ≡ true → (var : ℕ) → var < length pattern.edge_vars →
+        (plan : List Step) → is_plan pattern var plan ≡ true → is_tree pattern.atoms plan ≡ true }
+{}
+
+/// Asking for each branch by itself takes few look-ups: within the bound of any search where no node near the element has many edges,
+/// and at most 80 times the sum of the degrees plus 2 over the walks along the plan. Three are taken before it begins.
+pub fn branches_add()
+    ensures sparse { (resolved : Resolved) (g : Graph) (pattern : Pattern) → is_graph g ≡ true → is_valid_pattern pattern ≡ true → (var : ℕ) →
+        var < length pattern.edge_vars → (plan : List Step) → is_plan pattern var plan ≡ true → (elem : Elem) (bound : Bound) →
+        admitted resolved g pattern var elem ≡ Some bound → (edges most : ℕ) → edge_count pattern.edge_vars ≤ edges → IsSparse g edges elem most →
+        3 + asked_most resolved g pattern.atoms plan var bound ≤ 16 * (most + 2) ^ (edges + 1) }
+    ensures walks { (resolved : Resolved) (g : Graph) (pattern : Pattern) → is_graph g ≡ true → is_valid_pattern pattern ≡ true → (var : ℕ) →
+        var < length pattern.edge_vars → (plan : List Step) → is_plan pattern var plan ≡ true → (elem : Elem) (bound : Bound) →
+        admitted resolved g pattern var elem ≡ Some bound →
+        3 + asked_most resolved g pattern.atoms plan var bound ≤ 80 * walked_from resolved g pattern plan var elem }
 {}
 
 /// What a search along a plan of the descriptor gathers from an element are the key values of the element.

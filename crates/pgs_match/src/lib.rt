@@ -17,6 +17,7 @@ mod admission;
 mod asked;
 mod bindings;
 mod branch;
+mod branches;
 mod calls;
 mod completion;
 mod copies;
@@ -30,6 +31,7 @@ pub mod samples;
 mod search;
 mod searching;
 mod step;
+mod trees;
 mod tuples;
 
 pub use bindings::{Bindings, Bound, MOST_VARIABLES};

@@ -7,11 +7,13 @@ ghost use Rattle.pgs_base.specs.Graph.{is_graph};
 ghost use Rattle.pgs_syntax.specs.Matches.{matches};
 ghost use Rattle.pgs_syntax.specs.Valid.{edge_count, is_valid_pattern, names_types};
 ghost use Rattle.pgs_match.specs.Plans.{is_plan};
+ghost use Rattle.pgs_match.specs.Branches.{is_tree, walked_from};
 ghost use Rattle.pgs_match.specs.Bounds.{with_bound, nothing_bound, stands_at};
 ghost use Rattle.pgs_match.specs.Near.{IsSparse};
 ghost use Rattle.pgs_match.specs.Search.{gathered};
 ghost use Rattle.pgs_match.specs.Tests.{admitted};
 
+use crate::trees::is_tree;
 use crate::{Bindings, Bound, Gathering, Search, Step};
 use pgs_base::{Elem, Memory, Steps, TupleSet};
 use pgs_conform::Compiled;
@@ -74,7 +76,8 @@ impl<'a, G: GraphRead> Place<'a, G> {
         }
     }
 
-    /// Whether some match has the element at the variable, by a plan from there.
+    /// Whether some match has the element at the variable, by a plan from there. Where the plan has a step for each end of each edge
+    /// place, each branch is asked by itself.
     pub(crate) fn has_match<L: Ledger>(
         &self,
         plan: &[Step],
@@ -90,10 +93,18 @@ impl<'a, G: GraphRead> Place<'a, G> {
         ensures no_step_back { steps.old ≤ steps.new }
         ensures cost { (w most : ℕ) → edge_count self.now.pattern.now.edge_vars ≤ w → IsSparse (G.meaning self.now.graph.now) w elem most →
             steps.new ≤ steps.old + 16 * (most + 2) ^ (w + 1) }
+        ensures adds { is_tree self.now.pattern.now.atoms plan.now ≡ true → steps.new ≤ steps.old
+            + 80 * walked_from self.now.compiled.now (G.meaning self.now.graph.now) self.now.pattern.now plan.now var elem }
     {
         let search = self.search();
         match self.begin(&search, var, elem, steps) {
-            Some(bound) => search.can_complete(plan, &Bindings::alone(var, bound), steps),
+            Some(bound) => {
+                if is_tree(search.atoms, plan) {
+                    search.can_be_given(plan, var, bound, steps)
+                } else {
+                    search.can_complete(plan, &Bindings::alone(var, bound), steps)
+                }
+            }
             None => false,
         }
     }

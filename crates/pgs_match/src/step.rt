@@ -1,5 +1,6 @@
 ghost use Rattle.std.specs.Prelude.{◌≡◌};
 ghost use Rattle.pgs_match.specs.Plans.{bound_by};
+ghost use Rattle.pgs_match.specs.Branches.{goes_from};
 
 /// One step of a plan. It binds one variable, from one that is bound already.
 #[derive(Clone, Copy, PartialEq, Eq)]
@@ -18,6 +19,16 @@ impl Step {
         match self {
             Step::Along { edge, .. } => edge,
             Step::End { node, .. } => node,
+        }
+    }
+
+    /// Whether the step goes from the variable.
+    pub(crate) fn goes_from(self, var: u32) -> bool
+        ensures { result ≡ goes_from var self }
+    {
+        match self {
+            Step::Along { node, .. } => node == var,
+            Step::End { edge, .. } => edge == var,
         }
     }
 }

@@ -1,11 +1,27 @@
-use Rattle.std.proofs.Common.{◌≤◌, sym, subst}
+use Rattle.std.proofs.Common.{◌≡◌, ◌+◌, ◌*◌, ◌≤◌, true, sym, subst}
 use Rattle.pgs_syntax.specs.Valid.{edge_count}
 use Rattle.pgs_match.specs.declared.planned.Side.TheVariants.{Scope}
+use Rattle.pgs_match.specs.Branches.{is_tree, walked_from}
 use Rattle.pgs_match.specs.Planned.{most_edges}
-use Rattle.pgs_match.proofs.Scopes.{side_edges}
+use Rattle.pgs_match.proofs.Acyclic.{plan_is_tree}
+use Rattle.pgs_match.proofs.Scopes.{pattern_has, side_edges}
+use Rattle.pgs_match.proofs.Values.{scope_valid}
 use Rattle.pgs_match.proofs.calls.in_scope.Goals as goal
 
 pub returns-clause-cost : goal.returns-clause-cost
 returns-clause-cost g c = λ most sparse.
     let key = c.args.key.now in
     c.has_match.ensures.cost (most_edges key) most (subst (λ p. edge_count p.edge_vars ≤ most_edges key) (sym c.pattern.ensures.pattern) (side_edges Scope key)) sparse
+
+pub returns-clause-adds : goal.returns-clause-adds
+returns-clause-adds g c = λ acyclic.
+    let key = c.args.key.now in
+    let valid = scope_valid key c.pattern.ensures.valid in
+    let plan = c.plan.result.now in
+    let same = c.pattern.ensures.pattern in
+    let tree = plan_is_tree key.scope valid acyclic 0 (pattern_has key.scope valid) plan c.plan.ensures in (
+      plan,
+      c.plan.ensures,
+      subst (λ p. c.has_match.new.steps ≤ c.args.steps.now + 80 * walked_from c.args.compiled.now (g.G.GraphRead.meaning c.args.graph.now) p plan 0 c.args.elem) same
+          (c.has_match.ensures.adds (subst (λ p. is_tree p.atoms plan ≡ true) (sym same) tree)),
+    )

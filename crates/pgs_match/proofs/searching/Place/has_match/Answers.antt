@@ -1,7 +1,54 @@
-use Rattle.std.proofs.Common.{ap, ◌∙◌, arith}
+use Rattle.std.proofs.Common.{ap, sym, ◌∙◌, arith}
 use Rattle.pgs_match.specs.Search.{can_complete, most_steps}
+use Rattle.pgs_match.proofs.Asking.{answer_with, few_asked, walks_asked, walks_without}
 use Rattle.pgs_match.proofs.Searched.{found_with, found_without, cost_with, cost_without}
 use Rattle.pgs_match.proofs.searching.Place.has_match.Goals as goal
+
+pub returns-then-is_tree-clause-found : goal.returns-then-is_tree-clause-found
+returns-then-is_tree-clause-found g c =
+    let place = c.args.self.now in
+    let graph = g.G.GraphRead.meaning place.graph.now in
+    let search = c.search-search.result in
+    let other = g.G.GraphRead.meaning search.graph.now in
+    answer_with place.compiled.now graph c.in-Some.ensures.graph place.pattern.now c.requires.valid c.args.var c.requires.in_range c.args.plan.now c.requires.plan c.args.elem c.in-Some.bound (sym c.in-Some.ensures.value)
+    search.compiled.now other search.atoms.now
+    (record {
+      schemas = ap (λ r. r.now) c.search-search.ensures.compiled;
+      graphs = ap (λ r. g.G.GraphRead.meaning r.now) c.search-search.ensures.graph;
+      lists = c.search-search.ensures.atoms;
+    })
+    (sym c.is_tree.ensures ∙ c.if-is_tree.true) c.can_be_given.result c.can_be_given.ensures.found
+
+pub returns-then-is_tree-clause-cost : goal.returns-then-is_tree-clause-cost
+returns-then-is_tree-clause-cost g c =
+    let place = c.args.self.now in
+    let graph = g.G.GraphRead.meaning place.graph.now in
+    let search = c.search-search.result in
+    let other = g.G.GraphRead.meaning search.graph.now in
+    few_asked place.compiled.now graph c.in-Some.ensures.graph place.pattern.now c.requires.valid c.args.var c.requires.in_range c.args.plan.now c.requires.plan c.args.elem c.in-Some.bound (sym c.in-Some.ensures.value)
+    search.compiled.now other search.atoms.now
+    (record {
+      schemas = ap (λ r. r.now) c.search-search.ensures.compiled;
+      graphs = ap (λ r. g.G.GraphRead.meaning r.now) c.search-search.ensures.graph;
+      lists = c.search-search.ensures.atoms;
+    })
+    c.args.steps.now c.begin.new.steps c.can_be_given.new.steps c.begin.ensures.at_most c.can_be_given.ensures.cost
+
+pub returns-then-is_tree-clause-adds : goal.returns-then-is_tree-clause-adds
+returns-then-is_tree-clause-adds g c =
+    let place = c.args.self.now in
+    let graph = g.G.GraphRead.meaning place.graph.now in
+    let search = c.search-search.result in
+    let other = g.G.GraphRead.meaning search.graph.now in
+    λ tree.
+    walks_asked place.compiled.now graph c.in-Some.ensures.graph place.pattern.now c.requires.valid c.args.var c.requires.in_range c.args.plan.now c.requires.plan c.args.elem c.in-Some.bound (sym c.in-Some.ensures.value)
+    search.compiled.now other search.atoms.now
+    (record {
+      schemas = ap (λ r. r.now) c.search-search.ensures.compiled;
+      graphs = ap (λ r. g.G.GraphRead.meaning r.now) c.search-search.ensures.graph;
+      lists = c.search-search.ensures.atoms;
+    })
+    c.args.steps.now c.begin.new.steps c.can_be_given.new.steps c.begin.ensures.at_most c.can_be_given.ensures.cost
 
 pub returns-in-Some-clause-found : goal.returns-in-Some-clause-found
 returns-in-Some-clause-found g c =
@@ -41,3 +88,8 @@ returns-clause-found g c =
 
 pub returns-clause-cost : goal.returns-clause-cost
 returns-clause-cost g c = λ w most few sparse. cost_without c.args.steps.now c.begin.new.steps c.begin.ensures.at_most w most
+
+pub returns-clause-adds : goal.returns-clause-adds
+returns-clause-adds g c =
+    let place = c.args.self.now in
+    λ tree. walks_without place.compiled.now (g.G.GraphRead.meaning place.graph.now) place.pattern.now c.args.plan.now c.args.var c.args.elem c.in-None.ensures.value c.args.steps.now c.begin.new.steps c.begin.ensures.at_most
