@@ -42,7 +42,7 @@ fn tuples_of(row: &KeyChange) -> &[Tuple]
 
 // Whether a tuple is among the key values that an element had, if any.
 fn is_former(former: Option<&TupleSet>, tuple: &Tuple) -> bool
-    ensures { result ≡ option_map_or (has_tuple tuple.now) (option_copied former) false }
+    ensures { result ≡ option_map_or (has_tuple tuple.now) (option_copied former.entry) false }
 {
     match former {
         Some(tuples) => tuples.contains(tuple),

@@ -9,7 +9,7 @@ use Rattle.pgs_keyindex.specs.Rows.{is_exclusive}
 use Rattle.pgs_check_affected.specs.Touched.{touched}
 use Rattle.pgs_check_affected.specs.Local.{is_one_of, HasOneRow, IsAlike}
 use Rattle.pgs_keyindex.specs.declared.change.KeyChange.{KeyChange}
-use Rattle.pgs_check.specs.Clashes.{look_ups, tuples_of}
+use Rattle.pgs_check.specs.Clashes.{tuples_of}
 use Rattle.pgs_check.proofs.Costly.{fewer_edges, look_ups_most, whole_key, rows_only, search_only}
 use Rattle.pgs_check.proofs.OneKey.{found_first, nothing_found, nothing_alike, no_rows, one_row, rows_are}
 use Rattle.pgs_check.proofs.Owned.{elems_again}

@@ -1,4 +1,4 @@
-use Rattle.std.proofs.Common.{◌≡◌, ◌∙◌, IfOk, ap, None, subst, sym, arith}
+use Rattle.std.proofs.Common.{◌≡◌, ◌+◌, ◌∙◌, IfOk, ap, None, subst, sym, arith}
 use Rattle.std.specs.Prelude.{count_by}
 use Rattle.std.proofs.lemmas.List.Sums.{sum_by-take-le}
 use Rattle.pgs_check_affected.specs.Local.{is_one_of}
@@ -60,3 +60,15 @@ returns-then-rows-lt2-clause-cost g c = let part = sum_by-take-le (look_ups c.ar
 
 pub returns-clause-cost : goal.returns-clause-cost
 returns-clause-cost g c = let part = sum_by-take-le (look_ups c.args.self.now.index.now.rows c.args.self.now.number) c.args.rows.now c.loop-row.row-index in omega (arith, c.loop-row.invariant.cost)
+
+pub returns-in_err-least-clause-cost : goal.returns-in_err-least-clause-cost
+returns-in_err-least-clause-cost g c =
+    let number = c.args.self.now.number in
+    let index = c.args.self.now.index.now.rows in
+    let rows = c.args.rows.now in
+    let i = c.loop-row.row-index in
+    let row = c.row-item.result in
+    let next = sum_next (look_ups index number) rows i row c.row-item.is c.loop-row-test.true in
+    let part = sum_by-take-le (look_ups index number) rows (i + 1) in
+    let same = ap (count_by (comes index number row.elem)) c.tuples_of-tuples.ensures in
+    omega (arith, c.loop-row.invariant.cost, c.with_owners_of.ensures.cost)
