@@ -36,7 +36,7 @@ module _ (test : List ℕ → Bool) where
   all_before k None rows own all = all
   all_before k (Some v) rows own all = and_from (test k) (list_all test (keys_of rows)) own all
 
-  all_plain : (ks : Names) (os : List Options) → list_all test ks ≡ true → list_all test (keys_of (plain_rows ks os)) ≡ true
+  pub all_plain : (ks : Names) (os : List Options) → list_all test ks ≡ true → list_all test (keys_of (plain_rows ks os)) ≡ true
   all_plain [] os all = refl
   all_plain (k ∷ ks) [] all = refl
   all_plain (k ∷ ks) (o ∷ os) all = let parts = and_parts _ _ all in all_before k (plainest o) (plain_rows ks os) parts.0 (all_plain ks os parts.1)
