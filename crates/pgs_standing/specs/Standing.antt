@@ -1,0 +1,30 @@
+-- What can stand under a guard: what a node and an edge may carry where each element must be typed if the guard is strict, and has a
+-- bounded number of labels and properties. It knows no shapes, and no keys.
+use Rattle.std.specs.Prelude.{ℕ, Bool, ◌&&◌, ◌||◌, not, nat_le, length}
+use Rattle.pgs_base.specs.declared.row.NodeRow.{NodeRow}
+use Rattle.pgs_syntax.specs.declared.resolved.Resolved.{Resolved}
+use Rattle.pgs_syntax.specs.Join.{Triple}
+use Rattle.pgs_syntax.specs.Typed.{is_typed_node, is_typed_triple}
+
+-- an element has at most 64 labels and 256 properties
+abbrev pub is_small : NodeRow → Bool
+is_small p = nat_le (length p.labels) 64 && nat_le (length p.props) 256
+
+abbrev pub is_small_triple : Triple → Bool
+is_small_triple t = is_small t.source && is_small t.own && is_small t.target
+
+-- whether the guard lets a node be of this pair, and an edge of this triple: it is loose, or they are typed
+abbrev pub admits_node : Resolved → NodeRow → Bool
+admits_node resolved p = not resolved.guard.strict || is_typed_node resolved p
+
+abbrev pub admits_edge : Resolved → Triple → Bool
+admits_edge resolved t = not resolved.guard.strict || is_typed_triple resolved t
+
+-- whether a node of this pair can stand
+abbrev pub can_stand_node : Resolved → NodeRow → Bool
+can_stand_node resolved p = is_small p && admits_node resolved p
+
+-- whether an edge of this triple can stand, as can both its ends
+abbrev pub can_stand_edge : Resolved → Triple → Bool
+can_stand_edge resolved t =
+    can_stand_node resolved t.source && can_stand_node resolved t.target && is_small t.own && admits_edge resolved t
