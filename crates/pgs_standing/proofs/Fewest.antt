@@ -14,14 +14,13 @@ use Rattle.pgs_syntax.proofs.Parts.{one_name}
 use Rattle.pgs_conform.specs.declared.options.Options.{Options}
 use Rattle.pgs_conform.specs.declared.shape.Shape.{Shape}
 use Rattle.pgs_conform.specs.Shapes.{admits, labels_meet, props_meet, in_shape}
-use Rattle.pgs_product.proofs.Asked.{all_has, has_all, has_found, labels_met, labels_meet_from}
-use Rattle.pgs_product.proofs.Keyed.{absent_below}
+use Rattle.pgs_product.proofs.Asked.{own_name, all_has, has_all, has_found, labels_met, labels_meet_from}
+use Rattle.pgs_product.proofs.Exact.{same_answer}
 use Rattle.pgs_product.proofs.United.{name_cmp, same_of, after, before_all}
 use Rattle.pgs_contain.specs.declared.outside.OwnedPair.{OwnedPair}
 use Rattle.pgs_contain.specs.Contained.{is_plain, is_plain_value, pair_in}
 use Rattle.pgs_contain.specs.Regions.{in_region, is_possible, plainest}
 use Rattle.pgs_contain.specs.Rows.{row_before, plain_rows}
-use Rattle.pgs_contain.proofs.Known.{same_swap}
 use Rattle.pgs_contain.proofs.Parts.{impossible}
 use Rattle.pgs_contain.proofs.Plain.{below_other, none_below, rows_in, rows_plain, all_plain, rows_ascend}
 use Rattle.pgs_standing.specs.Common.{are_possible, plain_props}
@@ -40,6 +39,11 @@ Props = List (List ℕ × Value)
 
 -- ---- names among others that ascend are no more than those
 
+same_swap : (a b : List ℕ) → same_name a b ≡ same_name b a
+same_swap a b =
+    same_answer (same_name a b) (same_name b a)
+    (λ e. ap (λ z. same_name b z) (one_name a b e) ∙ own_name b) (λ e. ap (λ z. same_name a z) (one_name b a e) ∙ own_name a)
+
 -- names above one that are among it and others are among the others
 in_later : (y : List ℕ) (ys xs : Names) → list_all (λ x. is_lt (name_cmp y x)) xs ≡ true → list_all (λ x. has_name x (y ∷ ys)) xs ≡ true → list_all (λ x. has_name x ys) xs ≡ true
 in_later y ys [] above all = refl
@@ -53,8 +57,8 @@ in_later y ys (x ∷ xs) above all =
 -- names that ascend and are all among names that ascend are no more
 pub no_more : (xs ys : Names) → ascends name_cmp xs ≡ true → ascends name_cmp ys ≡ true → list_all (λ x. has_name x ys) xs ≡ true → length xs ≤ length ys
 no_more [] ys up over all = omega arith
-no_more (x ∷ xs) [] up over all = absurd (true≢false (sym (and_parts _ _ all).0))
-no_more (x ∷ xs) (y ∷ ys) up over all = by (name_cmp x y) refl
+no_more (x ∷ xs) [] up over all = absurd (true≢false (sym (and_parts (has_name x []) (list_all (λ z. has_name z []) xs) all).0))
+no_more (x ∷ xs) (y ∷ ys) up over all = by (name_cmp x y) refl (λ h. no_more xs ys ups.1 overs.1 h) (λ h. no_more (x ∷ xs) ys up overs.1 h)
   where
     ups : (list_all (λ later. is_lt (name_cmp x later)) xs ≡ true) × (ascends name_cmp xs ≡ true)
     ups = and_parts _ _ up
@@ -62,18 +66,17 @@ no_more (x ∷ xs) (y ∷ ys) up over all = by (name_cmp x y) refl
     overs : (list_all (λ later. is_lt (name_cmp y later)) ys ≡ true) × (ascends name_cmp ys ≡ true)
     overs = and_parts _ _ over
 
-    by : (o : Ordering) → name_cmp x y ≡ o → length (x ∷ xs) ≤ length (y ∷ ys)
-    by Less e =
-        absurd (true≢false (sym (and_parts _ _ all).0
-        ∙ none_below x (y ∷ ys) (and_from _ _ (ap is_lt e) (before_all x y ys e overs.0))))
-    by Equal e =
-        let same = same_of x y e in
-        let above = ap (λ z. list_all (λ later. is_lt (name_cmp z later)) xs) (sym same) ∙ ups.0 in
-        let rest = no_more xs ys ups.1 overs.1 (in_later y ys xs above (and_parts _ _ all).1) in
+    by : (o : Ordering) → name_cmp x y ≡ o → (list_all (λ z. has_name z ys) xs ≡ true → length xs ≤ length ys) →
+        (list_all (λ z. has_name z ys) (x ∷ xs) ≡ true → length (x ∷ xs) ≤ length ys) → length (x ∷ xs) ≤ length (y ∷ ys)
+    by Less e both later =
+        absurd (true≢false (sym (and_parts (has_name x (y ∷ ys)) (list_all (λ z. has_name z (y ∷ ys)) xs) all).0 ∙ none_below x (y ∷ ys) (and_from _ _ (ap is_lt e) (before_all x y ys e overs.0))))
+    by Equal e both later =
+        let above = ap (λ z. list_all (λ after. is_lt (name_cmp z after)) xs) (sym (same_of x y e)) ∙ ups.0 in
+        let rest : length xs ≤ length ys = both (in_later y ys xs above (and_parts _ _ all).1) in
         omega arith
-    by Greater e =
+    by Greater e both later =
         let below = after x y e in
-        let rest = no_more (x ∷ xs) ys up overs.1 (in_later y ys (x ∷ xs) (and_from _ _ (ap is_lt below) (before_all y x xs below ups.0)) all) in
+        let rest : length (x ∷ xs) ≤ length ys = later (in_later y ys (x ∷ xs) (and_from _ _ (ap is_lt below) (before_all y x xs below ups.0)) all) in
         omega arith
 
 -- ---- the plainest properties of keys
@@ -145,8 +148,8 @@ module _ (shape : Shape) where
   test p = is_small p && in_shape shape p
 
   -- where nothing may stand at some key, no pair is in the shape
-  pub impossible : are_possible shape.keys ≡ false → NonePasses by_nodes test
-  impossible none q pair = false_from_ne_true (test q) (λ h.
+  pub never_possible : are_possible shape.keys ≡ false → NonePasses by_nodes test
+  never_possible none q pair = false_from_ne_true (test q) (λ h.
       true≢false (sym (all_may_stand shape.keys q.props (and_parts _ _ (and_parts _ _ (and_parts (is_small q) (in_shape shape q) h).1).1).0) ∙ none))
 
   module _ (own : OwnedPair) (made : (is_pair (pair_in own) ≡ true) × (own.labels ≡ shape.labels) × (own.props ≡ plain_props shape.keys)) where
@@ -160,7 +163,7 @@ module _ (shape : Shape) where
 
     pub fewer_props : (q : NodeRow) → is_pair q ≡ true → in_shape shape q ≡ true → length own.props ≤ length q.props
     fewer_props q pair inside =
-        let few =
+        let few : length (keys_of own.props) ≤ length (keys_of q.props) =
         no_more (keys_of own.props) (keys_of q.props) (keys_up (pair_in own) made.0) (keys_up q pair)
         (ap (λ props. list_all (λ k. has_name k (keys_of q.props)) (keys_of props)) made.2 ∙ rows_stand shape.keys q.props (and_parts _ _ (and_parts _ _ inside).1).0) in
         omega (arith, few, length-map own.props (λ (e : List ℕ × Value). e.0), length-map q.props (λ (e : List ℕ × Value). e.0))

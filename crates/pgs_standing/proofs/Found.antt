@@ -1,8 +1,9 @@
 -- What is found among shapes, one more at a time, and among those of a type and of what can stand.
-use Rattle.std.proofs.Common.{◌≡◌, ℕ, ◌+◌, ◌<◌, Bool, true, false, ◌&&◌, ◌||◌, not, List, [], ◌∷◌, ◌++◌, length, take, get_or, Option, refl, sym, ◌∙◌, ap}
+use Rattle.std.proofs.Common.{◌≡◌, ℕ, ◌+◌, ◌<◌, Bool, true, false, ◌&&◌, ◌||◌, not, List, [], ◌∷◌, ◌++◌, length, take, get_or, Option, Some, None, refl, sym, ◌∙◌, ap}
 use Rattle.std.specs.List.{list_any}
 use Rattle.std.proofs.Math.Bool.{or-false}
 use Rattle.std.proofs.lemmas.Bool.{and_parts, and_from}
+use Rattle.std.proofs.lemmas.Option.{MatchOption-at_some, MatchOption-at_none}
 use Rattle.std.proofs.lemmas.List.{take_more}
 use Rattle.std.proofs.lemmas.List.Folds.{list_any-append}
 use Rattle.pgs_base.specs.declared.row.NodeRow.{NodeRow}
@@ -20,7 +21,7 @@ use Rattle.pgs_contain.specs.declared.triples.OwnedTriple.{OwnedTriple}
 use Rattle.pgs_contain.specs.Contained.{pair_in}
 use Rattle.pgs_contain.specs.Threes.{owned_triple}
 use Rattle.pgs_standing.specs.Common.{ends_in}
-use Rattle.pgs_standing.specs.Example.{by_nodes, by_edges, NonePasses, IsFoundPair, IsFoundTriple, serves_node, serves_edge}
+use Rattle.pgs_standing.specs.Example.{by_nodes, by_edges, NonePasses, IsPlainest, IsFoundPair, IsFoundTriple, serves_node, serves_edge}
 use Rattle.pgs_standing.specs.Standing.{is_small, is_small_triple, admits_node, admits_edge, can_stand_node}
 use Rattle.pgs_standing.proofs.Chosen.{found_same}
 
@@ -28,6 +29,13 @@ any_more : {S : Type 0} (q : S → Bool) (xs : List S) (i : ℕ) (x : S) → i <
 any_more q xs i x lt is =
     sym (ap (list_any q) (take_more xs i x lt ∙ ap (λ y. take i xs ++ y ∷ []) (sym is)) ∙ list_any-append q (take i xs) (x ∷ [])
     ∙ ap (λ b. list_any q (take i xs) || b) (or-false (q x)))
+
+-- what was found, where it is known which
+pub found_none : (test : NodeRow → Bool) (answer : Option OwnedPair) → answer ≡ None → IsFoundPair test answer → NonePasses by_nodes test
+found_none test answer is h = MatchOption-at_none (NonePasses by_nodes test) (λ own. IsPlainest by_nodes test (pair_in own)) is h
+
+pub found_some : (test : NodeRow → Bool) (answer : Option OwnedPair) (own : OwnedPair) → answer ≡ Some own → IsFoundPair test answer → IsPlainest by_nodes test (pair_in own)
+found_some test answer own is h = MatchOption-at_some (NonePasses by_nodes test) (λ one. IsPlainest by_nodes test (pair_in one)) own is h
 
 -- the choice between two that were found
 abbrev pub ChoosesPair : Option OwnedPair → Option OwnedPair → Option OwnedPair → Type 0
@@ -60,18 +68,14 @@ never_second : (s : Bool) → (s && false) ≡ false
 never_second true = refl
 never_second false = refl
 
-pub no_others : (shape : Shape) → NonePasses by_nodes (λ p. is_small p && (in_shape shape p && in_some [] p))
-no_others shape q pair = never_last (is_small q) (in_shape shape q)
-
-pub no_shapes : (others : List Shape) → NonePasses by_nodes (λ p. is_small p && (in_some [] p && in_some others p))
-no_shapes others q pair = never_second (is_small q)
-
 pub other_more : (shape : Shape) (others : List Shape) (i : ℕ) (other : Shape) (found next result : Option OwnedPair) → i < length others → other ≡ get_or others i other →
     ChoosesPair found next result → IsFoundPair (λ p. is_small p && (in_shape shape p && in_some (take i others) p)) found →
     IsFoundPair (λ p. is_small p && (in_shape shape p && in_shape other p)) next →
     IsFoundPair (λ p. is_small p && (in_shape shape p && in_some (take (i + 1) others) p)) result
 other_more shape others i other found next result lt is chooses before here =
-    found_same by_nodes pair_in _ _ result
+    found_same by_nodes pair_in
+    (λ p. (is_small p && (in_shape shape p && in_some (take i others) p)) || (is_small p && (in_shape shape p && in_shape other p)))
+    (λ p. is_small p && (in_shape shape p && in_some (take (i + 1) others) p)) result
     (λ q pair. last_of_three (is_small q) (in_shape shape q) (in_some (take i others) q) (in_shape other q)
     ∙ ap (λ b. is_small q && (in_shape shape q && b)) (any_more (λ s. in_shape s q) others i other lt is))
     (chooses (λ p. is_small p && (in_shape shape p && in_some (take i others) p)) (λ p. is_small p && (in_shape shape p && in_shape other p)) before here)
@@ -81,7 +85,9 @@ pub shape_more : (shapes others : List Shape) (i : ℕ) (shape : Shape) (found n
     IsFoundPair (λ p. is_small p && (in_shape shape p && in_some others p)) next →
     IsFoundPair (λ p. is_small p && (in_some (take (i + 1) shapes) p && in_some others p)) result
 shape_more shapes others i shape found next result lt is chooses before here =
-    found_same by_nodes pair_in _ _ result
+    found_same by_nodes pair_in
+    (λ p. (is_small p && (in_some (take i shapes) p && in_some others p)) || (is_small p && (in_shape shape p && in_some others p)))
+    (λ p. is_small p && (in_some (take (i + 1) shapes) p && in_some others p)) result
     (λ q pair. second_of_three (is_small q) (in_some (take i shapes) q) (in_shape shape q) (in_some others q)
     ∙ ap (λ b. is_small q && (b && in_some others q)) (any_more (λ s. in_shape s q) shapes i shape lt is))
     (chooses (λ p. is_small p && (in_some (take i shapes) p && in_some others p)) (λ p. is_small p && (in_shape shape p && in_some others p)) before here)
@@ -94,7 +100,7 @@ second_of_four true false m n e = refl
 second_of_four false a m n e = refl
 
 first_of_four : (s m n o e : Bool) → ((s && ((m && o) && e)) || (s && ((n && o) && e))) ≡ (s && (((m || n) && o) && e))
-first_of_four s m n true e = ap (λ b. (s && ((m && true) && e)) || b) refl ∙ by s m n e
+first_of_four s m n true e = by s m n e
   where
     by : (s m n e : Bool) → ((s && ((m && true) && e)) || (s && ((n && true) && e))) ≡ (s && (((m || n) && true) && e))
     by true true true true = refl
@@ -119,16 +125,16 @@ never_second_of_four false a e = refl
 pub no_other_triples : (shapes : ShapeTriple) (nodes : List Shape) → NonePasses by_edges (λ t. is_small_triple t && (in_triple shapes t && in_some_triple [] t && ends_in nodes t))
 no_other_triples shapes nodes t is = never_second_of_four (is_small_triple t) (in_triple shapes t) (ends_in nodes t)
 
-pub no_triples : (others : List ShapeTriple) (nodes : List Shape) → NonePasses by_edges (λ t. is_small_triple t && (in_some_triple [] t && in_some_triple others t && ends_in nodes t))
-no_triples others nodes t is = never_second (is_small_triple t)
-
 pub other_triple_more : (shapes : ShapeTriple) (others : List ShapeTriple) (nodes : List Shape) (i : ℕ) (other : ShapeTriple) (found next result : Option OwnedTriple) →
     i < length others → other ≡ get_or others i other → ChoosesTriple found next result →
     IsFoundTriple (λ t. is_small_triple t && (in_triple shapes t && in_some_triple (take i others) t && ends_in nodes t)) found →
     IsFoundTriple (λ t. is_small_triple t && (in_triple shapes t && in_triple other t && ends_in nodes t)) next →
     IsFoundTriple (λ t. is_small_triple t && (in_triple shapes t && in_some_triple (take (i + 1) others) t && ends_in nodes t)) result
 other_triple_more shapes others nodes i other found next result lt is chooses before here =
-    found_same by_edges owned_triple _ _ result
+    found_same by_edges owned_triple
+    (λ t. (is_small_triple t && (in_triple shapes t && in_some_triple (take i others) t && ends_in nodes t))
+    || (is_small_triple t && (in_triple shapes t && in_triple other t && ends_in nodes t)))
+    (λ t. is_small_triple t && (in_triple shapes t && in_some_triple (take (i + 1) others) t && ends_in nodes t)) result
     (λ t triple. second_of_four (is_small_triple t) (in_triple shapes t) (in_some_triple (take i others) t) (in_triple other t) (ends_in nodes t)
     ∙ ap (λ b. is_small_triple t && ((in_triple shapes t && b) && ends_in nodes t)) (any_more (λ s. in_triple s t) others i other lt is))
     (chooses (λ t. is_small_triple t && (in_triple shapes t && in_some_triple (take i others) t && ends_in nodes t))
@@ -140,7 +146,10 @@ pub triple_more : (triples others : List ShapeTriple) (nodes : List Shape) (i : 
     IsFoundTriple (λ t. is_small_triple t && (in_triple shapes t && in_some_triple others t && ends_in nodes t)) next →
     IsFoundTriple (λ t. is_small_triple t && (in_some_triple (take (i + 1) triples) t && in_some_triple others t && ends_in nodes t)) result
 triple_more triples others nodes i shapes found next result lt is chooses before here =
-    found_same by_edges owned_triple _ _ result
+    found_same by_edges owned_triple
+    (λ t. (is_small_triple t && (in_some_triple (take i triples) t && in_some_triple others t && ends_in nodes t))
+    || (is_small_triple t && (in_triple shapes t && in_some_triple others t && ends_in nodes t)))
+    (λ t. is_small_triple t && (in_some_triple (take (i + 1) triples) t && in_some_triple others t && ends_in nodes t)) result
     (λ t triple. first_of_four (is_small_triple t) (in_some_triple (take i triples) t) (in_triple shapes t) (in_some_triple others t) (ends_in nodes t)
     ∙ ap (λ b. is_small_triple t && ((b && in_some_triple others t) && ends_in nodes t)) (any_more (λ s. in_triple s t) triples i shapes lt is))
     (chooses (λ t. is_small_triple t && (in_some_triple (take i triples) t && in_some_triple others t && ends_in nodes t))
@@ -156,7 +165,7 @@ swap_first false false c = refl
 pub node_served : (resolved : Resolved) (number : ℕ) (shapes standing : List Shape) (answer : Option OwnedPair) → Denotes shapes (fits_node resolved number) →
     Denotes standing (admits_node resolved) → IsFoundPair (λ p. is_small p && (in_some shapes p && in_some standing p)) answer → IsFoundPair (serves_node resolved number) answer
 node_served resolved number shapes standing answer own stands h =
-    found_same by_nodes pair_in _ (serves_node resolved number) answer
+    found_same by_nodes pair_in (λ p. is_small p && (in_some shapes p && in_some standing p)) (serves_node resolved number) answer
     (λ q pair. swap_first (is_small q) (in_some shapes q) (in_some standing q) ∙ ap (λ b. b && (is_small q && in_some standing q)) (own q pair)
     ∙ ap (λ b. fits_node resolved number q && (is_small q && b)) (stands q pair)) h
 
@@ -187,7 +196,8 @@ pub edge_served : (resolved : Resolved) (number : ℕ) (triples standing : List 
     DenotesTriples triples (fits_edge resolved number) → DenotesTriples standing (admits_edge resolved) → Denotes nodes (admits_node resolved) →
     IsFoundTriple (λ t. is_small_triple t && (in_some_triple triples t && in_some_triple standing t && ends_in nodes t)) answer → IsFoundTriple (serves_edge resolved number) answer
 edge_served resolved number triples standing nodes answer own stands ends h =
-    found_same by_edges owned_triple _ (serves_edge resolved number) answer
+    found_same by_edges owned_triple (λ t. is_small_triple t && (in_some_triple triples t && in_some_triple standing t && ends_in nodes t))
+    (serves_edge resolved number) answer
     (λ t triple.
     let outer = and_parts _ _ triple in
     let inner = and_parts _ _ outer.0 in

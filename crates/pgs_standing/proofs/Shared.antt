@@ -1,5 +1,6 @@
 -- What is in two shapes is what is in the shape that they have in common.
 use Rattle.std.proofs.Common.{◌≡◌, ℕ, Bool, true, false, ◌&&◌, ◌||◌, cond, List, [], ◌∷◌, map, Option, Some, None, unwrap_or, refl, sym, ◌∙◌, ap, ⊎_elim}
+use Rattle.std.specs.List.{list_all}
 use Rattle.std.specs.Map.{keys_of, lookup}
 use Rattle.std.proofs.lemmas.Bool.{true≢false, and_parts, and_from, and_cases, or_cases, or_left, or_right, or_parts, false_from_ne_true}
 use Rattle.pgs_base.specs.declared.row.NodeRow.{NodeRow}
@@ -30,6 +31,16 @@ Props = List (List ℕ × Value)
 
 pub keys_up : (p : NodeRow) → is_pair p ≡ true → ascends name_cmp (keys_of p.props) ≡ true
 keys_up p pair = (and_parts _ _ (and_parts _ _ (and_parts _ _ pair).1).0).0
+
+-- a shape that asks nothing and is free in all has each pair
+all_pass : {X : Type 0} (test : X → Bool) (xs : List X) → ((x : X) → test x ≡ true) → list_all test xs ≡ true
+all_pass test [] h = refl
+all_pass test (x ∷ xs) h = and_from _ _ (h x) (all_pass test xs h)
+
+pub any_inside : (labels : Names) (keys : Keys) → labels ≡ [] → keys ≡ [] → (p : NodeRow) → (labels_meet labels true p.labels && props_meet keys true p.props) ≡ true
+any_inside labels keys none nothing p =
+    and_from _ _ (ap (λ ls. labels_meet ls true p.labels) none ∙ all_pass (λ label. true) p.labels (λ label. refl))
+    (ap (λ ks. props_meet ks true p.props) nothing ∙ all_pass (λ entry. true) p.props (λ entry. refl))
 
 module _ (a b : Shape) where
   pub keys_common : (names : Names) → keys_of (map (common_key a b) names) ≡ names
@@ -66,23 +77,17 @@ module _ (a b : Shape) where
   props_common : (names : Names) → ascends name_cmp names ≡ true → AreNamesOfBoth names → (props : Props) → ascends name_cmp (keys_of props) ≡ true →
       props_meet (map (common_key a b) names) (a.more_keys && b.more_keys) props ≡ (props_meet a.keys a.more_keys props && props_meet b.keys b.more_keys props)
   props_common names up same props there =
-      same_answer (props_meet keys more props) (props_meet a.keys a.more_keys props && props_meet b.keys b.more_keys props)
+      same_answer (props_meet (map (common_key a b) names) (a.more_keys && b.more_keys) props) (props_meet a.keys a.more_keys props && props_meet b.keys b.more_keys props)
       (λ h. and_from _ _
       (props_meet_from a.keys a.more_keys props a.ascending there (λ k. (both k h).0))
       (props_meet_from b.keys b.more_keys props b.ascending there (λ k. (both k h).1)))
       (λ h.
-      let parts = and_parts _ _ h in
-      props_meet_from keys more props (ap (ascends name_cmp) (keys_common names) ∙ up) there
+      let parts = and_parts (props_meet a.keys a.more_keys props) (props_meet b.keys b.more_keys props) h in
+      props_meet_from (map (common_key a b) names) (a.more_keys && b.more_keys) props (ap (ascends name_cmp) (keys_common names) ∙ up) there
       (λ k. ap (λ o. admits o (value_at k props)) (options_common names same k)
       ∙ admits_common (options_at a.keys a.more_keys k) (options_at b.keys b.more_keys k) (value_at k props)
       ∙ and_from _ _ (props_met a.keys a.more_keys props parts.0 k) (props_met b.keys b.more_keys props parts.1 k)))
     where
-      keys : Keys
-      keys = map (common_key a b) names
-
-      more : Bool
-      more = a.more_keys && b.more_keys
-
       both : (k : List ℕ) → props_meet (map (common_key a b) names) (a.more_keys && b.more_keys) props ≡ true →
           (admits (options_at a.keys a.more_keys k) (value_at k props) ≡ true) × (admits (options_at b.keys b.more_keys k) (value_at k props) ≡ true)
       both k h =

@@ -7,16 +7,16 @@
 #![tactic(auto)]
 
 mod choice;
-mod common;
+mod in_common;
 mod example;
 mod limits;
 mod pairs;
-mod plain_pair;
+mod least;
 mod standing;
 mod triples;
 
-pub use common::{common, common_triple};
+pub use in_common::{common, common_triple};
 pub use example::example_of;
 pub use limits::{MOST_LABELS, MOST_PROPS};
-pub use plain_pair::plain_pair;
+pub use least::plain_pair;
 pub use standing::{standing_shapes, standing_triples};

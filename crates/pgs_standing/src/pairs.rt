@@ -6,8 +6,8 @@ ghost use Rattle.pgs_standing.specs.Example.{IsFoundPair};
 ghost use Rattle.pgs_standing.specs.Standing.{is_small};
 
 use crate::choice::smaller_pair;
-use crate::common::common;
-use crate::plain_pair::plain_pair;
+use crate::in_common::common;
+use crate::least::plain_pair;
 use pgs_base::Memory;
 use pgs_conform::Shape;
 use pgs_contain::OwnedPair;

@@ -7,9 +7,9 @@ ghost use Rattle.pgs_standing.specs.Example.{IsFoundTriple};
 ghost use Rattle.pgs_standing.specs.Standing.{is_small_triple};
 
 use crate::choice::smaller_triple;
-use crate::common::common_triple;
+use crate::in_common::common_triple;
 use crate::pairs::plain_in_some;
-use crate::plain_pair::plain_pair;
+use crate::least::plain_pair;
 use pgs_base::Memory;
 use pgs_conform::{Shape, Triple};
 use pgs_contain::OwnedTriple;
