@@ -1,5 +1,5 @@
 -- What was found for a test was found for one that is the same.
-use Rattle.std.proofs.Common.{◌≡◌, Bool, true, false, Option, Some, None, sym, ◌∙◌}
+use Rattle.std.proofs.Common.{◌≡◌, Bool, true, Option, Some, None, sym, ◌∙◌}
 use Rattle.std.specs.Option.{MatchOption}
 use Rattle.pgs_standing.specs.Example.{Carried, NonePasses, IsPlainest}
 

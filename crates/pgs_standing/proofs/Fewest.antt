@@ -2,7 +2,7 @@
 use Rattle.std.proofs.Common.{◌≡◌, ℕ, ◌≤◌, Bool, true, false, ◌&&◌, ◌||◌, List, [], ◌∷◌, map, length, suc, Option, Some, None, is_some, leb, refl, sym, ◌∙◌, ap, ⊎_elim, Ordering, Less, Equal, Greater, is_lt, arith}
 use Rattle.std.specs.List.{list_all}
 use Rattle.std.specs.Map.{keys_of}
-use Rattle.std.proofs.lemmas.Bool.{true≢false, and_parts, and_from, or_cases, or_left, or_right, false_from_ne_true, true_from_ne_false, leb-true, le-leb}
+use Rattle.std.proofs.lemmas.Bool.{true≢false, and_parts, and_from, or_cases, or_right, false_from_ne_true, true_from_ne_false, leb-true, le-leb}
 use Rattle.std.proofs.lemmas.Option.{none-some}
 use Rattle.std.proofs.lemmas.List.{length-map}
 use Rattle.std.proofs.lemmas.List.Folds.{list_all-map}
@@ -13,18 +13,18 @@ use Rattle.pgs_base.specs.Pair.{same_name, has_name, value_at, is_pair}
 use Rattle.pgs_syntax.proofs.Parts.{one_name}
 use Rattle.pgs_conform.specs.declared.options.Options.{Options}
 use Rattle.pgs_conform.specs.declared.shape.Shape.{Shape}
-use Rattle.pgs_conform.specs.Shapes.{admits, labels_meet, props_meet, in_shape}
-use Rattle.pgs_product.proofs.Asked.{own_name, all_has, has_all, has_found, labels_met, labels_meet_from}
+use Rattle.pgs_conform.specs.Shapes.{admits, props_meet, in_shape}
+use Rattle.pgs_product.proofs.Asked.{own_name, has_all, has_found, labels_meet_from}
 use Rattle.pgs_product.proofs.Exact.{same_answer}
 use Rattle.pgs_product.proofs.United.{name_cmp, same_of, after, before_all}
 use Rattle.pgs_contain.specs.declared.outside.OwnedPair.{OwnedPair}
-use Rattle.pgs_contain.specs.Contained.{is_plain, is_plain_value, pair_in}
+use Rattle.pgs_contain.specs.Contained.{is_plain_value, pair_in}
 use Rattle.pgs_contain.specs.Regions.{in_region, is_possible, plainest}
 use Rattle.pgs_contain.specs.Rows.{row_before, plain_rows}
 use Rattle.pgs_contain.proofs.Parts.{impossible}
 use Rattle.pgs_contain.proofs.Plain.{below_other, none_below, rows_in, rows_plain, all_plain, rows_ascend}
 use Rattle.pgs_standing.specs.Common.{are_possible, plain_props}
-use Rattle.pgs_standing.specs.Example.{by_nodes, pair_size, NonePasses, IsPlainest, IsFoundPair}
+use Rattle.pgs_standing.specs.Example.{by_nodes, NonePasses, IsPlainest}
 use Rattle.pgs_standing.specs.Standing.{is_small}
 use Rattle.pgs_standing.proofs.Shared.{keys_up}
 

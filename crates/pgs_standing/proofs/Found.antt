@@ -1,5 +1,5 @@
 -- What is found among shapes, one more at a time, and among those of a type and of what can stand.
-use Rattle.std.proofs.Common.{◌≡◌, ℕ, ◌+◌, ◌<◌, Bool, true, false, ◌&&◌, ◌||◌, not, List, [], ◌∷◌, ◌++◌, length, take, get_or, Option, Some, None, refl, sym, ◌∙◌, ap}
+use Rattle.std.proofs.Common.{◌≡◌, ℕ, ◌+◌, ◌<◌, Bool, true, false, ◌&&◌, ◌||◌, List, [], ◌∷◌, ◌++◌, length, take, get_or, Option, Some, None, refl, sym, ◌∙◌, ap}
 use Rattle.std.specs.List.{list_any}
 use Rattle.std.proofs.Math.Bool.{or-false}
 use Rattle.std.proofs.lemmas.Bool.{and_parts, and_from}
@@ -7,11 +7,9 @@ use Rattle.std.proofs.lemmas.Option.{MatchOption-at_some, MatchOption-at_none}
 use Rattle.std.proofs.lemmas.List.{take_more}
 use Rattle.std.proofs.lemmas.List.Folds.{list_any-append}
 use Rattle.pgs_base.specs.declared.row.NodeRow.{NodeRow}
-use Rattle.pgs_base.specs.Pair.{is_pair}
 use Rattle.pgs_syntax.specs.declared.resolved.Resolved.{Resolved}
 use Rattle.pgs_syntax.specs.Fitting.{fits_node, fits_edge}
 use Rattle.pgs_syntax.specs.Join.{Triple}
-use Rattle.pgs_syntax.specs.Triples.{is_triple}
 use Rattle.pgs_conform.specs.declared.shape.Shape.{Shape}
 use Rattle.pgs_conform.specs.declared.shape.Triple.{Triple as ShapeTriple}
 use Rattle.pgs_conform.specs.Shapes.{in_shape, in_triple, in_some, in_some_triple, Denotes, DenotesTriples}
@@ -22,7 +20,7 @@ use Rattle.pgs_contain.specs.Contained.{pair_in}
 use Rattle.pgs_contain.specs.Threes.{owned_triple}
 use Rattle.pgs_standing.specs.Common.{ends_in}
 use Rattle.pgs_standing.specs.Example.{by_nodes, by_edges, NonePasses, IsPlainest, IsFoundPair, IsFoundTriple, serves_node, serves_edge}
-use Rattle.pgs_standing.specs.Standing.{is_small, is_small_triple, admits_node, admits_edge, can_stand_node}
+use Rattle.pgs_standing.specs.Standing.{is_small, is_small_triple, admits_node, admits_edge}
 use Rattle.pgs_standing.proofs.Chosen.{found_same}
 
 any_more : {S : Type 0} (q : S → Bool) (xs : List S) (i : ℕ) (x : S) → i < length xs → x ≡ get_or xs i x → (list_any q (take i xs) || q x) ≡ list_any q (take (i + 1) xs)
@@ -58,15 +56,6 @@ second_of_three true true false true = refl
 second_of_three true true false false = refl
 second_of_three true false n o = refl
 second_of_three false m n o = refl
-
-never_last : (s a : Bool) → (s && (a && false)) ≡ false
-never_last true true = refl
-never_last true false = refl
-never_last false a = refl
-
-never_second : (s : Bool) → (s && false) ≡ false
-never_second true = refl
-never_second false = refl
 
 pub other_more : (shape : Shape) (others : List Shape) (i : ℕ) (other : Shape) (found next result : Option OwnedPair) → i < length others → other ≡ get_or others i other →
     ChoosesPair found next result → IsFoundPair (λ p. is_small p && (in_shape shape p && in_some (take i others) p)) found →

@@ -6,9 +6,16 @@ use Rattle.pgs_syntax.specs.declared.resolved.Resolved.{Resolved}
 use Rattle.pgs_syntax.specs.Join.{Triple}
 use Rattle.pgs_syntax.specs.Typed.{is_typed_node, is_typed_triple}
 
--- an element has at most 64 labels and 256 properties
+-- the most labels and properties of an element
+abbrev pub most_labels : ℕ
+most_labels = 64
+
+abbrev pub most_props : ℕ
+most_props = 256
+
+-- whether an element may have so many
 abbrev pub is_small : NodeRow → Bool
-is_small p = nat_le (length p.labels) 64 && nat_le (length p.props) 256
+is_small p = nat_le (length p.labels) most_labels && nat_le (length p.props) most_props
 
 abbrev pub is_small_triple : Triple → Bool
 is_small_triple t = is_small t.source && is_small t.own && is_small t.target

@@ -25,8 +25,12 @@ fn triple_size(own: &OwnedTriple) -> u128
         middle,
         target,
     } = own;
-    let labels = source.labels.len() as u128 + middle.labels.len() as u128 + target.labels.len() as u128;
-    let props = source.props.len() as u128 + middle.props.len() as u128 + target.props.len() as u128;
+    let labels = source.labels.len() as u128
+        + middle.labels.len() as u128
+        + target.labels.len() as u128;
+    let props = source.props.len() as u128
+        + middle.props.len() as u128
+        + target.props.len() as u128;
     labels + props
 }
 

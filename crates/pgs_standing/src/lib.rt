@@ -7,16 +7,16 @@
 #![tactic(auto)]
 
 mod choice;
-mod in_common;
 mod example;
+mod in_common;
+mod least;
 mod limits;
 mod pairs;
-mod least;
 mod standing;
 mod triples;
 
-pub use in_common::{common, common_triple};
 pub use example::example_of;
-pub use limits::{MOST_LABELS, MOST_PROPS};
+pub use in_common::{common, common_triple};
 pub use least::plain_pair;
+pub use limits::{MOST_LABELS, MOST_PROPS};
 pub use standing::{standing_shapes, standing_triples};

@@ -14,11 +14,7 @@ use pgs_contain::OwnedPair;
 use std::alloc::Global;
 
 // The plainest pair in two shapes.
-fn plain_in_both(
-    alloc: Global,
-    first: &Shape,
-    second: &Shape,
-) -> Result<Option<OwnedPair>, Memory>
+fn plain_in_both(alloc: Global, first: &Shape, second: &Shape) -> Result<Option<OwnedPair>, Memory>
     ensures { IfOk result (IsFoundPair (λ p. is_small p && (in_shape first.now p && in_shape second.now p))) }
 {
     let Some(shape) = common(alloc, first, second)? else {

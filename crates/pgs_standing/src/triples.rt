@@ -8,8 +8,8 @@ ghost use Rattle.pgs_standing.specs.Standing.{is_small_triple};
 
 use crate::choice::smaller_triple;
 use crate::in_common::common_triple;
-use crate::pairs::plain_in_some;
 use crate::least::plain_pair;
+use crate::pairs::plain_in_some;
 use pgs_base::Memory;
 use pgs_conform::{Shape, Triple};
 use pgs_contain::OwnedTriple;

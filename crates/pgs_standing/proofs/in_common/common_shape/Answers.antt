@@ -1,4 +1,4 @@
-use Rattle.std.proofs.Common.{map, sym, ◌∙◌, ap}
+use Rattle.std.proofs.Common.{map, ◌∙◌, ap}
 use Rattle.std.specs.Map.{keys_of}
 use Rattle.pgs_base.specs.Order.{ascends}
 use Rattle.pgs_base.proofs.Ascending.{ascends_decides}
