@@ -119,7 +119,7 @@ unnamed k keys h = by (lookup (same_name k) keys) (sym (has_found k keys) ∙ h)
     by None e = refl
     by (Some x) e = absurd (true≢false e)
 
-at_unnamed : (k : List ℕ) (keys : Keys) (more : Bool) → has_name k (keys_of keys) ≡ false → options_at keys more k ≡ free_options more
+pub at_unnamed : (k : List ℕ) (keys : Keys) (more : Bool) → has_name k (keys_of keys) ≡ false → options_at keys more k ≡ free_options more
 at_unnamed k keys more h = ap (λ o. unwrap_or o (free_options more)) (unnamed k keys h)
 
 -- all keys that are named are known

@@ -36,7 +36,7 @@ module _ (test : List ℕ → Bool) where
   all_before k None rows own all = all
   all_before k (Some v) rows own all = and_from (test k) (list_all test (keys_of rows)) own all
 
-  all_plain : (ks : Names) (os : List Options) → list_all test ks ≡ true → list_all test (keys_of (plain_rows ks os)) ≡ true
+  pub all_plain : (ks : Names) (os : List Options) → list_all test ks ≡ true → list_all test (keys_of (plain_rows ks os)) ≡ true
   all_plain [] os all = refl
   all_plain (k ∷ ks) [] all = refl
   all_plain (k ∷ ks) (o ∷ os) all = let parts = and_parts _ _ all in all_before k (plainest o) (plain_rows ks os) parts.0 (all_plain ks os parts.1)
@@ -82,12 +82,12 @@ false_from true h = absurd (h refl)
 false_from false h = refl
 
 -- a name below some isn't among them
-below_other : (o : Ordering) → is_lt o ≡ true → is_eq o ≡ false
+pub below_other : (o : Ordering) → is_lt o ≡ true → is_eq o ≡ false
 below_other Less h = refl
 below_other Equal h = absurd (true≢false (sym h))
 below_other Greater h = refl
 
-none_below : (x : List ℕ) (ks : Names) → list_all (λ later. is_lt (name_cmp x later)) ks ≡ true → has_name x ks ≡ false
+pub none_below : (x : List ℕ) (ks : Names) → list_all (λ later. is_lt (name_cmp x later)) ks ≡ true → has_name x ks ≡ false
 none_below x [] below = refl
 none_below x (k ∷ ks) below = let parts = and_parts _ _ below in or_from (same_name x k) (has_name x ks) (below_other (name_cmp x k) parts.0) (none_below x ks parts.1)
 

@@ -57,8 +57,8 @@ fn same_name(first: &Name, second: &Name) -> bool
     first.cmp(second).is_eq()
 }
 
-// What may stand at a key.
-fn options_at(keys: &[(Name, Options)], more: bool, name: &Name) -> Options
+/// What may stand at any key, where some are named and more are free or not.
+pub fn options_at(keys: &[(Name, Options)], more: bool, name: &Name) -> Options
     ensures { result ≡ options_at keys.now more name.now }
 {
     let mut left = keys;

@@ -19,4 +19,10 @@ mod vocabulary;
 mod witness;
 
 pub use containment::contained;
+pub use frame::options_at;
+pub use options::{common_options, is_possible};
 pub use outside::{Outside, OwnedPair};
+pub use triples::OwnedTriple;
+pub use typed::{typed_shapes, typed_triples};
+pub use vocabulary::{learn_keys, learn_names};
+pub use witness::plainest;

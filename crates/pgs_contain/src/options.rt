@@ -5,8 +5,8 @@ ghost use Rattle.pgs_contain.specs.Regions.{is_possible, without, common_options
 
 use pgs_conform::Options;
 
-// Whether something may stand at a key.
-pub(crate) fn is_possible(options: Options) -> bool
+/// Whether something may stand at a key, by its options.
+pub fn is_possible(options: Options) -> bool
     ensures { result ≡ is_possible options }
 {
     options.absent || options.text || options.int || options.boolean || options.date
@@ -25,8 +25,8 @@ pub(crate) fn without(own: Options, taken: Options) -> Options
     }
 }
 
-// What may stand at a key by both.
-pub(crate) fn common_options(first: Options, second: Options) -> Options
+/// What may stand at a key by both options.
+pub fn common_options(first: Options, second: Options) -> Options
     ensures { result ≡ common_options first second }
 {
     Options {

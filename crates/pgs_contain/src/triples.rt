@@ -27,7 +27,7 @@ pub(crate) struct Frames {
 
 /// Pairs of an edge's source, of the edge itself and of its target.
 #[derive(Drop)]
-pub(crate) struct OwnedTriple {
+pub struct OwnedTriple {
     pub source: OwnedPair,
     pub middle: OwnedPair,
     pub target: OwnedPair,

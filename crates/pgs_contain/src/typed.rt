@@ -46,8 +46,9 @@ fn push_type(
     }
 }
 
-/// The shapes of all node types of the guard that are not abstract: they denote which nodes are typed.
-pub(crate) fn typed_shapes(alloc: Global, schema: &Compiled) -> Result<List<Shape>, Memory>
+/// The shapes of all node types of the guard that are not abstract: they denote which nodes are typed. `Memory` where there
+/// was none left.
+pub fn typed_shapes(alloc: Global, schema: &Compiled) -> Result<List<Shape>, Memory>
     ensures { IfOk result (λ shapes. Denotes shapes (is_typed_node schema.now)) }
 {
     let mut all = Vec::new(alloc);
@@ -90,8 +91,9 @@ fn push_edge_type(
     }
 }
 
-/// The triples of shapes of all edge types of the guard that are not abstract: they denote which edges are typed.
-pub(crate) fn typed_triples(alloc: Global, schema: &Compiled) -> Result<List<Triple>, Memory>
+/// The triples of shapes of all edge types of the guard that are not abstract: they denote which edges are typed. `Memory`
+/// where there was none left.
+pub fn typed_triples(alloc: Global, schema: &Compiled) -> Result<List<Triple>, Memory>
     ensures { IfOk result (λ triples. DenotesTriples triples (is_typed_triple schema.now)) }
 {
     let mut all = Vec::new(alloc);

@@ -24,8 +24,8 @@ pub(crate) struct Vocabulary {
     pub ghost new_key: { has_name key keys ≡ false },
 }
 
-// Puts names in.
-fn learn_names(alloc: Global, names: &[Name], known: &mut Labels) -> Result<(), Memory>
+/// Puts names in. `Memory` where there was none left: then some are in.
+pub fn learn_names(alloc: Global, names: &[Name], known: &mut Labels) -> Result<(), Memory>
     ensures { OnOk result ((l : Items ℕ) → has_name l known.new ≡ (has_name l known.old || has_name l names.now)) }
 {
     for name in names {
@@ -35,8 +35,8 @@ fn learn_names(alloc: Global, names: &[Name], known: &mut Labels) -> Result<(), 
     Ok(())
 }
 
-// Puts the names of keys in.
-fn learn_keys(alloc: Global, keys: &[(Name, Options)], known: &mut Labels) -> Result<(), Memory>
+/// Puts the names of keys in. `Memory` where there was none left: then some are in.
+pub fn learn_keys(alloc: Global, keys: &[(Name, Options)], known: &mut Labels) -> Result<(), Memory>
     ensures { OnOk result ((l : Items ℕ) → has_name l known.new ≡ (has_name l known.old || has_name l (keys_of keys.now))) }
 {
     for key in keys {

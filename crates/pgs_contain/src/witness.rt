@@ -32,8 +32,9 @@ fn first_day() -> Day
     }
 }
 
-// The plainest that may stand at a key.
-fn plainest(alloc: Global, options: Options) -> Result<Option<Value>, Memory>
+/// The plainest that may stand at a key, by its options: nothing, else the empty text, 0, `false` or the first day. `Memory` where
+/// there was none left.
+pub fn plainest(alloc: Global, options: Options) -> Result<Option<Value>, Memory>
     ensures { IfOk result (λ value. value ≡ plainest options) }
 {
     if options.absent {

@@ -1,0 +1,5 @@
+pub mod Chosen
+pub mod Found
+pub mod Fewest
+pub mod Shared
+pub mod Three
