@@ -1,3 +1,4 @@
+pub mod Appended
 pub mod Area
 pub mod Bounds
 pub mod Calls
@@ -7,3 +8,4 @@ pub mod Reading
 pub mod Samples
 pub mod Seen
 pub mod Stops
+pub mod Told
