@@ -92,7 +92,7 @@ fn checked_changes<L: Ledger>(
         + 3072 * (length keys.now + 1) * (length (touched graph.now.graph (elems_of delta.now)) + 1) * (most + 2) ^ (2 * edges + 2)) }
 {
     // The count's clause says that what is read is a graph.
-    graph.count();
+    let _count = graph.count();
     let overlay = Overlay::new(alloc, graph, delta, steps)?;
     match check(alloc, graph, index, compiled, keys, &overlay, delta, steps) {
         Ok(changes) => Ok(changes),
@@ -128,8 +128,7 @@ pub fn decide<L: Ledger>(
     requires keys { keys.now ≡ compiled.now.guard.keys }
     ensures sound { IfOk result (λ decided. is_sound graph.now.graph decided.delta ≡ true) }
     ensures conforms { IfOk result (λ decided. conforms compiled.now (changed graph.now.graph decided.delta) ≡ true) }
-    ensures accepted { IfOk result (λ decided. decide limits.now (verdict compiled.now) graph.now.graph txn.now
-        ≡ Ok (changed graph.now.graph decided.delta)) }
+    ensures accepted { IfOk result (λ decided. decide limits.now (verdict compiled.now) graph.now.graph txn.now ≡ Ok (changed graph.now.graph decided.delta)) }
     ensures rejected { IfErr result (IsRejected (decide limits.now (verdict compiled.now) graph.now.graph txn.now)) }
     ensures once { IfOk result (λ decided. ChangeEachOnce decided.changes) }
     ensures owned { IfOk result (λ decided. IsOwned index.now.exclusive (rows_changed index.now.rows decided.changes)) }
@@ -142,7 +141,7 @@ pub fn decide<L: Ledger>(
         * (length txn.now.ops + length (touched_by graph.now.graph txn.now.ops) + 1) * (most + 2) ^ (2 * edges + 2) }
 {
     // The count's clause says that what is read is a graph.
-    graph.count();
+    let _count = graph.count();
     let delta = staged_delta(alloc, graph, limits, txn, steps)?;
     let changes = checked_changes(alloc, graph, index, compiled, keys, &delta, steps)?;
     Ok(Decided { delta, changes })

@@ -63,7 +63,7 @@ pub fn run_checkpoint<W: World>(alloc: Global, world: &mut W) -> Status
     match store.checkpoint(world) {
         Ok(_) => {
             // What it promises of the new epoch: it is one of those that there are.
-            store.epoch();
+            let _epoch = store.epoch();
             put_reply(world, &renewed)
         }
         Err(CheckpointFault::EpochsSpent) => match spent_reply(alloc) {

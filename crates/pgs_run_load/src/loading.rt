@@ -42,7 +42,7 @@ fn save<W: World>(alloc: Global, guard: Guard, line: Bytes, world: &mut W) -> St
     ensures last { fails_world result ≡ true → W.failed world.new }
 {
     // What every guard promises of its text: it is the schema's.
-    guard.schema_text();
+    let _text = guard.schema_text();
     let status = Status::Accepted;
     match Store::create(alloc, guard, world) {
         Ok(_store) => put_reply(world, &Reply { line, status }),

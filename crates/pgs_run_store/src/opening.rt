@@ -94,7 +94,7 @@ pub fn open_store<W: World>(alloc: Global, world: &mut W) -> Result<Store, Unope
     match Store::recover(alloc, Limits::standard(), world) {
         Ok(store) => {
             // What it promises of the text: its schema is the store's.
-            store.schema_text();
+            let _text = store.schema_text();
             Ok(store)
         }
         Err(fault) => Err(reason_for(alloc, fault)),

@@ -86,7 +86,7 @@ impl Schema {
         ensures schema { result.now ≡ self.now.resolved }
         ensures valid { is_valid self.now.resolved ≡ true }
     {
-        self.compiled.resolved();
+        let _resolved = self.compiled.resolved();
         &self.compiled
     }
 

@@ -300,7 +300,7 @@ pub fn confirms<G: GraphRead, L: Ledger>(
         steps.new ≤ steps.old + 33 * (element_count (G.meaning graph.now) + 1) * (most + 2) ^ (edges + 1) }
 {
     // The count's clause says that what is read is a graph.
-    graph.count();
+    let _count = graph.count();
     let found = violation_at(alloc, graph, compiled, keys.as_slice(), violation, steps)?;
     match found {
         Some(found) => Ok(found == *violation),

@@ -71,7 +71,7 @@ fn add_keys_violations<G: GraphRead, L: Ledger>(
     ensures no_step_back { steps.old ≤ steps.new }
 {
     // The schema's clause says that its keys are valid.
-    compiled.resolved();
+    let _resolved = compiled.resolved();
     for (place, key) in keys.iter().enumerate() {
         let search = KeySearch {
             alloc,
@@ -102,7 +102,7 @@ pub fn violations<G: GraphRead, L: Ledger>(
     ensures no_step_back { steps.old ≤ steps.new }
 {
     // The count's clause says that what is read is a graph.
-    graph.count();
+    let _count = graph.count();
     let mut found = Vec::new(alloc);
     add_untyped(alloc, graph, compiled, &mut found, steps)?;
     add_keys_violations(alloc, graph, compiled, keys.as_slice(), &mut found, steps)?;

@@ -1,7 +1,7 @@
 //! What words are read as, and which are refused. That they are read while there is memory no contract says, and this test shows it.
 
 use pgs_base::{Elem, Memory, Words};
-use pgs_run_words::{Command, command_of, feed_names, store_name};
+use pgs_run_words::{Command, Workload, command_of, feed_names, store_name};
 use std::alloc::Global;
 use std::test::Fail;
 
@@ -59,7 +59,13 @@ fn element(alloc: Global, elem: Elem) -> Result<String, Memory> {
     }
 }
 
-fn command(alloc: Global, command: Option<Command>) -> Result<String, Memory> {
+fn made(alloc: Global, workload: Workload) -> Result<String, Memory> {
+    let start = workload.start();
+    let count = workload.count();
+    Ok(format!(in alloc; "gen {start} {count}")?)
+}
+
+fn command(alloc: Global, command: &Option<Command>) -> Result<String, Memory> {
     let text = match command {
         None => format!(in alloc; "refused")?,
         Some(Command::Try) => format!(in alloc; "try")?,
@@ -71,19 +77,18 @@ fn command(alloc: Global, command: Option<Command>) -> Result<String, Memory> {
         Some(Command::Evolve) => format!(in alloc; "evolve")?,
         Some(Command::Contain) => format!(in alloc; "contain")?,
         Some(Command::Explain { elem }) => {
-            let elem = element(alloc, elem)?;
+            let elem = element(alloc, *elem)?;
             format!(in alloc; "explain {elem}")?
         }
-        Some(Command::Gen { workload }) => {
-            format!(in alloc; "gen {} {}", workload.start(), workload.count())?
-        }
+        Some(Command::Gen { workload }) => made(alloc, *workload)?,
     };
     Ok(text)
 }
 
 fn read(alloc: Global, line: &str) -> Result<String, Memory> {
     let words = words_of(alloc, line)?;
-    let command = command(alloc, command_of(alloc, &words)?)?;
+    let found = command_of(alloc, &words)?;
+    let command = command(alloc, &found)?;
     let store = match store_name(alloc, &words)? {
         Some(name) => name,
         None => "nothing",

@@ -130,7 +130,7 @@ fn count_listed<L: Ledger>(
     requires keys { keys.now ≡ sides.now.compiled.now.guard.keys }
 {
     // The schema's clause says that its keys are valid.
-    sides.compiled.resolved();
+    let _resolved = sides.compiled.resolved();
     for key in keys.as_slice() {
         count_key(sides, key, counts, steps)?;
     }

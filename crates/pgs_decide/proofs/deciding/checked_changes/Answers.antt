@@ -13,26 +13,26 @@ moved g h overlay delta near most same sparse = subst (λ k. AreSparse g k near 
 
 pub returns-in_err-overlay-clause-cost : goal.returns-in_err-overlay-clause-cost
 returns-in_err-overlay-clause-cost g c = λ edges most few sparse.
-    let over = c.new.ensures.cost most (delta_low c.args.graph.now.graph c.args.delta.now c.count.ensures.graph c.requires.sound (2 * edges) most sparse) in
+    let over = c.new.ensures.cost most (delta_low c.args.graph.now.graph c.args.delta.now c.count-count.ensures.graph c.requires.sound (2 * edges) most sparse) in
     omega arith
 
 pub returns-in-Ok-clause-cost : goal.returns-in-Ok-clause-cost
 returns-in-Ok-clause-cost g c = λ edges most few sparse.
     let graph = c.args.graph.now.graph in
-    let over = c.new.ensures.cost most (delta_low graph c.args.delta.now c.count.ensures.graph c.requires.sound (2 * edges) most sparse) in
+    let over = c.new.ensures.cost most (delta_low graph c.args.delta.now c.count-count.ensures.graph c.requires.sound (2 * edges) most sparse) in
     let all = c.check.ensures.cost edges most few (moved graph _ c.in_ok-overlay.overlay c.args.delta.now (2 * edges) most c.in_ok-overlay.ensures.graph sparse) in
     omega arith
 
 pub returns-in-Err-Memory-clause-cost : goal.returns-in-Err-Memory-clause-cost
 returns-in-Err-Memory-clause-cost g c = λ edges most few sparse.
     let graph = c.args.graph.now.graph in
-    let over = c.new.ensures.cost most (delta_low graph c.args.delta.now c.count.ensures.graph c.requires.sound (2 * edges) most sparse) in
+    let over = c.new.ensures.cost most (delta_low graph c.args.delta.now c.count-count.ensures.graph c.requires.sound (2 * edges) most sparse) in
     let all = c.check.ensures.cost edges most few (moved graph _ c.in_ok-overlay.overlay c.args.delta.now (2 * edges) most c.in_ok-overlay.ensures.graph sparse) in
     omega arith
 
 pub returns-clause-cost : goal.returns-clause-cost
 returns-clause-cost g c = λ edges most few sparse.
     let graph = c.args.graph.now.graph in
-    let over = c.new.ensures.cost most (delta_low graph c.args.delta.now c.count.ensures.graph c.requires.sound (2 * edges) most sparse) in
+    let over = c.new.ensures.cost most (delta_low graph c.args.delta.now c.count-count.ensures.graph c.requires.sound (2 * edges) most sparse) in
     let all = c.check.ensures.cost edges most few (moved graph _ c.in_ok-overlay.overlay c.args.delta.now (2 * edges) most c.in_ok-overlay.ensures.graph sparse) in
     omega arith

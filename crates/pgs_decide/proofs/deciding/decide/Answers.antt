@@ -26,7 +26,7 @@ returns-in_err-changes-clause-cost g c = λ edges most few sparse.
     let delta = c.in_ok-delta.delta in
     let only = c.in_ok-delta.ensures.lists_only in
     let same = ap length c.requires.keys in
-    whole_cost limits graph txn delta only c.count.ensures.graph c.in_ok-delta.ensures.sound most edges (guarding_count c.args.compiled.now) (length c.args.keys.now) (omega arith)
+    whole_cost limits graph txn delta only c.count-count.ensures.graph c.in_ok-delta.ensures.sound most edges (guarding_count c.args.compiled.now) (length c.args.keys.now) (omega arith)
     c.args.steps.now c.staged_delta.new.steps c.checked_changes.new.steps
     (c.staged_delta.ensures.cost most (staging_low graph (staged_after limits graph txn) (2 * edges) most txn.ops sparse))
     (c.checked_changes.ensures.cost edges most few (delta_sparse limits graph txn delta only c.in_ok-delta.ensures.staged (2 * edges) most sparse))
@@ -39,7 +39,7 @@ returns-clause-cost g c = λ edges most few sparse.
     let delta = c.in_ok-delta.delta in
     let only = c.in_ok-delta.ensures.lists_only in
     let same = ap length c.requires.keys in
-    whole_cost limits graph txn delta only c.count.ensures.graph c.in_ok-delta.ensures.sound most edges (guarding_count c.args.compiled.now) (length c.args.keys.now) (omega arith)
+    whole_cost limits graph txn delta only c.count-count.ensures.graph c.in_ok-delta.ensures.sound most edges (guarding_count c.args.compiled.now) (length c.args.keys.now) (omega arith)
     c.args.steps.now c.staged_delta.new.steps c.checked_changes.new.steps
     (c.staged_delta.ensures.cost most (staging_low graph (staged_after limits graph txn) (2 * edges) most txn.ops sparse))
     (c.checked_changes.ensures.cost edges most few (delta_sparse limits graph txn delta only c.in_ok-delta.ensures.staged (2 * edges) most sparse))

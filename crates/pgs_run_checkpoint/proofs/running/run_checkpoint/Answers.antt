@@ -34,7 +34,7 @@ returns-in-Ok-checkpoint-clause-promise g c =
     promised_renewed c.in-Ok.store (g.W.World.view c.args.world.now) (g.W.World.view c.open_store.new.world)
     (record { opened = c.in-Ok.ensures.answer; areas = c.in-Ok.ensures.faults; quiet = c.open_store.ensures.quiet; no_put = c.open_store.ensures.no_put })
     late c.checkpoint.ensures.beside (c.checkpoint.ensures.stops c.in-Ok.ensures.answer.whole) c.in-Ok-checkpoint.ensures.faults c.checkpoint.new.self.journal c.in-Ok-checkpoint.field-0
-    c.in-Ok-checkpoint.ensures.answer.3 c.epoch.ensures.numbered new c.put_reply.result
+    c.in-Ok-checkpoint.ensures.answer.3 c.epoch-epoch.ensures.numbered new c.put_reply.result
     (subst (λ (r : Reply Status). PutsReply r.line r.status PutFault late c.put_reply.result new) c.in-Ok-renewed_reply.ensures
     (record { ends = c.put_reply.ensures.ends; stops = c.put_reply.ensures.stops; areas = c.put_reply.ensures.areas }))
 

@@ -21,7 +21,7 @@ returns-in-Ok-clause-answer g c =
     let store = c.in-Ok._store in
     let limits = c.requires.limits in
     let line = c.requires.line ∙ ap (λ (s : GuardState). line_of s.schema) (sym c.in-Ok.ensures.guard) in
-    loads_made guard.text guard.schema c.schema_text.ensures.schema old mid (g.met.W.World.timed c.args.world.now) made.kept (λ free settled. subst (λ l. EachSince (IsLoadedIn l guard.text) old mid) limits (made.stops free settled)) made.beside
+    loads_made guard.text guard.schema c.schema_text-text.ensures.schema old mid (g.met.W.World.timed c.args.world.now) made.kept (λ free settled. subst (λ l. EachSince (IsLoadedIn l guard.text) old mid) limits (made.stops free settled)) made.beside
     store (subst (λ l. IsLoaded l guard.text store old mid) limits c.in-Ok.ensures.answer) c.in-Ok.ensures.faults (g.W.World.view c.put_reply.new.world) c.put_reply.result
     (subst (λ l. PutsReply l Accepted PutFault mid c.put_reply.result (g.W.World.view c.put_reply.new.world)) line (record { ends = c.put_reply.ensures.ends; stops = c.put_reply.ensures.stops; areas = c.put_reply.ensures.areas }))
 
@@ -59,7 +59,7 @@ returns-in-Err-DiskFault-clause-answer g c =
     let made = c.create.ensures in
     let old = g.W.World.view c.args.world.now in
     let mid = g.W.World.view c.create.new.world in
-    loads_failed guard.text guard.schema c.schema_text.ensures.schema old mid (g.met.W.World.timed c.args.world.now) made.kept
+    loads_failed guard.text guard.schema c.schema_text-text.ensures.schema old mid (g.met.W.World.timed c.args.world.now) made.kept
     (λ free settled. subst (λ l. EachSince (IsLoadedIn l guard.text) old mid) c.requires.limits (made.stops free settled)) made.beside (rw c.in-Err-DiskFault.field-0-is at c.in-Err-DiskFault.ensures.faults)
 
 pub returns-in-Err-Memory-clause-answer : goal.returns-in-Err-Memory-clause-answer
