@@ -7,6 +7,7 @@ use Rattle.byteorder.specs.Numbers.{big_number-reads_back}
 use Rattle.pgs_codec.specs.Frame.{number_field}
 use Rattle.pgs_world.specs.declared.area.Area.{Area}
 use Rattle.pgs_world.specs.Answers.{Answer, Read}
+use Rattle.pgs_world.specs.Moment.{IsQuiet}
 use Rattle.pgs_world.specs.World.{View}
 use Rattle.pgs_journal.specs.declared.area_state.AreaState.TheVariants.{Damaged, Store}
 use Rattle.pgs_journal.specs.Area.{is_fit, is_sound, first_unfit, has_some}
@@ -19,7 +20,7 @@ use Rattle.pgs_journal.specs.Told.{Begins, EndsWith, IsUnended, IsOpenYet, IsSta
 use Rattle.pgs_journal.proofs.Held.{IsBytes, number_again, holds_of}
 use Rattle.pgs_journal.proofs.Images.{open_is_one, opened-push}
 use Rattle.pgs_journal.proofs.ReadingOn.{not_less, body_size, body_behind, numbered_read}
-use Rattle.pgs_journal.proofs.Telling.{split, parted, begins_alone, ends_on, told_none, told_asked, told_read, told_then, asked_ends, settled_weaker}
+use Rattle.pgs_journal.proofs.Telling.{split, parted, begins_alone, ends_on, told_none, told_asked, told_read, told_then, told_back, asked_ends, settled_weaker}
 use Rattle.pgs_journal.proofs.Written.{Opened, whole, unfit_on, store_read, none_read, damaged_read, closed_next, unended}
 
 -- ---- the fields of a record
@@ -171,6 +172,12 @@ module _ {W : Type 0} (made : W → Area → Answer → W → Type 0) (view : Vi
   pub torn_unsound : (old new : W) (epoch : ℕ) → IsSettled made view area old new (IsTorn format number) at (IsTorn format number) → IsSettled made view area old new (IsTorn format number) at (IsUnsound format epoch number)
   torn_unsound old new epoch it =
       settled_weaker made view area old new (IsTorn format number) at (IsTorn format number) (IsUnsound format epoch number) (λ rest is. ap (is_sound format epoch number) is) it
+
+-- the same on the world before, which was only read
+pub read_back : {W : Type 0} (made : W → Area → Answer → W → Type 0) (first view : View) (area : Area) (old new : W) (format : Format) (epoch number at : ℕ) (payload : List ℕ) (gate : ℕ) → IsQuiet first view
+    → IsRead made view area old new format epoch number at payload gate → IsRead made first area old new format epoch number at payload gate
+read_back made first view area old new format epoch number at payload gate q read =
+    record { told = told_back made first view area old new (IsTorn format number) at (record_body format number payload ++ gate ∷ []) q read.told; within = read.within; fit = read.fit }
 
 -- ---- small tests
 

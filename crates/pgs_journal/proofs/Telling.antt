@@ -106,6 +106,9 @@ length_still old new area len q has told = has (sym q.passes.tells_bytes ∙ tol
 pub read_shown : (view : View) (area : Area) (at n : ℕ) (bytes : List ℕ) → length bytes ≡ n → (IsTrue view.tells_bytes → bytes ≡ take n (drop at (part area view.shown))) → AreShown view area (Read at bytes ∷ [])
 read_shown view area at n bytes long read told = (read told ∙ ap (λ (m : ℕ). take m (drop at (part area view.shown))) (sym long), tt)
 
+pub stand_shown : (view : View) (area : Area) (at : ℕ) (bytes : List ℕ) → Stand view area at bytes → AreShown view area (Read at bytes ∷ [])
+stand_shown view area at bytes stand told = (sym (stand told), tt)
+
 -- ---- bytes that were told
 
 -- at most the length is asked where what was told may go on

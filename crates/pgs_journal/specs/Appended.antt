@@ -5,9 +5,11 @@ use Rattle.pgs_world.specs.Answers.{Answer, Answers}
 use Rattle.pgs_world.specs.Disk.{IsTorn}
 use Rattle.pgs_journal.specs.Format.{Holds}
 
--- behind the gate at this place the frame of a record with the next number stands
-abbrev pub HasFrame : Option ℕ → ℕ → List ℕ → Type 0
-HasFrame next end image = (payload : List ℕ) × (take (length (framed next payload)) (drop (end + 1) image) ≡ framed next payload)
+-- behind the gate at this place the frame of a record with the next number stands, and ends below 2^40
+pub record HasFrame (next : Option ℕ) (end : ℕ) (image : List ℕ) : Type 0 where
+  pub payload : List ℕ
+  pub stands : take (length (framed next payload)) (drop (end + 1) image) ≡ framed next payload
+  pub below : end + length (framed next payload) < 2 ^ 40
 
 -- One of the two writes of an append, done whole or in part: bytes behind the closed gate of the records that the area holds, or, where a
 -- frame stands there, that gate.
@@ -31,3 +33,7 @@ abbrev pub AreGivenBeside : List ℕ → List Answer → List ℕ → Type 0
 AreGivenBeside first [] last = last ≡ first
 AreGivenBeside first (answer ∷ answers) last =
     (now : List ℕ) × AreAppended first now × Answers now answer × AreGivenBeside now answers last
+
+-- where the area held records up to this place, it goes on so
+abbrev pub GoesOn : Option ℕ → ℕ → ℕ → List ℕ → List ℕ → Type 0
+GoesOn next epoch end old new = (payloads : List (List ℕ)) → Holds next epoch payloads end old → AreAppended old new

@@ -1,4 +1,5 @@
 pub mod Appended
+pub mod Appending
 pub mod Area
 pub mod Bounds
 pub mod Calls

@@ -14,5 +14,5 @@ Answers image (Read at bytes) = bytes ≡ take (length bytes) (drop at image)
 
 -- These answers of an area, one after the other, and no other call, lead from one world to the other. What a world takes an answer to be is handed in.
 abbrev pub Answered : {W : Type 0} → (W → Area → Answer → W → Type 0) → Area → W → List Answer → W → Type 0
-Answered answered area old [] new = new ≡ old
-Answered answered area old (answer ∷ answers) new = (mid : W) × answered old area answer mid × Answered answered area mid answers new
+Answered {W = W} answered area old [] new = new ≡ old
+Answered {W = W} answered area old (answer ∷ answers) new = (mid : W) × answered old area answer mid × Answered answered area mid answers new
