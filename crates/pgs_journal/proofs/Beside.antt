@@ -1,5 +1,5 @@
 -- How a reading goes beside appends.
-use Rattle.std.proofs.Common.{◌≡◌, ◌⊎◌, ⊎_elim, inl, inr, ℕ, ◌+◌, ◌≤◌, ◌<◌, ◌^◌, Bool, true, false, nat_lt, IsTrue, List, [], ◌∷◌, ◌++◌, length, take, drop, Some, None, refl, sym, ◌∙◌, ap, subst, arith, append_assoc}
+use Rattle.std.proofs.Common.{◌≡◌, ◌⊎◌, ⊎_elim, inl, inr, ℕ, suc, ◌+◌, ◌≤◌, ◌<◌, ◌^◌, Bool, true, false, nat_lt, IsTrue, List, [], ◌∷◌, ◌++◌, length, take, drop, Some, None, refl, sym, ◌∙◌, ap, subst, arith, append_assoc}
 use Rattle.std.specs.declared.option.Option.{Option}
 use Rattle.std.proofs.lemmas.Bool.Decides.{nat_tests}
 use Rattle.std.proofs.lemmas.List.{append-nil, take-take}
@@ -29,7 +29,7 @@ held_found next epoch payloads end image h small =
     let tail : List ℕ = h.gate ∷ h.rest in
     let fits : length (opened (format_of next) epoch payloads) < 256 ^ 8 = omega (arith, h.place, small) in (
       ap head_of h.bytes ∙ head_in_front format epoch payloads tail fits (omega arith) h.numbered (omega (arith, below epoch h.numbered)),
-      ap (λ (l : List ℕ). records_in format (drop 16 l)) h.bytes ∙ found_in format epoch payloads tail fits (omega arith) Closed (closed_next format (length payloads + 1) h.gate h.rest h.closed)
+      ap (λ (l : List ℕ). records_in format (drop 16 l)) h.bytes ∙ found_in format epoch payloads tail fits (omega arith) Closed (closed_next format (suc (length payloads)) h.gate h.rest h.closed)
           ∙ ap (λ (ps : List (List ℕ)). record { payloads = ps; ended = true }) (append-nil payloads),
     )
 

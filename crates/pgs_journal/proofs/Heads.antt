@@ -137,7 +137,7 @@ head_scanned made view area world len front h state size is follows =
         }
     both false much same =
         record {
-          in_turn = (inl refl, tt, (inl refl, let here : 0 ≡ 0 + 0 = omega arith in here, tt));
+          in_turn = (inl refl, tt, (inl refl, refl, tt));
           decided = λ image begins ends. follows image (sym (front_decides front image size (subst (λ (l : List ℕ). Begins l image) (append-nil front) begins)) ∙ same);
         }
 
@@ -170,7 +170,7 @@ records_scanned made view area old new len front state size long it =
     all_made : IsMadeBy (Long len ∷ Read 0 front ∷ it.told.answers) state
     all_made =
         record {
-          in_turn = (inl refl, tt, (inl refl, let here : 0 ≡ 0 + 0 = omega arith in here, behind));
+          in_turn = (inl refl, tt, (inl refl, refl, behind));
           decided = λ image begins ends.
               let parts = parted front (told_by it.told.answers) image begins in
               let place : drop (length front) image ≡ drop 17 image = ap (λ n. drop n image) size in
@@ -243,10 +243,12 @@ front_long made area old mid new len front long one two =
 pub scanned_shown : {W : Type 0} (made : W → Area → Answer → W → Type 0) (first view : View) (area : Area) (old new : W) (len : ℕ) (front : List ℕ) (state : AreaState) → IsQuiet first view → HasLength first area len → (17 ≤ len → Stand first area 0 front)
     → IsScanned made view area old new len front state → IsTrue first.tells_bytes → IsStateOf state (part area first.shown)
 scanned_shown made first view area old new len front state q has stand it told =
-    it.made_by.decided image (stands IsOpenYet 0 image [] (front_answers len front ++ it.answers) it.made_by.in_turn all refl) (of_ends image (front_answers len front ++ it.answers) all)
+    it.made_by.decided (part area first.shown) (stands IsOpenYet 0 (part area first.shown) [] (front_answers len front ++ it.answers) it.made_by.in_turn all refl)
+    (of_ends (part area first.shown) (front_answers len front ++ it.answers) all)
   where
-    abbrev image : List ℕ
-    image = part area first.shown
+    all : AreOf (part area first.shown) (front_answers len front ++ it.answers)
+    all = of_on (part area first.shown) (front_answers len front) it.answers (front_shown first area len front has stand told) (shown_back first view area it.answers q it.shown told)
 
-    all : AreOf image (front_answers len front ++ it.answers)
-    all = of_on image (front_answers len front) it.answers (front_shown first area len front has stand told) (shown_back first view area it.answers q it.shown told)
+pub scanned_in : {W : Type 0} (made : W → Area → Answer → W → Type 0) (view : View) (area other : Area) (old new : W) (len : ℕ) (front : List ℕ) (state : AreaState) → area ≡ other → IsScanned made view area old new len front state
+    → IsScanned made view other old new len front state
+scanned_in made view area other old new len front state is it = subst (λ (a : Area). IsScanned made view a old new len front state) is it

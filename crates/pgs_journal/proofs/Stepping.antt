@@ -1,5 +1,5 @@
 -- How the records of an area are read one by one, and what they decide.
-use Rattle.std.proofs.Common.{◌≡◌, inr, ℕ, suc, ◌+◌, ◌≤◌, ◌<◌, ◌^◌, ◌==◌, Bool, true, false, nat_eq, IsTrue, List, [], ◌∷◌, ◌++◌, length, take, drop, Some, None, refl, sym, ◌∙◌, ap, subst, arith, append_assoc, length-append, length-drop, if◌then◌else◌}
+use Rattle.std.proofs.Common.{◌≡◌, inr, ℕ, suc, ◌+◌, ◌≤◌, ◌<◌, ◌^◌, ◌==◌, Bool, true, false, nat_eq, nat_lt, IsTrue, List, [], ◌∷◌, ◌++◌, length, take, drop, Some, None, refl, sym, ◌∙◌, ap, subst, arith, append_assoc, length-append, length-drop, if◌then◌else◌}
 use Rattle.std.proofs.lemmas.Bool.Decides.{nat_tests}
 use Rattle.std.proofs.lemmas.List.{append-nil, take_all, drop-drop}
 use Rattle.byteorder.specs.Endian.{big_bytes, big_number}
@@ -54,24 +54,17 @@ few_fields First = omega arith
 few_fields Second = omega arith
 
 -- too few bytes are left for the payload
+fields_torn : (format : Format) (number size : ℕ) (behind : List ℕ) → number < 256 ^ 8 → size < 256 ^ 8 → length behind ≤ size → IsTorn format number (fields format number size ++ behind)
+fields_torn format number size behind numbered small short =
+    let read : big_number 8 (big_bytes 8 size ++ behind) ≡ size = big_number-reads_back 8 size behind small in
+    ap (record_of format number) (append_assoc (number_field (record_number format number)) (big_bytes 8 size) behind)
+    ∙ numbered_read format number (big_bytes 8 size ++ behind) numbered ∙ sized_torn (big_bytes 8 size ++ behind) (omega (arith, read, short))
+
 long_torn : (format : Format) (number size : ℕ) (rest : List ℕ) → number < 256 ^ 8 → size < 256 ^ 8 → length rest ≤ field_bytes format + size → Begins (fields format number size) rest → IsTorn format number rest
-long_torn format number size rest numbered small few begins = subst (IsTorn format number) (split (fields format number size) rest begins) torn
-  where
-    behind : List ℕ
-    behind = drop (length (fields format number size)) rest
-
-    short : length behind ≤ size
-    unfolding behind
-    short = omega (arith, length-drop (length (fields format number size)) rest, fields_length format number size, few)
-
-    read : big_number 8 (big_bytes 8 size ++ behind) ≡ size
-    read = big_number-reads_back 8 size behind small
-
-    torn : IsTorn format number (fields format number size ++ drop (length (fields format number size)) rest)
-    unfolding behind
-    torn =
-        ap (record_of format number) (append_assoc (number_field (record_number format number)) (big_bytes 8 size) behind)
-        ∙ numbered_read format number (big_bytes 8 size ++ behind) numbered ∙ sized_torn (big_bytes 8 size ++ behind) (omega (arith, read, short))
+long_torn format number size rest numbered small few begins =
+    subst (IsTorn format number) (split (fields format number size) rest begins)
+    (fields_torn format number size (drop (length (fields format number size)) rest) numbered small
+    (omega (arith, length-drop (length (fields format number size)) rest, fields_length format number size, few)))
 
 module _ {W : Type 0} (made : W → Area → Answer → W → Type 0) (view : View) (area : Area) (at : ℕ) (format : Format) (number : ℕ) where
   -- too few bytes are left for the fields
@@ -180,6 +173,12 @@ read_back made first view area old new format epoch number at payload gate q rea
     record { told = told_back made first view area old new (IsTorn format number) at (record_body format number payload ++ gate ∷ []) q read.told; within = read.within; fit = read.fit }
 
 -- ---- small tests
+
+pub beyond : (m n : ℕ) → nat_lt m n ≡ false → n ≤ m
+beyond m n is = grind (arith, nat_tests)
+
+pub is_inside : (m n : ℕ) → nat_lt m n ≡ true → m < n
+is_inside m n is = grind (arith, nat_tests)
 
 pub closed_gate : (gate : ℕ) → (gate ≡ 1 → ⊥) → is_open gate ≡ false
 closed_gate gate not_one = at (is_open gate) refl

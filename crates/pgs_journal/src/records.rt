@@ -100,9 +100,10 @@ impl RecordReader {
         ensures faults { HasAreaCause result (W.failed world.new) (W.view world.old) (W.view world.new) }
         ensures no_put { MakesNoPut (W.view world.old) (W.view world.new) }
     {
-        if place >= *known {
-            *known = world.len(self.area)?;
+        if place < *known {
+            return Ok(true);
         }
+        *known = world.len(self.area)?;
         Ok(place < *known)
     }
 

@@ -1,5 +1,5 @@
 use Rattle.std.proofs.Common.{◌≡◌, ℕ, ◌+◌, Bool, false, List, [], ◌∷◌, ◌++◌, length, refl, sym, ◌∙◌, ap, subst, arith, if◌then◌else◌, length-append}
-use Rattle.pgs_world.proofs.Moments.{quiet_on}
+use Rattle.pgs_world.proofs.Moments.{quiet_none, quiet_on}
 use Rattle.pgs_journal.specs.declared.area_state.AreaState.TheVariants.{Store}
 use Rattle.pgs_journal.specs.declared.format.Format.{Format}
 use Rattle.pgs_journal.specs.Format.{record_number, next_after, opened}
@@ -18,10 +18,12 @@ loop-gate-init g c =
     let self = c.args.self.now in
     let front : List ℕ = opened self.format self.epoch [] ++ c.args.gate ∷ [] in
     record {
-      at = at_first g.W.World.answered view self.area front self.format self.epoch (front_size self.format self.epoch c.args.gate) c.requires.epoch c.args.world.now c.args.gate refl;
+      at =
+          subst (λ (ps : List (List ℕ)). IsAt g.W.World.answered view self.area c.args.world.now c.args.world.now front self.format self.epoch 16 ps c.args.gate) (sym c.new-payloads.ensures.items)
+          (at_first g.W.World.answered view self.area front self.format self.epoch (front_size self.format self.epoch c.args.gate) c.requires.epoch c.args.world.now c.args.gate refl);
       limit = c.requires.limit;
       len = c.requires.len;
-      quiet = ?;
+      quiet = quiet_none view (g.met.W.World.timed c.args.world.now);
       image = c.requires.image;
       faults = refl;
       no_put = record { puts = refl; put_faults = refl };

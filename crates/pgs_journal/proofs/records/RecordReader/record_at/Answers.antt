@@ -3,8 +3,15 @@ use Rattle.pgs_world.specs.Answers.{Read}
 use Rattle.pgs_journal.specs.Area.{is_fit}
 use Rattle.pgs_journal.specs.Seen.{AreShown}
 use Rattle.pgs_journal.proofs.Stepping.{torn_unsound, record_read, unfit_settled}
-use Rattle.pgs_journal.proofs.Telling.{shown_back, stand_shown}
+use Rattle.pgs_journal.proofs.Telling.{length_still, shown_back, stand_shown}
 use Rattle.pgs_journal.proofs.records.RecordReader.record_at.Goals as goal
+
+pub payload_at-requires-clause-inside : goal.payload_at-requires-clause-inside
+payload_at-requires-clause-inside g c = λ told.
+    let size = rw c.in-Some.is at c.in_ok-size.ensures.size in
+    let view = g.W.World.view c.args.world.now in
+    let mid = g.W.World.view c.size_at.new.world in
+    omega (arith, size.0, length_still view mid c.args.self.now.area c.size_at.new.known c.size_at.ensures.quiet c.size_at.ensures.len told, c.field_bytes.ensures)
 
 pub returns-in_default-clause-record : goal.returns-in_default-clause-record
 returns-in_default-clause-record g c =
