@@ -80,13 +80,16 @@ module _ (area : Area) (next : Option ℕ) (epoch end : ℕ) (frame payload : Li
                 holds = holds-front next epoch payloads end (part area d) (part area e) h one.torn.before;
                 below = below;
                 write =
-                    inr (record {
-                      payload = payload;
-                      stands =
-                          ap (λ (l : List ℕ). take (length (framed next payload)) l) (ap (λ (l : List ℕ). drop (end + 1) l) synced ∙ behind)
-                          ∙ take-append_seam (framed next payload) (drop (end + 1 + length frame) old);
-                      below = subst (λ (l : List ℕ). end + length l < 2 ^ 40) is fits;
-                    }, two.torn);
+                    inr (
+                      record {
+                        payload = payload;
+                        stands =
+                            ap (λ (l : List ℕ). take (length (framed next payload)) l) (ap (λ (l : List ℕ). drop (end + 1) l) synced ∙ behind)
+                            ∙ take-append_seam (framed next payload) (drop (end + 1 + length frame) old);
+                        below = subst (λ (l : List ℕ). end + length l < 2 ^ 40) is fits;
+                      },
+                      two.torn,
+                    );
               })
               none_appended);
           same = beside_on area d e c one.same two.same;

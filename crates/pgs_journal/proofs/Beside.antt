@@ -1,5 +1,5 @@
 -- How a reading goes beside appends.
-use Rattle.std.proofs.Common.{◌≡◌, ◌⊎◌, ⊎_elim, inl, inr, ℕ, suc, ◌+◌, ◌≤◌, ◌<◌, ◌^◌, Bool, true, false, nat_lt, IsTrue, List, [], ◌∷◌, ◌++◌, length, take, drop, Some, None, refl, sym, ◌∙◌, ap, subst, arith, append_assoc}
+use Rattle.std.proofs.Common.{◌≡◌, ⊎_elim, ℕ, suc, ◌+◌, ◌≤◌, ◌<◌, ◌^◌, Bool, true, false, nat_lt, IsTrue, List, [], ◌∷◌, ◌++◌, length, take, drop, refl, sym, ◌∙◌, ap, subst, arith, append_assoc}
 use Rattle.std.specs.declared.option.Option.{Option}
 use Rattle.std.proofs.lemmas.Bool.Decides.{nat_tests}
 use Rattle.std.proofs.lemmas.List.{append-nil, take-take}
@@ -168,6 +168,6 @@ pub records_kept : (first last : List ℕ) (next : Option ℕ) (epoch end : ℕ)
     → (more : List (List ℕ)) × (now : Option ℕ) × (place : ℕ) × Holds now epoch (payloads ++ more) place last
 records_kept first last next epoch end payloads steps holds small =
     let held =
-        more_all epoch payloads first last
-        (record { more = []; next = next; end = end; holds = subst (λ (ps : List (List ℕ)). Holds next epoch ps end first) (sym (append-nil payloads)) holds; below_limit = small }) steps
+    more_all epoch payloads first last
+    (record { more = []; next = next; end = end; holds = subst (λ (ps : List (List ℕ)). Holds next epoch ps end first) (sym (append-nil payloads)) holds; below_limit = small }) steps
     in (held.more, held.next, held.end, held.holds)

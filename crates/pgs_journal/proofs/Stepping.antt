@@ -16,7 +16,7 @@ use Rattle.pgs_journal.specs.declared.format.Format.TheVariants.{First, Second}
 use Rattle.pgs_journal.specs.Format.{is_open, is_epoch, field_bytes, record_number, record_body, next_after, opened}
 use Rattle.pgs_journal.specs.Reading.{Torn, Whole, sized, record_of}
 use Rattle.pgs_journal.specs.Seen.{AreShown, IsTorn, IsUnsound, IsAsked, IsTold, IsSettled, IsRead}
-use Rattle.pgs_journal.specs.Told.{Begins, EndsWith, IsUnended, IsOpenYet, IsStateOf}
+use Rattle.pgs_journal.specs.Told.{Begins, IsUnended, IsOpenYet, IsStateOf}
 use Rattle.pgs_journal.proofs.Held.{IsBytes, number_again, holds_of}
 use Rattle.pgs_journal.proofs.Images.{open_is_one, opened-push}
 use Rattle.pgs_journal.proofs.ReadingOn.{not_less, body_size, body_behind, numbered_read}

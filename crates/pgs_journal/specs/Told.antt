@@ -1,5 +1,5 @@
 -- What answers of an area told of it, and the state that they make.
-use Rattle.std.specs.Prelude.{◌≡◌, ◌⊎◌, ℕ, ◌+◌, Bool, false, List, [], ◌∷◌, ◌++◌, length, take, drop}
+use Rattle.std.specs.Prelude.{◌≡◌, ◌⊎◌, ℕ, ◌+◌, false, List, [], ◌∷◌, ◌++◌, length, take, drop}
 use Rattle.pgs_world.specs.Answers.{Answer, Long, Read, Answers}
 use Rattle.pgs_journal.specs.declared.area_state.AreaState.{AreaState}
 use Rattle.pgs_journal.specs.declared.format.Format.{Format}

@@ -125,7 +125,7 @@ impl RecordReader {
             (IsSettled W.answered (W.view world.old) self.now.area world.old world.new (IsTorn self.now.format number) at (IsTorn self.now.format number))
             (λ size. (at + field_bytes self.now.format + size < known.new)
             × IsTold W.answered (W.view world.old) self.now.area world.old world.new (IsTorn self.now.format number) at
-                (number_field (record_number self.now.format number) ++ big_bytes 8 size))) }
+            (number_field (record_number self.now.format number) ++ big_bytes 8 size))) }
         ensures quiet { IsQuiet (W.view world.old) (W.view world.new) }
         ensures image { ShowsOne (W.view world.old) → ShowsOne (W.view world.new) }
         ensures faults { HasAreaCause result (W.failed world.new) (W.view world.old) (W.view world.new) }
@@ -189,7 +189,7 @@ impl RecordReader {
         ensures len { HasLength (W.view world.old) self.now.area known.new }
         ensures record { IfOk result (λ found. MatchOption found
             (IsSettled W.answered (W.view world.old) self.now.area world.old world.new (IsTorn self.now.format number) at
-                (IsUnsound self.now.format self.now.epoch number))
+            (IsUnsound self.now.format self.now.epoch number))
             (λ read. IsRead W.answered (W.view world.old) self.now.area world.old world.new self.now.format self.now.epoch number at read.0 read.1)) }
         ensures quiet { IsQuiet (W.view world.old) (W.view world.new) }
         ensures image { ShowsOne (W.view world.old) → ShowsOne (W.view world.new) }
@@ -234,8 +234,7 @@ impl RecordReader {
         let mut gate = gate;
         while gate == OPEN {
             let number = payloads.len() as u64 + 1;
-            let Some((payload, behind)) =
-                self.record_at(alloc, world, &mut known, at + 1, number)?
+            let Some((payload, behind)) = self.record_at(alloc, world, &mut known, at + 1, number)?
             else {
                 return Ok(AreaState::Damaged {
                     epoch: self.epoch,

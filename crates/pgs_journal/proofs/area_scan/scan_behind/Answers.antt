@@ -20,8 +20,8 @@ returns-in-Foreign-clause-scanned g c =
     let front = c.args.front.now in
     head_scanned g.W.World.answered (g.W.World.view c.args.world.now) front.area c.args.world.now front.len front.bytes heads.Foreign Foreign c.requires.size (sym c.head.ensures.head ∙ c.in-Foreign.is) foreign_is
 
-pub returns-clause-scanned : goal.returns-clause-scanned
-returns-clause-scanned g c =
+pub returns-in-Store-clause-scanned : goal.returns-in-Store-clause-scanned
+returns-in-Store-clause-scanned g c =
     let front = c.args.front.now in
     let view = g.W.World.view c.args.world.now in
     let begins = c.head.ensures.begins c.in-Store.format c.in-Store.epoch c.in-Store.is in

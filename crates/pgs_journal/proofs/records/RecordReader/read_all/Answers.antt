@@ -1,4 +1,4 @@
-use Rattle.std.proofs.Common.{◌≡◌, ℕ, ◌+◌, Bool, false, List, [], ◌∷◌, ◌++◌, length, refl, sym, ◌∙◌, ap, subst, arith, if◌then◌else◌, length-append}
+use Rattle.std.proofs.Common.{◌≡◌, ℕ, ◌+◌, Bool, List, [], ◌∷◌, ◌++◌, length, refl, sym, ◌∙◌, ap, subst, arith, if◌then◌else◌, length-append}
 use Rattle.pgs_world.proofs.Moments.{quiet_none, quiet_on}
 use Rattle.pgs_journal.specs.declared.area_state.AreaState.TheVariants.{Store}
 use Rattle.pgs_journal.specs.declared.format.Format.{Format}

@@ -1,6 +1,7 @@
 use Rattle.std.proofs.Common.{◌+◌, ◌++◌, ◌∷◌, [], sym, ◌∙◌, ap, subst, arith}
 use Rattle.pgs_world.specs.Answers.{Read}
 use Rattle.pgs_journal.specs.Area.{is_fit}
+use Rattle.pgs_journal.specs.Format.{field_bytes}
 use Rattle.pgs_journal.specs.Seen.{AreShown}
 use Rattle.pgs_journal.proofs.Stepping.{torn_unsound, record_read, unfit_settled}
 use Rattle.pgs_journal.proofs.Telling.{length_still, shown_back, stand_shown}
@@ -29,7 +30,7 @@ returns-then-branch-clause-record g c =
     let size = rw c.in-Some.is at c.in_ok-size.ensures.size in
     record_read g.W.World.answered view self.area c.args.at self.format c.args.number c.in-Some.size c.args.world.now c.size_at.new.world c.payload_at.new.world payload gate read.size (omega (arith, size.0, c.size_at.ensures.limit)) size.1
     (subst (λ n. g.W.World.answered c.size_at.new.world self.area (Read (c.args.at + n) (payload ++ gate ∷ [])) c.payload_at.new.world) c.field_bytes.ensures read.answered)
-    (shown_back view mid self.area _ c.size_at.ensures.quiet
+    (shown_back view mid self.area (Read (c.args.at + field_bytes self.format) (payload ++ gate ∷ []) ∷ []) c.size_at.ensures.quiet
     (subst (λ n. AreShown mid self.area (Read (c.args.at + n) (payload ++ gate ∷ []) ∷ [])) c.field_bytes.ensures (stand_shown mid self.area (c.args.at + c.field_bytes.result) (payload ++ gate ∷ []) read.stand))) self.epoch
     (ap (is_fit self.format self.epoch c.args.number) (sym c.as_slice.ensures) ∙ sym c.in_ok-fits.ensures ∙ c.if-branch.true)
 
@@ -44,6 +45,6 @@ returns-else-branch-clause-record g c =
     let size = rw c.in-Some.is at c.in_ok-size.ensures.size in
     unfit_settled g.W.World.answered view self.area c.args.at self.format c.args.number c.in-Some.size c.args.world.now c.size_at.new.world c.payload_at.new.world payload gate read.size (omega (arith, size.0, c.size_at.ensures.limit)) size.1
     (subst (λ n. g.W.World.answered c.size_at.new.world self.area (Read (c.args.at + n) (payload ++ gate ∷ [])) c.payload_at.new.world) c.field_bytes.ensures read.answered)
-    (shown_back view mid self.area _ c.size_at.ensures.quiet
+    (shown_back view mid self.area (Read (c.args.at + field_bytes self.format) (payload ++ gate ∷ []) ∷ []) c.size_at.ensures.quiet
     (subst (λ n. AreShown mid self.area (Read (c.args.at + n) (payload ++ gate ∷ []) ∷ [])) c.field_bytes.ensures (stand_shown mid self.area (c.args.at + c.field_bytes.result) (payload ++ gate ∷ []) read.stand))) self.epoch
     (omega arith) (ap (is_fit self.format self.epoch c.args.number) (sym c.as_slice.ensures) ∙ sym c.in_ok-fits.ensures ∙ c.if-branch.false)

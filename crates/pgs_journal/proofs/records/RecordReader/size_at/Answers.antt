@@ -1,4 +1,5 @@
-use Rattle.std.proofs.Common.{◌≡◌, ℕ, ◌+◌, ◌≤◌, ◌<◌, false, true, nat_lt, sym, ◌∙◌, subst, arith, length-take}
+use Rattle.std.proofs.Common.{ℕ, ◌+◌, ◌≤◌, ◌<◌, [], ◌∷◌, sym, ◌∙◌, subst, arith, length-take}
+use Rattle.pgs_world.specs.Answers.{Read}
 use Rattle.pgs_world.proofs.Moments.{quiet_on}
 use Rattle.pgs_journal.specs.Seen.{IsTorn, IsTold}
 use Rattle.pgs_journal.proofs.Stepping.{beyond, is_inside, few_fields, few_settled, fields_told, other_settled, size_told, long_settled}
@@ -24,7 +25,7 @@ returns-in_default-clause-size g c =
     (omega (arith, length-take {A = ℕ}, few_fields self.format, room, asked.limit, c.field_bytes.ensures, c.field_bytes-2.ensures))
     (fields_told g.W.World.answered view self.area c.args.at self.format c.args.number c.args.world.now c.reaches.new.world c.read_at.new.self c.reaches.new.known c.in_ok-reaches.field-0 c.read_at.new.buf asked.asked
     c.in_ok-read_at.ensures.answered
-    (shown_back view mid self.area _ c.reaches.ensures.quiet (read_shown mid self.area c.args.at _ c.read_at.new.buf c.read_at.auto.buf c.in_ok-read_at.ensures.bytes)))
+    (shown_back view mid self.area (Read c.args.at c.read_at.new.buf ∷ []) c.reaches.ensures.quiet (read_shown mid self.area c.args.at _ c.read_at.new.buf c.read_at.auto.buf c.in_ok-read_at.ensures.bytes)))
     c.in_default.ensures
 
 pub returns-then-not-branch-2-clause-size : goal.returns-then-not-branch-2-clause-size
@@ -43,7 +44,7 @@ returns-then-not-branch-2-clause-size g c =
     (subst (IsTold g.W.World.answered view self.area c.args.world.now c.read_at.new.self (IsTorn self.format c.args.number) c.args.at) c.in-Some.ensures
     (fields_told g.W.World.answered view self.area c.args.at self.format c.args.number c.args.world.now c.reaches.new.world c.read_at.new.self c.reaches.new.known c.in_ok-reaches.field-0 c.read_at.new.buf asked.asked
     c.in_ok-read_at.ensures.answered
-    (shown_back view mid self.area _ c.reaches.ensures.quiet (read_shown mid self.area c.args.at _ c.read_at.new.buf c.read_at.auto.buf c.in_ok-read_at.ensures.bytes))))
+    (shown_back view mid self.area (Read c.args.at c.read_at.new.buf ∷ []) c.reaches.ensures.quiet (read_shown mid self.area c.args.at _ c.read_at.new.buf c.read_at.auto.buf c.in_ok-read_at.ensures.bytes))))
     (asked_back g.W.World.answered view last self.area c.reaches-2.new.known c.in_ok-reaches-2.field-0 c.read_at.new.self c.reaches-2.new.world (quiet_on view mid last c.reaches.ensures.quiet c.read_at.ensures.quiet) again.asked)
     c.if-not-branch-2.true
 
@@ -76,6 +77,6 @@ returns-clause-size g c =
           (subst (IsTold g.W.World.answered view self.area c.args.world.now c.read_at.new.self (IsTorn self.format c.args.number) c.args.at) c.in-Some.ensures
           (fields_told g.W.World.answered view self.area c.args.at self.format c.args.number c.args.world.now c.reaches.new.world c.read_at.new.self c.reaches.new.known c.in_ok-reaches.field-0 c.read_at.new.buf asked.asked
           c.in_ok-read_at.ensures.answered
-          (shown_back view mid self.area _ c.reaches.ensures.quiet (read_shown mid self.area c.args.at _ c.read_at.new.buf c.read_at.auto.buf c.in_ok-read_at.ensures.bytes))))
+          (shown_back view mid self.area (Read c.args.at c.read_at.new.buf ∷ []) c.reaches.ensures.quiet (read_shown mid self.area c.args.at _ c.read_at.new.buf c.read_at.auto.buf c.in_ok-read_at.ensures.bytes))))
           (asked_back g.W.World.answered view last self.area c.reaches-2.new.known c.in_ok-reaches-2.field-0 c.read_at.new.self c.reaches-2.new.world (quiet_on view mid last c.reaches.ensures.quiet c.read_at.ensures.quiet) again.asked),
     )
