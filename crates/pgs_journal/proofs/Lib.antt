@@ -3,10 +3,11 @@ pub mod Bounding
 pub mod Composing
 pub mod Creating
 pub mod Images
-pub mod Seeing
+pub mod Telling
 pub mod Heads
 pub mod Stepping
 pub mod Written
 pub mod ReadingOn
 pub mod Fits
 pub mod Held
+pub mod Beside

@@ -10,9 +10,11 @@ use Rattle.pgs_journal.specs.declared.area_state.AreaState.{AreaState}
 use Rattle.pgs_journal.specs.declared.area_state.AreaState.TheVariants.{NoStore, Damaged, Store}
 use Rattle.pgs_journal.specs.declared.format.Format.{Format}
 use Rattle.pgs_journal.specs.declared.format.Format.TheVariants.{First, Second}
-use Rattle.pgs_journal.specs.Area.{epoch_of, format_in, head_format, first_unfit, is_fit, is_sound, has_some, judged, store_of, state_within, state_with, area_state}
+use Rattle.pgs_journal.specs.declared.head.Head.TheVariants as heads
+use Rattle.pgs_journal.specs.Area.{epoch_of, format_in, head_format, head_with, head_of, first_unfit, is_fit, is_sound, has_some, judged, store_of, state_within, state_with, area_state}
 use Rattle.pgs_journal.specs.Format.{is_open, is_epoch, head_body, record_body, open_records, opened, format_of, next_after, Holds}
 use Rattle.pgs_journal.specs.Reading.{Next, Closed, Torn, Whole, Found, sized, record_of, next_of, after_one, found_at, records_within, records_in}
+use Rattle.pgs_journal.specs.Told.{IsUnended}
 
 is_less : (m n : ℕ) → m < n → nat_lt m n ≡ true
 is_less m n lt = grind (arith, nat_tests)
@@ -135,33 +137,54 @@ pub record Opened (format : Format) (epoch : ℕ) (payloads : List (List ℕ)) (
   pub some : 1 ≤ length tail
   pub fit : first_unfit format epoch 1 payloads ≡ None
 
+abbrev pub behind_head : Format → List (List ℕ) → List ℕ → List ℕ
+behind_head format payloads tail = open_records format 1 payloads ++ tail
+
+-- how many records there could be behind those
+abbrev pub left : Format → List (List ℕ) → List ℕ → ℕ
+left format payloads tail = length (behind_head format payloads tail) - length payloads
+
+module _ (format : Format) (epoch : ℕ) (payloads : List (List ℕ)) (tail : List ℕ) (small : length (opened format epoch payloads) < 256 ^ 8) (some : 1 ≤ length tail) where
+  small_behind : 16 + length (open_records format 1 payloads) < 256 ^ 8
+  small_behind = omega (arith, small, head_length format epoch (open_records format 1 payloads))
+
+  found_behind : records_in format (behind_head format payloads tail) ≡ prepend payloads (records_within format (suc (left format payloads tail)) (suc (length payloads)) tail)
+  found_behind =
+      records_behind format (suc (length (behind_head format payloads tail))) (suc (left format payloads tail)) 1 (suc (length payloads)) payloads tail (small_in format 1 payloads (omega (arith, small_behind)))
+      (omega (arith, few_in format 1 payloads, small_behind)) some (omega (arith, few_in format 1 payloads, length-append (open_records format 1 payloads) tail)) (omega arith)
+
+  -- what is found in the whole area, by what stands at the gate behind them
+  pub found_in : (next : Next) → next_of format (suc (length payloads)) tail ≡ next
+      → records_in format (drop 16 (opened format epoch payloads ++ tail)) ≡ prepend payloads (found_at next (λ rest. records_within format (left format payloads tail) (suc (suc (length payloads))) rest))
+  found_in next is =
+      ap (λ (l : List ℕ). records_in format (drop 16 (1 ∷ l))) (append_assoc (head_body format epoch) (open_records format 1 payloads) tail)
+      ∙ ap (λ (l : List ℕ). records_in format l) (head_behind format epoch (behind_head format payloads tail)) ∙ found_behind
+      ∙ ap (λ (n : Next). prepend payloads (found_at n (λ rest. records_within format (left format payloads tail) (suc (suc (length payloads))) rest))) is
+
+  -- what the head says of it
+  pub head_in_front : IsTrue (is_epoch epoch) → epoch < 256 ^ 8 → head_of (opened format epoch payloads ++ tail) ≡ heads.Store format epoch
+  head_in_front numbered few =
+      let all = 1 ∷ (head_body format epoch ++ behind_head format payloads tail) in
+      let read = head_epoch format epoch (behind_head format payloads tail) few in
+      ap (λ (l : List ℕ). head_of (1 ∷ l)) (append_assoc (head_body format epoch) (open_records format 1 payloads) tail)
+      ∙ ap (λ (b : Bool). if (b || false) then heads.NoStore else head_with (head_format all) (epoch_of all))
+      (not_less (length all) 17 (omega (arith, head_length format epoch (behind_head format payloads tail), length-append (open_records format 1 payloads) tail, some)))
+      ∙ ap (λ (o : Option Format). head_with o (epoch_of all))
+      (ap (λ e. if is_epoch e then format_in all else None) read ∙ ap (λ (b : Bool). if b then format_in all else None) numbered ∙ head_opens format epoch (behind_head format payloads tail))
+      ∙ ap (λ e. heads.Store format e) read
+
 module _ (format : Format) (epoch : ℕ) (payloads : List (List ℕ)) (tail : List ℕ) (is : Opened format epoch payloads tail) where
   abbrev all : List ℕ
   all = opened format epoch payloads ++ tail
 
-  abbrev behind_head : List ℕ
-  behind_head = open_records format 1 payloads ++ tail
-
-  -- how many records there could be behind those
-  abbrev left : ℕ
-  left = length behind_head - length payloads
-
-  small_behind : 16 + length (open_records format 1 payloads) < 256 ^ 8
-  small_behind = omega (arith, is.small, head_length format epoch (open_records format 1 payloads))
-
-  found_behind : records_in format behind_head ≡ prepend payloads (records_within format (suc left) (suc (length payloads)) tail)
-  found_behind =
-      records_behind format (suc (length behind_head)) (suc left) 1 (suc (length payloads)) payloads tail (small_in format 1 payloads (omega (arith, small_behind)))
-      (omega (arith, few_in format 1 payloads, small_behind)) is.some (omega (arith, few_in format 1 payloads, length-append (open_records format 1 payloads) tail)) (omega arith)
-
-  state_opened : area_state all ≡ state_within format epoch (prepend payloads (records_within format (suc left) (suc (length payloads)) tail))
+  state_opened : area_state all ≡ state_within format epoch (prepend payloads (records_within format (suc (left format payloads tail)) (suc (length payloads)) tail))
   state_opened =
       ap (λ (l : List ℕ). area_state (1 ∷ l)) (append_assoc (head_body format epoch) (open_records format 1 payloads) tail)
-      ∙ state_behind format epoch behind_head is.numbered is.epoch_small (omega (arith, length-append (open_records format 1 payloads) tail, is.some)) ∙ ap (λ f. state_within format epoch f) found_behind
+      ∙ state_behind format epoch (behind_head format payloads tail) is.numbered is.epoch_small (omega (arith, length-append (open_records format 1 payloads) tail, is.some)) ∙ ap (λ f. state_within format epoch f) (found_behind format epoch payloads tail is.small is.some)
 
   -- what is read behind them at this gate
   abbrev at_gate : Next → AreaState
-  at_gate next = state_within format epoch (prepend payloads (found_at next (λ rest. records_within format left (suc (suc (length payloads))) rest)))
+  at_gate next = state_within format epoch (prepend payloads (found_at next (λ rest. records_within format (left format payloads tail) (suc (suc (length payloads))) rest)))
 
   -- the store of all of them
   abbrev all_stored : AreaState
@@ -188,8 +211,8 @@ module _ (format : Format) (epoch : ℕ) (payloads : List (List ℕ)) (tail : Li
       at Closed wrong = absurd (let h : true ≡ false = wrong in cc)
       at Torn wrong = all_payloads false
       at (Whole payload rest) unfit =
-          let more = (records_within format left (suc (suc (length payloads))) rest).payloads in
-          ap (λ o. judged o epoch (store_of format epoch (prepend payloads (after_one payload (records_within format left (suc (suc (length payloads))) rest)))))
+          let more = (records_within format (left format payloads tail) (suc (suc (length payloads))) rest).payloads in
+          ap (λ o. judged o epoch (store_of format epoch (prepend payloads (after_one payload (records_within format (left format payloads tail) (suc (suc (length payloads))) rest)))))
           (unfit_on format epoch 1 (suc (length payloads)) payloads (payload ∷ more) (omega arith) is.fit
           ∙ ap (λ (b : Bool). if b then first_unfit format epoch (suc (suc (length payloads))) more else Some (suc (length payloads))) unfit)
           ∙ ap (λ n. Damaged epoch n) (sym (add-one (length payloads)))
@@ -197,6 +220,16 @@ module _ (format : Format) (epoch : ℕ) (payloads : List (List ℕ)) (tail : Li
 -- a closed gate ends the reading
 pub closed_next : (format : Format) (number gate : ℕ) (rest : List ℕ) → is_open gate ≡ false → next_of format number (gate ∷ rest) ≡ Closed
 closed_next format number gate rest closed = ap (λ (b : Bool). if b then record_of format number rest else Closed) closed
+
+-- no closed gate is found where the record behind them isn't whole
+pub unended : (format : Format) (epoch : ℕ) (payloads : List (List ℕ)) (tail : List ℕ) → Opened format epoch payloads tail → next_of format (suc (length payloads)) tail ≡ Torn → IsUnended (opened format epoch payloads ++ tail)
+unended format epoch payloads tail is torn =
+    record {
+      format = format;
+      epoch = epoch;
+      head = head_in_front format epoch payloads tail is.small is.some is.numbered is.epoch_small;
+      unended = ap (λ (f : Found). f.ended) (found_in format epoch payloads tail is.small is.some Torn torn);
+    }
 
 -- an area that holds fit records is read as a store of them
 pub holds-read : (next : Option ℕ) (epoch : ℕ) (payloads : List (List ℕ)) (end : ℕ) (image : List ℕ) → Holds next epoch payloads end image → end < 256 ^ 8 → epoch < 256 ^ 8 → has_some payloads ≡ true → first_unfit (format_of next) epoch 1 payloads ≡ None

@@ -1,3 +1,5 @@
+pub mod Appended
+pub mod Appending
 pub mod Area
 pub mod Bounds
 pub mod Calls
@@ -7,3 +9,4 @@ pub mod Reading
 pub mod Samples
 pub mod Seen
 pub mod Stops
+pub mod Told

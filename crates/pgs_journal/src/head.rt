@@ -2,8 +2,9 @@ ghost use Rattle.std.specs.Prelude.{◌≡◌, ◌≤◌, ◌^◌, ℕ, length, 
 ghost use Rattle.pgs_journal.specs.declared.format.Format.{Format};
 ghost use Rattle.pgs_journal.specs.Area.{epoch_of, format_in, head_format, head_with, head_of, head_in};
 ghost use Rattle.pgs_journal.specs.Calls.{HasAreaCause};
-ghost use Rattle.pgs_journal.specs.Seen.{HasLength, Stand, IsFront};
+ghost use Rattle.pgs_journal.specs.Seen.{HasLength, Stand, IsFront, front_answers};
 ghost use Rattle.pgs_journal.specs.declared.head.Head.TheVariants as heads;
+ghost use Rattle.pgs_world.specs.Answers.{Answered};
 ghost use Rattle.pgs_world.specs.Moment.{IsQuiet, ShowsOne, MakesNoPut};
 ghost use Rattle.pgs_world.specs.World.{part};
 
@@ -78,6 +79,7 @@ impl Front {
         ensures limit { IfOk result (λ front. front.len ≤ 2 ^ 40) }
         ensures size { IfOk result (λ front. length front.bytes ≡ 17) }
         ensures bytes { IfOk result (λ front. 17 ≤ front.len → Stand (W.view world.old) area 0 front.bytes) }
+        ensures answered { IfOk result (λ front. Answered W.answered area world.old (front_answers front.len front.bytes) world.new) }
         ensures quiet { IsQuiet (W.view world.old) (W.view world.new) }
         ensures image { ShowsOne (W.view world.new) }
         ensures faults { HasAreaCause result (W.failed world.new) (W.view world.old) (W.view world.new) }

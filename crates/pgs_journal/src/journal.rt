@@ -1,11 +1,9 @@
-ghost use Rattle.std.specs.Prelude.{◌≡◌, ◌+◌, ◌≤◌, ◌<◌, ◌^◌, ◌++◌, ◌∷◌, [], List, ℕ, length, IsTrue, OnOk, OnErr};
+ghost use Rattle.std.specs.Prelude.{◌≡◌, ◌≤◌, ◌<◌, ◌^◌, List, ℕ, IsTrue, OnOk};
 ghost use Rattle.pgs_codec.specs.Frame.{framed};
-ghost use Rattle.pgs_journal.specs.Calls.{HasAreaCause};
+ghost use Rattle.pgs_journal.specs.Appending.{IsRecordAppended};
 ghost use Rattle.pgs_journal.specs.Creating.{IsStoreMade};
 ghost use Rattle.pgs_journal.specs.Format.{advanced, is_epoch, Holds, IsFrames, IsNextWithin};
-ghost use Rattle.pgs_journal.specs.Stops.{Turns, Appends};
-ghost use Rattle.pgs_world.specs.Disk.{IsSameBeside};
-ghost use Rattle.pgs_world.specs.Moment.{Passes, StopsBy, ShowsOne, IsSynced, IsSettled, MakesNoPut};
+ghost use Rattle.pgs_world.specs.Moment.{IsSynced};
 ghost use Rattle.pgs_world.specs.World.{part};
 
 use crate::steps::{close_gate, write_store};
@@ -80,32 +78,8 @@ impl Journal {
             → (payloads : List (List ℕ))
             × Holds self.old.next self.old.epoch payloads self.old.end (part self.old.area (W.view world.old).shown) }
 
-        // After Ok the area holds the new record, and it is on the disk.
-        ensures holds { (payload : List ℕ) (payloads : List (List ℕ)) → frame.now ≡ framed self.old.next payload
-            → Holds self.old.next self.old.epoch payloads self.old.end (part self.old.area (W.view world.old).shown)
-            → OnOk result (IsTrue (W.view world.old).tells_bytes
-            → Holds self.new.next self.new.epoch (payloads ++ payload ∷ []) self.new.end (part self.new.area (W.view world.new).shown)) }
-        ensures synced { OnOk result (IsSynced self.old.area (W.view world.new)) }
-        ensures settled { OnOk result (IsSettled (W.view world.old) → IsSettled (W.view world.new)) }
-        ensures area { self.new.area ≡ self.old.area }
-        ensures epoch { self.new.epoch ≡ self.old.epoch }
-        ensures end { OnOk result (self.new.end ≡ self.old.end + length frame.now) }
-        ensures next { OnOk result (self.new.next ≡ advanced self.old.next) }
-        ensures within { OnOk result (self.new.end < 2 ^ 40) }
-        ensures next_within { OnOk result (IsNextWithin self.new.next self.new.end) }
-        ensures kept { OnErr result (self.new ≡ self.old) }
-
-        // What a stop leaves at any moment of the call.
-        ensures stops { (payload : List ℕ) → frame.now ≡ framed self.old.next payload → IsTrue (W.view world.old).tells_bytes
-            → StopsBy (Turns self.old.area (Appends self.old.next self.old.epoch self.old.end payload))
-            (W.view world.old) (W.view world.new) }
-        ensures stops_beside { StopsBy (IsSameBeside self.old.area) (W.view world.old) (W.view world.new) }
-        ensures beside { IsSameBeside self.old.area (W.view world.old).shown (W.view world.new).shown }
-
-        ensures passes { Passes (W.view world.old) (W.view world.new) }
-        ensures image { ShowsOne (W.view world.new) }
-        ensures faults { HasAreaCause result (W.failed world.new) (W.view world.old) (W.view world.new) }
-        ensures no_put { MakesNoPut (W.view world.old) (W.view world.new) }
+        // What it makes of the journal, of the area, and of the world at every moment.
+        ensures { IsRecordAppended self.old self.new frame.now result (W.failed world.new) (W.view world.old) (W.view world.new) }
     {
         write_synced(world, self.area, self.end + 1, frame)?;
         write_synced(world, self.area, self.end, &[OPEN])?;

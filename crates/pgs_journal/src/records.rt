@@ -1,13 +1,16 @@
-ghost use Rattle.std.specs.Prelude.{◌≡◌, ◌+◌, ◌≤◌, ◌<◌, ◌^◌, ℕ, List, ◌++◌, ◌∷◌, [], length, take, true, false, Err, IsTrue, IfOk};
+ghost use Rattle.std.specs.Prelude.{◌≡◌, ◌+◌, ◌≤◌, ◌<◌, ◌^◌, ℕ, List, ◌++◌, ◌∷◌, [], length, take, Err, IsTrue, IfOk, nat_lt};
 ghost use Rattle.std.specs.Option.{MatchOption};
 ghost use Rattle.byteorder.specs.Endian.{big_bytes, big_number};
 ghost use Rattle.pgs_codec.specs.Frame.{number_field};
-ghost use Rattle.pgs_journal.specs.Area.{is_fit, is_sound};
+ghost use Rattle.pgs_journal.specs.Area.{is_fit};
 ghost use Rattle.pgs_journal.specs.Calls.{HasAreaCause, HasAreaCauseWhere};
 ghost use Rattle.pgs_journal.specs.Format.{field_bytes, is_epoch, opened, record_number};
 ghost use Rattle.pgs_journal.specs.Reading.{record_of, Torn};
-ghost use Rattle.pgs_journal.specs.Seen.{HasLength, Stand, Decide, IsRead, IsStateOf};
+ghost use Rattle.pgs_journal.specs.Seen.{HasLength, Stand, IsTorn, IsUnsound, IsAsked, IsTold, IsSettled, IsRead};
+ghost use Rattle.pgs_journal.specs.Told.{IsOpenYet, IsStateOf};
+ghost use Rattle.pgs_world.specs.Answers.{Read};
 ghost use Rattle.pgs_world.specs.Moment.{IsQuiet, ShowsOne, MakesNoPut};
+ghost use Rattle.pgs_world.specs.World.{part};
 
 use crate::journal::OPEN;
 use crate::{AreaState, Format, ScanFault};
@@ -73,43 +76,72 @@ fn zeros(alloc: Global, count: usize) -> Result<Vec<u8>, Memory>
 #[derive(Clone, Copy)]
 pub(crate) struct RecordReader {
     pub(crate) area: Area,
-    pub(crate) len: u64,
     pub(crate) format: Format,
     pub(crate) epoch: u64,
 }
 
 impl RecordReader {
-    /// How long the payload is of the record of this number whose gate, an open one, stands before this place; `None` where the
-    /// record isn't whole or bears another number.
-    fn size_at<W: World>(
+    /// Whether the area has a byte at this place. Where that isn't known of its length, the length is asked again: a record may have been
+    /// appended since.
+    fn reaches<W: World>(
         &self,
         world: &mut W,
-        at: u64,
-        number: u64,
-    ) -> Result<Option<u64>, AreaFault>
-        requires at { at ≤ self.now.len }
-        requires len { HasLength (W.view world.old) self.now.area self.now.len }
-        ensures size { IfOk result (λ found. MatchOption found
-            (Decide (W.view world.old) self.now.area self.now.len at (λ rest. record_of self.now.format number rest ≡ Torn))
-            (λ size. (at + field_bytes self.now.format + size < self.now.len)
-            × Stand (W.view world.old) self.now.area at (number_field (record_number self.now.format number) ++ big_bytes 8 size))) }
+        known: &mut u64,
+        place: u64,
+    ) -> Result<bool, AreaFault>
+        requires limit { known.old ≤ 2 ^ 40 }
+        requires len { HasLength (W.view world.old) self.now.area known.old }
+        ensures limit { known.new ≤ 2 ^ 40 }
+        ensures len { HasLength (W.view world.old) self.now.area known.new }
+        ensures within { IfOk result (λ within. within ≡ nat_lt place known.new) }
+        ensures asked { IfOk result (λ within. IsAsked W.answered (W.view world.old) self.now.area known.new within world.old world.new) }
         ensures quiet { IsQuiet (W.view world.old) (W.view world.new) }
         ensures image { ShowsOne (W.view world.old) → ShowsOne (W.view world.new) }
         ensures faults { HasAreaCause result (W.failed world.new) (W.view world.old) (W.view world.new) }
         ensures no_put { MakesNoPut (W.view world.old) (W.view world.new) }
     {
-        let wanted = self.format.field_bytes();
-        let left = self.len - at;
-        if left <= wanted {
+        if place < *known {
+            return Ok(true);
+        }
+        *known = world.len(self.area)?;
+        Ok(place < *known)
+    }
+
+    /// How long the payload is of the record of this number whose gate, an open one, stands before this place; `None` where the
+    /// record isn't whole or bears another number.
+    fn size_at<W: World>(
+        &self,
+        world: &mut W,
+        known: &mut u64,
+        at: u64,
+        number: u64,
+    ) -> Result<Option<u64>, AreaFault>
+        requires at { at ≤ 2 ^ 40 }
+        requires limit { known.old ≤ 2 ^ 40 }
+        requires len { HasLength (W.view world.old) self.now.area known.old }
+        ensures limit { known.new ≤ 2 ^ 40 }
+        ensures len { HasLength (W.view world.old) self.now.area known.new }
+        ensures size { IfOk result (λ found. MatchOption found
+            (IsSettled W.answered (W.view world.old) self.now.area world.old world.new (IsTorn self.now.format number) at (IsTorn self.now.format number))
+            (λ size. (at + field_bytes self.now.format + size < known.new)
+            × IsTold W.answered (W.view world.old) self.now.area world.old world.new (IsTorn self.now.format number) at
+            (number_field (record_number self.now.format number) ++ big_bytes 8 size))) }
+        ensures quiet { IsQuiet (W.view world.old) (W.view world.new) }
+        ensures image { ShowsOne (W.view world.old) → ShowsOne (W.view world.new) }
+        ensures faults { HasAreaCause result (W.failed world.new) (W.view world.old) (W.view world.new) }
+        ensures no_put { MakesNoPut (W.view world.old) (W.view world.new) }
+    {
+        let behind = at + self.format.field_bytes();
+        if !self.reaches(world, known, behind)? {
             return Ok(None);
         }
         let mut bytes = [0; 16];
-        let fields = &mut bytes[..wanted as usize];
+        let fields = &mut bytes[..self.format.field_bytes() as usize];
         world.read_at(self.area, at, fields)?;
         let Some(size) = size_in(self.format, number, fields) else {
             return Ok(None);
         };
-        if size >= left - wanted {
+        if !self.reaches(world, known, behind.saturating_add(size))? {
             return Ok(None);
         }
         Ok(Some(size))
@@ -123,9 +155,9 @@ impl RecordReader {
         at: u64,
         size: u64,
     ) -> Result<(Bytes, u8), ScanFault>
-        requires inside { at + size < self.now.len }
-        requires limit { self.now.len ≤ 2 ^ 40 }
-        requires len { HasLength (W.view world.old) self.now.area self.now.len }
+        requires limit { at + size < 2 ^ 40 }
+        requires inside { IsTrue (W.view world.old).tells_bytes → at + size < length (part self.now.area (W.view world.old).shown) }
+        ensures answered { IfOk result (λ read. W.answered world.old self.now.area (Read at (read.0 ++ read.1 ∷ [])) world.new) }
         ensures stand { IfOk result (λ read. Stand (W.view world.old) self.now.area at (read.0 ++ read.1 ∷ [])) }
         ensures size { IfOk result (λ read. length read.0 ≡ size) }
         ensures quiet { IsQuiet (W.view world.old) (W.view world.new) }
@@ -145,22 +177,26 @@ impl RecordReader {
         &self,
         alloc: Global,
         world: &mut W,
+        known: &mut u64,
         at: u64,
         number: u64,
     ) -> Result<Option<(Bytes, u8)>, ScanFault>
-        requires at { at ≤ self.now.len }
-        requires limit { self.now.len ≤ 2 ^ 40 }
+        requires at { at ≤ 2 ^ 40 }
+        requires limit { known.old ≤ 2 ^ 40 }
         requires epoch { IsTrue (is_epoch self.now.epoch) }
-        requires len { HasLength (W.view world.old) self.now.area self.now.len }
+        requires len { HasLength (W.view world.old) self.now.area known.old }
+        ensures limit { known.new ≤ 2 ^ 40 }
+        ensures len { HasLength (W.view world.old) self.now.area known.new }
         ensures record { IfOk result (λ found. MatchOption found
-            (Decide (W.view world.old) self.now.area self.now.len at (λ rest. is_sound self.now.format self.now.epoch number (record_of self.now.format number rest) ≡ false))
-            (λ read. IsRead (W.view world.old) self.now.area self.now.len self.now.format self.now.epoch number at read.0 read.1)) }
+            (IsSettled W.answered (W.view world.old) self.now.area world.old world.new (IsTorn self.now.format number) at
+            (IsUnsound self.now.format self.now.epoch number))
+            (λ read. IsRead W.answered (W.view world.old) self.now.area world.old world.new self.now.format self.now.epoch number at read.0 read.1)) }
         ensures quiet { IsQuiet (W.view world.old) (W.view world.new) }
         ensures image { ShowsOne (W.view world.old) → ShowsOne (W.view world.new) }
         ensures faults { HasAreaCauseWhere (result ≡ Err ScanFault.AreaFault) (W.failed world.new) (W.view world.old) (W.view world.new) }
         ensures no_put { MakesNoPut (W.view world.old) (W.view world.new) }
     {
-        let Some(size) = self.size_at(world, at, number)? else {
+        let Some(size) = self.size_at(world, known, at, number)? else {
             return Ok(None);
         };
         let behind = at + self.format.field_bytes();
@@ -172,31 +208,34 @@ impl RecordReader {
         }
     }
 
-    /// What the area is, whose first record has this gate. Each payload is read into the memory in which it is handed out.
+    /// What the area is, whose first record has this gate, and of whose length this is known. Each payload is read into the memory in which
+    /// it is handed out.
     pub(crate) fn read_all<W: World>(
         &self,
         alloc: Global,
         world: &mut W,
+        len: u64,
         gate: u8,
     ) -> Result<AreaState, ScanFault>
-        requires at { 17 ≤ self.now.len }
-        requires limit { self.now.len ≤ 2 ^ 40 }
+        requires limit { len ≤ 2 ^ 40 }
         requires epoch { IsTrue (is_epoch self.now.epoch) }
-        requires len { HasLength (W.view world.old) self.now.area self.now.len }
-        requires front { Stand (W.view world.old) self.now.area 0 (opened self.now.format self.now.epoch [] ++ gate ∷ []) }
+        requires len { HasLength (W.view world.old) self.now.area len }
         requires image { ShowsOne (W.view world.old) }
-        ensures decided { IfOk result (λ state. Decide (W.view world.old) self.now.area self.now.len 0 (IsStateOf state)) }
+        ensures settled { IfOk result (λ state. let front = opened self.now.format self.now.epoch [] ++ gate ∷ [] in
+            IsSettled W.answered (W.view world.old) self.now.area world.old world.new (λ told. IsOpenYet (front ++ told)) 17 (λ rest. IsStateOf state (front ++ rest))) }
         ensures quiet { IsQuiet (W.view world.old) (W.view world.new) }
         ensures image { ShowsOne (W.view world.new) }
         ensures faults { HasAreaCauseWhere (result ≡ Err ScanFault.AreaFault) (W.failed world.new) (W.view world.old) (W.view world.new) }
         ensures no_put { MakesNoPut (W.view world.old) (W.view world.new) }
     {
         let mut payloads = Vec::new(alloc);
+        let mut known = len;
         let mut at = 16;
         let mut gate = gate;
         while gate == OPEN {
             let number = payloads.len() as u64 + 1;
-            let Some((payload, behind)) = self.record_at(alloc, world, at + 1, number)? else {
+            let Some((payload, behind)) = self.record_at(alloc, world, &mut known, at + 1, number)?
+            else {
                 return Ok(AreaState::Damaged {
                     epoch: self.epoch,
                     number,

@@ -1,4 +1,6 @@
 ghost use Rattle.std.specs.Prelude.{◌≡◌, ◌+◌, ◌^◌, ◌≤◌, length, take, drop, IsTrue, IfOk, OnOk, OnErr, ⊤};
+ghost use Rattle.pgs_world.specs.declared.area.Area.{Area};
+ghost use Rattle.pgs_world.specs.Answers.{Answer, Long, Read};
 ghost use Rattle.pgs_world.specs.Calls.{IsAreaCall};
 ghost use Rattle.pgs_world.specs.Count.{Rose, RoseByOne};
 ghost use Rattle.pgs_world.specs.Disk.{written_over, IsSameBeside, Writes, Cuts, Puts};
@@ -20,10 +22,15 @@ pub trait World {
     /// that didn't fail; so where a contract says it, the call that failed was the last, whatever a world takes it to be.
     ghost failed: { Self → Type 0 } = { λ _. ⊤ };
 
+    /// A call that answered of an area: its length, or bytes of it. Code that is generic over worlds can't make such a fact up, so what a
+    /// contract says by it is said of the calls themselves, whatever a world takes it to be.
+    ghost answered: { Self → Area → Answer → Self → Type 0 } = { λ _ _ _ _. ⊤ };
+
     /// The length of an area, in bytes. An area of more than 2^40 bytes is a fault.
     fn len(&mut self, area: Area) -> Result<u64, AreaFault>
         ensures length { IfOk result (λ count. IsTrue (view self.old).tells_bytes → count ≡ length (part area (view self.old).shown)) }
         ensures limit { IfOk result (λ count. count ≤ 2 ^ 40) }
+        ensures answered { IfOk result (λ count. answered self.old area (Long count) self.new) }
         ensures quiet { IsQuiet (view self.old) (view self.new) }
         ensures call { IsAreaCall (view self.old) result (view self.new) }
         ensures last { OnErr result (failed self.new) };
@@ -33,6 +40,7 @@ pub trait World {
     fn read_at(&mut self, area: Area, at: u64, buf: &mut [u8]) -> Result<(), AreaFault>
         requires { IsTrue (view self.old).tells_bytes → at + length buf.old ≤ length (part area (view self.old).shown) }
         ensures bytes { OnOk result (IsTrue (view self.old).tells_bytes → buf.new ≡ take (length buf.old) (drop at (part area (view self.old).shown))) }
+        ensures answered { OnOk result (answered self.old area (Read at buf.new) self.new) }
         ensures quiet { IsQuiet (view self.old) (view self.new) }
         ensures call { IsAreaCall (view self.old) result (view self.new) }
         ensures last { OnErr result (failed self.new) };

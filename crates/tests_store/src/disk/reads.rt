@@ -1,5 +1,5 @@
-//! How many calls it takes to scan an area: one for its length, at most one for its first 17 bytes, and two for each record. Nothing
-//! behind a closed gate, nor of another program's file, asks for more.
+//! How many calls it takes to scan an area: one for its length, at most one for its first 17 bytes, two for each record, and one more
+//! for the length where a record doesn't fit it. Nothing behind a closed gate, nor of another program's file, asks for more.
 
 use pgs_base::{Bytes, List, Memory};
 use pgs_journal::{ScanFault, scan};
@@ -32,8 +32,8 @@ const CALLS: [Row; 17] = [
         b"\x01\0\0\0\0\0\0\0\x05\x01\0\0\0\0\x01\0\0\0\0\0\0\0\x05\x03\0\0\0\0\0",
         6,
     ),
-    (FIRST, b"\x01\x7f\0\0\0\0\0\0\0\x03\0\0\0\0\0", 5),
-    (FIRST, b"\x01\0\0\0\0\0\0\0\x05", 4),
+    (FIRST, b"\x01\x7f\0\0\0\0\0\0\0\x03\0\0\0\0\0", 6),
+    (FIRST, b"\x01\0\0\0\0\0\0\0\x05", 5),
     (SECOND, b"\0", 4),
     (
         SECOND,
@@ -53,9 +53,9 @@ const CALLS: [Row; 17] = [
     (
         SECOND,
         b"\x01\0\0\0\0\0\0\0\x02\x7f\0\0\0\0\0\0\0\x03\0\0\0\0\0",
-        5,
+        6,
     ),
-    (SECOND, b"\x01\0\0\0\0\0\0\0\x02\0\0\0\0\0\0\0\x05", 4),
+    (SECOND, b"\x01\0\0\0\0\0\0\0\x02\0\0\0\0\0\0\0\x05", 5),
 ];
 
 /// The area of a row.
