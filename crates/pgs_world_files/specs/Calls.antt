@@ -8,8 +8,11 @@ use Rattle.std.specs.declared.fs.options.OpenOptions.{OpenOptions}
 use Rattle.std.specs.declared.io.Error.{Error}
 use Rattle.std.specs.declared.io.ErrorKind.TheVariants.{InvalidInput, Unsupported}
 use Rattle.pgs_world_files.specs.declared.access.Access.{Access}
-use Rattle.pgs_world_files.specs.declared.access.Access.TheVariants.{Read, Make}
+use Rattle.pgs_world_files.specs.declared.access.Access.TheVariants.{Read, ReadBeside, ReadUnlocked, Append, Make}
 use Rattle.pgs_world_files.specs.declared.found.Found.{Found}
+use Rattle.pgs_world_files.specs.declared.mode.Mode.{Mode}
+use Rattle.pgs_world_files.specs.declared.mode.Mode.TheVariants.{ToWrite, ToRead, Beside}
+use Rattle.pgs_world_files.specs.Access.{is_beside}
 use Rattle.pgs_world_files.specs.Head.{is_of_others}
 
 -- Each fact is one answer: a call on an open file names it before, and after where the call may change it. An answer without an error
@@ -96,16 +99,31 @@ pub record AsksToAppend (how : OpenOptions) : Type 0 where
   pub append : asks_append how ≡ true
   pub create : asks_create how ≡ true
 
+-- it is open for reading alone
+abbrev pub reads_only : Mode → Bool
+reads_only ToWrite = false
+reads_only mode = true
+
+-- Beside a run that writes a file is open for that; a reader's other files may be open for reading alone; all others are open to be written.
+abbrev pub IsModeFor : Access → Mode → Type 0
+IsModeFor access Beside = is_beside access ≡ true
+IsModeFor access ToRead = access ≡ Read
+IsModeFor access ToWrite = is_beside access ≡ false
+
 -- it was opened for an access so that nothing of it was lost
-pub record IsOpenedBy {F : Type 0} (facts : Facts F) (name : List ℕ) (access : Access) (file : F) (reads_only : Bool) : Type 0 where
+pub record IsOpenedBy {F : Type 0} (facts : Facts F) (name : List ℕ) (access : Access) (file : F) (mode : Mode) : Type 0 where
   pub how : OpenOptions
   pub opened : facts.opened how name file
-  pub asks : AsksToPlace how reads_only
-  pub reads : reads_only ≡ true → access ≡ Read
+  pub asks : AsksToPlace how (reads_only mode)
+  pub fits : IsModeFor access mode
 
--- the lock of an access: readers share it, others have it alone
+-- The lock of an access: readers share it, also with a run that appends, and others have it alone. Beside a run that has the lock a reader
+-- takes none.
 abbrev pub IsLocked : {F : Type 0} → Facts F → Access → F → Type 0
 IsLocked facts Read file = facts.shared file
+IsLocked facts ReadBeside file = facts.shared file
+IsLocked facts ReadUnlocked file = ⊤
+IsLocked facts Append file = facts.shared file
 IsLocked facts access file = facts.alone file
 
 -- The folder in which the file of a name really lies was opened and synced, or the system syncs no folder there.
@@ -125,14 +143,15 @@ pub record HoldsNoOthers {F : Type 0} (facts : Facts F) (file : F) : Type 0 wher
   pub free : is_of_others (take count buf) ≡ false
 
 -- The file of a name, open for an access: opened so that nothing of it was lost, under a number above those of the standard streams, a
--- regular file, locked, then still the one of its name, its folder synced; and where a store is made, no file of something else.
-pub record IsOpenFor {F : Type 0} (facts : Facts F) (name : List ℕ) (access : Access) (file : F) (reads_only : Bool) : Type 0 where
-  pub opened : IsOpenedBy facts name access file reads_only
+-- regular file, locked, then still the one of its name; its folder synced, but not beside a run that writes; and where a store is made, no
+-- file of something else.
+pub record IsOpenFor {F : Type 0} (facts : Facts F) (name : List ℕ) (access : Access) (file : F) (mode : Mode) : Type 0 where
+  pub opened : IsOpenedBy facts name access file mode
   pub above : facts.above file
   pub regular : (found : Found) × facts.found file (Ok found) × (found.is_regular ≡ true)
   pub locked : IsLocked facts access file
   pub named : NameIs facts name file true
-  pub folder : IsFolderSynced facts name
+  pub folder : is_beside access ≡ false → IsFolderSynced facts name
   pub free : access ≡ Make → HoldsNoOthers facts file
 
 -- The file of a name, open behind its end.
@@ -143,8 +162,14 @@ pub record IsOpenBehind {F : Type 0} (facts : Facts F) (name : List ℕ) (file :
   pub above : facts.above file
 
 -- Whether a sync succeeded. A file that is open for reading alone may lie where the system knows no sync: nothing can have been written
--- there, and that is no fault.
-abbrev pub AnswersSync : {F : Type 0} → Facts F → (reads_only : Bool) → F → Bool → F → Type 0
-AnswersSync facts reads_only old true new =
-    facts.sync old None new ⊎ ((reads_only ≡ true) × (error : Error) × facts.sync old (Some error) new × IsUnsupported error)
-AnswersSync facts reads_only old false new = (error : Error) × facts.sync old (Some error) new
+-- there, and that is no fault. Beside a run that writes nothing is asked.
+abbrev pub AnswersSync : {F : Type 0} → Facts F → Mode → F → Bool → F → Type 0
+AnswersSync facts Beside old succeeds new = (succeeds ≡ true) × (new ≡ old)
+AnswersSync facts ToRead old true new = facts.sync old None new ⊎ ((error : Error) × facts.sync old (Some error) new × IsUnsupported error)
+AnswersSync facts ToWrite old true new = facts.sync old None new
+AnswersSync facts mode old false new = (error : Error) × facts.sync old (Some error) new
+
+-- Whether the file still was the one of its name. Beside a run that writes that isn't asked.
+abbrev pub AnswersName : {F : Type 0} → Facts F → Mode → List ℕ → F → Bool → Type 0
+AnswersName facts Beside name file succeeds = succeeds ≡ true
+AnswersName facts mode name file succeeds = NameIs facts name file succeeds

@@ -10,7 +10,7 @@ use Rattle.pgs_world_files.specs.Calls.{Facts, IsOpenFor, IsOpenBehind}
 -- an area in the file of this name, open for this access; or in none
 abbrev pub IsSystemArea : {S F : Type 0} → Facts F → List ℕ → Access → AreaFile (StoreFile (SystemFile S F)) → Type 0
 IsSystemArea facts name access area =
-    IfSome area.handle (λ store. (string_bytes store.file.name ≡ name) × IsOpenFor facts name access store.file.file store.file.reads_only)
+    IfSome area.handle (λ store. (string_bytes store.file.name ≡ name) × IsOpenFor facts name access store.file.file store.file.mode)
 
 -- a feed into the file of this name, open behind its end; or into none
 abbrev pub IsSystemFeed : {F : Type 0} → Facts F → List ℕ → FileFeed F → Type 0

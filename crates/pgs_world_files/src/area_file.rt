@@ -2,6 +2,7 @@ ghost use Rattle.std.specs.Prelude.{◌≡◌, None, Some};
 ghost use Rattle.std.specs.Io.{ReadsAtMost, WritesAtMost};
 ghost use Rattle.std.specs.Option.{is_some};
 ghost use Rattle.pgs_world_files.specs.Handles.{LengthIs, ReadIs, WriteIs, CallIs, IfOpen};
+ghost use Rattle.pgs_world_files.specs.Opened.{is_taken};
 ghost use Rattle.pgs_world_streams.specs.Tries.{ReadIsTried, WriteIsTried};
 
 use crate::{FileCause, Handle};
@@ -43,6 +44,13 @@ impl<H: Handle> AreaFile<H> {
         ensures { result ≡ is_some self.now.handle }
     {
         self.handle.is_some()
+    }
+
+    /// Whether there is no file, since another run has it locked.
+    pub fn is_taken(&self) -> bool
+        ensures { result ≡ is_taken self.now.handle self.now.cause }
+    {
+        matches!((&self.handle, self.cause), (None, Some(FileCause::Locked)))
     }
 
     /// Why the last fault came, or why there is no file, where that is known.

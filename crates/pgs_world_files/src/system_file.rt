@@ -1,7 +1,8 @@
 ghost use Rattle.std.specs.Prelude.{◌≡◌, IsTrue, is_ok};
-ghost use Rattle.pgs_world_files.specs.Calls.{IsUnsupported, NameIs};
+ghost use Rattle.pgs_world_files.specs.Calls.{AnswersSync, IsUnsupported, NameIs};
+ghost use Rattle.pgs_world_files.specs.declared.mode.Mode.TheVariants.{ToRead};
 
-use crate::{NamedFile, System};
+use crate::{Mode, NamedFile, System};
 use std::fs::OpenOptions;
 use std::io::{self, ErrorKind};
 
@@ -11,27 +12,22 @@ pub struct SystemFile<'a, S: System> {
     system: &'a S,
     name: String,
     file: S::File,
-    reads_only: bool,
+    mode: Mode,
     again: Option<S::File>,
 }
 
 impl<'a, S: System> SystemFile<'a, S> {
-    /// An open file of that name. `reads_only` where it is open for reading alone.
-    pub(crate) fn new(
-        system: &'a S,
-        name: String,
-        file: S::File,
-        reads_only: bool,
-    ) -> SystemFile<'a, S>
+    /// An open file of that name.
+    pub(crate) fn new(system: &'a S, name: String, file: S::File, mode: Mode) -> SystemFile<'a, S>
         ensures name { result.name ≡ name }
         ensures file { result.file ≡ file }
-        ensures reads_only { result.reads_only ≡ reads_only }
+        ensures mode { result.mode ≡ mode }
     {
         SystemFile {
             system,
             name,
             file,
-            reads_only,
+            mode,
             again: None,
         }
     }
@@ -63,6 +59,21 @@ pub(crate) fn check_same<S: System>(system: &S, file: &S::File, name: &str) -> i
     Err(io::Error::from(ErrorKind::StaleNetworkFileHandle))
 }
 
+// Syncs a file that may not be written: its file system may know no sync.
+fn sync_read<S: System>(system: &S, file: &mut S::File) -> io::Result<()>
+    ensures { AnswersSync S.facts ToRead file.old (is_ok result) file.new }
+{
+    match system.sync_data(file) {
+        Ok(()) => Ok(()),
+        Err(error) => {
+            if is_unsupported(&error) {
+                return Ok(());
+            }
+            Err(error)
+        }
+    }
+}
+
 // The error of a name that has no file is that of one that has another.
 fn absent_as_replaced(error: io::Error) -> io::Error {
     match error.kind() {
@@ -74,7 +85,7 @@ fn absent_as_replaced(error: io::Error) -> io::Error {
 impl<'a, S: System> NamedFile for SystemFile<'a, S> {
     ghost use Rattle.std.specs.Option.{unwrap_or};
     ghost use Rattle.std.specs.Prelude.{string_bytes};
-    ghost use Rattle.pgs_world_files.specs.Calls.{AnswersSync, NameIs};
+    ghost use Rattle.pgs_world_files.specs.Calls.{AnswersName, AnswersSync};
 
     ghost length_gives = { λ old answer new. S.facts.length old.file answer new.file };
 
@@ -84,9 +95,9 @@ impl<'a, S: System> NamedFile for SystemFile<'a, S> {
 
     ghost cut_gives = { λ old len succeeds new. S.facts.cut old.file len succeeds new.file };
 
-    ghost sync_gives = { λ old succeeds new. AnswersSync S.facts old.reads_only old.file succeeds new.file };
+    ghost sync_gives = { λ old succeeds new. AnswersSync S.facts old.mode old.file succeeds new.file };
 
-    ghost name_gives = { λ old succeeds new. NameIs S.facts (string_bytes old.name) old.file succeeds };
+    ghost name_gives = { λ old succeeds new. AnswersName S.facts old.mode (string_bytes old.name) old.file succeeds };
 
     fn ask_length(&mut self) -> io::Result<u64> {
         self.system.length(&mut self.file)
@@ -107,26 +118,27 @@ impl<'a, S: System> NamedFile for SystemFile<'a, S> {
         self.system.set_len(&mut self.file, len)
     }
 
-    // A file system that can't be written may know no sync.
     fn sync_bytes(&mut self) -> io::Result<()> {
-        match self.system.sync_data(&mut self.file) {
-            Ok(()) => Ok(()),
-            Err(error) => {
-                if self.reads_only && is_unsupported(&error) {
-                    return Ok(());
-                }
-                Err(error)
-            }
+        match self.mode {
+            Mode::ToWrite => self.system.sync_data(&mut self.file),
+            Mode::ToRead => sync_read(self.system, &mut self.file),
+            Mode::Beside => Ok(()),
         }
     }
 
     fn check_name(&mut self) -> io::Result<()> {
-        check_same(self.system, &self.file, self.name.as_str())
+        match self.mode {
+            Mode::ToWrite | Mode::ToRead => {
+                check_same(self.system, &self.file, self.name.as_str())
+            }
+            Mode::Beside => Ok(()),
+        }
     }
 
     fn open_to_write(&mut self) {
-        if !self.reads_only {
-            return;
+        match self.mode {
+            Mode::ToRead => {}
+            Mode::ToWrite | Mode::Beside => return,
         }
         let mut how = OpenOptions::new();
         how.read(true).write(true);

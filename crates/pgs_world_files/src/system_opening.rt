@@ -1,11 +1,13 @@
 ghost use Rattle.std.specs.Prelude.{◌≡◌, true, false, Ok, IfOk, OnOk};
 ghost use Rattle.std.specs.Path.{path_bytes};
-ghost use Rattle.pgs_world_files.specs.Calls.{AsksToAppend, AsksToPlace, HoldsNoOthers, IsFolderSynced, IsLocked, IsOpenBehind, IsOpenFor, IsOpenedBy, folder_of};
+ghost use Rattle.pgs_world_files.specs.Access.{is_beside};
+ghost use Rattle.pgs_world_files.specs.Calls.{AsksToAppend, AsksToPlace, HoldsNoOthers, IsFolderSynced, IsLocked, IsModeFor, IsOpenBehind, IsOpenFor, IsOpenedBy, folder_of, reads_only};
 
 use crate::store_head::is_of_others;
 use crate::system_file::{check_same, is_unsupported};
 use crate::{
-    Access, AreaFile, FileCause, FileFeed, Found, OpenFault, Opening, StoreFile, System, SystemFile,
+    Access, AreaFile, FileCause, FileFeed, Found, Mode, OpenFault, Opening, StoreFile, System,
+    SystemFile,
 };
 use pgs_base::Memory;
 use std::alloc::Global;
@@ -35,8 +37,8 @@ impl<'a, S: System> SystemOpening<'a, S> {
         }
     }
 
-    // Tests an open file: its number, and that it is none of those that are open. Then it is one of them.
-    fn admit(&mut self, file: &S::File) -> Result<Found, OpenFault>
+    // Tests an open file: its number, and that it is none of those that are open.
+    fn check_new(&self, file: &S::File) -> Result<Found, OpenFault>
         ensures above { OnOk result (S.facts.above file.now) }
         ensures found { IfOk result (λ found. S.facts.found file.now (Ok found)) }
     {
@@ -47,26 +49,32 @@ impl<'a, S: System> SystemOpening<'a, S> {
         if self.opened.iter().any(|other| other.is_same(found)) {
             return Err(OpenFault::File(FileCause::Twice));
         }
+        Ok(found)
+    }
+
+    // An open file is one of those that are open.
+    fn admit(&mut self, found: Found) -> Result<(), OpenFault> {
         match self.opened.push(found) {
-            Ok(()) => Ok(found),
+            Ok(()) => Ok(()),
             Err(_) => Err(OpenFault::Memory),
         }
     }
 
     // The file of a name, locked for the access, its folder synced, and still the one of its name.
-    fn open_store_file(&mut self, name: &str, access: Access) -> Result<(S::File, bool), OpenFault>
+    fn open_store_file(&mut self, name: &str, access: Access) -> Result<(S::File, Mode), OpenFault>
         ensures { IfOk result (λ opened. IsOpenFor S.facts name.now access opened.0 opened.1) }
     {
-        let (file, reads_only) = open_regular(self.system, name, access)?;
-        let found = self.admit(&file)?;
+        let (file, mode) = open_regular(self.system, name, access)?;
+        let found = self.check_new(&file)?;
         if !found.is_regular {
             return Err(OpenFault::File(FileCause::NotRegular));
         }
         lock(self.system, &file, access)?;
         check_same(self.system, &file, name)?;
-        sync_folder(self.system, name)?;
+        sync_folder_for(self.system, name, access)?;
         check_use(self.system, &file, found, access)?;
-        Ok((file, reads_only))
+        self.admit(found)?;
+        Ok((file, mode))
     }
 
     fn open_end(&mut self, name: &str) -> Result<S::File, OpenFault>
@@ -74,7 +82,8 @@ impl<'a, S: System> SystemOpening<'a, S> {
     {
         let how = to_append();
         let file = self.system.open(&how, name)?;
-        let _admitted = self.admit(&file)?;
+        let found = self.check_new(&file)?;
+        self.admit(found)?;
         Ok(file)
     }
 }
@@ -115,13 +124,13 @@ fn to_append() -> OpenOptions
     how
 }
 
-// Opens a regular file, and makes it empty where it is absent; and says whether it is open for reading alone. The kind is asked before,
-// since to open a pipe may wait.
+// Opens a regular file, and makes it empty where it is absent, but not beside a run that writes; and says how it is open. The kind is asked
+// before, since to open a pipe may wait.
 fn open_regular<S: System>(
     system: &S,
     name: &str,
     access: Access,
-) -> Result<(S::File, bool), OpenFault>
+) -> Result<(S::File, Mode), OpenFault>
     ensures { IfOk result (λ opened. IsOpenedBy S.facts name.now access opened.0 opened.1) }
 {
     match system.find(name) {
@@ -132,19 +141,26 @@ fn open_regular<S: System>(
             Err(OpenFault::File(FileCause::NotRegular))
         }
         Err(error) => match error.kind() {
-            ErrorKind::NotFound => open_absent(system, name, access),
+            ErrorKind::NotFound if !access.is_beside() => open_absent(system, name, access),
             _ => Err(OpenFault::from(error)),
         },
     }
 }
 
 // Opens a file for reading alone.
-fn open_to_read<S: System>(system: &S, name: &str) -> Result<(S::File, bool), OpenFault>
-    ensures { IfOk result (λ opened. IsOpenedBy S.facts name.now Access.Read opened.0 opened.1) }
+fn open_to_read<S: System>(
+    system: &S,
+    name: &str,
+    access: Access,
+    mode: Mode,
+) -> Result<(S::File, Mode), OpenFault>
+    requires reads { reads_only mode ≡ true }
+    requires fits { IsModeFor access mode }
+    ensures { IfOk result (λ opened. IsOpenedBy S.facts name.now access opened.0 opened.1) }
 {
     let how = to_place(true);
     let file = system.open(&how, name)?;
-    Ok((file, true))
+    Ok((file, mode))
 }
 
 // Opens a file that is absent, and so makes it.
@@ -152,31 +168,46 @@ fn open_absent<S: System>(
     system: &S,
     name: &str,
     access: Access,
-) -> Result<(S::File, bool), OpenFault>
+) -> Result<(S::File, Mode), OpenFault>
+    requires { is_beside access ≡ false }
     ensures { IfOk result (λ opened. IsOpenedBy S.facts name.now access opened.0 opened.1) }
 {
     let how = to_make();
     let file = system.open(&how, name)?;
-    Ok((file, false))
+    Ok((file, Mode::ToWrite))
 }
 
 // Opens a file for reading and writing, and where that can't be, and it is to be read, for reading alone.
-fn open_present<S: System>(
+fn open_to_place<S: System>(
     system: &S,
     name: &str,
     access: Access,
-) -> Result<(S::File, bool), OpenFault>
+) -> Result<(S::File, Mode), OpenFault>
+    requires { is_beside access ≡ false }
     ensures { IfOk result (λ opened. IsOpenedBy S.facts name.now access opened.0 opened.1) }
 {
     let how = to_place(false);
     match system.open(&how, name) {
-        Ok(file) => Ok((file, false)),
+        Ok(file) => Ok((file, Mode::ToWrite)),
         Err(error) => match access {
-            Access::Read => open_to_read(system, name),
-            Access::Write => Err(OpenFault::from(error)),
-            Access::Make => Err(OpenFault::from(error)),
+            Access::Read => open_to_read(system, name, access, Mode::ToRead),
+            _ => Err(OpenFault::from(error)),
         },
     }
+}
+
+// Opens a file that is there: beside a run that writes for reading alone.
+fn open_present<S: System>(
+    system: &S,
+    name: &str,
+    access: Access,
+) -> Result<(S::File, Mode), OpenFault>
+    ensures { IfOk result (λ opened. IsOpenedBy S.facts name.now access opened.0 opened.1) }
+{
+    if access.is_beside() {
+        return open_to_read(system, name, access, Mode::Beside);
+    }
+    open_to_place(system, name, access)
 }
 
 // Why a lock wasn't taken.
@@ -205,14 +236,14 @@ fn lock_alone<S: System>(system: &S, file: &S::File) -> Result<(), OpenFault>
     }
 }
 
-// Takes the lock of an access without waiting.
+// Takes the lock of an access without waiting; beside the run that has it, none.
 fn lock<S: System>(system: &S, file: &S::File, access: Access) -> Result<(), OpenFault>
     ensures { OnOk result (IsLocked S.facts access file.now) }
 {
     match access {
-        Access::Read => lock_shared(system, file),
-        Access::Write => lock_alone(system, file),
-        Access::Make => lock_alone(system, file),
+        Access::Read | Access::ReadBeside | Access::Append => lock_shared(system, file),
+        Access::ReadUnlocked => Ok(()),
+        Access::Write | Access::Make => lock_alone(system, file),
     }
 }
 
@@ -234,6 +265,16 @@ fn sync_folder<S: System>(system: &S, name: &str) -> Result<(), OpenFault>
             Err(OpenFault::from(error))
         }
     }
+}
+
+// The same, but not beside a run that writes, which has done it.
+fn sync_folder_for<S: System>(system: &S, name: &str, access: Access) -> Result<(), OpenFault>
+    ensures { OnOk result (is_beside access ≡ false → IsFolderSynced S.facts name.now) }
+{
+    if access.is_beside() {
+        return Ok(());
+    }
+    sync_folder(system, name)
 }
 
 // An error where a file's first bytes are those of something else.
@@ -263,8 +304,7 @@ fn check_use<S: System>(
 {
     match access {
         Access::Make => check_free(system, file, found),
-        Access::Read => Ok(()),
-        Access::Write => Ok(()),
+        _ => Ok(()),
     }
 }
 
@@ -281,8 +321,8 @@ impl<'a, S: System> Opening for SystemOpening<'a, S> {
 
     fn open_area(&mut self, name: String, access: Access) -> Result<AreaFile<Self::Area>, Memory> {
         match self.open_store_file(name.as_str(), access) {
-            Ok((file, reads_only)) => {
-                let file = SystemFile::new(self.system, name, file, reads_only);
+            Ok((file, mode)) => {
+                let file = SystemFile::new(self.system, name, file, mode);
                 Ok(AreaFile::new(StoreFile::new(file)))
             }
             Err(OpenFault::File(cause)) => Ok(AreaFile::absent(Some(cause))),
