@@ -29,12 +29,17 @@ const ALL: [StoreAccess; 4] = [
     StoreAccess::Make,
 ];
 
+/// Why a run can't open the store.
+fn cause_of(rt: &HostRuntime, access: StoreAccess) -> Result<Cause, Memory> {
+    Ok(opened(rt, access)?.cause())
+}
+
 /// Why a second run can't open the store that a first has open, for each access of the second.
 fn refused(rt: &HostRuntime, first: StoreAccess) -> Result<[Cause; 4], Memory> {
     let _open = opened(rt, first)?;
     let mut causes = [None; 4];
     for (place, second) in causes.iter_mut().zip(ALL) {
-        *place = opened(rt, second)?.cause();
+        *place = cause_of(rt, second)?;
     }
     Ok(causes)
 }
@@ -60,15 +65,13 @@ fn readers_go_beside_a_run_that_appends(rt: HostRuntime) -> Result<(), Fail> {
     Ok(())
 }
 
-/// What a second run meets beside a reader that came while a run appended, which has ended: whether one can append, and write over.
+/// What later runs meet beside a reader that came while a run appended, which has ended: one that appends, and one that writes over.
 fn beside_a_late_reader(rt: &HostRuntime) -> Result<[Cause; 2], Memory> {
     let writer = opened(rt, StoreAccess::Append)?;
     let _reader = opened(rt, StoreAccess::Read)?;
     drop(writer);
-    Ok([
-        opened(rt, StoreAccess::Append)?.cause(),
-        opened(rt, StoreAccess::WriteOver)?.cause(),
-    ])
+    let append = cause_of(rt, StoreAccess::Append)?;
+    Ok([append, cause_of(rt, StoreAccess::WriteOver)?])
 }
 
 #[test]
