@@ -253,13 +253,19 @@ holds "recover beside a run that appends" eval '"$program" recover social | cmp 
 holds "explain beside a run that appends" eval '"$program" explain social n2 | cmp -s - explained.txt'
 ends "apply beside a run that appends" 5 "social.a: is locked by another run" "$program" apply social
 ends "checkpoint beside a run that appends" 5 "social.a: is locked by another run" "$program" checkpoint social
-if [ -x "$here/../tools/run" ] && [ -z "${PGGUARD-}" ]; then
-  (sleep 0.5; cat line.txt >held) 9>&- &
-  exec 9>&-
-  holds "checkpoint that waits" eval '"$here/../pgguard" --wait 20 checkpoint social >found.txt && grep -qx "checkpoint epoch=3 commits=10" found.txt'
-fi
 exec 9>&-
 wait "$writer"
+if [ -x "$here/../tools/run" ] && [ -z "${PGGUARD-}" ]; then
+  fresh waits
+  "$program" apply waits <held >/dev/null &
+  writer=$!
+  exec 9>held
+  has_files waits
+  sleep 0.5 &
+  exec 9>&-
+  holds "a checkpoint that waits for a writer" eval '"$here/../pgguard" --wait 60 checkpoint waits | grep -q "^checkpoint epoch="'
+  wait
+fi
 if [ -n "$(command -v flock)" ]; then
   holds "recover beside a reader" eval 'flock -s social.a "$program" recover social | cmp -s - before_dump.txt'
   ends "apply beside a reader" 5 "social.a: is locked by another run" flock -s social.a "$program" apply social
@@ -304,6 +310,7 @@ ends "a device as a store's file" 5 "device.a: is not a regular file" made devic
 mkdir folder.a
 ends "a folder as a store's file" 5 "folder.a: is not a regular file" made folder
 ends "a store in no folder" 5 "missing/s.a: no such file or folder" "$program" recover missing/s
+ends "a name that would command a terminal" 5 'missing/\u{1b}[2J\n\u{9b}é'"'"'.a: no such file or folder' "$program" recover $'missing/\e[2J\n\xc2\x9b\xc3\xa9\''
 printf 'words refused 35\n' >refused.txt
 for word in '' help --help -h; do
   # shellcheck disable=SC2086
