@@ -272,7 +272,7 @@ if [ -n "$(command -v flock)" ]; then
   ends "apply beside a reader" 5 "social.a: is locked by another run" flock -s social.a "$program" apply social
   cat social.a social.b | cksum >sum.txt
   ends "checkpoint beside a reader that came beside a writer" 5 "social.b: is locked by another run" flock -s social.b "$program" checkpoint social
-  ends "load beside such a reader" 5 "social.b: is locked by another run" flock -s social.b "$program" load social
+  ends "load beside such a reader" 5 "social.b: is locked by another run" flock -s social.b "$program" load social <kept_schema.txt
   holds "and changes nothing" eval 'cat social.a social.b | cksum | cmp -s - sum.txt'
   ends "recover beside a run that writes over" 5 "social.b: is locked by another run" flock -x social.a flock -x social.b "$program" recover social
 fi
