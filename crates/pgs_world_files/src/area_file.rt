@@ -21,7 +21,8 @@ pub struct AreaFile<H: Handle> {
 impl<H: Handle> AreaFile<H> {
     /// An area in this file.
     pub fn new(handle: H) -> AreaFile<H>
-        ensures { result.handle ≡ Some handle }
+        ensures handle { result.handle ≡ Some handle }
+        ensures cause { result.cause ≡ None }
     {
         AreaFile {
             handle: Some(handle),
@@ -31,7 +32,8 @@ impl<H: Handle> AreaFile<H> {
 
     /// No file, and why, if the file can tell: every call is a fault.
     pub fn absent(cause: Option<FileCause>) -> AreaFile<H>
-        ensures { result.handle ≡ None }
+        ensures handle { result.handle ≡ None }
+        ensures cause { result.cause ≡ cause }
     {
         AreaFile {
             handle: None,
@@ -54,7 +56,9 @@ impl<H: Handle> AreaFile<H> {
     }
 
     /// Why the last fault came, or why there is no file, where that is known.
-    pub fn cause(&self) -> Option<FileCause> {
+    pub fn cause(&self) -> Option<FileCause>
+        ensures { result ≡ self.now.cause }
+    {
         self.cause
     }
 

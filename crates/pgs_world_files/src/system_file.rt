@@ -1,5 +1,6 @@
-ghost use Rattle.std.specs.Prelude.{◌≡◌, IsTrue, is_ok};
-ghost use Rattle.pgs_world_files.specs.Calls.{AnswersSync, IsUnsupported, NameIs};
+ghost use Rattle.std.specs.Prelude.{◌≡◌, IsTrue, IfSome, false, is_ok};
+ghost use Rattle.pgs_world_files.specs.Calls.{AnswersSync, AsksToPlace, IsUnsupported, NameIs};
+ghost use Rattle.pgs_world_files.specs.SystemFiles.{IsAgain};
 ghost use Rattle.pgs_world_files.specs.declared.mode.Mode.TheVariants.{ToRead};
 
 use crate::{Mode, NamedFile, System};
@@ -35,7 +36,8 @@ impl<'a, S: System> SystemFile<'a, S> {
 
 /// Whether the system says that it can't do this here at all.
 pub(crate) fn is_unsupported(error: &io::Error) -> bool
-    ensures { IsTrue result → IsUnsupported error.now }
+    ensures says { IsTrue result → IsUnsupported error.now }
+    ensures not_said { IsUnsupported error.now → IsTrue result }
 {
     match error.kind() {
         ErrorKind::InvalidInput => true,
@@ -49,7 +51,7 @@ pub(crate) fn check_same<S: System>(system: &S, file: &S::File, name: &str) -> i
     ensures { NameIs S.facts name.now file.now (is_ok result) }
 {
     let this = system.found(file)?;
-    let there = match system.find(name) {
+    let there = match system.find_behind(file, name) {
         Ok(there) => there,
         Err(error) => return Err(absent_as_replaced(error)),
     };
@@ -74,6 +76,38 @@ fn sync_read<S: System>(system: &S, file: &mut S::File) -> io::Result<()>
     }
 }
 
+// Options to read and to write at places.
+fn to_rewrite() -> OpenOptions
+    ensures { AsksToPlace result false }
+{
+    let mut how = OpenOptions::new();
+    how.read(true).write(true);
+    how
+}
+
+// The file of a name opened once more to be written, where it is the same file.
+fn opened_again<S: System>(system: &S, file: &S::File, name: &str) -> Option<S::File>
+    ensures { IfSome result (λ again. IsAgain S.facts name.now file.now again) }
+{
+    let how = to_rewrite();
+    let Ok(again) = system.open(&how, name) else {
+        return None;
+    };
+    if !system.is_above_standard(&again) {
+        return None;
+    }
+    let Ok(this) = system.found(file) else {
+        return None;
+    };
+    let Ok(other) = system.found(&again) else {
+        return None;
+    };
+    if this.is_same(other) {
+        return Some(again);
+    }
+    None
+}
+
 // The error of a name that has no file is that of one that has another.
 fn absent_as_replaced(error: io::Error) -> io::Error {
     match error.kind() {
@@ -86,6 +120,7 @@ impl<'a, S: System> NamedFile for SystemFile<'a, S> {
     ghost use Rattle.std.specs.Option.{unwrap_or};
     ghost use Rattle.std.specs.Prelude.{string_bytes};
     ghost use Rattle.pgs_world_files.specs.Calls.{AnswersName, AnswersSync};
+    ghost use Rattle.pgs_world_files.specs.SystemFiles.{IsReopened};
 
     ghost length_gives = { λ old answer new. S.facts.length old.file answer new.file };
 
@@ -96,6 +131,8 @@ impl<'a, S: System> NamedFile for SystemFile<'a, S> {
     ghost cut_gives = { λ old len succeeds new. S.facts.cut old.file len succeeds new.file };
 
     ghost sync_gives = { λ old succeeds new. AnswersSync S.facts old.mode old.file succeeds new.file };
+
+    ghost reopen_gives = { IsReopened S.facts };
 
     ghost name_gives = { λ old succeeds new. AnswersName S.facts old.mode (string_bytes old.name) old.file succeeds };
 
@@ -140,17 +177,8 @@ impl<'a, S: System> NamedFile for SystemFile<'a, S> {
             Mode::ToRead => {}
             Mode::ToWrite | Mode::Beside => return,
         }
-        let mut how = OpenOptions::new();
-        how.read(true).write(true);
-        let Ok(again) = self.system.open(&how, self.name.as_str()) else {
-            return;
-        };
-        if !self.system.is_above_standard(&again) {
-            return;
-        }
-        match (self.system.found(&self.file), self.system.found(&again)) {
-            (Ok(one), Ok(other)) if one.is_same(other) => self.again = Some(again),
-            _ => {}
+        if let Some(again) = opened_again(self.system, &self.file, self.name.as_str()) {
+            self.again = Some(again);
         }
     }
 }
