@@ -1,5 +1,5 @@
 -- The fault that an error of a call makes has its cause.
-use Rattle.std.proofs.Common.{◌≡◌, ℕ, true, false, List, [], Option, Some, Result, Ok, Err, IfErr, IsErrAnd, inr, inl, refl, sym, subst}
+use Rattle.std.proofs.Common.{◌≡◌, ℕ, true, false, List, [], Some, Result, Ok, Err, IfErr, IsErrAnd, inr, inl, refl, sym, subst}
 use Rattle.std.proofs.lemmas.Bool.{false≢true}
 use Rattle.std.specs.Fs.{asks_write, asks_create}
 use Rattle.std.specs.declared.fs.locks.TryLockError.{TryLockError}

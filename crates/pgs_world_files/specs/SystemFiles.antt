@@ -11,7 +11,7 @@ use Rattle.pgs_world_files.specs.declared.cause.FileCause.{FileCause}
 use Rattle.pgs_world_files.specs.declared.found.Found.{Found}
 use Rattle.pgs_world_files.specs.declared.mode.Mode.TheVariants.{ToRead}
 use Rattle.pgs_world_files.specs.Calls.{AsksToPlace, Facts, IsOpenFor, IsOpenBehind, is_same}
-use Rattle.pgs_world_files.specs.Faults.{IsCause, IsFault, IsNew, IsOwn}
+use Rattle.pgs_world_files.specs.Faults.{IsCause, IsNew, IsOwn}
 
 -- there is a cause, and the fact behind it
 abbrev pub HasCause : {F : Type 0} → Facts F → List Found → List ℕ → Access → Option FileCause → Type 0
