@@ -233,29 +233,48 @@ has_files() {
   for _ in $(seq 1 100); do
     # A run that asks for the lock could be what the writer meets, so the system's own list is asked, where there is one.
     if [ -r /proc/locks ]; then
-      [ "$(grep -c " WRITE $writer " /proc/locks)" = 2 ] && return
+      [ "$(grep -cE " (WRITE|READ) +$writer " /proc/locks)" = 2 ] && return
     else
-      "$program" recover "$1" >/dev/null 2>&1
+      "$program" apply "$1" <nothing >/dev/null 2>&1
       [ $? = 5 ] && return
     fi
     sleep 0.1
   done
 }
 
-# Locks: readers go together, and nobody beside a run that writes.
+# Locks: readers go together and beside a run that appends; nobody else goes beside a run that writes, and a checkpoint beside none.
 fresh social
+"$program" explain social n1 >explained_kept.txt
 mkfifo held
 "$program" apply social <held >/dev/null &
 writer=$!
 exec 9>held
 has_files social
-ends "recover beside a run that writes" 5 "social.a: is locked by another run" "$program" recover social
-ends "apply beside a run that writes" 5 "social.a: is locked by another run" "$program" apply social
+holds "recover beside a run that appends" eval '"$program" recover social | cmp -s - before_dump.txt'
+holds "explain beside a run that appends" eval '"$program" explain social n1 | cmp -s - explained_kept.txt'
+ends "apply beside a run that appends" 5 "social.a: is locked by another run" "$program" apply social
+ends "checkpoint beside a run that appends" 5 "social.a: is locked by another run" "$program" checkpoint social
 exec 9>&-
 wait "$writer"
+if [ -x "$here/../tools/run" ] && [ -z "${PGGUARD-}" ]; then
+  fresh waits
+  "$program" apply waits <held >/dev/null &
+  writer=$!
+  exec 9>held
+  has_files waits
+  sleep 0.5 &
+  exec 9>&-
+  holds "a checkpoint that waits for a writer" eval '"$here/../pgguard" --wait 60 checkpoint waits | grep -q "^checkpoint epoch="'
+  wait
+fi
 if [ -n "$(command -v flock)" ]; then
   holds "recover beside a reader" eval 'flock -s social.a "$program" recover social | cmp -s - before_dump.txt'
   ends "apply beside a reader" 5 "social.a: is locked by another run" flock -s social.a "$program" apply social
+  cat social.a social.b | cksum >sum.txt
+  ends "checkpoint beside a reader that came beside a writer" 5 "social.b: is locked by another run" flock -s social.b "$program" checkpoint social
+  ends "load beside such a reader" 5 "social.b: is locked by another run" flock -s social.b "$program" load social <kept_schema.txt
+  holds "and changes nothing" eval 'cat social.a social.b | cksum | cmp -s - sum.txt'
+  ends "recover beside a run that writes over" 5 "social.b: is locked by another run" flock -x social.a flock -x social.b "$program" recover social
 fi
 
 # Rights, a full disk, and inputs and files of other kinds.
@@ -292,6 +311,7 @@ ends "a device as a store's file" 5 "device.a: is not a regular file" made devic
 mkdir folder.a
 ends "a folder as a store's file" 5 "folder.a: is not a regular file" made folder
 ends "a store in no folder" 5 "missing/s.a: no such file or folder" "$program" recover missing/s
+ends "a name that would command a terminal" 5 'missing/\u{1b}[2J\n\u{9b}é'"'"'.a: no such file or folder' "$program" recover $'missing/\e[2J\n\xc2\x9b\xc3\xa9\''
 printf 'words refused 35\n' >refused.txt
 for word in '' help --help -h; do
   # shellcheck disable=SC2086
@@ -344,9 +364,22 @@ if strace -o /dev/null true 2>/dev/null; then
   holds "the order of syncs, $order" test "$order" = FFSSPSPSWPSPSW
   holds "files stay as long as they are" eval '! grep -q O_TRUNC trace.txt'
   holds "a feed is written behind its end" eval 'grep -q "sub/feed.*O_APPEND" trace.txt'
-  holds "both files are locked alone" test "$(grep -c 'flock(.*/s\.[ab]>, LOCK_EX|LOCK_NB) = 0' trace.txt)" = 2
+  holds "who appends has the first file alone" test "$(grep -c 'flock(.*/s\.a>, LOCK_EX|LOCK_NB) = 0' trace.txt)" = 1
+  holds "and shares the second with readers" test "$(grep -c 'flock(.*/s\.b>, LOCK_SH|LOCK_NB) = 0' trace.txt)" = 1
   strace -y -o trace.txt -e trace=flock "$program" recover sub/s >found.txt
   holds "both files are locked for readers" test "$(grep -c 'flock(.*/s\.[ab]>, LOCK_SH|LOCK_NB) = 0' trace.txt)" = 2
+  strace -y -o trace.txt -e trace=flock "$program" checkpoint sub/s >found.txt
+  holds "who writes over has both files alone" test "$(grep -c 'flock(.*/s\.[ab]>, LOCK_EX|LOCK_NB) = 0' trace.txt)" = 2
+  "$program" apply sub/s <held >/dev/null &
+  writer=$!
+  exec 9>held
+  has_files sub/s
+  "$program" recover sub/s >wanted.txt
+  strace -y -o trace.txt -e trace=openat,fsync,fdatasync,pwrite64,write,ftruncate "$program" recover sub/s >found.txt
+  exec 9>&-
+  wait "$writer"
+  holds "a reader beside a writer writes and syncs nothing" eval '[ -s wanted.txt ] && cmp -s found.txt wanted.txt && ! grep -qE "^(fsync|fdatasync|pwrite64|ftruncate)\(" trace.txt && ! grep "^write(" trace.txt | grep -qv "^write(1<"'
+  holds "and has the files for reading alone" test "$(grep -c 's\.[ab]", O_RDONLY|O_CLOEXEC) = ' trace.txt)" = 2
 else
   echo "strace isn't there: the order of syncs isn't compared"
 fi
@@ -378,5 +411,30 @@ for line in 1 2 3; do
   printf '%d committed %d\n' "$line" "$((stored + line))"
 done >more_verdicts.txt
 runs "apply goes on" 0 more_verdicts.txt more.txt apply people
+
+# A writer that commits without pause, and readers beside it: what each shows is whole, and has each commit whose line was out before it began.
+# Beside them a checkpoint ends with 5.
+whole_lines() {
+  grep -c '^[0-9]* committed [0-9]*$' busy_lines.txt
+}
+runs "load busy" 0 people_loaded.txt people_schema.txt load busy
+"$program" apply busy <people.txt >busy_lines.txt &
+writer=$!
+has_files busy
+reads=0 bad=0
+while [ "$reads" -lt 200 ] && kill -0 "$writer" 2>/dev/null; do
+  reads=$((reads + 1))
+  lines=$(($(whole_lines) - 1))
+  if "$program" recover busy <nothing >seen.txt 2>>told.txt && "$program" validate <seen.txt >/dev/null &&
+    [ "$(grep -c '"add_node"' seen.txt)" -ge "$lines" ]; then :; else bad=$((bad + 1)); fi
+  if [ "$lines" -ge 1 ]; then
+    "$program" explain busy "n$lines" 2>>told.txt | grep -q '^key 1 scope$' || bad=$((bad + 1))
+  fi
+  "$program" checkpoint busy >found.txt 2>/dev/null
+  [ $? = 5 ] && [ ! -s found.txt ] || bad=$((bad + 1))
+done
+holds "$reads readers of each command beside a writer, $bad of them bad" test "$reads" = 200 -a "$bad" = 0
+kill -9 "$writer"
+wait "$writer" 2>/dev/null
 
 exit "$different"

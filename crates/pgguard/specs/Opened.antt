@@ -8,25 +8,26 @@ use Rattle.pgs_feed.specs.Places.{Place, fed}
 use Rattle.pgs_feed.specs.Seen.{feeds_in, places}
 use Rattle.pgs_program.specs.Outside.{HasNoFiles, IsFresh}
 use Rattle.pgs_run_words.specs.declared.command.Command.{Command}
-use Rattle.pgs_run_words.specs.declared.command.Command.TheVariants.{Load, Recover, Explain}
+use Rattle.pgs_run_words.specs.declared.command.Command.TheVariants.{Load, Recover, Explain, Checkpoint}
 use Rattle.pgs_run_words.specs.Words.{command_of, store_of, feeds_of}
-use Rattle.pgs_world_files.specs.declared.access.Access.{Access}
-use Rattle.pgs_world_files.specs.declared.access.Access.TheVariants.{Read, Write, Make}
+use Rattle.pgs_world_files.specs.declared.access.StoreAccess.{StoreAccess}
+use Rattle.pgs_world_files.specs.declared.access.StoreAccess.TheVariants.{Read, Append, WriteOver, Make}
 use Rattle.pgs_world_files.specs.declared.area_files.AreaFiles.{AreaFiles}
 use Rattle.pgs_world_files.specs.declared.file_feed.FileFeed.{FileFeed}
 use Rattle.pgs_world_files.specs.Counted.{untold_bytes}
 use Rattle.pgs_world_files.specs.Opened.{AreaGives, IsStoreOf}
 use Rattle.pgguard.specs.declared.opening.Opened.{Opened}
 
--- what a command does with the files of its store
-abbrev pub access_of : Option Command → Access
+-- what a command does with its store
+abbrev pub access_of : Option Command → StoreAccess
 access_of (Some Recover) = Read
 access_of (Some (Explain elem)) = Read
 access_of (Some Load) = Make
-access_of command = Write
+access_of (Some Checkpoint) = WriteOver
+access_of command = Append
 
 -- without a store no area has a file; those of a store are its two files
-abbrev pub AreFilesOf : {H : Type 0} → AreaGives H → (store : Option (List ℕ)) → Access → AreaFiles H → Type 0
+abbrev pub AreFilesOf : {H : Type 0} → AreaGives H → (store : Option (List ℕ)) → StoreAccess → AreaFiles H → Type 0
 AreFilesOf gives None access areas = HasNoFiles areas
 AreFilesOf gives (Some name) access areas = IsStoreOf gives name access areas
 

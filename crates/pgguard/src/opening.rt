@@ -14,7 +14,7 @@ use pgs_feed::FeedList;
 use pgs_program::{Outside, seed_of};
 use pgs_run_words::{Command, CommandLine};
 use pgs_world::Feed;
-use pgs_world_files::{Access, AreaFiles, FileFeed, Handle, Opening, file_name};
+use pgs_world_files::{AreaFiles, FileFeed, Handle, Opening, StoreAccess, file_name};
 use pgs_world_streams::{SteadyRead, SteadyWrite};
 use std::alloc::Global;
 use std::collections::hash_map::RandomState;
@@ -27,14 +27,15 @@ pub struct Opened<R: SteadyRead, W: SteadyWrite, H: Handle, L: SteadyWrite + Dro
     pub feeds: FeedList<FileFeed<L>>,
 }
 
-// What a command does with the files of its store.
-fn access_of(command: &Option<Command>) -> Access
+// What a command does with its store.
+fn access_of(command: &Option<Command>) -> StoreAccess
     ensures { result ≡ access_of command.now }
 {
     match command {
-        Some(Command::Recover | Command::Explain { .. }) => Access::Read,
-        Some(Command::Load) => Access::Make,
-        _ => Access::Write,
+        Some(Command::Recover | Command::Explain { .. }) => StoreAccess::Read,
+        Some(Command::Load) => StoreAccess::Make,
+        Some(Command::Checkpoint) => StoreAccess::WriteOver,
+        _ => StoreAccess::Append,
     }
 }
 

@@ -9,6 +9,7 @@ use pgs_world_files::FileCause;
 use pgs_world_streams::{
     Cause, StandardNumbers, StreamCauses, tell, tell_memory, tell_too_long, tell_usage,
 };
+use std::fmt::{self, Display, Formatter};
 
 /// Why the faults of a run came, where that is known: of the input and the output, and of the areas, with the ending of the file's name.
 #[derive(Clone, Copy)]
@@ -49,6 +50,26 @@ impl Ended {
     }
 }
 
+// The name of a store's file as a part of one line: what a terminal wouldn't show as it stands is escaped, so no name begins another line or
+// commands the terminal.
+#[derive(Drop)]
+struct ShownName<'a> {
+    store: &'a str,
+    ending: &'static str,
+}
+
+impl Display for ShownName<'_> {
+    fn fmt<W: fmt::Write>(&self, f: &mut Formatter<W>) -> fmt::Result {
+        for c in self.store.chars() {
+            match c {
+                '\'' | '"' => f.write_char(c)?,
+                _ => write!(f, "{}", c.escape_debug())?,
+            }
+        }
+        f.write_str(self.ending)
+    }
+}
+
 // Tells which file of the store failed, and why.
 fn tell_area<R: Eprint>(
     rt: &R,
@@ -61,7 +82,7 @@ fn tell_area<R: Eprint>(
         Some((ending, cause)) => (ending, cause.text()),
         None => ("", Cause::Failed.text()),
     };
-    tell(rt, program, format_args!("{store}{ending}"), cause);
+    tell(rt, program, ShownName { store, ending }, cause);
 }
 
 /// Tells on standard error why a program's run of these words ended so, where it printed nothing of it: what failed and the cause, and for

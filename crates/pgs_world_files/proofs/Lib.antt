@@ -1,3 +1,5 @@
+pub mod Admitted
+pub mod Faults
 pub mod Over
 pub mod Views
 pub mod Worlds

@@ -1,32 +1,37 @@
 -- What the calls of the system answered, and what an open file of a store rests on.
-use Rattle.std.specs.Prelude.{◌≡◌, ◌⊎◌, ℕ, ◌==◌, Bool, true, false, not, ◌&&◌, List, take, Option, Some, None, Result, Ok, Err, ⊤}
+use Rattle.std.specs.Prelude.{◌≡◌, ◌⊎◌, ℕ, ◌≤◌, ◌==◌, Bool, true, false, not, ◌&&◌, List, take, min, Option, Some, None, Result, Ok, Err, ⊤}
 use Rattle.std.specs.Fs.{asks_read, asks_write, asks_append, asks_truncate, asks_create, asks_create_new}
 use Rattle.std.specs.IoError.{error_kind}
 use Rattle.std.specs.Option.{unwrap_or}
 use Rattle.std.specs.Path.{path_parent}
+use Rattle.std.specs.declared.fs.locks.TryLockError.{TryLockError}
 use Rattle.std.specs.declared.fs.options.OpenOptions.{OpenOptions}
 use Rattle.std.specs.declared.io.Error.{Error}
 use Rattle.std.specs.declared.io.ErrorKind.TheVariants.{InvalidInput, Unsupported}
 use Rattle.pgs_world_files.specs.declared.access.Access.{Access}
-use Rattle.pgs_world_files.specs.declared.access.Access.TheVariants.{Read, Make}
+use Rattle.pgs_world_files.specs.declared.access.Access.TheVariants.{Read, ReadBeside, ReadUnlocked, Append, Make}
 use Rattle.pgs_world_files.specs.declared.found.Found.{Found}
+use Rattle.pgs_world_files.specs.declared.mode.Mode.{Mode}
+use Rattle.pgs_world_files.specs.declared.mode.Mode.TheVariants.{ToWrite, ToRead, Beside}
+use Rattle.pgs_world_files.specs.Access.{is_beside}
 use Rattle.pgs_world_files.specs.Head.{is_of_others}
 
--- Each fact is one answer: a call on an open file names it before, and after where the call may change it. An answer without an error
--- is None.
+-- Each fact is one answer: a call on an open file names it before, and after where the call changes what may be asked of it. An answer
+-- without an error is None.
 pub record Facts (F : Type 0) : Type 1 where
-  -- an open of a name by these options gave this file
-  pub opened : OpenOptions → List ℕ → F → Type 0
-  -- which file a name is of
-  pub named : List ℕ → Result Found Error → Type 0
+  -- what an open of a name by these options gave
+  pub opened : OpenOptions → List ℕ → Result F Error → Type 0
+  -- which file a name is of, asked at any time; and asked behind what was done with an open file
+  pub there : List ℕ → Result Found Error → Type 0
+  pub named : F → List ℕ → Result Found Error → Type 0
   -- the name without links on its way
-  pub real : List ℕ → List ℕ → Type 0
-  -- which file an open one is, and that its number is above those of the standard streams
+  pub real : List ℕ → Result (List ℕ) Error → Type 0
+  -- which file an open one is, and whether its number is above those of the standard streams
   pub found : F → Result Found Error → Type 0
-  pub above : F → Type 0
-  -- it is locked against everybody, or beside readers
-  pub alone : F → Type 0
-  pub shared : F → Type 0
+  pub above : F → Bool → Type 0
+  -- the lock against everybody was asked for, or the one beside readers
+  pub alone : F → Option TryLockError → F → Type 0
+  pub shared : F → Option TryLockError → F → Type 0
   -- a sync of a folder
   pub folder : F → Option Error → Type 0
   -- a read of the first bytes: the buffer after it, and the answer
@@ -42,12 +47,13 @@ pub record Facts (F : Type 0) : Type 1 where
 abbrev pub no_facts : {F : Type 0} → Facts F
 no_facts = record {
   opened = λ _ _ _. ⊤;
-  named = λ _ _. ⊤;
+  there = λ _ _. ⊤;
+  named = λ _ _ _. ⊤;
   real = λ _ _. ⊤;
   found = λ _ _. ⊤;
-  above = λ _. ⊤;
-  alone = λ _. ⊤;
-  shared = λ _. ⊤;
+  above = λ _ _. ⊤;
+  alone = λ _ _ _. ⊤;
+  shared = λ _ _ _. ⊤;
   folder = λ _ _. ⊤;
   head = λ _ _ _. ⊤;
   length = λ _ _ _. ⊤;
@@ -68,11 +74,11 @@ IsUnsupported error = (error_kind error ≡ InvalidInput) ⊎ (error_kind error 
 -- whether the file of a name was found to be this open one; else a question failed, or it is another
 abbrev pub NameIs : {F : Type 0} → Facts F → List ℕ → F → Bool → Type 0
 NameIs facts name file true =
-    (this : Found) × (there : Found) × facts.found file (Ok this) × facts.named name (Ok there) × (is_same this there ≡ true)
+    (this : Found) × (there : Found) × facts.found file (Ok this) × facts.named file name (Ok there) × (is_same this there ≡ true)
 NameIs facts name file false =
     ((error : Error) × facts.found file (Err error))
-    ⊎ (((error : Error) × facts.named name (Err error))
-    ⊎ ((this : Found) × (there : Found) × facts.found file (Ok this) × facts.named name (Ok there) × (is_same this there ≡ false)))
+    ⊎ (((error : Error) × facts.named file name (Err error))
+    ⊎ ((this : Found) × (there : Found) × facts.found file (Ok this) × facts.named file name (Ok there) × (is_same this there ≡ false)))
 
 -- what stands before the last slash of a name
 abbrev pub folder_of : List ℕ → List ℕ
@@ -96,55 +102,81 @@ pub record AsksToAppend (how : OpenOptions) : Type 0 where
   pub append : asks_append how ≡ true
   pub create : asks_create how ≡ true
 
--- it was opened for an access so that nothing of it was lost
-pub record IsOpenedBy {F : Type 0} (facts : Facts F) (name : List ℕ) (access : Access) (file : F) (reads_only : Bool) : Type 0 where
-  pub how : OpenOptions
-  pub opened : facts.opened how name file
-  pub asks : AsksToPlace how reads_only
-  pub reads : reads_only ≡ true → access ≡ Read
+-- it is open for reading alone
+abbrev pub reads_only : Mode → Bool
+reads_only ToWrite = false
+reads_only mode = true
 
--- the lock of an access: readers share it, others have it alone
-abbrev pub IsLocked : {F : Type 0} → Facts F → Access → F → Type 0
-IsLocked facts Read file = facts.shared file
-IsLocked facts access file = facts.alone file
+-- Beside a run that writes a file is open for that; a reader's other files may be open for reading alone; all others are open to be written.
+abbrev pub IsModeFor : Access → Mode → Type 0
+IsModeFor access Beside = is_beside access ≡ true
+IsModeFor access ToRead = access ≡ Read
+IsModeFor access ToWrite = is_beside access ≡ false
+
+-- it was opened for an access so that nothing of it was lost
+pub record IsOpenedBy {F : Type 0} (facts : Facts F) (name : List ℕ) (access : Access) (file : F) (mode : Mode) : Type 0 where
+  pub how : OpenOptions
+  pub opened : facts.opened how name (Ok file)
+  pub asks : AsksToPlace how (reads_only mode)
+  pub fits : IsModeFor access mode
+
+-- The lock of an access was asked for: readers share it, also with a run that appends, and others have it alone. Beside a run that has the
+-- lock a reader asks for none.
+abbrev pub LockIs : {F : Type 0} → Facts F → Access → F → Option TryLockError → F → Type 0
+LockIs facts Read old answer new = facts.shared old answer new
+LockIs facts ReadBeside old answer new = facts.shared old answer new
+LockIs facts ReadUnlocked old answer new = (answer ≡ None) × (new ≡ old)
+LockIs facts Append old answer new = facts.shared old answer new
+LockIs facts access old answer new = facts.alone old answer new
 
 -- The folder in which the file of a name really lies was opened and synced, or the system syncs no folder there.
 pub record IsFolderSynced {F : Type 0} (facts : Facts F) (name : List ℕ) : Type 0 where
   pub real : List ℕ
-  pub is_real : facts.real name real
+  pub is_real : facts.real name (Ok real)
   pub how : OpenOptions
   pub folder : F
-  pub opened : facts.opened how (folder_of real) folder
+  pub opened : facts.opened how (folder_of real) (Ok folder)
   pub synced : facts.folder folder None ⊎ ((error : Error) × facts.folder folder (Some error) × IsUnsupported error)
 
--- its first bytes were read, and aren't something else's
+-- its first bytes were read, as many as it has, up to eight; and aren't something else's
 pub record HoldsNoOthers {F : Type 0} (facts : Facts F) (file : F) : Type 0 where
+  pub now : Found
+  pub found : facts.found file (Ok now)
   pub buf : List ℕ
   pub count : ℕ
   pub head : facts.head file buf (Ok count)
+  pub all : min now.len 8 ≤ count
   pub free : is_of_others (take count buf) ≡ false
 
 -- The file of a name, open for an access: opened so that nothing of it was lost, under a number above those of the standard streams, a
--- regular file, locked, then still the one of its name, its folder synced; and where a store is made, no file of something else.
-pub record IsOpenFor {F : Type 0} (facts : Facts F) (name : List ℕ) (access : Access) (file : F) (reads_only : Bool) : Type 0 where
-  pub opened : IsOpenedBy facts name access file reads_only
-  pub above : facts.above file
-  pub regular : (found : Found) × facts.found file (Ok found) × (found.is_regular ≡ true)
-  pub locked : IsLocked facts access file
+-- regular file, locked, then still the one of its name; its folder synced, but not beside a run that writes; and where a store is made, no
+-- file of something else.
+pub record IsOpenFor {F : Type 0} (facts : Facts F) (name : List ℕ) (access : Access) (file : F) (mode : Mode) : Type 0 where
+  pub start : F
+  pub opened : IsOpenedBy facts name access start mode
+  pub above : facts.above start true
+  pub regular : (found : Found) × facts.found start (Ok found) × (found.is_regular ≡ true)
+  pub locked : LockIs facts access start None file
   pub named : NameIs facts name file true
-  pub folder : IsFolderSynced facts name
+  pub folder : is_beside access ≡ false → IsFolderSynced facts name
   pub free : access ≡ Make → HoldsNoOthers facts file
 
 -- The file of a name, open behind its end.
 pub record IsOpenBehind {F : Type 0} (facts : Facts F) (name : List ℕ) (file : F) : Type 0 where
   pub how : OpenOptions
-  pub opened : facts.opened how name file
+  pub opened : facts.opened how name (Ok file)
   pub asks : AsksToAppend how
-  pub above : facts.above file
+  pub above : facts.above file true
 
 -- Whether a sync succeeded. A file that is open for reading alone may lie where the system knows no sync: nothing can have been written
--- there, and that is no fault.
-abbrev pub AnswersSync : {F : Type 0} → Facts F → (reads_only : Bool) → F → Bool → F → Type 0
-AnswersSync facts reads_only old true new =
-    facts.sync old None new ⊎ ((reads_only ≡ true) × (error : Error) × facts.sync old (Some error) new × IsUnsupported error)
-AnswersSync facts reads_only old false new = (error : Error) × facts.sync old (Some error) new
+-- there, and that is no fault. Beside a run that writes nothing is asked.
+abbrev pub AnswersSync : {F : Type 0} → Facts F → Mode → F → Bool → F → Type 0
+AnswersSync facts Beside old succeeds new = (succeeds ≡ true) × (new ≡ old)
+AnswersSync facts ToRead old true new = facts.sync old None new ⊎ ((error : Error) × facts.sync old (Some error) new × IsUnsupported error)
+AnswersSync facts ToWrite old true new = facts.sync old None new
+AnswersSync facts mode old false new = (error : Error) × facts.sync old (Some error) new
+
+-- Whether the file still was the one of its name. Beside a run that writes that isn't asked.
+abbrev pub AnswersName : {F : Type 0} → Facts F → Mode → List ℕ → F → Bool → Type 0
+AnswersName facts Beside name file succeeds = succeeds ≡ true
+AnswersName facts mode name file succeeds = NameIs facts name file succeeds

@@ -1,6 +1,8 @@
+pub mod Access
 pub mod Calls
 pub mod Contents
 pub mod Counted
+pub mod Faults
 pub mod Handles
 pub mod Head
 pub mod Named

@@ -2,6 +2,7 @@ ghost use Rattle.std.specs.Prelude.{◌≡◌, None, Some};
 ghost use Rattle.std.specs.Io.{ReadsAtMost, WritesAtMost};
 ghost use Rattle.std.specs.Option.{is_some};
 ghost use Rattle.pgs_world_files.specs.Handles.{LengthIs, ReadIs, WriteIs, CallIs, IfOpen};
+ghost use Rattle.pgs_world_files.specs.Opened.{is_taken};
 ghost use Rattle.pgs_world_streams.specs.Tries.{ReadIsTried, WriteIsTried};
 
 use crate::{FileCause, Handle};
@@ -20,7 +21,8 @@ pub struct AreaFile<H: Handle> {
 impl<H: Handle> AreaFile<H> {
     /// An area in this file.
     pub fn new(handle: H) -> AreaFile<H>
-        ensures { result.handle ≡ Some handle }
+        ensures handle { result.handle ≡ Some handle }
+        ensures cause { result.cause ≡ None }
     {
         AreaFile {
             handle: Some(handle),
@@ -30,7 +32,8 @@ impl<H: Handle> AreaFile<H> {
 
     /// No file, and why, if the file can tell: every call is a fault.
     pub fn absent(cause: Option<FileCause>) -> AreaFile<H>
-        ensures { result.handle ≡ None }
+        ensures handle { result.handle ≡ None }
+        ensures cause { result.cause ≡ cause }
     {
         AreaFile {
             handle: None,
@@ -45,8 +48,17 @@ impl<H: Handle> AreaFile<H> {
         self.handle.is_some()
     }
 
+    /// Whether there is no file, since another run has it locked.
+    pub fn is_taken(&self) -> bool
+        ensures { result ≡ is_taken self.now.handle self.now.cause }
+    {
+        matches!((&self.handle, self.cause), (None, Some(FileCause::Locked)))
+    }
+
     /// Why the last fault came, or why there is no file, where that is known.
-    pub fn cause(&self) -> Option<FileCause> {
+    pub fn cause(&self) -> Option<FileCause>
+        ensures { result ≡ self.now.cause }
+    {
         self.cause
     }
 

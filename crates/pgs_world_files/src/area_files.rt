@@ -1,9 +1,9 @@
 ghost use Rattle.std.specs.Prelude.{◌≡◌, ◌++◌, None, IfOk, string_bytes};
 ghost use Rattle.pgs_world.specs.World.{other};
 ghost use Rattle.pgs_world_files.specs.Handles.{LengthIs, ReadIs, WriteIs, CallIs, IfOpen, handle_in};
-ghost use Rattle.pgs_world_files.specs.Opened.{IsStoreOf};
+ghost use Rattle.pgs_world_files.specs.Opened.{AreOpened, IsStoreOf};
 
-use crate::{Access, AreaFile, FileCause, Handle, Opening};
+use crate::{Access, AreaFile, FileCause, Handle, Opening, StoreAccess};
 use pgs_base::Memory;
 use pgs_world::{Area, AreaFault};
 use std::alloc::Global;
@@ -25,25 +25,66 @@ pub fn file_name(alloc: Global, store: &str, ending: &str) -> Result<String, Mem
 }
 
 impl<H: Handle> AreaFiles<H> {
-    /// The files NAME.a and NAME.b, as areas A and B of the store NAME, opened for this access. Where the first can't be opened the
-    /// second isn't tried, so that of two runs that start at once one gets both.
-    pub fn open<O: Opening<Area = H>>(
+    // The files NAME.a and NAME.b, opened for these accesses. Where the first can't be opened the second isn't tried, so that of two runs
+    // that start at once one gets both.
+    fn open_both<O: Opening<Area = H>>(
         system: &mut O,
         alloc: Global,
         store: &str,
-        access: Access,
+        of_a: Access,
+        of_b: Access,
     ) -> Result<AreaFiles<H>, Memory>
-        ensures { IfOk result (λ areas. IsStoreOf O.area_gives store.now access areas) }
+        ensures { IfOk result (λ areas. AreOpened O.area_gives store.now of_a of_b areas) }
     {
-        let a = system.open_area(file_name(alloc, store, ".a")?, access)?;
+        let a = system.open_area(file_name(alloc, store, ".a")?, of_a)?;
         if !a.is_open() {
             return Ok(AreaFiles {
                 a,
                 b: AreaFile::absent(None),
             });
         }
-        let b = system.open_area(file_name(alloc, store, ".b")?, access)?;
+        let b = system.open_area(file_name(alloc, store, ".b")?, of_b)?;
         Ok(AreaFiles { a, b })
+    }
+
+    // The files of a store that is read. Where another run has NAME.a they are read beside it.
+    fn open_to_read<O: Opening<Area = H>>(
+        system: &mut O,
+        alloc: Global,
+        store: &str,
+    ) -> Result<AreaFiles<H>, Memory>
+        ensures { IfOk result (λ areas. IsStoreOf O.area_gives store.now StoreAccess.Read areas) }
+    {
+        let alone = AreaFiles::open_both(system, alloc, store, Access::Read, Access::Read)?;
+        if !alone.a.is_taken() {
+            return Ok(alone);
+        }
+        AreaFiles::open_both(
+            system,
+            alloc,
+            store,
+            Access::ReadUnlocked,
+            Access::ReadBeside,
+        )
+    }
+
+    /// The files NAME.a and NAME.b, as areas A and B of the store NAME, opened for what a run does with it. A run that reads goes beside one
+    /// that has NAME.a, and finds NAME.b locked where that one writes over. Where NAME.a can't be opened NAME.b isn't tried. A file that
+    /// can't be opened is an area without a file, and why is its cause; `Memory` where there was none.
+    pub fn open<O: Opening<Area = H>>(
+        system: &mut O,
+        alloc: Global,
+        store: &str,
+        access: StoreAccess,
+    ) -> Result<AreaFiles<H>, Memory>
+        ensures { IfOk result (λ areas. IsStoreOf O.area_gives store.now access areas) }
+    {
+        match access {
+            StoreAccess::Read => AreaFiles::open_to_read(system, alloc, store),
+            StoreAccess::Append | StoreAccess::WriteOver | StoreAccess::Make => {
+                AreaFiles::open_both(system, alloc, store, access.of_a(), access.of_b())
+            }
+        }
     }
 
     /// Why the last fault came, or why there are no files, where that is known: the ending of the file's name, and the cause.

@@ -26,8 +26,12 @@ pub enum FileCause {
 }
 
 impl FileCause {
+    ghost use Rattle.pgs_world_files.specs.Faults.{IsOfCall};
+
     /// The cause that an error of a call tells. Of a call on an open file one kind says that its name has another file.
-    pub fn of(error: &Error) -> FileCause {
+    pub fn of(error: &Error) -> FileCause
+        ensures { IsOfCall result }
+    {
         match error.kind() {
             ErrorKind::StaleNetworkFileHandle => FileCause::Replaced,
             _ => FileCause::Call(Cause::of(error)),
@@ -70,6 +74,10 @@ impl From<FileCause> for OpenFault {
 }
 
 impl From<Error> for OpenFault {
+    ghost use Rattle.pgs_world_files.specs.Faults.{IsOfError};
+
+    ghost from_gives = { λ error made. IsOfError made };
+
     fn from(error: Error) -> OpenFault {
         match error.kind() {
             ErrorKind::OutOfMemory => OpenFault::Memory,

@@ -24,6 +24,9 @@ pub trait NamedFile: Drop {
     /// Whether the file of the name was found to be this one.
     ghost name_gives: { Self → Bool → Self → Type 0 } = { λ _ _ _. ⊤ };
 
+    /// What opening it for writing too left.
+    ghost reopen_gives: { Self → Self → Type 0 } = { λ _ _. ⊤ };
+
     /// The length, in bytes.
     fn ask_length(&mut self) -> io::Result<u64>
         ensures gives { length_gives self.old result self.new };
@@ -51,5 +54,6 @@ pub trait NamedFile: Drop {
         ensures gives { name_gives self.old (is_ok result) self.new };
 
     /// Makes a file that is open for reading alone open for writing too, where that may be.
-    fn open_to_write(&mut self);
+    fn open_to_write(&mut self)
+        ensures gives { reopen_gives self.old self.new };
 }

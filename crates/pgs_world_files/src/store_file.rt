@@ -28,7 +28,7 @@ impl<F: NamedFile> StoreFile<F> {
     // isn't there. Now the next sync has to write all. A stop here changes nothing, and what isn't in memory needs nothing: so a read or
     // a write that fails is passed over.
     fn write_again(&mut self)
-        ensures { IsRewritten F.length_gives F.read_gives F.write_gives self.new.file }
+        ensures { IsRewritten F.reopen_gives F.length_gives F.read_gives F.write_gives self.old.file self.new.file }
     {
         self.file.open_to_write();
         if let Ok(len) = self.file.ask_length() {
@@ -72,7 +72,7 @@ impl<F: NamedFile> Handle for StoreFile<F> {
 
     ghost cut_gives = { λ old len succeeds new. F.cut_gives old.file len succeeds new.file };
 
-    ghost sync_gives = { λ old succeeds new. SyncIs F.sync_gives F.name_gives F.length_gives F.read_gives F.write_gives old.file succeeds new.file };
+    ghost sync_gives = { λ old succeeds new. SyncIs F.sync_gives F.name_gives F.reopen_gives F.length_gives F.read_gives F.write_gives old.file succeeds new.file };
 
     fn length_once(&mut self) -> io::Result<u64> {
         self.file.ask_length()

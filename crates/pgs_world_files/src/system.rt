@@ -1,4 +1,4 @@
-ghost use Rattle.std.specs.Prelude.{IfOk, OnOk, IsTrue, is_ok};
+ghost use Rattle.std.specs.Prelude.{Ok, Err, IfOk, IfErr, is_ok};
 ghost use Rattle.std.specs.Io.{ReadsAtMost, WritesAtMost};
 ghost use Rattle.std.specs.Path.{path_buf_bytes};
 ghost use Rattle.std.specs.Result.{result_err};
@@ -23,15 +23,20 @@ pub trait System {
 
     /// Opens the file of a name.
     fn open(&self, how: &OpenOptions, name: &str) -> io::Result<Self::File>
-        ensures { IfOk result (facts.opened how.now name.now) };
+        ensures { facts.opened how.now name.now result };
 
     /// Which file a name is of.
     fn find(&self, name: &str) -> io::Result<Found>
-        ensures { facts.named name.now result };
+        ensures { facts.there name.now result };
+
+    /// Which file a name is of, asked behind what was done with an open file.
+    fn find_behind(&self, file: &Self::File, name: &str) -> io::Result<Found>
+        ensures { facts.named file.now name.now result };
 
     /// The name of a file without links on its way.
     fn real_path(&self, name: &str) -> io::Result<PathBuf>
-        ensures { IfOk result (λ path. facts.real name.now (path_buf_bytes path)) };
+        ensures real { IfOk result (λ path. facts.real name.now (Ok (path_buf_bytes path))) }
+        ensures failed { IfErr result (λ error. facts.real name.now (Err error)) };
 
     /// Which file an open one is.
     fn found(&self, file: &Self::File) -> io::Result<Found>
@@ -39,15 +44,15 @@ pub trait System {
 
     /// Whether its number is none of the standard streams'.
     fn is_above_standard(&self, file: &Self::File) -> bool
-        ensures { IsTrue result → facts.above file.now };
+        ensures { facts.above file.now result };
 
     /// Takes the lock that nobody has beside it, without waiting.
-    fn lock_alone(&self, file: &Self::File) -> Result<(), TryLockError>
-        ensures { OnOk result (facts.alone file.now) };
+    fn lock_alone(&self, file: &mut Self::File) -> Result<(), TryLockError>
+        ensures { facts.alone file.old (result_err result) file.new };
 
     /// Takes the lock that readers share, without waiting.
-    fn lock_shared(&self, file: &Self::File) -> Result<(), TryLockError>
-        ensures { OnOk result (facts.shared file.now) };
+    fn lock_shared(&self, file: &mut Self::File) -> Result<(), TryLockError>
+        ensures { facts.shared file.old (result_err result) file.new };
 
     /// Waits until the names in a folder stand on the disk.
     fn sync_names(&self, folder: &Self::File) -> io::Result<()>
@@ -93,6 +98,10 @@ impl<R: Files<File = File> + AllocGlobal> System for R {
         Ok(Found::of(&fs::metadata(self, name)?))
     }
 
+    fn find_behind(&self, _file: &File, name: &str) -> io::Result<Found> {
+        Ok(Found::of(&fs::metadata(self, name)?))
+    }
+
     fn real_path(&self, name: &str) -> io::Result<PathBuf> {
         fs::canonicalize(self, name)
     }
@@ -105,11 +114,11 @@ impl<R: Files<File = File> + AllocGlobal> System for R {
         is_above_standard(file)
     }
 
-    fn lock_alone(&self, file: &File) -> Result<(), TryLockError> {
+    fn lock_alone(&self, file: &mut File) -> Result<(), TryLockError> {
         file.try_lock()
     }
 
-    fn lock_shared(&self, file: &File) -> Result<(), TryLockError> {
+    fn lock_shared(&self, file: &mut File) -> Result<(), TryLockError> {
         file.try_lock_shared()
     }
 

@@ -1,7 +1,9 @@
-ghost use Rattle.std.specs.Prelude.{◌≡◌, IsTrue, is_ok};
-ghost use Rattle.pgs_world_files.specs.Calls.{IsUnsupported, NameIs};
+ghost use Rattle.std.specs.Prelude.{◌≡◌, IsTrue, IfSome, false, is_ok};
+ghost use Rattle.pgs_world_files.specs.Calls.{AnswersSync, AsksToPlace, IsUnsupported, NameIs};
+ghost use Rattle.pgs_world_files.specs.SystemFiles.{IsAgain};
+ghost use Rattle.pgs_world_files.specs.declared.mode.Mode.TheVariants.{ToRead};
 
-use crate::{NamedFile, System};
+use crate::{Mode, NamedFile, System};
 use std::fs::OpenOptions;
 use std::io::{self, ErrorKind};
 
@@ -11,27 +13,22 @@ pub struct SystemFile<'a, S: System> {
     system: &'a S,
     name: String,
     file: S::File,
-    reads_only: bool,
+    mode: Mode,
     again: Option<S::File>,
 }
 
 impl<'a, S: System> SystemFile<'a, S> {
-    /// An open file of that name. `reads_only` where it is open for reading alone.
-    pub(crate) fn new(
-        system: &'a S,
-        name: String,
-        file: S::File,
-        reads_only: bool,
-    ) -> SystemFile<'a, S>
+    /// An open file of that name.
+    pub(crate) fn new(system: &'a S, name: String, file: S::File, mode: Mode) -> SystemFile<'a, S>
         ensures name { result.name ≡ name }
         ensures file { result.file ≡ file }
-        ensures reads_only { result.reads_only ≡ reads_only }
+        ensures mode { result.mode ≡ mode }
     {
         SystemFile {
             system,
             name,
             file,
-            reads_only,
+            mode,
             again: None,
         }
     }
@@ -39,7 +36,8 @@ impl<'a, S: System> SystemFile<'a, S> {
 
 /// Whether the system says that it can't do this here at all.
 pub(crate) fn is_unsupported(error: &io::Error) -> bool
-    ensures { IsTrue result → IsUnsupported error.now }
+    ensures says { IsTrue result → IsUnsupported error.now }
+    ensures not_said { IsUnsupported error.now → IsTrue result }
 {
     match error.kind() {
         ErrorKind::InvalidInput => true,
@@ -53,7 +51,7 @@ pub(crate) fn check_same<S: System>(system: &S, file: &S::File, name: &str) -> i
     ensures { NameIs S.facts name.now file.now (is_ok result) }
 {
     let this = system.found(file)?;
-    let there = match system.find(name) {
+    let there = match system.find_behind(file, name) {
         Ok(there) => there,
         Err(error) => return Err(absent_as_replaced(error)),
     };
@@ -61,6 +59,53 @@ pub(crate) fn check_same<S: System>(system: &S, file: &S::File, name: &str) -> i
         return Ok(());
     }
     Err(io::Error::from(ErrorKind::StaleNetworkFileHandle))
+}
+
+// Syncs a file that may not be written: its file system may know no sync.
+fn sync_read<S: System>(system: &S, file: &mut S::File) -> io::Result<()>
+    ensures { AnswersSync S.facts ToRead file.old (is_ok result) file.new }
+{
+    match system.sync_data(file) {
+        Ok(()) => Ok(()),
+        Err(error) => {
+            if is_unsupported(&error) {
+                return Ok(());
+            }
+            Err(error)
+        }
+    }
+}
+
+// Options to read and to write at places.
+fn to_rewrite() -> OpenOptions
+    ensures { AsksToPlace result false }
+{
+    let mut how = OpenOptions::new();
+    how.read(true).write(true);
+    how
+}
+
+// The file of a name opened once more to be written, where it is the same file.
+fn opened_again<S: System>(system: &S, file: &S::File, name: &str) -> Option<S::File>
+    ensures { IfSome result (λ again. IsAgain S.facts name.now file.now again) }
+{
+    let how = to_rewrite();
+    let Ok(again) = system.open(&how, name) else {
+        return None;
+    };
+    if !system.is_above_standard(&again) {
+        return None;
+    }
+    let Ok(this) = system.found(file) else {
+        return None;
+    };
+    let Ok(other) = system.found(&again) else {
+        return None;
+    };
+    if this.is_same(other) {
+        return Some(again);
+    }
+    None
 }
 
 // The error of a name that has no file is that of one that has another.
@@ -74,7 +119,8 @@ fn absent_as_replaced(error: io::Error) -> io::Error {
 impl<'a, S: System> NamedFile for SystemFile<'a, S> {
     ghost use Rattle.std.specs.Option.{unwrap_or};
     ghost use Rattle.std.specs.Prelude.{string_bytes};
-    ghost use Rattle.pgs_world_files.specs.Calls.{AnswersSync, NameIs};
+    ghost use Rattle.pgs_world_files.specs.Calls.{AnswersName, AnswersSync};
+    ghost use Rattle.pgs_world_files.specs.SystemFiles.{IsReopened};
 
     ghost length_gives = { λ old answer new. S.facts.length old.file answer new.file };
 
@@ -84,9 +130,11 @@ impl<'a, S: System> NamedFile for SystemFile<'a, S> {
 
     ghost cut_gives = { λ old len succeeds new. S.facts.cut old.file len succeeds new.file };
 
-    ghost sync_gives = { λ old succeeds new. AnswersSync S.facts old.reads_only old.file succeeds new.file };
+    ghost sync_gives = { λ old succeeds new. AnswersSync S.facts old.mode old.file succeeds new.file };
 
-    ghost name_gives = { λ old succeeds new. NameIs S.facts (string_bytes old.name) old.file succeeds };
+    ghost reopen_gives = { IsReopened S.facts };
+
+    ghost name_gives = { λ old succeeds new. AnswersName S.facts old.mode (string_bytes old.name) old.file succeeds };
 
     fn ask_length(&mut self) -> io::Result<u64> {
         self.system.length(&mut self.file)
@@ -107,38 +155,30 @@ impl<'a, S: System> NamedFile for SystemFile<'a, S> {
         self.system.set_len(&mut self.file, len)
     }
 
-    // A file system that can't be written may know no sync.
     fn sync_bytes(&mut self) -> io::Result<()> {
-        match self.system.sync_data(&mut self.file) {
-            Ok(()) => Ok(()),
-            Err(error) => {
-                if self.reads_only && is_unsupported(&error) {
-                    return Ok(());
-                }
-                Err(error)
-            }
+        match self.mode {
+            Mode::ToWrite => self.system.sync_data(&mut self.file),
+            Mode::ToRead => sync_read(self.system, &mut self.file),
+            Mode::Beside => Ok(()),
         }
     }
 
     fn check_name(&mut self) -> io::Result<()> {
-        check_same(self.system, &self.file, self.name.as_str())
+        match self.mode {
+            Mode::ToWrite | Mode::ToRead => {
+                check_same(self.system, &self.file, self.name.as_str())
+            }
+            Mode::Beside => Ok(()),
+        }
     }
 
     fn open_to_write(&mut self) {
-        if !self.reads_only {
-            return;
+        match self.mode {
+            Mode::ToRead => {}
+            Mode::ToWrite | Mode::Beside => return,
         }
-        let mut how = OpenOptions::new();
-        how.read(true).write(true);
-        let Ok(again) = self.system.open(&how, self.name.as_str()) else {
-            return;
-        };
-        if !self.system.is_above_standard(&again) {
-            return;
-        }
-        match (self.system.found(&self.file), self.system.found(&again)) {
-            (Ok(one), Ok(other)) if one.is_same(other) => self.again = Some(again),
-            _ => {}
+        if let Some(again) = opened_again(self.system, &self.file, self.name.as_str()) {
+            self.again = Some(again);
         }
     }
 }

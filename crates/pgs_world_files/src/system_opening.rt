@@ -1,13 +1,19 @@
-ghost use Rattle.std.specs.Prelude.{◌≡◌, true, false, Ok, IfOk, OnOk};
+ghost use Rattle.std.specs.Fs.{asks_create};
+ghost use Rattle.std.specs.Prelude.{◌≡◌, ◌++◌, [], ◌∷◌, ℕ, List, true, false, Ok, IfOk, IfErr, OnOk, OnErr};
 ghost use Rattle.std.specs.Path.{path_bytes};
-ghost use Rattle.pgs_world_files.specs.Calls.{AsksToAppend, AsksToPlace, HoldsNoOthers, IsFolderSynced, IsLocked, IsOpenBehind, IsOpenFor, IsOpenedBy, folder_of};
+ghost use Rattle.pgs_world_files.specs.Access.{is_beside};
+ghost use Rattle.pgs_world_files.specs.Calls.{AsksToAppend, AsksToPlace, HoldsNoOthers, IsFolderSynced, IsModeFor, IsOpenBehind, IsOpenFor, IsOpenedBy, LockIs, folder_of, reads_only};
+ghost use Rattle.pgs_world_files.specs.Faults.{IsFault, IsLockFault, IsNew, IsOwn, LockAnswers, is_open};
+ghost use Rattle.pgs_world_files.specs.declared.access.Access.{Access};
 
 use crate::store_head::is_of_others;
 use crate::system_file::{check_same, is_unsupported};
 use crate::{
-    Access, AreaFile, FileCause, FileFeed, Found, OpenFault, Opening, StoreFile, System, SystemFile,
+    Access, AreaFile, FileCause, FileFeed, Found, Mode, OpenFault, Opening, StoreFile, System,
+    SystemFile,
 };
 use pgs_base::Memory;
+use pgs_world::Feed;
 use std::alloc::Global;
 use std::fs::{OpenOptions, TryLockError};
 use std::io::ErrorKind;
@@ -35,48 +41,74 @@ impl<'a, S: System> SystemOpening<'a, S> {
         }
     }
 
-    // Tests an open file: its number, and that it is none of those that are open. Then it is one of them.
-    fn admit(&mut self, file: &S::File) -> Result<Found, OpenFault>
-        ensures above { OnOk result (S.facts.above file.now) }
+    // Tests an open file: its number, and that it is none of those that are open.
+    fn check_new(&self, file: &S::File) -> Result<Found, OpenFault>
+        ensures above { OnOk result (S.facts.above file.now true) }
         ensures found { IfOk result (λ found. S.facts.found file.now (Ok found)) }
+        ensures apart { IfOk result (λ found. is_open self.now.opened.items found ≡ false) }
+        ensures fault { IfErr result (λ made. (name : List ℕ) (access : Access) → IsFault S.facts self.now.opened.items name access made) }
     {
         if !self.system.is_above_standard(file) {
             return Err(OpenFault::File(FileCause::StandardNumber));
         }
         let found = self.system.found(file)?;
-        if self.opened.iter().any(|other| other.is_same(found)) {
+        if is_open(self.opened.as_slice(), found) {
             return Err(OpenFault::File(FileCause::Twice));
         }
+        Ok(found)
+    }
+
+    // An open file is one of those that are open.
+    fn admit(&mut self, found: Found) -> Result<(), OpenFault>
+        ensures admitted { OnOk result (self.new.opened.items ≡ self.old.opened.items ++ found ∷ []) }
+        ensures stays { OnErr result (self.new.opened.items ≡ self.old.opened.items) }
+        ensures fault { IfErr result (λ made. made ≡ OpenFault.Memory) }
+    {
         match self.opened.push(found) {
-            Ok(()) => Ok(found),
+            Ok(()) => Ok(()),
             Err(_) => Err(OpenFault::Memory),
         }
     }
 
     // The file of a name, locked for the access, its folder synced, and still the one of its name.
-    fn open_store_file(&mut self, name: &str, access: Access) -> Result<(S::File, bool), OpenFault>
-        ensures { IfOk result (λ opened. IsOpenFor S.facts name.now access opened.0 opened.1) }
+    fn open_store_file(&mut self, name: &str, access: Access) -> Result<(S::File, Mode), OpenFault>
+        ensures opened { IfOk result (λ opened. IsOpenFor S.facts name.now access opened.0 opened.1) }
+        ensures own { IfOk result (λ opened. IsOwn S.facts access self.old.opened.items opened.0 self.new.opened.items) }
+        ensures stays { OnErr result (self.new.opened.items ≡ self.old.opened.items) }
+        ensures fault { IfErr result (IsFault S.facts self.old.opened.items name.now access) }
     {
-        let (file, reads_only) = open_regular(self.system, name, access)?;
-        let found = self.admit(&file)?;
+        let (mut file, mode) = open_regular(self.system, name, access)?;
+        let found = self.check_new(&file)?;
         if !found.is_regular {
             return Err(OpenFault::File(FileCause::NotRegular));
         }
-        lock(self.system, &file, access)?;
+        lock(self.system, &mut file, access)?;
         check_same(self.system, &file, name)?;
-        sync_folder(self.system, name)?;
-        check_use(self.system, &file, found, access)?;
-        Ok((file, reads_only))
+        sync_folder_for(self.system, name, access)?;
+        check_use(self.system, &file, access)?;
+        self.admit(found)?;
+        Ok((file, mode))
     }
 
     fn open_end(&mut self, name: &str) -> Result<S::File, OpenFault>
-        ensures { IfOk result (λ file. IsOpenBehind S.facts name.now file) }
+        ensures opened { IfOk result (λ file. IsOpenBehind S.facts name.now file) }
+        ensures new { IfOk result (λ file. IsNew S.facts self.old.opened.items file self.new.opened.items) }
+        ensures stays { OnErr result (self.new.opened.items ≡ self.old.opened.items) }
+        ensures fault { IfErr result (IsFault S.facts self.old.opened.items name.now Access.Append) }
     {
         let how = to_append();
         let file = self.system.open(&how, name)?;
-        let _admitted = self.admit(&file)?;
+        let found = self.check_new(&file)?;
+        self.admit(found)?;
         Ok(file)
     }
+}
+
+// Whether one of those that are open is the same file.
+fn is_open(opened: &[Found], found: Found) -> bool
+    ensures { result ≡ is_open opened.now found }
+{
+    opened.iter().any(|other| other.is_same(found))
 }
 
 // The folder that a file stands in.
@@ -97,7 +129,8 @@ fn to_place(reads_only: bool) -> OpenOptions
 
 // Options to make the file where it is absent. What is there stays.
 fn to_make() -> OpenOptions
-    ensures { AsksToPlace result false }
+    ensures asks { AsksToPlace result false }
+    ensures create { asks_create result ≡ true }
 {
     let mut how = OpenOptions::new();
     how.mode(RIGHTS);
@@ -115,14 +148,15 @@ fn to_append() -> OpenOptions
     how
 }
 
-// Opens a regular file, and makes it empty where it is absent; and says whether it is open for reading alone. The kind is asked before,
-// since to open a pipe may wait.
+// Opens a regular file, and makes it empty where it is absent, but not beside a run that writes; and says how it is open. The kind is asked
+// before, since to open a pipe may wait.
 fn open_regular<S: System>(
     system: &S,
     name: &str,
     access: Access,
-) -> Result<(S::File, bool), OpenFault>
-    ensures { IfOk result (λ opened. IsOpenedBy S.facts name.now access opened.0 opened.1) }
+) -> Result<(S::File, Mode), OpenFault>
+    ensures opened { IfOk result (λ opened. IsOpenedBy S.facts name.now access opened.0 opened.1) }
+    ensures fault { IfErr result (IsFault S.facts [] name.now access) }
 {
     match system.find(name) {
         Ok(found) => {
@@ -132,19 +166,27 @@ fn open_regular<S: System>(
             Err(OpenFault::File(FileCause::NotRegular))
         }
         Err(error) => match error.kind() {
-            ErrorKind::NotFound => open_absent(system, name, access),
+            ErrorKind::NotFound if !access.is_beside() => open_absent(system, name, access),
             _ => Err(OpenFault::from(error)),
         },
     }
 }
 
 // Opens a file for reading alone.
-fn open_to_read<S: System>(system: &S, name: &str) -> Result<(S::File, bool), OpenFault>
-    ensures { IfOk result (λ opened. IsOpenedBy S.facts name.now Access.Read opened.0 opened.1) }
+fn open_to_read<S: System>(
+    system: &S,
+    name: &str,
+    access: Access,
+    mode: Mode,
+) -> Result<(S::File, Mode), OpenFault>
+    requires reads { reads_only mode ≡ true }
+    requires fits { IsModeFor access mode }
+    ensures opened { IfOk result (λ opened. IsOpenedBy S.facts name.now access opened.0 opened.1) }
+    ensures fault { IfErr result (IsFault S.facts [] name.now access) }
 {
     let how = to_place(true);
     let file = system.open(&how, name)?;
-    Ok((file, true))
+    Ok((file, mode))
 }
 
 // Opens a file that is absent, and so makes it.
@@ -152,43 +194,63 @@ fn open_absent<S: System>(
     system: &S,
     name: &str,
     access: Access,
-) -> Result<(S::File, bool), OpenFault>
-    ensures { IfOk result (λ opened. IsOpenedBy S.facts name.now access opened.0 opened.1) }
+) -> Result<(S::File, Mode), OpenFault>
+    requires { is_beside access ≡ false }
+    ensures opened { IfOk result (λ opened. IsOpenedBy S.facts name.now access opened.0 opened.1) }
+    ensures fault { IfErr result (IsFault S.facts [] name.now access) }
 {
     let how = to_make();
     let file = system.open(&how, name)?;
-    Ok((file, false))
+    Ok((file, Mode::ToWrite))
 }
 
 // Opens a file for reading and writing, and where that can't be, and it is to be read, for reading alone.
-fn open_present<S: System>(
+fn open_to_place<S: System>(
     system: &S,
     name: &str,
     access: Access,
-) -> Result<(S::File, bool), OpenFault>
-    ensures { IfOk result (λ opened. IsOpenedBy S.facts name.now access opened.0 opened.1) }
+) -> Result<(S::File, Mode), OpenFault>
+    requires { is_beside access ≡ false }
+    ensures opened { IfOk result (λ opened. IsOpenedBy S.facts name.now access opened.0 opened.1) }
+    ensures fault { IfErr result (IsFault S.facts [] name.now access) }
 {
     let how = to_place(false);
     match system.open(&how, name) {
-        Ok(file) => Ok((file, false)),
+        Ok(file) => Ok((file, Mode::ToWrite)),
         Err(error) => match access {
-            Access::Read => open_to_read(system, name),
-            Access::Write => Err(OpenFault::from(error)),
-            Access::Make => Err(OpenFault::from(error)),
+            Access::Read => open_to_read(system, name, access, Mode::ToRead),
+            _ => Err(OpenFault::from(error)),
         },
     }
 }
 
+// Opens a file that is there: beside a run that writes for reading alone.
+fn open_present<S: System>(
+    system: &S,
+    name: &str,
+    access: Access,
+) -> Result<(S::File, Mode), OpenFault>
+    ensures opened { IfOk result (λ opened. IsOpenedBy S.facts name.now access opened.0 opened.1) }
+    ensures fault { IfErr result (IsFault S.facts [] name.now access) }
+{
+    if access.is_beside() {
+        return open_to_read(system, name, access, Mode::Beside);
+    }
+    open_to_place(system, name, access)
+}
+
 // Why a lock wasn't taken.
-fn lock_fault(error: TryLockError) -> OpenFault {
+fn lock_fault(error: TryLockError) -> OpenFault
+    ensures { IsLockFault error result }
+{
     match error {
         TryLockError::WouldBlock => OpenFault::File(FileCause::Locked),
         TryLockError::Error(error) => OpenFault::from(error),
     }
 }
 
-fn lock_shared<S: System>(system: &S, file: &S::File) -> Result<(), OpenFault>
-    ensures { OnOk result (S.facts.shared file.now) }
+fn lock_shared<S: System>(system: &S, file: &mut S::File) -> Result<(), OpenFault>
+    ensures { LockAnswers S.facts.shared file.old result file.new }
 {
     match system.lock_shared(file) {
         Ok(()) => Ok(()),
@@ -196,8 +258,8 @@ fn lock_shared<S: System>(system: &S, file: &S::File) -> Result<(), OpenFault>
     }
 }
 
-fn lock_alone<S: System>(system: &S, file: &S::File) -> Result<(), OpenFault>
-    ensures { OnOk result (S.facts.alone file.now) }
+fn lock_alone<S: System>(system: &S, file: &mut S::File) -> Result<(), OpenFault>
+    ensures { LockAnswers S.facts.alone file.old result file.new }
 {
     match system.lock_alone(file) {
         Ok(()) => Ok(()),
@@ -205,21 +267,22 @@ fn lock_alone<S: System>(system: &S, file: &S::File) -> Result<(), OpenFault>
     }
 }
 
-// Takes the lock of an access without waiting.
-fn lock<S: System>(system: &S, file: &S::File, access: Access) -> Result<(), OpenFault>
-    ensures { OnOk result (IsLocked S.facts access file.now) }
+// Takes the lock of an access without waiting; beside the run that has it, none.
+fn lock<S: System>(system: &S, file: &mut S::File, access: Access) -> Result<(), OpenFault>
+    ensures { LockAnswers (LockIs S.facts access) file.old result file.new }
 {
     match access {
-        Access::Read => lock_shared(system, file),
-        Access::Write => lock_alone(system, file),
-        Access::Make => lock_alone(system, file),
+        Access::Read | Access::ReadBeside | Access::Append => lock_shared(system, file),
+        Access::ReadUnlocked => Ok(()),
+        Access::Write | Access::Make => lock_alone(system, file),
     }
 }
 
 // Syncs the folder where a file really lies, so that the file itself outlasts a stop: also where the file was there before, since the
 // run that made it may have been stopped. Some systems sync no folder.
 fn sync_folder<S: System>(system: &S, name: &str) -> Result<(), OpenFault>
-    ensures { OnOk result (IsFolderSynced S.facts name.now) }
+    ensures synced { OnOk result (IsFolderSynced S.facts name.now) }
+    ensures fault { IfErr result (λ made. (access : Access) → IsFault S.facts [] name.now access made) }
 {
     let real = system.real_path(name)?;
     let folder = folder_of(real.as_path());
@@ -236,11 +299,24 @@ fn sync_folder<S: System>(system: &S, name: &str) -> Result<(), OpenFault>
     }
 }
 
+// The same, but not beside a run that writes, which has done it.
+fn sync_folder_for<S: System>(system: &S, name: &str, access: Access) -> Result<(), OpenFault>
+    ensures synced { OnOk result (is_beside access ≡ false → IsFolderSynced S.facts name.now) }
+    ensures fault { IfErr result (IsFault S.facts [] name.now access) }
+{
+    if access.is_beside() {
+        return Ok(());
+    }
+    sync_folder(system, name)
+}
+
 // An error where a file's first bytes are those of something else.
-fn check_free<S: System>(system: &S, file: &S::File, found: Found) -> Result<(), OpenFault>
-    ensures { OnOk result (HoldsNoOthers S.facts file.now) }
+fn check_free<S: System>(system: &S, file: &S::File) -> Result<(), OpenFault>
+    ensures free { OnOk result (HoldsNoOthers S.facts file.now) }
+    ensures fault { IfErr result (λ made. (name : List ℕ) (access : Access) → IsFault S.facts [] name access made) }
 {
     let mut head = [0; 8];
+    let found = system.found(file)?;
     let len = found.len.min(8) as usize;
     let count = system.read_head(file, &mut head)?;
     if count < len {
@@ -253,18 +329,13 @@ fn check_free<S: System>(system: &S, file: &S::File, found: Found) -> Result<(),
 }
 
 // The same, where a store is made.
-fn check_use<S: System>(
-    system: &S,
-    file: &S::File,
-    found: Found,
-    access: Access,
-) -> Result<(), OpenFault>
-    ensures { OnOk result (access ≡ Access.Make → HoldsNoOthers S.facts file.now) }
+fn check_use<S: System>(system: &S, file: &S::File, access: Access) -> Result<(), OpenFault>
+    ensures free { OnOk result (access ≡ Access.Make → HoldsNoOthers S.facts file.now) }
+    ensures fault { IfErr result (λ made. (name : List ℕ) (access : Access) → IsFault S.facts [] name access made) }
 {
     match access {
-        Access::Make => check_free(system, file, found),
-        Access::Read => Ok(()),
-        Access::Write => Ok(()),
+        Access::Make => check_free(system, file),
+        _ => Ok(()),
     }
 }
 
@@ -273,16 +344,22 @@ impl<'a, S: System> Opening for SystemOpening<'a, S> {
 
     type Line = S::File;
 
-    ghost use Rattle.pgs_world_files.specs.SystemFiles.{IsSystemArea, IsSystemFeed};
+    ghost use Rattle.std.specs.Prelude.{string_bytes};
+    ghost use Rattle.pgs_world_files.specs.SystemFiles.{IsAdmitted, IsFeedAdmitted, IsSystemArea, IsSystemFeed};
 
     ghost area_gives = { IsSystemArea S.facts };
 
     ghost feed_gives = { IsSystemFeed S.facts };
 
-    fn open_area(&mut self, name: String, access: Access) -> Result<AreaFile<Self::Area>, Memory> {
+    /// The file of that name, opened and locked for the access and made empty where it is absent, but not beside a run that writes; else no
+    /// file, and the cause. It is none of the files that are open already.
+    fn open_area(&mut self, name: String, access: Access) -> Result<AreaFile<Self::Area>, Memory>
+        ensures gives { IfOk result (IsSystemArea S.facts (string_bytes name) access) }
+        ensures admitted { IfOk result (λ area. IsAdmitted S.facts self.old.opened.items (string_bytes name) access area.handle area.cause self.new.opened.items) }
+    {
         match self.open_store_file(name.as_str(), access) {
-            Ok((file, reads_only)) => {
-                let file = SystemFile::new(self.system, name, file, reads_only);
+            Ok((file, mode)) => {
+                let file = SystemFile::new(self.system, name, file, mode);
                 Ok(AreaFile::new(StoreFile::new(file)))
             }
             Err(OpenFault::File(cause)) => Ok(AreaFile::absent(Some(cause))),
@@ -290,7 +367,12 @@ impl<'a, S: System> Opening for SystemOpening<'a, S> {
         }
     }
 
-    fn open_feed(&mut self, name: &str) -> Result<FileFeed<S::File>, Memory> {
+    /// The file of that name as a feed, made empty where it is absent; else no file. It is none of the files that are open already.
+    fn open_feed(&mut self, name: &str) -> Result<FileFeed<S::File>, Memory>
+        ensures gives { IfOk result (IsSystemFeed S.facts name.now) }
+        ensures faults { IfOk result (λ feed. ⟦<FileFeed<S::File> as Feed>⟧.faults feed ≡ 0) }
+        ensures admitted { IfOk result (λ feed. IsFeedAdmitted S.facts self.old.opened.items name.now feed.writer self.new.opened.items) }
+    {
         match self.open_end(name) {
             Ok(file) => Ok(FileFeed::new(file)),
             Err(OpenFault::File(_)) => Ok(FileFeed::absent()),

@@ -2,7 +2,7 @@
 
 use pgs_base::{Memory, Seed};
 use pgs_world::{Area, AreaFault, World};
-use pgs_world_files::{Access, AreaFiles, FileWorld, StoreFile, SystemFile, SystemOpening};
+use pgs_world_files::{AreaFiles, FileWorld, StoreAccess, StoreFile, SystemFile, SystemOpening};
 use std::alloc::Global;
 use std::fs;
 use std::test::Fail;
@@ -27,7 +27,7 @@ fn world_at<'a>(
     store: &str,
 ) -> Result<FileWorld<Vec<u8>, System<'a>>, Memory> {
     let mut system = SystemOpening::new(rt, rt.alloc());
-    let areas = AreaFiles::open(&mut system, alloc, store, Access::Write)?;
+    let areas = AreaFiles::open(&mut system, alloc, store, StoreAccess::WriteOver)?;
     Ok(FileWorld::new(areas, Vec::new(alloc), Seed::Fixed))
 }
 

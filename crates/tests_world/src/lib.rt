@@ -11,6 +11,8 @@ mod counting;
 #[cfg(test)]
 mod counting_rows;
 #[cfg(test)]
+mod locks;
+#[cfg(test)]
 mod opening;
 #[cfg(test)]
 mod reading;

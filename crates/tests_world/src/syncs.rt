@@ -11,11 +11,13 @@ use std::test::Fail;
 /// A place and a byte for each write so far.
 type Written = Rc<Cell<[Option<(u64, u8)>; 4]>>;
 
-/// A file of 1,025 bytes, each the number of its block, whose first sync fails. It tells what was written.
+/// A file of 1,025 bytes, each the number of its block, whose first sync fails. It can be written behind that alone, once it is opened for it, and
+/// tells what was written.
 #[derive(Drop)]
 struct Failing {
     syncs: u32,
     named: bool,
+    opened: bool,
     written: Written,
 }
 
@@ -39,6 +41,9 @@ impl NamedFile for Failing {
     }
 
     fn write_from(&mut self, at: u64, bytes: &[u8]) -> io::Result<usize> {
+        if !self.opened {
+            return Err(io::Error::from(ErrorKind::PermissionDenied));
+        }
         let mut written = self.written.get();
         let free = written.iter_mut().find(|place| place.is_none());
         let (Some(place), Some(byte)) = (free, bytes.first()) else {
@@ -68,7 +73,9 @@ impl NamedFile for Failing {
         }
     }
 
-    fn open_to_write(&mut self) {}
+    fn open_to_write(&mut self) {
+        self.opened = self.syncs == 1;
+    }
 }
 
 /// Whether each of two syncs fails, and what was written between.
@@ -77,6 +84,7 @@ fn synced_twice(alloc: Global, named: bool) -> Result<([bool; 2], [Option<(u64, 
     let mut store = StoreFile::new(Failing {
         syncs: 0,
         named,
+        opened: false,
         written: written.clone()?,
     });
     let answers = [store.sync_once().is_err(), store.sync_once().is_err()];
