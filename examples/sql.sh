@@ -48,9 +48,9 @@ give() {
   cat tool.txt server.txt >told.txt
 }
 
-# The N-th question of docs/GUIDE.md.
+# The N-th question of docs/RECIPES.md.
 question() {
-  awk -v wanted="$1" '/^```sql$/ { inside = ++count == wanted; next } /^```/ { inside = 0 } inside' "$here/../docs/GUIDE.md"
+  awk -v wanted="$1" '/^```sql$/ { inside = ++count == wanted; next } /^```/ { inside = 0 } inside' "$here/../docs/RECIPES.md"
 }
 
 cat >schema.txt <<'L'
@@ -197,7 +197,7 @@ wait "$taker"
 content >live.txt
 prints "a feed that is followed" "" diff live.txt dumped.txt
 
-# The two questions of docs/GUIDE.md.
+# The two questions of docs/RECIPES.md.
 prints "accounts that share an owner" 'Ann O'"'"'Hara \ "é"
 |DE1, DE2' sql -At -c "$(question 1)"
 prints "suppliers of a part, upstream" 'engine|1

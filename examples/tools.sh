@@ -403,7 +403,7 @@ printf '{"ops":[{"add_node":12,"labels":["Account"],"props":{"iban":"DE1"}}]}\n'
 ends "show-dot of what a refusal names" 0 "$tools/show-dot" dump.txt --faults clash_verdicts.txt >faults.dot
 ends "red, and only what is near" 0 sh -c 'grep -q "n10 .*color=red" faults.dot && grep -q "n1 " faults.dot && ! grep -q "n12 " faults.dot'
 refuses "show-dot around nobody" 1 'n99: is no node of the dump' "$tools/show-dot" dump.txt --around n99
-# The way of docs/GUIDE.md, "In and out", from CSV to a picture.
+# The way of docs/RECIPES.md from CSV to a picture.
 ring="$here/ring"
 printf 'loaded types=4 keys=2\n1 committed 1\n1 refused 27 key 2: n10 has no key value\n' >ring_wanted.txt
 {

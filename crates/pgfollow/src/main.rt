@@ -8,9 +8,11 @@ mod program;
 
 use pgs_base::Words;
 use pgs_program::{Ended, Program, Ran, start};
-use pgs_world_files::{StoreFile, SystemFile};
+use pgs_world_files::{Handle, StoreFile, SystemFile};
+use pgs_world_streams::SteadyWrite;
 use program::run_program;
-use std::io::{Stdin, Stdout};
+use std::env;
+use std::io::{Read, Stdin, Stdout, Write};
 use std::process::ExitCode;
 
 // Its world has no area, so no file is opened.
@@ -19,6 +21,14 @@ type Over<'a> = Ran<Stdin, Stdout, StoreFile<SystemFile<'a, HostRuntime>>>;
 struct Follower;
 
 impl Program<HostRuntime> for Follower {
+    ghost use Rattle.pgs_base.specs.declared.seed.Seed.TheVariants.{Fixed};
+    ghost use Rattle.pgs_program.specs.Program.{EndsRunOf};
+    ghost use Rattle.pgs_run_follow.specs.Spec.{spec_for};
+
+    ghost runs = { λ words status. EndsRunOf (spec_for words)
+        (record { remaining = ⟦<Stdin as Read>⟧.remaining; tells_output = ⟦<Stdout as SteadyWrite>⟧.tells; written = ⟦<Stdout as Write>⟧.contents; tells_bytes = ⟦<StoreFile<SystemFile<'static, HostRuntime>> as Handle>⟧.tells; bytes = ⟦<StoreFile<SystemFile<'static, HostRuntime>> as Handle>⟧.contents })
+        Fixed status };
+
     const NAME: &'static str = "pgfollow";
 
     const USAGE: &'static str = "usage:
@@ -33,5 +43,5 @@ docs/GUIDE.md teaches it, docs/FORMATS.md has every printed text
 }
 
 fn main(rt: HostRuntime) -> ExitCode {
-    start::<Follower, HostRuntime>(&rt)
+    start::<Follower, HostRuntime>(&rt, env::args(&rt))
 }

@@ -1,6 +1,8 @@
 -- What is promised of a run of the program: over what is opened for its words all that is promised of the command that they name.
-use Rattle.std.specs.Prelude.{ℕ, ◌^◌, List}
+use Rattle.std.specs.Prelude.{◌≡◌, ◌⊎◌, ℕ, ◌^◌, List}
 use Rattle.pgs_base.specs.declared.seed.Seed.{Seed}
+use Rattle.pgs_command.specs.declared.status.Status.{Status}
+use Rattle.pgs_command.specs.declared.status.Status.TheVariants.{Memory}
 use Rattle.pgs_command.specs.Promise.{Runs}
 use Rattle.pgs_command.specs.Setting.{Setting}
 use Rattle.pgs_feed.specs.Seen.{places}
@@ -23,3 +25,16 @@ pub record IsRunOf {R W H L : Type 0} (areas : AreaGives H) (feeds : List ℕ �
   pub start : Opened R W H L
   pub opened : IsOpened areas feeds words reader writer seed start
   pub promise : Runs (spec_for words) (2 ^ 40) (setting_of telling start) (setting_of telling ran.opened) ran.status
+
+-- over some reader and some writer such a run ended with this status
+pub record EndsRunOf {R W H L : Type 0} (areas : AreaGives H) (feeds : List ℕ → FileFeed L → Type 0) (telling : Telling R W H) (words : List (List ℕ)) (status : Status) : Type 0 where
+  pub reader : R
+  pub writer : W
+  pub seed : Seed
+  pub ran : Ran R W H L
+  pub is : IsRunOf areas feeds telling words reader writer seed ran
+  pub ended : ran.status ≡ status
+
+-- so it was; or there was no memory to open what the words name
+abbrev pub EndsAs : {R W H L : Type 0} → AreaGives H → (feeds : List ℕ → FileFeed L → Type 0) → Telling R W H → (words : List (List ℕ)) → Status → Type 0
+EndsAs areas feeds telling words status = EndsRunOf areas feeds telling words status ⊎ (status ≡ Memory)

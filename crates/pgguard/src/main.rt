@@ -9,14 +9,23 @@ mod program;
 
 use pgs_base::{Memory, Words};
 use pgs_program::{Ended, Program, start};
-use pgs_world_files::SystemOpening;
+use pgs_world_files::{Handle, Opening, StoreFile, SystemFile, SystemOpening};
+use pgs_world_streams::SteadyWrite;
 use program::run_program;
 use std::collections::hash_map::RandomState;
+use std::env;
+use std::io::{Read, Stdin, Stdout, Write};
 use std::process::ExitCode;
 
 struct Guard;
 
 impl Program<HostRuntime> for Guard {
+    ghost use Rattle.pgguard.specs.Program.{EndsAs};
+
+    ghost runs = { λ words status. EndsAs ⟦<SystemOpening<'static, HostRuntime> as Opening>⟧.area_gives ⟦<SystemOpening<'static, HostRuntime> as Opening>⟧.feed_gives
+        (record { remaining = ⟦<Stdin as Read>⟧.remaining; tells_output = ⟦<Stdout as SteadyWrite>⟧.tells; written = ⟦<Stdout as Write>⟧.contents; tells_bytes = ⟦<StoreFile<SystemFile<'static, HostRuntime>> as Handle>⟧.tells; bytes = ⟦<StoreFile<SystemFile<'static, HostRuntime>> as Handle>⟧.contents })
+        words status };
+
     const NAME: &'static str = "pgguard";
 
     // A line for each command with its words.
@@ -52,5 +61,5 @@ docs/GUIDE.md teaches all of them, docs/FORMATS.md has every printed text
 }
 
 fn main(rt: HostRuntime) -> ExitCode {
-    start::<Guard, HostRuntime>(&rt)
+    start::<Guard, HostRuntime>(&rt, env::args(&rt))
 }

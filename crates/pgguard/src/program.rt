@@ -1,4 +1,4 @@
-ghost use Rattle.std.specs.Prelude.{IfOk};
+ghost use Rattle.std.specs.Prelude.{◌≡◌, IfOk};
 ghost use Rattle.pgguard.specs.Program.{IsRunOf};
 ghost use Rattle.pgs_program.specs.Outside.{seed_of};
 
@@ -21,7 +21,9 @@ pub struct Ran<R: SteadyRead, W: SteadyWrite, H: Handle, L: SteadyWrite + Drop> 
 
 impl<R: SteadyRead, W: SteadyWrite, H: Handle, L: SteadyWrite + Drop> Ran<R, W, H, L> {
     /// How it ended, and why its faults came.
-    pub fn ended(&self) -> Ended {
+    pub fn ended(&self) -> Ended
+        ensures { result.status ≡ self.now.status }
+    {
         self.opened.outside.ended(self.status)
     }
 }

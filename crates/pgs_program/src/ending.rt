@@ -1,5 +1,8 @@
 //! What is told on standard error of a run that ends without a line on standard output.
 
+ghost use Rattle.std.specs.Prelude.{◌≡◌};
+ghost use Rattle.pgs_command.specs.declared.status.Status.TheVariants.{Memory};
+
 use pgs_base::Words;
 use pgs_command::Status;
 use pgs_world_files::FileCause;
@@ -33,7 +36,9 @@ impl Causes {
 
 impl Ended {
     /// There was no memory to begin.
-    pub fn unbegun() -> Ended {
+    pub fn unbegun() -> Ended
+        ensures { result.status ≡ Memory }
+    {
         Ended {
             status: Status::Memory,
             causes: Causes {

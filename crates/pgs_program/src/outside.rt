@@ -55,7 +55,9 @@ impl<R: SteadyRead, W: SteadyWrite, H: Handle> Outside<R, W, H> {
     }
 
     /// A run over this that ended so.
-    pub fn ended(&self, status: Status) -> Ended {
+    pub fn ended(&self, status: Status) -> Ended
+        ensures { result.status ≡ status }
+    {
         Ended {
             status,
             causes: Causes {
@@ -71,7 +73,9 @@ impl<R: SteadyRead, W: SteadyWrite, H: Handle> Outside<R, W, H> {
 
 impl<R: SteadyRead, W: SteadyWrite, H: Handle> Ran<R, W, H> {
     /// How it ended, and why its faults came.
-    pub fn ended(&self) -> Ended {
+    pub fn ended(&self) -> Ended
+        ensures { result.status ≡ self.now.status }
+    {
         self.outside.ended(self.status)
     }
 }

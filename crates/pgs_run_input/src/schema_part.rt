@@ -1,5 +1,4 @@
 ghost use Rattle.std.specs.Prelude.{◌≡◌, false, true, IfOk, Ok, OnOk};
-ghost use Rattle.pgs_base.specs.declared.text_limit.TheConstants.{TEXT_LIMIT};
 ghost use Rattle.pgs_run_input.specs.Input.{is_separator};
 ghost use Rattle.pgs_run_input.specs.Part.{no_part, with_line};
 
@@ -20,6 +19,7 @@ pub struct SchemaPart {
 
 impl Model for SchemaPart {
     ghost use Rattle.std.specs.Prelude.{◌≡◌};
+    ghost use Rattle.pgs_base.specs.declared.text_limit.TheConstants.{TEXT_LIMIT};
     ghost use Rattle.pgs_run_input.specs.Part.{Part};
 
     ghost Value = { Part };

@@ -8,10 +8,12 @@ mod program;
 
 use pgs_base::Words;
 use pgs_program::{Ended, Program, Ran, start};
-use pgs_world_files::{StoreFile, SystemFile};
+use pgs_world_files::{Handle, StoreFile, SystemFile};
+use pgs_world_streams::SteadyWrite;
 use program::run_program;
 use std::collections::hash_map::RandomState;
-use std::io::{Stdin, Stdout};
+use std::env;
+use std::io::{Read, Stdin, Stdout, Write};
 use std::process::ExitCode;
 
 // Its world has no area, so no file is opened.
@@ -20,6 +22,14 @@ type Over<'a> = Ran<Stdin, Stdout, StoreFile<SystemFile<'a, HostRuntime>>>;
 struct Sessions;
 
 impl Program<HostRuntime> for Sessions {
+    ghost use Rattle.pgs_base.specs.declared.seed.Seed.{Seed};
+    ghost use Rattle.pgs_program.specs.Program.{EndsRunOf};
+    ghost use Rattle.pgs_run_sessions.specs.Spec.{spec_for};
+
+    ghost runs = { λ words status. (seed : Seed) × EndsRunOf (spec_for words)
+        (record { remaining = ⟦<Stdin as Read>⟧.remaining; tells_output = ⟦<Stdout as SteadyWrite>⟧.tells; written = ⟦<Stdout as Write>⟧.contents; tells_bytes = ⟦<StoreFile<SystemFile<'static, HostRuntime>> as Handle>⟧.tells; bytes = ⟦<StoreFile<SystemFile<'static, HostRuntime>> as Handle>⟧.contents })
+        seed status };
+
     const NAME: &'static str = "pgsession";
 
     const USAGE: &'static str = "usage:
@@ -35,5 +45,5 @@ docs/GUIDE.md teaches it, docs/FORMATS.md has every printed text
 }
 
 fn main(rt: HostRuntime) -> ExitCode {
-    start::<Sessions, HostRuntime>(&rt)
+    start::<Sessions, HostRuntime>(&rt, env::args(&rt))
 }
