@@ -1,0 +1,47 @@
+//! The program: it makes the words, and calls `pgs_run_check::run_check` over standard input and output. It opens no file.
+//!
+//! What stands here is `run_program`, which is all but the system's handles: it runs words over a reader and a writer, and says all that is
+//! promised, over every one of them. What a terminal, a pipe or a file holds is told by no clause.
+#![tactic(auto)]
+
+mod program;
+
+use pgs_base::Words;
+use pgs_program::{Ended, Program, Ran, start};
+use pgs_world_files::{Handle, StoreFile, SystemFile};
+use pgs_world_streams::SteadyWrite;
+use program::run_program;
+use std::env;
+use std::io::{Read, Stdin, Stdout, Write};
+use std::process::ExitCode;
+
+// Its world has no area, so no file is opened.
+type Over<'a> = Ran<Stdin, Stdout, StoreFile<SystemFile<'a, HostRuntime>>>;
+
+struct Checker;
+
+impl Program<HostRuntime> for Checker {
+    ghost use Rattle.pgs_base.specs.declared.seed.Seed.TheVariants.{Fixed};
+    ghost use Rattle.pgs_program.specs.Program.{EndsRunOf};
+    ghost use Rattle.pgs_run_check.specs.Spec.{spec_for};
+
+    ghost runs = { λ words status. EndsRunOf (spec_for words)
+        (record { remaining = ⟦<Stdin as Read>⟧.remaining; tells_output = ⟦<Stdout as SteadyWrite>⟧.tells; written = ⟦<Stdout as Write>⟧.contents; tells_bytes = ⟦<StoreFile<SystemFile<'static, HostRuntime>> as Handle>⟧.tells; bytes = ⟦<StoreFile<SystemFile<'static, HostRuntime>> as Handle>⟧.contents })
+        Fixed status };
+
+    const NAME: &'static str = "pgcheck";
+
+    const USAGE: &'static str = "usage:
+  pgcheck schema < TEXT    reads a schema text to its end, and prints what its guard asks and what in it does nothing
+docs/GUIDE.md teaches it, docs/FORMATS.md has every printed text
+";
+
+    fn run(rt: &HostRuntime, words: &Words) -> Ended {
+        let ran: Over<'_> = run_program(rt.alloc(), words, rt.stdin(), rt.stdout());
+        ran.ended()
+    }
+}
+
+fn main(rt: HostRuntime) -> ExitCode {
+    start::<Checker, HostRuntime>(&rt, env::args(&rt))
+}

@@ -1,0 +1,26 @@
+ghost use Rattle.pgs_run_check.specs.Spec.{spec_for};
+ghost use Rattle.pgs_program.specs.Program.{IsRunOf};
+ghost use Rattle.pgs_base.specs.declared.seed.Seed.TheVariants.{Fixed};
+
+use pgs_base::{Seed, Words};
+use pgs_program::{Outside, Ran};
+use pgs_run_check::run_check;
+use pgs_world_files::Handle;
+use pgs_world_streams::{SteadyRead, SteadyWrite};
+use std::alloc::Global;
+
+/// Runs words over a reader and a writer: the program but for the system's handles. No file is opened.
+pub fn run_program<R: SteadyRead + Drop, W: SteadyWrite + Drop, H: Handle>(
+    alloc: Global,
+    words: &Words,
+    reader: R,
+    writer: W,
+) -> Ran<R, W, H>
+    ensures { IsRunOf (spec_for words.now)
+        (record { remaining = R.remaining; tells_output = W.tells; written = W.contents; tells_bytes = H.tells; bytes = H.contents })
+        reader writer Fixed result }
+{
+    let mut outside = Outside::without_files(reader, writer, Seed::Fixed);
+    let status = run_check(alloc, words, &mut outside.source, &mut outside.world);
+    Ran { status, outside }
+}

@@ -1,0 +1,31 @@
+-- What the word `schema` tells of an input within a budget: lines, and a status.
+use Rattle.std.specs.Prelude.{ℕ, Bool, true, List, [], ◌∷◌, length, map, Result, Ok, Err, nat_le, if◌then◌else◌}
+use Rattle.std.specs.List.{list_any}
+use Rattle.pgs_run_lines.specs.Machine.{Told}
+use Rattle.pgs_syntax.specs.declared.resolved.Resolved.{Resolved}
+use Rattle.pgs_answer.specs.Lines.{schema_refused_line}
+use Rattle.pgs_advice_lines.specs.declared.line.Line.{Line}
+use Rattle.pgs_advice_lines.specs.Telling.{lines_of}
+use Rattle.pgs_command.specs.declared.status.Status.{Status}
+use Rattle.pgs_command.specs.declared.status.Status.TheVariants.{Accepted, Refused, SchemaRefused, InputTooLong}
+use Rattle.pgs_run_input.specs.Answers.{schema_answer}
+use Rattle.pgs_run_check.specs.Read.{tokens_in, script_in}
+
+-- a status of 1 where a line warns
+abbrev pub told_lines : List Line → Told Status
+told_lines lines = record {
+  pieces = map (λ (line : Line). line.text) lines;
+  status = if list_any (λ (line : Line). line.warns) lines then Refused else Accepted;
+}
+
+-- what a text tells: the line of its refusal, or the lines of its schema
+abbrev pub told_by : List ℕ → Result Resolved (List ℕ) → Told Status
+told_by text (Ok resolved) = told_lines (lines_of (tokens_in text) (script_in text) resolved)
+told_by text (Err refusal) = record { pieces = schema_refused_line refusal ∷ []; status = SchemaRefused }
+
+abbrev pub told_text : List ℕ → Told Status
+told_text text = told_by text (schema_answer text)
+
+-- the whole input is the text; where it is cut nothing is judged
+unfoldable pub told_schema : List ℕ → ℕ → Told Status
+told_schema input budget = if nat_le budget (length input) then record { pieces = []; status = InputTooLong } else told_text input

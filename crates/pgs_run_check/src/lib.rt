@@ -1,0 +1,11 @@
+//! Checking a schema: the input is a schema text, and lines say what its guard asks and what in it does nothing.
+//!
+//! The one rule: words are a command (`specs/Spec.antt`), and a run keeps its `Promise`. Of the word `schema`, `told_schema`
+//! (`specs/Told.antt`) says what is put and the status, of an input and a budget. The lines of a schema are those of `pgs_advice_lines`.
+#![tactic(auto)]
+
+mod answering;
+mod reading;
+mod run;
+
+pub use run::{run_check, run_check_within};
