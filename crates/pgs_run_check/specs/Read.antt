@@ -8,7 +8,7 @@ use Rattle.pgs_syntax.specs.declared.script.Script.{Script}
 -- what there is, or else something in its place; of a text that is a schema there are both
 abbrev pub given : {A E : Type 0} → A → Result A E → A
 given other (Ok found) = found
-given other (Err no) = other
+given other (Err fault) = other
 
 abbrev pub tokens_in : List ℕ → List Lexeme
 tokens_in text = given [] (tokens_of text)
