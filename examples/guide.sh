@@ -2,15 +2,15 @@
 # Runs the commands that README and the pages of docs/ show, each page in a folder of its own and its blocks in their order, and compares what they print
 # with what is shown; where PostgreSQL is installed on a server of their own. Ends with 1 where one differs. A block that needs a program that isn't
 # installed is named and passed over.
-# Usage: examples/guide.sh [PAGE..], as `examples/guide.sh docs/START.md`; with PGGUARD=FILE, PGFOLLOW=FILE and PGSESSION=FILE in the environment these
-# executables are run.
+# Usage: examples/guide.sh [PAGE..], as `examples/guide.sh docs/START.md`; with PGGUARD=FILE, PGFOLLOW=FILE, PGSESSION=FILE and PGCHECK=FILE in the
+# environment these executables are run.
 set -u
 here=$(cd "$(dirname "$(readlink -f "${BASH_SOURCE[0]}")")/.." && pwd)
 . "$here/examples/postgres.sh"
 work=$(mktemp -d) || exit 1
 trap 'stop_server; rm -rf "$work"' EXIT
 ln -s "$here/examples" "$here/tools" "$here/clients" "$here/docs" "$here/crates" "$work/"
-for name in pgguard pgfollow pgsession; do
+for name in pgguard pgfollow pgsession pgcheck; do
   given=${name^^}
   program=$(readlink -f "${!given:-$("$here/tools/run" --path "$name")}") || exit 1
   export "$given=$program"
@@ -35,7 +35,7 @@ PAGES = ["README.md"] + [f"docs/{name}.md" for name in
 RUN = {"sh": ["bash", "-c"], "sql": ["psql", "-q", "-At", "-v", "ON_ERROR_STOP=1", "bank", "-c"], "python": [sys.executable, "-c"]}
 NEEDED = {"dot": ("graphviz", shutil.which("dot")), "psql": ("PostgreSQL", server)}
 # What every page finds beside its own files.
-THERE = "examples", "tools", "clients", "docs", "crates", "pgguard", "pgfollow", "pgsession"
+THERE = "examples", "tools", "clients", "docs", "crates", "pgguard", "pgfollow", "pgsession", "pgcheck"
 
 
 def blocks(text):

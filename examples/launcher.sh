@@ -29,11 +29,12 @@ tries() {
 "$here/pgguard" gen 1 1 >first.txt 2>&1
 "$here/pgsession" run </dev/null >first.txt 2>&1
 "$here/pgfollow" follow </dev/null >first.txt 2>&1
+"$here/pgcheck" schema </dev/null >first.txt 2>&1
 version=$(cat "$here/VERSION")
 "$here/tools/install" "$work/an installed" || exit 1
 
 for bin in "$here" "$work/an installed/bin"; do
-  for program in pgguard pgsession pgfollow; do
+  for program in pgguard pgsession pgfollow pgcheck; do
     tries "$program --version" 0 "$program $version" "" "$bin/$program" --version
     tries "$program --help" 0 "usage:"$'\n'"  $program *" "" "$bin/$program" --help
     tries "$program help" 0 "usage:"$'\n'"  $program *" "" "$bin/$program" help
@@ -80,7 +81,7 @@ tries "nothing is left behind of what wasn't built" 0 "" "" find copy/build -nam
 
 # Manual pages and completion.
 if command -v man >/dev/null && command -v nroff >/dev/null; then
-  for program in pgguard pgsession pgfollow; do
+  for program in pgguard pgsession pgfollow pgcheck; do
     tries "the manual page of $program" 0 "*SYNOPSIS*COMMANDS*EXIT STATUS*" "" man --warnings -l "an installed/share/man/man1/$program.1"
   done
 else
