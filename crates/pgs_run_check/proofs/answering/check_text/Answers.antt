@@ -1,0 +1,14 @@
+use Rattle.std.proofs.Common.{subst, sym, ap, ◌∙◌}
+use Rattle.pgs_run_lines.specs.Machine.{Told}
+use Rattle.pgs_command.specs.declared.status.Status.{Status}
+use Rattle.pgs_run_input.proofs.Answering.{answer_ok}
+use Rattle.pgs_run_check.specs.Spec.{Tells}
+use Rattle.pgs_run_check.specs.Told.{told_by, told_lines}
+use Rattle.pgs_run_check.proofs.answering.check_text.Goals as goal
+
+pub returns-in-Ok-lines_in-clause-answer : goal.returns-in-Ok-lines_in-clause-answer
+returns-in-Ok-lines_in-clause-answer g c =
+    let text = c.args.text.now in
+    let is = answer_ok text c.in-Ok.compiled c.in-Ok.ensures.schema in
+    subst (λ (told : Told Status). Tells told (g.W.World.view c.args.world.now) (g.W.World.view c.put_lines.new.world) c.put_lines.result)
+    (ap told_lines (c.deref.ensures.value ∙ c.in-Ok-lines_in.ensures) ∙ sym (ap (told_by text) is)) c.put_lines.ensures.answer
