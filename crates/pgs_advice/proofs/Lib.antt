@@ -1,0 +1,4 @@
+pub mod Fixed
+pub mod Gathered
+pub mod Inner
+pub mod Walks

@@ -1,0 +1,5 @@
+pub mod Parts
+pub mod Unknown
+pub mod Unused
+pub mod Void
+pub mod Words

@@ -1,0 +1,22 @@
+//! Laws of what is told. The functions do nothing; their contracts are the statements.
+
+ghost use Rattle.std.specs.Prelude.{◌≡◌, true, List, Contains};
+ghost use Rattle.pgs_base.specs.declared.element.Elem.{Elem};
+ghost use Rattle.pgs_base.specs.declared.part.Part.{Part};
+ghost use Rattle.pgs_base.specs.Graph.{Graph};
+ghost use Rattle.pgs_syntax.specs.declared.key.Key.{Key};
+ghost use Rattle.pgs_syntax.specs.declared.resolved.Resolved.{Resolved};
+ghost use Rattle.pgs_syntax.specs.KeyValues.{key_values};
+ghost use Rattle.pgs_advice.specs.Void.{has_void_singleton, has_void_exclusive};
+
+/// Where SINGLETON is told of as void, an element has at most one key value, in every graph.
+pub fn void_singletons()
+    ensures { (resolved : Resolved) (g : Graph) (key : Key) (elem : Elem) (tuple other : List Part) → has_void_singleton key ≡ true →
+        Contains (key_values resolved g key elem) tuple → Contains (key_values resolved g key elem) other → tuple ≡ other }
+{}
+
+/// Where EXCLUSIVE is told of as void, no two elements share a key value, in every graph.
+pub fn void_exclusives()
+    ensures { (resolved : Resolved) (g : Graph) (key : Key) (elem other : Elem) (tuple : List Part) → has_void_exclusive key ≡ true →
+        Contains (key_values resolved g key elem) tuple → Contains (key_values resolved g key other) tuple → elem ≡ other }
+{}

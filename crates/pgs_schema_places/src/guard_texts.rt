@@ -1,0 +1,85 @@
+//! The texts of the guard's keys.
+
+ghost use Rattle.std.specs.Prelude.{◌≡◌, ◌++◌, ◌==◌, map, flat_map, IfOk, OnOk};
+ghost use Rattle.std.specs.List.{position};
+ghost use Rattle.pgs_syntax.specs.declared.script.Script.{Script};
+ghost use Rattle.pgs_resolve_declared.specs.Tables.{AreOf};
+ghost use Rattle.pgs_schema_places.specs.KeyTexts.{text_at, place_of, guard_key_texts};
+
+use crate::texts::key_texts;
+use pgs_base::{Bytes, Copyable, List, Memory};
+use pgs_lexer::Tokens;
+use pgs_resolve_declared::{Declarations, guard_graphs};
+use pgs_syntax::{GraphType, RawKey};
+use std::alloc::Global;
+
+// Puts the places of keys last.
+fn push_places(keys: &[RawKey], places: &mut Vec<u32>) -> Result<(), Memory>
+    ensures { OnOk result (places.new.items ≡ places.old.items ++ map place_of keys.now) }
+{
+    for key in keys {
+        places.push(key.place)?;
+    }
+    Ok(())
+}
+
+// The places of the keys of graph types, in order.
+fn places_of(alloc: Global, graphs: &[&GraphType]) -> Result<Vec<u32>, Memory>
+    ensures { IfOk result (λ places. places.items ≡ map place_of (flat_map (λ graph. graph.now.keys) graphs.now)) }
+{
+    let mut places = Vec::new(alloc);
+    for graph in graphs {
+        push_places(graph.keys.as_slice(), &mut places)?;
+    }
+    Ok(places)
+}
+
+fn position_of(places: &[u32], place: u32) -> Option<usize>
+    ensures { result ≡ position (λ other. place == other) places.now }
+{
+    places.iter().position(|other| place == *other)
+}
+
+// The text of the key of a place.
+fn text_at(alloc: Global, places: &[u32], texts: &[Bytes], place: u32) -> Result<Bytes, Memory>
+    ensures { IfOk result (λ text. text ≡ text_at places.now texts.now place) }
+{
+    let Some(number) = position_of(places, place) else {
+        return Ok(List::new(alloc));
+    };
+    match texts.get(number) {
+        Some(text) => text.copy(alloc),
+        None => Ok(List::new(alloc)),
+    }
+}
+
+// The texts of the keys of these places.
+fn texts_at(
+    alloc: Global,
+    places: &[u32],
+    texts: &[Bytes],
+    wanted: &[u32],
+) -> Result<List<Bytes>, Memory>
+    ensures { IfOk result (λ found. found ≡ map (text_at places.now texts.now) wanted.now) }
+{
+    let mut found = Vec::new(alloc);
+    for place in wanted {
+        found.push(text_at(alloc, places, texts, *place)?)?;
+    }
+    Ok(List::from_vec(found))
+}
+
+/// The texts of the guard's keys, in the order in which they are numbered.
+pub fn guard_key_texts(
+    alloc: Global,
+    tokens: &Tokens<'_>,
+    declarations: &Declarations<'_>,
+) -> Result<List<Bytes>, Memory>
+    ensures { (script : Script) → AreOf script declarations.now → IfOk result (λ texts. texts ≡ guard_key_texts tokens.now script) }
+{
+    let texts = key_texts(alloc, tokens)?;
+    let places = places_of(alloc, &declarations.graphs)?;
+    let graphs = guard_graphs(alloc, declarations)?;
+    let wanted = places_of(alloc, &graphs)?;
+    texts_at(alloc, &places, texts.as_slice(), &wanted)
+}
