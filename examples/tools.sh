@@ -420,11 +420,14 @@ for _ in $(seq 1 200); do
   [ -s held.txt ] && break
   sleep 0.05
 done
-refuses "backup beside a running apply" 1 'bank.a: locked by another run' "$tools/backup" bank other
-refuses "journal-to-feed beside it" 1 'bank.a: locked by another run' "$tools/journal-to-feed" bank
-refuses "store-info beside it" 1 'bank.a: locked by another run' "$tools/store-info" bank
+ends "backup beside a running apply" 0 "$tools/backup" bank beside >told.txt
+ends "the copy has what was acknowledged" 0 cmp <("$program" recover beside/bank </dev/null) <("$program" recover bank </dev/null)
+ends "journal-to-feed beside it" 0 "$tools/journal-to-feed" bank >beside_feed.jsonl
+ends "store-info beside it" 0 "$tools/store-info" bank >told.txt
+ends "schema beside it" 0 "$tools/schema" bank >told.txt
 exec 3>&-
 wait "$writer"
+refuses "backup of a store that is written over" 1 'bank.b: locked by another run' flock -x bank.b "$tools/backup" bank other
 head -c -3 bank.a >short.a
 cp bank.b short.b
 refuses "backup of a damaged store" 1 'short.a: record 2 is damaged' "$tools/backup" short other

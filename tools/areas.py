@@ -6,6 +6,8 @@ from graph_lines import Fault, NAME, is_day
 from progress import progress
 
 MOST_BYTES, LAST_EPOCH = 2**40, 2**24 - 1
+# How often a file is read beside a run that appends to it, where a record isn't whole.
+AGAIN = 5
 WORDS = {b"PGSGRD1": 1, b"PGSGRD2": 2}
 # The bytes before a record's payload, by the format: its gate, in format 2 its number, and the payload's length.
 RECORD_HEADS = {1: 9, 2: 17}
@@ -208,34 +210,55 @@ class Area:
 
 
 def opened(path):
-    """A store's file under its shared lock; one that isn't regular is refused, and never waited for."""
+    """A store's file; one that isn't regular is refused, and never waited for."""
     try:
         descriptor = os.open(path, os.O_RDONLY | os.O_NONBLOCK)
     except FileNotFoundError:
         raise Fault(path, "no such file") from None
     if not stat.S_ISREG(os.fstat(descriptor).st_mode):
         raise Fault(path, "is not a regular file")
-    file = open(path, "rb", opener=lambda *_: descriptor)
+    return open(path, "rb", opener=lambda *_: descriptor)
+
+
+def is_shared(file):
+    """Takes the shared lock of a file, and says whether it could."""
     try:
         fcntl.flock(file, fcntl.LOCK_SH | fcntl.LOCK_NB)
     except BlockingIOError:
-        raise Fault(path, "locked by another run") from None
-    return file
+        return False
+    return True
+
+
+def opened_both(name):
+    """Both files of a store, and whether another run appends to it. They are under their shared locks; beside such a run, which has NAME.a for
+    itself, under that of NAME.b alone, which keeps off who writes over a file."""
+    first, second = opened(f"{name}.a"), opened(f"{name}.b")
+    is_beside = not is_shared(first)
+    if not is_shared(second):
+        raise Fault(second.name, "locked by another run")
+    return (first, second), is_beside
 
 
 class Store:
-    """Both files of a store under their shared locks, for as long as this stands."""
+    """Both files of a store, under their locks for as long as this stands."""
 
     def __init__(self, name):
-        self.name, self.files, self.areas = name, [], []
-        for ending in "ab":
-            path = f"{name}.{ending}"
-            file = opened(path)
-            if os.fstat(file.fileno()).st_size > MOST_BYTES:
-                raise Fault(path, "longer than 2^40 bytes")
-            self.files.append(file)
-            self.areas.append(Area(path, file.read()))
+        self.name = name
+        self.files, is_beside = opened_both(name)
+        self.areas = [self.read(file, AGAIN if is_beside else 1) for file in self.files]
         self.chosen = self.choose()
+
+    @staticmethod
+    def read(file, times):
+        """What stands in a file. A record that was appended while it was read may not be whole there, so it is read again, a few times."""
+        for _ in range(times):
+            if os.fstat(file.fileno()).st_size > MOST_BYTES:
+                raise Fault(file.name, "longer than 2^40 bytes")
+            file.seek(0)
+            area = Area(file.name, file.read())
+            if area.damaged is None:
+                break
+        return area
 
     def choose(self):
         stores = [area for area in self.areas if area.is_store]
@@ -284,6 +307,9 @@ def last_schema(file, form):
             break
         number += 1
         length = int.from_bytes(found[head - 8:head], "big")
+        if at + head + length >= size:
+            # It may have grown meanwhile.
+            size = os.fstat(file.fileno()).st_size
         if at + head + length >= size or (form == 2 and int.from_bytes(found[1:9], "big") != number):
             raise Fault(file.name, f"record {number} is damaged")
         if length and found[head] == 1:

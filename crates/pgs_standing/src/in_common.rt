@@ -94,7 +94,7 @@ fn common_shape(alloc: Global, first: &Shape, second: &Shape) -> Result<Shape, M
     })
 }
 
-/// What two shapes have in common: the shape of the pairs that are in both. `None` where no pair is. `Memory` where there was none
+/// What two shapes have in common: the shape of the pairs that are in both. `None` only where no pair is. `Memory` where there was none
 /// left.
 pub fn common(alloc: Global, first: &Shape, second: &Shape) -> Result<Option<Shape>, Memory>
     ensures { IfOk result (λ answer. (p : NodeRow) → is_pair p ≡ true → in_common answer p ≡ (in_shape first.now p && in_shape second.now p)) }

@@ -7,7 +7,7 @@ use Rattle.std.specs.declared.fs.locks.TryLockError.TheVariants as lock
 use Rattle.std.specs.declared.fs.options.OpenOptions.{OpenOptions}
 use Rattle.std.specs.declared.io.Error.{Error}
 use Rattle.pgs_world_files.specs.declared.access.Access.{Access}
-use Rattle.pgs_world_files.specs.declared.access.Access.TheVariants.{Read}
+use Rattle.pgs_world_files.specs.declared.access.Access.TheVariants.{Read, Make}
 use Rattle.pgs_world_files.specs.declared.cause.FileCause.{FileCause}
 use Rattle.pgs_world_files.specs.declared.cause.FileCause.TheVariants.{Locked, NotRegular, Others, Replaced, Twice, StandardNumber, Short, Long, Call}
 use Rattle.pgs_world_files.specs.declared.cause.OpenFault.{OpenFault}
@@ -44,12 +44,12 @@ IsCause {F} facts opened name access Locked = (old : F) × (new : F) × LockIs f
 IsCause {F} facts opened name access NotRegular =
     (found : Found) × (facts.there name (Ok found) ⊎ ((file : F) × facts.found file (Ok found))) × (found.is_regular ≡ false)
 IsCause {F} facts opened name access Others =
-    (file : F) × (buf : List ℕ) × (count : ℕ) × facts.head file buf (Ok count) × (is_of_others (take count buf) ≡ true)
+    (access ≡ Make) × (file : F) × (buf : List ℕ) × (count : ℕ) × facts.head file buf (Ok count) × (is_of_others (take count buf) ≡ true)
 IsCause {F} facts opened name access Replaced = HasFailed facts name access
 IsCause {F} facts opened name access Twice = (file : F) × (found : Found) × facts.found file (Ok found) × (is_open opened found ≡ true)
 IsCause {F} facts opened name access StandardNumber = (file : F) × facts.above file false
 IsCause {F} facts opened name access Short =
-    (file : F) × (found : Found) × (buf : List ℕ) × (count : ℕ) × facts.found file (Ok found) × facts.head file buf (Ok count) × (count < min found.len 8)
+    (access ≡ Make) × (file : F) × (found : Found) × (buf : List ℕ) × (count : ℕ) × facts.found file (Ok found) × facts.head file buf (Ok count) × (count < min found.len 8)
 IsCause {F} facts opened name access Long = ⊥
 IsCause {F} facts opened name access (Call cause) = HasFailed facts name access
 

@@ -27,7 +27,7 @@ abbrev pub BlocksAreRewritten : {F : Type 0} → PlacedCall F → PlacedCall F �
 BlocksAreRewritten reads writes asked (Ok len) new = HasRewritten reads writes asked (div_ceil len 512) new
 BlocksAreRewritten reads writes asked (Err _) new = new ≡ asked
 
--- The file that a failed sync left was opened to be written, where that was needed and could be; and from it each block was gone through once.
+-- The file that a failed sync left stayed as it was, or was opened to be written; and from it each block was gone through once.
 pub record IsRewritten {F : Type 0} (reopens : F → F → Type 0) (lengths : F → Result ℕ Error → F → Type 0) (reads writes : PlacedCall F)
     (old new : F) : Type 0 where
   pub opened : F

@@ -62,6 +62,10 @@ pub record IsAgain {F : Type 0} (facts : Facts F) (name : List ℕ) (file again 
   pub found_again : facts.found again (Ok other)
   pub same : is_same this other ≡ true
 
+-- a call on a file leaves its name, and how it is open
+abbrev pub Keeps : {S F : Type 0} → SystemFile S F → SystemFile S F → Type 0
+Keeps old new = (new.name ≡ old.name) × (new.mode ≡ old.mode)
+
 -- it stays, or, open for reading alone, has the same file once more to be written
 abbrev pub IsReopened : {S F : Type 0} → Facts F → SystemFile S F → SystemFile S F → Type 0
 IsReopened {S} {F} facts old new =

@@ -120,21 +120,21 @@ impl<'a, S: System> NamedFile for SystemFile<'a, S> {
     ghost use Rattle.std.specs.Option.{unwrap_or};
     ghost use Rattle.std.specs.Prelude.{string_bytes};
     ghost use Rattle.pgs_world_files.specs.Calls.{AnswersName, AnswersSync};
-    ghost use Rattle.pgs_world_files.specs.SystemFiles.{IsReopened};
+    ghost use Rattle.pgs_world_files.specs.SystemFiles.{IsReopened, Keeps};
 
-    ghost length_gives = { λ old answer new. S.facts.length old.file answer new.file };
+    ghost length_gives = { λ old answer new. S.facts.length old.file answer new.file × Keeps old new };
 
-    ghost read_gives = { λ old at buf answer new. S.facts.read old.file at buf answer new.file };
+    ghost read_gives = { λ old at buf answer new. S.facts.read old.file at buf answer new.file × Keeps old new };
 
-    ghost write_gives = { λ old at bytes answer new. S.facts.write (unwrap_or old.again old.file) at bytes answer (unwrap_or new.again new.file) };
+    ghost write_gives = { λ old at bytes answer new. S.facts.write (unwrap_or old.again old.file) at bytes answer (unwrap_or new.again new.file) × Keeps old new };
 
-    ghost cut_gives = { λ old len succeeds new. S.facts.cut old.file len succeeds new.file };
+    ghost cut_gives = { λ old len succeeds new. S.facts.cut old.file len succeeds new.file × Keeps old new };
 
-    ghost sync_gives = { λ old succeeds new. AnswersSync S.facts old.mode old.file succeeds new.file };
+    ghost sync_gives = { λ old succeeds new. AnswersSync S.facts old.mode old.file succeeds new.file × Keeps old new };
 
     ghost reopen_gives = { IsReopened S.facts };
 
-    ghost name_gives = { λ old succeeds new. AnswersName S.facts old.mode (string_bytes old.name) old.file succeeds };
+    ghost name_gives = { λ old succeeds new. AnswersName S.facts old.mode (string_bytes old.name) old.file succeeds × Keeps old new };
 
     fn ask_length(&mut self) -> io::Result<u64> {
         self.system.length(&mut self.file)

@@ -33,7 +33,9 @@ pub struct SystemOpening<'a, S: System> {
 
 impl<'a, S: System> SystemOpening<'a, S> {
     /// No file is open yet.
-    pub fn new(system: &'a S, alloc: Global) -> SystemOpening<'a, S> {
+    pub fn new(system: &'a S, alloc: Global) -> SystemOpening<'a, S>
+        ensures { result.opened.items ≡ [] }
+    {
         SystemOpening {
             system,
             alloc,
@@ -313,7 +315,7 @@ fn sync_folder_for<S: System>(system: &S, name: &str, access: Access) -> Result<
 // An error where a file's first bytes are those of something else.
 fn check_free<S: System>(system: &S, file: &S::File) -> Result<(), OpenFault>
     ensures free { OnOk result (HoldsNoOthers S.facts file.now) }
-    ensures fault { IfErr result (λ made. (name : List ℕ) (access : Access) → IsFault S.facts [] name access made) }
+    ensures fault { IfErr result (λ made. (name : List ℕ) → IsFault S.facts [] name Access.Make made) }
 {
     let mut head = [0; 8];
     let found = system.found(file)?;
@@ -331,7 +333,7 @@ fn check_free<S: System>(system: &S, file: &S::File) -> Result<(), OpenFault>
 // The same, where a store is made.
 fn check_use<S: System>(system: &S, file: &S::File, access: Access) -> Result<(), OpenFault>
     ensures free { OnOk result (access ≡ Access.Make → HoldsNoOthers S.facts file.now) }
-    ensures fault { IfErr result (λ made. (name : List ℕ) (access : Access) → IsFault S.facts [] name access made) }
+    ensures fault { IfErr result (λ made. (name : List ℕ) → IsFault S.facts [] name access made) }
 {
     match access {
         Access::Make => check_free(system, file),

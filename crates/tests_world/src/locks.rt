@@ -8,8 +8,14 @@ use std::test::Fail;
 
 type Areas<'a> = AreaFiles<StoreFile<SystemFile<'a, HostRuntime>>>;
 
-/// Why a store isn't opened: the ending of the file's name, and the cause.
-type Cause = Option<(&'static str, FileCause)>;
+/// Which file of a store a run found locked.
+#[derive(Clone, Copy, Debug, PartialEq, Eq)]
+enum LockedFile {
+    Neither,
+    OfA,
+    OfB,
+    Otherwise,
+}
 
 /// The store `locks`, opened by a run of its own.
 fn opened(rt: &HostRuntime, access: StoreAccess) -> Result<Areas<'_>, Memory> {
@@ -22,63 +28,81 @@ fn remove(rt: &HostRuntime) {
     let _removed_too = fs::remove_file(rt, "locks.b");
 }
 
-const ALL: [StoreAccess; 4] = [
-    StoreAccess::Read,
-    StoreAccess::Append,
-    StoreAccess::WriteOver,
-    StoreAccess::Make,
-];
-
-/// Why a run can't open the store.
-fn cause_of(rt: &HostRuntime, access: StoreAccess) -> Result<Cause, Memory> {
-    Ok(opened(rt, access)?.cause())
-}
-
-/// Why a second run can't open the store that a first has open, for each access of the second.
-fn refused(rt: &HostRuntime, first: StoreAccess) -> Result<[Cause; 4], Memory> {
-    let _open = opened(rt, first)?;
-    let mut causes = [None; 4];
-    for (place, second) in causes.iter_mut().zip(ALL) {
-        *place = cause_of(rt, second)?;
+/// Which file keeps a run from opening the store.
+fn locked(rt: &HostRuntime, access: StoreAccess) -> Result<LockedFile, Memory> {
+    let areas = opened(rt, access)?;
+    match areas.cause() {
+        None => Ok(LockedFile::Neither),
+        Some((".a", FileCause::Locked)) => Ok(LockedFile::OfA),
+        Some((".b", FileCause::Locked)) => Ok(LockedFile::OfB),
+        Some(_) => Ok(LockedFile::Otherwise),
     }
-    Ok(causes)
 }
 
-const OF_A: Cause = Some((".a", FileCause::Locked));
-
-const OF_B: Cause = Some((".b", FileCause::Locked));
+/// The same of a second run while a first has the store open, for each access of the second.
+fn refused(rt: &HostRuntime, first: StoreAccess) -> Result<[LockedFile; 4], Memory> {
+    let _open = opened(rt, first)?;
+    let read = locked(rt, StoreAccess::Read)?;
+    let append = locked(rt, StoreAccess::Append)?;
+    let write_over = locked(rt, StoreAccess::WriteOver)?;
+    let make = locked(rt, StoreAccess::Make)?;
+    Ok([read, append, write_over, make])
+}
 
 #[test]
 fn readers_go_beside_a_run_that_appends(rt: HostRuntime) -> Result<(), Fail> {
-    let mut seen = [[None; 4]; 4];
-    for (place, first) in seen.iter_mut().zip(ALL) {
-        *place = refused(&rt, first)?;
-    }
+    let seen = [
+        refused(&rt, StoreAccess::Read)?,
+        refused(&rt, StoreAccess::Append)?,
+        refused(&rt, StoreAccess::WriteOver)?,
+        refused(&rt, StoreAccess::Make)?,
+    ];
     remove(&rt);
     let want = [
-        [None, OF_A, OF_A, OF_A],
-        [None, OF_A, OF_A, OF_A],
-        [OF_B, OF_A, OF_A, OF_A],
-        [OF_B, OF_A, OF_A, OF_A],
+        [
+            LockedFile::Neither,
+            LockedFile::OfA,
+            LockedFile::OfA,
+            LockedFile::OfA,
+        ],
+        [
+            LockedFile::Neither,
+            LockedFile::OfA,
+            LockedFile::OfA,
+            LockedFile::OfA,
+        ],
+        [
+            LockedFile::OfB,
+            LockedFile::OfA,
+            LockedFile::OfA,
+            LockedFile::OfA,
+        ],
+        [
+            LockedFile::OfB,
+            LockedFile::OfA,
+            LockedFile::OfA,
+            LockedFile::OfA,
+        ],
     ];
     assert_eq!(rt; seen, want);
     Ok(())
 }
 
 /// What later runs meet beside a reader that came while a run appended, which has ended: one that appends, and one that writes over.
-fn beside_a_late_reader(rt: &HostRuntime) -> Result<[Cause; 2], Memory> {
+fn beside_a_late_reader(rt: &HostRuntime) -> Result<[LockedFile; 2], Memory> {
     let writer = opened(rt, StoreAccess::Append)?;
     let _reader = opened(rt, StoreAccess::Read)?;
     drop(writer);
-    let append = cause_of(rt, StoreAccess::Append)?;
-    Ok([append, cause_of(rt, StoreAccess::WriteOver)?])
+    let append = locked(rt, StoreAccess::Append)?;
+    let write_over = locked(rt, StoreAccess::WriteOver)?;
+    Ok([append, write_over])
 }
 
 #[test]
 fn nobody_writes_over_what_is_read(rt: HostRuntime) -> Result<(), Fail> {
     let seen = beside_a_late_reader(&rt)?;
     remove(&rt);
-    assert_eq!(rt; seen, [None, OF_B]);
+    assert_eq!(rt; seen, [LockedFile::Neither, LockedFile::OfB]);
     Ok(())
 }
 

@@ -25,4 +25,4 @@ pub returns-in_err-check_use-clause-fault : goal.returns-in_err-check_use-clause
 returns-in_err-check_use-clause-fault g c =
     if_err _ c.from_residual-in_err-check_use.result c.from_residual-in_err-check_use.ensures.1
     (λ made is. subst (λ (m : OpenFault). IsFault g.S.System.facts c.args.self.now.opened.items c.args.name.now c.args.access m) (sym is)
-    (widened g.S.System.facts c.args.name.now c.args.access c.args.self.now.opened.items _ (c.in_err-check_use.ensures.fault c.args.name.now c.args.access)))
+    (widened g.S.System.facts c.args.name.now c.args.access c.args.self.now.opened.items _ (c.in_err-check_use.ensures.fault c.args.name.now)))

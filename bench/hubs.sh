@@ -1,0 +1,147 @@
+#!/usr/bin/env bash
+# How dear one transaction is where the graph has hubs: for each of some schemas and graphs, the processor's time of one transaction more, beside
+# that of `validate` over the graph after it, by the released executable or the one that PGGUARD names. A transaction's time is the difference of two
+# runs of `try`, over the graph and over the graph with so many lines more, by their number; each run is the least of three. Ratios are of one
+# run, so other work on the machine changes them little.
+# Usage: bench/hubs.sh [WORD..]    only the cases whose name has one of the words
+set -eu
+top=$(cd "$(dirname "$(readlink -f "${BASH_SOURCE[0]}")")/.." && pwd)
+exec python3 - "${PGGUARD:-$top/release/pgguard-x86_64-linux}" "$@" <<'P'
+import json
+import resource
+import subprocess
+import sys
+import tempfile
+
+PROGRAM, WORDS = sys.argv[1], sys.argv[2:]
+
+
+def node(number, label, **props):
+    return {"add_node": number, "labels": [label], "props": props}
+
+
+def edge(number, source, target, label):
+    return {"add_edge": number, "from": source, "to": target, "labels": [label]}
+
+
+def changed(number, key, value):
+    return {"set_node": number, "key": key, "value": value}
+
+
+def lines(operations, most=5000):
+    """Operations as transactions of at most so many."""
+    return [{"ops": operations[at:at + most]} for at in range(0, len(operations), most)]
+
+
+def star(leaves, label="r", hub="A", leaf="B"):
+    """A hub, node 1, with edges to so many leaves."""
+    found = [node(1, hub)]
+    for number in range(2, leaves + 2):
+        found += [node(number, leaf), edge(number, 1, number, label)]
+    return found
+
+
+def schema(mode, types, *keys):
+    return "CREATE GRAPH TYPE g %s {%s};" % (mode, ", ".join([*types, *keys]))
+
+
+def seconds(text, word="try"):
+    """The processor's time of a run over a text, the least of three."""
+    best = None
+    with tempfile.TemporaryFile() as given:
+        given.write(text.encode())
+        for _ in range(3):
+            given.seek(0)
+            before = resource.getrusage(resource.RUSAGE_CHILDREN)
+            ended = subprocess.run([PROGRAM, word], stdin=given, stdout=subprocess.DEVNULL, stderr=subprocess.DEVNULL).returncode
+            after = resource.getrusage(resource.RUSAGE_CHILDREN)
+            if ended not in (0, 1):
+                sys.exit(f"{word} ended with {ended}")
+            used = after.ru_utime + after.ru_stime - before.ru_utime - before.ru_stime
+            best = used if best is None else min(best, used)
+    return best
+
+
+def text_of(declared, transactions):
+    return "\n".join([declared, "---", *[json.dumps(it, separators=(",", ":")) for it in transactions]]) + "\n"
+
+
+def measured(declared, graph, more):
+    """Milliseconds of one transaction of more, and of `validate` over the graph behind them."""
+    before, after = text_of(declared, graph), text_of(declared, graph + more)
+    one = max(0.0, seconds(after) - seconds(before)) / len(more)
+    return 1000 * one, 1000 * seconds(after, "validate")
+
+
+TYPES = ["(a: A OPEN {OPEN})", "(b: B OPEN {OPEN})", "(:a)-[e: r]->(:b)"]
+EXCLUSIVE = "FOR (x:A) EXCLUSIVE y WITHIN (x)-[:r]->(y)"
+
+
+def noted(number, count):
+    return [{"ops": [changed(number, "note", str(place))]} for place in range(count)]
+
+
+def grown(leaves, count):
+    first = leaves + 2
+    return [{"ops": [node(at, "B"), edge(at, 1, at, "r")]} for at in range(first, first + count)]
+
+
+def beside_keys(mode, leaves):
+    return measured(schema(mode, TYPES, EXCLUSIVE), lines(star(leaves)), noted(1, 50))
+
+
+def one_more(leaves):
+    return measured(schema("LOOSE", TYPES, EXCLUSIVE), lines(star(leaves)), grown(leaves, 20))
+
+
+def two_branches(count):
+    """A node with so many edges in and out, under a key that asks for both."""
+    graph = [node(1, "Lot", seal="s")]
+    for at in range(count):
+        graph += [node(10 + at, "Port"), edge(10 + at, 1, 10 + at, "moves"), node(100_000 + at, "Foreign"), edge(100_000 + at, 100_000 + at, 1, "supplies")]
+    key = "FOR (l:Lot)-[:moves]->(:Port), (l)<-[:supplies]-(:Foreign) MANDATORY l.seal"
+    return measured(schema("LOOSE", [], key), lines(graph), noted(1, 20))
+
+
+def four_branches(count, last):
+    """A scope of four branches at a node of so many edges, of which the last one's can't be given."""
+    scope = ", ".join("(x)-[:r]->(:%s)" % label for label in ("B", "B", "B", "D" if last else "B"))
+    declared = schema("LOOSE", [], "FOR (x:A), %s MANDATORY x.k" % scope)
+    return measured(declared, lines(star(count)), [{"ops": [node(9000, "B"), edge(9000, 1, 9000, "r")]}])
+
+
+def typed(leaves):
+    return measured(schema("STRICT", TYPES), lines(star(leaves)), noted(1, 50))
+
+
+def chain(count):
+    """Two steps over a hub: payers, a hub and payees."""
+    graph = [node(1, "Hub")]
+    for at in range(count):
+        graph += [node(10 + at, "P"), edge(10 + at, 10 + at, 1, "pay")]
+    more = [{"ops": [node(100_000 + at, "Q"), edge(100_000 + at, 1, 100_000 + at, "pay")]} for at in range(20)]
+    return measured(schema("LOOSE", [], "FOR (x:P) EXCLUSIVE y WITHIN (x)-[:pay]->(:Hub)-[:pay]->(y:R)"), lines(graph), more)
+
+
+CASES = [
+    ("a property beside the keys, leaf (LOOSE)", lambda: beside_keys("LOOSE", 1)),
+    ("a property beside the keys, hub of 4000 (LOOSE)", lambda: beside_keys("LOOSE", 4000)),
+    ("a property beside the keys, leaf (STRICT)", lambda: beside_keys("STRICT", 1)),
+    ("a property beside the keys, hub of 4000 (STRICT)", lambda: beside_keys("STRICT", 4000)),
+    ("one edge more at 1000 values", lambda: one_more(1000)),
+    ("one edge more at 2000 values", lambda: one_more(2000)),
+    ("one edge more at 4000 values", lambda: one_more(4000)),
+    ("types alone, leaf (STRICT)", lambda: typed(1)),
+    ("types alone, hub of 4000 (STRICT)", lambda: typed(4000)),
+    ("two branches of 1000, a property beside the keys", lambda: two_branches(1000)),
+    ("four branches of 30, all given", lambda: four_branches(30, False)),
+    ("four branches of 30, the last not given", lambda: four_branches(30, True)),
+    ("two steps over a hub of 400, one edge", lambda: chain(400)),
+]
+
+for name, case in CASES:
+    if WORDS and not any(word in name for word in WORDS):
+        continue
+    one, whole = case()
+    print(f"{name:52} {one:9.3f} ms a transaction; validate {whole:9.1f} ms; {one / whole if whole else 0:7.3f} times", flush=True)
+P
