@@ -6,7 +6,7 @@ use Rattle.pgs_lexer.specs.Cut.{tokens_of}
 use Rattle.pgs_lexer.specs.Token.{Lexeme}
 use Rattle.pgs_parser.specs.StatementReaders.{script_of}
 use Rattle.pgs_parser.specs.Text.{Found, found, found_in, too_long, no_item, no_statement, script}
-use Rattle.pgs_resolve.specs.SchemaOf.{schema, schema_of, answer_of_finding, longer_than_allowed, begins_no_item, is_no_statement}
+use Rattle.pgs_resolve.specs.SchemaOf.{schema, schema_of, answer_of_finding}
 use Rattle.pgs_syntax.specs.declared.resolved.Resolved.{Resolved}
 use Rattle.pgs_syntax.specs.declared.script.Script.{Script}
 use Rattle.pgs_run_check.specs.Read.{given, no_script, tokens_in, script_in}

@@ -2,7 +2,6 @@
 use Rattle.std.proofs.Common.{◌≡◌, ℕ, Bool, true, false, List, refl, sym, ap, ◌∙◌}
 use Rattle.pgs_run_lines.specs.AreasKept.{KeepsAreas, keeps_none}
 use Rattle.pgs_run_lines.specs.Ending.{Faults}
-use Rattle.pgs_run_lines.specs.Machine.{Told}
 use Rattle.pgs_world.specs.Moment.{IsTimed}
 use Rattle.pgs_command.specs.declared.status.Status.{Status}
 use Rattle.pgs_command.specs.declared.status.Status.TheVariants.{Accepted, Refused, BadWords, SchemaRefused, StoreRefused, DiskFault, ReadFault, PutFault, Memory, InputTooLong}
@@ -11,7 +10,6 @@ use Rattle.pgs_command.specs.Run.{HasCause}
 use Rattle.pgs_command.specs.Setting.{Setting, SourceState, faults_in}
 use Rattle.pgs_command.proofs.Images.{images_areas, settled_images}
 use Rattle.pgs_command.proofs.Promising.{promise_reading}
-use Rattle.pgs_run_input.specs.Input.{text_front}
 use Rattle.pgs_run_input.specs.Text.{IsUnread, IsWhole}
 use Rattle.pgs_run_input.proofs.OneLine.{silent_none}
 use Rattle.pgs_run_input.proofs.WholeInput.{RunsWhole, by_unread, told_whole, with_text, without_text}

@@ -1,5 +1,5 @@
 -- What the word `schema` tells of an input within a budget: lines, and a status.
-use Rattle.std.specs.Prelude.{ℕ, Bool, true, List, [], ◌∷◌, length, map, Result, Ok, Err, nat_le, if◌then◌else◌}
+use Rattle.std.specs.Prelude.{ℕ, List, [], ◌∷◌, length, map, Result, Ok, Err, nat_le, if◌then◌else◌}
 use Rattle.std.specs.List.{list_any}
 use Rattle.pgs_run_lines.specs.Machine.{Told}
 use Rattle.pgs_syntax.specs.declared.resolved.Resolved.{Resolved}
