@@ -379,7 +379,7 @@ if strace -o /dev/null true 2>/dev/null; then
   exec 9>&-
   wait "$writer"
   holds "a reader beside a writer writes and syncs nothing" eval '[ -s wanted.txt ] && cmp -s found.txt wanted.txt && ! grep -qE "^(fsync|fdatasync|pwrite64|ftruncate)\(" trace.txt && ! grep "^write(" trace.txt | grep -qv "^write(1<"'
-  holds "and has the files for reading alone" test "$(grep -c 's\.[ab]", O_RDONLY|' trace.txt)" -ge 2
+  holds "and has the files for reading alone" test "$(grep -c 's\.[ab]", O_RDONLY|' trace.txt)" = 2
 else
   echo "strace isn't there: the order of syncs isn't compared"
 fi
@@ -412,13 +412,20 @@ for line in 1 2 3; do
 done >more_verdicts.txt
 runs "apply goes on" 0 more_verdicts.txt more.txt apply people
 
-# A writer that commits without pause, and readers beside it: what each shows is whole, and has each commit whose line was out before it began.
-# Beside them a checkpoint ends with 5.
+# A writer that goes on committing, and readers beside it: what each shows is whole, and has each commit whose line was out before it began.
+# Beside them a checkpoint ends with 5. Its lines come in bursts, so that it is there as long as the readers are.
+bursts() {
+  local line number=0
+  while IFS= read -r line; do
+    printf '%s\n' "$line" || return
+    ((++number % 50)) || sleep 0.05
+  done
+}
 whole_lines() {
   grep -c '^[0-9]* committed [0-9]*$' busy_lines.txt
 }
 runs "load busy" 0 people_loaded.txt people_schema.txt load busy
-"$program" apply busy <people.txt >busy_lines.txt &
+bursts <people.txt 2>/dev/null | "$program" apply busy >busy_lines.txt &
 writer=$!
 has_files busy
 reads=0 bad=0
@@ -431,12 +438,9 @@ while [ "$reads" -lt 200 ] && kill -0 "$writer" 2>/dev/null; do
     "$program" explain busy "n$lines" 2>>told.txt | grep -q '^key 1 scope$' || bad=$((bad + 1))
   fi
   "$program" checkpoint busy >found.txt 2>/dev/null
-  status=$?
-  # Where the writer has ended meanwhile, a checkpoint is made.
-  kill -0 "$writer" 2>/dev/null || break
-  [ "$status" = 5 ] && [ ! -s found.txt ] || bad=$((bad + 1))
+  [ $? = 5 ] && [ ! -s found.txt ] || bad=$((bad + 1))
 done
-holds "readers of each command beside a writer, $bad of them bad" test "$reads" -ge 10 -a "$bad" = 0
+holds "$reads readers of each command beside a writer, $bad of them bad" test "$reads" = 200 -a "$bad" = 0
 kill -9 "$writer" 2>/dev/null
 wait "$writer" 2>/dev/null
 
