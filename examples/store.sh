@@ -381,7 +381,7 @@ if strace -o /dev/null true 2>/dev/null; then
   holds "a reader beside a writer writes and syncs nothing" eval '[ -s wanted.txt ] && cmp -s found.txt wanted.txt && ! grep -qE "^(fsync|fdatasync|pwrite64|ftruncate)\(" trace.txt && ! grep "^write(" trace.txt | grep -qv "^write(1<"'
   holds "and has the files for reading alone" test "$(grep -c 's\.[ab]", O_RDONLY|' trace.txt)" = 2
 else
-  echo "strace isn't there: the order of syncs isn't compared"
+  echo "NOT LOOKED AT: strace isn't here, so that a sync which does nothing, and a folder that is never synced, go unseen"
 fi
 
 # A run that is killed in the middle: each line adds a person; what was printed is in the store, and at most one more.
