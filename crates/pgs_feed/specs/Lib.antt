@@ -1,3 +1,4 @@
+pub mod Deliveries
 pub mod Given
 pub mod Places
 pub mod Puts
