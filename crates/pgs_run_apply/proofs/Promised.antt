@@ -52,7 +52,7 @@ use Rattle.pgs_run_apply.specs.Told.{start, after, all_lines, is_done, last_piec
 use Rattle.pgs_run_apply.proofs.Unmoved.{grown_kept, grown_same, quiet_applied, saves_on_same}
 use Rattle.pgs_run_apply.proofs.Ended.{by_last, by_stop, ended_cause, ends_last, is_full, is_read, may_end, still_shown, takes_last, unrefused}
 use Rattle.pgs_run_apply.proofs.Machine.{first_state, told_by_applying, told_follows}
-use Rattle.pgs_run_apply.proofs.Reading.{input_left, input_reached, reached_at, took}
+use Rattle.pgs_run_apply.proofs.Reading.{input_left, input_went, reached_at}
 use Rattle.pgs_run_apply.proofs.Saving.{Chooses, applied_at, chooses, left_applied, left_grown, same_store, saves_on}
 
 told_opened : (it : StoreState) (old mid : View) (input : List ℕ) (n lost : ℕ) → IsOpened it old mid → IsTrue old.tells_bytes → told_apply input (areas_of old) n lost ≡ with_last lost (told_lines input n (saved_in it))
@@ -191,8 +191,8 @@ module _ (kind : ListKind) (it : StoreState) (budget : ℕ) (before left : Sourc
         (each_images now.view new P (passes.honest ∙ settled.honest) (grown_same (saved_in it) old.shown) kept (each_now old now.view P passes so_far))
 
     module _ (input : List ℕ) (is : before.left ≡ Some input) where
-      went : AreReached kind (first_state it) (all_lines input) (is_done (status_at stop)) (Some stop) mid now
-      went = input_reached kind (first_state it) input budget before.left left.left stop mid now is r.allows
+      abbrev went : AreReached kind (first_state it) (all_lines input) (is_done (status_at stop)) (Some stop) mid now
+      went = (input_went kind (first_state it) input budget before.left left.left stop mid now is r.allows).all
 
       follows : (lines : List (List ℕ)) → (outcome_of_all (first_state it) lines).pieces ≡ verdicts (saved_in it) lines
       follows lines = (told_follows it lines).pieces
@@ -201,15 +201,20 @@ module _ (kind : ListKind) (it : StoreState) (budget : ℕ) (before left : Sourc
       stands_on : (lines : List (List ℕ)) → HoldsStore (outcome_of_all (first_state it) lines).state now.view → SavesOn (saved_in it) (after (saved_in it) lines) old.shown now.view.shown
       stands_on lines holds = saves_on it r.opened.limits r.opened.schema old.shown chosen lines now.view.shown (holds.stands.saved (passes.tells_bytes ∙ tells))
 
+      -- what was put
+      put_went : IsPutBy (saved_in it) went.until went.later lost (shown_of old) (shown_of new) result
+      put_went =
+          put_by (saved_in it) went.until went.later lost (shown_of old) now.view new result budget before.left left.left stop r.by
+            (subst (λ (start : Shown). HasPut (is_torn (Some stop)) start (verdicts (saved_in it) went.until) (shown_of now.view)) (shown_quiet old mid.view r.quiet r.no_put)
+            (subst (λ (pieces : List (List ℕ)). HasPut (is_torn (Some stop)) (shown_of mid.view) pieces (shown_of now.view)) (follows went.until) went.reached.put)) went.whole r.last
+
       -- how it ends
       decided : IsDecided (saved_in it) input lost old new (kind.places mid.kept) (kind.places now.kept) result
       decided = record {
         until = went.until;
         later = went.later;
         parts = went.parts;
-        put = put_by (saved_in it) went.until went.later lost (shown_of old) now.view new result budget before.left left.left stop r.by
-            (subst (λ (start : Shown). HasPut (is_torn (Some stop)) start (verdicts (saved_in it) went.until) (shown_of now.view)) (shown_quiet old mid.view r.quiet r.no_put)
-            (subst (λ (pieces : List (List ℕ)). HasPut (is_torn (Some stop)) (shown_of mid.view) pieces (shown_of now.view)) (follows went.until) went.reached.put)) went.whole r.last;
+        put = put_went;
         given = subst (λ (ds : List Delivery). AreGiven (lines_in ds) (kind.places mid.kept) (kind.places now.kept)) (told_follows it went.until).given went.reached.given;
         saves = λ alive. saves_on_same (saved_in it) (after (saved_in it) went.until) old.shown now.view.shown new.shown kept.a kept.b (stands_on went.until (went.reached.holds (struck alive)));
       }
@@ -323,10 +328,10 @@ module _ (kind : ListKind) (it : StoreState) (budget : ℕ) (before left : Sourc
 
   -- ---- what feeds were given
 
-  reached : AreReached kind (first_state it) (seen r.allows.lines r.allows.extent) (is_done (status_at stop)) (Some stop) mid now
+  abbrev reached : AreReached kind (first_state it) (seen r.allows.lines r.allows.extent) (is_done (status_at stop)) (Some stop) mid now
   reached = reached_at kind (first_state it) budget left.left r.allows.bytes r.allows.lines r.allows.later stop r.allows.extent mid now r.allows.far r.allows.allowed.reached
 
-  given : List Delivery
+  abbrev given : List Delivery
   given = behind mid.view.puts (outcome_of_all (first_state it) reached.until).given
 
   -- by some lines that come to the same
@@ -336,10 +341,13 @@ module _ (kind : ListKind) (it : StoreState) (budget : ℕ) (before left : Sourc
       ∙ ap (λ (n : ℕ). behind n (deliveries (verdict it.guard.schema) (start (saved_in it)) lines)) r.no_put.puts
 
   gives_decided : (tells : IsTrue old.tells_bytes) (input : List ℕ) → before.left ≡ Some input → IsGivenBy (saved_in it) input lost old new result given
-  gives_decided tells input is =
-      let first = took kind (first_state it) input budget before.left left.left stop mid now is r.allows in
-      let by = decided tells input is in
-      record { until = first.until; later = first.later; parts = first.parts; put = by.put; is = given_by first.until first.same }
+  gives_decided tells input is = record {
+    until = (went tells input is).until;
+    later = (went tells input is).later;
+    parts = (went tells input is).parts;
+    put = put_went tells input is;
+    is = given_by (went tells input is).until (input_went kind (first_state it) input budget before.left left.left stop mid now is r.allows).same;
+  }
 
   gives_on : Gives apply_spec kind (record { source = before; view = old; places = kind.places mid.kept }) (record { source = left; view = new; places = kind.places now.kept }) mid.kept now.kept result
   gives_on = record {

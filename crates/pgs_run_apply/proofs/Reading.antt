@@ -210,21 +210,28 @@ module _ (kind : ListKind) (s : ApplyState) (input : List ℕ) (budget : ℕ) (b
   at = seen_of input allows.bytes before left is allows.taken s budget allows.lines allows.later stop allows.extent allows.parts allows.far
 
   -- what the run reached
-  pub reached : AreReached kind s (seen allows.lines allows.extent) (is_done (status_at stop)) (Some stop) old new
+  abbrev pub reached : AreReached kind s (seen allows.lines allows.extent) (is_done (status_at stop)) (Some stop) old new
   reached = reached_at kind s budget left allows.bytes allows.lines allows.later stop allows.extent old new allows.far allows.allowed.reached
 
   -- some first lines of the input come to it
-  pub took : Took s input (is_done (status_at stop)) reached.until
+  took : Took s input (is_done (status_at stop)) reached.until
   took = took_fronts s input (status_at stop) (seen allows.lines allows.extent) at reached.until reached.later reached.parts reached.whole
 
-  -- some first lines of the input were done; all of them where it was read to its end
-  pub input_reached : AreReached kind s (all_lines input) (is_done (status_at stop)) (Some stop) old new
-  input_reached = record {
-    until = took.until;
-    later = took.later;
-    parts = took.parts;
-    whole = took.whole;
-    reached = subst (λ (o : Outcome). IsReached kind o (Some stop) old new) took.same reached.reached;
+  -- some first lines of the input were done, all of them where it was read to its end; they come to what was reached
+  pub record Went : Type 0 where
+    pub all : AreReached kind s (all_lines input) (is_done (status_at stop)) (Some stop) old new
+    pub same : outcome_of_all s reached.until ≡ outcome_of_all s all.until
+
+  pub input_went : Went
+  input_went = record {
+    all = record {
+      until = took.until;
+      later = took.later;
+      parts = took.parts;
+      whole = took.whole;
+      reached = subst (λ (o : Outcome). IsReached kind o (Some stop) old new) took.same reached.reached;
+    };
+    same = took.same;
   }
 
   -- and what a stop leaves of them

@@ -46,6 +46,7 @@ module _ {H : Type 0} (gives : PlacedCall H) (start : H) (at : ℕ) (bytes : Lis
 -- the same of a piece, with the error that comes of it
 pub fails_to_write : {W : Type 0} (writes : PlainCall W) (start : W) (piece : List ℕ) (done : ℕ) (before after : W) (answer : Result ℕ Error) (error : Error) → IsFailure answer → IsErrorOf answer error → done < length piece
     → HasWritten (placeless writes) start 0 piece done before → WriteIsTried (placeless writes) before 0 (take (length piece - done) (drop done piece)) answer after → FailsToWrite writes start piece error after
+unfolding write_failed
 fails_to_write writes start piece done before after answer error fails is left front tried =
     let failed = write_failed (placeless writes) start 0 piece done before after answer fails left front tried in
     record { done = done; before = before; front = front; left = left; answer = answer; tried = failed.tried; fails = fails; is = is }
