@@ -2,4 +2,4 @@ pub mod Counts
 pub mod Deliveries
 pub mod Drops
 pub mod Given
-pub mod Sweep
+pub mod Visits

@@ -3,3 +3,4 @@ pub mod Given
 pub mod Places
 pub mod Puts
 pub mod Seen
+pub mod Visits

@@ -8,8 +8,12 @@
 
 mod feed_list;
 mod feeds;
+mod line;
 mod slot;
+mod visiting;
 
 pub use feed_list::FeedList;
 pub use feeds::Feeds;
+use line::Line;
 use slot::Slot;
+use visiting::{Visit, visit_each};
