@@ -16,7 +16,7 @@ module _ {V X : Type 0} (R : V → X → X → V → Type 0) where
   turn_suc zero [] after x y old mid new turn within here visit = absurd (omega arith)
   turn_suc zero (first ∷ before) after x y old mid new turn within here visit =
       subst (λ (items : List X). x ≡ get_or items 0 x → InTurn R 1 old (first ∷ before) (slice_set items 0 y) new) (sym turn.0)
-      (λ same. (new, subst (λ (v : V). R v first y new) turn.1 (subst (λ (z : X). R mid z y new) same visit), refl, refl)) here
+      (λ same. (new, subst (λ (v : V). R v first y new) turn.1 (subst (λ (z : X). R mid z y new) same visit), (refl, refl))) here
   turn_suc (suc n) [] after x y old mid new turn within here visit = absurd (omega arith)
   turn_suc (suc n) (first ∷ before) [] x y old mid new turn within here visit = absurd turn
   turn_suc (suc n) (first ∷ before) (z ∷ after) x y old mid new turn within here visit =

@@ -1,3 +1,4 @@
+use Rattle.std.proofs.Common.{map}
 use Rattle.pgs_feed.specs.Places.{Delivers}
 use Rattle.pgs_feed.specs.Puts.{PutsOnce}
 use Rattle.pgs_feed.specs.Seen.{place_seen, places}
@@ -16,6 +17,6 @@ returns g c =
     let both = zip_seen (Delivers line) (PutsOnce g.F.Feed.put_made line) seen before after each in
     record {
       delivered = both.0;
-      raised = delivery_raises line (list c.args.self.now) (list c.visit_each.new.self) both.0;
+      raised = delivery_raises line (list c.args.self.now) (map seen after) both.0;
       puts = both.1;
     }
