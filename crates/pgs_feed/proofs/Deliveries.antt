@@ -1,10 +1,9 @@
 -- Deliveries to a list of feeds, one after another.
-use Rattle.std.proofs.Common.{◌≡◌, ◌∙◌, ◌⊎◌, inl, inr, ℕ, ◌+◌, List, [], ◌∷◌, ◌++◌, map, refl, sym, ap, ap₂, subst, add_assoc, arith}
+use Rattle.std.proofs.Common.{◌≡◌, ℕ, ◌+◌, List, [], ◌∷◌, ◌++◌, refl, ap, ap₂, subst, arith}
 use Rattle.std.proofs.lemmas.List.{map-append}
-use Rattle.pgs_feed.specs.Places.{Place, fed_count}
 use Rattle.pgs_feed.specs.Deliveries.{Delivery, ListKind, AreDelivered, IsDelivered, behind, lines_in}
 
-delivery_of : List ℕ → ℕ → Delivery
+abbrev delivery_of : List ℕ → ℕ → Delivery
 delivery_of line puts = record { line = line; puts = puts }
 
 pub lines_append : (xs ys : List Delivery) → lines_in (xs ++ ys) ≡ lines_in xs ++ lines_in ys
@@ -23,6 +22,12 @@ behind_behind n m [] = refl
 behind_behind n m (d ∷ ds) =
     let same : n + (m + d.puts) ≡ n + m + d.puts = omega arith in
     ap₂ (λ (k : ℕ) (more : List Delivery). delivery_of d.line k ∷ more) same (behind_behind n m ds)
+
+pub behind_none : (ds : List Delivery) → behind 0 ds ≡ ds
+behind_none [] = refl
+behind_none (d ∷ ds) =
+    let same : 0 + d.puts ≡ d.puts = omega arith in
+    ap₂ (λ (k : ℕ) (more : List Delivery). delivery_of d.line k ∷ more) same (behind_none ds)
 
 -- some deliveries, and then others
 pub delivered_on : (kind : ListKind) (xs ys : List Delivery) (old mid new : kind.Feeds) → AreDelivered kind old xs mid → AreDelivered kind mid ys new → AreDelivered kind old (xs ++ ys) new

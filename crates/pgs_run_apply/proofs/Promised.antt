@@ -4,7 +4,7 @@ use Rattle.std.proofs.lemmas.Bool.Decides.{nat_tests}
 use Rattle.std.proofs.lemmas.List.{append-nil}
 use Rattle.std.specs.List.{concat}
 use Rattle.pgs_feed.specs.Given.{AreGiven}
-use Rattle.pgs_feed.specs.Deliveries.{AreDelivered, Delivery, ListKind, behind, lines_in}
+use Rattle.pgs_feed.specs.Deliveries.{Delivery, ListKind, behind, lines_in}
 use Rattle.pgs_feed.specs.Places.{lost_count}
 use Rattle.pgs_run_lines.specs.declared.stop.Stop.{Stop}
 use Rattle.pgs_run_lines.specs.declared.stop.Stop.TheVariants as stops
@@ -205,8 +205,8 @@ module _ (kind : ListKind) (it : StoreState) (budget : ℕ) (before left : Sourc
       put_went : IsPutBy (saved_in it) went.until went.later lost (shown_of old) (shown_of new) result
       put_went =
           put_by (saved_in it) went.until went.later lost (shown_of old) now.view new result budget before.left left.left stop r.by
-            (subst (λ (start : Shown). HasPut (is_torn (Some stop)) start (verdicts (saved_in it) went.until) (shown_of now.view)) (shown_quiet old mid.view r.quiet r.no_put)
-            (subst (λ (pieces : List (List ℕ)). HasPut (is_torn (Some stop)) (shown_of mid.view) pieces (shown_of now.view)) (follows went.until) went.reached.put)) went.whole r.last
+          (subst (λ (start : Shown). HasPut (is_torn (Some stop)) start (verdicts (saved_in it) went.until) (shown_of now.view)) (shown_quiet old mid.view r.quiet r.no_put)
+          (subst (λ (pieces : List (List ℕ)). HasPut (is_torn (Some stop)) (shown_of mid.view) pieces (shown_of now.view)) (follows went.until) went.reached.put)) went.whole r.last
 
       -- how it ends
       decided : IsDecided (saved_in it) input lost old new (kind.places mid.kept) (kind.places now.kept) result
@@ -266,14 +266,14 @@ module _ (kind : ListKind) (it : StoreState) (budget : ℕ) (before left : Sourc
                   (put.added ∙ ap (λ (o : List ℕ). o ++ put.front) (is.2 ∙ shown) ∙ append_assoc old.shown.output (concat (verdicts (saved_in it) all.until)) put.front) on
                   (inr (inr (record { all = all.whole refl; back = put.back; piece = ap pieces_in is_last ∙ ap (λ (p : List ℕ). p ∷ []) put.parts; saves = on.saves })))
 
-          behind : (piece : Option (List ℕ)) (status : Status) → lost_piece lost ≡ piece → EndsRun piece status now.view result new → EachSince Stops old new
-          behind None status is ends = nothing_more ends.1
-          behind (Some piece) status is (inl memory) = nothing_more memory.1
-          behind (Some piece) status is (inr put) = each_on old now.view new Stops passes put.areas.passes so_far (put_applied piece is put.stops)
+          behind_lines : (piece : Option (List ℕ)) (status : Status) → lost_piece lost ≡ piece → EndsRun piece status now.view result new → EachSince Stops old new
+          behind_lines None status is ends = nothing_more ends.1
+          behind_lines (Some piece) status is (inl memory) = nothing_more memory.1
+          behind_lines (Some piece) status is (inr put) = each_on old now.view new Stops passes put.areas.passes so_far (put_applied piece is put.stops)
 
         done_stops : (status : Status) → AreReached kind (first_state it) (all_lines input) true (Some (stops.Ended status)) mid now → EndsRun (lost_piece lost) status now.view result new → EachSince Stops old new
         done_stops status all =
-            behind (record { until = all.until; later = all.later; parts = all.parts; whole = all.whole; reached = record { holds = all.reached.holds; put = all.reached.put; given = all.reached.given; delivered = all.reached.delivered } }) (lost_piece lost) status refl
+            behind_lines (record { until = all.until; later = all.later; parts = all.parts; whole = all.whole; reached = record { holds = all.reached.holds; put = all.reached.put; given = all.reached.given; delivered = all.reached.delivered } }) (lost_piece lost) status refl
 
         applied : EachSince Stops old new
         applied =
@@ -336,8 +336,8 @@ module _ (kind : ListKind) (it : StoreState) (budget : ℕ) (before left : Sourc
 
   -- by some lines that come to the same
   given_by : (lines : List (List ℕ)) → outcome_of_all (first_state it) reached.until ≡ outcome_of_all (first_state it) lines → given ≡ behind old.puts (deliveries (verdict it.guard.schema) (start (saved_in it)) lines)
-  given_by lines same =
-      ap (λ (o : Outcome). behind mid.view.puts o.given) same ∙ ap (λ (ds : List Delivery). behind mid.view.puts ds) (told_follows it lines).given
+  given_by lines alike =
+      ap (λ (o : Outcome). behind mid.view.puts o.given) alike ∙ ap (λ (ds : List Delivery). behind mid.view.puts ds) (told_follows it lines).given
       ∙ ap (λ (n : ℕ). behind n (deliveries (verdict it.guard.schema) (start (saved_in it)) lines)) r.no_put.puts
 
   gives_decided : (tells : IsTrue old.tells_bytes) (input : List ℕ) → before.left ≡ Some input → IsGivenBy (saved_in it) input lost old new result given

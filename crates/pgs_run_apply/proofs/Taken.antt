@@ -85,7 +85,7 @@ module _ (kind : ListKind) (s : ApplyState) (o : Outcome) (piece : List ℕ) (no
       put = subst (λ (pieces : List (List ℕ)). ShowsAll (shown_of old) pieces (shown_of new)) (sym one)
           (subst (λ (start : Shown). ShowsAll start (piece ∷ []) (shown_of new)) ready.shown put.shows);
       given = given;
-        delivered = delivered;
+      delivered = delivered;
     },
   )
   put_ends (Err stop) put =

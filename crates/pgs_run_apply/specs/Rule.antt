@@ -5,7 +5,7 @@ use Rattle.std.proofs.lemmas.List.{append-nil}
 use Rattle.std.proofs.lemmas.List.Folds.{concat-append}
 use Rattle.pgs_feed.specs.Deliveries.{Delivery, ListKind, AreDelivered, behind, lines_in}
 use Rattle.pgs_feed.specs.Given.{AreGiven}
-use Rattle.pgs_feed.proofs.Deliveries.{behind_append, behind_behind, delivered_on, lines_append, lines_behind}
+use Rattle.pgs_feed.proofs.Deliveries.{behind_append, behind_behind, behind_none, delivered_on, lines_append, lines_behind}
 use Rattle.pgs_feed.proofs.Given.{given_none, given_on}
 use Rattle.pgs_base.specs.Graph.{Graph}
 use Rattle.pgs_graph.specs.declared.operation.Txn.{Txn}
@@ -41,7 +41,7 @@ given_assoc o p q =
     let n = length o.pieces in
     let m = length p.pieces in
     let last : behind (length (o.pieces ++ p.pieces)) q.given ≡ behind n (behind m q.given) =
-        ap (λ (k : ℕ). behind k q.given) (length-append o.pieces p.pieces) ∙ sym (behind_behind n m q.given) in
+    ap (λ (k : ℕ). behind k q.given) (length-append o.pieces p.pieces) ∙ sym (behind_behind n m q.given) in
     append_assoc o.given (behind n p.given) (behind (length (o.pieces ++ p.pieces)) q.given)
     ∙ ap (λ (ds : List Delivery). o.given ++ ds) (ap (λ (ds : List Delivery). behind n p.given ++ ds) last ∙ sym (behind_append n p.given (behind m q.given)))
 
@@ -49,7 +49,7 @@ then_assoc : (o p q : Outcome) → and_then (and_then o p) q ≡ and_then o (and
 then_assoc o p q = ap₂ (outcome_with q.state) (append_assoc o.pieces p.pieces q.pieces) (given_assoc o p q)
 
 pub outcome_append : (s : ApplyState) (xs ys : List (List ℕ)) → outcome_of_all s (xs ++ ys) ≡ and_then (outcome_of_all s xs) (outcome_of_all (outcome_of_all s xs).state ys)
-outcome_append s [] ys = refl
+outcome_append s [] ys = let o = outcome_of_all s ys in ap (outcome_with o.state o.pieces) (sym (behind_none o.given))
 outcome_append s (x ∷ xs) ys =
     let o = outcome_of s x in
     let p = outcome_of_all o.state xs in
@@ -88,10 +88,10 @@ reached_on : (kind : ListKind) (stop : Option (Stop Status)) (o more : Outcome) 
 reached_on kind stop o more old mid new p q =
     let n = length o.pieces in
     let lines : lines_in o.given ++ lines_in more.given ≡ lines_in (o.given ++ behind n more.given) =
-        sym (lines_append o.given (behind n more.given) ∙ ap (λ (xs : List (List ℕ)). lines_in o.given ++ xs) (lines_behind n more.given)) in
+    sym (lines_append o.given (behind n more.given) ∙ ap (λ (xs : List (List ℕ)). lines_in o.given ++ xs) (lines_behind n more.given)) in
     let from : behind old.view.puts o.given ++ behind mid.view.puts more.given ≡ behind old.view.puts (o.given ++ behind n more.given) =
-        ap (λ (k : ℕ). behind old.view.puts o.given ++ behind k more.given) p.put.puts
-        ∙ sym (behind_append old.view.puts o.given (behind n more.given) ∙ ap (λ (ds : List Delivery). behind old.view.puts o.given ++ ds) (behind_behind old.view.puts n more.given)) in
+    ap (λ (k : ℕ). behind old.view.puts o.given ++ behind k more.given) p.put.puts
+    ∙ sym (behind_append old.view.puts o.given (behind n more.given) ∙ ap (λ (ds : List Delivery). behind old.view.puts o.given ++ ds) (behind_behind old.view.puts n more.given)) in
     record {
       holds = q.holds;
       put = put_on (is_torn stop) (shown_of old.view) (shown_of mid.view) (shown_of new.view) o.pieces more.pieces p.put q.put;

@@ -1,6 +1,6 @@
 use Rattle.std.proofs.Common.{rules, inr, refl, arith, sym, subst}
 use Rattle.std.proofs.lemmas.Result.{err_from_is_err_and}
-use Rattle.pgs_world_streams.specs.Pieces.{FailsWith, HoldsPiece, PieceIs}
+use Rattle.pgs_world_streams.specs.Pieces.{HoldsPiece, PieceIs}
 use Rattle.pgs_world_streams.specs.Whole.HasWritten.{wrote_none}
 use Rattle.pgs_world_streams.proofs.Knowing.{appends_none, front_here, front_kept, appends_at}
 use Rattle.pgs_world_streams.proofs.Loops.{within_more, wrote_more, fails_to_write, write_failed}
