@@ -1,4 +1,9 @@
 pub mod Fixed
 pub mod Gathered
 pub mod Inner
+pub mod Marking
+pub mod Numbered
+pub mod Outside
+pub mod Using
+pub mod ValidTypes
 pub mod Walks

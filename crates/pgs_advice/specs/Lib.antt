@@ -1,5 +1,6 @@
 pub mod Parts
 pub mod Unknown
 pub mod Unused
+pub mod Used
 pub mod Void
 pub mod Words

@@ -7,6 +7,9 @@ ghost use Rattle.pgs_base.specs.Graph.{Graph};
 ghost use Rattle.pgs_syntax.specs.declared.key.Key.{Key};
 ghost use Rattle.pgs_syntax.specs.declared.resolved.Resolved.{Resolved};
 ghost use Rattle.pgs_syntax.specs.KeyValues.{key_values};
+ghost use Rattle.pgs_syntax.specs.declared.resolved.TypeNo.{TypeNo};
+ghost use Rattle.pgs_syntax.specs.Valid.{is_valid};
+ghost use Rattle.pgs_advice.specs.Used.{is_used, IsUsed};
 ghost use Rattle.pgs_advice.specs.Void.{has_void_singleton, has_void_exclusive};
 
 /// Where SINGLETON is told of as void, an element has at most one key value, in every graph.
@@ -19,4 +22,10 @@ pub fn void_singletons()
 pub fn void_exclusives()
     ensures { (resolved : Resolved) (g : Graph) (key : Key) (elem other : Elem) (tuple : List Part) → has_void_exclusive key ≡ true →
         Contains (key_values resolved g key elem) tuple → Contains (key_values resolved g key other) tuple → elem ≡ other }
+{}
+
+/// Exactly those types are told of as used that are: the guard lists them, a pattern of its keys names them, or a used type does.
+pub fn used_types()
+    ensures found { (resolved : Resolved) (type : TypeNo) → is_valid resolved ≡ true → is_used resolved type ≡ true → IsUsed resolved type }
+    ensures whole { (resolved : Resolved) (type : TypeNo) → is_valid resolved ≡ true → IsUsed resolved type → is_used resolved type ≡ true }
 {}

@@ -6,11 +6,14 @@
 
 pub mod laws;
 mod parts;
+mod script_types;
 mod unknown;
 mod unused;
+mod used;
 mod void;
 mod words;
 
+pub use script_types::unused_types;
 pub use unknown::{Unknown, unknown_words};
 pub use unused::unused_graphs;
 pub use void::{has_void_exclusive, has_void_singleton};

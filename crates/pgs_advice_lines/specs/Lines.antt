@@ -13,6 +13,13 @@ guard_line name strict types keys =
     codes "guard " ++ (name ++ (mode_text strict
     ++ (codes " types=" ++ (decimal types ++ (codes " keys=" ++ (decimal keys ++ codes "\n"))))))
 
+-- a type, with the line of a transaction that adds an example of it, or of which nothing can stand
+unfoldable pub type_line : List ℕ → List ℕ → List ℕ
+type_line name line = codes "type " ++ (name ++ (codes " " ++ line))
+
+unfoldable pub never_line : List ℕ → List ℕ
+never_line name = codes "never " ++ (name ++ codes "\n")
+
 -- a key of a number, from 1, and its text
 unfoldable pub key_line : ℕ → List ℕ → List ℕ
 key_line number text = codes "key " ++ (decimal number ++ (codes " " ++ (text ++ codes "\n")))

@@ -15,11 +15,12 @@ use Rattle.pgs_advice.specs.declared.unknown.Unknown.{Unknown}
 use Rattle.pgs_advice.specs.declared.words.Words.{Words}
 use Rattle.pgs_advice.specs.Unknown.{unknown_words}
 use Rattle.pgs_advice.specs.Unused.{unused_graphs}
+use Rattle.pgs_advice.specs.Used.{unused_types}
 use Rattle.pgs_advice.specs.Void.{has_void_singleton, has_void_exclusive}
 use Rattle.pgs_advice.specs.Words.{words_of}
 use Rattle.pgs_schema_places.specs.KeyTexts.{guard_key_texts}
 use Rattle.pgs_advice_lines.specs.declared.line.Line.{Line}
-use Rattle.pgs_advice_lines.specs.Lines.{guard_line, key_line, void_line, nothing_line, unused_graph_line, unknown_line}
+use Rattle.pgs_advice_lines.specs.Lines.{guard_line, key_line, void_line, nothing_line, unused_line, unused_graph_line, unknown_line}
 
 -- a line that tells, and one that warns
 abbrev pub tell : List ℕ → Line
@@ -61,14 +62,22 @@ guards_nothing guard = not guard.strict && not (length guard.types == 0) && leng
 abbrev pub nothing_lines : Guarding → List Line
 nothing_lines guard = if guards_nothing guard then warn nothing_line ∷ [] else []
 
+-- the element types, and the graph types, that the guard doesn't use
+abbrev pub unused_type_lines : Script → Resolved → List Line
+unused_type_lines script resolved = map (λ (name : List ℕ). warn (unused_line name)) (unused_types script resolved)
+
 abbrev pub unused_graph_lines : Script → List Line
 unused_graph_lines script = map (λ (type : GraphType). warn (unused_graph_line type.name)) (unused_graphs script)
 
--- the lines of a schema, by the tokens and the script of its text
-abbrev pub lines_of : List Lexeme → Script → Resolved → List Line
-lines_of tokens script resolved =
-    guard_lines script resolved.guard
-    ++ flat_map (key_lines (guard_key_texts tokens script)) (enumerate_from 0 resolved.guard.keys)
+-- the lines behind those of the types: of the keys, and of what does nothing
+abbrev pub advice_lines : List Lexeme → Script → Resolved → List Line
+advice_lines tokens script resolved =
+    flat_map (key_lines (guard_key_texts tokens script)) (enumerate_from 0 resolved.guard.keys)
     ++ nothing_lines resolved.guard
+    ++ unused_type_lines script resolved
     ++ unused_graph_lines script
     ++ flat_map (unknown_lines (words_of resolved)) (enumerate_from 0 resolved.guard.keys)
+
+-- the lines of a schema, by the tokens and the script of its text, and by the lines of the guard's types
+abbrev pub lines_of : List Lexeme → Script → Resolved → (types : List Line) → List Line
+lines_of tokens script resolved types = guard_lines script resolved.guard ++ (types ++ advice_lines tokens script resolved)

@@ -1,7 +1,7 @@
 //! The lines of a check.
 
 ghost use Rattle.std.specs.Prelude.{◌≡◌, ◌++◌, codes, decimal, IfOk, OnOk};
-ghost use Rattle.pgs_advice_lines.specs.Lines.{mode_text, guard_line, key_line, void_line, nothing_line, unused_graph_line, word_text, unknown_line};
+ghost use Rattle.pgs_advice_lines.specs.Lines.{mode_text, guard_line, type_line, never_line, key_line, void_line, nothing_line, unused_line, unused_graph_line, word_text, unknown_line};
 
 use pgs_advice::Unknown;
 use pgs_base::{Bytes, Memory, Name};
@@ -53,6 +53,38 @@ pub(crate) fn guard_line(
     Ok(line.into_bytes())
 }
 
+/// The line of a type, with the line of a transaction that adds an example of it.
+#[tactic(auto, unfolding(crate::specs::Lines::type_line))]
+pub fn type_line(alloc: Global, name: &Name, transaction: &[u8]) -> Result<Bytes, Memory>
+    ensures { IfOk result (λ line. line ≡ type_line name.now transaction.now) }
+{
+    let mut line = TextBuffer::with_room(alloc, transaction.len().saturating_add(ROOM))?;
+    line.push(b"type ")?;
+    line.push(name.bytes())?;
+    line.push(b" ")?;
+    line.push(transaction)?;
+    Ok(line.into_bytes())
+}
+
+// A line of a word and a name.
+fn named_line(alloc: Global, word: &[u8], name: &Name) -> Result<Bytes, Memory>
+    ensures { IfOk result (λ line. line ≡ word.now ++ (name.now ++ codes "\n")) }
+{
+    let mut line = TextBuffer::with_room(alloc, ROOM)?;
+    line.push(word)?;
+    line.push(name.bytes())?;
+    line.push(b"\n")?;
+    Ok(line.into_bytes())
+}
+
+/// The line of a type of which nothing can stand.
+#[tactic(auto, unfolding(crate::specs::Lines::never_line))]
+pub fn never_line(alloc: Global, name: &Name) -> Result<Bytes, Memory>
+    ensures { IfOk result (λ line. line ≡ never_line name.now) }
+{
+    named_line(alloc, b"never ", name)
+}
+
 // A line of a word, a number and a text.
 fn numbered_line(alloc: Global, word: &[u8], number: u64, text: &[u8]) -> Result<Bytes, Memory>
     ensures { IfOk result (λ line. line ≡ word.now ++ (decimal number ++ (codes " " ++ (text.now ++ codes "\n")))) }
@@ -89,16 +121,20 @@ pub(crate) fn nothing_line(alloc: Global) -> Result<Bytes, Memory>
     Bytes::from_slice(alloc, b"guards nothing\n")
 }
 
+/// The line of an element type that the guard doesn't use.
+#[tactic(auto, unfolding(crate::specs::Lines::unused_line))]
+pub(crate) fn unused_line(alloc: Global, name: &Name) -> Result<Bytes, Memory>
+    ensures { IfOk result (λ line. line ≡ unused_line name.now) }
+{
+    named_line(alloc, b"unused ", name)
+}
+
 /// The line of a graph type that the guard doesn't import.
 #[tactic(auto, unfolding(crate::specs::Lines::unused_graph_line))]
 pub(crate) fn unused_graph_line(alloc: Global, name: &Name) -> Result<Bytes, Memory>
     ensures { IfOk result (λ line. line ≡ unused_graph_line name.now) }
 {
-    let mut line = TextBuffer::with_room(alloc, ROOM)?;
-    line.push(b"unused graph ")?;
-    line.push(name.bytes())?;
-    line.push(b"\n")?;
-    Ok(line.into_bytes())
+    named_line(alloc, b"unused graph ", name)
 }
 
 // A word that no type knows: a key has a point before it.

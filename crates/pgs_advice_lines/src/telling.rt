@@ -2,44 +2,46 @@
 
 ghost use Rattle.std.specs.Prelude.{◌≡◌, ◌<◌, ◌^◌, ◌++◌, [], length, map, flat_map, slice_get, unwrap_or, IfOk, OnOk};
 ghost use Rattle.std.specs.List.{list_any, enumerate_from};
-ghost use Rattle.pgs_syntax.specs.declared.script.Script.{Script};
+ghost use Rattle.pgs_syntax.specs.declared.script.Script.{Script as Tree};
 ghost use Rattle.pgs_resolve_declared.specs.Tables.{AreOf};
-ghost use Rattle.pgs_advice_lines.specs.Lines.{unused_graph_line, unknown_line};
-ghost use Rattle.pgs_advice_lines.specs.Telling.{tell, warn, guard_lines, void_lines, key_lines, asks_values, unknown_lines, guards_nothing, nothing_lines, unused_graph_lines, lines_of};
+ghost use Rattle.pgs_advice_lines.specs.Lines.{unused_line, unused_graph_line, unknown_line};
+ghost use Rattle.pgs_advice_lines.specs.Telling.{tell, warn, guard_lines, void_lines, key_lines, asks_values, unknown_lines, guards_nothing, nothing_lines, unused_type_lines, unused_graph_lines, advice_lines};
 
 use crate::line::{
-    Line, guard_line, key_line, nothing_line, unknown_line, unused_graph_line, void_line,
+    Line, guard_line, key_line, nothing_line, unknown_line, unused_graph_line, unused_line, void_line,
 };
 use pgs_advice::{
-    Unknown, Words, has_void_exclusive, has_void_singleton, unknown_words, unused_graphs,
+    Unknown, Words, has_void_exclusive, has_void_singleton, unknown_words, unused_graphs, unused_types,
 };
-use pgs_base::{Bytes, Copyable, Memory};
+use pgs_base::{Bytes, Copyable, Memory, Name};
 use pgs_lexer::Tokens;
 use pgs_resolve_declared::{Declarations, last_graph};
 use pgs_schema_places::guard_key_texts;
-use pgs_syntax::{GraphType, Guarding, Key, Qualifiers, Resolved};
+use pgs_syntax::{GraphType, Guarding, Key, Qualifiers, Resolved, Script};
 use std::alloc::Global;
 
-fn tell(text: Bytes) -> Line
+/// A line that tells.
+pub fn tell(text: Bytes) -> Line
     ensures { result ≡ tell text }
 {
     Line { text, warns: false }
 }
 
-fn warn(text: Bytes) -> Line
+/// A line that warns.
+pub fn warn(text: Bytes) -> Line
     ensures { result ≡ warn text }
 {
     Line { text, warns: true }
 }
 
-// Puts the line of the guard last.
-fn push_guard(
+/// Puts the line of the guard last.
+pub fn push_guard(
     alloc: Global,
     declarations: &Declarations<'_>,
     guard: &Guarding,
     lines: &mut Vec<Line>,
 ) -> Result<(), Memory>
-    ensures { (script : Script) → AreOf script declarations.now → OnOk result (lines.new.items ≡ lines.old.items ++ guard_lines script guard.now) }
+    ensures { (script : Tree) → AreOf script declarations.now → OnOk result (lines.new.items ≡ lines.old.items ++ guard_lines script guard.now) }
 {
     if let Some(graph) = last_graph(declarations) {
         let types = guard.types.len() as u64;
@@ -119,6 +121,29 @@ fn push_nothing(alloc: Global, guard: &Guarding, lines: &mut Vec<Line>) -> Resul
     Ok(())
 }
 
+// Puts the lines of element types last.
+fn push_types(alloc: Global, names: &[Name], lines: &mut Vec<Line>) -> Result<(), Memory>
+    ensures { OnOk result (lines.new.items ≡ lines.old.items ++ map (λ name. warn (unused_line name)) names.now) }
+{
+    for name in names {
+        lines.push(warn(unused_line(alloc, name)?))?;
+    }
+    Ok(())
+}
+
+// Puts the lines of the element types last that the guard doesn't use.
+fn push_unused_types(
+    alloc: Global,
+    script: &Script,
+    resolved: &Resolved,
+    lines: &mut Vec<Line>,
+) -> Result<(), Memory>
+    ensures { OnOk result (lines.new.items ≡ lines.old.items ++ unused_type_lines script.now resolved.now) }
+{
+    let names = unused_types(alloc, script, resolved)?;
+    push_types(alloc, names.as_slice(), lines)
+}
+
 // Puts the lines of graph types last.
 fn push_graphs(alloc: Global, graphs: &[&GraphType], lines: &mut Vec<Line>) -> Result<(), Memory>
     ensures { OnOk result (lines.new.items ≡ lines.old.items ++ map (λ graph. warn (unused_graph_line graph.now.name)) graphs.now) }
@@ -135,7 +160,7 @@ fn push_unused_graphs(
     declarations: &Declarations<'_>,
     lines: &mut Vec<Line>,
 ) -> Result<(), Memory>
-    ensures { (script : Script) → AreOf script declarations.now → OnOk result (lines.new.items ≡ lines.old.items ++ unused_graph_lines script) }
+    ensures { (script : Tree) → AreOf script declarations.now → OnOk result (lines.new.items ≡ lines.old.items ++ unused_graph_lines script) }
 {
     let graphs = unused_graphs(alloc, declarations)?;
     push_graphs(alloc, &graphs, lines)
@@ -196,26 +221,28 @@ fn push_unknowns(
     Ok(())
 }
 
-/// The lines of a schema, by the tokens and the declarations of its text.
-pub fn lines_of(
+/// Puts the lines last that stand behind those of the types: of the keys, and of what does nothing. They are those of the tokens, the
+/// script and the declarations of the schema's text.
+pub fn push_advice(
     alloc: Global,
     tokens: &Tokens<'_>,
+    script: &Script,
     declarations: &Declarations<'_>,
     resolved: &Resolved,
-) -> Result<Vec<Line>, Memory>
-    ensures { (script : Script) → AreOf script declarations.now → IfOk result (λ lines. lines.items ≡ lines_of tokens.now script resolved.now) }
+    lines: &mut Vec<Line>,
+) -> Result<(), Memory>
+    requires { AreOf script.now declarations.now }
+    ensures { OnOk result (lines.new.items ≡ lines.old.items ++ advice_lines tokens.now script.now resolved.now) }
 {
     let guard = &resolved.guard;
     let keys = guard.keys.as_slice();
     let texts = guard_key_texts(alloc, tokens, declarations)?;
     let words = Words::of(alloc, resolved)?;
-    let mut lines = Vec::new(alloc);
-    push_guard(alloc, declarations, guard, &mut lines)?;
-    push_keys(alloc, texts.as_slice(), keys, &mut lines)?;
-    push_nothing(alloc, guard, &mut lines)?;
-    push_unused_graphs(alloc, declarations, &mut lines)?;
-    push_unknowns(alloc, &words, keys, &mut lines)?;
-    Ok(lines)
+    push_keys(alloc, texts.as_slice(), keys, lines)?;
+    push_nothing(alloc, guard, lines)?;
+    push_unused_types(alloc, script, resolved, lines)?;
+    push_unused_graphs(alloc, declarations, lines)?;
+    push_unknowns(alloc, &words, keys, lines)
 }
 
 /// The texts of lines, in order.

@@ -2,3 +2,4 @@ pub mod Fronts
 pub mod Given
 pub mod Promised
 pub mod Telling
+pub mod Typed

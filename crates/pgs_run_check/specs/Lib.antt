@@ -1,3 +1,4 @@
+pub mod Examples
 pub mod Read
 pub mod Spec
 pub mod Told

@@ -1,5 +1,6 @@
--- The check as a command: the one word `schema`; other words are refused.
-use Rattle.std.specs.Prelude.{ℕ, Bool, true, false, List, [], ◌∷◌, codes, bytes_eq}
+-- The check as a command: the one word `schema`; other words are refused. Its answers to the types of the guard are free, as long as they
+-- are right.
+use Rattle.std.specs.Prelude.{◌≡◌, ℕ, Bool, true, false, List, [], ◌∷◌, Option, Some, codes, bytes_eq}
 use Rattle.pgs_answer.specs.Lines.{words_refused_line}
 use Rattle.pgs_run_lines.specs.AreasKept.{KeepsAreas}
 use Rattle.pgs_run_lines.specs.Machine.{Told}
@@ -10,7 +11,9 @@ use Rattle.pgs_command.specs.Kept.{without_areas}
 use Rattle.pgs_command.specs.Spec.{CommandSpec}
 use Rattle.pgs_command.specs.Words.{refused_words}
 use Rattle.pgs_run_input.specs.Text.{AnswersText}
-use Rattle.pgs_run_check.specs.Told.{told_schema, told_text}
+use Rattle.pgs_run_input.specs.Answers.{schema_answer}
+use Rattle.pgs_run_contain.specs.Answers.{Answer}
+use Rattle.pgs_run_check.specs.Told.{AreRightOf, told_schema, told_text}
 
 -- the statuses of a check
 abbrev pub IsOfCheck : Status → Type 0
@@ -19,8 +22,25 @@ IsOfCheck StoreRefused = ⊥
 IsOfCheck DiskFault = ⊥
 IsOfCheck status = Unit {0}
 
+-- where lines may have been put, each type of the guard that isn't abstract has a right answer
+abbrev pub AnswersRightly : List Answer → (left : Option (List ℕ)) → (budget : ℕ) → Status → Type 0
+AnswersRightly answers left budget status = (input : List ℕ) → left ≡ Some input → AreRightOf (schema_answer input) answers status
+
 abbrev pub schema_spec : CommandSpec
-schema_spec = without_areas true IsOfCheck told_schema
+schema_spec =
+    let kept = without_areas true IsOfCheck (told_schema []) in
+    record {
+      Choice = List Answer;
+      told = λ answers input areas bytes lost. told_schema answers input bytes;
+      IsRight = AnswersRightly;
+      reads_source = kept.reads_source;
+      uses_areas = kept.uses_areas;
+      AsksAreas = kept.AsksAreas;
+      MayEnd = kept.MayEnd;
+      ReadsInVain = kept.ReadsInVain;
+      Leaves = kept.Leaves;
+      Feeds = kept.Feeds;
+    }
 
 -- the one word that the program knows
 abbrev pub is_schema : List (List ℕ) → Bool
@@ -41,5 +61,8 @@ pub record Tells (told : Told Status) (old new : View) (status : Status) : Type 
   pub may_end : IsOfCheck status
   pub areas : KeepsAreas old new
 
-abbrev pub TellsText : List ℕ → View → View → Status → Type 0
-TellsText text = Tells (told_text text)
+-- so of a text, by right answers
+pub record TellsText (text : List ℕ) (old new : View) (status : Status) : Type 0 where
+  pub answers : List Answer
+  pub right : AreRightOf (schema_answer text) answers status
+  pub tells : Tells (told_text answers text) old new status

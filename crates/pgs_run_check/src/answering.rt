@@ -3,15 +3,15 @@
 ghost use Rattle.std.specs.Prelude.{◌≡◌, true};
 ghost use Rattle.pgs_command.specs.Calls.{fails_world};
 ghost use Rattle.pgs_resolve.specs.SchemaOf.{schema, schema_of};
-ghost use Rattle.pgs_run_check.specs.Read.{tokens_in, script_in};
 ghost use Rattle.pgs_run_check.specs.Spec.{Tells, TellsText};
-ghost use Rattle.pgs_advice_lines.specs.Telling.{lines_of};
+ghost use Rattle.pgs_run_check.specs.Examples.{HasLinesOf};
 ghost use Rattle.pgs_run_check.specs.Told.{told_lines};
 ghost use Rattle.pgs_schema.specs.Told.{IsRefused};
 ghost use Rattle.std.specs.Prelude.{IfOk};
 
 use crate::reading::{script_in, tokens_in};
-use pgs_advice_lines::{Line, lines_of, pieces_of, some_warns};
+use crate::types::push_types;
+use pgs_advice_lines::{Line, pieces_of, push_advice, push_guard, some_warns};
 use pgs_base::Memory;
 use pgs_command::Status;
 use pgs_conform::Compiled;
@@ -60,12 +60,17 @@ fn put_lines<W: World>(alloc: Global, lines: &[Line], world: &mut W) -> Status
 #[tactic(auto, using(crate::proofs::Given::is_read))]
 fn lines_in(alloc: Global, text: &[u8], compiled: &Compiled) -> Result<Vec<Line>, Memory>
     requires { schema_of text.now ≡ schema compiled.now }
-    ensures { IfOk result (λ lines. lines.items ≡ lines_of (tokens_in text.now) (script_in text.now) compiled.now) }
+    ensures { IfOk result (λ lines. HasLinesOf text.now compiled.now lines.items) }
 {
+    let resolved = compiled.resolved();
     let tokens = tokens_in(alloc, text)?;
     let script = script_in(alloc, text, &tokens)?;
     let declarations = Declarations::new(alloc, &script)?;
-    lines_of(alloc, &tokens, &declarations, compiled.resolved())
+    let mut lines = Vec::new(alloc);
+    push_guard(alloc, &declarations, &resolved.guard, &mut lines)?;
+    push_types(alloc, compiled, resolved.guard.types.as_slice(), &mut lines)?;
+    push_advice(alloc, &tokens, &script, &declarations, resolved, &mut lines)?;
+    Ok(lines)
 }
 
 /// Checks a text: puts the lines of its schema, or the line of its refusal, and gives the status.

@@ -62,8 +62,9 @@ fn edge_txn(
     })
 }
 
-// The transaction that adds what is outside.
-fn txn_of(alloc: Global, outside: Outside) -> Result<Txn, Memory>
+/// The transaction that adds a pair as node 1, or a triple of pairs as nodes 1 and 2 and an edge from the first to the second. `Memory`
+/// where there was none left.
+pub fn txn_of(alloc: Global, outside: Outside) -> Result<Txn, Memory>
     ensures { IfOk result (λ txn. txn ≡ txn_of outside) }
 {
     match outside {

@@ -15,5 +15,7 @@ mod reading;
 mod run;
 mod types;
 
+pub use answer::txn_of;
 pub use ending::Ending;
 pub use run::run_contain;
+pub use types::listed_name;

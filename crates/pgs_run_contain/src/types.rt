@@ -22,8 +22,8 @@ fn shown_name(hidden: bool, name: &Name) -> Option<&Name>
     if hidden { None } else { Some(name) }
 }
 
-// The name of a type that is there and isn't abstract.
-fn listed_name(resolved: &Resolved, number: TypeNo) -> Option<&Name>
+/// The name of a type that is there and isn't abstract.
+pub fn listed_name(resolved: &Resolved, number: TypeNo) -> Option<&Name>
     ensures name { option_map (λ name. name.now) result ≡ listed_name resolved.now number }
     ensures there { IsSome result → has_type resolved.now number ≡ true }
 {

@@ -3,12 +3,22 @@ use Rattle.pgs_run_lines.specs.Machine.{Told}
 use Rattle.pgs_command.specs.declared.status.Status.{Status}
 use Rattle.pgs_run_input.proofs.Answering.{answer_ok}
 use Rattle.pgs_run_check.specs.Spec.{Tells}
-use Rattle.pgs_run_check.specs.Told.{told_by, told_lines}
+use Rattle.pgs_run_check.specs.Told.{AreRightOf, told_by, told_lines}
+use Rattle.pgs_run_check.proofs.Telling.{text_none}
 use Rattle.pgs_run_check.proofs.answering.check_text.Goals as goal
 
 pub returns-in-Ok-lines_in-clause-answer : goal.returns-in-Ok-lines_in-clause-answer
 returns-in-Ok-lines_in-clause-answer g c =
     let text = c.args.text.now in
+    let has = c.in-Ok-lines_in.ensures in
     let is = answer_ok text c.in-Ok.compiled c.in-Ok.ensures.schema in
-    subst (λ (told : Told Status). Tells told (g.W.World.view c.args.world.now) (g.W.World.view c.put_lines.new.world) c.put_lines.result)
-    (ap told_lines (c.deref.ensures.value ∙ c.in-Ok-lines_in.ensures) ∙ sym (ap (told_by text) is)) c.put_lines.ensures.answer
+    record {
+      answers = has.answers;
+      right = subst (λ answer. AreRightOf answer has.answers c.put_lines.result) (sym is) (λ lines. has.right);
+      tells =
+          subst (λ (told : Told Status). Tells told (g.W.World.view c.args.world.now) (g.W.World.view c.put_lines.new.world) c.put_lines.result)
+          (ap told_lines (c.deref.ensures.value ∙ has.is) ∙ sym (ap (told_by text has.answers) is)) c.put_lines.ensures.answer;
+    }
+
+pub returns-in-Err-lines_in-clause-answer : goal.returns-in-Err-lines_in-clause-answer
+returns-in-Err-lines_in-clause-answer g c = text_none c.args.text.now (g.W.World.view c.args.world.now) (g.met.W.World.timed c.args.world.now)

@@ -1,11 +1,11 @@
-use Rattle.std.proofs.Common.{subst, ap, ◌∙◌}
+use Rattle.std.proofs.Common.{[], subst, sym, ap, ◌∙◌}
 use Rattle.pgs_answer.specs.Lines.{schema_refused_line}
 use Rattle.pgs_resolve.specs.SchemaOf.{schema_of}
 use Rattle.pgs_command.specs.declared.status.Status.TheVariants.{SchemaRefused}
 use Rattle.pgs_run_input.proofs.Answering.{answer_is}
 use Rattle.pgs_run_input.proofs.OneLine.{PutsLine, line_of_reply}
-use Rattle.pgs_run_check.specs.Told.{told_by, told_text}
-use Rattle.pgs_run_check.proofs.Telling.{tells_line, tells_none}
+use Rattle.pgs_run_check.specs.Told.{AreRightOf, told_by, told_text}
+use Rattle.pgs_run_check.proofs.Telling.{tells_line, text_none}
 use Rattle.pgs_run_check.proofs.answering.refuse.Goals as goal
 
 pub returns-in-Ok-clause-answer : goal.returns-in-Ok-clause-answer
@@ -14,9 +14,15 @@ returns-in-Ok-clause-answer g c =
     let old = g.W.World.view c.args.world.now in
     let new = g.W.World.view c.put_reply.new.world in
     let refused = c.in-Ok.ensures (schema_of text) c.requires in
+    let is = answer_is text ∙ refused.refused in
     let put = line_of_reply c.in-Ok.line SchemaRefused old c.put_reply.result new (record { ends = c.put_reply.ensures.ends; stops = c.put_reply.ensures.stops; areas = c.put_reply.ensures.areas }) in
-    tells_line (told_text text) (schema_refused_line refused.text) c.put_reply.result old new (ap (told_by text) (answer_is text ∙ refused.refused))
-    (subst (λ line. PutsLine line SchemaRefused old c.put_reply.result new) refused.is put)
+    record {
+      answers = [];
+      right = subst (λ answer. AreRightOf answer [] c.put_reply.result) (sym is) tt;
+      tells =
+          tells_line (told_text [] text) (schema_refused_line refused.text) c.put_reply.result old new (ap (told_by text []) is)
+          (subst (λ line. PutsLine line SchemaRefused old c.put_reply.result new) refused.is put);
+    }
 
 pub returns-in-Err-clause-answer : goal.returns-in-Err-clause-answer
-returns-in-Err-clause-answer g c = tells_none (told_text c.args.text.now) (g.W.World.view c.args.world.now) (g.met.W.World.timed c.args.world.now)
+returns-in-Err-clause-answer g c = text_none c.args.text.now (g.W.World.view c.args.world.now) (g.met.W.World.timed c.args.world.now)
