@@ -31,3 +31,6 @@ pub mod BranchCosts
 pub mod BranchSteps
 pub mod Asking
 pub mod Acyclic
+pub mod OnWay
+pub mod WayValues
+pub mod WaySteps

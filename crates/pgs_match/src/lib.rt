@@ -33,6 +33,7 @@ mod searching;
 mod step;
 mod trees;
 mod tuples;
+mod ways;
 
 pub use bindings::{Bindings, Bound, MOST_VARIABLES};
 use branch::Branch;
