@@ -1,7 +1,7 @@
 -- Searches along the steps on the way to some variables of a tree: of what hangs off the way it is asked alone whether it can be given.
-use Rattle.std.specs.Prelude.{ℕ, Bool, ◌||◌, ◌==◌, cond, List, [], ◌∷◌, Option, Some, None, option_and_then}
+use Rattle.std.specs.Prelude.{ℕ, ◌+◌, Bool, ◌||◌, ◌==◌, cond, List, [], ◌∷◌, length, Option, Some, None, option_and_then}
 use Rattle.std.specs.Option.{option_map_or}
-use Rattle.std.specs.List.{list_any, flat_map}
+use Rattle.std.specs.List.{list_any, flat_map, sum_by}
 use Rattle.std.specs.BTreeSet.{insert_key}
 use Rattle.pgs_base.specs.declared.part.Part.{Part}
 use Rattle.pgs_base.specs.Graph.{Graph}
@@ -13,7 +13,7 @@ use Rattle.pgs_match.specs.declared.step.Step.{Step}
 use Rattle.pgs_match.specs.declared.step.Step.TheVariants.{Along, End}
 use Rattle.pgs_match.specs.declared.bindings.Bound.{Bound}
 use Rattle.pgs_match.specs.Bounds.{bound_at, with_bound, end_at}
-use Rattle.pgs_match.specs.Branches.{goes_from, can_be_given}
+use Rattle.pgs_match.specs.Branches.{goes_from, degree_at, can_be_given, walked, asked_most}
 use Rattle.pgs_match.specs.Plans.{bound_by}
 use Rattle.pgs_match.specs.Search.{edges_along, tuple_at}
 use Rattle.pgs_match.specs.Tests.{admitted_node, admitted_edge}
@@ -45,6 +45,28 @@ module _ (resolved : Resolved) (g : Graph) (atoms : List Atom) (off : List Step)
   routes (End edge node source ∷ ways) bindings =
       option_map_or (λ bound. routes ways (with_bound bindings node bound))
       (whole node (option_and_then (admitted_node resolved g atoms node) (end_at source (bound_at bindings edge)))) []
+
+  -- how many look-ups it takes at most to come to all of them, where each takes so many more
+  abbrev pub way_most : ℕ → List Step → List (Option Bound) → ℕ
+  way_most last [] bindings = last
+  way_most last (Along edge node forward ∷ ways) bindings =
+      length (edges_along g forward (bound_at bindings node)) + 1
+      + sum_by (λ id. 3 + option_map_or (λ bound. asked_most resolved g atoms off edge bound + way_most last ways (with_bound bindings edge bound))
+      (admitted_edge resolved g atoms edge id) 0) (edges_along g forward (bound_at bindings node))
+  way_most last (End edge node source ∷ ways) bindings =
+      1 + option_map_or (λ bound. asked_most resolved g atoms off node bound + way_most last ways (with_bound bindings node bound))
+      (option_and_then (admitted_node resolved g atoms node) (end_at source (bound_at bindings edge))) 0
+
+  -- the degrees plus 2 of all that the routes go on from, each counted once a route, with those of all that walks off the way come to
+  abbrev pub routed : List Step → List (Option Bound) → ℕ
+  routed [] bindings = 1
+  routed (Along edge node forward ∷ ways) bindings =
+      length (edges_along g forward (bound_at bindings node)) + 2
+      + sum_by (λ id. option_map_or (λ bound. walked resolved g atoms off edge bound + routed ways (with_bound bindings edge bound))
+      (admitted_edge resolved g atoms edge id) 0) (edges_along g forward (bound_at bindings node))
+  routed (End edge node source ∷ ways) bindings =
+      2 + option_map_or (λ bound. walked resolved g atoms off node bound + routed ways (with_bound bindings node bound))
+      (option_and_then (admitted_node resolved g atoms node) (end_at source (bound_at bindings edge))) 0
 
 -- tuples with the one that expressions give under bindings, where they give one
 abbrev pub with_tuple : Graph → List Expr → List (List Part) → List (Option Bound) → List (List Part)

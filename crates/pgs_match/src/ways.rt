@@ -1,12 +1,13 @@
 //! The tuples that expressions give under the routes to the variables that they take. Of what hangs off the way it is asked alone whether
 //! it can be given.
 
-ghost use Rattle.std.specs.Prelude.{◌≡◌, ◌+◌, ◌≤◌, true, OnOk, Some, fold};
+ghost use Rattle.std.specs.Prelude.{◌≡◌, ◌+◌, ◌≤◌, true, [], length, OnOk, Some, fold};
 ghost use Rattle.std.specs.Option.{option_map_or};
-ghost use Rattle.std.specs.List.{list_all, flat_map};
+ghost use Rattle.std.specs.List.{list_all, flat_map, sum_by};
 ghost use Rattle.pgs_syntax.specs.Valid.{names_types};
 ghost use Rattle.pgs_match.specs.Bounds.{with_bound};
-ghost use Rattle.pgs_match.specs.Routes.{whole, routes, with_tuple};
+ghost use Rattle.pgs_match.specs.Branches.{asked_most};
+ghost use Rattle.pgs_match.specs.Routes.{whole, routes, with_tuple, way_most};
 ghost use Rattle.pgs_match.specs.Search.{edges_along};
 ghost use Rattle.pgs_match.specs.Tests.{admitted_edge};
 
@@ -47,6 +48,8 @@ impl<'a, G: GraphRead> Way<'a, G> {
             (routes self.now.gathering.search.compiled.now (G.meaning self.now.gathering.search.graph.now) self.now.gathering.search.atoms.now
             self.now.off.now ways.now bindings.now)) }
         ensures no_step_back { steps.old ≤ steps.new }
+        ensures cost { steps.new ≤ steps.old + way_most self.now.gathering.search.compiled.now (G.meaning self.now.gathering.search.graph.now)
+            self.now.gathering.search.atoms.now self.now.off.now (length self.now.gathering.exprs.now) ways.now bindings.now }
     {
         match first(ways, bindings) {
             None => self.gather_one(bindings, tuples, steps),
@@ -75,6 +78,7 @@ impl<'a, G: GraphRead> Way<'a, G> {
     ) -> Result<(), Memory>
         ensures ok { OnOk result (tuples.new ≡ with_tuple (G.meaning self.now.gathering.search.graph.now) self.now.gathering.exprs.now tuples.old bindings.now) }
         ensures no_step_back { steps.old ≤ steps.new }
+        ensures cost { steps.new ≤ steps.old + length self.now.gathering.exprs.now }
     {
         let gathering = &self.gathering;
         match gathering.search.tuple(gathering.alloc, gathering.exprs, bindings, steps)? {
@@ -104,6 +108,14 @@ impl<'a, G: GraphRead> Way<'a, G> {
             (admitted_edge self.now.gathering.search.compiled.now (G.meaning self.now.gathering.search.graph.now) self.now.gathering.search.atoms.now branch.now.var id)) [])
             (edges_along (G.meaning self.now.gathering.search.graph.now) forward (Some (Bound.Node from))))) }
         ensures no_step_back { steps.old ≤ steps.new }
+        ensures cost { steps.new ≤ steps.old
+            + (length (edges_along (G.meaning self.now.gathering.search.graph.now) forward (Some (Bound.Node from))) + 1
+            + sum_by (λ id. 3 + option_map_or
+            (λ bound. asked_most self.now.gathering.search.compiled.now (G.meaning self.now.gathering.search.graph.now) self.now.gathering.search.atoms.now
+            self.now.off.now branch.now.var bound + way_most self.now.gathering.search.compiled.now (G.meaning self.now.gathering.search.graph.now)
+            self.now.gathering.search.atoms.now self.now.off.now (length self.now.gathering.exprs.now) branch.now.plan.now (with_bound branch.now.bindings.now branch.now.var bound))
+            (admitted_edge self.now.gathering.search.compiled.now (G.meaning self.now.gathering.search.graph.now) self.now.gathering.search.atoms.now branch.now.var id) 0)
+            (edges_along (G.meaning self.now.gathering.search.graph.now) forward (Some (Bound.Node from)))) }
     {
         for nth in 0..self.gathering.search.graph.count() as usize {
             match edge_along(self.gathering.search.graph, from, forward, nth, steps) {
@@ -132,6 +144,11 @@ impl<'a, G: GraphRead> Way<'a, G> {
             self.now.gathering.search.atoms.now self.now.off.now branch.now.plan.now (with_bound branch.now.bindings.now branch.now.var bound))
             (whole self.now.gathering.search.compiled.now (G.meaning self.now.gathering.search.graph.now) self.now.gathering.search.atoms.now self.now.off.now branch.now.var admitted) [])) }
         ensures no_step_back { steps.old ≤ steps.new }
+        ensures cost { steps.new ≤ steps.old + option_map_or
+            (λ bound. asked_most self.now.gathering.search.compiled.now (G.meaning self.now.gathering.search.graph.now) self.now.gathering.search.atoms.now
+            self.now.off.now branch.now.var bound + way_most self.now.gathering.search.compiled.now (G.meaning self.now.gathering.search.graph.now)
+            self.now.gathering.search.atoms.now self.now.off.now (length self.now.gathering.exprs.now) branch.now.plan.now (with_bound branch.now.bindings.now branch.now.var bound))
+            admitted 0 }
     {
         match admitted {
             Some(bound) => {

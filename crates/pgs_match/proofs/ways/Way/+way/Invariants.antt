@@ -1,7 +1,8 @@
 use Rattle.std.proofs.Common.{◌≡◌, ◌*◌, ◌+◌, ◌≤◌, fold, length, take, Some}
+use Rattle.std.specs.List.{sum_by}
 use Rattle.pgs_match.specs.declared.bindings.Bound.TheVariants as bounds
 use Rattle.pgs_match.specs.Search.{edges_along}
-use Rattle.pgs_match.proofs.WaySteps.{tuples_with}
+use Rattle.pgs_match.proofs.WaySteps.{tuples_with, way_with}
 use Rattle.pgs_match.proofs.ways.Way.+way.Given as goal
 
 abbrev pub decreases-gather : goal.decreases-gather
@@ -22,4 +23,5 @@ invariant-gather_along-loop-nth g l =
       so_far : l.tuples ≡ fold (tuples_with search.compiled.now graph search.atoms.now l.self.off.now l.branch.plan.now l.branch.bindings.now l.branch.var l.self.gathering.exprs.now) l.fn.tuples (take l.nth ids);
       reached : l.nth ≤ length ids;
       no_step_back : l.fn.steps ≤ l.steps;
+      cost : l.steps ≤ l.fn.steps + (l.nth + sum_by (way_with search.compiled.now graph search.atoms.now l.self.off.now l.branch.plan.now l.branch.bindings.now l.branch.var (length l.self.gathering.exprs.now)) (take l.nth ids));
     }
