@@ -34,3 +34,6 @@ pub mod Acyclic
 pub mod OnWay
 pub mod WayValues
 pub mod WaySteps
+pub mod WayCosts
+pub mod WayWalks
+pub mod WayEnds

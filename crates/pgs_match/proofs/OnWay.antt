@@ -48,13 +48,13 @@ is_wanted wanted var = list_any (λ v. v == var) wanted
 -- ---- the steps on the way
 
 -- the variable that a step goes from is known, and what it binds isn't
-step_from : (atoms : List Atom) (known : List Bool) (step : Step) (var : ℕ) → is_step atoms known step ≡ true → goes_from var step ≡ true → is_known known var ≡ true
+pub step_from : (atoms : List Atom) (known : List Bool) (step : Step) (var : ℕ) → is_step atoms known step ≡ true → goes_from var step ≡ true → is_known known var ≡ true
 step_from atoms known (Along edge node forward) var is from =
     subst (λ v. is_known known v ≡ true) (eqb-true node var from) (and_parts (is_known known node) _ (and_parts (is_known known node && not (is_known known edge)) _ is).0).0
 step_from atoms known (End edge node source) var is from =
     subst (λ v. is_known known v ≡ true) (eqb-true edge var from) (and_parts (is_known known edge) _ (and_parts (is_known known edge && not (is_known known node)) _ is).0).0
 
-step_new : (atoms : List Atom) (known : List Bool) (step : Step) → is_step atoms known step ≡ true → is_known known (bound_by step) ≡ false
+pub step_new : (atoms : List Atom) (known : List Bool) (step : Step) → is_step atoms known step ≡ true → is_known known (bound_by step) ≡ false
 step_new atoms known (Along edge node forward) is = not-true _ (and_parts (is_known known node) _ (and_parts (is_known known node && not (is_known known edge)) _ is).0).1
 step_new atoms known (End edge node source) is = not-true _ (and_parts (is_known known edge) _ (and_parts (is_known known edge && not (is_known known node)) _ is).0).1
 

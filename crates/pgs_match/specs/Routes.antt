@@ -3,20 +3,22 @@ use Rattle.std.specs.Prelude.{ℕ, ◌+◌, Bool, ◌||◌, ◌==◌, cond, List
 use Rattle.std.specs.Option.{option_map_or}
 use Rattle.std.specs.List.{list_any, flat_map, sum_by}
 use Rattle.std.specs.BTreeSet.{insert_key}
+use Rattle.pgs_base.specs.declared.element.Elem.{Elem}
 use Rattle.pgs_base.specs.declared.part.Part.{Part}
 use Rattle.pgs_base.specs.Graph.{Graph}
 use Rattle.pgs_base.specs.Order.{tuple_cmp}
 use Rattle.pgs_syntax.specs.declared.pattern.Atom.{Atom}
 use Rattle.pgs_syntax.specs.declared.pattern.Expr.{Expr}
+use Rattle.pgs_syntax.specs.declared.pattern.Pattern.{Pattern}
 use Rattle.pgs_syntax.specs.declared.resolved.Resolved.{Resolved}
 use Rattle.pgs_match.specs.declared.step.Step.{Step}
 use Rattle.pgs_match.specs.declared.step.Step.TheVariants.{Along, End}
 use Rattle.pgs_match.specs.declared.bindings.Bound.{Bound}
-use Rattle.pgs_match.specs.Bounds.{bound_at, with_bound, end_at}
-use Rattle.pgs_match.specs.Branches.{goes_from, degree_at, can_be_given, walked, asked_most}
+use Rattle.pgs_match.specs.Bounds.{bound_at, with_bound, nothing_bound, end_at}
+use Rattle.pgs_match.specs.Branches.{goes_from, can_be_given, walked, asked_most}
 use Rattle.pgs_match.specs.Plans.{bound_by}
 use Rattle.pgs_match.specs.Search.{edges_along, tuple_at}
-use Rattle.pgs_match.specs.Tests.{admitted_node, admitted_edge}
+use Rattle.pgs_match.specs.Tests.{admitted_node, admitted_edge, admitted}
 
 -- whether a step is on the way to wanted variables: it binds one, or a step on the way goes on from what it binds
 abbrev pub is_on_way : List ℕ → List Step → Step → Bool
@@ -67,6 +69,13 @@ module _ (resolved : Resolved) (g : Graph) (atoms : List Atom) (off : List Step)
   routed (End edge node source ∷ ways) bindings =
       2 + option_map_or (λ bound. walked resolved g atoms off node bound + routed ways (with_bound bindings node bound))
       (option_and_then (admitted_node resolved g atoms node) (end_at source (bound_at bindings edge))) 0
+
+-- the same sums from an element at a variable, where the routes go to wanted ones; 1 where the element isn't admitted there
+abbrev pub routed_from : Resolved → Graph → Pattern → List ℕ → List Step → ℕ → Elem → ℕ
+routed_from resolved g pattern wanted plan var elem =
+    option_map_or (λ bound. walked resolved g pattern.atoms (off_way wanted plan) var bound
+    + routed resolved g pattern.atoms (off_way wanted plan) (on_way wanted plan) (with_bound nothing_bound var bound))
+    (admitted resolved g pattern var elem) 1
 
 -- tuples with the one that expressions give under bindings, where they give one
 abbrev pub with_tuple : Graph → List Expr → List (List Part) → List (Option Bound) → List (List Part)
