@@ -37,3 +37,5 @@ pub mod WaySteps
 pub mod WayCosts
 pub mod WayWalks
 pub mod WayEnds
+pub mod Splitting
+pub mod WayFound

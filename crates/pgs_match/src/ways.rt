@@ -131,7 +131,7 @@ impl<'a, G: GraphRead> Way<'a, G> {
 
     // Adds them with the variable bound to what was admitted, where something was on which all can be given that hangs off the way.
     #[cycle(way)]
-    fn gather_with<L: Ledger>(
+    pub(crate) fn gather_with<L: Ledger>(
         &self,
         admitted: Option<Bound>,
         branch: &Branch<'_>,
