@@ -1,12 +1,11 @@
 -- Where the variables of a pattern hang on one another as a tree, the routes to some of them come to what the completions of all give
 -- these.
-use Rattle.std.proofs.Common.{◌≡◌, ◌≢◌, ◌⊎◌, inl, inr, ℕ, zero, suc, ◌<◌, Bool, true, false, ◌&&◌, ◌||◌, ◌==◌, cond, not, ⊎_elim, List, [], ◌∷◌, length, slice_get, replicate, Option, Some, None, refl, sym, ◌∙◌, ap, subst, true≢false, arith}
+use Rattle.std.proofs.Common.{◌≡◌, ◌⊎◌, inl, inr, ℕ, ◌<◌, Bool, true, false, ◌&&◌, ◌||◌, ◌==◌, cond, not, ⊎_elim, List, [], ◌∷◌, length, slice_get, replicate, Option, Some, None, refl, sym, ◌∙◌, ap, subst, true≢false, arith}
 use Rattle.std.specs.Prelude.{option_and_then}
 use Rattle.std.specs.Option.{option_map_or}
-use Rattle.std.specs.List.{list_any, list_all, flat_map}
-use Rattle.std.proofs.lemmas.Bool.{and_parts, and_from, or_cases, or_left, or_right, eqb-true, eq-eqb, not-true}
+use Rattle.std.specs.List.{list_any, list_all}
+use Rattle.std.proofs.lemmas.Bool.{and_parts, and_from, or_left, eqb-true, eq-eqb, not-true}
 use Rattle.std.proofs.lemmas.List.{length-set}
-use Rattle.pgs_base.specs.declared.element.NodeId.{NodeId}
 use Rattle.pgs_base.specs.declared.element.EdgeId.{EdgeId}
 use Rattle.pgs_base.specs.declared.element.Elem.{Elem}
 use Rattle.pgs_base.specs.declared.element.Elem.TheVariants.{Node, Edge}
@@ -16,7 +15,7 @@ use Rattle.pgs_syntax.specs.declared.pattern.Atom.{Atom}
 use Rattle.pgs_syntax.specs.declared.pattern.Pattern.{Pattern}
 use Rattle.pgs_syntax.specs.declared.resolved.Resolved.{Resolved}
 use Rattle.pgs_syntax.specs.Matches.{holds, is_match, matches}
-use Rattle.pgs_syntax.specs.Valid.{is_edge_var, is_node_var, is_valid_pattern}
+use Rattle.pgs_syntax.specs.Valid.{is_valid_pattern}
 use Rattle.pgs_syntax.proofs.Assigned.{match_found}
 use Rattle.pgs_syntax.proofs.Halves.{any_flat_map}
 use Rattle.pgs_match.specs.declared.step.Step.{Step}
@@ -24,15 +23,15 @@ use Rattle.pgs_match.specs.declared.step.Step.TheVariants.{Along, End}
 use Rattle.pgs_match.specs.declared.bindings.Bound.{Bound}
 use Rattle.pgs_match.specs.declared.bindings.Bound.TheVariants as bounds
 use Rattle.pgs_match.specs.Bounds.{elem_of, bound_at, with_bound, nothing_bound, end_at, stands_at}
-use Rattle.pgs_match.specs.Branches.{goes_from, is_between, is_tree, can_be_given, next_bounds}
+use Rattle.pgs_match.specs.Branches.{goes_from, is_between, is_tree, can_be_given}
 use Rattle.pgs_match.specs.Plans.{bound_by, is_known, and_known, known_alone, known_after, has_end, is_step, are_steps, covers, completes, is_plan}
 use Rattle.pgs_match.specs.Routes.{is_on_way, on_way, off_way, whole, routes}
 use Rattle.pgs_match.specs.Search.{edges_along, completions}
-use Rattle.pgs_match.specs.Tests.{admitted_node, admitted_edge, admitted, agrees}
+use Rattle.pgs_match.specs.Tests.{admitted_node, admitted_edge, admitted}
 use Rattle.pgs_match.proofs.Agreeing.{Agrees, IsFull, edge_form, node_form}
 use Rattle.pgs_match.proofs.Along.{one_found}
 use Rattle.pgs_match.proofs.Branching.{any_filter_map, any_of_one, has_place, steps_placed, given_by_match}
-use Rattle.pgs_match.proofs.Completed.{any_option, completes_more, along_facts, end_facts, step_facts, then_gives, agrees_more, placed, edge_of_match, node_of_match}
+use Rattle.pgs_match.proofs.Completed.{any_option, completes_more, along_facts, end_facts, step_facts, agrees_more, placed, edge_of_match, node_of_match}
 use Rattle.pgs_match.proofs.Hanging.{any_at, passed_some, second_of, between_cases, admitted_row, admitted_is_node, IsMet, all_met, tree_has}
 use Rattle.pgs_match.proofs.Known.{covers_at, known_now, known_still, step_bounds, valid_most}
 use Rattle.pgs_match.proofs.Listed.{any_along}

@@ -1,5 +1,5 @@
 -- Plans of a pattern: of one variable more, and that of a variable.
-use Rattle.std.proofs.Common.{◌≡◌, ℕ, zero, suc, ◌+◌, List, [], ◌∷◌, ◌++◌, length, slice_get, Some, refl, sym, subst, add-zero, arith}
+use Rattle.std.proofs.Common.{◌≡◌, ℕ, zero, suc, ◌+◌, List, [], ◌∷◌, ◌++◌, length, slice_get, Some, sym, subst, add-zero, arith}
 use Rattle.pgs_syntax.specs.declared.pattern.Pattern.{Pattern}
 use Rattle.pgs_match.specs.declared.plan.Plan.{Plan}
 use Rattle.pgs_match.specs.Planned.{IsSplit, ArePlansFrom, ArePlans}

@@ -1,5 +1,5 @@
 -- The steps on the way to what expressions take.
-use Rattle.std.proofs.Common.{◌≡◌, ℕ, ◌||◌, ◌==◌, List, map, ap}
+use Rattle.std.proofs.Common.{◌≡◌, ◌||◌, ◌==◌, List, map, ap}
 use Rattle.std.specs.List.{list_any}
 use Rattle.pgs_syntax.specs.declared.pattern.Expr.{Expr}
 use Rattle.pgs_syntax.specs.Valid.{read_var}

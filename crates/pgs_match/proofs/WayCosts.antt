@@ -1,13 +1,10 @@
 -- How many look-ups a search along the way to some variables takes at most.
-use Rattle.std.proofs.Common.{◌≡◌, ◌≢◌, ◌⊎◌, inl, inr, ℕ, suc, ◌+◌, zero-add, ◌*◌, ◌^◌, ◌<◌, ◌≤◌, Bool, true, false, ◌==◌, cond, List, [], ◌∷◌, length, slice_get, replicate, Option, Some, None, refl, sym, ◌∙◌, ap, subst, true≢false, arith}
+use Rattle.std.proofs.Common.{◌≡◌, ◌≢◌, ◌⊎◌, inl, inr, ℕ, suc, ◌+◌, zero-add, ◌*◌, ◌^◌, ◌<◌, ◌≤◌, Bool, true, false, cond, List, [], ◌∷◌, length, slice_get, replicate, Option, Some, None, refl, sym, ◌∙◌, ap, subst, true≢false, arith}
 use Rattle.std.specs.Prelude.{option_and_then}
 use Rattle.std.specs.Option.{option_map_or}
-use Rattle.std.specs.List.{sum_by}
 use Rattle.std.proofs.Math.Nat.{pow-zero, pow-succ', mul-le-mul_left, mul-le-mul_right}
-use Rattle.std.proofs.lemmas.Bool.{and_parts, eqb-true}
+use Rattle.std.proofs.lemmas.Bool.{and_parts}
 use Rattle.std.proofs.lemmas.List.{length-set}
-use Rattle.std.proofs.lemmas.List.Sums.{sum_by-cons}
-use Rattle.pgs_base.specs.declared.element.EdgeId.{EdgeId}
 use Rattle.pgs_base.specs.declared.element.Elem.{Elem}
 use Rattle.pgs_base.specs.Graph.{Graph, is_graph}
 use Rattle.pgs_syntax.specs.declared.pattern.Atom.{Atom}
@@ -33,7 +30,7 @@ use Rattle.pgs_match.proofs.Nearby.{IsNear, AreNear, further, near_more, near_al
 use Rattle.pgs_match.proofs.OnWay.{step_from}
 use Rattle.pgs_match.proofs.Standing.{IsGood, known_other, one_or_other}
 use Rattle.pgs_match.proofs.Started.{none_known}
-use Rattle.pgs_match.proofs.There.{edge_kind, node_kind}
+use Rattle.pgs_match.proofs.There.{edge_kind}
 
 -- ---- by degrees
 

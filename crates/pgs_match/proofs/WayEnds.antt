@@ -20,7 +20,6 @@ use Rattle.pgs_match.specs.Tests.{admitted}
 use Rattle.pgs_match.proofs.Counts.{some_at}
 use Rattle.pgs_match.proofs.Bounded.{plan_size}
 use Rattle.pgs_match.proofs.Completed.{step_facts}
-use Rattle.pgs_match.proofs.Costs.{alongs, ends}
 use Rattle.pgs_match.proofs.Known.{known_now, valid_most}
 use Rattle.pgs_match.proofs.OnWay.{is_wanted}
 use Rattle.pgs_match.proofs.Standing.{bound_now, known_other, one_or_other}

@@ -1,7 +1,7 @@
 -- What a search along the way to some variables gives and costs, over what its parts say.
-use Rattle.std.proofs.Common.{◌≡◌, ◌⊎◌, ℕ, ◌+◌, ◌*◌, ◌^◌, ◌<◌, ◌≤◌, Bool, true, ◌||◌, ◌==◌, List, [], ◌∷◌, length, map, fold, nat_lt, Option, Some, None, OnSome, refl, sym, ◌∙◌, ap, subst, arith}
+use Rattle.std.proofs.Common.{◌≡◌, ℕ, ◌+◌, ◌*◌, ◌^◌, ◌<◌, ◌≤◌, true, ◌||◌, ◌==◌, List, [], ◌∷◌, length, map, fold, nat_lt, Option, Some, None, OnSome, refl, sym, ◌∙◌, ap, subst, arith}
 use Rattle.std.specs.Option.{option_map_or}
-use Rattle.std.specs.List.{list_all, list_any}
+use Rattle.std.specs.List.{list_all}
 use Rattle.std.proofs.lemmas.Bool.{and_from, or_left, or_right, eq-eqb}
 use Rattle.pgs_base.specs.declared.element.Elem.{Elem}
 use Rattle.pgs_base.specs.declared.part.Part.{Part}
@@ -74,7 +74,7 @@ module _ (resolved : Resolved) (g : Graph) (pattern : Pattern) (valid : is_valid
           let none : length tuples ≡ 0 = ap length (is ∙ ap (λ o. option_map_or (λ x. gathered resolved g pattern.atoms exprs plan (with_bound nothing_bound var x) []) o []) at) in
           omega (arith, none)
       by (Some x) at =
-          few_with resolved g pattern valid var below plan plans elem x (sym at) resolved g pattern.atoms (record { schemas = refl; graphs = refl; lists = refl; }) (graph_at x at) exprs tuples
+          few_with resolved g pattern valid var below plan plans elem x (sym at) resolved g pattern.atoms (record { schemas = refl; graphs = refl; lists = refl }) (graph_at x at) exprs tuples
           (is ∙ ap (λ o. option_map_or (λ y. gathered resolved g pattern.atoms exprs plan (with_bound nothing_bound var y) []) o []) at) w most few sparse
 
   -- ---- what it costs

@@ -1,5 +1,5 @@
 -- The tuples under the routes to the variables that expressions take are those under all completions.
-use Rattle.std.proofs.Common.{◌≡◌, ℕ, ◌<◌, Bool, true, false, ◌&&◌, ◌||◌, List, [], ◌∷◌, length, fold, nat_lt, Option, Some, None, refl, sym, ◌∙◌, ap, true≢false}
+use Rattle.std.proofs.Common.{◌≡◌, ℕ, ◌<◌, Bool, true, false, ◌||◌, List, [], ◌∷◌, length, fold, nat_lt, Option, Some, None, refl, sym, ◌∙◌, ap}
 use Rattle.std.specs.Prelude.{option_and_then, option_map}
 use Rattle.std.specs.Option.{option_map_or}
 use Rattle.std.specs.List.{list_any, list_all}
@@ -37,7 +37,7 @@ use Rattle.pgs_match.specs.Search.{part_at, tuple_at, gathered}
 use Rattle.pgs_match.specs.Tests.{admitted}
 use Rattle.pgs_match.proofs.Agreeing.{Agrees}
 use Rattle.pgs_match.proofs.Gathered.{gives}
-use Rattle.pgs_match.proofs.OnWay.{is_wanted, IsWithin, IsAllWanted, routes_are_matches}
+use Rattle.pgs_match.proofs.OnWay.{is_wanted, routes_are_matches}
 use Rattle.pgs_match.proofs.Values.{from_ascends, has_from}
 
 -- ---- tuples of a list of bindings

@@ -1,5 +1,5 @@
 -- How many look-ups a search along the way to some variables takes at most, by what the routes and the walks come to.
-use Rattle.std.proofs.Common.{◌≡◌, ◌≢◌, ◌⊎◌, inl, inr, ℕ, suc, ◌+◌, zero-add, ◌*◌, ◌<◌, ◌≤◌, Bool, true, false, ◌&&◌, ◌||◌, ◌==◌, cond, ⊎_elim, List, [], ◌∷◌, length, replicate, Option, Some, None, refl, sym, ◌∙◌, ap, subst, true≢false, arith}
+use Rattle.std.proofs.Common.{◌≡◌, ◌≢◌, ◌⊎◌, inl, inr, ℕ, suc, ◌+◌, zero-add, ◌*◌, ◌<◌, ◌≤◌, Bool, true, false, ◌&&◌, ◌||◌, cond, ⊎_elim, List, [], ◌∷◌, length, Option, Some, None, refl, sym, ◌∙◌, ap, subst, true≢false, arith}
 use Rattle.std.specs.Prelude.{filter_map, option_and_then}
 use Rattle.std.specs.Option.{option_map_or}
 use Rattle.std.specs.List.{list_any, sum_by}
@@ -7,28 +7,22 @@ use Rattle.std.proofs.Math.Nat.{mul-le-mul_right}
 use Rattle.std.proofs.lemmas.Bool.{and_parts, and_from, or_left, or_right, eqb-true, eq-eqb}
 use Rattle.std.proofs.lemmas.List.{length-set}
 use Rattle.std.proofs.lemmas.List.Sums.{sum_by-cons}
-use Rattle.pgs_base.specs.declared.element.EdgeId.{EdgeId}
-use Rattle.pgs_base.specs.declared.element.Elem.{Elem}
 use Rattle.pgs_base.specs.Graph.{Graph}
 use Rattle.pgs_syntax.specs.declared.pattern.Atom.{Atom}
-use Rattle.pgs_syntax.specs.declared.pattern.Pattern.{Pattern}
 use Rattle.pgs_syntax.specs.declared.resolved.Resolved.{Resolved}
-use Rattle.pgs_syntax.specs.Valid.{is_valid_pattern}
 use Rattle.pgs_match.specs.declared.step.Step.{Step}
 use Rattle.pgs_match.specs.declared.step.Step.TheVariants.{Along, End}
 use Rattle.pgs_match.specs.declared.bindings.Bound.{Bound}
 use Rattle.pgs_match.specs.Bounds.{bound_at, with_bound, nothing_bound, end_at}
-use Rattle.pgs_match.specs.Branches.{goes_from, degree_at, next_bounds, walked, walked_from, asked_most}
-use Rattle.pgs_match.specs.Plans.{bound_by, is_known, and_known, known_alone, is_step, are_steps, is_plan}
-use Rattle.pgs_match.specs.Routes.{is_on_way, on_way, off_way, way_most, routed, routed_from}
+use Rattle.pgs_match.specs.Branches.{goes_from, degree_at, next_bounds, walked, asked_most}
+use Rattle.pgs_match.specs.Plans.{bound_by, is_known, and_known, is_step, are_steps}
+use Rattle.pgs_match.specs.Routes.{is_on_way, on_way, off_way, way_most, routed}
 use Rattle.pgs_match.specs.Search.{edges_along}
-use Rattle.pgs_match.specs.Tests.{admitted_node, admitted_edge, admitted}
+use Rattle.pgs_match.specs.Tests.{admitted_node, admitted_edge}
 use Rattle.pgs_match.proofs.BranchCosts.{sum_filter_map, sum_more, sum_times, listed_few, walked_least, asked_by_walks}
-use Rattle.pgs_match.proofs.Completed.{step_facts}
-use Rattle.pgs_match.proofs.Known.{known_now, known_still, valid_most}
+use Rattle.pgs_match.proofs.Known.{known_now, known_still}
 use Rattle.pgs_match.proofs.OnWay.{is_wanted, step_from, step_new}
 use Rattle.pgs_match.proofs.Standing.{bound_now, known_other, one_or_other}
-use Rattle.pgs_match.proofs.Started.{none_known}
 use Rattle.pgs_match.proofs.WayCosts.{not_from, unknown_before}
 
 -- ---- what each route takes

@@ -59,7 +59,8 @@ module _ (resolved : Resolved) (g : Graph) (atoms : List Atom) (off : List Step)
       1 + option_map_or (λ bound. asked_most resolved g atoms off node bound + way_most last ways (with_bound bindings node bound))
       (option_and_then (admitted_node resolved g atoms node) (end_at source (bound_at bindings edge))) 0
 
-  -- the degrees plus 2 of all that the routes go on from, each counted once a route, with those of all that walks off the way come to
+  -- The edges plus 2 of all that the routes go on from, each counted once a route, and the sums over the walks off the way from each that
+  -- they come to.
   abbrev pub routed : List Step → List (Option Bound) → ℕ
   routed [] bindings = 1
   routed (Along edge node forward ∷ ways) bindings =

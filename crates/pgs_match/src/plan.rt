@@ -62,11 +62,7 @@ fn is_on_way(exprs: &[Expr], ways: &[Step], step: Step) -> bool
 }
 
 // The steps on the way to what expressions take, and the others.
-fn split(
-    alloc: Global,
-    steps: &[Step],
-    exprs: &[Expr],
-) -> Result<(Vec<Step>, Vec<Step>), Memory>
+fn split(alloc: Global, steps: &[Step], exprs: &[Expr]) -> Result<(Vec<Step>, Vec<Step>), Memory>
     ensures { IfOk result (λ parts. (parts.0.items ≡ on_way (map read_var exprs.now) steps.now) × (parts.1.items ≡ off_way (map read_var exprs.now) steps.now)) }
 {
     let mut on = Vec::with_capacity(alloc, steps.len())?;

@@ -81,7 +81,10 @@ impl<'a, G: GraphRead> Way<'a, G> {
         ensures cost { steps.new ≤ steps.old + length self.now.gathering.exprs.now }
     {
         let gathering = &self.gathering;
-        match gathering.search.tuple(gathering.alloc, gathering.exprs, bindings, steps)? {
+        match gathering
+            .search
+            .tuple(gathering.alloc, gathering.exprs, bindings, steps)?
+        {
             Some(tuple) => {
                 let _is_new = tuples.insert(tuple)?;
                 Ok(())
@@ -152,7 +155,11 @@ impl<'a, G: GraphRead> Way<'a, G> {
     {
         match admitted {
             Some(bound) => {
-                if self.gathering.search.can_be_given(self.off, branch.var, bound, steps) {
+                if self
+                    .gathering
+                    .search
+                    .can_be_given(self.off, branch.var, bound, steps)
+                {
                     let bindings = branch.bindings.with(branch.var, bound);
                     self.gather(branch.plan, &bindings, tuples, steps)
                 } else {

@@ -9,7 +9,10 @@ plan_to-requires-clause-in_range c = some_variable c.args.key.now c.requires
 
 pub invariant_of-result : goal.invariant_of-result
 invariant_of-result c =
-    let same = sym c.in_ok-key.ensures in
-    (subst (λ key. is_valid_key key ≡ true) same c.requires, subst (λ key. ArePlans key.scope c.in_ok-scope.scope) same c.in_ok-scope.ensures,
-    subst (λ key. ArePlans key.descriptor c.in_ok-descriptor.descriptor) same c.in_ok-descriptor.ensures, subst (λ key. IsSplit (taken key) key.descriptor 0 c.in_ok-values.values) same
-    (subst (λ exprs. IsSplit (map read_var exprs) c.args.key.now.descriptor 0 c.in_ok-values.values) c.as_slice.ensures c.in_ok-values.ensures))
+    let same = sym c.in_ok-key.ensures in (
+      subst (λ key. is_valid_key key ≡ true) same c.requires,
+      subst (λ key. ArePlans key.scope c.in_ok-scope.scope) same c.in_ok-scope.ensures,
+      subst (λ key. ArePlans key.descriptor c.in_ok-descriptor.descriptor) same c.in_ok-descriptor.ensures,
+      subst (λ key. IsSplit (taken key) key.descriptor 0 c.in_ok-values.values) same
+          (subst (λ exprs. IsSplit (map read_var exprs) c.args.key.now.descriptor 0 c.in_ok-values.values) c.as_slice.ensures c.in_ok-values.ensures),
+    )

@@ -1,4 +1,4 @@
-use Rattle.std.proofs.Common.{[], ap, ◌∙◌}
+use Rattle.std.proofs.Common.{ap, ◌∙◌}
 use Rattle.pgs_match.proofs.WayFound.{tuples_found, tuples_few, cost_sparse, cost_routes, cost_walks}
 use Rattle.pgs_match.proofs.searching.Place.tuples_by_ways.Goals as goal
 
