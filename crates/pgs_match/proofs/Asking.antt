@@ -35,6 +35,11 @@ use Rattle.pgs_match.proofs.Started.{same_truth, nothing_at, admitted_good, stat
 use Rattle.pgs_match.proofs.Values.{found_by_matches}
 use Rattle.pgs_match.proofs.Walked.{stands}
 
+pub steps_in : (steps : List Step) → length steps ≡ alongs steps + ends steps
+steps_in [] = refl
+steps_in (Along edge node forward ∷ steps) = let rest = steps_in steps in omega (arith, rest)
+steps_in (End edge node source ∷ steps) = let rest = steps_in steps in omega (arith, rest)
+
 module _ (resolved : Resolved) (g : Graph) (graph : is_graph g ≡ true) (pattern : Pattern) (valid : is_valid_pattern pattern ≡ true) (var : ℕ) (below : var < length pattern.edge_vars) (plan : List Step)
     (plans : is_plan pattern var plan ≡ true) (elem : Elem) (x : Bound) (admits : admitted resolved g pattern var elem ≡ Some x) where
   -- ---- the answer
@@ -85,11 +90,6 @@ module _ (resolved : Resolved) (g : Graph) (graph : is_graph g ≡ true) (patter
       let most = bound (length plan) (walked resolved g pattern.atoms plan var x) (asked_most resolved g pattern.atoms plan var x) asked (omega (arith, long, size.1)) (omega arith) in
       subst (λ o. 3 + asked_most resolved g pattern.atoms plan var x ≤ 80 * option_map_or (walked resolved g pattern.atoms plan var) o 1) (sym admits) most
     where
-      steps_in : (steps : List Step) → length steps ≡ alongs steps + ends steps
-      steps_in [] = refl
-      steps_in (Along edge node forward ∷ steps) = let rest = steps_in steps in omega (arith, rest)
-      steps_in (End edge node source ∷ steps) = let rest = steps_in steps in omega (arith, rest)
-
       bound : (long walks asked : ℕ) → asked ≤ 4 * long * walks → long ≤ 19 → 2 ≤ walks → 3 + asked ≤ 80 * walks
       bound long walks asked one short two = let product = mul-le-mul_right walks short in omega arith
 

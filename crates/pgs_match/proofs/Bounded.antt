@@ -39,11 +39,11 @@ power_more d a (suc w) less = by (one_or_other a (suc w)) (λ below. power_more 
         omega arith
 
 -- two more in the power
-square : (d a : ℕ) → (d + 2) ^ suc (suc a) ≡ (d + 2) * ((d + 2) * (d + 2) ^ a)
+pub square : (d a : ℕ) → (d + 2) ^ suc (suc a) ≡ (d + 2) * ((d + 2) * (d + 2) ^ a)
 square d a = pow-succ' (d + 2) (suc a) ∙ ap (λ p. (d + 2) * p) (pow-succ' (d + 2) a)
 
 -- a plan from an edge
-from_edge : (d power last ends_of steps whole : ℕ) → steps + 4 ≤ power * (last + 4 + ends_of) → last ≤ 16 → ends_of ≤ 19 → (d + 2) * ((d + 2) * power) ≤ whole → 3 + steps ≤ 16 * whole
+pub from_edge : (d power last ends_of steps whole : ℕ) → steps + 4 ≤ power * (last + 4 + ends_of) → last ≤ 16 → ends_of ≤ 19 → (d + 2) * ((d + 2) * power) ≤ whole → 3 + steps ≤ 16 * whole
 from_edge d power last ends_of steps whole most small short less =
     let all : last + 4 + ends_of ≤ 39 = omega arith in
     let product = mul-le-mul_left power all in
@@ -57,7 +57,7 @@ from_node d power last ends_of steps whole one most small short less =
     omega arith
 
 -- a plan of no steps
-from_one : (d w last : ℕ) → last ≤ 16 → 3 + last ≤ 16 * (d + 2) ^ suc w
+pub from_one : (d w last : ℕ) → last ≤ 16 → 3 + last ≤ 16 * (d + 2) ^ suc w
 from_one d w last small =
     let more = pow-succ' (d + 2) w in
     let one = one_at_least d w in

@@ -35,7 +35,7 @@ use Rattle.pgs_match.proofs.Started.{none_known}
 -- ---- by walks
 
 -- the sum over what a function gives
-sum_filter_map : {X Y : Type 0} (f : Y → ℕ) (h : X → Option Y) (xs : List X) → sum_by f (filter_map h xs) ≡ sum_by (λ x. option_map_or f (h x) 0) xs
+pub sum_filter_map : {X Y : Type 0} (f : Y → ℕ) (h : X → Option Y) (xs : List X) → sum_by f (filter_map h xs) ≡ sum_by (λ x. option_map_or f (h x) 0) xs
 sum_filter_map f h [] = refl
 sum_filter_map {X} {Y} f h (x ∷ xs) = by (h x) (sum_filter_map f h xs) ∙ sym (sum_by-cons (λ z. option_map_or f (h z) 0) x xs)
   where
@@ -45,7 +45,7 @@ sum_filter_map {X} {Y} f h (x ∷ xs) = by (h x) (sum_filter_map f h xs) ∙ sym
     by (Some y) rest = let cons = sum_by-cons f y (filter_map h xs) in omega (arith, rest)
 
 -- three look-ups for each, and what each takes
-sum_more : {X : Type 0} (f : X → ℕ) (xs : List X) → sum_by (λ x. 3 + f x) xs ≡ 3 * length xs + sum_by f xs
+pub sum_more : {X : Type 0} (f : X → ℕ) (xs : List X) → sum_by (λ x. 3 + f x) xs ≡ 3 * length xs + sum_by f xs
 sum_more f [] = refl
 sum_more f (x ∷ xs) =
     let rest = sum_more f xs in
@@ -56,7 +56,7 @@ sum_more f (x ∷ xs) =
 times_more : (most own all one rest : ℕ) → one ≤ most * own → rest ≤ most * all → one + rest ≤ most * (own + all)
 times_more most own all one rest first second = omega arith
 
-sum_times : {X : Type 0} (f h : X → ℕ) (most : ℕ) → ((x : X) → f x ≤ most * h x) → (xs : List X) → sum_by f xs ≤ most * sum_by h xs
+pub sum_times : {X : Type 0} (f h : X → ℕ) (most : ℕ) → ((x : X) → f x ≤ most * h x) → (xs : List X) → sum_by f xs ≤ most * sum_by h xs
 sum_times f h most each [] = omega arith
 sum_times f h most each (x ∷ xs) =
     subst (λ n. n ≤ most * sum_by h (x ∷ xs)) (sym (sum_by-cons f x xs))
@@ -71,7 +71,7 @@ module _ (resolved : Resolved) (g : Graph) (atoms : List Atom) where
   walked_least [] var x = omega arith
   walked_least (step ∷ plan) var x = let rest = walked_least plan var x in omega arith
 
-  listed_few : (forward : Bool) (x : Bound) → length (edges_along g forward (Some x)) ≤ degree_at g x
+  pub listed_few : (forward : Bool) (x : Bound) → length (edges_along g forward (Some x)) ≤ degree_at g x
   listed_few forward (bounds.Node id) = few_at g (elem_of (bounds.Node id)) forward id
   listed_few forward (bounds.Edge id source target) = omega arith
 
@@ -166,15 +166,15 @@ module _ (resolved : Resolved) (g : Graph) (graph : is_graph g ≡ true) (atoms 
 -- ---- the rates of all variables that are known, added up
 
 -- how often a variable is among some
-abbrev times : ℕ → List ℕ → ℕ
+abbrev pub times : ℕ → List ℕ → ℕ
 times var [] = 0
 times var (v ∷ vs) = cond (var == v) 1 0 + times var vs
 
-abbrev all_rates : ℕ → List Step → List ℕ → ℕ
+abbrev pub all_rates : ℕ → List Step → List ℕ → ℕ
 all_rates d plan [] = 0
 all_rates d plan (v ∷ vs) = rate d plan v + all_rates d plan vs
 
-along_all : (d edge node : ℕ) (forward : Bool) (plan : List Step) (vs : List ℕ) →
+pub along_all : (d edge node : ℕ) (forward : Bool) (plan : List Step) (vs : List ℕ) →
     all_rates d (Along edge node forward ∷ plan) vs ≡ times node vs * (4 * d + 1 + d * rate d plan edge) + all_rates d plan vs
 along_all d edge node forward plan [] = omega arith
 along_all d edge node forward plan (v ∷ vs) = by (node == v) (along_all d edge node forward plan vs)
@@ -185,7 +185,7 @@ along_all d edge node forward plan (v ∷ vs) = by (node == v) (along_all d edge
     by true rest = omega (arith, rest)
     by false rest = omega (arith, rest)
 
-end_all : (d edge node : ℕ) (source : Bool) (plan : List Step) (vs : List ℕ) →
+pub end_all : (d edge node : ℕ) (source : Bool) (plan : List Step) (vs : List ℕ) →
     all_rates d (End edge node source ∷ plan) vs ≡ times edge vs * (1 + rate d plan node) + all_rates d plan vs
 end_all d edge node source plan [] = omega arith
 end_all d edge node source plan (v ∷ vs) = by (edge == v) (end_all d edge node source plan vs)
@@ -197,14 +197,14 @@ end_all d edge node source plan (v ∷ vs) = by (edge == v) (end_all d edge node
     by false rest = omega (arith, rest)
 
 -- each variable is there once at most, and if so is known
-abbrev AreOnce : List Bool → List ℕ → Type 0
+abbrev pub AreOnce : List Bool → List ℕ → Type 0
 AreOnce known vs = (v : ℕ) → times v vs ≤ cond (is_known known v) 1 0
 
-once : (b : Bool) (n : ℕ) → n ≤ cond b 1 0 → n ≤ 1
+pub once : (b : Bool) (n : ℕ) → n ≤ cond b 1 0 → n ≤ 1
 once true n h = h
 once false n h = omega arith
 
-once_more : (known : List Bool) (vs : List ℕ) (var : ℕ) → var < length known → is_known known var ≡ false → AreOnce known vs → AreOnce (and_known known var) (var ∷ vs)
+pub once_more : (known : List Bool) (vs : List ℕ) (var : ℕ) → var < length known → is_known known var ≡ false → AreOnce known vs → AreOnce (and_known known var) (var ∷ vs)
 once_more known vs var below unknown all v = ⊎_elim here other (one_or_other v var)
   where
     here : v ≡ var → cond (v == var) 1 0 + times v vs ≤ cond (is_known (and_known known var) v) 1 0

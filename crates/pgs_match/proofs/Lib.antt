@@ -31,3 +31,11 @@ pub mod BranchCosts
 pub mod BranchSteps
 pub mod Asking
 pub mod Acyclic
+pub mod OnWay
+pub mod WayValues
+pub mod WaySteps
+pub mod WayCosts
+pub mod WayWalks
+pub mod WayEnds
+pub mod Splitting
+pub mod WayFound

@@ -7,3 +7,4 @@ pub mod Search
 pub mod Branches
 pub mod Tests
 pub mod Asks
+pub mod Routes

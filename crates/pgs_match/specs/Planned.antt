@@ -1,28 +1,39 @@
 -- A key with plans of its patterns, from each variable.
-use Rattle.std.specs.Prelude.{◌≤◌, ℕ, suc, max, Contains, Bool, true, ◌&&◌, ◌==◌, List, [], ◌∷◌, length, Option, Some, None}
+use Rattle.std.specs.Prelude.{◌≡◌, ◌≤◌, ℕ, suc, max, Contains, true, List, [], ◌∷◌, length, map, Option, Some, None}
 use Rattle.pgs_base.specs.declared.element.Elem.{Elem}
 use Rattle.pgs_base.specs.declared.part.Part.{Part}
 use Rattle.pgs_base.specs.declared.part.Part.TheVariants as parts
 use Rattle.pgs_syntax.specs.declared.key.Key.{Key}
 use Rattle.pgs_syntax.specs.declared.pattern.Pattern.{Pattern}
-use Rattle.pgs_syntax.specs.Valid.{edge_count, is_valid_key}
-use Rattle.pgs_match.specs.declared.step.Step.{Step}
+use Rattle.pgs_syntax.specs.Valid.{edge_count, read_var, is_valid_key}
+use Rattle.pgs_match.specs.declared.plan.Plan.{Plan}
 use Rattle.pgs_match.specs.Plans.{is_plan}
+use Rattle.pgs_match.specs.Routes.{on_way, off_way}
 use Rattle.pgs_match.specs.declared.planned.Side.{Side}
 use Rattle.pgs_match.specs.declared.planned.Side.TheVariants.{Scope, Descriptor}
 
--- whether lists of steps are plans of a pattern, from one variable on
-abbrev pub are_plans_from : Pattern → ℕ → List (List Step) → Bool
-are_plans_from pattern var [] = true
-are_plans_from pattern var (plan ∷ plans) = is_plan pattern var plan && are_plans_from pattern (suc var) plans
+-- A plan of a pattern from a variable, with the steps of it on the way to wanted variables, and the others.
+abbrev pub IsSplit : List ℕ → Pattern → ℕ → Plan → Type 0
+IsSplit wanted pattern var plan = (is_plan pattern var plan.steps ≡ true) × (plan.on ≡ on_way wanted plan.steps) × (plan.off ≡ off_way wanted plan.steps)
 
--- whether they are plans of a pattern from each of its variables
-abbrev pub are_plans : Pattern → List (List Step) → Bool
-are_plans pattern plans = length plans == length pattern.edge_vars && are_plans_from pattern 0 plans
+-- plans of a pattern to variable 0, from one variable on
+abbrev pub ArePlansFrom : Pattern → ℕ → List Plan → Type 0
+ArePlansFrom pattern var [] = Unit {0}
+ArePlansFrom pattern var (plan ∷ plans) = IsSplit (0 ∷ []) pattern var plan × ArePlansFrom pattern (suc var) plans
 
--- whether a key is valid, and these are plans of its patterns
-abbrev pub is_planned : Key → List (List Step) → List (List Step) → Bool
-is_planned key scope descriptor = is_valid_key key && are_plans key.scope scope && are_plans key.descriptor descriptor
+-- from each of its variables
+abbrev pub ArePlans : Pattern → List Plan → Type 0
+ArePlans pattern plans = (length plans ≡ length pattern.edge_vars) × ArePlansFrom pattern 0 plans
+
+-- the variables that the expressions of a key take
+abbrev pub taken : Key → List ℕ
+taken key = map read_var key.exprs
+
+-- A key is valid, these are plans of its patterns to x from each variable, and this is one of its descriptor from x to what the
+-- expressions take.
+abbrev pub IsPlanned : Key → List Plan → List Plan → Plan → Type 0
+IsPlanned key scope descriptor values =
+    (is_valid_key key ≡ true) × ArePlans key.scope scope × ArePlans key.descriptor descriptor × IsSplit (taken key) key.descriptor 0 values
 
 -- a pattern of a key
 abbrev pub pattern_of : Side → Key → Pattern

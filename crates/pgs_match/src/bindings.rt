@@ -48,6 +48,15 @@ impl Model for Bindings {
 }
 
 impl Bindings {
+    /// No variable is bound.
+    pub(crate) fn none() -> Bindings
+        ensures { result ≡ nothing_bound }
+    {
+        Bindings {
+            bounds: [None; MOST_VARIABLES],
+        }
+    }
+
     /// One variable is bound, and no other.
     pub fn alone(var: u32, bound: Bound) -> Bindings
         requires { var < 20 }

@@ -1,6 +1,7 @@
 //! The calls on a planned key.
 
-ghost use Rattle.std.specs.Prelude.{◌≡◌, ◌+◌, ◌*◌, ◌^◌, ◌<◌, ◌≤◌, ℕ, true, length, map, filter_map, IfOk};
+ghost use Rattle.std.specs.Prelude.{◌≡◌, ◌+◌, ◌*◌, ◌^◌, ◌<◌, ◌≤◌, ◌==◌, ◌||◌, ℕ, true, length, map, filter_map, IfOk};
+ghost use Rattle.std.specs.List.{list_all};
 ghost use Rattle.pgs_syntax.specs.KeyValues.{is_in_scope, scope_of, key_values};
 ghost use Rattle.pgs_syntax.specs.Matches.{elements};
 ghost use Rattle.pgs_syntax.specs.Valid.{is_edge_var, is_valid_key_of};
@@ -9,7 +10,8 @@ ghost use Rattle.pgs_match.specs.Branches.{has_no_cycle, walked_from};
 ghost use Rattle.pgs_match.specs.Plans.{is_plan};
 ghost use Rattle.pgs_match.specs.Near.{HasDegreesWithin, IsSparse};
 ghost use Rattle.pgs_match.specs.Reached.{reached};
-ghost use Rattle.pgs_match.specs.Planned.{most_edges, pattern_of, first_elem};
+ghost use Rattle.pgs_match.specs.Planned.{most_edges, pattern_of, taken, first_elem};
+ghost use Rattle.pgs_match.specs.Routes.{routed_from};
 
 use crate::searching::Place;
 use crate::{PlannedKey, Side};
@@ -46,12 +48,16 @@ pub fn in_scope<G: GraphRead, L: Ledger>(
         compiled,
         pattern: key.pattern(Side::Scope),
     };
-    place.has_match(key.plan(Side::Scope, 0), 0, elem, steps)
+    place.has_match(key.plan(Side::Scope, 0).steps.as_slice(), 0, elem, steps)
 }
 
 /// The key values of an element, for a key whose types are those of the schema. The rule is `key_values` of `pgs_syntax`.
 ///
-/// At every exit it has taken at most as many look-ups as [`in_scope`], and it gives at most (d + 2)^w tuples.
+/// At every exit it has taken at most 16 * (d + 2)^(w + 1) look-ups, with w and d as for [`in_scope`], and it gives at most (d + 2)^w
+/// tuples. Where the descriptor has no cycle it takes at most 80 times the sum of the degrees plus 2 over the routes to the variables that
+/// the expressions take, each counted once a route, and over the walks off these, each counted once a walk (`routed_from` in
+/// `specs/Routes.antt` of `pgs_match`). Where they take one variable beside x, that is at most 160 times the sum over all that walks along
+/// the descriptor from the element come to, each counted once a walk.
 pub fn key_values<G: GraphRead, L: Ledger>(
     alloc: Global,
     graph: &G,
@@ -67,6 +73,11 @@ pub fn key_values<G: GraphRead, L: Ledger>(
         steps.new ≤ steps.old + 16 * (most + 2) ^ (most_edges key.now + 1) }
     ensures few { (most : ℕ) → IsSparse (G.meaning graph.now) (most_edges key.now) elem most →
         IfOk result (λ tuples. length tuples ≤ (most + 2) ^ most_edges key.now) }
+    ensures routes { has_no_cycle key.now.descriptor ≡ true → (plan : List Step) × (is_plan key.now.descriptor 0 plan ≡ true) × (steps.new ≤ steps.old
+        + 80 * routed_from compiled.now (G.meaning graph.now) key.now.descriptor (taken key.now) plan 0 elem) }
+    ensures adds { has_no_cycle key.now.descriptor ≡ true → (var : ℕ) → list_all (λ v. v == 0 || v == var) (taken key.now) ≡ true →
+        (plan : List Step) × (is_plan key.now.descriptor 0 plan ≡ true)
+        × (steps.new ≤ steps.old + 160 * walked_from compiled.now (G.meaning graph.now) key.now.descriptor plan 0 elem) }
 {
     let place = Place {
         graph,
@@ -74,13 +85,15 @@ pub fn key_values<G: GraphRead, L: Ledger>(
         pattern: key.pattern(Side::Descriptor),
     };
     let exprs = key.key().exprs.as_slice();
-    place.tuples(alloc, exprs, key.plan(Side::Descriptor, 0), 0, elem, steps)
+    place.tuples(alloc, exprs, key.values(), 0, elem, steps)
 }
 
 /// The elements that x takes in the matches of a pattern of the key in which the variable takes the element, ascending and each once.
 /// The variable is in range, and the key's types are those of the schema. The rule is `reached` in `specs/Reached.antt` of `pgs_match`.
 ///
-/// At every exit it has taken at most as many look-ups as [`in_scope`], and it gives at most (d + 2)^w elements.
+/// At every exit it has taken at most 16 * (d + 2)^(w + 1) look-ups, with w and d as for [`in_scope`], and it gives at most (d + 2)^w
+/// elements. Where the pattern has no cycle it takes at most 160 times the sum of the degrees plus 2 over all that walks along the pattern
+/// from the element at the variable come to, each counted once a walk.
 pub fn reach<G: GraphRead, L: Ledger>(
     alloc: Global,
     graph: &G,
@@ -99,6 +112,8 @@ pub fn reach<G: GraphRead, L: Ledger>(
         steps.new ≤ steps.old + 16 * (most + 2) ^ (most_edges key.now + 1) }
     ensures few { (most : ℕ) → IsSparse (G.meaning graph.now) (most_edges key.now) elem most →
         IfOk result (λ elems. length elems ≤ (most + 2) ^ most_edges key.now) }
+    ensures adds { has_no_cycle (pattern_of side key.now) ≡ true → (plan : List Step) × (is_plan (pattern_of side key.now) var plan ≡ true)
+        × (steps.new ≤ steps.old + 160 * walked_from compiled.now (G.meaning graph.now) (pattern_of side key.now) plan var elem) }
 {
     let place = Place {
         graph,

@@ -1,23 +1,25 @@
 //! Laws on searches along plans, from a variable to which an element is bound, and on the elements that are reached from an element. The
 //! functions do nothing; their contracts are the statements.
 
-ghost use Rattle.std.specs.Prelude.{◌≡◌, ◌↔◌, ◌+◌, ◌*◌, ◌^◌, ◌<◌, ◌≤◌, ℕ, Bool, true, false, List, [], length, slice_get, Some, Contains};
+ghost use Rattle.std.specs.Prelude.{fold, nat_lt, ◌||◌, ◌==◌, ◌≡◌, ◌↔◌, ◌+◌, ◌*◌, ◌^◌, ◌<◌, ◌≤◌, ℕ, Bool, true, false, List, [], length, slice_get, Some, Contains};
 ghost use Rattle.std.specs.Option.{option_map_or};
-ghost use Rattle.std.specs.List.{list_any, All};
+ghost use Rattle.std.specs.List.{list_any, list_all, All};
 ghost use Rattle.pgs_base.specs.declared.element.Elem.{Elem};
 ghost use Rattle.pgs_base.specs.Graph.{Graph, is_graph};
 ghost use Rattle.pgs_base.specs.Order.{ascends, elem_cmp};
 ghost use Rattle.pgs_syntax.specs.declared.key.Key.{Key};
+ghost use Rattle.pgs_syntax.specs.declared.pattern.Expr.{Expr};
 ghost use Rattle.pgs_syntax.specs.declared.pattern.Pattern.{Pattern};
 ghost use Rattle.pgs_syntax.specs.declared.resolved.Resolved.{Resolved};
 ghost use Rattle.pgs_syntax.specs.KeyValues.{starts_at, key_values};
 ghost use Rattle.pgs_syntax.specs.Matches.{is_match, matches};
-ghost use Rattle.pgs_syntax.specs.Valid.{edge_count, is_valid_pattern, is_valid_key};
+ghost use Rattle.pgs_syntax.specs.Valid.{read_var, edge_count, is_valid_pattern, is_valid_key};
 ghost use Rattle.pgs_match.specs.declared.step.Step.{Step};
 ghost use Rattle.pgs_match.specs.Plans.{is_plan};
 ghost use Rattle.pgs_match.specs.declared.bindings.Bound.{Bound};
 ghost use Rattle.pgs_match.specs.Bounds.{with_bound, nothing_bound, stands_at};
 ghost use Rattle.pgs_match.specs.Branches.{is_tree, has_no_cycle, can_be_given, asked_most, walked_from};
+ghost use Rattle.pgs_match.specs.Routes.{on_way, off_way, whole, routes, with_tuple, way_most, routed_from};
 ghost use Rattle.pgs_match.specs.Near.{IsSparse, IsNearTo};
 ghost use Rattle.pgs_match.specs.Reached.{reached};
 ghost use Rattle.pgs_match.specs.Search.{completions, can_complete, gathered, most_steps};
@@ -101,4 +103,35 @@ pub fn what_is_reached_is_near_and_few()
     ensures few { (resolved : Resolved) (g : Graph) (pattern : Pattern) → is_graph g ≡ true → is_valid_pattern pattern ≡ true → (var : ℕ) →
         var < length pattern.edge_vars → (elem : Elem) (edges most : ℕ) → edge_count pattern.edge_vars ≤ edges → IsSparse g edges elem most →
         length (reached resolved g pattern var elem) ≤ (most + 2) ^ edges }
+{}
+
+/// The tuples under the routes to the variables that expressions take, where what hangs off the way is asked for and no more, are those
+/// that a search of all variables gathers.
+pub fn what_hangs_off_the_way_is_only_asked()
+    ensures { (resolved : Resolved) (g : Graph) (pattern : Pattern) → is_graph g ≡ true → is_valid_pattern pattern ≡ true → (var : ℕ) → var < length pattern.edge_vars →
+        (plan : List Step) → is_plan pattern var plan ≡ true → is_tree pattern.atoms plan ≡ true → (elem : Elem) (wanted : List ℕ) (exprs : List Expr) →
+        list_all (λ expr. list_any (λ v. v == read_var expr) wanted) exprs ≡ true →
+        list_all (λ (expr : Expr). nat_lt (read_var expr) (length pattern.edge_vars)) exprs ≡ true →
+        fold (with_tuple g exprs) [] (option_map_or (λ x. routes resolved g pattern.atoms (off_way wanted plan) (on_way wanted plan) (with_bound nothing_bound var x))
+        (whole resolved g pattern.atoms (off_way wanted plan) var (admitted resolved g pattern var elem)) [])
+        ≡ option_map_or (λ x. gathered resolved g pattern.atoms exprs plan (with_bound nothing_bound var x) []) (admitted resolved g pattern var elem) [] }
+{}
+
+/// Searching along the way to wanted variables takes few look-ups: within the bound of any search where no node near the element has
+/// many edges, at most 80 times the sums over the routes, and at most 160 times the sum over the walks where beside the first variable
+/// one is wanted. Three are taken before it begins, and at most 16 at the end of each route.
+pub fn ways_add()
+    ensures sparse { (resolved : Resolved) (g : Graph) (pattern : Pattern) → is_graph g ≡ true → is_valid_pattern pattern ≡ true → (var : ℕ) →
+        var < length pattern.edge_vars → (plan : List Step) → is_plan pattern var plan ≡ true → (elem : Elem) (bound : Bound) → admitted resolved g pattern var elem ≡ Some bound →
+        (wanted : List ℕ) (last : ℕ) → last ≤ 16 → (edges most : ℕ) → edge_count pattern.edge_vars ≤ edges → IsSparse g edges elem most →
+        3 + (asked_most resolved g pattern.atoms (off_way wanted plan) var bound
+        + way_most resolved g pattern.atoms (off_way wanted plan) last (on_way wanted plan) (with_bound nothing_bound var bound)) ≤ 16 * (most + 2) ^ (edges + 1) }
+    ensures routes { (resolved : Resolved) (g : Graph) (pattern : Pattern) → is_graph g ≡ true → is_valid_pattern pattern ≡ true → (var : ℕ) →
+        var < length pattern.edge_vars → (plan : List Step) → is_plan pattern var plan ≡ true → (elem : Elem) (bound : Bound) → admitted resolved g pattern var elem ≡ Some bound →
+        (wanted : List ℕ) (last : ℕ) → last ≤ 16 → 3 + (asked_most resolved g pattern.atoms (off_way wanted plan) var bound
+        + way_most resolved g pattern.atoms (off_way wanted plan) last (on_way wanted plan) (with_bound nothing_bound var bound)) ≤ 80 * routed_from resolved g pattern wanted plan var elem }
+    ensures walks { (resolved : Resolved) (g : Graph) (pattern : Pattern) → is_graph g ≡ true → is_valid_pattern pattern ≡ true → (var : ℕ) →
+        var < length pattern.edge_vars → (plan : List Step) → is_plan pattern var plan ≡ true → (elem : Elem) (bound : Bound) → admitted resolved g pattern var elem ≡ Some bound →
+        (wanted : List ℕ) (other : ℕ) → list_all (λ v. v == var || v == other) wanted ≡ true → (last : ℕ) → last ≤ 16 → 3 + (asked_most resolved g pattern.atoms (off_way wanted plan) var bound
+        + way_most resolved g pattern.atoms (off_way wanted plan) last (on_way wanted plan) (with_bound nothing_bound var bound)) ≤ 160 * walked_from resolved g pattern plan var elem }
 {}

@@ -10,7 +10,9 @@
 //! - what a search along a plan comes to, as functions of the graph (`specs/Search.antt`), and how many look-ups it may take
 //!   (`specs/Bounds.antt`); the laws in [`laws`] say that this is what the matches of the pattern give, and within which bound.
 //! - the search itself: a [`Search`] reads the graph by the trait alone, each variable is bound to an element that passes the tests of
-//!   the variable. [`Search::can_complete`] takes no memory; [`Gathering::gather`] adds the tuples of expressions.
+//!   the variable. [`Search::can_complete`] takes no memory; [`Gathering::gather`] adds the tuples of expressions. Where a pattern has no
+//!   cycle, each branch is asked by itself ([`Search::can_be_given`], `specs/Branches.antt`), and tuples are gathered along the way to what
+//!   the expressions take alone (`specs/Routes.antt`).
 #![tactic(auto)]
 
 mod admission;
@@ -24,6 +26,7 @@ mod copies;
 mod gathering;
 pub mod laws;
 mod own;
+mod plan;
 mod planned;
 mod planner;
 mod reads;
@@ -33,12 +36,14 @@ mod searching;
 mod step;
 mod trees;
 mod tuples;
+mod ways;
 
 pub use bindings::{Bindings, Bound, MOST_VARIABLES};
 use branch::Branch;
 pub use calls::{each_element, each_x, in_scope, key_values, reach};
 pub use gathering::Gathering;
 pub use own::own_passes;
+use plan::Plan;
 pub use planned::{PlannedKey, Side, plan_key};
 pub use planner::plan_from;
 pub use reads::{edge_along, is_edge_typed};

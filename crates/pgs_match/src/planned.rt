@@ -1,12 +1,12 @@
-ghost use Rattle.std.specs.Prelude.{◌≡◌, ◌<◌, true, length, IfOk};
+ghost use Rattle.std.specs.Prelude.{◌≡◌, ◌<◌, true, [], ◌∷◌, length, IfOk};
 ghost use Rattle.pgs_syntax.specs.Valid.{is_edge_var, is_valid_pattern, is_valid_key};
-ghost use Rattle.pgs_match.specs.Plans.{is_plan};
-ghost use Rattle.pgs_match.specs.Planned.{are_plans, pattern_of};
+ghost use Rattle.pgs_match.specs.Planned.{IsSplit, ArePlans, taken, pattern_of};
 
+use crate::Plan;
 use crate::copies::copy_key;
-use crate::{Step, plan_from};
+use crate::plan::plan_to;
 use pgs_base::{List, Memory};
-use pgs_syntax::{Key, Pattern};
+use pgs_syntax::{Expr, Key, Pattern};
 use std::alloc::Global;
 use std::marker::Model;
 
@@ -17,11 +17,13 @@ pub enum Side {
     Descriptor,
 }
 
-/// A valid key, and for each variable of each of its patterns a plan of that pattern from the variable. Contracts see the key.
+/// A valid key, for each variable of each of its patterns a plan of that pattern from the variable to x, and one of its descriptor from x
+/// to what the expressions take. Contracts see the key.
 pub struct PlannedKey {
     key: Key,
-    scope: List<List<Step>>,
-    descriptor: List<List<Step>>,
+    scope: List<Plan>,
+    descriptor: List<Plan>,
+    values: Plan,
 }
 
 // Dropped by one function of this crate, so that those above need not prove anew how a planned key is taken apart.
@@ -31,20 +33,20 @@ impl Drop for PlannedKey {
             key: _,
             scope: _,
             descriptor: _,
+            values: _,
         } = self;
     }
 }
 
 impl Model for PlannedKey {
-    ghost use Rattle.std.specs.Prelude.{◌≡◌, true};
     ghost use Rattle.pgs_syntax.specs.declared.key.Key.{Key};
-    ghost use Rattle.pgs_match.specs.Planned.{is_planned};
+    ghost use Rattle.pgs_match.specs.Planned.{IsPlanned};
 
     ghost Value = { Key };
 
     ghost view = { λ planned. planned.key };
 
-    ghost invariant = { λ planned. is_planned planned.key planned.scope planned.descriptor ≡ true };
+    ghost invariant = { λ planned. IsPlanned planned.key planned.scope planned.descriptor planned.values };
 }
 
 /// Plans a valid key. The planned key keeps a copy of it.
@@ -54,34 +56,37 @@ pub fn plan_key(alloc: Global, key: &Key) -> Result<PlannedKey, Memory>
 {
     let scope = plan_pattern(alloc, &key.scope)?;
     let descriptor = plan_pattern(alloc, &key.descriptor)?;
+    let values = plan_to(alloc, &key.descriptor, 0, key.exprs.as_slice())?;
     let key = copy_key(alloc, key)?;
     Ok(PlannedKey {
         key,
         scope,
         descriptor,
+        values,
     })
 }
 
-// A plan from each variable of a pattern.
-fn plan_pattern(alloc: Global, pattern: &Pattern) -> Result<List<List<Step>>, Memory>
+// A plan from each variable of a pattern to x.
+fn plan_pattern(alloc: Global, pattern: &Pattern) -> Result<List<Plan>, Memory>
     requires { is_valid_pattern pattern.now ≡ true }
-    ensures { IfOk result (λ plans. are_plans pattern.now plans ≡ true) }
+    ensures { IfOk result (ArePlans pattern.now) }
 {
+    let to_x = [Expr::Element(0)];
     let mut plans = Vec::with_capacity(alloc, pattern.edge_vars.len())?;
     for var in 0..pattern.edge_vars.len() {
-        let plan = plan_from(alloc, pattern, var as u32)?;
+        let plan = plan_to(alloc, pattern, var as u32, &to_x)?;
         plans.push(plan)?;
     }
     Ok(List::from_vec(plans))
 }
 
 // The plan from a variable.
-fn plan_at<'a>(plans: &'a [List<Step>], pattern: &Pattern, var: u32) -> &'a [Step]
-    requires plans { are_plans pattern.now plans.now ≡ true }
+fn plan_at<'a>(plans: &'a [Plan], pattern: &Pattern, var: u32) -> &'a Plan
+    requires plans { ArePlans pattern.now plans.now }
     requires in_range { var < length pattern.now.edge_vars }
-    ensures { is_plan pattern.now var result.now ≡ true }
+    ensures { IsSplit (0 ∷ []) pattern.now var result.now }
 {
-    plans[var as usize].as_slice()
+    &plans[var as usize]
 }
 
 impl PlannedKey {
@@ -113,14 +118,21 @@ impl PlannedKey {
         }
     }
 
-    /// The plan of a pattern from a variable.
-    pub(crate) fn plan(&self, side: Side, var: u32) -> &[Step]
+    /// The plan of a pattern from a variable to x.
+    pub(crate) fn plan(&self, side: Side, var: u32) -> &Plan
         requires { var < length (pattern_of side self.now).edge_vars }
-        ensures { is_plan (pattern_of side self.now) var result.now ≡ true }
+        ensures { IsSplit (0 ∷ []) (pattern_of side self.now) var result.now }
     {
         match side {
             Side::Scope => plan_at(self.scope.as_slice(), &self.key.scope, var),
             Side::Descriptor => plan_at(self.descriptor.as_slice(), &self.key.descriptor, var),
         }
+    }
+
+    /// The plan of the descriptor from x to what the expressions take.
+    pub(crate) fn values(&self) -> &Plan
+        ensures { IsSplit (taken self.now) self.now.descriptor 0 result.now }
+    {
+        &self.values
     }
 }

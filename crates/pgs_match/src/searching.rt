@@ -1,20 +1,23 @@
 //! Searches from one variable of a pattern and an element.
 
-ghost use Rattle.std.specs.Prelude.{◌≡◌, ◌+◌, ◌*◌, ◌^◌, ◌<◌, ◌≤◌, ℕ, true, false, [], length, IfOk, OnSome};
+ghost use Rattle.std.specs.Prelude.{◌≡◌, ◌+◌, ◌*◌, ◌^◌, ◌<◌, ◌≤◌, ◌==◌, ◌||◌, ℕ, nat_lt, true, false, [], map, length, IfOk, OnSome};
 ghost use Rattle.std.specs.Option.{option_map_or};
 ghost use Rattle.std.specs.List.{list_any, list_all};
 ghost use Rattle.pgs_base.specs.Graph.{is_graph};
 ghost use Rattle.pgs_syntax.specs.Matches.{matches};
-ghost use Rattle.pgs_syntax.specs.Valid.{edge_count, is_valid_pattern, names_types};
+ghost use Rattle.pgs_syntax.specs.Valid.{edge_count, read_var, is_valid_pattern, names_types};
 ghost use Rattle.pgs_match.specs.Plans.{is_plan};
 ghost use Rattle.pgs_match.specs.Branches.{is_tree, walked_from};
+ghost use Rattle.pgs_match.specs.Planned.{IsSplit};
+ghost use Rattle.pgs_match.specs.Routes.{routed_from};
 ghost use Rattle.pgs_match.specs.Bounds.{with_bound, nothing_bound, stands_at};
 ghost use Rattle.pgs_match.specs.Near.{IsSparse};
 ghost use Rattle.pgs_match.specs.Search.{gathered};
 ghost use Rattle.pgs_match.specs.Tests.{admitted};
 
 use crate::trees::is_tree;
-use crate::{Bindings, Bound, Gathering, Search, Step};
+use crate::ways::Way;
+use crate::{Bindings, Bound, Branch, Gathering, Plan, Search, Step};
 use pgs_base::{Elem, Memory, Steps, TupleSet};
 use pgs_conform::Compiled;
 use pgs_graph::GraphRead;
@@ -109,8 +112,50 @@ impl<'a, G: GraphRead> Place<'a, G> {
         }
     }
 
-    /// The tuples of expressions under the matches that have the element at the variable, by a plan from there.
+    /// The tuples of expressions under the matches that have the element at the variable, by a plan from there. Where the plan has a step
+    /// for each end of each edge place, the search goes along the way to what the expressions take, and of all else it is asked whether it
+    /// can be given.
     pub(crate) fn tuples<L: Ledger>(
+        &self,
+        alloc: Global,
+        exprs: &[Expr],
+        plan: &Plan,
+        var: u32,
+        elem: Elem,
+        steps: &mut Steps<L>,
+    ) -> Result<TupleSet, Memory>
+        requires valid { is_valid_pattern self.now.pattern.now ≡ true }
+        requires names { list_all (names_types self.now.compiled.now) self.now.pattern.now.atoms ≡ true }
+        requires in_range { var < length self.now.pattern.now.edge_vars }
+        requires plan { IsSplit (map read_var exprs.now) self.now.pattern.now var plan.now }
+        requires few_exprs { length exprs.now ≤ 16 }
+        requires reads { list_all (λ (expr : Expr). nat_lt (read_var expr) (length self.now.pattern.now.edge_vars)) exprs.now ≡ true }
+        ensures value { IfOk result (λ tuples. tuples ≡ option_map_or (λ bound. gathered self.now.compiled.now (G.meaning self.now.graph.now)
+            self.now.pattern.now.atoms exprs.now plan.now.steps (with_bound nothing_bound var bound) [])
+            (admitted self.now.compiled.now (G.meaning self.now.graph.now) self.now.pattern.now var elem) []) }
+        ensures graph { OnSome (admitted self.now.compiled.now (G.meaning self.now.graph.now) self.now.pattern.now var elem)
+            (is_graph (G.meaning self.now.graph.now) ≡ true) }
+        ensures no_step_back { steps.old ≤ steps.new }
+        ensures cost { (w most : ℕ) → edge_count self.now.pattern.now.edge_vars ≤ w → IsSparse (G.meaning self.now.graph.now) w elem most →
+            steps.new ≤ steps.old + 16 * (most + 2) ^ (w + 1) }
+        ensures few { (w most : ℕ) → edge_count self.now.pattern.now.edge_vars ≤ w → IsSparse (G.meaning self.now.graph.now) w elem most →
+            IfOk result (λ tuples. length tuples ≤ (most + 2) ^ w) }
+        ensures routes { is_tree self.now.pattern.now.atoms plan.now.steps ≡ true → steps.new ≤ steps.old
+            + 80 * routed_from self.now.compiled.now (G.meaning self.now.graph.now) self.now.pattern.now (map read_var exprs.now) plan.now.steps var elem }
+        ensures walks { is_tree self.now.pattern.now.atoms plan.now.steps ≡ true → (other : ℕ) → list_all (λ v. v == var || v == other) (map read_var exprs.now) ≡ true → steps.new ≤ steps.old
+            + 160 * walked_from self.now.compiled.now (G.meaning self.now.graph.now) self.now.pattern.now plan.now.steps var elem }
+    {
+        let atoms = self.pattern.atoms.as_slice();
+        let all = plan.steps.as_slice();
+        if is_tree(atoms, all) {
+            self.tuples_by_ways(alloc, exprs, plan, var, elem, steps)
+        } else {
+            self.tuples_by_all(alloc, exprs, all, var, elem, steps)
+        }
+    }
+
+    // The same by a search of all variables.
+    fn tuples_by_all<L: Ledger>(
         &self,
         alloc: Global,
         exprs: &[Expr],
@@ -149,5 +194,58 @@ impl<'a, G: GraphRead> Place<'a, G> {
             }
             None => Ok(tuples),
         }
+    }
+
+    // The same along the way, where the plan has a step for each end of each edge place.
+    fn tuples_by_ways<L: Ledger>(
+        &self,
+        alloc: Global,
+        exprs: &[Expr],
+        plan: &Plan,
+        var: u32,
+        elem: Elem,
+        steps: &mut Steps<L>,
+    ) -> Result<TupleSet, Memory>
+        requires valid { is_valid_pattern self.now.pattern.now ≡ true }
+        requires names { list_all (names_types self.now.compiled.now) self.now.pattern.now.atoms ≡ true }
+        requires in_range { var < length self.now.pattern.now.edge_vars }
+        requires plan { IsSplit (map read_var exprs.now) self.now.pattern.now var plan.now }
+        requires few_exprs { length exprs.now ≤ 16 }
+        requires reads { list_all (λ (expr : Expr). nat_lt (read_var expr) (length self.now.pattern.now.edge_vars)) exprs.now ≡ true }
+        requires tree { is_tree self.now.pattern.now.atoms plan.now.steps ≡ true }
+        ensures value { IfOk result (λ tuples. tuples ≡ option_map_or (λ bound. gathered self.now.compiled.now (G.meaning self.now.graph.now)
+            self.now.pattern.now.atoms exprs.now plan.now.steps (with_bound nothing_bound var bound) [])
+            (admitted self.now.compiled.now (G.meaning self.now.graph.now) self.now.pattern.now var elem) []) }
+        ensures graph { OnSome (admitted self.now.compiled.now (G.meaning self.now.graph.now) self.now.pattern.now var elem)
+            (is_graph (G.meaning self.now.graph.now) ≡ true) }
+        ensures no_step_back { steps.old ≤ steps.new }
+        ensures cost { (w most : ℕ) → edge_count self.now.pattern.now.edge_vars ≤ w → IsSparse (G.meaning self.now.graph.now) w elem most →
+            steps.new ≤ steps.old + 16 * (most + 2) ^ (w + 1) }
+        ensures few { (w most : ℕ) → edge_count self.now.pattern.now.edge_vars ≤ w → IsSparse (G.meaning self.now.graph.now) w elem most →
+            IfOk result (λ tuples. length tuples ≤ (most + 2) ^ w) }
+        ensures routes { steps.new ≤ steps.old
+            + 80 * routed_from self.now.compiled.now (G.meaning self.now.graph.now) self.now.pattern.now (map read_var exprs.now) plan.now.steps var elem }
+        ensures walks { (other : ℕ) → list_all (λ v. v == var || v == other) (map read_var exprs.now) ≡ true → steps.new ≤ steps.old
+            + 160 * walked_from self.now.compiled.now (G.meaning self.now.graph.now) self.now.pattern.now plan.now.steps var elem }
+    {
+        let search = self.search();
+        let mut tuples = TupleSet::new(alloc);
+        let admitted = self.begin(&search, var, elem, steps);
+        let nothing = Bindings::none();
+        let gathering = Gathering {
+            search,
+            exprs,
+            alloc,
+        };
+        let off = plan.off.as_slice();
+        let way = Way { gathering, off };
+        let on = plan.on.as_slice();
+        let branch = Branch {
+            var,
+            plan: on,
+            bindings: &nothing,
+        };
+        way.gather_with(admitted, &branch, &mut tuples, steps)?;
+        Ok(tuples)
     }
 }

@@ -3,10 +3,15 @@ use Rattle.pgs_syntax.specs.Valid.{edge_count}
 use Rattle.pgs_match.specs.declared.planned.Side.TheVariants.{Scope}
 use Rattle.pgs_match.specs.Branches.{is_tree, walked_from}
 use Rattle.pgs_match.specs.Planned.{most_edges}
+use Rattle.pgs_match.specs.Plans.{is_plan}
 use Rattle.pgs_match.proofs.Acyclic.{plan_is_tree}
 use Rattle.pgs_match.proofs.Scopes.{pattern_has, side_edges}
 use Rattle.pgs_match.proofs.Values.{scope_valid}
 use Rattle.pgs_match.proofs.calls.in_scope.Goals as goal
+
+pub has_match-requires-clause-plan : goal.has_match-requires-clause-plan
+has_match-requires-clause-plan g c =
+    subst (λ p. is_plan p 0 c.as_slice.result.now ≡ true) (sym c.pattern.ensures.pattern) (subst (λ steps. is_plan c.args.key.now.scope 0 steps ≡ true) (sym c.as_slice.ensures) c.plan.ensures.0)
 
 pub returns-clause-cost : goal.returns-clause-cost
 returns-clause-cost g c = λ most sparse.
@@ -17,11 +22,12 @@ pub returns-clause-adds : goal.returns-clause-adds
 returns-clause-adds g c = λ acyclic.
     let key = c.args.key.now in
     let valid = scope_valid key c.pattern.ensures.valid in
-    let plan = c.plan.result.now in
+    let plan = c.as_slice.result.now in
+    let plans = subst (λ steps. is_plan key.scope 0 steps ≡ true) (sym c.as_slice.ensures) c.plan.ensures.0 in
     let same = c.pattern.ensures.pattern in
-    let tree = plan_is_tree key.scope valid acyclic 0 (pattern_has key.scope valid) plan c.plan.ensures in (
+    let tree = plan_is_tree key.scope valid acyclic 0 (pattern_has key.scope valid) plan plans in (
       plan,
-      c.plan.ensures,
+      plans,
       subst (λ p. c.has_match.new.steps ≤ c.args.steps.now + 80 * walked_from c.args.compiled.now (g.G.GraphRead.meaning c.args.graph.now) p plan 0 c.args.elem) same
           (c.has_match.ensures.adds (subst (λ p. is_tree p.atoms plan ≡ true) (sym same) tree)),
     )

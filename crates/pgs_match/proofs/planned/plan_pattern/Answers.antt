@@ -1,5 +1,5 @@
-use Rattle.std.proofs.Common.{◌≡◌, ◌+◌, true, [], ◌∷◌, ◌++◌, length, sym, subst, length-append, arith}
-use Rattle.pgs_match.specs.Planned.{are_plans_from}
+use Rattle.std.proofs.Common.{◌≡◌, ◌+◌, [], ◌∷◌, ◌++◌, length, sym, subst, length-append, arith}
+use Rattle.pgs_match.specs.Planned.{ArePlansFrom}
 use Rattle.pgs_match.proofs.Plans.{one_plan_more}
 use Rattle.pgs_match.proofs.planned.plan_pattern.Goals as goal
 
@@ -9,7 +9,7 @@ loop-var-preserved c =
     let before = c.loop-var.invariant in
     record {
       plans =
-          subst (λ plans. are_plans_from c.args.pattern.now 0 plans ≡ true) (sym pushed)
-          (one_plan_more c.args.pattern.now c.loop-var.var c.loop-var.plans.items c.in_ok-plan.plan before.plans before.size c.in_ok-plan.ensures.plan);
+          subst (ArePlansFrom c.args.pattern.now 0) (sym pushed)
+          (one_plan_more c.args.pattern.now c.loop-var.var c.loop-var.plans.items c.in_ok-plan.plan before.plans before.size c.in_ok-plan.ensures);
       size = subst (λ plans. length plans ≡ c.loop-var.var + 1) (sym pushed) (omega (arith, before.size, length-append c.loop-var.plans.items (c.in_ok-plan.plan ∷ [])));
     }

@@ -1,9 +1,9 @@
-use Rattle.std.proofs.Common.{◌≡◌, true, length}
-use Rattle.pgs_match.specs.Planned.{are_plans_from}
+use Rattle.std.proofs.Common.{◌≡◌, length}
+use Rattle.pgs_match.specs.Planned.{ArePlansFrom}
 use Rattle.pgs_match.proofs.planned.plan_pattern.Given as goal
 
 abbrev pub invariant-loop-var : goal.invariant-loop-var
 invariant-loop-var l = record {
-  plans : are_plans_from l.pattern 0 l.plans.items ≡ true;
+  plans : ArePlansFrom l.pattern 0 l.plans.items;
   size : length l.plans.items ≡ l.var;
 }

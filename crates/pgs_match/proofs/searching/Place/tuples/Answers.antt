@@ -1,56 +1,39 @@
-use Rattle.std.proofs.Common.{[], length, ap, ◌∙◌, arith}
-use Rattle.pgs_match.specs.Search.{gathered, most_steps}
-use Rattle.pgs_match.proofs.Searched.{cost_with, cost_without, few_with}
+use Rattle.std.proofs.Common.{◌≡◌, true, [], IfOk, sym, ◌∙◌, subst, true≢false}
+use Rattle.std.specs.Option.{option_map_or}
+use Rattle.pgs_match.specs.Bounds.{with_bound, nothing_bound}
+use Rattle.pgs_match.specs.Branches.{is_tree}
+use Rattle.pgs_match.specs.Plans.{is_plan}
+use Rattle.pgs_match.specs.Search.{gathered}
+use Rattle.pgs_match.specs.Tests.{admitted}
 use Rattle.pgs_match.proofs.searching.Place.tuples.Goals as goal
 
-pub returns-in_err-gather-in-Some-clause-cost : goal.returns-in_err-gather-in-Some-clause-cost
-returns-in_err-gather-in-Some-clause-cost g c =
+pub tuples_by_ways-requires-clause-tree : goal.tuples_by_ways-requires-clause-tree
+tuples_by_ways-requires-clause-tree g c =
+    subst (λ steps. is_tree c.args.self.now.pattern.now.atoms steps ≡ true) c.as_slice-all.ensures
+    (subst (λ atoms. is_tree atoms c.as_slice-all.result.now ≡ true) c.as_slice-atoms.ensures (sym c.is_tree.ensures ∙ c.if-is_tree.true))
+
+pub returns-then-is_tree-clause-routes : goal.returns-then-is_tree-clause-routes
+returns-then-is_tree-clause-routes g c = λ tree. c.tuples_by_ways.ensures.routes
+
+pub returns-then-is_tree-clause-walks : goal.returns-then-is_tree-clause-walks
+returns-then-is_tree-clause-walks g c = λ tree. c.tuples_by_ways.ensures.walks
+
+pub tuples_by_all-requires-clause-plan : goal.tuples_by_all-requires-clause-plan
+tuples_by_all-requires-clause-plan g c = subst (λ steps. is_plan c.args.self.now.pattern.now c.args.var steps ≡ true) (sym c.as_slice-all.ensures) c.requires.plan.0
+
+pub returns-else-is_tree-clause-value : goal.returns-else-is_tree-clause-value
+returns-else-is_tree-clause-value g c =
     let place = c.args.self.now in
     let graph = g.G.GraphRead.meaning place.graph.now in
-    let search = c.search-search.result in
-    let other = g.G.GraphRead.meaning search.graph.now in
-    cost_with place.compiled.now graph place.pattern.now c.requires.valid c.args.var c.requires.in_range c.args.plan.now c.requires.plan c.args.elem c.in-Some.bound c.in-Some.ensures.value
-    search.compiled.now other search.atoms.now
-    (record {
-      schemas = ap (λ r. r.now) c.search-search.ensures.compiled;
-      graphs = ap (λ r. g.G.GraphRead.meaning r.now) c.search-search.ensures.graph;
-      lists = c.search-search.ensures.atoms;
-    })
-    c.in-Some.ensures.graph (length c.args.exprs.now) c.args.steps.now c.begin.new.steps c.gather.new.steps c.requires.few_exprs c.begin.ensures.at_most
-    (let same = ap (most_steps search.compiled.now other search.atoms.now (length c.args.exprs.now) c.args.plan.now) c.alone.ensures in omega (arith, c.gather.ensures.cost, same))
+    subst (λ steps. IfOk c.tuples_by_all.result (λ tuples. tuples ≡ option_map_or (λ bound. gathered place.compiled.now graph place.pattern.now.atoms c.args.exprs.now steps (with_bound nothing_bound c.args.var bound) [])
+    (admitted place.compiled.now graph place.pattern.now c.args.var c.args.elem) [])) c.as_slice-all.ensures c.tuples_by_all.ensures.value
 
-pub returns-in_ok-gather-in-Some-clause-cost : goal.returns-in_ok-gather-in-Some-clause-cost
-returns-in_ok-gather-in-Some-clause-cost g c =
-    let place = c.args.self.now in
-    let graph = g.G.GraphRead.meaning place.graph.now in
-    let search = c.search-search.result in
-    let other = g.G.GraphRead.meaning search.graph.now in
-    cost_with place.compiled.now graph place.pattern.now c.requires.valid c.args.var c.requires.in_range c.args.plan.now c.requires.plan c.args.elem c.in-Some.bound c.in-Some.ensures.value
-    search.compiled.now other search.atoms.now
-    (record {
-      schemas = ap (λ r. r.now) c.search-search.ensures.compiled;
-      graphs = ap (λ r. g.G.GraphRead.meaning r.now) c.search-search.ensures.graph;
-      lists = c.search-search.ensures.atoms;
-    })
-    c.in-Some.ensures.graph (length c.args.exprs.now) c.args.steps.now c.begin.new.steps c.gather.new.steps c.requires.few_exprs c.begin.ensures.at_most
-    (let same = ap (most_steps search.compiled.now other search.atoms.now (length c.args.exprs.now) c.args.plan.now) c.alone.ensures in omega (arith, c.gather.ensures.cost, same))
+pub returns-else-is_tree-clause-routes : goal.returns-else-is_tree-clause-routes
+returns-else-is_tree-clause-routes g c = λ tree.
+    absurd (true≢false (sym (subst (λ atoms. is_tree atoms c.as_slice-all.result.now ≡ true) (sym c.as_slice-atoms.ensures)
+    (subst (λ steps. is_tree c.args.self.now.pattern.now.atoms steps ≡ true) (sym c.as_slice-all.ensures) tree)) ∙ sym c.is_tree.ensures ∙ c.if-is_tree.false))
 
-pub returns-in_ok-gather-in-Some-clause-few : goal.returns-in_ok-gather-in-Some-clause-few
-returns-in_ok-gather-in-Some-clause-few g c =
-    let place = c.args.self.now in
-    let graph = g.G.GraphRead.meaning place.graph.now in
-    let search = c.search-search.result in
-    let other = g.G.GraphRead.meaning search.graph.now in
-    few_with place.compiled.now graph place.pattern.now c.requires.valid c.args.var c.requires.in_range c.args.plan.now c.requires.plan c.args.elem c.in-Some.bound c.in-Some.ensures.value
-    search.compiled.now other search.atoms.now
-    (record {
-      schemas = ap (λ r. r.now) c.search-search.ensures.compiled;
-      graphs = ap (λ r. g.G.GraphRead.meaning r.now) c.search-search.ensures.graph;
-      lists = c.search-search.ensures.atoms;
-    })
-    c.in-Some.ensures.graph c.args.exprs.now c.gather.new.tuples
-    (c.in_ok-gather-in-Some.ensures.ok ∙ ap (λ tuples. gathered search.compiled.now other search.atoms.now c.args.exprs.now c.args.plan.now c.alone.result tuples) c.new-tuples.ensures
-    ∙ ap (λ b. gathered search.compiled.now other search.atoms.now c.args.exprs.now c.args.plan.now b []) c.alone.ensures)
-
-pub returns-in-None-clause-cost : goal.returns-in-None-clause-cost
-returns-in-None-clause-cost g c = λ w most few sparse. cost_without c.args.steps.now c.begin.new.steps c.begin.ensures.at_most w most
+pub returns-else-is_tree-clause-walks : goal.returns-else-is_tree-clause-walks
+returns-else-is_tree-clause-walks g c = λ tree.
+    absurd (true≢false (sym (subst (λ atoms. is_tree atoms c.as_slice-all.result.now ≡ true) (sym c.as_slice-atoms.ensures)
+    (subst (λ steps. is_tree c.args.self.now.pattern.now.atoms steps ≡ true) (sym c.as_slice-all.ensures) tree)) ∙ sym c.is_tree.ensures ∙ c.if-is_tree.false))
