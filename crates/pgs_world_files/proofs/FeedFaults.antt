@@ -2,7 +2,7 @@
 use Rattle.std.proofs.Common.{ℕ, List, inl, inr}
 use Rattle.pgs_world_files.specs.declared.access.Access.TheVariants.{Append}
 use Rattle.pgs_world_files.specs.declared.cause.OpenFault.{OpenFault}
-use Rattle.pgs_world_files.specs.declared.cause.OpenFault.TheVariants as open
+use Rattle.pgs_world_files.specs.declared.cause.OpenFault.TheVariants as opens
 use Rattle.pgs_world_files.specs.declared.found.Found.{Found}
 use Rattle.pgs_world_files.specs.Calls.{Facts}
 use Rattle.pgs_world_files.specs.Faults.{IsFault}
@@ -10,13 +10,13 @@ use Rattle.pgs_world_files.specs.FeedFaults.{FailsToLook, IsFeedFault, IsLookFau
 
 module _ {F : Type 0} (facts : Facts F) (opened : List Found) (name : List ℕ) where
   pub from_open : (made : OpenFault) → IsFault facts opened name Append made → IsFeedFault facts opened name (of_open made)
-  from_open (open.File cause) is = inl is
-  from_open open.Memory is = tt
+  from_open (opens.File cause) is = inl is
+  from_open opens.Memory is = tt
 
   pub from_look : (made : OpenFault) → IsLookFault facts name made → IsFeedFault facts opened name (of_open made)
-  from_look (open.File cause) is = inr is
-  from_look open.Memory is = tt
+  from_look (opens.File cause) is = inr is
+  from_look opens.Memory is = tt
 
 pub looks : {F : Type 0} (facts : Facts F) (name : List ℕ) (made : OpenFault) → FailsToLook facts name → IsLookFault facts name made
-looks facts name (open.File cause) fails = fails
-looks facts name open.Memory fails = tt
+looks facts name (opens.File cause) fails = fails
+looks facts name opens.Memory fails = tt

@@ -6,7 +6,7 @@ use Rattle.pgs_world_streams.specs.Given.{PlainCall, BareCall}
 use Rattle.pgs_world_streams.specs.Pieces.{PieceIs}
 use Rattle.pgs_world_files.specs.declared.access.Access.TheVariants.{Append}
 use Rattle.pgs_world_files.specs.declared.cause.OpenFault.{OpenFault}
-use Rattle.pgs_world_files.specs.declared.cause.OpenFault.TheVariants as open
+use Rattle.pgs_world_files.specs.declared.cause.OpenFault.TheVariants as opens
 use Rattle.pgs_world_files.specs.declared.feed_cause.FeedCause.{FeedCause}
 use Rattle.pgs_world_files.specs.declared.feed_cause.FeedCause.TheVariants.{File, NoFeed, Torn, Ahead, Stream}
 use Rattle.pgs_world_files.specs.declared.feed_cause.FeedOpenFault.{FeedOpenFault}
@@ -19,8 +19,8 @@ use Rattle.pgs_world_files.specs.Faults.{IsCause}
 
 -- a fault of an open, as one of a feed
 abbrev pub of_open : OpenFault → FeedOpenFault
-of_open (open.File cause) = fault.Feed (File cause)
-of_open open.Memory = fault.Memory
+of_open (opens.File cause) = fault.Feed (File cause)
+of_open opens.Memory = fault.Memory
 
 -- a call on the way to the end of a feed's file failed, or its name was found to have another file
 pub data FailsToLook {F : Type 0} (facts : Facts F) (name : List ℕ) : Type 0 where
@@ -33,8 +33,8 @@ pub data FailsToLook {F : Type 0} (facts : Facts F) (name : List ℕ) : Type 0 w
 
 -- the same of a fault; want of memory is free
 abbrev pub IsLookFault : {F : Type 0} → Facts F → List ℕ → OpenFault → Type 0
-IsLookFault facts name (open.File cause) = FailsToLook facts name
-IsLookFault facts name open.Memory = ⊤
+IsLookFault facts name (opens.File cause) = FailsToLook facts name
+IsLookFault facts name opens.Memory = ⊤
 
 -- a cause for which a feed has no file, and the fact behind it
 abbrev pub IsFeedCause : {F : Type 0} → Facts F → List Found → List ℕ → FeedCause → Type 0
