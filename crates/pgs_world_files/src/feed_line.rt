@@ -1,6 +1,6 @@
-ghost use Rattle.std.specs.Prelude.{◌≡◌, ◌+◌, ◌*◌, ◌^◌, Some, None, ◌&&◌, nat_lt, if◌then◌else◌};
+ghost use Rattle.std.specs.Prelude.{◌≡◌, ◌+◌, ◌*◌, ◌^◌, ◌<◌, Some, None, ◌&&◌, length, drop, nat_lt, if◌then◌else◌, MatchOption};
 ghost use Rattle.std.specs.Char.{is_ascii_digit, digit_value};
-ghost use Rattle.pgs_world_files.specs.FeedLines.{EndIs, IsBehindFeed, commit_before, commit_of, commit_of_line, commit_of_number, number_after};
+ghost use Rattle.pgs_world_files.specs.FeedLines.{EndIs, IsBehindFeed, comma_in, commit_before, commit_of, commit_of_line, commit_of_number, number_after};
 
 use crate::FeedCause;
 use memchr::{memchr, memrchr};
@@ -40,15 +40,27 @@ fn commit_of_number(digits: &[u8]) -> Option<u64>
     }
 }
 
+// The place of the first comma.
+#[tactic(auto, using(crate::proofs::FeedLines::comma_at))]
+fn comma_in(bytes: &[u8]) -> Option<usize>
+    ensures { MatchOption result (comma_in bytes.now ≡ length bytes.now) (λ place. (place < length bytes.now) × (comma_in bytes.now ≡ place)) }
+{
+    memchr(b',', bytes)
+}
+
 // The number before the first comma, where the operations begin there.
 fn commit_before(rest: &[u8]) -> Option<u64>
     ensures { result ≡ commit_before rest.now }
 {
-    let comma = memchr(b',', rest)?;
-    if !rest[comma..].starts_with(b",\"ops\":[".as_slice()) {
-        return None;
+    match comma_in(rest) {
+        Some(comma) => {
+            if rest[comma..].starts_with(b",\"ops\":[".as_slice()) {
+                return commit_of_number(&rest[..comma]);
+            }
+            None
+        }
+        None => None,
     }
-    commit_of_number(&rest[..comma])
 }
 
 /// The number of the commit with which bytes begin, as a feed's line does.
@@ -71,11 +83,19 @@ fn commit_of_line(line: &[u8]) -> Option<u64>
     commit_of(line)
 }
 
+// The place of the last line feed.
+#[tactic(auto, using(crate::proofs::FeedLines::behind_at))]
+fn last_feed(bytes: &[u8]) -> Option<usize>
+    ensures { MatchOption result (IsBehindFeed bytes.now bytes.now) (λ place. (place < length bytes.now) × IsBehindFeed bytes.now (drop (place + 1) bytes.now)) }
+{
+    memrchr(b'\n', bytes)
+}
+
 // What stands behind the last line feed.
 fn behind_feed(bytes: &[u8]) -> &[u8]
     ensures { IsBehindFeed bytes.now result.now }
 {
-    match memrchr(b'\n', bytes) {
+    match last_feed(bytes) {
         Some(place) => &bytes[place + 1..],
         None => bytes,
     }
