@@ -19,3 +19,15 @@ returns-in_err-found-clause-fault g c =
     if_err _ c.from_residual-in_err-found.result c.from_residual-in_err-found.ensures.1
     (λ made is. subst (λ (m : FeedOpenFault). IsFeedFault g.S.System.facts opened c.args.name.now m) (sym is)
     (from_open g.S.System.facts opened c.args.name.now _ (c.in_err-found.ensures.fault c.args.name.now Append)))
+
+pub returns-in_err-check_streams-clause-fault : goal.returns-in_err-check_streams-clause-fault
+returns-in_err-check_streams-clause-fault g c =
+    let opened = c.args.self.now.opened.items in
+    if_err _ c.from_residual-in_err-check_streams.result c.from_residual-in_err-check_streams.ensures.1
+    (λ made is. subst (λ (m : FeedOpenFault). IsFeedFault g.S.System.facts opened c.args.name.now m) (sym is) (c.in_err-check_streams.ensures.fault opened c.args.name.now))
+
+pub returns-in_err-last-clause-fault : goal.returns-in_err-last-clause-fault
+returns-in_err-last-clause-fault g c =
+    let opened = c.args.self.now.opened.items in
+    if_err _ c.from_residual-in_err-last.result c.from_residual-in_err-last.ensures.1
+    (λ made is. subst (λ (m : FeedOpenFault). IsFeedFault g.S.System.facts opened c.args.name.now m) (sym is) (c.in_err-last.ensures.fault opened))
