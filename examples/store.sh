@@ -339,18 +339,137 @@ wait "$writer"
 status=$?
 holds "a file taken away" eval '[ "$status" = 5 ] && [ ! -s gone.txt ] && grep -qx "pgguard: gone\.[ab]: was replaced or removed" told.txt'
 
-# Feeds: no two of them one file, none a file of the store, and two runs lose no line of one.
-fresh fed
-ln feed_once.jsonl feed_link.jsonl 2>/dev/null || { : >feed_once.jsonl && ln feed_once.jsonl feed_link.jsonl; }
-printf '1 committed 2\nfeeds lost=4\n' >lost.txt
-runs "feeds of one file" 0 lost.txt line.txt apply fed feed_once.jsonl feed_once.jsonl feed_link.jsonl fed.b ./fed.a
+# One line over feeds: `loses NAME LOST TOLD FEED..` compares what is printed, the status, and what is told on standard error without the
+# program's name.
+loses() {
+  local name=$1 lost=$2 told=$3 status
+  shift 3
+  fresh fed
+  "$program" apply fed "$@" <line.txt >found.txt 2>told.txt
+  status=$?
+  { echo '1 committed 2'; [ "$lost" = 0 ] || echo "feeds lost=$lost"; } >wanted.txt
+  holds "$name" eval '[ "$status" = 0 ] && cmp -s found.txt wanted.txt && [ "$(sed "s/^pgguard: //" told.txt)" = "$told" ]'
+}
+
+# Feeds: no two of them one file, and none a file of the store.
+: >feed_once.jsonl
+ln feed_once.jsonl feed_link.jsonl
+twice='is open as another file of this run'
+loses "feeds of one file" 4 "feed_once.jsonl: $twice
+feed_link.jsonl: $twice
+fed.b: $twice
+./fed.a: $twice" feed_once.jsonl feed_once.jsonl feed_link.jsonl fed.b ./fed.a
 holds "a feed gets a line once" test "$(wc -l <feed_once.jsonl)" = 1
 holds "a store is no feed" eval '"$program" recover fed | cmp -s - after_dump.txt'
+
+# A feed stands behind a line of this store's feed alone, and else nothing is written: `behind NAME CAUSE TEXT`, where CAUSE is `none` for a line
+# that is written.
+behind() {
+  # shellcheck disable=SC2059
+  printf "$3" >behind.jsonl
+  cp behind.jsonl before.jsonl
+  if [ "$2" = none ]; then
+    loses "$1" 0 "" behind.jsonl
+    holds "$1, and the file" eval '[ "$(wc -l <behind.jsonl)" = "$(($(wc -l <before.jsonl) + 1))" ]'
+  else
+    loses "$1" 1 "behind.jsonl: $2" behind.jsonl
+    holds "$1, and the file" cmp -s behind.jsonl before.jsonl
+  fi
+}
+behind "a feed that is empty" none ''
+behind "a feed of this store" none '{"commit":1,"ops":[]}\n'
+behind "a feed behind other lines" none 'no line of a feed\n{"commit":1,"ops":[{"add_node":1}]}\n'
+behind "a schema for a feed" "isn't a feed" 'CREATE GRAPH TYPE g LOOSE {};\n'
+behind "an input for a feed" "isn't a feed" "$node\\n"
+behind "an empty line" "isn't a feed" '{"commit":1,"ops":[]}\n\n'
+behind "a commit 0" "isn't a feed" '{"commit":0,"ops":[]}\n'
+behind "a torn feed" "its last line is torn" '{"commit":1,"ops":[]}\n{"commit":2,"op'
+behind "a feed that lacks its line feed" "its last line is torn" '{"commit":1,"ops":[]}'
+behind "bytes 00 behind a feed" "its last line is torn" '{"commit":1,"ops":[]}\n\000\000\000'
+behind "a feed that has the commit" "is ahead of the store" '{"commit":2,"ops":[]}\n'
+behind "the greatest number" "is ahead of the store" '{"commit":18446744073709551615,"ops":[]}\n'
+behind "a number that is too great" "isn't a feed" '{"commit":18446744073709551616,"ops":[]}\n'
+
+# The longest line of a feed is looked at, and a longer one is none.
+long() {
+  printf '{"commit":1,"ops":[%*s]}\n' "$(($1 - 21))" '' >long.jsonl
+}
+long 2097152
+loses "the longest line of a feed" 0 "" long.jsonl
+long 2097153
+loses "a line that is too long for a feed" 1 "long.jsonl: isn't a feed" long.jsonl
+
+# Other causes, one line each whatever the name holds; and what is written without a look.
+loses "feeds that can't be opened" 2 'missing/feed: no such file or folder
+two\nlines\u{1b}/feed: no such file or folder' missing/feed $'two\nlines\e/feed'
+loses "a folder for a feed" 1 "folder.a: is a folder" folder.a
+loses "a feed on a full disk" 1 "/dev/full: no space left" /dev/full
+mkfifo piped
+cat piped >piped.txt &
+loses "a feed that is a pipe" 0 "" piped
+wait $!
+holds "a pipe gets the line" test "$(wc -l <piped.txt)" = 1
+if [ "$(id -u)" != 0 ]; then
+  printf 'unseen' >unseen.jsonl
+  chmod 200 unseen.jsonl
+  loses "a feed that may not be read" 0 "" unseen.jsonl
+fi
+fresh fed
+cat line.txt line.txt >again.txt
+"$program" apply fed missing/feed <again.txt >found.txt 2>told.txt
+status=$?
+holds "a lost feed beside a refused line" eval '[ "$status" = 1 ] && [ "$(cat told.txt)" = "pgguard: missing/feed: no such file or folder" ]'
+
+# Neither standard input nor standard output is a feed; one that is closed is no fault of a feed.
+streams='is standard input or standard output'
+fresh fed
+cp line.txt self.txt
+"$program" apply fed self.txt <self.txt >found.txt 2>told.txt
+status=$?
+holds "an input that feeds itself" eval '[ "$status" = 0 ] && [ "$(cat told.txt)" = "pgguard: self.txt: $streams" ] && cmp -s self.txt line.txt'
+fresh fed
+printf '{"commit":1,"ops":[]}\n' >out.jsonl
+"$program" apply fed ./out.jsonl <line.txt >>out.jsonl 2>told.txt
+status=$?
+holds "an output for a feed" eval '[ "$status" = 0 ] && [ "$(cat told.txt)" = "pgguard: ./out.jsonl: $streams" ] && [ "$(tail -n 2 out.jsonl)" = "$(printf "1 committed 2\nfeeds lost=1")" ]'
+fresh fed
+"$program" apply fed closed.jsonl <line.txt >&- 2>told.txt
+status=$?
+holds "a feed beside a closed output" eval '[ "$status" = 7 ] && [ "$(cat told.txt)" = "pgguard: standard output: is not open" ] && [ "$(wc -l <closed.jsonl)" = 1 ]'
+fresh fed
+"$program" apply fed closed_in.jsonl <&- >found.txt 2>told.txt
+status=$?
+holds "a feed beside a closed input" eval '[ "$status" = 6 ] && [ "$(cat told.txt)" = "pgguard: standard input: is not open" ] && [ ! -s closed_in.jsonl ]'
+
+# A new feed is its owner's alone, and one that is there keeps its rights.
+(umask 022 && : >shared.jsonl)
+chmod 644 shared.jsonl
+(umask 000 && loses "a new feed beside one that is there" 0 "" new.jsonl shared.jsonl)
+holds "a new feed is its owner's" test "$(stat -c %a new.jsonl)" = 600
+holds "a feed keeps its rights" test "$(stat -c %a shared.jsonl)" = 644
+
+# Two runs that begin one feed at once lose no line of it.
 "$program" load one <kept_schema.txt >/dev/null
 "$program" load two <kept_schema.txt >/dev/null
-"$program" apply one both.jsonl <many.txt >one_lines.txt &
-"$program" apply two both.jsonl <many.txt >two_lines.txt
-wait
+mkfifo held_two
+"$program" apply one both.jsonl <held >one_lines.txt &
+first=$!
+"$program" apply two both.jsonl <held_two >two_lines.txt &
+second=$!
+exec 9>held 8>held_two
+for writer in "$first" "$second"; do
+  for _ in $(seq 1 100); do
+    ls -l "/proc/$writer/fd" 2>/dev/null | grep -q 'both\.jsonl$' && break
+    sleep 0.1
+  done
+done
+sleep 0.2
+cat many.txt >&9 &
+sender=$!
+cat many.txt >&8
+wait "$sender"
+exec 9>&- 8>&-
+wait "$first" "$second"
 holds "two runs on one feed" eval '[ "$(wc -l <both.jsonl)" = 2000 ] && [ "$(grep -c "^{.*}$" both.jsonl)" = 2000 ]'
 
 # What a run asks of the system, in order: F the sync of the folder, one for each file; S the sync of a file, one of each at the start and

@@ -30,7 +30,8 @@ class Store:
     checkpoint_every: where so many commits stand behind the last checkpoint the next one is made, between two transactions: the process ends, the
         store is checkpointed, and the process is started again. The call that comes then waits for that whole start, which reads and judges the store.
         Where another run has the store, as one that reads it, the checkpoint is put off until so many commits more, and the writer goes on.
-    anyway: takes a store that stepped back, and a feed whose last line isn't the store's last commit, as they are
+    anyway: takes a store that stepped back, and a feed whose last line isn't the store's last commit, as they are; a feed that is torn or ahead gets no
+        line and is lost, which `close` tells
 
     Before the process starts the feeds are compared with the store. The store is locked as long as the process runs. Threads may share a Store. After a
     Fault the next call starts the process again.

@@ -227,12 +227,19 @@ class Feeds(StoreTest):
             for number in range(1, 4):
                 store.apply(person(number))
 
-    def mismatch(self, text, feed=None):
-        """The store is refused beside its feed, and taken where it is said."""
+    def mismatch(self, text, is_lost=False):
+        """The store is refused beside its feed, and taken where it is said; the feed gets no line then where `apply` writes none behind it."""
         with self.assertRaisesRegex(Mismatch, text):
-            Store(self.name, feed=feed or self.feed)
-        with Store(self.name, feed=feed or self.feed, anyway=True) as store:
-            store.apply(person(store.commits() + 1))
+            Store(self.name, feed=self.feed)
+        before = os.path.getsize(self.feed)
+        store = Store(self.name, feed=self.feed, anyway=True)
+        store.apply(person(store.commits() + 1))
+        if is_lost:
+            with self.assertRaises(FeedLost):
+                store.close()
+        else:
+            store.close()
+        self.assertEqual(os.path.getsize(self.feed) == before, is_lost)
 
     def test_whole_and_empty_ones(self):
         for feed in (self.feed, self.at("new")):
@@ -242,12 +249,12 @@ class Feeds(StoreTest):
 
     def test_a_torn_one(self):
         os.truncate(self.feed, os.path.getsize(self.feed) - 1)
-        self.mismatch("feed: its last line is torn")
+        self.mismatch("feed: its last line is torn", is_lost=True)
 
     def test_one_that_is_ahead(self):
         with open(self.feed, "ab") as file:
             file.write(b'{"commit":4,"ops":[]}\n')
-        self.mismatch("feed: its last commit is 4, and the store has 3: it is another store's, or the store stepped back")
+        self.mismatch("feed: its last commit is 4, and the store has 3: it is another store's, or the store stepped back", is_lost=True)
 
     def test_one_of_something_else(self):
         for number, text in enumerate((b"x\n", b"{}\n", b"[]\n", b'{"commit":"x"}\n', b"\n", b"\xff\n", b"1" * 3_000_000 + b"\n")):

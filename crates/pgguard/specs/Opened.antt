@@ -13,6 +13,8 @@ use Rattle.pgs_run_words.specs.Words.{command_of, store_of, feeds_of}
 use Rattle.pgs_world_files.specs.declared.access.StoreAccess.{StoreAccess}
 use Rattle.pgs_world_files.specs.declared.access.StoreAccess.TheVariants.{Read, Append, WriteOver, Make}
 use Rattle.pgs_world_files.specs.declared.area_files.AreaFiles.{AreaFiles}
+use Rattle.pgs_world_files.specs.declared.cause.FileCause.TheVariants.{Twice}
+use Rattle.pgs_world_files.specs.declared.feed_cause.FeedCause.TheVariants.{File}
 use Rattle.pgs_world_files.specs.declared.file_feed.FileFeed.{FileFeed}
 use Rattle.pgs_world_files.specs.Counted.{untold_bytes}
 use Rattle.pgs_world_files.specs.Opened.{AreaGives, IsStoreOf}
@@ -38,7 +40,7 @@ is_among names name = list_any (bytes_eq name) names
 -- the feed of a name behind others: one into no file where it is among them, and else what the name gave
 abbrev pub IsFeedOf : {L : Type 0} → (List ℕ → FileFeed L → Type 0) → List (List ℕ) → List ℕ → FileFeed L → Type 0
 IsFeedOf gives earlier name feed =
-    ((is_among earlier name ≡ true) × (feed.writer ≡ None)) ⊎ ((is_among earlier name ≡ false) × gives name feed)
+    ((is_among earlier name ≡ true) × (feed.writer ≡ None) × (feed.cause ≡ Some (File Twice))) ⊎ ((is_among earlier name ≡ false) × gives name feed)
 
 -- the feeds of these names behind others, one for each name, in order
 abbrev pub AreFeedsOf : {L : Type 0} → (List ℕ → FileFeed L → Type 0) → List (List ℕ) → List (List ℕ) → List (Option (FileFeed L)) → Type 0

@@ -8,7 +8,7 @@ mod opening;
 mod program;
 
 use pgs_base::{Memory, Words};
-use pgs_program::{Ended, Program, start};
+use pgs_program::{Ended, Program, start, tell_lost_feeds};
 use pgs_world_files::{Handle, Opening, StoreFile, SystemFile, SystemOpening};
 use pgs_world_streams::SteadyWrite;
 use program::run_program;
@@ -16,6 +16,9 @@ use std::collections::hash_map::RandomState;
 use std::env;
 use std::io::{Read, Stdin, Stdout, Write};
 use std::process::ExitCode;
+
+// The place of the first word FEED, behind `apply` and NAME.
+const FIRST_FEED: usize = 2;
 
 struct Guard;
 
@@ -54,7 +57,10 @@ docs/GUIDE.md teaches all of them, docs/FORMATS.md has every printed text
             rt.stdout(),
             drawn,
         ) {
-            Ok(ran) => ran.ended(),
+            Ok(ran) => {
+                tell_lost_feeds(rt, Self::NAME, words, FIRST_FEED, &ran.opened.feeds);
+                ran.ended()
+            }
             Err(Memory) => Ended::unbegun(),
         }
     }

@@ -14,7 +14,9 @@ use pgs_feed::FeedList;
 use pgs_program::{Outside, seed_of};
 use pgs_run_words::{Command, CommandLine};
 use pgs_world::Feed;
-use pgs_world_files::{AreaFiles, FileFeed, Handle, Opening, StoreAccess, file_name};
+use pgs_world_files::{
+    AreaFiles, FeedCause, FileCause, FileFeed, Handle, Opening, StoreAccess, file_name,
+};
 use pgs_world_streams::{SteadyRead, SteadyWrite};
 use std::alloc::Global;
 use std::collections::hash_map::RandomState;
@@ -77,7 +79,7 @@ fn feed_of<O: Opening>(
     ensures faults { IfOk result (λ feed. ⟦<FileFeed<O::Line> as Feed>⟧.faults feed ≡ 0) }
 {
     if is_among(earlier, name) {
-        return Ok(FileFeed::absent());
+        return Ok(FileFeed::absent(FeedCause::File(FileCause::Twice)));
     }
     system.open_feed(name)
 }

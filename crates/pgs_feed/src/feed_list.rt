@@ -3,7 +3,7 @@ ghost use Rattle.std.specs.List.{AllZip};
 ghost use Rattle.std.specs.Option.{option_map};
 ghost use Rattle.pgs_feed.specs.Places.{Delivers, RaisesLost, fed, fed_count, is_there, lost_count, taken_at, without};
 ghost use Rattle.pgs_feed.specs.Puts.{PutsOnceEach};
-ghost use Rattle.pgs_feed.specs.Seen.{feeds_in, places};
+ghost use Rattle.pgs_feed.specs.Seen.{feeds_in, lost_in, places};
 
 use crate::{Line, Slot, visit_each};
 use pgs_base::Memory;
@@ -82,5 +82,12 @@ impl<F: Feed> FeedList<F> {
         ensures { option_map (λ bytes. bytes.now) result ≡ option_and_then taken_at (slice_get (places F.taken F.faults self.now) place) }
     {
         self.slots.get(place)?.shown()
+    }
+
+    /// The feed at the place, where it failed and wasn't dropped.
+    pub fn lost_feed(&self, place: usize) -> Option<&F>
+        ensures { option_map (λ feed. feed.now) result ≡ option_and_then lost_in (slice_get self.now.slots.items place) }
+    {
+        self.slots.get(place)?.lost_feed()
     }
 }

@@ -2,7 +2,7 @@ ghost use Rattle.std.specs.Prelude.{◌≡◌, Some, false};
 ghost use Rattle.std.specs.Option.{option_map};
 ghost use Rattle.pgs_feed.specs.Places.{Delivers, dropped, has_feed, is_fed, taken_at};
 ghost use Rattle.pgs_feed.specs.Puts.{PutsOnce};
-ghost use Rattle.pgs_feed.specs.Seen.{place_seen};
+ghost use Rattle.pgs_feed.specs.Seen.{lost_in, place_seen};
 
 use pgs_world::Feed;
 
@@ -36,6 +36,16 @@ impl<F: Feed> Slot<F> {
         ensures { result ≡ is_fed (place_seen F.taken F.faults self.now) }
     {
         !self.is_lost && self.feed.is_some()
+    }
+
+    /// The feed, where it failed and wasn't dropped.
+    pub fn lost_feed(&self) -> Option<&F>
+        ensures { option_map (λ feed. feed.now) result ≡ lost_in self.now }
+    {
+        if self.is_lost {
+            return self.feed.as_ref();
+        }
+        None
     }
 
     /// Puts the line into the feed, by one put, unless it failed before or was dropped. It is lost exactly where this put fails.

@@ -50,17 +50,17 @@ impl Ended {
     }
 }
 
-// The name of a store's file as a part of one line: what a terminal wouldn't show as it stands is escaped, so no name begins another line or
-// commands the terminal.
+/// The name of a file, by a word and its ending, as a part of one line: what a terminal wouldn't show as it stands is escaped, so no name
+/// begins another line or commands the terminal.
 #[derive(Drop)]
-struct ShownName<'a> {
-    store: &'a str,
-    ending: &'static str,
+pub(crate) struct ShownName<'a> {
+    pub(crate) word: &'a str,
+    pub(crate) ending: &'static str,
 }
 
 impl Display for ShownName<'_> {
     fn fmt<W: fmt::Write>(&self, f: &mut Formatter<W>) -> fmt::Result {
-        for c in self.store.chars() {
+        for c in self.word.chars() {
             match c {
                 '\'' | '"' => f.write_char(c)?,
                 _ => write!(f, "{}", c.escape_debug())?,
@@ -77,12 +77,12 @@ fn tell_area<R: Eprint>(
     words: &Words,
     area: Option<(&'static str, FileCause)>,
 ) {
-    let store = words.at(1).unwrap_or("");
+    let word = words.at(1).unwrap_or("");
     let (ending, cause) = match area {
         Some((ending, cause)) => (ending, cause.text()),
         None => ("", Cause::Failed.text()),
     };
-    tell(rt, program, ShownName { store, ending }, cause);
+    tell(rt, program, ShownName { word, ending }, cause);
 }
 
 /// Tells on standard error why a program's run of these words ended so, where it printed nothing of it: what failed and the cause, and for

@@ -7,10 +7,12 @@
 
 mod ending;
 mod exit;
+mod lost_feeds;
 mod outside;
 mod program;
 
 pub use ending::{Causes, Ended};
 pub use exit::exit_code;
+pub use lost_feeds::tell_lost_feeds;
 pub use outside::{Outside, Ran, seed_of};
 pub use program::{Program, start};

@@ -3,6 +3,10 @@ pub mod Calls
 pub mod Contents
 pub mod Counted
 pub mod Faults
+pub mod FeedCalls
+pub mod FeedFaults
+pub mod FeedLines
+pub mod FeedPuts
 pub mod Handles
 pub mod Head
 pub mod Named

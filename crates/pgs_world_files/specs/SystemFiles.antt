@@ -1,17 +1,19 @@
 -- What a name gave, of the system's files.
 use Rattle.std.specs.Prelude.{◌≡◌, ◌⊎◌, ℕ, false, true, List, Option, Some, None, Ok, string_bytes}
 use Rattle.pgs_world_files.specs.declared.access.Access.{Access}
-use Rattle.pgs_world_files.specs.declared.access.Access.TheVariants.{Append}
 use Rattle.pgs_world_files.specs.declared.area_file.AreaFile.{AreaFile}
 use Rattle.pgs_world_files.specs.declared.file_feed.FileFeed.{FileFeed}
 use Rattle.pgs_world_files.specs.declared.store_file.StoreFile.{StoreFile}
 use Rattle.pgs_world_files.specs.declared.system_file.SystemFile.{SystemFile}
 use Rattle.std.specs.declared.fs.options.OpenOptions.{OpenOptions}
 use Rattle.pgs_world_files.specs.declared.cause.FileCause.{FileCause}
+use Rattle.pgs_world_files.specs.declared.feed_cause.FeedCause.{FeedCause}
 use Rattle.pgs_world_files.specs.declared.found.Found.{Found}
 use Rattle.pgs_world_files.specs.declared.mode.Mode.TheVariants.{ToRead}
-use Rattle.pgs_world_files.specs.Calls.{AsksToPlace, Facts, IsOpenFor, IsOpenBehind, is_same}
+use Rattle.pgs_world_files.specs.Calls.{AsksToPlace, Facts, IsOpenFor, is_same}
 use Rattle.pgs_world_files.specs.Faults.{IsCause, IsNew, IsOwn}
+use Rattle.pgs_world_files.specs.FeedCalls.{IsOpenFeed}
+use Rattle.pgs_world_files.specs.FeedFaults.{HasFeedCause}
 
 -- there is a cause, and the fact behind it
 abbrev pub HasCause : {F : Type 0} → Facts F → List Found → List ℕ → Access → Option FileCause → Type 0
@@ -36,18 +38,18 @@ abbrev pub IsAdmitted : {S F : Type 0} → Facts F → List Found → List ℕ �
 IsAdmitted facts old name access (Some store) cause new = IsOwn facts access old store.file.file new
 IsAdmitted facts old name access None cause new = (new ≡ old) × HasCause facts old name access cause
 
--- a feed into the file of this name, open behind its end; or into none, and then there is a cause
-abbrev pub IsFeedOf : {F : Type 0} → Facts F → List Found → List ℕ → Option F → Type 0
-IsFeedOf facts opened name (Some file) = IsOpenBehind facts name file
-IsFeedOf facts opened name None = (cause : FileCause) × IsCause facts opened name Append cause
+-- a feed into the file of this name, open behind its end, of which this is the last line's number; or into none, and then there is a cause
+abbrev pub IsFeedOf : {F : Type 0} → Facts F → List Found → List ℕ → Option F → Option ℕ → Option FeedCause → Type 0
+IsFeedOf facts opened name (Some file) last cause = IsOpenFeed facts name file last
+IsFeedOf facts opened name None last cause = HasFeedCause facts opened name cause
 
 abbrev pub IsSystemFeed : {F : Type 0} → Facts F → List ℕ → FileFeed F → Type 0
-IsSystemFeed facts name feed = (opened : List Found) × IsFeedOf facts opened name feed.writer
+IsSystemFeed facts name feed = (opened : List Found) × IsFeedOf facts opened name feed.writer feed.last feed.cause
 
 -- the same of a feed among the files that are open
-abbrev pub IsFeedAdmitted : {F : Type 0} → Facts F → List Found → List ℕ → Option F → List Found → Type 0
-IsFeedAdmitted facts old name (Some file) new = IsNew facts old file new
-IsFeedAdmitted facts old name None new = (new ≡ old) × ((cause : FileCause) × IsCause facts old name Append cause)
+abbrev pub IsFeedAdmitted : {F : Type 0} → Facts F → List Found → List ℕ → Option F → Option FeedCause → List Found → Type 0
+IsFeedAdmitted facts old name (Some file) cause new = IsNew facts old file new
+IsFeedAdmitted facts old name None cause new = (new ≡ old) × HasFeedCause facts old name cause
 
 -- The file of a name, opened once more to be written at places without loss, under a number above those of the standard streams, and found to
 -- be the same.

@@ -1,65 +1,95 @@
-ghost use Rattle.std.specs.Prelude.{◌≡◌, ◌≤◌, None, Some, OnOk, OnErr};
+ghost use Rattle.std.specs.Prelude.{◌≡◌, ◌≤◌, None, Some, OnOk, OnErr, IfErr};
 ghost use Rattle.pgs_world.specs.Count.{RoseByOne, raised};
 ghost use Rattle.pgs_world.specs.World.{Adds, AddsFront};
 ghost use Rattle.pgs_world_files.specs.Counted.{untold_bytes};
+ghost use Rattle.pgs_world_files.specs.FeedPuts.{FeedPutIs, IsPutCause, is_behind};
 ghost use Rattle.pgs_world_files.specs.Handles.{IfOpen};
-ghost use Rattle.pgs_world_streams.specs.Pieces.{HoldsPiece, PieceIs};
+ghost use Rattle.pgs_world_streams.specs.Pieces.{HoldsPiece};
 
+use crate::feed_line::commit_of;
+use crate::{FeedCause, FileCause};
 use pgs_world::{Feed, FeedFault};
 use pgs_world_streams::{SteadyWrite, write_whole};
 
-/// A feed into a file: an open file, behind whose bytes each piece is written, or none, and then every put is a fault.
+/// A feed into a file: an open file, behind whose bytes each piece is written, or none, and then every put is a fault. It keeps the number
+/// of the file's last line, where that is known, and the cause of its last fault, or why there is no file.
 ///
 /// It tells nothing of its bytes, since no clause says what a file holds.
 #[derive(Drop)]
 pub struct FileFeed<W: SteadyWrite + Drop> {
     writer: Option<W>,
+    last: Option<u64>,
+    cause: Option<FeedCause>,
     faults: u64,
 }
 
+// Whether a piece is none to stand behind the last line of a file: that has a number, and the piece isn't the line of a commit above it.
+fn is_behind(last: Option<u64>, piece: &[u8]) -> bool
+    ensures { result ≡ is_behind last piece.now }
+{
+    match last {
+        Some(last) => match commit_of(piece) {
+            Some(number) => number <= last,
+            None => true,
+        },
+        None => false,
+    }
+}
+
 impl<W: SteadyWrite + Drop> FileFeed<W> {
-    /// A feed into this file, without a fault.
-    pub fn new(writer: W) -> FileFeed<W>
+    /// A feed into this file, without a fault, behind a last line of this number.
+    pub fn new(writer: W, last: Option<u64>) -> FileFeed<W>
         ensures writer { result.writer ≡ Some writer }
+        ensures last { result.last ≡ last }
+        ensures cause { result.cause ≡ None }
         ensures faults { ⟦<FileFeed<W> as Feed>⟧.faults result ≡ 0 }
     {
         FileFeed {
             writer: Some(writer),
+            last,
+            cause: None,
             faults: 0,
         }
     }
 
-    /// No file, without a fault so far: every put is one.
-    pub fn absent() -> FileFeed<W>
+    /// No file, and why, without a fault so far: every put is one.
+    pub fn absent(cause: FeedCause) -> FileFeed<W>
         ensures writer { result.writer ≡ None }
+        ensures cause { result.cause ≡ Some cause }
         ensures faults { ⟦<FileFeed<W> as Feed>⟧.faults result ≡ 0 }
     {
         FileFeed {
             writer: None,
+            last: None,
+            cause: Some(cause),
             faults: 0,
         }
     }
 
-    // Counts a put that failed.
-    fn fault(&mut self) -> FeedFault
-        ensures writer { self.new.writer ≡ self.old.writer }
-        ensures raised { self.new.faults ≡ raised self.old.faults }
-        ensures cause { RoseByOne self.old.faults self.new.faults }
-        ensures faults_stay { self.old.faults ≤ self.new.faults }
+    /// Why its last put failed, or why there is no file.
+    pub fn cause(&self) -> Option<FeedCause>
+        ensures { result ≡ self.now.cause }
     {
-        self.faults = self.faults.saturating_add(1);
-        FeedFault
+        self.cause
     }
 
-    // Writes the whole piece and flushes it; a fault where there is no file.
-    fn write(&mut self, piece: &[u8]) -> Result<(), FeedFault>
+    // Writes the whole piece and flushes it. The cause where there is a file, and that failed.
+    fn write(&mut self, piece: &[u8]) -> Result<(), Option<FeedCause>>
         ensures holds { IfOpen (λ old answer new. HoldsPiece W.contents old piece.now answer new) self.old.writer result self.new.writer }
-        ensures given { IfOpen (λ old answer new. PieceIs W.write_gives W.flush_gives old piece.now answer new) self.old.writer result self.new.writer }
+        ensures given { IfOpen (λ old answer new. FeedPutIs W.write_gives W.flush_gives (is_behind self.old.last piece.now) old piece.now answer new) self.old.writer result self.new.writer }
+        ensures told { IfErr result (IsPutCause self.old.writer (is_behind self.old.last piece.now) self.old.cause) }
+        ensures last { self.new.last ≡ self.old.last }
         ensures faults { self.new.faults ≡ self.old.faults }
     {
-        match &mut self.writer {
-            Some(writer) => write_whole(writer, piece).map_err(|_| FeedFault),
-            None => Err(FeedFault),
+        let Some(writer) = &mut self.writer else {
+            return Err(self.cause);
+        };
+        if is_behind(self.last, piece) {
+            return Err(Some(FeedCause::Ahead));
+        }
+        match write_whole(writer, piece) {
+            Ok(()) => Ok(()),
+            Err(error) => Err(Some(FeedCause::File(FileCause::of(&error)))),
         }
     }
 }
@@ -71,11 +101,13 @@ impl<W: SteadyWrite + Drop> Feed for FileFeed<W> {
 
     ghost faults = { λ feed. feed.faults };
 
-    /// Writes the whole piece behind the end of the file and flushes it, or counts a fault; a front of the piece may be
-    /// written then.
+    /// Writes the whole piece behind the end of the file and flushes it, or counts a fault and keeps its cause; a front of the piece may be
+    /// written then, but nothing of one that isn't above the file's last line.
     fn put(&mut self, piece: &[u8]) -> Result<(), FeedFault>
         ensures holds { IfOpen (λ old answer new. HoldsPiece W.contents old piece.now answer new) self.old.writer result self.new.writer }
-        ensures given { IfOpen (λ old answer new. PieceIs W.write_gives W.flush_gives old piece.now answer new) self.old.writer result self.new.writer }
+        ensures given { IfOpen (λ old answer new. FeedPutIs W.write_gives W.flush_gives (is_behind self.old.last piece.now) old piece.now answer new) self.old.writer result self.new.writer }
+        ensures told { OnErr result (IsPutCause self.old.writer (is_behind self.old.last piece.now) self.old.cause self.new.cause) }
+        ensures last { self.new.last ≡ self.old.last }
         ensures raised { OnErr result (self.new.faults ≡ raised self.old.faults) }
 
         // What every feed says.
@@ -87,7 +119,11 @@ impl<W: SteadyWrite + Drop> Feed for FileFeed<W> {
     {
         match self.write(piece) {
             Ok(()) => Ok(()),
-            Err(FeedFault) => Err(self.fault()),
+            Err(cause) => {
+                self.cause = cause;
+                self.faults = self.faults.saturating_add(1);
+                Err(FeedFault)
+            }
         }
     }
 

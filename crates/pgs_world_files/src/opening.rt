@@ -26,7 +26,7 @@ pub trait Opening {
     fn open_area(&mut self, name: String, access: Access) -> Result<AreaFile<Self::Area>, Memory>
         ensures { IfOk result (λ area. area_gives (string_bytes name) access area) };
 
-    /// The file of that name as a feed, made empty where it is absent; else no file.
+    /// The file of that name as a feed, made empty where it is absent; else no file, and the cause.
     fn open_feed(&mut self, name: &str) -> Result<FileFeed<Self::Line>, Memory>
         ensures gives { IfOk result (λ feed. feed_gives name.now feed) }
         ensures faults { IfOk result (λ feed. ⟦<FileFeed<Self::Line> as Feed>⟧.faults feed ≡ 0) };

@@ -2,10 +2,14 @@ ghost use Rattle.std.specs.Fs.{asks_create};
 ghost use Rattle.std.specs.Prelude.{◌≡◌, ◌++◌, [], ◌∷◌, ℕ, List, true, false, Ok, IfOk, IfErr, OnOk, OnErr};
 ghost use Rattle.std.specs.Path.{path_bytes};
 ghost use Rattle.pgs_world_files.specs.Access.{is_beside};
-ghost use Rattle.pgs_world_files.specs.Calls.{AsksToAppend, AsksToPlace, HoldsNoOthers, IsFolderSynced, IsModeFor, IsOpenBehind, IsOpenFor, IsOpenedBy, LockIs, folder_of, reads_only};
+ghost use Rattle.pgs_world_files.specs.Calls.{AsksToPlace, HoldsNoOthers, IsFolderSynced, IsModeFor, IsOpenFor, IsOpenedBy, LockIs, folder_of, reads_only};
 ghost use Rattle.pgs_world_files.specs.Faults.{IsFault, IsLockFault, IsNew, IsOwn, LockAnswers, is_open};
+ghost use Rattle.pgs_world_files.specs.FeedCalls.{IsOpenFeed};
+ghost use Rattle.pgs_world_files.specs.FeedFaults.{IsFeedFault};
 ghost use Rattle.pgs_world_files.specs.declared.access.Access.{Access};
 
+use crate::feed_cause::FeedOpenFault;
+use crate::feed_opening::{check_streams, last_of, open_behind};
 use crate::store_head::is_of_others;
 use crate::system_file::{check_same, is_unsupported};
 use crate::{
@@ -20,8 +24,8 @@ use std::io::ErrorKind;
 use std::os::unix::fs::OpenOptionsExt;
 use std::path::{AsPath, Path};
 
-// The rights of a file that is made: its owner alone reads and writes it.
-const RIGHTS: u32 = 0o600;
+/// The rights of a file that is made: its owner alone reads and writes it.
+pub(crate) const RIGHTS: u32 = 0o600;
 
 /// The system's files. It knows which files it has opened, so that no two of them are one file.
 #[derive(Drop)]
@@ -92,17 +96,19 @@ impl<'a, S: System> SystemOpening<'a, S> {
         Ok((file, mode))
     }
 
-    fn open_end(&mut self, name: &str) -> Result<S::File, OpenFault>
-        ensures opened { IfOk result (λ file. IsOpenBehind S.facts name.now file) }
-        ensures new { IfOk result (λ file. IsNew S.facts self.old.opened.items file self.new.opened.items) }
+    // The file of a feed's name, open behind its end, and the number of its last line.
+    fn open_end(&mut self, name: &str) -> Result<(S::File, Option<u64>), FeedOpenFault>
+        ensures opened { IfOk result (λ opened. IsOpenFeed S.facts name.now opened.0 opened.1) }
+        ensures new { IfOk result (λ opened. IsNew S.facts self.old.opened.items opened.0 self.new.opened.items) }
         ensures stays { OnErr result (self.new.opened.items ≡ self.old.opened.items) }
-        ensures fault { IfErr result (IsFault S.facts self.old.opened.items name.now Access.Append) }
+        ensures fault { IfErr result (IsFeedFault S.facts self.old.opened.items name.now) }
     {
-        let how = to_append();
-        let file = self.system.open(&how, name)?;
+        let file = open_behind(self.system, name)?;
         let found = self.check_new(&file)?;
+        check_streams(self.system, &file, found)?;
+        let last = last_of(self.system, self.alloc, &file, name)?;
         self.admit(found)?;
-        Ok(file)
+        Ok((file, last))
     }
 }
 
@@ -120,8 +126,8 @@ fn folder_of(name: Path<'_>) -> Path<'_>
     name.parent().unwrap_or(name)
 }
 
-// Options to read, and to write unless it is for reading alone.
-fn to_place(reads_only: bool) -> OpenOptions
+/// Options to read, and to write unless it is for reading alone.
+pub(crate) fn to_place(reads_only: bool) -> OpenOptions
     ensures { AsksToPlace result reads_only }
 {
     let mut how = OpenOptions::new();
@@ -138,15 +144,6 @@ fn to_make() -> OpenOptions
     how.mode(RIGHTS);
     how.read(true).write(true).append(false);
     how.create(true).truncate(false).create_new(false);
-    how
-}
-
-// Options to write behind the end, and to make the file where it is absent.
-fn to_append() -> OpenOptions
-    ensures { AsksToAppend result }
-{
-    let mut how = OpenOptions::new();
-    how.append(true).create(true);
     how
 }
 
@@ -369,16 +366,17 @@ impl<'a, S: System> Opening for SystemOpening<'a, S> {
         }
     }
 
-    /// The file of that name as a feed, made empty where it is absent; else no file. It is none of the files that are open already.
+    /// The file of that name as a feed, made empty where it is absent; else no file, and the cause. It is none of the files that are open
+    /// already, nor that of standard input or output, and its last line is one to write behind.
     fn open_feed(&mut self, name: &str) -> Result<FileFeed<S::File>, Memory>
         ensures gives { IfOk result (IsSystemFeed S.facts name.now) }
         ensures faults { IfOk result (λ feed. ⟦<FileFeed<S::File> as Feed>⟧.faults feed ≡ 0) }
-        ensures admitted { IfOk result (λ feed. IsFeedAdmitted S.facts self.old.opened.items name.now feed.writer self.new.opened.items) }
+        ensures admitted { IfOk result (λ feed. IsFeedAdmitted S.facts self.old.opened.items name.now feed.writer feed.cause self.new.opened.items) }
     {
         match self.open_end(name) {
-            Ok(file) => Ok(FileFeed::new(file)),
-            Err(OpenFault::File(_)) => Ok(FileFeed::absent()),
-            Err(OpenFault::Memory) => Err(Memory),
+            Ok((file, last)) => Ok(FileFeed::new(file, last)),
+            Err(FeedOpenFault::Feed(cause)) => Ok(FileFeed::absent(cause)),
+            Err(FeedOpenFault::Memory) => Err(Memory),
         }
     }
 }

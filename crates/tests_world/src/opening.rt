@@ -1,8 +1,10 @@
-//! Files that are opened by their names: locks, what a new store isn't made over, and names that are lost.
+//! Files that are opened by their names: locks, what a new store isn't made over, names that are lost, and behind what a feed stands.
 
 use pgs_base::Memory;
 use pgs_world::Feed;
-use pgs_world_files::{Access, AreaFile, FileCause, Opening, StoreFile, SystemFile, SystemOpening};
+use pgs_world_files::{
+    Access, AreaFile, FeedCause, FileCause, Opening, StoreFile, SystemFile, SystemOpening,
+};
 use pgs_world_streams::Cause;
 use std::fs;
 use std::os::unix::fs::MetadataExt;
@@ -128,28 +130,36 @@ fn a_sync_fails_where_the_file_lost_its_name(rt: HostRuntime) -> Result<(), Fail
     Ok(())
 }
 
-/// Puts two lines into the feed of a name, and says which puts fail.
-fn put_two(system: &mut SystemOpening<'_, HostRuntime>, name: &str) -> Result<[bool; 2], Memory> {
+const FIRST: &str = "{\"commit\":1,\"ops\":[]}\n";
+
+const SECOND: &str = "{\"commit\":2,\"ops\":[]}\n";
+
+/// Puts the line of the second commit into the feed of a name, and says why that fails, or `None`.
+fn put_second(
+    system: &mut SystemOpening<'_, HostRuntime>,
+    name: &str,
+) -> Result<Option<FeedCause>, Memory> {
     let mut feed = system.open_feed(name)?;
-    Ok([feed.put(b"a\n").is_err(), feed.put(b"bc\n").is_err()])
+    let _put = feed.put(SECOND.as_bytes());
+    Ok(feed.cause())
 }
 
 /// Puts into a file, into the same by another name, and into one that can't be made.
-fn three_feeds(rt: &HostRuntime) -> Result<[[bool; 2]; 3], Memory> {
+fn three_feeds(rt: &HostRuntime) -> Result<[Option<FeedCause>; 3], Memory> {
     let mut system = SystemOpening::new(rt, rt.alloc());
-    let mut seen = [[false; 2]; 3];
+    let mut seen = [None; 3];
     for (place, name) in seen
         .iter_mut()
         .zip(["feed.out", "link.out", "missing/feed.out"])
     {
-        *place = put_two(&mut system, name)?;
+        *place = put_second(&mut system, name)?;
     }
     Ok(seen)
 }
 
 /// The same over a file that an earlier run left, and what the file holds then.
-fn feeds_and_text(rt: &HostRuntime) -> Result<([[bool; 2]; 3], String), Fail> {
-    let _written = fs::write(rt, "feed.out", "0\n");
+fn feeds_and_text(rt: &HostRuntime) -> Result<([Option<FeedCause>; 3], String), Fail> {
+    let _written = fs::write(rt, "feed.out", FIRST);
     let _linked = fs::hard_link(rt, "feed.out", "link.out");
     let seen = three_feeds(rt)?;
     let text = fs::read_to_string(rt, "feed.out")?;
@@ -161,7 +171,40 @@ fn feeds_and_text(rt: &HostRuntime) -> Result<([[bool; 2]; 3], String), Fail> {
 #[test]
 fn a_feed_stands_behind_an_earlier_run_and_is_no_file_of_this(rt: HostRuntime) -> Result<(), Fail> {
     let (seen, text) = feeds_and_text(&rt)?;
-    let want = [[false; 2], [true; 2], [true; 2]];
-    assert_eq!(rt; (seen, text.as_str()), (want, "0\na\nbc\n"));
+    let twice = FeedCause::File(FileCause::Twice);
+    let absent = FeedCause::File(FileCause::Call(Cause::Absent));
+    let both = format!(in rt.alloc(); "{FIRST}{SECOND}")?;
+    assert_eq!(rt; seen, [None, Some(twice), Some(absent)]);
+    assert_eq!(rt; text.as_str(), both.as_str());
+    Ok(())
+}
+
+/// Files, and why the second commit isn't put behind them.
+const ENDS: [(&str, Option<FeedCause>); 9] = [
+    ("", None),
+    (FIRST, None),
+    ("1\n{\"commit\":00001,\"ops\":[1]}\n", None),
+    (SECOND, Some(FeedCause::Ahead)),
+    ("{\"commit\":1,\"ops\":[]}", Some(FeedCause::Torn)),
+    ("{\"commit\":1,\"ops\":[]}\n\0\0", Some(FeedCause::Torn)),
+    ("{\"commit\":0,\"ops\":[]}\n", Some(FeedCause::NoFeed)),
+    ("{\"commit\":18446744073709551616,\"ops\":[]}\n", Some(FeedCause::NoFeed)),
+    ("{\"commit\":1,\"ops\":[]\n", Some(FeedCause::NoFeed)),
+];
+
+/// Why the second commit isn't put behind a file of this text, and whether the file stays as it was.
+fn put_behind(rt: &HostRuntime, text: &str) -> Result<(Option<FeedCause>, bool), Fail> {
+    let _written = fs::write(rt, "ends.out", text);
+    let cause = put_second(&mut SystemOpening::new(rt, rt.alloc()), "ends.out")?;
+    let stays = fs::read_to_string(rt, "ends.out")?.as_str() == text;
+    let _removed = fs::remove_file(rt, "ends.out");
+    Ok((cause, stays))
+}
+
+#[test]
+fn a_feed_stands_behind_lines_of_a_feed_alone(rt: HostRuntime) -> Result<(), Fail> {
+    for (text, cause) in ENDS {
+        assert_eq!(rt; put_behind(&rt, text)?, (cause, cause.is_some()));
+    }
     Ok(())
 }
