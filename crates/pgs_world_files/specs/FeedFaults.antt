@@ -1,4 +1,4 @@
--- Why a feed has no file, by what the system answered, and why its puts fail.
+-- Why a feed has no file, by what the system answered.
 use Rattle.std.specs.Prelude.{◌≡◌, ◌⊎◌, ℕ, ◌<◌, ◌≤◌, Bool, true, false, not, List, length, Option, Some, None, Result, Ok, Err, ⊤, nat_lt}
 use Rattle.std.specs.declared.fs.options.OpenOptions.{OpenOptions}
 use Rattle.std.specs.declared.io.Error.{Error}
