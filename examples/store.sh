@@ -348,7 +348,8 @@ loses() {
   "$program" apply fed "$@" <line.txt >found.txt 2>told.txt
   status=$?
   { echo '1 committed 2'; [ "$lost" = 0 ] || echo "feeds lost=$lost"; } >wanted.txt
-  holds "$name" eval '[ "$status" = 0 ] && cmp -s found.txt wanted.txt && [ "$(sed "s/^pgguard: //" told.txt)" = "$told" ]'
+  { [ -z "$told" ] || printf 'pgguard: %s\n' "${told//$'\n'/$'\npgguard: '}"; } >wanted_told.txt
+  holds "$name" eval '[ "$status" = 0 ] && cmp -s found.txt wanted.txt && cmp -s told.txt wanted_told.txt'
 }
 
 # Feeds: no two of them one file, and none a file of the store.
@@ -459,7 +460,7 @@ second=$!
 exec 9>held 8>held_two
 for writer in "$first" "$second"; do
   for _ in $(seq 1 100); do
-    ls -l "/proc/$writer/fd" 2>/dev/null | grep -q 'both\.jsonl$' && break
+    [ -n "$(find "/proc/$writer/fd" -lname '*/both.jsonl' 2>/dev/null)" ] && break
     sleep 0.1
   done
 done

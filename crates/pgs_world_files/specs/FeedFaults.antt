@@ -1,9 +1,7 @@
--- Why a feed has no file, by what the system answered, and why its puts fail.
-use Rattle.std.specs.Prelude.{◌≡◌, ◌⊎◌, ℕ, ◌<◌, ◌≤◌, Bool, true, false, not, List, length, Option, Some, None, Result, Ok, Err, ⊤, nat_lt}
+-- Why a feed has no file, by what the system answered.
+use Rattle.std.specs.Prelude.{◌≡◌, ◌⊎◌, ℕ, ◌<◌, false, List, length, Option, Some, None, Ok, Err, ⊤}
 use Rattle.std.specs.declared.fs.options.OpenOptions.{OpenOptions}
 use Rattle.std.specs.declared.io.Error.{Error}
-use Rattle.pgs_world_streams.specs.Given.{PlainCall, BareCall}
-use Rattle.pgs_world_streams.specs.Pieces.{PieceIs}
 use Rattle.pgs_world_files.specs.declared.access.Access.TheVariants.{Append}
 use Rattle.pgs_world_files.specs.declared.cause.OpenFault.{OpenFault}
 use Rattle.pgs_world_files.specs.declared.cause.OpenFault.TheVariants as opens
@@ -14,7 +12,7 @@ use Rattle.pgs_world_files.specs.declared.feed_cause.FeedOpenFault.TheVariants a
 use Rattle.pgs_world_files.specs.declared.found.Found.{Found}
 use Rattle.pgs_world_files.specs.Calls.{Facts, is_same}
 use Rattle.pgs_world_files.specs.FeedCalls.{HasEnd, IsStream}
-use Rattle.pgs_world_files.specs.FeedLines.{EndIs, commit_of}
+use Rattle.pgs_world_files.specs.FeedLines.{EndIs}
 use Rattle.pgs_world_files.specs.Faults.{IsCause}
 
 -- a fault of an open, as one of a feed

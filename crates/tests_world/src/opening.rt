@@ -188,7 +188,10 @@ const ENDS: [(&str, Option<FeedCause>); 9] = [
     ("{\"commit\":1,\"ops\":[]}", Some(FeedCause::Torn)),
     ("{\"commit\":1,\"ops\":[]}\n\0\0", Some(FeedCause::Torn)),
     ("{\"commit\":0,\"ops\":[]}\n", Some(FeedCause::NoFeed)),
-    ("{\"commit\":18446744073709551616,\"ops\":[]}\n", Some(FeedCause::NoFeed)),
+    (
+        "{\"commit\":18446744073709551616,\"ops\":[]}\n",
+        Some(FeedCause::NoFeed),
+    ),
     ("{\"commit\":1,\"ops\":[]\n", Some(FeedCause::NoFeed)),
 ];
 
