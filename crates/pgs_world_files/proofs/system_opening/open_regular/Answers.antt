@@ -4,4 +4,5 @@ use Rattle.pgs_world_files.proofs.Faults.{failed}
 use Rattle.pgs_world_files.proofs.system_opening.open_regular.Goals as goal
 
 pub returns-in_default-clause-fault : goal.returns-in_default-clause-fault
-returns-in_default-clause-fault g c = failed g.S.System.facts c.args.name.now c.args.access [] c.from.result c.from.ensures (at_find c.in-Err.ensures)
+returns-in_default-clause-fault g c =
+    failed g.S.System.facts c.args.name.now c.args.access [] c.from.result c.from.ensures (at_find c.in-Err.ensures (λ absent. absurd (c.in_default.not-NotFound absent)))
