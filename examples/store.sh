@@ -322,8 +322,8 @@ cp report.a report.txt
 made() { "$program" load "$1" <kept_schema.txt; }
 ends "load over a file of something else" 5 "report.a: is a file of something else" made report
 holds "that file stands" cmp -s report.a report.txt
-printf '\001\002' >two.a
-ends "load over two bytes of which the first is 01" 5 "two.a: is a file of something else" made two
+printf '\001\002' >pair.a
+ends "load over two bytes of which the first is 01" 5 "pair.a: is a file of something else" made pair
 printf '\001PGSGRD3\000\000\000\000\000\000\000\001' >sixteen.a
 ends "load over sixteen bytes that begin no head" 5 "sixteen.a: is a file of something else" made sixteen
 printf '\001PGSGRD3\000\000\000\000\000\000\000\001\001' >seventeen.a
@@ -390,7 +390,7 @@ changes() {
   "$program" recover anew >both_dump.txt
   eval "$change"
   cp anew.a left.a
-  head -n 1 many.txt >&9
+  sed -n 2p many.txt >&9
   exec 9>&-
   wait "$writer"
   ended=$?
@@ -422,9 +422,12 @@ if strace -o /dev/null true 2>/dev/null; then
   mkdir sub
   "$program" load sub/s <kept_schema.txt >/dev/null
   head -n 2 many.txt >two.txt
-  strace -y -o trace.txt -e trace=openat,flock,fsync,fdatasync,pwrite64,write "$program" apply sub/s sub/feed <two.txt >found.txt
+  strace -y -o trace.txt -e trace=openat,flock,fsync,fdatasync,pwrite64,write,%%stat "$program" apply sub/s sub/feed <two.txt >found.txt
   order=$(sed -n 's/^fsync(.*\/sub>).*/F/p; s/^fdatasync(.*\/s\.[ab]>).*/S/p; s/^pwrite64(.*\/s\.a>.*/P/p; s/^write(1<.*/W/p' trace.txt | tr -d '\n')
   holds "the order of syncs, $order" test "$order" = FFSSPSPSWPSPSW
+  # Seven calls a commit: L asks for the length of the open file, before each write, and N for the file of the name, once.
+  looks=$(sed -n 's/^[a-z]*stat[a-z]*([0-9]*<[^>]*\/s\.a>.*/L/p; s/^[a-z]*stat[a-z]*(.*"sub\/s\.a".*/N/p; s/^fdatasync(.*\/s\.a>).*/S/p; s/^pwrite64(.*\/s\.a>.*/P/p; s/^write(1<.*/W/p' trace.txt | tr -d '\n')
+  holds "the file is looked at, ${looks#"${looks%LPSLPSNWLPSLPSNW}"}" eval '[ "${looks%LPSLPSNWLPSLPSNW}" != "$looks" ]'
   holds "files stay as long as they are" eval '! grep -q O_TRUNC trace.txt'
   holds "a feed is written behind its end" eval 'grep -q "sub/feed.*O_APPEND" trace.txt'
   holds "who appends has the first file alone" test "$(grep -c 'flock(.*/s\.a>, LOCK_EX|LOCK_NB) = 0' trace.txt)" = 1

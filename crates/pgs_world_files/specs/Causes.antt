@@ -8,7 +8,7 @@ use Rattle.pgs_world_files.specs.declared.cause.FileCause.TheVariants.{Replaced,
 use Rattle.pgs_world_files.specs.declared.cause.OpenFault.{OpenFault}
 use Rattle.pgs_world_files.specs.declared.cause.OpenFault.TheVariants as fault
 use Rattle.pgs_world_streams.specs.Given.{PlacedCall, BareCall}
-use Rattle.pgs_world_streams.specs.Whole.{HasFailedToRead, HasFailedToWrite}
+use Rattle.pgs_world_streams.specs.Tries.{ReadIsTried, WriteIsTried}
 use Rattle.pgs_world_streams.specs.declared.cause.Cause.TheVariants.{NoSpace}
 
 -- the number of an error of the system, EMFILE or ENFILE: the run, or the system, has as many files open as it may
@@ -44,7 +44,7 @@ IsFolderFault error made =
 
 -- the cause of a read or a write that failed: its error's, or where there was no byte, this one
 abbrev pub IsOfFailure : FileCause → Result ℕ Error → FileCause → Type 0
-IsOfFailure none (Ok count) cause = cause ≡ none
+IsOfFailure none (Ok count) cause = (count ≡ 0) × (cause ≡ none)
 IsOfFailure none (Err error) cause = IsOfCall error cause
 
 -- why no length was given
@@ -53,17 +53,17 @@ LengthFails gives old cause new =
     ((cause ≡ Long) × (count : ℕ) × gives old (Ok count) new × (2 ^ 40 < count))
     ⊎ ((error : Error) × gives old (Err error) new × IsOfCall error cause)
 
--- why not the whole buffer was read
+-- why not the whole buffer was read: by the answer of the last read, which left the handle so
 abbrev pub ReadFails : {H : Type 0} → PlacedCall H → H → ℕ → List ℕ → FileCause → H → Type 0
-ReadFails gives old at buf cause new =
+ReadFails {H} gives old at buf cause new =
     ((cause ≡ Long) × (2 ^ 40 < at + length buf) × (new ≡ old))
-    ⊎ ((failed : HasFailedToRead gives old at buf new) × IsOfFailure Short failed.answer cause)
+    ⊎ ((before : H) × (place : ℕ) × (left : List ℕ) × (answer : Result ℕ Error) × ReadIsTried gives before place left answer new × IsOfFailure Short answer cause)
 
--- why not all bytes were written
+-- why not all bytes were written, by the answer of the last write
 abbrev pub WriteFails : {H : Type 0} → PlacedCall H → H → ℕ → List ℕ → FileCause → H → Type 0
-WriteFails gives old at bytes cause new =
+WriteFails {H} gives old at bytes cause new =
     ((cause ≡ Long) × (2 ^ 40 < at + length bytes) × (new ≡ old))
-    ⊎ ((failed : HasFailedToWrite gives old at bytes new) × IsOfFailure (Call NoSpace) failed.answer cause)
+    ⊎ ((before : H) × (place : ℕ) × (left : List ℕ) × (answer : Result ℕ Error) × WriteIsTried gives before place left answer new × IsOfFailure (Call NoSpace) answer cause)
 
 -- why a call that answers nothing failed
 abbrev pub CallFails : {H : Type 0} → BareCall H → H → FileCause → H → Type 0

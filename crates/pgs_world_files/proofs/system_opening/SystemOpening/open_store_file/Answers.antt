@@ -19,7 +19,7 @@ returns-in_err-lock-clause-fault g c =
 pub returns-in_err-this-clause-fault : goal.returns-in_err-this-clause-fault
 returns-in_err-this-clause-fault g c =
     if_err _ c.from_residual-in_err-this.result c.from_residual-in_err-this.ensures.1
-    (λ made is. failed g.S.System.facts c.args.name.now c.args.access c.args.self.now.opened.items made is (at_name _ c.in_err-this.ensures.lost))
+    (λ made is. failed g.S.System.facts c.args.name.now c.args.access {error = c.in_err-this.field-0.0} c.args.self.now.opened.items made is (at_name _ c.in_err-this.ensures.lost))
 
 pub returns-in_err-check_use-clause-fault : goal.returns-in_err-check_use-clause-fault
 returns-in_err-check_use-clause-fault g c =
