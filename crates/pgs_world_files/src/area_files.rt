@@ -139,11 +139,7 @@ impl<H: Handle> AreaFiles<H> {
         ensures b { result.b ≡ b }
         ensures failed { result.failed ≡ None }
     {
-        AreaFiles {
-            a,
-            b,
-            failed: None,
-        }
+        AreaFiles { a, b, failed: None }
     }
 
     /// No file for either area, as for a command without a store: every call is a fault.

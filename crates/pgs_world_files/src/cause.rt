@@ -9,7 +9,9 @@ use std::io::{Error, ErrorKind};
 // What Linux answers where the run, or the system, has as many files open as it may, and where a file system has no locks: no kind of std's
 // is their own.
 const RUN_IS_FULL: i32 = 24;
+
 const SYSTEM_IS_FULL: i32 = 23;
+
 const NO_LOCKS: i32 = 37;
 
 /// Why a file of a store or of a feed fails, as far as the system tells. docs/FORMATS.md has the texts.
