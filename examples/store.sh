@@ -150,6 +150,7 @@ fresh() {
 }
 printf 'CREATE GRAPH TYPE g STRICT {(p: P {id INT}), FOR (x:p) IDENTIFIER x.id};' >kept_schema.txt
 printf '{"ops":[{"add_node":1,"labels":["P"],"props":{"id":1}}]}\n' >kept_line.txt
+printf 'loaded types=1 keys=1\n' >people_loaded.txt
 printf '%s\n' "$node" >line.txt
 { "$program" load kept <kept_schema.txt && "$program" apply kept <kept_line.txt && "$program" checkpoint kept; } >kept.txt 2>&1
 fresh after
@@ -278,7 +279,8 @@ if [ -n "$(command -v flock)" ]; then
 fi
 
 # Rights, a full disk, and inputs and files of other kinds.
-holds "a new file is its owner's" test "$(stat -c %a whole.a)" = 600
+(umask 0; "$program" load rights <kept_schema.txt >/dev/null)
+holds "a new file is its owner's" test "$(stat -c %a rights.a)" = 600
 fresh right
 chmod 444 right.a right.b
 chmod 755 "$work"
@@ -289,6 +291,22 @@ fi
 if "${someone[@]}" "$program" gen 1 1 >/dev/null 2>&1; then
   holds "recover without the right to write" eval '"${someone[@]}" "$program" recover right 2>&1 | cmp -s - before_dump.txt'
   ends "apply without the right to write" 5 "right.a: permission denied" "${someone[@]}" "$program" apply right
+fi
+mkdir shut
+cp kept.a shut/s.a
+cp kept.b shut/s.b
+chmod 444 shut/s.a shut/s.b
+chmod 311 shut
+if "${someone[@]}" "$program" gen 1 1 >/dev/null 2>&1; then
+  ends "a folder that may be searched but not read" 5 "shut/s.a: its folder may not be read" "${someone[@]}" "$program" recover shut/s
+fi
+chmod 755 shut
+few_files() { (ulimit -n 4; exec "$program" recover social); }
+ends "too many open files" 5 "social.a: too many open files" few_files
+if strace -o /dev/null true 2>/dev/null; then
+  ends "a file system without locks" 5 "social.a: no locks on this file system" strace -o /dev/null -e inject=flock:error=ENOLCK "$program" apply social
+else
+  echo "strace isn't there: a file system without locks isn't tried"
 fi
 full() { "$program" recover social >/dev/full; }
 ends "recover onto a full disk" 7 "standard output: no space left" full
@@ -304,6 +322,16 @@ cp report.a report.txt
 made() { "$program" load "$1" <kept_schema.txt; }
 ends "load over a file of something else" 5 "report.a: is a file of something else" made report
 holds "that file stands" cmp -s report.a report.txt
+printf '\001\002' >pair.a
+ends "load over two bytes of which the first is 01" 5 "pair.a: is a file of something else" made pair
+printf '\001PGSGRD3\000\000\000\000\000\000\000\001' >sixteen.a
+ends "load over sixteen bytes that begin no head" 5 "sixteen.a: is a file of something else" made sixteen
+printf '\001PGSGRD3\000\000\000\000\000\000\000\001\001' >seventeen.a
+runs "load over seventeen bytes of another program" 4 others.txt kept_schema.txt load seventeen
+printf '\001PGS' >begun.a
+printf 'x' >single.a
+runs "load over what begins as a head does" 0 people_loaded.txt kept_schema.txt load begun
+runs "load over a single byte" 0 people_loaded.txt kept_schema.txt load single
 mkfifo pipe.a
 ends "a pipe as a store's file" 5 "pipe.a: is not a regular file" "$program" apply pipe
 ln -s /dev/null device.a
@@ -338,6 +366,41 @@ exec 9>&-
 wait "$writer"
 status=$?
 holds "a file taken away" eval '[ "$status" = 5 ] && [ ! -s gone.txt ] && grep -qx "pgguard: gone\.[ab]: was replaced or removed" told.txt'
+
+# A file that another program writes anew in place, empties, makes longer or cuts while a run has it: the next commit ends with 5, no line is acknowledged
+# behind it, and the file stays as the other program left it.
+"$program" load copied <kept_schema.txt >/dev/null
+"$program" apply copied <kept_line.txt >/dev/null
+"$program" recover copied >copied_dump.txt
+printf '1 committed 2\n' >one_line.txt
+printf 'store refused 33 record 3 is damaged\n' >damaged.txt
+changes() {
+  local name=$1 status=$2 wanted=$3 change=$4 ended
+  cp copied.a anew.a
+  : >anew.b
+  "$program" apply anew <held >anew.txt 2>told.txt &
+  writer=$!
+  exec 9>held
+  has_files anew
+  cat line.txt >&9
+  for _ in $(seq 1 100); do
+    [ -s anew.txt ] && break
+    sleep 0.1
+  done
+  "$program" recover anew >both_dump.txt
+  eval "$change"
+  cp anew.a left.a
+  sed -n 2p many.txt >&9
+  exec 9>&-
+  wait "$writer"
+  ended=$?
+  holds "$name" eval '[ "$ended" = 5 ] && cmp -s anew.txt one_line.txt && grep -qx "pgguard: anew\.a: was changed by something else" told.txt && cmp -s anew.a left.a'
+  runs "recover behind it" "$status" "$wanted" nothing recover anew
+}
+changes "a file written anew in place" 0 copied_dump.txt 'cp copied.a anew.a'
+changes "a file that is emptied" 4 no_store.txt ': >anew.a'
+changes "a file made longer" 0 both_dump.txt 'truncate -s +100 anew.a'
+changes "a file that is cut" 4 damaged.txt 'truncate -s "$(stat -c %s copied.a)" anew.a'
 
 # One line over feeds: `loses NAME LOST TOLD FEED..` compares what is printed, the status, and what is told on standard error without the
 # program's name.
@@ -479,9 +542,12 @@ if strace -o /dev/null true 2>/dev/null; then
   mkdir sub
   "$program" load sub/s <kept_schema.txt >/dev/null
   head -n 2 many.txt >two.txt
-  strace -y -o trace.txt -e trace=openat,flock,fsync,fdatasync,pwrite64,write "$program" apply sub/s sub/feed <two.txt >found.txt
+  strace -y -o trace.txt -e trace=openat,flock,fsync,fdatasync,pwrite64,write,%%stat "$program" apply sub/s sub/feed <two.txt >found.txt
   order=$(sed -n 's/^fsync(.*\/sub>).*/F/p; s/^fdatasync(.*\/s\.[ab]>).*/S/p; s/^pwrite64(.*\/s\.a>.*/P/p; s/^write(1<.*/W/p' trace.txt | tr -d '\n')
   holds "the order of syncs, $order" test "$order" = FFSSPSPSWPSPSW
+  # Seven calls a commit: L asks for the length of the open file, before each write, and N for the file of the name, once.
+  looks=$(sed -n 's/^[a-z]*stat[a-z]*([0-9]*<[^>]*\/s\.a>.*/L/p; s/^[a-z]*stat[a-z]*(.*"sub\/s\.a".*/N/p; s/^fdatasync(.*\/s\.a>).*/S/p; s/^pwrite64(.*\/s\.a>.*/P/p; s/^write(1<.*/W/p' trace.txt | tr -d '\n')
+  holds "the file is looked at, ${looks#"${looks%LPSLPSNWLPSLPSNW}"}" eval '[ "${looks%LPSLPSNWLPSLPSNW}" != "$looks" ]'
   holds "files stay as long as they are" eval '! grep -q O_TRUNC trace.txt'
   holds "a feed is written behind its end" eval 'grep -q "sub/feed.*O_APPEND" trace.txt'
   holds "who appends has the first file alone" test "$(grep -c 'flock(.*/s\.a>, LOCK_EX|LOCK_NB) = 0' trace.txt)" = 1
@@ -512,7 +578,6 @@ persons() {
   done
 }
 printf 'CREATE GRAPH TYPE g STRICT {(p: P {id INT}), FOR (x:p) IDENTIFIER x.id};' >people_schema.txt
-printf 'loaded types=1 keys=1\n' >people_loaded.txt
 runs "load people" 0 people_loaded.txt people_schema.txt load people
 persons 1 100000 >people.txt
 "$program" apply people <people.txt >killed.txt &

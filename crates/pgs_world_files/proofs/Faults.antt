@@ -5,15 +5,17 @@ use Rattle.std.specs.Fs.{asks_write, asks_create}
 use Rattle.std.specs.declared.fs.locks.TryLockError.{TryLockError}
 use Rattle.std.specs.declared.fs.locks.TryLockError.TheVariants as lock
 use Rattle.std.specs.declared.fs.options.OpenOptions.{OpenOptions}
+use Rattle.std.specs.declared.io.Error.{Error}
 use Rattle.pgs_world_files.specs.declared.access.Access.{Access}
 use Rattle.pgs_world_files.specs.declared.access.Access.TheVariants.{Read, ReadBeside, ReadUnlocked, Write, Append, Make}
-use Rattle.pgs_world_files.specs.declared.cause.FileCause.TheVariants.{Locked, NotRegular, Others, Replaced, Twice, StandardNumber, Short, Long, Call}
+use Rattle.pgs_world_files.specs.declared.cause.FileCause.TheVariants.{Locked, NotRegular, Others, Replaced, Changed, Twice, StandardNumber, Short, Long, TooManyOpen, NoLocks, FolderDenied, Call}
 use Rattle.pgs_world_files.specs.declared.cause.OpenFault.{OpenFault}
 use Rattle.pgs_world_files.specs.declared.cause.OpenFault.TheVariants as fault
 use Rattle.pgs_world_files.specs.declared.found.Found.{Found}
-use Rattle.pgs_world_files.specs.Calls.{Facts, LockIs}
-use Rattle.pgs_world_files.specs.Faults.{HasFailed, IsFault, IsLastTry, IsLockFault, IsOfError}
-use Rattle.pgs_world_files.specs.Faults.HasFailed.{at_lock}
+use Rattle.pgs_world_files.specs.Calls.{Facts, LockIs, folder_of}
+use Rattle.pgs_world_files.specs.Causes.{IsFolderFault, IsOfError}
+use Rattle.pgs_world_files.specs.Faults.{HasFailed, IsFault, IsLastTry, IsLockFault}
+use Rattle.pgs_world_files.specs.Faults.HasFailed.{at_folder, at_lock}
 
 -- what is said of an error that is handed on
 pub if_err : {A E : Type 0} {Q : E → Type 0} (P : E → Type 0) (r : Result A E) → IsErrAnd r Q → ((made : E) → Q made → P made) → IfErr r P
@@ -46,17 +48,21 @@ last_other Append how not = tt
 last_other Make how not = tt
 
 module _ {F : Type 0} (facts : Facts F) (name : List ℕ) (access : Access) where
-  pub failed : (opened : List Found) (made : OpenFault) → IsOfError made → HasFailed facts name access → IsFault facts opened name access made
+  pub failed : {error : Error} (opened : List Found) (made : OpenFault) → IsOfError error made → HasFailed facts name access error → IsFault facts opened name access made
   failed opened fault.Memory of has = tt
-  failed opened (fault.File Locked) of has = absurd of
-  failed opened (fault.File NotRegular) of has = absurd of
-  failed opened (fault.File Others) of has = absurd of
-  failed opened (fault.File Replaced) of has = has
-  failed opened (fault.File Twice) of has = absurd of
-  failed opened (fault.File StandardNumber) of has = absurd of
-  failed opened (fault.File Short) of has = absurd of
-  failed opened (fault.File Long) of has = absurd of
-  failed opened (fault.File (Call cause)) of has = has
+  failed opened (fault.File Locked) of has = absurd of.1
+  failed opened (fault.File NotRegular) of has = absurd of.1
+  failed opened (fault.File Others) of has = absurd of.1
+  failed opened (fault.File Replaced) of has = (_, has, of.1)
+  failed opened (fault.File Changed) of has = (_, has, of.1)
+  failed opened (fault.File Twice) of has = absurd of.1
+  failed opened (fault.File StandardNumber) of has = absurd of.1
+  failed opened (fault.File Short) of has = absurd of.1
+  failed opened (fault.File Long) of has = absurd of.1
+  failed opened (fault.File TooManyOpen) of has = (_, has, of.1)
+  failed opened (fault.File NoLocks) of has = absurd of.1
+  failed opened (fault.File FolderDenied) of has = absurd of.1
+  failed opened (fault.File (Call cause)) of has = (_, has, of.1)
 
   -- what isn't about the files that are open holds beside any of them
   pub widened : (opened : List Found) (made : OpenFault) → IsFault facts [] name access made → IsFault facts opened name access made
@@ -65,12 +71,22 @@ module _ {F : Type 0} (facts : Facts F) (name : List ℕ) (access : Access) wher
   widened opened (fault.File NotRegular) is = is
   widened opened (fault.File Others) is = is
   widened opened (fault.File Replaced) is = is
+  widened opened (fault.File Changed) is = is
   widened opened (fault.File Twice) is = absurd (false≢true is.3)
   widened opened (fault.File StandardNumber) is = is
   widened opened (fault.File Short) is = is
   widened opened (fault.File Long) is = absurd is
+  widened opened (fault.File TooManyOpen) is = is
+  widened opened (fault.File NoLocks) is = is
+  widened opened (fault.File FolderDenied) is = is
   widened opened (fault.File (Call cause)) is = is
 
   pub not_locked : (opened : List Found) (made : OpenFault) (old new : F) → (error : TryLockError) × LockIs facts access old (Some error) new × IsLockFault error made → IsFault facts opened name access made
   not_locked opened made old new (lock.WouldBlock, gave, is) = subst (λ m. IsFault facts opened name access m) (sym is) (old, new, gave)
-  not_locked opened made old new (lock.Error error, gave, is) = failed opened made is (at_lock old new error gave)
+  not_locked opened made old new (lock.Error error, gave, inl is) = subst (λ m. IsFault facts opened name access m) (sym is.0) (old, new, error, gave, is.1)
+  not_locked opened made old new (lock.Error error, gave, inr is) = failed opened made is.1 (at_lock old new error gave)
+
+  -- a folder that wasn't opened
+  pub folder_failed : (opened : List Found) (real : List ℕ) (how : OpenOptions) (error : Error) (made : OpenFault) → facts.real name (Ok real) → facts.opened how (folder_of real) (Err error) → IsFolderFault error made → IsFault facts opened name access made
+  folder_failed opened real how error made is_real gave (inl is) = subst (λ m. IsFault facts opened name access m) (sym is.0) (how, real, error, is_real, gave, is.1)
+  folder_failed opened real how error made is_real gave (inr is) = failed opened made is.1 (at_folder is_real gave)

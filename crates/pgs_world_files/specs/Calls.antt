@@ -1,19 +1,18 @@
 -- What the calls of the system answered, and what an open file of a store rests on.
-use Rattle.std.specs.Prelude.{◌≡◌, ◌⊎◌, ℕ, ◌≤◌, ◌==◌, Bool, true, false, not, ◌&&◌, List, take, min, Option, Some, None, Result, Ok, Err, ⊤}
+use Rattle.std.specs.Prelude.{◌≡◌, ◌≢◌, ◌⊎◌, ℕ, ◌≤◌, ◌==◌, Bool, true, false, not, ◌&&◌, List, take, min, Option, Some, None, Result, Ok, Err, ⊤}
 use Rattle.std.specs.Fs.{asks_read, asks_write, asks_append, asks_truncate, asks_create, asks_create_new}
-use Rattle.std.specs.IoError.{error_kind}
 use Rattle.std.specs.Option.{unwrap_or}
 use Rattle.std.specs.Path.{path_parent}
 use Rattle.std.specs.declared.fs.locks.TryLockError.{TryLockError}
 use Rattle.std.specs.declared.fs.options.OpenOptions.{OpenOptions}
 use Rattle.std.specs.declared.io.Error.{Error}
-use Rattle.std.specs.declared.io.ErrorKind.TheVariants.{InvalidInput, Unsupported}
 use Rattle.pgs_world_files.specs.declared.access.Access.{Access}
 use Rattle.pgs_world_files.specs.declared.access.Access.TheVariants.{Read, ReadBeside, ReadUnlocked, Append, Make}
 use Rattle.pgs_world_files.specs.declared.found.Found.{Found}
 use Rattle.pgs_world_files.specs.declared.mode.Mode.{Mode}
 use Rattle.pgs_world_files.specs.declared.mode.Mode.TheVariants.{ToWrite, ToRead, Beside}
 use Rattle.pgs_world_files.specs.Access.{is_beside}
+use Rattle.pgs_world_files.specs.Causes.{IsUnsupported}
 use Rattle.pgs_world_files.specs.Head.{is_of_others}
 
 -- Each fact is one answer: a call on an open file names it before, and after where the call changes what may be asked of it. An answer
@@ -67,18 +66,25 @@ no_facts = record {
 abbrev pub is_same : Found → Found → Bool
 is_same one other = one.has_name && other.has_name && one.device == other.device && one.number == other.number
 
--- the system says that it can't do this here at all
-abbrev pub IsUnsupported : Error → Type 0
-IsUnsupported error = (error_kind error ≡ InvalidInput) ⊎ (error_kind error ≡ Unsupported)
+-- an open file was found to be this one, and then so was the file of a name
+abbrev pub IsNamed : {F : Type 0} → Facts F → List ℕ → F → Found → Type 0
+IsNamed facts name file this = facts.found file (Ok this) × ((there : Found) × facts.named file name (Ok there) × (is_same this there ≡ true))
 
--- whether the file of a name was found to be this open one; else a question failed, or it is another
-abbrev pub NameIs : {F : Type 0} → Facts F → List ℕ → F → Bool → Type 0
-NameIs facts name file true =
-    (this : Found) × (there : Found) × facts.found file (Ok this) × facts.named file name (Ok there) × (is_same this there ≡ true)
-NameIs facts name file false =
+-- a question failed, or the file of the name is another
+abbrev pub IsLost : {F : Type 0} → Facts F → List ℕ → F → Type 0
+IsLost facts name file =
     ((error : Error) × facts.found file (Err error))
     ⊎ (((error : Error) × facts.named file name (Err error))
     ⊎ ((this : Found) × (there : Found) × facts.found file (Ok this) × facts.named file name (Ok there) × (is_same this there ≡ false)))
+
+-- Whether the file of a name was found to be this one, which the system told before, with so many bytes; else the question failed, or it is
+-- another, or of another length.
+abbrev pub NameStands : {F : Type 0} → Facts F → List ℕ → Found → ℕ → F → Bool → Type 0
+NameStands facts name this len file true =
+    (there : Found) × facts.named file name (Ok there) × (is_same this there ≡ true) × (there.len ≡ len)
+NameStands facts name this len file false =
+    ((error : Error) × facts.named file name (Err error))
+    ⊎ ((there : Found) × facts.named file name (Ok there) × ((is_same this there ≡ false) ⊎ (there.len ≢ len)))
 
 -- what stands before the last slash of a name
 abbrev pub folder_of : List ℕ → List ℕ
@@ -138,26 +144,26 @@ pub record IsFolderSynced {F : Type 0} (facts : Facts F) (name : List ℕ) : Typ
   pub opened : facts.opened how (folder_of real) (Ok folder)
   pub synced : facts.folder folder None ⊎ ((error : Error) × facts.folder folder (Some error) × IsUnsupported error)
 
--- its first bytes were read, as many as it has, up to eight; and aren't something else's
+-- its first bytes were read, as many as it has, up to 13; and aren't something else's
 pub record HoldsNoOthers {F : Type 0} (facts : Facts F) (file : F) : Type 0 where
   pub now : Found
   pub found : facts.found file (Ok now)
   pub buf : List ℕ
   pub count : ℕ
   pub head : facts.head file buf (Ok count)
-  pub all : min now.len 8 ≤ count
-  pub free : is_of_others (take count buf) ≡ false
+  pub all : min now.len 13 ≤ count
+  pub free : is_of_others now.len (take count buf) ≡ false
 
 -- The file of a name, open for an access: opened so that nothing of it was lost, under a number above those of the standard streams, a
--- regular file, locked, then still the one of its name; its folder synced, but not beside a run that writes; and where a store is made, no
--- file of something else.
-pub record IsOpenFor {F : Type 0} (facts : Facts F) (name : List ℕ) (access : Access) (file : F) (mode : Mode) : Type 0 where
+-- regular file, locked, then found to be this one, still that of its name; its folder synced, but not beside a run that writes; and where a
+-- store is made, no file of something else.
+pub record IsOpenFor {F : Type 0} (facts : Facts F) (name : List ℕ) (access : Access) (file : F) (mode : Mode) (this : Found) : Type 0 where
   pub start : F
   pub opened : IsOpenedBy facts name access start mode
   pub above : facts.above start true
   pub regular : (found : Found) × facts.found start (Ok found) × (found.is_regular ≡ true)
   pub locked : LockIs facts access start None file
-  pub named : NameIs facts name file true
+  pub named : IsNamed facts name file this
   pub folder : is_beside access ≡ false → IsFolderSynced facts name
   pub free : access ≡ Make → HoldsNoOthers facts file
 
@@ -176,7 +182,7 @@ AnswersSync facts ToRead old true new = facts.sync old None new ⊎ ((error : Er
 AnswersSync facts ToWrite old true new = facts.sync old None new
 AnswersSync facts mode old false new = (error : Error) × facts.sync old (Some error) new
 
--- Whether the file still was the one of its name. Beside a run that writes that isn't asked.
-abbrev pub AnswersName : {F : Type 0} → Facts F → Mode → List ℕ → F → Bool → Type 0
-AnswersName facts Beside name file succeeds = succeeds ≡ true
-AnswersName facts mode name file succeeds = NameIs facts name file succeeds
+-- Whether the file still was the one of its name, and of this length. Beside a run that writes that isn't asked.
+abbrev pub AnswersName : {F : Type 0} → Facts F → Mode → List ℕ → Found → ℕ → F → Bool → Type 0
+AnswersName facts Beside name this len file succeeds = succeeds ≡ true
+AnswersName facts mode name this len file succeeds = NameStands facts name this len file succeeds

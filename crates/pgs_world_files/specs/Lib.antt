@@ -1,7 +1,9 @@
 pub mod Access
 pub mod Calls
+pub mod Causes
 pub mod Contents
 pub mod Counted
+pub mod FailedFiles
 pub mod Faults
 pub mod FeedCalls
 pub mod FeedFaults

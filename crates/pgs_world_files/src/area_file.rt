@@ -1,6 +1,7 @@
-ghost use Rattle.std.specs.Prelude.{◌≡◌, None, Some};
+ghost use Rattle.std.specs.Prelude.{◌≡◌, None, Some, IfErr, OnErr};
 ghost use Rattle.std.specs.Io.{ReadsAtMost, WritesAtMost};
 ghost use Rattle.std.specs.Option.{is_some};
+ghost use Rattle.pgs_world_files.specs.Causes.{CallFails, IsKept, LengthFails, ReadFails, WriteFails};
 ghost use Rattle.pgs_world_files.specs.Handles.{LengthIs, ReadIs, WriteIs, CallIs, IfOpen};
 ghost use Rattle.pgs_world_files.specs.Opened.{is_taken};
 ghost use Rattle.pgs_world_streams.specs.Tries.{ReadIsTried, WriteIsTried};
@@ -64,7 +65,8 @@ impl<H: Handle> AreaFile<H> {
 
     // A fault, and its cause.
     fn fault(&mut self, cause: FileCause) -> AreaFault
-        ensures { self.new.handle ≡ self.old.handle }
+        ensures handle { self.new.handle ≡ self.old.handle }
+        ensures cause { self.new.cause ≡ Some cause }
     {
         self.cause = Some(cause);
         AreaFault
@@ -72,7 +74,8 @@ impl<H: Handle> AreaFile<H> {
 
     /// The length in bytes. More than 2^40 are a fault.
     pub fn len(&mut self) -> Result<u64, AreaFault>
-        ensures { IfOpen (LengthIs H.length_gives) self.old.handle result self.new.handle }
+        ensures given { IfOpen (LengthIs H.length_gives) self.old.handle result self.new.handle }
+        ensures caused { OnErr result (IsKept (LengthFails H.length_gives) self.old.handle self.old.cause self.new.cause self.new.handle) }
     {
         match &mut self.handle {
             Some(handle) => match length_within(handle) {
@@ -85,7 +88,8 @@ impl<H: Handle> AreaFile<H> {
 
     /// Fills the buffer with the bytes from a place on. A range past the end, or past 2^40, is a fault.
     pub fn read_at(&mut self, at: u64, buf: &mut [u8]) -> Result<(), AreaFault>
-        ensures { IfOpen (λ old answer new. ReadIs H.read_gives old at buf.new answer new) self.old.handle result self.new.handle }
+        ensures given { IfOpen (λ old answer new. ReadIs H.read_gives old at buf.new answer new) self.old.handle result self.new.handle }
+        ensures caused { OnErr result (IsKept (λ old cause new. ReadFails H.read_gives old at buf.new cause new) self.old.handle self.old.cause self.new.cause self.new.handle) }
     {
         match &mut self.handle {
             Some(handle) => match read_within(handle, at, buf) {
@@ -98,7 +102,8 @@ impl<H: Handle> AreaFile<H> {
 
     /// Writes all bytes from a place on. A write past 2^40 bytes is a fault, and nothing is written.
     pub fn write_at(&mut self, at: u64, bytes: &[u8]) -> Result<(), AreaFault>
-        ensures { IfOpen (λ old answer new. WriteIs H.write_gives old at bytes.now answer new) self.old.handle result self.new.handle }
+        ensures given { IfOpen (λ old answer new. WriteIs H.write_gives old at bytes.now answer new) self.old.handle result self.new.handle }
+        ensures caused { OnErr result (IsKept (λ old cause new. WriteFails H.write_gives old at bytes.now cause new) self.old.handle self.old.cause self.new.cause self.new.handle) }
     {
         match &mut self.handle {
             Some(handle) => match write_within(handle, at, bytes) {
@@ -111,7 +116,8 @@ impl<H: Handle> AreaFile<H> {
 
     /// Cuts the file to a length.
     pub fn cut(&mut self, len: u64) -> Result<(), AreaFault>
-        ensures { IfOpen (CallIs (λ old succeeds new. H.cut_gives old len succeeds new)) self.old.handle result self.new.handle }
+        ensures given { IfOpen (CallIs (λ old succeeds new. H.cut_gives old len succeeds new)) self.old.handle result self.new.handle }
+        ensures caused { OnErr result (IsKept (CallFails (λ old succeeds new. H.cut_gives old len succeeds new)) self.old.handle self.old.cause self.new.cause self.new.handle) }
     {
         match &mut self.handle {
             Some(handle) => match handle.cut_once(len) {
@@ -124,7 +130,8 @@ impl<H: Handle> AreaFile<H> {
 
     /// After it, what was written stands on the disk.
     pub fn sync(&mut self) -> Result<(), AreaFault>
-        ensures { IfOpen (CallIs H.sync_gives) self.old.handle result self.new.handle }
+        ensures given { IfOpen (CallIs H.sync_gives) self.old.handle result self.new.handle }
+        ensures caused { OnErr result (IsKept (CallFails H.sync_gives) self.old.handle self.old.cause self.new.cause self.new.handle) }
     {
         match &mut self.handle {
             Some(handle) => match handle.sync_once() {
@@ -138,7 +145,8 @@ impl<H: Handle> AreaFile<H> {
 
 /// The length of a file of at most 2^40 bytes.
 fn length_within<H: Handle>(handle: &mut H) -> Result<u64, FileCause>
-    ensures { LengthIs H.length_gives handle.old result handle.new }
+    ensures given { LengthIs H.length_gives handle.old result handle.new }
+    ensures caused { IfErr result (λ cause. LengthFails H.length_gives handle.old cause handle.new) }
 {
     match handle.length_once() {
         Ok(count) if !passes_limit(count, 0) => Ok(count),
@@ -179,7 +187,8 @@ fn write_some<H: Handle>(handle: &mut H, at: u64, bytes: &[u8]) -> io::Result<us
 
 /// A read of a range that ends by 2^40.
 fn read_within<H: Handle>(handle: &mut H, at: u64, buf: &mut [u8]) -> Result<(), FileCause>
-    ensures { ReadIs H.read_gives handle.old at buf.new result handle.new }
+    ensures given { ReadIs H.read_gives handle.old at buf.new result handle.new }
+    ensures caused { IfErr result (λ cause. ReadFails H.read_gives handle.old at buf.new cause handle.new) }
 {
     if passes_limit(at, buf.len() as u64) {
         return Err(FileCause::Long);
@@ -197,7 +206,8 @@ fn read_within<H: Handle>(handle: &mut H, at: u64, buf: &mut [u8]) -> Result<(),
 
 /// A write that ends by 2^40.
 fn write_within<H: Handle>(handle: &mut H, at: u64, bytes: &[u8]) -> Result<(), FileCause>
-    ensures { WriteIs H.write_gives handle.old at bytes.now result handle.new }
+    ensures given { WriteIs H.write_gives handle.old at bytes.now result handle.new }
+    ensures caused { IfErr result (λ cause. WriteFails H.write_gives handle.old at bytes.now cause handle.new) }
 {
     if passes_limit(at, bytes.len() as u64) {
         return Err(FileCause::Long);

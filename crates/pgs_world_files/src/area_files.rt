@@ -1,5 +1,8 @@
-ghost use Rattle.std.specs.Prelude.{◌≡◌, ◌++◌, None, IfOk, string_bytes};
+ghost use Rattle.std.specs.Prelude.{◌≡◌, ◌++◌, None, Some, IfOk, OnOk, OnErr, string_bytes};
+ghost use Rattle.std.specs.Option.{option_map};
 ghost use Rattle.pgs_world.specs.World.{other};
+ghost use Rattle.pgs_world_files.specs.Causes.{CallFails, IsKept, LengthFails, ReadFails, WriteFails};
+ghost use Rattle.pgs_world_files.specs.FailedFiles.{FailedFile, cause_in, cause_of, cause_of_opening};
 ghost use Rattle.pgs_world_files.specs.Handles.{LengthIs, ReadIs, WriteIs, CallIs, IfOpen, handle_in};
 ghost use Rattle.pgs_world_files.specs.Opened.{AreOpened, IsStoreOf};
 
@@ -13,6 +16,8 @@ use std::alloc::Global;
 pub struct AreaFiles<H: Handle> {
     a: AreaFile<H>,
     b: AreaFile<H>,
+    // The area of the last fault.
+    failed: Option<Area>,
 }
 
 /// The name of a file of a store: the store's, and then an ending, `.a` or `.b`.
@@ -22,6 +27,16 @@ pub fn file_name(alloc: Global, store: &str, ending: &str) -> Result<String, Mem
     let mut name = String::from_str(alloc, store)?;
     name.push_str(ending)?;
     Ok(name)
+}
+
+// The cause of a file with this ending, where there is one.
+fn of_file(ending: &'static str, cause: Option<FileCause>) -> Option<(&'static str, FileCause)>
+    ensures { option_map {U = FailedFile} (λ told. (told.0.now, told.1)) result ≡ option_map {U = FailedFile} (λ cause. (ending.now, cause)) cause }
+{
+    match cause {
+        Some(cause) => Some((ending, cause)),
+        None => None,
+    }
 }
 
 impl<H: Handle> AreaFiles<H> {
@@ -38,13 +53,10 @@ impl<H: Handle> AreaFiles<H> {
     {
         let a = system.open_area(file_name(alloc, store, ".a")?, of_a)?;
         if !a.is_open() {
-            return Ok(AreaFiles {
-                a,
-                b: AreaFile::absent(None),
-            });
+            return Ok(AreaFiles::new(a, AreaFile::absent(None)));
         }
         let b = system.open_area(file_name(alloc, store, ".b")?, of_b)?;
-        Ok(AreaFiles { a, b })
+        Ok(AreaFiles::new(a, b))
     }
 
     // The files of a store that is read. Where another run has NAME.a they are read beside it.
@@ -87,21 +99,47 @@ impl<H: Handle> AreaFiles<H> {
         }
     }
 
-    /// Why the last fault came, or why there are no files, where that is known: the ending of the file's name, and the cause.
-    pub fn cause(&self) -> Option<(&'static str, FileCause)> {
-        match (self.a.cause(), self.b.cause()) {
-            (Some(cause), _) => Some((".a", cause)),
-            (None, Some(cause)) => Some((".b", cause)),
-            (None, None) => None,
+    /// Why the last fault came, or why there are no files, where that is known: the ending of the name of the file whose call failed, or that
+    /// wasn't opened, and the cause.
+    pub fn cause(&self) -> Option<(&'static str, FileCause)>
+        ensures { option_map {U = FailedFile} (λ told. (told.0.now, told.1)) result ≡ cause_of self.now }
+    {
+        match self.failed {
+            Some(Area::A) => of_file(".a", self.a.cause()),
+            Some(Area::B) => of_file(".b", self.b.cause()),
+            None => self.cause_of_opening(),
         }
     }
 
-    /// These files as areas A and B.
+    // The same before a call has failed: why there are no files.
+    fn cause_of_opening(&self) -> Option<(&'static str, FileCause)>
+        ensures { option_map {U = FailedFile} (λ told. (told.0.now, told.1)) result ≡ cause_of_opening self.now.a.cause self.now.b.cause }
+    {
+        match self.a.cause() {
+            Some(cause) => Some((".a", cause)),
+            None => of_file(".b", self.b.cause()),
+        }
+    }
+
+    // A call on an area was answered so.
+    fn note<A>(&mut self, area: Area, answer: &Result<A, AreaFault>)
+        ensures a { self.new.a ≡ self.old.a }
+        ensures b { self.new.b ≡ self.old.b }
+        ensures failed { OnErr answer.now (self.new.failed ≡ Some area) }
+        ensures stays { OnOk answer.now (self.new.failed ≡ self.old.failed) }
+    {
+        if answer.is_err() {
+            self.failed = Some(area);
+        }
+    }
+
+    /// These files as areas A and B, of which no call has failed.
     pub fn new(a: AreaFile<H>, b: AreaFile<H>) -> AreaFiles<H>
         ensures a { result.a ≡ a }
         ensures b { result.b ≡ b }
+        ensures failed { result.failed ≡ None }
     {
-        AreaFiles { a, b }
+        AreaFiles { a, b, failed: None }
     }
 
     /// No file for either area, as for a command without a store: every call is a fault.
@@ -109,64 +147,81 @@ impl<H: Handle> AreaFiles<H> {
         ensures a { result.a.handle ≡ None }
         ensures b { result.b.handle ≡ None }
     {
-        AreaFiles {
-            a: AreaFile::absent(None),
-            b: AreaFile::absent(None),
-        }
+        AreaFiles::new(AreaFile::absent(None), AreaFile::absent(None))
     }
 
     /// The length of an area, in bytes. More than 2^40 are a fault.
     pub fn len(&mut self, area: Area) -> Result<u64, AreaFault>
         ensures given { IfOpen (LengthIs H.length_gives) (handle_in area self.old) result (handle_in area self.new) }
         ensures beside { handle_in (other area) self.new ≡ handle_in (other area) self.old }
+        ensures caused { OnErr result (IsKept (LengthFails H.length_gives) (handle_in area self.old) (cause_in area self.old) (cause_in area self.new) (handle_in area self.new)) }
+        ensures failed { OnErr result (self.new.failed ≡ Some area) }
     {
-        match area {
+        let answer = match area {
             Area::A => self.a.len(),
             Area::B => self.b.len(),
-        }
+        };
+        self.note(area, &answer);
+        answer
     }
 
     /// Fills the buffer with the bytes of an area from a place on. A range past the end, or past 2^40, is a fault.
     pub fn read_at(&mut self, area: Area, at: u64, buf: &mut [u8]) -> Result<(), AreaFault>
         ensures given { IfOpen (λ old answer new. ReadIs H.read_gives old at buf.new answer new) (handle_in area self.old) result (handle_in area self.new) }
         ensures beside { handle_in (other area) self.new ≡ handle_in (other area) self.old }
+        ensures caused { OnErr result (IsKept (λ old cause new. ReadFails H.read_gives old at buf.new cause new) (handle_in area self.old) (cause_in area self.old) (cause_in area self.new) (handle_in area self.new)) }
+        ensures failed { OnErr result (self.new.failed ≡ Some area) }
     {
-        match area {
+        let answer = match area {
             Area::A => self.a.read_at(at, buf),
             Area::B => self.b.read_at(at, buf),
-        }
+        };
+        self.note(area, &answer);
+        answer
     }
 
     /// Writes all bytes from a place of an area on. A write past 2^40 bytes is a fault, and nothing is written.
     pub fn write_at(&mut self, area: Area, at: u64, bytes: &[u8]) -> Result<(), AreaFault>
         ensures given { IfOpen (λ old answer new. WriteIs H.write_gives old at bytes.now answer new) (handle_in area self.old) result (handle_in area self.new) }
         ensures beside { handle_in (other area) self.new ≡ handle_in (other area) self.old }
+        ensures caused { OnErr result (IsKept (λ old cause new. WriteFails H.write_gives old at bytes.now cause new) (handle_in area self.old) (cause_in area self.old) (cause_in area self.new) (handle_in area self.new)) }
+        ensures failed { OnErr result (self.new.failed ≡ Some area) }
     {
-        match area {
+        let answer = match area {
             Area::A => self.a.write_at(at, bytes),
             Area::B => self.b.write_at(at, bytes),
-        }
+        };
+        self.note(area, &answer);
+        answer
     }
 
     /// Cuts an area to a length.
     pub fn cut(&mut self, area: Area, len: u64) -> Result<(), AreaFault>
         ensures given { IfOpen (CallIs (λ old succeeds new. H.cut_gives old len succeeds new)) (handle_in area self.old) result (handle_in area self.new) }
         ensures beside { handle_in (other area) self.new ≡ handle_in (other area) self.old }
+        ensures caused { OnErr result (IsKept (CallFails (λ old succeeds new. H.cut_gives old len succeeds new)) (handle_in area self.old) (cause_in area self.old) (cause_in area self.new) (handle_in area self.new)) }
+        ensures failed { OnErr result (self.new.failed ≡ Some area) }
     {
-        match area {
+        let answer = match area {
             Area::A => self.a.cut(len),
             Area::B => self.b.cut(len),
-        }
+        };
+        self.note(area, &answer);
+        answer
     }
 
     /// After it, what was written to an area stands on the disk.
     pub fn sync(&mut self, area: Area) -> Result<(), AreaFault>
         ensures given { IfOpen (CallIs H.sync_gives) (handle_in area self.old) result (handle_in area self.new) }
         ensures beside { handle_in (other area) self.new ≡ handle_in (other area) self.old }
+        ensures caused { OnErr result (IsKept (CallFails H.sync_gives) (handle_in area self.old) (cause_in area self.old) (cause_in area self.new) (handle_in area self.new)) }
+        ensures failed { OnErr result (self.new.failed ≡ Some area) }
     {
-        match area {
+        let answer = match area {
             Area::A => self.a.sync(),
             Area::B => self.b.sync(),
-        }
+        };
+        self.note(area, &answer);
+        answer
     }
 }

@@ -1,11 +1,13 @@
 ghost use Rattle.std.specs.Prelude.{◌≡◌, ◌+◌, ◌^◌, ◌≤◌, length, IfOk, OnOk, OnErr};
 ghost use Rattle.std.specs.Io.KnownBytes.{Appends};
+ghost use Rattle.std.specs.Option.{option_map};
 ghost use Rattle.pgs_world.specs.Calls.{Reaches, HasLength, HasBytes, IsWrittenOver, IsCutTo, IsAreaCall, IsPutCall};
 ghost use Rattle.pgs_world.specs.Count.{Rose, raised};
 ghost use Rattle.pgs_world.specs.Disk.{IsSameBeside, Writes, Cuts, Puts};
 ghost use Rattle.pgs_world.specs.Moment.{Passes, StopsBy, IsQuiet, IsSynced};
 ghost use Rattle.pgs_world.specs.World.{output_of, other, Adds, AddsFront};
 ghost use Rattle.pgs_world_files.specs.Counted.{seen};
+ghost use Rattle.pgs_world_files.specs.FailedFiles.{FailedFile, cause_of};
 ghost use Rattle.pgs_world_files.specs.Handles.{LengthIs, ReadIs, WriteIs, CallIs, IfOpen, handle_in};
 ghost use Rattle.pgs_world_streams.specs.Pieces.{AppendsFront, PutIs};
 
@@ -52,7 +54,9 @@ impl<W: SteadyWrite, H: Handle> FileWorld<W, H> {
 
     /// Why the last fault of a call on an area came, or why there is no file, where that is known: the ending of the file's name, and the
     /// cause.
-    pub fn area_cause(&self) -> Option<(&'static str, FileCause)> {
+    pub fn area_cause(&self) -> Option<(&'static str, FileCause)>
+        ensures { option_map {U = FailedFile} (λ told. (told.0.now, told.1)) result ≡ cause_of self.now.areas }
+    {
         self.areas.cause()
     }
 

@@ -21,8 +21,8 @@ pub trait NamedFile: Drop {
     /// Whether a sync succeeded.
     ghost sync_gives: { Self → Bool → Self → Type 0 } = { λ _ _ _. ⊤ };
 
-    /// Whether the file of the name was found to be this one.
-    ghost name_gives: { Self → Bool → Self → Type 0 } = { λ _ _ _. ⊤ };
+    /// Whether the file of the name was found to be this one, and as long as asked.
+    ghost name_gives: { Self → ℕ → Bool → Self → Type 0 } = { λ _ _ _ _. ⊤ };
 
     /// What opening it for writing too left.
     ghost reopen_gives: { Self → Self → Type 0 } = { λ _ _. ⊤ };
@@ -49,9 +49,9 @@ pub trait NamedFile: Drop {
     fn sync_bytes(&mut self) -> io::Result<()>
         ensures gives { sync_gives self.old (is_ok result) self.new };
 
-    /// An error where the file of the name is another one, or none.
-    fn check_name(&mut self) -> io::Result<()>
-        ensures gives { name_gives self.old (is_ok result) self.new };
+    /// An error where the file of the name is another one, or none, or has not as many bytes.
+    fn check_name(&mut self, len: u64) -> io::Result<()>
+        ensures gives { name_gives self.old len (is_ok result) self.new };
 
     /// Makes a file that is open for reading alone open for writing too, where that may be.
     fn open_to_write(&mut self)

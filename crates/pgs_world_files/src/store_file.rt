@@ -1,26 +1,86 @@
-ghost use Rattle.std.specs.Prelude.{◌≡◌};
+ghost use Rattle.std.specs.Prelude.{◌≡◌, ◌+◌, ◌-◌, ◌^◌, max, min, nat_lt, false, is_ok, OnOk, OnErr};
 ghost use Rattle.std.specs.Int.{div_ceil};
-ghost use Rattle.pgs_world_files.specs.Named.{SyncIs};
+ghost use Rattle.std.specs.Io.{WritesAtMost};
+ghost use Rattle.pgs_world_files.specs.Named.{IsLookedAt, KnowsOfWrite, KnowsTheSame, LengthStands, unsynced_with};
 ghost use Rattle.pgs_world_files.specs.Rewriting.{HasRewritten, IsByteRewritten, IsRewritten};
+ghost use Rattle.pgs_world_files.specs.declared.store_file.Unsynced.TheVariants.{Nothing, Within};
 
 use crate::{Handle, NamedFile};
-use std::io;
+use std::io::{self, ErrorKind};
 
 // The least part of a file that a disk writes for itself, and the system marks as written or not.
 const BLOCK: u64 = 512;
 
-/// A file of a store: an open file that a run has locked, and that is the one of its name.
+/// What was written into a file since its last sync.
+#[derive(Clone, Copy, PartialEq, Eq)]
+pub enum Unsynced {
+    /// Nothing.
+    Nothing,
+    /// Bytes behind the end that it had, and no others.
+    BehindEnd,
+    /// Bytes that were there, or it was cut.
+    Within,
+}
+
+impl Unsynced {
+    // The same behind one write more, which began within the file or behind its end.
+    fn with(self, within: bool) -> Unsynced
+        ensures { result ≡ unsynced_with self within }
+    {
+        if within {
+            return Unsynced::Within;
+        }
+        match self {
+            Unsynced::Within => Unsynced::Within,
+            Unsynced::Nothing | Unsynced::BehindEnd => Unsynced::BehindEnd,
+        }
+    }
+}
+
+/// A file of a store: an open file that a run has locked, and that is the one of its name. The run knows how long it is, from what the system
+/// said behind the lock and from its own writes and cuts: before each of these, and behind a sync, the file is looked at, and another length
+/// is a fault. So no other program writes it anew or cuts it unnoticed, if it doesn't leave the same length.
 #[derive(Drop)]
 pub struct StoreFile<F: NamedFile> {
     file: F,
+    known: u64,
+    unsynced: Unsynced,
 }
 
 impl<F: NamedFile> StoreFile<F> {
-    /// This file.
-    pub fn new(file: F) -> StoreFile<F>
-        ensures { result.file ≡ file }
+    /// This file, of so many bytes.
+    pub fn new(file: F, known: u64) -> StoreFile<F>
+        ensures file { result.file ≡ file }
+        ensures known { result.known ≡ known }
+        ensures unsynced { result.unsynced ≡ Nothing }
     {
-        StoreFile { file }
+        StoreFile {
+            file,
+            known,
+            unsynced: Unsynced::Nothing,
+        }
+    }
+
+    // An error where the open file isn't as long as this run knows.
+    fn check_length(&mut self) -> io::Result<()>
+        ensures stands { LengthStands F.length_gives self.old.known self.old.file (is_ok result) self.new.file }
+        ensures same { KnowsTheSame self.old self.new }
+    {
+        let len = self.file.ask_length()?;
+        if len == self.known {
+            return Ok(());
+        }
+        Err(io::Error::from(ErrorKind::InvalidData))
+    }
+
+    // What this run knows behind a write of so many bytes at a place.
+    fn know_write(&mut self, at: u64, count: usize)
+        ensures file { self.new.file ≡ self.old.file }
+        ensures known { self.new.known ≡ max self.old.known (min (at + count) (2 ^ 64 - 1)) }
+        ensures unsynced { self.new.unsynced ≡ unsynced_with self.old.unsynced (nat_lt at self.old.known) }
+    {
+        self.unsynced = self.unsynced.with(at < self.known);
+        self.known = self.known.max(at.saturating_add(count as u64));
     }
 
     // Writes one byte of each block again, the byte that stands there. After a sync that failed the system may take what it has in memory
@@ -28,15 +88,75 @@ impl<F: NamedFile> StoreFile<F> {
     // isn't there. Now the next sync has to write all. A stop here changes nothing, and what isn't in memory needs nothing: so a read or
     // a write that fails is passed over.
     fn write_again(&mut self)
-        ensures { IsRewritten F.reopen_gives F.length_gives F.read_gives F.write_gives self.old.file self.new.file }
+        ensures rewritten { IsRewritten F.reopen_gives F.length_gives F.read_gives F.write_gives self.old.file self.new.file }
+        ensures same { KnowsTheSame self.old self.new }
     {
         self.file.open_to_write();
         if let Ok(len) = self.file.ask_length() {
             rewrite_blocks(&mut self.file, len);
         }
     }
-}
 
+    // Looks at the file behind a sync that succeeded. Where all that was written stands behind the end that the file had, that is left to the
+    // sync of the write that makes it a part of the store.
+    fn look(&mut self) -> io::Result<()>
+        ensures looked { OnOk result (IsLookedAt F.name_gives self.old.unsynced self.old.known self.old.file self.new.file) }
+        ensures failed { OnErr result (F.name_gives self.old.file self.old.known false self.new.file) }
+        ensures same { KnowsTheSame self.old self.new }
+    {
+        match self.unsynced {
+            Unsynced::BehindEnd => Ok(()),
+            Unsynced::Nothing | Unsynced::Within => self.file.check_name(self.known),
+        }
+    }
+
+    // The same, and then everything is synced.
+    fn look_synced(&mut self) -> io::Result<()>
+        ensures looked { OnOk result (IsLookedAt F.name_gives self.old.unsynced self.old.known self.old.file self.new.file) }
+        ensures synced { OnOk result ((self.new.known ≡ self.old.known) × (self.new.unsynced ≡ Nothing)) }
+        ensures failed { OnErr result (F.name_gives self.old.file self.old.known false self.new.file) }
+        ensures same { OnErr result (KnowsTheSame self.old self.new) }
+    {
+        match self.look() {
+            Ok(()) => {
+                self.unsynced = Unsynced::Nothing;
+                Ok(())
+            }
+            Err(error) => Err(error),
+        }
+    }
+
+    // Writes once, and knows how far the file reaches then.
+    fn write_known(&mut self, at: u64, bytes: &[u8]) -> io::Result<usize>
+        ensures bound { WritesAtMost result bytes.now }
+        ensures written { F.write_gives self.old.file at bytes.now result self.new.file }
+        ensures known { KnowsOfWrite self.old at result self.new }
+    {
+        match self.file.write_from(at, bytes) {
+            Ok(count) => {
+                self.know_write(at, count);
+                Ok(count)
+            }
+            Err(error) => Err(error),
+        }
+    }
+
+    // Cuts the file, and knows how long it is then.
+    fn cut_known(&mut self, len: u64) -> io::Result<()>
+        ensures cut { F.cut_gives self.old.file len (is_ok result) self.new.file }
+        ensures known { OnOk result ((self.new.known ≡ len) × (self.new.unsynced ≡ Within)) }
+        ensures same { OnErr result (KnowsTheSame self.old self.new) }
+    {
+        match self.file.cut_to(len) {
+            Ok(()) => {
+                self.known = len;
+                self.unsynced = Unsynced::Within;
+                Ok(())
+            }
+            Err(error) => Err(error),
+        }
+    }
+}
 // Writes one byte of each block of a file of this length again.
 fn rewrite_blocks<F: NamedFile>(file: &mut F, len: u64)
     ensures { HasRewritten F.read_gives F.write_gives file.old (div_ceil len BLOCK) file.new }
@@ -60,19 +180,19 @@ fn rewrite_byte<F: NamedFile>(file: &mut F, at: u64)
 }
 
 impl<F: NamedFile> Handle for StoreFile<F> {
-    ghost use Rattle.pgs_world_files.specs.Named.{SyncIs, tells_nothing};
+    ghost use Rattle.pgs_world_files.specs.Named.{IsCut, IsWritten, KnowsTheSame, SyncIs, tells_nothing};
 
     ghost over = { tells_nothing };
 
-    ghost length_gives = { λ old answer new. F.length_gives old.file answer new.file };
+    ghost length_gives = { λ old answer new. F.length_gives old.file answer new.file × KnowsTheSame old new };
 
-    ghost read_gives = { λ old at buf answer new. F.read_gives old.file at buf answer new.file };
+    ghost read_gives = { λ old at buf answer new. F.read_gives old.file at buf answer new.file × KnowsTheSame old new };
 
-    ghost write_gives = { λ old at bytes answer new. F.write_gives old.file at bytes answer new.file };
+    ghost write_gives = { IsWritten F.length_gives F.write_gives };
 
-    ghost cut_gives = { λ old len succeeds new. F.cut_gives old.file len succeeds new.file };
+    ghost cut_gives = { IsCut F.length_gives F.cut_gives };
 
-    ghost sync_gives = { λ old succeeds new. SyncIs F.sync_gives F.name_gives F.reopen_gives F.length_gives F.read_gives F.write_gives old.file succeeds new.file };
+    ghost sync_gives = { SyncIs F.sync_gives F.name_gives F.reopen_gives F.length_gives F.read_gives F.write_gives };
 
     fn length_once(&mut self) -> io::Result<u64> {
         self.file.ask_length()
@@ -83,16 +203,22 @@ impl<F: NamedFile> Handle for StoreFile<F> {
     }
 
     fn write_once(&mut self, at: u64, bytes: &[u8]) -> io::Result<usize> {
-        self.file.write_from(at, bytes)
+        match self.check_length() {
+            Ok(()) => self.write_known(at, bytes),
+            Err(error) => Err(error),
+        }
     }
 
     fn cut_once(&mut self, len: u64) -> io::Result<()> {
-        self.file.cut_to(len)
+        match self.check_length() {
+            Ok(()) => self.cut_known(len),
+            Err(error) => Err(error),
+        }
     }
 
     fn sync_once(&mut self) -> io::Result<()> {
         match self.file.sync_bytes() {
-            Ok(()) => self.file.check_name(),
+            Ok(()) => self.look_synced(),
             Err(error) => {
                 self.write_again();
                 Err(error)

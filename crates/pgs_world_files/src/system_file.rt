@@ -1,34 +1,47 @@
-ghost use Rattle.std.specs.Prelude.{◌≡◌, IsTrue, IfSome, false, is_ok};
-ghost use Rattle.pgs_world_files.specs.Calls.{AnswersSync, AsksToPlace, IsUnsupported, NameIs};
-ghost use Rattle.pgs_world_files.specs.SystemFiles.{IsAgain};
+ghost use Rattle.std.specs.IoError.{error_kind};
+ghost use Rattle.std.specs.Prelude.{◌≡◌, ◌≢◌, IsTrue, IfOk, IfSome, None, IfErr, OnErr, OnOk, false, true, is_ok};
+ghost use Rattle.std.specs.declared.io.ErrorKind.TheVariants.{InvalidData, StaleNetworkFileHandle};
+ghost use Rattle.pgs_world_files.specs.Calls.{AnswersSync, AsksToPlace, IsLost, IsNamed, NameStands, is_same};
+ghost use Rattle.pgs_world_files.specs.Causes.{IsUnsupported};
+ghost use Rattle.pgs_world_files.specs.SystemFiles.{IsAgain, IsNotAgain};
 ghost use Rattle.pgs_world_files.specs.declared.mode.Mode.TheVariants.{ToRead};
 
-use crate::{Mode, NamedFile, System};
+use crate::{Found, Mode, NamedFile, System};
 use std::fs::OpenOptions;
 use std::io::{self, ErrorKind};
 
-/// A file of the system. `again` is the same file, opened once more to be written.
+/// A file of the system. `this` is what the system said of it behind its lock: its device and its number stay as long as it is open. `again`
+/// is the same file, opened once more to be written.
 #[derive(Drop)]
 pub struct SystemFile<'a, S: System> {
     system: &'a S,
     name: String,
     file: S::File,
     mode: Mode,
+    this: Found,
     again: Option<S::File>,
 }
 
 impl<'a, S: System> SystemFile<'a, S> {
-    /// An open file of that name.
-    pub(crate) fn new(system: &'a S, name: String, file: S::File, mode: Mode) -> SystemFile<'a, S>
+    /// An open file of that name, found to be this one.
+    pub(crate) fn new(
+        system: &'a S,
+        name: String,
+        file: S::File,
+        mode: Mode,
+        this: Found,
+    ) -> SystemFile<'a, S>
         ensures name { result.name ≡ name }
         ensures file { result.file ≡ file }
         ensures mode { result.mode ≡ mode }
+        ensures this { result.this ≡ this }
     {
         SystemFile {
             system,
             name,
             file,
             mode,
+            this,
             again: None,
         }
     }
@@ -46,9 +59,10 @@ pub(crate) fn is_unsupported(error: &io::Error) -> bool
     }
 }
 
-/// An error where the file of a name isn't the one that is open.
-pub(crate) fn check_same<S: System>(system: &S, file: &S::File, name: &str) -> io::Result<()>
-    ensures { NameIs S.facts name.now file.now (is_ok result) }
+/// Which file the open one is; an error where the file of the name is another.
+pub(crate) fn check_same<S: System>(system: &S, file: &S::File, name: &str) -> io::Result<Found>
+    ensures named { IfOk result (IsNamed S.facts name.now file.now) }
+    ensures lost { OnErr result (IsLost S.facts name.now file.now) }
 {
     let this = system.found(file)?;
     let there = match system.find_behind(file, name) {
@@ -56,9 +70,41 @@ pub(crate) fn check_same<S: System>(system: &S, file: &S::File, name: &str) -> i
         Err(error) => return Err(absent_as_replaced(error)),
     };
     if this.is_same(there) {
-        return Ok(());
+        return Ok(this);
     }
     Err(io::Error::from(ErrorKind::StaleNetworkFileHandle))
+}
+
+// An error where what a name has is another file than this one, or is of another length.
+fn compare(this: Found, there: Found, len: u64) -> io::Result<()>
+    ensures same { OnOk result ((is_same this there ≡ true) × (there.len ≡ len)) }
+    ensures other { IfErr result (λ error. error_kind error ≡ StaleNetworkFileHandle → is_same this there ≡ false) }
+    ensures changed { IfErr result (λ error. error_kind error ≢ StaleNetworkFileHandle → (error_kind error ≡ InvalidData) × (there.len ≢ len)) }
+{
+    if !this.is_same(there) {
+        return Err(io::Error::from(ErrorKind::StaleNetworkFileHandle));
+    }
+    if there.len != len {
+        return Err(io::Error::from(ErrorKind::InvalidData));
+    }
+    Ok(())
+}
+
+// An error where the file of a name isn't this one, or has another length. The open file is this one as long as it is open, so what the name
+// has says how long it is too.
+fn check_known<S: System>(
+    system: &S,
+    file: &S::File,
+    name: &str,
+    this: Found,
+    len: u64,
+) -> io::Result<()>
+    ensures { NameStands S.facts name.now this len file.now (is_ok result) }
+{
+    match system.find_behind(file, name) {
+        Ok(there) => compare(this, there, len),
+        Err(error) => Err(absent_as_replaced(error)),
+    }
 }
 
 // Syncs a file that may not be written: its file system may know no sync.
@@ -87,7 +133,8 @@ fn to_rewrite() -> OpenOptions
 
 // The file of a name opened once more to be written, where it is the same file.
 fn opened_again<S: System>(system: &S, file: &S::File, name: &str) -> Option<S::File>
-    ensures { IfSome result (λ again. IsAgain S.facts name.now file.now again) }
+    ensures again { IfSome result (λ again. IsAgain S.facts name.now file.now again) }
+    ensures not_again { result ≡ None → IsNotAgain S.facts name.now file.now }
 {
     let how = to_rewrite();
     let Ok(again) = system.open(&how, name) else {
@@ -134,7 +181,7 @@ impl<'a, S: System> NamedFile for SystemFile<'a, S> {
 
     ghost reopen_gives = { IsReopened S.facts };
 
-    ghost name_gives = { λ old succeeds new. AnswersName S.facts old.mode (string_bytes old.name) old.file succeeds × Keeps old new };
+    ghost name_gives = { λ old len succeeds new. AnswersName S.facts old.mode (string_bytes old.name) old.this len old.file succeeds × Keeps old new };
 
     fn ask_length(&mut self) -> io::Result<u64> {
         self.system.length(&mut self.file)
@@ -163,10 +210,10 @@ impl<'a, S: System> NamedFile for SystemFile<'a, S> {
         }
     }
 
-    fn check_name(&mut self) -> io::Result<()> {
+    fn check_name(&mut self, len: u64) -> io::Result<()> {
         match self.mode {
             Mode::ToWrite | Mode::ToRead => {
-                check_same(self.system, &self.file, self.name.as_str())
+                check_known(self.system, &self.file, self.name.as_str(), self.this, len)
             }
             Mode::Beside => Ok(()),
         }

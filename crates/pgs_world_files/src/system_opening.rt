@@ -1,16 +1,20 @@
 ghost use Rattle.std.specs.Fs.{asks_create};
-ghost use Rattle.std.specs.Prelude.{◌≡◌, ◌++◌, [], ◌∷◌, ℕ, List, true, false, Ok, IfOk, IfErr, OnOk, OnErr};
+ghost use Rattle.std.specs.Prelude.{◌≡◌, ◌++◌, [], ◌∷◌, ℕ, List, true, false, Ok, Err, IfOk, IfErr, OnOk, OnErr};
 ghost use Rattle.std.specs.Path.{path_bytes};
+ghost use Rattle.std.specs.declared.fs.options.OpenOptions.{OpenOptions};
+ghost use Rattle.std.specs.declared.io.Error.{Error};
 ghost use Rattle.pgs_world_files.specs.Access.{is_beside};
 ghost use Rattle.pgs_world_files.specs.Calls.{AsksToPlace, HoldsNoOthers, IsFolderSynced, IsModeFor, IsOpenFor, IsOpenedBy, LockIs, folder_of, reads_only};
+ghost use Rattle.pgs_world_files.specs.Causes.{IsFolderFault};
 ghost use Rattle.pgs_world_files.specs.Faults.{IsFault, IsLockFault, IsNew, IsOwn, LockAnswers, is_open};
 ghost use Rattle.pgs_world_files.specs.FeedCalls.{IsOpenFeed};
 ghost use Rattle.pgs_world_files.specs.FeedFaults.{IsFeedFault};
 ghost use Rattle.pgs_world_files.specs.declared.access.Access.{Access};
 
+use crate::cause::is_lockless;
 use crate::feed_cause::FeedOpenFault;
 use crate::feed_opening::{check_streams, last_of, open_behind};
-use crate::store_head::is_of_others;
+use crate::store_head::{HEAD_FRONT, is_of_others};
 use crate::system_file::{check_same, is_unsupported};
 use crate::{
     Access, AreaFile, FileCause, FileFeed, Found, Mode, OpenFault, Opening, StoreFile, System,
@@ -20,7 +24,7 @@ use pgs_base::Memory;
 use pgs_world::Feed;
 use std::alloc::Global;
 use std::fs::{OpenOptions, TryLockError};
-use std::io::ErrorKind;
+use std::io::{self, ErrorKind};
 use std::os::unix::fs::OpenOptionsExt;
 use std::path::{AsPath, Path};
 
@@ -77,8 +81,12 @@ impl<'a, S: System> SystemOpening<'a, S> {
     }
 
     // The file of a name, locked for the access, its folder synced, and still the one of its name.
-    fn open_store_file(&mut self, name: &str, access: Access) -> Result<(S::File, Mode), OpenFault>
-        ensures opened { IfOk result (λ opened. IsOpenFor S.facts name.now access opened.0 opened.1) }
+    fn open_store_file(
+        &mut self,
+        name: &str,
+        access: Access,
+    ) -> Result<(S::File, Mode, Found), OpenFault>
+        ensures opened { IfOk result (λ opened. IsOpenFor S.facts name.now access opened.0 opened.1 opened.2) }
         ensures own { IfOk result (λ opened. IsOwn S.facts access self.old.opened.items opened.0 self.new.opened.items) }
         ensures stays { OnErr result (self.new.opened.items ≡ self.old.opened.items) }
         ensures fault { IfErr result (IsFault S.facts self.old.opened.items name.now access) }
@@ -89,11 +97,11 @@ impl<'a, S: System> SystemOpening<'a, S> {
             return Err(OpenFault::File(FileCause::NotRegular));
         }
         lock(self.system, &mut file, access)?;
-        check_same(self.system, &file, name)?;
+        let this = check_same(self.system, &file, name)?;
         sync_folder_for(self.system, name, access)?;
         check_use(self.system, &file, access)?;
         self.admit(found)?;
-        Ok((file, mode))
+        Ok((file, mode, this))
     }
 
     // The file of a feed's name, open behind its end, and the number of its last line.
@@ -165,7 +173,12 @@ fn open_regular<S: System>(
             Err(OpenFault::File(FileCause::NotRegular))
         }
         Err(error) => match error.kind() {
-            ErrorKind::NotFound if !access.is_beside() => open_absent(system, name, access),
+            ErrorKind::NotFound => {
+                if access.is_beside() {
+                    return Err(OpenFault::from(error));
+                }
+                open_absent(system, name, access)
+            }
             _ => Err(OpenFault::from(error)),
         },
     }
@@ -244,7 +257,12 @@ fn lock_fault(error: TryLockError) -> OpenFault
 {
     match error {
         TryLockError::WouldBlock => OpenFault::File(FileCause::Locked),
-        TryLockError::Error(error) => OpenFault::from(error),
+        TryLockError::Error(error) => {
+            if is_lockless(&error) {
+                return OpenFault::File(FileCause::NoLocks);
+            }
+            OpenFault::from(error)
+        }
     }
 }
 
@@ -277,6 +295,28 @@ fn lock<S: System>(system: &S, file: &mut S::File, access: Access) -> Result<(),
     }
 }
 
+// Why the folder of a file wasn't opened: it may be missing the right to read it alone.
+fn folder_fault(error: io::Error) -> OpenFault
+    ensures { IsFolderFault error result }
+{
+    match error.kind() {
+        ErrorKind::PermissionDenied => OpenFault::File(FileCause::FolderDenied),
+        _ => OpenFault::from(error),
+    }
+}
+
+// Opens a folder, to sync the names in it.
+fn open_folder<S: System>(system: &S, folder: Path<'_>) -> Result<S::File, OpenFault>
+    ensures opened { IfOk result (λ file. (how : OpenOptions) × S.facts.opened how (path_bytes folder.entry) (Ok file)) }
+    ensures fault { IfErr result (λ made. (how : OpenOptions) × (error : Error) × S.facts.opened how (path_bytes folder.entry) (Err error) × IsFolderFault error made) }
+{
+    let how = to_place(true);
+    match system.open(&how, folder.path_text()) {
+        Ok(file) => Ok(file),
+        Err(error) => Err(folder_fault(error)),
+    }
+}
+
 // Syncs the folder where a file really lies, so that the file itself outlasts a stop: also where the file was there before, since the
 // run that made it may have been stopped. Some systems sync no folder.
 fn sync_folder<S: System>(system: &S, name: &str) -> Result<(), OpenFault>
@@ -285,8 +325,7 @@ fn sync_folder<S: System>(system: &S, name: &str) -> Result<(), OpenFault>
 {
     let real = system.real_path(name)?;
     let folder = folder_of(real.as_path());
-    let how = to_place(true);
-    let names = system.open(&how, folder.path_text())?;
+    let names = open_folder(system, folder)?;
     match system.sync_names(&names) {
         Ok(()) => Ok(()),
         Err(error) => {
@@ -314,14 +353,14 @@ fn check_free<S: System>(system: &S, file: &S::File) -> Result<(), OpenFault>
     ensures free { OnOk result (HoldsNoOthers S.facts file.now) }
     ensures fault { IfErr result (λ made. (name : List ℕ) → IsFault S.facts [] name Access.Make made) }
 {
-    let mut head = [0; 8];
+    let mut head = [0; HEAD_FRONT];
     let found = system.found(file)?;
-    let len = found.len.min(8) as usize;
+    let len = found.len.min(HEAD_FRONT as u64) as usize;
     let count = system.read_head(file, &mut head)?;
     if count < len {
         return Err(OpenFault::File(FileCause::Short));
     }
-    if is_of_others(&head[..count]) {
+    if is_of_others(found.len, &head[..count]) {
         return Err(OpenFault::File(FileCause::Others));
     }
     Ok(())
@@ -357,9 +396,9 @@ impl<'a, S: System> Opening for SystemOpening<'a, S> {
         ensures admitted { IfOk result (λ area. IsAdmitted S.facts self.old.opened.items (string_bytes name) access area.handle area.cause self.new.opened.items) }
     {
         match self.open_store_file(name.as_str(), access) {
-            Ok((file, mode)) => {
-                let file = SystemFile::new(self.system, name, file, mode);
-                Ok(AreaFile::new(StoreFile::new(file)))
+            Ok((file, mode, this)) => {
+                let file = SystemFile::new(self.system, name, file, mode, this);
+                Ok(AreaFile::new(StoreFile::new(file, this.len)))
             }
             Err(OpenFault::File(cause)) => Ok(AreaFile::absent(Some(cause))),
             Err(OpenFault::Memory) => Err(Memory),

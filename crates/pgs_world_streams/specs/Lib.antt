@@ -1,4 +1,5 @@
 pub mod Given
+pub mod Numbers
 pub mod Pieces
 pub mod ProgramWords
 pub mod Tries

@@ -20,7 +20,7 @@ pub use cause::Cause;
 pub use command_line::program_words;
 pub use interruption::{MOST_TRIES, is_tried_again};
 pub use standard_error::{tell, tell_usage};
-pub use standard_numbers::{StandardNumbers, is_above_standard};
+pub use standard_numbers::{OpensFolder, StandardNumbers, is_above_standard};
 pub use stdin_source::StdinSource;
 pub use steady::{SteadyRead, SteadyWrite};
 pub use stream_causes::{StreamCauses, tell_memory, tell_too_long};

@@ -55,12 +55,23 @@ fn cause_over(rt: &HostRuntime, bytes: &[u8], access: Access) -> Result<Option<F
 
 #[test]
 fn a_new_store_goes_over_no_file_of_something_else(rt: HostRuntime) -> Result<(), Fail> {
-    let files: [&[u8]; 5] = [b"1\n2\n", b"#PGSGRD1", b"#PGSGRD2", b"#", b"\0\n"];
-    let mut seen = [None; 5];
+    let files: [&[u8]; 8] = [
+        b"1\n2\n",
+        b"\x01\n",
+        b"#PGSGRD1",
+        b"#PGSGRD2",
+        b"\x01PGS",
+        b"\x01other programs",
+        b"#",
+        b"\0\n",
+    ];
+    let mut seen = [None; 8];
     for (place, bytes) in seen.iter_mut().zip(files) {
         *place = cause_over(&rt, bytes, Access::Make)?;
     }
-    assert_eq!(rt; seen, [Some(FileCause::Others), None, None, None, None]);
+    let others = Some(FileCause::Others);
+    let want = [others, others, None, None, None, others, None, None];
+    assert_eq!(rt; seen, want);
     Ok(())
 }
 
@@ -127,6 +138,35 @@ fn three_syncs(rt: &HostRuntime) -> Result<[(bool, Option<FileCause>); 3], Memor
 fn a_sync_fails_where_the_file_lost_its_name(rt: HostRuntime) -> Result<(), Fail> {
     let lost = (true, Some(FileCause::Replaced));
     assert_eq!(rt; three_syncs(&rt)?, [(false, None), lost, lost]);
+    Ok(())
+}
+
+/// Whether a write, a cut and a sync fail, and why.
+fn three_calls(area: &mut Area<'_>) -> [(bool, Option<FileCause>); 3] {
+    let written = (area.write_at(4, b"e").is_err(), area.cause());
+    let cut = (area.cut(1).is_err(), area.cause());
+    [written, cut, sync_of(area)]
+}
+
+/// These calls on a file that another program wrote anew in place, behind a write and a sync; and what it holds then.
+fn calls_on_a_changed_file(
+    rt: &HostRuntime,
+) -> Result<([(bool, Option<FileCause>); 3], String), Fail> {
+    let mut area = opened(rt, "anew.a", Access::Write)?;
+    let _written = area.write_at(0, b"abcd");
+    let _synced = area.sync();
+    let _changed = fs::write(rt, "anew.a", "xy");
+    let calls = three_calls(&mut area);
+    let text = fs::read_to_string(rt, "anew.a")?;
+    let _removed = fs::remove_file(rt, "anew.a");
+    Ok((calls, text))
+}
+
+#[test]
+fn a_file_that_is_written_anew_is_left_alone(rt: HostRuntime) -> Result<(), Fail> {
+    let changed = (true, Some(FileCause::Changed));
+    let (calls, text) = calls_on_a_changed_file(&rt)?;
+    assert_eq!(rt; (calls, text.as_str()), ([changed; 3], "xy"));
     Ok(())
 }
 

@@ -66,7 +66,7 @@ impl NamedFile for Failing {
         }
     }
 
-    fn check_name(&mut self) -> io::Result<()> {
+    fn check_name(&mut self, _len: u64) -> io::Result<()> {
         match self.named {
             true => Ok(()),
             false => Err(io::Error::from(ErrorKind::StaleNetworkFileHandle)),
@@ -81,12 +81,13 @@ impl NamedFile for Failing {
 /// Whether each of two syncs fails, and what was written between.
 fn synced_twice(alloc: Global, named: bool) -> Result<([bool; 2], [Option<(u64, u8)>; 4]), Memory> {
     let written = Rc::new(alloc, Cell::new([None; 4]))?;
-    let mut store = StoreFile::new(Failing {
+    let failing = Failing {
         syncs: 0,
         named,
         opened: false,
         written: written.clone()?,
-    });
+    };
+    let mut store = StoreFile::new(failing, 1025);
     let answers = [store.sync_once().is_err(), store.sync_once().is_err()];
     Ok((answers, written.get()))
 }

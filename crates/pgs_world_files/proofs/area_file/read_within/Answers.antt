@@ -1,4 +1,4 @@
-use Rattle.std.proofs.Common.{rules, inr, refl, arith}
+use Rattle.std.proofs.Common.{◌+◌, rules, inr, refl, arith}
 use Rattle.pgs_world_streams.specs.Whole.HasRead.{read_none}
 use Rattle.pgs_world_streams.proofs.Loops.{buffer_within_more, read_all, read_more, read_failed}
 use Rattle.pgs_world_files.proofs.area_file.read_within.Goals as goal
@@ -6,8 +6,8 @@ use Rattle.pgs_world_files.proofs.area_file.read_within.Goals as goal
 pub loop-done-init : goal.loop-done-init
 loop-done-init g c = record { within = omega arith; given = read_none }
 
-pub returns-in-Ok-eq0 : goal.returns-in-Ok-eq0
-returns-in-Ok-eq0 g c =
+pub returns-in-Ok-eq0-clause-given : goal.returns-in-Ok-eq0-clause-given
+returns-in-Ok-eq0-clause-given g c =
     inr (read_failed _ _ _ _ _ _ _ _ c.loop-done.invariant.within c.loop-done.invariant.given _ c.in-Ok-eq0.field-0-test c.loop-done-test.true c.read_some.auto.buf c.in-Ok-eq0.ensures.tried)
 
 pub loop-done-preserved : goal.loop-done-preserved
@@ -18,9 +18,17 @@ loop-done-preserved g c =
       given = read_more _ _ _ _ _ _ _ _ within c.loop-done.invariant.given _ _ refl c.in-Ok.ensures.tried (search rules);
     }
 
-pub returns-in-Err : goal.returns-in-Err
-returns-in-Err g c =
+pub returns-in-Err-clause-given : goal.returns-in-Err-clause-given
+returns-in-Err-clause-given g c =
     inr (read_failed _ _ _ _ _ _ _ _ c.loop-done.invariant.within c.loop-done.invariant.given _ tt c.loop-done-test.true c.read_some.auto.buf c.in-Err.ensures.tried)
 
-pub returns : goal.returns
-returns g c = read_all _ _ _ _ _ _ c.loop-done-test.false c.loop-done.invariant.given
+pub returns-clause-given : goal.returns-clause-given
+returns-clause-given g c = read_all _ _ _ _ _ _ c.loop-done-test.false c.loop-done.invariant.given
+
+pub returns-in-Ok-eq0-clause-caused : goal.returns-in-Ok-eq0-clause-caused
+returns-in-Ok-eq0-clause-caused g c =
+    inr (c.loop-done.handle, c.args.at + c.loop-done.done, c.read_some.new.buf, _, c.in-Ok-eq0.ensures.tried, (c.in-Ok-eq0.field-0-test, refl))
+
+pub returns-in-Err-clause-caused : goal.returns-in-Err-clause-caused
+returns-in-Err-clause-caused g c =
+    inr (c.loop-done.handle, c.args.at + c.loop-done.done, c.read_some.new.buf, _, c.in-Err.ensures.tried, c.of.ensures)

@@ -1,9 +1,11 @@
 use Rattle.std.proofs.Common.{◌≡◌, ◌∙◌, ℕ, List, [], Err, sym, subst}
 use Rattle.std.proofs.lemmas.Bool.{false≢true}
-use Rattle.std.specs.Path.{path_buf_bytes}
+use Rattle.std.specs.Path.{path_bytes, path_buf_bytes}
+use Rattle.pgs_world_files.specs.declared.cause.OpenFault.{OpenFault}
 use Rattle.pgs_world_files.specs.Calls.{folder_of}
-use Rattle.pgs_world_files.specs.Faults.HasFailed.{at_real, at_folder, at_sync}
-use Rattle.pgs_world_files.proofs.Faults.{failed, if_err}
+use Rattle.pgs_world_files.specs.Faults.{IsFault}
+use Rattle.pgs_world_files.specs.Faults.HasFailed.{at_real, at_sync}
+use Rattle.pgs_world_files.proofs.Faults.{failed, folder_failed, if_err}
 use Rattle.pgs_world_files.proofs.system_opening.sync_folder.Goals as goal
 
 pub returns-in_err-real-clause-fault : goal.returns-in_err-real-clause-fault
@@ -12,9 +14,12 @@ returns-in_err-real-clause-fault g c =
 
 pub returns-in_err-names-clause-fault : goal.returns-in_err-names-clause-fault
 returns-in_err-names-clause-fault g c =
-    let same : c.path_text.result.now ≡ folder_of (path_buf_bytes c.in_ok-real.real) = cc in
-    let asked = subst (λ (n : List ℕ). g.S.System.facts.opened c.to_place-how.result n (Err c.in_err-names.field-0.0)) same c.in_err-names.ensures in
-    if_err _ c.from_residual-in_err-names.result c.from_residual-in_err-names.ensures.1 (λ made is access. failed g.S.System.facts c.args.name.now access [] made is (at_folder c.in_ok-real.ensures.real asked))
+    let fault = c.in_err-names.ensures.fault in
+    let same : path_bytes c.folder_of-folder.result ≡ folder_of (path_buf_bytes c.in_ok-real.real) = cc in
+    let asked = subst (λ (n : List ℕ). g.S.System.facts.opened fault.0 n (Err fault.1)) same fault.2 in
+    if_err _ c.from_residual-in_err-names.result c.from_residual-in_err-names.ensures.1
+    (λ made is access. subst (λ (m : OpenFault). IsFault g.S.System.facts [] c.args.name.now access m) (sym is)
+    (folder_failed g.S.System.facts c.args.name.now access [] (path_buf_bytes c.in_ok-real.real) fault.0 fault.1 _ c.in_ok-real.ensures.real asked fault.3))
 
 pub returns-clause-fault : goal.returns-clause-fault
 returns-clause-fault g c = λ access.

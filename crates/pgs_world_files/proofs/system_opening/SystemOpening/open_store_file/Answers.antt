@@ -16,10 +16,10 @@ returns-in_err-lock-clause-fault g c =
     (λ made is. subst (λ (m : OpenFault). IsFault g.S.System.facts c.args.self.now.opened.items c.args.name.now c.args.access m) (sym is)
     (not_locked g.S.System.facts c.args.name.now c.args.access c.args.self.now.opened.items _ _ _ c.in_err-lock.ensures))
 
-pub returns-in_err-check_same-clause-fault : goal.returns-in_err-check_same-clause-fault
-returns-in_err-check_same-clause-fault g c =
-    if_err _ c.from_residual-in_err-check_same.result c.from_residual-in_err-check_same.ensures.1
-    (λ made is. failed g.S.System.facts c.args.name.now c.args.access c.args.self.now.opened.items made is (at_name _ c.in_err-check_same.ensures))
+pub returns-in_err-this-clause-fault : goal.returns-in_err-this-clause-fault
+returns-in_err-this-clause-fault g c =
+    if_err _ c.from_residual-in_err-this.result c.from_residual-in_err-this.ensures.1
+    (λ made is. failed g.S.System.facts c.args.name.now c.args.access {error = c.in_err-this.field-0.0} c.args.self.now.opened.items made is (at_name _ c.in_err-this.ensures.lost))
 
 pub returns-in_err-check_use-clause-fault : goal.returns-in_err-check_use-clause-fault
 returns-in_err-check_use-clause-fault g c =
