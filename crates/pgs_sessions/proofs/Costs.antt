@@ -49,12 +49,12 @@ module _ (guard : GuardState) (txn : Txn) where
         staged_only most edges (guarding_count guard.schema) (length txn.ops) (length (touched_by guard.graph txn.ops)) before staged
         (here most (staging_low guard.graph (staged_after guard.limits guard.graph txn) (2 * edges) most txn.ops sparse)))
 
-    module _ (delta : Delta) (after : ℕ) (only : lists_only g txn.ops delta ≡ true) (sound : is_sound g delta ≡ true) (graph : is_graph g ≡ true)
+    module _ (delta : Delta) (after : ℕ) (only : lists_only g txn.ops delta ≡ true) (sound : is_sound g delta ≡ true) (graph : is_graph guard.graph ≡ true)
         (looks : after ≤ staged + (length delta.nodes + length delta.edges)) where
       compared : IsWithin guard txn before after
       compared = λ edges most few sparse.
           whole_cost guard.limits guard.graph txn delta (subst (λ (k : Graph). lists_only k txn.ops delta ≡ true) same only)
-          (subst (λ (k : Graph). is_graph k ≡ true) same graph) (subst (λ (k : Graph). is_sound k delta ≡ true) same sound)
+          graph (subst (λ (k : Graph). is_sound k delta ≡ true) same sound)
           most edges (guarding_count guard.schema) 0 (omega arith) before staged after
           (here most (staging_low guard.graph (staged_after guard.limits guard.graph txn) (2 * edges) most txn.ops sparse))
           (rows_within (length delta.nodes + length delta.edges) most _ staged after looks)

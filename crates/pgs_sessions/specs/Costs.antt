@@ -16,7 +16,7 @@ IsWithinTwice guard txn before after = (middle : ℕ) × IsWithin guard txn befo
 
 -- what a session staged, as one transaction: no operation where none is open
 abbrev pub txn_in : Option Session → Txn
-txn_in session = record { ops = option_map_or (λ (open : Session). open.staged) session [] }
+txn_in session = record { ops = option_map_or (λ (own : Session). own.staged) session [] }
 
 abbrev pub staged_at : SessionsState → ℕ → Txn
 staged_at value number = txn_in (at_number value.sessions number)
