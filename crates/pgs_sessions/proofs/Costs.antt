@@ -1,5 +1,5 @@
 -- The look-ups of a commit: those of staging and of comparing are within the guard's bound, and so are the guard's own.
-use Rattle.std.proofs.Common.{◌≡◌, ℕ, ◌+◌, ◌*◌, ◌^◌, ◌≤◌, true, length, Option, Some, sym, ap, subst, arith}
+use Rattle.std.proofs.Common.{◌≡◌, ℕ, ◌+◌, ◌*◌, ◌≤◌, true, length, Option, Some, sym, subst, arith}
 use Rattle.std.proofs.Math.Nat.{mul-le-mul}
 use Rattle.pgs_base.specs.Graph.{Graph, is_graph}
 use Rattle.pgs_decide.specs.Touched.{guarding_count, staged_after, touched_by}

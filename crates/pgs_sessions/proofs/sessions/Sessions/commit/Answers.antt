@@ -1,5 +1,4 @@
 use Rattle.std.proofs.Common.{◌∙◌, refl, sym, subst}
-use Rattle.pgs_graph.specs.declared.operation.Txn.{Txn}
 use Rattle.pgs_sessions_machine.specs.declared.event.Event.TheVariants.{Commit}
 use Rattle.pgs_sessions_machine.specs.declared.event.Reply.TheVariants.{Stale}
 use Rattle.pgs_sessions_machine.specs.Machine.{Session}
