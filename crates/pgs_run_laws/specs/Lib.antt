@@ -1,3 +1,4 @@
+pub mod Compared
 pub mod DumpOps
 pub mod Lines
 pub mod Sequence

@@ -2,7 +2,7 @@
 use Rattle.std.proofs.Common.{◌≡◌, ◌⊎◌, inl, inr, ℕ, List, Some, Ok, sym, ap, ap₂, subst, ◌∙◌}
 use Rattle.pgs_base.specs.Graph.{empty_graph}
 use Rattle.pgs_resolve.specs.SchemaOf.{schema, schema_of}
-use Rattle.pgs_snapshot.specs.Choice.{area_chosen, chosen_area, chosen_epoch, epoch_chosen}
+use Rattle.pgs_snapshot.specs.Choice.{area_chosen, chosen_area, chosen_epoch, chosen_next, epoch_chosen, next_chosen}
 use Rattle.pgs_snapshot.specs.Choice as choices
 use Rattle.pgs_snapshot.specs.Saved.{saved, store, no_store}
 use Rattle.pgs_store.specs.Stored.{IsLoadedIn, IsSavedIn, first_journal, opened}
@@ -25,6 +25,7 @@ same_new text d c a b new = record {
   saves = ap₂ (saved standard) a b ∙ new.saves;
   area = ap₂ chosen_area a b ∙ new.area;
   epoch = ap₂ chosen_epoch a b ∙ new.epoch;
+  next = ap₂ chosen_next a b ∙ new.next;
 }
 
 pub same_loading : (d c : Triple) → c.a ≡ d.a → c.b ≡ d.b → IsLoading d → IsLoading c
@@ -39,6 +40,7 @@ new_store text resolved end c is = record {
   saves = chosen_saves standard c.a c.b (choices.chosen A 1 end (Some 2) is.0) is.1.has.choice ∙ is.1.saves;
   area = ap area_chosen is.1.has.choice;
   epoch = ap epoch_chosen is.1.has.choice;
+  next = ap next_chosen is.1.has.choice;
 }
 
 pub loading_in : (text : List ℕ) (c : Triple) → IsLoadedIn standard text c → IsLoading c

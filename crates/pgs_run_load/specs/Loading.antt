@@ -1,7 +1,7 @@
 -- What a run of `load` leaves where both areas were free: at a stop, and at its end.
 use Rattle.std.specs.Prelude.{◌≡◌, ◌⊎◌, ℕ, List, ◌++◌, IsTrue, Some, Ok}
 use Rattle.pgs_base.specs.Graph.{empty_graph}
-use Rattle.pgs_snapshot.specs.Choice.{chosen_area, chosen_epoch}
+use Rattle.pgs_snapshot.specs.Choice.{chosen_area, chosen_epoch, chosen_next}
 use Rattle.pgs_snapshot.specs.Saved.{saved, store, no_store}
 use Rattle.pgs_syntax.specs.declared.resolved.Resolved.{Resolved}
 use Rattle.pgs_world.specs.declared.area.Area.TheVariants.{A}
@@ -12,11 +12,12 @@ use Rattle.pgs_run_input.specs.Answers.{schema_answer}
 use Rattle.pgs_run_input.specs.Session.{standard}
 use Rattle.pgs_run_load.specs.Told.{line_of}
 
--- the images save the empty store of this text, in area A and of epoch 1
+-- the images save the empty store of this text, in area A and of epoch 1, in the second format: one record stands there, the next is 2
 pub record IsNewStore (text : List ℕ) (triple : Triple) : Type 0 where
   pub saves : saved standard triple.a triple.b ≡ store text 0 empty_graph
   pub area : chosen_area triple.a triple.b ≡ Some A
   pub epoch : chosen_epoch triple.a triple.b ≡ Some 1
+  pub next : chosen_next triple.a triple.b ≡ Some 2
 
 -- They save nothing, or the new store; and this wherever the whole line of what was loaded is out behind the output that there was.
 pub record IsLoadingAt (was : Triple) (text : List ℕ) (triple : Triple) : Type 0 where

@@ -1,23 +1,17 @@
 -- What an event brings in brief is what it brings, in brief; so sessions that take events in brief answer as the machine.
-use Rattle.std.proofs.Common.{◌≡◌, ℕ, Bool, true, false, cond, List, ◌∷◌, length, Option, Some, None, Result, Ok, Err, refl, sym, ap, ◌∙◌, add-one}
-use Rattle.std.specs.Prelude.{nat_le, if◌then◌else◌}
-use Rattle.std.specs.Ordering.{nat_cmp}
-use Rattle.std.specs.BTreeMap.{insert_entry}
+use Rattle.std.proofs.Common.{◌≡◌, ℕ, Bool, true, false, length, Option, Some, None, Result, Ok, Err, refl, sym, ap, ◌∙◌, add-one}
+use Rattle.std.specs.Prelude.{nat_le}
 use Rattle.pgs_base.specs.declared.element.Elem.{Elem}
-use Rattle.pgs_base.specs.declared.limits.Limits.{Limits}
 use Rattle.pgs_base.specs.declared.memory.Memory.{Memory}
 use Rattle.pgs_base.specs.Graph.{Graph}
 use Rattle.pgs_graph.specs.declared.operation.Txn.{Txn}
 use Rattle.pgs_sessions_machine.specs.declared.event.Event.{Event}
 use Rattle.pgs_sessions_machine.specs.declared.event.Event.TheVariants.{Begin, Read, Stage, Commit, Abort}
 use Rattle.pgs_sessions_machine.specs.declared.event.Reply.{Reply}
-use Rattle.pgs_sessions_machine.specs.declared.event.Reply.TheVariants.{Began, Committed, TooManySessions}
 use Rattle.pgs_sessions_machine.specs.Machine as machine
 use Rattle.pgs_sessions_machine.specs.Machine.{Session, State, session_at, number_of, without_session}
-use Rattle.pgs_sessions.specs.Open.{fresh}
-use Rattle.pgs_sessions.specs.State.{SessionsState, deciding, summary_in, IsTaken, Takes, StandsFor, Brings, Answers}
-use Rattle.pgs_sessions.specs.Summary.{Summary, summary_of, Brought, brought_by, replying, decided, committed, open_step, begun, closed_step, step_at, step}
-use Rattle.pgs_syntax.specs.declared.resolved.Resolved.{Resolved}
+use Rattle.pgs_sessions.specs.State.{SessionsState, deciding, summary_in, IsTaken, Takes, Answers}
+use Rattle.pgs_sessions.specs.Summary.{summary_of, Brought, brought_by, decided, committed, open_step, begun, closed_step, step_at, step}
 use Rattle.pgs_violation.specs.declared.rejection.Rejection.{Rejection}
 
 decided_same : (state : State) (decision : Result Graph Rejection) → decided (summary_of state) decision ≡ brought_by (machine.decided state decision)

@@ -1,5 +1,5 @@
 -- What comes of a decision on what a session staged.
-use Rattle.std.proofs.Common.{◌≡◌, ℕ, ◌+◌, Bool, true, false, cond, List, Option, Some, Result, Ok, Err, refl, sym, ap, subst, ◌∙◌}
+use Rattle.std.proofs.Common.{◌≡◌, ℕ, ◌+◌, Bool, true, false, List, Option, Some, Ok, Err, refl, sym, ap, subst, ◌∙◌}
 use Rattle.std.specs.Prelude.{if◌then◌else◌, nat_lt}
 use Rattle.pgs_base.specs.declared.element.Elem.{Elem}
 use Rattle.pgs_base.specs.declared.element.NodeId.{NodeId}
@@ -9,12 +9,11 @@ use Rattle.pgs_base.specs.Graph.{Graph, element_count, is_graph}
 use Rattle.pgs_graph.specs.declared.delta.Delta.{Delta}
 use Rattle.pgs_graph.specs.declared.operation.Txn.{Txn}
 use Rattle.pgs_graph.specs.Changed.{changed, is_sound}
-use Rattle.pgs_sessions_machine.specs.declared.event.Reply.{Reply}
 use Rattle.pgs_sessions_machine.specs.declared.event.Reply.TheVariants.{Committed, Rejected}
 use Rattle.pgs_sessions_machine.specs.Content.{is_kept}
 use Rattle.pgs_sessions.specs.declared.changes.Changes.{Changes}
 use Rattle.pgs_sessions.specs.Changes.{number_in, last_in, number_after, IsSame}
-use Rattle.pgs_sessions.specs.Committing.{IsDone, IsRefused, Follows}
+use Rattle.pgs_sessions.specs.Committing.{Follows}
 use Rattle.pgs_sessions.specs.Differing.{differing}
 use Rattle.pgs_sessions.proofs.Differing.{number_kept}
 use Rattle.pgs_store.specs.State.{GuardState}

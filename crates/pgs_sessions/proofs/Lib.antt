@@ -1,5 +1,6 @@
 pub mod Brief
 pub mod Committed
+pub mod Costs
 pub mod Differing
 pub mod Entries
 pub mod Kept

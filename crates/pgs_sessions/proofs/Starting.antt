@@ -1,5 +1,5 @@
 -- Before the first commit no number is kept.
-use Rattle.std.proofs.Common.{◌≡◌, ℕ, List, [], Option, None, refl}
+use Rattle.std.proofs.Common.{◌≡◌, ℕ, List, [], None, refl}
 use Rattle.pgs_base.specs.declared.element.NodeId.{NodeId}
 use Rattle.pgs_base.specs.declared.element.EdgeId.{EdgeId}
 use Rattle.pgs_base.specs.declared.element.Elem.{Elem}

@@ -18,11 +18,11 @@ use Rattle.pgs_sessions_machine.specs.declared.event.Reply.TheVariants as replie
 use Rattle.pgs_sessions_machine.specs.Content.{content_of, is_kept}
 use Rattle.pgs_sessions_machine.specs.Machine.{Session, least_after, watched, number_of}
 use Rattle.pgs_sessions.specs.declared.changes.Changes.{Changes}
-use Rattle.pgs_sessions.specs.Changes.{number_in, last_in, IsSame}
-use Rattle.pgs_sessions.specs.Committing.{IsDone, IsRefused, Follows}
+use Rattle.pgs_sessions.specs.Changes.{number_in, last_in}
+use Rattle.pgs_sessions.specs.Committing.{Follows}
 use Rattle.pgs_sessions.specs.Open.{at_number, fresh, reading, staging, changed_at}
 use Rattle.pgs_sessions.specs.State.{SessionsState, kept_number, deciding, summary_in, IsTaken, Takes}
-use Rattle.pgs_sessions.specs.Summary.{Summary, Brought, replying, decided, committed, open_step, begun, closed_step, step_at, step}
+use Rattle.pgs_sessions.specs.Summary.{replying, decided, committed, begun, closed_step, step_at}
 use Rattle.pgs_sessions.proofs.Committed.{same_number}
 use Rattle.pgs_store.specs.State.{GuardState}
 use Rattle.pgs_violation.specs.declared.rejection.Rejection.{Rejection}

@@ -1,5 +1,5 @@
 -- What a decision on what a session staged brings.
-use Rattle.std.specs.Prelude.{◌≡◌, ℕ, ◌+◌, Option, Some, Result, Ok, Err, if◌then◌else◌}
+use Rattle.std.specs.Prelude.{◌≡◌, ◌+◌, Some, Result, Ok, Err, if◌then◌else◌}
 use Rattle.pgs_base.specs.declared.element.Elem.{Elem}
 use Rattle.pgs_base.specs.declared.memory.Memory.{Memory}
 use Rattle.pgs_base.specs.Graph.{Graph}

@@ -1,5 +1,6 @@
 pub mod Changes
 pub mod Committing
+pub mod Costs
 pub mod Differing
 pub mod Least
 pub mod Open

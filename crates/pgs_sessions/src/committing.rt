@@ -2,6 +2,7 @@
 
 ghost use Rattle.std.specs.Prelude.{◌≡◌, ◌≤◌, ◌<◌};
 ghost use Rattle.pgs_sessions.specs.Committing.{Decides};
+ghost use Rattle.pgs_sessions.specs.Costs.{IsWithinTwice};
 
 use crate::changes::Changes;
 use crate::contents::differing;
@@ -15,7 +16,8 @@ use std::alloc::Global;
 use std::sync::ledger::Ledger;
 
 /// Decides a transaction by a guard, and does it where it is accepted: each element that differs then has the commit's number. All that
-/// takes memory comes before the guard decides: after `Memory` the guard and the numbers are as they were.
+/// takes memory comes before the guard decides: after `Memory` the guard and the numbers are as they were. It stages twice, and so takes at
+/// most twice the look-ups that the guard may.
 pub(crate) fn decide<L: Ledger>(
     alloc: Global,
     guard: &mut Guard,
@@ -28,6 +30,7 @@ pub(crate) fn decide<L: Ledger>(
     requires limits { guard.old.limits ≡ limits.now }
     ensures decision { Decides result guard.old guard.new changes.old changes.new txn.now }
     ensures no_step_back { steps.old ≤ steps.new }
+    ensures cost { IsWithinTwice guard.old txn.now steps.old steps.new }
 {
     let delta = match stage(alloc, guard.graph(), limits, txn, steps) {
         Ok(delta) => delta,

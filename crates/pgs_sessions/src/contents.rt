@@ -1,6 +1,6 @@
 //! What a graph holds of elements, and which a delta leaves otherwise.
 
-ghost use Rattle.std.specs.Prelude.{◌≡◌, ◌++◌, ◌≤◌, true, IfOk, OnOk};
+ghost use Rattle.std.specs.Prelude.{◌≡◌, ◌+◌, ◌++◌, ◌≤◌, true, length, IfOk, OnOk};
 ghost use Rattle.std.specs.Option.{option_map_or};
 ghost use Rattle.pgs_base.specs.Graph.{is_graph};
 ghost use Rattle.pgs_base.specs.Pair.{pair_of};
@@ -37,7 +37,7 @@ fn copied_edge(alloc: Global, edge: EdgeRef<'_>) -> Result<Content, Memory>
     }))
 }
 
-/// What an element is in a graph.
+/// What an element is in a graph, by one look-up.
 pub(crate) fn content_of<L: Ledger>(
     alloc: Global,
     graph: &Tables,
@@ -46,6 +46,7 @@ pub(crate) fn content_of<L: Ledger>(
 ) -> Result<Content, Memory>
     ensures content { IfOk result (λ content. content ≡ content_of graph.now.graph elem) }
     ensures no_step_back { steps.old ≤ steps.new }
+    ensures one_look { steps.new ≤ steps.old + 1 }
 {
     match elem {
         Elem::Node(id) => match graph.node(id, steps) {
@@ -94,6 +95,7 @@ fn list_nodes<L: Ledger>(
 ) -> Result<(), Memory>
     ensures listed { OnOk result (elems.new.items ≡ elems.old.items ++ differing_nodes graph.now.graph nodes.now) }
     ensures no_step_back { steps.old ≤ steps.new }
+    ensures looks { steps.new ≤ steps.old + length nodes.now }
 {
     for (id, row) in nodes {
         if !is_same_node(graph.node(*id, steps), row) {
@@ -112,6 +114,7 @@ fn list_edges<L: Ledger>(
 ) -> Result<(), Memory>
     ensures listed { OnOk result (elems.new.items ≡ elems.old.items ++ differing_edges graph.now.graph edges.now) }
     ensures no_step_back { steps.old ≤ steps.new }
+    ensures looks { steps.new ≤ steps.old + length edges.now }
 {
     for (id, row) in edges {
         if !is_same_edge(graph.edge(*id, steps), row) {
@@ -121,7 +124,7 @@ fn list_edges<L: Ledger>(
     Ok(())
 }
 
-/// The elements that a delta leaves otherwise than they are in a graph.
+/// The elements that a delta leaves otherwise than they are in a graph, by one look-up for each of its rows.
 pub(crate) fn differing<L: Ledger>(
     alloc: Global,
     graph: &Tables,
@@ -131,6 +134,7 @@ pub(crate) fn differing<L: Ledger>(
     ensures elems { IfOk result (λ elems. elems.items ≡ differing graph.now.graph delta.now) }
     ensures graph { is_graph graph.now.graph ≡ true }
     ensures no_step_back { steps.old ≤ steps.new }
+    ensures looks { steps.new ≤ steps.old + (length delta.now.nodes + length delta.now.edges) }
 {
     let _count = graph.count();
     let mut elems = Vec::new(alloc);

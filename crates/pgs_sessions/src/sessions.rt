@@ -1,6 +1,7 @@
-ghost use Rattle.std.specs.Prelude.{◌≡◌, ◌≤◌, ◌<◌, IfOk, IfErr};
+ghost use Rattle.std.specs.Prelude.{◌≡◌, ◌+◌, ◌≤◌, ◌<◌, IfOk, IfErr};
 ghost use Rattle.pgs_resolve.specs.SchemaOf.{schema, schema_of};
 ghost use Rattle.pgs_schema.specs.Told.{IsRefused};
+ghost use Rattle.pgs_sessions.specs.Costs.{IsWithinTwice, StepsWithin, staged_at};
 ghost use Rattle.pgs_sessions.specs.State.{Answers, StandsFor, Takes};
 ghost use Rattle.pgs_sessions_machine.specs.declared.event.Event.TheVariants.{Begin as BeginEvent, Read as ReadEvent, Stage as StageEvent, Commit as CommitEvent, Abort as AbortEvent};
 ghost use Rattle.pgs_sessions_machine.specs.Machine.{start};
@@ -124,6 +125,7 @@ impl Sessions {
     ) -> Result<Reply, Memory>
         ensures answer { Takes (ReadEvent number elem) self.old result self.new }
         ensures no_step_back { steps.old ≤ steps.new }
+        ensures one_look { steps.new ≤ steps.old + 1 }
     {
         if self.sessions.get(number).is_none() {
             return Ok(Reply::NoSession);
@@ -146,6 +148,7 @@ impl Sessions {
         requires { self.old.guard.commits < 18446744073709551615 }
         ensures answer { Takes (CommitEvent number) self.old result self.new }
         ensures no_step_back { steps.old ≤ steps.new }
+        ensures cost { IsWithinTwice self.old.guard (staged_at self.old number) steps.old steps.new }
     {
         let Some(session) = self.sessions.get(number) else {
             return Ok(Reply::NoSession);
@@ -182,11 +185,15 @@ impl Sessions {
     /// session that isn't open. A `Commit` closes the session: 44 `Stale` where an element that it read, or that a staged operation names
     /// as its element or as an end, was changed by a commit after its Begin; else the staged operations are decided as one transaction.
     /// The call asks that fewer than 2^64 - 1 transactions were committed.
+    ///
+    /// Of the graph and its key index it looks up: for a `Read` one element; for a `Commit` at most twice what `Guard::apply` may for the
+    /// staged operations as one transaction; for every other event nothing. Look-ups in the numbers that are kept aren't counted.
     pub fn step<L: Ledger>(&mut self, event: Event, steps: &mut Steps<L>) -> Result<Reply, Memory>
         requires { self.old.guard.commits < 18446744073709551615 }
         ensures answer { Answers event self.old result self.new }
         ensures brief { Takes event self.old result self.new }
         ensures no_step_back { steps.old ≤ steps.new }
+        ensures cost { StepsWithin event self.old steps.old steps.new }
     {
         match event {
             Event::Begin(number) => self.begin(number),

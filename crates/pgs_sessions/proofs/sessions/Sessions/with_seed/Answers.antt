@@ -1,5 +1,4 @@
 use Rattle.std.proofs.Common.{refl}
-use Rattle.pgs_sessions.specs.State.{StandsFor}
 use Rattle.pgs_sessions.proofs.Starting.{none_kept}
 use Rattle.pgs_sessions.proofs.sessions.Sessions.with_seed.Goals as goal
 
