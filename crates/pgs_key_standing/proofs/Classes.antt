@@ -21,7 +21,7 @@ pub record AreClasses (kinds : List Bool) (classes : List ℕ) : Type 0 where
 
 -- ---- at first
 
-number_at : (kinds : List Bool) (var : ℕ) → var < length kinds → slice_index (numbers kinds) var ≡ var
+pub number_at : (kinds : List Bool) (var : ℕ) → var < length kinds → slice_index (numbers kinds) var ≡ var
 number_at kinds var below =
     get_or-map (λ (place : ℕ × Bool). place.0) (enumerate_from 0 kinds) var (0, false) 0 (let size = length-enumerate_from 0 kinds in omega arith)
     ∙ ap (λ (place : ℕ × Bool). place.0) (get_or-enumerate_from 0 kinds var (0, false) below) ∙ omega arith
@@ -59,7 +59,7 @@ module _ (a b : ℕ) (classes : List ℕ) where
       same false = refl
 
   -- what holds of each number and its class does so still, where it does of the two
-  together_carries : (Claim : ℕ → ℕ → Type 0) (i : ℕ) → i < length classes → Claim i (slice_index classes i) →
+  pub together_carries : (Claim : ℕ → ℕ → Type 0) (i : ℕ) → i < length classes → Claim i (slice_index classes i) →
       (slice_index classes i ≡ slice_index classes a → Claim i (slice_index classes i) → Claim i (slice_index classes b)) → Claim i (slice_index (together a b classes) i)
   together_carries Claim i below before moved = subst (Claim i) (sym (together_at i below)) (by (slice_index classes i == slice_index classes a) refl)
     where

@@ -60,7 +60,7 @@ node_listed (Node id) (n ∷ nodes) h = by (node_listed (Node id) nodes) (is_at 
         one_node : (a b : NodeId) → Node a ≡ Node b → a ≡ b
         one_node a b e = cc
 
-edge_listed : (elem : Elem) (edges : List (EdgeId × EdgeRow)) → list_any (same_elem elem) (map (λ (edge : EdgeId × EdgeRow). Edge edge.0) edges) ≡ true →
+pub edge_listed : (elem : Elem) (edges : List (EdgeId × EdgeRow)) → list_any (same_elem elem) (map (λ (edge : EdgeId × EdgeRow). Edge edge.0) edges) ≡ true →
     (id : EdgeId) × (row : EdgeRow) × (elem ≡ Edge id) × (lookup (is_at (edge_cmp id)) edges ≡ Some row)
 edge_listed elem [] h = absurd (true≢false (sym h))
 edge_listed (Node id) (n ∷ edges) h = let later = edge_listed (Node id) edges h in cc
@@ -111,7 +111,7 @@ pub record Leads (g : Graph) (edge source target : Option Elem) : Type 0 where
   pub row_is : edge_at g id ≡ Some row
   pub ends_are : (row.source.0 == from.0 && row.target.0 == to.0) ≡ true
 
-led : (g : Graph) (edge source target : Option Elem) → leads g edge source target ≡ true → Leads g edge source target
+pub led : (g : Graph) (edge source target : Option Elem) → leads g edge source target ≡ true → Leads g edge source target
 led g (Some (Edge id)) (Some (Node a)) (Some (Node b)) h =
     let one = some_passes (edge_at g id) (λ (row : EdgeRow). row.source.0 == a.0 && row.target.0 == b.0) h in
     record { id = id; from = a; to = b; row = one.0; edge_is = refl; source_is = refl; target_is = refl; row_is = one.1; ends_are = one.2 }
@@ -121,6 +121,23 @@ led g (Some (Edge id)) (Some (Edge a)) target h = absurd (true≢false (sym h))
 led g (Some (Edge id)) None target h = absurd (true≢false (sym h))
 led g (Some (Node id)) source target h = absurd (true≢false (sym h))
 led g None source target h = absurd (true≢false (sym h))
+
+module _ (resolved : Resolved) (g : Graph) (elems : List Elem) where
+  -- an edge leads between the elements of the ends that it is first given
+  pub ends_led : (edge : ℕ) (atoms : List Atom) → list_any (gives_ends edge) atoms ≡ true → list_all (holds resolved g elems) atoms ≡ true →
+      leads g (slice_get elems edge) (slice_get elems (ends_of atoms edge).0) (slice_get elems (ends_of atoms edge).1) ≡ true
+  ends_led edge [] some all = absurd (true≢false (sym some))
+  ends_led edge (Ends e source target ∷ atoms) some all = by (λ h. ends_led edge atoms h (and_parts _ _ all).1) (edge == e) refl some
+    where
+      by : (list_any (gives_ends edge) atoms ≡ true →
+          leads g (slice_get elems edge) (slice_get elems (ends_of atoms edge).0) (slice_get elems (ends_of atoms edge).1) ≡ true) → (b : Bool) → (edge == e) ≡ b → (b || list_any (gives_ends edge) atoms) ≡ true →
+          leads g (slice_get elems edge) (slice_get elems (cond b (source, target) (ends_of atoms edge)).0) (slice_get elems (cond b (source, target) (ends_of atoms edge)).1) ≡ true
+      by rest true same h = ap (λ n. leads g (slice_get elems n) (slice_get elems source) (slice_get elems target)) (eqb-true edge e same) ∙ (and_parts _ _ all).0
+      by rest false other h = rest h
+  ends_led edge (HasLabel v l ∷ atoms) some all = ends_led edge atoms some (and_parts _ _ all).1
+  ends_led edge (FitsNode v n ∷ atoms) some all = ends_led edge atoms some (and_parts _ _ all).1
+  ends_led edge (FitsEdge v n ∷ atoms) some all = ends_led edge atoms some (and_parts _ _ all).1
+  ends_led edge (Equals v k value ∷ atoms) some all = ends_led edge atoms some (and_parts _ _ all).1
 
 abbrev pub empty : NodeRow
 empty = pair_of [] []
@@ -160,28 +177,12 @@ module _ (resolved : Resolved) (placed : Placed) (ok : IsPlaced placed) (g : Gra
       let t = some_passes (triple_at g listed.1) (can_stand_edge resolved) passes in
       (listed.0, listed.1, t.0, one.1 ∙ ap Some listed.2, listed.3, t.1, t.2)
 
-  -- the edge of a place leads between the elements of the places of its ends
-  ends_led : (edge : ℕ) (atoms : List Atom) → list_any (gives_ends edge) atoms ≡ true → list_all (holds resolved g elems) atoms ≡ true →
-      leads g (slice_get elems edge) (slice_get elems (ends_of atoms edge).0) (slice_get elems (ends_of atoms edge).1) ≡ true
-  ends_led edge [] some all = absurd (true≢false (sym some))
-  ends_led edge (Ends e source target ∷ atoms) some all = by (λ h. ends_led edge atoms h (and_parts _ _ all).1) (edge == e) refl some
-    where
-      by : (list_any (gives_ends edge) atoms ≡ true →
-          leads g (slice_get elems edge) (slice_get elems (ends_of atoms edge).0) (slice_get elems (ends_of atoms edge).1) ≡ true) → (b : Bool) → (edge == e) ≡ b → (b || list_any (gives_ends edge) atoms) ≡ true →
-          leads g (slice_get elems edge) (slice_get elems (cond b (source, target) (ends_of atoms edge)).0) (slice_get elems (cond b (source, target) (ends_of atoms edge)).1) ≡ true
-      by rest true same h = ap (λ n. leads g (slice_get elems n) (slice_get elems source) (slice_get elems target)) (eqb-true edge e same) ∙ (and_parts _ _ all).0
-      by rest false other h = rest h
-  ends_led edge (HasLabel v l ∷ atoms) some all = ends_led edge atoms some (and_parts _ _ all).1
-  ends_led edge (FitsNode v n ∷ atoms) some all = ends_led edge atoms some (and_parts _ _ all).1
-  ends_led edge (FitsEdge v n ∷ atoms) some all = ends_led edge atoms some (and_parts _ _ all).1
-  ends_led edge (Equals v k value ∷ atoms) some all = ends_led edge atoms some (and_parts _ _ all).1
-
   -- so the pairs at its ends are those of its triple
   triple_taken : (j : ℕ) (id : EdgeId) (row : EdgeRow) (t : Triple) → slice_get placed.kinds j ≡ Some true → slice_get elems j ≡ Some (Edge id) → edge_at g id ≡ Some row → triple_at g row ≡ Some t →
       (slice_get taken (ends_of placed.atoms j).0 ≡ Some t.source) × (slice_get taken j ≡ Some t.own) × (slice_get taken (ends_of placed.atoms j).1 ≡ Some t.target)
   triple_taken j id row t kind at is ends =
       let ways = led g (slice_get elems j) (slice_get elems (ends_of placed.atoms j).0) (slice_get elems (ends_of placed.atoms j).1)
-      (ends_led j placed.atoms (ok.ends j kind).2 hold) in
+      (ends_led resolved g elems j placed.atoms (ok.ends j kind).2 hold) in
       let own : ways.id ≡ id = one_edge ways.id id (sym ways.edge_is ∙ at) in
       let same : ways.row ≡ row = same_Some ways.row row (sym ways.row_is ∙ ap (edge_at g) own ∙ is) in
       let nodes = and_parts (ways.row.source.0 == ways.from.0) (ways.row.target.0 == ways.to.0) ways.ends_are in
@@ -303,7 +304,7 @@ module _ (resolved : Resolved) (placed : Placed) (ok : IsPlaced placed) (g : Gra
       count [] [] h = refl
       count [] (e ∷ es) h = absurd (true≢false (sym h))
       count (k ∷ kinds) [] h = absurd (true≢false (sym h))
-      count (k ∷ kinds) (e ∷ es) h = let rest = count kinds es (and_parts _ _ h).1 in omega arith
+      count (k ∷ kinds) (e ∷ es) h = let rest : length es ≡ length kinds = count kinds es (and_parts (list_any (same_elem e) (elements g k)) (are_there g kinds es) h).1 in omega arith
 
   pub taken_pairs : list_all is_pair taken ≡ true
   taken_pairs = each elems

@@ -1,10 +1,10 @@
 -- A pattern whose variables are places, and what it asks of the pairs at them: each place has an element of its own, and each edge
 -- place the ends that the pattern first gives it.
-use Rattle.std.specs.Prelude.{◌≡◌, ℕ, ◌+◌, Bool, true, false, ◌&&◌, ◌==◌, List, [], ◌∷◌, Option, Some, None, slice_get, is_some, if◌then◌else◌}
+use Rattle.std.specs.Prelude.{◌≡◌, ℕ, ◌+◌, Bool, true, false, ◌&&◌, ◌==◌, List, [], ◌∷◌, length, Option, Some, None, slice_get, is_some, if◌then◌else◌}
 use Rattle.std.specs.Option.{option_map_or}
 use Rattle.std.specs.List.{list_any, list_all}
 use Rattle.pgs_base.specs.declared.row.NodeRow.{NodeRow}
-use Rattle.pgs_base.specs.Pair.{has_name, value_at}
+use Rattle.pgs_base.specs.Pair.{has_name, value_at, is_pair}
 use Rattle.pgs_syntax.specs.declared.pattern.Atom.{Atom}
 use Rattle.pgs_syntax.specs.declared.pattern.Atom.TheVariants.{Ends, HasLabel, FitsNode, FitsEdge, Equals}
 use Rattle.pgs_syntax.specs.declared.pattern.Expr.{Expr}
@@ -76,3 +76,10 @@ abbrev pub ask_all : Resolved → Placed → List NodeRow → Bool
 ask_all resolved placed ps =
     stand_from resolved placed.atoms ps 0 placed.kinds && list_all (asks resolved placed.atoms ps) placed.atoms
     && list_all (asks_present ps) placed.exprs
+
+-- there are as many pairs as places, which are all that it asks, and can stand
+pub record HasPairs (resolved : Resolved) (placed : Placed) : Type 0 where
+  pub ps : List NodeRow
+  pub pairs : list_all is_pair ps ≡ true
+  pub count : length ps ≡ length placed.kinds
+  pub asked : ask_all resolved placed ps ≡ true
