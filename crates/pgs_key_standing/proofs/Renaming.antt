@@ -103,3 +103,8 @@ renamed_same (HasLabel var label ∷ atoms) = ap (λ rest. HasLabel var label �
 renamed_same (FitsNode var number ∷ atoms) = ap (λ rest. FitsNode var number ∷ rest) (renamed_same atoms)
 renamed_same (FitsEdge var number ∷ atoms) = ap (λ rest. FitsEdge var number ∷ rest) (renamed_same atoms)
 renamed_same (Equals var key value ∷ atoms) = ap (λ rest. Equals var key value ∷ rest) (renamed_same atoms)
+
+pub exprs_same : (exprs : List Expr) → map (renamed_expr (λ v. v)) exprs ≡ exprs
+exprs_same [] = refl
+exprs_same (Element var ∷ exprs) = ap (λ rest. Element var ∷ rest) (exprs_same exprs)
+exprs_same (Property var key ∷ exprs) = ap (λ rest. Property var key ∷ rest) (exprs_same exprs)

@@ -79,7 +79,7 @@ edge_listed (Edge id) (n ∷ edges) h = by (edge_listed (Edge id) edges) (is_at 
         one_edge a b e = cc
 
 -- what is found passes, under some key, the test that all entries pass
-found_passes : {K V : Type 0} (test : V → Bool) (at : K → Bool) (es : List (K × V)) (v : V) → list_all (λ (e : K × V). test e.1) es ≡ true → lookup at es ≡ Some v → test v ≡ true
+pub found_passes : {K V : Type 0} (test : V → Bool) (at : K → Bool) (es : List (K × V)) (v : V) → list_all (λ (e : K × V). test e.1) es ≡ true → lookup at es ≡ Some v → test v ≡ true
 found_passes test at [] v all found = cc
 found_passes {K} {V} test at (e ∷ es) v all found = by (found_passes test at es v (and_parts _ _ all).1) (at e.0) found
   where
