@@ -12,7 +12,7 @@ use Rattle.pgs_syntax.specs.Valid.{is_edge_var, is_node_var, speaks_of, gives_en
 use Rattle.pgs_key_standing.specs.Joint.{classes_after, numbers}
 use Rattle.pgs_key_standing.specs.Placed.{ends_of, fits_places}
 use Rattle.pgs_key_standing.specs.Renamed.{renamed}
-use Rattle.pgs_key_standing.proofs.Renaming.{SpeaksOfEnds, speaks_ends, edge_kind, node_kind}
+use Rattle.pgs_key_standing.proofs.Renamings.{SpeaksOfEnds, speaks_ends, edge_kind, node_kind}
 
 pub record AreClasses (kinds : List Bool) (classes : List ℕ) : Type 0 where
   pub size : length classes ≡ length kinds

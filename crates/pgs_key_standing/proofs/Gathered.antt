@@ -17,7 +17,7 @@ use Rattle.pgs_key_standing.specs.Joint.{numbers}
 use Rattle.pgs_key_standing.specs.Renamed.{renamed}
 use Rattle.pgs_key_standing.proofs.Built.{the_node}
 use Rattle.pgs_key_standing.proofs.Classes.{at_first, number_at}
-use Rattle.pgs_key_standing.proofs.Renaming.{all_renamed}
+use Rattle.pgs_key_standing.proofs.Renamings.{all_renamed}
 
 -- ---- lists
 

@@ -117,7 +117,7 @@ rank_is kinds.Date kinds.Date h = refl
 pub rank_itself : (a : Kind) → (kind_rank a == kind_rank a) ≡ true
 rank_itself a = eq-eqb (kind_rank a) (kind_rank a) refl
 
-of_kind : (value : Value) (o : Option Value) → option_map_or (is_of_kind (kind_of value)) o false ≡ true → option_map kind_of o ≡ Some (kind_of value)
+pub of_kind : (value : Value) (o : Option Value) → option_map_or (is_of_kind (kind_of value)) o false ≡ true → option_map kind_of o ≡ Some (kind_of value)
 of_kind value None h = absurd (true≢false (sym h))
 of_kind value (Some w) h = ap Some (rank_is (kind_of w) (kind_of value) h)
 
@@ -221,7 +221,7 @@ alike_then a b c f g = record {
 }
 
 -- the value that an atom asks for is of the kind that stands there
-abbrev HasKind : Pairs → Atom → Type 0
+abbrev pub HasKind : Pairs → Atom → Type 0
 HasKind ps (Equals place key value) = option_and_then (kind_at key) (slice_get ps place) ≡ Some (kind_of value)
 HasKind ps _ = Unit {0}
 
@@ -288,7 +288,7 @@ all_settled_small i atom (p ∷ ps) is h =
 -- ---- all values
 
 -- the value that an atom asks for stands there
-abbrev HasValue : Pairs → Atom → Type 0
+abbrev pub HasValue : Pairs → Atom → Type 0
 HasValue ps (Equals place key value) = option_and_then (λ (p : NodeRow). value_at key p.props) (slice_get ps place) ≡ Some value
 HasValue ps _ = Unit {0}
 

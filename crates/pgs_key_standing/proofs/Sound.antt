@@ -19,7 +19,7 @@ use Rattle.pgs_key_standing.specs.Placed.{Placed, IsPlaced, ends_of, fits_places
 use Rattle.pgs_key_standing.specs.Renamed.{renamed, renamed_expr}
 use Rattle.pgs_key_standing.proofs.Classes.{AreClasses, HaveEnds, at_first, after_are, after_joins, is_joined}
 use Rattle.pgs_key_standing.proofs.Gathered.{KeepsKinds, get_within, get_first, get_later, get_dropped}
-use Rattle.pgs_key_standing.proofs.Renaming.{SpeaksOfEnds, speaks_ends, edge_kind, node_kind, edge_in, node_in, renamed_same}
+use Rattle.pgs_key_standing.proofs.Renamings.{SpeaksOfEnds, speaks_ends, edge_kind, node_kind, edge_in, node_in, renamed_same}
 
 -- ---- kinds kept
 

@@ -55,7 +55,7 @@ three_passed ps edge ends test h =
     record { source = first.0; own = second.0; target = third.0; source_is = first.1; own_is = second.1; target_is = third.1; passes = third.2 }
 
 module _ (resolved : Resolved) (atoms : List Atom) (ps : Pairs) where
-  node_stands : (kinds : List Bool) (i j : ℕ) → stand_from resolved atoms ps i kinds ≡ true → slice_get kinds j ≡ Some false → passes_at ps (i + j) (can_stand_node resolved) ≡ true
+  pub node_stands : (kinds : List Bool) (i j : ℕ) → stand_from resolved atoms ps i kinds ≡ true → slice_get kinds j ≡ Some false → passes_at ps (i + j) (can_stand_node resolved) ≡ true
   node_stands [] i j all kind = cc
   node_stands (true ∷ kinds) i zero all kind = absurd (true≢false (same_Some true false kind))
   node_stands (false ∷ kinds) i zero all kind = ap (λ n. passes_at ps n (can_stand_node resolved)) (let e : i + 0 ≡ i = omega arith in e) ∙ (and_parts _ _ all).0
@@ -64,10 +64,10 @@ module _ (resolved : Resolved) (atoms : List Atom) (ps : Pairs) where
   node_stands (false ∷ kinds) i (suc j) all kind =
       ap (λ n. passes_at ps n (can_stand_node resolved)) (let e : i + suc j ≡ (i + 1) + j = omega arith in e) ∙ node_stands kinds (i + 1) j (and_parts _ _ all).1 kind
 
-  abbrev edge_test : ℕ → Bool
+  abbrev pub edge_test : ℕ → Bool
   edge_test n = pass_at ps n (ends_of atoms n) (can_stand_edge resolved)
 
-  edge_stands : (kinds : List Bool) (i j : ℕ) → stand_from resolved atoms ps i kinds ≡ true → slice_get kinds j ≡ Some true → edge_test (i + j) ≡ true
+  pub edge_stands : (kinds : List Bool) (i j : ℕ) → stand_from resolved atoms ps i kinds ≡ true → slice_get kinds j ≡ Some true → edge_test (i + j) ≡ true
   edge_stands [] i j all kind = cc
   edge_stands (false ∷ kinds) i zero all kind = absurd (true≢false (sym (same_Some false true kind)))
   edge_stands (true ∷ kinds) i zero all kind = ap edge_test (let e : i + 0 ≡ i = omega arith in e) ∙ (and_parts _ _ all).0

@@ -66,3 +66,7 @@ CanMeet places demands = (ps : List NodeRow) × (are_small ps ≡ true) × (meet
 
 abbrev pub CannotMeet : List Shape → List Demand → Type 0
 CannotMeet places demands = (ps : List NodeRow) → are_small ps ≡ true → meet_all places demands ps ≡ false
+
+-- demands with some more, which ask for what a test does
+abbrev pub Adds : List Demand → List Demand → (List NodeRow → Bool) → Type 0
+Adds old new test = (ps : List NodeRow) → are_small ps ≡ true → list_all (meets ps) new ≡ (list_all (meets ps) old && test ps)

@@ -26,15 +26,15 @@ joint key = record {
 abbrev pub joint_exprs : Key → List Expr
 joint_exprs key = map (renamed_expr (beside (length key.scope.edge_vars))) key.exprs
 
--- a pattern with the ends of variable 0, two more variables, where that is an edge
+-- a pattern with two more variables, the ends of variable 0; and so where that is an edge
+abbrev pub widened : Pattern → Pattern
+widened pattern = record {
+  edge_vars = pattern.edge_vars ++ false ∷ false ∷ [];
+  atoms = Ends 0 (length pattern.edge_vars) (length pattern.edge_vars + 1) ∷ pattern.atoms;
+}
+
 abbrev pub with_ends : Pattern → Pattern
-with_ends pattern =
-    if is_edge_var pattern.edge_vars 0
-    then record {
-      edge_vars = pattern.edge_vars ++ false ∷ false ∷ [];
-      atoms = Ends 0 (length pattern.edge_vars) (length pattern.edge_vars + 1) ∷ pattern.atoms;
-    }
-    else pattern
+with_ends pattern = if is_edge_var pattern.edge_vars 0 then widened pattern else pattern
 
 -- The classes of variables, as a number for each, after each edge's ends are put together with the ends that it is first given.
 abbrev pub classes_after : List Atom → List ℕ → List Atom → List ℕ

@@ -16,12 +16,7 @@ use Rattle.pgs_syntax.specs.Matches.{same_value}
 use Rattle.pgs_syntax.specs.Valid.{is_edge_var, is_node_var, gives_ends}
 use Rattle.pgs_conform.specs.Shapes.{triple_of}
 use Rattle.pgs_standing.specs.Standing.{can_stand_node, can_stand_edge}
-
--- which places are edges, what is asked of the elements at them, and what is to be present
-pub record Placed : Type 0 where
-  pub kinds : List Bool
-  pub atoms : List Atom
-  pub exprs : List Expr
+pub use Rattle.pgs_key_standing.specs.declared.placed.Placed.{Placed}
 
 -- the places of the source and the target of an edge place, as they are first given
 abbrev pub ends_of : List Atom → ℕ → ℕ × ℕ
@@ -64,12 +59,14 @@ abbrev pub asks_present : List NodeRow → Expr → Bool
 asks_present ps (Element place) = true
 asks_present ps (Property place key) = passes_at ps place (λ p. is_some (value_at key p.props))
 
--- whether the pairs can stand at places, the first of which has this number
+-- whether what is at a place, an edge or a node, can stand, and what is at places, the first of which has this number
+abbrev pub stands_at : Resolved → List Atom → List NodeRow → ℕ → Bool → Bool
+stands_at resolved atoms ps place true = pass_at ps place (ends_of atoms place) (can_stand_edge resolved)
+stands_at resolved atoms ps place false = passes_at ps place (can_stand_node resolved)
+
 abbrev pub stand_from : Resolved → List Atom → List NodeRow → ℕ → List Bool → Bool
 stand_from resolved atoms ps i [] = true
-stand_from resolved atoms ps i (true ∷ kinds) =
-    pass_at ps i (ends_of atoms i) (can_stand_edge resolved) && stand_from resolved atoms ps (i + 1) kinds
-stand_from resolved atoms ps i (false ∷ kinds) = passes_at ps i (can_stand_node resolved) && stand_from resolved atoms ps (i + 1) kinds
+stand_from resolved atoms ps i (is_edge ∷ kinds) = stands_at resolved atoms ps i is_edge && stand_from resolved atoms ps (i + 1) kinds
 
 -- whether pairs are all that a placed pattern asks, and can stand
 abbrev pub ask_all : Resolved → Placed → List NodeRow → Bool
@@ -83,3 +80,7 @@ pub record HasPairs (resolved : Resolved) (placed : Placed) : Type 0 where
   pub pairs : list_all is_pair ps ≡ true
   pub count : length ps ≡ length placed.kinds
   pub asked : ask_all resolved placed ps ≡ true
+
+-- there are none such
+abbrev pub LacksPairs : Resolved → Placed → Type 0
+LacksPairs resolved placed = (ps : List NodeRow) → list_all is_pair ps ≡ true → length ps ≡ length placed.kinds → ask_all resolved placed ps ≡ false

@@ -39,7 +39,7 @@ use Rattle.pgs_key_standing.specs.Renamed.{renamed, renamed_expr}
 use Rattle.pgs_key_standing.proofs.Built.{built, elems_from, node_among}
 use Rattle.pgs_key_standing.proofs.Classes.{HaveEnds, together_carries, step, AreClasses, at_first, number_at}
 use Rattle.pgs_key_standing.proofs.Gathered.{KeepsKinds, get_within, get_first, get_later, get_dropped, is_there, there_count, there_append, there_dropped, gathered, gathered_at, gathered_there, gathered_holds}
-use Rattle.pgs_key_standing.proofs.Renaming.{SpeaksOfEnds, speaks_ends, all_renamed, parts_renamed, renamed_same, exprs_same, edge_kind}
+use Rattle.pgs_key_standing.proofs.Renamings.{SpeaksOfEnds, speaks_ends, all_renamed, parts_renamed, renamed_same, exprs_same, edge_kind}
 use Rattle.pgs_key_standing.proofs.Sound.{IsSound, IsWhole, ends_whole, valid_sound, joint_sound, joint_read, scope_valid, descriptor_valid, exprs_read, keeps_own, keeps_other, keeps_more, keeps_place, is_placed, are_classes, all_append, all_first, all_later, all_read, count_few}
 use Rattle.pgs_key_standing.proofs.Stands.{built_stands, built_there, built_holds, all_present}
 use Rattle.pgs_key_standing.proofs.Taken.{Leads, led, ends_led, taken, taken_asked, taken_count, taken_pairs, edge_listed, found_passes}
