@@ -1,5 +1,5 @@
 -- Pairs in the shapes of places: where one place has one shape more, and where shapes are copied.
-use Rattle.std.proofs.Common.{◌≡◌, ℕ, suc, zero, ◌+◌, ◌<◌, ◌≤◌, Bool, true, false, ◌&&◌, ◌||◌, List, [], ◌∷◌, ◌++◌, length, take, get_or, append_assoc, Option, Some, None, MatchOption, is_some, refl, sym, ◌∙◌, ap, subst, arith}
+use Rattle.std.proofs.Common.{◌≡◌, ℕ, suc, zero, ◌+◌, ◌-◌, ◌<◌, ◌≤◌, Bool, true, false, ◌&&◌, ◌||◌, List, [], ◌∷◌, ◌++◌, length, take, drop, get_or, append_assoc, Option, Some, None, MatchOption, is_some, refl, sym, ◌∙◌, ap, subst, arith}
 use Rattle.std.specs.List.{list_any, list_all}
 use Rattle.std.proofs.lemmas.Bool.{true≢false, and_parts, and_from, and_right, false_from_ne_true}
 use Rattle.std.proofs.lemmas.List.{take_more}
@@ -43,6 +43,10 @@ same_in [] (b ∷ bs) f ps = absurd f
 same_in (a ∷ as') [] f ps = absurd f
 same_in (a ∷ as') (b ∷ bs) f [] = refl
 same_in (a ∷ as') (b ∷ bs) f (p ∷ ps) = ap (λ t. t && are_in as' ps) (f.0 p) ∙ ap (λ t. in_shape b p && t) (same_in as' bs f.1 ps)
+
+pub same_start : (xs shapes : List Shape) → AreSame xs (xs ++ take 0 shapes)
+same_start [] shapes = tt
+same_start (x ∷ xs) shapes = (λ p. refl, same_start xs shapes)
 
 pub same_more : (shapes start old new : List Shape) (i : ℕ) (shape copy : Shape) → i < length shapes → shape ≡ get_or shapes i shape →
     ((p : NodeRow) → in_shape copy p ≡ in_shape shape p) → new ≡ old ++ copy ∷ [] → AreSame old (start ++ take i shapes) → AreSame new (start ++ take (i + 1) shapes)
@@ -108,6 +112,21 @@ placed (s ∷ ss) old shape after own both (p ∷ ps) small =
 -- by the places that are cut
 abbrev pub IsCut : List Shape → ℕ → List Shape → Shape → List Shape → Type 0
 IsCut places place before old after = (places ≡ before ++ old ∷ after) × (length before ≡ place)
+
+take_whole : (xs : List Shape) (n : ℕ) → length xs ≤ n → take n xs ≡ xs
+take_whole [] zero le = refl
+take_whole [] (suc n) le = refl
+take_whole (x ∷ xs) zero le = absurd (omega arith)
+take_whole (x ∷ xs) (suc n) le = ap (λ ys. x ∷ ys) (take_whole xs n (omega arith))
+
+pub rest_whole : (xs : List Shape) → take (length xs - 1) (drop 1 xs) ≡ drop 1 xs
+rest_whole [] = take_whole [] (length {A = Shape} [] - 1) (omega arith)
+rest_whole (x ∷ xs) = take_whole xs (length (x ∷ xs) - 1) (omega arith)
+
+pub is_cut : (places front back : List Shape) (place : ℕ) (old : Shape) → places ≡ front ++ back → length front ≡ place → 1 ≤ length back → old ≡ get_or back 0 old →
+    IsCut places place front old (drop 1 back)
+is_cut places front [] place old whole count some is = absurd (omega arith)
+is_cut places front (b ∷ back) place old whole count some is = (whole ∙ ap (λ x. front ++ x ∷ back) (sym is), count)
 
 pub narrowed_to : (places before after made : List Shape) (place : ℕ) (old shape own : Shape) → IsCut places place before old after → AreSame made (before ++ own ∷ after) →
     IsBothAt old shape (in_shape own) → (ps : Pairs) → are_small ps ≡ true → are_in made ps ≡ (are_in places ps && is_in ps place shape)

@@ -1,8 +1,9 @@
 -- Demands that are put last, and what they ask of small pairs.
-use Rattle.std.proofs.Common.{◌≡◌, ℕ, zero, suc, ◌+◌, ◌<◌, Bool, true, false, ◌&&◌, ◌||◌, List, [], ◌∷◌, ◌++◌, length, ◌==◌, Option, Some, None, slice_get, refl, sym, ◌∙◌, ap, true≢false, not}
+use Rattle.std.proofs.Common.{◌≡◌, ℕ, zero, suc, ◌+◌, ◌<◌, Bool, true, false, ◌&&◌, ◌||◌, List, [], ◌∷◌, ◌++◌, length, ◌==◌, Result, OnOk, Option, Some, None, slice_get, refl, sym, ◌∙◌, ap, arith, true≢false, not}
 use Rattle.std.specs.Option.{option_map_or}
 use Rattle.std.specs.List.{list_any, list_all}
-use Rattle.std.proofs.lemmas.Bool.{and_parts, and_from, and_left, and_right}
+use Rattle.std.proofs.lemmas.Result.{on_ok_weaker}
+use Rattle.std.proofs.lemmas.Bool.{and_parts, and_from, and_left, and_right, false_from_ne_true, eqb-true, eq-eqb}
 use Rattle.pgs_base.specs.declared.row.NodeRow.{NodeRow}
 use Rattle.pgs_base.specs.Pair.{is_pair}
 use Rattle.pgs_syntax.specs.declared.pattern.Atom.{Atom}
@@ -68,13 +69,13 @@ any_false : {X : Type 0} (test : X → Bool) (xs : List X) → ((x : X) → test
 any_false test [] h = refl
 any_false test (x ∷ xs) h = ap (λ b. b || list_any test xs) (h x) ∙ any_false test xs h
 
+abbrev three : Option NodeRow → Option NodeRow → Option NodeRow → ShapeTriple → Bool
+three a b c shapes = option_map_or (in_shape shapes.source) a false && option_map_or (in_shape shapes.middle) b false && option_map_or (in_shape shapes.target) c false
+
 three_met : (ps : Pairs) (edge : ℕ) (ends : ℕ × ℕ) (triples : List ShapeTriple) (test : Triple → Bool) → DenotesTriples triples test → are_small ps ≡ true →
     list_any (are_in_three ps ends.0 edge ends.1) triples ≡ pass_at ps edge ends test
 three_met ps edge ends triples test denote small = by (slice_get ps ends.0) (slice_get ps edge) (slice_get ps ends.1) refl refl refl
   where
-    abbrev three : Option NodeRow → Option NodeRow → Option NodeRow → ShapeTriple → Bool
-    three a b c shapes = option_map_or (in_shape shapes.source) a false && option_map_or (in_shape shapes.middle) b false && option_map_or (in_shape shapes.target) c false
-
     by : (a b c : Option NodeRow) → slice_get ps ends.0 ≡ a → slice_get ps edge ≡ b → slice_get ps ends.1 ≡ c →
         list_any (three a b c) triples ≡ option_map_or (λ source. option_map_or (λ own. option_map_or (λ target. test (triple_of source own target)) c false) b false) a false
     by None b c e f g = any_false (three None b c) triples (λ shapes. refl)
@@ -165,11 +166,64 @@ pub any_last : (shapes : List Shape) (shape : Shape) → AreAny shapes → ((p :
 any_last [] shape are own = (own, tt)
 any_last (first ∷ shapes) shape are own = (are.0, any_last shapes shape are.1 own)
 
+apart : (a b : ℕ) → (a ≡ b → ⊥) → (a == b) ≡ false
+apart a b ne = false_from_ne_true (a == b) (λ h. ne (eqb-true a b h))
+
+one_more : (a b : ℕ) → (a == b) ≡ (suc a == suc b)
+one_more a b = by (a == b) refl
+  where
+    by : (t : Bool) → (a == b) ≡ t → t ≡ (suc a == suc b)
+    by true e = sym (eq-eqb (suc a) (suc b) (ap suc (eqb-true a b e)))
+    by false e = sym (false_from_ne_true (suc a == suc b) (λ h. true≢false (sym (eq-eqb a b (let f : suc a ≡ suc b = eqb-true (suc a) (suc b) h in omega arith)) ∙ e)))
+
 pub in_any_places : (shapes : List Shape) (count : ℕ) → AreAny shapes → length shapes ≡ count → (ps : Pairs) → are_in shapes ps ≡ (length ps == count)
 in_any_places shapes count are size ps = by shapes ps are ∙ ap (λ n. length ps == n) size
   where
     by : (ss : List Shape) (qs : Pairs) → AreAny ss → are_in ss qs ≡ (length qs == length ss)
     by [] [] are = refl
-    by [] (q ∷ qs) are = refl
-    by (s ∷ ss) [] are = refl
-    by (s ∷ ss) (q ∷ qs) are = ap (λ b. b && are_in ss qs) (are.0 q) ∙ by ss qs are.1
+    by [] (q ∷ qs) are = sym (apart (suc (length qs)) 0 (λ e. absurd (omega arith)))
+    by (s ∷ ss) [] are = sym (apart 0 (suc (length ss)) (λ e. absurd (omega arith)))
+    by (s ∷ ss) (q ∷ qs) are = ap (λ b. b && are_in ss qs) (are.0 q) ∙ by ss qs are.1 ∙ one_more (length qs) (length ss)
+
+-- ---- what calls add
+
+abbrev pub OnPlace : List Shape → List Demand → List Demand → ℕ → Type 0
+OnPlace shapes old new place = (test : NodeRow → Bool) → Denotes shapes test → Adds old new (λ ps. passes_at ps place test)
+
+abbrev pub OnEdge : List ShapeTriple → List Demand → List Demand → ℕ → ℕ × ℕ → Type 0
+OnEdge triples old new edge ends = (test : Triple → Bool) → DenotesTriples triples test → Adds old new (λ ps. pass_at ps edge ends test)
+
+pub on_place : {T E : Type 0} (r : Result T E) (shapes : List Shape) (old new : List Demand) (place : ℕ) (test : NodeRow → Bool) (goal : Pairs → Bool) → OnOk r (OnPlace shapes old new place) →
+    Denotes shapes test → ((ps : Pairs) → are_small ps ≡ true → passes_at ps place test ≡ goal ps) → OnOk r (Adds old new goal)
+on_place r shapes old new place test goal h denote same =
+    on_ok_weaker r (λ (adds : OnPlace shapes old new place). adds_same old new (λ ps. passes_at ps place test) goal same (adds test denote)) h
+
+pub on_edge : {T E : Type 0} (r : Result T E) (triples : List ShapeTriple) (old new : List Demand) (edge : ℕ) (ends : ℕ × ℕ) (test : Triple → Bool) (goal : Pairs → Bool) →
+    OnOk r (OnEdge triples old new edge ends) → DenotesTriples triples test → ((ps : Pairs) → are_small ps ≡ true → pass_at ps edge ends test ≡ goal ps) → OnOk r (Adds old new goal)
+on_edge r triples old new edge ends test goal h denote same =
+    on_ok_weaker r (λ (adds : OnEdge triples old new edge ends). adds_same old new (λ ps. pass_at ps edge ends test) goal same (adds test denote)) h
+
+pub on_third : {T E : Type 0} (r : Result T E) (old first second new : List Demand) (a b last goal : Pairs → Bool) → OnOk r (Adds second new last) → Adds old first a → Adds first second b →
+    ((ps : Pairs) → are_small ps ≡ true → ((a ps && b ps) && last ps) ≡ goal ps) → OnOk r (Adds old new goal)
+on_third r old first second new a b last goal h f g same =
+    on_ok_weaker r (λ (adds : Adds second new last).
+    adds_same old new (λ ps. (a ps && b ps) && last ps) goal same
+    (adds_both old second new (λ ps. a ps && b ps) last (adds_both old first second a b f g) adds)) h
+
+-- one of several is added, and the others are left
+pub added_one : (old before now : List Demand) (own rest all : Pairs → Bool) →
+    ((ps : Pairs) → are_small ps ≡ true → (list_all (meets ps) before && (own ps && rest ps)) ≡ (list_all (meets ps) old && all ps)) → Adds before now own →
+    (ps : Pairs) → are_small ps ≡ true → (list_all (meets ps) now && rest ps) ≡ (list_all (meets ps) old && all ps)
+added_one old before now own rest all so_far adds ps small =
+    ap (λ b. b && rest ps) (adds ps small) ∙ assoc (list_all (meets ps) before) (own ps) (rest ps) ∙ so_far ps small
+  where
+    assoc : (x y z : Bool) → ((x && y) && z) ≡ (x && (y && z))
+    assoc true y z = refl
+    assoc false y z = refl
+
+pub added_all : (old now : List Demand) (all : Pairs → Bool) → ((ps : Pairs) → are_small ps ≡ true → (list_all (meets ps) now && true) ≡ (list_all (meets ps) old && all ps)) → Adds old now all
+added_all old now all so_far ps small = last (list_all (meets ps) now) ∙ so_far ps small
+  where
+    last : (b : Bool) → b ≡ (b && true)
+    last true = refl
+    last false = refl

@@ -32,31 +32,27 @@ props_free : (keys : List (List ℕ × Options)) (props : List (List ℕ × Valu
 props_free keys props =
     ap (λ b. list_all (λ (key : List ℕ × Options). admits key.1 (value_at key.0 props)) keys && b) (all_free (λ (entry : List ℕ × Value). has_name entry.0 (keys_of keys)) props) ∙ and-true _
 
-pub in_free : (shape : Shape) → shape.more_labels ≡ true → shape.more_keys ≡ true → (p : NodeRow) →
-    in_shape shape p ≡ (list_all (λ label. has_name label p.labels) shape.labels && list_all (λ (key : List ℕ × Options). admits key.1 (value_at key.0 p.props)) shape.keys)
-in_free shape labels keys p =
-    ap (λ b. labels_meet shape.labels b p.labels && props_meet shape.keys shape.more_keys p.props) labels
-    ∙ ap (λ b. b && props_meet shape.keys shape.more_keys p.props) (labels_free shape.labels p.labels)
-    ∙ ap (λ b. list_all (λ label. has_name label p.labels) shape.labels && props_meet shape.keys b p.props) keys
-    ∙ ap (λ b. list_all (λ label. has_name label p.labels) shape.labels && b) (props_free shape.keys p.props)
+-- what a shape asks that leaves further labels and keys free
+abbrev pub in_free : List (List ℕ) → List (List ℕ × Options) → NodeRow → Bool
+in_free asked keys p = labels_meet asked true p.labels && props_meet keys true p.props
 
-pub in_any : (shape : Shape) → shape.more_labels ≡ true → shape.more_keys ≡ true → shape.labels ≡ [] → shape.keys ≡ [] → (p : NodeRow) → in_shape shape p ≡ true
-in_any shape labels keys none nothing p =
-    in_free shape labels keys p ∙ ap (λ ls. list_all (λ label. has_name label p.labels) ls && list_all (λ (key : List ℕ × Options). admits key.1 (value_at key.0 p.props)) shape.keys) none
-    ∙ ap (λ ks. list_all (λ (key : List ℕ × Options). admits key.1 (value_at key.0 p.props)) ks) nothing
+free_in : (asked : List (List ℕ)) (keys : List (List ℕ × Options)) (p : NodeRow) →
+    in_free asked keys p ≡ (list_all (λ label. has_name label p.labels) asked && list_all (λ (key : List ℕ × Options). admits key.1 (value_at key.0 p.props)) keys)
+free_in asked keys p =
+    ap (λ b. b && props_meet keys true p.props) (labels_free asked p.labels)
+    ∙ ap (λ b. list_all (λ label. has_name label p.labels) asked && b) (props_free keys p.props)
 
-pub in_labelled : (shape : Shape) (label : List ℕ) → shape.more_labels ≡ true → shape.more_keys ≡ true → shape.labels ≡ label ∷ [] → shape.keys ≡ [] → (p : NodeRow) →
-    in_shape shape p ≡ has_name label p.labels
-in_labelled shape label labels keys one nothing p =
-    in_free shape labels keys p ∙ ap (λ ls. list_all (λ l. has_name l p.labels) ls && list_all (λ (key : List ℕ × Options). admits key.1 (value_at key.0 p.props)) shape.keys) one
-    ∙ ap (λ ks. (has_name label p.labels && true) && list_all (λ (key : List ℕ × Options). admits key.1 (value_at key.0 p.props)) ks) nothing
-    ∙ and-true _ ∙ and-true _
+pub in_any : (asked : List (List ℕ)) (keys : List (List ℕ × Options)) → asked ≡ [] → keys ≡ [] → (p : NodeRow) → in_free asked keys p ≡ true
+in_any asked keys none nothing p = ap (λ ls. in_free ls keys p) none ∙ ap (λ ks. in_free [] ks p) nothing ∙ free_in [] [] p
 
-pub in_keyed : (shape : Shape) (key : List ℕ) (options : Options) → shape.more_labels ≡ true → shape.more_keys ≡ true → shape.labels ≡ [] → shape.keys ≡ (key, options) ∷ [] → (p : NodeRow) →
-    in_shape shape p ≡ admits options (value_at key p.props)
-in_keyed shape key options labels keys none one p =
-    in_free shape labels keys p ∙ ap (λ ls. list_all (λ l. has_name l p.labels) ls && list_all (λ (key : List ℕ × Options). admits key.1 (value_at key.0 p.props)) shape.keys) none
-    ∙ ap (λ ks. list_all (λ (k : List ℕ × Options). admits k.1 (value_at k.0 p.props)) ks) one ∙ and-true _
+pub in_labelled : (asked : List (List ℕ)) (keys : List (List ℕ × Options)) (label : List ℕ) → asked ≡ label ∷ [] → keys ≡ [] → (p : NodeRow) → in_free asked keys p ≡ has_name label p.labels
+in_labelled asked keys label one nothing p =
+    ap (λ ls. in_free ls keys p) one ∙ ap (λ ks. in_free (label ∷ []) ks p) nothing ∙ free_in (label ∷ []) [] p ∙ and-true _ ∙ and-true _
+
+pub in_keyed : (asked : List (List ℕ)) (keys : List (List ℕ × Options)) (key : List ℕ) (options : Options) → asked ≡ [] → keys ≡ (key, options) ∷ [] → (p : NodeRow) →
+    in_free asked keys p ≡ admits options (value_at key p.props)
+in_keyed asked keys key options none one p =
+    ap (λ ls. in_free ls keys p) none ∙ ap (λ ks. in_free [] ks p) one ∙ free_in [] ((key, options) ∷ []) p ∙ and-true _
 
 pub single_in : (shapes : List Shape) (shape : Shape) → shapes ≡ shape ∷ [] → (p : NodeRow) → in_some shapes p ≡ in_shape shape p
 single_in shapes shape one p = ap (λ ss. in_some ss p) one ∙ or-false (in_shape shape p)

@@ -1,9 +1,8 @@
 //! What a placed pattern asks, as demands: of each place, and of the three places of an edge.
 
-ghost use Rattle.std.specs.Prelude.{◌≡◌, ◌≤◌, Bool, true, ℕ, List as Items, length, is_some, IfOk, OnOk};
+ghost use Rattle.std.specs.Prelude.{◌≡◌, ◌≤◌, Bool, true, List as Items, length, IfOk, OnOk};
 ghost use Rattle.std.specs.List.{list_all};
 ghost use Rattle.pgs_base.specs.declared.row.NodeRow.{NodeRow};
-ghost use Rattle.pgs_base.specs.Pair.{is_pair};
 ghost use Rattle.pgs_syntax.specs.Join.{Triple as Pairs};
 ghost use Rattle.pgs_syntax.specs.Valid.{names_types};
 ghost use Rattle.pgs_conform.specs.Shapes.{Denotes, DenotesTriples};

@@ -48,8 +48,8 @@ fn common_pairs(alloc: Global, first: &Shape, second: &Shape) -> Result<Option<S
     let Some(shape) = common(alloc, first, second)? else {
         return Ok(None);
     };
-    let found = plain_pair(alloc, &shape)?;
-    if found.is_none() {
+    let least = plain_pair(alloc, &shape)?;
+    if least.is_none() {
         return Ok(None);
     }
     Ok(Some(shape))

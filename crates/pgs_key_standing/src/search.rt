@@ -15,9 +15,10 @@ use std::alloc::Global;
 fn push_way(way: Option<List<Shape>>, ways: &mut Vec<List<Shape>>) -> Result<(), Memory>
     ensures { OnOk result ((ps : Items NodeRow) → in_some_way ways.new.items ps ≡ (in_some_way ways.old.items ps || in_way way ps)) }
 {
-    if let Some(places) = way {
-        ways.push(places)?;
-    }
+    let Some(places) = way else {
+        return Ok(());
+    };
+    ways.push(places)?;
     Ok(())
 }
 

@@ -1,6 +1,6 @@
 //! Shapes of what is asked at one place.
 
-ghost use Rattle.std.specs.Prelude.{◌≡◌, ◌&&◌, true, List as Items, ℕ, is_some, Option, IfOk};
+ghost use Rattle.std.specs.Prelude.{◌≡◌, true, false, is_some, Option, IfOk};
 ghost use Rattle.std.specs.Option.{option_map_or};
 ghost use Rattle.pgs_base.specs.declared.row.NodeRow.{NodeRow};
 ghost use Rattle.pgs_base.specs.declared.value.Value.{Value as Valued};
@@ -13,7 +13,6 @@ use pgs_conform::{Options, Shape};
 use std::alloc::Global;
 
 /// The shape of all pairs. It takes no memory.
-#[tactic(auto, using(crate::proofs::Single::in_any))]
 pub(crate) fn any_shape(alloc: Global) -> Shape
     ensures { (p : NodeRow) → in_shape result p ≡ true }
 {
