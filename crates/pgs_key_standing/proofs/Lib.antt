@@ -1,3 +1,4 @@
+pub mod Agreed
 pub mod Between
 pub mod Built
 pub mod Classes
@@ -5,6 +6,7 @@ pub mod Decided
 pub mod Demanded
 pub mod Gathered
 pub mod Matched
+pub mod Named
 pub mod Renamings
 pub mod Settled
 pub mod Single

@@ -2,8 +2,11 @@
 
 ghost use Rattle.std.specs.Prelude.{◌≡◌, true};
 ghost use Rattle.std.specs.List.{list_all};
+ghost use Rattle.pgs_base.specs.Pair.{same_name};
+ghost use Rattle.pgs_syntax.specs.Matches.{same_value};
 ghost use Rattle.pgs_key_standing.specs.Kinds.{agree, all_agree, has_literal};
 
+use pgs_base::{Name, Value};
 use pgs_syntax::Atom;
 
 // What each atom meets: the value that it asks for is one. Nothing is done.
@@ -26,7 +29,20 @@ pub(crate) fn literals_facts(atoms: &[Atom])
     literals_facts(later);
 }
 
+fn same_name(first: &Name, second: &Name) -> bool
+    ensures { result ≡ same_name first.now second.now }
+{
+    first.cmp(second).is_eq()
+}
+
+fn same_value(first: &Value, second: &Value) -> bool
+    ensures { result ≡ same_value first.now second.now }
+{
+    first.cmp(second).is_eq()
+}
+
 // Whether two atoms ask for one value at one key of one place, or not for the same.
+#[tactic(auto, using(crate::proofs::Agreed::agree_apart, crate::proofs::Agreed::agree_unnamed, crate::proofs::Agreed::agree_values))]
 fn agree(first: &Atom, second: &Atom) -> bool
     ensures { result ≡ agree first.now second.now }
 {
@@ -40,7 +56,27 @@ fn agree(first: &Atom, second: &Atom) -> bool
     } = second else {
         return true;
     };
-    !(*var == *other && *key == *name) || *value == *wanted
+    if *var != *other {
+        return true;
+    }
+    let named = same_name(key, name);
+    if !named {
+        return true;
+    }
+    same_value(value, wanted)
+}
+
+// Whether an atom agrees with all others.
+fn agrees_with_all(atom: &Atom, others: &[Atom]) -> bool
+    ensures { result ≡ list_all (agree atom.now) others.now }
+{
+    let [other, later @ ..] = others else {
+        return true;
+    };
+    if !agree(atom, other) {
+        return false;
+    }
+    agrees_with_all(atom, later)
 }
 
 /// Whether the values agree that atoms ask for at one key of one place.
@@ -50,5 +86,8 @@ pub(crate) fn all_agree(atoms: &[Atom]) -> bool
     let [atom, later @ ..] = atoms else {
         return true;
     };
-    later.iter().all(|other| agree(atom, other)) && all_agree(later)
+    if !agrees_with_all(atom, later) {
+        return false;
+    }
+    all_agree(later)
 }

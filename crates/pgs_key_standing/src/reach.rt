@@ -33,13 +33,16 @@ fn any_places(alloc: Global, kinds: &[bool]) -> Result<Vec<Shape>, Memory>
 }
 
 // Whether there are pairs as a placed pattern asks, which can stand.
+#[tactic(auto, using(crate::proofs::Decided::lacks_where_apart))]
 fn has_pairs(alloc: Global, schema: &Compiled, placed: &Placed) -> Result<bool, Memory>
     requires types { list_all (names_types schema.now) placed.now.atoms ≡ true }
     requires few { length placed.now.kinds ≤ 42 }
     ensures { IfOk result (λ has. MatchBool has (HasPairs schema.now placed.now) (LacksPairs schema.now placed.now)) }
 {
-    literals_facts(placed.atoms.as_slice());
-    if !all_agree(placed.atoms.as_slice()) {
+    let atoms = placed.atoms.as_slice();
+    literals_facts(atoms);
+    let agreed = all_agree(atoms);
+    if !agreed {
         return Ok(false);
     }
     let demands = demands_of(alloc, schema, placed)?;
@@ -87,10 +90,12 @@ pub fn key_reach(alloc: Global, schema: &Compiled, key: &Key) -> Result<Reach, M
     requires { is_valid_key_of schema.now key.now ≡ true }
     ensures { IfOk result (IsReach schema.now key.now) }
 {
-    if !has_scope(alloc, schema, key)? {
+    let scope = has_scope(alloc, schema, key)?;
+    if !scope {
         return Ok(Reach::NeverScope);
     }
-    if has_value(alloc, schema, key)? {
+    let value = has_value(alloc, schema, key)?;
+    if value {
         return Ok(Reach::Value);
     }
     if asks_values(key.qualifiers) {
