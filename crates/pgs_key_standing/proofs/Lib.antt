@@ -1,0 +1,17 @@
+pub mod Agreed
+pub mod Between
+pub mod Built
+pub mod Classes
+pub mod Decided
+pub mod Demanded
+pub mod Gathered
+pub mod Matched
+pub mod Named
+pub mod Renamings
+pub mod Settled
+pub mod Single
+pub mod Sound
+pub mod Stands
+pub mod Tables
+pub mod Taken
+pub mod Ways
