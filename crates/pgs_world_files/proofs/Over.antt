@@ -82,12 +82,12 @@ module _ {H : Type 0} (bytes : H → List ℕ) (lengths : H → Result ℕ Error
     module _ (start : H) (at : ℕ) where
       read_keeps : (got : List ℕ) (after : H) → HasRead reads start at got after → bytes after ≡ bytes start
       read_keeps got after read_none = refl
-      read_keeps got after (read_some {bytes = first} {buf = buf} {count = count} {before = before} reading tried) =
+      read_keeps got after (read_some {bytes = first} {buf = buf} {count = count} {before = before} reading tried some) =
           tried_keeps (at + length first) buf (Ok count) before after tried ∙ read_keeps first before reading
 
       reads_there : (got : List ℕ) (after : H) → HasRead reads start at got after → got ≡ take (length got) (drop at (bytes start))
       reads_there got after read_none = refl
-      reads_there got after (read_some {bytes = first} {buf = buf} {count = count} {before = before} reading tried) =
+      reads_there got after (read_some {bytes = first} {buf = buf} {count = count} {before = before} reading tried some) =
           let more = take count buf in
           let there : more ≡ take (length more) (drop (length first) (drop at (bytes start))) =
           tried_reads (at + length first) buf count before after tried ∙ ap (λ (l : List ℕ). take (length more) (drop (at + length first) l)) (read_keeps first before reading)
@@ -102,7 +102,7 @@ module _ {H : Type 0} (bytes : H → List ℕ) (lengths : H → Result ℕ Error
 
         writes_there : (done : ℕ) (after : H) → HasWritten writes start at piece done after → Wrote done after
         writes_there done after wrote_none = record { within = omega arith; is = sym (written_none (bytes start) at) }
-        writes_there done after (wrote_some {done = d} {count = count} {before = before} writing tried) =
+        writes_there done after (wrote_some {done = d} {count = count} {before = before} writing tried some) =
             let was = writes_there d before writing in
             let size : length (take d piece) ≡ d = length-take-le d piece was.within in
             let few : count ≤ length (drop d piece) = over.fits tried.mid after (at + d) (drop d piece) count tried.gave in

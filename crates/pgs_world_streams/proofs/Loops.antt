@@ -5,7 +5,8 @@ use Rattle.std.proofs.lemmas.Slice.{take-put_mid_below}
 use Rattle.std.proofs.Math.Seq.{take-add}
 use borrow.Rule.Slice.PartMut.{put_mid, post_of, same_len_mid}
 use Rattle.std.specs.declared.io.Error.{Error}
-use Rattle.pgs_world_streams.specs.Given.{PlacedCall}
+use Rattle.pgs_world_streams.specs.Given.{PlacedCall, PlainCall}
+use Rattle.pgs_world_streams.specs.Pieces.{FailsToWrite, IsErrorOf, placeless}
 use Rattle.pgs_world_streams.specs.Tries.{ReadIsTried, WriteIsTried}
 use Rattle.pgs_world_streams.specs.Whole.{HasRead, HasWritten, HasFailedToRead, HasFailedToWrite, IsFailure}
 use Rattle.pgs_world_streams.specs.Whole.HasRead.{read_some}
@@ -23,10 +24,10 @@ within_more bytes done count now is within fits =
 module _ {H : Type 0} (gives : PlacedCall H) (start : H) (at : ℕ) (bytes : List ℕ) (done : ℕ) (before after : H) where
   -- a write that took some of the bytes that were left
   pub wrote_more : (count now : ℕ) → now ≡ done + count → HasWritten gives start at bytes done before
-      → WriteIsTried gives before (at + done) (take (length bytes - done) (drop done bytes)) (Ok count) after → HasWritten gives start at bytes now after
-  wrote_more count now is front tried =
+      → WriteIsTried gives before (at + done) (take (length bytes - done) (drop done bytes)) (Ok count) after → 1 ≤ count → HasWritten gives start at bytes now after
+  wrote_more count now is front tried some =
       subst (λ n. HasWritten gives start at bytes n after) (sym is)
-      (wrote_some front (subst (λ xs. WriteIsTried gives before (at + done) xs (Ok count) after) (rest_is bytes done) tried))
+      (wrote_some front (subst (λ xs. WriteIsTried gives before (at + done) xs (Ok count) after) (rest_is bytes done) tried) some)
 
   -- a write that failed
   pub write_failed : (answer : Result ℕ Error) → IsFailure answer → done < length bytes → HasWritten gives start at bytes done before
@@ -41,6 +42,14 @@ module _ {H : Type 0} (gives : PlacedCall H) (start : H) (at : ℕ) (bytes : Lis
         tried = subst (λ xs. WriteIsTried gives before (at + done) xs answer after) (rest_is bytes done) tried;
         fails = fails;
       }
+
+-- the same of a piece, with the error that comes of it
+pub fails_to_write : {W : Type 0} (writes : PlainCall W) (start : W) (piece : List ℕ) (done : ℕ) (before after : W) (answer : Result ℕ Error) (error : Error) → IsFailure answer → IsErrorOf answer error → done < length piece
+    → HasWritten (placeless writes) start 0 piece done before → WriteIsTried (placeless writes) before 0 (take (length piece - done) (drop done piece)) answer after → FailsToWrite writes start piece error after
+unfolding write_failed
+fails_to_write writes start piece done before after answer error fails is left front tried =
+    let failed = write_failed (placeless writes) start 0 piece done before after answer fails left front tried in
+    record { done = done; before = before; front = front; left = left; answer = answer; tried = failed.tried; fails = fails; is = is }
 
 -- the buffer is full
 pub read_all : {H : Type 0} (gives : PlacedCall H) (start : H) (at : ℕ) (xs : List ℕ) (done : ℕ) (after : H) → length xs ≤ done → HasRead gives start at (take done xs) after → HasRead gives start at xs after
@@ -72,12 +81,12 @@ module _ (xs ys : List ℕ) (done : ℕ) where
 
   module _ {H : Type 0} (gives : PlacedCall H) (start : H) (at : ℕ) (before after : H) (within : done ≤ length xs) (front : HasRead gives start at (take done xs) before) where
     -- a read that gave some bytes
-    pub read_more : (count now : ℕ) → now ≡ done + count → ReadIsTried gives before (at + done) ys (Ok count) after
+    pub read_more : (count now : ℕ) → now ≡ done + count → ReadIsTried gives before (at + done) ys (Ok count) after → 1 ≤ count
         → HasRead gives start at (take now (put_mid done (length xs - done) xs ys)) after
-    read_more count now is tried =
+    read_more count now is tried some =
         let there = subst (λ n. ReadIsTried gives before (at + n) ys (Ok count) after) (sym (length-take-le done xs within)) tried in
         subst (λ n. HasRead gives start at (take n (put_mid done (length xs - done) xs ys)) after) (sym is)
-        (subst (λ b. HasRead gives start at b after) (sym (front_grows count within)) (read_some front there))
+        (subst (λ b. HasRead gives start at b after) (sym (front_grows count within)) (read_some front there some))
 
     -- a read that failed
     pub read_failed : (answer : Result ℕ Error) → IsFailure answer → done < length xs → length ys ≡ length (take (length xs - done) (drop done xs))

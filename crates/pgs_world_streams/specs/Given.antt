@@ -1,5 +1,5 @@
 -- What calls were given: each answer is a fact that only the call itself can show.
-use Rattle.std.specs.Prelude.{ℕ, Bool, List, Result, Ok, Err}
+use Rattle.std.specs.Prelude.{◌≡◌, ℕ, Bool, List, length, Option, Some, None, Result, Ok, Err}
 use Rattle.std.specs.declared.io.Error.{Error}
 
 -- One call with some bytes at a place: the handle before, the place, the bytes, the answer, and the handle after. At a
@@ -19,3 +19,8 @@ BareCall H = H → Bool → H → Type 0
 abbrev pub ReadsOnce : {R F : Type 0} → PlainCall R → R → List ℕ → Result ℕ F → R → Type 0
 ReadsOnce gives old buf (Ok count) new = gives old buf (Ok count) new
 ReadsOnce gives old buf (Err _) new = (error : Error) × gives old buf (Err error) new
+
+-- one read of a reader asked for so many bytes, and gave so many, or failed
+abbrev pub ReadMade : {R : Type 0} → PlainCall R → R → (asked : ℕ) → Option ℕ → R → Type 0
+ReadMade gives old asked (Some count) new = (buf : List ℕ) × (length buf ≡ asked) × gives old buf (Ok count) new
+ReadMade gives old asked None new = (buf : List ℕ) × (error : Error) × (length buf ≡ asked) × gives old buf (Err error) new

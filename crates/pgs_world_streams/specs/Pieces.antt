@@ -1,8 +1,12 @@
 -- What a writer does with a piece.
-use Rattle.std.specs.Prelude.{◌≡◌, ◌⊎◌, ℕ, ◌-◌, ◌^◌, true, false, List, ◌++◌, length, Option, Result, Ok, Err}
+use Rattle.std.specs.Prelude.{◌≡◌, ◌⊎◌, ℕ, ◌+◌, ◌-◌, ◌^◌, ◌<◌, drop, true, false, List, ◌++◌, length, Option, Result, Ok, Err}
 use Rattle.std.specs.Io.KnownBytes.{Appends}
+use Rattle.std.specs.IoError.{error_kind}
+use Rattle.std.specs.declared.io.Error.{Error}
+use Rattle.std.specs.declared.io.ErrorKind.TheVariants.{WriteZero}
 use Rattle.pgs_world_streams.specs.Given.{PlacedCall, PlainCall, BareCall}
-use Rattle.pgs_world_streams.specs.Whole.{HasWritten, HasFailedToWrite}
+use Rattle.pgs_world_streams.specs.Tries.{WriteIsTried}
+use Rattle.pgs_world_streams.specs.Whole.{HasWritten, HasFailedToWrite, IsFailure}
 
 -- known bytes grow by some front of the piece
 pub record AppendsFront (old new : Option (List ℕ)) (piece : List ℕ) : Type 0 where
@@ -28,6 +32,28 @@ PieceIs writes flushes old piece (Ok _) new =
 PieceIs writes flushes old piece (Err _) new =
     ((mid : _) × HasWritten (placeless writes) old 0 piece (length piece) mid × flushes mid false new)
     ⊎ HasFailedToWrite (placeless writes) old 0 piece new
+
+-- the error of a write that failed: the one that the write gave, and one of its own kind where the write took no byte
+abbrev pub IsErrorOf : Result ℕ Error → Error → Type 0
+IsErrorOf (Ok count) error = error_kind error ≡ WriteZero
+IsErrorOf (Err given) error = error ≡ given
+
+-- A front of the piece was written, and the write of the rest failed with this error.
+pub record FailsToWrite {W : Type 0} (writes : PlainCall W) (old : W) (piece : List ℕ) (error : Error) (new : W) : Type 0 where
+  pub done : ℕ
+  pub before : W
+  pub front : HasWritten (placeless writes) old 0 piece done before
+  pub left : done < length piece
+  pub answer : Result ℕ Error
+  pub tried : WriteIsTried (placeless writes) before (0 + done) (drop done piece) answer new
+  pub fails : IsFailure answer
+  pub is : IsErrorOf answer error
+
+-- All of the piece was written and the flush failed, which gave the error; or the write of some of it failed with it.
+abbrev pub FailsWith : {W : Type 0} → PlainCall W → BareCall W → W → List ℕ → Error → W → Type 0
+FailsWith writes flushes old piece error new =
+    ((mid : _) × HasWritten (placeless writes) old 0 piece (length piece) mid × flushes mid false new)
+    ⊎ FailsToWrite writes old piece error new
 
 -- the same of a put, which fails with nothing written where no more puts can be counted
 abbrev pub PutIs : {W A F : Type 0} → PlainCall W → BareCall W → ℕ → W → List ℕ → Result A F → W → Type 0

@@ -1,20 +1,20 @@
 -- All bytes of a range, read or written call by call, each call made again where it was interrupted.
-use Rattle.std.specs.Prelude.{◌≡◌, ℕ, ◌+◌, ◌<◌, List, [], ◌++◌, length, take, drop, Result, Ok, Err, ⊤}
+use Rattle.std.specs.Prelude.{◌≡◌, ℕ, ◌+◌, ◌<◌, ◌≤◌, List, [], ◌++◌, length, take, drop, Result, Ok, Err, ⊤}
 use Rattle.std.specs.declared.io.Error.{Error}
 use Rattle.pgs_world_streams.specs.Given.{PlacedCall}
 use Rattle.pgs_world_streams.specs.Tries.{ReadIsTried, WriteIsTried}
 
--- From `start`, reads from this place on gave these bytes, in order, and left a handle so.
+-- From `start`, reads from this place on gave these bytes, in order, each at least one, and left a handle so.
 pub data HasRead {H : Type 0} (gives : PlacedCall H) (start : H) (at : ℕ) : List ℕ → H → Type 0 where
   read_none : HasRead gives start at [] start
   read_some : {bytes buf : List ℕ} {count : ℕ} {before after : H} → HasRead gives start at bytes before
-      → ReadIsTried gives before (at + length bytes) buf (Ok count) after → HasRead gives start at (bytes ++ take count buf) after
+      → ReadIsTried gives before (at + length bytes) buf (Ok count) after → 1 ≤ count → HasRead gives start at (bytes ++ take count buf) after
 
--- From `start`, writes of these bytes from this place on took the first so many, in order, and left a handle so.
+-- From `start`, writes of these bytes from this place on took the first so many, in order, each at least one, and left a handle so.
 pub data HasWritten {H : Type 0} (gives : PlacedCall H) (start : H) (at : ℕ) (bytes : List ℕ) : ℕ → H → Type 0 where
   wrote_none : HasWritten gives start at bytes 0 start
   wrote_some : {done count : ℕ} {before after : H} → HasWritten gives start at bytes done before
-      → WriteIsTried gives before (at + done) (drop done bytes) (Ok count) after → HasWritten gives start at bytes (done + count) after
+      → WriteIsTried gives before (at + done) (drop done bytes) (Ok count) after → 1 ≤ count → HasWritten gives start at bytes (done + count) after
 
 -- a call gave or took no byte
 abbrev pub IsFailure : Result ℕ Error → Type 0

@@ -1,8 +1,9 @@
 ghost use Rattle.std.specs.Prelude.{◌≡◌, ◌<◌, ◌≤◌, length, take, Ok, IfOk, OnOk, OnErr};
+ghost use Rattle.std.specs.Result.{result_ok};
 ghost use Rattle.std.specs.Io.KnownBytes.{ReadConsumes};
 ghost use Rattle.pgs_world.specs.Count.{RoseByOne, raised};
 ghost use Rattle.pgs_world.specs.Source.{Takes, IsAtEnd};
-ghost use Rattle.pgs_world_streams.specs.Given.{ReadsOnce};
+ghost use Rattle.pgs_world_streams.specs.Given.{ReadMade, ReadsOnce};
 
 use crate::{Cause, SteadyRead};
 use pgs_world::{Source, SourceFault};
@@ -40,12 +41,15 @@ impl<R: SteadyRead> Source for StdinSource<R> {
 
     ghost faults = { λ source. source.faults };
 
+    ghost read_made = { λ old asked answer new. ReadMade R.read_gives old.reader asked answer new.reader };
+
     /// One read of the reader, or a counted fault. A read that was interrupted is a fault too.
     #[tactic(auto, using(crate::proofs::Knowing::takes_known, crate::proofs::Knowing::kept_known, crate::proofs::Knowing::end_known))]
     fn read(&mut self, buf: &mut [u8]) -> Result<usize, SourceFault>
         ensures read { ReadConsumes (R.remaining self.old.reader) (R.remaining self.new.reader) result buf.new }
         ensures once { ReadsOnce R.read_gives self.old.reader buf.new result self.new.reader }
         ensures raised { OnErr result (self.new.faults ≡ raised self.old.faults) }
+        ensures made { ReadMade R.read_gives self.old.reader (length buf.old) (result_ok result) self.new.reader }
 
         // What every source says.
         ensures within { IfOk result (λ count. count ≤ length buf.new) }

@@ -1,6 +1,7 @@
+ghost use Rattle.std.specs.Prelude.{IfErr};
 ghost use Rattle.std.specs.Io.{WritesAtMost};
 ghost use Rattle.std.specs.Io.KnownBytes.{WriteAppends};
-ghost use Rattle.pgs_world_streams.specs.Pieces.{HoldsPiece, PieceIs, placeless};
+ghost use Rattle.pgs_world_streams.specs.Pieces.{FailsWith, HoldsPiece, PieceIs, placeless};
 ghost use Rattle.pgs_world_streams.specs.Tries.{WriteIsTried};
 
 use crate::{SteadyWrite, is_tried_again};
@@ -22,11 +23,12 @@ fn write_some<W: SteadyWrite>(writer: &mut W, bytes: &[u8]) -> io::Result<usize>
     }
 }
 
-/// Writes the whole piece and flushes it. After an error some front of it was written. A write that is interrupted is made again,
-/// at most 999 times in a row.
+/// Writes the whole piece and flushes it. After an error some front of it was written: the error is the one that a write or the flush
+/// gave, and `WriteZero` where a write took no byte. A write that is interrupted is made again, at most 999 times in a row.
 pub fn write_whole<W: SteadyWrite>(writer: &mut W, piece: &[u8]) -> io::Result<()>
     ensures holds { HoldsPiece W.contents writer.old piece.now result writer.new }
     ensures given { PieceIs W.write_gives W.flush_gives writer.old piece.now result writer.new }
+    ensures error { IfErr result (λ error. FailsWith W.write_gives W.flush_gives writer.old piece.now error writer.new) }
 {
     let mut done = 0;
     while done < piece.len() {

@@ -1,4 +1,4 @@
-use Rattle.std.proofs.Common.{inr, refl, arith}
+use Rattle.std.proofs.Common.{rules, inr, refl, arith}
 use Rattle.pgs_world_streams.specs.Whole.HasRead.{read_none}
 use Rattle.pgs_world_streams.proofs.Loops.{buffer_within_more, read_all, read_more, read_failed}
 use Rattle.pgs_world_files.proofs.area_file.read_within.Goals as goal
@@ -15,7 +15,7 @@ loop-done-preserved g c =
     let within = c.loop-done.invariant.within in
     record {
       within = buffer_within_more _ _ _ _ _ refl within c.read_some.auto.buf c.in-Ok.ensures.bound.0;
-      given = read_more _ _ _ _ _ _ _ _ within c.loop-done.invariant.given _ _ refl c.in-Ok.ensures.tried;
+      given = read_more _ _ _ _ _ _ _ _ within c.loop-done.invariant.given _ _ refl c.in-Ok.ensures.tried (search rules);
     }
 
 pub returns-in-Err : goal.returns-in-Err

@@ -1,4 +1,4 @@
-use Rattle.std.proofs.Common.{inr, refl, arith}
+use Rattle.std.proofs.Common.{rules, inr, refl, arith}
 use Rattle.pgs_world_streams.specs.Whole.HasWritten.{wrote_none}
 use Rattle.pgs_world_streams.proofs.Loops.{within_more, wrote_more, write_failed}
 use Rattle.pgs_world_files.proofs.area_file.write_within.Goals as goal
@@ -13,7 +13,7 @@ returns-in-Ok-eq0 g c =
 pub loop-done-preserved : goal.loop-done-preserved
 loop-done-preserved g c = record {
   within = within_more _ _ _ _ refl c.loop-done.invariant.within c.in-Ok.ensures.bound;
-  written = wrote_more _ _ _ _ _ _ _ _ _ refl c.loop-done.invariant.written c.in-Ok.ensures.tried;
+  written = wrote_more _ _ _ _ _ _ _ _ _ refl c.loop-done.invariant.written c.in-Ok.ensures.tried (search rules);
 }
 
 pub returns-in-Err : goal.returns-in-Err

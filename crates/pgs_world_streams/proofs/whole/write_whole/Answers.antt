@@ -1,9 +1,9 @@
-use Rattle.std.proofs.Common.{inr, refl, arith, sym, subst}
+use Rattle.std.proofs.Common.{rules, inr, refl, arith, sym, subst}
 use Rattle.std.proofs.lemmas.Result.{err_from_is_err_and}
 use Rattle.pgs_world_streams.specs.Pieces.{HoldsPiece, PieceIs}
 use Rattle.pgs_world_streams.specs.Whole.HasWritten.{wrote_none}
 use Rattle.pgs_world_streams.proofs.Knowing.{appends_none, front_here, front_kept, appends_at}
-use Rattle.pgs_world_streams.proofs.Loops.{within_more, wrote_more, write_failed}
+use Rattle.pgs_world_streams.proofs.Loops.{within_more, wrote_more, fails_to_write, write_failed}
 use Rattle.pgs_world_streams.proofs.whole.write_whole.Goals as goal
 
 pub loop-done-init : goal.loop-done-init
@@ -15,7 +15,7 @@ loop-done-preserved g c =
     record {
       within = within_more _ _ _ _ refl c.loop-done.invariant.within c.in_ok-count.ensures.bound;
       known = appends_at (contents c.args.writer.now) (contents c.loop-done.writer) (contents c.write_some.new.writer) _ _ _ _ refl c.loop-done.invariant.known c.in_ok-count.ensures.bytes;
-      written = wrote_more _ _ _ _ _ _ _ _ _ refl c.loop-done.invariant.written c.in_ok-count.ensures.tried;
+      written = wrote_more _ _ _ _ _ _ _ _ _ refl c.loop-done.invariant.written c.in_ok-count.ensures.tried (search rules);
     }
 
 pub returns-in-0-clause-holds : goal.returns-in-0-clause-holds
@@ -39,3 +39,12 @@ returns-in_err-count-clause-given g c =
     let failed = err_from_is_err_and c.from_residual.result c.from_residual.ensures.1 in
     subst (λ answer. PieceIs g.W.SteadyWrite.write_gives g.W.SteadyWrite.flush_gives c.args.writer.now c.args.piece.now answer c.write_some.new.writer) (sym failed.1)
     (inr (write_failed _ _ _ _ _ _ _ _ tt c.loop-done-test.true c.loop-done.invariant.written c.in_err-count.ensures.tried))
+
+pub returns-in-0-clause-error : goal.returns-in-0-clause-error
+returns-in-0-clause-error g c =
+    inr (fails_to_write _ _ _ _ _ _ _ _ c.in-0.is c.from.ensures c.loop-done-test.true c.loop-done.invariant.written c.in_ok-count.ensures.tried)
+
+pub returns-in_err-count-clause-error : goal.returns-in_err-count-clause-error
+returns-in_err-count-clause-error g c =
+    let failed = err_from_is_err_and c.from_residual.result c.from_residual.ensures.1 in
+    rw (failed.1, failed.2) (inr (fails_to_write _ _ _ _ _ _ _ _ tt refl c.loop-done-test.true c.loop-done.invariant.written c.in_err-count.ensures.tried))
