@@ -1,4 +1,5 @@
 pub mod Counts
+pub mod Deliveries
 pub mod Drops
 pub mod Given
-pub mod Sweep
+pub mod Visits

@@ -5,7 +5,7 @@ ghost use Rattle.pgs_feed.specs.Places.{Delivers, RaisesLost, fed, fed_count, is
 ghost use Rattle.pgs_feed.specs.Puts.{PutsOnceEach};
 ghost use Rattle.pgs_feed.specs.Seen.{feeds_in, places};
 
-use crate::Slot;
+use crate::{Line, Slot, visit_each};
 use pgs_base::Memory;
 use pgs_world::Feed;
 use std::alloc::Global;
@@ -50,9 +50,8 @@ impl<F: Feed> FeedList<F> {
         ensures raised { RaisesLost (places F.taken F.faults self.old) (places F.taken F.faults self.new) }
         ensures puts { PutsOnceEach F.put_made line.now self.old self.new }
     {
-        for place in 0..self.slots.len() {
-            self.slots[place].deliver(line);
-        }
+        let mut line = Line { bytes: line };
+        visit_each(&mut self.slots, &mut line);
     }
 
     /// Drops the feed at the place at once. False exactly where no feed is there. Every other place is as it was.

@@ -1,32 +1,22 @@
-use Rattle.std.proofs.Common.{rules}
+use Rattle.std.proofs.Common.{map}
 use Rattle.pgs_feed.specs.Places.{Delivers}
 use Rattle.pgs_feed.specs.Puts.{PutsOnce}
 use Rattle.pgs_feed.specs.Seen.{place_seen, places}
 use Rattle.pgs_feed.proofs.Counts.{delivery_raises}
-use Rattle.pgs_feed.proofs.Sweep.{swept_all, swept_more, swept_whole}
+use Rattle.pgs_feed.proofs.Visits.{visited_each, zip_seen}
 use Rattle.pgs_feed.proofs.feed_list.FeedList.deliver.Goals as goal
-
-pub loop-place-init : goal.loop-place-init
-loop-place-init g c = record { delivers = search rules; puts = search rules }
-
-pub loop-place-preserved : goal.loop-place-preserved
-loop-place-preserved g c =
-    let seen = place_seen g.F.Feed.taken g.F.Feed.faults in
-    let loop = c.loop-place in
-    record {
-      delivers = swept_more (λ before after. Delivers c.args.line.now (seen before) (seen after)) loop.place c.args.self.now.slots.items loop.self.slots.items c.index_mut.result.now c.deliver.new.self loop.invariant.delivers (search rules) c.index_mut.ensures.value c.deliver.ensures.delivers;
-      puts = swept_more (PutsOnce g.F.Feed.put_made c.args.line.now) loop.place c.args.self.now.slots.items loop.self.slots.items c.index_mut.result.now c.deliver.new.self loop.invariant.puts (search rules) c.index_mut.ensures.value c.deliver.ensures.puts;
-    }
 
 pub returns : goal.returns
 returns g c =
     let line = c.args.line.now in
     let seen = place_seen g.F.Feed.taken g.F.Feed.faults in
     let list = places g.F.Feed.taken g.F.Feed.faults in
-    let loop = c.loop-place in
-    let delivered = swept_all (Delivers line) seen loop.place c.args.self.now.slots.items loop.self.slots.items loop.invariant.delivers (search rules) in
+    let before = c.args.self.now.slots.items in
+    let after = c.visit_each.new.items.items in
+    let each = visited_each (λ visitor x y. Delivers visitor.bytes.now (seen x) (seen y) × PutsOnce g.F.Feed.put_made visitor.bytes.now x y) _ before after c.visit_each.new.visitor c.visit_each.ensures in
+    let both = zip_seen (Delivers line) (PutsOnce g.F.Feed.put_made line) seen before after each in
     record {
-      delivered = delivered;
-      raised = delivery_raises line (list c.args.self.now) (list loop.self) delivered;
-      puts = swept_whole (PutsOnce g.F.Feed.put_made line) loop.place c.args.self.now.slots.items loop.self.slots.items loop.invariant.puts (search rules);
+      delivered = both.0;
+      raised = delivery_raises line (list c.args.self.now) (map seen after) both.0;
+      puts = both.1;
     }
