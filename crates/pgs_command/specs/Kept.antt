@@ -1,5 +1,5 @@
 -- A command that uses no area: both are as they were, and so are the feeds. Nothing is left open in what it tells.
-use Rattle.std.specs.Prelude.{◌≡◌, ℕ, Bool, false, List}
+use Rattle.std.specs.Prelude.{◌≡◌, ℕ, Bool, false, List, []}
 use Rattle.pgs_run_lines.specs.AreasKept.{KeepsAreas}
 use Rattle.pgs_run_lines.specs.Machine.{Told}
 use Rattle.pgs_command.specs.declared.status.Status.{Status}
@@ -17,4 +17,5 @@ without_areas reads_source MayEnd told = record {
   ReadsInVain = λ old status. ⊥;
   Leaves = λ old new status. KeepsAreas old.view new.view;
   Feeds = λ old new status. new.places ≡ old.places;
+  Gives = λ old new status deliveries. deliveries ≡ [];
 }

@@ -3,6 +3,7 @@ pub mod Areas
 pub mod Calls
 pub mod Ending
 pub mod ExitStatus
+pub mod Feeding
 pub mod Images
 pub mod Kept
 pub mod Promise

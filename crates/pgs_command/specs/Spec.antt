@@ -1,5 +1,6 @@
 -- What a command is: what it tells, what it may do, and what it leaves.
 use Rattle.std.specs.Prelude.{ℕ, Bool, List, Option}
+use Rattle.pgs_feed.specs.Deliveries.{Delivery}
 use Rattle.pgs_run_lines.specs.Machine.{Told}
 use Rattle.pgs_command.specs.declared.status.Status.{Status}
 use Rattle.pgs_command.specs.Areas.{Areas}
@@ -24,3 +25,5 @@ pub record CommandSpec : Type 1 where
   pub Leaves : Setting → Setting → Status → Type 0
   -- what its feeds took
   pub Feeds : Setting → Setting → Status → Type 0
+  -- what it gives to feeds, and how many puts were answered Ok before each line of it
+  pub Gives : Setting → Setting → Status → List Delivery → Type 0

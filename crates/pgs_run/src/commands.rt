@@ -1,13 +1,14 @@
 ghost use Rattle.std.specs.Prelude.{◌≤◌, ◌^◌, ◌≡◌, true};
 ghost use Rattle.pgs_command.specs.Calls.{fails_read, fails_world};
+ghost use Rattle.pgs_command.specs.Feeding.{Gives};
 ghost use Rattle.pgs_command.specs.Promise.{Promise};
 ghost use Rattle.pgs_command.specs.Setting.{setting_of};
-ghost use Rattle.pgs_feed.specs.Seen.{places};
+ghost use Rattle.pgs_feed.specs.Deliveries.{kind_of};
 ghost use Rattle.pgs_run.specs.Commands.{spec_of};
 ghost use Rattle.pgs_run_lines.specs.Calls.{Reads};
 
 use pgs_command::Status;
-use pgs_feed::FeedList;
+use pgs_feed::Feeds;
 use pgs_run_apply::run_apply;
 use pgs_run_checkpoint::run_checkpoint;
 use pgs_run_contain::run_contain;
@@ -17,22 +18,25 @@ use pgs_run_load::run_load;
 use pgs_run_store::{Dump, Explaining, run_reader};
 use pgs_run_try::{Judging, run_judging};
 use pgs_run_words::Command;
-use pgs_world::{Feed, Source, World};
+use pgs_world::{Source, World};
 use std::alloc::Global;
 
 /// Runs a command.
-pub fn run_command<S: Source, W: World, F: Feed>(
+pub fn run_command<S: Source, W: World, L: Feeds>(
     alloc: Global,
     command: Command,
     source: &mut S,
     world: &mut W,
-    feeds: &mut FeedList<F>,
+    feeds: &mut L,
     budget: u64,
 ) -> Status
     requires { budget ≤ 2 ^ 40 }
-    ensures promise { let seen = places F.taken F.faults in Promise (spec_of command) budget
-        (setting_of (S.left source.old) (S.faults source.old) (W.view world.old) (seen feeds.old))
-        (setting_of (S.left source.new) (S.faults source.new) (W.view world.new) (seen feeds.new)) result }
+    ensures promise { Promise (spec_of command) budget
+        (setting_of (S.left source.old) (S.faults source.old) (W.view world.old) (L.places feeds.old))
+        (setting_of (S.left source.new) (S.faults source.new) (W.view world.new) (L.places feeds.new)) result }
+    ensures gives { Gives (spec_of command) (kind_of L.places L.delivered)
+        (setting_of (S.left source.old) (S.faults source.old) (W.view world.old) (L.places feeds.old))
+        (setting_of (S.left source.new) (S.faults source.new) (W.view world.new) (L.places feeds.new)) feeds.old feeds.new result }
     ensures last { fails_world result ≡ true → W.failed world.new }
     ensures calls { Reads S.read_made budget source.old (fails_read result) source.new }
 {

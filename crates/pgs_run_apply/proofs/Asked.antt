@@ -5,7 +5,8 @@ use Rattle.pgs_base.specs.declared.limits.Limits.{Limits}
 use Rattle.pgs_base.specs.Graph.{Graph}
 use Rattle.pgs_codec.specs.declared.command.Command.TheVariants.{Txn as Transaction}
 use Rattle.pgs_feed.specs.Given.{AreGiven}
-use Rattle.pgs_feed.specs.Places.{Place}
+use Rattle.pgs_feed.specs.Deliveries.{IsDelivered, ListKind}
+use Rattle.pgs_feed.proofs.Deliveries.{delivered_one}
 use Rattle.pgs_feed.proofs.Given.{given_none}
 use Rattle.pgs_graph.specs.declared.operation.Txn.{Txn}
 use Rattle.pgs_run_lines.specs.declared.stop.Stop.{Stop}
@@ -76,7 +77,7 @@ kept_beside area old mid beside = area_beside area old mid beside.passes beside.
 
 -- ---- the store's answers
 
-module _ (before : StoreState) (number : ℕ) (refused : Bool) (txn : Txn) where
+module _ (kind : ListKind) (before : StoreState) (number : ℕ) (refused : Bool) (txn : Txn) where
   abbrev at : ApplyState
   at = state_with before number refused
 
@@ -84,17 +85,20 @@ module _ (before : StoreState) (number : ℕ) (refused : Bool) (txn : Txn) where
   asked = decision_on (verdict before.guard.schema) before.guard.graph txn
 
   -- the transaction is done, feeds were given its line, and its verdict line was put
-  pub take_done : {T : Type 0} (result : Result T (Stop Status)) (after : StoreState) (old mid new : View) (kept fed : List Place) (piece : List ℕ) → HoldsStore at old → IsTimed old → (done : IsDoneBy before after txn old mid)
+  pub take_done : {T : Type 0} (result : Result T (Stop Status)) (after : StoreState) (old mid new : View) (kept fed : kind.Feeds) (piece : List ℕ) → HoldsStore at old → IsTimed old → (done : IsDoneBy before after txn old mid)
       → (IsTrue old.honest → IsTrue old.tells_bytes → EachSince (IsAppliedIn before.guard before.journal txn) old mid)
-      → StaysBeside before.journal.area old mid → AreGiven (feed_line txn (before.guard.commits + 1) ∷ []) kept fed
+      → StaysBeside before.journal.area old mid → AreGiven (feed_line txn (before.guard.commits + 1) ∷ []) (kind.places kept) (kind.places fed)
+      → IsDelivered kind kept (record { line = feed_line txn (before.guard.commits + 1); puts = mid.puts }) fed
       → piece ≡ committed_line (number + 1) (before.guard.commits + 1) → PutsPiece piece result mid new
-      → Takes at (deciding at txn asked) result (state_with after (number + 1) refused) (scene_of old kept) (scene_of new fed)
-  take_done result after old mid new kept fed piece holds timed done stops beside given piece_is put =
+      → Takes kind at (deciding at txn asked) result (state_with after (number + 1) refused) (scene_of old kept) (scene_of new fed)
+  take_done result after old mid new kept fed piece holds timed done stops beside given delivered piece_is put =
       let now = state_with after (number + 1) refused in
-      subst (λ (d : Result Graph Rejection). Takes at (deciding at txn d) result now (scene_of old kept) (scene_of new fed))
+      subst (λ (d : Result Graph Rejection). Takes kind at (deciding at txn d) result now (scene_of old kept) (scene_of new fed))
       (sym (same_decision at txn holds.limits ∙ done.accepted))
-      (take_put at (deciding at txn (Ok done.graph)) piece now old mid new kept fed (ap (λ (bytes : List ℕ). bytes ∷ []) (sym piece_is))
+      (take_put kind at (deciding at txn (Ok done.graph)) piece now old mid new kept fed (ap (λ (bytes : List ℕ). bytes ∷ []) (sym piece_is))
       (ap (λ (store : StoreState). state_with store (number + 1) refused) done.store) given
+      (delivered_one kind (feed_line txn (before.guard.commits + 1)) old.puts kept fed
+      (subst (λ (n : ℕ). IsDelivered kind kept (record { line = feed_line txn (before.guard.commits + 1); puts = n }) fed) beside.no_put.puts delivered))
       (record {
         passes = beside.passes;
         holds = record { limits = holds.limits; whole = holds.whole; stands = done.stands };
@@ -106,11 +110,11 @@ module _ (before : StoreState) (number : ℕ) (refused : Bool) (txn : Txn) where
       }) result put)
 
   -- an area failed
-  take_struck : {T : Type 0} (now : ApplyState) (old mid : View) (kept : List Place) → HoldsStore at old → IsTimed old
+  take_struck : {T : Type 0} (now : ApplyState) (old mid : View) (kept : kind.Feeds) → HoldsStore at old → IsTimed old
       → RoseByOne old.area_faults mid.area_faults
       → (IsTrue old.honest → IsTrue old.tells_bytes → EachSince (IsAppliedIn before.guard before.journal txn) old mid)
       → StaysBeside before.journal.area old mid
-      → Takes {T = T} at (deciding at txn asked) (Err stops.DiskFault) now (scene_of old kept) (scene_of mid kept)
+      → Takes {T = T} kind at (deciding at txn asked) (Err stops.DiskFault) now (scene_of old kept) (scene_of mid kept)
   take_struck now old mid kept holds timed rose stops beside =
       let nothing = subst (λ (shown : Shown). ShowsAll (shown_of old) [] shown) (sym (shown_beside before.journal.area old mid beside)) (shows_none (shown_of old)) in
       record {
@@ -119,22 +123,22 @@ module _ (before : StoreState) (number : ℕ) (refused : Bool) (txn : Txn) where
         shows = record { first = []; later = (deciding at txn asked).pieces; parts = refl; shows = nothing };
         cause = (rose, refl, beside.no_put.put_faults);
         may = tt;
-        reached = record { holds = λ alive. absurd (true≢false alive); put = nothing; given = given_none kept };
+        reached = record { holds = λ alive. absurd (true≢false alive); put = nothing; given = given_none (kind.places kept); delivered = refl };
         stops = asked_left at txn asked old mid (same_decision at txn holds.limits) timed stops beside;
         beside = kept_beside before.journal.area old mid beside;
       }
 
   -- the transaction is rejected
   pub take_rejected : {T W : Type 0} (view : W → View) (result : Result T (Stop Status)) (now : ApplyState) (rejection : Rejection) (old mid : W)
-      (new : View) (kept fed : List Place) (after : StoreState) → HoldsStore at (view old) → decided before.guard txn ≡ Err rejection
+      (new : View) (kept fed : kind.Feeds) (after : StoreState) → HoldsStore at (view old) → decided before.guard txn ≡ Err rejection
       → after ≡ before → mid ≡ old
-      → (let t = state_with after number refused in Takes t (refusing t (rejection_text rejection standard)) result now (scene_of (view mid) kept) (scene_of new fed))
-      → Takes at (deciding at txn asked) result now (scene_of (view old) kept) (scene_of new fed)
+      → (let t = state_with after number refused in Takes kind t (refusing t (rejection_text rejection standard)) result now (scene_of (view mid) kept) (scene_of new fed))
+      → Takes kind at (deciding at txn asked) result now (scene_of (view old) kept) (scene_of new fed)
   take_rejected {W = W} view result now rejection old mid new kept fed after holds rejected same still taken =
-      subst (λ (d : Result Graph Rejection). Takes at (deciding at txn d) result now (scene_of (view old) kept) (scene_of new fed))
+      subst (λ (d : Result Graph Rejection). Takes kind at (deciding at txn d) result now (scene_of (view old) kept) (scene_of new fed))
       (sym (same_decision at txn holds.limits ∙ rejected))
-      (subst (λ (w : W). Takes at (refusing at (rejection_text rejection standard)) result now (scene_of (view w) kept) (scene_of new fed)) still
-      (subst (λ (store : StoreState). let t = state_with store number refused in Takes t (refusing t (rejection_text rejection standard)) result now (scene_of (view mid) kept) (scene_of new fed)) same taken))
+      (subst (λ (w : W). Takes kind at (refusing at (rejection_text rejection standard)) result now (scene_of (view w) kept) (scene_of new fed)) still
+      (subst (λ (store : StoreState). let t = state_with store number refused in Takes kind t (refusing t (rejection_text rejection standard)) result now (scene_of (view mid) kept) (scene_of new fed)) same taken))
 
   -- and what it needs
   pub still_holds : {W : Type 0} (view : W → View) (old mid : W) (after : StoreState) → HoldsStore at (view old) → after ≡ before → mid ≡ old
@@ -144,17 +148,17 @@ module _ (before : StoreState) (number : ℕ) (refused : Bool) (txn : Txn) where
       (subst (λ (store : StoreState). HoldsStore (state_with store number refused) (view old)) (sym same) holds)
 
   -- the store stopped the run
-  pub take_stopped : {T W : Type 0} (view : W → View) (stop : Stop Status) (now : ApplyState) (after : StoreState) (old mid : W) (kept : List Place)
+  pub take_stopped : {T W : Type 0} (view : W → View) (stop : Stop Status) (now : ApplyState) (after : StoreState) (old mid : W) (kept : kind.Feeds)
       → HoldsStore at (view old) → IsTimed (view old) → Asks (Err stop) before after txn (view old) (view mid)
       → (is_early (Err stop) ≡ true → mid ≡ old)
       → (IsTrue (view old).honest → IsTrue (view old).tells_bytes → EachSince (IsAppliedIn before.guard before.journal txn) (view old) (view mid))
       → StaysBeside before.journal.area (view old) (view mid)
-      → Takes {T = T} at (deciding at txn asked) (Err stop) now (scene_of (view old) kept) (scene_of (view mid) kept)
+      → Takes {T = T} kind at (deciding at txn asked) (Err stop) now (scene_of (view old) kept) (scene_of (view mid) kept)
   take_stopped view (stops.Ended status) now after old mid kept holds timed answer early left beside = absurd answer
   take_stopped view stops.ReadFault now after old mid kept holds timed answer early left beside = absurd answer
   take_stopped view stops.DiskFault now after old mid kept holds timed answer early left beside =
       take_struck now (view old) (view mid) kept holds timed answer left beside
   take_stopped view stops.PutFault now after old mid kept holds timed answer early left beside = absurd answer
   take_stopped {T = T} view stops.Memory now after old mid kept holds timed answer early left beside =
-      subst (λ w. Takes {T = T} at (deciding at txn asked) (Err stops.Memory) now (scene_of (view old) kept) (scene_of (view w) kept)) (sym (early refl))
-      (take_none at (view old) kept timed holds (deciding at txn asked) now)
+      subst (λ w. Takes {T = T} kind at (deciding at txn asked) (Err stops.Memory) now (scene_of (view old) kept) (scene_of (view w) kept)) (sym (early refl))
+      (take_none kind at (view old) kept timed holds (deciding at txn asked) now)

@@ -11,7 +11,7 @@ use Rattle.pgs_command.specs.declared.status.Status.TheVariants as statuses
 use Rattle.pgs_run_input.specs.Input.{text_limit, text_front}
 use Rattle.pgs_run_store.specs.Opening.{saved_in}
 use Rattle.pgs_run_apply.specs.Applying.{applying}
-use Rattle.pgs_run_apply.specs.Committing.{feed_lines}
+use Rattle.pgs_run_apply.specs.Committing.{deliveries}
 use Rattle.pgs_run_apply.specs.Outcome.{Outcome, outcome_of_all}
 use Rattle.pgs_run_apply.specs.Seen.{state_with}
 use Rattle.pgs_run_apply.specs.State.{ApplyState}
@@ -24,7 +24,7 @@ abbrev pub first_state : StoreState → ApplyState
 first_state it = state_with it 0 false
 
 -- what lines change and tell
-pub told_follows : (it : StoreState) (lines : List (List ℕ)) → Follows (first_state it) (outcome_of_all (first_state it) lines) (after (saved_in it) lines) (verdicts (saved_in it) lines) (feed_lines (verdict it.guard.schema) (start (saved_in it)) lines)
+pub told_follows : (it : StoreState) (lines : List (List ℕ)) → Follows (first_state it) (outcome_of_all (first_state it) lines) (after (saved_in it) lines) (verdicts (saved_in it) lines) (deliveries (verdict it.guard.schema) (start (saved_in it)) lines)
 told_follows it lines = follows_lines (verdict it.guard.schema) (start (saved_in it)) (first_state it) lines refl refl
 
 abbrev told_with : List (List ℕ) → Status → Told Status

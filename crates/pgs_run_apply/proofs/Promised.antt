@@ -4,7 +4,8 @@ use Rattle.std.proofs.lemmas.Bool.Decides.{nat_tests}
 use Rattle.std.proofs.lemmas.List.{append-nil}
 use Rattle.std.specs.List.{concat}
 use Rattle.pgs_feed.specs.Given.{AreGiven}
-use Rattle.pgs_feed.specs.Places.{Place, lost_count}
+use Rattle.pgs_feed.specs.Deliveries.{Delivery, ListKind, behind, lines_in}
+use Rattle.pgs_feed.specs.Places.{lost_count}
 use Rattle.pgs_run_lines.specs.declared.stop.Stop.{Stop}
 use Rattle.pgs_run_lines.specs.declared.stop.Stop.TheVariants as stops
 use Rattle.pgs_run_lines.specs.Ending.{Faults, HasCause as HasStopCause, faults_of}
@@ -15,6 +16,7 @@ use Rattle.pgs_run_lines.specs.Run.{EndsBy, Allows}
 use Rattle.pgs_run_lines.proofs.Showing.{shows_on, torn_puts}
 use Rattle.pgs_snapshot.specs.Choice.{chosen_area}
 use Rattle.pgs_store.specs.Stored.{StoreState}
+use Rattle.pgs_violation.specs.Violations.{verdict}
 use Rattle.pgs_world.specs.Disk.{Puts}
 use Rattle.pgs_world.specs.Moment.{IsTimed, IsQuiet, IsSettled, MakesNoPut, Passes, EachSince, StopsBy}
 use Rattle.pgs_world.specs.declared.area.Area.{Area}
@@ -25,9 +27,10 @@ use Rattle.pgs_command.specs.declared.status.Status.TheVariants.{Accepted, Refus
 use Rattle.pgs_command.specs.Areas.{areas_of}
 use Rattle.pgs_command.specs.Ending.{status_at}
 use Rattle.pgs_command.specs.Images.{KeepsArea, KeepsImages}
+use Rattle.pgs_command.specs.Feeding.{Gives}
 use Rattle.pgs_command.specs.Promise.{Promise}
 use Rattle.pgs_command.specs.Run.{EndsAs}
-use Rattle.pgs_command.specs.Setting.{SourceState}
+use Rattle.pgs_command.specs.Setting.{Setting, SourceState}
 use Rattle.pgs_command.proofs.Images.{area_of_images, area_on, each_images, images_areas, images_quiet, settled_images}
 use Rattle.pgs_command.proofs.Promising.{promise_reading}
 use Rattle.pgs_run_input.specs.Input.{text_limit}
@@ -36,18 +39,20 @@ use Rattle.pgs_run_store.specs.Refusing.{SavedStore}
 use Rattle.pgs_run_store.proofs.Reading as reading
 use Rattle.pgs_run_store.proofs.Shown.{shown_quiet, same_faults}
 use Rattle.pgs_run_apply.specs.Applying.{AreReached, IsLeft, applying, seen}
+use Rattle.pgs_run_apply.specs.Committing.{deliveries}
 use Rattle.pgs_run_apply.specs.Ending.{EndsRun, StaysStill}
+use Rattle.pgs_run_apply.specs.Giving.{IsGivenBy}
 use Rattle.pgs_run_apply.specs.Leaving.{FeedsApplied, LeavesApplied}
-use Rattle.pgs_run_apply.specs.Outcome.{HasPut, is_struck, is_torn, outcome_of_all}
+use Rattle.pgs_run_apply.specs.Outcome.{Outcome, HasPut, is_struck, is_torn, outcome_of_all}
 use Rattle.pgs_run_apply.specs.Rule.{applies_rule}
 use Rattle.pgs_run_apply.specs.Run.{Saves, SavesOn, IsAppliedAt, IsDecided, IsGrown, IsPutBy}
 use Rattle.pgs_run_apply.specs.Spec.{apply_spec}
 use Rattle.pgs_run_apply.specs.State.{ApplyState, HoldsStore}
-use Rattle.pgs_run_apply.specs.Told.{after, all_lines, is_done, last_piece, lost_piece, lost_pieces, told_apply, told_lines, verdicts, with_last}
+use Rattle.pgs_run_apply.specs.Told.{start, after, all_lines, is_done, last_piece, lost_piece, lost_pieces, told_apply, told_lines, verdicts, with_last}
 use Rattle.pgs_run_apply.proofs.Unmoved.{grown_kept, grown_same, quiet_applied, saves_on_same}
 use Rattle.pgs_run_apply.proofs.Ended.{by_last, by_stop, ended_cause, ends_last, is_full, is_read, may_end, still_shown, takes_last, unrefused}
 use Rattle.pgs_run_apply.proofs.Machine.{first_state, told_by_applying, told_follows}
-use Rattle.pgs_run_apply.proofs.Reading.{input_left, input_reached, reached_at}
+use Rattle.pgs_run_apply.proofs.Reading.{input_left, input_went, reached_at}
 use Rattle.pgs_run_apply.proofs.Saving.{Chooses, applied_at, chooses, left_applied, left_grown, same_store, saves_on}
 
 told_opened : (it : StoreState) (old mid : View) (input : List ℕ) (n lost : ℕ) → IsOpened it old mid → IsTrue old.tells_bytes → told_apply input (areas_of old) n lost ≡ with_last lost (told_lines input n (saved_in it))
@@ -119,7 +124,7 @@ abbrev IsShown : Triple → Triple → Type 0
 IsShown shown triple = (triple.a ≡ shown.a) × (triple.b ≡ shown.b) × (triple.output ≡ shown.output)
 
 -- what is known of it: its store was opened, its lines were run, and its last piece was put
-pub record RunsOn (it : StoreState) (s : ApplyState) (budget : ℕ) (before left : SourceState) (stop : Stop Status) (result : Status) (old : View) (mid now : Scene (List Place)) (new : View) : Type 0 where
+pub record RunsOn (kind : ListKind) (it : StoreState) (s : ApplyState) (budget : ℕ) (before left : SourceState) (stop : Stop Status) (result : Status) (old : View) (mid now : Scene kind.Feeds) (new : View) : Type 0 where
   pub timed : IsTimed old
   pub opened : IsOpened it old mid.view
   pub quiet : IsQuiet old mid.view
@@ -128,12 +133,12 @@ pub record RunsOn (it : StoreState) (s : ApplyState) (budget : ℕ) (before left
   pub ends : (input : List ℕ) → before.left ≡ Some input → over.EndsAs (told_by applying text_limit s input) (shown_of mid.view) input budget left.left stop (shown_of now.view)
   pub by : EndsBy applying budget before.left left.left stop
   pub cause : HasStopCause (faults_of before.faults mid.view) (faults_of left.faults now.view) stop
-  pub allows : Allows applying applies_rule text_limit s budget before.left left.left stop mid now
-  pub last : EndsRun (last_piece (status_at stop) (lost_count now.kept)) (status_at stop) now.view result new
+  pub allows : Allows applying (applies_rule kind) text_limit s budget before.left left.left stop mid now
+  pub last : EndsRun (last_piece (status_at stop) (lost_count (kind.places now.kept))) (status_at stop) now.view result new
 
-module _ (it : StoreState) (budget : ℕ) (before left : SourceState) (stop : Stop Status) (result : Status) (old : View) (mid now : Scene (List Place)) (new : View) (r : RunsOn it (first_state it) budget before left stop result old mid now new) where
+module _ (kind : ListKind) (it : StoreState) (budget : ℕ) (before left : SourceState) (stop : Stop Status) (result : Status) (old : View) (mid now : Scene kind.Feeds) (new : View) (r : RunsOn kind it (first_state it) budget before left stop result old mid now new) where
   abbrev lost : ℕ
-  lost = lost_count now.kept
+  lost = lost_count (kind.places now.kept)
 
   abbrev Last : Stop Status → Type 0
   Last x = EndsRun (last_piece (status_at x) lost) (status_at x) now.view result new
@@ -154,7 +159,7 @@ module _ (it : StoreState) (budget : ℕ) (before left : SourceState) (stop : St
   settles : IsSettled old → (result ≡ DiskFault → ⊥) → IsSettled new
   settles settled alive =
       let a = r.allows in
-      let reached = reached_at (first_state it) budget left.left a.bytes a.lines a.later stop a.extent mid now a.far a.allowed.reached in
+      let reached = reached_at kind (first_state it) budget left.left a.bytes a.lines a.later stop a.extent mid now a.far a.allowed.reached in
       settled_images now.view new ((reached.reached.holds (struck alive)).stands.settled (passes.honest ∙ settled.honest) (passes.tells_bytes ∙ settled.tells_bytes)) kept
 
   module _ (tells : IsTrue old.tells_bytes) where
@@ -186,8 +191,8 @@ module _ (it : StoreState) (budget : ℕ) (before left : SourceState) (stop : St
         (each_images now.view new P (passes.honest ∙ settled.honest) (grown_same (saved_in it) old.shown) kept (each_now old now.view P passes so_far))
 
     module _ (input : List ℕ) (is : before.left ≡ Some input) where
-      went : AreReached (first_state it) (all_lines input) (is_done (status_at stop)) (Some stop) mid now
-      went = input_reached (first_state it) input budget before.left left.left stop mid now is r.allows
+      abbrev went : AreReached kind (first_state it) (all_lines input) (is_done (status_at stop)) (Some stop) mid now
+      went = (input_went kind (first_state it) input budget before.left left.left stop mid now is r.allows).all
 
       follows : (lines : List (List ℕ)) → (outcome_of_all (first_state it) lines).pieces ≡ verdicts (saved_in it) lines
       follows lines = (told_follows it lines).pieces
@@ -196,16 +201,21 @@ module _ (it : StoreState) (budget : ℕ) (before left : SourceState) (stop : St
       stands_on : (lines : List (List ℕ)) → HoldsStore (outcome_of_all (first_state it) lines).state now.view → SavesOn (saved_in it) (after (saved_in it) lines) old.shown now.view.shown
       stands_on lines holds = saves_on it r.opened.limits r.opened.schema old.shown chosen lines now.view.shown (holds.stands.saved (passes.tells_bytes ∙ tells))
 
+      -- what was put
+      put_went : IsPutBy (saved_in it) went.until went.later lost (shown_of old) (shown_of new) result
+      put_went =
+          put_by (saved_in it) went.until went.later lost (shown_of old) now.view new result budget before.left left.left stop r.by
+          (subst (λ (start : Shown). HasPut (is_torn (Some stop)) start (verdicts (saved_in it) went.until) (shown_of now.view)) (shown_quiet old mid.view r.quiet r.no_put)
+          (subst (λ (pieces : List (List ℕ)). HasPut (is_torn (Some stop)) (shown_of mid.view) pieces (shown_of now.view)) (follows went.until) went.reached.put)) went.whole r.last
+
       -- how it ends
-      decided : IsDecided (saved_in it) input lost old new mid.kept now.kept result
+      decided : IsDecided (saved_in it) input lost old new (kind.places mid.kept) (kind.places now.kept) result
       decided = record {
         until = went.until;
         later = went.later;
         parts = went.parts;
-        put = put_by (saved_in it) went.until went.later lost (shown_of old) now.view new result budget before.left left.left stop r.by
-            (subst (λ (start : Shown). HasPut (is_torn (Some stop)) start (verdicts (saved_in it) went.until) (shown_of now.view)) (shown_quiet old mid.view r.quiet r.no_put)
-            (subst (λ (pieces : List (List ℕ)). HasPut (is_torn (Some stop)) (shown_of mid.view) pieces (shown_of now.view)) (follows went.until) went.reached.put)) went.whole r.last;
-        given = subst (λ (lines : List (List ℕ)). AreGiven lines mid.kept now.kept) (told_follows it went.until).given went.reached.given;
+        put = put_went;
+        given = subst (λ (ds : List Delivery). AreGiven (lines_in ds) (kind.places mid.kept) (kind.places now.kept)) (told_follows it went.until).given went.reached.given;
         saves = λ alive. saves_on_same (saved_in it) (after (saved_in it) went.until) old.shown now.view.shown new.shown kept.a kept.b (stands_on went.until (went.reached.holds (struck alive)));
       }
 
@@ -220,13 +230,13 @@ module _ (it : StoreState) (budget : ℕ) (before left : SourceState) (stop : St
             (λ c left.
             left_applied it r.opened.limits r.opened.schema old.shown chosen input lost c mid.view.tells_output (r.quiet.passes.tells_output ∙ output)
             (subst (λ (t : Triple). IsLeft (first_state it) (all_lines input) mid.view.tells_output t.output c) r.quiet.shown left))
-            (input_left (first_state it) input budget before.left left.left stop mid now is r.allows (r.quiet.passes.honest ∙ settled.honest) (r.quiet.passes.tells_bytes ∙ settled.tells_bytes)))
+            (input_left kind (first_state it) input budget before.left left.left stop mid now is r.allows (r.quiet.passes.honest ∙ settled.honest) (r.quiet.passes.tells_bytes ∙ settled.tells_bytes)))
 
         nothing_more : StaysStill now.view new → EachSince Stops old new
         nothing_more still =
             each_on old now.view new Stops passes still.quiet.passes so_far (each_quiet now.view new Stops (passes.honest ∙ settled.honest) still.quiet (each_now old now.view Stops passes so_far))
 
-        module _ (all : AreReached (first_state it) (all_lines input) true None mid now) where
+        module _ (all : AreReached kind (first_state it) (all_lines input) true None mid now) where
           -- the last piece is put on the store after all lines
           put_applied : (piece : List ℕ) → lost_piece lost ≡ Some piece → StopsBy (Puts piece) now.view new → EachSince Stops now.view new
           put_applied piece is_last steps =
@@ -256,18 +266,18 @@ module _ (it : StoreState) (budget : ℕ) (before left : SourceState) (stop : St
                   (put.added ∙ ap (λ (o : List ℕ). o ++ put.front) (is.2 ∙ shown) ∙ append_assoc old.shown.output (concat (verdicts (saved_in it) all.until)) put.front) on
                   (inr (inr (record { all = all.whole refl; back = put.back; piece = ap pieces_in is_last ∙ ap (λ (p : List ℕ). p ∷ []) put.parts; saves = on.saves })))
 
-          behind : (piece : Option (List ℕ)) (status : Status) → lost_piece lost ≡ piece → EndsRun piece status now.view result new → EachSince Stops old new
-          behind None status is ends = nothing_more ends.1
-          behind (Some piece) status is (inl memory) = nothing_more memory.1
-          behind (Some piece) status is (inr put) = each_on old now.view new Stops passes put.areas.passes so_far (put_applied piece is put.stops)
+          behind_lines : (piece : Option (List ℕ)) (status : Status) → lost_piece lost ≡ piece → EndsRun piece status now.view result new → EachSince Stops old new
+          behind_lines None status is ends = nothing_more ends.1
+          behind_lines (Some piece) status is (inl memory) = nothing_more memory.1
+          behind_lines (Some piece) status is (inr put) = each_on old now.view new Stops passes put.areas.passes so_far (put_applied piece is put.stops)
 
-        done_stops : (status : Status) → AreReached (first_state it) (all_lines input) true (Some (stops.Ended status)) mid now → EndsRun (lost_piece lost) status now.view result new → EachSince Stops old new
+        done_stops : (status : Status) → AreReached kind (first_state it) (all_lines input) true (Some (stops.Ended status)) mid now → EndsRun (lost_piece lost) status now.view result new → EachSince Stops old new
         done_stops status all =
-            behind (record { until = all.until; later = all.later; parts = all.parts; whole = all.whole; reached = record { holds = all.reached.holds; put = all.reached.put; given = all.reached.given } }) (lost_piece lost) status refl
+            behind_lines (record { until = all.until; later = all.later; parts = all.parts; whole = all.whole; reached = record { holds = all.reached.holds; put = all.reached.put; given = all.reached.given; delivered = all.reached.delivered } }) (lost_piece lost) status refl
 
         applied : EachSince Stops old new
         applied =
-            by_stop (λ (x : Stop Status). AreReached (first_state it) (all_lines input) (is_done (status_at x)) (Some x) mid now → Last x → EachSince Stops old new) budget before.left left.left
+            by_stop (λ (x : Stop Status). AreReached kind (first_state it) (all_lines input) (is_done (status_at x)) (Some x) mid now → Last x → EachSince Stops old new) budget before.left left.left
             (λ end. done_stops Accepted) (λ end. done_stops Refused) (λ bytes taken full reached last. nothing_more last.1) (λ reached last. nothing_more last.1) (λ reached last. nothing_more last.1)
             (λ reached last. nothing_more last.1) (λ reached last. nothing_more last.1) stop r.by went r.last
 
@@ -285,9 +295,9 @@ module _ (it : StoreState) (budget : ℕ) (before left : SourceState) (stop : St
     beside = beside;
   }
 
-  feeds : FeedsApplied before.left old new mid.kept now.kept result
+  feeds : FeedsApplied before.left old new (kind.places mid.kept) (kind.places now.kept) result
   feeds = record {
-    decided = λ tells input known is saves. subst (λ (store : SavedStore). IsDecided store input lost old new mid.kept now.kept result) (same known saves tells) (decided tells input is);
+    decided = λ tells input known is saves. subst (λ (store : SavedStore). IsDecided store input lost old new (kind.places mid.kept) (kind.places now.kept) result) (same known saves tells) (decided tells input is);
     unsaved = λ tells none. absurd (none (saved_in it) (here tells));
   }
 
@@ -297,9 +307,9 @@ module _ (it : StoreState) (budget : ℕ) (before left : SourceState) (stop : St
       (ends_last budget before.left left.left lost stop now.view new result r.by r.last (shown_of mid.view) input (told_by applying text_limit (first_state it) input) (λ n. told_lines input n (saved_in it))
       (λ n. told_apply input (areas_of old) n lost) is (told_by_applying it input) (λ n. told_opened it old mid.view input n lost r.opened tells) (told_cut (saved_in it) input) (r.ends input is))
 
-  promised_on : Promise apply_spec budget (record { source = before; view = old; places = mid.kept }) (record { source = left; view = new; places = now.kept }) result
+  promised_on : Promise apply_spec budget (record { source = before; view = old; places = kind.places mid.kept }) (record { source = left; view = new; places = kind.places now.kept }) result
   promised_on =
-      promise_reading apply_spec budget (record { source = before; view = old; places = mid.kept }) (record { source = left; view = new; places = now.kept }) result refl
+      promise_reading apply_spec budget (record { source = before; view = old; places = kind.places mid.kept }) (record { source = left; view = new; places = kind.places now.kept }) result refl
       (record {
         choice = tt;
         right = tt;
@@ -316,13 +326,61 @@ module _ (it : StoreState) (budget : ℕ) (before left : SourceState) (stop : St
         feeds = feeds;
       })
 
--- in the state of the taker, and by the places of its feeds
-pub promised : (it : StoreState) (s : ApplyState) (budget : ℕ) (before left : SourceState) (stop : Stop Status) (result : Status) (old : View) (mid now : Scene (List Place)) (new : View) (places fed : List Place) → s ≡ first_state it → mid.kept ≡ places → now.kept ≡ fed
-    → RunsOn it s budget before left stop result old mid now new → Promise apply_spec budget (record { source = before; view = old; places = places }) (record { source = left; view = new; places = fed }) result
-promised it s budget before left stop result old mid now new places fed first was_is now_is ran =
-    subst (λ (p : List Place). Promise apply_spec budget (record { source = before; view = old; places = p }) (record { source = left; view = new; places = fed }) result) was_is
-    (subst (λ (p : List Place). Promise apply_spec budget (record { source = before; view = old; places = mid.kept }) (record { source = left; view = new; places = p }) result) now_is
-    (promised_on it budget before left stop result old mid now new (subst (λ (t : ApplyState). RunsOn it t budget before left stop result old mid now new) first ran)))
+  -- ---- what feeds were given
+
+  abbrev reached : AreReached kind (first_state it) (seen r.allows.lines r.allows.extent) (is_done (status_at stop)) (Some stop) mid now
+  reached = reached_at kind (first_state it) budget left.left r.allows.bytes r.allows.lines r.allows.later stop r.allows.extent mid now r.allows.far r.allows.allowed.reached
+
+  abbrev given : List Delivery
+  given = behind mid.view.puts (outcome_of_all (first_state it) reached.until).given
+
+  -- by some lines that come to the same
+  given_by : (lines : List (List ℕ)) → outcome_of_all (first_state it) reached.until ≡ outcome_of_all (first_state it) lines → given ≡ behind old.puts (deliveries (verdict it.guard.schema) (start (saved_in it)) lines)
+  given_by lines alike =
+      ap (λ (o : Outcome). behind mid.view.puts o.given) alike ∙ ap (λ (ds : List Delivery). behind mid.view.puts ds) (told_follows it lines).given
+      ∙ ap (λ (n : ℕ). behind n (deliveries (verdict it.guard.schema) (start (saved_in it)) lines)) r.no_put.puts
+
+  gives_decided : (tells : IsTrue old.tells_bytes) (input : List ℕ) → before.left ≡ Some input → IsGivenBy (saved_in it) input lost old new result given
+  gives_decided tells input is = record {
+    until = (went tells input is).until;
+    later = (went tells input is).later;
+    parts = (went tells input is).parts;
+    put = put_went tells input is;
+    is = given_by (went tells input is).until (input_went kind (first_state it) input budget before.left left.left stop mid now is r.allows).same;
+  }
+
+  gives_on : Gives apply_spec kind (record { source = before; view = old; places = kind.places mid.kept }) (record { source = left; view = new; places = kind.places now.kept }) mid.kept now.kept result
+  gives_on = record {
+    deliveries = given;
+    right = record {
+      decided = λ tells input known is saves. subst (λ (store : SavedStore). IsGivenBy store input lost old new result given) (same known saves tells) (gives_decided tells input is);
+      unsaved = λ tells none. absurd (none (saved_in it) (here tells));
+      before = inr (record { it = saved_in it; lines = reached.until; is = given_by reached.until refl });
+    };
+    made = reached.reached.delivered;
+  }
+
+-- in the state of the taker, and by its list of feeds
+module _ (kind : ListKind) (it : StoreState) (s : ApplyState) (budget : ℕ) (before left : SourceState) (stop : Stop Status) (result : Status) (old : View) (mid now : Scene kind.Feeds) (new : View) (feeds fed : kind.Feeds)
+    (first : s ≡ first_state it) (was_is : mid.kept ≡ feeds) (now_is : now.kept ≡ fed) (ran : RunsOn kind it s budget before left stop result old mid now new) where
+  abbrev from : kind.Feeds → Setting
+  from list = record { source = before; view = old; places = kind.places list }
+
+  abbrev to : kind.Feeds → Setting
+  to list = record { source = left; view = new; places = kind.places list }
+
+  ran_first : RunsOn kind it (first_state it) budget before left stop result old mid now new
+  ran_first = subst (λ (t : ApplyState). RunsOn kind it t budget before left stop result old mid now new) first ran
+
+  pub promised : Promise apply_spec budget (from feeds) (to fed) result
+  promised =
+      subst (λ (p : kind.Feeds). Promise apply_spec budget (from p) (to fed) result) was_is
+      (subst (λ (p : kind.Feeds). Promise apply_spec budget (from mid.kept) (to p) result) now_is (promised_on kind it budget before left stop result old mid now new ran_first))
+
+  pub gives : Gives apply_spec kind (from feeds) (to fed) feeds fed result
+  gives =
+      subst (λ (p : kind.Feeds). Gives apply_spec kind (from p) (to fed) p fed result) was_is
+      (subst (λ (p : kind.Feeds). Gives apply_spec kind (from mid.kept) (to p) mid.kept p result) now_is (gives_on kind it budget before left stop result old mid now new ran_first))
 
 -- the same status, and the same number of lost feeds
 pub last_as : (lost same : ℕ) (status at : Status) (old new : View) (result : Status) → lost ≡ same → status ≡ at → EndsRun (last_piece status lost) status old result new → EndsRun (last_piece at same) at old result new

@@ -4,7 +4,7 @@ use Rattle.std.proofs.lemmas.Bool.{false≢true}
 use Rattle.std.proofs.lemmas.List.{append-nil, drop-map, map-append, take-append-drop, take-map}
 use Rattle.std.proofs.Math.Seq.{drop-append_seam, take-append_seam}
 use Rattle.std.specs.List.{concat}
-use Rattle.pgs_feed.specs.Places.{Place}
+use Rattle.pgs_feed.specs.Deliveries.{ListKind}
 use Rattle.pgs_run_lines.specs.declared.stop.Stop.{Stop}
 use Rattle.pgs_run_lines.specs.declared.stop.Stop.TheVariants as stops
 use Rattle.pgs_run_lines.specs.Input.{lines_of, kept_of}
@@ -59,17 +59,6 @@ no_fronts (line ∷ lines) is = absurd (cc)
 -- ---- what is known by the fronts of lines is known by the lines
 
 module _ (s : ApplyState) where
-  reached_fronts : (lines : List (List ℕ)) (all : Bool) (stop : Option (Stop Status)) (old new : Scene (List Place)) → AreReached s (map text_front lines) all stop old new → AreReached s lines all stop old new
-  reached_fronts lines all stop old new r =
-      let at = split lines r.until r.later r.parts in
-      record {
-        until = at.until;
-        later = at.more;
-        parts = at.parts;
-        whole = λ done. no_fronts at.more (sym at.later_is ∙ r.whole done);
-        reached = subst (λ (o : Outcome). IsReached o stop old new) (ap (outcome_of_all s) at.first_is ∙ outcome_fronts s at.until) r.reached;
-      }
-
   within_front : (lines later : List (List ℕ)) (told : Bool) (out : List ℕ) (c : Triple) → later ≡ map text_front lines → IsWithin s later told out c → IsWithin s lines told out c
   within_front [] later told out c is within = let no : within.line ∷ within.more ≡ [] = sym within.next ∙ is in absurd (cc)
   within_front (line ∷ lines) later told out c is within =
@@ -157,6 +146,26 @@ module _ (input bytes : List ℕ) (before left : Option (List ℕ)) (told : befo
   seen_of s budget lines later stop (AtEnd rest at) parts far =
       subst (λ (last : List ℕ). Seen input (status_at stop) (lines ++ last ∷ [])) (sym far.1) (seen_all lines later (status_at stop) parts far.2 far.3)
 
+-- some first lines of the input come to what these fronts come to; all of them where it was read to its end
+pub record Took (s : ApplyState) (input : List ℕ) (done : Bool) (fronts : List (List ℕ)) : Type 0 where
+  pub until : List (List ℕ)
+  pub later : List (List ℕ)
+  pub parts : all_lines input ≡ until ++ later
+  pub whole : done ≡ true → later ≡ []
+  pub same : outcome_of_all s fronts ≡ outcome_of_all s until
+
+took_fronts : (s : ApplyState) (input : List ℕ) (status : Status) (lines : List (List ℕ)) (at : Seen input status lines) (fronts later : List (List ℕ)) → lines ≡ fronts ++ later → (is_done status ≡ true → later ≡ [])
+    → Took s input (is_done status) fronts
+took_fronts s input status lines at fronts later parts whole =
+    let cut = split at.first fronts later (sym at.is ∙ parts) in
+    record {
+      until = cut.until;
+      later = cut.more ++ at.more;
+      parts = at.parts ∙ ap (λ (xs : List (List ℕ)). xs ++ at.more) cut.parts ∙ append_assoc cut.until cut.more at.more;
+      whole = λ done. ap (λ (xs : List (List ℕ)). cut.more ++ xs) (at.all done) ∙ append-nil cut.more ∙ no_fronts cut.more (sym cut.later_is ∙ whole done);
+      same = ap (outcome_of_all s) cut.first_is ∙ outcome_fronts s cut.until;
+    }
+
 -- ---- by how the run stopped
 
 done_all : (stop : Stop Status) → is_done (status_at stop) ≡ true → is_all (Some stop) ≡ true
@@ -166,53 +175,64 @@ done_all stops.DiskFault done = done
 done_all stops.PutFault done = done
 done_all stops.Memory done = done
 
-module _ (s : ApplyState) (lines : List (List ℕ)) (old new : Scene (List Place)) where
+module _ (kind : ListKind) (s : ApplyState) (lines : List (List ℕ)) (old new : Scene kind.Feeds) where
   abbrev StoppedAt : Bool → Option (Stop Status) → Type 0
-  StoppedAt all stop = AreReached s lines all stop old new
+  StoppedAt all stop = AreReached kind s lines all stop old new
 
   all_so : (all same : Bool) (stop : Option (Stop Status)) → (same ≡ true → all ≡ true) → StoppedAt all stop → StoppedAt same stop
   all_so all same stop so r = record { until = r.until; later = r.later; parts = r.parts; whole = λ done. r.whole (so done); reached = r.reached }
 
   -- behind all lines that were taken
   between : (budget : ℕ) (bytes : List ℕ) (later : List (List ℕ)) (stop : Stop Status) → IsBetween applying s budget bytes lines later stop → StoppedAt true None → StoppedAt true (Some stop)
-  between budget bytes later (stops.Ended status) far r = record { until = r.until; later = r.later; parts = r.parts; whole = r.whole; reached = record { holds = r.reached.holds; put = r.reached.put; given = r.reached.given } }
-  between budget bytes later stops.ReadFault far r = record { until = r.until; later = r.later; parts = r.parts; whole = r.whole; reached = record { holds = r.reached.holds; put = r.reached.put; given = r.reached.given } }
+  between budget bytes later (stops.Ended status) far r = record { until = r.until; later = r.later; parts = r.parts; whole = r.whole; reached = record { holds = r.reached.holds; put = r.reached.put; given = r.reached.given; delivered = r.reached.delivered } }
+  between budget bytes later stops.ReadFault far r = record { until = r.until; later = r.later; parts = r.parts; whole = r.whole; reached = record { holds = r.reached.holds; put = r.reached.put; given = r.reached.given; delivered = r.reached.delivered } }
   between budget bytes later stops.DiskFault far r = absurd far
   between budget bytes later stops.PutFault far r = absurd far
-  between budget bytes later stops.Memory far r = record { until = r.until; later = r.later; parts = r.parts; whole = r.whole; reached = record { holds = r.reached.holds; put = r.reached.put; given = r.reached.given } }
+  between budget bytes later stops.Memory far r = record { until = r.until; later = r.later; parts = r.parts; whole = r.whole; reached = record { holds = r.reached.holds; put = r.reached.put; given = r.reached.given; delivered = r.reached.delivered } }
 
   -- at the stop that was given there
   stopped : (at stop : Stop Status) → at ≡ stop → StoppedAt (is_all (Some at)) (Some at) → StoppedAt (is_done (status_at stop)) (Some stop)
   stopped at stop same r = all_so (is_all (Some stop)) (is_done (status_at stop)) (Some stop) (done_all stop) (subst (λ (x : Stop Status). StoppedAt (is_all (Some x)) (Some x)) same r)
 
-pub reached_at : (s : ApplyState) (budget : ℕ) (left : Option (List ℕ)) (bytes : List ℕ) (lines later : List (List ℕ)) (stop : Stop Status) (extent : Extent Status) (old new : Scene (List Place))
-    → IsFar applying text_limit s budget left bytes lines later stop extent → AreReached s (seen lines extent) (is_all (stop_in extent)) (stop_in extent) old new
-    → AreReached s (seen lines extent) (is_done (status_at stop)) (Some stop) old new
-reached_at s budget left bytes lines later stop Whole old new far r =
-    all_so s lines old new true (is_done (status_at stop)) (Some stop) (λ done. refl) (between s lines old new budget bytes later stop far r)
-reached_at s budget left bytes lines later stop (Inside at) old new far r = stopped s lines old new at stop far.0 r
-reached_at s budget left bytes lines later stop (AtEnd rest at) old new far r = stopped s (lines ++ rest ∷ []) old new at stop far.0 r
+pub reached_at : (kind : ListKind) (s : ApplyState) (budget : ℕ) (left : Option (List ℕ)) (bytes : List ℕ) (lines later : List (List ℕ)) (stop : Stop Status) (extent : Extent Status) (old new : Scene kind.Feeds)
+    → IsFar applying text_limit s budget left bytes lines later stop extent → AreReached kind s (seen lines extent) (is_all (stop_in extent)) (stop_in extent) old new
+    → AreReached kind s (seen lines extent) (is_done (status_at stop)) (Some stop) old new
+reached_at kind s budget left bytes lines later stop Whole old new far r =
+    all_so kind s lines old new true (is_done (status_at stop)) (Some stop) (λ done. refl) (between kind s lines old new budget bytes later stop far r)
+reached_at kind s budget left bytes lines later stop (Inside at) old new far r = stopped kind s lines old new at stop far.0 r
+reached_at kind s budget left bytes lines later stop (AtEnd rest at) old new far r = stopped kind s (lines ++ rest ∷ []) old new at stop far.0 r
 
 -- ---- the run
 
-module _ (s : ApplyState) (input : List ℕ) (budget : ℕ) (before left : Option (List ℕ)) (stop : Stop Status) (old new : Scene (List Place)) (is : before ≡ Some input)
-    (allows : Allows applying applies_rule text_limit s budget before left stop old new) where
+module _ (kind : ListKind) (s : ApplyState) (input : List ℕ) (budget : ℕ) (before left : Option (List ℕ)) (stop : Stop Status) (old new : Scene kind.Feeds) (is : before ≡ Some input)
+    (allows : Allows applying (applies_rule kind) text_limit s budget before left stop old new) where
   at : Seen input (status_at stop) (seen allows.lines allows.extent)
   at = seen_of input allows.bytes before left is allows.taken s budget allows.lines allows.later stop allows.extent allows.parts allows.far
 
-  -- some first lines of the input were done; all of them where it was read to its end
-  pub input_reached : AreReached s (all_lines input) (is_done (status_at stop)) (Some stop) old new
-  input_reached =
-      let all = is_done (status_at stop) in
-      let reached = reached_at s budget left allows.bytes allows.lines allows.later stop allows.extent old new allows.far allows.allowed.reached in
-      let first = reached_fronts s at.first all (Some stop) old new (subst (λ (xs : List (List ℕ)). AreReached s xs all (Some stop) old new) at.is reached) in
-      record {
-        until = first.until;
-        later = first.later ++ at.more;
-        parts = at.parts ∙ ap (λ (xs : List (List ℕ)). xs ++ at.more) first.parts ∙ append_assoc first.until first.later at.more;
-        whole = λ done. ap (λ (xs : List (List ℕ)). first.later ++ xs) (at.all done) ∙ append-nil first.later ∙ first.whole done;
-        reached = first.reached;
-      }
+  -- what the run reached
+  abbrev pub reached : AreReached kind s (seen allows.lines allows.extent) (is_done (status_at stop)) (Some stop) old new
+  reached = reached_at kind s budget left allows.bytes allows.lines allows.later stop allows.extent old new allows.far allows.allowed.reached
+
+  -- some first lines of the input come to it
+  took : Took s input (is_done (status_at stop)) reached.until
+  took = took_fronts s input (status_at stop) (seen allows.lines allows.extent) at reached.until reached.later reached.parts reached.whole
+
+  -- some first lines of the input were done, all of them where it was read to its end; they come to what was reached
+  pub record Went : Type 0 where
+    pub all : AreReached kind s (all_lines input) (is_done (status_at stop)) (Some stop) old new
+    pub same : outcome_of_all s reached.until ≡ outcome_of_all s all.until
+
+  pub input_went : Went
+  input_went = record {
+    all = record {
+      until = took.until;
+      later = took.later;
+      parts = took.parts;
+      whole = took.whole;
+      reached = subst (λ (o : Outcome). IsReached kind o (Some stop) old new) took.same reached.reached;
+    };
+    same = took.same;
+  }
 
   -- and what a stop leaves of them
   pub input_left : IsTrue old.view.honest → IsTrue old.view.tells_bytes → EachSince (IsLeft s (all_lines input) old.view.tells_output old.view.shown.output) old.view new.view

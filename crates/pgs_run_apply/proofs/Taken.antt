@@ -4,7 +4,7 @@ use Rattle.std.specs.Result.{IsErrAnd}
 use Rattle.std.proofs.lemmas.Result.{err_from_is_err_and}
 use Rattle.pgs_base.specs.declared.limits.Limits.{Limits}
 use Rattle.pgs_feed.specs.Given.{AreGiven}
-use Rattle.pgs_feed.specs.Places.{Place}
+use Rattle.pgs_feed.specs.Deliveries.{AreDelivered, ListKind, behind, lines_in}
 use Rattle.pgs_feed.proofs.Given.{given_none}
 use Rattle.pgs_run_lines.specs.AreasKept.{KeepsAreas}
 use Rattle.pgs_run_lines.specs.declared.stop.Stop.{Stop}
@@ -71,10 +71,10 @@ here_left s o view timed holds honest told =
 
 -- ---- the line
 
-module _ (s : ApplyState) (o : Outcome) (piece : List ℕ) (now : ApplyState) (old mid new : View) (kept fed : List Place)
-    (one : o.pieces ≡ piece ∷ []) (state : now ≡ o.state) (given : AreGiven o.given kept fed) (ready : IsReady s o old mid) where
+module _ (kind : ListKind) (s : ApplyState) (o : Outcome) (piece : List ℕ) (now : ApplyState) (old mid new : View) (kept fed : kind.Feeds)
+    (one : o.pieces ≡ piece ∷ []) (state : now ≡ o.state) (given : AreGiven (lines_in o.given) (kind.places kept) (kind.places fed)) (delivered : AreDelivered kind kept (behind old.puts o.given) fed) (ready : IsReady s o old mid) where
   abbrev Ends : {T : Type 0} → Result T (Stop Status) → Type 0
-  Ends result = OnOk result (now ≡ o.state) × IfErr result IsFault × IsReached (come_to s o (stop_of result)) (stop_of result) (scene_of old kept) (scene_of new fed)
+  Ends result = OnOk result (now ≡ o.state) × IfErr result IsFault × IsReached kind (come_to s o (stop_of result)) (stop_of result) (scene_of old kept) (scene_of new fed)
 
   put_ends : {T : Type 0} (result : Result T (Stop Status)) → PutsPiece piece result mid new → Ends result
   put_ends (Ok done) put = (
@@ -85,18 +85,20 @@ module _ (s : ApplyState) (o : Outcome) (piece : List ℕ) (now : ApplyState) (o
       put = subst (λ (pieces : List (List ℕ)). ShowsAll (shown_of old) pieces (shown_of new)) (sym one)
           (subst (λ (start : Shown). ShowsAll start (piece ∷ []) (shown_of new)) ready.shown put.shows);
       given = given;
+      delivered = delivered;
     },
   )
   put_ends (Err stop) put =
       let torn = torn_puts (shown_of mid) (shown_of new) piece (subst (λ (x : Stop Status). Shows (shown_of mid) (piece ∷ []) x (shown_of new)) put.fault put.shows) in
       let was : mid.puts ≡ old.puts = ap (λ (shown : Shown). shown.puts) ready.shown in
       let count : length o.pieces ≡ 1 = ap length one in
-      let reached : IsReached o (Some stops.PutFault) (scene_of old kept) (scene_of new fed) = record {
+      let reached : IsReached kind o (Some stops.PutFault) (scene_of old kept) (scene_of new fed) = record {
         holds = λ alive. put_holds o.state mid new ready.holds put.areas;
         put = omega (arith, was, torn, count);
         given = given;
+        delivered = delivered;
       } in
-      (tt, subst IsFault (sym put.fault) tt, subst (λ (x : Stop Status). IsReached (come_to s o (Some x)) (Some x) (scene_of old kept) (scene_of new fed)) (sym put.fault) reached)
+      (tt, subst IsFault (sym put.fault) tt, subst (λ (x : Stop Status). IsReached kind (come_to s o (Some x)) (Some x) (scene_of old kept) (scene_of new fed)) (sym put.fault) reached)
 
   put_left : StopsBy (Puts piece) mid new → IsTrue old.honest → IsTrue old.tells_bytes → EachSince (IsLeftBy s o old.tells_output old.shown.output) mid new
   put_left stops honest told = λ c left.
@@ -114,7 +116,7 @@ module _ (s : ApplyState) (o : Outcome) (piece : List ℕ) (now : ApplyState) (o
       })
 
   -- the store did its part, feeds were given what they are to get, and the piece was put
-  pub take_put : {T : Type 0} (result : Result T (Stop Status)) → PutsPiece piece result mid new → Takes s o result now (scene_of old kept) (scene_of new fed)
+  pub take_put : {T : Type 0} (result : Result T (Stop Status)) → PutsPiece piece result mid new → Takes kind s o result now (scene_of old kept) (scene_of new fed)
   take_put result put =
       let ends = put_ends result put in
       record {
@@ -131,42 +133,42 @@ module _ (s : ApplyState) (o : Outcome) (piece : List ℕ) (now : ApplyState) (o
             area_on (other s.journal.area) old mid new ready.beside (area_of_images (other s.journal.area) mid new (images_areas mid new put.areas));
       }
 
-module _ {T : Type 0} (s : ApplyState) (view : View) (kept : List Place) (timed : IsTimed view) (holds : HoldsStore s view) where
+module _ {T : Type 0} (kind : ListKind) (s : ApplyState) (view : View) (kept : kind.Feeds) (timed : IsTimed view) (holds : HoldsStore s view) where
   -- there was no memory
-  pub take_none : (o : Outcome) (now : ApplyState) → Takes {T = T} s o (Err stops.Memory) now (scene_of view kept) (scene_of view kept)
+  pub take_none : (o : Outcome) (now : ApplyState) → Takes {T = T} kind s o (Err stops.Memory) now (scene_of view kept) (scene_of view kept)
   take_none o now = record {
     passes = passes_none view timed;
     leads = tt;
     shows = record { first = []; later = o.pieces; parts = refl; shows = shows_none (shown_of view) };
     cause = refl;
     may = tt;
-    reached = record { holds = λ alive. holds; put = shows_none (shown_of view); given = given_none kept };
+    reached = record { holds = λ alive. holds; put = shows_none (shown_of view); given = given_none (kind.places kept); delivered = refl };
     stops = here_left s o view timed holds;
     beside = area_none (other s.journal.area) view timed;
   }
 
   -- a call that answers so
-  pub take_untaken : (o : Outcome) (result : Result T (Stop Status)) (now : ApplyState) → IsErrAnd result (λ given. given ≡ stops.Memory) → Takes s o result now (scene_of view kept) (scene_of view kept)
+  pub take_untaken : (o : Outcome) (result : Result T (Stop Status)) (now : ApplyState) → IsErrAnd result (λ given. given ≡ stops.Memory) → Takes kind s o result now (scene_of view kept) (scene_of view kept)
   take_untaken o result now handed = let exit = err_from_is_err_and result handed in rw (exit.1, exit.2) (take_none o now)
 
   -- the line is skipped
-  pub take_skipped : (done : T) → Takes s (skipping s) (Ok done) s (scene_of view kept) (scene_of view kept)
+  pub take_skipped : (done : T) → Takes kind s (skipping s) (Ok done) s (scene_of view kept) (scene_of view kept)
   take_skipped done = record {
     passes = passes_none view timed;
     leads = refl;
     shows = shows_none (shown_of view);
     cause = refl;
     may = tt;
-    reached = record { holds = λ alive. holds; put = shows_none (shown_of view); given = given_none kept };
+    reached = record { holds = λ alive. holds; put = shows_none (shown_of view); given = given_none (kind.places kept); delivered = refl };
     stops = here_left s (skipping s) view timed holds;
     beside = area_none (other s.journal.area) view timed;
   }
 
   -- the line is refused: the store has nothing to do
   pub take_refused : (text piece : List ℕ) (result : Result T (Stop Status)) (new : View) → piece ≡ refused_line (s.number + 1) text → PutsPiece piece result view new
-      → Takes s (refusing s text) result (with_refusal s) (scene_of view kept) (scene_of new kept)
+      → Takes kind s (refusing s text) result (with_refusal s) (scene_of view kept) (scene_of new kept)
   take_refused text piece result new piece_is put =
-      take_put s (refusing s text) piece (with_refusal s) view view new kept kept (ap (λ (bytes : List ℕ). bytes ∷ []) (sym piece_is)) refl (given_none kept)
+      take_put kind s (refusing s text) piece (with_refusal s) view view new kept kept (ap (λ (bytes : List ℕ). bytes ∷ []) (sym piece_is)) refl (given_none (kind.places kept)) refl
       (record {
         passes = passes_none view timed;
         holds = record { limits = holds.limits; whole = holds.whole; stands = holds.stands };
@@ -178,10 +180,10 @@ module _ {T : Type 0} (s : ApplyState) (view : View) (kept : List Place) (timed 
       }) result put
 
 -- the same of an outcome that is the same
-pub take_as : {T : Type 0} {s : ApplyState} {o other : Outcome} {result : Result T (Stop Status)} {now : ApplyState} {old new : Scene (List Place)}
-    → other ≡ o → Takes s o result now old new → Takes s other result now old new
-take_as {s = s} {result = result} {now = now} {old = old} {new = new} same taken =
-    subst (λ (p : Outcome). Takes s p result now old new) (sym same) taken
+pub take_as : {T : Type 0} {kind : ListKind} {s : ApplyState} {o other : Outcome} {result : Result T (Stop Status)} {now : ApplyState} {old new : Scene kind.Feeds}
+    → other ≡ o → Takes kind s o result now old new → Takes kind s other result now old new
+take_as {kind = kind} {s = s} {result = result} {now = now} {old = old} {new = new} same taken =
+    subst (λ (p : Outcome). Takes kind s p result now old new) (sym same) taken
 
 -- a rejection's text by the limits of the program
 pub rejecting : (s : ApplyState) (rejection : Rejection) (limits : Limits) (said text : List ℕ) → limits.ops ≡ 10000 → limits.elements ≡ 1000000 → said ≡ text → text ≡ rejection_text rejection limits

@@ -18,6 +18,7 @@ use Rattle.pgs_command.proofs.Images.{area_none, each_images, images_none}
 use Rattle.pgs_run_store.specs.Refusing.{SavedStore}
 use Rattle.pgs_run_store.proofs.Conforming.{saved_conforms}
 use Rattle.pgs_run_store.proofs.Shown.{shown_quiet}
+use Rattle.pgs_run_apply.specs.Giving.{IsGivenBy}
 use Rattle.pgs_run_apply.specs.Leaving.{LeavesApplied, FeedsApplied}
 use Rattle.pgs_run_apply.specs.Run.{Saves, SavesAt, SavesOn, IsAppliedAt, IsDecided, IsGrown, IsPutBy}
 use Rattle.pgs_run_apply.specs.Told.{start, after, all_lines}
@@ -103,6 +104,20 @@ applied_none left lost view timed = record {
   unsaved = λ told none. images_none view timed;
   beside = λ tells area is. area_none (other area) view timed;
 }
+
+-- nothing is given
+pub given_start : (it : SavedStore) (input : List ℕ) (lost : ℕ) (old new : View) (status : Status) → (status ≡ DiskFault) ⊎ (status ≡ Memory) → IsQuiet old new → MakesNoPut old new → IsGivenBy it input lost old new status []
+given_start it input lost old new status is quiet none = record {
+  until = [];
+  later = all_lines input;
+  parts = refl;
+  put = ⊎_elim (λ fault. subst (λ (s : Status). IsPutBy it [] (all_lines input) lost (shown_of old) (shown_of new) s) (sym fault) nothing)
+      (λ memory. subst (λ (s : Status). IsPutBy it [] (all_lines input) lost (shown_of old) (shown_of new) s) (sym memory) nothing) is;
+  is = refl;
+}
+  where
+    nothing : ShowsAll (shown_of old) [] (shown_of new)
+    nothing = subst (λ (s : Shown). ShowsAll (shown_of old) [] s) (sym (shown_quiet old new quiet none)) (shows_none (shown_of old))
 
 pub applied_feeds : (left : Option (List ℕ)) (view : View) (places : List Place) → IsTimed view → FeedsApplied left view view places places Memory
 applied_feeds left view places timed = record {

@@ -1,5 +1,5 @@
 -- The promise of a run whose store isn't opened.
-use Rattle.std.proofs.Common.{◌≡◌, inl, inr, ℕ, true, false, List, Err, IsTrue, refl, sym, subst}
+use Rattle.std.proofs.Common.{◌≡◌, inl, inr, ℕ, true, false, List, [], Err, IsTrue, refl, sym, subst}
 use Rattle.pgs_feed.specs.Places.{Place, lost_count}
 use Rattle.pgs_run_store.specs.declared.opening.Unopened.{Unopened}
 use Rattle.pgs_run_store.specs.declared.opening.Unopened.TheVariants as unopened
@@ -17,11 +17,12 @@ use Rattle.pgs_command.specs.Promise.{Promise}
 use Rattle.pgs_command.specs.Setting.{SourceState}
 use Rattle.pgs_command.proofs.Images.{area_of_images, settled_images}
 use Rattle.pgs_command.proofs.Promising.{promise_reading}
+use Rattle.pgs_run_apply.specs.Giving.{GivesApplied, IsGivenBy}
 use Rattle.pgs_run_apply.specs.Leaving.{FeedsApplied, LeavesApplied}
 use Rattle.pgs_run_apply.specs.Run.{Saves, IsAppliedAt, IsDecided}
 use Rattle.pgs_run_apply.specs.Spec.{apply_spec}
 use Rattle.pgs_run_apply.specs.Told.{told_apply, told_lines, with_last}
-use Rattle.pgs_run_apply.proofs.Unmoved.{decided_start, grown_kept, quiet_applied}
+use Rattle.pgs_run_apply.proofs.Unmoved.{decided_start, given_start, grown_kept, quiet_applied}
 
 -- where a store is saved, an area failed, or there was no memory, and nothing was put
 saved_by : (P : View → Status → Type 0) (reason : Unopened) (old mid new : View) (result : Status) (it : SavedStore) → IsTrue old.tells_bytes → Saves it old.shown → Opens (Err reason) old mid → EndsUnopened reason mid result new
@@ -43,6 +44,15 @@ module _ (reason : Unopened) (old mid new : View) (result : Status) (timed : IsT
     grows = λ it saves settled. grown_kept old new it settled images saves;
     unsaved = λ tells none. images;
     beside = λ tells area is. area_of_images (other area) old new images;
+  }
+
+  pub gives_unopened : GivesApplied source.left (lost_count places) old new result []
+  gives_unopened = record {
+    decided = λ tells input it is saves.
+        saved_by (λ (v : View) (s : Status). IsGivenBy it input (lost_count places) old v s []) reason old mid new result it tells saves ran.opens ran.ends early
+        (given_start it input (lost_count places) old mid DiskFault (inl refl) ran.quiet ran.no_put) (given_start it input (lost_count places) old mid Memory (inr refl) ran.quiet ran.no_put);
+    unsaved = λ tells none. refl;
+    before = inl refl;
   }
 
   feeds : FeedsApplied source.left old new places places result

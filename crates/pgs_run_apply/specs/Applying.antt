@@ -1,7 +1,7 @@
 -- The command `apply` behind the opening of its store, as a machine over lines, and what it may do to a world and to feeds.
 use Rattle.std.specs.Prelude.{◌≡◌, ◌⊎◌, ◌<◌, ◌^◌, ℕ, ◌+◌, Bool, true, false, IsTrue, List, [], ◌∷◌, ◌++◌, Option, Some, None}
 use Rattle.std.specs.List.{concat}
-use Rattle.pgs_feed.specs.Places.{Place}
+use Rattle.pgs_feed.specs.Deliveries.{ListKind}
 use Rattle.pgs_run_lines.specs.declared.stop.Stop.{Stop}
 use Rattle.pgs_run_lines.specs.declared.stop.Stop.TheVariants as stops
 use Rattle.pgs_run_lines.specs.Machine.{Machine, Going, Scene, Extent, Whole, Inside, AtEnd}
@@ -47,12 +47,13 @@ is_all (Some (stops.Ended status)) = true
 is_all stop = false
 
 -- some first ones of these lines were done; all of them, where none was left
-pub record AreReached (s : ApplyState) (lines : List (List ℕ)) (all : Bool) (stop : Option (Stop Status)) (old new : Scene (List Place)) : Type 0 where
+pub record AreReached (kind : ListKind) (s : ApplyState) (lines : List (List ℕ)) (all : Bool) (stop : Option (Stop Status))
+    (old new : Scene kind.Feeds) : Type 0 where
   pub until : List (List ℕ)
   pub later : List (List ℕ)
   pub parts : lines ≡ until ++ later
   pub whole : all ≡ true → later ≡ []
-  pub reached : IsReached (outcome_of_all s until) stop old new
+  pub reached : IsReached kind (outcome_of_all s until) stop old new
 
 -- the images hold the store after the next line too
 pub record IsWithin (s : ApplyState) (later : List (List ℕ)) (told : Bool) (output : List ℕ) (triple : Triple) : Type 0 where
@@ -71,10 +72,11 @@ pub record IsLeft (s : ApplyState) (lines : List (List ℕ)) (told : Bool) (outp
       let out = output ++ concat o.pieces in
       IsSavedAt o.state told out triple ⊎ IsWithin o.state later told out triple
 
--- what the taking of lines may do to a world and to the places of feeds
-pub record Applies (s : ApplyState) (lines : List (List ℕ)) (extent : Extent Status) (old new : Scene (List Place)) : Type 0 where
+-- what the taking of lines may do to a world and to feeds
+pub record Applies (kind : ListKind) (s : ApplyState) (lines : List (List ℕ)) (extent : Extent Status) (old new : Scene kind.Feeds)
+    : Type 0 where
   pub passes : Passes old.view new.view
-  pub reached : AreReached s (seen lines extent) (is_all (stop_in extent)) (stop_in extent) old new
+  pub reached : AreReached kind s (seen lines extent) (is_all (stop_in extent)) (stop_in extent) old new
   -- at every moment
   pub stops : IsTrue old.view.honest → IsTrue old.view.tells_bytes
       → EachSince (IsLeft s (seen lines extent) old.view.tells_output old.view.shown.output) old.view new.view

@@ -2,6 +2,7 @@ pub mod Applying
 pub mod Asking
 pub mod Committing
 pub mod Ending
+pub mod Giving
 pub mod Leaving
 pub mod Outcome
 pub mod Rule

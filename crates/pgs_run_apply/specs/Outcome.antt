@@ -1,8 +1,8 @@
 -- What lines come to, one after another, and how far the taking of one came.
 use Rattle.std.specs.Prelude.{◌≡◌, ◌⊎◌, ℕ, ◌+◌, Bool, true, false, List, [], ◌∷◌, ◌++◌, length, Option, Some, None, Result, Ok, Err, IfErr, OnOk, IsTrue, if◌then◌else◌}
 use Rattle.pgs_base.specs.Graph.{Graph}
+use Rattle.pgs_feed.specs.Deliveries.{AreDelivered, Delivery, ListKind, behind, lines_in}
 use Rattle.pgs_feed.specs.Given.{AreGiven}
-use Rattle.pgs_feed.specs.Places.{Place}
 use Rattle.pgs_graph.specs.declared.operation.Txn.{Txn}
 use Rattle.pgs_run_lines.specs.declared.stop.Stop.{Stop}
 use Rattle.pgs_run_lines.specs.declared.stop.Stop.TheVariants as stops
@@ -24,11 +24,11 @@ use Rattle.pgs_run_input.specs.Input.{is_skipped}
 use Rattle.pgs_run_input.specs.Session.{standard, decision_on}
 use Rattle.pgs_run_apply.specs.State.{ApplyState, HoldsStore, with_refusal, with_commit}
 
--- the state after lines, what they tell, and what they give to feeds
+-- the state after lines, what they tell, and what they give to feeds, behind how many of these pieces
 pub record Outcome : Type 0 where
   pub state : ApplyState
   pub pieces : List (List ℕ)
-  pub given : List (List ℕ)
+  pub given : List Delivery
 
 -- the outcome of a line that is skipped, of a refusal, of a decision on a transaction, and of what a line that isn't skipped says
 abbrev pub skipping : ApplyState → Outcome
@@ -41,7 +41,7 @@ abbrev pub deciding : ApplyState → Txn → Result Graph Rejection → Outcome
 deciding s txn (Ok g) = record {
   state = with_commit s txn g;
   pieces = committed_line (s.number + 1) (s.guard.commits + 1) ∷ [];
-  given = feed_line txn (s.guard.commits + 1) ∷ [];
+  given = (record { line = feed_line txn (s.guard.commits + 1); puts = 0 }) ∷ [];
 }
 deciding s txn (Err rejection) = refusing s (rejection_text rejection standard)
 
@@ -55,7 +55,7 @@ outcome_of s line = if is_skipped line then skipping s else answering s (txn_ans
 
 -- one outcome, and then one from its state on
 abbrev pub and_then : Outcome → Outcome → Outcome
-and_then o p = record { state = p.state; pieces = o.pieces ++ p.pieces; given = o.given ++ p.given }
+and_then o p = record { state = p.state; pieces = o.pieces ++ p.pieces; given = o.given ++ behind (length o.pieces) p.given }
 
 -- the outcome of lines
 abbrev pub outcome_of_all : ApplyState → List (List ℕ) → Outcome
@@ -94,11 +94,13 @@ abbrev pub HasPut : (torn : Bool) → Shown → List (List ℕ) → Shown → Ty
 HasPut false start pieces now = ShowsAll start pieces now
 HasPut true start pieces now = now.puts + 1 ≡ start.puts + length pieces
 
--- This outcome was reached: unless an area failed the store stands on the world, the pieces were put, and feeds were given the lines.
-pub record IsReached (o : Outcome) (stop : Option (Stop Status)) (old new : Scene (List Place)) : Type 0 where
+-- This outcome was reached: unless an area failed the store stands on the world, the pieces were put, and feeds were given the lines, each
+-- behind its number of pieces.
+pub record IsReached (kind : ListKind) (o : Outcome) (stop : Option (Stop Status)) (old new : Scene kind.Feeds) : Type 0 where
   pub holds : is_struck stop ≡ false → HoldsStore o.state new.view
   pub put : HasPut (is_torn stop) (shown_of old.view) o.pieces (shown_of new.view)
-  pub given : AreGiven o.given old.kept new.kept
+  pub given : AreGiven (lines_in o.given) (kind.places old.kept) (kind.places new.kept)
+  pub delivered : AreDelivered kind old.kept (behind old.view.puts o.given) new.kept
 
 abbrev pub stop_of : {T : Type 0} → Result T (Stop Status) → Option (Stop Status)
 stop_of (Ok done) = None
@@ -122,14 +124,14 @@ IsFault stops.PutFault = Unit {0}
 IsFault stops.Memory = Unit {0}
 
 -- the taking of a line of this outcome from a state on
-pub record Takes {T : Type 0} (s : ApplyState) (o : Outcome) (result : Result T (Stop Status)) (now : ApplyState)
-    (old new : Scene (List Place)) : Type 0 where
+pub record Takes {T : Type 0} (kind : ListKind) (s : ApplyState) (o : Outcome) (result : Result T (Stop Status)) (now : ApplyState)
+    (old new : Scene kind.Feeds) : Type 0 where
   pub passes : Passes old.view new.view
   pub leads : OnOk result (now ≡ o.state)
   pub shows : LineShows (shown_of old.view) o.pieces result (shown_of new.view)
   pub cause : HasAnyCause (faults_of 0 old.view) (faults_of 0 new.view) result
   pub may : IfErr result IsFault
-  pub reached : IsReached (come_to s o (stop_of result)) (stop_of result) old new
+  pub reached : IsReached kind (come_to s o (stop_of result)) (stop_of result) old new
   -- at every moment
   pub stops : IsTrue old.view.honest → IsTrue old.view.tells_bytes
       → EachSince (IsLeftBy s o old.view.tells_output old.view.shown.output) old.view new.view

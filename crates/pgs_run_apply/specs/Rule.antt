@@ -1,9 +1,11 @@
 -- The rule of the machine of `apply`: it may do nothing, and one thing after another.
-use Rattle.std.proofs.Common.{◌≡◌, ◌⊎◌, inl, inr, ⊎_elim, ℕ, Bool, true, false, List, [], ◌∷◌, ◌++◌, Option, None, Result, Ok, Err, cond, IsTrue, refl, sym, ap, ap₂, subst, ◌∙◌, append_assoc, length-append, arith}
+use Rattle.std.proofs.Common.{◌≡◌, ◌⊎◌, inl, inr, ⊎_elim, ℕ, Bool, true, false, List, [], ◌∷◌, ◌++◌, length, Option, None, Result, Ok, Err, cond, IsTrue, refl, sym, ap, ap₂, subst, ◌∙◌, append_assoc, length-append, arith}
 use Rattle.std.specs.List.{concat}
 use Rattle.std.proofs.lemmas.List.{append-nil}
 use Rattle.std.proofs.lemmas.List.Folds.{concat-append}
-use Rattle.pgs_feed.specs.Places.{Place}
+use Rattle.pgs_feed.specs.Deliveries.{Delivery, ListKind, AreDelivered, behind, lines_in}
+use Rattle.pgs_feed.specs.Given.{AreGiven}
+use Rattle.pgs_feed.proofs.Deliveries.{behind_append, behind_behind, behind_none, delivered_on, lines_append, lines_behind}
 use Rattle.pgs_feed.proofs.Given.{given_none, given_on}
 use Rattle.pgs_base.specs.Graph.{Graph}
 use Rattle.pgs_graph.specs.declared.operation.Txn.{Txn}
@@ -30,14 +32,24 @@ use Rattle.pgs_run_apply.specs.State.{ApplyState, HoldsStore}
 
 -- ---- one outcome after another
 
-abbrev outcome_with : ApplyState → List (List ℕ) → List (List ℕ) → Outcome
+abbrev outcome_with : ApplyState → List (List ℕ) → List Delivery → Outcome
 outcome_with s pieces given = record { state = s; pieces = pieces; given = given }
 
+-- what one outcome gives, and behind its pieces what two more do
+given_assoc : (o p q : Outcome) → (and_then (and_then o p) q).given ≡ (and_then o (and_then p q)).given
+given_assoc o p q =
+    let n = length o.pieces in
+    let m = length p.pieces in
+    let last : behind (length (o.pieces ++ p.pieces)) q.given ≡ behind n (behind m q.given) =
+    ap (λ (k : ℕ). behind k q.given) (length-append o.pieces p.pieces) ∙ sym (behind_behind n m q.given) in
+    append_assoc o.given (behind n p.given) (behind (length (o.pieces ++ p.pieces)) q.given)
+    ∙ ap (λ (ds : List Delivery). o.given ++ ds) (ap (λ (ds : List Delivery). behind n p.given ++ ds) last ∙ sym (behind_append n p.given (behind m q.given)))
+
 then_assoc : (o p q : Outcome) → and_then (and_then o p) q ≡ and_then o (and_then p q)
-then_assoc o p q = ap₂ (outcome_with q.state) (append_assoc o.pieces p.pieces q.pieces) (append_assoc o.given p.given q.given)
+then_assoc o p q = ap₂ (outcome_with q.state) (append_assoc o.pieces p.pieces q.pieces) (given_assoc o p q)
 
 pub outcome_append : (s : ApplyState) (xs ys : List (List ℕ)) → outcome_of_all s (xs ++ ys) ≡ and_then (outcome_of_all s xs) (outcome_of_all (outcome_of_all s xs).state ys)
-outcome_append s [] ys = refl
+outcome_append s [] ys = let o = outcome_of_all s ys in ap (outcome_with o.state o.pieces) (sym (behind_none o.given))
 outcome_append s (x ∷ xs) ys =
     let o = outcome_of s x in
     let p = outcome_of_all o.state xs in
@@ -72,27 +84,37 @@ put_on : (torn : Bool) (start mid now : Shown) (xs ys : List (List ℕ)) → Sho
 put_on false start mid now xs ys p q = shows_on start mid now xs ys p q
 put_on true start mid now xs ys p q = let count = length-append xs ys in let first = p.puts in omega (arith, count, first, q)
 
-reached_on : (stop : Option (Stop Status)) (o more : Outcome) (old mid new : Scene (List Place)) → IsReached o None old mid → IsReached more stop mid new → IsReached (and_then o more) stop old new
-reached_on stop o more old mid new p q = record {
-  holds = q.holds;
-  put = put_on (is_torn stop) (shown_of old.view) (shown_of mid.view) (shown_of new.view) o.pieces more.pieces p.put q.put;
-  given = given_on o.given more.given old.kept mid.kept new.kept p.given q.given;
-}
+reached_on : (kind : ListKind) (stop : Option (Stop Status)) (o more : Outcome) (old mid new : Scene kind.Feeds) → IsReached kind o None old mid → IsReached kind more stop mid new → IsReached kind (and_then o more) stop old new
+reached_on kind stop o more old mid new p q =
+    let n = length o.pieces in
+    let lines : lines_in o.given ++ lines_in more.given ≡ lines_in (o.given ++ behind n more.given) =
+    sym (lines_append o.given (behind n more.given) ∙ ap (λ (xs : List (List ℕ)). lines_in o.given ++ xs) (lines_behind n more.given)) in
+    let from : behind old.view.puts o.given ++ behind mid.view.puts more.given ≡ behind old.view.puts (o.given ++ behind n more.given) =
+    ap (λ (k : ℕ). behind old.view.puts o.given ++ behind k more.given) p.put.puts
+    ∙ sym (behind_append old.view.puts o.given (behind n more.given) ∙ ap (λ (ds : List Delivery). behind old.view.puts o.given ++ ds) (behind_behind old.view.puts n more.given)) in
+    record {
+      holds = q.holds;
+      put = put_on (is_torn stop) (shown_of old.view) (shown_of mid.view) (shown_of new.view) o.pieces more.pieces p.put q.put;
+      given = subst (λ (xs : List (List ℕ)). AreGiven xs (kind.places old.kept) (kind.places new.kept)) lines
+          (given_on (lines_in o.given) (lines_in more.given) (kind.places old.kept) (kind.places mid.kept) (kind.places new.kept) p.given q.given);
+      delivered = subst (λ (ds : List Delivery). AreDelivered kind old.kept ds new.kept) from
+          (delivered_on kind (behind old.view.puts o.given) (behind mid.view.puts more.given) old.kept mid.kept new.kept p.delivered q.delivered);
+    }
 
 -- all lines were done
-pub all_reached : (s : ApplyState) (lines : List (List ℕ)) (stop : Option (Stop Status)) (old new : Scene (List Place)) → AreReached s lines true stop old new → IsReached (outcome_of_all s lines) stop old new
-all_reached s lines stop old new r =
-    subst (λ (xs : List (List ℕ)). IsReached (outcome_of_all s xs) stop old new) (sym (r.parts ∙ ap (λ more. r.until ++ more) (r.whole refl) ∙ append-nil r.until)) r.reached
+pub all_reached : (kind : ListKind) (s : ApplyState) (lines : List (List ℕ)) (stop : Option (Stop Status)) (old new : Scene kind.Feeds) → AreReached kind s lines true stop old new → IsReached kind (outcome_of_all s lines) stop old new
+all_reached kind s lines stop old new r =
+    subst (λ (xs : List (List ℕ)). IsReached kind (outcome_of_all s xs) stop old new) (sym (r.parts ∙ ap (λ more. r.until ++ more) (r.whole refl) ∙ append-nil r.until)) r.reached
 
-lines_on : (s : ApplyState) (xs ys : List (List ℕ)) (all : Bool) (stop : Option (Stop Status)) (old mid new : Scene (List Place))
-    → IsReached (outcome_of_all s xs) None old mid → AreReached (outcome_of_all s xs).state ys all stop mid new → AreReached s (xs ++ ys) all stop old new
-lines_on s xs ys all stop old mid new p q = record {
+lines_on : (kind : ListKind) (s : ApplyState) (xs ys : List (List ℕ)) (all : Bool) (stop : Option (Stop Status)) (old mid new : Scene kind.Feeds)
+    → IsReached kind (outcome_of_all s xs) None old mid → AreReached kind (outcome_of_all s xs).state ys all stop mid new → AreReached kind s (xs ++ ys) all stop old new
+lines_on kind s xs ys all stop old mid new p q = record {
   until = xs ++ q.until;
   later = q.later;
   parts = ap (λ lines. xs ++ lines) q.parts ∙ sym (append_assoc xs q.until q.later);
   whole = q.whole;
-  reached = subst (λ (o : Outcome). IsReached o stop old new) (sym (outcome_append s xs q.until))
-      (reached_on stop (outcome_of_all s xs) (outcome_of_all (outcome_of_all s xs).state q.until) old mid new p q.reached);
+  reached = subst (λ (o : Outcome). IsReached kind o stop old new) (sym (outcome_append s xs q.until))
+      (reached_on kind stop (outcome_of_all s xs) (outcome_of_all (outcome_of_all s xs).state q.until) old mid new p q.reached);
 }
 
 -- ---- what a stop leaves
@@ -150,15 +172,15 @@ left_more s xs ys told output c p = record {
 -- ---- the rule
 
 -- before the first line
-pub applies_none : (s : ApplyState) (scene : Scene (List Place)) → IsTimed scene.view → HoldsStore s scene.view → Applies s [] Whole scene scene
-applies_none s scene timed holds = record {
+pub applies_none : (kind : ListKind) (s : ApplyState) (scene : Scene kind.Feeds) → IsTimed scene.view → HoldsStore s scene.view → Applies kind s [] Whole scene scene
+applies_none kind s scene timed holds = record {
   passes = passes_none scene.view timed;
   reached = record {
     until = [];
     later = [];
     parts = refl;
     whole = λ all. refl;
-    reached = record { holds = λ alive. holds; put = shows_none (shown_of scene.view); given = given_none scene.kept };
+    reached = record { holds = λ alive. holds; put = shows_none (shown_of scene.view); given = given_none (kind.places scene.kept); delivered = refl };
   };
   stops = λ honest told.
       let tells = scene.view.tells_output in
@@ -179,18 +201,18 @@ seen_on (Inside stop) xs ys = refl
 seen_on (AtEnd rest stop) xs ys = append_assoc xs ys (rest ∷ [])
 
 -- some lines, and then others
-applies_on : (s : ApplyState) (xs ys : List (List ℕ)) (extent : Extent Status) (old mid new : Scene (List Place))
-    → Applies s xs Whole old mid → Applies (outcome_of_all s xs).state ys extent mid new → Applies s (xs ++ ys) extent old new
-applies_on s xs ys extent old mid new p q =
+applies_on : (kind : ListKind) (s : ApplyState) (xs ys : List (List ℕ)) (extent : Extent Status) (old mid new : Scene kind.Feeds)
+    → Applies kind s xs Whole old mid → Applies kind (outcome_of_all s xs).state ys extent mid new → Applies kind s (xs ++ ys) extent old new
+applies_on kind s xs ys extent old mid new p q =
     let o = outcome_of_all s xs in
     let more = seen ys extent in
-    let first = all_reached s xs None old mid p.reached in
+    let first = all_reached kind s xs None old mid p.reached in
     let before = old.view.shown.output in
     let tells = old.view.tells_output in
     record {
       passes = passes_on old.view mid.view new.view p.passes q.passes;
-      reached = subst (λ (lines : List (List ℕ)). AreReached s lines (is_all (stop_in extent)) (stop_in extent) old new) (sym (seen_on extent xs ys))
-          (lines_on s xs more (is_all (stop_in extent)) (stop_in extent) old mid new first q.reached);
+      reached = subst (λ (lines : List (List ℕ)). AreReached kind s lines (is_all (stop_in extent)) (stop_in extent) old new) (sym (seen_on extent xs ys))
+          (lines_on kind s xs more (is_all (stop_in extent)) (stop_in extent) old mid new first q.reached);
       stops = λ honest told.
           let still = λ (output : IsTrue old.view.tells_output). p.passes.tells_output ∙ output in
           let added = λ (output : IsTrue old.view.tells_output). shown_added old.view mid.view (concat o.pieces) output (still output) first.put.output in
@@ -211,18 +233,18 @@ state_at other (Going s) = s
 state_at other (Ended status) = other
 
 -- from the state where the first ones lead
-pub applies_from : (s t : ApplyState) (lines more : List (List ℕ)) (extent : Extent Status) (old mid new : Scene (List Place))
-    → after_lines applying (Going s) lines ≡ Going t → HoldsStore t mid.view → Applies s lines Whole old mid → Applies t more extent mid new → Applies s (lines ++ more) extent old new
+pub applies_from : (kind : ListKind) (s t : ApplyState) (lines more : List (List ℕ)) (extent : Extent Status) (old mid new : Scene kind.Feeds)
+    → after_lines applying (Going s) lines ≡ Going t → HoldsStore t mid.view → Applies kind s lines Whole old mid → Applies kind t more extent mid new → Applies kind s (lines ++ more) extent old new
 unfolding state_at
-applies_from s t lines more extent old mid new leads holds p q =
+applies_from kind s t lines more extent old mid new leads holds p q =
     let same : t ≡ (outcome_of_all s lines).state = ap (state_at s) (sym leads ∙ lead s lines) in
-    applies_on s lines more extent old mid new p (subst (λ (u : ApplyState). Applies u more extent mid new) same q)
+    applies_on kind s lines more extent old mid new p (subst (λ (u : ApplyState). Applies kind u more extent mid new) same q)
 
-abbrev pub applies_rule : Rule applying
-applies_rule = record {
-  Kept = List Place;
+abbrev pub applies_rule : ListKind → Rule applying
+applies_rule kind = record {
+  Kept = kind.Feeds;
   holds = HoldsStore;
-  allows = Applies;
-  none = applies_none;
-  on = applies_from;
+  allows = Applies kind;
+  none = applies_none kind;
+  on = applies_from kind;
 }

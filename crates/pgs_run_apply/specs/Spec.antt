@@ -4,6 +4,7 @@ use Rattle.pgs_feed.specs.Places.{lost_count}
 use Rattle.pgs_command.specs.Answers.{IsOfCommand}
 use Rattle.pgs_command.specs.Spec.{CommandSpec}
 use Rattle.pgs_run_store.specs.Opening.{IsRefusal}
+use Rattle.pgs_run_apply.specs.Giving.{GivesApplied}
 use Rattle.pgs_run_apply.specs.Leaving.{SavesNone, LeavesApplied, FeedsApplied}
 use Rattle.pgs_run_apply.specs.Told.{told_apply}
 
@@ -19,4 +20,5 @@ apply_spec = record {
   ReadsInVain = λ old status. IsRefusal status ⊎ (IsTrue old.view.tells_bytes × SavesNone old.view);
   Leaves = λ old new status. LeavesApplied old.source.left (lost_count new.places) old.view new.view;
   Feeds = λ old new status. FeedsApplied old.source.left old.view new.view old.places new.places status;
+  Gives = λ old new status given. GivesApplied old.source.left (lost_count new.places) old.view new.view status given;
 }

@@ -2,8 +2,8 @@ ghost use Rattle.std.specs.Prelude.{List, ℕ, [], ◌∷◌, ◌≡◌, ◌+◌
 ghost use Rattle.pgs_run_lines.specs.Calls.{stops_of_world};
 ghost use Rattle.pgs_answer.specs.Lines.{committed_line, feed_line};
 ghost use Rattle.pgs_answer.specs.Refusals.{rejection_text};
+ghost use Rattle.pgs_feed.specs.Deliveries.{IsDelivered, kind_of};
 ghost use Rattle.pgs_feed.specs.Given.{AreGiven};
-ghost use Rattle.pgs_feed.specs.Seen.{places};
 ghost use Rattle.pgs_run_lines.specs.Machine.{scene_of};
 ghost use Rattle.pgs_violation.specs.Violations.{verdict};
 ghost use Rattle.pgs_run_input.specs.Session.{standard, decision_on};
@@ -19,27 +19,27 @@ use crate::asking::ask;
 use pgs_answer::{committed_line, feed_line, refused_line, rejection_text};
 use pgs_base::{Bytes, Limits, Memory, TEXT_LIMIT};
 use pgs_command::Status;
-use pgs_feed::FeedList;
+use pgs_feed::Feeds;
 use pgs_graph::Txn;
 use pgs_run_input::{TextFault, txn_of};
 use pgs_run_lines::{LineTaker, Stop, is_blank, put_piece};
 use pgs_store::Store;
 use pgs_violation::Rejection;
-use pgs_world::{Feed, World};
+use pgs_world::World;
 use std::alloc::Global;
 
 /// The command `apply`, between two lines: its store, how many lines are numbered so far, whether one was refused, and its feeds.
 #[derive(Drop)]
-pub struct Applying<F> {
+pub struct Applying<L> {
     store: Store,
     number: u64,
     refused: bool,
-    feeds: FeedList<F>,
+    feeds: L,
 }
 
-impl<F: Feed> Applying<F> {
+impl<L: Feeds> Applying<L> {
     /// Before the first line.
-    pub fn new(store: Store, feeds: FeedList<F>) -> Applying<F>
+    pub fn new(store: Store, feeds: L) -> Applying<L>
         ensures state { state_of result ≡ state_with store 0 (false) }
         ensures feeds { result.feeds ≡ feeds }
     {
@@ -52,7 +52,7 @@ impl<F: Feed> Applying<F> {
     }
 
     /// The feeds.
-    pub fn into_feeds(self) -> FeedList<F>
+    pub fn into_feeds(self) -> L
         ensures { result ≡ self.feeds }
     {
         self.feeds
@@ -60,9 +60,9 @@ impl<F: Feed> Applying<F> {
 
     // The feed line of a transaction, where a feed is to get it.
     fn feed_line_for(&self, alloc: Global, txn: &Txn, commit: u64) -> Result<Option<Bytes>, Memory>
-        ensures { IfOk result (λ made. IsLineFor (places F.taken F.faults self.now.feeds) (feed_line txn.now commit) made) }
+        ensures { IfOk result (λ made. IsLineFor (L.places self.now.feeds) (feed_line txn.now commit) made) }
     {
-        if self.feeds.fed() == 0 {
+        if self.feeds.count_fed() == 0 {
             return Ok(None);
         }
         Ok(Some(feed_line(alloc, txn, commit)?))
@@ -73,7 +73,7 @@ impl<F: Feed> Applying<F> {
         requires { self.now.number < 2 ^ 64 - 1 }
         ensures verdict { IfOk result (λ lines. lines.0 ≡ committed_line (self.now.number + 1) (self.now.store.guard.commits + 1)) }
         ensures feed { IfOk result (λ lines.
-            IsLineFor (places F.taken F.faults self.now.feeds) (feed_line txn.now (self.now.store.guard.commits + 1)) lines.1) }
+            IsLineFor (L.places self.now.feeds) (feed_line txn.now (self.now.store.guard.commits + 1)) lines.1) }
     {
         let commit = self.store.next_commit();
         let verdict = committed_line(alloc, self.number + 1, commit)?;
@@ -90,9 +90,8 @@ impl<F: Feed> Applying<F> {
     ) -> Result<(), Stop<Status>>
         requires room { self.old.number < 2 ^ 64 - 1 }
         requires holds { HoldsStore (state_of self.old) (W.view world.old) }
-        ensures answer { Takes (state_of self.old) (refusing (state_of self.old) text.now) result (state_of self.new)
-            (scene_of (W.view world.old) (places F.taken F.faults self.old.feeds))
-            (scene_of (W.view world.new) (places F.taken F.faults self.new.feeds)) }
+        ensures answer { Takes (kind_of L.places L.delivered) (state_of self.old) (refusing (state_of self.old) text.now) result (state_of self.new)
+            (scene_of (W.view world.old) self.old.feeds) (scene_of (W.view world.new) self.new.feeds) }
         ensures last { stops_of_world result ≡ true → W.failed world.new }
     {
         let line = refused_line(alloc, self.number + 1, text)?;
@@ -110,10 +109,9 @@ impl<F: Feed> Applying<F> {
     ) -> Result<(), Stop<Status>>
         requires room { self.old.number < 2 ^ 64 - 1 }
         requires holds { HoldsStore (state_of self.old) (W.view world.old) }
-        ensures answer { Takes (state_of self.old) (refusing (state_of self.old) (rejection_text rejection.now standard))
+        ensures answer { Takes (kind_of L.places L.delivered) (state_of self.old) (refusing (state_of self.old) (rejection_text rejection.now standard))
             result (state_of self.new)
-            (scene_of (W.view world.old) (places F.taken F.faults self.old.feeds))
-            (scene_of (W.view world.new) (places F.taken F.faults self.new.feeds)) }
+            (scene_of (W.view world.old) self.old.feeds) (scene_of (W.view world.new) self.new.feeds) }
         ensures last { stops_of_world result ≡ true → W.failed world.new }
     {
         let text = rejection_text(alloc, rejection, &Limits::standard())?;
@@ -130,17 +128,16 @@ impl<F: Feed> Applying<F> {
     ) -> Result<(), Stop<Status>>
         requires room { self.old.number < 2 ^ 64 - 1 }
         requires holds { HoldsStore (state_of self.old) (W.view world.old) }
-        ensures answer { Takes (state_of self.old)
+        ensures answer { Takes (kind_of L.places L.delivered) (state_of self.old)
             (deciding (state_of self.old) txn.now (decision_on (verdict self.old.store.guard.schema) self.old.store.guard.graph txn.now))
             result (state_of self.new)
-            (scene_of (W.view world.old) (places F.taken F.faults self.old.feeds))
-            (scene_of (W.view world.new) (places F.taken F.faults self.new.feeds)) }
+            (scene_of (W.view world.old) self.old.feeds) (scene_of (W.view world.new) self.new.feeds) }
         ensures last { stops_of_world result ≡ true → W.failed world.new }
     {
         let (verdict, feed) = self.lines_of(alloc, txn)?;
         match ask(&mut self.store, world, txn) {
             Ok(None) => {
-                deliver_made(&mut self.feeds, feed);
+                deliver_made(&*world, &mut self.feeds, feed);
                 self.number += 1;
                 put_piece(world, verdict.as_slice())
             }
@@ -158,9 +155,8 @@ impl<F: Feed> Applying<F> {
     ) -> Result<(), Stop<Status>>
         requires room { self.old.number < 2 ^ 64 - 1 }
         requires holds { HoldsStore (state_of self.old) (W.view world.old) }
-        ensures answer { Takes (state_of self.old) (outcome_of (state_of self.old) line.now) result (state_of self.new)
-            (scene_of (W.view world.old) (places F.taken F.faults self.old.feeds))
-            (scene_of (W.view world.new) (places F.taken F.faults self.new.feeds)) }
+        ensures answer { Takes (kind_of L.places L.delivered) (state_of self.old) (outcome_of (state_of self.old) line.now) result (state_of self.new)
+            (scene_of (W.view world.old) self.old.feeds) (scene_of (W.view world.new) self.new.feeds) }
         ensures last { stops_of_world result ≡ true → W.failed world.new }
     {
         if is_blank(line, TEXT_LIMIT) {
@@ -185,26 +181,28 @@ impl<F: Feed> Applying<F> {
     }
 }
 
-// Gives feeds the line that was made for them.
-fn deliver_made<F: Feed>(feeds: &mut FeedList<F>, made: Option<Bytes>)
-    ensures { let seen = places F.taken F.faults in (line : List ℕ) → IsLineFor (seen feeds.old) line made → AreGiven (line ∷ []) (seen feeds.old) (seen feeds.new) }
+// Gives feeds the line that was made for them, while the world stands so.
+fn deliver_made<W: World, L: Feeds>(world: &W, feeds: &mut L, made: Option<Bytes>)
+    ensures given { (line : List ℕ) → IsLineFor (L.places feeds.old) line made → AreGiven (line ∷ []) (L.places feeds.old) (L.places feeds.new) }
+    ensures delivered { (line : List ℕ) → IsLineFor (L.places feeds.old) line made
+        → IsDelivered (kind_of L.places L.delivered) feeds.old (record { line = line; puts = (W.view world.now).puts }) feeds.new }
 {
     match made {
-        Some(line) => feeds.deliver(line.as_slice()),
+        Some(line) => feeds.give(world, line.as_slice()),
         None => {}
     }
 }
 
-impl<F: Feed> LineTaker for Applying<F> {
+impl<L: Feeds> LineTaker for Applying<L> {
     type Status = Status;
 
     ghost machine = { applying };
 
-    ghost rule = { applies_rule };
+    ghost rule = { applies_rule (kind_of L.places L.delivered) };
 
     ghost stands = { state_of };
 
-    ghost kept = { λ taker. places F.taken F.faults taker.feeds };
+    ghost kept = { λ taker. taker.feeds };
 
     fn end_line<W: World>(
         &mut self,

@@ -1,5 +1,5 @@
 -- The command `checkpoint`.
-use Rattle.std.specs.Prelude.{◌≡◌, true, false, refl}
+use Rattle.std.specs.Prelude.{◌≡◌, true, false, refl, []}
 use Rattle.pgs_command.specs.Answers.{IsOfCommand}
 use Rattle.pgs_command.specs.Spec.{CommandSpec}
 use Rattle.pgs_run_checkpoint.specs.Leaving.{LeavesRenewed}
@@ -17,4 +17,5 @@ checkpoint_spec = record {
   ReadsInVain = λ old status. ⊥;
   Leaves = λ old new status. LeavesRenewed old.view new.view status;
   Feeds = λ old new status. new.places ≡ old.places;
+  Gives = λ old new status deliveries. deliveries ≡ [];
 }

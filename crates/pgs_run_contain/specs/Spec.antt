@@ -27,4 +27,5 @@ contain_spec =
       ReadsInVain = kept.ReadsInVain;
       Leaves = kept.Leaves;
       Feeds = kept.Feeds;
+      Gives = kept.Gives;
     }

@@ -1,5 +1,5 @@
 -- The command `evolve`. It has nothing to read its source for where the areas save no store.
-use Rattle.std.specs.Prelude.{◌≡◌, ℕ, true, List, IsTrue, refl}
+use Rattle.std.specs.Prelude.{◌≡◌, ℕ, true, List, IsTrue, refl, []}
 use Rattle.pgs_command.specs.declared.status.Status.{Status}
 use Rattle.pgs_command.specs.Answers.{IsOfCommand}
 use Rattle.pgs_command.specs.Spec.{CommandSpec}
@@ -19,4 +19,5 @@ evolve_spec = record {
   ReadsInVain = λ old status. IsTrue old.view.tells_bytes × ((text : List ℕ) (commits : ℕ) (graph : Graph) → SavesAs old.view text commits graph → ⊥);
   Leaves = λ old new status. LeavesEvolved old.source.left old.view new.view status;
   Feeds = λ old new status. new.places ≡ old.places;
+  Gives = λ old new status deliveries. deliveries ≡ [];
 }

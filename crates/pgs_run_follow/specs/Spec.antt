@@ -1,5 +1,5 @@
 -- The follower as a command: the one word `follow`; other words are refused.
-use Rattle.std.specs.Prelude.{◌≡◌, ◌⊎◌, ℕ, Bool, true, false, List}
+use Rattle.std.specs.Prelude.{◌≡◌, ◌⊎◌, ℕ, Bool, true, false, List, []}
 use Rattle.pgs_answer.specs.Lines.{words_refused_line}
 use Rattle.pgs_run_lines.specs.AreasKept.{KeepsAreas}
 use Rattle.pgs_run_lines.specs.Pieces.{shown_of}
@@ -37,6 +37,7 @@ follow_spec = record {
   ReadsInVain = λ old status. ⊥;
   Leaves = λ old new status. LeavesFollowed old.view new.view status;
   Feeds = λ old new status. new.places ≡ old.places;
+  Gives = λ old new status deliveries. deliveries ≡ [];
 }
 
 abbrev pub spec_where : (follows : Bool) → CommandSpec

@@ -1,5 +1,5 @@
 -- The command `load`. What is told of a text that is no schema rests on no area.
-use Rattle.std.specs.Prelude.{◌≡◌, true, Ok, refl}
+use Rattle.std.specs.Prelude.{◌≡◌, true, Ok, refl, []}
 use Rattle.pgs_command.specs.declared.status.Status.{Status}
 use Rattle.pgs_command.specs.Answers.{IsOfCommand}
 use Rattle.pgs_command.specs.Spec.{CommandSpec}
@@ -20,4 +20,5 @@ load_spec = record {
   ReadsInVain = λ old status. ⊥;
   Leaves = λ old new status. LeavesLoaded old.source.left old.view new.view status;
   Feeds = λ old new status. new.places ≡ old.places;
+  Gives = λ old new status deliveries. deliveries ≡ [];
 }

@@ -1,5 +1,5 @@
 -- A command that reads a saved store and tells of it: both areas are what they were at every moment.
-use Rattle.std.specs.Prelude.{◌≡◌, ℕ, Bool, true, false, refl}
+use Rattle.std.specs.Prelude.{◌≡◌, ℕ, Bool, true, false, refl, []}
 use Rattle.pgs_run_lines.specs.AreasKept.{KeepsAreas}
 use Rattle.pgs_run_lines.specs.Ending.{faults_of}
 use Rattle.pgs_run_lines.specs.Machine.{Told}
@@ -25,6 +25,7 @@ reader_spec tells = record {
   ReadsInVain = λ old status. ⊥;
   Leaves = λ old new status. KeepsImages old.view new.view;
   Feeds = λ old new status. new.places ≡ old.places;
+  Gives = λ old new status deliveries. deliveries ≡ [];
 }
 
 -- What is told of an opened store was put, and the status is the one told, or that of a put that failed or of no memory. Both areas stay.

@@ -1,6 +1,6 @@
-use Rattle.std.proofs.Common.{◌∙◌, Bool, ap, subst, sym}
+use Rattle.std.proofs.Common.{◌∙◌, [], Bool, ap, refl, subst, sym}
+use Rattle.pgs_feed.specs.Deliveries.{kind_of}
 use Rattle.pgs_feed.specs.Places.{lost_count}
-use Rattle.pgs_feed.specs.Seen.{places}
 use Rattle.pgs_run_lines.specs.Calls.{Reads}
 use Rattle.pgs_run_lines.specs.Machine.{scene_of}
 use Rattle.pgs_command.specs.Calls.{fails_read, fails_world}
@@ -10,8 +10,8 @@ use Rattle.pgs_command.proofs.Unread.{reads_nothing}
 use Rattle.pgs_run_store.proofs.Unread.{last_unopened, unopened_unread}
 use Rattle.pgs_run_apply.specs.Seen.{state_of}
 use Rattle.pgs_run_apply.proofs.Ended.{stop_fails}
-use Rattle.pgs_run_apply.proofs.Promised.{first_holds, first_room, last_as, promised}
-use Rattle.pgs_run_apply.proofs.Unopened.{promised_unopened}
+use Rattle.pgs_run_apply.proofs.Promised.{first_holds, first_room, gives, last_as, promised}
+use Rattle.pgs_run_apply.proofs.Unopened.{gives_unopened, promised_unopened}
 use Rattle.pgs_run_apply.proofs.run.run_apply.Goals as goal
 
 -- ---- no store was opened
@@ -21,7 +21,18 @@ returns-in-Err-clause-promise g c =
     let view = g.W.World.view in
     promised_unopened c.in-Err.unopened (view c.args.world.now) (view c.open_store.new.world) (view c.end_unopened.new.world) c.end_unopened.result (g.met.W.World.timed c.args.world.now) (λ early. ap view (c.end_unopened.ensures.early early))
     (record { opens = c.in-Err.ensures.answer; counts = c.in-Err.ensures.faults; quiet = c.open_store.ensures.quiet; no_put = c.open_store.ensures.no_put; ends = c.end_unopened.ensures.ends; areas = c.end_unopened.ensures.areas })
-    c.args.budget (record { left = g.S.Source.left c.args.source.now; faults = g.S.Source.faults c.args.source.now }) (places g.F.Feed.taken g.F.Feed.faults c.args.feeds.now)
+    c.args.budget (record { left = g.S.Source.left c.args.source.now; faults = g.S.Source.faults c.args.source.now }) (g.L.Feeds.places c.args.feeds.now)
+
+pub returns-in-Err-clause-gives : goal.returns-in-Err-clause-gives
+returns-in-Err-clause-gives g c =
+    let view = g.W.World.view in
+    record {
+      deliveries = [];
+      right = gives_unopened c.in-Err.unopened (view c.args.world.now) (view c.open_store.new.world) (view c.end_unopened.new.world) c.end_unopened.result (g.met.W.World.timed c.args.world.now) (λ early. ap view (c.end_unopened.ensures.early early))
+          (record { opens = c.in-Err.ensures.answer; counts = c.in-Err.ensures.faults; quiet = c.open_store.ensures.quiet; no_put = c.open_store.ensures.no_put; ends = c.end_unopened.ensures.ends; areas = c.end_unopened.ensures.areas })
+          c.args.budget (record { left = g.S.Source.left c.args.source.now; faults = g.S.Source.faults c.args.source.now }) (g.L.Feeds.places c.args.feeds.now);
+      made = refl;
+    }
 
 pub returns-in-Err-clause-last : goal.returns-in-Err-clause-last
 returns-in-Err-clause-last g c =
@@ -39,14 +50,12 @@ returns-in-Err-clause-calls g c =
 pub returns-clause-promise : goal.returns-clause-promise
 returns-clause-promise g c =
     let view = g.W.World.view in
-    let seen = places g.F.Feed.taken g.F.Feed.faults in
     let run = c.run_lines-stop in
     let before : SourceState = record { left = g.S.Source.left c.args.source.now; faults = g.S.Source.faults c.args.source.now } in
     let left : SourceState = record { left = g.S.Source.left run.new.source; faults = g.S.Source.faults run.new.source } in
-    let same = ap seen c.into_feeds.ensures in
-    promised c.in-Ok.store (state_of c.new-applying.result) c.args.budget before left run.result c.end_run.result (view c.args.world.now) (scene_of (view c.open_store.new.world) (seen c.new-applying.result.feeds))
-    (scene_of (view run.new.world) (seen run.new.taker.feeds)) (view c.end_run.new.world) (seen c.args.feeds.now) (seen c.into_feeds.result) c.new-applying.ensures.state
-    (ap seen (c.new-applying.ensures.feeds ∙ c.replace-given.ensures.value)) (sym same)
+    promised (kind_of g.L.Feeds.places g.L.Feeds.delivered) c.in-Ok.store (state_of c.new-applying.result) c.args.budget before left run.result c.end_run.result (view c.args.world.now) (scene_of (view c.open_store.new.world) c.new-applying.result.feeds)
+    (scene_of (view run.new.world) run.new.taker.feeds) (view c.end_run.new.world) c.args.feeds.now c.into_feeds.result c.new-applying.ensures.state
+    (c.new-applying.ensures.feeds ∙ c.replace-given.ensures.value) (sym c.into_feeds.ensures)
     (record {
       timed = g.met.W.World.timed c.args.world.now;
       opened = c.in-Ok.ensures.answer;
@@ -57,7 +66,29 @@ returns-clause-promise g c =
       by = run.ensures.by;
       cause = run.ensures.cause;
       allows = run.ensures.allows;
-      last = last_as c.lost.result (lost_count (seen run.new.taker.feeds)) c.status_at.result (status_at run.result) (view run.new.world) (view c.end_run.new.world) c.end_run.result (c.lost.ensures ∙ ap lost_count same) c.status_at.ensures c.end_run.ensures.ends;
+      last = last_as c.count_lost.result (lost_count (g.L.Feeds.places run.new.taker.feeds)) c.status_at.result (status_at run.result) (view run.new.world) (view c.end_run.new.world) c.end_run.result (c.count_lost.ensures ∙ ap (λ list. lost_count (g.L.Feeds.places list)) c.into_feeds.ensures) c.status_at.ensures c.end_run.ensures.ends;
+    })
+
+pub returns-clause-gives : goal.returns-clause-gives
+returns-clause-gives g c =
+    let view = g.W.World.view in
+    let run = c.run_lines-stop in
+    let before : SourceState = record { left = g.S.Source.left c.args.source.now; faults = g.S.Source.faults c.args.source.now } in
+    let left : SourceState = record { left = g.S.Source.left run.new.source; faults = g.S.Source.faults run.new.source } in
+    gives (kind_of g.L.Feeds.places g.L.Feeds.delivered) c.in-Ok.store (state_of c.new-applying.result) c.args.budget before left run.result c.end_run.result (view c.args.world.now) (scene_of (view c.open_store.new.world) c.new-applying.result.feeds)
+    (scene_of (view run.new.world) run.new.taker.feeds) (view c.end_run.new.world) c.args.feeds.now c.into_feeds.result c.new-applying.ensures.state
+    (c.new-applying.ensures.feeds ∙ c.replace-given.ensures.value) (sym c.into_feeds.ensures)
+    (record {
+      timed = g.met.W.World.timed c.args.world.now;
+      opened = c.in-Ok.ensures.answer;
+      quiet = c.open_store.ensures.quiet;
+      no_put = c.open_store.ensures.no_put;
+      areas = c.in-Ok.ensures.faults;
+      ends = run.ensures.ends;
+      by = run.ensures.by;
+      cause = run.ensures.cause;
+      allows = run.ensures.allows;
+      last = last_as c.count_lost.result (lost_count (g.L.Feeds.places run.new.taker.feeds)) c.status_at.result (status_at run.result) (view run.new.world) (view c.end_run.new.world) c.end_run.result (c.count_lost.ensures ∙ ap (λ list. lost_count (g.L.Feeds.places list)) c.into_feeds.ensures) c.status_at.ensures c.end_run.ensures.ends;
     })
 
 pub run_lines-stop-requires-clause-room : goal.run_lines-stop-requires-clause-room

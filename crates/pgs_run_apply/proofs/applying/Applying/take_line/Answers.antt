@@ -1,5 +1,5 @@
 use Rattle.std.proofs.Common.{◌≡◌, ◌∙◌, Ok, Err, ap, subst, sym}
-use Rattle.pgs_feed.specs.Seen.{places}
+use Rattle.pgs_feed.specs.Deliveries.{kind_of}
 use Rattle.pgs_run_input.specs.Answers.{txn_answer}
 use Rattle.pgs_run_input.specs.TextFaults.{IsFaultOf}
 use Rattle.pgs_run_apply.specs.Outcome.{outcome_of}
@@ -12,7 +12,7 @@ pub returns-then-is_blank-clause-answer : goal.returns-then-is_blank-clause-answ
 returns-then-is_blank-clause-answer g c =
     let s = state_of c.args.self.now in
     take_as (blank_outcome s c.args.line.now (sym c.is_blank.ensures ∙ c.if-is_blank.true))
-    (take_skipped s (g.W.World.view c.args.world.now) (places g.F.Feed.taken g.F.Feed.faults c.args.self.now.feeds) (g.met.W.World.timed c.args.world.now) c.requires.holds tt)
+    (take_skipped (kind_of g.L.Feeds.places g.L.Feeds.delivered) s (g.W.World.view c.args.world.now) c.args.self.now.feeds (g.met.W.World.timed c.args.world.now) c.requires.holds tt)
 
 pub returns-in-Ok-clause-answer : goal.returns-in-Ok-clause-answer
 returns-in-Ok-clause-answer g c =
@@ -30,4 +30,4 @@ returns-in-Err-Refused-clause-answer g c =
 pub returns-in-Err-Memory-clause-answer : goal.returns-in-Err-Memory-clause-answer
 returns-in-Err-Memory-clause-answer g c =
     let s = state_of c.args.self.now in
-    take_none s (g.W.World.view c.args.world.now) (places g.F.Feed.taken g.F.Feed.faults c.args.self.now.feeds) (g.met.W.World.timed c.args.world.now) c.requires.holds (outcome_of s c.args.line.now) s
+    take_none (kind_of g.L.Feeds.places g.L.Feeds.delivered) s (g.W.World.view c.args.world.now) c.args.self.now.feeds (g.met.W.World.timed c.args.world.now) c.requires.holds (outcome_of s c.args.line.now) s
