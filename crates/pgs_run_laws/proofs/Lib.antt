@@ -4,7 +4,6 @@ pub mod Ahead
 pub mod Areas
 pub mod AtOnce
 pub mod Behind
-pub mod Compared
 pub mod Conformed
 pub mod Cut
 pub mod Dumped

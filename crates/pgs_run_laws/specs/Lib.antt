@@ -1,4 +1,3 @@
-pub mod Compared
 pub mod DumpOps
 pub mod Lines
 pub mod Sequence

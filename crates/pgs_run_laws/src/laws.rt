@@ -10,7 +10,7 @@ ghost use Rattle.pgs_snapshot.specs.Saved.{saved, store};
 ghost use Rattle.pgs_violation.specs.Decision.{decide};
 ghost use Rattle.pgs_violation.specs.Violations.{verdict};
 ghost use Rattle.pgs_syntax.specs.declared.resolved.Resolved.{Resolved};
-ghost use Rattle.pgs_run_words.specs.declared.command.Command.TheVariants.{Contain, Load, Recover, Validate};
+ghost use Rattle.pgs_run_words.specs.declared.command.Command.TheVariants.{Load, Recover, Validate};
 ghost use Rattle.pgs_run_lines.specs.Pieces.{ShowsAll, shown_of};
 ghost use Rattle.pgs_store.specs.Loads.{FindsNone};
 ghost use Rattle.pgs_command.specs.declared.status.Status.TheVariants.{Accepted};
@@ -18,7 +18,6 @@ ghost use Rattle.pgs_run_input.specs.Answers.{schema_answer};
 ghost use Rattle.pgs_command.specs.Areas.{Areas};
 ghost use Rattle.pgs_run_input.specs.Session.{standard};
 ghost use Rattle.pgs_run.specs.Commands.{spec_of};
-ghost use Rattle.pgs_run_laws.specs.Compared.{IsCompared};
 ghost use Rattle.pgs_run_laws.specs.Lines.{IsLineStart};
 ghost use Rattle.pgs_run_laws.specs.Sequence.{Deed, DoAll, Ran, told_sequence};
 
@@ -77,13 +76,3 @@ pub fn runs_add_up<W: World>()
         → Ran Load text lost (W.view first) (W.view loaded) → DoAll W.view deeds loaded last → Ran Recover input failed (W.view last) (W.view done)
         → ShowsAll (shown_of (W.view first)) (told_sequence text schema deeds) (shown_of (W.view done)) }
 {}
-
-/// What `contain` answers to two schemas holds of all graphs. Where a run of it ended with 0, over a source that tells fewer bytes than its
-/// budget, both texts are schemas, and each type of the first guard that isn't abstract is contained in the second. So where the first guard
-/// is strict and the second one's keys ask no more, each graph that conforms to the first schema conforms to the second.
-pub fn what_is_contained_is_kept<W: World>()
-    ensures { (input : List ℕ) (lost : ℕ) (old new : W) → length input < 2 ^ 40
-        → (ran : Ran Contain input lost (W.view old) (W.view new)) → ran.status ≡ Accepted → IsCompared input }
-{
-    pgs_schema_order::laws::what_asks_no_more_is_kept();
-}

@@ -8,5 +8,4 @@ mod laws;
 
 pub use laws::{
     a_dump_is_one_transaction, a_dump_is_read_back, a_dump_is_validated, no_dashes, runs_add_up,
-    what_is_contained_is_kept,
 };

@@ -1,5 +1,5 @@
 -- What the loading of a text does, by what its calls did.
-use Rattle.std.proofs.Common.{◌≡◌, inl, inr, ℕ, true, IsTrue, List, [], ◌∷◌, ◌++◌, Some, Ok, Err, refl, sym, ap, ap₂, subst, ◌∙◌}
+use Rattle.std.proofs.Common.{◌≡◌, inl, inr, ℕ, true, IsTrue, List, ◌++◌, Some, Ok, Err, refl, sym, ap, ap₂, subst, ◌∙◌}
 use Rattle.pgs_answer.specs.Lines.{schema_refused_line, store_refused_line}
 use Rattle.pgs_answer.specs.Refusals.{already_store_text}
 use Rattle.pgs_resolve.specs.SchemaOf.{schema, schema_of}
@@ -11,13 +11,12 @@ use Rattle.pgs_snapshot.specs.Choice as choices
 use Rattle.pgs_snapshot.specs.Saved.{saved}
 use Rattle.pgs_store.specs.Loads.{FindsNone, IsLoaded, IsStore}
 use Rattle.pgs_store.specs.State.{GuardState}
-use Rattle.pgs_store.specs.Stored.{IsLoadedIn, IsSavedIn, StoreState, first_journal, opened}
+use Rattle.pgs_store.specs.Stored.{IsLoadedIn, IsSavedIn, StoreState, first_journal}
 use Rattle.pgs_store.specs.World.{CountsFault, StaysBeside}
 use Rattle.pgs_syntax.specs.declared.resolved.Resolved.{Resolved}
 use Rattle.pgs_world.specs.declared.area.Area.TheVariants.{A, B}
-use Rattle.pgs_world.specs.Disk.{Puts}
-use Rattle.pgs_world.specs.Moment.{EachSince, IsQuiet, IsSettled, IsTimed, StopsBy}
-use Rattle.pgs_world.specs.World.{Triple, View}
+use Rattle.pgs_world.specs.Moment.{EachSince, IsQuiet, IsSettled, IsTimed}
+use Rattle.pgs_world.specs.World.{View}
 use Rattle.pgs_world.proofs.Moments.{each_now, each_on, each_quiet, each_weaker, passes_on, quiet_now, settled_quiet}
 use Rattle.pgs_command.specs.declared.status.Status.{Status}
 use Rattle.pgs_command.specs.declared.status.Status.TheVariants.{Accepted, SchemaRefused, StoreRefused, DiskFault, PutFault, Memory}

@@ -12,7 +12,6 @@ use Rattle.pgs_command.specs.Promise.{Promise}
 use Rattle.pgs_command.specs.Setting.{Setting, SourceState}
 use Rattle.pgs_command.proofs.Promising.{promise_reading}
 use Rattle.pgs_run_input.specs.Answers.{schema_answer}
-use Rattle.pgs_run_input.specs.Input.{text_front}
 use Rattle.pgs_run_input.specs.Text.{IsUnread, IsWhole}
 use Rattle.pgs_run_input.proofs.SameFronts.{schema_of_front}
 use Rattle.pgs_run_input.proofs.OneLine.{silent_none}

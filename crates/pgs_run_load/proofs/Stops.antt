@@ -1,16 +1,14 @@
 -- What images save while a text is loaded.
-use Rattle.std.proofs.Common.{◌≡◌, ◌⊎◌, inl, inr, ℕ, List, Some, Ok, sym, ap, ap₂, subst, ◌∙◌}
+use Rattle.std.proofs.Common.{◌≡◌, ◌⊎◌, inl, inr, ℕ, List, Some, sym, ap, ap₂, subst, ◌∙◌}
 use Rattle.pgs_base.specs.Graph.{empty_graph}
-use Rattle.pgs_resolve.specs.SchemaOf.{schema, schema_of}
 use Rattle.pgs_snapshot.specs.Choice.{area_chosen, chosen_area, chosen_epoch, chosen_next, epoch_chosen, next_chosen}
 use Rattle.pgs_snapshot.specs.Choice as choices
-use Rattle.pgs_snapshot.specs.Saved.{saved, store, no_store}
+use Rattle.pgs_snapshot.specs.Saved.{saved, no_store}
 use Rattle.pgs_store.specs.Stored.{IsLoadedIn, IsSavedIn, first_journal, opened}
 use Rattle.pgs_run_store.proofs.Conforming.{chosen_saves, saved_conforming}
 use Rattle.pgs_syntax.specs.declared.resolved.Resolved.{Resolved}
 use Rattle.pgs_world.specs.declared.area.Area.TheVariants.{A}
 use Rattle.pgs_world.specs.World.{Triple}
-use Rattle.pgs_run_input.specs.Answers.{schema_answer}
 use Rattle.pgs_run_input.specs.Input.{text_front}
 use Rattle.pgs_run_input.specs.Session.{standard}
 use Rattle.pgs_run_input.proofs.Answering.{answer_ok}

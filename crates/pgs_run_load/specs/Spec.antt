@@ -1,6 +1,5 @@
 -- The command `load`. What is told of a text that is no schema rests on no area.
-use Rattle.std.specs.Prelude.{◌≡◌, true, Ok, refl, []}
-use Rattle.pgs_command.specs.declared.status.Status.{Status}
+use Rattle.std.specs.Prelude.{◌≡◌, true, Ok, []}
 use Rattle.pgs_command.specs.Answers.{IsOfCommand}
 use Rattle.pgs_command.specs.Spec.{CommandSpec}
 use Rattle.pgs_syntax.specs.declared.resolved.Resolved.{Resolved}

@@ -3,7 +3,7 @@ use Rattle.pgs_answer.specs.Lines.{store_refused_line}
 use Rattle.pgs_answer.specs.Refusals.{already_store_text, foreign_text}
 use Rattle.pgs_command.specs.declared.status.Status.TheVariants.{Accepted, PutFault, StoreRefused}
 use Rattle.pgs_run_lines.specs.Replies.{PutsReply}
-use Rattle.pgs_store.specs.Loads.{IsLoaded, Loads}
+use Rattle.pgs_store.specs.Loads.{IsLoaded}
 use Rattle.pgs_store.specs.State.{GuardState}
 use Rattle.pgs_store.specs.Stored.{IsLoadedIn}
 use Rattle.pgs_world.specs.Moment.{EachSince}
