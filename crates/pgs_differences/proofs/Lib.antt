@@ -1,1 +1,4 @@
+pub mod Among
+pub mod Each
+pub mod Fitting
 pub mod Keyed

@@ -4,7 +4,14 @@
 mod difference;
 mod keys;
 mod labels;
+pub mod laws;
+mod near_texts;
+mod near_type;
+mod texts;
 mod told;
 
 pub use difference::Difference;
+pub use near_texts::near_type_text;
+pub use near_type::NearType;
+pub use texts::placed_text;
 pub use told::differences;
