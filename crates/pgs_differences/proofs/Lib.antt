@@ -1,4 +1,6 @@
 pub mod Among
+pub mod Candidate
 pub mod Each
 pub mod Fitting
 pub mod Keyed
+pub mod Ordered

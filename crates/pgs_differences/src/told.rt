@@ -55,6 +55,32 @@ fn push_key_differences(
     push_present_differences(shape, props, found)
 }
 
+/// The differences of labels and a shape.
+pub(crate) fn label_differences(
+    alloc: Global,
+    shape: &Shape,
+    labels: &Labels,
+) -> Result<List<Difference>, Memory>
+    ensures { IfOk result (λ found. found ≡ label_differences shape.now labels.now) }
+{
+    let mut found = Vec::new(alloc);
+    push_label_differences(shape, labels, &mut found)?;
+    Ok(List::from_vec(found))
+}
+
+/// The differences of properties and a shape.
+pub(crate) fn key_differences(
+    alloc: Global,
+    shape: &Shape,
+    props: &Props,
+) -> Result<List<Difference>, Memory>
+    ensures { IfOk result (λ found. found ≡ key_differences shape.now props.now) }
+{
+    let mut found = Vec::new(alloc);
+    push_key_differences(shape, props, &mut found)?;
+    Ok(List::from_vec(found))
+}
+
 /// The differences of a pair and a shape, in order: what the pair lacks and what the shape doesn't admit, labels before keys.
 /// There is none exactly where the pair is in the shape. The rule is in `specs/Differences.antt`.
 pub fn differences(
