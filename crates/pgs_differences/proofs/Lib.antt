@@ -3,4 +3,6 @@ pub mod Candidate
 pub mod Each
 pub mod Fitting
 pub mod Keyed
+pub mod Nearer
 pub mod Ordered
+pub mod Sorted

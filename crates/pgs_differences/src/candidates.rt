@@ -77,7 +77,6 @@ fn node_candidate(
 }
 
 /// The candidates of the guard's types for a node, in the guard's order.
-#[tactic(auto, using(crate::proofs::Candidate::candidates_more))]
 pub(crate) fn node_candidates(
     alloc: Global,
     compiled: &Compiled,
@@ -160,7 +159,6 @@ fn edge_candidate(
 }
 
 /// The candidates of the guard's types for an edge, in the guard's order.
-#[tactic(auto, using(crate::proofs::Candidate::candidates_more))]
 pub(crate) fn edge_candidates(
     alloc: Global,
     compiled: &Compiled,
