@@ -1,5 +1,5 @@
 -- What is among items that are made of others.
-use Rattle.std.proofs.Common.{◌≡◌, ℕ, zero, suc, ◌<◌, Bool, true, false, cond, ◌⊎◌, inl, inr, List, [], ◌∷◌, ◌++◌, length, map, refl, sym, ap, subst, arith, flat_map}
+use Rattle.std.proofs.Common.{◌≡◌, zero, suc, Bool, true, false, cond, ◌⊎◌, inl, inr, List, [], ◌∷◌, map, refl, sym, subst, arith, flat_map}
 use Rattle.std.specs.List.{Contains}
 use Rattle.std.proofs.lemmas.List.Elements.{Contains-append_left, Contains-append_right, Contains-append_cases}
 
@@ -26,16 +26,16 @@ module _ {X A : Type 0} (f : X → List A) where
   made_of [] a h = among_none a h
   made_of (x ∷ xs) a h =
       elim (Contains-append_cases (f x) (flat_map f xs) a h) [
-        inl own ↦ (x, first x xs, own)
-      | inr rest ↦ let found = made_of xs a rest in (found.0, later x found.0 xs found.1, found.2)
+        | inl own ↦ (x, first x xs, own)
+        | inr rest ↦ let found = made_of xs a rest in (found.0, later x found.0 xs found.1, found.2)
       ]
 
   pub is_made : (xs : List X) (x : X) (a : A) → Contains xs x → Contains (f x) a → Contains (flat_map f xs) a
   is_made [] x a h own = among_none x h
   is_made (y ∷ ys) x a h own =
       elim (either y x ys h) [
-        inl same ↦ Contains-append_left (f y) (flat_map f ys) a (subst (λ z. Contains (f z) a) (sym same) own)
-      | inr rest ↦ Contains-append_right (f y) (flat_map f ys) a (is_made ys x a rest own)
+        | inl same ↦ Contains-append_left (f y) (flat_map f ys) a (subst (λ z. Contains (f z) a) (sym same) own)
+        | inr rest ↦ Contains-append_right (f y) (flat_map f ys) a (is_made ys x a rest own)
       ]
 
 -- of the images of items
@@ -44,16 +44,16 @@ module _ {X A : Type 0} (f : X → A) where
   image_of [] a h = among_none a h
   image_of (x ∷ xs) a h =
       elim (either (f x) a (map f xs) h) [
-        inl own ↦ (x, first x xs, own)
-      | inr rest ↦ let found = image_of xs a rest in (found.0, later x found.0 xs found.1, found.2)
+        | inl own ↦ (x, first x xs, own)
+        | inr rest ↦ let found = image_of xs a rest in (found.0, later x found.0 xs found.1, found.2)
       ]
 
   pub is_image : (xs : List X) (x : X) → Contains xs x → Contains (map f xs) (f x)
   is_image [] x h = among_none x h
   is_image (y ∷ ys) x h =
       elim (either y x ys h) [
-        inl same ↦ subst (λ z. Contains (f y ∷ map f ys) (f z)) same (first (f y) (map f ys))
-      | inr rest ↦ later (f y) (f x) (map f ys) (is_image ys x rest)
+        | inl same ↦ subst (λ z. Contains (f y ∷ map f ys) (f z)) same (first (f y) (map f ys))
+        | inr rest ↦ later (f y) (f x) (map f ys) (is_image ys x rest)
       ]
 
 -- of at most one, unless a test holds

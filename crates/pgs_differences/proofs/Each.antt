@@ -1,5 +1,5 @@
 -- What is told are the differences, and each of them.
-use Rattle.std.proofs.Common.{◌≡◌, ℕ, Bool, true, false, cond, ◌||◌, ◌⊎◌, inl, inr, List, [], ◌∷◌, ◌++◌, Option, Some, None, flat_map, refl, sym, ap, subst, ◌∙◌}
+use Rattle.std.proofs.Common.{◌≡◌, ℕ, Bool, true, false, ◌||◌, inl, inr, List, Option, Some, None, flat_map, refl, sym, subst}
 use Rattle.std.specs.List.{Contains}
 use Rattle.std.specs.Map.{keys_of}
 use Rattle.std.proofs.lemmas.List.Elements.{Contains-append_left, Contains-append_right, Contains-append_cases}
@@ -64,31 +64,31 @@ module _ (shape : Shape) (p : NodeRow) where
   unfolding label_differences
   labels_told d h =
       elim (Contains-append_cases (flat_map (of_asked_label p.labels) shape.labels) (flat_map (of_label shape.more_labels shape.labels) p.labels) d h) [
-        inl own ↦ let found = made_of (of_asked_label p.labels) shape.labels d own in asked_told found.0 d found.1 found.2
-      | inr own ↦ let found = made_of (of_label shape.more_labels shape.labels) p.labels d own in label_told found.0 d found.1 found.2
+        | inl own ↦ let found = made_of (of_asked_label p.labels) shape.labels d own in asked_told found.0 d found.1 found.2
+        | inr own ↦ let found = made_of (of_label shape.more_labels shape.labels) p.labels d own in label_told found.0 d found.1 found.2
       ]
 
   present_ones_told : (d : Difference) → Contains (present_differences shape p.props) d → IsDifference shape p d
   unfolding present_differences
   present_ones_told d h =
       elim (Contains-append_cases (flat_map present_at shape.keys) (flat_map (of_key shape.more_keys shape.keys) p.props) d h) [
-        inl own ↦ let found = made_of present_at shape.keys d own in present_told found.0 (value_at found.0.0 p.props) d refl found.1 found.2
-      | inr own ↦ let found = made_of (of_key shape.more_keys shape.keys) p.props d own in key_told found.0 d found.1 found.2
+        | inl own ↦ let found = made_of present_at shape.keys d own in present_told found.0 (value_at found.0.0 p.props) d refl found.1 found.2
+        | inr own ↦ let found = made_of (of_key shape.more_keys shape.keys) p.props d own in key_told found.0 d found.1 found.2
       ]
 
   keys_told : (d : Difference) → Contains (key_differences shape p.props) d → IsDifference shape p d
   unfolding key_differences
   keys_told d h =
       elim (Contains-append_cases (flat_map absent_at shape.keys) (present_differences shape p.props) d h) [
-        inl own ↦ let found = made_of absent_at shape.keys d own in absent_told found.0 (value_at found.0.0 p.props) d refl found.1 found.2
-      | inr own ↦ present_ones_told d own
+        | inl own ↦ let found = made_of absent_at shape.keys d own in absent_told found.0 (value_at found.0.0 p.props) d refl found.1 found.2
+        | inr own ↦ present_ones_told d own
       ]
 
   pub told : (d : Difference) → Contains (differences shape p) d → IsDifference shape p d
   told d h =
       elim (Contains-append_cases (label_differences shape p.labels) (key_differences shape p.props) d h) [
-        inl own ↦ labels_told d own
-      | inr own ↦ keys_told d own
+        | inl own ↦ labels_told d own
+        | inr own ↦ keys_told d own
       ]
 
   -- ---- and each is told

@@ -1,8 +1,7 @@
 -- Items in order: what is among them, and that none of the later goes before one of the first.
-use Rattle.std.proofs.Common.{◌≡◌, ℕ, zero, suc, ◌<◌, ◌≤◌, Bool, true, false, cond, ◌⊎◌, inl, inr, List, [], ◌∷◌, length, take, filter, fold, refl, sym, ap, ◌∙◌, subst, arith}
+use Rattle.std.proofs.Common.{◌≡◌, ℕ, zero, suc, Bool, true, false, cond, ◌⊎◌, inl, inr, List, [], ◌∷◌, take, filter, fold, refl, sym, ◌∙◌, subst}
 use Rattle.std.specs.Bool.{⊤}
 use Rattle.std.specs.List.{Contains}
-use Rattle.std.proofs.lemmas.Bool.{cases_Bool}
 use Rattle.pgs_differences.specs.Nearest.{put, in_order}
 use Rattle.pgs_differences.proofs.Among.{among_none, first, later, either}
 
@@ -31,10 +30,10 @@ module _ {X : Type 0} (before : X → X → Bool) (orders : Orders before) where
   put_has_it true x y z ys h rest = h
   put_has_it false x y z ys h rest =
       elim (either x z (y ∷ ys) h) [
-        inl same ↦ later y z (put before ys x) (rest (subst (λ w. Contains (w ∷ ys) z) (sym same) (first z ys)))
-      | inr among ↦ elim (either y z ys among) [
-          inl same ↦ subst (λ w. Contains (w ∷ put before ys x) z) (sym same) (first z (put before ys x))
-        | inr below ↦ later y z (put before ys x) (rest (later x z ys below))
+        | inl same ↦ later y z (put before ys x) (rest (subst (λ w. Contains (w ∷ ys) z) (sym same) (first z ys)))
+        | inr among ↦ elim (either y z ys among) [
+          | inl same ↦ subst (λ w. Contains (w ∷ put before ys x) z) (sym same) (first z (put before ys x))
+          | inr below ↦ later y z (put before ys x) (rest (later x z ys below))
         ]
       ]
 
@@ -47,10 +46,10 @@ module _ {X : Type 0} (before : X → X → Bool) (orders : Orders before) where
   put_from_it true x y z ys h rest = h
   put_from_it false x y z ys h rest =
       elim (either y z (put before ys x) h) [
-        inl same ↦ later x z (y ∷ ys) (subst (λ w. Contains (w ∷ ys) z) (sym same) (first z ys))
-      | inr among ↦ elim (either x z ys (rest among)) [
-          inl same ↦ subst (λ w. Contains (w ∷ y ∷ ys) z) (sym same) (first z (y ∷ ys))
-        | inr below ↦ later x z (y ∷ ys) (later y z ys below)
+        | inl same ↦ later x z (y ∷ ys) (subst (λ w. Contains (w ∷ ys) z) (sym same) (first z ys))
+        | inr among ↦ elim (either x z ys (rest among)) [
+          | inl same ↦ subst (λ w. Contains (w ∷ y ∷ ys) z) (sym same) (first z (y ∷ ys))
+          | inr below ↦ later x z (y ∷ ys) (later y z ys below)
         ]
       ]
 
@@ -62,11 +61,11 @@ module _ {X : Type 0} (before : X → X → Bool) (orders : Orders before) where
   all_from kept [] z h = inl h
   all_from kept (x ∷ xs) z h =
       elim (all_from (put before kept x) xs z h) [
-        inl among ↦ elim (either x z kept (put_from kept x z among)) [
-          inl same ↦ inr (subst (λ w. Contains (w ∷ xs) z) (sym same) (first z xs))
-        | inr below ↦ inl below
+        | inl among ↦ elim (either x z kept (put_from kept x z among)) [
+          | inl same ↦ inr (subst (λ w. Contains (w ∷ xs) z) (sym same) (first z xs))
+          | inr below ↦ inl below
         ]
-      | inr below ↦ inr (later x z xs below)
+        | inr below ↦ inr (later x z xs below)
       ]
 
   all_has : (kept xs : List X) (z : X) → Contains kept z ⊎ Contains xs z → Contains (fold (put before) kept xs) z
@@ -75,8 +74,8 @@ module _ {X : Type 0} (before : X → X → Bool) (orders : Orders before) where
   all_has kept (x ∷ xs) z (inl among) = all_has (put before kept x) xs z (inl (put_has kept x z (later x z kept among)))
   all_has kept (x ∷ xs) z (inr among) =
       elim (either x z xs among) [
-        inl same ↦ all_has (put before kept x) xs z (inl (put_has kept x z (subst (λ w. Contains (w ∷ kept) z) (sym same) (first z kept))))
-      | inr below ↦ all_has (put before kept x) xs z (inr below)
+        | inl same ↦ all_has (put before kept x) xs z (inl (put_has kept x z (subst (λ w. Contains (w ∷ kept) z) (sym same) (first z kept))))
+        | inr below ↦ all_has (put before kept x) xs z (inr below)
       ]
 
   pub in_order_from : (xs : List X) (z : X) → Contains (in_order before xs) z → Contains xs z
@@ -89,16 +88,20 @@ module _ {X : Type 0} (before : X → X → Bool) (orders : Orders before) where
 
   put_orders_it : (b : Bool) (x y : X) (ys : List X) → before x y ≡ b → Ordered (y ∷ ys) → Ordered (put before ys x) →
       Ordered (cond b (x ∷ y ∷ ys) (y ∷ put before ys x))
-  put_orders_it true x y ys e h rest =
-      (λ z among. elim (either y z ys among) [
-        inl same ↦ subst (λ w. before w x ≡ false) same (orders.apart x y e)
+  put_orders_it true x y ys e h rest = (
+    λ z among. elim (either y z ys among) [
+      | inl same ↦ subst (λ w. before w x ≡ false) same (orders.apart x y e)
       | inr below ↦ no_sooner x y z e (h.0 z below)
-      ], h)
-  put_orders_it false x y ys e h rest =
-      (λ z among. elim (either x z ys (put_from ys x z among)) [
-        inl same ↦ subst (λ w. before w y ≡ false) same e
+    ],
+    h,
+  )
+  put_orders_it false x y ys e h rest = (
+    λ z among. elim (either x z ys (put_from ys x z among)) [
+      | inl same ↦ subst (λ w. before w y ≡ false) same e
       | inr below ↦ h.0 z below
-      ], rest)
+    ],
+    rest,
+  )
 
   put_orders : (xs : List X) (x : X) → Ordered xs → Ordered (put before xs x)
   put_orders [] x h = (λ z none. among_none z none, tt)
@@ -118,8 +121,8 @@ module _ {X : Type 0} (before : X → X → Bool) (orders : Orders before) where
   take_from (suc n) [] z h = among_none z h
   take_from (suc n) (x ∷ xs) z h =
       elim (either x z (take n xs) h) [
-        inl same ↦ subst (λ w. Contains (w ∷ xs) z) (sym same) (first z xs)
-      | inr below ↦ later x z xs (take_from n xs z below)
+        | inl same ↦ subst (λ w. Contains (w ∷ xs) z) (sym same) (first z xs)
+        | inr below ↦ later x z xs (take_from n xs z below)
       ]
 
   front_first : (n : ℕ) (xs : List X) (t z : X) → Ordered xs → Contains (take n xs) t → Contains xs z →
@@ -128,12 +131,12 @@ module _ {X : Type 0} (before : X → X → Bool) (orders : Orders before) where
   front_first (suc n) [] t z h front among = among_none t front
   front_first (suc n) (x ∷ xs) t z h front among =
       elim (either x z xs among) [
-        inl same ↦ inl (subst (λ w. Contains (w ∷ take n xs) z) (sym same) (first z (take n xs)))
-      | inr below ↦ elim (either x t (take n xs) front) [
-          inl same ↦ inr (subst (λ w. before z w ≡ false) same (h.0 z below))
-        | inr front_below ↦ elim (front_first n xs t z h.1 front_below below) [
-            inl kept ↦ inl (later x z (take n xs) kept)
-          | inr sooner ↦ inr sooner
+        | inl same ↦ inl (subst (λ w. Contains (w ∷ take n xs) z) (sym same) (first z (take n xs)))
+        | inr below ↦ elim (either x t (take n xs) front) [
+          | inl same ↦ inr (subst (λ w. before z w ≡ false) same (h.0 z below))
+          | inr front_below ↦ elim (front_first n xs t z h.1 front_below below) [
+            | inl kept ↦ inl (later x z (take n xs) kept)
+            | inr sooner ↦ inr sooner
           ]
         ]
       ]
@@ -153,8 +156,8 @@ module _ {X : Type 0} (test : X → Bool) where
   kept_has [] z h passes = among_none z h
   kept_has (x ∷ xs) z h passes =
       elim (either x z xs h) [
-        inl same ↦ here (test x) (subst (λ w. test w ≡ true) (sym same) passes) same
-      | inr below ↦ beside (test x) (kept_has xs z below passes)
+        | inl same ↦ here (test x) (subst (λ w. test w ≡ true) (sym same) passes) same
+        | inr below ↦ beside (test x) (kept_has xs z below passes)
       ]
     where
       here : (b : Bool) → b ≡ true → x ≡ z → Contains (cond b (x ∷ filter test xs) (filter test xs)) z
@@ -173,7 +176,7 @@ module _ {X : Type 0} (test : X → Bool) where
           (Contains (filter test xs) z → Contains xs z × (test z ≡ true)) → Contains (x ∷ xs) z × (test z ≡ true)
       by true e own rest =
           elim (either x z (filter test xs) own) [
-            inl same ↦ (subst (λ w. Contains (w ∷ xs) z) (sym same) (first z xs), subst (λ w. test w ≡ true) same e)
-          | inr below ↦ let found = rest below in (later x z xs found.0, found.1)
+            | inl same ↦ (subst (λ w. Contains (w ∷ xs) z) (sym same) (first z xs), subst (λ w. test w ≡ true) same e)
+            | inr below ↦ let found = rest below in (later x z xs found.0, found.1)
           ]
       by false e own rest = let found = rest own in (later x z xs found.0, found.1)

@@ -1,9 +1,8 @@
 -- The differences of a pair and a shape: why the pair isn't in the shape. There are five kinds, in this order, and each kind
 -- ascends by label or key.
-use Rattle.std.specs.Prelude.{◌≡◌, ℕ, Bool, true, false, not, ◌||◌, List, [], ◌∷◌, ◌++◌, Option, Some, None, Contains, flat_map, if◌then◌else◌}
+use Rattle.std.specs.Prelude.{◌≡◌, ℕ, Bool, false, ◌||◌, List, [], ◌∷◌, ◌++◌, Option, Some, None, Contains, flat_map, if◌then◌else◌}
 use Rattle.std.specs.Map.{keys_of}
 use Rattle.pgs_base.specs.declared.row.NodeRow.{NodeRow}
-use Rattle.pgs_base.specs.declared.value.Kind.{Kind}
 use Rattle.pgs_base.specs.declared.value.Value.{Value}
 use Rattle.pgs_base.specs.Pair.{has_name, value_at}
 use Rattle.pgs_base.specs.Value.{kind_of}

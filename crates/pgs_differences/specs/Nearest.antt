@@ -114,7 +114,7 @@ abbrev pub IsNodeCandidate : Resolved → NodeRow → TypeNo → List NearType �
 IsNodeCandidate resolved p (Node number) found =
     MatchBool (is_concrete_node_type resolved number)
     ((shapes : List Shape) × Denotes shapes (fits_node resolved number)
-        × (found ≡ nearest_shape (flat_map (near_nodes number p) shapes)))
+    × (found ≡ nearest_shape (flat_map (near_nodes number p) shapes)))
     (found ≡ [])
 IsNodeCandidate resolved p (Edge number) found = found ≡ []
 
@@ -123,7 +123,7 @@ IsEdgeCandidate resolved t (Node number) found = found ≡ []
 IsEdgeCandidate resolved t (Edge number) found =
     MatchBool (is_concrete_edge_type resolved number)
     ((triples : List ShapeTriple) × DenotesTriples triples (fits_edge resolved number)
-        × (found ≡ nearest_shape (flat_map (near_edges number t) triples)))
+    × (found ≡ nearest_shape (flat_map (near_edges number t) triples)))
     (found ≡ [])
 
 -- the candidates of types, in their order

@@ -24,6 +24,8 @@ impl Measure {
         let own_keys = self.own_keys.cmp(&other.own_keys);
         let end_labels = self.end_labels.cmp(&other.end_labels);
         let end_keys = self.end_keys.cmp(&other.end_keys);
-        self.own_labels.cmp(&other.own_labels).then(ends.then(own_keys.then(end_labels.then(end_keys))))
+        self.own_labels
+            .cmp(&other.own_labels)
+            .then(ends.then(own_keys.then(end_labels.then(end_keys))))
     }
 }

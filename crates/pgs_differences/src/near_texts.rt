@@ -43,7 +43,12 @@ fn difference_texts(alloc: Global, near: &NearType) -> Result<Vec<Bytes>, Memory
 {
     let mut texts = Vec::new(alloc);
     push_placed_texts(alloc, b"source ", near.source.as_slice(), &mut texts)?;
-    push_placed_texts(alloc, own_place(near.type_no), near.own.as_slice(), &mut texts)?;
+    push_placed_texts(
+        alloc,
+        own_place(near.type_no),
+        near.own.as_slice(),
+        &mut texts,
+    )?;
     push_placed_texts(alloc, b"target ", near.target.as_slice(), &mut texts)?;
     Ok(texts)
 }

@@ -28,11 +28,7 @@ fn is_possible(shape: &Shape) -> bool
 
 // The differences at an end of an edge: those in labels alone, where there are such.
 #[tactic(auto, unfolding(crate::specs::Nearest::end_differences))]
-fn end_differences(
-    alloc: Global,
-    shape: &Shape,
-    end: &Pair<'_>,
-) -> Result<List<Difference>, Memory>
+fn end_differences(alloc: Global, shape: &Shape, end: &Pair<'_>) -> Result<List<Difference>, Memory>
     ensures { IfOk result (λ found. found ≡ end_differences shape.now end.now) }
 {
     let in_labels = label_differences(alloc, shape, end.labels)?;

@@ -142,11 +142,7 @@ fn push_difference(
 
 /// The text of a difference behind the word of the place where it is, as `source lacks label Person`. The words are in
 /// `specs/Texts.antt`; `Memory` is free.
-pub fn placed_text(
-    alloc: Global,
-    place: &[u8],
-    difference: &Difference,
-) -> Result<Bytes, Memory>
+pub fn placed_text(alloc: Global, place: &[u8], difference: &Difference) -> Result<Bytes, Memory>
     ensures { IfOk result (λ text. text ≡ placed_text place.now difference.now) }
 {
     let mut text = TextBuffer::with_room(alloc, ROOM)?;

@@ -16,12 +16,7 @@ fn push_label_differences(
     ensures { OnOk result (found.new.items ≡ found.old.items ++ label_differences shape.now labels.now) }
 {
     labels::push_missing(shape.labels.as_slice(), labels, found)?;
-    labels::push_further(
-        &shape.labels,
-        shape.more_labels,
-        labels.as_slice(),
-        found,
-    )
+    labels::push_further(&shape.labels, shape.more_labels, labels.as_slice(), found)
 }
 
 // Puts the differences of properties that are there last.
@@ -83,11 +78,7 @@ pub(crate) fn key_differences(
 
 /// The differences of a pair and a shape, in order: what the pair lacks and what the shape doesn't admit, labels before keys.
 /// There is none exactly where the pair is in the shape. The rule is in `specs/Differences.antt`.
-pub fn differences(
-    alloc: Global,
-    shape: &Shape,
-    own: &Pair<'_>,
-) -> Result<List<Difference>, Memory>
+pub fn differences(alloc: Global, shape: &Shape, own: &Pair<'_>) -> Result<List<Difference>, Memory>
     ensures { IfOk result (λ found. found ≡ differences shape.now own.now) }
 {
     let mut found = Vec::new(alloc);

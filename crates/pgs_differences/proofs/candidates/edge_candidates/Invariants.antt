@@ -1,4 +1,4 @@
-use Rattle.std.proofs.Common.{◌≡◌, take}
+use Rattle.std.proofs.Common.{take}
 use Rattle.pgs_conform.specs.Shapes.{triple_of}
 use Rattle.pgs_differences.specs.Nearest.{Candidates, IsEdgeCandidate}
 use Rattle.pgs_differences.proofs.candidates.edge_candidates.Given as goal

@@ -1,4 +1,4 @@
-use Rattle.std.proofs.Common.{◌≡◌, take}
+use Rattle.std.proofs.Common.{take}
 use Rattle.pgs_differences.specs.Nearest.{Candidates, IsNodeCandidate}
 use Rattle.pgs_differences.proofs.candidates.node_candidates.Given as goal
 

@@ -1,4 +1,4 @@
-use Rattle.std.proofs.Common.{◌≡◌, take, sym, ap, ◌∙◌}
+use Rattle.std.proofs.Common.{take, sym, ap, ◌∙◌}
 use Rattle.std.specs.List.{position_or_len, insert}
 use Rattle.pgs_differences.specs.Nearest.{goes_before}
 use Rattle.pgs_differences.proofs.Ordered.{put_is}
