@@ -1,6 +1,7 @@
 pub mod Among
 pub mod Candidate
 pub mod Each
+pub mod Fewest
 pub mod Fitting
 pub mod Keyed
 pub mod Nearer

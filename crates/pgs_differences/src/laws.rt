@@ -1,6 +1,6 @@
 //! What differences and nearest types are. The functions do nothing; their contracts are the statements.
 
-ghost use Rattle.std.specs.Prelude.{◌≡◌, ◌≤◌, ◌⊎◌, List as Items, true, false, length, Contains};
+ghost use Rattle.std.specs.Prelude.{◌≡◌, ◌≤◌, ◌⊎◌, List as Items, ◌∷◌, true, false, length, Contains};
 ghost use Rattle.pgs_base.specs.declared.row.NodeRow.{NodeRow};
 ghost use Rattle.pgs_syntax.specs.Join.{is_empty};
 ghost use Rattle.pgs_conform.specs.declared.shape.Shape.{Shape};
@@ -28,9 +28,10 @@ pub fn nearest_shape_is_least()
         Contains (nearest_shape nears) near ⊎ (goes_before near least ≡ false) }
 {}
 
-/// At most three types are told. They are candidates that are eligible, and no eligible one that isn't told goes before one that is.
+/// At most three types are told, and one where there is a candidate. They are candidates that are eligible, and no eligible one that isn't told goes before one that is.
 pub fn none_untold_goes_before()
     ensures few { (nears : Items ANearType) → length (nearest nears) ≤ 3 }
+    ensures some { (near : ANearType) (nears : Items ANearType) → is_empty (nearest (near ∷ nears)) ≡ false }
     ensures told { (nears : Items ANearType) (told : ANearType) → Contains (nearest nears) told →
         Contains nears told × (is_eligible nears told ≡ true) }
     ensures before { (nears : Items ANearType) (told near : ANearType) → Contains (nearest nears) told → Contains nears near →

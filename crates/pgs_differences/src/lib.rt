@@ -12,6 +12,7 @@ mod near_texts;
 mod near_type;
 mod nearest;
 mod ordering;
+pub mod samples;
 mod shaped;
 mod texts;
 mod told;

@@ -83,8 +83,8 @@ fn nearest(alloc: Global, nears: Vec<NearType>) -> Result<List<NearType>, Memory
 }
 
 /// The types of the guard that a node comes nearest to, at most three, the nearest first: of those with the fewest differences in
-/// labels the ones with the fewest others, and of these the first in the guard. None is ABSTRACT or fitted by nothing; so there is
-/// none exactly where the guard has no other. The rule is in `specs/Nearest.antt`.
+/// labels the ones with the fewest others, and of these the first in the guard. None is ABSTRACT or fitted by nothing, and there is none
+/// exactly where no other is of the guard. The rule is in `specs/Nearest.antt`.
 pub fn nearest_node_types(
     alloc: Global,
     compiled: &Compiled,
