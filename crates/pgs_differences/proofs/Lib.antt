@@ -1,0 +1,9 @@
+pub mod Among
+pub mod Candidate
+pub mod Each
+pub mod Fewest
+pub mod Fitting
+pub mod Keyed
+pub mod Nearer
+pub mod Ordered
+pub mod Sorted

@@ -1,0 +1,4 @@
+pub mod Differences
+pub mod Nearest
+pub mod Samples
+pub mod Texts
