@@ -4,6 +4,7 @@ use Rattle.std.specs.IoError.{error_kind}
 use Rattle.std.specs.declared.fs.options.OpenOptions.{OpenOptions}
 use Rattle.std.specs.declared.io.Error.{Error}
 use Rattle.std.specs.declared.io.ErrorKind.TheVariants.{PermissionDenied}
+use Rattle.pgs_world_files.specs.declared.feed_opening.TheConstants.{END_LIMIT}
 use Rattle.pgs_world_files.specs.declared.found.Found.{Found}
 use Rattle.pgs_world_files.specs.Calls.{AsksToPlace, Facts, IsOpenBehind, is_same}
 use Rattle.pgs_world_files.specs.FeedLines.{EndIs}
@@ -33,7 +34,7 @@ MayBeRead facts name (Some look) = (how : OpenOptions) × AsksToPlace how true �
 MayBeRead facts name None =
     (how : OpenOptions) × AsksToPlace how true × (error : Error) × facts.opened how name (Err error) × (error_kind error ≡ PermissionDenied)
 
--- The last bytes of a file, at most 2,097,154: the file of its name was opened to be read, was found to be the same, and they were read there.
+-- The last bytes of a file, at most END_LIMIT: the file of its name was opened to be read, was found to be the same, and they were read there.
 pub record HasEnd {F : Type 0} (facts : Facts F) (name : List ℕ) (file : F) (end : List ℕ) : Type 0 where
   pub look : F
   pub opened : MayBeRead facts name (Some look)
@@ -42,7 +43,7 @@ pub record HasEnd {F : Type 0} (facts : Facts F) (name : List ℕ) (file : F) (e
   pub found_file : facts.found file (Ok this)
   pub found_look : facts.found look (Ok now)
   pub same : is_same this now ≡ true
-  pub size : length end ≡ min now.len 2097154
+  pub size : length end ≡ min now.len END_LIMIT
   pub count : ℕ
   pub left : F
   pub read : facts.read look (now.len - length end) end (Ok count) left

@@ -4,6 +4,7 @@ use Rattle.std.specs.Char.{is_ascii_digit, digit_value}
 use Rattle.std.specs.List.{list_all, position_or_len, starts_with, ends_with}
 use Rattle.pgs_world_files.specs.declared.feed_cause.FeedCause.{FeedCause}
 use Rattle.pgs_world_files.specs.declared.feed_cause.FeedCause.TheVariants.{NoFeed, Torn}
+use Rattle.pgs_world_files.specs.declared.feed_line.TheConstants.{LINE_LIMIT}
 
 -- the number that digits go on with; none where a byte is no digit, or the number has more than 64 bits
 abbrev pub number_after : ℕ → List ℕ → Option ℕ
@@ -37,9 +38,9 @@ commit_before rest =
 abbrev pub commit_of : List ℕ → Option ℕ
 commit_of bytes = if begins bytes (codes "{\"commit\":") then commit_before (drop 10 bytes) else None
 
--- the same of a whole line: at most 2,097,152 bytes, of which `]}` are the last
+-- the same of a whole line: at most LINE_LIMIT bytes, of which `]}` are the last
 abbrev pub commit_of_line : List ℕ → Option ℕ
-commit_of_line line = if nat_le (length line) 2097152 && ends_with (λ x y. x == y) line (codes "]}") then commit_of line else None
+commit_of_line line = if nat_le (length line) LINE_LIMIT && ends_with (λ x y. x == y) line (codes "]}") then commit_of line else None
 
 -- what stands behind the last line feed; all where there is none
 pub record IsBehindFeed (bytes line : List ℕ) : Type 0 where
