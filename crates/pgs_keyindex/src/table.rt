@@ -64,6 +64,7 @@ impl KeyTable {
         ensures exclusive { result.exclusive ≡ exclusive }
         ensures seed { result.seed ≡ seed }
         ensures rows { result.rows.rows ≡ [] }
+        ensures hashed { (result.rows.seed ≡ seed) × (result.holders.seed ≡ seed) }
     {
         KeyTable {
             alloc,

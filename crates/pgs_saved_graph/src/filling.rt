@@ -1,6 +1,7 @@
 ghost use Rattle.std.specs.Prelude.{◌≡◌, true, map, Some, IfOk};
 ghost use Rattle.pgs_base.specs.Graph.{is_graph};
 ghost use Rattle.pgs_codec.specs.Encodable.{snapshot_graph};
+ghost use Rattle.pgs_tables.specs.Standing.{seeds_by};
 
 use pgs_base::{EdgeId, EdgeRow, List, Memory, NodeId, NodeRow, Seed};
 use pgs_graph::Delta;
@@ -29,7 +30,8 @@ pub fn tables_of(
     edges: List<(EdgeId, EdgeRow)>,
 ) -> Result<Tables, Memory>
     requires { is_graph (snapshot_graph nodes edges) ≡ true }
-    ensures { IfOk result (λ tables. tables.graph ≡ snapshot_graph nodes edges) }
+    ensures graph { IfOk result (λ tables. tables.graph ≡ snapshot_graph nodes edges) }
+    ensures seeds { IfOk result (λ tables. tables.seeds ≡ seeds_by seed) }
 {
     let delta = Delta {
         nodes: added(alloc, nodes)?,

@@ -1,4 +1,4 @@
--- What a table of numbered rows is seen as: the rows that are there by ascending number, and the numbers that have a slot.
+-- What a table of numbered rows is seen as: the rows that are there by ascending number, the numbers that have a slot, and how it hashes.
 use Rattle.std.specs.Prelude.{◌≡◌, ℕ, Bool, true, cond, List, length, [], ◌∷◌, ◌++◌, Option, Some, None, ◌<◌, get_or, refl}
 use Rattle.std.specs.Coded.{Coded, code_by, coded_list, coded×}
 use Rattle.std.specs.declared.cmp.Ordering.{Ordering}
@@ -6,16 +6,20 @@ use Rattle.std.specs.List.{list_any, IsDistinct}
 use Rattle.std.specs.Map.{keys_of, lookup, set_value}
 use Rattle.indexmap.specs.Layout.{set_value_at}
 use Rattle.std.specs.BTreeMap.{is_at, insert_entry}
+use Rattle.pgs_base.specs.declared.seed.Seed.{Seed}
+use Rattle.pgs_base.specs.contracts.seed.Seed as seeds
 use Rattle.pgs_base_slots.specs.Slots.{left_at}
 
 pub record Slots (K V : Type 0) : Type 0 where
   pub rows : List (K × V)
   pub numbers : List K
+  -- numbers are hashed by it
+  pub seed : Seed
 
 abbrev pub code_slots : {K V : Type 0} → Coded K → Coded V → Coded (Slots K V)
 code_slots {K} {V} k v =
-    code_by (List (K × V) × List K) (coded× (coded_list (coded× k v)) (coded_list k))
-    (λ s. (s.rows, s.numbers)) (λ p. record { rows = p.0; numbers = p.1 }) (λ _. refl)
+    code_by (List (K × V) × (List K × Seed)) (coded× (coded_list (coded× k v)) (coded× (coded_list k) seeds.the_row.coded))
+    (λ s. (s.rows, (s.numbers, s.seed))) (λ p. record { rows = p.0; numbers = p.1.0; seed = p.1.1 }) (λ _. refl)
 
 -- whether a number has a slot
 abbrev pub has_slot : {K V : Type 0} → (K → K → Ordering) → Slots K V → K → Bool

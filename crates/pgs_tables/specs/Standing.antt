@@ -6,17 +6,28 @@ use Rattle.std.specs.BTreeMap.{is_at}
 use Rattle.pgs_base.specs.declared.element.NodeId.{NodeId}
 use Rattle.pgs_base.specs.declared.element.EdgeId.{EdgeId}
 use Rattle.pgs_base.specs.declared.row.EdgeRow.{EdgeRow}
+use Rattle.pgs_base.specs.declared.seed.Seed.{Seed}
 use Rattle.pgs_base.specs.Graph.{Graph, node_cmp, edge_cmp, element_count, is_graph}
 use Rattle.pgs_graph.specs.declared.delta.Delta.{Delta}
 use Rattle.pgs_tables.specs.Slots.{Slots, has_slot}
 use Rattle.pgs_tables.specs.declared.node_edges.NodeTable.{NodeTable}
 use Rattle.pgs_tables.specs.Adjacency.{node_edges}
 
--- what contracts see of tables: the graph that they mean, the delta that they are ready for, and how many slots they have
+-- the seeds by which the numbers of nodes and of edges are hashed
+pub record TableSeeds : Type 0 where
+  pub nodes : Seed
+  pub edges : Seed
+
+-- both are this one
+abbrev pub seeds_by : Seed → TableSeeds
+seeds_by seed = record { nodes = seed; edges = seed }
+
+-- what contracts see of tables: the graph that they mean, the delta that they are ready for, how many slots they have, and how they hash
 pub record TablesState : Type 0 where
   pub graph : Graph
   pub ready : Option Delta
   pub slots : ℕ
+  pub seeds : TableSeeds
 
 -- how many slots there are in two tables
 abbrev pub slot_count : Slots NodeId NodeTable → Slots EdgeId EdgeRow → ℕ

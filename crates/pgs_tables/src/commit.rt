@@ -21,6 +21,7 @@ pub(crate) fn put_rows<K: Number, V: Drop>(table: &mut Numbered<K, V>, changes: 
     requires { list_all (has_slot K.cmp table.old) (keys_of changes.items) ≡ true }
     ensures rows { table.new.rows ≡ entries_changed K.cmp table.old.rows changes.items }
     ensures numbers { table.new.numbers ≡ table.old.numbers }
+    ensures seed { table.new.seed ≡ table.old.seed }
 {
     for (id, row) in changes {
         put_row(table, id, row);
@@ -31,6 +32,7 @@ fn put_row<K: Number, V: Drop>(table: &mut Numbered<K, V>, id: K, row: Option<V>
     requires { has_slot K.cmp table.old id ≡ true }
     ensures rows { table.new.rows ≡ entry_changed K.cmp table.old.rows id row }
     ensures numbers { table.new.numbers ≡ table.old.numbers }
+    ensures seed { table.new.seed ≡ table.old.seed }
 {
     match row {
         Some(row) => table.put(id, row),
@@ -49,6 +51,7 @@ pub(crate) fn put_nodes(
     requires { list_all (has_slot node_cmp nodes.old) (keys_of changes.items) ≡ true }
     ensures rows { (q : NodeId) → lookup (is_at (node_cmp q)) nodes.new.rows ≡ rows_put q (lookup (is_at (node_cmp q)) nodes.old.rows) changes.items }
     ensures numbers { nodes.new.numbers ≡ nodes.old.numbers }
+    ensures seed { nodes.new.seed ≡ nodes.old.seed }
 {
     for (id, row) in changes {
         put_node(nodes, alloc, id, row);
@@ -64,6 +67,7 @@ fn put_node(
     requires { has_slot node_cmp nodes.old id ≡ true }
     ensures rows { (q : NodeId) → lookup (is_at (node_cmp q)) nodes.new.rows ≡ row_put q (lookup (is_at (node_cmp q)) nodes.old.rows) (id, row) }
     ensures numbers { nodes.new.numbers ≡ nodes.old.numbers }
+    ensures seed { nodes.new.seed ≡ nodes.old.seed }
 {
     let edges = edges_of(alloc, nodes.take(id));
     if let Some(row) = row {
@@ -85,6 +89,7 @@ pub(crate) fn put_lists(nodes: &mut Numbered<NodeId, NodeTable>, lists: Vec<(Nod
     ensures ascending { IsStrictlySortedBy node_cmp (keys_of nodes.new.rows) }
     ensures rows { (q : NodeId) → lookup (is_at (node_cmp q)) nodes.new.rows ≡ lists_put q (lookup (is_at (node_cmp q)) nodes.old.rows) lists.items }
     ensures numbers { nodes.new.numbers ≡ nodes.old.numbers }
+    ensures seed { nodes.new.seed ≡ nodes.old.seed }
 {
     for (id, edges) in lists {
         put_list(nodes, id, edges);
@@ -95,6 +100,7 @@ pub(crate) fn put_lists(nodes: &mut Numbered<NodeId, NodeTable>, lists: Vec<(Nod
 fn put_list(nodes: &mut Numbered<NodeId, NodeTable>, id: NodeId, edges: NodeEdges)
     ensures rows { (q : NodeId) → lookup (is_at (node_cmp q)) nodes.new.rows ≡ edges_put q (lookup (is_at (node_cmp q)) nodes.old.rows) (id, edges) }
     ensures numbers { nodes.new.numbers ≡ nodes.old.numbers }
+    ensures seed { nodes.new.seed ≡ nodes.old.seed }
 {
     if let Some(table) = nodes.take(id) {
         let NodeTable { row, edges: _ } = table;

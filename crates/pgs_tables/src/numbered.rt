@@ -4,6 +4,7 @@ ghost use Rattle.std.specs.List.{IsDistinct};
 ghost use Rattle.std.specs.List.Sorted.{IsStrictlySortedBy};
 ghost use Rattle.std.specs.BTreeMap.{is_at, insert_entry};
 ghost use Rattle.std.specs.Map.{keys_of, lookup, remove_entry, set_value};
+ghost use Rattle.indexmap.specs.IndexMap.{hasher_of};
 ghost use Rattle.pgs_tables.specs.Slots.{has_row, has_slot, present, row_count, with_number, AreKept, IsFoundAt};
 
 use crate::Number;
@@ -15,7 +16,7 @@ use std::alloc::Global;
 use std::marker::Model;
 use std::mem;
 
-/// Rows by number. Contracts see the rows that are there, and the numbers that have a slot.
+/// Rows by number. Contracts see the rows that are there, the numbers that have a slot, and the seed by which numbers are hashed.
 #[derive(Drop)]
 pub struct Numbered<K: Number, V> {
     slots: IndexMap<K, Option<V>, Seed>,
@@ -25,13 +26,14 @@ pub struct Numbered<K: Number, V> {
 
 impl<K: Number, V> Model for Numbered<K, V> {
     ghost use Rattle.std.specs.Map.{keys_of};
+    ghost use Rattle.indexmap.specs.IndexMap.{hasher_of};
     ghost use Rattle.pgs_tables.specs.Slots.{Slots, code_slots, by_key, present, AreSlots};
 
     ghost Value = { Slots K V };
 
     ghost coded = { code_slots K.code V.code };
 
-    ghost view = { λ table. record { rows = by_key K.cmp (present table.slots.entries); numbers = keys_of table.slots.entries } };
+    ghost view = { λ table. record { rows = by_key K.cmp (present table.slots.entries); numbers = keys_of table.slots.entries; seed = hasher_of table.slots } };
 
     ghost invariant = { λ table. AreSlots K.eq table.live table.slots.entries };
 }
@@ -41,6 +43,7 @@ impl<K: Number, V: Drop> Numbered<K, V> {
     pub fn new(alloc: Global, seed: Seed) -> Numbered<K, V>
         ensures rows { result.rows ≡ [] }
         ensures numbers { result.numbers ≡ [] }
+        ensures seed { result.seed ≡ seed }
     {
         Numbered {
             slots: IndexMap::with_hasher(alloc, seed),
@@ -66,6 +69,7 @@ impl<K: Number, V: Drop> Numbered<K, V> {
         ensures err { OnErr result (self.new.numbers ≡ self.old.numbers) }
         ensures there { OnOk result (has_slot K.cmp self.new id ≡ true) }
         ensures kept { (other : K) → has_slot K.cmp self.old other ≡ true → has_slot K.cmp self.new other ≡ true }
+        ensures seed { self.new.seed ≡ self.old.seed }
     {
         if stands_at(&self.slots, self.last.near(id.number()), id) {
             return Ok(());
@@ -81,6 +85,7 @@ impl<K: Number, V: Drop> Numbered<K, V> {
         ensures rows { self.new.rows ≡ remove_entry (is_at (K.cmp id)) self.old.rows }
         ensures numbers { self.new.numbers ≡ self.old.numbers }
         ensures there { OnSome result (has_slot K.cmp self.new id ≡ true) }
+        ensures seed { self.new.seed ≡ self.old.seed }
         ensures ascending { IsStrictlySortedBy K.cmp (keys_of self.old.rows) }
     {
         let old = replace(&mut self.slots, &self.last, id, None);
@@ -93,6 +98,7 @@ impl<K: Number, V: Drop> Numbered<K, V> {
         requires { has_slot K.cmp self.old id ≡ true }
         ensures rows { self.new.rows ≡ insert_entry K.cmp self.old.rows id row }
         ensures numbers { self.new.numbers ≡ self.old.numbers }
+        ensures seed { self.new.seed ≡ self.old.seed }
     {
         let _slots = self.slots.len();
         let old = replace(&mut self.slots, &self.last, id, Some(row));
@@ -124,6 +130,7 @@ impl<K: Number, V: Drop> Numbered<K, V> {
         ensures cleared { 2 * length self.old.rows < length self.old.numbers → self.new.numbers ≡ filter (has_row K.cmp self.old) self.old.numbers }
         ensures left { length self.old.numbers ≤ 2 * length self.old.rows → self.new.numbers ≡ self.old.numbers }
         ensures few { length self.new.numbers ≤ 2 * length self.old.rows }
+        ensures seed { self.new.seed ≡ self.old.seed }
     {
         if self.is_sparse() {
             self.slots.retain(|_, row| row.is_some());
@@ -214,6 +221,7 @@ fn slot_of<K: Number, V: Drop>(
     ensures err { OnErr result (keys_of slots.new.entries ≡ keys_of slots.old.entries) }
     ensures there { OnOk result (is_some (lookup (K.eq id) slots.new.entries) ≡ true) }
     ensures kept { AreKept slots.old.entries slots.new.entries }
+    ensures seed { hasher_of slots.new ≡ hasher_of slots.old }
     ensures unique { IsDistinct K.eq (keys_of slots.new.entries) }
 {
     match slots.entry(id)? {
@@ -250,6 +258,7 @@ fn replace<K: Number, V: Drop>(
 ) -> Option<V>
     ensures entries { slots.new.entries ≡ set_value (K.eq id) slots.old.entries row }
     ensures old { result ≡ option_flatten (lookup (K.eq id) slots.old.entries) }
+    ensures seed { hasher_of slots.new ≡ hasher_of slots.old }
     ensures unique { IsDistinct K.eq (keys_of slots.old.entries) }
 {
     let Some(place) = find(slots, last, id) else {

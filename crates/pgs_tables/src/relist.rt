@@ -29,6 +29,7 @@ pub(crate) fn make_slots<K: Number, V: Drop, W>(
     changes: &[(K, Option<W>)],
 ) -> Result<(), Memory>
     ensures rows { table.new.rows ≡ table.old.rows }
+    ensures seed { table.new.seed ≡ table.old.seed }
     ensures there { OnOk result (list_all (has_slot K.cmp table.new) (keys_of changes.now) ≡ true) }
     ensures few { length table.new.numbers ≤ length table.old.numbers + length changes.now }
 {

@@ -2,7 +2,8 @@ ghost use Rattle.std.specs.Prelude.{◌≡◌, ◌≤◌, true, None, Some, IfOk
 ghost use Rattle.pgs_base.specs.Graph.{empty_graph};
 ghost use Rattle.pgs_graph.specs.Changed.{changed, is_sound};
 ghost use Rattle.pgs_tables.specs.Adjacency.{Suits};
-ghost use Rattle.pgs_tables.specs.Standing.{most_slots};
+ghost use Rattle.pgs_base.specs.declared.seed.Seed.TheVariants.{Fixed};
+ghost use Rattle.pgs_tables.specs.Standing.{most_slots, seeds_by};
 
 use crate::commit::{put_lists, put_nodes, put_rows};
 use crate::node_edges::NodeTable;
@@ -14,8 +15,8 @@ use std::alloc::Global;
 use std::marker::Model;
 use std::snapshot::Snapshot;
 
-/// A property graph in hashed tables. Contracts see the graph that the tables mean, the delta that they are ready for, if any, and how
-/// many slots they have.
+/// A property graph in hashed tables. Contracts see the graph that the tables mean, the delta that they are ready for, if any, how many
+/// slots they have, and the seeds by which they hash.
 ///
 /// The delta that they are ready for takes no bytes: it is known to contracts alone.
 pub struct Tables {
@@ -45,7 +46,7 @@ impl Model for Tables {
 
     ghost Value = { TablesState };
 
-    ghost view = { λ tables. record { graph = graph_of tables.nodes.rows tables.edges.rows; ready = ready_for tables.ready; slots = slot_count tables.nodes tables.edges } };
+    ghost view = { λ tables. record { graph = graph_of tables.nodes.rows tables.edges.rows; ready = ready_for tables.ready; slots = slot_count tables.nodes tables.edges; seeds = record { nodes = tables.nodes.seed; edges = tables.edges.seed } } };
 
     ghost invariant = { λ tables. AreTables tables.nodes tables.edges (ready_for tables.ready) };
 }
@@ -56,6 +57,7 @@ impl Tables {
         ensures graph { result.graph ≡ empty_graph }
         ensures ready { result.ready ≡ None }
         ensures slots { result.slots ≡ 0 }
+        ensures seeds { result.seeds ≡ seeds_by Fixed }
     {
         Tables::with_seed(alloc, Seed::Fixed)
     }
@@ -65,6 +67,7 @@ impl Tables {
         ensures graph { result.graph ≡ empty_graph }
         ensures ready { result.ready ≡ None }
         ensures slots { result.slots ≡ 0 }
+        ensures seeds { result.seeds ≡ seeds_by seed }
     {
         Tables {
             alloc,
@@ -86,6 +89,7 @@ impl Tables {
         ensures ready { OnOk result (self.new.ready ≡ Some delta) }
         ensures err { OnErr result (self.new.ready ≡ None) }
         ensures slots { self.new.slots ≤ most_slots self.old.graph delta }
+        ensures seeds { self.new.seeds ≡ self.old.seeds }
     {
         self.make_room(&delta)?;
         match self.relisted_edges(&delta) {
@@ -103,6 +107,7 @@ impl Tables {
         ensures ready { OnOk result (self.new.ready ≡ Some delta.now) }
         ensures err { OnErr result (self.new.ready ≡ None) }
         ensures slots { self.new.slots ≤ most_slots self.old.graph delta.now }
+        ensures seeds { self.new.seeds ≡ self.old.seeds }
     {
         self.ready = None;
         self.nodes.clear_slots();
@@ -121,6 +126,7 @@ impl Tables {
         ensures graph { self.new.graph ≡ changed self.old.graph prepared.delta }
         ensures ready { self.new.ready ≡ None }
         ensures slots { self.new.slots ≡ self.old.slots }
+        ensures seeds { self.new.seeds ≡ self.old.seeds }
     {
         let Prepared { delta, lists } = prepared;
         let Delta { nodes, edges } = delta;

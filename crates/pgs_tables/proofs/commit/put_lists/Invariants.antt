@@ -10,4 +10,5 @@ abbrev pub invariant-loop-id : goal.invariant-loop-id
 invariant-loop-id l = record {
   made : (q : NodeId) → lists_put q (lookup (is_at (node_cmp q)) l.nodes.rows) l.id-iterator.rest.items ≡ lists_put q (lookup (is_at (node_cmp q)) l.fn.nodes.rows) l.fn.lists.items;
   numbers : l.nodes.numbers ≡ l.fn.nodes.numbers;
+  seed : l.nodes.seed ≡ l.fn.nodes.seed;
 }

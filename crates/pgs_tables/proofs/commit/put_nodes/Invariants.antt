@@ -13,4 +13,5 @@ invariant-loop-id l = record {
   slots : list_all (has_slot node_cmp l.nodes) (keys_of l.id-iterator.rest.items) ≡ true;
   made : (q : NodeId) → rows_put q (lookup (is_at (node_cmp q)) l.nodes.rows) l.id-iterator.rest.items ≡ rows_put q (lookup (is_at (node_cmp q)) l.fn.nodes.rows) l.fn.changes.items;
   numbers : l.nodes.numbers ≡ l.fn.nodes.numbers;
+  seed : l.nodes.seed ≡ l.fn.nodes.seed;
 }

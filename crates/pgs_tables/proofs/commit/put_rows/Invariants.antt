@@ -10,4 +10,5 @@ invariant-loop-id g l = record {
   slots : list_all (has_slot g.K.Ord.cmp l.table) (keys_of l.id-iterator.rest.items) ≡ true;
   made : entries_changed g.K.Ord.cmp l.table.rows l.id-iterator.rest.items ≡ entries_changed g.K.Ord.cmp l.fn.table.rows l.fn.changes.items;
   numbers : l.table.numbers ≡ l.fn.table.numbers;
+  seed : l.table.seed ≡ l.fn.table.seed;
 }

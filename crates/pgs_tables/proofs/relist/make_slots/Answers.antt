@@ -23,6 +23,7 @@ all_one_more p es i e within is all one =
 pub loop-change-preserved : goal.loop-change-preserved
 loop-change-preserved g c = record {
   rows = c.in_ok-make_slot.ensures.rows ∙ c.loop-change.invariant.rows;
+  seed = c.in_ok-make_slot.ensures.seed ∙ c.loop-change.invariant.seed;
   there = all_one_more (has_slot g.K.Ord.cmp c.make_slot.new.self) c.args.changes.now c.loop-change.change-index c.change-item.result c.loop-change-test.true c.change-item.is
       (all_kept (has_slot g.K.Ord.cmp c.loop-change.table) (has_slot g.K.Ord.cmp c.make_slot.new.self) c.in_ok-make_slot.ensures.kept (keys_of (take c.loop-change.change-index c.args.changes.now)) c.loop-change.invariant.there)
       c.in_ok-make_slot.ensures.there;
