@@ -1,5 +1,5 @@
 -- What is promised of a run of the program: over what is opened for its words all that is promised of the command that they name.
-use Rattle.std.specs.Prelude.{◌≡◌, ◌⊎◌, ℕ, ◌^◌, List}
+use Rattle.std.specs.Prelude.{◌≡◌, ◌⊎◌, ℕ, List}
 use Rattle.pgs_base.specs.declared.seed.Seed.{Seed}
 use Rattle.pgs_command.specs.declared.status.Status.{Status}
 use Rattle.pgs_command.specs.declared.status.Status.TheVariants.{Memory}
@@ -8,6 +8,7 @@ use Rattle.pgs_command.specs.Setting.{Setting}
 use Rattle.pgs_feed.specs.Seen.{places}
 use Rattle.pgs_program.specs.Outside.{Telling, setting_in}
 use Rattle.pgs_run.specs.Commands.{spec_for}
+use Rattle.pgs_run_lines.specs.declared.budget.TheConstants.{BUDGET}
 use Rattle.pgs_world_files.specs.declared.file_feed.FileFeed.{FileFeed}
 use Rattle.pgs_world_files.specs.Counted.{untold_bytes}
 use Rattle.pgs_world_files.specs.Opened.{AreaGives}
@@ -24,7 +25,7 @@ pub record IsRunOf {R W H L : Type 0} (areas : AreaGives H) (feeds : List ℕ �
     (words : List (List ℕ)) (reader : R) (writer : W) (seed : Seed) (ran : Ran R W H L) : Type 0 where
   pub start : Opened R W H L
   pub opened : IsOpened areas feeds words reader writer seed start
-  pub promise : Runs (spec_for words) (2 ^ 40) (setting_of telling start) (setting_of telling ran.opened) ran.status
+  pub promise : Runs (spec_for words) BUDGET (setting_of telling start) (setting_of telling ran.opened) ran.status
 
 -- over some reader and some writer such a run ended with this status
 pub record EndsRunOf {R W H L : Type 0} (areas : AreaGives H) (feeds : List ℕ → FileFeed L → Type 0) (telling : Telling R W H) (words : List (List ℕ)) (status : Status) : Type 0 where

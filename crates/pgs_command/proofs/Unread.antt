@@ -1,6 +1,6 @@
 -- The calls of a command that reads nothing.
 use Rattle.std.proofs.Common.{◌≡◌, ℕ, Bool, false, true≢false, Option, refl, sym, subst, ◌∙◌}
-use Rattle.pgs_run_lines.specs.Calls.{Reads, gave_none, so_far}
+use Rattle.pgs_run_lines.specs.Calls.{MakesReads, gave_none, so_far}
 use Rattle.pgs_run_lines.specs.Ending.{Faults}
 use Rattle.pgs_command.specs.declared.status.Status.{Status}
 use Rattle.pgs_command.specs.declared.status.Status.TheVariants.{Accepted, Refused, BadWords, SchemaRefused, StoreRefused, DiskFault, ReadFault, PutFault, Memory, InputTooLong}
@@ -21,5 +21,5 @@ unread_status reads uses_areas before now Memory none cause = refl
 unread_status reads uses_areas before now InputTooLong none cause = refl
 
 -- the source is as before where nothing is read of it
-pub reads_nothing : {S : Type 0} (made : S → ℕ → Option ℕ → S → Type 0) (budget : ℕ) (source : S) (fails : Bool) → fails ≡ false → Reads made budget source fails source
-reads_nothing made budget source fails is = subst (λ (fails : Bool). Reads made budget source fails source) (sym is) (so_far gave_none)
+pub reads_nothing : {S : Type 0} (made : S → ℕ → Option ℕ → S → Type 0) (budget : ℕ) (source : S) (fails : Bool) → fails ≡ false → MakesReads made budget source fails source
+reads_nothing made budget source fails is = subst (λ (fails : Bool). MakesReads made budget source fails source) (sym is) (so_far gave_none)

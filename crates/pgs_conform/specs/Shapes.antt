@@ -9,7 +9,7 @@ use Rattle.pgs_base.specs.declared.value.Kind.TheVariants as kinds
 use Rattle.pgs_base.specs.declared.value.Value.{Value}
 use Rattle.pgs_base.specs.Pair.{has_name, value_at, is_pair}
 use Rattle.pgs_base.specs.Value.{kind_of}
-use Rattle.pgs_syntax.specs.Join.{Triple}
+use Rattle.pgs_syntax.specs.Join.{PairTriple}
 use Rattle.pgs_syntax.specs.Triples.{is_triple}
 use Rattle.pgs_conform.specs.declared.options.Options.{Options}
 use Rattle.pgs_conform.specs.declared.shape.Shape.{Shape}
@@ -39,7 +39,7 @@ props_meet keys more props =
     && list_all (λ (entry : List ℕ × Value). more || has_name entry.0 (keys_of keys)) props
 
 -- the triple of the pairs of an edge's source, of the edge itself, and of its target
-abbrev pub triple_of : NodeRow → NodeRow → NodeRow → Triple
+abbrev pub triple_of : NodeRow → NodeRow → NodeRow → PairTriple
 triple_of source own target = record { source = source; own = own; target = target }
 
 -- whether a pair is in a shape
@@ -47,7 +47,7 @@ abbrev pub in_shape : Shape → NodeRow → Bool
 in_shape shape p = labels_meet shape.labels shape.more_labels p.labels && props_meet shape.keys shape.more_keys p.props
 
 -- whether a triple is in a triple of shapes, pair by pair
-abbrev pub in_triple : ShapeTriple → Triple → Bool
+abbrev pub in_triple : ShapeTriple → PairTriple → Bool
 in_triple shapes t = in_shape shapes.source t.source && in_shape shapes.middle t.own && in_shape shapes.target t.target
 
 -- whether a pair is in some shape
@@ -55,7 +55,7 @@ abbrev pub in_some : List Shape → NodeRow → Bool
 in_some shapes p = list_any (λ shape. in_shape shape p) shapes
 
 -- whether a triple is in some triple of shapes
-abbrev pub in_some_triple : List ShapeTriple → Triple → Bool
+abbrev pub in_some_triple : List ShapeTriple → PairTriple → Bool
 in_some_triple triples t = list_any (λ shapes. in_triple shapes t) triples
 
 -- shapes denote a test: the pairs in some of them are those that pass it
@@ -63,5 +63,5 @@ abbrev pub Denotes : List Shape → (NodeRow → Bool) → Type 0
 Denotes shapes test = (p : NodeRow) → is_pair p ≡ true → in_some shapes p ≡ test p
 
 -- triples of shapes denote a test of triples
-abbrev pub DenotesTriples : List ShapeTriple → (Triple → Bool) → Type 0
-DenotesTriples triples test = (t : Triple) → is_triple t ≡ true → in_some_triple triples t ≡ test t
+abbrev pub DenotesTriples : List ShapeTriple → (PairTriple → Bool) → Type 0
+DenotesTriples triples test = (t : PairTriple) → is_triple t ≡ true → in_some_triple triples t ≡ test t

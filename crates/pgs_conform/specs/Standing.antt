@@ -4,7 +4,7 @@ use Rattle.std.specs.Prelude.{◌≡◌, ℕ, Bool, true, List, length, slice_ge
 use Rattle.pgs_base.specs.declared.row.NodeRow.{NodeRow}
 use Rattle.pgs_syntax.specs.declared.resolved.Resolved.{Resolved}
 use Rattle.pgs_syntax.specs.Fitting.{fits_node, fits_edge}
-use Rattle.pgs_syntax.specs.Join.{Triple}
+use Rattle.pgs_syntax.specs.Join.{PairTriple}
 use Rattle.pgs_syntax.specs.Valid.{is_valid}
 use Rattle.pgs_conform.specs.declared.shape.Shape.{Shape}
 use Rattle.pgs_conform.specs.declared.shape.Triple.{Triple as ShapeTriple}
@@ -17,7 +17,7 @@ EachDenotes lists test =
     (number : ℕ) (shapes : List Shape) → slice_get lists number ≡ Some shapes → Denotes shapes (test number)
 
 -- each list of triples of shapes denotes the test of its number
-abbrev pub EachDenotesTriples : List (List ShapeTriple) → (ℕ → Triple → Bool) → Type 0
+abbrev pub EachDenotesTriples : List (List ShapeTriple) → (ℕ → PairTriple → Bool) → Type 0
 EachDenotesTriples lists test =
     (number : ℕ) (triples : List ShapeTriple) → slice_get lists number ≡ Some triples → DenotesTriples triples (test number)
 

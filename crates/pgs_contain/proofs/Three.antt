@@ -9,7 +9,7 @@ use Rattle.std.proofs.Math.Bool.{or-false}
 use Rattle.pgs_base.specs.declared.row.NodeRow.{NodeRow}
 use Rattle.pgs_base.specs.Order.{ascends}
 use Rattle.pgs_base.specs.Pair.{is_pair, value_at}
-use Rattle.pgs_syntax.specs.Join.{Triple}
+use Rattle.pgs_syntax.specs.Join.{PairTriple}
 use Rattle.pgs_syntax.specs.Triples.{is_triple}
 use Rattle.pgs_conform.specs.declared.options.Options.{Options}
 use Rattle.pgs_conform.specs.declared.shape.Shape.{Shape}
@@ -61,7 +61,7 @@ module _ (shapes : ShapeTriple) (labels keys : Names) (label key : List ℕ) (ne
     target_keys = frame_keys shapes.target.more_keys shapes.target.keys keys key;
   }
 
-  abbrev own_points : Triple → Point
+  abbrev own_points : PairTriple → Point
   own_points t =
       own_point shapes.source.more_keys shapes.source.keys keys key t.source.props
       ++ (own_point shapes.middle.more_keys shapes.middle.keys keys key t.own.props ++ own_point shapes.target.more_keys shapes.target.keys keys key t.target.props)
@@ -90,7 +90,7 @@ module _ (shapes : ShapeTriple) (labels keys : Names) (label key : List ℕ) (ne
   other_own_long other shape p =
       same_length (options_at other.keys other.more_keys) (λ k. value_at k p.props) (frame_keys shape.more_keys shape.keys keys key)
 
-  own_points_in : (t : Triple) → in_triple shapes t ≡ true → in_region own_regions (own_points t) ≡ true
+  own_points_in : (t : PairTriple) → in_triple shapes t ≡ true → in_region own_regions (own_points t) ≡ true
   own_points_in t own =
       let parts = and_parts _ _ own in
       let ends = and_parts _ _ parts.0 in
@@ -101,7 +101,7 @@ module _ (shapes : ShapeTriple) (labels keys : Names) (label key : List ℕ) (ne
       (and_from _ _ (own_point_in shapes.middle.more_keys shapes.middle.keys keys key t.own.props (and_parts _ _ ends.1).1)
       (own_point_in shapes.target.more_keys shapes.target.keys keys key t.target.props (and_parts _ _ parts.1).1))
 
-  triple_in_other : (other : ShapeTriple) → is_known_three labels keys other ≡ true → (t : Triple) → is_triple t ≡ true → in_triple shapes t ≡ true →
+  triple_in_other : (other : ShapeTriple) → is_known_three labels keys other ≡ true → (t : PairTriple) → is_triple t ≡ true → in_triple shapes t ≡ true →
       (may_have_three other own_three && in_region (options_of_three other own_three) (own_points t)) ≡ true → in_triple other t ≡ true
   triple_in_other other known t good own h =
       let known_parts = and_parts _ _ known in
@@ -131,7 +131,7 @@ module _ (shapes : ShapeTriple) (labels keys : Names) (label key : List ℕ) (ne
       (pair_in_other shapes.middle labels keys label key new other.middle known_ends.1 t.own good_ends.1 own_ends.1 (and_from hm (in_region om vm) may_ends.1 there_later.0)))
       (pair_in_other shapes.target labels keys label key new other.target known_parts.1 t.target good_parts.1 own_parts.1 (and_from ht (in_region ot vt) may.1 there_later.1))
 
-  triple_in_others : (others : List ShapeTriple) → list_all (is_known_three labels keys) others ≡ true → (t : Triple) → is_triple t ≡ true → in_triple shapes t ≡ true →
+  triple_in_others : (others : List ShapeTriple) → list_all (is_known_three labels keys) others ≡ true → (t : PairTriple) → is_triple t ≡ true → in_triple shapes t ≡ true →
       in_some_three others own_three (own_points t) ≡ true → in_some_triple others t ≡ true
   triple_in_others [] known t good own h = absurd (true≢false (sym h))
   triple_in_others (o ∷ os) known t good own h =
@@ -142,11 +142,11 @@ module _ (shapes : ShapeTriple) (labels keys : Names) (label key : List ℕ) (ne
 
   -- ---- a triple of pairs of the frames
 
-  abbrev points_of : Triple → Point
+  abbrev points_of : PairTriple → Point
   points_of t =
       frame_point own_three.source_keys t.source.props ++ (frame_point own_three.middle_keys t.own.props ++ frame_point own_three.target_keys t.target.props)
 
-  other_has_three : (other : ShapeTriple) (t : Triple) → t.source.labels ≡ own_three.source_labels → t.own.labels ≡ own_three.middle_labels →
+  other_has_three : (other : ShapeTriple) (t : PairTriple) → t.source.labels ≡ own_three.source_labels → t.own.labels ≡ own_three.middle_labels →
       t.target.labels ≡ own_three.target_labels → AreAll own_three.source_keys t.source.props → AreAll own_three.middle_keys t.own.props →
       AreAll own_three.target_keys t.target.props → in_triple other t ≡ true →
       (may_have_three other own_three && in_region (options_of_three other own_three) (points_of t)) ≡ true
@@ -169,7 +169,7 @@ module _ (shapes : ShapeTriple) (labels keys : Names) (label key : List ℕ) (ne
       (in_three os om ot vs vm vt (other_own_long other.source shapes.source t.source) (other_own_long other.middle shapes.middle t.own)
       ∙ and_from (in_region os vs) (in_region om vm && in_region ot vt) s.1 (and_from (in_region om vm) (in_region ot vt) m.1 e.1))
 
-  others_have_three : (others : List ShapeTriple) (t : Triple) → t.source.labels ≡ own_three.source_labels → t.own.labels ≡ own_three.middle_labels →
+  others_have_three : (others : List ShapeTriple) (t : PairTriple) → t.source.labels ≡ own_three.source_labels → t.own.labels ≡ own_three.middle_labels →
       t.target.labels ≡ own_three.target_labels → AreAll own_three.source_keys t.source.props → AreAll own_three.middle_keys t.own.props →
       AreAll own_three.target_keys t.target.props → in_some_triple others t ≡ true → in_some_three others own_three (points_of t) ≡ true
   others_have_three [] t ls lm lt ks km kt h = absurd (true≢false (sym h))
@@ -204,7 +204,7 @@ module _ (shapes : ShapeTriple) (labels keys : Names) (label key : List ℕ) (ne
       (sym (same v) ∙ h v (ap (λ r. in_region r v) made ∙ own_points_in shapes labels keys label key new t own))
 
   pub triple_outside : is_known_three labels keys shapes ≡ true → (first second third found : List Options) → found ≡ first ++ (second ++ third) → IsLeft region taken found →
-      (t : Triple) → IsPart shapes.source keys label key first t.source → IsPart shapes.middle keys label key second t.own → IsPart shapes.target keys label key third t.target →
+      (t : PairTriple) → IsPart shapes.source keys label key first t.source → IsPart shapes.middle keys label key second t.own → IsPart shapes.target keys label key third t.target →
       IsOutOfOtherTriples (shapes ∷ []) others t
   triple_outside own first second third found cut left t s m e =
       let three = own_three shapes labels keys label key new in
@@ -337,8 +337,8 @@ plain_moved frame part other own same h = (h.0, h.1, h.2 ∙ ap (plain_rows fram
 
 -- ---- all triples of shapes
 
-pub all_triples_contained : (triples others : List ShapeTriple) (test typed : Triple → Bool) → DenotesTriples triples test → DenotesTriples others typed → AreInOtherTriples triples others →
-    (t : Triple) → is_triple t ≡ true → test t ≡ true → typed t ≡ true
+pub all_triples_contained : (triples others : List ShapeTriple) (test typed : PairTriple → Bool) → DenotesTriples triples test → DenotesTriples others typed → AreInOtherTriples triples others →
+    (t : PairTriple) → is_triple t ≡ true → test t ≡ true → typed t ≡ true
 all_triples_contained triples others test typed own other h t good fits = sym (other t good) ∙ h t good (own t good ∙ fits)
 
 pub none_triple_out : (triples others : List ShapeTriple) (i : ℕ) (shapes : ShapeTriple) (answer : Option OwnedTriple) → i < length triples → shapes ≡ get_or triples i shapes →
@@ -370,9 +370,9 @@ or_step true b c = refl
 or_step false b c = refl
 
 pub triple_pushed : (start all new triples : List ShapeTriple) (i : ℕ) (shapes copy : ShapeTriple) → i < length triples → shapes ≡ get_or triples i shapes →
-    ((t : Triple) → in_triple copy t ≡ in_triple shapes t) → new ≡ all ++ copy ∷ [] →
-    ((t : Triple) → in_some_triple all t ≡ (in_some_triple start t || in_some_triple (take i triples) t)) →
-    (t : Triple) → in_some_triple new t ≡ (in_some_triple start t || in_some_triple (take (i + 1) triples) t)
+    ((t : PairTriple) → in_triple copy t ≡ in_triple shapes t) → new ≡ all ++ copy ∷ [] →
+    ((t : PairTriple) → in_some_triple all t ≡ (in_some_triple start t || in_some_triple (take i triples) t)) →
+    (t : PairTriple) → in_some_triple new t ≡ (in_some_triple start t || in_some_triple (take (i + 1) triples) t)
 triple_pushed start all new triples i shapes copy lt is same pushed before t =
     ap (λ ss. in_some_triple ss t) pushed ∙ list_any-append (λ s. in_triple s t) all (copy ∷ [])
     ∙ ap (λ b. b || (in_triple copy t || false)) (before t)

@@ -11,7 +11,7 @@ use Rattle.pgs_syntax.specs.declared.resolved.Resolved.{Resolved}
 use Rattle.pgs_syntax.specs.declared.resolved.TypeNo.{TypeNo}
 use Rattle.pgs_syntax.specs.declared.resolved.TypeNo.TheVariants as types
 use Rattle.pgs_syntax.specs.Fitting.{fits_node, fits_edge}
-use Rattle.pgs_syntax.specs.Join.{Triple, is_empty}
+use Rattle.pgs_syntax.specs.Join.{PairTriple, is_empty}
 use Rattle.pgs_syntax.specs.Triples.{is_triple}
 use Rattle.pgs_syntax.specs.Typed.{is_typed_node, is_typed_triple}
 use Rattle.pgs_conform.specs.Shapes.{triple_of}
@@ -27,7 +27,7 @@ IsNodeContained first number second =
 -- every triple of pairs that fits the edge type is typed in the second schema
 abbrev pub IsEdgeContained : Resolved → ℕ → Resolved → Type 0
 IsEdgeContained first number second =
-    (t : Triple) → is_triple t ≡ true → fits_edge first number t ≡ true → is_typed_triple second t ≡ true
+    (t : PairTriple) → is_triple t ≡ true → fits_edge first number t ≡ true → is_typed_triple second t ≡ true
 
 -- whatever fits the type of the first schema is typed in the second
 abbrev pub IsContained : Resolved → TypeNo → Resolved → Type 0
@@ -49,7 +49,7 @@ is_plain p = list_all (λ entry. is_plain_value entry.1) p.props
 abbrev pub pair_in : OwnedPair → NodeRow
 pair_in own = pair_of own.labels own.props
 
-abbrev pub triple_in : OwnedPair → OwnedPair → OwnedPair → Triple
+abbrev pub triple_in : OwnedPair → OwnedPair → OwnedPair → PairTriple
 triple_in source middle target = triple_of (pair_in source) (pair_in middle) (pair_in target)
 
 -- a pair is outside: it fits the node type, is untyped in the second schema, and its values are the plainest
@@ -60,7 +60,7 @@ pub record IsNodeOutside (first : Resolved) (number : ℕ) (second : Resolved) (
   pub plain : is_plain p ≡ true
 
 -- a triple of pairs is outside
-pub record IsEdgeOutside (first : Resolved) (number : ℕ) (second : Resolved) (t : Triple) : Type 0 where
+pub record IsEdgeOutside (first : Resolved) (number : ℕ) (second : Resolved) (t : PairTriple) : Type 0 where
   pub triple : is_triple t ≡ true
   pub fits : fits_edge first number t ≡ true
   pub untyped : is_typed_triple second t ≡ false

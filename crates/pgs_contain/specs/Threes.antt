@@ -2,7 +2,7 @@
 use Rattle.std.specs.Prelude.{◌≡◌, ℕ, Bool, true, false, ◌&&◌, List, ◌++◌, length, map, take, drop, Option, MatchOption}
 use Rattle.std.specs.List.{list_any}
 use Rattle.pgs_base.specs.Pair.{is_pair}
-use Rattle.pgs_syntax.specs.Join.{Triple}
+use Rattle.pgs_syntax.specs.Join.{PairTriple}
 use Rattle.pgs_syntax.specs.Triples.{is_triple}
 use Rattle.pgs_conform.specs.declared.options.Options.{Options}
 use Rattle.pgs_conform.specs.declared.shape.Shape.{Shape}
@@ -48,13 +48,13 @@ is_known_three labels keys shapes = is_known labels keys shapes.source && is_kno
 
 -- each triple of pairs of a triple of shapes is in some of others
 abbrev pub IsInOtherTriples : ShapeTriple → List ShapeTriple → Type 0
-IsInOtherTriples shapes others = (t : Triple) → is_triple t ≡ true → in_triple shapes t ≡ true → in_some_triple others t ≡ true
+IsInOtherTriples shapes others = (t : PairTriple) → is_triple t ≡ true → in_triple shapes t ≡ true → in_some_triple others t ≡ true
 
 abbrev pub AreInOtherTriples : List ShapeTriple → List ShapeTriple → Type 0
-AreInOtherTriples triples others = (t : Triple) → is_triple t ≡ true → in_some_triple triples t ≡ true → in_some_triple others t ≡ true
+AreInOtherTriples triples others = (t : PairTriple) → is_triple t ≡ true → in_some_triple triples t ≡ true → in_some_triple others t ≡ true
 
 -- a triple of pairs of some is in none of others, and its values are the plainest
-pub record IsOutOfOtherTriples (triples others : List ShapeTriple) (t : Triple) : Type 0 where
+pub record IsOutOfOtherTriples (triples others : List ShapeTriple) (t : PairTriple) : Type 0 where
   pub triple : is_triple t ≡ true
   pub inside : in_some_triple triples t ≡ true
   pub outside : in_some_triple others t ≡ false
@@ -113,5 +113,5 @@ pub record LeavesThree (frames : Frames) (others : List ShapeTriple) (answer : O
       (λ own. (found : List Options) × IsLeft (region_in frames) taken found × ArePlainest frames found own)
 
 -- the triple of three owned pairs
-abbrev pub owned_triple : OwnedTriple → Triple
+abbrev pub owned_triple : OwnedTriple → PairTriple
 owned_triple own = triple_in own.source own.middle own.target

@@ -3,7 +3,7 @@
 ghost use Rattle.std.specs.Prelude.{◌≡◌, ◌||◌, true, IfOk, OnOk};
 ghost use Rattle.pgs_base.specs.declared.row.NodeRow.{NodeRow};
 ghost use Rattle.pgs_base.specs.Pair.{is_pair};
-ghost use Rattle.pgs_syntax.specs.Join.{Triple as Pairs};
+ghost use Rattle.pgs_syntax.specs.Join.{PairTriple};
 ghost use Rattle.pgs_syntax.specs.Triples.{is_triple};
 ghost use Rattle.pgs_syntax.specs.Typed.{is_typed_node, is_typed_triple, types_node, types_edge};
 ghost use Rattle.pgs_conform.specs.Shapes.{in_some, in_some_triple, Denotes, DenotesTriples};
@@ -61,7 +61,7 @@ pub fn typed_shapes(alloc: Global, schema: &Compiled) -> Result<List<Shape>, Mem
 
 // Puts triples of shapes last.
 fn push_triples(alloc: Global, triples: &[Triple], all: &mut Vec<Triple>) -> Result<(), Memory>
-    ensures { OnOk result ((t : Pairs) → in_some_triple all.new.items t ≡ (in_some_triple all.old.items t || in_some_triple triples.now t)) }
+    ensures { OnOk result ((t : PairTriple) → in_some_triple all.new.items t ≡ (in_some_triple all.old.items t || in_some_triple triples.now t)) }
 {
     for triple in triples {
         let copy = copy_triple(alloc, triple)?;
@@ -77,7 +77,7 @@ fn push_edge_type(
     type_no: TypeNo,
     all: &mut Vec<Triple>,
 ) -> Result<(), Memory>
-    ensures { OnOk result ((t : Pairs) → is_triple t ≡ true →
+    ensures { OnOk result ((t : PairTriple) → is_triple t ≡ true →
         in_some_triple all.new.items t ≡ (in_some_triple all.old.items t || types_edge schema.now t type_no)) }
 {
     let TypeNo::Edge(number) = type_no else {

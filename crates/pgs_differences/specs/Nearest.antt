@@ -10,7 +10,7 @@ use Rattle.pgs_syntax.specs.declared.resolved.Resolved.{Resolved}
 use Rattle.pgs_syntax.specs.declared.resolved.TypeNo.{TypeNo}
 use Rattle.pgs_syntax.specs.declared.resolved.TypeNo.TheVariants.{Node, Edge}
 use Rattle.pgs_syntax.specs.Fitting.{fits_node, fits_edge}
-use Rattle.pgs_syntax.specs.Join.{Triple, is_empty}
+use Rattle.pgs_syntax.specs.Join.{PairTriple, is_empty}
 use Rattle.pgs_syntax.specs.Typed.{is_concrete_node_type, is_concrete_edge_type}
 use Rattle.pgs_conform.specs.declared.options.Options.{Options}
 use Rattle.pgs_conform.specs.declared.shape.Shape.{Shape}
@@ -41,7 +41,7 @@ near_nodes number p shape =
     then record { type_no = Node number; source = []; own = differences shape p; target = [] } ∷ []
     else []
 
-abbrev pub near_edges : ℕ → Triple → ShapeTriple → List NearType
+abbrev pub near_edges : ℕ → PairTriple → ShapeTriple → List NearType
 near_edges number t shapes =
     if is_possible shapes.source && (is_possible shapes.middle && is_possible shapes.target)
     then record {
@@ -118,7 +118,7 @@ IsNodeCandidate resolved p (Node number) found =
     (found ≡ [])
 IsNodeCandidate resolved p (Edge number) found = found ≡ []
 
-abbrev pub IsEdgeCandidate : Resolved → Triple → TypeNo → List NearType → Type 0
+abbrev pub IsEdgeCandidate : Resolved → PairTriple → TypeNo → List NearType → Type 0
 IsEdgeCandidate resolved t (Node number) found = found ≡ []
 IsEdgeCandidate resolved t (Edge number) found =
     MatchBool (is_concrete_edge_type resolved number)

@@ -1,15 +1,16 @@
 -- What a reading beside a writer may meet: the images of an area in which records are appended.
-use Rattle.std.specs.Prelude.{◌≡◌, ◌⊎◌, ℕ, ◌+◌, ◌<◌, ◌^◌, List, [], ◌∷◌, length, take, drop, Option}
+use Rattle.std.specs.Prelude.{◌≡◌, ◌⊎◌, ℕ, ◌+◌, ◌<◌, List, [], ◌∷◌, length, take, drop, Option}
 use Rattle.pgs_codec.specs.Frame.{framed}
 use Rattle.pgs_world.specs.Answers.{Answer, Answers}
 use Rattle.pgs_world.specs.Disk.{IsTorn}
 use Rattle.pgs_journal.specs.Format.{Holds}
+use Rattle.pgs_world.specs.declared.area_limit.TheConstants.{AREA_LIMIT}
 
 -- behind the gate at this place the frame of a record with the next number stands, and ends below 2^40
 pub record HasFrame (next : Option ℕ) (end : ℕ) (image : List ℕ) : Type 0 where
   pub payload : List ℕ
   pub stands : take (length (framed next payload)) (drop (end + 1) image) ≡ framed next payload
-  pub below : end + length (framed next payload) < 2 ^ 40
+  pub below : end + length (framed next payload) < AREA_LIMIT
 
 -- One of the two writes of an append, done whole or in part: bytes behind the closed gate of the records that the area holds, or, where a
 -- frame stands there, that gate.
@@ -19,7 +20,7 @@ pub record IsAppending (old new : List ℕ) : Type 0 where
   pub payloads : List (List ℕ)
   pub end : ℕ
   pub holds : Holds next epoch payloads end old
-  pub below : end < 2 ^ 40
+  pub below : end < AREA_LIMIT
   pub write : ((size : ℕ) × IsTorn (end + 1) size old new) ⊎ (HasFrame next end old × IsTorn end 1 old new)
 
 -- any number of them, one after the other: of one append or of several, also of those that failed, and of later runs

@@ -1,6 +1,7 @@
 -- What an append of a record gives.
-use Rattle.std.specs.Prelude.{◌≡◌, ℕ, ◌+◌, ◌<◌, ◌^◌, List, [], ◌∷◌, ◌++◌, length, Result, IsTrue, OnOk, OnErr}
+use Rattle.std.specs.Prelude.{◌≡◌, ℕ, ◌+◌, ◌<◌, List, [], ◌∷◌, ◌++◌, length, Result, IsTrue, OnOk, OnErr}
 use Rattle.pgs_codec.specs.Frame.{framed}
+use Rattle.pgs_world.specs.declared.area_limit.TheConstants.{AREA_LIMIT}
 use Rattle.pgs_world.specs.declared.fault.AreaFault.{AreaFault}
 use Rattle.pgs_world.specs.Disk.{IsSameBeside}
 use Rattle.pgs_world.specs.Moment.{Passes, StopsBy, ShowsOne, IsSynced, IsSettled, MakesNoPut}
@@ -24,7 +25,7 @@ pub record IsRecordAppended {T : Type 0} (before after : Journal) (frame : List 
   pub epoch : after.epoch ≡ before.epoch
   pub end : OnOk result (after.end ≡ before.end + length frame)
   pub next : OnOk result (after.next ≡ advanced before.next)
-  pub within : OnOk result (after.end < 2 ^ 40)
+  pub within : OnOk result (after.end < AREA_LIMIT)
   pub next_within : OnOk result (IsNextWithin after.next after.end)
   -- after a fault the value is as it was
   pub kept : OnErr result (after ≡ before)

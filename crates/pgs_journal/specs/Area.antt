@@ -1,5 +1,5 @@
 -- What an area is: no store, another program's file, a store, or a store that is damaged at a record.
-use Rattle.std.specs.Prelude.{ℕ, suc, ◌+◌, ◌-◌, ◌*◌, ◌^◌, Bool, true, false, not, ◌&&◌, ◌||◌, List, [], ◌∷◌, length, take, drop, nat_eq, nat_lt, bytes_eq, if◌then◌else◌, Option, Some, None}
+use Rattle.std.specs.Prelude.{ℕ, suc, ◌+◌, ◌-◌, ◌*◌, Bool, true, false, not, ◌&&◌, ◌||◌, List, [], ◌∷◌, length, take, drop, nat_eq, nat_lt, bytes_eq, if◌then◌else◌, Option, Some, None}
 use Rattle.byteorder.specs.Endian.{big_number}
 use Rattle.pgs_codec.specs.Places.{is_payload_of, is_schema, is_txn, is_snapshot_within}
 use Rattle.pgs_journal.specs.declared.format.Format.{Format}
@@ -10,6 +10,7 @@ use Rattle.pgs_journal.specs.Format.{is_open, is_epoch, magic, next_after, opene
 use Rattle.pgs_journal.specs.declared.head.Head.{Head}
 use Rattle.pgs_journal.specs.declared.head.Head.TheVariants as heads
 use Rattle.pgs_journal.specs.Reading.{Next, Closed, Torn, Whole, Found, records_in}
+use Rattle.pgs_world.specs.declared.area_limit.TheConstants.{AREA_LIMIT}
 
 -- the first byte is an open gate
 abbrev pub opens : List ℕ → Bool
@@ -63,7 +64,7 @@ unfoldable pub is_fit : Format → ℕ → ℕ → List ℕ → Bool
 is_fit format epoch number payload =
     if nat_eq number 1 then is_payload_of is_schema payload
     else (is_payload_of is_txn payload || (has_later_schemas format && is_payload_of is_schema payload)
-    || (nat_eq number 2 && is_payload_of (is_snapshot_within ((epoch - 1) * 2 ^ 40)) payload))
+    || (nat_eq number 2 && is_payload_of (is_snapshot_within ((epoch - 1) * AREA_LIMIT)) payload))
 
 -- what stands at the gate of this number isn't damaged: the gate is closed, or the record is whole and fit for its place
 abbrev pub is_sound : Format → ℕ → ℕ → Next → Bool

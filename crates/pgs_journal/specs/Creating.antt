@@ -1,6 +1,7 @@
 -- What the making of a store in one area gives.
-use Rattle.std.specs.Prelude.{◌≡◌, ℕ, ◌+◌, ◌≤◌, ◌<◌, ◌^◌, List, length, Some, Result, IsTrue, IfOk, OnOk}
+use Rattle.std.specs.Prelude.{◌≡◌, ℕ, ◌+◌, ◌≤◌, ◌<◌, List, length, Some, Result, IsTrue, IfOk, OnOk}
 use Rattle.pgs_world.specs.declared.area.Area.{Area}
+use Rattle.pgs_world.specs.declared.area_limit.TheConstants.{AREA_LIMIT}
 use Rattle.pgs_world.specs.declared.fault.AreaFault.{AreaFault}
 use Rattle.pgs_world.specs.Disk.{IsSameBeside}
 use Rattle.pgs_world.specs.Moment.{StopsBy, IsSynced, IsSettled}
@@ -20,7 +21,7 @@ pub record IsStoreMade (area : Area) (epoch next : ℕ) (first : List ℕ) (resu
   -- the journal ends behind the frames
   pub journal : IfOk result (λ journal. journal ≡ record { area = area; epoch = epoch; end = 16 + length first; next = Some next })
   -- below 2^40, and its next number is at most that end
-  pub within : IfOk result (λ journal. journal.end < 2 ^ 40)
+  pub within : IfOk result (λ journal. journal.end < AREA_LIMIT)
   pub next_within : IfOk result (λ journal. next ≤ journal.end)
   -- where the area was synced, a stop at any moment leaves of it what it was, no store, or the new store
   pub stops : (payloads : List (List ℕ)) → IsFrames payloads next first → IsTrue old.tells_bytes → IsSynced area old

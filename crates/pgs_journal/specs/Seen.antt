@@ -1,5 +1,5 @@
 -- What bytes that were read of an area tell, whatever stands behind them.
-use Rattle.std.specs.Prelude.{◌≡◌, ℕ, ◌+◌, ◌≤◌, ◌<◌, ◌^◌, Bool, true, false, IsTrue, List, [], ◌∷◌, ◌++◌, length, slice_index, take, drop, nat_lt, if◌then◌else◌}
+use Rattle.std.specs.Prelude.{◌≡◌, ℕ, ◌+◌, ◌≤◌, ◌<◌, Bool, true, false, IsTrue, List, [], ◌∷◌, ◌++◌, length, slice_index, take, drop, nat_lt, if◌then◌else◌}
 use Rattle.pgs_world.specs.declared.area.Area.{Area}
 use Rattle.pgs_world.specs.Answers.{Answer, Long, Read, Answers, Answered}
 use Rattle.pgs_world.specs.World.{View, part}
@@ -9,6 +9,7 @@ use Rattle.pgs_journal.specs.Area.{is_fit, is_sound}
 use Rattle.pgs_journal.specs.Format.{is_epoch, record_body, opened}
 use Rattle.pgs_journal.specs.Reading.{Torn, record_of}
 use Rattle.pgs_journal.specs.Told.{told_by, Begins, AreInTurn, EndsWith, IsStateOf, IsMadeBy}
+use Rattle.pgs_world.specs.declared.area_limit.TheConstants.{AREA_LIMIT}
 
 -- where the world tells its bytes, an area has so many
 abbrev pub HasLength : View → Area → ℕ → Type 0
@@ -59,7 +60,7 @@ pub record IsTold {W : Type 0} (made : W → Area → Answer → W → Type 0) (
 pub record IsSettled {W : Type 0} (made : W → Area → Answer → W → Type 0) (view : View) (area : Area) (old new : W) (MayGoOn : List ℕ → Type 0) (at : ℕ) (P : List ℕ → Type 0) : Type 0 where
   pub bytes : List ℕ
   pub told : IsTold made view area old new MayGoOn at bytes
-  pub within : at + length bytes ≤ 2 ^ 40
+  pub within : at + length bytes ≤ AREA_LIMIT
   pub alone : P bytes
   pub each : (image : List ℕ) → EndsWith told.answers image → Begins bytes (drop at image) → P (drop at image)
 
@@ -74,7 +75,7 @@ IsUnsound format epoch number rest = is_sound format epoch number (record_of for
 -- A record of this number and the gate behind it were told, behind an open gate before this place, and the record is fit for its place.
 pub record IsRead {W : Type 0} (made : W → Area → Answer → W → Type 0) (view : View) (area : Area) (old new : W) (format : Format) (epoch number at : ℕ) (payload : List ℕ) (gate : ℕ) : Type 0 where
   pub told : IsTold made view area old new (IsTorn format number) at (record_body format number payload ++ gate ∷ [])
-  pub within : at + length (record_body format number payload) < 2 ^ 40
+  pub within : at + length (record_body format number payload) < AREA_LIMIT
   pub fit : is_fit format epoch number payload ≡ true
 
 -- Behind these first bytes of an area answers were given that make this state, which is also that of some bytes within 2^40.
@@ -84,5 +85,5 @@ pub record IsScanned {W : Type 0} (made : W → Area → Answer → W → Type 0
   pub shown : AreShown view area answers
   pub made_by : IsMadeBy (front_answers len front ++ answers) state
   pub image : List ℕ
-  pub limit : length image ≤ 2 ^ 40
+  pub limit : length image ≤ AREA_LIMIT
   pub state_of : IsStateOf state image

@@ -1,4 +1,4 @@
-ghost use Rattle.std.specs.Prelude.{◌≡◌, ◌≤◌, ◌^◌, List, ℕ, length, IsTrue, Err, IfOk};
+ghost use Rattle.std.specs.Prelude.{◌≡◌, ◌≤◌, List, ℕ, length, IsTrue, Err, IfOk};
 ghost use Rattle.pgs_journal.specs.Area.{area_state, HoldsStore};
 ghost use Rattle.pgs_journal.specs.Bounds.{IsBounded};
 ghost use Rattle.pgs_journal.specs.Calls.{HasAreaCauseWhere};
@@ -7,6 +7,7 @@ ghost use Rattle.pgs_journal.specs.Told.{IsMadeBy};
 ghost use Rattle.pgs_world.specs.Answers.{Answer, Answered};
 ghost use Rattle.pgs_world.specs.Moment.{IsQuiet, ShowsOne, MakesNoPut};
 ghost use Rattle.pgs_world.specs.World.{part};
+ghost use Rattle.pgs_world.specs.declared.area_limit.TheConstants.{AREA_LIMIT};
 
 use crate::head::{Front, Head};
 use crate::records::RecordReader;
@@ -20,7 +21,7 @@ fn scan_behind<W: World>(
     world: &mut W,
     front: &Front,
 ) -> Result<AreaState, ScanFault>
-    requires limit { front.now.len ≤ 2 ^ 40 }
+    requires limit { front.now.len ≤ AREA_LIMIT }
     requires len { HasLength (W.view world.old) front.now.area front.now.len }
     requires size { length front.now.bytes ≡ 17 }
     requires bytes { 17 ≤ front.now.len → Stand (W.view world.old) front.now.area 0 front.now.bytes }
@@ -55,7 +56,7 @@ fn scan_behind<W: World>(
 pub fn scan<W: World>(alloc: Global, world: &mut W, area: Area) -> Result<AreaState, ScanFault>
     // It is what the area is, where the world tells its bytes, and on every world what some bytes are, within bounds.
     ensures state { IfOk result (λ state. IsTrue (W.view world.old).tells_bytes → state ≡ area_state (part area (W.view world.old).shown)) }
-    ensures found { IfOk result (λ state. (image : List ℕ) × (length image ≤ 2 ^ 40) × (state ≡ area_state image)) }
+    ensures found { IfOk result (λ state. (image : List ℕ) × (length image ≤ AREA_LIMIT) × (state ≡ area_state image)) }
     // Where it is a store, the area holds the records, as `Journal::append` asks it of this epoch and this end.
     ensures holds { IfOk result (λ state. IsTrue (W.view world.new).tells_bytes → HoldsStore state (part area (W.view world.new).shown)) }
     ensures bounds { IfOk result IsBounded }

@@ -1,4 +1,4 @@
-ghost use Rattle.std.specs.Prelude.{◌≡◌, ◌≤◌, ◌^◌, ℕ, length, Some, None, IsTrue, IfOk, if◌then◌else◌};
+ghost use Rattle.std.specs.Prelude.{◌≡◌, ◌≤◌, ℕ, length, Some, None, IsTrue, IfOk, if◌then◌else◌};
 ghost use Rattle.pgs_journal.specs.declared.format.Format.{Format};
 ghost use Rattle.pgs_journal.specs.Area.{epoch_of, format_in, head_format, head_with, head_of, head_in};
 ghost use Rattle.pgs_journal.specs.Calls.{HasAreaCause};
@@ -7,6 +7,7 @@ ghost use Rattle.pgs_journal.specs.declared.head.Head.TheVariants as heads;
 ghost use Rattle.pgs_world.specs.Answers.{Answered};
 ghost use Rattle.pgs_world.specs.Moment.{IsQuiet, ShowsOne, MakesNoPut};
 ghost use Rattle.pgs_world.specs.World.{part};
+ghost use Rattle.pgs_world.specs.declared.area_limit.TheConstants.{AREA_LIMIT};
 
 use crate::Format;
 use crate::journal::OPEN;
@@ -76,7 +77,7 @@ impl Front {
     pub(crate) fn read<W: World>(world: &mut W, area: Area) -> Result<Front, AreaFault>
         ensures area { IfOk result (λ front. front.area ≡ area) }
         ensures len { IfOk result (λ front. HasLength (W.view world.old) area front.len) }
-        ensures limit { IfOk result (λ front. front.len ≤ 2 ^ 40) }
+        ensures limit { IfOk result (λ front. front.len ≤ AREA_LIMIT) }
         ensures size { IfOk result (λ front. length front.bytes ≡ 17) }
         ensures bytes { IfOk result (λ front. 17 ≤ front.len → Stand (W.view world.old) area 0 front.bytes) }
         ensures answered { IfOk result (λ front. Answered W.answered area world.old (front_answers front.len front.bytes) world.new) }

@@ -1,10 +1,11 @@
-ghost use Rattle.std.specs.Prelude.{◌≡◌, ◌≤◌, ◌<◌, ◌^◌, List, ℕ, IsTrue, OnOk};
+ghost use Rattle.std.specs.Prelude.{◌≡◌, ◌≤◌, ◌<◌, List, ℕ, IsTrue, OnOk};
 ghost use Rattle.pgs_codec.specs.Frame.{framed};
 ghost use Rattle.pgs_journal.specs.Appending.{IsRecordAppended};
 ghost use Rattle.pgs_journal.specs.Creating.{IsStoreMade};
 ghost use Rattle.pgs_journal.specs.Format.{advanced, is_epoch, Holds, IsFrames, IsNextWithin};
 ghost use Rattle.pgs_world.specs.Moment.{IsSynced};
 ghost use Rattle.pgs_world.specs.World.{part};
+ghost use Rattle.pgs_world.specs.declared.area_limit.TheConstants.{AREA_LIMIT};
 
 use crate::steps::{close_gate, write_store};
 use pgs_world::{Area, AreaFault, World, cut_synced, write_synced};
@@ -25,7 +26,7 @@ pub struct Journal {
 
 /// The next number after one record more. It is in range, since the journal ends below 2^40 and its next number is at most that.
 fn number_after(next: Option<u64>, end: u64) -> Option<u64>
-    requires end { end < 2 ^ 40 }
+    requires end { end < AREA_LIMIT }
     requires within { IsNextWithin next end }
     ensures { result ≡ advanced next }
 {
@@ -72,7 +73,7 @@ impl Journal {
     /// `AreaFault` comes only where the count of area faults rose. The value isn't used again after it.
     pub fn append<W: World>(&mut self, world: &mut W, frame: &[u8]) -> Result<(), AreaFault>
         requires framed { (payload : List ℕ) × (frame.now ≡ framed self.old.next payload) }
-        requires within { self.old.end < 2 ^ 40 }
+        requires within { self.old.end < AREA_LIMIT }
         requires next_within { IsNextWithin self.old.next self.old.end }
         requires holds { IsTrue (W.view world.old).tells_bytes
             → (payloads : List (List ℕ))

@@ -9,6 +9,7 @@ ghost use Rattle.pgs_journal.specs.Told.{IsStateOf, IsMadeBy};
 ghost use Rattle.pgs_journal.specs.declared.area_state.AreaState.{AreaState};
 ghost use Rattle.pgs_journal.specs.declared.area_state.AreaState.TheVariants as areas;
 ghost use Rattle.pgs_world.specs.Answers.{Answer};
+ghost use Rattle.pgs_world.specs.declared.area_limit.TheConstants.{AREA_LIMIT};
 
 /// An area that holds records, each fit for its place, is read as a store of them, whatever stands behind its closed gate.
 pub fn held_records_are_read()
@@ -34,6 +35,6 @@ pub fn reading_beside_appends()
 /// a reading began is in the state that it makes.
 pub fn appends_keep_records()
     ensures later { (answers : List Answer) (first last : List ℕ) → AreGivenBeside first answers last → AreAppended first last }
-    ensures kept { (first last : List ℕ) (next : Option ℕ) (epoch end : ℕ) (payloads : List (List ℕ)) → AreAppended first last → Holds next epoch payloads end first → end < 2 ^ 40
+    ensures kept { (first last : List ℕ) (next : Option ℕ) (epoch end : ℕ) (payloads : List (List ℕ)) → AreAppended first last → Holds next epoch payloads end first → end < AREA_LIMIT
         → (more : List (List ℕ)) × (now : Option ℕ) × (place : ℕ) × Holds now epoch (payloads ++ more) place last }
 {}

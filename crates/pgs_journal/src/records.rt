@@ -1,4 +1,4 @@
-ghost use Rattle.std.specs.Prelude.{◌≡◌, ◌+◌, ◌≤◌, ◌<◌, ◌^◌, ℕ, List, ◌++◌, ◌∷◌, [], length, take, Err, IsTrue, IfOk, nat_lt};
+ghost use Rattle.std.specs.Prelude.{◌≡◌, ◌+◌, ◌≤◌, ◌<◌, ℕ, List, ◌++◌, ◌∷◌, [], length, take, Err, IsTrue, IfOk, nat_lt};
 ghost use Rattle.std.specs.Option.{MatchOption};
 ghost use Rattle.byteorder.specs.Endian.{big_bytes, big_number};
 ghost use Rattle.pgs_codec.specs.Frame.{number_field};
@@ -11,6 +11,7 @@ ghost use Rattle.pgs_journal.specs.Told.{IsOpenYet, IsStateOf};
 ghost use Rattle.pgs_world.specs.Answers.{Read};
 ghost use Rattle.pgs_world.specs.Moment.{IsQuiet, ShowsOne, MakesNoPut};
 ghost use Rattle.pgs_world.specs.World.{part};
+ghost use Rattle.pgs_world.specs.declared.area_limit.TheConstants.{AREA_LIMIT};
 
 use crate::journal::OPEN;
 use crate::{AreaState, Format, ScanFault};
@@ -89,9 +90,9 @@ impl RecordReader {
         known: &mut u64,
         place: u64,
     ) -> Result<bool, AreaFault>
-        requires limit { known.old ≤ 2 ^ 40 }
+        requires limit { known.old ≤ AREA_LIMIT }
         requires len { HasLength (W.view world.old) self.now.area known.old }
-        ensures limit { known.new ≤ 2 ^ 40 }
+        ensures limit { known.new ≤ AREA_LIMIT }
         ensures len { HasLength (W.view world.old) self.now.area known.new }
         ensures within { IfOk result (λ within. within ≡ nat_lt place known.new) }
         ensures asked { IfOk result (λ within. IsAsked W.answered (W.view world.old) self.now.area known.new within world.old world.new) }
@@ -116,10 +117,10 @@ impl RecordReader {
         at: u64,
         number: u64,
     ) -> Result<Option<u64>, AreaFault>
-        requires at { at ≤ 2 ^ 40 }
-        requires limit { known.old ≤ 2 ^ 40 }
+        requires at { at ≤ AREA_LIMIT }
+        requires limit { known.old ≤ AREA_LIMIT }
         requires len { HasLength (W.view world.old) self.now.area known.old }
-        ensures limit { known.new ≤ 2 ^ 40 }
+        ensures limit { known.new ≤ AREA_LIMIT }
         ensures len { HasLength (W.view world.old) self.now.area known.new }
         ensures size { IfOk result (λ found. MatchOption found
             (IsSettled W.answered (W.view world.old) self.now.area world.old world.new (IsTorn self.now.format number) at (IsTorn self.now.format number))
@@ -155,7 +156,7 @@ impl RecordReader {
         at: u64,
         size: u64,
     ) -> Result<(Bytes, u8), ScanFault>
-        requires limit { at + size < 2 ^ 40 }
+        requires limit { at + size < AREA_LIMIT }
         requires inside { IsTrue (W.view world.old).tells_bytes → at + size < length (part self.now.area (W.view world.old).shown) }
         ensures answered { IfOk result (λ read. W.answered world.old self.now.area (Read at (read.0 ++ read.1 ∷ [])) world.new) }
         ensures stand { IfOk result (λ read. Stand (W.view world.old) self.now.area at (read.0 ++ read.1 ∷ [])) }
@@ -181,11 +182,11 @@ impl RecordReader {
         at: u64,
         number: u64,
     ) -> Result<Option<(Bytes, u8)>, ScanFault>
-        requires at { at ≤ 2 ^ 40 }
-        requires limit { known.old ≤ 2 ^ 40 }
+        requires at { at ≤ AREA_LIMIT }
+        requires limit { known.old ≤ AREA_LIMIT }
         requires epoch { IsTrue (is_epoch self.now.epoch) }
         requires len { HasLength (W.view world.old) self.now.area known.old }
-        ensures limit { known.new ≤ 2 ^ 40 }
+        ensures limit { known.new ≤ AREA_LIMIT }
         ensures len { HasLength (W.view world.old) self.now.area known.new }
         ensures record { IfOk result (λ found. MatchOption found
             (IsSettled W.answered (W.view world.old) self.now.area world.old world.new (IsTorn self.now.format number) at
@@ -217,7 +218,7 @@ impl RecordReader {
         len: u64,
         gate: u8,
     ) -> Result<AreaState, ScanFault>
-        requires limit { len ≤ 2 ^ 40 }
+        requires limit { len ≤ AREA_LIMIT }
         requires epoch { IsTrue (is_epoch self.now.epoch) }
         requires len { HasLength (W.view world.old) self.now.area len }
         requires image { ShowsOne (W.view world.old) }

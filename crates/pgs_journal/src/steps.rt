@@ -1,6 +1,6 @@
 //! The steps in which a store is made in an area, each with its clause on stops.
 
-ghost use Rattle.std.specs.Prelude.{◌≡◌, ◌+◌, ◌≤◌, ◌^◌, ◌++◌, ◌∷◌, [], false, length, IsTrue, IfOk, OnOk};
+ghost use Rattle.std.specs.Prelude.{◌≡◌, ◌+◌, ◌≤◌, ◌++◌, ◌∷◌, [], false, length, IsTrue, IfOk, OnOk};
 ghost use Rattle.pgs_journal.specs.Area.{opens, is_empty_or_open};
 ghost use Rattle.pgs_journal.specs.Calls.{HasAreaCause, IsStep};
 ghost use Rattle.pgs_journal.specs.declared.format.Format.TheVariants.{Second};
@@ -9,6 +9,7 @@ ghost use Rattle.pgs_journal.specs.Stops.{Turns, Closes, KeepsGate};
 ghost use Rattle.pgs_world.specs.Disk.{IsSameBeside};
 ghost use Rattle.pgs_world.specs.Moment.{StopsBy, IsQuiet, ShowsOne, IsSynced, IsSettled, MakesNoPut};
 ghost use Rattle.pgs_world.specs.World.{part};
+ghost use Rattle.pgs_world.specs.declared.area_limit.TheConstants.{AREA_LIMIT};
 
 use crate::journal::OPEN;
 use byteorder::{BigEndian, ByteOrder};
@@ -72,7 +73,7 @@ pub(crate) fn write_store<W: World>(
     requires { IsTrue (W.view world.old).tells_bytes → length (part area (W.view world.old).shown) ≡ 1 }
     ensures written { OnOk result (IsTrue (W.view world.old).tells_bytes
         → part area (W.view world.new).shown ≡ part area (W.view world.old).shown ++ (head_body Second epoch ++ 1 ∷ first.now)) }
-    ensures limit { OnOk result (17 + length first.now ≤ 2 ^ 40) }
+    ensures limit { OnOk result (17 + length first.now ≤ AREA_LIMIT) }
     ensures synced { OnOk result (IsSynced area (W.view world.new)) }
     ensures settled { OnOk result (IsSettled (W.view world.old) → IsSettled (W.view world.new)) }
     ensures stops { StopsBy (Turns area KeepsGate) (W.view world.old) (W.view world.new) }

@@ -9,7 +9,7 @@ use Rattle.pgs_base.specs.Pair.{is_pair}
 use Rattle.pgs_syntax.specs.declared.pattern.Atom.{Atom}
 use Rattle.pgs_syntax.specs.declared.pattern.Expr.{Expr}
 use Rattle.pgs_syntax.specs.declared.resolved.Resolved.{Resolved}
-use Rattle.pgs_syntax.specs.Join.{Triple}
+use Rattle.pgs_syntax.specs.Join.{PairTriple}
 use Rattle.pgs_syntax.specs.Triples.{is_triple}
 use Rattle.pgs_conform.specs.declared.shape.Shape.{Shape}
 use Rattle.pgs_conform.specs.declared.shape.Triple.{Triple as ShapeTriple}
@@ -72,7 +72,7 @@ any_false test (x ∷ xs) h = ap (λ b. b || list_any test xs) (h x) ∙ any_fal
 abbrev three : Option NodeRow → Option NodeRow → Option NodeRow → ShapeTriple → Bool
 three a b c shapes = option_map_or (in_shape shapes.source) a false && option_map_or (in_shape shapes.middle) b false && option_map_or (in_shape shapes.target) c false
 
-three_met : (ps : Pairs) (edge : ℕ) (ends : ℕ × ℕ) (triples : List ShapeTriple) (test : Triple → Bool) → DenotesTriples triples test → are_small ps ≡ true →
+three_met : (ps : Pairs) (edge : ℕ) (ends : ℕ × ℕ) (triples : List ShapeTriple) (test : PairTriple → Bool) → DenotesTriples triples test → are_small ps ≡ true →
     list_any (are_in_three ps ends.0 edge ends.1) triples ≡ pass_at ps edge ends test
 three_met ps edge ends triples test denote small = by (slice_get ps ends.0) (slice_get ps edge) (slice_get ps ends.1) refl refl refl
   where
@@ -85,7 +85,7 @@ three_met ps edge ends triples test denote small = by (slice_get ps ends.0) (sli
         denote (triple_of s o t)
         (and_from _ _ (and_from _ _ (small_at ps ends.0 s small e).0 (small_at ps edge o small f).0) (small_at ps ends.1 t small g).0)
 
-pub three_added : (old new : List Demand) (edge : ℕ) (ends : ℕ × ℕ) (triples : List ShapeTriple) → new ≡ old ++ Three ends.0 edge ends.1 triples ∷ [] → (test : Triple → Bool) →
+pub three_added : (old new : List Demand) (edge : ℕ) (ends : ℕ × ℕ) (triples : List ShapeTriple) → new ≡ old ++ Three ends.0 edge ends.1 triples ∷ [] → (test : PairTriple → Bool) →
     DenotesTriples triples test → Adds old new (λ ps. pass_at ps edge ends test)
 three_added old new edge ends triples pushed test denote ps small =
     ap (list_all (meets ps)) pushed ∙ all_last (meets ps) old (Three ends.0 edge ends.1 triples)
@@ -191,14 +191,14 @@ abbrev pub OnPlace : List Shape → List Demand → List Demand → ℕ → Type
 OnPlace shapes old new place = (test : NodeRow → Bool) → Denotes shapes test → Adds old new (λ ps. passes_at ps place test)
 
 abbrev pub OnEdge : List ShapeTriple → List Demand → List Demand → ℕ → ℕ × ℕ → Type 0
-OnEdge triples old new edge ends = (test : Triple → Bool) → DenotesTriples triples test → Adds old new (λ ps. pass_at ps edge ends test)
+OnEdge triples old new edge ends = (test : PairTriple → Bool) → DenotesTriples triples test → Adds old new (λ ps. pass_at ps edge ends test)
 
 pub on_place : {T E : Type 0} (r : Result T E) (shapes : List Shape) (old new : List Demand) (place : ℕ) (test : NodeRow → Bool) (goal : Pairs → Bool) → OnOk r (OnPlace shapes old new place) →
     Denotes shapes test → ((ps : Pairs) → are_small ps ≡ true → passes_at ps place test ≡ goal ps) → OnOk r (Adds old new goal)
 on_place r shapes old new place test goal h denote same =
     on_ok_weaker r (λ (adds : OnPlace shapes old new place). adds_same old new (λ ps. passes_at ps place test) goal same (adds test denote)) h
 
-pub on_edge : {T E : Type 0} (r : Result T E) (triples : List ShapeTriple) (old new : List Demand) (edge : ℕ) (ends : ℕ × ℕ) (test : Triple → Bool) (goal : Pairs → Bool) →
+pub on_edge : {T E : Type 0} (r : Result T E) (triples : List ShapeTriple) (old new : List Demand) (edge : ℕ) (ends : ℕ × ℕ) (test : PairTriple → Bool) (goal : Pairs → Bool) →
     OnOk r (OnEdge triples old new edge ends) → DenotesTriples triples test → ((ps : Pairs) → are_small ps ≡ true → pass_at ps edge ends test ≡ goal ps) → OnOk r (Adds old new goal)
 on_edge r triples old new edge ends test goal h denote same =
     on_ok_weaker r (λ (adds : OnEdge triples old new edge ends). adds_same old new (λ ps. pass_at ps edge ends test) goal same (adds test denote)) h

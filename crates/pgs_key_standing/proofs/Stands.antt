@@ -21,7 +21,7 @@ use Rattle.pgs_syntax.specs.declared.pattern.Expr.{Expr}
 use Rattle.pgs_syntax.specs.declared.pattern.Expr.TheVariants.{Element, Property}
 use Rattle.pgs_syntax.specs.declared.resolved.Resolved.{Resolved}
 use Rattle.pgs_syntax.specs.Fitting.{fits_node, fits_edge}
-use Rattle.pgs_syntax.specs.Join.{Triple}
+use Rattle.pgs_syntax.specs.Join.{PairTriple}
 use Rattle.pgs_base.specs.declared.part.Part.TheVariants as parts
 use Rattle.pgs_syntax.specs.KeyValues.{part_of}
 use Rattle.pgs_syntax.specs.Valid.{is_edge_var, is_node_var, read_var}
@@ -38,7 +38,7 @@ pub passed : (o : Option NodeRow) (test : NodeRow → Bool) → option_map_or te
 passed None test h = absurd (true≢false (sym h))
 passed (Some p) test h = (p, refl, h)
 
-pub record IsThree (ps : Pairs) (edge : ℕ) (ends : ℕ × ℕ) (test : Triple → Bool) : Type 0 where
+pub record IsThree (ps : Pairs) (edge : ℕ) (ends : ℕ × ℕ) (test : PairTriple → Bool) : Type 0 where
   pub source : NodeRow
   pub own : NodeRow
   pub target : NodeRow
@@ -47,7 +47,7 @@ pub record IsThree (ps : Pairs) (edge : ℕ) (ends : ℕ × ℕ) (test : Triple 
   pub target_is : slice_get ps ends.1 ≡ Some target
   pub passes : test (triple_of source own target) ≡ true
 
-pub three_passed : (ps : Pairs) (edge : ℕ) (ends : ℕ × ℕ) (test : Triple → Bool) → pass_at ps edge ends test ≡ true → IsThree ps edge ends test
+pub three_passed : (ps : Pairs) (edge : ℕ) (ends : ℕ × ℕ) (test : PairTriple → Bool) → pass_at ps edge ends test ≡ true → IsThree ps edge ends test
 three_passed ps edge ends test h =
     let first = passed (slice_get ps ends.0) _ h in
     let second = passed (slice_get ps edge) _ first.2 in

@@ -25,7 +25,7 @@ use Rattle.pgs_syntax.specs.declared.pattern.Expr.{Expr}
 use Rattle.pgs_syntax.specs.declared.pattern.Expr.TheVariants.{Element, Property}
 use Rattle.pgs_syntax.specs.declared.resolved.Resolved.{Resolved}
 use Rattle.pgs_syntax.specs.Fitting.{fits_node, fits_edge}
-use Rattle.pgs_syntax.specs.Join.{Triple}
+use Rattle.pgs_syntax.specs.Join.{PairTriple}
 use Rattle.pgs_syntax.specs.KeyValues.{part_of}
 use Rattle.pgs_syntax.specs.Matches.{same_elem, carried, leads, carries, holds, elements, are_there, same_value, is_node_of_type, is_edge_of_type}
 use Rattle.pgs_syntax.specs.Typed.{triple_at}
@@ -169,7 +169,7 @@ module _ (resolved : Resolved) (placed : Placed) (ok : IsPlaced placed) (g : Gra
       (listed.0, listed.1, one.1 ∙ ap Some listed.2, listed.3, found_passes (can_stand_node resolved) (is_at (node_cmp listed.0)) g.nodes listed.1 standing.nodes listed.3)
 
   edge_taken : (j : ℕ) → slice_get placed.kinds j ≡ Some true →
-      (id : EdgeId) × (row : EdgeRow) × (t : Triple) × (slice_get elems j ≡ Some (Edge id)) × (edge_at g id ≡ Some row) × (triple_at g row ≡ Some t) × (can_stand_edge resolved t ≡ true)
+      (id : EdgeId) × (row : EdgeRow) × (t : PairTriple) × (slice_get elems j ≡ Some (Edge id)) × (edge_at g id ≡ Some row) × (triple_at g row ≡ Some t) × (can_stand_edge resolved t ≡ true)
   edge_taken j kind =
       let one = elem_there placed.kinds elems j true there kind in
       let listed = edge_listed one.0 g.edges one.2 in
@@ -178,7 +178,7 @@ module _ (resolved : Resolved) (placed : Placed) (ok : IsPlaced placed) (g : Gra
       (listed.0, listed.1, t.0, one.1 ∙ ap Some listed.2, listed.3, t.1, t.2)
 
   -- so the pairs at its ends are those of its triple
-  triple_taken : (j : ℕ) (id : EdgeId) (row : EdgeRow) (t : Triple) → slice_get placed.kinds j ≡ Some true → slice_get elems j ≡ Some (Edge id) → edge_at g id ≡ Some row → triple_at g row ≡ Some t →
+  triple_taken : (j : ℕ) (id : EdgeId) (row : EdgeRow) (t : PairTriple) → slice_get placed.kinds j ≡ Some true → slice_get elems j ≡ Some (Edge id) → edge_at g id ≡ Some row → triple_at g row ≡ Some t →
       (slice_get taken (ends_of placed.atoms j).0 ≡ Some t.source) × (slice_get taken j ≡ Some t.own) × (slice_get taken (ends_of placed.atoms j).1 ≡ Some t.target)
   triple_taken j id row t kind at is ends =
       let ways = led g (slice_get elems j) (slice_get elems (ends_of placed.atoms j).0) (slice_get elems (ends_of placed.atoms j).1)
@@ -189,10 +189,10 @@ module _ (resolved : Resolved) (placed : Placed) (ok : IsPlaced placed) (g : Gra
       let source = then_some _ (node_at g row.source) t ends in
       let target = map_some _ (node_at g row.target) t source.2 in (
         stood (ends_of placed.atoms j).0 (Node ways.from) t.source ways.source_is
-        (ap (node_at g) (one_node ways.from row.source (sym (eqb-true ways.row.source.0 ways.from.0 nodes.0) ∙ ap (λ (r : EdgeRow). r.source.0) same)) ∙ source.1 ∙ ap (λ (u : Triple). Some u.source) target.2),
-        stood j (Edge id) t.own at (ap (option_map (λ (r : EdgeRow). pair_of r.labels r.props)) is ∙ ap (λ (u : Triple). Some u.own) target.2),
+        (ap (node_at g) (one_node ways.from row.source (sym (eqb-true ways.row.source.0 ways.from.0 nodes.0) ∙ ap (λ (r : EdgeRow). r.source.0) same)) ∙ source.1 ∙ ap (λ (u : PairTriple). Some u.source) target.2),
+        stood j (Edge id) t.own at (ap (option_map (λ (r : EdgeRow). pair_of r.labels r.props)) is ∙ ap (λ (u : PairTriple). Some u.own) target.2),
         stood (ends_of placed.atoms j).1 (Node ways.to) t.target ways.target_is
-        (ap (node_at g) (one_node ways.to row.target (sym (eqb-true ways.row.target.0 ways.to.0 nodes.1) ∙ ap (λ (r : EdgeRow). r.target.0) same)) ∙ target.1 ∙ ap (λ (u : Triple). Some u.target) target.2),
+        (ap (node_at g) (one_node ways.to row.target (sym (eqb-true ways.row.target.0 ways.to.0 nodes.1) ∙ ap (λ (r : EdgeRow). r.target.0) same)) ∙ target.1 ∙ ap (λ (u : PairTriple). Some u.target) target.2),
       )
     where
       one_edge : (a b : EdgeId) → Some (Edge a) ≡ Some (Edge b) → a ≡ b
@@ -201,7 +201,7 @@ module _ (resolved : Resolved) (placed : Placed) (ok : IsPlaced placed) (g : Gra
       one_node : (a b : NodeId) → a.0 ≡ b.0 → a ≡ b
       one_node a b e = ap (λ n. record { 0 = n }) e
 
-  pass_three : (j : ℕ) (ends : ℕ × ℕ) (t : Triple) (test : Triple → Bool) → (slice_get taken ends.0 ≡ Some t.source) × (slice_get taken j ≡ Some t.own) × (slice_get taken ends.1 ≡ Some t.target) →
+  pass_three : (j : ℕ) (ends : ℕ × ℕ) (t : PairTriple) (test : PairTriple → Bool) → (slice_get taken ends.0 ≡ Some t.source) × (slice_get taken j ≡ Some t.own) × (slice_get taken ends.1 ≡ Some t.target) →
       test t ≡ true → pass_at taken j ends test ≡ true
   pass_three j ends t test at h =
       ap (λ o. option_map_or (λ source. passes_at taken j (λ own. passes_at taken ends.1 (λ target. test (triple_of source own target)))) o false) at.0
@@ -236,7 +236,7 @@ module _ (resolved : Resolved) (placed : Placed) (ok : IsPlaced placed) (g : Gra
   node_fit number (Edge id) h = absurd (true≢false (sym h))
 
   edge_fit : (number : ℕ) (elem : Elem) → is_edge_of_type resolved g number elem ≡ true →
-      (id : EdgeId) × (row : EdgeRow) × (t : Triple) × (elem ≡ Edge id) × (edge_at g id ≡ Some row) × (triple_at g row ≡ Some t) × (fits_edge resolved number t ≡ true)
+      (id : EdgeId) × (row : EdgeRow) × (t : PairTriple) × (elem ≡ Edge id) × (edge_at g id ≡ Some row) × (triple_at g row ≡ Some t) × (fits_edge resolved number t ≡ true)
   edge_fit number (Node id) h = absurd (true≢false (sym h))
   edge_fit number (Edge id) h =
       let one = some_passes (option_and_then (triple_at g) (edge_at g id)) (fits_edge resolved number) h in

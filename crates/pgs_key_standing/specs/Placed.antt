@@ -11,7 +11,7 @@ use Rattle.pgs_syntax.specs.declared.pattern.Expr.{Expr}
 use Rattle.pgs_syntax.specs.declared.pattern.Expr.TheVariants.{Element, Property}
 use Rattle.pgs_syntax.specs.declared.resolved.Resolved.{Resolved}
 use Rattle.pgs_syntax.specs.Fitting.{fits_node, fits_edge}
-use Rattle.pgs_syntax.specs.Join.{Triple}
+use Rattle.pgs_syntax.specs.Join.{PairTriple}
 use Rattle.pgs_syntax.specs.Matches.{same_value}
 use Rattle.pgs_syntax.specs.Valid.{is_edge_var, is_node_var, gives_ends}
 use Rattle.pgs_conform.specs.Shapes.{triple_of}
@@ -28,7 +28,7 @@ ends_of (_ ∷ atoms) edge = ends_of atoms edge
 abbrev pub passes_at : List NodeRow → ℕ → (NodeRow → Bool) → Bool
 passes_at ps place test = option_map_or test (slice_get ps place) false
 
-abbrev pub pass_at : List NodeRow → ℕ → ℕ × ℕ → (Triple → Bool) → Bool
+abbrev pub pass_at : List NodeRow → ℕ → ℕ × ℕ → (PairTriple → Bool) → Bool
 pass_at ps edge ends test =
     passes_at ps ends.0 (λ source. passes_at ps edge (λ own. passes_at ps ends.1 (λ target. test (triple_of source own target))))
 

@@ -3,7 +3,7 @@
 ghost use Rattle.std.specs.Prelude.{◌≡◌, ◌≤◌, Bool, true, List as Items, length, IfOk, OnOk};
 ghost use Rattle.std.specs.List.{list_all};
 ghost use Rattle.pgs_base.specs.declared.row.NodeRow.{NodeRow};
-ghost use Rattle.pgs_syntax.specs.Join.{Triple as Pairs};
+ghost use Rattle.pgs_syntax.specs.Join.{PairTriple};
 ghost use Rattle.pgs_syntax.specs.Valid.{names_types};
 ghost use Rattle.pgs_conform.specs.Shapes.{Denotes, DenotesTriples};
 ghost use Rattle.pgs_standing.specs.Standing.{can_stand_node, can_stand_edge};
@@ -41,7 +41,7 @@ fn push_three(
     triples: List<Triple>,
     demands: &mut Vec<Demand>,
 ) -> Result<(), Memory>
-    ensures { OnOk result ((test : Pairs → Bool) → DenotesTriples triples test → Adds demands.old.items demands.new.items (λ ps. pass_at ps edge ends test)) }
+    ensures { OnOk result ((test : PairTriple → Bool) → DenotesTriples triples test → Adds demands.old.items demands.new.items (λ ps. pass_at ps edge ends test)) }
 {
     demands.push(
         Demand::Three {

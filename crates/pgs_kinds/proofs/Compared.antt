@@ -13,7 +13,7 @@ use Rattle.pgs_syntax.specs.declared.resolved.Resolved.{Resolved}
 use Rattle.pgs_syntax.specs.declared.resolved.TypeNo.{TypeNo}
 use Rattle.pgs_syntax.specs.declared.resolved.TypeNo.TheVariants as numbers
 use Rattle.pgs_syntax.specs.Fitting.{fits_node, fits_edge}
-use Rattle.pgs_syntax.specs.Join.{Triple}
+use Rattle.pgs_syntax.specs.Join.{PairTriple}
 use Rattle.pgs_syntax.specs.Typed.{types_node, types_edge, is_typed_node, is_typed_triple, is_concrete_node_type, is_concrete_edge_type}
 use Rattle.pgs_syntax.proofs.Halves.{any_same}
 use Rattle.pgs_kinds.specs.Kinds.{have_one_kind, looks_same, triple_looks_same}
@@ -45,7 +45,7 @@ one_plain p q h =
     let props = props_plain p.props q.props parts.1 in
     λ i. pair_of (labels i) (props i)
 
-one_triple : (t u : Triple) → triple_looks_same t u ≡ true → plain_triple t ≡ plain_triple u
+one_triple : (t u : PairTriple) → triple_looks_same t u ≡ true → plain_triple t ≡ plain_triple u
 one_triple t u h =
     let outer = and_parts (looks_same t.source u.source && looks_same t.own u.own) _ h in
     let inner = and_parts (looks_same t.source u.source) _ outer.0 in
@@ -58,7 +58,7 @@ module _ (resolved : Resolved) where
   pub node_same : (p q : NodeRow) → looks_same p q ≡ true → (number : ℕ) → fits_node resolved number p ≡ fits_node resolved number q
   node_same p q h number = sym (node_plain resolved number p) ∙ ap (fits_node resolved number) (one_plain p q h) ∙ node_plain resolved number q
 
-  pub edge_same : (t u : Triple) → triple_looks_same t u ≡ true → (number : ℕ) → fits_edge resolved number t ≡ fits_edge resolved number u
+  pub edge_same : (t u : PairTriple) → triple_looks_same t u ≡ true → (number : ℕ) → fits_edge resolved number t ≡ fits_edge resolved number u
   edge_same t u h number = sym (edge_plain resolved number t) ∙ ap (fits_edge resolved number) (one_triple t u h) ∙ edge_plain resolved number u
 
   pub typed_node_same : (p q : NodeRow) → looks_same p q ≡ true → is_typed_node resolved p ≡ is_typed_node resolved q
@@ -68,7 +68,7 @@ module _ (resolved : Resolved) where
       by (numbers.Node number) = ap (λ b. is_concrete_node_type resolved number && b) (node_same p q h number)
       by (numbers.Edge number) = refl
 
-  pub typed_by_plain : (t u : Triple) → plain_triple t ≡ plain_triple u → is_typed_triple resolved t ≡ is_typed_triple resolved u
+  pub typed_by_plain : (t u : PairTriple) → plain_triple t ≡ plain_triple u → is_typed_triple resolved t ≡ is_typed_triple resolved u
   typed_by_plain t u same = any_same (types_edge resolved t) (types_edge resolved u) by resolved.guard.types
     where
       by : (type : TypeNo) → types_edge resolved t type ≡ types_edge resolved u type
@@ -77,5 +77,5 @@ module _ (resolved : Resolved) where
           ap (λ b. is_concrete_edge_type resolved number && b)
           (sym (edge_plain resolved number t) ∙ ap (fits_edge resolved number) same ∙ edge_plain resolved number u)
 
-  pub typed_edge_same : (t u : Triple) → triple_looks_same t u ≡ true → is_typed_triple resolved t ≡ is_typed_triple resolved u
+  pub typed_edge_same : (t u : PairTriple) → triple_looks_same t u ≡ true → is_typed_triple resolved t ≡ is_typed_triple resolved u
   typed_edge_same t u h = typed_by_plain t u (one_triple t u h)

@@ -19,7 +19,7 @@ use Rattle.pgs_syntax.specs.declared.specification.Property.{Property}
 use Rattle.pgs_syntax.specs.declared.specification.Spec as specs
 use Rattle.pgs_syntax.specs.declared.specification.Spec.{Spec, Empty, Word, OpenLabels, And', Or', Opt', Row_of-Spec, end_of-Spec, more_of-Spec}
 use Rattle.pgs_syntax.specs.Fitting.{is_only, is_met, is_named_by, is_braced, suits, suits_each, suits_some, fits_below, fits_node, fits, has_ends_of, fits_edge_type, fits_edge_below, fits_edge}
-use Rattle.pgs_syntax.specs.Join.{is_empty, ways, splits, halves, Triple, is_empty_pair, triple_halves, Joins, of_pairs, of_triples, joined}
+use Rattle.pgs_syntax.specs.Join.{is_empty, ways, splits, halves, PairTriple, is_empty_pair, triple_halves, Joins, of_pairs, of_triples, joined}
 use Rattle.pgs_syntax.proofs.Edges.{any_triple_halves}
 use Rattle.pgs_syntax.proofs.Halves.{any_same, any_flat_map, any_halves, joined_any}
 
@@ -47,7 +47,7 @@ plain_entry entry = (entry.0, plain_of (kind_of entry.1))
 abbrev pub plain : NodeRow → NodeRow
 plain p = pair_of p.labels (map plain_entry p.props)
 
-abbrev pub plain_triple : Triple → Triple
+abbrev pub plain_triple : PairTriple → PairTriple
 plain_triple t = record { source = plain t.source; own = plain t.own; target = plain t.target }
 
 -- ---- what is asked of properties
@@ -103,14 +103,14 @@ halves_same c p =
     splits_map plain_entry (λ (k : List Entry × List Entry). c (pair_of l.0 k.0, pair_of l.1 k.1)) p.props) (splits p.labels)
     ∙ sym (any_halves (λ (s : NodeRow × NodeRow). c (plain s.0, plain s.1)) p)
 
-triples_same : (c : Triple × Triple → Bool) (t : Triple) →
-    list_any c (triple_halves (plain_triple t)) ≡ list_any (λ (s : Triple × Triple). c (plain_triple s.0, plain_triple s.1)) (triple_halves t)
+triples_same : (c : PairTriple × PairTriple → Bool) (t : PairTriple) →
+    list_any c (triple_halves (plain_triple t)) ≡ list_any (λ (s : PairTriple × PairTriple). c (plain_triple s.0, plain_triple s.1)) (triple_halves t)
 triples_same c t =
     any_triple_halves c (plain_triple t)
     ∙ halves_same _ t.source
     ∙ any_same _ _ (λ (s : NodeRow × NodeRow). halves_same _ t.own
     ∙ any_same _ _ (λ (m : NodeRow × NodeRow). halves_same _ t.target) (halves t.own)) (halves t.source)
-    ∙ sym (any_triple_halves (λ (s : Triple × Triple). c (plain_triple s.0, plain_triple s.1)) t)
+    ∙ sym (any_triple_halves (λ (s : PairTriple × PairTriple). c (plain_triple s.0, plain_triple s.1)) t)
 
 -- ---- specifications
 
@@ -187,20 +187,20 @@ module _ (resolved : Resolved) where
   spec_plain : (spec : Spec Leaf) (p : NodeRow) → fits resolved spec (plain p) ≡ fits resolved spec p
   spec_plain spec p = suits_plain of_pairs plain pairs_are (fits_node resolved) node_plain spec p
 
-  ends_plain : (type : EdgeType Leaf) (t : Triple) → has_ends_of resolved type (plain_triple t) ≡ has_ends_of resolved type t
+  ends_plain : (type : EdgeType Leaf) (t : PairTriple) → has_ends_of resolved type (plain_triple t) ≡ has_ends_of resolved type t
   ends_plain type t = λ i. spec_plain type.source t.source i && empty_pair t.own i && spec_plain type.target t.target i
 
-  type_plain : (named : ℕ → Triple → Bool) → ((number : ℕ) (t : Triple) → named number (plain_triple t) ≡ named number t) → (type : EdgeType Leaf) (t : Triple) →
+  type_plain : (named : ℕ → PairTriple → Bool) → ((number : ℕ) (t : PairTriple) → named number (plain_triple t) ≡ named number t) → (type : EdgeType Leaf) (t : PairTriple) →
       fits_edge_type resolved named type (plain_triple t) ≡ fits_edge_type resolved named type t
   type_plain named same type t =
       joined_plain of_triples plain_triple triples_are (has_ends_of resolved type) (suits of_triples named type.middle) (ends_plain type)
       (suits_plain of_triples plain_triple triples_are named same type.middle) t
 
-  edge_below_plain : (bound number : ℕ) (t : Triple) → fits_edge_below resolved bound number (plain_triple t) ≡ fits_edge_below resolved bound number t
+  edge_below_plain : (bound number : ℕ) (t : PairTriple) → fits_edge_below resolved bound number (plain_triple t) ≡ fits_edge_below resolved bound number t
   edge_below_plain zero number t = refl
   edge_below_plain (suc bound) number t = by (edge_below_plain bound) (number == bound)
     where
-      by : ((other : ℕ) (u : Triple) → fits_edge_below resolved bound other (plain_triple u) ≡ fits_edge_below resolved bound other u) → (b : Bool) →
+      by : ((other : ℕ) (u : PairTriple) → fits_edge_below resolved bound other (plain_triple u) ≡ fits_edge_below resolved bound other u) → (b : Bool) →
           ◌≡◌ {A = Bool} (elim b [
             | true ↦ option_map_or (λ (type : EdgeType Leaf). fits_edge_type resolved (fits_edge_below resolved bound) type (plain_triple t)) (slice_get resolved.edges bound) false
             | false ↦ fits_edge_below resolved bound number (plain_triple t)
@@ -215,5 +215,5 @@ module _ (resolved : Resolved) where
           (λ type. type_plain (fits_edge_below resolved bound) rest type t) (slice_get resolved.edges bound)
       by rest false = rest number t
 
-  pub edge_plain : (number : ℕ) (t : Triple) → fits_edge resolved number (plain_triple t) ≡ fits_edge resolved number t
+  pub edge_plain : (number : ℕ) (t : PairTriple) → fits_edge resolved number (plain_triple t) ≡ fits_edge resolved number t
   edge_plain number t = edge_below_plain (length resolved.edges) number t

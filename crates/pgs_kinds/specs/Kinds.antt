@@ -4,7 +4,7 @@ use Rattle.std.specs.Cmp.Lexicographic.{pointwise}
 use Rattle.pgs_base.specs.declared.row.NodeRow.{NodeRow}
 use Rattle.pgs_base.specs.declared.value.Value.{Value}
 use Rattle.pgs_base.specs.Value.{kind_of, is_of_kind}
-use Rattle.pgs_syntax.specs.Join.{Triple}
+use Rattle.pgs_syntax.specs.Join.{PairTriple}
 
 -- whether two properties have one key, and values of one kind
 abbrev pub have_one_kind : List ℕ × Value → List ℕ × Value → Bool
@@ -15,5 +15,5 @@ abbrev pub looks_same : NodeRow → NodeRow → Bool
 looks_same p q = pointwise (pointwise nat_eq) p.labels q.labels && pointwise have_one_kind p.props q.props
 
 -- whether two triples do, pair by pair
-abbrev pub triple_looks_same : Triple → Triple → Bool
+abbrev pub triple_looks_same : PairTriple → PairTriple → Bool
 triple_looks_same t u = looks_same t.source u.source && looks_same t.own u.own && looks_same t.target u.target

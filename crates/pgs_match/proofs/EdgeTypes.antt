@@ -11,13 +11,13 @@ use Rattle.pgs_syntax.specs.declared.pattern.Atom.{Atom}
 use Rattle.pgs_syntax.specs.declared.pattern.Atom.TheVariants.{Ends, HasLabel, FitsNode, FitsEdge, Equals}
 use Rattle.pgs_syntax.specs.declared.resolved.Resolved.{Resolved}
 use Rattle.pgs_syntax.specs.Fitting.{fits_edge}
-use Rattle.pgs_syntax.specs.Join.{Triple}
+use Rattle.pgs_syntax.specs.Join.{PairTriple}
 use Rattle.pgs_syntax.specs.Typed.{triple_at}
 use Rattle.pgs_match.specs.Tests.{triple_meets}
 use Rattle.pgs_match.specs.Asks.{asks_edge_type}
 
 module _ (resolved : Resolved) (var : ℕ) where
-  pub unasked : (triple : Option Triple) (atoms : List Atom) → list_any (asks_edge_type var) atoms ≡ false → list_all (triple_meets resolved var triple) atoms ≡ true
+  pub unasked : (triple : Option PairTriple) (atoms : List Atom) → list_any (asks_edge_type var) atoms ≡ false → list_all (triple_meets resolved var triple) atoms ≡ true
   unasked triple [] h = refl
   unasked triple (FitsEdge of number ∷ atoms) h = by (of == var) h (unasked triple atoms)
     where
@@ -48,7 +48,7 @@ module _ (resolved : Resolved) (g : Graph) (row : EdgeRow) (var : ℕ) (atoms : 
   without : triple_at g row ≡ None → false ≡ list_all (triple_meets resolved var (triple_at g row)) atoms
   without none = sym (asked_of_none resolved var atoms (sym asked ∙ is)) ∙ ap (λ t. list_all (triple_meets resolved var t) atoms) (sym none)
 
-  abbrev triple_from : Option NodeRow → Option NodeRow → Option Triple
+  abbrev triple_from : Option NodeRow → Option NodeRow → Option PairTriple
   triple_from source target =
       option_and_then (λ source. option_map (λ target. record { source = source; own = pair_of row.labels row.props; target = target }) target) source
 

@@ -15,7 +15,7 @@ use Rattle.pgs_syntax.specs.declared.pattern.Atom.TheVariants.{Ends, HasLabel, F
 use Rattle.pgs_syntax.specs.declared.pattern.Pattern.{Pattern}
 use Rattle.pgs_syntax.specs.declared.resolved.Resolved.{Resolved}
 use Rattle.pgs_syntax.specs.Fitting.{fits_node, fits_edge}
-use Rattle.pgs_syntax.specs.Join.{Triple}
+use Rattle.pgs_syntax.specs.Join.{PairTriple}
 use Rattle.pgs_syntax.specs.Matches.{same_value}
 use Rattle.pgs_syntax.specs.Typed.{triple_at}
 use Rattle.pgs_syntax.specs.Valid.{is_edge_var, is_node_var}
@@ -35,7 +35,7 @@ node_meets resolved var own (FitsNode of number) = not (of == var) || fits_node 
 node_meets resolved var own atom = pair_meets var own atom
 
 -- whether a triple fits the edge type that an atom asks of a variable
-abbrev pub triple_meets : Resolved → ℕ → Option Triple → Atom → Bool
+abbrev pub triple_meets : Resolved → ℕ → Option PairTriple → Atom → Bool
 triple_meets resolved var triple (FitsEdge of number) = not (of == var) || option_map_or (fits_edge resolved number) triple false
 triple_meets resolved var triple _ = true
 

@@ -3,7 +3,7 @@ use Rattle.std.proofs.Common.{◌≡◌, Bool, true, false, ◌&&◌, refl, sym,
 use Rattle.std.proofs.lemmas.Bool.{and_parts, and_from}
 use Rattle.pgs_base.specs.declared.row.NodeRow.{NodeRow}
 use Rattle.pgs_base.specs.Pair.{is_pair}
-use Rattle.pgs_syntax.specs.Join.{Triple, halves, of_pairs, of_triples, joined, is_empty_pair}
+use Rattle.pgs_syntax.specs.Join.{PairTriple, halves, of_pairs, of_triples, joined, is_empty_pair}
 use Rattle.pgs_syntax.specs.Triples.{is_triple}
 use Rattle.pgs_syntax.proofs.AnyOrder.{pairs_in_any_order, triples_in_any_order}
 use Rattle.pgs_syntax.proofs.Edges.{any_triple_halves}
@@ -34,16 +34,16 @@ pairs_lawful = record {
 
 -- ---- triples
 
-abbrev pub IsGoodTriple : Triple → Type 0
+abbrev pub IsGoodTriple : PairTriple → Type 0
 IsGoodTriple t = is_triple t ≡ true
 
-triples_there : (f g h k : Triple → Bool) → ((t : Triple) → IsGoodTriple t → f t ≡ h t) → ((t : Triple) → IsGoodTriple t → g t ≡ k t) →
-    (t : Triple) → IsGoodTriple t → joined of_triples f g t ≡ true → joined of_triples h k t ≡ true
+triples_there : (f g h k : PairTriple → Bool) → ((t : PairTriple) → IsGoodTriple t → f t ≡ h t) → ((t : PairTriple) → IsGoodTriple t → g t ≡ k t) →
+    (t : PairTriple) → IsGoodTriple t → joined of_triples f g t ≡ true → joined of_triples h k t ≡ true
 triples_there f g h k first second t pairs e =
     let m = triple_means f g t pairs e in
     triple_meant h k t pairs (m.0, m.1, m.2, m.3, m.4, sym (first m.0 m.2) ∙ m.5, sym (second m.1 m.3) ∙ m.6)
 
-abbrev triple : NodeRow → NodeRow → NodeRow → Triple
+abbrev triple : NodeRow → NodeRow → NodeRow → PairTriple
 triple source own target = record { source = source; own = own; target = target }
 
 regroup : (s m e f : Bool) → ((s && m && e) && f) ≡ (s && (m && (e && f)))
@@ -51,10 +51,10 @@ regroup true true e f = refl
 regroup true false e f = refl
 regroup false m e f = refl
 
-triple_unit : (f : Triple → Bool) (t : Triple) → joined of_triples f (of_triples.asks is_empty_pair) t ≡ f t
+triple_unit : (f : PairTriple → Bool) (t : PairTriple) → joined of_triples f (of_triples.asks is_empty_pair) t ≡ f t
 triple_unit f t =
     joined_any of_triples f (of_triples.asks is_empty_pair) t
-    ∙ any_triple_halves (λ (u : Triple × Triple). of_triples.asks is_empty_pair u.1 && f u.0) t
+    ∙ any_triple_halves (λ (u : PairTriple × PairTriple). of_triples.asks is_empty_pair u.1 && f u.0) t
     ∙ any_same _ _ (λ (s : NodeRow × NodeRow). any_same _ _ (λ (m : NodeRow × NodeRow). any_same _ _ (λ (e : NodeRow × NodeRow).
     regroup (is_empty_pair s.1) (is_empty_pair m.1) (is_empty_pair e.1) (f (triple s.0 m.0 e.0))) (halves t.target)
     ∙ any_and (is_empty_pair s.1) (λ (e : NodeRow × NodeRow). is_empty_pair m.1 && (is_empty_pair e.1 && f (triple s.0 m.0 e.0))) (halves t.target)
@@ -73,11 +73,11 @@ triples_lawful = record {
 }
 
 -- a join of triples is a join at each place
-module _ (a b c d e f : NodeRow → Bool) (t : Triple) (pairs : is_triple t ≡ true) where
-  abbrev first : Triple → Bool
+module _ (a b c d e f : NodeRow → Bool) (t : PairTriple) (pairs : is_triple t ≡ true) where
+  abbrev first : PairTriple → Bool
   first u = a u.source && b u.own && c u.target
 
-  abbrev second : Triple → Bool
+  abbrev second : PairTriple → Bool
   second u = d u.source && e u.own && f u.target
 
   abbrev at_each : Bool

@@ -1,6 +1,6 @@
 ghost use Rattle.std.specs.Prelude.{◌≡◌, ◌+◌, ◌*◌, ◌^◌, ◌≤◌, ◌||◌, true, length, map, IfOk, OnOk};
 ghost use Rattle.std.specs.List.{list_any};
-ghost use Rattle.pgs_syntax.specs.Join.{of_triples, joined, joined_all, Triple as Pairs};
+ghost use Rattle.pgs_syntax.specs.Join.{of_triples, joined, joined_all, PairTriple};
 ghost use Rattle.pgs_syntax.specs.Triples.{is_triple};
 ghost use Rattle.pgs_conform.specs.Shapes.{in_triple, in_some_triple, DenotesTriples};
 ghost use Rattle.pgs_product.specs.Counts.{choices};
@@ -19,7 +19,7 @@ fn push_triple_products(
     second: &[Triple],
     products: &mut Vec<Triple>,
 ) -> Result<(), Memory>
-    ensures denote { OnOk result ((t : Pairs) → is_triple t ≡ true → in_some_triple products.new.items t
+    ensures denote { OnOk result ((t : PairTriple) → is_triple t ≡ true → in_some_triple products.new.items t
         ≡ (in_some_triple products.old.items t
         || list_any (λ shapes. joined of_triples (in_triple first.now) (in_triple shapes) t) second.now)) }
     ensures count { OnOk result (length products.new.items ≡ length products.old.items + length second.now) }

@@ -1,5 +1,5 @@
 ghost use Rattle.std.specs.Prelude.{◌≡◌, ◌&&◌, true, length, IfOk};
-ghost use Rattle.pgs_syntax.specs.Join.{of_triples, joined, is_empty_pair, Triple as Pairs};
+ghost use Rattle.pgs_syntax.specs.Join.{of_triples, joined, is_empty_pair, PairTriple};
 ghost use Rattle.pgs_syntax.specs.Triples.{is_triple};
 ghost use Rattle.pgs_conform.specs.Shapes.{in_shape, in_triple, in_some_triple};
 
@@ -12,7 +12,7 @@ use std::alloc::Global;
 
 /// The triples of pairs whose own pair is in a shape and whose ends are empty. It takes no memory.
 pub fn middle_triple(alloc: Global, middle: Shape) -> Triple
-    ensures { (t : Pairs) → in_triple result t ≡ (is_empty_pair t.source && in_shape middle t.own && is_empty_pair t.target) }
+    ensures { (t : PairTriple) → in_triple result t ≡ (is_empty_pair t.source && in_shape middle t.own && is_empty_pair t.target) }
 {
     Triple {
         source: empty_shape(alloc),
@@ -24,7 +24,7 @@ pub fn middle_triple(alloc: Global, middle: Shape) -> Triple
 /// The exact product of two triples of shapes: a triple of pairs is in it exactly where it is the join of a triple of the first
 /// with a triple of the second.
 pub fn triple_product(alloc: Global, first: &Triple, second: &Triple) -> Result<Triple, Memory>
-    ensures { IfOk result (λ shapes. (t : Pairs) → is_triple t ≡ true →
+    ensures { IfOk result (λ shapes. (t : PairTriple) → is_triple t ≡ true →
         in_triple shapes t ≡ joined of_triples (in_triple first.now) (in_triple second.now) t) }
 {
     let source = product(alloc, &first.source, &second.source)?;
@@ -39,7 +39,7 @@ pub fn triple_product(alloc: Global, first: &Triple, second: &Triple) -> Result<
 
 /// A triple of shapes of the same triples of pairs. Names are shared. `Memory` where there was none left.
 pub fn copy_triple(alloc: Global, triple: &Triple) -> Result<Triple, Memory>
-    ensures { IfOk result (λ copy. (t : Pairs) → in_triple copy t ≡ in_triple triple.now t) }
+    ensures { IfOk result (λ copy. (t : PairTriple) → in_triple copy t ≡ in_triple triple.now t) }
 {
     let source = copy_shape(alloc, &triple.source)?;
     let middle = copy_shape(alloc, &triple.middle)?;
@@ -53,7 +53,7 @@ pub fn copy_triple(alloc: Global, triple: &Triple) -> Result<Triple, Memory>
 
 /// Triples of shapes of the same triples of pairs, in order.
 pub fn copy_triples(alloc: Global, triples: &[Triple]) -> Result<List<Triple>, Memory>
-    ensures same { IfOk result (λ copies. (t : Pairs) → in_some_triple copies t ≡ in_some_triple triples.now t) }
+    ensures same { IfOk result (λ copies. (t : PairTriple) → in_some_triple copies t ≡ in_some_triple triples.now t) }
     ensures count { IfOk result (λ copies. length copies ≡ length triples.now) }
 {
     let mut copies = Vec::with_capacity(alloc, triples.len())?;

@@ -8,7 +8,7 @@ use Rattle.pgs_command.specs.Setting.{Setting, setting_of, faults_in}
 use Rattle.pgs_command.specs.Spec.{CommandSpec}
 use Rattle.pgs_command.proofs.Unread.{unread_status, reads_nothing}
 use Rattle.pgs_feed.specs.Deliveries.{ListKind}
-use Rattle.pgs_run_lines.specs.Calls.{Reads}
+use Rattle.pgs_run_lines.specs.Calls.{MakesReads}
 use Rattle.pgs_world.specs.World.{View}
 
 pub promise_as : (spec other : CommandSpec) (budget : ℕ) (old new : Setting) (status : Status) → spec ≡ other → Promise other budget old new status → Promise spec budget old new status
@@ -19,7 +19,7 @@ gives_as kind spec other old new before after status is = subst (λ (s : Command
 
 -- the source is as before
 pub calls_of : {S : Type 0} (made : S → ℕ → Option ℕ → S → Type 0) (source : S) (spec : CommandSpec) (budget : ℕ) (old new : View) (status : Status) → spec.reads_source ≡ false → PromiseAlone spec old new status
-    → Reads made budget source (fails_read status) source
+    → MakesReads made budget source (fails_read status) source
 calls_of made source spec budget old new status none promise =
     let at : View → Setting = λ view. setting_of None 0 view [] in
     reads_nothing made budget source (fails_read status)

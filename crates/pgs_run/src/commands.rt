@@ -1,11 +1,12 @@
-ghost use Rattle.std.specs.Prelude.{◌≤◌, ◌^◌, ◌≡◌, true};
+ghost use Rattle.std.specs.Prelude.{◌≤◌, ◌≡◌, true};
 ghost use Rattle.pgs_command.specs.Calls.{fails_read, fails_world};
 ghost use Rattle.pgs_command.specs.Feeding.{Gives};
 ghost use Rattle.pgs_command.specs.Promise.{Promise};
 ghost use Rattle.pgs_command.specs.Setting.{setting_of};
 ghost use Rattle.pgs_feed.specs.Deliveries.{kind_of};
 ghost use Rattle.pgs_run.specs.Commands.{spec_of};
-ghost use Rattle.pgs_run_lines.specs.Calls.{Reads};
+ghost use Rattle.pgs_run_lines.specs.Calls.{MakesReads};
+ghost use Rattle.pgs_run_lines.specs.declared.budget.TheConstants.{BUDGET};
 
 use pgs_command::Status;
 use pgs_feed::Feeds;
@@ -30,7 +31,7 @@ pub fn run_command<S: Source, W: World, L: Feeds>(
     feeds: &mut L,
     budget: u64,
 ) -> Status
-    requires { budget ≤ 2 ^ 40 }
+    requires { budget ≤ BUDGET }
     ensures promise { Promise (spec_of command) budget
         (setting_of (S.left source.old) (S.faults source.old) (W.view world.old) (L.places feeds.old))
         (setting_of (S.left source.new) (S.faults source.new) (W.view world.new) (L.places feeds.new)) result }
@@ -38,7 +39,7 @@ pub fn run_command<S: Source, W: World, L: Feeds>(
         (setting_of (S.left source.old) (S.faults source.old) (W.view world.old) (L.places feeds.old))
         (setting_of (S.left source.new) (S.faults source.new) (W.view world.new) (L.places feeds.new)) feeds.old feeds.new result }
     ensures last { fails_world result ≡ true → W.failed world.new }
-    ensures calls { Reads S.read_made budget source.old (fails_read result) source.new }
+    ensures calls { MakesReads S.read_made budget source.old (fails_read result) source.new }
 {
     match command {
         Command::Try => run_judging(alloc, Judging::EachLine, source, world, budget),

@@ -1,11 +1,12 @@
-ghost use Rattle.std.specs.Prelude.{◌<◌, ◌≤◌, ◌^◌, ◌≡◌, true};
+ghost use Rattle.std.specs.Prelude.{◌<◌, ◌≤◌, ◌≡◌, true};
 ghost use Rattle.pgs_command.specs.Calls.{fails_read, fails_world};
 ghost use Rattle.pgs_command.specs.Feeding.{RunGives};
 ghost use Rattle.pgs_command.specs.Promise.{Runs};
 ghost use Rattle.pgs_command.specs.Setting.{setting_of};
 ghost use Rattle.pgs_feed.specs.Deliveries.{kind_of};
 ghost use Rattle.pgs_run.specs.Commands.{spec_for};
-ghost use Rattle.pgs_run_lines.specs.Calls.{Reads};
+ghost use Rattle.pgs_run_lines.specs.Calls.{MakesReads};
+ghost use Rattle.pgs_run_lines.specs.declared.budget.TheConstants.{BUDGET};
 
 use crate::commands::run_command;
 use pgs_answer::words_refused_line;
@@ -30,7 +31,7 @@ pub fn run_within<S: Source, W: World, L: Feeds>(
     budget: u64,
 ) -> Status
     requires positive { 0 < budget }
-    requires within { budget ≤ 2 ^ 40 }
+    requires within { budget ≤ BUDGET }
     ensures promise { Runs (spec_for words.now) budget
         (setting_of (S.left source.old) (S.faults source.old) (W.view world.old) (L.places feeds.old))
         (setting_of (S.left source.new) (S.faults source.new) (W.view world.new) (L.places feeds.new)) result }
@@ -39,7 +40,7 @@ pub fn run_within<S: Source, W: World, L: Feeds>(
         (setting_of (S.left source.old) (S.faults source.old) (W.view world.old) (L.places feeds.old))
         (setting_of (S.left source.new) (S.faults source.new) (W.view world.new) (L.places feeds.new)) feeds.old feeds.new result }
     ensures last { fails_world result ≡ true → W.failed world.new }
-    ensures calls { Reads S.read_made budget source.old (fails_read result) source.new }
+    ensures calls { MakesReads S.read_made budget source.old (fails_read result) source.new }
 {
     match command_of(alloc, words) {
         Ok(Some(command)) => run_command(alloc, command, source, world, feeds, budget),
@@ -56,14 +57,14 @@ pub fn run<S: Source, W: World, L: Feeds>(
     world: &mut W,
     feeds: &mut L,
 ) -> Status
-    ensures promise { Runs (spec_for words.now) (2 ^ 40)
+    ensures promise { Runs (spec_for words.now) BUDGET
         (setting_of (S.left source.old) (S.faults source.old) (W.view world.old) (L.places feeds.old))
         (setting_of (S.left source.new) (S.faults source.new) (W.view world.new) (L.places feeds.new)) result }
     ensures gives { RunGives (spec_for words.now) (kind_of L.places L.delivered)
         (setting_of (S.left source.old) (S.faults source.old) (W.view world.old) (L.places feeds.old))
         (setting_of (S.left source.new) (S.faults source.new) (W.view world.new) (L.places feeds.new)) feeds.old feeds.new result }
     ensures last { fails_world result ≡ true → W.failed world.new }
-    ensures calls { Reads S.read_made (2 ^ 40) source.old (fails_read result) source.new }
+    ensures calls { MakesReads S.read_made BUDGET source.old (fails_read result) source.new }
 {
     run_within(alloc, words, source, world, feeds, BUDGET)
 }

@@ -7,7 +7,7 @@ use Rattle.pgs_run_lines.specs.declared.stop.Stop.{Stop}
 use Rattle.pgs_run_lines.specs.declared.stop.Stop.TheVariants as stops
 use Rattle.pgs_run_lines.specs.Driving.{IsEndAt, LineLeads}
 use Rattle.pgs_run_lines.specs.Ending.{Ends, Shows}
-use Rattle.pgs_run_lines.specs.Machine.{Standing, Going, Scene, AtEnd, extent_of}
+use Rattle.pgs_run_lines.specs.Machine.{RunState, Going, Scene, AtEnd, extent_of}
 use Rattle.pgs_run_lines.specs.Pieces.{shown_of}
 use Rattle.pgs_world.specs.Moment.{EachSince}
 use Rattle.pgs_world.specs.World.{Triple, View}
@@ -63,7 +63,7 @@ left_since s line old new stops honest told =
 
 -- ---- an ended line
 
-leads_fault : (at : Standing ApplyState Status) (stop : Stop Status) → IsFault stop → IsEndAt at stop
+leads_fault : (at : RunState ApplyState Status) (stop : Stop Status) → IsFault stop → IsEndAt at stop
 leads_fault at stop fault = by_fault (IsEndAt at) tt tt tt stop fault
 
 pub may_fault : (stop : Stop Status) → IsFault stop → MayStop stop

@@ -3,7 +3,7 @@ use Rattle.std.proofs.Common.{◌≡◌, ℕ, Bool, true, false, nat_le, List, [
 use Rattle.std.proofs.lemmas.List.{map-append}
 use Rattle.pgs_run_lines.specs.Input.{lines_of, kept_of}
 use Rattle.pgs_run_lines.specs.Machine as machine
-use Rattle.pgs_run_lines.specs.Machine.{Told, Standing, Going, told_by, told_at_end, status_at_cut}
+use Rattle.pgs_run_lines.specs.Machine.{Told, RunState, Going, told_by, told_at_end, status_at_cut}
 use Rattle.pgs_store.specs.Stored.{StoreState}
 use Rattle.pgs_violation.specs.Violations.{verdict}
 use Rattle.pgs_command.specs.declared.status.Status.{Status}
@@ -40,7 +40,7 @@ module _ (it : StoreState) where
       let s = first_state it in
       let lines = (lines_of input).ended in
       let fronts = map text_front lines in
-      ap (λ (at : Standing ApplyState Status). told_with (machine.pieces_of_lines applying (Going s) fronts) (status_at_cut applying at)) (lead s fronts)
+      ap (λ (at : RunState ApplyState Status). told_with (machine.pieces_of_lines applying (Going s) fronts) (status_at_cut applying at)) (lead s fronts)
       ∙ ap (λ (pieces : List (List ℕ)). told_with pieces statuses.InputTooLong) (tells s fronts ∙ ap (λ (o : Outcome). o.pieces) (outcome_fronts s lines) ∙ (told_follows it lines).pieces)
 
   -- the lines of the input, and behind them its end
@@ -50,7 +50,7 @@ module _ (it : StoreState) where
   at_end fronts rest =
       let s = first_state it in
       let t = (outcome_of_all s fronts).state in
-      ap₂ (λ (pieces : List (List ℕ)) (at : Standing ApplyState Status). told_with (pieces ++ (told_at_end applying at rest).pieces) (told_at_end applying at rest).status) (tells s fronts) (lead s fronts)
+      ap₂ (λ (pieces : List (List ℕ)) (at : RunState ApplyState Status). told_with (pieces ++ (told_at_end applying at rest).pieces) (told_at_end applying at rest).status) (tells s fronts) (lead s fronts)
       ∙ ap (λ (o : Outcome). told_with ((outcome_of_all s fronts).pieces ++ o.pieces) (status_after o.state.refused)) (sym (outcome_one t rest))
       ∙ ap told_of (sym (outcome_append s fronts (rest ∷ [])))
 

@@ -17,7 +17,7 @@ use Rattle.pgs_run_lines.proofs.Showing.{shows_on, torn_puts}
 use Rattle.pgs_snapshot.specs.Choice.{chosen_area}
 use Rattle.pgs_store.specs.Stored.{StoreState}
 use Rattle.pgs_violation.specs.Violations.{verdict}
-use Rattle.pgs_world.specs.Disk.{Puts}
+use Rattle.pgs_world.specs.Disk.{PutsFront}
 use Rattle.pgs_world.specs.Moment.{IsTimed, IsQuiet, IsSettled, MakesNoPut, Passes, EachSince, StopsBy}
 use Rattle.pgs_world.specs.declared.area.Area.{Area}
 use Rattle.pgs_world.specs.World.{Triple, View, other}
@@ -238,9 +238,9 @@ module _ (kind : ListKind) (it : StoreState) (budget : ℕ) (before left : Sourc
 
         module _ (all : AreReached kind (first_state it) (all_lines input) true None mid now) where
           -- the last piece is put on the store after all lines
-          put_applied : (piece : List ℕ) → lost_piece lost ≡ Some piece → StopsBy (Puts piece) now.view new → EachSince Stops now.view new
+          put_applied : (piece : List ℕ) → lost_piece lost ≡ Some piece → StopsBy (PutsFront piece) now.view new → EachSince Stops now.view new
           put_applied piece is_last steps =
-              each_step now.view new (Puts piece) (IsShown now.view.shown) Stops honest (λ d may. (still.a d may, still.b d may, passes.timed.output honest (passes.tells_output ∙ output) d may)) follows_put steps
+              each_step now.view new (PutsFront piece) (IsShown now.view.shown) Stops honest (λ d may. (still.a d may, still.b d may, passes.timed.output honest (passes.tells_output ∙ output) d may)) follows_put steps
             where
               honest : IsTrue now.view.honest
               honest = passes.honest ∙ settled.honest
@@ -259,7 +259,7 @@ module _ (kind : ListKind) (it : StoreState) (budget : ℕ) (before left : Sourc
                   shown_added mid.view now.view (concat (outcome_of_all (first_state it) all.until).pieces) (r.quiet.passes.tells_output ∙ output) (passes.tells_output ∙ output) all.reached.put.output
                   ∙ ap (λ (t : Triple). t.output ++ concat (outcome_of_all (first_state it) all.until).pieces) r.quiet.shown ∙ ap (λ (pieces : List (List ℕ)). old.shown.output ++ concat pieces) (follows all.until)
 
-              follows_put : (d c : Triple) → IsShown now.view.shown d → Puts piece d c → Stops c
+              follows_put : (d c : Triple) → IsShown now.view.shown d → PutsFront piece d c → Stops c
               follows_put d c is put =
                   let on = saves_on_same (saved_in it) (after (saved_in it) all.until) old.shown now.view.shown c (put.a ∙ is.0) (put.b ∙ is.1) (stands_on all.until holds) in
                   applied_at it r.opened.limits r.opened.schema old.shown chosen input lost c all.until all.later put.front (after (saved_in it) all.until) all.parts

@@ -16,7 +16,7 @@ use Rattle.pgs_run_lines.specs.Pieces.{Shown, ShowsAll, shown_of}
 use Rattle.pgs_run_lines.proofs.Showing.{shows_none, torn_puts}
 use Rattle.pgs_run_store.proofs.Images.{same_images}
 use Rattle.pgs_violation.specs.declared.rejection.Rejection.{Rejection}
-use Rattle.pgs_world.specs.Disk.{Puts}
+use Rattle.pgs_world.specs.Disk.{PutsFront}
 use Rattle.pgs_world.specs.Moment.{EachSince, IsTimed, Passes, StopsBy}
 use Rattle.pgs_world.specs.World.{View, other}
 use Rattle.pgs_world.proofs.Moments.{passes_none, passes_on, each_none, each_on}
@@ -39,7 +39,7 @@ pub record PutsPiece {T : Type 0} (piece : List ℕ) (result : Result T (Stop St
   pub fault : IfErr result (λ stop. stop ≡ stops.PutFault)
   pub cause : HasAnyCause (faults_of 0 old) (faults_of 0 new) result
   pub areas : KeepsAreas old new
-  pub stops : StopsBy (Puts piece) old new
+  pub stops : StopsBy (PutsFront piece) old new
 
 put_holds : (s : ApplyState) (old new : View) → HoldsStore s old → KeepsAreas old new → HoldsStore s new
 put_holds s old new holds areas = record {
@@ -100,7 +100,7 @@ module _ (kind : ListKind) (s : ApplyState) (o : Outcome) (piece : List ℕ) (no
       } in
       (tt, subst IsFault (sym put.fault) tt, subst (λ (x : Stop Status). IsReached kind (come_to s o (Some x)) (Some x) (scene_of old kept) (scene_of new fed)) (sym put.fault) reached)
 
-  put_left : StopsBy (Puts piece) mid new → IsTrue old.honest → IsTrue old.tells_bytes → EachSince (IsLeftBy s o old.tells_output old.shown.output) mid new
+  put_left : StopsBy (PutsFront piece) mid new → IsTrue old.honest → IsTrue old.tells_bytes → EachSince (IsLeftBy s o old.tells_output old.shown.output) mid new
   put_left stops honest told = λ c left.
       let p = ready.passes in
       let from = stops (p.honest ∙ honest) c left in

@@ -10,7 +10,7 @@ use Rattle.pgs_feed.proofs.Given.{given_none, given_on}
 use Rattle.pgs_base.specs.Graph.{Graph}
 use Rattle.pgs_graph.specs.declared.operation.Txn.{Txn}
 use Rattle.pgs_run_lines.specs.declared.stop.Stop.{Stop}
-use Rattle.pgs_run_lines.specs.Machine.{Rule, Standing, Going, Ended, Scene, Extent, Whole, Inside, AtEnd, after_lines}
+use Rattle.pgs_run_lines.specs.Machine.{Rule, RunState, Going, Ended, Scene, Extent, Whole, Inside, AtEnd, after_lines}
 use Rattle.pgs_run_lines.specs.Pieces.{Shown, ShowsAll, shown_of}
 use Rattle.pgs_run_lines.proofs.Showing.{shows_none, shows_on}
 use Rattle.pgs_run_store.proofs.Images.{same_images}
@@ -228,7 +228,7 @@ applies_on kind s xs ys extent old mid new p q =
           (subst (λ (area : Area). KeepsArea (other area) mid.view new.view) (area_all s xs) q.beside);
     }
 
-state_at : ApplyState → Standing ApplyState Status → ApplyState
+state_at : ApplyState → RunState ApplyState Status → ApplyState
 state_at other (Going s) = s
 state_at other (Ended status) = other
 

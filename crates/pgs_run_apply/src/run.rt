@@ -1,5 +1,5 @@
-ghost use Rattle.std.specs.Prelude.{◌≡◌, ◌≤◌, ◌^◌, true};
-ghost use Rattle.pgs_run_lines.specs.Calls.{Reads};
+ghost use Rattle.std.specs.Prelude.{◌≡◌, ◌≤◌, true};
+ghost use Rattle.pgs_run_lines.specs.Calls.{MakesReads};
 ghost use Rattle.pgs_command.specs.Calls.{fails_read, fails_world};
 ghost use Rattle.pgs_command.specs.Feeding.{Gives};
 ghost use Rattle.pgs_command.specs.Promise.{Promise};
@@ -8,6 +8,7 @@ ghost use Rattle.pgs_feed.specs.Deliveries.{kind_of};
 ghost use Rattle.pgs_run_apply.specs.Ending.{EndsRun};
 ghost use Rattle.pgs_run_apply.specs.Spec.{apply_spec};
 ghost use Rattle.pgs_run_apply.specs.Told.{is_done, last_piece};
+ghost use Rattle.pgs_run_lines.specs.declared.budget.TheConstants.{BUDGET};
 
 use crate::applying::Applying;
 use pgs_answer::feeds_lost_line;
@@ -52,7 +53,7 @@ pub fn run_apply<S: Source, W: World, L: Feeds>(
     feeds: &mut L,
     budget: u64,
 ) -> Status
-    requires { budget ≤ 2 ^ 40 }
+    requires { budget ≤ BUDGET }
     ensures promise { Promise apply_spec budget (setting_of (S.left source.old) (S.faults source.old) (W.view world.old) (L.places feeds.old))
         (setting_of (S.left source.new) (S.faults source.new) (W.view world.new) (L.places feeds.new)) result }
     // What feeds are given, and when: each line of a commit before the put of its verdict line.
@@ -60,7 +61,7 @@ pub fn run_apply<S: Source, W: World, L: Feeds>(
         (setting_of (S.left source.old) (S.faults source.old) (W.view world.old) (L.places feeds.old))
         (setting_of (S.left source.new) (S.faults source.new) (W.view world.new) (L.places feeds.new)) feeds.old feeds.new result }
     ensures last { fails_world result ≡ true → W.failed world.new }
-    ensures calls { Reads S.read_made budget source.old (fails_read result) source.new }
+    ensures calls { MakesReads S.read_made budget source.old (fails_read result) source.new }
 {
     let store = match open_store(alloc, world) {
         Ok(store) => store,

@@ -1,10 +1,11 @@
-ghost use Rattle.std.specs.Prelude.{◌≡◌, ◌^◌, List, true};
+ghost use Rattle.std.specs.Prelude.{◌≡◌, List, true};
 ghost use Rattle.pgs_command.specs.Calls.{fails_read, fails_world};
 ghost use Rattle.pgs_command.specs.Promise.{Promise};
 ghost use Rattle.pgs_command.specs.Setting.{setting_of};
 ghost use Rattle.pgs_feed.specs.Places.{Place};
-ghost use Rattle.pgs_run_lines.specs.Calls.{Reads};
+ghost use Rattle.pgs_run_lines.specs.Calls.{MakesReads};
 ghost use Rattle.pgs_run_check.specs.Spec.{is_schema, schema_spec, spec_for};
+ghost use Rattle.pgs_run_lines.specs.declared.budget.TheConstants.{BUDGET};
 
 use crate::answering::check_text;
 use pgs_answer::words_refused_line;
@@ -31,7 +32,7 @@ fn check<S: Source, W: World>(alloc: Global, source: &mut S, world: &mut W, budg
         (setting_of (S.left source.old) (S.faults source.old) (W.view world.old) places)
         (setting_of (S.left source.new) (S.faults source.new) (W.view world.new) places) result }
     ensures last { fails_world result ≡ true → W.failed world.new }
-    ensures calls { Reads S.read_made budget source.old (fails_read result) source.new }
+    ensures calls { MakesReads S.read_made budget source.old (fails_read result) source.new }
 {
     match read_text(alloc, source, budget) {
         Ok(text) => check_text(alloc, text.as_slice(), world),
@@ -54,7 +55,7 @@ pub fn run_check_within<S: Source, W: World>(
         (setting_of (S.left source.old) (S.faults source.old) (W.view world.old) places)
         (setting_of (S.left source.new) (S.faults source.new) (W.view world.new) places) result }
     ensures last { fails_world result ≡ true → W.failed world.new }
-    ensures calls { Reads S.read_made budget source.old (fails_read result) source.new }
+    ensures calls { MakesReads S.read_made budget source.old (fails_read result) source.new }
 {
     if is_schema(words) {
         check(alloc, source, world, budget)
@@ -70,11 +71,11 @@ pub fn run_check<S: Source, W: World>(
     source: &mut S,
     world: &mut W,
 ) -> Status
-    ensures promise { (places : List Place) → Promise (spec_for words.now) (2 ^ 40)
+    ensures promise { (places : List Place) → Promise (spec_for words.now) BUDGET
         (setting_of (S.left source.old) (S.faults source.old) (W.view world.old) places)
         (setting_of (S.left source.new) (S.faults source.new) (W.view world.new) places) result }
     ensures last { fails_world result ≡ true → W.failed world.new }
-    ensures calls { Reads S.read_made (2 ^ 40) source.old (fails_read result) source.new }
+    ensures calls { MakesReads S.read_made BUDGET source.old (fails_read result) source.new }
 {
     run_check_within(alloc, words, source, world, BUDGET)
 }

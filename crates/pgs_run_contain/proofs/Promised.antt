@@ -8,7 +8,7 @@ use Rattle.pgs_run_lines.specs.AreasKept.{KeepsAreas, keeps_none, keeps_on}
 use Rattle.pgs_run_lines.specs.Calls.{is_of_source, is_of_world}
 use Rattle.pgs_run_lines.specs.Ending as lines
 use Rattle.pgs_run_lines.specs.Ending.{Faults, HasCause, Shows, faults_of}
-use Rattle.pgs_run_lines.specs.Machine.{Machine, Standing, Told, Going, Ended, told_by}
+use Rattle.pgs_run_lines.specs.Machine.{Machine, RunState, Told, Going, Ended, told_by}
 use Rattle.pgs_run_lines.specs.May.{MayCome}
 use Rattle.pgs_run_lines.specs.Pieces.{Shown, ShowsAll, ShowsFirst, ShowsTorn, shown_of}
 use Rattle.pgs_run_lines.specs.Run as over
@@ -67,7 +67,7 @@ status_behind answers (endings.Fit first second) = status_by (list_any is_some a
 status_behind answers endings.Refused = SchemaRefused
 status_behind answers endings.Cut = InputTooLong
 
-abbrev standing_behind : List Answer → Standing Phase Ending → Standing Phase Status
+abbrev standing_behind : List Answer → RunState Phase Ending → RunState Phase Status
 standing_behind answers (Going phase) = Going phase
 standing_behind answers (Ended ending) = Ended (status_behind answers ending)
 

@@ -1,6 +1,6 @@
 -- The reading of two schema texts as one machine over lines.
 use Rattle.std.specs.Prelude.{ℕ, true, List, [], Result, Ok, Err, if◌then◌else◌}
-use Rattle.pgs_run_lines.specs.Machine.{Machine, Standing, Told, Going, Ended}
+use Rattle.pgs_run_lines.specs.Machine.{Machine, RunState, Told, Going, Ended}
 use Rattle.pgs_run_lines.specs.Telling.{Teller, telling}
 use Rattle.pgs_syntax.specs.declared.resolved.Resolved.{Resolved}
 use Rattle.pgs_run_input.specs.Answers.{schema_answer}
@@ -30,7 +30,7 @@ pieces_at_end (Second first part) line = []
 pieces_at_end Refused line = []
 
 -- a refused first schema ends the run
-abbrev pub next_of : Phase → Standing Phase Ending
+abbrev pub next_of : Phase → RunState Phase Ending
 next_of (First part) = Going (First part)
 next_of (Second first part) = Going (Second first part)
 next_of Refused = Ended endings.Refused

@@ -14,7 +14,7 @@ use Rattle.pgs_snapshot.specs.Saved.{saved, store}
 use Rattle.pgs_syntax.specs.declared.resolved.Resolved.{Resolved}
 use Rattle.pgs_violation.specs.declared.violation.Verdict.TheVariants.{Conforms}
 use Rattle.pgs_violation.specs.Violations.{verdict}
-use Rattle.pgs_world.specs.Disk.{Puts}
+use Rattle.pgs_world.specs.Disk.{PutsFront}
 use Rattle.pgs_world.specs.Moment.{EachSince, IsQuiet, IsSettled, IsTimed, StopsBy}
 use Rattle.pgs_world.specs.World.{Triple, View, other}
 use Rattle.pgs_world.proofs.Moments.{each_on, each_quiet, passes_on, settled_quiet}
@@ -61,7 +61,7 @@ leaves_quiet left old new status timed quiet unmade =
 
 -- while a line is put that is unlike that of any schema
 puts_at : (text line : List ℕ) (old new : View) (before : List ℕ) (commits : ℕ) (graph : Graph) → IsUnlike line → SavesAs old before commits graph → IsTimed old → IsTrue old.tells_output → IsSettled old
-    → StopsBy (Puts line) old new → EachSince (IsEvolvingAt (kept_of old commits graph) before text) old new
+    → StopsBy (PutsFront line) old new → EachSince (IsEvolvingAt (kept_of old commits graph) before text) old new
 puts_at text line old new before commits graph unlike saves timed tells settled stops c left =
     let from = stops settled.honest c left in
     let put = from.2 in
@@ -72,7 +72,7 @@ puts_at text line old new before commits graph unlike saves timed tells settled 
       evolved = λ schema is said. absurd (unlike schema put.front put.back put.parts said);
     }
 
-pub leaves_refused : (text line : List ℕ) (old new : View) (status : Status) → IsTimed old → KeepsImages old new → StopsBy (Puts line) old new → IsUnlike line → Unmade (Some text) old status → LeavesEvolved (Some text) old new status
+pub leaves_refused : (text line : List ℕ) (old new : View) (status : Status) → IsTimed old → KeepsImages old new → StopsBy (PutsFront line) old new → IsUnlike line → Unmade (Some text) old status → LeavesEvolved (Some text) old new status
 leaves_refused text line old new status timed kept stops unlike unmade =
     leaves_kept (Some text) old new status kept
     (λ input before commits graph is saves tells settled.

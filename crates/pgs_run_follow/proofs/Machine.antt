@@ -5,7 +5,7 @@ use Rattle.pgs_json.specs.declared.commit_fault.CommitFault.TheVariants as commi
 use Rattle.pgs_json.specs.Commit.{read_commit_line}
 use Rattle.pgs_run_lines.specs.Input.{lines_of, kept_of, front_of}
 use Rattle.pgs_run_lines.specs.Machine as machine
-use Rattle.pgs_run_lines.specs.Machine.{Told, Standing, Going, told_by, told_at_end, status_at_cut}
+use Rattle.pgs_run_lines.specs.Machine.{Told, RunState, Going, told_by, told_at_end, status_at_cut}
 use Rattle.pgs_run_lines.proofs.Fronts.{same_of_front}
 use Rattle.pgs_follow.specs.declared.fault.FollowFault.TheVariants.{LineTooLong}
 use Rattle.pgs_follow.specs.Followed.{Followed, nothing_followed, faulted, after_line, after_lines, with_rest, followed, rest_of}
@@ -31,7 +31,7 @@ lines_lead : (f : Followed) (lines : List (List ℕ)) → machine.after_lines fo
 lines_lead f [] = refl
 lines_lead f (line ∷ lines) =
     lines_lead (after_line standard f (front_of 2097152 line)) lines
-    ∙ ap (λ (g : Followed). let at : Standing Followed Status = Going (after_lines standard g lines) in at) (line_of_front f line)
+    ∙ ap (λ (g : Followed). let at : RunState Followed Status = Going (after_lines standard g lines) in at) (line_of_front f line)
 
 lines_tell : (f : Followed) (lines : List (List ℕ)) → machine.pieces_of_lines following (Going f) (map (front_of 2097152) lines) ≡ []
 lines_tell f [] = refl
@@ -65,7 +65,7 @@ unfolding kept_of
 cut_is input =
     let lines = (lines_of input).ended in
     ap (λ (pieces : List (List ℕ)). told_with pieces (status_at_cut following (machine.after_lines following (Going nothing_followed) (map (front_of 2097152) lines)))) (lines_tell nothing_followed lines)
-    ∙ ap (λ (at : Standing Followed Status). told_with [] (status_at_cut following at)) (lines_lead nothing_followed lines)
+    ∙ ap (λ (at : RunState Followed Status). told_with [] (status_at_cut following at)) (lines_lead nothing_followed lines)
 
 whole_is : (input : List ℕ) → machine.told_whole following 2097152 nothing_followed input ≡ told_of (followed standard input) (rest_of standard input)
 unfolding kept_of followed rest_of
@@ -74,7 +74,7 @@ whole_is input =
     let rest = (lines_of input).rest in
     let end = told_at_end following (machine.after_lines following (Going nothing_followed) (map (front_of 2097152) lines)) (front_of 2097152 rest) in
     ap (λ (pieces : List (List ℕ)). told_with (pieces ++ end.pieces) end.status) (lines_tell nothing_followed lines)
-    ∙ ap (λ (at : Standing Followed Status). told_at_end following at (front_of 2097152 rest)) (lines_lead nothing_followed lines)
+    ∙ ap (λ (at : RunState Followed Status). told_at_end following at (front_of 2097152 rest)) (lines_lead nothing_followed lines)
     ∙ rest_of_front (after_lines standard nothing_followed lines) rest
 
 by_budget : (input : List ℕ) (budget : ℕ) (cut : Bool) → nat_le budget (length input) ≡ cut → told_by following 2097152 nothing_followed input budget ≡ told_follow input budget

@@ -1,12 +1,13 @@
-ghost use Rattle.std.specs.Prelude.{◌≡◌, ◌≤◌, ◌<◌, ◌^◌, ◌⊎◌, List, true};
+ghost use Rattle.std.specs.Prelude.{◌≡◌, ◌≤◌, ◌<◌, ◌⊎◌, List, true};
 ghost use Rattle.pgs_command.specs.Answers.{IsOfWords};
 ghost use Rattle.pgs_command.specs.Calls.{fails_read, fails_world};
 ghost use Rattle.pgs_command.specs.Promise.{Promise};
 ghost use Rattle.pgs_command.specs.Setting.{setting_of};
 ghost use Rattle.pgs_feed.specs.Places.{Place};
-ghost use Rattle.pgs_run_lines.specs.Calls.{Reads};
+ghost use Rattle.pgs_run_lines.specs.Calls.{MakesReads};
 ghost use Rattle.pgs_run_follow.specs.Spec.{IsOfFollower, follow_spec, spec_for, status_of};
 ghost use Rattle.pgs_run_follow.specs.Told.{is_follow};
+ghost use Rattle.pgs_run_lines.specs.declared.budget.TheConstants.{BUDGET};
 
 use crate::following::Following;
 use crate::status::FollowStatus;
@@ -30,12 +31,12 @@ fn is_follow(words: &Words) -> bool
 
 // Follows the feed of an input.
 fn follow<S: Source, W: World>(alloc: Global, source: &mut S, world: &mut W, budget: u64) -> Status
-    requires { budget ≤ 2 ^ 40 }
+    requires { budget ≤ BUDGET }
     ensures promise { (places : List Place) → Promise follow_spec budget
         (setting_of (S.left source.old) (S.faults source.old) (W.view world.old) places)
         (setting_of (S.left source.new) (S.faults source.new) (W.view world.new) places) result }
     ensures last { fails_world result ≡ true → W.failed world.new }
-    ensures calls { Reads S.read_made budget source.old (fails_read result) source.new }
+    ensures calls { MakesReads S.read_made budget source.old (fails_read result) source.new }
 {
     let mut following = Following::new(alloc);
     let stop = run_lines(&mut following, alloc, source, world, COMMIT_LIMIT, budget);
@@ -50,13 +51,13 @@ fn run_words<S: Source, W: World>(
     world: &mut W,
     budget: u64,
 ) -> Status
-    requires { budget ≤ 2 ^ 40 }
+    requires { budget ≤ BUDGET }
     ensures promise { (places : List Place) → Promise (spec_for words.now) budget
         (setting_of (S.left source.old) (S.faults source.old) (W.view world.old) places)
         (setting_of (S.left source.new) (S.faults source.new) (W.view world.new) places) result }
     ensures answer { IsOfFollower result ⊎ IsOfWords result }
     ensures last { fails_world result ≡ true → W.failed world.new }
-    ensures calls { Reads S.read_made budget source.old (fails_read result) source.new }
+    ensures calls { MakesReads S.read_made budget source.old (fails_read result) source.new }
 {
     if is_follow(words) {
         follow(alloc, source, world, budget)
@@ -78,12 +79,12 @@ pub fn run_follow_within<S: Source, W: World>(
     budget: u64,
 ) -> FollowStatus
     requires positive { 0 < budget }
-    requires within { budget ≤ 2 ^ 40 }
+    requires within { budget ≤ BUDGET }
     ensures promise { (places : List Place) → Promise (spec_for words.now) budget
         (setting_of (S.left source.old) (S.faults source.old) (W.view world.old) places)
         (setting_of (S.left source.new) (S.faults source.new) (W.view world.new) places) (status_of result) }
     ensures last { fails_world (status_of result) ≡ true → W.failed world.new }
-    ensures calls { Reads S.read_made budget source.old (fails_read (status_of result)) source.new }
+    ensures calls { MakesReads S.read_made budget source.old (fails_read (status_of result)) source.new }
 {
     FollowStatus::of(run_words(alloc, words, source, world, budget))
 }
@@ -95,11 +96,11 @@ pub fn run_follow<S: Source, W: World>(
     source: &mut S,
     world: &mut W,
 ) -> FollowStatus
-    ensures promise { (places : List Place) → Promise (spec_for words.now) (2 ^ 40)
+    ensures promise { (places : List Place) → Promise (spec_for words.now) BUDGET
         (setting_of (S.left source.old) (S.faults source.old) (W.view world.old) places)
         (setting_of (S.left source.new) (S.faults source.new) (W.view world.new) places) (status_of result) }
     ensures last { fails_world (status_of result) ≡ true → W.failed world.new }
-    ensures calls { Reads S.read_made (2 ^ 40) source.old (fails_read (status_of result)) source.new }
+    ensures calls { MakesReads S.read_made BUDGET source.old (fails_read (status_of result)) source.new }
 {
     run_follow_within(alloc, words, source, world, BUDGET)
 }

@@ -27,7 +27,7 @@ use Rattle.pgs_base.specs.Pair.{pair_of, value_at}
 use Rattle.pgs_gen.specs.Generated.{address, known_by}
 use Rattle.pgs_syntax.specs.declared.pattern.Atom.TheVariants.{FitsNode}
 use Rattle.pgs_syntax.specs.Fitting.{fits_node}
-use Rattle.pgs_syntax.specs.Join.{Triple, is_empty}
+use Rattle.pgs_syntax.specs.Join.{PairTriple, is_empty}
 use Rattle.pgs_syntax.specs.KeyValues.{as_set, is_in_scope, key_values, scope_of, starts_at, tuple_of}
 use Rattle.pgs_syntax.specs.Matches.{assignments, elements, holds, matches}
 use Rattle.pgs_syntax.specs.Typed.{is_typed_edge, is_typed_triple}
@@ -98,7 +98,7 @@ module _ (start n : ℕ) where
       let source = node_found i (omega arith, high) in
       let target = node_found (known_by start i) (low, omega arith) in
       ap₂ (λ (s t : Option NodeRow). option_map_or (is_typed_triple persons)
-      (option_and_then (λ (a : NodeRow). option_map (λ (b : NodeRow). let triple : Triple = record { source = a; own = pair_of (codes "knows" ∷ []) []; target = b } in triple) t) s) false) source target
+      (option_and_then (λ (a : NodeRow). option_map (λ (b : NodeRow). let triple : PairTriple = record { source = a; own = pair_of (codes "knows" ∷ []) []; target = b } in triple) t) s) false) source target
       ∙ knowing_typed i (address i) (known_by start i) (address (known_by start i))
 
   -- ---- matches

@@ -6,7 +6,7 @@ use Rattle.pgs_base.specs.declared.value.Value.TheVariants.{Text, Int}
 use Rattle.pgs_base.specs.Pair.{pair_of}
 use Rattle.pgs_syntax.specs.declared.specification.Spec.TheBlock as block
 use Rattle.pgs_syntax.specs.Fitting.{fits_node}
-use Rattle.pgs_syntax.specs.Join.{Triple}
+use Rattle.pgs_syntax.specs.Join.{PairTriple}
 use Rattle.pgs_syntax.specs.Typed.{is_typed_node, is_typed_triple}
 use Rattle.pgs_run_gen.specs.Persons.{persons}
 
@@ -21,7 +21,7 @@ pub person_typed : (number : ℕ) (mail : List ℕ) → is_typed_node persons (p
 unfolding block.hidden-the_row-Spec-0 hidden
 person_typed number mail = refl
 
-abbrev pub knowing_triple : ℕ → List ℕ → ℕ → List ℕ → Triple
+abbrev pub knowing_triple : ℕ → List ℕ → ℕ → List ℕ → PairTriple
 knowing_triple one mail other post =
     record { source = person_row one mail; own = pair_of (codes "knows" ∷ []) []; target = person_row other post }
 

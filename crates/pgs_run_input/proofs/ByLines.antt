@@ -3,7 +3,7 @@ use Rattle.std.proofs.Common.{◌≡◌, ◌⊎◌, inl, inr, ℕ, Bool, true, f
 use Rattle.std.proofs.lemmas.List.{append-nil}
 use Rattle.pgs_run_lines.specs.Input.{front_of, kept_of, lines_of}
 use Rattle.pgs_run_lines.specs.Machine as machine
-use Rattle.pgs_run_lines.specs.Machine.{Told, Standing, Going, Ended, told_by, told_at_end, status_at_cut}
+use Rattle.pgs_run_lines.specs.Machine.{Told, RunState, Going, Ended, told_by, told_at_end, status_at_cut}
 use Rattle.pgs_run_lines.specs.Telling.{Teller, telling, told_last}
 
 -- it has ended there: more lines change nothing, and tell nothing

@@ -7,7 +7,7 @@ use Rattle.pgs_run_lines.specs.Pieces.{Shown, ShowsFirst, shown_of}
 use Rattle.pgs_run_lines.specs.Replies.{EndsLast, PutsReply}
 use Rattle.pgs_run_lines.proofs.Showing.{shows_none}
 use Rattle.pgs_world.specs.Count.{RoseByOne}
-use Rattle.pgs_world.specs.Disk.{Puts}
+use Rattle.pgs_world.specs.Disk.{PutsFront}
 use Rattle.pgs_world.specs.Moment.{IsQuiet, MakesNoPut, StopsBy}
 use Rattle.pgs_world.specs.World.{Triple, View}
 use Rattle.pgs_command.specs.declared.status.Status.{Status}
@@ -63,7 +63,7 @@ told_line line status = record { pieces = line ∷ []; status = status }
 
 pub record PutsLine (line : List ℕ) (status : Status) (old : View) (result : Status) (new : View) : Type 0 where
   pub ends : EndsLast line status PutFault Memory old result new
-  pub stops : StopsBy (Puts line) old new
+  pub stops : StopsBy (PutsFront line) old new
   pub areas : KeepsAreas old new
 
 pub line_of_reply : (line : List ℕ) (status : Status) (old : View) (result : Status) (new : View) → PutsReply line status PutFault old result new → PutsLine line status old result new

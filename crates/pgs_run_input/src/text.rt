@@ -1,6 +1,6 @@
 ghost use Rattle.std.specs.Prelude.{◌≡◌, ◌<◌, ◌≤◌, [], length, IfErr, IfOk, OnOk};
 ghost use Rattle.pgs_base.specs.declared.text_limit.TheConstants.{TEXT_LIMIT};
-ghost use Rattle.pgs_run_lines.specs.Calls.{Reads};
+ghost use Rattle.pgs_run_lines.specs.Calls.{MakesReads};
 ghost use Rattle.pgs_run_input.specs.Text.{IsUnread, IsWhole, fails_reading, state_of};
 
 use pgs_base::TEXT_LIMIT;
@@ -20,7 +20,7 @@ fn read_into<S: Source>(
     requires buffer { (0 < length buffer.old) × (length buffer.old ≤ 65536) }
     ensures whole { OnOk result (IsWhole budget (state_of (S.left source.old) (S.faults source.old)) (state_of (S.left source.new) (S.faults source.new)) text.new.bytes) }
     ensures unread { IfErr result (IsUnread budget (state_of (S.left source.old) (S.faults source.old)) (state_of (S.left source.new) (S.faults source.new))) }
-    ensures calls { Reads S.read_made budget source.old (fails_reading result) source.new }
+    ensures calls { MakesReads S.read_made budget source.old (fails_reading result) source.new }
 {
     let mut left = budget;
     while left > 0 {
@@ -50,7 +50,7 @@ pub fn read_text<S: Source>(
 ) -> Result<LineBuffer, Status>
     ensures whole { IfOk result (λ text. IsWhole budget (state_of (S.left source.old) (S.faults source.old)) (state_of (S.left source.new) (S.faults source.new)) text.bytes) }
     ensures unread { IfErr result (IsUnread budget (state_of (S.left source.old) (S.faults source.old)) (state_of (S.left source.new) (S.faults source.new))) }
-    ensures calls { Reads S.read_made budget source.old (fails_reading result) source.new }
+    ensures calls { MakesReads S.read_made budget source.old (fails_reading result) source.new }
 {
     let mut text = LineBuffer::new(alloc, TEXT_LIMIT);
     let mut buffer = match read_buffer(alloc) {

@@ -1,8 +1,9 @@
 -- Runs one after another over one world: what each does to the store that is saved, and what it prints.
-use Rattle.std.specs.Prelude.{◌≡◌, ◌⊎◌, ℕ, ◌+◌, ◌^◌, true, List, [], ◌∷◌, ◌++◌, Some, Result, Ok, Err}
+use Rattle.std.specs.Prelude.{◌≡◌, ◌⊎◌, ℕ, ◌+◌, true, List, [], ◌∷◌, ◌++◌, Some, Result, Ok, Err}
 use Rattle.pgs_answer.specs.Lines.{checkpoint_line}
 use Rattle.pgs_base.specs.Graph.{empty_graph}
 use Rattle.pgs_feed.specs.Places.{Place, lost_count}
+use Rattle.pgs_run_lines.specs.declared.budget.TheConstants.{BUDGET}
 use Rattle.pgs_syntax.specs.declared.resolved.Resolved.{Resolved}
 use Rattle.pgs_violation.specs.declared.violation.Verdict.{Verdict}
 use Rattle.pgs_violation.specs.declared.violation.Verdict.TheVariants.{Conforms, Refused as Violated}
@@ -86,7 +87,7 @@ pub record Ran (command : Command) (input : List ℕ) (lost : ℕ) (old new : Vi
   pub places_before : List Place
   pub places_now : List Place
   pub status : Status
-  pub kept : Runs (spec_for words) (2 ^ 40) (record { source = source_before; view = old; places = places_before })
+  pub kept : Runs (spec_for words) BUDGET (record { source = source_before; view = old; places = places_before })
       (record { source = source_now; view = new; places = places_now }) status
   pub source : (spec_of command).reads_source ≡ true → source_before.left ≡ Some input
   pub lost_is : lost_count places_now ≡ lost

@@ -1,11 +1,12 @@
 //! That the commands agree with one another on a saved store. The functions do nothing of their own; their contracts are the statements.
 
-ghost use Rattle.std.specs.Prelude.{◌≡◌, ◌<◌, ◌≤◌, ◌^◌, ℕ, List, [], ◌∷◌, ◌++◌, length, slice_index, Some, Ok, IsTrue};
+ghost use Rattle.std.specs.Prelude.{◌≡◌, ◌<◌, ◌≤◌, ℕ, List, [], ◌∷◌, ◌++◌, length, slice_index, Some, Ok, IsTrue};
 ghost use Rattle.std.specs.List.{concat};
 ghost use Rattle.pgs_base.specs.declared.limits.Limits.{Limits};
 ghost use Rattle.pgs_base.specs.Graph.{Graph, element_count, empty_graph};
 ghost use Rattle.pgs_dump.specs.Lines.{graph_ops};
 ghost use Rattle.pgs_resolve.specs.SchemaOf.{schema, schema_of};
+ghost use Rattle.pgs_run_lines.specs.declared.budget.TheConstants.{BUDGET};
 ghost use Rattle.pgs_snapshot.specs.Saved.{saved, store};
 ghost use Rattle.pgs_violation.specs.Decision.{decide};
 ghost use Rattle.pgs_violation.specs.Violations.{verdict};
@@ -59,7 +60,7 @@ pub fn a_dump_is_validated<V: World, W: World>()
         → ((i : ℕ) → slice_index (V.view first).shown.a i < 256) → ((i : ℕ) → slice_index (V.view first).shown.b i < 256)
         → IsTrue (V.view first).tells_bytes → IsTrue (V.view first).tells_output
         → (recovered : Ran Recover input lost (V.view first) (V.view last)) → recovered.status ≡ Accepted
-        → (V.view last).shown.output ≡ (V.view first).shown.output ++ dump → length dump < 2 ^ 40
+        → (V.view last).shown.output ≡ (V.view first).shown.output ++ dump → length dump < BUDGET
         → (validated : Ran Validate dump failed (W.view old) (W.view done))
         → (validated.status ≡ Accepted) × ShowsAll (shown_of (W.view old)) [] (shown_of (W.view done)) }
 {

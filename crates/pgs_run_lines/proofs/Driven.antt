@@ -7,18 +7,18 @@ use Rattle.pgs_run_lines.specs.declared.stop.Stop.TheVariants as stops
 use Rattle.pgs_run_lines.specs.Driving.{IsEndAt, Runs, StopsAt, RunsSoFar}
 use Rattle.pgs_run_lines.specs.Ending.{Shows}
 use Rattle.pgs_run_lines.specs.Input.{Lines, kept_of, front_of, has_no_feed}
-use Rattle.pgs_run_lines.specs.Machine.{Standing, Going, Ended, Machine, Rule, Scene, Whole, Inside, HasRoomFor, after_line, pieces_of_line, after_lines, pieces_of_lines}
+use Rattle.pgs_run_lines.specs.Machine.{RunState, Going, Ended, Machine, Rule, Scene, Whole, Inside, HasRoomFor, after_line, pieces_of_line, after_lines, pieces_of_lines}
 use Rattle.pgs_run_lines.specs.Pieces.{shown_of, ShowsAll}
 use Rattle.pgs_run_lines.proofs.Cutting.{followed, kept_begun, kept_more, kept_goes_on}
 use Rattle.pgs_run_lines.proofs.Showing.{shows_none, shows_on, stop_on}
 
 -- ---- lines
 
-pub after_append : {E : Type 0} (m : Machine E) (at : Standing m.State E) (xs ys : List (List ℕ)) → after_lines m at (xs ++ ys) ≡ after_lines m (after_lines m at xs) ys
+pub after_append : {E : Type 0} (m : Machine E) (at : RunState m.State E) (xs ys : List (List ℕ)) → after_lines m at (xs ++ ys) ≡ after_lines m (after_lines m at xs) ys
 after_append m at [] ys = refl
 after_append m at (x ∷ xs) ys = after_append m (after_line m at x) xs ys
 
-pub pieces_append : {E : Type 0} (m : Machine E) (at : Standing m.State E) (xs ys : List (List ℕ)) → pieces_of_lines m at (xs ++ ys) ≡ pieces_of_lines m at xs ++ pieces_of_lines m (after_lines m at xs) ys
+pub pieces_append : {E : Type 0} (m : Machine E) (at : RunState m.State E) (xs ys : List (List ℕ)) → pieces_of_lines m at (xs ++ ys) ≡ pieces_of_lines m at xs ++ pieces_of_lines m (after_lines m at xs) ys
 pieces_append m at [] ys = refl
 pieces_append m at (x ∷ xs) ys =
     ap (λ more. pieces_of_line m at x ++ more) (pieces_append m (after_line m at x) xs ys)

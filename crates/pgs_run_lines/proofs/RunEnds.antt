@@ -11,7 +11,7 @@ use Rattle.pgs_run_lines.specs.declared.stop.Stop.TheVariants as stops
 use Rattle.pgs_run_lines.specs.Driving.{Runs, StopsAt}
 use Rattle.pgs_run_lines.specs.Ending.{Ends, faults_of, HasCause}
 use Rattle.pgs_run_lines.specs.Input.{kept_of}
-use Rattle.pgs_run_lines.specs.Machine.{Standing, Going, Ended, Machine, Rule, Scene, Extent, Whole, AtEnd, Told, after_lines, pieces_of_lines, told_at_end, status_at_cut, told_cut, told_by}
+use Rattle.pgs_run_lines.specs.Machine.{RunState, Going, Ended, Machine, Rule, Scene, Extent, Whole, AtEnd, Told, after_lines, pieces_of_lines, told_at_end, status_at_cut, told_cut, told_by}
 use Rattle.pgs_run_lines.specs.Pieces.{Shown, shown_of, ShowsAll}
 use Rattle.pgs_run_lines.specs.Reading.{StopsIn, Reads}
 use Rattle.pgs_run_lines.specs.Run.{EndsAs, EndsAtLine, EndsBy, IsBetween, IsToldBy, IsFar, Allows}
@@ -63,7 +63,7 @@ same_end : {E : Type 0} (m : Machine E) (other status : E) (lines : List (List �
 same_end m other status [] is = cc
 same_end m other status (line ∷ lines) is = same_end m other status lines is
 
-ended_next : {E : Type 0} (m : Machine E) (s : m.State) (line : List ℕ) (lines : List (List ℕ)) (status : E) (next : Standing m.State E) → (m.line s line).next ≡ next → after_lines m (m.line s line).next lines ≡ Ended status → ((t : m.State) → after_lines m (Going t) lines ≡ Ended status → EndsAtLine m status) → EndsAtLine m status
+ended_next : {E : Type 0} (m : Machine E) (s : m.State) (line : List ℕ) (lines : List (List ℕ)) (status : E) (next : RunState m.State E) → (m.line s line).next ≡ next → after_lines m (m.line s line).next lines ≡ Ended status → ((t : m.State) → after_lines m (Going t) lines ≡ Ended status → EndsAtLine m status) → EndsAtLine m status
 ended_next m s line lines status (Going t) e end later = later t (ap (λ at. after_lines m at lines) (sym e) ∙ end)
 ended_next m s line lines status (Ended other) e end later =
     record { state = s; line = line; is = e ∙ ap Ended (same_end m other status lines (ap (λ at. after_lines m at lines) (sym e) ∙ end)) }
@@ -232,7 +232,7 @@ module _ {E : Type 0} (m : Machine E) (rule : Rule m) (limit : ℕ) (s : m.State
         later = [];
         parts = sym (append-nil xs);
         extent = AtEnd line stop;
-        far = (refl, runs.begun, refl, r.ends.1, subst (λ (at : Standing m.State E). IsToldBy (told_at_end m at line) stop) (sym runs.stands) (told_at (m.rest state line) stop (shown_of mid.view) (shown_of now.view) ends));
+        far = (refl, runs.begun, refl, r.ends.1, subst (λ (at : RunState m.State E). IsToldBy (told_at_end m at line) stop) (sym runs.stands) (told_at (m.rest state line) stop (shown_of mid.view) (shown_of now.view) ends));
         allowed = subst (λ lines. rule.allows s lines (AtEnd line stop) start now) (append-nil xs) (rule.on s state xs [] (AtEnd line stop) start mid now runs.stands runs.holds runs.allowed end);
       }
 

@@ -9,17 +9,17 @@ pub record MayAsk (left asked : ℕ) : Type 0 where
   pub most : asked ≤ 65536
   pub within : asked ≤ left
 
--- Reads that each gave something, one after another, and nothing else of the source; so much is left of the budget.
+-- MakesReads that each gave something, one after another, and nothing else of the source; so much is left of the budget.
 pub data Gave {S : Type 0} (made : S → ℕ → Option ℕ → S → Type 0) (budget : ℕ) (start : S) : ℕ → S → Type 0 where
   gave_none : Gave made budget start budget start
   gave_more : {left rest asked count : ℕ} {mid now : S} → Gave made budget start left mid → MayAsk left asked → 1 ≤ count → rest + count ≡ left → made mid asked (Some count) now → Gave made budget start rest now
 
 -- All reads of a run: some that gave something, and then none, or one that found the end of the input, or one that failed. So there is at
 -- most one more than bytes were taken, and none behind the end or a fault.
-pub data Reads {S : Type 0} (made : S → ℕ → Option ℕ → S → Type 0) (budget : ℕ) (start : S) : (fails : Bool) → S → Type 0 where
-  so_far : {left : ℕ} {now : S} → Gave made budget start left now → Reads made budget start false now
-  to_end : {left asked : ℕ} {mid now : S} → Gave made budget start left mid → MayAsk left asked → made mid asked (Some 0) now → Reads made budget start false now
-  to_fault : {left asked : ℕ} {mid now : S} → Gave made budget start left mid → MayAsk left asked → made mid asked None now → Reads made budget start true now
+pub data MakesReads {S : Type 0} (made : S → ℕ → Option ℕ → S → Type 0) (budget : ℕ) (start : S) : (fails : Bool) → S → Type 0 where
+  so_far : {left : ℕ} {now : S} → Gave made budget start left now → MakesReads made budget start false now
+  to_end : {left asked : ℕ} {mid now : S} → Gave made budget start left mid → MayAsk left asked → made mid asked (Some 0) now → MakesReads made budget start false now
+  to_fault : {left asked : ℕ} {mid now : S} → Gave made budget start left mid → MayAsk left asked → made mid asked None now → MakesReads made budget start true now
 
 -- a read failed
 abbrev pub is_of_source : {E : Type 0} → Stop E → Bool

@@ -4,11 +4,11 @@ use Rattle.pgs_run_lines.specs.declared.stop.Stop.{Stop}
 use Rattle.pgs_run_lines.specs.declared.stop.Stop.TheVariants as stops
 use Rattle.pgs_run_lines.specs.Ending.{Shows}
 use Rattle.pgs_run_lines.specs.Input.{kept_of}
-use Rattle.pgs_run_lines.specs.Machine.{Standing, Going, Ended, Machine, Rule, Scene, Extent, Whole, Inside, after_lines, pieces_of_lines}
+use Rattle.pgs_run_lines.specs.Machine.{RunState, Going, Ended, Machine, Rule, Scene, Extent, Whole, Inside, after_lines, pieces_of_lines}
 use Rattle.pgs_run_lines.specs.Pieces.{Shown, shown_of, ShowsAll}
 
 -- an end of the machine's own is where the run stands; the other stops say nothing of it
-abbrev pub IsEndAt : {S E : Type 0} → Standing S E → Stop E → Type 0
+abbrev pub IsEndAt : {S E : Type 0} → RunState S E → Stop E → Type 0
 IsEndAt at (stops.Ended status) = at ≡ Ended status
 IsEndAt at stops.ReadFault = Unit {0}
 IsEndAt at stops.DiskFault = Unit {0}

@@ -6,14 +6,14 @@ use Rattle.pgs_run_lines.specs.declared.stop.Stop.{Stop}
 use Rattle.pgs_run_lines.specs.Input.{kept_of}
 
 -- where a run stands between two lines: in a state of the machine, or at its end, with a status of the machine's own
-pub data Standing (S E : Type 0) : Type 0 where
-  Going : S → Standing S E
-  Ended : E → Standing S E
+pub data RunState (S E : Type 0) : Type 0 where
+  Going : S → RunState S E
+  Ended : E → RunState S E
 
 -- what an ended line does: the pieces that it tells, and where the run stands then
 pub record Step (S E : Type 0) : Type 0 where
   pub pieces : List (List ℕ)
-  pub next : Standing S E
+  pub next : RunState S E
 
 -- what is told: pieces, each one put, and a status
 pub record Told (E : Type 0) : Type 0 where
@@ -35,32 +35,32 @@ pub record Machine (E : Type 0) : Type 1 where
   pub HasRoom : ℕ → State → Type 0
 
 -- where a run stands after a line: behind its end nothing more is taken
-abbrev pub after_line : {E : Type 0} (m : Machine E) → Standing m.State E → List ℕ → Standing m.State E
+abbrev pub after_line : {E : Type 0} (m : Machine E) → RunState m.State E → List ℕ → RunState m.State E
 after_line m (Going s) line = (m.line s line).next
 after_line m (Ended status) line = Ended status
 
 -- what a line tells
-abbrev pub pieces_of_line : {E : Type 0} (m : Machine E) → Standing m.State E → List ℕ → List (List ℕ)
+abbrev pub pieces_of_line : {E : Type 0} (m : Machine E) → RunState m.State E → List ℕ → List (List ℕ)
 pieces_of_line m (Going s) line = (m.line s line).pieces
 pieces_of_line m (Ended status) line = []
 
 -- where a run stands after lines
-abbrev pub after_lines : {E : Type 0} (m : Machine E) → Standing m.State E → List (List ℕ) → Standing m.State E
+abbrev pub after_lines : {E : Type 0} (m : Machine E) → RunState m.State E → List (List ℕ) → RunState m.State E
 after_lines m at [] = at
 after_lines m at (line ∷ lines) = after_lines m (after_line m at line) lines
 
 -- what lines tell
-abbrev pub pieces_of_lines : {E : Type 0} (m : Machine E) → Standing m.State E → List (List ℕ) → List (List ℕ)
+abbrev pub pieces_of_lines : {E : Type 0} (m : Machine E) → RunState m.State E → List (List ℕ) → List (List ℕ)
 pieces_of_lines m at [] = []
 pieces_of_lines m at (line ∷ lines) = pieces_of_line m at line ++ pieces_of_lines m (after_line m at line) lines
 
 -- what the end of the input tells, behind this rest
-abbrev pub told_at_end : {E : Type 0} (m : Machine E) → Standing m.State E → List ℕ → Told E
+abbrev pub told_at_end : {E : Type 0} (m : Machine E) → RunState m.State E → List ℕ → Told E
 told_at_end m (Going s) rest = m.rest s rest
 told_at_end m (Ended status) rest = record { pieces = []; status = status }
 
 -- the status at the end of the budget
-abbrev pub status_at_cut : {E : Type 0} (m : Machine E) → Standing m.State E → E
+abbrev pub status_at_cut : {E : Type 0} (m : Machine E) → RunState m.State E → E
 status_at_cut m (Going s) = m.cut s
 status_at_cut m (Ended status) = status
 

@@ -3,7 +3,7 @@ use Rattle.std.specs.Prelude.{◌≡◌, ◌⊎◌, ℕ, List, [], ◌∷◌}
 use Rattle.pgs_run_lines.specs.AreasKept.{KeepsAreas}
 use Rattle.pgs_run_lines.specs.Ending.{PutsRose, faults_of}
 use Rattle.pgs_run_lines.specs.Pieces.{shown_of, ShowsAll, ShowsTorn}
-use Rattle.pgs_world.specs.Disk.{Puts}
+use Rattle.pgs_world.specs.Disk.{PutsFront}
 use Rattle.pgs_world.specs.Moment.{StopsBy}
 use Rattle.pgs_world.specs.World.{View}
 
@@ -22,5 +22,5 @@ EndsLast line status failed unmade old answer new =
 -- as `EndsReply`, and at every moment both areas are what they were, and a front of the line is out
 pub record PutsReply {E : Type 0} (line : List ℕ) (status failed : E) (old : View) (answer : E) (new : View) : Type 0 where
   pub ends : EndsReply line status failed old answer new
-  pub stops : StopsBy (Puts line) old new
+  pub stops : StopsBy (PutsFront line) old new
   pub areas : KeepsAreas old new

@@ -1,6 +1,6 @@
 -- A command that tells a piece of a line, or none, and touches no area, as a machine over lines.
 use Rattle.std.specs.Prelude.{ℕ, List, ◌++◌}
-use Rattle.pgs_run_lines.specs.Machine.{Machine, Standing, Told}
+use Rattle.pgs_run_lines.specs.Machine.{Machine, RunState, Told}
 use Rattle.pgs_run_lines.specs.May.{MayPut}
 
 pub record Teller (E : Type 0) : Type 1 where
@@ -9,7 +9,7 @@ pub record Teller (E : Type 0) : Type 1 where
   pub after : State → List ℕ → State
   pub pieces : State → List ℕ → List (List ℕ)
   -- whether the run goes on in that state, or has ended there
-  pub next : State → Standing State E
+  pub next : State → RunState State E
   -- what the end of the input tells behind its last line
   pub told : State → Told E
   -- the status at the end of the budget

@@ -1,5 +1,6 @@
-ghost use Rattle.std.specs.Prelude.{◌≡◌, ◌≤◌, ◌+◌, ◌++◌, ◌^◌, [], length, OnOk, OnErr};
+ghost use Rattle.std.specs.Prelude.{◌≡◌, ◌≤◌, ◌+◌, ◌++◌, [], length, OnOk, OnErr};
 ghost use Rattle.pgs_run_lines.specs.Input.{front_of};
+ghost use Rattle.pgs_run_lines.specs.declared.budget.TheConstants.{BUDGET};
 
 use pgs_base::Memory;
 use std::alloc::Global;
@@ -14,20 +15,21 @@ pub struct LineBuffer {
 }
 
 impl Model for LineBuffer {
-    ghost use Rattle.std.specs.Prelude.{◌≤◌, ◌+◌, ◌^◌, length};
+    ghost use Rattle.std.specs.Prelude.{◌≤◌, ◌+◌, length};
     ghost use Rattle.pgs_run_lines.specs.Buffer.{Kept};
+    ghost use Rattle.pgs_run_lines.specs.declared.budget.TheConstants.{BUDGET};
 
     ghost Value = { Kept };
 
     ghost view = { λ buffer. record { bytes = buffer.bytes.items; limit = buffer.limit } };
 
-    ghost invariant = { λ buffer. (length buffer.bytes.items ≤ buffer.limit + 1) × (buffer.limit ≤ 2 ^ 40) };
+    ghost invariant = { λ buffer. (length buffer.bytes.items ≤ buffer.limit + 1) × (buffer.limit ≤ BUDGET) };
 }
 
 impl LineBuffer {
-    /// No bytes; takes no memory. The limit is at most 2^40.
+    /// No bytes; takes no memory. The limit is at most `BUDGET`.
     pub fn new(alloc: Global, limit: usize) -> LineBuffer
-        requires { limit ≤ 2 ^ 40 }
+        requires { limit ≤ BUDGET }
         ensures bytes { result.bytes ≡ [] }
         ensures limit { result.limit ≡ limit }
     {

@@ -5,7 +5,7 @@ ghost use Rattle.pgs_run_lines.specs.Driving.{LineShows};
 ghost use Rattle.pgs_run_lines.specs.Ending.{HasAnyCause, faults_of};
 ghost use Rattle.pgs_run_lines.specs.Pieces.{pieces_in, shown_of};
 ghost use Rattle.pgs_run_lines.specs.Puts.{Puts};
-ghost use Rattle.pgs_world.specs.Disk.{Puts as PutsFront};
+ghost use Rattle.pgs_world.specs.Disk.{PutsFront};
 ghost use Rattle.pgs_world.specs.Moment.{StopsBy};
 
 use crate::stop::Stop;

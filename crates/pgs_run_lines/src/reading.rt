@@ -1,8 +1,9 @@
-ghost use Rattle.std.specs.Prelude.{◌≡◌, ◌<◌, ◌≤◌, ◌+◌, ◌^◌, ℕ, [], true, Ok, length, take, IfOk, IfErr, OnErr, OnOk, vec_len};
+ghost use Rattle.std.specs.Prelude.{◌≡◌, ◌<◌, ◌≤◌, ◌+◌, ℕ, [], true, Ok, length, take, IfOk, IfErr, OnErr, OnOk, vec_len};
 ghost use Rattle.std.specs.Result.{result_ok};
+ghost use Rattle.pgs_run_lines.specs.declared.budget.TheConstants.{BUDGET};
 ghost use Rattle.pgs_world.specs.Count.{RoseByOne};
 ghost use Rattle.pgs_world.specs.Source.{Takes, IsAtEnd};
-ghost use Rattle.pgs_run_lines.specs.Calls.{MayAsk, Reads as Made, stops_of_source, stops_of_world};
+ghost use Rattle.pgs_run_lines.specs.Calls.{MayAsk, MakesReads, stops_of_source, stops_of_world};
 ghost use Rattle.pgs_run_lines.specs.Ending.{HasAnyCause, faults_of};
 ghost use Rattle.pgs_run_lines.specs.Machine.{HasRoomFor, scene_of};
 ghost use Rattle.pgs_run_lines.specs.May.{MayCome};
@@ -78,7 +79,7 @@ pub fn read_all<T: LineTaker, S: Source, W: World>(
     budget: u64,
 ) -> Result<End, Stop<T::Status>>
     requires bytes { (0 < length bytes.old) × (length bytes.old ≤ 65536) }
-    requires budget { budget ≤ 2 ^ 40 }
+    requires budget { budget ≤ BUDGET }
     requires line { line.old.bytes ≡ [] }
     requires room { HasRoomFor T.machine (budget + 1) (T.stands taker.old) }
     requires holds { T.rule.holds (T.stands taker.old) (W.view world.old) }
@@ -87,7 +88,7 @@ pub fn read_all<T: LineTaker, S: Source, W: World>(
     ensures holds { OnOk result (T.rule.holds (T.stands taker.new) (W.view world.new)) }
     ensures cause { HasAnyCause (faults_of (S.faults source.old) (W.view world.old)) (faults_of (S.faults source.new) (W.view world.new)) result }
     ensures last { stops_of_world result ≡ true → W.failed world.new }
-    ensures calls { Made S.read_made budget source.old (stops_of_source result) source.new }
+    ensures calls { MakesReads S.read_made budget source.old (stops_of_source result) source.new }
     ensures may { IfErr result (MayCome T.machine) }
 {
     let mut left = budget;

@@ -1,7 +1,7 @@
 ghost use Rattle.std.specs.Prelude.{◌≡◌, ◌⊎◌, ℕ, List, IfOk};
 ghost use Rattle.pgs_run_lines.specs.AreasKept.{KeepsAreas};
 ghost use Rattle.pgs_run_lines.specs.Replies.{EndsLast, EndsReply};
-ghost use Rattle.pgs_world.specs.Disk.{Puts as PutsFront};
+ghost use Rattle.pgs_world.specs.Disk.{PutsFront};
 ghost use Rattle.pgs_world.specs.Moment.{StopsBy};
 
 use crate::putting::put_piece;

@@ -1,10 +1,11 @@
-ghost use Rattle.std.specs.Prelude.{◌≡◌, ◌≤◌, ◌+◌, ◌^◌, List, ℕ, Some, true};
-ghost use Rattle.pgs_run_lines.specs.Calls.{Reads, is_of_source, is_of_world};
+ghost use Rattle.std.specs.Prelude.{◌≡◌, ◌≤◌, ◌+◌, List, ℕ, Some, true};
+ghost use Rattle.pgs_run_lines.specs.Calls.{MakesReads, is_of_source, is_of_world};
 ghost use Rattle.pgs_run_lines.specs.Ending.{HasCause, faults_of};
 ghost use Rattle.pgs_run_lines.specs.Machine.{HasRoomFor, scene_of, told_by};
 ghost use Rattle.pgs_run_lines.specs.May.{MayCome};
 ghost use Rattle.pgs_run_lines.specs.Pieces.{shown_of};
 ghost use Rattle.pgs_run_lines.specs.Run.{EndsAs, EndsBy, Allows};
+ghost use Rattle.pgs_run_lines.specs.declared.budget.TheConstants.{BUDGET};
 
 use crate::line_buffer::LineBuffer;
 use crate::reading::{End, read_all, read_buffer};
@@ -25,8 +26,8 @@ pub fn run_lines<T: LineTaker, S: Source, W: World>(
     limit: usize,
     budget: u64,
 ) -> Stop<T::Status>
-    requires limit { limit ≤ 2 ^ 40 }
-    requires budget { budget ≤ 2 ^ 40 }
+    requires limit { limit ≤ BUDGET }
+    requires budget { budget ≤ BUDGET }
     requires room { HasRoomFor T.machine (budget + 1) (T.stands taker.old) }
     requires holds { T.rule.holds (T.stands taker.old) (W.view world.old) }
 
@@ -40,7 +41,7 @@ pub fn run_lines<T: LineTaker, S: Source, W: World>(
     // Behind a call on the world that failed there was no other.
     ensures last { is_of_world result ≡ true → W.failed world.new }
     // The reads: each of some bytes, and none behind the end of the input or a fault.
-    ensures calls { Reads S.read_made budget source.old (is_of_source result) source.new }
+    ensures calls { MakesReads S.read_made budget source.old (is_of_source result) source.new }
     ensures may { MayCome T.machine result }
     // How far the lines were taken: all of what was read, or up to the one that gave the stop. What was done to the world, also at
     // every stop since the run's start, and to what the taker keeps, is what the machine's rule allows of these lines.

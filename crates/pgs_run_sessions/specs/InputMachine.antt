@@ -1,7 +1,7 @@
 -- The run as a machine over lines, its sessions in brief.
 use Rattle.std.specs.Prelude.{◌<◌, ◌^◌, ℕ, ◌+◌, true, List, [], Result, Ok, Err, if◌then◌else◌}
 use Rattle.pgs_run_lines.specs.Input.{front_of}
-use Rattle.pgs_run_lines.specs.Machine.{Machine, Standing as RunStanding, Told, Going, Ended}
+use Rattle.pgs_run_lines.specs.Machine.{Machine, RunState, Told, Going, Ended}
 use Rattle.pgs_run_lines.specs.Telling.{Teller, telling}
 use Rattle.pgs_command.specs.declared.status.Status.{Status}
 use Rattle.pgs_command.specs.declared.status.Status.TheVariants as statuses
@@ -53,7 +53,7 @@ pieces_at_end (Lines schema s) line = pieces_of_line (brief_sessions.step schema
 pieces_at_end Refused line = []
 
 -- a refused schema ends the run
-abbrev pub next_of : Stand → RunStanding Stand Status
+abbrev pub next_of : Stand → RunState Stand Status
 next_of (Schema part) = Going (Schema part)
 next_of (Lines schema s) = Going (Lines schema s)
 next_of Refused = Ended statuses.SchemaRefused

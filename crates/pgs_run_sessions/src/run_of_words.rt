@@ -1,9 +1,10 @@
-ghost use Rattle.std.specs.Prelude.{◌≡◌, ◌<◌, ◌≤◌, ◌^◌, List, true};
+ghost use Rattle.std.specs.Prelude.{◌≡◌, ◌<◌, ◌≤◌, List, true};
 ghost use Rattle.pgs_command.specs.Calls.{fails_read, fails_world};
 ghost use Rattle.pgs_command.specs.Promise.{Promise};
 ghost use Rattle.pgs_command.specs.Setting.{setting_of};
 ghost use Rattle.pgs_feed.specs.Places.{Place};
-ghost use Rattle.pgs_run_lines.specs.Calls.{Reads};
+ghost use Rattle.pgs_run_lines.specs.Calls.{MakesReads};
+ghost use Rattle.pgs_run_lines.specs.declared.budget.TheConstants.{BUDGET};
 ghost use Rattle.pgs_run_sessions.specs.Spec.{spec_for};
 ghost use Rattle.pgs_run_sessions.specs.Statuses.{status_of};
 
@@ -28,11 +29,11 @@ fn run_words<S: Source, W: World>(
     world: &mut W,
     budget: u64,
 ) -> Status
-    requires { budget ≤ 2 ^ 40 }
+    requires { budget ≤ BUDGET }
     ensures promise { (places : List Place) → Promise (spec_for words.now) budget (setting_of (S.left source.old) (S.faults source.old) (W.view world.old) places)
         (setting_of (S.left source.new) (S.faults source.new) (W.view world.new) places) result }
     ensures last { fails_world result ≡ true → W.failed world.new }
-    ensures calls { Reads S.read_made budget source.old (fails_read result) source.new }
+    ensures calls { MakesReads S.read_made budget source.old (fails_read result) source.new }
 {
     if !asks_run(words) {
         return refuse_words(world, words_refused_line(alloc));
@@ -55,11 +56,11 @@ pub fn run_sessions_within<S: Source, W: World>(
     budget: u64,
 ) -> SessionStatus
     requires positive { 0 < budget }
-    requires within { budget ≤ 2 ^ 40 }
+    requires within { budget ≤ BUDGET }
     ensures promise { (places : List Place) → Promise (spec_for words.now) budget (setting_of (S.left source.old) (S.faults source.old) (W.view world.old) places)
         (setting_of (S.left source.new) (S.faults source.new) (W.view world.new) places) (status_of result) }
     ensures last { fails_world (status_of result) ≡ true → W.failed world.new }
-    ensures calls { Reads S.read_made budget source.old (fails_read (status_of result)) source.new }
+    ensures calls { MakesReads S.read_made budget source.old (fails_read (status_of result)) source.new }
 {
     SessionStatus::of(run_words(alloc, words, source, world, budget))
 }
@@ -71,10 +72,10 @@ pub fn run_sessions<S: Source, W: World>(
     source: &mut S,
     world: &mut W,
 ) -> SessionStatus
-    ensures promise { (places : List Place) → Promise (spec_for words.now) (2 ^ 40) (setting_of (S.left source.old) (S.faults source.old) (W.view world.old) places)
+    ensures promise { (places : List Place) → Promise (spec_for words.now) BUDGET (setting_of (S.left source.old) (S.faults source.old) (W.view world.old) places)
         (setting_of (S.left source.new) (S.faults source.new) (W.view world.new) places) (status_of result) }
     ensures last { fails_world (status_of result) ≡ true → W.failed world.new }
-    ensures calls { Reads S.read_made (2 ^ 40) source.old (fails_read (status_of result)) source.new }
+    ensures calls { MakesReads S.read_made BUDGET source.old (fails_read (status_of result)) source.new }
 {
     run_sessions_within(alloc, words, source, world, BUDGET)
 }

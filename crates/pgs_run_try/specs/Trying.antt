@@ -1,6 +1,6 @@
 -- The commands `try` and `validate` as one machine over lines.
 use Rattle.std.specs.Prelude.{◌<◌, ◌^◌, ℕ, ◌+◌, true, List, [], Result, Ok, Err, if◌then◌else◌}
-use Rattle.pgs_run_lines.specs.Machine.{Machine, Standing as RunStanding, Told, Going, Ended}
+use Rattle.pgs_run_lines.specs.Machine.{Machine, RunState, Told, Going, Ended}
 use Rattle.pgs_run_lines.specs.Telling.{Teller, telling}
 use Rattle.pgs_syntax.specs.declared.resolved.Resolved.{Resolved}
 use Rattle.pgs_command.specs.declared.status.Status.{Status}
@@ -33,7 +33,7 @@ pieces_at_end (Lines s) line = session_pieces s line
 pieces_at_end Refused line = []
 
 -- a refused schema ends the run
-abbrev pub next_of : Phase → RunStanding Phase Status
+abbrev pub next_of : Phase → RunState Phase Status
 next_of (Schema judging part) = Going (Schema judging part)
 next_of (Lines s) = Going (Lines s)
 next_of Refused = Ended statuses.SchemaRefused

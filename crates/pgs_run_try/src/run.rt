@@ -1,9 +1,10 @@
-ghost use Rattle.std.specs.Prelude.{◌≡◌, ◌≤◌, ◌^◌, List, true};
+ghost use Rattle.std.specs.Prelude.{◌≡◌, ◌≤◌, List, true};
 ghost use Rattle.pgs_command.specs.Calls.{fails_read, fails_world};
 ghost use Rattle.pgs_command.specs.Promise.{Promise};
 ghost use Rattle.pgs_command.specs.Setting.{setting_of};
 ghost use Rattle.pgs_feed.specs.Places.{Place};
-ghost use Rattle.pgs_run_lines.specs.Calls.{Reads};
+ghost use Rattle.pgs_run_lines.specs.Calls.{MakesReads};
+ghost use Rattle.pgs_run_lines.specs.declared.budget.TheConstants.{BUDGET};
 ghost use Rattle.pgs_run_try.specs.Spec.{judging_spec};
 
 use crate::Judging;
@@ -23,11 +24,11 @@ pub fn run_judging<S: Source, W: World>(
     world: &mut W,
     budget: u64,
 ) -> Status
-    requires { budget ≤ 2 ^ 40 }
+    requires { budget ≤ BUDGET }
     ensures promise { (places : List Place) → Promise (judging_spec judging) budget (setting_of (S.left source.old) (S.faults source.old) (W.view world.old) places)
         (setting_of (S.left source.new) (S.faults source.new) (W.view world.new) places) result }
     ensures last { fails_world result ≡ true → W.failed world.new }
-    ensures calls { Reads S.read_made budget source.old (fails_read result) source.new }
+    ensures calls { MakesReads S.read_made budget source.old (fails_read result) source.new }
 {
     let teller = Trying::new(alloc, judging, world.seed());
     let mut trying = Telling { teller };

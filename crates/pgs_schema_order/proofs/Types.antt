@@ -15,7 +15,7 @@ use Rattle.pgs_base.proofs.Graphs.{graph_parts}
 use Rattle.pgs_syntax.specs.declared.resolved.Resolved.{Resolved}
 use Rattle.pgs_syntax.specs.declared.resolved.TypeNo.{TypeNo}
 use Rattle.pgs_syntax.specs.declared.resolved.TypeNo.TheVariants as types
-use Rattle.pgs_syntax.specs.Join.{Triple}
+use Rattle.pgs_syntax.specs.Join.{PairTriple}
 use Rattle.pgs_syntax.specs.Triples.{is_triple}
 use Rattle.pgs_syntax.specs.Typed.{is_typed_node, is_typed_edge, is_typed_triple, types_node, types_edge, triple_at}
 use Rattle.pgs_syntax.proofs.Carried.{carried_pair}
@@ -54,7 +54,7 @@ module _ (g : Graph) (graph : is_graph g ≡ true) where
   edge_pair edge there = (and_parts _ _ (passes is_edge_entry g.edges edge (graph_parts g graph).edges there)).1
 
   -- the pairs of an edge and of its ends
-  pub edge_triple : (edge : EdgeId × EdgeRow) (t : Triple) → Contains g.edges edge → triple_at g edge.1 ≡ Some t → is_triple t ≡ true
+  pub edge_triple : (edge : EdgeId × EdgeRow) (t : PairTriple) → Contains g.edges edge → triple_at g edge.1 ≡ Some t → is_triple t ≡ true
   edge_triple edge t there ends =
       let source = then_found _ (node_at g edge.1.source) t ends in
       let target = map_found _ (node_at g edge.1.target) t source.2 in
@@ -71,16 +71,16 @@ module _ (old new : Resolved) (contained : AreTypesContained old new) where
   node_typed p pair typed =
       let type = found (types_node old p) old.guard.types typed in node_by p pair type.0 type.1 type.2
 
-  triple_by : (t : Triple) → is_triple t ≡ true → (type : TypeNo) → Contains old.guard.types type → types_edge old t type ≡ true → is_typed_triple new t ≡ true
+  triple_by : (t : PairTriple) → is_triple t ≡ true → (type : TypeNo) → Contains old.guard.types type → types_edge old t type ≡ true → is_typed_triple new t ≡ true
   triple_by t triple (types.Node number) there is = cc
   triple_by t triple (types.Edge number) there is =
       let parts = and_parts _ _ is in contained (types.Edge number) there parts.0 t triple parts.1
 
-  triple_typed : (t : Triple) → is_triple t ≡ true → is_typed_triple old t ≡ true → is_typed_triple new t ≡ true
+  triple_typed : (t : PairTriple) → is_triple t ≡ true → is_typed_triple old t ≡ true → is_typed_triple new t ≡ true
   triple_typed t triple typed =
       let type = found (types_edge old t) old.guard.types typed in triple_by t triple type.0 type.1 type.2
 
-  by_ends : (ends : Option Triple) → ((t : Triple) → ends ≡ Some t → is_triple t ≡ true) → option_map_or (is_typed_triple old) ends false ≡ true → option_map_or (is_typed_triple new) ends false ≡ true
+  by_ends : (ends : Option PairTriple) → ((t : PairTriple) → ends ≡ Some t → is_triple t ≡ true) → option_map_or (is_typed_triple old) ends false ≡ true → option_map_or (is_typed_triple new) ends false ≡ true
   by_ends None triple typed = cc
   by_ends (Some t) triple typed = triple_typed t (triple t refl) typed
 

@@ -6,7 +6,7 @@ ghost use Rattle.std.specs.List.{list_any};
 ghost use Rattle.pgs_base.specs.declared.part.Part.{Part};
 ghost use Rattle.pgs_base.specs.Order.{ascends, elem_cmp, tuple_cmp};
 ghost use Rattle.pgs_violation.specs.declared.violation.Violation.TheVariants.{Exclusive};
-ghost use Rattle.pgs_scratch.specs.declared.key_row.KeyRow.{KeyRow as Row};
+ghost use Rattle.pgs_scratch.specs.declared.key_row.KeyRow.{KeyRow};
 ghost use Rattle.pgs_scratch.specs.Owners.{nearer, nearest, with_tuple};
 ghost use Rattle.pgs_scratch.specs.Rows.{shared_values};
 
@@ -88,7 +88,7 @@ fn first_sharer<'a>(
 
 // The same by one table, which is gone through from the last row, and has the owners among the rows after.
 fn shared_by_table(alloc: Global, number: u32, rows: &[KeyRow]) -> Result<Vec<Violation>, Memory>
-    requires { ascends elem_cmp (map (λ (row : Row). row.elem) rows.now) ≡ true }
+    requires { ascends elem_cmp (map (λ (row : KeyRow). row.elem) rows.now) ≡ true }
     ensures { IfOk result (λ found. reverse found.items ≡ shared_values number rows.now) }
 {
     let mut table = BTreeMap::new(alloc);
@@ -108,7 +108,7 @@ pub(crate) fn shared_values(
     number: u32,
     rows: &[KeyRow],
 ) -> Result<Vec<Violation>, Memory>
-    requires { ascends elem_cmp (map (λ (row : Row). row.elem) rows.now) ≡ true }
+    requires { ascends elem_cmp (map (λ (row : KeyRow). row.elem) rows.now) ≡ true }
     ensures { IfOk result (λ found. reverse found.items ≡ shared_values number rows.now) }
 {
     let apart = are_apart(alloc, rows)?;

@@ -2,7 +2,7 @@
 
 ghost use Rattle.std.specs.Prelude.{◌≡◌, ◌++◌, true, map, filter_map, IfOk, OnOk};
 ghost use Rattle.pgs_base.specs.Order.{ascends, elem_cmp};
-ghost use Rattle.pgs_scratch.specs.declared.key_row.KeyRow.{KeyRow as Row};
+ghost use Rattle.pgs_scratch.specs.declared.key_row.KeyRow.{KeyRow};
 ghost use Rattle.pgs_scratch.specs.Rows.{missing_value, several_values, shared_values, count_of_row, rows_violations};
 
 use crate::finding::add;
@@ -107,7 +107,7 @@ fn add_shared_values(
     number: u32,
     rows: &[KeyRow],
 ) -> Result<(), Memory>
-    requires { ascends elem_cmp (map (λ (row : Row). row.elem) rows.now) ≡ true }
+    requires { ascends elem_cmp (map (λ (row : KeyRow). row.elem) rows.now) ≡ true }
     ensures { OnOk result (found.new.items ≡ found.old.items ++ shared_values number rows.now) }
 {
     let mut shared = shared_values(alloc, number, rows)?;
@@ -141,7 +141,7 @@ pub(crate) fn add_rows_violations(
     number: u32,
     rows: &[KeyRow],
 ) -> Result<(), Memory>
-    requires { ascends elem_cmp (map (λ (row : Row). row.elem) rows.now) ≡ true }
+    requires { ascends elem_cmp (map (λ (row : KeyRow). row.elem) rows.now) ≡ true }
     ensures { OnOk result (found.new.items ≡ found.old.items ++ rows_violations asked number rows.now) }
 {
     if asked.mandatory {

@@ -7,7 +7,7 @@ use Rattle.pgs_syntax.specs.declared.element_type.EdgeType.{EdgeType}
 use Rattle.pgs_syntax.specs.declared.resolved.Resolved.{Resolved}
 use Rattle.pgs_syntax.specs.declared.specification.Leaf.{Leaf}
 use Rattle.pgs_syntax.specs.Fitting.{suits, fits, fits_edge_type, has_ends_of}
-use Rattle.pgs_syntax.specs.Join.{of_triples, joined, is_empty_pair, Triple}
+use Rattle.pgs_syntax.specs.Join.{of_triples, joined, is_empty_pair, PairTriple}
 use Rattle.pgs_syntax.proofs.Halves.{any_same, any_and}
 use Rattle.pgs_conform.specs.declared.shape.Shape.{Shape}
 use Rattle.pgs_conform.specs.declared.shape.Triple.{Triple as ShapeTriple}
@@ -35,7 +35,7 @@ some_source sources own last p =
 -- the triples of the ends, by the lists of both
 pub ends_denote : (resolved : Resolved) (edge : EdgeType Leaf) (sources targets : List Shape) (ends : List ShapeTriple) →
     Denotes sources (fits resolved edge.source) → Denotes targets (fits resolved edge.target) →
-    ((t : Triple) → in_some_triple ends t ≡ (in_some sources t.source && is_empty_pair t.own && in_some targets t.target)) →
+    ((t : PairTriple) → in_some_triple ends t ≡ (in_some sources t.source && is_empty_pair t.own && in_some targets t.target)) →
     DenotesTriples ends (has_ends_of resolved edge)
 ends_denote resolved edge sources targets ends source target both t pairs =
     let outer = and_parts _ _ pairs in
@@ -44,7 +44,7 @@ ends_denote resolved edge sources targets ends source target both t pairs =
     ∙ ap (λ b. fits resolved edge.source t.source && is_empty_pair t.own && b) (target t.target outer.1)
 
 -- an edge type's triples, by the lists of its ends and of its middle
-pub edge_denotes : (resolved : Resolved) (test : ℕ → Triple → Bool) (edge : EdgeType Leaf) (ends middles triples : List ShapeTriple) →
+pub edge_denotes : (resolved : Resolved) (test : ℕ → PairTriple → Bool) (edge : EdgeType Leaf) (ends middles triples : List ShapeTriple) →
     DenotesTriples ends (has_ends_of resolved edge) → DenotesTriples middles (suits of_triples test edge.middle) →
     DenotesTriples triples (joined of_triples (in_some_triple ends) (in_some_triple middles)) → DenotesTriples triples (fits_edge_type resolved test edge)
 edge_denotes resolved test edge ends middles triples both middle product t pairs =

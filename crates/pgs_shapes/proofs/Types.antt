@@ -8,7 +8,7 @@ use Rattle.pgs_syntax.specs.declared.element_type.EdgeType.{EdgeType}
 use Rattle.pgs_syntax.specs.declared.resolved.Resolved.{Resolved}
 use Rattle.pgs_syntax.specs.declared.specification.Leaf.{Leaf}
 use Rattle.pgs_syntax.specs.Fitting.{suits, fits_node, fits_edge, fits_edge_type}
-use Rattle.pgs_syntax.specs.Join.{of_pairs, Triple}
+use Rattle.pgs_syntax.specs.Join.{of_pairs, PairTriple}
 use Rattle.pgs_syntax.specs.Valid.{is_valid, is_valid_spec, are_valid_nodes, are_valid_edges}
 use Rattle.pgs_syntax.proofs.Named.{node_type_meant, edge_type_meant}
 use Rattle.pgs_conform.specs.declared.shape.Shape.{Shape}
@@ -87,7 +87,7 @@ module _ (resolved : Resolved) (valid : is_valid resolved ≡ true) where
       length nodes ≡ length resolved.nodes → EachDenotes nodes (fits_node resolved) → edges ≡ resolved.edges →
       i < length edges → edge ≡ get_or edges i edge → length old ≡ i → EachDenotesTriples old (fits_edge resolved) →
       (is_valid_spec (length nodes) edge.source ≡ true → is_valid_spec (length old) edge.middle ≡ true → is_valid_spec (length nodes) edge.target ≡ true →
-      (schema : Resolved) → EachDenotes nodes (fits_node schema) → (test : ℕ → Triple → Bool) → EachDenotesTriples old test →
+      (schema : Resolved) → EachDenotes nodes (fits_node schema) → (test : ℕ → PairTriple → Bool) → EachDenotesTriples old test →
       DenotesTriples triples (fits_edge_type schema test edge)) →
       new ≡ old ++ triples ∷ [] → EachDenotesTriples new (fits_edge resolved)
   edge_more nodes edges i edge old new triples node_count node_each same lt is count each denotes e =

@@ -1,7 +1,7 @@
 ghost use Rattle.std.specs.Prelude.{◌≡◌, ℕ, ◌+◌, ◌*◌, ◌≤◌, Bool, ◌&&◌, ◌||◌, true, List, [], None, length, IfOk, OnOk};
 ghost use Rattle.pgs_syntax.specs.declared.resolved.Resolved.{Resolved};
 ghost use Rattle.pgs_syntax.specs.Fitting.{fits_node, fits_edge, fits_edge_type, has_ends_of};
-ghost use Rattle.pgs_syntax.specs.Join.{is_empty_pair, Triple as Pairs};
+ghost use Rattle.pgs_syntax.specs.Join.{is_empty_pair, PairTriple};
 ghost use Rattle.pgs_syntax.specs.Valid.{is_valid, is_valid_spec};
 ghost use Rattle.pgs_syntax.specs.Width.{Width, width_of, edge_width, edge_widths, first_too_wide};
 ghost use Rattle.pgs_conform.specs.Counts.{AreWithin};
@@ -23,7 +23,7 @@ fn push_ends(
     targets: &[Shape],
     ends: &mut Vec<Triple>,
 ) -> Result<(), Memory>
-    ensures denote { OnOk result ((t : Pairs) → in_some_triple ends.new.items t
+    ensures denote { OnOk result ((t : PairTriple) → in_some_triple ends.new.items t
         ≡ (in_some_triple ends.old.items t || (in_shape source.now t.source && is_empty_pair t.own && in_some targets.now t.target))) }
     ensures count { OnOk result (length ends.new.items ≡ length ends.old.items + length targets.now) }
 {
@@ -41,7 +41,7 @@ fn push_ends(
 
 // The triples with one of some sources and one of some targets, and an empty pair of their own.
 fn ends_of(alloc: Global, sources: &[Shape], targets: &[Shape]) -> Result<List<Triple>, Memory>
-    ensures denote { IfOk result (λ ends. (t : Pairs) → in_some_triple ends t
+    ensures denote { IfOk result (λ ends. (t : PairTriple) → in_some_triple ends t
         ≡ (in_some sources.now t.source && is_empty_pair t.own && in_some targets.now t.target)) }
     ensures count { IfOk result (λ ends. length ends ≡ length sources.now * length targets.now) }
 {
@@ -78,7 +78,7 @@ fn triples_of_edge(
 ) -> Result<List<Triple>, Memory>
     ensures denote { IfOk result (λ triples. is_valid_spec (length nodes.now) edge.now.source ≡ true →
         is_valid_spec (length named.now) edge.now.middle ≡ true → is_valid_spec (length nodes.now) edge.now.target ≡ true →
-        (resolved : Resolved) → EachDenotes nodes.now (fits_node resolved) → (test : ℕ → Pairs → Bool) →
+        (resolved : Resolved) → EachDenotes nodes.now (fits_node resolved) → (test : ℕ → PairTriple → Bool) →
         EachDenotesTriples named.now test → DenotesTriples triples (fits_edge_type resolved test edge.now)) }
     ensures within { IfOk result (λ triples. (widths before : List Width) → AreWithin widths nodes.now → AreWithin before named.now →
         length triples ≤ (edge_width widths before edge.now).count) }

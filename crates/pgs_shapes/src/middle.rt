@@ -2,7 +2,7 @@ ghost use Rattle.std.specs.Prelude.{◌≡◌, ℕ, ◌+◌, ◌≤◌, Bool, �
 ghost use Rattle.std.specs.List.{list_all};
 ghost use Rattle.pgs_syntax.specs.declared.specification.Spec.{Word};
 ghost use Rattle.pgs_syntax.specs.Fitting.{suits};
-ghost use Rattle.pgs_syntax.specs.Join.{of_triples, is_empty_pair, Triple as Pairs};
+ghost use Rattle.pgs_syntax.specs.Join.{of_triples, is_empty_pair, PairTriple};
 ghost use Rattle.pgs_syntax.specs.Valid.{is_valid_spec};
 ghost use Rattle.pgs_syntax.specs.Width.{Width, width_of};
 ghost use Rattle.pgs_conform.specs.Counts.{AreWithin};
@@ -22,7 +22,7 @@ use std::alloc::Global;
 
 // Triples of shapes, and that of the empty pairs.
 fn with_empty(alloc: Global, triples: List<Triple>) -> Result<List<Triple>, Memory>
-    ensures denote { IfOk result (λ whole. (t : Pairs) → in_some_triple whole t ≡ (in_some_triple triples t || of_triples.asks is_empty_pair t)) }
+    ensures denote { IfOk result (λ whole. (t : PairTriple) → in_some_triple whole t ≡ (in_some_triple triples t || of_triples.asks is_empty_pair t)) }
     ensures count { IfOk result (λ whole. length whole ≡ length triples + 1) }
 {
     let mut items = triples.into_vec();
@@ -31,7 +31,7 @@ fn with_empty(alloc: Global, triples: List<Triple>) -> Result<List<Triple>, Memo
 }
 
 fn leaf_triples(alloc: Global, named: &[List<Triple>], leaf: &Leaf) -> Result<List<Triple>, Memory>
-    ensures denote { IfOk result (λ triples. is_valid_spec (length named.now) (Word leaf.now) ≡ true → (test : ℕ → Pairs → Bool) →
+    ensures denote { IfOk result (λ triples. is_valid_spec (length named.now) (Word leaf.now) ≡ true → (test : ℕ → PairTriple → Bool) →
         EachDenotesTriples named.now test → DenotesTriples triples (suits of_triples test (Word leaf.now))) }
     ensures within { IfOk result (λ triples. (widths : List Width) → AreWithin widths named.now →
         length triples ≤ (width_of widths (Word leaf.now)).count) }
@@ -57,7 +57,7 @@ pub fn triples_of(
     named: &[List<Triple>],
     spec: &Spec<Leaf>,
 ) -> Result<List<Triple>, Memory>
-    ensures denote { IfOk result (λ triples. is_valid_spec (length named.now) spec.now ≡ true → (test : ℕ → Pairs → Bool) →
+    ensures denote { IfOk result (λ triples. is_valid_spec (length named.now) spec.now ≡ true → (test : ℕ → PairTriple → Bool) →
         EachDenotesTriples named.now test → DenotesTriples triples (suits of_triples test spec.now)) }
     ensures within { IfOk result (λ triples. (widths : List Width) → AreWithin widths named.now →
         length triples ≤ (width_of widths spec.now).count) }
@@ -91,7 +91,7 @@ fn triples_of_each(
     named: &[List<Triple>],
     parts: &[Spec<Leaf>],
 ) -> Result<Vec<List<Triple>>, Memory>
-    ensures denote { IfOk result (λ lists. list_all (is_valid_spec (length named.now)) parts.now ≡ true → (test : ℕ → Pairs → Bool) →
+    ensures denote { IfOk result (λ lists. list_all (is_valid_spec (length named.now)) parts.now ≡ true → (test : ℕ → PairTriple → Bool) →
         EachDenotesTriples named.now test → PartsDenoteTriples test parts.now lists.items) }
     ensures within { IfOk result (λ lists. (widths : List Width) → AreWithin widths named.now →
         PartsWithin widths parts.now lists.items) }

@@ -31,6 +31,7 @@ ghost use Rattle.pgs_world.specs.declared.area.Area.{Area};
 ghost use Rattle.pgs_world.specs.declared.area.Area.TheVariants.{A};
 ghost use Rattle.pgs_world.specs.Disk.{IsSameBeside};
 ghost use Rattle.pgs_world.specs.World.{Triple, part, other};
+ghost use Rattle.pgs_world.specs.declared.area_limit.TheConstants.{AREA_LIMIT};
 
 /// Two triples of the same images have the same store.
 pub fn images_decide_the_store()
@@ -60,13 +61,13 @@ pub fn checkpoints_keep_a_store()
     ensures stops { (area : Area) (epoch end : ℕ) (next : Option ℕ) (payloads : List (List ℕ)) (text first second : List ℕ)
         (commits size : ℕ) (nodes : List (NodeId × NodeRow)) (edges : List (EdgeId × EdgeRow)) (old new : Triple)
         → HasStore area epoch end next payloads old → decoded first ≡ Some (Schema text)
-        → decoded second ≡ Some (Snapshot commits nodes edges) → commits ≤ epoch * 2 ^ 40 → size < 2 ^ 64
+        → decoded second ≡ Some (Snapshot commits nodes edges) → commits ≤ epoch * AREA_LIMIT → size < 2 ^ 64
         → Turns (other area) (Creates (epoch + 1) (first ∷ second ∷ []) size) old new
         → HasStore area epoch end next payloads new ⊎ HasStore (other area) (epoch + 1) size (Some 3) (first ∷ second ∷ []) new }
     ensures done { (area : Area) (epoch end : ℕ) (next : Option ℕ) (payloads : List (List ℕ)) (text first second : List ℕ)
         (commits size : ℕ) (nodes : List (NodeId × NodeRow)) (edges : List (EdgeId × EdgeRow)) (old new : Triple)
         → HasStore area epoch end next payloads old → decoded first ≡ Some (Schema text)
-        → decoded second ≡ Some (Snapshot commits nodes edges) → commits ≤ epoch * 2 ^ 40 → size < 2 ^ 64
+        → decoded second ≡ Some (Snapshot commits nodes edges) → commits ≤ epoch * AREA_LIMIT → size < 2 ^ 64
         → Holds (Some 3) (epoch + 1) (first ∷ second ∷ []) size (part (other area) new) → IsSameBeside (other area) old new
         → HasStore (other area) (epoch + 1) size (Some 3) (first ∷ second ∷ []) new }
 {}
@@ -141,5 +142,5 @@ pub fn a_snapshot_saves_its_graph()
 pub fn commits_are_bounded()
     ensures { (limits : Limits) (epoch end : ℕ) (next : Option ℕ) (payloads : List (List ℕ)) (text : List ℕ) (commits : ℕ)
         (graph : Graph) → IsBoundedStore epoch end next payloads → saved_of limits payloads ≡ store text commits graph
-        → commits ≤ (epoch - 1) * 2 ^ 40 + end }
+        → commits ≤ (epoch - 1) * AREA_LIMIT + end }
 {}

@@ -9,7 +9,7 @@ use Rattle.std.proofs.lemmas.List.Folds.{list_any-append}
 use Rattle.pgs_base.specs.declared.row.NodeRow.{NodeRow}
 use Rattle.pgs_syntax.specs.declared.resolved.Resolved.{Resolved}
 use Rattle.pgs_syntax.specs.Fitting.{fits_node, fits_edge}
-use Rattle.pgs_syntax.specs.Join.{Triple}
+use Rattle.pgs_syntax.specs.Join.{PairTriple}
 use Rattle.pgs_conform.specs.declared.shape.Shape.{Shape}
 use Rattle.pgs_conform.specs.declared.shape.Triple.{Triple as ShapeTriple}
 use Rattle.pgs_conform.specs.Shapes.{in_shape, in_triple, in_some, in_some_triple, Denotes, DenotesTriples}
@@ -40,7 +40,7 @@ abbrev pub ChoosesPair : Option OwnedPair → Option OwnedPair → Option OwnedP
 ChoosesPair found next result = (f g : NodeRow → Bool) → IsFoundPair f found → IsFoundPair g next → IsFoundPair (λ p. f p || g p) result
 
 abbrev pub ChoosesTriple : Option OwnedTriple → Option OwnedTriple → Option OwnedTriple → Type 0
-ChoosesTriple found next result = (f g : Triple → Bool) → IsFoundTriple f found → IsFoundTriple g next → IsFoundTriple (λ t. f t || g t) result
+ChoosesTriple found next result = (f g : PairTriple → Bool) → IsFoundTriple f found → IsFoundTriple g next → IsFoundTriple (λ t. f t || g t) result
 
 -- ---- pairs
 

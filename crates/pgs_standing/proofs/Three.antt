@@ -3,7 +3,7 @@ use Rattle.std.proofs.Common.{◌≡◌, Bool, true, false, ◌&&◌, List, refl
 use Rattle.std.proofs.lemmas.Bool.{true≢false, and_parts, and_from, false_from_ne_true}
 use Rattle.pgs_base.specs.declared.row.NodeRow.{NodeRow}
 use Rattle.pgs_base.specs.Pair.{is_pair}
-use Rattle.pgs_syntax.specs.Join.{Triple}
+use Rattle.pgs_syntax.specs.Join.{PairTriple}
 use Rattle.pgs_syntax.specs.Triples.{is_triple}
 use Rattle.pgs_conform.specs.declared.shape.Shape.{Shape}
 use Rattle.pgs_conform.specs.declared.shape.Triple.{Triple as ShapeTriple}
@@ -29,7 +29,7 @@ module _ (first second : ShapeTriple) (source middle target : NodeRow → Bool)
     (source_is : (p : NodeRow) → is_pair p ≡ true → source p ≡ (in_shape first.source p && in_shape second.source p))
     (middle_is : (p : NodeRow) → is_pair p ≡ true → middle p ≡ (in_shape first.middle p && in_shape second.middle p))
     (target_is : (p : NodeRow) → is_pair p ≡ true → target p ≡ (in_shape first.target p && in_shape second.target p)) where
-  pub three_common : (t : Triple) → is_triple t ≡ true → (source t.source && middle t.own && target t.target) ≡ (in_triple first t && in_triple second t)
+  pub three_common : (t : PairTriple) → is_triple t ≡ true → (source t.source && middle t.own && target t.target) ≡ (in_triple first t && in_triple second t)
   three_common t triple =
       let outer = and_parts _ _ triple in
       let inner = and_parts _ _ outer.0 in
@@ -54,7 +54,7 @@ module _ (first second : ShapeTriple) where
   AreApart a b = (p : NodeRow) → is_pair p ≡ true → false ≡ (in_shape a p && in_shape b p)
 
   abbrev pub AreApartTriples : Type 0
-  AreApartTriples = (t : Triple) → is_triple t ≡ true → false ≡ (in_triple first t && in_triple second t)
+  AreApartTriples = (t : PairTriple) → is_triple t ≡ true → false ≡ (in_triple first t && in_triple second t)
 
   abbrev both : Shape → Shape → NodeRow → Bool
   both a b p = in_shape a p && in_shape b p
@@ -82,10 +82,10 @@ module _ (shapes : ShapeTriple) (nodes : List Shape) where
   abbrev pub own_test : NodeRow → Bool
   own_test p = is_small p && in_shape shapes.middle p
 
-  abbrev pub test : Triple → Bool
+  abbrev pub test : PairTriple → Bool
   test t = is_small_triple t && (in_triple shapes t && ends_in nodes t)
 
-  cut : (t : Triple) → test t ≡ true → (end_test shapes.source t.source ≡ true) × (own_test t.own ≡ true) × (end_test shapes.target t.target ≡ true)
+  cut : (t : PairTriple) → test t ≡ true → (end_test shapes.source t.source ≡ true) × (own_test t.own ≡ true) × (end_test shapes.target t.target ≡ true)
   cut t h =
       let outer = and_parts (is_small_triple t) (in_triple shapes t && ends_in nodes t) h in
       let smalls = and_parts (is_small t.source && is_small t.own) (is_small t.target) outer.0 in

@@ -5,7 +5,7 @@ use Rattle.std.specs.Option.{option_map_or}
 use Rattle.pgs_base.specs.declared.row.NodeRow.{NodeRow}
 use Rattle.pgs_base.specs.declared.value.Value.{Value}
 use Rattle.pgs_base.specs.Pair.{has_name}
-use Rattle.pgs_syntax.specs.Join.{Triple}
+use Rattle.pgs_syntax.specs.Join.{PairTriple}
 use Rattle.pgs_conform.specs.declared.options.Options.{Options}
 use Rattle.pgs_conform.specs.declared.shape.Shape.{Shape}
 use Rattle.pgs_conform.specs.declared.shape.Triple.{Triple as ShapeTriple}
@@ -33,7 +33,7 @@ common_key first second k = (k, common_at first second k)
 abbrev pub in_common : Option Shape → NodeRow → Bool
 in_common answer p = option_map_or (λ shape. in_shape shape p) answer false
 
-abbrev pub in_common_triple : Option ShapeTriple → Triple → Bool
+abbrev pub in_common_triple : Option ShapeTriple → PairTriple → Bool
 in_common_triple answer t = option_map_or (λ shapes. in_triple shapes t) answer false
 
 -- whether something may stand at each key
@@ -46,5 +46,5 @@ plain_props [] = []
 plain_props (key ∷ keys) = row_before key.0 (plainest key.1) (plain_props keys)
 
 -- whether both ends of a triple are in some shapes
-abbrev pub ends_in : List Shape → Triple → Bool
+abbrev pub ends_in : List Shape → PairTriple → Bool
 ends_in shapes t = in_some shapes t.source && in_some shapes t.target

@@ -7,7 +7,7 @@ use Rattle.pgs_syntax.specs.declared.resolved.Resolved.{Resolved}
 use Rattle.pgs_syntax.specs.declared.resolved.TypeNo.{TypeNo}
 use Rattle.pgs_syntax.specs.declared.resolved.TypeNo.TheVariants as types
 use Rattle.pgs_syntax.specs.Fitting.{fits_node, fits_edge}
-use Rattle.pgs_syntax.specs.Join.{Triple}
+use Rattle.pgs_syntax.specs.Join.{PairTriple}
 use Rattle.pgs_syntax.specs.Triples.{is_triple}
 use Rattle.pgs_contain.specs.declared.outside.Outside.{Outside}
 use Rattle.pgs_contain.specs.declared.outside.Outside.TheVariants as outsides
@@ -21,7 +21,7 @@ use Rattle.pgs_standing.specs.Standing.{can_stand_node, can_stand_edge}
 abbrev pub pair_size : NodeRow → ℕ
 pair_size p = length p.labels + length p.props
 
-abbrev pub triple_size : Triple → ℕ
+abbrev pub triple_size : PairTriple → ℕ
 triple_size t = pair_size t.source + (pair_size t.own + pair_size t.target)
 
 -- What examples are of, pairs or triples of pairs: which rows are one, whether each value is the plainest of its kind, and how many
@@ -34,7 +34,7 @@ pub record Carried (P : Type 0) : Type 0 where
 abbrev pub by_nodes : Carried NodeRow
 by_nodes = record { is_one = is_pair; is_plain_one = is_plain; size = pair_size }
 
-abbrev pub by_edges : Carried Triple
+abbrev pub by_edges : Carried PairTriple
 by_edges = record {
   is_one = is_triple;
   is_plain_one = λ t. is_plain t.source && is_plain t.own && is_plain t.target;
@@ -56,7 +56,7 @@ pub record IsPlainest {P : Type 0} (carried : Carried P) (test : P → Bool) (p 
 abbrev pub serves_node : Resolved → ℕ → NodeRow → Bool
 serves_node resolved number p = fits_node resolved number p && can_stand_node resolved p
 
-abbrev pub serves_edge : Resolved → ℕ → Triple → Bool
+abbrev pub serves_edge : Resolved → ℕ → PairTriple → Bool
 serves_edge resolved number t = fits_edge resolved number t && can_stand_edge resolved t
 
 -- nothing that fits the type can stand
@@ -76,5 +76,5 @@ IsExample resolved (types.Edge number) (outsides.Edge source middle target) =
 abbrev pub IsFoundPair : (NodeRow → Bool) → Option OwnedPair → Type 0
 IsFoundPair test answer = MatchOption answer (NonePasses by_nodes test) (λ own. IsPlainest by_nodes test (pair_in own))
 
-abbrev pub IsFoundTriple : (Triple → Bool) → Option OwnedTriple → Type 0
+abbrev pub IsFoundTriple : (PairTriple → Bool) → Option OwnedTriple → Type 0
 IsFoundTriple test answer = MatchOption answer (NonePasses by_edges test) (λ own. IsPlainest by_edges test (owned_triple own))

@@ -2,7 +2,7 @@
 
 ghost use Rattle.std.specs.Prelude.{◌≡◌, ◌||◌, Bool};
 ghost use Rattle.pgs_base.specs.declared.row.NodeRow.{NodeRow};
-ghost use Rattle.pgs_syntax.specs.Join.{Triple as Pairs};
+ghost use Rattle.pgs_syntax.specs.Join.{PairTriple};
 ghost use Rattle.pgs_contain.specs.Contained.{pair_in};
 ghost use Rattle.pgs_contain.specs.Threes.{owned_triple};
 ghost use Rattle.pgs_standing.specs.Example.{pair_size, triple_size, IsFoundPair, IsFoundTriple};
@@ -56,7 +56,7 @@ pub(crate) fn smaller_triple(
     own: Option<OwnedTriple>,
     other: Option<OwnedTriple>,
 ) -> Option<OwnedTriple>
-    ensures { (f g : Pairs → Bool) → IsFoundTriple f own → IsFoundTriple g other → IsFoundTriple (λ t. f t || g t) result }
+    ensures { (f g : PairTriple → Bool) → IsFoundTriple f own → IsFoundTriple g other → IsFoundTriple (λ t. f t || g t) result }
 {
     let Some(first) = own else {
         return other;

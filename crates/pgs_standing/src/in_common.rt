@@ -5,7 +5,7 @@ ghost use Rattle.std.specs.List.{list_all};
 ghost use Rattle.std.specs.Map.{keys_of};
 ghost use Rattle.pgs_base.specs.declared.row.NodeRow.{NodeRow};
 ghost use Rattle.pgs_base.specs.Pair.{has_name, is_pair};
-ghost use Rattle.pgs_syntax.specs.Join.{Triple as Pairs};
+ghost use Rattle.pgs_syntax.specs.Join.{PairTriple};
 ghost use Rattle.pgs_syntax.specs.Triples.{is_triple};
 ghost use Rattle.pgs_conform.specs.Shapes.{in_shape, in_triple};
 ghost use Rattle.pgs_standing.specs.Common.{allows, may_meet, common_key, in_common, in_common_triple, common_at};
@@ -113,7 +113,7 @@ pub fn common_triple(
     first: &Triple,
     second: &Triple,
 ) -> Result<Option<Triple>, Memory>
-    ensures { IfOk result (λ answer. (t : Pairs) → is_triple t ≡ true → in_common_triple answer t ≡ (in_triple first.now t && in_triple second.now t)) }
+    ensures { IfOk result (λ answer. (t : PairTriple) → is_triple t ≡ true → in_common_triple answer t ≡ (in_triple first.now t && in_triple second.now t)) }
 {
     let Some(middle) = common(alloc, &first.middle, &second.middle)? else {
         return Ok(None);

@@ -2,7 +2,7 @@
 
 ghost use Rattle.std.specs.Prelude.{◌≡◌, ◌||◌, true, not, IfOk};
 ghost use Rattle.pgs_base.specs.declared.row.NodeRow.{NodeRow};
-ghost use Rattle.pgs_syntax.specs.Join.{Triple as Pairs};
+ghost use Rattle.pgs_syntax.specs.Join.{PairTriple};
 ghost use Rattle.pgs_conform.specs.Shapes.{in_shape, in_triple, Denotes, DenotesTriples};
 ghost use Rattle.pgs_standing.specs.Standing.{admits_node, admits_edge};
 
@@ -25,7 +25,7 @@ fn any_shape(alloc: Global) -> Shape
 
 // The triple of shapes of all triples of pairs. It takes no memory.
 fn any_triple(alloc: Global) -> Triple
-    ensures { (t : Pairs) → in_triple result t ≡ true }
+    ensures { (t : PairTriple) → in_triple result t ≡ true }
 {
     Triple {
         source: any_shape(alloc),

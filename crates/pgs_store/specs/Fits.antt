@@ -8,7 +8,7 @@ use Rattle.pgs_syntax.specs.declared.resolved.Resolved.{Resolved}
 use Rattle.pgs_syntax.specs.declared.resolved.TypeNo.{TypeNo}
 use Rattle.pgs_syntax.specs.declared.resolved.TypeNo.TheVariants.{Node, Edge}
 use Rattle.pgs_syntax.specs.Fitting.{fits_node, fits_edge}
-use Rattle.pgs_syntax.specs.Join.{Triple}
+use Rattle.pgs_syntax.specs.Join.{PairTriple}
 use Rattle.pgs_syntax.specs.Typed.{triple_at}
 
 -- whether a type is one of nodes, and a pair fits it
@@ -17,7 +17,7 @@ fits_as_node resolved p (Node number) = fits_node resolved number p
 fits_as_node resolved p (Edge number) = false
 
 -- whether a type is one of edges, and a triple fits it
-abbrev pub fits_as_edge : Resolved → Triple → TypeNo → Bool
+abbrev pub fits_as_edge : Resolved → PairTriple → TypeNo → Bool
 fits_as_edge resolved t (Node number) = false
 fits_as_edge resolved t (Edge number) = fits_edge resolved number t
 

@@ -1,5 +1,5 @@
 -- What contracts see of a store, what holds of every store, and what it is to stand on a world.
-use Rattle.std.specs.Prelude.{◌≡◌, ◌⊎◌, ℕ, ◌+◌, ◌-◌, ◌*◌, ◌^◌, ◌≤◌, ◌<◌, Bool, IsTrue, List, [], ◌∷◌, length, Some, Ok}
+use Rattle.std.specs.Prelude.{◌≡◌, ◌⊎◌, ℕ, ◌+◌, ◌-◌, ◌*◌, ◌≤◌, ◌<◌, Bool, IsTrue, List, [], ◌∷◌, length, Some, Ok}
 use Rattle.pgs_base.specs.declared.limits.Limits.{Limits}
 use Rattle.pgs_base.specs.Graph.{Graph, empty_graph}
 use Rattle.pgs_codec.specs.declared.command.Command.{Command}
@@ -21,6 +21,7 @@ use Rattle.pgs_world.specs.declared.area.Area.TheVariants.{A}
 use Rattle.pgs_world.specs.Moment.{IsSettled}
 use Rattle.pgs_world.specs.World.{Triple, View, other}
 use Rattle.pgs_store.specs.State.{GuardState}
+use Rattle.pgs_world.specs.declared.area_limit.TheConstants.{AREA_LIMIT}
 
 -- the guard, the journal, and whether an earlier call answered `DiskFault`
 pub record StoreState : Type 0 where
@@ -32,9 +33,9 @@ pub record StoreState : Type 0 where
 -- no more commits than so many stores may have
 pub record IsBounded (journal : Journal) (commits : ℕ) : Type 0 where
   pub epoch : IsTrue (is_epoch journal.epoch)
-  pub end : journal.end < 2 ^ 40
+  pub end : journal.end < AREA_LIMIT
   pub next : IsNextWithin journal.next journal.end
-  pub most : commits ≤ (journal.epoch - 1) * 2 ^ 40 + journal.end
+  pub most : commits ≤ (journal.epoch - 1) * AREA_LIMIT + journal.end
 
 -- Of a triple's images the journal's area is chosen, with its epoch and end and these records, which lead to the guard's text,
 -- commits and graph.

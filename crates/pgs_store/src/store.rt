@@ -4,6 +4,7 @@ ghost use Rattle.pgs_journal.specs.Format.{is_epoch};
 ghost use Rattle.pgs_resolve.specs.SchemaOf.{schema, schema_of};
 ghost use Rattle.pgs_store.specs.Explained.{types_of, key_values_of};
 ghost use Rattle.pgs_store.specs.State.{IsGuarded};
+ghost use Rattle.pgs_world.specs.declared.area_limit.TheConstants.{AREA_LIMIT};
 
 use crate::Guard;
 use pgs_base::{Elem, List, Memory, Steps, TupleSet};
@@ -51,8 +52,8 @@ impl Store {
     /// How many transactions were committed. The journal ends below 2^40, and so they are fewer than 2^64 - 1.
     pub fn commits(&self) -> u64
         ensures commits { result ≡ self.now.guard.commits }
-        ensures bounded { self.now.guard.commits ≤ (self.now.journal.epoch - 1) * 2 ^ 40 + self.now.journal.end }
-        ensures end { self.now.journal.end < 2 ^ 40 }
+        ensures bounded { self.now.guard.commits ≤ (self.now.journal.epoch - 1) * AREA_LIMIT + self.now.journal.end }
+        ensures end { self.now.journal.end < AREA_LIMIT }
         ensures below { result < 2 ^ 64 - 1 }
     {
         self.guard.commits()

@@ -7,7 +7,7 @@ use Rattle.std.proofs.lemmas.List.Edits.{swap_is}
 use Rattle.std.proofs.lemmas.List.Sorted.{IsPermutation-keeps}
 use Rattle.pgs_base.specs.declared.row.NodeRow.{NodeRow}
 use Rattle.pgs_base.specs.Pair.{pair_of}
-use Rattle.pgs_syntax.specs.Join.{Triple, halves, triple_halves, Joins, of_pairs, of_triples, joined, joined_all}
+use Rattle.pgs_syntax.specs.Join.{PairTriple, halves, triple_halves, Joins, of_pairs, of_triples, joined, joined_all}
 use Rattle.pgs_syntax.proofs.Edges.{any_triple_halves}
 use Rattle.pgs_syntax.proofs.Halves.{any_halves, joined_any, joined_same}
 use Rattle.pgs_syntax.proofs.Splits.{IsSplit, none, to_left, to_right, to_both, split_from_any, any_from_split}
@@ -54,30 +54,30 @@ pair_regrouped l m a b p outer inner =
     let props = split_regrouped l.props m.props a.props b.props p.props outer.props inner.props in
     (pair_of labels.0 props.0, record { labels = labels.1; props = props.1 }, record { labels = labels.2; props = props.2 })
 
-record IsTripleHalf (first second t : Triple) : Type 0 where
+record IsTripleHalf (first second t : PairTriple) : Type 0 where
   pub source : IsHalf first.source second.source t.source
   pub own : IsHalf first.own second.own t.own
   pub target : IsHalf first.target second.target t.target
 
-abbrev triple : NodeRow → NodeRow → NodeRow → Triple
+abbrev triple : NodeRow → NodeRow → NodeRow → PairTriple
 triple source own target = record { source = source; own = own; target = target }
 
-triple_found : (c : Triple × Triple → Bool) (t : Triple) → list_any c (triple_halves t) ≡ true →
-    (first : Triple) × (second : Triple) × IsTripleHalf first second t × (c (first, second) ≡ true)
+triple_found : (c : PairTriple × PairTriple → Bool) (t : PairTriple) → list_any c (triple_halves t) ≡ true →
+    (first : PairTriple) × (second : PairTriple) × IsTripleHalf first second t × (c (first, second) ≡ true)
 triple_found c t h =
     let s = pair_found _ t.source (sym (any_triple_halves c t) ∙ h) in
     let m = pair_found _ t.own s.3 in
     let e = pair_found _ t.target m.3 in
     (triple s.0 m.0 e.0, triple s.1 m.1 e.1, record { source = s.2; own = m.2; target = e.2 }, e.3)
 
-triple_given : (c : Triple × Triple → Bool) (first second t : Triple) → IsTripleHalf first second t → c (first, second) ≡ true →
+triple_given : (c : PairTriple × PairTriple → Bool) (first second t : PairTriple) → IsTripleHalf first second t → c (first, second) ≡ true →
     list_any c (triple_halves t) ≡ true
 triple_given c first second t half passes =
     any_triple_halves c t
     ∙ pair_given _ first.source second.source t.source half.source
     (pair_given _ first.own second.own t.own half.own (pair_given _ first.target second.target t.target half.target passes))
 
-triple_regrouped : (l m a b t : Triple) → IsTripleHalf l m t → IsTripleHalf a b m → (n : Triple) × IsTripleHalf l b n × IsTripleHalf a n t
+triple_regrouped : (l m a b t : PairTriple) → IsTripleHalf l m t → IsTripleHalf a b m → (n : PairTriple) × IsTripleHalf l b n × IsTripleHalf a n t
 triple_regrouped l m a b t outer inner =
     let source = pair_regrouped l.source m.source a.source b.source t.source outer.source inner.source in
     let own = pair_regrouped l.own m.own a.own b.own t.own outer.own inner.own in
@@ -157,6 +157,6 @@ pub pairs_in_any_order : (tests others : List (NodeRow → Bool)) → IsPermutat
     joined_all of_pairs tests p ≡ joined_all of_pairs others p
 pairs_in_any_order = reordered of_pairs IsHalf pair_found pair_given pair_regrouped
 
-pub triples_in_any_order : (tests others : List (Triple → Bool)) → IsPermutation tests others → (t : Triple) →
+pub triples_in_any_order : (tests others : List (PairTriple → Bool)) → IsPermutation tests others → (t : PairTriple) →
     joined_all of_triples tests t ≡ joined_all of_triples others t
 triples_in_any_order = reordered of_triples IsTripleHalf triple_found triple_given triple_regrouped

@@ -15,7 +15,7 @@ use Rattle.pgs_base.specs.declared.row.EdgeRow.{EdgeRow}
 use Rattle.pgs_base.specs.Graph.{Graph, node_cmp, edge_cmp, node_at, edge_at, is_node_entry, is_edge_entry, is_graph}
 use Rattle.pgs_base.specs.Pair.{pair_of, is_pair}
 use Rattle.pgs_base.proofs.Graphs.{graph_parts}
-use Rattle.pgs_syntax.specs.Join.{Triple}
+use Rattle.pgs_syntax.specs.Join.{PairTriple}
 use Rattle.pgs_syntax.specs.Matches.{carried}
 use Rattle.pgs_syntax.specs.Triples.{is_triple}
 use Rattle.pgs_syntax.specs.Typed.{triple_at}
@@ -51,7 +51,7 @@ module _ (g : Graph) (graph : is_graph g ≡ true) where
       let found = map_found (λ (row : EdgeRow). pair_of row.labels row.props) (edge_at g id) p at in
       ap is_pair (sym found.2) ∙ edge_pair id found.0 found.1
 
-  pub triple_of_pairs : (id : EdgeId) (row : EdgeRow) (t : Triple) → edge_at g id ≡ Some row → triple_at g row ≡ Some t → is_triple t ≡ true
+  pub triple_of_pairs : (id : EdgeId) (row : EdgeRow) (t : PairTriple) → edge_at g id ≡ Some row → triple_at g row ≡ Some t → is_triple t ≡ true
   triple_of_pairs id row t at ends =
       let source = then_found _ (node_at g row.source) t ends in
       let target = map_found _ (node_at g row.target) t source.2 in

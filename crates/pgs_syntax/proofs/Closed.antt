@@ -16,7 +16,7 @@ use Rattle.pgs_syntax.specs.declared.specification.Spec as specs
 use Rattle.pgs_syntax.specs.declared.specification.Spec.{Spec, Empty, Word, OpenLabels, And', Or', Opt', Row_of-Spec, end_of-Spec, more_of-Spec}
 use Rattle.pgs_syntax.specs.Closed.{some_braces, some_braces_of, some_below, has_more, names, is_closed, names_key}
 use Rattle.pgs_syntax.specs.Fitting.{suits, suits_each, suits_some, is_named_by, fits, fits_node, fits_below, fits_edge_type, fits_edge_below, has_ends_of}
-use Rattle.pgs_syntax.specs.Join.{is_empty, is_empty_pair, halves, Triple, Joins, of_pairs, of_triples, joined}
+use Rattle.pgs_syntax.specs.Join.{is_empty, is_empty_pair, halves, PairTriple, Joins, of_pairs, of_triples, joined}
 use Rattle.pgs_syntax.proofs.Edges.{any_triple_halves}
 use Rattle.pgs_syntax.proofs.Halves.{any_halves, joined_any}
 use Rattle.pgs_syntax.proofs.Parts.{absent_unnamed}
@@ -120,12 +120,12 @@ module _ (key : List ℕ) where
       let parts = and_parts _ _ s.3 in
       absent_from_both key s.0.props s.1.props p.props s.2 (first s.0 parts.1) (second s.1 parts.0)
 
-  abbrev LacksOwn : (Triple → Bool) → Type 0
-  LacksOwn f = (t : Triple) → f t ≡ true → value_at key t.own.props ≡ None
+  abbrev LacksOwn : (PairTriple → Bool) → Type 0
+  LacksOwn f = (t : PairTriple) → f t ≡ true → value_at key t.own.props ≡ None
 
-  triples_joined : (f g : Triple → Bool) → LacksOwn f → LacksOwn g → LacksOwn (joined of_triples f g)
+  triples_joined : (f g : PairTriple → Bool) → LacksOwn f → LacksOwn g → LacksOwn (joined of_triples f g)
   triples_joined f g first second t h =
-      let s = found _ (halves t.source) (sym (any_triple_halves (λ (u : Triple × Triple). g u.1 && f u.0) t) ∙ (sym (joined_any of_triples f g t) ∙ h)) in
+      let s = found _ (halves t.source) (sym (any_triple_halves (λ (u : PairTriple × PairTriple). g u.1 && f u.0) t) ∙ (sym (joined_any of_triples f g t) ∙ h)) in
       let m = found_halves _ t.own s.1 in
       let e = found _ (halves t.target) m.3 in
       let parts = and_parts _ _ e.1 in
@@ -178,7 +178,7 @@ module _ (key : List ℕ) where
     abbrev in_edge : (Braces → Bool) → EdgeType Leaf → Bool
     in_edge test type = some_braces test (some_below test edge_spec resolved.edges bound) (edge_spec type)
 
-    abbrev suits_edge : Triple → EdgeType Leaf → Bool
+    abbrev suits_edge : PairTriple → EdgeType Leaf → Bool
     suits_edge t type = fits_edge_type resolved (fits_edge_below resolved bound) type t
 
     edge_step : EdgesLack resolved (suc bound)

@@ -10,7 +10,7 @@ use Rattle.pgs_syntax.specs.declared.specification.Leaf.{Leaf}
 use Rattle.pgs_syntax.specs.declared.specification.Leaf.TheVariants.{Label, Named}
 use Rattle.pgs_syntax.specs.declared.specification.Spec as specs
 use Rattle.pgs_syntax.specs.declared.specification.Spec.{Spec, Empty, Word, OpenLabels, And', Or', Opt', Row_of-Spec, end_of-Spec, more_of-Spec}
-use Rattle.pgs_syntax.specs.Join.{Joins, of_pairs, of_triples, Triple, is_empty_pair}
+use Rattle.pgs_syntax.specs.Join.{Joins, of_pairs, of_triples, PairTriple, is_empty_pair}
 use Rattle.pgs_syntax.specs.Fitting.{suits, suits_each, suits_some, fits, fits_below, fits_node, fits_edge_type, fits_edge_below, fits_edge, has_ends_of}
 use Rattle.pgs_syntax.specs.Valid.{is_valid, is_valid_spec, are_valid_specs, are_valid_nodes, are_valid_edges}
 use Rattle.pgs_syntax.proofs.Halves.{joined_same}
@@ -67,7 +67,7 @@ node_reached types (suc bound) number type p below at =
     by false other rest =
         let apart : number ≡ bound → ⊥ = eqb-false number bound other in rest (omega arith)
 
-pub edge_reached : (resolved : Resolved) (bound number : ℕ) (type : EdgeType Leaf) (t : Triple) → number < bound → slice_get resolved.edges number ≡ Some type →
+pub edge_reached : (resolved : Resolved) (bound number : ℕ) (type : EdgeType Leaf) (t : PairTriple) → number < bound → slice_get resolved.edges number ≡ Some type →
     fits_edge_below resolved bound number t ≡ fits_edge_type resolved (fits_edge_below resolved number) type t
 edge_reached resolved zero number type t below at = absurd (omega arith)
 edge_reached resolved (suc bound) number type t below at =
@@ -127,7 +127,7 @@ node_type_meant resolved valid number type at p =
     type.spec valid_here p
 
 pub edge_type_meant : (resolved : Resolved) → is_valid resolved ≡ true → (number : ℕ) (type : EdgeType Leaf) → slice_get resolved.edges number ≡ Some type →
-    (t : Triple) → fits_edge resolved number t ≡ fits_edge_type resolved (fits_edge resolved) type t
+    (t : PairTriple) → fits_edge resolved number t ≡ fits_edge_type resolved (fits_edge resolved) type t
 edge_type_meant resolved valid number type at t =
     let below = there resolved.edges number type at in
     let valid_here : is_valid_spec number type.middle ≡ true = subst (λ n. is_valid_spec n type.middle ≡ true) (omega arith) (valid_edge (length resolved.nodes) 0 resolved.edges number type (edges_valid resolved valid) at) in

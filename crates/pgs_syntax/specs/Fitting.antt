@@ -15,7 +15,7 @@ use Rattle.pgs_syntax.specs.declared.specification.Leaf.TheVariants.{Label, Name
 use Rattle.pgs_syntax.specs.declared.specification.Property.{Property}
 use Rattle.pgs_syntax.specs.declared.specification.Spec as specs
 use Rattle.pgs_syntax.specs.declared.specification.Spec.{Spec, Empty, Word, OpenLabels, And', Or', Opt', Row_of-Spec, end_of-Spec, more_of-Spec}
-use Rattle.pgs_syntax.specs.Join.{Joins, of_pairs, of_triples, joined, Triple, is_empty, is_empty_pair}
+use Rattle.pgs_syntax.specs.Join.{Joins, of_pairs, of_triples, joined, PairTriple, is_empty, is_empty_pair}
 use Rattle.pgs_syntax.specs.Numbered.{passes_below}
 
 -- whether a pair has exactly this label, and no properties
@@ -76,20 +76,20 @@ abbrev pub fits : Resolved → Spec Leaf → NodeRow → Bool
 fits resolved spec p = suits of_pairs (fits_node resolved) spec p
 
 -- whether the pairs at the ends of a triple fit what an edge type says of its source and target, and its own pair is empty
-abbrev pub has_ends_of : Resolved → EdgeType Leaf → Triple → Bool
+abbrev pub has_ends_of : Resolved → EdgeType Leaf → PairTriple → Bool
 has_ends_of resolved type t =
     fits resolved type.source t.source && is_empty_pair t.own && fits resolved type.target t.target
 
 -- Whether a triple fits an edge type: it is the join of one that fits the middle with pairs at the ends that fit the source
 -- and the target. What a number in the middle asks is given.
-abbrev pub fits_edge_type : Resolved → (ℕ → Triple → Bool) → EdgeType Leaf → Triple → Bool
+abbrev pub fits_edge_type : Resolved → (ℕ → PairTriple → Bool) → EdgeType Leaf → PairTriple → Bool
 fits_edge_type resolved named type t =
     joined of_triples (has_ends_of resolved type) (suits of_triples named type.middle) t
 
 -- whether a triple fits the edge type of a number below a bound
-abbrev pub fits_edge_below : Resolved → ℕ → ℕ → Triple → Bool
+abbrev pub fits_edge_below : Resolved → ℕ → ℕ → PairTriple → Bool
 fits_edge_below resolved = passes_below (fits_edge_type resolved) resolved.edges
 
 -- whether a triple fits the edge type of a number
-abbrev pub fits_edge : Resolved → ℕ → Triple → Bool
+abbrev pub fits_edge : Resolved → ℕ → PairTriple → Bool
 fits_edge resolved number t = fits_edge_below resolved (length resolved.edges) number t

@@ -34,18 +34,18 @@ abbrev pub halves : NodeRow → List (NodeRow × NodeRow)
 halves p = each_with_each two_pairs (splits p.labels) (splits p.props)
 
 -- a triple of pairs: of an edge's source, of the edge itself, and of its target
-pub record Triple : Type 0 where
+pub record PairTriple : Type 0 where
   pub source : NodeRow
   pub own : NodeRow
   pub target : NodeRow
 
 -- two triples, of two pairs at each place
-abbrev pub two_triples : NodeRow × NodeRow → NodeRow × NodeRow → NodeRow × NodeRow → Triple × Triple
+abbrev pub two_triples : NodeRow × NodeRow → NodeRow × NodeRow → NodeRow × NodeRow → PairTriple × PairTriple
 two_triples source own target =
     (record { source = source.0; own = own.0; target = target.0 }, record { source = source.1; own = own.1; target = target.1 })
 
 -- the couples of triples whose join, pair by pair, is the triple
-abbrev pub triple_halves : Triple → List (Triple × Triple)
+abbrev pub triple_halves : PairTriple → List (PairTriple × PairTriple)
 triple_halves t =
     flat_map (λ source. each_with_each (two_triples source) (halves t.own) (halves t.target)) (halves t.source)
 
@@ -62,7 +62,7 @@ pub record Joins (P : Type 0) : Type 0 where
 abbrev pub of_pairs : Joins NodeRow
 of_pairs = record { halves_of = halves; asks = λ test p. test p }
 
-abbrev pub of_triples : Joins Triple
+abbrev pub of_triples : Joins PairTriple
 of_triples = record {
   halves_of = triple_halves;
   asks = λ test t. is_empty_pair t.source && test t.own && is_empty_pair t.target;

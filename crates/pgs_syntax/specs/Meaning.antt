@@ -3,7 +3,7 @@ use Rattle.std.specs.Prelude.{◌≡◌, ℕ, Bool, true, ◌||◌, List, [], �
 use Rattle.pgs_base.specs.declared.row.NodeRow.{NodeRow}
 use Rattle.pgs_base.specs.declared.value.Value.{Value}
 use Rattle.pgs_base.specs.Pair.{has_name, value_at, is_pair}
-use Rattle.pgs_syntax.specs.Join.{is_empty_pair, Triple}
+use Rattle.pgs_syntax.specs.Join.{is_empty_pair, PairTriple}
 
 -- what two maps have at a key together: they agree where both have a value
 abbrev pub IsUnionAt : Option Value → Option Value → Option Value → Type 0
@@ -40,7 +40,7 @@ IsJoinSuch Claim p = (first : NodeRow) × (second : NodeRow) × (is_pair first �
 
 -- there are pairs that pass the tests of a source and of a target, and the edge's own pair with others at its ends passes the
 -- test of a middle; the pair at each end is the join of these two
-abbrev pub IsEdgeOf : (NodeRow → Bool) → (NodeRow → Bool) → (Triple → Bool) → Triple → Type 0
+abbrev pub IsEdgeOf : (NodeRow → Bool) → (NodeRow → Bool) → (PairTriple → Bool) → PairTriple → Type 0
 IsEdgeOf source target middle t =
     IsJoinSuch (λ of_source first. IsJoinSuch (λ of_target last.
     (source of_source ≡ true) × (target of_target ≡ true) × (middle (record { source = first; own = t.own; target = last }) ≡ true))

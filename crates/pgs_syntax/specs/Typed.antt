@@ -12,7 +12,7 @@ use Rattle.pgs_syntax.specs.declared.resolved.Resolved.{Resolved}
 use Rattle.pgs_syntax.specs.declared.resolved.TypeNo.{TypeNo}
 use Rattle.pgs_syntax.specs.declared.resolved.TypeNo.TheVariants.{Node, Edge}
 use Rattle.pgs_syntax.specs.declared.specification.Leaf.{Leaf}
-use Rattle.pgs_syntax.specs.Join.{Triple}
+use Rattle.pgs_syntax.specs.Join.{PairTriple}
 use Rattle.pgs_syntax.specs.Fitting.{fits_node, fits_edge}
 
 -- whether a node type, and an edge type, is there and isn't abstract
@@ -28,7 +28,7 @@ types_node resolved p (Node number) = is_concrete_node_type resolved number && f
 types_node resolved p (Edge number) = false
 
 -- whether a type makes an edge of this triple typed
-abbrev pub types_edge : Resolved → Triple → TypeNo → Bool
+abbrev pub types_edge : Resolved → PairTriple → TypeNo → Bool
 types_edge resolved t (Node number) = false
 types_edge resolved t (Edge number) = is_concrete_edge_type resolved number && fits_edge resolved number t
 
@@ -37,11 +37,11 @@ abbrev pub is_typed_node : Resolved → NodeRow → Bool
 is_typed_node resolved p = list_any (types_node resolved p) resolved.guard.types
 
 -- whether an edge of this triple is typed
-abbrev pub is_typed_triple : Resolved → Triple → Bool
+abbrev pub is_typed_triple : Resolved → PairTriple → Bool
 is_typed_triple resolved t = list_any (types_edge resolved t) resolved.guard.types
 
 -- the triple of an edge: the pairs of its source, of itself and of its target, where both ends are there
-abbrev pub triple_at : Graph → EdgeRow → Option Triple
+abbrev pub triple_at : Graph → EdgeRow → Option PairTriple
 triple_at g row =
     option_and_then (λ source. option_map (λ target. record { source = source; own = pair_of row.labels row.props; target = target })
     (node_at g row.target)) (node_at g row.source)

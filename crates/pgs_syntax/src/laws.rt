@@ -18,7 +18,7 @@ ghost use Rattle.pgs_syntax.specs.declared.specification.Leaf.{Leaf};
 ghost use Rattle.pgs_syntax.specs.declared.specification.Leaf.TheVariants.{Named};
 ghost use Rattle.pgs_syntax.specs.declared.specification.Spec.{Spec, Word, And, Or, Opt};
 ghost use Rattle.pgs_syntax.specs.Closed.{is_closed, names_key, is_closed_middle, middle_names_key};
-ghost use Rattle.pgs_syntax.specs.Join.{Triple, is_empty_pair, of_pairs, of_triples, joined};
+ghost use Rattle.pgs_syntax.specs.Join.{PairTriple, is_empty_pair, of_pairs, of_triples, joined};
 ghost use Rattle.pgs_syntax.specs.KeyValues.{starts_at, is_in_scope, tuple_of, key_values};
 ghost use Rattle.pgs_syntax.specs.Linked.{IsLinked};
 ghost use Rattle.pgs_syntax.specs.Matches.{is_match, matches};
@@ -35,7 +35,7 @@ pub fn closed_types_admit_no_further_key()
     ensures node_types { (resolved : Resolved) (number : ℕ) (p : NodeRow) (key : List ℕ) →
         is_closed resolved (Word (Named number)) ≡ true → fits_node resolved number p ≡ true →
         names_key resolved (Word (Named number)) key ≡ false → value_at key p.props ≡ None }
-    ensures edge_types { (resolved : Resolved) (number : ℕ) (t : Triple) (key : List ℕ) →
+    ensures edge_types { (resolved : Resolved) (number : ℕ) (t : PairTriple) (key : List ℕ) →
         is_closed_middle resolved (Word (Named number)) ≡ true → fits_edge resolved number t ≡ true →
         middle_names_key resolved (Word (Named number)) key ≡ false → value_at key t.own.props ≡ None }
 {}
@@ -60,9 +60,9 @@ pub fn parts_are_alternatives()
         fits resolved (Or parts) p ≡ list_any (λ part. fits resolved part p) parts }
     ensures options { (resolved : Resolved) (part : Spec Leaf) (p : NodeRow) →
         fits resolved (Opt part) p ≡ (is_empty_pair p || fits resolved part p) }
-    ensures edge_unions { (named : ℕ → Triple → Bool) (parts : List (Spec Leaf)) (t : Triple) →
+    ensures edge_unions { (named : ℕ → PairTriple → Bool) (parts : List (Spec Leaf)) (t : PairTriple) →
         suits of_triples named (Or parts) t ≡ list_any (λ part. suits of_triples named part t) parts }
-    ensures edge_options { (named : ℕ → Triple → Bool) (part : Spec Leaf) (t : Triple) →
+    ensures edge_options { (named : ℕ → PairTriple → Bool) (part : Spec Leaf) (t : PairTriple) →
         suits of_triples named (Opt part) t ≡ (of_triples.asks is_empty_pair t || suits of_triples named part t) }
 {}
 
@@ -102,7 +102,7 @@ pub fn key_values_are_by_matches()
 /// A triple fits an edge type exactly where some triple with its own pair fits the middle, some pairs fit the source and
 /// the target, and the pair at each end is the join of these two.
 pub fn edges_fit_by_their_ends()
-    ensures { (resolved : Resolved) (named : ℕ → Triple → Bool) (type : EdgeType Leaf) (t : Triple) →
+    ensures { (resolved : Resolved) (named : ℕ → PairTriple → Bool) (type : EdgeType Leaf) (t : PairTriple) →
         is_pair t.source ≡ true → is_pair t.target ≡ true →
         (fits_edge_type resolved named type t ≡ true)
         ↔ IsEdgeOf (fits resolved type.source) (fits resolved type.target) (suits of_triples named type.middle) t }
@@ -113,6 +113,6 @@ pub fn numbers_mean_their_types()
     ensures nodes { (resolved : Resolved) → is_valid resolved ≡ true → (number : ℕ) (type : NodeType Leaf) →
         slice_get resolved.nodes number ≡ Some type → (p : NodeRow) → fits_node resolved number p ≡ fits resolved type.spec p }
     ensures edges { (resolved : Resolved) → is_valid resolved ≡ true → (number : ℕ) (type : EdgeType Leaf) →
-        slice_get resolved.edges number ≡ Some type → (t : Triple) →
+        slice_get resolved.edges number ≡ Some type → (t : PairTriple) →
         fits_edge resolved number t ≡ fits_edge_type resolved (fits_edge resolved) type t }
 {}

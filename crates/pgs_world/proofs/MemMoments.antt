@@ -6,7 +6,7 @@ use Rattle.pgs_world.specs.declared.area.Area.TheVariants.{A, B}
 use Rattle.pgs_world.specs.declared.meter.Meter.{Meter}
 use Rattle.pgs_world.specs.Count.{Rose, raised}
 use Rattle.pgs_world.specs.World.{Triple, part}
-use Rattle.pgs_world.specs.Disk.{IsTorn, IsCutShort, IsSameBeside, Writes, Cuts, Puts}
+use Rattle.pgs_world.specs.Disk.{IsTorn, IsCutShort, IsSameBeside, Writes, Cuts, PutsFront}
 use Rattle.pgs_world.specs.Moment.{Passes, StopsBy, IsQuiet, ShowsOne, IsSynced}
 use Rattle.pgs_world.specs.Held.{Held, IsImage, after_write, after_cut, on_disk}
 use Rattle.pgs_world.specs.MemWorld.{State, Past, Kept, Leaves, HadLeft, Since, after_all, IsWellState, view_of, area_of, with_area, with_output, shown_of, timed_kept, unchanged, changed}
@@ -103,7 +103,7 @@ writes_same area at count c = record { torn = torn_same at count (part area c); 
 pub cuts_same : (area : Area) (len : ℕ) (c : Triple) → Cuts area len c c
 cuts_same area len c = record { short = short_same len (part area c); same = beside_same area c }
 
-pub puts_same : (piece : List ℕ) (c : Triple) → Puts piece c c
+pub puts_same : (piece : List ℕ) (c : Triple) → PutsFront piece c c
 puts_same piece c = record { a = refl; b = refl; front = []; back = piece; parts = refl; added = sym (append-nil c.output) }
 
 pub write_from : (area : Area) (state : State) (at : ℕ) (piece : List ℕ) (c : Triple) → IsWellState state → at ≤ length (area_of area state).bytes → Leaves (with_area area (after_write (area_of area state) at piece) state) c
@@ -146,7 +146,7 @@ pub synced_from : (area : Area) (world : Kept) (meter : Meter) → IsSynced area
 synced_from A world meter honest tells c left = only_image world.now.a.bytes c.a left.a
 synced_from B world meter honest tells c left = only_image world.now.b.bytes c.b left.b
 
-pub put_from : (state : State) (piece : List ℕ) (c : Triple) → Leaves (with_output (state.output ++ piece) state) c → (d : Triple) × Leaves state d × Puts piece d c
+pub put_from : (state : State) (piece : List ℕ) (c : Triple) → Leaves (with_output (state.output ++ piece) state) c → (d : Triple) × Leaves state d × PutsFront piece d c
 put_from state piece c left = (
   record { a = c.a; b = c.b; output = state.output },
   record { a = left.a; b = left.b; output = refl },

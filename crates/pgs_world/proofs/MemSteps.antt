@@ -8,7 +8,7 @@ use Rattle.pgs_world.specs.declared.area.Area.TheVariants.{A, B}
 use Rattle.pgs_world.specs.declared.meter.Meter.{Meter}
 use Rattle.pgs_world.specs.Count.{Rose, raised, is_listed}
 use Rattle.pgs_world.specs.World.{Triple, part}
-use Rattle.pgs_world.specs.Disk.{Writes, Cuts, Puts}
+use Rattle.pgs_world.specs.Disk.{Writes, Cuts, PutsFront}
 use Rattle.pgs_world.specs.Moment.{Passes, StopsBy, IsQuiet, ShowsOne, IsSettled}
 use Rattle.pgs_world.specs.Held.{on_disk}
 use Rattle.pgs_world.specs.MemWorld.{State, Kept, Leaves, IsWellState, IsKnown, after_all, view_of, area_of, with_area, shown_of, timed_kept, unchanged, changed, fails_next, refuses, write_fails, counted, handed_in, area_failed, put_failed, put_done, after_read, after_write_at, after_cut_to, after_sync, after_put, begun}
@@ -168,8 +168,8 @@ module _ (world : Kept) (known : IsKnown world) where
     pub rises-put : Rose (view_of world).moment (view_of (after_put world piece)).moment
     rises-put = rises-either (refuses world.meter (length piece)) world (put_failed (handed_in world.meter (length piece))) (put_done (handed_in world.meter (length piece))) _ known.last may_put refl
 
-    pub stops-put : StopsBy (Puts piece) (view_of world) (view_of (after_put world piece))
-    stops-put = stops-either (refuses world.meter (length piece)) world (put_failed (handed_in world.meter (length piece))) (put_done (handed_in world.meter (length piece))) _ (Puts piece) (puts_same piece) (put_from world.now piece)
+    pub stops-put : StopsBy (PutsFront piece) (view_of world) (view_of (after_put world piece))
+    stops-put = stops-either (refuses world.meter (length piece)) world (put_failed (handed_in world.meter (length piece))) (put_done (handed_in world.meter (length piece))) _ (PutsFront piece) (puts_same piece) (put_from world.now piece)
 
     pub shows-put : ShowsOne (view_of (after_put world piece))
     shows-put = shows-either (refuses world.meter (length piece)) world (put_failed (handed_in world.meter (length piece))) (put_done (handed_in world.meter (length piece))) _ known.well (record { a = known.well.a; b = known.well.b })

@@ -4,7 +4,7 @@ use Rattle.std.specs.Option.{option_map}
 use Rattle.pgs_world.specs.declared.area.Area.{Area}
 use Rattle.pgs_world.specs.declared.area.Area.TheVariants.{A, B}
 use Rattle.pgs_world.specs.World.{Triple, View, part, other, output_of, Adds}
-use Rattle.pgs_world.specs.Disk.{IsSameBeside, Puts}
+use Rattle.pgs_world.specs.Disk.{IsSameBeside, PutsFront}
 use Rattle.pgs_world.specs.Moment.{IsTimed, Passes, StopsBy, EachSince, IsQuiet, IsSynced, IsSettled}
 
 -- before the first call
@@ -169,7 +169,7 @@ shown_added old new bytes tells still added =
     same_some new.shown.output (old.shown.output ++ bytes) (sym (output_told new still) ∙ added ∙ ap (λ o. option_map (λ output. output ++ bytes) o) (output_told old tells))
 
 -- a settled world stays settled when output is put, also where the put fails
-pub settled_put : (old new : View) (piece : List ℕ) → IsSettled old → Passes old new → StopsBy (Puts piece) old new → new.shown.a ≡ old.shown.a → new.shown.b ≡ old.shown.b → IsSettled new
+pub settled_put : (old new : View) (piece : List ℕ) → IsSettled old → Passes old new → StopsBy (PutsFront piece) old new → new.shown.a ≡ old.shown.a → new.shown.b ≡ old.shown.b → IsSettled new
 settled_put old new piece s p stops a b =
     record {
       honest = p.honest ∙ s.honest;
@@ -178,5 +178,5 @@ settled_put old new piece s p stops a b =
       b = λ c left. let was = from c left in was.2.b ∙ s.b was.0 was.1 ∙ sym b;
     }
   where
-    from : (c : Triple) → new.may_leave c → (d : Triple) × old.may_leave d × Puts piece d c
+    from : (c : Triple) → new.may_leave c → (d : Triple) × old.may_leave d × PutsFront piece d c
     from c left = stops s.honest c (p.timed.now old.moment c p.later left)

@@ -37,7 +37,7 @@ pub record Cuts (area : Area) (len : ℕ) (old new : Triple) : Type 0 where
   pub same : IsSameBeside area old new
 
 -- both areas are the same, and some front of the piece was put
-pub record Puts (piece : List ℕ) (old new : Triple) : Type 0 where
+pub record PutsFront (piece : List ℕ) (old new : Triple) : Type 0 where
   pub a : new.a ≡ old.a
   pub b : new.b ≡ old.b
   pub front : List ℕ

@@ -7,6 +7,7 @@ use Rattle.pgs_world.specs.Moment.{IsTimed}
 use Rattle.pgs_world.specs.World.{Triple, View}
 use Rattle.pgs_world.specs.declared.area.Area.{Area}
 use Rattle.pgs_world.specs.declared.area.Area.TheVariants.{A, B}
+use Rattle.pgs_world.specs.declared.area_limit.TheConstants.{AREA_LIMIT}
 use Rattle.pgs_world.specs.declared.meter.Meter.{Meter}
 
 -- both areas and the output
@@ -155,15 +156,12 @@ abbrev pub changed : Kept → Meter → State → Kept
 changed world meter state =
     record { past = world.past ++ (record { moment = world.meter.calls; state = world.now }) ∷ []; now = state; meter = meter }
 
--- an area of more bytes than this, or a write past it, is a fault
-abbrev pub most_bytes : ℕ
-most_bytes = 2 ^ 40
-
+-- an area of more than AREA_LIMIT bytes, or a write past it, is a fault
 abbrev pub len_fails : Kept → Area → Bool
-len_fails world area = fails_next world.meter || nat_lt most_bytes (length (area_of area world.now).bytes)
+len_fails world area = fails_next world.meter || nat_lt AREA_LIMIT (length (area_of area world.now).bytes)
 
 abbrev pub write_fails : Kept → ℕ → ℕ → Bool
-write_fails world at count = refuses world.meter count || nat_lt most_bytes (at + count)
+write_fails world at count = refuses world.meter count || nat_lt AREA_LIMIT (at + count)
 
 -- after a call that only reads
 abbrev pub after_read : Kept → Bool → Kept

@@ -26,7 +26,7 @@ mod synced;
 mod world;
 
 pub use area::Area;
-pub use area_limit::passes_limit;
+pub use area_limit::{AREA_LIMIT, passes_limit};
 pub use fault::{AreaFault, FeedFault, PutFault, SourceFault};
 pub use feed::Feed;
 pub use leave::Leave;

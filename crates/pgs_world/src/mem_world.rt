@@ -1,10 +1,11 @@
 ghost use Rattle.std.specs.Prelude.{◌≡◌, ◌+◌, ◌≤◌, ◌^◌, [], not, length, take, drop, min, is_some, is_err, Some, IfSome, IfOk, OnOk, OnErr, IsTrue};
 ghost use Rattle.pgs_world.specs.Calls.{Reaches, HasLength, HasBytes, IsWrittenOver, IsCutTo, IsAreaCall, IsPutCall};
-ghost use Rattle.pgs_world.specs.Disk.{IsSameBeside, Writes, Cuts, Puts};
+ghost use Rattle.pgs_world.specs.Disk.{IsSameBeside, Writes, Cuts, PutsFront};
 ghost use Rattle.pgs_world.specs.Left.{left_of};
 ghost use Rattle.pgs_world.specs.MemWorld.{IsKnown, view_of, area_of, begun, fails_next, refuses, len_fails, write_fails, after_read, after_write_at, after_cut_to, after_sync, after_put};
 ghost use Rattle.pgs_world.specs.Moment.{Passes, StopsBy, IsQuiet, IsSynced, IsSettled};
 ghost use Rattle.pgs_world.specs.World.{output_of, part, Adds, AddsFront};
+ghost use Rattle.pgs_world.specs.declared.area_limit.TheConstants.{AREA_LIMIT};
 
 use crate::area_limit::passes_limit;
 use crate::mem_contents::{Contents, Note, Noted, add_note};
@@ -255,7 +256,7 @@ impl World for MemWorld {
 
         // What every world says.
         ensures length { IfOk result (λ count. HasLength area count (view_of self.old)) }
-        ensures limit { IfOk result (λ count. count ≤ 2 ^ 40) }
+        ensures limit { IfOk result (λ count. count ≤ AREA_LIMIT) }
         ensures quiet { IsQuiet (view_of self.old) (view_of self.new) }
         ensures call { IsAreaCall (view_of self.old) result (view_of self.new) }
     {
@@ -284,7 +285,7 @@ impl World for MemWorld {
 
         // What every world says.
         ensures written { OnOk result (IsWrittenOver area at bytes.now (view_of self.old) (view_of self.new)) }
-        ensures limit { OnOk result (at + length bytes.now ≤ 2 ^ 40) }
+        ensures limit { OnOk result (at + length bytes.now ≤ AREA_LIMIT) }
         ensures beside { IsSameBeside area (view_of self.old).shown (view_of self.new).shown }
         ensures stops { StopsBy (Writes area at (length bytes.now)) (view_of self.old) (view_of self.new) }
         ensures passes { Passes (view_of self.old) (view_of self.new) }
@@ -330,7 +331,7 @@ impl World for MemWorld {
         // What every world says.
         ensures whole { OnOk result (Adds (output_of (view_of self.old)) (output_of (view_of self.new)) piece.now) }
         ensures front { OnErr result (AddsFront (output_of (view_of self.old)) (output_of (view_of self.new)) piece.now) }
-        ensures stops { StopsBy (Puts piece.now) (view_of self.old) (view_of self.new) }
+        ensures stops { StopsBy (PutsFront piece.now) (view_of self.old) (view_of self.new) }
         ensures passes { Passes (view_of self.old) (view_of self.new) }
         ensures call { IsPutCall (view_of self.old) result (view_of self.new) }
     {

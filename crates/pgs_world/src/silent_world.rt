@@ -1,10 +1,11 @@
-ghost use Rattle.std.specs.Prelude.{◌≡◌, ◌+◌, ◌≤◌, ◌^◌, false, length, is_err, IfOk, OnOk, OnErr};
+ghost use Rattle.std.specs.Prelude.{◌≡◌, ◌+◌, ◌≤◌, false, length, is_err, IfOk, OnOk, OnErr};
 ghost use Rattle.pgs_world.specs.Calls.{Reaches, HasLength, HasBytes, IsWrittenOver, IsCutTo, IsAreaCall, IsPutCall};
 ghost use Rattle.pgs_world.specs.Count.{Rose, RoseByOne};
-ghost use Rattle.pgs_world.specs.Disk.{IsSameBeside, Writes, Cuts, Puts};
+ghost use Rattle.pgs_world.specs.Disk.{IsSameBeside, Writes, Cuts, PutsFront};
 ghost use Rattle.pgs_world.specs.Moment.{Passes, StopsBy, IsQuiet, IsSynced};
 ghost use Rattle.pgs_world.specs.Silent.{silent_view, put_fails, area_fails, is_outside, after_area_call, after_put};
 ghost use Rattle.pgs_world.specs.World.{output_of, Adds, AddsFront};
+ghost use Rattle.pgs_world.specs.declared.area_limit.TheConstants.{AREA_LIMIT};
 
 use crate::{Area, AreaFault, PutFault, World};
 use pgs_base::List;
@@ -79,7 +80,7 @@ impl World for SilentWorld {
 
         // What every world says.
         ensures length { IfOk result (λ count. HasLength area count (silent_view self.old)) }
-        ensures limit { IfOk result (λ count. count ≤ 2 ^ 40) }
+        ensures limit { IfOk result (λ count. count ≤ AREA_LIMIT) }
         ensures quiet { IsQuiet (silent_view self.old) (silent_view self.new) }
         ensures call { IsAreaCall (silent_view self.old) result (silent_view self.new) }
     {
@@ -110,7 +111,7 @@ impl World for SilentWorld {
 
         // What every world says.
         ensures written { OnOk result (IsWrittenOver area at bytes.now (silent_view self.old) (silent_view self.new)) }
-        ensures limit { OnOk result (at + length bytes.now ≤ 2 ^ 40) }
+        ensures limit { OnOk result (at + length bytes.now ≤ AREA_LIMIT) }
         ensures beside { IsSameBeside area (silent_view self.old).shown (silent_view self.new).shown }
         ensures stops { StopsBy (Writes area at (length bytes.now)) (silent_view self.old) (silent_view self.new) }
         ensures passes { Passes (silent_view self.old) (silent_view self.new) }
@@ -156,7 +157,7 @@ impl World for SilentWorld {
         // What every world says.
         ensures whole { OnOk result (Adds (output_of (silent_view self.old)) (output_of (silent_view self.new)) piece.now) }
         ensures front { OnErr result (AddsFront (output_of (silent_view self.old)) (output_of (silent_view self.new)) piece.now) }
-        ensures stops { StopsBy (Puts piece.now) (silent_view self.old) (silent_view self.new) }
+        ensures stops { StopsBy (PutsFront piece.now) (silent_view self.old) (silent_view self.new) }
         ensures passes { Passes (silent_view self.old) (silent_view self.new) }
         ensures call { IsPutCall (silent_view self.old) result (silent_view self.new) }
     {

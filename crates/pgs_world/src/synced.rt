@@ -1,8 +1,9 @@
-ghost use Rattle.std.specs.Prelude.{◌≡◌, ◌+◌, ◌≤◌, ◌^◌, length, take, IsTrue, OnOk, OnErr};
+ghost use Rattle.std.specs.Prelude.{◌≡◌, ◌+◌, ◌≤◌, length, take, IsTrue, OnOk, OnErr};
 ghost use Rattle.pgs_world.specs.Calls.{IsAreaCall};
 ghost use Rattle.pgs_world.specs.Disk.{written_over, IsSameBeside, Writes, Cuts};
 ghost use Rattle.pgs_world.specs.Moment.{Passes, StopsBy, IsQuiet, ShowsOne, IsSynced, IsSettled, MakesNoPut};
 ghost use Rattle.pgs_world.specs.World.{part};
+ghost use Rattle.pgs_world.specs.declared.area_limit.TheConstants.{AREA_LIMIT};
 
 use crate::{Area, AreaFault, World};
 
@@ -16,7 +17,7 @@ pub fn write_synced<W: World>(
 ) -> Result<(), AreaFault>
     requires { IsTrue (W.view world.old).tells_bytes → at ≤ length (part area (W.view world.old).shown) }
     ensures written { OnOk result (IsTrue (W.view world.old).tells_bytes → part area (W.view world.new).shown ≡ written_over (part area (W.view world.old).shown) at bytes.now) }
-    ensures limit { OnOk result (at + length bytes.now ≤ 2 ^ 40) }
+    ensures limit { OnOk result (at + length bytes.now ≤ AREA_LIMIT) }
     ensures beside { IsSameBeside area (W.view world.old).shown (W.view world.new).shown }
     ensures stops { StopsBy (Writes area at (length bytes.now)) (W.view world.old) (W.view world.new) }
     ensures passes { Passes (W.view world.old) (W.view world.new) }

@@ -1,11 +1,12 @@
-ghost use Rattle.std.specs.Prelude.{◌≡◌, ◌+◌, ◌^◌, ◌≤◌, length, take, drop, IsTrue, IfOk, OnOk, OnErr, ⊤};
+ghost use Rattle.std.specs.Prelude.{◌≡◌, ◌+◌, ◌≤◌, length, take, drop, IsTrue, IfOk, OnOk, OnErr, ⊤};
 ghost use Rattle.pgs_world.specs.declared.area.Area.{Area};
 ghost use Rattle.pgs_world.specs.Answers.{Answer, Long, Read};
 ghost use Rattle.pgs_world.specs.Calls.{IsAreaCall};
 ghost use Rattle.pgs_world.specs.Count.{Rose, RoseByOne};
-ghost use Rattle.pgs_world.specs.Disk.{written_over, IsSameBeside, Writes, Cuts, Puts};
+ghost use Rattle.pgs_world.specs.Disk.{written_over, IsSameBeside, Writes, Cuts, PutsFront};
 ghost use Rattle.pgs_world.specs.Moment.{IsTimed, Passes, StopsBy, IsQuiet, ShowsOne, IsSynced, MakesNoPut};
 ghost use Rattle.pgs_world.specs.World.{View, output_of, part, Adds, AddsFront};
+ghost use Rattle.pgs_world.specs.declared.area_limit.TheConstants.{AREA_LIMIT};
 
 use crate::{Area, AreaFault, PutFault};
 use pgs_base::Seed;
@@ -29,7 +30,7 @@ pub trait World {
     /// The length of an area, in bytes. An area of more than 2^40 bytes is a fault.
     fn len(&mut self, area: Area) -> Result<u64, AreaFault>
         ensures length { IfOk result (λ count. IsTrue (view self.old).tells_bytes → count ≡ length (part area (view self.old).shown)) }
-        ensures limit { IfOk result (λ count. count ≤ 2 ^ 40) }
+        ensures limit { IfOk result (λ count. count ≤ AREA_LIMIT) }
         ensures answered { IfOk result (λ count. answered self.old area (Long count) self.new) }
         ensures quiet { IsQuiet (view self.old) (view self.new) }
         ensures call { IsAreaCall (view self.old) result (view self.new) }
@@ -51,7 +52,7 @@ pub trait World {
     fn write_at(&mut self, area: Area, at: u64, bytes: &[u8]) -> Result<(), AreaFault>
         requires { IsTrue (view self.old).tells_bytes → at ≤ length (part area (view self.old).shown) }
         ensures written { OnOk result (IsTrue (view self.old).tells_bytes → part area (view self.new).shown ≡ written_over (part area (view self.old).shown) at bytes.now) }
-        ensures limit { OnOk result (at + length bytes.now ≤ 2 ^ 40) }
+        ensures limit { OnOk result (at + length bytes.now ≤ AREA_LIMIT) }
         ensures beside { IsSameBeside area (view self.old).shown (view self.new).shown }
         ensures stops { StopsBy (Writes area at (length bytes.now)) (view self.old) (view self.new) }
         ensures passes { Passes (view self.old) (view self.new) }
@@ -88,7 +89,7 @@ pub trait World {
 
         ensures a { (view self.new).shown.a ≡ (view self.old).shown.a }
         ensures b { (view self.new).shown.b ≡ (view self.old).shown.b }
-        ensures stops { StopsBy (Puts piece.now) (view self.old) (view self.new) }
+        ensures stops { StopsBy (PutsFront piece.now) (view self.old) (view self.new) }
         ensures passes { Passes (view self.old) (view self.new) }
         ensures moment { Rose (view self.old).moment (view self.new).moment }
         ensures image { ShowsOne (view self.new) }

@@ -1,8 +1,9 @@
 -- Which cause an error of a call is told as, and why a call on an area failed.
-use Rattle.std.specs.Prelude.{◌≡◌, ◌≢◌, ◌⊎◌, ℕ, ◌+◌, ◌^◌, ◌<◌, ℤ, pos, true, false, List, length, Option, Some, None, Result, Ok, Err}
+use Rattle.std.specs.Prelude.{◌≡◌, ◌≢◌, ◌⊎◌, ℕ, ◌+◌, ◌<◌, ℤ, pos, true, false, List, length, Option, Some, None, Result, Ok, Err}
 use Rattle.std.specs.IoError.{error_kind, raw_os_error}
 use Rattle.std.specs.declared.io.Error.{Error}
 use Rattle.std.specs.declared.io.ErrorKind.TheVariants.{InvalidData, InvalidInput, OutOfMemory, PermissionDenied, StaleNetworkFileHandle, Unsupported}
+use Rattle.pgs_world.specs.declared.area_limit.TheConstants.{AREA_LIMIT}
 use Rattle.pgs_world_files.specs.declared.cause.FileCause.{FileCause}
 use Rattle.pgs_world_files.specs.declared.cause.FileCause.TheVariants.{Replaced, Changed, TooManyOpen, FolderDenied, NoLocks, Short, Long, Call}
 use Rattle.pgs_world_files.specs.declared.cause.OpenFault.{OpenFault}
@@ -50,19 +51,19 @@ IsOfFailure none (Err error) cause = IsOfCall error cause
 -- why no length was given
 abbrev pub LengthFails : {H : Type 0} → (H → Result ℕ Error → H → Type 0) → H → FileCause → H → Type 0
 LengthFails gives old cause new =
-    ((cause ≡ Long) × (count : ℕ) × gives old (Ok count) new × (2 ^ 40 < count))
+    ((cause ≡ Long) × (count : ℕ) × gives old (Ok count) new × (AREA_LIMIT < count))
     ⊎ ((error : Error) × gives old (Err error) new × IsOfCall error cause)
 
 -- why not the whole buffer was read: by the answer of the last read, which left the handle so
 abbrev pub ReadFails : {H : Type 0} → PlacedCall H → H → ℕ → List ℕ → FileCause → H → Type 0
 ReadFails {H} gives old at buf cause new =
-    ((cause ≡ Long) × (2 ^ 40 < at + length buf) × (new ≡ old))
+    ((cause ≡ Long) × (AREA_LIMIT < at + length buf) × (new ≡ old))
     ⊎ ((before : H) × (place : ℕ) × (left : List ℕ) × (answer : Result ℕ Error) × ReadIsTried gives before place left answer new × IsOfFailure Short answer cause)
 
 -- why not all bytes were written, by the answer of the last write
 abbrev pub WriteFails : {H : Type 0} → PlacedCall H → H → ℕ → List ℕ → FileCause → H → Type 0
 WriteFails {H} gives old at bytes cause new =
-    ((cause ≡ Long) × (2 ^ 40 < at + length bytes) × (new ≡ old))
+    ((cause ≡ Long) × (AREA_LIMIT < at + length bytes) × (new ≡ old))
     ⊎ ((before : H) × (place : ℕ) × (left : List ℕ) × (answer : Result ℕ Error) × WriteIsTried gives before place left answer new × IsOfFailure (Call NoSpace) answer cause)
 
 -- why a call that answers nothing failed

@@ -1,30 +1,31 @@
 -- What a call on an area in a file answers, by what its handle gave.
-use Rattle.std.specs.Prelude.{◌≡◌, ◌⊎◌, ℕ, ◌+◌, ◌^◌, ◌<◌, ◌≤◌, true, false, List, length}
+use Rattle.std.specs.Prelude.{◌≡◌, ◌⊎◌, ℕ, ◌+◌, ◌<◌, ◌≤◌, true, false, List, length}
 use Rattle.std.specs.Prelude.{Option, Some, None, Result, Ok, Err}
 use Rattle.std.specs.declared.io.Error.{Error}
 use Rattle.pgs_world.specs.declared.area.Area.{Area}
 use Rattle.pgs_world.specs.declared.area.Area.TheVariants.{A, B}
+use Rattle.pgs_world.specs.declared.area_limit.TheConstants.{AREA_LIMIT}
 use Rattle.pgs_world_files.specs.declared.area_files.AreaFiles.{AreaFiles}
 use Rattle.pgs_world_streams.specs.Given.{PlacedCall, BareCall}
 use Rattle.pgs_world_streams.specs.Whole.{HasRead, HasWritten, HasFailedToRead, HasFailedToWrite}
 
 -- the length that was given, of at most 2^40 bytes; a fault where none was given, or a greater one
 abbrev pub LengthIs : {H F : Type 0} → (H → Result ℕ Error → H → Type 0) → H → Result ℕ F → H → Type 0
-LengthIs gives old (Ok count) new = gives old (Ok count) new × (count ≤ 2 ^ 40)
+LengthIs gives old (Ok count) new = gives old (Ok count) new × (count ≤ AREA_LIMIT)
 LengthIs gives old (Err _) new =
-    ((count : ℕ) × gives old (Ok count) new × (2 ^ 40 < count)) ⊎ ((error : Error) × gives old (Err error) new)
+    ((count : ℕ) × gives old (Ok count) new × (AREA_LIMIT < count)) ⊎ ((error : Error) × gives old (Err error) new)
 
 -- the whole buffer was read; a fault where it reaches past 2^40, and else after a front of it, where the next read failed
 abbrev pub ReadIs : {H A F : Type 0} → PlacedCall H → H → ℕ → List ℕ → Result A F → H → Type 0
 ReadIs gives old at buf (Ok _) new = HasRead gives old at buf new
 ReadIs gives old at buf (Err _) new =
-    ((2 ^ 40 < at + length buf) × (new ≡ old)) ⊎ HasFailedToRead gives old at buf new
+    ((AREA_LIMIT < at + length buf) × (new ≡ old)) ⊎ HasFailedToRead gives old at buf new
 
 -- all bytes were written; a fault where they reach past 2^40, and else after a front of them, where the next write failed
 abbrev pub WriteIs : {H A F : Type 0} → PlacedCall H → H → ℕ → List ℕ → Result A F → H → Type 0
-WriteIs gives old at bytes (Ok _) new = (at + length bytes ≤ 2 ^ 40) × HasWritten gives old at bytes (length bytes) new
+WriteIs gives old at bytes (Ok _) new = (at + length bytes ≤ AREA_LIMIT) × HasWritten gives old at bytes (length bytes) new
 WriteIs gives old at bytes (Err _) new =
-    ((2 ^ 40 < at + length bytes) × (new ≡ old)) ⊎ HasFailedToWrite gives old at bytes new
+    ((AREA_LIMIT < at + length bytes) × (new ≡ old)) ⊎ HasFailedToWrite gives old at bytes new
 
 -- one call, and its answer
 abbrev pub CallIs : {H A F : Type 0} → BareCall H → H → Result A F → H → Type 0

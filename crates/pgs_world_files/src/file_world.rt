@@ -1,11 +1,12 @@
-ghost use Rattle.std.specs.Prelude.{◌≡◌, ◌+◌, ◌^◌, ◌≤◌, length, IfOk, OnOk, OnErr};
+ghost use Rattle.std.specs.Prelude.{◌≡◌, ◌+◌, ◌≤◌, length, IfOk, OnOk, OnErr};
 ghost use Rattle.std.specs.Io.KnownBytes.{Appends};
 ghost use Rattle.std.specs.Option.{option_map};
 ghost use Rattle.pgs_world.specs.Calls.{Reaches, HasLength, HasBytes, IsWrittenOver, IsCutTo, IsAreaCall, IsPutCall};
 ghost use Rattle.pgs_world.specs.Count.{Rose, raised};
-ghost use Rattle.pgs_world.specs.Disk.{IsSameBeside, Writes, Cuts, Puts};
+ghost use Rattle.pgs_world.specs.Disk.{IsSameBeside, Writes, Cuts, PutsFront};
 ghost use Rattle.pgs_world.specs.Moment.{Passes, StopsBy, IsQuiet, IsSynced};
 ghost use Rattle.pgs_world.specs.World.{output_of, other, Adds, AddsFront};
+ghost use Rattle.pgs_world.specs.declared.area_limit.TheConstants.{AREA_LIMIT};
 ghost use Rattle.pgs_world_files.specs.Counted.{seen};
 ghost use Rattle.pgs_world_files.specs.FailedFiles.{FailedFile, cause_of};
 ghost use Rattle.pgs_world_files.specs.Handles.{LengthIs, ReadIs, WriteIs, CallIs, IfOpen, handle_in};
@@ -137,7 +138,7 @@ impl<W: SteadyWrite, H: Handle> World for FileWorld<W, H> {
 
         // What every world says.
         ensures length { IfOk result (λ count. HasLength area count (⟦<Self as World>⟧.view self.old)) }
-        ensures limit { IfOk result (λ count. count ≤ 2 ^ 40) }
+        ensures limit { IfOk result (λ count. count ≤ AREA_LIMIT) }
         ensures quiet { IsQuiet (⟦<Self as World>⟧.view self.old) (⟦<Self as World>⟧.view self.new) }
         ensures call { IsAreaCall (⟦<Self as World>⟧.view self.old) result (⟦<Self as World>⟧.view self.new) }
     {
@@ -172,7 +173,7 @@ impl<W: SteadyWrite, H: Handle> World for FileWorld<W, H> {
 
         // What every world says.
         ensures written { OnOk result (IsWrittenOver area at bytes.now (⟦<Self as World>⟧.view self.old) (⟦<Self as World>⟧.view self.new)) }
-        ensures limit { OnOk result (at + length bytes.now ≤ 2 ^ 40) }
+        ensures limit { OnOk result (at + length bytes.now ≤ AREA_LIMIT) }
         ensures beside { IsSameBeside area (⟦<Self as World>⟧.view self.old).shown (⟦<Self as World>⟧.view self.new).shown }
         ensures stops { StopsBy (Writes area at (length bytes.now)) (⟦<Self as World>⟧.view self.old) (⟦<Self as World>⟧.view self.new) }
         ensures passes { Passes (⟦<Self as World>⟧.view self.old) (⟦<Self as World>⟧.view self.new) }
@@ -230,7 +231,7 @@ impl<W: SteadyWrite, H: Handle> World for FileWorld<W, H> {
         // What every world says.
         ensures whole { OnOk result (Adds (output_of (⟦<Self as World>⟧.view self.old)) (output_of (⟦<Self as World>⟧.view self.new)) piece.now) }
         ensures front { OnErr result (AddsFront (output_of (⟦<Self as World>⟧.view self.old)) (output_of (⟦<Self as World>⟧.view self.new)) piece.now) }
-        ensures stops { StopsBy (Puts piece.now) (⟦<Self as World>⟧.view self.old) (⟦<Self as World>⟧.view self.new) }
+        ensures stops { StopsBy (PutsFront piece.now) (⟦<Self as World>⟧.view self.old) (⟦<Self as World>⟧.view self.new) }
         ensures passes { Passes (⟦<Self as World>⟧.view self.old) (⟦<Self as World>⟧.view self.new) }
         ensures call { IsPutCall (⟦<Self as World>⟧.view self.old) result (⟦<Self as World>⟧.view self.new) }
     {

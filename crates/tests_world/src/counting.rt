@@ -1,9 +1,10 @@
-ghost use Rattle.std.specs.Prelude.{◌≡◌, ◌≤◌, ◌∷◌, ◌++◌, ◌^◌, [], List, ℕ, Some, IfOk, OnOk, codes, string_bytes};
+ghost use Rattle.std.specs.Prelude.{◌≡◌, ◌≤◌, ◌∷◌, ◌++◌, [], List, ℕ, Some, IfOk, OnOk, codes, string_bytes};
 ghost use Rattle.pgs_run_lines.specs.Areas.{keeps_areas};
 ghost use Rattle.pgs_run_lines.specs.AreasKept.{KeepsAreas};
 ghost use Rattle.pgs_run_lines.specs.Machine.{told_by};
 ghost use Rattle.pgs_run_lines.specs.Pieces.{shown_of};
 ghost use Rattle.pgs_run_lines.specs.Run.{EndsAs};
+ghost use Rattle.pgs_run_lines.specs.declared.budget.TheConstants.{BUDGET};
 ghost use Rattle.tests_world.specs.Counting.{counting, count_line};
 
 use pgs_base::{Bytes, List, Memory};
@@ -108,7 +109,7 @@ pub fn count_lines<S: Source, W: World>(
     world: &mut W,
     budget: u64,
 ) -> Stop<CountEnd>
-    requires { budget ≤ 2 ^ 40 }
+    requires { budget ≤ BUDGET }
     ensures ends { (input : List ℕ) → S.left source.old ≡ Some input
         → EndsAs (told_by counting 80 0 input) (shown_of (W.view world.old)) input budget (S.left source.new) result (shown_of (W.view world.new)) }
     ensures no_area { result ≡ Stop.DiskFault → ⊥ }

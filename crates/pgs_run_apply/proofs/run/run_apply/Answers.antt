@@ -1,7 +1,7 @@
 use Rattle.std.proofs.Common.{◌∙◌, [], Bool, ap, refl, subst, sym}
 use Rattle.pgs_feed.specs.Deliveries.{kind_of}
 use Rattle.pgs_feed.specs.Places.{lost_count}
-use Rattle.pgs_run_lines.specs.Calls.{Reads}
+use Rattle.pgs_run_lines.specs.Calls.{MakesReads}
 use Rattle.pgs_run_lines.specs.Machine.{scene_of}
 use Rattle.pgs_command.specs.Calls.{fails_read, fails_world}
 use Rattle.pgs_command.specs.Ending.{status_at}
@@ -105,5 +105,5 @@ end_run-requires g c = λ fails.
 
 pub returns-clause-calls : goal.returns-clause-calls
 returns-clause-calls g c =
-    subst (λ (fails : Bool). Reads g.S.Source.read_made c.args.budget c.args.source.now fails c.run_lines-stop.new.source)
+    subst (λ (fails : Bool). MakesReads g.S.Source.read_made c.args.budget c.args.source.now fails c.run_lines-stop.new.source)
     (sym (c.end_run.ensures.read ∙ ap fails_read c.status_at.ensures ∙ (stop_fails c.args.budget _ _ c.run_lines-stop.result c.run_lines-stop.ensures.by).0)) c.run_lines-stop.ensures.calls

@@ -1,5 +1,5 @@
 use Rattle.std.proofs.Common.{Bool, [], sym, subst, ◌∙◌}
-use Rattle.pgs_run_lines.specs.Calls.{Reads}
+use Rattle.pgs_run_lines.specs.Calls.{MakesReads}
 use Rattle.pgs_command.specs.Setting.{SourceState, setting_of}
 use Rattle.pgs_run_contain.proofs.Promised.{ended, fails, promised}
 use Rattle.pgs_run_contain.proofs.run.run_contain.Goals as goal
@@ -32,4 +32,4 @@ returns-clause-calls g c =
     let new = g.W.World.view c.end_run-stop.new.world in
     let ran = ended c.args.budget old left (g.W.World.view read.new.world) new c.new-teller.result.phase read.result c.end_run-stop.result c.new-teller.ensures read.ensures.ends read.ensures.by read.ensures.may read.ensures.cause
     read.ensures.allows.allowed c.end_run-stop.ensures.follows in
-    subst (λ (failed : Bool). Reads g.S.Source.read_made c.args.budget c.args.source.now failed read.new.source) (sym (fails c.args.budget old left read.result c.end_run-stop.result c.status_at.result new c.status_at.ensures ran).0) read.ensures.calls
+    subst (λ (failed : Bool). MakesReads g.S.Source.read_made c.args.budget c.args.source.now failed read.new.source) (sym (fails c.args.budget old left read.result c.end_run-stop.result c.status_at.result new c.status_at.ensures ran).0) read.ensures.calls

@@ -1,5 +1,5 @@
 use Rattle.std.proofs.Common.{◌≡◌, ◌∙◌, Bool, true, false, true≢false, refl, sym, ap, subst}
-use Rattle.pgs_run_lines.specs.Calls.{Reads}
+use Rattle.pgs_run_lines.specs.Calls.{MakesReads}
 use Rattle.pgs_run_lines.specs.Ending.{faults_of}
 use Rattle.pgs_command.specs.declared.status.Status.{Status}
 use Rattle.pgs_command.specs.Calls.{fails_world}
@@ -42,7 +42,7 @@ returns-clause-promise g c = λ places.
 
 pub returns-in-Ok-read_text-clause-calls : goal.returns-in-Ok-read_text-clause-calls
 returns-in-Ok-read_text-clause-calls g c =
-    subst (λ (fails : Bool). Reads g.S.Source.read_made c.args.budget c.args.source.now fails c.read_text.new.source)
+    subst (λ (fails : Bool). MakesReads g.S.Source.read_made c.args.budget c.args.source.now fails c.read_text.new.source)
     (sym (unread_status false true (faults_of 0 (g.W.World.view c.open_store.new.world)) (faults_of 0 (g.W.World.view c.evolve_text.new.world)) c.evolve_text.result refl (c.evolve_text.ensures.answer.answers.cause false 0)))
     (rw c.in-Ok-read_text.is at c.read_text.ensures.calls)
 

@@ -1,5 +1,5 @@
 use Rattle.std.proofs.Common.{true, refl, sym, ap, subst, ◌∙◌}
-use Rattle.pgs_run_lines.specs.Calls.{Reads}
+use Rattle.pgs_run_lines.specs.Calls.{MakesReads}
 use Rattle.pgs_command.proofs.OwnEnds.{fails_alone}
 use Rattle.pgs_command.specs.Setting.{setting_of}
 use Rattle.pgs_run_follow.specs.Following.{following}
@@ -21,5 +21,5 @@ returns-clause-last g c = λ fails.
 
 pub returns-clause-calls : goal.returns-clause-calls
 returns-clause-calls g c =
-    subst (λ fails. Reads g.S.Source.read_made c.args.budget c.args.source.now fails c.run_lines-stop.new.source)
+    subst (λ fails. MakesReads g.S.Source.read_made c.args.budget c.args.source.now fails c.run_lines-stop.new.source)
     (sym (fails_alone following follows_alone c.args.budget _ _ c.run_lines-stop.result c.status_at.result c.status_at.ensures c.run_lines-stop.ensures.by).0) c.run_lines-stop.ensures.calls

@@ -1,6 +1,6 @@
 use Rattle.std.proofs.Common.{rules, arith, ◌-◌, ap, ◌∙◌, sym, subst, take, List, ℕ, Bool, [], Some}
 use Rattle.std.proofs.lemmas.Grind.{common_steps}
-use Rattle.pgs_run_lines.specs.Calls.{Reads as Made, gave_none, gave_more, so_far, to_end, to_fault}
+use Rattle.pgs_run_lines.specs.Calls.{MakesReads, gave_none, gave_more, so_far, to_end, to_fault}
 use Rattle.pgs_run_lines.specs.Input.{Lines}
 use Rattle.pgs_run_lines.specs.Machine.{scene_of}
 use Rattle.pgs_run_lines.proofs.Begun.{begun_none}
@@ -49,7 +49,7 @@ returns-then-count-eq0-clause-calls g c =
 
 pub returns-in-Err-take_bytes-clause-calls : goal.returns-in-Err-take_bytes-clause-calls
 returns-in-Err-take_bytes-clause-calls g c =
-    subst (λ (fails : Bool). Made g.S.Source.read_made c.args.budget c.args.source.now fails c.read_some.new.source)
+    subst (λ (fails : Bool). MakesReads g.S.Source.read_made c.args.budget c.args.source.now fails c.read_some.new.source)
     (sym (not_of_source (g.W.World.view c.loop-left.world) (g.W.World.view c.take_bytes.new.world) c.in-Err-take_bytes.stop c.in-Err-take_bytes.ensures.cause))
     (so_far {left = c.loop-left.left - c.in-Ok.count} (gave_more c.loop-left.invariant.calls c.in-Ok.ensures.made.1 (grind (arith, common_steps)) (grind (arith, common_steps)) c.in-Ok.ensures.made.2))
 

@@ -3,7 +3,7 @@ use Rattle.std.proofs.lemmas.List.{append-nil}
 use Rattle.pgs_run_lines.specs.Pieces.{shown_of}
 use Rattle.pgs_run_lines.specs.Replies.{EndsReply}
 use Rattle.pgs_run_lines.proofs.Showing.{shows_none}
-use Rattle.pgs_world.specs.Disk.{Puts}
+use Rattle.pgs_world.specs.Disk.{PutsFront}
 use Rattle.pgs_world.specs.Moment.{StopsBy}
 use Rattle.pgs_run_lines.proofs.reply.put_last.Goals as goal
 
@@ -18,7 +18,7 @@ returns-in-Err-clause-ends g c = λ line is. inr (c.memory.ensures, shows_none (
 pub returns-in-Ok-clause-stops : goal.returns-in-Ok-clause-stops
 returns-in-Ok-clause-stops g c = λ line is.
     let same : c.in-Ok.line ≡ line = rw c.in-Ok.is at is in
-    subst (λ (l : List ℕ). StopsBy (Puts l) (g.W.World.view c.args.world.now) (g.W.World.view c.put_reply.new.world)) same c.put_reply.ensures.stops
+    subst (λ (l : List ℕ). StopsBy (PutsFront l) (g.W.World.view c.args.world.now) (g.W.World.view c.put_reply.new.world)) same c.put_reply.ensures.stops
 
 pub returns-in-Err-clause-stops : goal.returns-in-Err-clause-stops
 returns-in-Err-clause-stops g c = λ line is honest d left.

@@ -1,7 +1,7 @@
 use Rattle.std.proofs.Common.{◌∷◌, [], ℕ, List, inl, inr, refl, subst}
 use Rattle.pgs_run_lines.specs.Ending.{Shows}
 use Rattle.pgs_run_lines.specs.Pieces.{shown_of, ShowsAll}
-use Rattle.pgs_world.specs.Disk.{Puts}
+use Rattle.pgs_world.specs.Disk.{PutsFront}
 use Rattle.pgs_world.specs.Moment.{StopsBy}
 use Rattle.pgs_run_lines.proofs.reply.put_reply.Goals as goal
 
@@ -13,7 +13,7 @@ returns-in-Ok-clause-ends g c =
 
 pub returns-in-Ok-clause-stops : goal.returns-in-Ok-clause-stops
 returns-in-Ok-clause-stops g c =
-    subst (λ (line : List ℕ). StopsBy (Puts line) (g.W.World.view c.args.world.now) (g.W.World.view c.put_piece.new.world)) c.as_slice.ensures c.put_piece.ensures.stops
+    subst (λ (line : List ℕ). StopsBy (PutsFront line) (g.W.World.view c.args.world.now) (g.W.World.view c.put_piece.new.world)) c.as_slice.ensures c.put_piece.ensures.stops
 
 pub returns-in-Err-clause-ends : goal.returns-in-Err-clause-ends
 returns-in-Err-clause-ends g c =
@@ -29,4 +29,4 @@ returns-in-Err-clause-ends g c =
 
 pub returns-in-Err-clause-stops : goal.returns-in-Err-clause-stops
 returns-in-Err-clause-stops g c =
-    subst (λ (line : List ℕ). StopsBy (Puts line) (g.W.World.view c.args.world.now) (g.W.World.view c.put_piece.new.world)) c.as_slice.ensures c.put_piece.ensures.stops
+    subst (λ (line : List ℕ). StopsBy (PutsFront line) (g.W.World.view c.args.world.now) (g.W.World.view c.put_piece.new.world)) c.as_slice.ensures c.put_piece.ensures.stops

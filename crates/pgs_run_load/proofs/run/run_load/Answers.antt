@@ -1,5 +1,5 @@
 use Rattle.std.proofs.Common.{◌≡◌, ◌∙◌, Bool, true, false, true≢false, refl, sym, subst}
-use Rattle.pgs_run_lines.specs.Calls.{Reads}
+use Rattle.pgs_run_lines.specs.Calls.{MakesReads}
 use Rattle.pgs_run_lines.specs.Ending.{faults_of}
 use Rattle.pgs_command.specs.Calls.{fails_world}
 use Rattle.pgs_command.specs.Setting.{setting_of}
@@ -27,7 +27,7 @@ returns-in-Err-clause-promise g c = λ places.
 pub returns-in-Ok-clause-calls : goal.returns-in-Ok-clause-calls
 returns-in-Ok-clause-calls g c =
     let old = g.W.World.view c.args.world.now in
-    subst (λ (fails : Bool). Reads g.S.Source.read_made c.args.budget c.args.source.now fails c.read_text.new.source)
+    subst (λ (fails : Bool). MakesReads g.S.Source.read_made c.args.budget c.args.source.now fails c.read_text.new.source)
     (sym (unread_status false true (faults_of 0 old) (faults_of 0 (g.W.World.view c.load_text.new.world)) c.load_text.result refl (c.load_text.ensures.answer.answers.cause false 0))) (rw c.in-Ok.is at c.read_text.ensures.calls)
 
 pub returns-in-Err-clause-last : goal.returns-in-Err-clause-last

@@ -1,6 +1,6 @@
 use Rattle.std.proofs.Common.{Bool, [], refl, sym, subst, ◌∙◌}
 use Rattle.pgs_answer.specs.Lines.{words_refused_line}
-use Rattle.pgs_run_lines.specs.Calls.{Reads}
+use Rattle.pgs_run_lines.specs.Calls.{MakesReads}
 use Rattle.pgs_command.specs.Promise.{Promise}
 use Rattle.pgs_command.specs.Setting.{setting_of}
 use Rattle.pgs_command.specs.Words.{refused_words}
@@ -42,5 +42,5 @@ returns-clause-last g c = λ fails.
 
 pub returns-clause-calls : goal.returns-clause-calls
 returns-clause-calls g c =
-    subst (λ (fails : Bool). Reads g.S.Source.read_made c.args.budget c.args.source.now fails c.run_lines-stop.new.source)
+    subst (λ (fails : Bool). MakesReads g.S.Source.read_made c.args.budget c.args.source.now fails c.run_lines-stop.new.source)
     (sym (fails_alone input_machine alone c.args.budget _ _ c.run_lines-stop.result c.status_at.result c.status_at.ensures c.run_lines-stop.ensures.by).0) c.run_lines-stop.ensures.calls

@@ -1,5 +1,5 @@
 use Rattle.std.proofs.Common.{Bool, refl, sym, subst, ◌∙◌}
-use Rattle.pgs_run_lines.specs.Calls.{Reads}
+use Rattle.pgs_run_lines.specs.Calls.{MakesReads}
 use Rattle.pgs_command.specs.Setting.{setting_of}
 use Rattle.pgs_command.proofs.OwnEnds.{fails_alone}
 use Rattle.pgs_run_try.specs.Trying.{trying}
@@ -19,5 +19,5 @@ returns-clause-last g c = λ fails.
 
 pub returns-clause-calls : goal.returns-clause-calls
 returns-clause-calls g c =
-    subst (λ (fails : Bool). Reads g.S.Source.read_made c.args.budget c.args.source.now fails c.run_lines-stop.new.source)
+    subst (λ (fails : Bool). MakesReads g.S.Source.read_made c.args.budget c.args.source.now fails c.run_lines-stop.new.source)
     (sym (fails_alone trying alone c.args.budget _ _ c.run_lines-stop.result c.status_at.result c.status_at.ensures c.run_lines-stop.ensures.by).0) c.run_lines-stop.ensures.calls

@@ -1,5 +1,5 @@
 use Rattle.std.proofs.Common.{◌≤◌, sym, subst, rules}
-use Rattle.pgs_world.specs.Disk.{Puts}
+use Rattle.pgs_world.specs.Disk.{PutsFront}
 use Rattle.pgs_world.specs.Count.{Rose}
 use Rattle.pgs_world.specs.Moment.{Passes, StopsBy, ShowsOne}
 use Rattle.pgs_world.specs.MemWorld.{Kept, view_of}
@@ -10,7 +10,7 @@ pub returns-then-put_exact-clause-stops : goal.returns-then-put_exact-clause-sto
 returns-then-put_exact-clause-stops c =
     let known = c.put_exact.ensures.known in
     let after = c.put_exact.ensures.after in
-    subst (λ (k : Kept). StopsBy (Puts c.args.piece.now) (view_of c.args.self.now) (view_of k)) (sym after) (stops-put c.args.self.now known c.args.piece.now)
+    subst (λ (k : Kept). StopsBy (PutsFront c.args.piece.now) (view_of c.args.self.now) (view_of k)) (sym after) (stops-put c.args.self.now known c.args.piece.now)
 
 pub returns-then-put_exact-clause-passes : goal.returns-then-put_exact-clause-passes
 returns-then-put_exact-clause-passes c =
@@ -28,7 +28,7 @@ pub returns-else-put_exact-clause-stops : goal.returns-else-put_exact-clause-sto
 returns-else-put_exact-clause-stops c =
     let known = c.put_exact.ensures.known in
     let after = c.put_exact.ensures.after in
-    subst (λ (k : Kept). StopsBy (Puts c.args.piece.now) (view_of c.args.self.now) (view_of k)) (sym after) (stops-put c.args.self.now known c.args.piece.now)
+    subst (λ (k : Kept). StopsBy (PutsFront c.args.piece.now) (view_of c.args.self.now) (view_of k)) (sym after) (stops-put c.args.self.now known c.args.piece.now)
 
 pub returns-then-put_exact-clause-call : goal.returns-then-put_exact-clause-call
 returns-then-put_exact-clause-call c =
