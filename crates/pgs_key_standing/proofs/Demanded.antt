@@ -1,5 +1,5 @@
 -- Demands that are put last, and what they ask of small pairs.
-use Rattle.std.proofs.Common.{◌≡◌, ℕ, zero, suc, ◌+◌, ◌<◌, Bool, true, false, ◌&&◌, ◌||◌, List, [], ◌∷◌, ◌++◌, length, ◌==◌, Result, OnOk, Option, Some, None, slice_get, refl, sym, ◌∙◌, ap, arith, true≢false, not}
+use Rattle.std.proofs.Common.{◌≡◌, ℕ, zero, suc, ◌+◌, ◌-◌, ◌<◌, ◌≤◌, Bool, true, false, ◌&&◌, ◌||◌, List, [], ◌∷◌, ◌++◌, length, take, drop, ◌==◌, Result, OnOk, Option, Some, None, slice_get, refl, sym, ◌∙◌, ap, arith, true≢false, not}
 use Rattle.std.specs.Option.{option_map_or}
 use Rattle.std.specs.List.{list_any, list_all}
 use Rattle.std.proofs.lemmas.Result.{on_ok_weaker}
@@ -156,6 +156,16 @@ asked_in_order false true false = refl
 asked_in_order false false e = refl
 
 -- ---- as many pairs as places
+
+pub rest_count : (xs : List Bool) → 1 ≤ length xs → length (take (length xs - 1) (drop 1 xs)) + 1 ≡ length xs
+rest_count [] some = absurd (omega arith)
+rest_count (x ∷ xs) some = ap (λ n. n + 1) (whole xs (length (x ∷ xs) - 1) (omega arith)) ∙ omega arith
+  where
+    whole : (ys : List Bool) (n : ℕ) → n ≡ length ys → length (take n ys) ≡ length ys
+    whole [] zero e = refl
+    whole [] (suc n) e = refl
+    whole (y ∷ ys) zero e = absurd (omega arith)
+    whole (y ∷ ys) (suc n) e = let rest : length (take n ys) ≡ length ys = whole ys n (omega arith) in omega arith
 
 -- shapes of all pairs
 abbrev pub AreAny : List Shape → Type 0
