@@ -1,6 +1,6 @@
 -- What a key of a guard can speak of, over graphs all of whose elements can stand: whether its scope can have an element, and whether an
 -- element of the scope can have a key value. Keys are left out of what can stand.
-use Rattle.std.specs.Prelude.{◌≡◌, ℕ, Bool, true, false, ◌||◌, List, [], ◌∷◌, nat_le, Option}
+use Rattle.std.specs.Prelude.{◌≡◌, ℕ, Bool, true, false, ◌||◌, List, [], ◌∷◌, nat_le}
 use Rattle.std.specs.Option.{option_map_or}
 use Rattle.std.specs.List.{list_all}
 use Rattle.pgs_base.specs.declared.element.EdgeId.{EdgeId}
