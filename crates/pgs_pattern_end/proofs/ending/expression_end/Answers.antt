@@ -14,7 +14,12 @@ least_before-requires g c =
     c.index-fronts-part.is c.requires
 
 pub returns-then-not-defined-clause-end : goal.returns-then-not-defined-clause-end
-returns-then-not-defined-clause-end g c =
-    (c.index-fronts-part.result,
-    (read_at c.args.fronts.now c.loop-part.part c.index-fronts-part.result (omega arith) c.index-fronts-part.is,
-    sym c.in_ok-defined.ensures.value ∙ c.if-not-defined.true, c.loop-part.invariant.met), c.in_ok-from.ensures.value)
+returns-then-not-defined-clause-end g c = (
+  c.index-fronts-part.result,
+  (
+    read_at c.args.fronts.now c.loop-part.part c.index-fronts-part.result (omega arith) c.index-fronts-part.is,
+    sym c.in_ok-defined.ensures.value ∙ c.if-not-defined.true,
+    c.loop-part.invariant.met,
+  ),
+  c.in_ok-from.ensures.value,
+)
