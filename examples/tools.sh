@@ -422,7 +422,7 @@ for _ in $(seq 1 200); do
 done
 ends "backup beside a running apply" 0 "$tools/backup" bank beside >told.txt
 ends "the copy has what was acknowledged" 0 cmp <("$program" recover beside/bank </dev/null) <("$program" recover bank </dev/null)
-ends "journal-to-feed beside it" 0 "$tools/journal-to-feed" bank >beside_feed.jsonl
+ends "journal-to-feed beside it" 0 "$tools/journal-to-feed" --standing bank >beside_feed.jsonl
 ends "store-info beside it" 0 "$tools/store-info" bank >told.txt
 ends "schema beside it" 0 "$tools/schema" bank >told.txt
 exec 3>&-

@@ -23,6 +23,7 @@ from .operations import (
     unset_edge,
     unset_node,
 )
+from .schema import SchemaCheck, check_schema
 from .store import Store
 
 __all__ = [
@@ -43,12 +44,14 @@ __all__ = [
     "Operation",
     "Part",
     "Refused",
+    "SchemaCheck",
     "Store",
     "Transaction",
     "Value",
     "Verdict",
     "add_edge",
     "add_node",
+    "check_schema",
     "detach_node",
     "label_edge",
     "label_node",

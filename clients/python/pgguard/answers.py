@@ -84,11 +84,12 @@ class Refused(Exception):
     elements: the elements that the text names
     tuples: the key values that the text names: one of 29, two of 28
     transaction: what was refused; empty where it was a schema
+    causes: what `pgcheck` says of it, a text each, where it was asked
     """
 
-    def __init__(self, number: int, text: str, transaction: Transaction = ()) -> None:
-        super().__init__(number, text, transaction)
-        self.number, self.text, self.transaction = number, text, transaction
+    def __init__(self, number: int, text: str, transaction: Transaction = (), causes: Tuple[str, ...] = ()) -> None:
+        super().__init__(number, text, transaction, causes)
+        self.number, self.text, self.transaction, self.causes = number, text, transaction, causes
         place = re.match(r"(key|op) ([0-9]+): ", text)
         self.key: Optional[int] = int(place[2]) if place and place[1] == "key" else None
         self.operation: Optional[int] = int(place[2]) if place and place[1] == "op" else None
@@ -101,10 +102,10 @@ class Refused(Exception):
         return f"{self.number} {self.text}"
 
 
-def refused_of(text: str, transaction: Transaction = ()) -> Refused:
+def refused_of(text: str, transaction: Transaction = (), causes: Tuple[str, ...] = ()) -> Refused:
     """The refusal of a text that begins with its number."""
     number, _, rest = text.partition(" ")
-    return Refused(int(number), rest, transaction)
+    return Refused(int(number), rest, transaction, causes)
 
 
 @dataclass(frozen=True)

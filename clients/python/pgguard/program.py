@@ -22,26 +22,26 @@ _LONGEST_WAIT = 0.5
 _VERDICT = re.compile(r"([0-9]+) (committed|refused) (.*)")
 
 
-def executable() -> str:
-    """What PGGUARD names; else the launcher of the checkout that this file stands in; else the program on the path."""
-    given = os.environ.get("PGGUARD")
+def executable(program: str = "pgguard") -> str:
+    """What PGGUARD, or PGCHECK for `pgcheck`, names; else the launcher of the checkout that this file stands in; else the program on the path."""
+    given = os.environ.get(program.upper())
     if given:
         return given
     package = Path(__file__).resolve().parent
     if package.parts[-3:-1] == ("clients", "python"):
-        launcher = package.parents[2] / "pgguard"
+        launcher = package.parents[2] / program
         if launcher.is_file():
             return str(launcher)
-    found = shutil.which("pgguard")
+    found = shutil.which(program)
     if found is None:
-        raise FileNotFoundError("pgguard isn't on the path: PGGUARD may name its executable")
+        raise FileNotFoundError(f"{program} isn't on the path: {program.upper()} may name its executable")
     return found
 
 
-def start(words: Sequence[str], **streams: Any) -> "subprocess.Popen[bytes]":
-    """Starts the program. A terminal's Ctrl-C doesn't reach it, so what it was given is decided; and a limit on the size of files is a fault of a write
+def start(words: Sequence[str], program: str = "pgguard", **streams: Any) -> "subprocess.Popen[bytes]":
+    """Starts a program. A terminal's Ctrl-C doesn't reach it, so what it was given is decided; and a limit on the size of files is a fault of a write
     and not its end, since the signal of that limit stays ignored, as Python ignores it."""
-    return subprocess.Popen([executable(), *words], start_new_session=True, restore_signals=False, **streams)
+    return subprocess.Popen([executable(program), *words], start_new_session=True, restore_signals=False, **streams)
 
 
 def last_line(told: IO[bytes]) -> str:
@@ -64,10 +64,10 @@ class Ended(NamedTuple):
         return fault_of(self.status, "".join(refusal) or self.told)
 
 
-def run_command(words: Sequence[str], text: Optional[str] = None) -> Ended:
-    """Runs the program to its end on a text."""
+def run_command(words: Sequence[str], text: Optional[str] = None, program: str = "pgguard") -> Ended:
+    """Runs a program to its end on a text."""
     given = b"" if text is None else text.encode("utf-8")
-    with start(words, stdin=subprocess.PIPE, stdout=subprocess.PIPE, stderr=subprocess.PIPE) as process:
+    with start(words, program, stdin=subprocess.PIPE, stdout=subprocess.PIPE, stderr=subprocess.PIPE) as process:
         try:
             put, told = process.communicate(given)
         except BaseException:
