@@ -8,10 +8,12 @@ ghost use Rattle.pgs_advice_lines.specs.Lines.{unused_line, unused_graph_line, u
 ghost use Rattle.pgs_advice_lines.specs.Telling.{tell, warn, guard_lines, void_lines, key_lines, asks_values, unknown_lines, guards_nothing, nothing_lines, unused_type_lines, unused_graph_lines, advice_lines};
 
 use crate::line::{
-    Line, guard_line, key_line, nothing_line, unknown_line, unused_graph_line, unused_line, void_line,
+    Line, guard_line, key_line, nothing_line, unknown_line, unused_graph_line, unused_line,
+    void_line,
 };
 use pgs_advice::{
-    Unknown, Words, has_void_exclusive, has_void_singleton, unknown_words, unused_graphs, unused_types,
+    Unknown, Words, has_void_exclusive, has_void_singleton, unknown_words, unused_graphs,
+    unused_types,
 };
 use pgs_base::{Bytes, Copyable, Memory, Name};
 use pgs_lexer::Tokens;

@@ -1,6 +1,5 @@
 -- Pairs in the shapes of places: where one place has one shape more, and where shapes are copied.
-use Rattle.std.proofs.Common.{◌≡◌, ℕ, suc, zero, ◌+◌, ◌-◌, ◌<◌, ◌≤◌, Bool, true, false, ◌&&◌, ◌||◌, List, [], ◌∷◌, ◌++◌, length, take, drop, get_or, append_assoc, Option, Some, None, MatchOption, is_some, refl, sym, ◌∙◌, ap, subst, arith}
-use Rattle.std.specs.List.{list_any, list_all}
+use Rattle.std.proofs.Common.{◌≡◌, ℕ, suc, zero, ◌+◌, ◌-◌, ◌<◌, ◌≤◌, Bool, true, false, ◌&&◌, List, [], ◌∷◌, ◌++◌, length, take, drop, get_or, append_assoc, Option, Some, None, is_some, refl, sym, ◌∙◌, ap, subst, arith}
 use Rattle.std.proofs.lemmas.Bool.{true≢false, and_parts, and_from, and_right, false_from_ne_true}
 use Rattle.std.proofs.lemmas.List.{take_more}
 use Rattle.pgs_base.specs.declared.row.NodeRow.{NodeRow}
@@ -9,7 +8,6 @@ use Rattle.pgs_conform.specs.declared.shape.Shape.{Shape}
 use Rattle.pgs_conform.specs.Shapes.{in_shape}
 use Rattle.pgs_contain.specs.declared.outside.OwnedPair.{OwnedPair}
 use Rattle.pgs_contain.specs.Contained.{pair_in}
-use Rattle.pgs_standing.specs.Common.{in_common}
 use Rattle.pgs_standing.specs.Example.{IsFoundPair}
 use Rattle.pgs_standing.specs.Standing.{is_small}
 use Rattle.pgs_key_standing.specs.Demands.{are_small, are_in, is_in, AreSame, HaveSmall, LackSmall}
@@ -170,7 +168,7 @@ small_more places i shape (Some own) lt is h some before =
       before.0 ++ pair_in own ∷ [],
       small_append before.0 (pair_in own ∷ []) before.1 (and_from _ _ (and_from _ _ h.is_one parts.0) refl),
       ap (λ ss. are_in ss (before.0 ++ pair_in own ∷ [])) (take_more places i shape lt ∙ ap (λ y. take i places ++ y ∷ []) (sym is))
-      ∙ in_append (take i places) (shape ∷ []) before.0 (pair_in own ∷ []) before.2 (and_from _ _ parts.1 refl),
+          ∙ in_append (take i places) (shape ∷ []) before.0 (pair_in own ∷ []) before.2 (and_from _ _ parts.1 refl),
     )
 
 in_at : (places : List Shape) (i : ℕ) (d : Shape) (ps : Pairs) → i < length places → are_small ps ≡ true → are_in places ps ≡ true →

@@ -1,5 +1,5 @@
 -- The patterns of a valid key: what they speak of is there, and each edge has ends. So their places are placed.
-use Rattle.std.proofs.Common.{◌≡◌, ℕ, zero, suc, ◌+◌, ◌-◌, ◌<◌, ◌≤◌, Bool, true, false, ◌&&◌, ◌||◌, ◌==◌, cond, List, [], ◌∷◌, ◌++◌, map, drop, length, slice_index, slice_get, Option, Some, None, not, ⊎_elim, refl, sym, ◌∙◌, ap, subst, arith}
+use Rattle.std.proofs.Common.{◌≡◌, ℕ, zero, suc, ◌+◌, ◌-◌, ◌<◌, ◌≤◌, Bool, true, false, ◌||◌, ◌==◌, cond, List, [], ◌∷◌, ◌++◌, map, drop, length, slice_get, Some, not, ⊎_elim, refl, sym, ◌∙◌, ap, arith}
 use Rattle.std.specs.Prelude.{nat_lt, nat_le}
 use Rattle.std.specs.Option.{option_map_or}
 use Rattle.std.specs.List.{list_any, list_all, enumerate_from}
@@ -13,13 +13,13 @@ use Rattle.pgs_syntax.specs.declared.pattern.Atom.TheVariants.{Ends, HasLabel, F
 use Rattle.pgs_syntax.specs.declared.pattern.Expr.{Expr}
 use Rattle.pgs_syntax.specs.declared.pattern.Expr.TheVariants.{Element, Property}
 use Rattle.pgs_syntax.specs.declared.pattern.Pattern.{Pattern}
-use Rattle.pgs_syntax.specs.Valid.{is_edge_var, is_node_var, speaks_of, gives_ends, has_all_ends, edge_count, is_connected, is_valid_pattern, is_valid_key, are_one_kind, read_var}
+use Rattle.pgs_syntax.specs.Valid.{is_edge_var, is_node_var, speaks_of, gives_ends, has_all_ends, is_valid_pattern, is_valid_key, are_one_kind, read_var}
 use Rattle.pgs_key_standing.specs.Joint.{beside, joint, joint_exprs, with_ends, classes_of, place_of, placed_of, numbers}
-use Rattle.pgs_key_standing.specs.Placed.{Placed, IsPlaced, ends_of, fits_places}
+use Rattle.pgs_key_standing.specs.Placed.{IsPlaced, ends_of, fits_places}
 use Rattle.pgs_key_standing.specs.Renamed.{renamed, renamed_expr}
 use Rattle.pgs_key_standing.proofs.Classes.{AreClasses, HaveEnds, at_first, after_are, after_joins, is_joined}
 use Rattle.pgs_key_standing.proofs.Gathered.{KeepsKinds, get_within, get_first, get_later, get_dropped}
-use Rattle.pgs_key_standing.proofs.Renamings.{SpeaksOfEnds, speaks_ends, edge_kind, node_kind, edge_in, node_in, renamed_same}
+use Rattle.pgs_key_standing.proofs.Renamings.{speaks_ends, edge_kind, node_kind, renamed_same}
 
 -- ---- kinds kept
 
@@ -256,8 +256,10 @@ whole_from pattern few speak given = record {
 pub ends_whole : (pattern : Pattern) → IsSound pattern → IsWhole (with_ends pattern)
 ends_whole pattern sound = by (is_edge_var pattern.edge_vars 0) refl
   where
-    by : (b : Bool) → is_edge_var pattern.edge_vars 0 ≡ b → IsWhole (cond b (record { edge_vars = pattern.edge_vars ++ false ∷ false ∷ [];
-        atoms = Ends 0 (length pattern.edge_vars) (length pattern.edge_vars + 1) ∷ pattern.atoms }) pattern)
+    by : (b : Bool) → is_edge_var pattern.edge_vars 0 ≡ b → IsWhole (cond b (record {
+      edge_vars = pattern.edge_vars ++ false ∷ false ∷ [];
+      atoms = Ends 0 (length pattern.edge_vars) (length pattern.edge_vars + 1) ∷ pattern.atoms;
+    }) pattern)
     by true h = whole_from _ (wide_few pattern sound) (wide_speak pattern sound h) (wide_given pattern sound h)
     by false h = whole_from pattern (let few = sound.few in omega arith) sound.speak (own_given pattern sound h)
 
@@ -326,7 +328,7 @@ module _ (key : Key) (valid : is_valid_key key ≡ true) where
           let le : length own ≤ edge = grind (arith, nat_tests) in
           let e : length own + (edge - length own) ≡ edge = omega arith in
           let there : slice_get other (suc (edge - length own)) ≡ Some true =
-              sym (get_dropped other (edge - length own)) ∙ sym (get_later own (drop 1 other) (edge - length own)) ∙ ap (slice_get (joint key).edge_vars) e ∙ at in
+          sym (get_dropped other (edge - length own)) ∙ sym (get_later own (drop 1 other) (edge - length own)) ∙ ap (slice_get (joint key).edge_vars) e ∙ at in
           any_later (gives_ends edge) key.scope.atoms _
           (ap (λ n. list_any (gives_ends n) (map (renamed (beside (length own))) key.descriptor.atoms)) (sym e)
           ∙ gives_renamed (beside (length own)) (suc (edge - length own)) key.descriptor.atoms

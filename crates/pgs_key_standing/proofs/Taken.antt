@@ -1,14 +1,13 @@
 -- The pairs of a match in a graph that can stand are as the placed pattern asks.
-use Rattle.std.proofs.Common.{◌≡◌, ℕ, suc, zero, ◌+◌, ◌<◌, Bool, true, false, ◌&&◌, ◌||◌, cond, List, [], ◌∷◌, map, length, Option, Some, None, slice_get, is_some, unwrap_or, refl, sym, ◌∙◌, ap, arith, ◌==◌}
+use Rattle.std.proofs.Common.{◌≡◌, ℕ, suc, zero, ◌+◌, Bool, true, false, ◌&&◌, ◌||◌, cond, List, [], ◌∷◌, map, length, Option, Some, None, slice_get, is_some, unwrap_or, refl, sym, ◌∙◌, ap, arith, ◌==◌}
 use Rattle.std.specs.Prelude.{option_and_then}
 use Rattle.std.specs.BTreeMap.{is_at}
 use Rattle.std.specs.Map.{lookup}
 use Rattle.std.specs.Option.{option_map_or, option_map}
-use Rattle.std.specs.Ordering.{is_eq}
 use Rattle.std.specs.List.{list_any, list_all}
 use Rattle.std.proofs.lemmas.Bool.{true≢false, and_parts, and_from, eqb-true}
 use Rattle.std.proofs.lemmas.List.{length-map}
-use Rattle.std.proofs.lemmas.Option.{same_Some, slice_get-map, slice_get_within}
+use Rattle.std.proofs.lemmas.Option.{same_Some, slice_get-map}
 use Rattle.pgs_base.specs.declared.element.EdgeId.{EdgeId}
 use Rattle.pgs_base.specs.declared.element.Elem.{Elem}
 use Rattle.pgs_base.specs.declared.element.Elem.TheVariants.{Node, Edge}
@@ -29,10 +28,10 @@ use Rattle.pgs_syntax.specs.Join.{PairTriple}
 use Rattle.pgs_syntax.specs.KeyValues.{part_of}
 use Rattle.pgs_syntax.specs.Matches.{same_elem, carried, leads, carries, holds, elements, are_there, same_value, is_node_of_type, is_edge_of_type}
 use Rattle.pgs_syntax.specs.Typed.{triple_at}
-use Rattle.pgs_syntax.specs.Valid.{is_edge_var, is_node_var, gives_ends}
+use Rattle.pgs_syntax.specs.Valid.{is_edge_var, gives_ends}
 use Rattle.pgs_syntax.proofs.Carried.{carried_pair}
 use Rattle.pgs_conform.specs.Shapes.{triple_of}
-use Rattle.pgs_standing.specs.Standing.{is_small, can_stand_node, can_stand_edge}
+use Rattle.pgs_standing.specs.Standing.{can_stand_node, can_stand_edge}
 use Rattle.pgs_key_standing.specs.Placed.{Placed, ends_of, passes_at, pass_at, asks, asks_present, stand_from, ask_all, IsPlaced, fits_places}
 use Rattle.pgs_key_standing.specs.Reach.{IsStanding}
 use Rattle.pgs_key_standing.proofs.Built.{to_zero}
@@ -53,9 +52,13 @@ node_listed (Node id) (n ∷ nodes) h = by (node_listed (Node id) nodes) (is_at 
         (other : NodeId) × (p : NodeRow) × (Node id ≡ Node other) × (lookup (is_at (node_cmp other)) (n ∷ nodes) ≡ Some p)
     by rest true e h = (id, n.1, refl, ap (λ b. cond b (Some n.1) (lookup (is_at (node_cmp id)) nodes)) e)
     by rest false e h =
-        let later = rest h in
-        (id, later.1, refl, ap (λ b. cond b (Some n.1) (lookup (is_at (node_cmp id)) nodes)) e
-        ∙ ap (λ other. lookup (is_at (node_cmp other)) nodes) (one_node id later.0 later.2) ∙ later.3)
+        let later = rest h in (
+          id,
+          later.1,
+          refl,
+          ap (λ b. cond b (Some n.1) (lookup (is_at (node_cmp id)) nodes)) e
+              ∙ ap (λ other. lookup (is_at (node_cmp other)) nodes) (one_node id later.0 later.2) ∙ later.3,
+        )
       where
         one_node : (a b : NodeId) → Node a ≡ Node b → a ≡ b
         one_node a b e = cc
@@ -71,9 +74,13 @@ edge_listed (Edge id) (n ∷ edges) h = by (edge_listed (Edge id) edges) (is_at 
         (other : EdgeId) × (row : EdgeRow) × (Edge id ≡ Edge other) × (lookup (is_at (edge_cmp other)) (n ∷ edges) ≡ Some row)
     by rest true e h = (id, n.1, refl, ap (λ b. cond b (Some n.1) (lookup (is_at (edge_cmp id)) edges)) e)
     by rest false e h =
-        let later = rest h in
-        (id, later.1, refl, ap (λ b. cond b (Some n.1) (lookup (is_at (edge_cmp id)) edges)) e
-        ∙ ap (λ other. lookup (is_at (edge_cmp other)) edges) (one_edge id later.0 later.2) ∙ later.3)
+        let later = rest h in (
+          id,
+          later.1,
+          refl,
+          ap (λ b. cond b (Some n.1) (lookup (is_at (edge_cmp id)) edges)) e
+              ∙ ap (λ other. lookup (is_at (edge_cmp other)) edges) (one_edge id later.0 later.2) ∙ later.3,
+        )
       where
         one_edge : (a b : EdgeId) → Edge a ≡ Edge b → a ≡ b
         one_edge a b e = cc
@@ -189,10 +196,10 @@ module _ (resolved : Resolved) (placed : Placed) (ok : IsPlaced placed) (g : Gra
       let source = then_some _ (node_at g row.source) t ends in
       let target = map_some _ (node_at g row.target) t source.2 in (
         stood (ends_of placed.atoms j).0 (Node ways.from) t.source ways.source_is
-        (ap (node_at g) (one_node ways.from row.source (sym (eqb-true ways.row.source.0 ways.from.0 nodes.0) ∙ ap (λ (r : EdgeRow). r.source.0) same)) ∙ source.1 ∙ ap (λ (u : PairTriple). Some u.source) target.2),
+            (ap (node_at g) (one_node ways.from row.source (sym (eqb-true ways.row.source.0 ways.from.0 nodes.0) ∙ ap (λ (r : EdgeRow). r.source.0) same)) ∙ source.1 ∙ ap (λ (u : PairTriple). Some u.source) target.2),
         stood j (Edge id) t.own at (ap (option_map (λ (r : EdgeRow). pair_of r.labels r.props)) is ∙ ap (λ (u : PairTriple). Some u.own) target.2),
         stood (ends_of placed.atoms j).1 (Node ways.to) t.target ways.target_is
-        (ap (node_at g) (one_node ways.to row.target (sym (eqb-true ways.row.target.0 ways.to.0 nodes.1) ∙ ap (λ (r : EdgeRow). r.target.0) same)) ∙ target.1 ∙ ap (λ (u : PairTriple). Some u.target) target.2),
+            (ap (node_at g) (one_node ways.to row.target (sym (eqb-true ways.row.target.0 ways.to.0 nodes.1) ∙ ap (λ (r : EdgeRow). r.target.0) same)) ∙ target.1 ∙ ap (λ (u : PairTriple). Some u.target) target.2),
       )
     where
       one_edge : (a b : EdgeId) → Some (Edge a) ≡ Some (Edge b) → a ≡ b

@@ -73,17 +73,25 @@ fn lines_in(alloc: Global, text: &[u8], compiled: &Compiled) -> Result<Vec<Line>
     Ok(lines)
 }
 
+// Puts the lines of the schema of a text.
+fn check_schema<W: World>(alloc: Global, text: &[u8], compiled: &Compiled, world: &mut W) -> Status
+    requires { schema_of text.now ≡ schema compiled.now }
+    ensures answer { TellsText text.now (W.view world.old) (W.view world.new) result }
+    ensures last { fails_world result ≡ true → W.failed world.new }
+{
+    match lines_in(alloc, text, compiled) {
+        Ok(lines) => put_lines(alloc, &lines, world),
+        Err(_) => Status::Memory,
+    }
+}
+
 /// Checks a text: puts the lines of its schema, or the line of its refusal, and gives the status.
 pub(crate) fn check_text<W: World>(alloc: Global, text: &[u8], world: &mut W) -> Status
     ensures answer { TellsText text.now (W.view world.old) (W.view world.new) result }
     ensures last { fails_world result ≡ true → W.failed world.new }
 {
-    let compiled = match read_schema(alloc, text) {
-        Ok(compiled) => compiled,
-        Err(unread) => return refuse(alloc, unread, text, world),
-    };
-    match lines_in(alloc, text, &compiled) {
-        Ok(lines) => put_lines(alloc, &lines, world),
-        Err(_) => Status::Memory,
+    match read_schema(alloc, text) {
+        Ok(compiled) => check_schema(alloc, text, &compiled, world),
+        Err(unread) => refuse(alloc, unread, text, world),
     }
 }

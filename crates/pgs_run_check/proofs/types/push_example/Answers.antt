@@ -1,4 +1,4 @@
-use Rattle.std.proofs.Common.{List, [], ◌∷◌, ◌++◌, ap, ◌∙◌}
+use Rattle.std.proofs.Common.{[], ◌∷◌, ◌++◌, ap, ◌∙◌}
 use Rattle.pgs_advice_lines.specs.declared.line.Line.{Line}
 use Rattle.pgs_run_check.proofs.Typed.{has_one}
 use Rattle.pgs_run_check.proofs.types.push_example.Goals as goal

@@ -5,13 +5,13 @@ use Rattle.pgs_run_input.proofs.Answering.{answer_ok}
 use Rattle.pgs_run_check.specs.Spec.{Tells}
 use Rattle.pgs_run_check.specs.Told.{AreRightOf, told_by, told_lines}
 use Rattle.pgs_run_check.proofs.Telling.{text_none}
-use Rattle.pgs_run_check.proofs.answering.check_text.Goals as goal
+use Rattle.pgs_run_check.proofs.answering.check_schema.Goals as goal
 
-pub returns-in-Ok-lines_in-clause-answer : goal.returns-in-Ok-lines_in-clause-answer
-returns-in-Ok-lines_in-clause-answer g c =
+pub returns-in-Ok-clause-answer : goal.returns-in-Ok-clause-answer
+returns-in-Ok-clause-answer g c =
     let text = c.args.text.now in
-    let has = c.in-Ok-lines_in.ensures in
-    let is = answer_ok text c.in-Ok.compiled c.in-Ok.ensures.schema in
+    let has = c.in-Ok.ensures in
+    let is = answer_ok text c.args.compiled.now c.requires in
     record {
       answers = has.answers;
       right = subst (λ answer. AreRightOf answer has.answers c.put_lines.result) (sym is) (λ lines. has.right);
@@ -20,5 +20,5 @@ returns-in-Ok-lines_in-clause-answer g c =
           (ap told_lines (c.deref.ensures.value ∙ has.is) ∙ sym (ap (told_by text has.answers) is)) c.put_lines.ensures.answer;
     }
 
-pub returns-in-Err-lines_in-clause-answer : goal.returns-in-Err-lines_in-clause-answer
-returns-in-Err-lines_in-clause-answer g c = text_none c.args.text.now (g.W.World.view c.args.world.now) (g.met.W.World.timed c.args.world.now)
+pub returns-in-Err-clause-answer : goal.returns-in-Err-clause-answer
+returns-in-Err-clause-answer g c = text_none c.args.text.now (g.W.World.view c.args.world.now) (g.met.W.World.timed c.args.world.now)
