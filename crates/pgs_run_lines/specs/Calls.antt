@@ -9,7 +9,7 @@ pub record MayAsk (left asked : ℕ) : Type 0 where
   pub most : asked ≤ 65536
   pub within : asked ≤ left
 
--- MakesReads that each gave something, one after another, and nothing else of the source; so much is left of the budget.
+-- Reads that each gave something, one after another, and nothing else of the source; so much is left of the budget.
 pub data Gave {S : Type 0} (made : S → ℕ → Option ℕ → S → Type 0) (budget : ℕ) (start : S) : ℕ → S → Type 0 where
   gave_none : Gave made budget start budget start
   gave_more : {left rest asked count : ℕ} {mid now : S} → Gave made budget start left mid → MayAsk left asked → 1 ≤ count → rest + count ≡ left → made mid asked (Some count) now → Gave made budget start rest now
