@@ -4,11 +4,12 @@ ghost use Rattle.std.specs.Prelude.{◌≡◌, true};
 ghost use Rattle.pgs_command.specs.Calls.{fails_world};
 ghost use Rattle.pgs_resolve.specs.SchemaOf.{schema, schema_of};
 ghost use Rattle.pgs_run_check.specs.Spec.{Tells, TellsText};
-ghost use Rattle.pgs_run_check.specs.Examples.{HasLinesOf};
+ghost use Rattle.pgs_run_check.specs.Judged.{HasLinesOf};
 ghost use Rattle.pgs_run_check.specs.Told.{told_lines};
 ghost use Rattle.pgs_schema.specs.Told.{IsRefused};
 ghost use Rattle.std.specs.Prelude.{IfOk};
 
+use crate::reaches::reaches_of;
 use crate::reading::{script_in, tokens_in};
 use crate::types::push_types;
 use pgs_advice_lines::{Line, pieces_of, push_advice, push_guard, some_warns};
@@ -66,10 +67,19 @@ fn lines_in(alloc: Global, text: &[u8], compiled: &Compiled) -> Result<Vec<Line>
     let tokens = tokens_in(alloc, text)?;
     let script = script_in(alloc, text, &tokens)?;
     let declarations = Declarations::new(alloc, &script)?;
+    let reached = reaches_of(alloc, compiled)?;
     let mut lines = Vec::new(alloc);
     push_guard(alloc, &declarations, &resolved.guard, &mut lines)?;
     push_types(alloc, compiled, resolved.guard.types.as_slice(), &mut lines)?;
-    push_advice(alloc, &tokens, &script, &declarations, resolved, &mut lines)?;
+    push_advice(
+        alloc,
+        &tokens,
+        &script,
+        &declarations,
+        resolved,
+        &reached,
+        &mut lines,
+    )?;
     Ok(lines)
 }
 
