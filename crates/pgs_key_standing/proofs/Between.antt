@@ -1,6 +1,5 @@
 -- Pairs in the shapes of places: where one place has one shape more, and where shapes are copied.
-use Rattle.std.proofs.Common.{◌≡◌, ℕ, suc, zero, ◌+◌, ◌-◌, ◌<◌, ◌≤◌, Bool, true, false, ◌&&◌, ◌||◌, List, [], ◌∷◌, ◌++◌, length, take, drop, get_or, append_assoc, Option, Some, None, MatchOption, is_some, refl, sym, ◌∙◌, ap, subst, arith}
-use Rattle.std.specs.List.{list_any, list_all}
+use Rattle.std.proofs.Common.{◌≡◌, ℕ, suc, zero, ◌+◌, ◌-◌, ◌<◌, ◌≤◌, Bool, true, false, ◌&&◌, List, [], ◌∷◌, ◌++◌, length, take, drop, get_or, append_assoc, Option, Some, None, is_some, refl, sym, ◌∙◌, ap, subst, arith}
 use Rattle.std.proofs.lemmas.Bool.{true≢false, and_parts, and_from, and_right, false_from_ne_true}
 use Rattle.std.proofs.lemmas.List.{take_more}
 use Rattle.pgs_base.specs.declared.row.NodeRow.{NodeRow}
@@ -9,7 +8,6 @@ use Rattle.pgs_conform.specs.declared.shape.Shape.{Shape}
 use Rattle.pgs_conform.specs.Shapes.{in_shape}
 use Rattle.pgs_contain.specs.declared.outside.OwnedPair.{OwnedPair}
 use Rattle.pgs_contain.specs.Contained.{pair_in}
-use Rattle.pgs_standing.specs.Common.{in_common}
 use Rattle.pgs_standing.specs.Example.{IsFoundPair}
 use Rattle.pgs_standing.specs.Standing.{is_small}
 use Rattle.pgs_key_standing.specs.Demands.{are_small, are_in, is_in, AreSame, HaveSmall, LackSmall}

@@ -1,10 +1,10 @@
 -- A graph of places: a node at each node place and an edge at each edge place, numbered as the places are; and what is found in it.
-use Rattle.std.proofs.Common.{◌≡◌, ℕ, suc, zero, ◌+◌, ◌<◌, ◌≤◌, Bool, true, false, ◌&&◌, ◌||◌, cond, List, [], ◌∷◌, map, length, Option, Some, None, slice_get, refl, sym, ◌∙◌, ap, subst, arith, is_lt, is_eq}
+use Rattle.std.proofs.Common.{◌≡◌, ℕ, suc, zero, ◌+◌, ◌<◌, Bool, true, false, ◌||◌, cond, List, [], ◌∷◌, map, Some, slice_get, refl, sym, ◌∙◌, ap, subst, arith, is_lt, is_eq}
 use Rattle.std.specs.List.{list_any, list_all}
 use Rattle.std.specs.Map.{lookup, keys_of}
 use Rattle.std.specs.BTreeMap.{is_at}
 use Rattle.std.specs.Ordering.{nat_cmp}
-use Rattle.std.proofs.lemmas.Bool.{true≢false, and_parts, and_from}
+use Rattle.std.proofs.lemmas.Bool.{true≢false, and_from}
 use Rattle.std.proofs.lemmas.Bool.Decides.{nat_tests}
 use Rattle.std.proofs.lemmas.Option.{same_Some}
 use Rattle.pgs_base.specs.declared.element.EdgeId.{EdgeId}
@@ -13,10 +13,10 @@ use Rattle.pgs_base.specs.declared.element.Elem.TheVariants.{Node, Edge}
 use Rattle.pgs_base.specs.declared.element.NodeId.{NodeId}
 use Rattle.pgs_base.specs.declared.row.EdgeRow.{EdgeRow}
 use Rattle.pgs_base.specs.declared.row.NodeRow.{NodeRow}
-use Rattle.pgs_base.specs.Graph.{Graph, node_cmp, edge_cmp, node_at, edge_at}
+use Rattle.pgs_base.specs.Graph.{Graph, node_cmp, edge_cmp}
 use Rattle.pgs_base.specs.Order.{ascends}
 use Rattle.pgs_syntax.specs.declared.pattern.Atom.{Atom}
-use Rattle.pgs_syntax.specs.Matches.{same_elem, elements}
+use Rattle.pgs_syntax.specs.Matches.{same_elem}
 use Rattle.pgs_key_standing.specs.Placed.{ends_of}
 
 abbrev pub Pairs : Type 0

@@ -1,6 +1,5 @@
 -- Classes of variables: each has the kind of its members, an edge is alone, and the ends of one edge are of one class.
-use Rattle.std.proofs.Common.{◌≡◌, ℕ, zero, suc, ◌+◌, ◌<◌, Bool, true, false, ◌&&◌, ◌||◌, ◌==◌, cond, List, [], ◌∷◌, map, length, slice_index, slice_get, Option, Some, None, not, refl, sym, ◌∙◌, ap, subst, arith}
-use Rattle.std.specs.Option.{option_map_or}
+use Rattle.std.proofs.Common.{◌≡◌, ℕ, ◌<◌, Bool, true, false, ◌&&◌, ◌==◌, cond, List, [], ◌∷◌, map, length, slice_index, slice_get, Some, refl, sym, ◌∙◌, ap, subst, arith}
 use Rattle.std.specs.List.{list_any, list_all, enumerate_from}
 use Rattle.std.proofs.lemmas.Bool.{true≢false, and_parts, and_from, eqb-true, eq-eqb}
 use Rattle.std.proofs.lemmas.List.{get_or-map, length-map}
@@ -8,11 +7,10 @@ use Rattle.std.proofs.lemmas.List.FromFn.{length-enumerate_from, get_or-enumerat
 use Rattle.std.proofs.lemmas.Option.{same_Some, slice_get_within}
 use Rattle.pgs_syntax.specs.declared.pattern.Atom.{Atom}
 use Rattle.pgs_syntax.specs.declared.pattern.Atom.TheVariants.{Ends, HasLabel, FitsNode, FitsEdge, Equals}
-use Rattle.pgs_syntax.specs.Valid.{is_edge_var, is_node_var, speaks_of, gives_ends, together}
+use Rattle.pgs_syntax.specs.Valid.{speaks_of, gives_ends, together}
 use Rattle.pgs_key_standing.specs.Joint.{classes_after, numbers}
-use Rattle.pgs_key_standing.specs.Placed.{ends_of, fits_places}
-use Rattle.pgs_key_standing.specs.Renamed.{renamed}
-use Rattle.pgs_key_standing.proofs.Renamings.{SpeaksOfEnds, speaks_ends, edge_kind, node_kind}
+use Rattle.pgs_key_standing.specs.Placed.{ends_of}
+use Rattle.pgs_key_standing.proofs.Renamings.{SpeaksOfEnds, speaks_ends}
 
 pub record AreClasses (kinds : List Bool) (classes : List ℕ) : Type 0 where
   pub size : length classes ≡ length kinds

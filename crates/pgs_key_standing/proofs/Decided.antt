@@ -1,7 +1,7 @@
 -- What demands decide of a placed pattern: where the values that are written agree, there are pairs that it asks for exactly where there
 -- are such as meet its demands; and nowhere else.
-use Rattle.std.proofs.Common.{◌≡◌, ℕ, zero, suc, ◌+◌, ◌<◌, ◌≤◌, Bool, true, false, ◌&&◌, ◌||◌, ◌==◌, not, List, [], ◌∷◌, length, Option, Some, None, MatchBool, slice_get, refl, sym, ◌∙◌, ap, arith, true≢false}
-use Rattle.std.specs.Option.{option_map_or, option_map}
+use Rattle.std.proofs.Common.{◌≡◌, ℕ, zero, suc, ◌+◌, Bool, true, false, ◌&&◌, ◌||◌, ◌==◌, not, List, [], ◌∷◌, length, Option, Some, None, slice_get, refl, sym, ◌∙◌, ap, arith, true≢false}
+use Rattle.std.specs.Option.{option_map_or}
 use Rattle.std.specs.Prelude.{option_and_then}
 use Rattle.std.specs.List.{list_any, list_all}
 use Rattle.std.proofs.lemmas.Bool.{and_parts, and_from, false_from_ne_true, eqb-true, eq-eqb}
@@ -13,7 +13,6 @@ use Rattle.pgs_base.specs.Value.{kind_of, is_of_kind}
 use Rattle.pgs_syntax.specs.declared.pattern.Atom.{Atom}
 use Rattle.pgs_syntax.specs.declared.pattern.Atom.TheVariants.{Ends, HasLabel, FitsNode, FitsEdge, Equals}
 use Rattle.pgs_syntax.specs.declared.resolved.Resolved.{Resolved}
-use Rattle.pgs_syntax.specs.Join.{PairTriple}
 use Rattle.pgs_syntax.specs.Matches.{same_value}
 use Rattle.pgs_conform.specs.declared.shape.Shape.{Shape}
 use Rattle.pgs_conform.specs.declared.shape.Triple.{Triple as ShapeTriple}
@@ -22,9 +21,9 @@ use Rattle.pgs_key_standing.specs.declared.demand.Demand.{Demand}
 use Rattle.pgs_key_standing.specs.declared.demand.Demand.TheVariants.{One, Three}
 use Rattle.pgs_key_standing.specs.Demands.{are_small, are_in, is_in, are_in_three, meets, meet_all, CanMeet, CannotMeet}
 use Rattle.pgs_key_standing.specs.Kinds.{agree, all_agree, has_literal, asks_kind, ask_kinds}
-use Rattle.pgs_key_standing.specs.Placed.{Placed, ends_of, passes_at, pass_at, asks, asks_present, stand_from, ask_all, HasPairs, LacksPairs}
+use Rattle.pgs_key_standing.specs.Placed.{Placed, ends_of, asks, asks_present, stand_from, ask_all, HasPairs, LacksPairs}
 use Rattle.pgs_key_standing.proofs.Gathered.{get_within}
-use Rattle.pgs_key_standing.proofs.Settled.{AreAlike, IsSettled, HaveKinds, HaveValues, HasKind, HasValue, all_settled, settled_by, kind_at, value_is, name_is, same_itself, of_kind, rank_itself}
+use Rattle.pgs_key_standing.proofs.Settled.{AreAlike, HaveKinds, HaveValues, HasKind, HasValue, all_settled, settled_by, kind_at, value_is, name_is, same_itself, of_kind, rank_itself}
 use Rattle.pgs_key_standing.proofs.Stands.{node_stands, edge_stands, passed, three_passed}
 
 abbrev Pairs : Type 0

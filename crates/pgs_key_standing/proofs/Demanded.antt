@@ -1,19 +1,16 @@
 -- Demands that are put last, and what they ask of small pairs.
-use Rattle.std.proofs.Common.{◌≡◌, ℕ, zero, suc, ◌+◌, ◌<◌, Bool, true, false, ◌&&◌, ◌||◌, List, [], ◌∷◌, ◌++◌, length, ◌==◌, Result, OnOk, Option, Some, None, slice_get, refl, sym, ◌∙◌, ap, arith, true≢false, not}
+use Rattle.std.proofs.Common.{◌≡◌, ℕ, zero, suc, ◌+◌, ◌-◌, ◌≤◌, Bool, true, false, ◌&&◌, ◌||◌, List, [], ◌∷◌, ◌++◌, length, take, drop, ◌==◌, Result, OnOk, Option, Some, None, slice_get, refl, sym, ◌∙◌, ap, arith, true≢false}
 use Rattle.std.specs.Option.{option_map_or}
 use Rattle.std.specs.List.{list_any, list_all}
 use Rattle.std.proofs.lemmas.Result.{on_ok_weaker}
-use Rattle.std.proofs.lemmas.Bool.{and_parts, and_from, and_left, and_right, false_from_ne_true, eqb-true, eq-eqb}
+use Rattle.std.proofs.lemmas.Bool.{and_parts, and_from, and_right, false_from_ne_true, eqb-true, eq-eqb}
 use Rattle.pgs_base.specs.declared.row.NodeRow.{NodeRow}
 use Rattle.pgs_base.specs.Pair.{is_pair}
-use Rattle.pgs_syntax.specs.declared.pattern.Atom.{Atom}
-use Rattle.pgs_syntax.specs.declared.pattern.Expr.{Expr}
 use Rattle.pgs_syntax.specs.declared.resolved.Resolved.{Resolved}
 use Rattle.pgs_syntax.specs.Join.{PairTriple}
-use Rattle.pgs_syntax.specs.Triples.{is_triple}
 use Rattle.pgs_conform.specs.declared.shape.Shape.{Shape}
 use Rattle.pgs_conform.specs.declared.shape.Triple.{Triple as ShapeTriple}
-use Rattle.pgs_conform.specs.Shapes.{in_shape, in_triple, in_some, in_some_triple, triple_of, Denotes, DenotesTriples}
+use Rattle.pgs_conform.specs.Shapes.{in_shape, triple_of, Denotes, DenotesTriples}
 use Rattle.pgs_standing.specs.Standing.{is_small, admits_node, admits_edge, can_stand_node, can_stand_edge}
 use Rattle.pgs_key_standing.specs.declared.demand.Demand.{Demand}
 use Rattle.pgs_key_standing.specs.declared.demand.Demand.TheVariants.{One, Three}
@@ -156,6 +153,16 @@ asked_in_order false true false = refl
 asked_in_order false false e = refl
 
 -- ---- as many pairs as places
+
+pub rest_count : (xs : List Bool) → 1 ≤ length xs → length (take (length xs - 1) (drop 1 xs)) + 1 ≡ length xs
+rest_count [] some = absurd (omega arith)
+rest_count (x ∷ xs) some = ap (λ n. n + 1) (whole xs (length (x ∷ xs) - 1) (omega arith)) ∙ omega arith
+  where
+    whole : (ys : List Bool) (n : ℕ) → n ≡ length ys → length (take n ys) ≡ length ys
+    whole [] zero e = refl
+    whole [] (suc n) e = refl
+    whole (y ∷ ys) zero e = absurd (omega arith)
+    whole (y ∷ ys) (suc n) e = let rest : length (take n ys) ≡ length ys = whole ys n (omega arith) in omega arith
 
 -- shapes of all pairs
 abbrev pub AreAny : List Shape → Type 0

@@ -1,13 +1,12 @@
 -- Elements of some variables among those of more: what is there, and what holds.
-use Rattle.std.proofs.Common.{◌≡◌, ℕ, zero, suc, ◌+◌, ◌<◌, ◌≤◌, Bool, true, false, ◌&&◌, ◌||◌, List, [], ◌∷◌, ◌++◌, map, drop, length, slice_index, Option, Some, None, slice_get, unwrap_or, refl, sym, ◌∙◌, ap, subst, arith, true≢false}
-use Rattle.std.specs.Option.{option_map_or, option_map}
-use Rattle.std.specs.List.{list_any, list_all, enumerate_from}
+use Rattle.std.proofs.Common.{◌≡◌, ℕ, zero, suc, ◌+◌, ◌<◌, Bool, true, List, [], ◌∷◌, ◌++◌, map, drop, length, Some, slice_get, unwrap_or, refl, sym, ◌∙◌, ap, arith, true≢false}
+use Rattle.std.specs.Option.{option_map}
+use Rattle.std.specs.List.{list_any, list_all}
 use Rattle.std.proofs.lemmas.Bool.{and_parts, and_from}
 use Rattle.std.proofs.lemmas.List.{length-map}
-use Rattle.std.proofs.lemmas.List.FromFn.{length-enumerate_from}
 use Rattle.std.proofs.lemmas.Option.{same_Some, slice_get-map, slice_get_within, slice_get-get_or}
 use Rattle.pgs_base.specs.declared.element.Elem.{Elem}
-use Rattle.pgs_base.specs.declared.element.Elem.TheVariants.{Node, Edge}
+use Rattle.pgs_base.specs.declared.element.Elem.TheVariants.{Node}
 use Rattle.pgs_base.specs.Graph.{Graph}
 use Rattle.pgs_syntax.specs.declared.pattern.Atom.{Atom}
 use Rattle.pgs_syntax.specs.declared.resolved.Resolved.{Resolved}

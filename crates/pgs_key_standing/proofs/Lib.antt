@@ -13,5 +13,6 @@ pub mod Single
 pub mod Sound
 pub mod Stands
 pub mod Tables
+pub mod Turns
 pub mod Taken
 pub mod Ways

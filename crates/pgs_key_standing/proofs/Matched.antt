@@ -1,23 +1,21 @@
 -- A graph that can stand has an element in the scope of a key, and one with a key value, exactly where there are pairs as the places ask.
-use Rattle.std.proofs.Common.{◌≡◌, ℕ, zero, suc, ◌+◌, ◌<◌, ◌≤◌, Bool, true, false, ◌&&◌, ◌||◌, ◌==◌, cond, List, [], ◌∷◌, ◌++◌, map, drop, length, slice_index, slice_get, Option, Some, None, is_some, refl, sym, ◌∙◌, ap, subst, arith}
+use Rattle.std.proofs.Common.{◌≡◌, ℕ, zero, suc, ◌+◌, ◌<◌, Bool, true, false, ◌&&◌, ◌==◌, cond, List, [], ◌∷◌, ◌++◌, drop, length, slice_index, slice_get, Option, Some, None, is_some, refl, sym, ◌∙◌, ap, arith}
 use Rattle.std.specs.Prelude.{option_and_then, nat_lt}
 use Rattle.std.specs.BTreeMap.{is_at}
 use Rattle.std.specs.Cmp.{tied_itself, Equal-is}
-use Rattle.std.specs.Map.{lookup}
 use Rattle.std.specs.Option.{option_map_or, option_map}
 use Rattle.std.specs.Ordering.{is_eq}
 use Rattle.std.specs.List.{list_any, list_all}
-use Rattle.std.proofs.lemmas.Bool.{true≢false, and_parts, and_from, or_left, eqb-true, eq-eqb, ltb-true}
+use Rattle.std.proofs.lemmas.Bool.{true≢false, and_parts, and_from, or_left, eqb-true, eq-eqb}
 use Rattle.std.proofs.lemmas.List.{length-map}
 use Rattle.std.proofs.lemmas.Option.{same_Some, slice_get_within}
 use Rattle.pgs_base.specs.declared.element.EdgeId.{EdgeId}
 use Rattle.pgs_base.specs.declared.element.Elem.{Elem}
 use Rattle.pgs_base.specs.declared.element.Elem.TheVariants.{Node, Edge}
-use Rattle.pgs_base.specs.declared.element.NodeId.{NodeId}
 use Rattle.pgs_base.specs.declared.part.Part.{Part}
 use Rattle.pgs_base.specs.declared.row.EdgeRow.{EdgeRow}
 use Rattle.pgs_base.specs.declared.row.NodeRow.{NodeRow}
-use Rattle.pgs_base.specs.Graph.{Graph, node_at, edge_at, has_ends, node_cmp, edge_cmp}
+use Rattle.pgs_base.specs.Graph.{Graph, node_at, edge_at, has_ends, edge_cmp}
 use Rattle.pgs_base.specs.Order.{elem_cmp, tuple_cmp}
 use Rattle.pgs_base.specs.OrderLaws.{elem_cmp_total, exact_elem, tuple_cmp_total}
 use Rattle.pgs_base.proofs.Graphs.{graph_parts}
@@ -28,21 +26,20 @@ use Rattle.pgs_syntax.specs.declared.pattern.Expr.{Expr}
 use Rattle.pgs_syntax.specs.declared.pattern.Pattern.{Pattern}
 use Rattle.pgs_syntax.specs.declared.resolved.Resolved.{Resolved}
 use Rattle.pgs_syntax.specs.Join.{is_empty}
-use Rattle.pgs_syntax.specs.KeyValues.{starts_at, is_in_scope, part_of, tuple_of, key_values}
-use Rattle.pgs_syntax.specs.Matches.{same_elem, elements, are_there, holds, is_match, leads}
-use Rattle.pgs_syntax.specs.Valid.{is_edge_var, speaks_of, gives_ends, is_valid_pattern, is_valid_key, read_var, together}
+use Rattle.pgs_syntax.specs.KeyValues.{starts_at, part_of, tuple_of, key_values}
+use Rattle.pgs_syntax.specs.Matches.{same_elem, are_there, holds, is_match, leads}
+use Rattle.pgs_syntax.specs.Valid.{is_edge_var, speaks_of, is_valid_key, read_var, together}
 use Rattle.pgs_syntax.proofs.Assigned.{match_found, match_given, value_found, value_given}
-use Rattle.pgs_key_standing.specs.Joint.{beside, joint, joint_exprs, with_ends, classes_after, classes_of, place_of, placed_of, numbers, scope_places, value_places}
-use Rattle.pgs_key_standing.specs.Placed.{Placed, ends_of, IsPlaced, HasPairs}
+use Rattle.pgs_key_standing.specs.Joint.{beside, joint, joint_exprs, with_ends, classes_after, place_of, placed_of, numbers, scope_places, value_places}
+use Rattle.pgs_key_standing.specs.Placed.{ends_of, HasPairs}
 use Rattle.pgs_key_standing.specs.Reach.{IsStanding, HasScope, HasValue}
-use Rattle.pgs_key_standing.specs.Renamed.{renamed, renamed_expr}
 use Rattle.pgs_key_standing.proofs.Built.{built, elems_from, node_among}
-use Rattle.pgs_key_standing.proofs.Classes.{HaveEnds, together_carries, step, AreClasses, at_first, number_at}
-use Rattle.pgs_key_standing.proofs.Gathered.{KeepsKinds, get_within, get_first, get_later, get_dropped, is_there, there_count, there_append, there_dropped, gathered, gathered_at, gathered_there, gathered_holds}
-use Rattle.pgs_key_standing.proofs.Renamings.{SpeaksOfEnds, speaks_ends, all_renamed, parts_renamed, renamed_same, exprs_same, edge_kind}
-use Rattle.pgs_key_standing.proofs.Sound.{IsSound, IsWhole, ends_whole, valid_sound, joint_sound, joint_read, scope_valid, descriptor_valid, exprs_read, keeps_own, keeps_other, keeps_more, keeps_place, is_placed, are_classes, all_append, all_first, all_later, all_read, count_few}
+use Rattle.pgs_key_standing.proofs.Classes.{together_carries, at_first, number_at}
+use Rattle.pgs_key_standing.proofs.Gathered.{get_within, get_first, get_later, get_dropped, is_there, there_count, there_append, there_dropped, gathered, gathered_at, gathered_there, gathered_holds}
+use Rattle.pgs_key_standing.proofs.Renamings.{speaks_ends, all_renamed, parts_renamed, renamed_same, exprs_same, edge_kind}
+use Rattle.pgs_key_standing.proofs.Sound.{IsSound, IsWhole, ends_whole, valid_sound, joint_sound, joint_read, scope_valid, descriptor_valid, exprs_read, keeps_own, keeps_other, keeps_more, keeps_place, is_placed, all_append, all_first, all_later, all_read, count_few}
 use Rattle.pgs_key_standing.proofs.Stands.{built_stands, built_there, built_holds, all_present}
-use Rattle.pgs_key_standing.proofs.Taken.{Leads, led, ends_led, taken, taken_asked, taken_count, taken_pairs, edge_listed, found_passes}
+use Rattle.pgs_key_standing.proofs.Taken.{led, ends_led, taken, taken_asked, taken_count, taken_pairs, edge_listed, found_passes}
 
 -- elements that are a match of a pattern, with all that is read present, in a graph that can stand
 pub record HasMatch (resolved : Resolved) (pattern : Pattern) (exprs : List Expr) (g : Graph) (elems : List Elem) : Type 0 where

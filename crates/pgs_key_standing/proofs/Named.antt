@@ -1,10 +1,8 @@
 -- The places of a valid key: the types that they name are there, and they are few. So what is found of them is said of the key.
-use Rattle.std.proofs.Common.{◌≡◌, ℕ, ◌+◌, ◌≤◌, Bool, true, false, ◌&&◌, ◌==◌, cond, List, [], ◌∷◌, ◌++◌, length, map, Result, Ok, Err, IfOk, MatchBool, refl, sym, ◌∙◌, ap, subst, true≢false}
+use Rattle.std.proofs.Common.{◌≡◌, ℕ, ◌≤◌, Bool, true, false, ◌==◌, cond, List, [], ◌∷◌, length, map, Result, Ok, Err, IfOk, MatchBool, refl, sym, ◌∙◌, subst, true≢false}
 use Rattle.std.specs.List.{list_all}
 use Rattle.std.proofs.lemmas.Bool.{and_parts, and_from, false_from_ne_true}
-use Rattle.pgs_base.specs.declared.element.Elem.{Elem}
 use Rattle.pgs_base.specs.declared.row.NodeRow.{NodeRow}
-use Rattle.pgs_base.specs.Graph.{Graph}
 use Rattle.pgs_syntax.specs.declared.key.Key.{Key}
 use Rattle.pgs_syntax.specs.declared.pattern.Atom.{Atom}
 use Rattle.pgs_syntax.specs.declared.pattern.Atom.TheVariants.{Ends, HasLabel, FitsNode, FitsEdge, Equals}
@@ -19,8 +17,8 @@ use Rattle.pgs_key_standing.specs.declared.demand.Demand.{Demand}
 use Rattle.pgs_key_standing.specs.Demands.{are_small, are_in, meets, CanMeet, CannotMeet}
 use Rattle.pgs_key_standing.specs.Joint.{beside, joint, joint_exprs, widened, with_ends, placed_of, place_of, scope_places, value_places}
 use Rattle.pgs_key_standing.specs.Kinds.{all_agree, has_literal, ask_kinds}
-use Rattle.pgs_key_standing.specs.Placed.{Placed, ask_all, HasPairs, LacksPairs}
-use Rattle.pgs_key_standing.specs.Reach.{IsStanding, HasScope, LacksScope, HasValue, LacksValue}
+use Rattle.pgs_key_standing.specs.Placed.{Placed, HasPairs, LacksPairs}
+use Rattle.pgs_key_standing.specs.Reach.{HasScope, LacksScope, HasValue, LacksValue}
 use Rattle.pgs_key_standing.specs.Renamed.{renamed}
 use Rattle.pgs_key_standing.proofs.Decided.{has_by, lacks_by}
 use Rattle.pgs_key_standing.proofs.Matched.{scope_pairs, pairs_scope, value_pairs, pairs_value}

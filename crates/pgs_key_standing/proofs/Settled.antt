@@ -1,13 +1,12 @@
 -- Pairs in which the values that are written stand in place of others of their kinds: the same shapes have them.
-use Rattle.std.proofs.Common.{◌≡◌, ℕ, zero, suc, ◌+◌, Bool, true, false, ◌&&◌, ◌||◌, ◌==◌, not, cond, List, [], ◌∷◌, map, length, Option, Some, None, slice_get, refl, sym, ◌∙◌, ap, subst, arith}
-use Rattle.std.specs.BTreeMap.{is_at}
+use Rattle.std.proofs.Common.{◌≡◌, ℕ, zero, suc, ◌+◌, Bool, true, false, ◌&&◌, ◌||◌, ◌==◌, not, cond, List, [], ◌∷◌, map, length, Option, Some, None, slice_get, refl, sym, ◌∙◌, ap, arith}
 use Rattle.std.specs.Cmp.{Equal-is, tied_itself}
 use Rattle.std.specs.Cmp.Lexicographic.{slice_cmp, nat_list_cmp_total}
-use Rattle.std.specs.Map.{keys_of, lookup}
+use Rattle.std.specs.Map.{keys_of}
 use Rattle.std.specs.Option.{option_map_or, option_map}
 use Rattle.std.specs.Prelude.{option_and_then, nat_le}
 use Rattle.std.specs.Ordering.{is_eq, nat_cmp}
-use Rattle.std.specs.List.{list_any, list_all}
+use Rattle.std.specs.List.{list_all}
 use Rattle.std.proofs.lemmas.Bool.{true≢false, and_parts, and_from, eqb-true, eq-eqb}
 use Rattle.std.proofs.lemmas.List.{length-map}
 use Rattle.std.proofs.lemmas.Option.{same_Some}
@@ -22,15 +21,13 @@ use Rattle.pgs_base.specs.Properties.{has_value}
 use Rattle.pgs_base.specs.Value.{kind_of, kind_rank, is_of_kind, is_value}
 use Rattle.pgs_syntax.specs.declared.pattern.Atom.{Atom}
 use Rattle.pgs_syntax.specs.declared.pattern.Atom.TheVariants.{Ends, HasLabel, FitsNode, FitsEdge, Equals}
-use Rattle.pgs_syntax.specs.declared.resolved.Resolved.{Resolved}
 use Rattle.pgs_syntax.specs.Matches.{same_value}
 use Rattle.pgs_conform.specs.declared.options.Options.{Options}
 use Rattle.pgs_conform.specs.declared.shape.Shape.{Shape}
-use Rattle.pgs_conform.specs.Shapes.{admits, admits_kind, labels_meet, props_meet, in_shape}
+use Rattle.pgs_conform.specs.Shapes.{admits, admits_kind, labels_meet, in_shape}
 use Rattle.pgs_standing.specs.Standing.{is_small, most_labels, most_props}
 use Rattle.pgs_key_standing.specs.Demands.{are_small, is_in}
-use Rattle.pgs_key_standing.specs.Kinds.{agree, all_agree, has_literal, asks_kind}
-use Rattle.pgs_key_standing.specs.Placed.{passes_at, asks}
+use Rattle.pgs_key_standing.specs.Kinds.{agree, all_agree, has_literal}
 
 abbrev Pairs : Type 0
 Pairs = List NodeRow

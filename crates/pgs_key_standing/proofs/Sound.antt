@@ -1,5 +1,5 @@
 -- The patterns of a valid key: what they speak of is there, and each edge has ends. So their places are placed.
-use Rattle.std.proofs.Common.{◌≡◌, ℕ, zero, suc, ◌+◌, ◌-◌, ◌<◌, ◌≤◌, Bool, true, false, ◌&&◌, ◌||◌, ◌==◌, cond, List, [], ◌∷◌, ◌++◌, map, drop, length, slice_index, slice_get, Option, Some, None, not, ⊎_elim, refl, sym, ◌∙◌, ap, subst, arith}
+use Rattle.std.proofs.Common.{◌≡◌, ℕ, zero, suc, ◌+◌, ◌-◌, ◌<◌, ◌≤◌, Bool, true, false, ◌||◌, ◌==◌, cond, List, [], ◌∷◌, ◌++◌, map, drop, length, slice_get, Some, not, ⊎_elim, refl, sym, ◌∙◌, ap, arith}
 use Rattle.std.specs.Prelude.{nat_lt, nat_le}
 use Rattle.std.specs.Option.{option_map_or}
 use Rattle.std.specs.List.{list_any, list_all, enumerate_from}
@@ -13,13 +13,13 @@ use Rattle.pgs_syntax.specs.declared.pattern.Atom.TheVariants.{Ends, HasLabel, F
 use Rattle.pgs_syntax.specs.declared.pattern.Expr.{Expr}
 use Rattle.pgs_syntax.specs.declared.pattern.Expr.TheVariants.{Element, Property}
 use Rattle.pgs_syntax.specs.declared.pattern.Pattern.{Pattern}
-use Rattle.pgs_syntax.specs.Valid.{is_edge_var, is_node_var, speaks_of, gives_ends, has_all_ends, edge_count, is_connected, is_valid_pattern, is_valid_key, are_one_kind, read_var}
+use Rattle.pgs_syntax.specs.Valid.{is_edge_var, is_node_var, speaks_of, gives_ends, has_all_ends, is_valid_pattern, is_valid_key, are_one_kind, read_var}
 use Rattle.pgs_key_standing.specs.Joint.{beside, joint, joint_exprs, with_ends, classes_of, place_of, placed_of, numbers}
-use Rattle.pgs_key_standing.specs.Placed.{Placed, IsPlaced, ends_of, fits_places}
+use Rattle.pgs_key_standing.specs.Placed.{IsPlaced, ends_of, fits_places}
 use Rattle.pgs_key_standing.specs.Renamed.{renamed, renamed_expr}
 use Rattle.pgs_key_standing.proofs.Classes.{AreClasses, HaveEnds, at_first, after_are, after_joins, is_joined}
 use Rattle.pgs_key_standing.proofs.Gathered.{KeepsKinds, get_within, get_first, get_later, get_dropped}
-use Rattle.pgs_key_standing.proofs.Renamings.{SpeaksOfEnds, speaks_ends, edge_kind, node_kind, edge_in, node_in, renamed_same}
+use Rattle.pgs_key_standing.proofs.Renamings.{speaks_ends, edge_kind, node_kind, renamed_same}
 
 -- ---- kinds kept
 

@@ -1,8 +1,8 @@
 -- The graph of places can stand, and its elements are a match, where the pairs are as the placed pattern asks.
-use Rattle.std.proofs.Common.{◌≡◌, ℕ, suc, zero, ◌+◌, ◌<◌, ◌≤◌, Bool, true, false, ◌&&◌, ◌||◌, not, List, [], ◌∷◌, map, length, Option, Some, None, slice_get, is_some, refl, sym, ◌∙◌, ap, arith, ◌==◌}
+use Rattle.std.proofs.Common.{◌≡◌, ℕ, suc, zero, ◌+◌, ◌<◌, ◌≤◌, Bool, true, false, ◌&&◌, not, List, [], ◌∷◌, length, Option, Some, None, slice_get, is_some, refl, sym, ◌∙◌, ap, arith, ◌==◌}
 use Rattle.std.specs.Prelude.{option_and_then, nat_lt}
 use Rattle.std.specs.Option.{option_map_or, option_map}
-use Rattle.std.specs.List.{list_any, list_all}
+use Rattle.std.specs.List.{list_all}
 use Rattle.std.proofs.lemmas.Bool.{true≢false, and_parts, and_from, lt-ltb, ltb-true, eqb-true, eq-eqb}
 use Rattle.std.proofs.lemmas.Option.{same_Some, slice_get_within}
 use Rattle.pgs_base.specs.declared.element.EdgeId.{EdgeId}
@@ -12,7 +12,7 @@ use Rattle.pgs_base.specs.declared.element.NodeId.{NodeId}
 use Rattle.pgs_base.specs.declared.row.EdgeRow.{EdgeRow}
 use Rattle.pgs_base.specs.declared.row.NodeRow.{NodeRow}
 use Rattle.pgs_base.specs.declared.value.Value.{Value}
-use Rattle.pgs_base.specs.Graph.{Graph, node_at, edge_at, is_graph, is_node_entry, is_edge_entry, has_ends}
+use Rattle.pgs_base.specs.Graph.{Graph, node_at, edge_at, is_node_entry, is_edge_entry, has_ends}
 use Rattle.pgs_base.specs.Pair.{has_name, value_at, pair_of, is_pair}
 use Rattle.pgs_base.proofs.Graphs.{graph_from}
 use Rattle.pgs_syntax.specs.declared.pattern.Atom.{Atom}
@@ -30,8 +30,8 @@ use Rattle.pgs_syntax.specs.Typed.{triple_at}
 use Rattle.pgs_conform.specs.Shapes.{triple_of}
 use Rattle.pgs_standing.specs.Standing.{can_stand_node, can_stand_edge}
 use Rattle.pgs_key_standing.specs.Placed.{Placed, ends_of, passes_at, pass_at, asks, asks_present, stand_from, ask_all, IsPlaced, fits_places}
-use Rattle.pgs_key_standing.specs.Reach.{nodes_stand, edges_stand, IsStanding}
-use Rattle.pgs_key_standing.proofs.Built.{Pairs, the_node, the_edge, row_between, nodes_from, edges_from, elem_at, elems_from, built, node_found, edge_found, elem_found, nodes_ascend, edges_ascend, all_nodes, all_edges, node_among, edge_among, at_zero, to_zero}
+use Rattle.pgs_key_standing.specs.Reach.{IsStanding}
+use Rattle.pgs_key_standing.proofs.Built.{Pairs, the_node, the_edge, row_between, elem_at, elems_from, built, node_found, edge_found, elem_found, nodes_ascend, edges_ascend, all_nodes, all_edges, node_among, edge_among, at_zero, to_zero}
 
 -- what passes at a place is there
 pub passed : (o : Option NodeRow) (test : NodeRow → Bool) → option_map_or test o false ≡ true → (p : NodeRow) × (o ≡ Some p) × (test p ≡ true)

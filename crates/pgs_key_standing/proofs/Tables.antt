@@ -1,12 +1,8 @@
 -- Tables of numbers: what stands in them, and atoms whose variables have the numbers of a table.
-use Rattle.std.proofs.Common.{◌≡◌, ℕ, zero, suc, ◌+◌, ◌-◌, ◌<◌, ◌≤◌, Bool, true, false, ◌&&◌, List, [], ◌∷◌, ◌++◌, length, map, slice_get, slice_index, get_or, Option, Some, None, Bor, unwrap_or, refl, sym, ◌∙◌, ap, arith}
-use Rattle.std.specs.Option.{option_copied}
+use Rattle.std.proofs.Common.{◌≡◌, ℕ, zero, suc, ◌+◌, ◌-◌, ◌<◌, ◌≤◌, Bool, true, false, List, [], ◌∷◌, ◌++◌, length, map, slice_index, get_or, refl, sym, ◌∙◌, ap, arith}
 use Rattle.std.specs.Prelude.{nat_lt}
-use Rattle.std.specs.List.{list_all, enumerate_from}
-use Rattle.std.specs.Slice.{IsItemAt}
-use Rattle.std.proofs.lemmas.Bool.{and_parts, and_from, ltb-true}
-use Rattle.std.proofs.lemmas.List.{length-map}
-use Rattle.std.proofs.lemmas.List.FromFn.{length-enumerate_from}
+use Rattle.std.specs.List.{list_all}
+use Rattle.std.proofs.lemmas.Bool.{and_parts, ltb-true}
 use Rattle.std.proofs.lemmas.Option.{slice_get_within}
 use Rattle.pgs_syntax.specs.declared.pattern.Atom.{Atom}
 use Rattle.pgs_syntax.specs.declared.pattern.Atom.TheVariants.{Ends, HasLabel, FitsNode, FitsEdge, Equals}
@@ -16,7 +12,7 @@ use Rattle.pgs_syntax.specs.Valid.{is_edge_var, speaks_of, read_var}
 use Rattle.pgs_key_standing.specs.Joint.{beside, numbers}
 use Rattle.pgs_key_standing.specs.Renamed.{renamed, renamed_expr}
 use Rattle.pgs_key_standing.proofs.Classes.{number_at, at_first}
-use Rattle.pgs_key_standing.proofs.Renamings.{SpeaksOfEnds, speaks_ends, edge_in, node_in, renamed_same, exprs_same}
+use Rattle.pgs_key_standing.proofs.Renamings.{speaks_ends, edge_in, node_in, renamed_same}
 
 pub beside_later : (count var : ℕ) → 0 < var → count + (var - 1) ≡ beside count var
 beside_later count zero lt = absurd (omega arith)

@@ -1,14 +1,13 @@
 -- The pairs of a match in a graph that can stand are as the placed pattern asks.
-use Rattle.std.proofs.Common.{◌≡◌, ℕ, suc, zero, ◌+◌, ◌<◌, Bool, true, false, ◌&&◌, ◌||◌, cond, List, [], ◌∷◌, map, length, Option, Some, None, slice_get, is_some, unwrap_or, refl, sym, ◌∙◌, ap, arith, ◌==◌}
+use Rattle.std.proofs.Common.{◌≡◌, ℕ, suc, zero, ◌+◌, Bool, true, false, ◌&&◌, ◌||◌, cond, List, [], ◌∷◌, map, length, Option, Some, None, slice_get, is_some, unwrap_or, refl, sym, ◌∙◌, ap, arith, ◌==◌}
 use Rattle.std.specs.Prelude.{option_and_then}
 use Rattle.std.specs.BTreeMap.{is_at}
 use Rattle.std.specs.Map.{lookup}
 use Rattle.std.specs.Option.{option_map_or, option_map}
-use Rattle.std.specs.Ordering.{is_eq}
 use Rattle.std.specs.List.{list_any, list_all}
 use Rattle.std.proofs.lemmas.Bool.{true≢false, and_parts, and_from, eqb-true}
 use Rattle.std.proofs.lemmas.List.{length-map}
-use Rattle.std.proofs.lemmas.Option.{same_Some, slice_get-map, slice_get_within}
+use Rattle.std.proofs.lemmas.Option.{same_Some, slice_get-map}
 use Rattle.pgs_base.specs.declared.element.EdgeId.{EdgeId}
 use Rattle.pgs_base.specs.declared.element.Elem.{Elem}
 use Rattle.pgs_base.specs.declared.element.Elem.TheVariants.{Node, Edge}
@@ -29,10 +28,10 @@ use Rattle.pgs_syntax.specs.Join.{PairTriple}
 use Rattle.pgs_syntax.specs.KeyValues.{part_of}
 use Rattle.pgs_syntax.specs.Matches.{same_elem, carried, leads, carries, holds, elements, are_there, same_value, is_node_of_type, is_edge_of_type}
 use Rattle.pgs_syntax.specs.Typed.{triple_at}
-use Rattle.pgs_syntax.specs.Valid.{is_edge_var, is_node_var, gives_ends}
+use Rattle.pgs_syntax.specs.Valid.{is_edge_var, gives_ends}
 use Rattle.pgs_syntax.proofs.Carried.{carried_pair}
 use Rattle.pgs_conform.specs.Shapes.{triple_of}
-use Rattle.pgs_standing.specs.Standing.{is_small, can_stand_node, can_stand_edge}
+use Rattle.pgs_standing.specs.Standing.{can_stand_node, can_stand_edge}
 use Rattle.pgs_key_standing.specs.Placed.{Placed, ends_of, passes_at, pass_at, asks, asks_present, stand_from, ask_all, IsPlaced, fits_places}
 use Rattle.pgs_key_standing.specs.Reach.{IsStanding}
 use Rattle.pgs_key_standing.proofs.Built.{to_zero}

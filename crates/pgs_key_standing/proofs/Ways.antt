@@ -1,14 +1,14 @@
 -- The ways to meet demands: one more way, and the demands behind the first.
-use Rattle.std.proofs.Common.{◌≡◌, ℕ, ◌+◌, ◌<◌, Bool, true, false, ◌&&◌, ◌||◌, List, [], ◌∷◌, ◌++◌, length, take, get_or, Option, Some, None, MatchBool, refl, sym, ◌∙◌, ap, ⊎_elim}
+use Rattle.std.proofs.Common.{◌≡◌, ℕ, ◌+◌, ◌<◌, Bool, true, false, ◌&&◌, ◌||◌, List, [], ◌∷◌, ◌++◌, length, take, get_or, Option, MatchBool, refl, sym, ◌∙◌, ap}
 use Rattle.std.specs.List.{list_any, list_all}
 use Rattle.std.proofs.Math.Bool.{or-false}
-use Rattle.std.proofs.lemmas.Bool.{true≢false, and_parts, and_from, and_left, and_right, or_cases, or_left, or_right, or_from, false_from_ne_true}
+use Rattle.std.proofs.lemmas.Bool.{and_parts, and_from, and_left, and_right}
 use Rattle.std.proofs.lemmas.List.{take_more}
 use Rattle.std.proofs.lemmas.List.Folds.{list_any-append, list_any_at}
 use Rattle.pgs_base.specs.declared.row.NodeRow.{NodeRow}
 use Rattle.pgs_conform.specs.declared.shape.Shape.{Shape}
 use Rattle.pgs_key_standing.specs.declared.demand.Demand.{Demand}
-use Rattle.pgs_key_standing.specs.Demands.{are_small, are_in, meets, in_way, in_some_way, meet_all, HaveSmall, LackSmall, CanMeet, CannotMeet}
+use Rattle.pgs_key_standing.specs.Demands.{are_small, are_in, meets, in_way, in_some_way, HaveSmall, LackSmall, CanMeet, CannotMeet}
 
 abbrev Pairs : Type 0
 Pairs = List NodeRow

@@ -1,6 +1,6 @@
 -- What a placed pattern asks where of each value that is written only the kind is asked, and whether the values that are written for
 -- one key at one place agree.
-use Rattle.std.specs.Prelude.{ℕ, Bool, true, false, ◌&&◌, ◌||◌, ◌==◌, not, List, [], ◌∷◌}
+use Rattle.std.specs.Prelude.{Bool, true, false, ◌&&◌, ◌||◌, ◌==◌, not, List, [], ◌∷◌}
 use Rattle.std.specs.Option.{option_map_or}
 use Rattle.std.specs.List.{list_all}
 use Rattle.pgs_base.specs.declared.row.NodeRow.{NodeRow}

@@ -1,6 +1,6 @@
 -- What a key of a guard can speak of, over graphs all of whose elements can stand: whether its scope can have an element, and whether an
 -- element of the scope can have a key value. Keys are left out of what can stand.
-use Rattle.std.specs.Prelude.{◌≡◌, ℕ, Bool, true, false, ◌||◌, nat_le, Option}
+use Rattle.std.specs.Prelude.{◌≡◌, ℕ, Bool, true, false, ◌||◌, List, [], ◌∷◌, nat_le}
 use Rattle.std.specs.Option.{option_map_or}
 use Rattle.std.specs.List.{list_all}
 use Rattle.pgs_base.specs.declared.element.EdgeId.{EdgeId}
@@ -64,3 +64,10 @@ IsReach resolved key reaches.NeverScope = LacksScope resolved key
 IsReach resolved key reaches.NeverValue = HasScope resolved key × LacksValue resolved key × (asks_values key.qualifiers ≡ false)
 IsReach resolved key reaches.Forbids = HasScope resolved key × LacksValue resolved key × (asks_values key.qualifiers ≡ true)
 IsReach resolved key reaches.Value = HasValue resolved key
+
+-- what keys reach, each in its turn
+abbrev pub AreReached : Resolved → List Key → List Reach → Type 0
+AreReached resolved [] [] = Unit {0}
+AreReached resolved [] (reach ∷ all) = ⊥
+AreReached resolved (key ∷ keys) [] = ⊥
+AreReached resolved (key ∷ keys) (reach ∷ all) = IsReach resolved key reach × AreReached resolved keys all

@@ -22,5 +22,5 @@ mod shapes;
 pub use demand::Demand;
 pub use laws::{scopes_are_by_places, values_are_by_places};
 pub use placed::Placed;
-pub use reach::key_reach;
+pub use reach::{key_reach, keys_reach};
 pub use reached::Reach;

@@ -6,7 +6,7 @@ ghost use Rattle.pgs_base.specs.declared.row.NodeRow.{NodeRow};
 ghost use Rattle.pgs_syntax.specs.Valid.{is_valid_key_of, names_types};
 ghost use Rattle.pgs_key_standing.specs.Demands.{are_in};
 ghost use Rattle.pgs_key_standing.specs.Placed.{HasPairs, LacksPairs};
-ghost use Rattle.pgs_key_standing.specs.Reach.{IsReach, asks_values, HasScope, LacksScope, HasValue, LacksValue};
+ghost use Rattle.pgs_key_standing.specs.Reach.{IsReach, asks_values, HasScope, LacksScope, HasValue, LacksValue, AreReached};
 
 use crate::asked::demands_of;
 use crate::joint::{scope_places, value_places};
@@ -102,4 +102,18 @@ pub fn key_reach(alloc: Global, schema: &Compiled, key: &Key) -> Result<Reach, M
         return Ok(Reach::Forbids);
     }
     Ok(Reach::NeverValue)
+}
+
+/// What each key of the guard reaches, in the guard's order, as `key_reach` says. `Memory` where there was none left.
+pub fn keys_reach(alloc: Global, schema: &Compiled) -> Result<Vec<Reach>, Memory>
+    ensures { IfOk result (λ all. AreReached schema.now schema.now.guard.keys all.items) }
+{
+    let mut all = Vec::new(alloc);
+    let mut left = schema.resolved().guard.keys.as_slice();
+    while let [key, later @ ..] = left {
+        let reach = key_reach(alloc, schema, key)?;
+        all.push(reach)?;
+        left = later;
+    }
+    Ok(all)
 }

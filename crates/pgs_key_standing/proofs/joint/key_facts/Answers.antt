@@ -1,4 +1,3 @@
-use Rattle.std.proofs.Common.{◌≤◌, length, arith}
 use Rattle.pgs_key_standing.proofs.Sound.{count_few, valid_sound, scope_valid, descriptor_valid, exprs_read, joint_sound}
 use Rattle.pgs_key_standing.proofs.joint.key_facts.Goals as goal
 

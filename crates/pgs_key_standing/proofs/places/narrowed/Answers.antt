@@ -1,4 +1,4 @@
-use Rattle.std.proofs.Common.{◌≤◌, List, ◌∷◌, ◌++◌, length, drop, sym, ◌∙◌, ap, subst, arith}
+use Rattle.std.proofs.Common.{List, ◌∷◌, ◌++◌, drop, sym, ◌∙◌, ap, subst, arith}
 use Rattle.pgs_conform.specs.declared.shape.Shape.{Shape}
 use Rattle.pgs_standing.specs.Common.{in_common}
 use Rattle.pgs_key_standing.specs.Demands.{AreSame}
