@@ -168,7 +168,7 @@ small_more places i shape (Some own) lt is h some before =
       before.0 ++ pair_in own ∷ [],
       small_append before.0 (pair_in own ∷ []) before.1 (and_from _ _ (and_from _ _ h.is_one parts.0) refl),
       ap (λ ss. are_in ss (before.0 ++ pair_in own ∷ [])) (take_more places i shape lt ∙ ap (λ y. take i places ++ y ∷ []) (sym is))
-      ∙ in_append (take i places) (shape ∷ []) before.0 (pair_in own ∷ []) before.2 (and_from _ _ parts.1 refl),
+          ∙ in_append (take i places) (shape ∷ []) before.0 (pair_in own ∷ []) before.2 (and_from _ _ parts.1 refl),
     )
 
 in_at : (places : List Shape) (i : ℕ) (d : Shape) (ps : Pairs) → i < length places → are_small ps ≡ true → are_in places ps ≡ true →

@@ -154,7 +154,7 @@ module _ (kinds : List Bool) (all : List Atom) (have : HaveEnds kinds all) where
       let first = slice_get_within kinds (ends_of all edge).0 false ends.0 in
       let second = slice_get_within kinds (ends_of all edge).1 false ends.1 in (
         together_keeps target (ends_of all edge).1 (together source (ends_of all edge).0 classes) source (ends_of all edge).0 (omega arith) (omega arith)
-        (together_joins source (ends_of all edge).0 classes (omega arith) (omega arith)),
+            (together_joins source (ends_of all edge).0 classes (omega arith) (omega arith)),
         together_joins target (ends_of all edge).1 (together source (ends_of all edge).0 classes) (omega arith) (omega arith),
       )
 

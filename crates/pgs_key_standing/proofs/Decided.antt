@@ -133,7 +133,7 @@ module _ (resolved : Resolved) (all : List Atom) where
           let one = asked_value ps place key value h in
           let other = asked_value ps there name second k in
           let same : Some value ≡ Some second = sym one ∙ ap (λ n. option_and_then (λ (p : NodeRow). value_at key p.props) (slice_get ps n)) (eqb-true place there e)
-              ∙ ap (λ n. option_and_then (λ (p : NodeRow). value_at n p.props) (slice_get ps there)) (name_is key name f) ∙ other in
+          ∙ ap (λ n. option_and_then (λ (p : NodeRow). value_at n p.props) (slice_get ps there)) (name_is key name f) ∙ other in
           ap (same_value value) (sym (same_Some value second same)) ∙ same_itself value
 
   one_agrees : (ps : Pairs) (atom : Atom) (atoms : List Atom) → asks resolved all ps atom ≡ true → list_all (asks resolved all ps) atoms ≡ true → list_all (agree atom) atoms ≡ true

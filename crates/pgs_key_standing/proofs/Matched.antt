@@ -129,9 +129,9 @@ module _ (resolved : Resolved) (pattern : Pattern) (exprs : List Expr) (whole : 
       let one = place_one resolved pattern whole g elems match.hold in
       let ok = is_placed pattern whole exprs in
       let hold : list_all (holds resolved g elems) (placed_of pattern exprs).atoms ≡ true =
-          sym (all_renamed resolved g pattern.edge_vars (place_of pattern) elems elems one pattern.atoms whole.speak) ∙ match.hold in
+      sym (all_renamed resolved g pattern.edge_vars (place_of pattern) elems elems one pattern.atoms whole.speak) ∙ match.hold in
       let present : list_all (λ expr. is_some (part_of g elems expr)) (placed_of pattern exprs).exprs ≡ true =
-          sym (parts_renamed resolved g pattern.edge_vars (place_of pattern) elems elems one exprs read) ∙ match.present in
+      sym (parts_renamed resolved g pattern.edge_vars (place_of pattern) elems elems one exprs read) ∙ match.present in
       record {
         ps = taken resolved (placed_of pattern exprs) ok g reached.standing elems match.there hold;
         pairs = taken_pairs resolved (placed_of pattern exprs) ok g reached.standing elems match.there hold;
@@ -206,9 +206,9 @@ module _ (resolved : Resolved) (pattern : Pattern) (exprs : List Expr) (sound : 
       let same : (v : ℕ) → v < length pattern.edge_vars → slice_get elems v ≡ slice_get (elems ++ more) v = λ v below. sym (get_first elems more v (omega arith)) in
       let at_edge : slice_get (elems ++ more) 0 ≡ Some (Edge listed.0) = sym (same 0 some) ∙ first.1 ∙ ap Some listed.2 in
       let at_source : slice_get (elems ++ more) (length pattern.edge_vars) ≡ Some (Node listed.1.source) =
-          ap (slice_get (elems ++ more)) (let e : length pattern.edge_vars ≡ length elems + 0 = omega arith in e) ∙ get_later elems more 0 in
+      ap (slice_get (elems ++ more)) (let e : length pattern.edge_vars ≡ length elems + 0 = omega arith in e) ∙ get_later elems more 0 in
       let at_target : slice_get (elems ++ more) (length pattern.edge_vars + 1) ≡ Some (Node listed.1.target) =
-          ap (slice_get (elems ++ more)) (let e : length pattern.edge_vars + 1 ≡ length elems + 1 = omega arith in e) ∙ get_later elems more 1 in (
+      ap (slice_get (elems ++ more)) (let e : length pattern.edge_vars + 1 ≡ length elems + 1 = omega arith in e) ∙ get_later elems more 1 in (
         elems ++ more,
         record {
           there = there_append g pattern.edge_vars (false ∷ false ∷ []) elems more match.there
@@ -364,7 +364,7 @@ module _ (resolved : Resolved) (key : Key) (valid : is_valid_key key ≡ true) w
       let some = (count_few key.scope (scope_valid key valid)).0 in
       let same : (v : ℕ) → v < length own → slice_get first v ≡ slice_get (first ++ drop 1 second) v = λ v below. sym (get_first first (drop 1 second) v (omega arith)) in
       let others : (v : ℕ) → v < length other → slice_get second v ≡ slice_get (first ++ drop 1 second) (beside (length own) v) =
-          λ v below. beside_at v size (starts_with elem second starts ∙ sym (starts_with elem first begins) ∙ same 0 some) in
+      λ v below. beside_at v size (starts_with elem second starts ∙ sym (starts_with elem first begins) ∙ same 0 some) in
       record {
         there = there_append g own (drop 1 other) first (drop 1 second) a.0 (there_dropped g other second b.0);
         hold = all_append (holds resolved g (first ++ drop 1 second)) key.scope.atoms _
@@ -408,16 +408,16 @@ module _ (resolved : Resolved) (key : Key) (valid : is_valid_key key ≡ true) w
       let begins : slice_get first 0 ≡ Some one.0 = gathered_at resolved g own all (λ v. v) keep elems there 0 some ∙ one.1 in
       let starts : slice_get second 0 ≡ Some one.0 = gathered_at resolved g other all (beside (length own)) keeps elems there 0 others ∙ one.1 in
       let scope : is_match resolved g key.scope first ≡ true =
-          and_from _ _ (gathered_there resolved g own all (λ v. v) keep elems there)
-          (gathered_holds resolved g own all (λ v. v) keep elems there key.scope.atoms (valid_sound key.scope (scope_valid key valid)).speak
-          (ap (list_all (holds resolved g elems)) (renamed_same key.scope.atoms) ∙ all_first (holds resolved g elems) key.scope.atoms _ reached.match.hold)) in
+      and_from _ _ (gathered_there resolved g own all (λ v. v) keep elems there)
+      (gathered_holds resolved g own all (λ v. v) keep elems there key.scope.atoms (valid_sound key.scope (scope_valid key valid)).speak
+      (ap (list_all (holds resolved g elems)) (renamed_same key.scope.atoms) ∙ all_first (holds resolved g elems) key.scope.atoms _ reached.match.hold)) in
       let descriptor : is_match resolved g key.descriptor second ≡ true =
-          and_from _ _ (gathered_there resolved g other all (beside (length own)) keeps elems there)
-          (gathered_holds resolved g other all (beside (length own)) keeps elems there key.descriptor.atoms (valid_sound key.descriptor (descriptor_valid key valid)).speak
-          (all_later (holds resolved g elems) key.scope.atoms _ reached.match.hold)) in
+      and_from _ _ (gathered_there resolved g other all (beside (length own)) keeps elems there)
+      (gathered_holds resolved g other all (beside (length own)) keeps elems there key.descriptor.atoms (valid_sound key.descriptor (descriptor_valid key valid)).speak
+      (all_later (holds resolved g elems) key.scope.atoms _ reached.match.hold)) in
       let present : list_all (λ expr. is_some (part_of g second expr)) key.exprs ≡ true =
-          parts_renamed resolved g other (beside (length own)) elems second (gathered_at resolved g other all (beside (length own)) keeps elems there) key.exprs (exprs_read key valid)
-          ∙ reached.match.present in
+      parts_renamed resolved g other (beside (length own)) elems second (gathered_at resolved g other all (beside (length own)) keeps elems there) key.exprs (exprs_read key valid)
+      ∙ reached.match.present in
       let tuple = tuple_there g second key.exprs present in
       record {
         g = g;

@@ -256,8 +256,10 @@ whole_from pattern few speak given = record {
 pub ends_whole : (pattern : Pattern) → IsSound pattern → IsWhole (with_ends pattern)
 ends_whole pattern sound = by (is_edge_var pattern.edge_vars 0) refl
   where
-    by : (b : Bool) → is_edge_var pattern.edge_vars 0 ≡ b → IsWhole (cond b (record { edge_vars = pattern.edge_vars ++ false ∷ false ∷ [];
-        atoms = Ends 0 (length pattern.edge_vars) (length pattern.edge_vars + 1) ∷ pattern.atoms }) pattern)
+    by : (b : Bool) → is_edge_var pattern.edge_vars 0 ≡ b → IsWhole (cond b (record {
+      edge_vars = pattern.edge_vars ++ false ∷ false ∷ [];
+      atoms = Ends 0 (length pattern.edge_vars) (length pattern.edge_vars + 1) ∷ pattern.atoms;
+    }) pattern)
     by true h = whole_from _ (wide_few pattern sound) (wide_speak pattern sound h) (wide_given pattern sound h)
     by false h = whole_from pattern (let few = sound.few in omega arith) sound.speak (own_given pattern sound h)
 
@@ -326,7 +328,7 @@ module _ (key : Key) (valid : is_valid_key key ≡ true) where
           let le : length own ≤ edge = grind (arith, nat_tests) in
           let e : length own + (edge - length own) ≡ edge = omega arith in
           let there : slice_get other (suc (edge - length own)) ≡ Some true =
-              sym (get_dropped other (edge - length own)) ∙ sym (get_later own (drop 1 other) (edge - length own)) ∙ ap (slice_get (joint key).edge_vars) e ∙ at in
+          sym (get_dropped other (edge - length own)) ∙ sym (get_later own (drop 1 other) (edge - length own)) ∙ ap (slice_get (joint key).edge_vars) e ∙ at in
           any_later (gives_ends edge) key.scope.atoms _
           (ap (λ n. list_any (gives_ends n) (map (renamed (beside (length own))) key.descriptor.atoms)) (sym e)
           ∙ gives_renamed (beside (length own)) (suc (edge - length own)) key.descriptor.atoms

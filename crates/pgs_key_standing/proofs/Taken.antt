@@ -52,9 +52,13 @@ node_listed (Node id) (n ∷ nodes) h = by (node_listed (Node id) nodes) (is_at 
         (other : NodeId) × (p : NodeRow) × (Node id ≡ Node other) × (lookup (is_at (node_cmp other)) (n ∷ nodes) ≡ Some p)
     by rest true e h = (id, n.1, refl, ap (λ b. cond b (Some n.1) (lookup (is_at (node_cmp id)) nodes)) e)
     by rest false e h =
-        let later = rest h in
-        (id, later.1, refl, ap (λ b. cond b (Some n.1) (lookup (is_at (node_cmp id)) nodes)) e
-        ∙ ap (λ other. lookup (is_at (node_cmp other)) nodes) (one_node id later.0 later.2) ∙ later.3)
+        let later = rest h in (
+          id,
+          later.1,
+          refl,
+          ap (λ b. cond b (Some n.1) (lookup (is_at (node_cmp id)) nodes)) e
+              ∙ ap (λ other. lookup (is_at (node_cmp other)) nodes) (one_node id later.0 later.2) ∙ later.3,
+        )
       where
         one_node : (a b : NodeId) → Node a ≡ Node b → a ≡ b
         one_node a b e = cc
@@ -70,9 +74,13 @@ edge_listed (Edge id) (n ∷ edges) h = by (edge_listed (Edge id) edges) (is_at 
         (other : EdgeId) × (row : EdgeRow) × (Edge id ≡ Edge other) × (lookup (is_at (edge_cmp other)) (n ∷ edges) ≡ Some row)
     by rest true e h = (id, n.1, refl, ap (λ b. cond b (Some n.1) (lookup (is_at (edge_cmp id)) edges)) e)
     by rest false e h =
-        let later = rest h in
-        (id, later.1, refl, ap (λ b. cond b (Some n.1) (lookup (is_at (edge_cmp id)) edges)) e
-        ∙ ap (λ other. lookup (is_at (edge_cmp other)) edges) (one_edge id later.0 later.2) ∙ later.3)
+        let later = rest h in (
+          id,
+          later.1,
+          refl,
+          ap (λ b. cond b (Some n.1) (lookup (is_at (edge_cmp id)) edges)) e
+              ∙ ap (λ other. lookup (is_at (edge_cmp other)) edges) (one_edge id later.0 later.2) ∙ later.3,
+        )
       where
         one_edge : (a b : EdgeId) → Edge a ≡ Edge b → a ≡ b
         one_edge a b e = cc
@@ -188,10 +196,10 @@ module _ (resolved : Resolved) (placed : Placed) (ok : IsPlaced placed) (g : Gra
       let source = then_some _ (node_at g row.source) t ends in
       let target = map_some _ (node_at g row.target) t source.2 in (
         stood (ends_of placed.atoms j).0 (Node ways.from) t.source ways.source_is
-        (ap (node_at g) (one_node ways.from row.source (sym (eqb-true ways.row.source.0 ways.from.0 nodes.0) ∙ ap (λ (r : EdgeRow). r.source.0) same)) ∙ source.1 ∙ ap (λ (u : PairTriple). Some u.source) target.2),
+            (ap (node_at g) (one_node ways.from row.source (sym (eqb-true ways.row.source.0 ways.from.0 nodes.0) ∙ ap (λ (r : EdgeRow). r.source.0) same)) ∙ source.1 ∙ ap (λ (u : PairTriple). Some u.source) target.2),
         stood j (Edge id) t.own at (ap (option_map (λ (r : EdgeRow). pair_of r.labels r.props)) is ∙ ap (λ (u : PairTriple). Some u.own) target.2),
         stood (ends_of placed.atoms j).1 (Node ways.to) t.target ways.target_is
-        (ap (node_at g) (one_node ways.to row.target (sym (eqb-true ways.row.target.0 ways.to.0 nodes.1) ∙ ap (λ (r : EdgeRow). r.target.0) same)) ∙ target.1 ∙ ap (λ (u : PairTriple). Some u.target) target.2),
+            (ap (node_at g) (one_node ways.to row.target (sym (eqb-true ways.row.target.0 ways.to.0 nodes.1) ∙ ap (λ (r : EdgeRow). r.target.0) same)) ∙ target.1 ∙ ap (λ (u : PairTriple). Some u.target) target.2),
       )
     where
       one_edge : (a b : EdgeId) → Some (Edge a) ≡ Some (Edge b) → a ≡ b

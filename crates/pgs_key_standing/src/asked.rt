@@ -25,12 +25,10 @@ use std::alloc::Global;
 fn push_at(place: u32, shapes: List<Shape>, demands: &mut Vec<Demand>) -> Result<(), Memory>
     ensures { OnOk result ((test : NodeRow → Bool) → Denotes shapes test → Adds demands.old.items demands.new.items (λ ps. passes_at ps place test)) }
 {
-    demands.push(
-        Demand::One {
-            place: place as usize,
-            shapes,
-        },
-    )?;
+    demands.push(Demand::One {
+        place: place as usize,
+        shapes,
+    })?;
     Ok(())
 }
 
@@ -43,14 +41,12 @@ fn push_three(
 ) -> Result<(), Memory>
     ensures { OnOk result ((test : PairTriple → Bool) → DenotesTriples triples test → Adds demands.old.items demands.new.items (λ ps. pass_at ps edge ends test)) }
 {
-    demands.push(
-        Demand::Three {
-            source: ends.0 as usize,
-            middle: edge as usize,
-            target: ends.1 as usize,
-            triples,
-        },
-    )?;
+    demands.push(Demand::Three {
+        source: ends.0 as usize,
+        middle: edge as usize,
+        target: ends.1 as usize,
+        triples,
+    })?;
     Ok(())
 }
 

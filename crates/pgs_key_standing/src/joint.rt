@@ -25,7 +25,8 @@ pub(crate) fn ends_of(atoms: &[Atom], edge: u32) -> (u32, u32)
             edge: of,
             source,
             target,
-        } = atom {
+        } = atom
+        {
             if edge == *of {
                 return (*source, *target);
             }
@@ -117,7 +118,12 @@ fn placed_of(alloc: Global, pattern: &Pattern, exprs: &[Expr]) -> Result<Placed,
 {
     let classes = classes_of(alloc, pattern)?;
     let mut atoms = Vec::new(alloc);
-    push_renamed(alloc, pattern.atoms.as_slice(), classes.as_slice(), &mut atoms)?;
+    push_renamed(
+        alloc,
+        pattern.atoms.as_slice(),
+        classes.as_slice(),
+        &mut atoms,
+    )?;
     let others = renamed_exprs(alloc, exprs, classes.as_slice())?;
     let kinds = List::from_slice(alloc, pattern.edge_vars.as_slice())?;
     Ok(Placed {
@@ -207,11 +213,7 @@ fn widened(alloc: Global, pattern: &Pattern) -> Result<Pattern, Memory>
 fn is_edge_var(kinds: &[bool], var: usize) -> bool
     ensures { result ≡ is_edge_var kinds.now var }
 {
-    if var < kinds.len() {
-        kinds[var]
-    } else {
-        false
-    }
+    if var < kinds.len() { kinds[var] } else { false }
 }
 
 // A pattern with the ends of variable 0 where that is an edge.
@@ -260,7 +262,12 @@ fn joint(alloc: Global, key: &Key) -> Result<Pattern, Memory>
     key_facts(key);
     let mut atoms = Vec::new(alloc);
     push_copies(alloc, &key.scope, &mut atoms)?;
-    push_beside(alloc, key.scope.edge_vars.len() as u32, &key.descriptor, &mut atoms)?;
+    push_beside(
+        alloc,
+        key.scope.edge_vars.len() as u32,
+        &key.descriptor,
+        &mut atoms,
+    )?;
     let edge_vars = joint_kinds(alloc, key)?;
     Ok(Pattern {
         edge_vars,

@@ -53,7 +53,8 @@ fn agree(first: &Atom, second: &Atom) -> bool
         var: other,
         key: name,
         value: wanted,
-    } = second else {
+    } = second
+    else {
         return true;
     };
     if *var != *other {

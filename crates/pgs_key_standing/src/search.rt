@@ -81,11 +81,7 @@ fn ways_of(alloc: Global, places: &[Shape], demand: &Demand) -> Result<List<List
 
 /// Whether there are pairs in the shapes of the places that meet all demands. Its work grows with the product of the numbers of ways
 /// to meet each.
-pub(crate) fn can_meet(
-    alloc: Global,
-    places: &[Shape],
-    demands: &[Demand],
-) -> Result<bool, Memory>
+pub(crate) fn can_meet(alloc: Global, places: &[Shape], demands: &[Demand]) -> Result<bool, Memory>
     ensures { IfOk result (λ can. MatchBool can (CanMeet places.now demands.now) (CannotMeet places.now demands.now)) }
 {
     let [demand, later @ ..] = demands else {
