@@ -65,12 +65,7 @@ fn reach_at(reached: &[Reach], place: usize) -> Reach
 }
 
 // Puts the line of what a key reaches last, where there is one.
-fn push_reach(
-    alloc: Global,
-    number: u64,
-    reach: Reach,
-    lines: &mut Vec<Line>,
-) -> Result<(), Memory>
+fn push_reach(alloc: Global, number: u64, reach: Reach, lines: &mut Vec<Line>) -> Result<(), Memory>
     ensures { OnOk result (lines.new.items ≡ lines.old.items ++ reach_lines number reach) }
 {
     match reach {

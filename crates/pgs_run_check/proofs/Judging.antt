@@ -1,30 +1,21 @@
--- Keys whose reaches are found one after another; and all lines of a text, by what was put.
-use Rattle.std.proofs.Common.{◌≡◌, ℕ, List, [], ◌∷◌, ◌++◌, sym, ap, subst, ◌∙◌, append_assoc}
+-- All lines of a text, by what was put.
+use Rattle.std.proofs.Common.{◌≡◌, ℕ, List, ◌++◌, ap, subst, ◌∙◌, append_assoc}
 use Rattle.pgs_lexer.specs.Token.{Lexeme}
-use Rattle.pgs_syntax.specs.declared.key.Key.{Key}
 use Rattle.pgs_syntax.specs.declared.resolved.Resolved.{Resolved}
 use Rattle.pgs_syntax.specs.declared.resolved.TypeNo.{TypeNo}
 use Rattle.pgs_syntax.specs.declared.script.Script.{Script}
 use Rattle.pgs_key_standing.specs.declared.reached.Reach.{Reach}
-use Rattle.pgs_key_standing.specs.Reach.{IsReach}
+use Rattle.pgs_key_standing.specs.Reach.{AreReached}
 use Rattle.pgs_advice_lines.specs.declared.line.Line.{Line}
 use Rattle.pgs_advice_lines.specs.Telling.{guard_lines, advice_lines}
 use Rattle.pgs_run_contain.specs.Answers.{listed}
 use Rattle.pgs_run_check.specs.Examples.{example_lines, type_lines, AreExamples, HasTypes}
-use Rattle.pgs_run_check.specs.Judged.{AreReaches, HasLinesOf}
+use Rattle.pgs_run_check.specs.Judged.{HasLinesOf}
 use Rattle.pgs_run_check.specs.Read.{tokens_in, script_in}
-
--- one key more
-pub reaches_on : (resolved : Resolved) (keys : List Key) (reached : List Reach) (key : Key) (reach : Reach) → AreReaches resolved keys reached → IsReach resolved key reach
-    → AreReaches resolved (keys ++ key ∷ []) (reached ++ reach ∷ [])
-reaches_on resolved [] [] key reach so_far is = (is, tt)
-reaches_on resolved [] (other ∷ reached) key reach so_far is = absurd so_far
-reaches_on resolved (other ∷ keys) [] key reach so_far is = absurd so_far
-reaches_on resolved (other ∷ keys) (own ∷ reached) key reach so_far is = (so_far.0, reaches_on resolved keys reached key reach so_far.1 is)
 
 -- all lines of a text
 pub gathered : (text : List ℕ) (compiled : Resolved) (tokens : List Lexeme) (script : Script) (resolved : Resolved) (one two three : List Line) (numbers : List TypeNo) (reached own : List Reach) →
-    tokens ≡ tokens_in text → script ≡ script_in text → resolved ≡ compiled → numbers ≡ compiled.guard.types → reached ≡ own → AreReaches compiled compiled.guard.keys own →
+    tokens ≡ tokens_in text → script ≡ script_in text → resolved ≡ compiled → numbers ≡ compiled.guard.types → reached ≡ own → AreReached compiled compiled.guard.keys own →
     one ≡ guard_lines script resolved.guard → HasTypes compiled numbers one two → three ≡ two ++ advice_lines tokens script resolved reached → HasLinesOf text compiled three
 gathered text compiled tokens script resolved one two three numbers reached own tokens_are script_is same listed_are reached_are keys before types after = record {
   judged = record { types = types.answers; keys = own };

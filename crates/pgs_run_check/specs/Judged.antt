@@ -1,9 +1,8 @@
 -- What a check judges of a guard: each type that isn't abstract, and what each key reaches; and the lines by that.
-use Rattle.std.specs.Prelude.{◌≡◌, ℕ, List, [], ◌∷◌}
-use Rattle.pgs_syntax.specs.declared.key.Key.{Key}
+use Rattle.std.specs.Prelude.{◌≡◌, ℕ, List, []}
 use Rattle.pgs_syntax.specs.declared.resolved.Resolved.{Resolved}
 use Rattle.pgs_key_standing.specs.declared.reached.Reach.{Reach}
-use Rattle.pgs_key_standing.specs.Reach.{IsReach}
+use Rattle.pgs_key_standing.specs.Reach.{AreReached}
 use Rattle.pgs_advice_lines.specs.declared.line.Line.{Line}
 use Rattle.pgs_advice_lines.specs.Telling.{lines_of}
 use Rattle.pgs_run_contain.specs.Answers.{Answer, listed}
@@ -18,17 +17,10 @@ pub record Judgement : Type 0 where
 abbrev pub no_judgement : Judgement
 no_judgement = record { types = []; keys = [] }
 
--- each of these keys reaches what is said of it
-abbrev pub AreReaches : Resolved → List Key → List Reach → Type 0
-AreReaches resolved [] [] = Unit {0}
-AreReaches resolved [] (reach ∷ reached) = ⊥
-AreReaches resolved (key ∷ keys) [] = ⊥
-AreReaches resolved (key ∷ keys) (reach ∷ reached) = IsReach resolved key reach × AreReaches resolved keys reached
-
 -- what is judged is right
 pub record IsJudged (resolved : Resolved) (judged : Judgement) : Type 0 where
   pub types : AreExamples resolved (listed resolved resolved.guard.types) judged.types
-  pub keys : AreReaches resolved resolved.guard.keys judged.keys
+  pub keys : AreReached resolved resolved.guard.keys judged.keys
 
 -- the lines of a text whose schema this is
 abbrev pub lines_by : List ℕ → Resolved → Judgement → List Line

@@ -9,13 +9,13 @@ ghost use Rattle.pgs_run_check.specs.Told.{told_lines};
 ghost use Rattle.pgs_schema.specs.Told.{IsRefused};
 ghost use Rattle.std.specs.Prelude.{IfOk};
 
-use crate::reaches::reaches_of;
 use crate::reading::{script_in, tokens_in};
 use crate::types::push_types;
 use pgs_advice_lines::{Line, pieces_of, push_advice, push_guard, some_warns};
 use pgs_base::Memory;
 use pgs_command::Status;
 use pgs_conform::Compiled;
+use pgs_key_standing::keys_reach;
 use pgs_resolve_declared::Declarations;
 use pgs_run_input::refused_line;
 use pgs_run_lines::{Reply, put_pieces, put_reply};
@@ -67,7 +67,7 @@ fn lines_in(alloc: Global, text: &[u8], compiled: &Compiled) -> Result<Vec<Line>
     let tokens = tokens_in(alloc, text)?;
     let script = script_in(alloc, text, &tokens)?;
     let declarations = Declarations::new(alloc, &script)?;
-    let reached = reaches_of(alloc, compiled)?;
+    let reached = keys_reach(alloc, compiled)?;
     let mut lines = Vec::new(alloc);
     push_guard(alloc, &declarations, &resolved.guard, &mut lines)?;
     push_types(alloc, compiled, resolved.guard.types.as_slice(), &mut lines)?;

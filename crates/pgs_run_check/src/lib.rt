@@ -6,7 +6,6 @@
 #![tactic(auto)]
 
 mod answering;
-mod reaches;
 mod reading;
 mod run;
 mod types;
