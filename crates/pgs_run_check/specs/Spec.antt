@@ -40,6 +40,7 @@ schema_spec =
       ReadsInVain = kept.ReadsInVain;
       Leaves = kept.Leaves;
       Feeds = kept.Feeds;
+      Gives = kept.Gives;
     }
 
 -- the one word that the program knows
