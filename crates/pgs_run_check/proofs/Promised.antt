@@ -1,5 +1,5 @@
 -- The promise of a check, by what the reading of its text gave and by what was done with it.
-use Rattle.std.proofs.Common.{◌≡◌, ℕ, Bool, true, false, List, [], refl, sym, ap, subst, ◌∙◌}
+use Rattle.std.proofs.Common.{◌≡◌, ℕ, Bool, true, false, List, refl, sym, ap, subst, ◌∙◌}
 use Rattle.pgs_run_lines.specs.AreasKept.{KeepsAreas, keeps_none}
 use Rattle.pgs_run_lines.specs.Ending.{Faults}
 use Rattle.pgs_world.specs.Moment.{IsTimed}

@@ -1,5 +1,5 @@
 -- What putting lines does, by what its calls did.
-use Rattle.std.proofs.Common.{◌≡◌, ℕ, List, [], Result, Ok, Err, refl}
+use Rattle.std.proofs.Common.{◌≡◌, ℕ, List, Result, Ok, Err, refl}
 use Rattle.pgs_run_lines.specs.AreasKept.{KeepsAreas, keeps_none}
 use Rattle.pgs_run_lines.specs.Ending.{faults_of, PutsRose}
 use Rattle.pgs_run_lines.specs.Machine.{Told}
