@@ -143,10 +143,12 @@ class Kills(StoreTest):
         with Store(name) as store:
             store.apply(person(1))
             os.rename(f"{name}.a", f"{name}.away")
-            with self.assertRaisesRegex(Fault, "people.a: was replaced or removed, ended with status 5, 1 undecided"):
+            with self.assertRaisesRegex(Fault, "people.a: was replaced or removed, ended with status 5, 1 undecided") as caught:
                 store.apply(person(2))
             os.rename(f"{name}.away", f"{name}.a")
-            self.assertEqual(store.apply(person(2)), 2)
+            # The name is looked at behind the last sync of a commit, so this one is in the file that was away.
+            self.assertEqual(store.commits() - caught.exception.commits, 1)
+            self.assertEqual(store.apply(person(3)), 3)
 
 
 def element_number(transaction):

@@ -1,5 +1,5 @@
 -- A small shape, and its differences from small pairs.
-use Rattle.std.specs.Prelude.{ℕ, false, List, [], ◌∷◌, codes, refl}
+use Rattle.std.specs.Prelude.{false, List, [], ◌∷◌, codes, refl}
 use Rattle.pgs_base.specs.declared.value.Kind.TheVariants as kinds
 use Rattle.pgs_conform.specs.declared.shape.Shape.{Shape}
 use Rattle.pgs_conform.specs.Samples.{a_number, at_k}

@@ -2,7 +2,6 @@
 use Rattle.std.proofs.Common.{◌≡◌, ◌⊎◌, inl, inr, ⊎_elim, ℕ, ◌+◌, ◌^◌, ◌==◌, Bool, true, false, nat_le, IsTrue, List, [], ◌∷◌, ◌++◌, length, Option, Some, None, Result, Ok, Err, refl, sym, ap, ap₂, subst, ◌∙◌}
 use Rattle.std.proofs.lemmas.List.{append-nil}
 use Rattle.pgs_answer.specs.Lines.{checkpoint_line}
-use Rattle.pgs_feed.specs.Places.{lost_count}
 use Rattle.pgs_run_lines.specs.Machine.{Told}
 use Rattle.pgs_run_lines.specs.Pieces.{Shown, ShowsAll, shown_of}
 use Rattle.pgs_run_lines.proofs.Showing.{shows_none, shows_on}
@@ -16,7 +15,6 @@ use Rattle.pgs_violation.specs.declared.violation.Verdict.TheVariants.{Conforms,
 use Rattle.pgs_violation.specs.Violations.{verdict}
 use Rattle.pgs_run_words.specs.declared.command.Command.{Command}
 use Rattle.pgs_run_words.specs.declared.command.Command.TheVariants.{Load, Apply, Recover, Checkpoint, Evolve}
-use Rattle.pgs_run_words.specs.Words.{command_of}
 use Rattle.pgs_world.specs.World.{View}
 use Rattle.pgs_command.specs.declared.status.Status.{Status}
 use Rattle.pgs_command.specs.declared.status.Status.TheVariants.{Accepted, Refused, SchemaRefused, StoreRefused, DiskFault, Memory, InputTooLong}
@@ -39,6 +37,7 @@ use Rattle.pgs_command.specs.Promise.{Knows, Promise, Runs}
 use Rattle.pgs_command.specs.Setting.{Setting}
 use Rattle.pgs_command.specs.Spec.{CommandSpec}
 use Rattle.pgs_run.specs.Commands.{spec_named, spec_of}
+use Rattle.pgs_run_laws.specs.Crashes.{Stands}
 use Rattle.pgs_run_laws.specs.Sequence.{Applied, Deed, Does, DoAll, Evolved, Ran, Renewed, after_deed, after_deeds, epoch_after, new_store, told_deed, told_deeds, told_sequence, under_text, under_verdict}
 
 -- ---- a run that ended with 0 or 1
@@ -52,12 +51,6 @@ done_shows start now said status (inl is) ends =
     let at = subst (λ (s : Status). Ends start said s now) is ends in (at.0, at.1 ∙ sym is)
 done_shows start now said status (inr is) ends =
     let at = subst (λ (s : Status). Ends start said s now) is ends in (at.0, at.1 ∙ sym is)
-
--- where the store of a view stands
-record Stands (it : SavedStore) (epoch : ℕ) (view : View) : Type 0 where
-  pub saves : Saves it view.shown
-  pub epoch_is : chosen_epoch view.shown.a view.shown.b ≡ Some epoch
-  pub tells : IsTrue view.tells_bytes
 
 -- what is told of a view that saves this store
 told_stands : (view : View) (it : SavedStore) (go : SavedStore → Told Status) → Saves it view.shown → told_of_areas (areas_of view) go ≡ go it
@@ -170,10 +163,10 @@ renewed_if true epoch it status e done same =
     absurd (⊎_elim (λ (d : status ≡ Accepted). let no : StoreRefused ≡ Accepted = refused ∙ d in cc) (λ (d : status ≡ Refused). let no : StoreRefused ≡ Refused = refused ∙ d in cc) done)
 renewed_if false epoch it status e done same = rw e refl
 
-same_epoch : (x y : ℕ) → Some x ≡ Some y → x ≡ y
+pub same_epoch : (x y : ℕ) → Some x ≡ Some y → x ≡ y
 same_epoch x y is = cc
 
-told_renewed : (it : SavedStore) (epoch : ℕ) (old : View) → Stands it epoch old → told_checkpoint (areas_of old) ≡ told_by (Some epoch) it
+pub told_renewed : (it : SavedStore) (epoch : ℕ) (old : View) → Stands it epoch old → told_checkpoint (areas_of old) ≡ told_by (Some epoch) it
 unfolding told_checkpoint
 told_renewed it epoch old stands =
     told_stands old it (told_by (chosen_epoch old.shown.a old.shown.b)) stands.saves ∙ ap (λ (e : Option ℕ). told_by e it) stands.epoch_is
@@ -280,13 +273,13 @@ does it epoch Renewed old new stands ran = renews it epoch ran.0 ran.1 old new s
 does it epoch (Evolved input) old new stands ran = evolves it epoch input ran.0 old new stands ran.1
 
 -- what runs lead to
-record All (it : SavedStore) (pieces : List (List ℕ)) (old new : View) : Type 0 where
+pub record All (it : SavedStore) (pieces : List (List ℕ)) (old new : View) : Type 0 where
   pub epoch : ℕ
   pub stands : Stands it epoch new
   pub shown : ShowsAll (shown_of old) pieces (shown_of new)
 
 module _ {W : Type 0} (view : W → View) where
-  do_all : (it : SavedStore) (epoch : ℕ) (deeds : List Deed) (old new : W) → Stands it epoch (view old) → DoAll view deeds old new
+  pub do_all : (it : SavedStore) (epoch : ℕ) (deeds : List Deed) (old new : W) → Stands it epoch (view old) → DoAll view deeds old new
       → All (after_deeds it deeds) (told_deeds it epoch deeds) (view old) (view new)
   do_all it epoch [] old new stands same = record {
     epoch = epoch;

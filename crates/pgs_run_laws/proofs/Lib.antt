@@ -4,7 +4,9 @@ pub mod Ahead
 pub mod Areas
 pub mod AtOnce
 pub mod Behind
+pub mod Compared
 pub mod Conformed
+pub mod Crashed
 pub mod Cut
 pub mod Dumped
 pub mod DumpLines

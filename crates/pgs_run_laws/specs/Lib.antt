@@ -1,3 +1,5 @@
+pub mod Compared
+pub mod Crashes
 pub mod DumpOps
 pub mod Lines
 pub mod Sequence

@@ -1,6 +1,6 @@
 //! That the commands agree with one another on a saved store. The functions do nothing of their own; their contracts are the statements.
 
-ghost use Rattle.std.specs.Prelude.{◌≡◌, ◌<◌, ◌≤◌, ℕ, List, [], ◌∷◌, ◌++◌, length, slice_index, Some, Ok, IsTrue};
+ghost use Rattle.std.specs.Prelude.{◌≡◌, ◌⊎◌, ◌<◌, ◌≤◌, ℕ, List, [], ◌∷◌, ◌++◌, length, slice_index, Some, Ok, IsTrue};
 ghost use Rattle.std.specs.List.{concat};
 ghost use Rattle.pgs_base.specs.declared.limits.Limits.{Limits};
 ghost use Rattle.pgs_base.specs.Graph.{Graph, element_count, empty_graph};
@@ -11,7 +11,11 @@ ghost use Rattle.pgs_snapshot.specs.Saved.{saved, store};
 ghost use Rattle.pgs_violation.specs.Decision.{decide};
 ghost use Rattle.pgs_violation.specs.Violations.{verdict};
 ghost use Rattle.pgs_syntax.specs.declared.resolved.Resolved.{Resolved};
-ghost use Rattle.pgs_run_words.specs.declared.command.Command.TheVariants.{Load, Recover, Validate};
+ghost use Rattle.pgs_run_words.specs.declared.command.Command.TheVariants.{Contain, Load, Recover, Validate};
+ghost use Rattle.pgs_world.specs.Moment.{IsSettled};
+ghost use Rattle.pgs_world.specs.World.{Triple};
+ghost use Rattle.pgs_run_load.specs.Told.{line_of};
+ghost use Rattle.pgs_run_store.specs.Refusing.{SavedStore};
 ghost use Rattle.pgs_run_lines.specs.Pieces.{ShowsAll, shown_of};
 ghost use Rattle.pgs_store.specs.Loads.{FindsNone};
 ghost use Rattle.pgs_command.specs.declared.status.Status.TheVariants.{Accepted};
@@ -19,8 +23,10 @@ ghost use Rattle.pgs_run_input.specs.Answers.{schema_answer};
 ghost use Rattle.pgs_command.specs.Areas.{Areas};
 ghost use Rattle.pgs_run_input.specs.Session.{standard};
 ghost use Rattle.pgs_run.specs.Commands.{spec_of};
+ghost use Rattle.pgs_run_laws.specs.Compared.{IsCompared};
+ghost use Rattle.pgs_run_laws.specs.Crashes.{DoesInto, IsBegun, Leaves, LeavesNone, RanInto, ShowsImages, Stands};
 ghost use Rattle.pgs_run_laws.specs.Lines.{IsLineStart};
-ghost use Rattle.pgs_run_laws.specs.Sequence.{Deed, DoAll, Ran, told_sequence};
+ghost use Rattle.pgs_run_laws.specs.Sequence.{Deed, DoAll, Ran, new_store, told_deeds, told_sequence};
 
 use pgs_world::World;
 
@@ -76,4 +82,37 @@ pub fn runs_add_up<W: World>()
         → IsTrue (W.view first).tells_bytes → FindsNone (W.view first) → schema_answer text ≡ Ok schema
         → Ran Load text lost (W.view first) (W.view loaded) → DoAll W.view deeds loaded last → Ran Recover input failed (W.view last) (W.view done)
         → ShowsAll (shown_of (W.view first)) (told_sequence text schema deeds) (shown_of (W.view done)) }
+{}
+
+/// What `contain` answers to two schemas holds of all graphs. Where a run of it ended with 0, over a source that tells fewer bytes than its
+/// budget, both texts are schemas, and each type of the first guard that isn't abstract is contained in the second. So where the first guard
+/// is strict and the second one's keys ask no more, each graph that conforms to the first schema conforms to the second.
+pub fn what_is_contained_is_kept<W: World>()
+    ensures { (input : List ℕ) (lost : ℕ) (old new : W) → length input < BUDGET
+        → (ran : Ran Contain input lost (W.view old) (W.view new)) → ran.status ≡ Accepted → IsCompared input }
+{
+    pgs_schema_order::laws::what_asks_no_more_is_kept();
+}
+
+/// A crash inside a run of `apply`, `checkpoint` or `evolve`, which began on a world that tells its bytes and output and on which nothing is
+/// pending, and ended with any status, leaves the store after the first changes of the run: those whose lines are out whole, or one more
+/// (`Leaves`). Runs behind it, over any world that shows the images that the crash left, go on from that store: they print what deciding
+/// their inputs from there on prints.
+pub fn a_crash_leaves_a_front<V: World, W: World>()
+    ensures { (it : SavedStore) (epoch : ℕ) (deed : Deed) (deeds : List Deed) (old new : V) (fresh last : W) (crash : Triple)
+        → Stands it epoch (V.view old) → IsSettled (V.view old) → IsTrue (V.view old).tells_output → DoesInto deed (V.view old) (V.view new)
+        → (V.view new).left_since (V.view old).moment crash → ShowsImages crash (W.view fresh) → DoAll W.view deeds fresh last
+        → (now : SavedStore) × (later : ℕ) × Leaves deed it epoch (V.view old).shown crash now later
+        × ShowsAll (shown_of (W.view fresh)) (told_deeds now later deeds) (shown_of (W.view last)) }
+{}
+
+/// A crash inside a run of `load` of a schema, which began where both areas are free, on a world that tells its bytes and output and on
+/// which nothing is pending, and ended with any status, leaves nothing, and then the line of what was loaded isn't out; or it leaves the
+/// new store, and runs behind it, over any world that shows the images that the crash left, go on from there.
+pub fn a_crash_in_load_leaves_all_or_nothing<V: World, W: World>()
+    ensures { (text : List ℕ) (schema : Resolved) (lost : ℕ) (deeds : List Deed) (old new : V) (fresh last : W) (crash : Triple)
+        → FindsNone (V.view old) → IsSettled (V.view old) → IsTrue (V.view old).tells_output → schema_answer text ≡ Ok schema
+        → RanInto Load text lost (V.view old) (V.view new) → (V.view new).left_since (V.view old).moment crash
+        → ShowsImages crash (W.view fresh)
+        → LeavesNone (line_of schema) (V.view old).shown crash ⊎ IsBegun W.view (new_store text schema) deeds fresh last }
 {}

@@ -1,0 +1,10 @@
+use Rattle.std.proofs.Common.{◌≡◌, ◌≤◌, true, take}
+use Rattle.std.specs.List.{list_all}
+use Rattle.pgs_pattern_end.specs.End.{is_defined}
+use Rattle.pgs_pattern_end.proofs.ending.expression_end.Given as goal
+
+abbrev pub invariant-loop-part : goal.invariant-loop-part
+invariant-loop-part g l = record {
+  met : list_all (is_defined l.compiled (g.G.GraphRead.meaning l.graph) l.elem) (take l.part l.fronts) ≡ true;
+  no_step_back : l.fn.steps ≤ l.steps;
+}
