@@ -24,6 +24,13 @@ never_line name = codes "never " ++ (name ++ codes "\n")
 unfoldable pub key_line : ℕ → List ℕ → List ℕ
 key_line number text = codes "key " ++ (decimal number ++ (codes " " ++ (text ++ codes "\n")))
 
+-- a key that reaches nothing: no graph has an element in its scope, or a value of one; and one that forbids its scope so
+unfoldable pub never_reached_line : ℕ → List ℕ → List ℕ
+never_reached_line number word = codes "never " ++ (decimal number ++ (codes " " ++ (word ++ codes "\n")))
+
+unfoldable pub forbids_line : ℕ → List ℕ
+forbids_line number = codes "forbids " ++ (decimal number ++ codes "\n")
+
 -- a qualifier of a key that no graph breaks
 unfoldable pub void_line : ℕ → List ℕ → List ℕ
 void_line number word = codes "void " ++ (decimal number ++ (codes " " ++ (word ++ codes "\n")))

@@ -1,7 +1,7 @@
 //! The lines of a check.
 
 ghost use Rattle.std.specs.Prelude.{◌≡◌, ◌++◌, codes, decimal, IfOk, OnOk};
-ghost use Rattle.pgs_advice_lines.specs.Lines.{mode_text, guard_line, type_line, never_line, key_line, void_line, nothing_line, unused_line, unused_graph_line, word_text, unknown_line};
+ghost use Rattle.pgs_advice_lines.specs.Lines.{mode_text, guard_line, type_line, never_line, key_line, never_reached_line, forbids_line, void_line, nothing_line, unused_line, unused_graph_line, word_text, unknown_line};
 
 use pgs_advice::Unknown;
 use pgs_base::{Bytes, Memory, Name};
@@ -103,6 +103,25 @@ pub(crate) fn key_line(alloc: Global, number: u64, text: &[u8]) -> Result<Bytes,
     ensures { IfOk result (λ line. line ≡ key_line number text.now) }
 {
     numbered_line(alloc, b"key ", number, text)
+}
+
+/// The line of a key that reaches nothing: of whose `scope` no graph has an element, or no `value` of one.
+#[tactic(auto, unfolding(crate::specs::Lines::never_reached_line))]
+pub(crate) fn never_reached_line(alloc: Global, number: u64, word: &[u8]) -> Result<Bytes, Memory>
+    ensures { IfOk result (λ line. line ≡ never_reached_line number word.now) }
+{
+    numbered_line(alloc, b"never ", number, word)
+}
+
+/// The line of a key that forbids its scope.
+#[tactic(auto, unfolding(crate::specs::Lines::forbids_line))]
+pub(crate) fn forbids_line(alloc: Global, number: u64) -> Result<Bytes, Memory>
+    ensures { IfOk result (λ line. line ≡ forbids_line number) }
+{
+    let mut line = TextBuffer::with_room(alloc, ROOM)?;
+    push_count(&mut line, b"forbids ", number)?;
+    line.push(b"\n")?;
+    Ok(line.into_bytes())
 }
 
 /// The line of a qualifier of a key that no graph breaks.

@@ -5,21 +5,22 @@ ghost use Rattle.std.specs.List.{list_any, enumerate_from};
 ghost use Rattle.pgs_syntax.specs.declared.script.Script.{Script as Tree};
 ghost use Rattle.pgs_resolve_declared.specs.Tables.{AreOf};
 ghost use Rattle.pgs_advice_lines.specs.Lines.{unused_line, unused_graph_line, unknown_line};
-ghost use Rattle.pgs_advice_lines.specs.Telling.{tell, warn, guard_lines, void_lines, key_lines, asks_values, unknown_lines, guards_nothing, nothing_lines, unused_type_lines, unused_graph_lines, advice_lines};
+ghost use Rattle.pgs_advice_lines.specs.Telling.{tell, warn, guard_lines, reach_at, reach_lines, void_lines, key_lines, is_forbids, unknown_lines, guards_nothing, nothing_lines, unused_type_lines, unused_graph_lines, advice_lines};
 
 use crate::line::{
-    Line, guard_line, key_line, nothing_line, unknown_line, unused_graph_line, unused_line,
-    void_line,
+    Line, forbids_line, guard_line, key_line, never_reached_line, nothing_line, unknown_line,
+    unused_graph_line, unused_line, void_line,
 };
 use pgs_advice::{
     Unknown, Words, has_void_exclusive, has_void_singleton, unknown_words, unused_graphs,
     unused_types,
 };
 use pgs_base::{Bytes, Copyable, Memory, Name};
+use pgs_key_standing::Reach;
 use pgs_lexer::Tokens;
 use pgs_resolve_declared::{Declarations, last_graph};
 use pgs_schema_places::guard_key_texts;
-use pgs_syntax::{GraphType, Guarding, Key, Qualifiers, Resolved, Script};
+use pgs_syntax::{GraphType, Guarding, Key, Resolved, Script};
 use std::alloc::Global;
 
 /// A line that tells.
@@ -53,6 +54,29 @@ pub fn push_guard(
     Ok(())
 }
 
+// What the key of a place, from 0, reaches.
+fn reach_at(reached: &[Reach], place: usize) -> Reach
+    ensures { result ≡ reach_at reached.now place }
+{
+    match reached.get(place) {
+        Some(reach) => *reach,
+        None => Reach::Value,
+    }
+}
+
+// Puts the line of what a key reaches last, where there is one.
+fn push_reach(alloc: Global, number: u64, reach: Reach, lines: &mut Vec<Line>) -> Result<(), Memory>
+    ensures { OnOk result (lines.new.items ≡ lines.old.items ++ reach_lines number reach) }
+{
+    match reach {
+        Reach::NeverScope => lines.push(warn(never_reached_line(alloc, number, b"scope")?))?,
+        Reach::NeverValue => lines.push(warn(never_reached_line(alloc, number, b"value")?))?,
+        Reach::Forbids => lines.push(tell(forbids_line(alloc, number)?))?,
+        Reach::Value => {}
+    }
+    Ok(())
+}
+
 // Puts the lines of a key's qualifiers last that no graph breaks.
 fn push_void(alloc: Global, number: u64, key: &Key, lines: &mut Vec<Line>) -> Result<(), Memory>
     ensures { OnOk result (lines.new.items ≡ lines.old.items ++ void_lines number key.now) }
@@ -80,15 +104,17 @@ fn text_of(texts: &[Bytes], place: usize) -> &[u8]
 fn push_key(
     alloc: Global,
     texts: &[Bytes],
+    reached: &[Reach],
     place: usize,
     key: &Key,
     lines: &mut Vec<Line>,
 ) -> Result<(), Memory>
     requires { place < 2 ^ 63 }
-    ensures { OnOk result (lines.new.items ≡ lines.old.items ++ key_lines texts.now (place, key.now)) }
+    ensures { OnOk result (lines.new.items ≡ lines.old.items ++ key_lines texts.now reached.now (place, key.now)) }
 {
     let number = place as u64 + 1;
     lines.push(tell(key_line(alloc, number, text_of(texts, place))?))?;
+    push_reach(alloc, number, reach_at(reached, place), lines)?;
     push_void(alloc, number, key, lines)
 }
 
@@ -96,13 +122,14 @@ fn push_key(
 fn push_keys(
     alloc: Global,
     texts: &[Bytes],
+    reached: &[Reach],
     keys: &[Key],
     lines: &mut Vec<Line>,
 ) -> Result<(), Memory>
-    ensures { OnOk result (lines.new.items ≡ lines.old.items ++ flat_map (key_lines texts.now) (enumerate_from 0 keys.now)) }
+    ensures { OnOk result (lines.new.items ≡ lines.old.items ++ flat_map (key_lines texts.now reached.now) (enumerate_from 0 keys.now)) }
 {
     for (place, key) in keys.iter().enumerate() {
-        push_key(alloc, texts, place, key, lines)?;
+        push_key(alloc, texts, reached, place, key, lines)?;
     }
     Ok(())
 }
@@ -168,14 +195,11 @@ fn push_unused_graphs(
     push_graphs(alloc, &graphs, lines)
 }
 
-// Whether each element of a key's scope has to have a key value.
-fn asks_values(qualifiers: &Qualifiers) -> bool
-    ensures { result ≡ asks_values qualifiers.now }
+// Whether a key forbids its scope.
+fn is_forbids(reach: Reach) -> bool
+    ensures { result ≡ is_forbids reach }
 {
-    match qualifiers.count {
-        Some((least, _)) => qualifiers.mandatory || least >= 1,
-        None => qualifiers.mandatory,
-    }
+    matches!(reach, Reach::Forbids)
 }
 
 // Puts the lines of words of the key of a number last.
@@ -197,14 +221,16 @@ fn push_words(
 fn push_unknown(
     alloc: Global,
     words: &Words,
+    reached: &[Reach],
     place: usize,
     key: &Key,
     lines: &mut Vec<Line>,
 ) -> Result<(), Memory>
     requires { place < 2 ^ 63 }
-    ensures { OnOk result (lines.new.items ≡ lines.old.items ++ unknown_lines words.now (place, key.now)) }
+    ensures { OnOk result (lines.new.items ≡ lines.old.items ++ unknown_lines words.now reached.now (place, key.now)) }
 {
-    let found = unknown_words(alloc, words, !asks_values(&key.qualifiers), key)?;
+    let reads = !is_forbids(reach_at(reached, place));
+    let found = unknown_words(alloc, words, reads, key)?;
     push_words(alloc, place as u64 + 1, found.as_slice(), lines)
 }
 
@@ -212,39 +238,41 @@ fn push_unknown(
 fn push_unknowns(
     alloc: Global,
     words: &Words,
+    reached: &[Reach],
     keys: &[Key],
     lines: &mut Vec<Line>,
 ) -> Result<(), Memory>
-    ensures { OnOk result (lines.new.items ≡ lines.old.items ++ flat_map (unknown_lines words.now) (enumerate_from 0 keys.now)) }
+    ensures { OnOk result (lines.new.items ≡ lines.old.items ++ flat_map (unknown_lines words.now reached.now) (enumerate_from 0 keys.now)) }
 {
     for (place, key) in keys.iter().enumerate() {
-        push_unknown(alloc, words, place, key, lines)?;
+        push_unknown(alloc, words, reached, place, key, lines)?;
     }
     Ok(())
 }
 
-/// Puts the lines last that stand behind those of the types: of the keys, and of what does nothing. They are those of the tokens, the
-/// script and the declarations of the schema's text.
+/// Puts the lines last that stand behind those of the types: of the keys, by what each of them reaches, in order, and of what does
+/// nothing. They are those of the tokens, the script and the declarations of the schema's text.
 pub fn push_advice(
     alloc: Global,
     tokens: &Tokens<'_>,
     script: &Script,
     declarations: &Declarations<'_>,
     resolved: &Resolved,
+    reached: &[Reach],
     lines: &mut Vec<Line>,
 ) -> Result<(), Memory>
     requires { AreOf script.now declarations.now }
-    ensures { OnOk result (lines.new.items ≡ lines.old.items ++ advice_lines tokens.now script.now resolved.now) }
+    ensures { OnOk result (lines.new.items ≡ lines.old.items ++ advice_lines tokens.now script.now resolved.now reached.now) }
 {
     let guard = &resolved.guard;
     let keys = guard.keys.as_slice();
     let texts = guard_key_texts(alloc, tokens, declarations)?;
     let words = Words::of(alloc, resolved)?;
-    push_keys(alloc, texts.as_slice(), keys, lines)?;
+    push_keys(alloc, texts.as_slice(), reached, keys, lines)?;
     push_nothing(alloc, guard, lines)?;
     push_unused_types(alloc, script, resolved, lines)?;
     push_unused_graphs(alloc, declarations, lines)?;
-    push_unknowns(alloc, &words, keys, lines)
+    push_unknowns(alloc, &words, reached, keys, lines)
 }
 
 /// The texts of lines, in order.

@@ -1,5 +1,5 @@
 -- What putting lines does, by what its calls did.
-use Rattle.std.proofs.Common.{◌≡◌, ℕ, List, [], Result, Ok, Err, refl}
+use Rattle.std.proofs.Common.{◌≡◌, ℕ, List, Result, Ok, Err, refl}
 use Rattle.pgs_run_lines.specs.AreasKept.{KeepsAreas, keeps_none}
 use Rattle.pgs_run_lines.specs.Ending.{faults_of, PutsRose}
 use Rattle.pgs_run_lines.specs.Machine.{Told}
@@ -14,7 +14,8 @@ use Rattle.pgs_run_input.proofs.OneLine.{PutsLine, answers_line, answers_none, s
 use Rattle.pgs_syntax.specs.declared.resolved.Resolved.{Resolved}
 use Rattle.pgs_run_input.specs.Answers.{schema_answer}
 use Rattle.pgs_run_check.specs.Spec.{IsOfCheck, Tells, TellsText}
-use Rattle.pgs_run_check.specs.Told.{AreRightOf, HasLines, told_text}
+use Rattle.pgs_run_check.specs.Judged.{no_judgement}
+use Rattle.pgs_run_check.specs.Told.{IsRightOf, HasLines, told_text}
 
 -- for want of memory
 pub tells_none : (told : Told Status) (view : View) → IsTimed view → Tells told view view Memory
@@ -55,11 +56,11 @@ tells_line told line result old new is put = record {
   areas = put.areas;
 }
 
--- where no line may have been put there may be no answer
-pub right_none : (answer : Result Resolved (List ℕ)) (status : Status) → (HasLines status → ⊥) → AreRightOf answer [] status
+-- where no line may have been put nothing may be judged
+pub right_none : (answer : Result Resolved (List ℕ)) (status : Status) → (HasLines status → ⊥) → IsRightOf answer no_judgement status
 right_none (Ok resolved) status none = λ lines. absurd (none lines)
 right_none (Err refusal) status none = tt
 
 -- of a text, for want of memory
 pub text_none : (text : List ℕ) (view : View) → IsTimed view → TellsText text view view Memory
-text_none text view timed = record { answers = []; right = right_none (schema_answer text) Memory (λ none. none); tells = tells_none (told_text [] text) view timed }
+text_none text view timed = record { judged = no_judgement; right = right_none (schema_answer text) Memory (λ none. none); tells = tells_none (told_text no_judgement text) view timed }

@@ -2,16 +2,12 @@
 use Rattle.std.proofs.Common.{◌≡◌, ℕ, List, [], ◌∷◌, ◌++◌, Some, None, MatchOption, refl, sym, ap, subst, ◌∙◌, append_assoc}
 use Rattle.std.proofs.lemmas.List.{append-nil}
 use Rattle.std.proofs.lemmas.List.Elements.{filter_map-append}
-use Rattle.pgs_lexer.specs.Token.{Lexeme}
 use Rattle.pgs_syntax.specs.declared.resolved.Resolved.{Resolved}
 use Rattle.pgs_syntax.specs.declared.resolved.TypeNo.{TypeNo}
-use Rattle.pgs_syntax.specs.declared.script.Script.{Script}
 use Rattle.pgs_standing.specs.Example.{IsNever, IsExample}
 use Rattle.pgs_advice_lines.specs.declared.line.Line.{Line}
-use Rattle.pgs_advice_lines.specs.Telling.{guard_lines, advice_lines}
 use Rattle.pgs_run_contain.specs.Answers.{Answer, Listed, listed_name, listed_at, listed}
-use Rattle.pgs_run_check.specs.Examples.{example_line, example_lines, type_lines, AreExamples, HasTypes, HasLinesOf}
-use Rattle.pgs_run_check.specs.Read.{tokens_in, script_in}
+use Rattle.pgs_run_check.specs.Examples.{example_line, example_lines, AreExamples, HasTypes}
 
 module _ (resolved : Resolved) where
   right_on : (xs ys : List Listed) (answers more : List Answer) → AreExamples resolved xs answers → AreExamples resolved ys more → AreExamples resolved (xs ++ ys) (answers ++ more)
@@ -70,18 +66,3 @@ module _ (resolved : Resolved) where
     right = subst (λ types. AreExamples resolved types (answer ∷ [])) (sym (listed_one number name is)) (right, tt);
     is = put ∙ ap (λ types. old ++ example_lines types (answer ∷ [])) (sym (listed_one number name is));
   }
-
--- all lines of a text
-pub gathered : (text : List ℕ) (compiled : Resolved) (tokens : List Lexeme) (script : Script) (resolved : Resolved) (one two three : List Line) (numbers : List TypeNo) →
-    tokens ≡ tokens_in text → script ≡ script_in text → resolved ≡ compiled → numbers ≡ compiled.guard.types →
-    one ≡ guard_lines script resolved.guard → HasTypes compiled numbers one two → three ≡ two ++ advice_lines tokens script resolved → HasLinesOf text compiled three
-gathered text compiled tokens script resolved one two three numbers tokens_are script_is same listed_are before types after = record {
-  answers = types.answers;
-  right = subst (λ (ns : List TypeNo). AreExamples compiled (listed compiled ns) types.answers) listed_are types.right;
-  is = after ∙ ap (λ (lines : List Line). lines ++ advice_lines tokens script resolved) (types.is ∙ ap (λ (lines : List Line). lines ++ example_lines (listed compiled numbers) types.answers) before)
-      ∙ append_assoc (guard_lines script resolved.guard) (example_lines (listed compiled numbers) types.answers) (advice_lines tokens script resolved)
-      ∙ ap (λ (ns : List TypeNo). guard_lines script resolved.guard ++ (example_lines (listed compiled ns) types.answers ++ advice_lines tokens script resolved)) listed_are
-      ∙ ap (λ (r : Resolved). guard_lines script r.guard ++ (type_lines compiled types.answers ++ advice_lines tokens script r)) same
-      ∙ ap (λ (s : Script). guard_lines s compiled.guard ++ (type_lines compiled types.answers ++ advice_lines tokens s compiled)) script_is
-      ∙ ap (λ (ts : List Lexeme). guard_lines (script_in text) compiled.guard ++ (type_lines compiled types.answers ++ advice_lines ts (script_in text) compiled)) tokens_are;
-}

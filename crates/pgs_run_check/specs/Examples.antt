@@ -6,9 +6,8 @@ use Rattle.pgs_answer.specs.Lines.{txn_line}
 use Rattle.pgs_standing.specs.Example.{IsNever, IsExample}
 use Rattle.pgs_advice_lines.specs.declared.line.Line.{Line}
 use Rattle.pgs_advice_lines.specs.Lines.{type_line, never_line}
-use Rattle.pgs_advice_lines.specs.Telling.{tell, warn, lines_of}
+use Rattle.pgs_advice_lines.specs.Telling.{tell, warn}
 use Rattle.pgs_run_contain.specs.Answers.{Answer, Listed, listed, txn_of}
-use Rattle.pgs_run_check.specs.Read.{tokens_in, script_in}
 
 -- the line of an answer, and those of some
 abbrev pub example_line : List ℕ → Answer → Line
@@ -37,9 +36,3 @@ pub record HasTypes (resolved : Resolved) (numbers : List TypeNo) (old new : Lis
   pub answers : List Answer
   pub right : AreExamples resolved (listed resolved numbers) answers
   pub is : new ≡ old ++ example_lines (listed resolved numbers) answers
-
--- these are the lines of a text whose schema this is, by right answers
-pub record HasLinesOf (text : List ℕ) (resolved : Resolved) (lines : List Line) : Type 0 where
-  pub answers : List Answer
-  pub right : AreExamples resolved (listed resolved resolved.guard.types) answers
-  pub is : lines ≡ lines_of (tokens_in text) (script_in text) resolved (type_lines resolved answers)

@@ -1,5 +1,5 @@
--- The check as a command: the one word `schema`; other words are refused. Its answers to the types of the guard are free, as long as they
--- are right.
+-- The check as a command: the one word `schema`; other words are refused. What it judges of the guard's types and keys is free, as long as
+-- it is right.
 use Rattle.std.specs.Prelude.{◌≡◌, ℕ, Bool, true, false, List, [], ◌∷◌, Option, Some, codes, bytes_eq}
 use Rattle.pgs_answer.specs.Lines.{words_refused_line}
 use Rattle.pgs_run_lines.specs.AreasKept.{KeepsAreas}
@@ -12,8 +12,8 @@ use Rattle.pgs_command.specs.Spec.{CommandSpec}
 use Rattle.pgs_command.specs.Words.{refused_words}
 use Rattle.pgs_run_input.specs.Text.{AnswersText}
 use Rattle.pgs_run_input.specs.Answers.{schema_answer}
-use Rattle.pgs_run_contain.specs.Answers.{Answer}
-use Rattle.pgs_run_check.specs.Told.{AreRightOf, told_schema, told_text}
+use Rattle.pgs_run_check.specs.Judged.{Judgement, no_judgement}
+use Rattle.pgs_run_check.specs.Told.{IsRightOf, told_schema, told_text}
 
 -- the statuses of a check
 abbrev pub IsOfCheck : Status → Type 0
@@ -22,17 +22,17 @@ IsOfCheck StoreRefused = ⊥
 IsOfCheck DiskFault = ⊥
 IsOfCheck status = Unit {0}
 
--- where lines may have been put, each type of the guard that isn't abstract has a right answer
-abbrev pub AnswersRightly : List Answer → (left : Option (List ℕ)) → (budget : ℕ) → Status → Type 0
-AnswersRightly answers left budget status = (input : List ℕ) → left ≡ Some input → AreRightOf (schema_answer input) answers status
+-- where lines may have been put, each type of the guard that isn't abstract is rightly judged, and each key
+abbrev pub JudgesRightly : Judgement → (left : Option (List ℕ)) → (budget : ℕ) → Status → Type 0
+JudgesRightly judged left budget status = (input : List ℕ) → left ≡ Some input → IsRightOf (schema_answer input) judged status
 
 abbrev pub schema_spec : CommandSpec
 schema_spec =
-    let kept = without_areas true IsOfCheck (told_schema []) in
+    let kept = without_areas true IsOfCheck (told_schema no_judgement) in
     record {
-      Choice = List Answer;
-      told = λ answers input areas bytes lost. told_schema answers input bytes;
-      IsRight = AnswersRightly;
+      Choice = Judgement;
+      told = λ judged input areas bytes lost. told_schema judged input bytes;
+      IsRight = JudgesRightly;
       reads_source = kept.reads_source;
       uses_areas = kept.uses_areas;
       AsksAreas = kept.AsksAreas;
@@ -40,6 +40,7 @@ schema_spec =
       ReadsInVain = kept.ReadsInVain;
       Leaves = kept.Leaves;
       Feeds = kept.Feeds;
+      Gives = kept.Gives;
     }
 
 -- the one word that the program knows
@@ -61,8 +62,8 @@ pub record Tells (told : Told Status) (old new : View) (status : Status) : Type 
   pub may_end : IsOfCheck status
   pub areas : KeepsAreas old new
 
--- so of a text, by right answers
+-- so of a text, by what is rightly judged
 pub record TellsText (text : List ℕ) (old new : View) (status : Status) : Type 0 where
-  pub answers : List Answer
-  pub right : AreRightOf (schema_answer text) answers status
-  pub tells : Tells (told_text answers text) old new status
+  pub judged : Judgement
+  pub right : IsRightOf (schema_answer text) judged status
+  pub tells : Tells (told_text judged text) old new status

@@ -1,17 +1,14 @@
--- What the word `schema` tells of an input within a budget, by the answers to the types of its guard: lines, and a status.
+-- What the word `schema` tells of an input within a budget, by what is judged of its guard: lines, and a status.
 use Rattle.std.specs.Prelude.{ℕ, List, [], ◌∷◌, length, map, Result, Ok, Err, nat_le, if◌then◌else◌}
 use Rattle.std.specs.List.{list_any}
 use Rattle.pgs_run_lines.specs.Machine.{Told}
 use Rattle.pgs_syntax.specs.declared.resolved.Resolved.{Resolved}
 use Rattle.pgs_answer.specs.Lines.{schema_refused_line}
 use Rattle.pgs_advice_lines.specs.declared.line.Line.{Line}
-use Rattle.pgs_advice_lines.specs.Telling.{lines_of}
 use Rattle.pgs_command.specs.declared.status.Status.{Status}
 use Rattle.pgs_command.specs.declared.status.Status.TheVariants.{Accepted, Refused, SchemaRefused, PutFault, InputTooLong}
 use Rattle.pgs_run_input.specs.Answers.{schema_answer}
-use Rattle.pgs_run_contain.specs.Answers.{Answer, listed}
-use Rattle.pgs_run_check.specs.Examples.{AreExamples, type_lines}
-use Rattle.pgs_run_check.specs.Read.{tokens_in, script_in}
+use Rattle.pgs_run_check.specs.Judged.{Judgement, IsJudged, lines_by}
 
 -- a status of 1 where a line warns
 abbrev pub told_lines : List Line → Told Status
@@ -21,17 +18,17 @@ told_lines lines = record {
 }
 
 -- what a text tells: the line of its refusal, or the lines of its schema
-abbrev pub told_by : List ℕ → List Answer → Result Resolved (List ℕ) → Told Status
-told_by text answers (Ok resolved) = told_lines (lines_of (tokens_in text) (script_in text) resolved (type_lines resolved answers))
-told_by text answers (Err refusal) = record { pieces = schema_refused_line refusal ∷ []; status = SchemaRefused }
+abbrev pub told_by : List ℕ → Judgement → Result Resolved (List ℕ) → Told Status
+told_by text judged (Ok resolved) = told_lines (lines_by text resolved judged)
+told_by text judged (Err refusal) = record { pieces = schema_refused_line refusal ∷ []; status = SchemaRefused }
 
-abbrev pub told_text : List Answer → List ℕ → Told Status
-told_text answers text = told_by text answers (schema_answer text)
+abbrev pub told_text : Judgement → List ℕ → Told Status
+told_text judged text = told_by text judged (schema_answer text)
 
 -- the whole input is the text; where it is cut nothing is judged
-unfoldable pub told_schema : List Answer → List ℕ → ℕ → Told Status
-told_schema answers input budget =
-    if nat_le budget (length input) then record { pieces = []; status = InputTooLong } else told_text answers input
+unfoldable pub told_schema : Judgement → List ℕ → ℕ → Told Status
+told_schema judged input budget =
+    if nat_le budget (length input) then record { pieces = []; status = InputTooLong } else told_text judged input
 
 -- with these statuses lines of a schema may have been put
 abbrev pub HasLines : Status → Type 0
@@ -40,7 +37,7 @@ HasLines Refused = Unit {0}
 HasLines PutFault = Unit {0}
 HasLines status = ⊥
 
--- then there is a right answer to each type of the guard that isn't abstract
-abbrev pub AreRightOf : Result Resolved (List ℕ) → List Answer → Status → Type 0
-AreRightOf (Ok resolved) answers status = HasLines status → AreExamples resolved (listed resolved resolved.guard.types) answers
-AreRightOf (Err refusal) answers status = Unit {0}
+-- then each type of the guard that isn't abstract is rightly judged, and each key
+abbrev pub IsRightOf : Result Resolved (List ℕ) → Judgement → Status → Type 0
+IsRightOf (Ok resolved) judged status = HasLines status → IsJudged resolved judged
+IsRightOf (Err refusal) judged status = Unit {0}

@@ -4,7 +4,7 @@ ghost use Rattle.std.specs.Prelude.{◌≡◌, true};
 ghost use Rattle.pgs_command.specs.Calls.{fails_world};
 ghost use Rattle.pgs_resolve.specs.SchemaOf.{schema, schema_of};
 ghost use Rattle.pgs_run_check.specs.Spec.{Tells, TellsText};
-ghost use Rattle.pgs_run_check.specs.Examples.{HasLinesOf};
+ghost use Rattle.pgs_run_check.specs.Judged.{HasLinesOf};
 ghost use Rattle.pgs_run_check.specs.Told.{told_lines};
 ghost use Rattle.pgs_schema.specs.Told.{IsRefused};
 ghost use Rattle.std.specs.Prelude.{IfOk};
@@ -15,6 +15,7 @@ use pgs_advice_lines::{Line, pieces_of, push_advice, push_guard, some_warns};
 use pgs_base::Memory;
 use pgs_command::Status;
 use pgs_conform::Compiled;
+use pgs_key_standing::keys_reach;
 use pgs_resolve_declared::Declarations;
 use pgs_run_input::refused_line;
 use pgs_run_lines::{Reply, put_pieces, put_reply};
@@ -66,10 +67,19 @@ fn lines_in(alloc: Global, text: &[u8], compiled: &Compiled) -> Result<Vec<Line>
     let tokens = tokens_in(alloc, text)?;
     let script = script_in(alloc, text, &tokens)?;
     let declarations = Declarations::new(alloc, &script)?;
+    let reached = keys_reach(alloc, compiled)?;
     let mut lines = Vec::new(alloc);
     push_guard(alloc, &declarations, &resolved.guard, &mut lines)?;
     push_types(alloc, compiled, resolved.guard.types.as_slice(), &mut lines)?;
-    push_advice(alloc, &tokens, &script, &declarations, resolved, &mut lines)?;
+    push_advice(
+        alloc,
+        &tokens,
+        &script,
+        &declarations,
+        resolved,
+        &reached,
+        &mut lines,
+    )?;
     Ok(lines)
 }
 

@@ -1,8 +1,8 @@
 //! Checking a schema: the input is a schema text, and lines say what its guard asks and what in it does nothing.
 //!
 //! The one rule: words are a command (`specs/Spec.antt`), and a run keeps its `Promise`. Of the word `schema`, `told_schema`
-//! (`specs/Told.antt`) says what is put and the status, of an input and a budget, by answers to the guard's types that are only said to be right
-//! (`specs/Examples.antt`). The other lines of a schema are those of `pgs_advice_lines`.
+//! (`specs/Told.antt`) says what is put and the status, of an input and a budget, by what is judged of the guard's types and keys, which is only
+//! said to be right (`specs/Judged.antt`). The other lines of a schema are those of `pgs_advice_lines`.
 #![tactic(auto)]
 
 mod answering;

@@ -5,5 +5,5 @@ use Rattle.pgs_advice_lines.proofs.telling.push_unknowns.Goals as goal
 
 pub loop-place-preserved : goal.loop-place-preserved
 loop-place-preserved c =
-    more_numbered (unknown_lines c.args.words.now) c.args.lines.now.items c.args.keys.now c.loop-place.place c.index-keys-place.result c.loop-place.lines.items
+    more_numbered (unknown_lines c.args.words.now c.args.reached.now) c.args.lines.now.items c.args.keys.now c.loop-place.place c.index-keys-place.result c.loop-place.lines.items
     c.push_unknown.new.lines.items (omega arith) c.index-keys-place.is c.loop-place.invariant c.in_ok-push_unknown.ensures

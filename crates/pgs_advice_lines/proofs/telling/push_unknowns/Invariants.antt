@@ -5,4 +5,4 @@ use Rattle.pgs_advice_lines.proofs.telling.push_unknowns.Given as goal
 
 abbrev pub invariant-loop-place : goal.invariant-loop-place
 invariant-loop-place l =
-    l.lines.items ≡ l.fn.lines.items ++ flat_map (unknown_lines l.words) (enumerate_from 0 (take l.place l.keys))
+    l.lines.items ≡ l.fn.lines.items ++ flat_map (unknown_lines l.words l.reached) (enumerate_from 0 (take l.place l.keys))

@@ -3,7 +3,7 @@ use Rattle.pgs_run_lines.specs.Machine.{Told}
 use Rattle.pgs_command.specs.declared.status.Status.{Status}
 use Rattle.pgs_run_input.proofs.Answering.{answer_ok}
 use Rattle.pgs_run_check.specs.Spec.{Tells}
-use Rattle.pgs_run_check.specs.Told.{AreRightOf, told_by, told_lines}
+use Rattle.pgs_run_check.specs.Told.{IsRightOf, told_by, told_lines}
 use Rattle.pgs_run_check.proofs.Telling.{text_none}
 use Rattle.pgs_run_check.proofs.answering.check_schema.Goals as goal
 
@@ -13,11 +13,11 @@ returns-in-Ok-clause-answer g c =
     let has = c.in-Ok.ensures in
     let is = answer_ok text c.args.compiled.now c.requires in
     record {
-      answers = has.answers;
-      right = subst (λ answer. AreRightOf answer has.answers c.put_lines.result) (sym is) (λ lines. has.right);
+      judged = has.judged;
+      right = subst (λ answer. IsRightOf answer has.judged c.put_lines.result) (sym is) (λ lines. has.right);
       tells =
           subst (λ (told : Told Status). Tells told (g.W.World.view c.args.world.now) (g.W.World.view c.put_lines.new.world) c.put_lines.result)
-          (ap told_lines (c.deref.ensures.value ∙ has.is) ∙ sym (ap (told_by text has.answers) is)) c.put_lines.ensures.answer;
+          (ap told_lines (c.deref.ensures.value ∙ has.is) ∙ sym (ap (told_by text has.judged) is)) c.put_lines.ensures.answer;
     }
 
 pub returns-in-Err-clause-answer : goal.returns-in-Err-clause-answer
