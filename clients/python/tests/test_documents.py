@@ -32,7 +32,8 @@ class Documents(StoreTest):
         program = os.path.abspath(shutil.which(executable()))
         os.symlink(program, self.at("pgguard"))
         os.symlink(TOP / "tools", self.at("tools"))
-        self.environment = {**os.environ, "PGGUARD": program, "PYTHONPATH": str(PACKAGE)}
+        check = os.path.abspath(shutil.which(executable("pgcheck")))
+        self.environment = {**os.environ, "PGGUARD": program, "PGCHECK": check, "PYTHONPATH": str(PACKAGE)}
 
     def shows(self, path, kind, words):
         """Runs the blocks of a kind, in their order and in one folder."""
