@@ -105,8 +105,8 @@ def two_branches(count):
 
 def four_branches(count, last):
     """A scope of four branches at a node of so many edges, of which the last one's can't be given."""
-    scope = ", ".join("(x)-[:r]->(:%s)" % label for label in ("B", "B", "B", "D" if last else "B"))
-    declared = schema("LOOSE", [], "FOR (x:A), %s MANDATORY x.k" % scope)
+    scope = ", ".join("%s-[:r]->(:%s)" % branch for branch in (("(x:A)", "B"), ("(x)", "B"), ("(x)", "B"), ("(x)", "D" if last else "B")))
+    declared = schema("LOOSE", [], "FOR %s MANDATORY x.k" % scope)
     return measured(declared, lines(star(count)), [{"ops": [node(9000, "B"), edge(9000, 1, 9000, "r")]}])
 
 
