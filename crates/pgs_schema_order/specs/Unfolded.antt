@@ -46,11 +46,11 @@ module _ (named : ℕ → Tree) where
 -- What stands in place of a number below a bound: the type of the number unfolded, and nothing where there is none. How a type is
 -- unfolded, where the numbers before it are, is given.
 abbrev pub tree_below : {T : Type 0} → ((ℕ → Tree) → T → Tree) → List T → ℕ → ℕ → Tree
-tree_below unfold types zero number = nothing
-tree_below {T} unfold types (suc bound) number =
+tree_below tree_of types zero number = nothing
+tree_below {T} tree_of types (suc bound) number =
     elim (number == bound) [
-      | true ↦ option_map_or (λ (type : T). unfold (tree_below unfold types bound) type) (slice_get types bound) nothing
-      | false ↦ tree_below unfold types bound number
+      | true ↦ option_map_or (λ (type : T). tree_of (tree_below tree_of types bound) type) (slice_get types bound) nothing
+      | false ↦ tree_below tree_of types bound number
     ]
 
 -- a node type unfolded
