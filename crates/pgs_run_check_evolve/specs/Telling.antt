@@ -1,8 +1,8 @@
 -- How the telling of a step goes on: the types of the old schema first, then what is behind them.
-use Rattle.std.specs.Prelude.{◌≡◌, Bool, true, false, List, [], Result, Ok, Err, if◌then◌else◌}
+use Rattle.std.specs.Prelude.{◌≡◌, Bool, true, false, [], Result, Ok}
 use Rattle.pgs_run_lines.specs.declared.stop.Stop.{Stop}
 use Rattle.pgs_run_lines.specs.declared.stop.Stop.TheVariants as stops
-use Rattle.pgs_run_lines.specs.Puts.{PutsAll, Puts}
+use Rattle.pgs_run_lines.specs.Puts.{PutsAll, PutsUntil}
 use Rattle.pgs_syntax.specs.declared.resolved.Resolved.{Resolved}
 use Rattle.pgs_world.specs.World.{View}
 use Rattle.pgs_command.specs.declared.status.Status.{Status}
@@ -22,8 +22,11 @@ pub record IsBehind (old new : Resolved) (contained : Bool) (it : Behind) : Type
   pub lines : it.lines.items ≡ lines_behind old new contained
   pub safe : it.safe ≡ is_safe old new contained
 
--- they were put, and the run stops so
-pub record TellsBehind (old new : Resolved) (contained : Bool) (before : View) (stop : Stop Status) (after : View) : Type 0 where
-  pub told : Result Bool (Stop Status)
-  pub is : stop ≡ (elim told [ | Ok safe ↦ stops.Ended (status_by safe) | Err so ↦ so ])
-  pub puts : Puts before (lines_behind old new contained) told after
+-- they were put, and the run ends with the status of the step, or stops so
+abbrev pub TellsBehind : Resolved → Resolved → Bool → View → Stop Status → View → Type 0
+TellsBehind old new contained before (stops.Ended status) after =
+    (status ≡ status_by (is_safe old new contained)) × PutsAll before (lines_behind old new contained) after
+TellsBehind old new contained before stops.ReadFault after = ⊥
+TellsBehind old new contained before stops.DiskFault after = ⊥
+TellsBehind old new contained before stops.PutFault after = PutsUntil {E = Status} before (lines_behind old new contained) stops.PutFault after
+TellsBehind old new contained before stops.Memory after = PutsUntil {E = Status} before (lines_behind old new contained) stops.Memory after

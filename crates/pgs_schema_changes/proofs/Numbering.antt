@@ -1,6 +1,6 @@
 -- Numbers of unfolded declarations: what is put last has a number of its own, and no tree has two.
-use Rattle.std.proofs.Common.{◌≡◌, ℕ, zero, suc, ◌+◌, ◌<◌, ◌≤◌, Bool, true, false, cond, ◌&&◌, ◌||◌, ◌==◌, ⊎_elim, ◌⊎◌, inl, inr, List, [], ◌∷◌, ◌++◌, length, Option, Some, None, slice_get, refl, sym, subst, ◌∙◌, ap, ap₂, true≢false, arith}
-use Rattle.std.specs.Prelude.{unwrap_or, get_or, nat_lt, not}
+use Rattle.std.proofs.Common.{◌≡◌, ℕ, zero, suc, ◌+◌, ◌<◌, ◌≤◌, Bool, true, false, cond, ◌&&◌, ◌||◌, ◌==◌, ⊎_elim, ◌⊎◌, inl, inr, List, [], ◌∷◌, ◌++◌, length, Option, Some, None, Result, Ok, Err, slice_get, refl, sym, subst, ◌∙◌, ap, ap₂, true≢false, arith}
+use Rattle.std.specs.Prelude.{unwrap_or, get_or, nat_lt, not, IfOk}
 use Rattle.std.specs.List.{position, position_or_len}
 use Rattle.std.proofs.lemmas.Bool.{and_parts, and_from, cases_lt, eqb-true, eq-eqb}
 use Rattle.std.proofs.lemmas.Bool.Decides.{nat_tests}
@@ -205,7 +205,7 @@ module _ (old : List Entry) (form : Form) (first second : ℕ) (left right : Tre
         let long = longer in
         let there : place < length new = slice_get_within new place it at in
         let here : place ≡ length old = omega arith in
-        let is : last ≡ it = same_Some (sym (get_last old last) ∙ ap (slice_get new) (sym here) ∙ at) in
+        let is : last ≡ it = same_Some last it (sym (get_last old last) ∙ ap (slice_get new) (sym here) ∙ at) in
         let first_in = of_first.0 in
         let second_in = of_second.0 in
         subst (λ (e : Entry). (tree_of new (suc place) ≡ tree e.form (tree_of new e.first) (tree_of new e.second)) × (e.first ≤ length new) × (e.second ≤ length new)) is
@@ -226,6 +226,12 @@ module _ (old : List Entry) (form : Form) (first second : ℕ) (left right : Tre
       grows = record { longer = let long = longer in omega arith; same = same };
       means = (omega arith, ap (tree_of new) longer ∙ at_last);
     }
+
+    pub if_last : {E : Type 0} (now : List Entry) (result : Result ℕ E) → IfOk result (λ number. (now ≡ new) × (number ≡ length now)) → IfOk result (λ number. Puts old now number (tree form left right))
+    if_last now (Ok number) is =
+        subst (λ (entries : List Entry). Puts old entries number (tree form left right)) (sym is.0)
+        (subst (λ (n : ℕ). Puts old new n (tree form left right)) (sym (is.1 ∙ ap length is.0)) put_last)
+    if_last now (Err fault) is = tt
 
 -- ---- numbers tell trees apart
 

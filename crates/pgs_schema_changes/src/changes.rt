@@ -1,12 +1,13 @@
-ghost use Rattle.std.specs.Prelude.{◌≡◌, map, true, IfOk};
-ghost use Rattle.pgs_schema_order.specs.AsksNoMore.{AreTypesContained, AsksNoMore, is_kept as key_kept, is_dropped as key_dropped};
+ghost use Rattle.std.specs.Prelude.{◌≡◌, map, IfOk};
+ghost use Rattle.std.specs.List.{list_all};
+ghost use Rattle.pgs_schema_order.specs.AsksNoMore.{is_kept as key_kept, is_dropped as key_dropped};
 ghost use Rattle.pgs_schema_changes.specs.Numbers.{TellsAlike};
 ghost use Rattle.pgs_schema_changes.specs.Safe.{IsOfKeys, is_safe};
 
 use crate::declarations::Declarations;
 use crate::keys::{is_dropped, is_kept};
 use pgs_base::{List, Memory};
-use pgs_syntax::Resolved;
+use pgs_syntax::{Key, Resolved};
 use std::alloc::Global;
 
 /// What becomes of keys: of each key of the new guard whether it is kept, and of each key of the old guard whether it is dropped.
@@ -21,22 +22,28 @@ fn kept_keys(
     old: &Resolved,
     new: &Resolved,
     types: &Declarations,
+    keys: &[Key],
 ) -> Result<List<bool>, Memory>
     requires { TellsAlike old.now new.now types.now }
-    ensures { IfOk result (λ kept. kept ≡ map (key_kept old.now new.now) new.now.guard.keys) }
+    ensures { IfOk result (λ kept. kept ≡ map (key_kept old.now new.now) keys.now) }
 {
-    let mut kept = Vec::with_capacity(alloc, new.guard.keys.len())?;
-    for key in new.guard.keys.as_slice() {
+    let mut kept = Vec::with_capacity(alloc, keys.len())?;
+    for key in keys {
         kept.push(is_kept(old, new, types, key))?;
     }
     Ok(List::from_vec(kept))
 }
 
-fn dropped_keys(alloc: Global, old: &Resolved, new: &Resolved) -> Result<List<bool>, Memory>
-    ensures { IfOk result (λ dropped. dropped ≡ map (key_dropped old.now new.now) old.now.guard.keys) }
+fn dropped_keys(
+    alloc: Global,
+    old: &Resolved,
+    new: &Resolved,
+    keys: &[Key],
+) -> Result<List<bool>, Memory>
+    ensures { IfOk result (λ dropped. dropped ≡ map (key_dropped old.now new.now) keys.now) }
 {
-    let mut dropped = Vec::with_capacity(alloc, old.guard.keys.len())?;
-    for own in old.guard.keys.as_slice() {
+    let mut dropped = Vec::with_capacity(alloc, keys.len())?;
+    for own in keys {
         dropped.push(is_dropped(old, new, own))?;
     }
     Ok(List::from_vec(dropped))
@@ -48,19 +55,27 @@ pub fn key_changes(alloc: Global, old: &Resolved, new: &Resolved) -> Result<KeyC
     ensures { IfOk result (IsOfKeys old.now new.now) }
 {
     let types = Declarations::of(alloc, old, new)?;
-    let kept = kept_keys(alloc, old, new, &types)?;
-    let dropped = dropped_keys(alloc, old, new)?;
+    let kept = kept_keys(alloc, old, new, &types, new.guard.keys.as_slice())?;
+    let dropped = dropped_keys(alloc, old, new, old.guard.keys.as_slice())?;
     Ok(KeyChanges { kept, dropped })
+}
+
+fn are_kept(kept: &[bool]) -> bool
+    ensures { result ≡ list_all (λ kept. kept) kept.now }
+{
+    kept.iter().all(|kept| *kept)
 }
 
 /// Whether a step is safe, by what becomes of the keys and by whether each type of the old guard is contained: each key is kept, and the
 /// new guard is loose, or both are strict and each type is contained. Then the new schema asks no more than the old one, and each graph
-/// that conforms to the old one conforms to it (`laws::what_asks_no_more_is_kept` of `pgs_schema_order`).
+/// that conforms to the old one conforms to it (`laws`).
+#[tactic(auto, using(crate::proofs::Steps::all_kept))]
 pub fn is_safe(old: &Resolved, new: &Resolved, changes: &KeyChanges, contained: bool) -> bool
     requires { IsOfKeys old.now new.now changes.now }
-    ensures exact { result ≡ is_safe old.now new.now contained }
-    ensures enough { result ≡ true → (contained ≡ true → AreTypesContained old.now new.now) → AsksNoMore old.now new.now }
+    ensures { result ≡ is_safe old.now new.now contained }
 {
-    let strict = old.guard.strict;
-    changes.kept.as_slice().iter().all(|kept| *kept) && (!new.guard.strict || (strict && contained))
+    if !are_kept(changes.kept.as_slice()) {
+        return false;
+    }
+    !new.guard.strict || (old.guard.strict && contained)
 }

@@ -1,20 +1,43 @@
-ghost use Rattle.std.specs.Prelude.{◌≡◌};
+ghost use Rattle.std.specs.Prelude.{◌≡◌, ◌==◌};
+ghost use Rattle.pgs_base.specs.Value.{kind_rank};
+ghost use Rattle.std.specs.List.{list_all, zip};
 ghost use Rattle.std.specs.Cmp.Lexicographic.{pointwise};
 ghost use Rattle.pgs_schema_order.specs.Unfolded.{same_property, same_braces, same_form};
 
+use crate::same::same_name;
+use pgs_base::Kind;
 use pgs_schema_order::Form;
 use pgs_syntax::{Braces, Property};
+
+fn same_kind(a: Kind, b: Kind) -> bool
+    ensures { result ≡ (kind_rank a == kind_rank b) }
+{
+    matches!(
+        (a, b),
+        (Kind::Text, Kind::Text)
+            | (Kind::Int, Kind::Int)
+            | (Kind::Bool, Kind::Bool)
+            | (Kind::Date, Kind::Date)
+    )
+}
 
 fn same_property(a: &Property, b: &Property) -> bool
     ensures { result ≡ same_property a.now b.now }
 {
-    a.key == b.key && a.kind == b.kind && a.optional == b.optional
+    same_name(&a.key, &b.key) && same_kind(a.kind, b.kind) && a.optional == b.optional
 }
 
+fn pair_properties(a: &[Property], b: &[Property]) -> bool
+    ensures { result ≡ list_all (λ pair. same_property pair.0 pair.1) (zip a.now b.now) }
+{
+    a.iter().zip(b).all(|(a, b)| same_property(a, b))
+}
+
+#[tactic(auto, using(crate::proofs::Pairs::by_pairs))]
 fn same_properties(a: &[Property], b: &[Property]) -> bool
     ensures { result ≡ pointwise same_property a.now b.now }
 {
-    a.len() == b.len() && a.iter().zip(b).all(|(a, b)| same_property(a, b))
+    a.len() == b.len() && pair_properties(a, b)
 }
 
 fn same_braces(a: &Braces, b: &Braces) -> bool
@@ -29,7 +52,7 @@ pub(crate) fn same_form(a: &Form, b: &Form) -> bool
 {
     match (a, b) {
         (Form::Empty, Form::Empty) => true,
-        (Form::Label(a), Form::Label(b)) => a == b,
+        (Form::Label(a), Form::Label(b)) => same_name(a, b),
         (Form::OpenLabels, Form::OpenLabels) => true,
         (Form::Braces(a), Form::Braces(b)) => same_braces(a, b),
         (Form::And, Form::And) => true,

@@ -1,12 +1,14 @@
 //! Whether a key of the old schema keeps one of the new schema.
 
 ghost use Rattle.std.specs.Prelude.{◌≡◌};
+ghost use Rattle.std.specs.List.{list_all, list_any, zip};
 ghost use Rattle.std.specs.Cmp.Lexicographic.{pointwise};
 ghost use Rattle.pgs_schema_order.specs.AsksNoMore.{same_expr, same_key, keys_alike, counts_no_more, ask_no_more, keeps, is_kept, is_dropped};
 ghost use Rattle.pgs_schema_changes.specs.Numbers.{TellsAlike};
 
 use crate::atoms::{patterns_alike, same_pattern};
 use crate::declarations::Declarations;
+use crate::same::same_name;
 use pgs_syntax::{Expr, Key, Qualifiers, Resolved};
 
 fn same_expr(own: &Expr, expr: &Expr) -> bool
@@ -20,15 +22,22 @@ fn same_expr(own: &Expr, expr: &Expr) -> bool
                 var: other,
                 key: name,
             },
-        ) => var == other && key == name,
+        ) => var == other && same_name(key, name),
         _ => false,
     }
 }
 
+fn pair_exprs(own: &[Expr], exprs: &[Expr]) -> bool
+    ensures { result ≡ list_all (λ pair. same_expr pair.0 pair.1) (zip own.now exprs.now) }
+{
+    own.iter().zip(exprs).all(|(a, b)| same_expr(a, b))
+}
+
+#[tactic(auto, using(crate::proofs::Pairs::by_pairs))]
 fn same_exprs(own: &[Expr], exprs: &[Expr]) -> bool
     ensures { result ≡ pointwise same_expr own.now exprs.now }
 {
-    own.len() == exprs.len() && own.iter().zip(exprs).all(|(a, b)| same_expr(a, b))
+    own.len() == exprs.len() && pair_exprs(own, exprs)
 }
 
 fn same_key(old: &Resolved, new: &Resolved, own: &Key, key: &Key) -> bool
@@ -84,10 +93,16 @@ pub(crate) fn is_kept(old: &Resolved, new: &Resolved, types: &Declarations, key:
     keys.iter().any(|own| keeps(old, new, types, own, key))
 }
 
+fn is_there(old: &Resolved, new: &Resolved, own: &Key) -> bool
+    ensures { result ≡ list_any (same_key old.now new.now own.now) new.now.guard.keys }
+{
+    let keys = new.guard.keys.as_slice();
+    keys.iter().any(|key| same_key(old, new, own, key))
+}
+
 /// Whether no key of the new guard is a key of the old guard, whatever it asks.
 pub(crate) fn is_dropped(old: &Resolved, new: &Resolved, own: &Key) -> bool
     ensures { result ≡ is_dropped old.now new.now own.now }
 {
-    let keys = new.guard.keys.as_slice();
-    !keys.iter().any(|key| same_key(old, new, own, key))
+    !is_there(old, new, own)
 }

@@ -13,6 +13,7 @@ mod declarations;
 mod forms;
 mod keys;
 pub mod laws;
+mod same;
 mod specification;
 mod trees;
 

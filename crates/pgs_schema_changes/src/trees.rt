@@ -1,4 +1,4 @@
-ghost use Rattle.std.specs.Prelude.{◌≡◌, [], IfOk};
+ghost use Rattle.std.specs.Prelude.{◌≡◌, [], ◌∷◌, ◌++◌, length, IfOk};
 ghost use Rattle.std.specs.List.{position};
 ghost use Rattle.pgs_schema_order.specs.Unfolded.{Tree, tree};
 ghost use Rattle.pgs_schema_changes.specs.Numbers.{is_entry, IsNumbered, Means, Puts};
@@ -41,19 +41,27 @@ impl Trees {
         })
     }
 
-    /// The number of a form over two numbers, which is put last where it isn't there. `Memory` where there was none left.
-    pub(crate) fn put(&mut self, form: Form, first: usize, second: usize) -> Result<usize, Memory>
-        ensures { (left right : Tree) → IsNumbered self.old.entries.items → Means self.old.entries.items first left → Means self.old.entries.items second right
-            → IfOk result (λ number. Puts self.old.entries.items self.new.entries.items number (tree form left right)) }
+    // Puts an entry last, and gives its number.
+    fn push(&mut self, form: Form, first: usize, second: usize) -> Result<usize, Memory>
+        ensures { IfOk result (λ number. (self.new.entries.items ≡ self.old.entries.items ++ record { form = form; first = first; second = second } ∷ [])
+            × (number ≡ length self.new.entries.items)) }
     {
-        if let Some(place) = self.find(&form, first, second) {
-            return Ok(place + 1);
-        }
         self.entries.push(Entry {
             form,
             first,
             second,
         })?;
         Ok(self.entries.len())
+    }
+
+    /// The number of a form over two numbers, which is put last where it isn't there. `Memory` where there was none left.
+    pub(crate) fn put(&mut self, form: Form, first: usize, second: usize) -> Result<usize, Memory>
+        ensures { (left right : Tree) → IsNumbered self.old.entries.items → Means self.old.entries.items first left → Means self.old.entries.items second right
+            → IfOk result (λ number. Puts self.old.entries.items self.new.entries.items number (tree form left right)) }
+    {
+        match self.find(&form, first, second) {
+            Some(place) => Ok(place + 1),
+            None => self.push(form, first, second),
+        }
     }
 }
