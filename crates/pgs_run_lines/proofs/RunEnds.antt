@@ -14,7 +14,7 @@ use Rattle.pgs_run_lines.specs.Input.{kept_of}
 use Rattle.pgs_run_lines.specs.Machine.{RunState, Going, Ended, Machine, Rule, Scene, Extent, Whole, AtEnd, Told, after_lines, pieces_of_lines, told_at_end, status_at_cut, told_cut, told_by}
 use Rattle.pgs_run_lines.specs.Pieces.{Shown, ShowsAll}
 use Rattle.pgs_run_lines.specs.Reading.{StopsIn, Reads}
-use Rattle.pgs_run_lines.specs.Run.{EndsAs, EndsAtLine, EndsBy, IsBetween, IsToldBy, IsFar, Allows}
+use Rattle.pgs_run_lines.specs.Run.{EndsAs, EndsAtLine, EndsBy, IsBetween, IsToldBy, IsFar, IsShort, Allows}
 use Rattle.pgs_run_lines.proofs.FirstBytes.{by_whole, by_cut, tells_on, ended_by}
 use Rattle.pgs_run_lines.proofs.Causes.{no_rise}
 use Rattle.pgs_run_lines.proofs.ReadingOn.{none_taken}
@@ -175,14 +175,16 @@ module _ {E : Type 0} (m : Machine E) (rule : Rule m) (limit : ℕ) (s : m.State
   abbrev Allowed : Stop E → Scene rule.Kept → Type 0
   Allowed stop now = Allows m rule limit s budget before left stop start now
 
-  allows_at : (bytes : List ℕ) (stop : Stop E) (now : Scene rule.Kept) → Takes before left bytes → StopsAt m rule s start (kept_of limit bytes).ended stop now → Allowed stop now
-  allows_at bytes stop now taken at = record {
+  allows_at : (bytes : List ℕ) (stop : Stop E) (now : Scene rule.Kept) → Takes before left bytes → length bytes ≤ budget → StopsAt m rule s start (kept_of limit bytes).ended stop now → Allowed stop now
+  allows_at bytes stop now taken few at = record {
     bytes = bytes;
     taken = taken;
     lines = at.until;
     later = at.later;
     parts = at.parts;
     extent = at.extent;
+    short = ⊎_elim (λ inside. subst (λ (extent : Extent E). IsShort budget (length bytes) extent) (sym inside) few)
+        (λ none. subst (λ (extent : Extent E). IsShort budget (length bytes) extent) (sym none.0) few) at.inside;
     far = ⊎_elim (λ inside. subst (λ (extent : Extent E). Far bytes at.until at.later stop extent) (sym inside) (refl, at.ends))
         (λ none. subst (λ (extent : Extent E). Far bytes at.until at.later stop extent) (sym none.0)
         (subst (λ (why : Stop E). IsBetween m s budget bytes at.until at.later why) (sym none.1) tt))
@@ -190,29 +192,30 @@ module _ {E : Type 0} (m : Machine E) (rule : Rule m) (limit : ℕ) (s : m.State
     allowed = at.allowed;
   }
 
-  allows_runs : (bytes : List ℕ) (state : m.State) (line : List ℕ) (stop : Stop E) (now : Scene rule.Kept) → Takes before left bytes → Runs m rule limit s start bytes state line now → IsBetween m s budget bytes (kept_of limit bytes).ended [] stop → Allowed stop now
-  allows_runs bytes state line stop now taken runs far = record {
+  allows_runs : (bytes : List ℕ) (state : m.State) (line : List ℕ) (stop : Stop E) (now : Scene rule.Kept) → Takes before left bytes → length bytes ≤ budget → Runs m rule limit s start bytes state line now → IsBetween m s budget bytes (kept_of limit bytes).ended [] stop → Allowed stop now
+  allows_runs bytes state line stop now taken few runs far = record {
     bytes = bytes;
     taken = taken;
     lines = (kept_of limit bytes).ended;
     later = [];
     parts = sym (append-nil (kept_of limit bytes).ended);
     extent = Whole;
+    short = few;
     far = far;
     allowed = runs.allowed;
   }
 
   pub stopped_allows : (state : m.State) (line : List ℕ) (stop : Stop E) (now : Scene rule.Kept) → Reads m rule limit s start budget before left state line (Err stop) now → Allowed stop now
-  stopped_allows state line (stops.Ended status) now r = allows_at r.bytes (stops.Ended status) now r.taken r.ends.1
-  stopped_allows state line stops.ReadFault now r = allows_runs r.bytes state line stops.ReadFault now r.taken r.ends.1 refl
-  stopped_allows state line stops.DiskFault now r = allows_at r.bytes stops.DiskFault now r.taken r.ends.1
-  stopped_allows state line stops.PutFault now r = allows_at r.bytes stops.PutFault now r.taken r.ends.1
-  stopped_allows state line stops.Memory now r = allows_at r.bytes stops.Memory now r.taken r.ends.1
+  stopped_allows state line (stops.Ended status) now r = allows_at r.bytes (stops.Ended status) now r.taken r.ends.0 r.ends.1
+  stopped_allows state line stops.ReadFault now r = allows_runs r.bytes state line stops.ReadFault now r.taken r.ends.0 r.ends.1 refl
+  stopped_allows state line stops.DiskFault now r = allows_at r.bytes stops.DiskFault now r.taken r.ends.0 r.ends.1
+  stopped_allows state line stops.PutFault now r = allows_at r.bytes stops.PutFault now r.taken r.ends.0 r.ends.1
+  stopped_allows state line stops.Memory now r = allows_at r.bytes stops.Memory now r.taken r.ends.0 r.ends.1
 
   pub cut_allows : (state : m.State) (line : List ℕ) (status : E) (now : Scene rule.Kept) → Reads m rule limit s start budget before left state line (Ok readings.Cut) now → status ≡ m.cut state → Allowed (stops.Ended status) now
   cut_allows state line status now r same =
       let runs = r.ends.1 in
-      allows_runs r.bytes state line (stops.Ended status) now r.taken runs (refl, r.ends.0, ap (status_at_cut m) runs.stands ∙ sym same)
+      allows_runs r.bytes state line (stops.Ended status) now r.taken (let full = r.ends.0 in omega arith) runs (refl, r.ends.0, ap (status_at_cut m) runs.stands ∙ sym same)
 
   told_at : (told : Told E) (stop : Stop E) (old now : Shown) → Ends old told stop now → IsToldBy told stop
   told_at told (stops.Ended status) old now ends = ends.1
@@ -232,6 +235,7 @@ module _ {E : Type 0} (m : Machine E) (rule : Rule m) (limit : ℕ) (s : m.State
         later = [];
         parts = sym (append-nil xs);
         extent = AtEnd line stop;
+        short = r.ends.0;
         far = (refl, runs.begun, refl, r.ends.1, subst (λ (at : RunState m.State E). IsToldBy (told_at_end m at line) stop) (sym runs.stands) (told_at (m.rest state line) stop (rule.tells mid.view) (rule.tells now.view) ends));
         allowed = subst (λ lines. rule.allows s lines (AtEnd line stop) start now) (append-nil xs) (rule.on s state xs [] (AtEnd line stop) start mid now runs.stands runs.holds runs.allowed end);
       }
@@ -252,6 +256,7 @@ unread_allows m rule limit s budget left scene timed holds = record {
   later = (kept_of limit []).ended;
   parts = refl;
   extent = Whole;
+  short = omega arith;
   far = tt;
   allowed = rule.none s scene timed holds;
 }
