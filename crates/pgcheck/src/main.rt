@@ -23,7 +23,7 @@ struct Checker;
 impl Program<HostRuntime> for Checker {
     ghost use Rattle.pgs_base.specs.declared.seed.Seed.TheVariants.{Fixed};
     ghost use Rattle.pgs_program.specs.Program.{EndsRunOf};
-    ghost use Rattle.pgs_run_check.specs.Spec.{spec_for};
+    ghost use Rattle.pgs_run_check.specs.Commands.{spec_for};
 
     ghost runs = { λ words status. EndsRunOf (spec_for words)
         (record { remaining = ⟦<Stdin as Read>⟧.remaining; tells_output = ⟦<Stdout as SteadyWrite>⟧.tells; written = ⟦<Stdout as Write>⟧.contents; tells_bytes = ⟦<StoreFile<SystemFile<'static, HostRuntime>> as Handle>⟧.tells; bytes = ⟦<StoreFile<SystemFile<'static, HostRuntime>> as Handle>⟧.contents })

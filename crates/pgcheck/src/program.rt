@@ -1,4 +1,4 @@
-ghost use Rattle.pgs_run_check.specs.Spec.{spec_for};
+ghost use Rattle.pgs_run_check.specs.Commands.{spec_for};
 ghost use Rattle.pgs_program.specs.Program.{IsRunOf};
 ghost use Rattle.pgs_base.specs.declared.seed.Seed.TheVariants.{Fixed};
 

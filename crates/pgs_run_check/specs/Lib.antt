@@ -1,5 +1,2 @@
-pub mod Examples
-pub mod Judged
-pub mod Read
-pub mod Spec
-pub mod Told
+pub mod Commands
+pub mod Words

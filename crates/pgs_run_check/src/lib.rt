@@ -1,13 +1,15 @@
-//! Checking a schema: the input is a schema text, and lines say what its guard asks and what in it does nothing.
+//! The run of the checks that `pgcheck` makes: its words name a command, and each command is a crate below.
 //!
-//! The one rule: words are a command (`specs/Spec.antt`), and a run keeps its `Promise`. Of the word `schema`, `told_schema`
-//! (`specs/Told.antt`) says what is put and the status, of an input and a budget, by what is judged of the guard's types and keys, which is only
-//! said to be right (`specs/Judged.antt`). The other lines of a schema are those of `pgs_advice_lines`.
+//! The one rule: words are a command (`specs/Words.antt`), and a run keeps the `Promise` of its `CommandSpec` (`specs/Commands.antt`). Words
+//! that are no command are one too, which puts one line. A command is one variant of `CheckCommand`, one row of `LONE_WORDS` or of
+//! `STORE_WORDS`, one line of `spec_of` and one of `run_command`.
 #![tactic(auto)]
 
-mod answering;
-mod reading;
+mod command;
+mod commands;
 mod run;
-mod types;
+mod words;
 
+pub use command::CheckCommand;
 pub use run::{run_check, run_check_within};
+pub use words::{command_of, store_of};

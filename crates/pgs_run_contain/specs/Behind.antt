@@ -60,7 +60,7 @@ module _ (behind : Behind) where
       record {
         Choice = behind.Choice;
         told = λ choice input areas bytes lost. told_compared choice input bytes;
-        IsRight = ChoosesRightly;
+        IsRight = λ choice old. ChoosesRightly choice old.source.left;
         reads_source = kept.reads_source;
         uses_areas = kept.uses_areas;
         AsksAreas = kept.AsksAreas;

@@ -87,10 +87,9 @@ command_words =
     ∷ (codes "recover", words.Recover) ∷ (codes "explain", words.Explain) ∷ (codes "gen", words.Gen)
     ∷ (codes "checkpoint", words.Checkpoint) ∷ (codes "contain", words.Contain) ∷ (codes "evolve", words.Evolve) ∷ []
 
--- the command of the first row that has the word
-abbrev pub found_in : List (List ℕ × CommandWord) → List ℕ → Option CommandWord
-found_in rows word =
-    option_map (λ (row : List ℕ × CommandWord). row.1) (find (λ (row : List ℕ × CommandWord). bytes_eq row.0 word) rows)
+-- what a word stands for: the command of the first row that has it
+abbrev pub found_in : {C : Type 0} → List (List ℕ × C) → List ℕ → Option C
+found_in {C} rows word = option_map (λ (row : List ℕ × C). row.1) (find (λ (row : List ℕ × C). bytes_eq row.0 word) rows)
 
 abbrev pub command_word : List ℕ → Option CommandWord
 command_word word = found_in command_words word

@@ -31,13 +31,14 @@ const COMMAND_WORDS: [(&str, CommandWord); 10] = [
     ("evolve", CommandWord::Evolve),
 ];
 
-fn first_row(rows: &[(&str, CommandWord)], word: &str) -> Option<CommandWord>
+fn first_row<C: Copy>(rows: &[(&str, C)], word: &str) -> Option<C>
     ensures { result ≡ option_map (λ row. row.1) (find (λ row. bytes_eq row.0.now word.now) rows.now) }
 {
     rows.iter().find(|row| row.0 == word).map(|row| row.1)
 }
 
-fn found_in(rows: &[(&str, CommandWord)], word: &str) -> Option<CommandWord>
+/// What a word stands for: the command of the first row that has it. `None` exactly where no row has it.
+pub fn found_in<C: Copy>(rows: &[(&str, C)], word: &str) -> Option<C>
     ensures { result ≡ found_in (map (λ row. (row.0.now, row.1)) rows.now) word.now }
 {
     first_row(rows, word)

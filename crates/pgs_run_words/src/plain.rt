@@ -2,8 +2,8 @@ ghost use Rattle.std.specs.Prelude.{◌≡◌, map};
 ghost use Rattle.std.specs.List.{list_all};
 ghost use Rattle.pgs_run_words.specs.Further.{are_plain, is_plain};
 
-/// Whether the word has a byte, and the first isn't `-`.
-fn is_plain(word: &str) -> bool
+/// Whether a word is one that `clap` takes for a value: it has a byte, and the first isn't `-`.
+pub fn is_plain(word: &str) -> bool
     ensures { result ≡ is_plain word.now }
 {
     match word.as_bytes() {
@@ -18,7 +18,7 @@ fn all_plain(words: &[&str]) -> bool
     words.iter().all(|word| is_plain(word))
 }
 
-/// Whether each word is one that `clap` takes for a value.
+/// Whether each word is plain.
 pub fn are_plain(words: &[&str]) -> bool
     ensures { result ≡ are_plain (map (λ w. w.now) words.now) }
 {

@@ -1,0 +1,19 @@
+-- What each command is, and which one words name. Words that are no command are one, too: a line says so.
+use Rattle.std.specs.Prelude.{ℕ, List, Option, Some, None}
+use Rattle.pgs_answer.specs.Lines.{words_refused_line}
+use Rattle.pgs_command.specs.Spec.{CommandSpec}
+use Rattle.pgs_command.specs.Words.{refused_words}
+use Rattle.pgs_run_check.specs.declared.command.CheckCommand.{CheckCommand}
+use Rattle.pgs_run_check.specs.declared.command.CheckCommand.TheVariants.{Schema}
+use Rattle.pgs_run_check.specs.Words.{command_of}
+use Rattle.pgs_run_check_schema.specs.Spec.{schema_spec}
+
+abbrev pub spec_of : CheckCommand → CommandSpec
+spec_of Schema = schema_spec
+
+abbrev pub spec_named : Option CheckCommand → CommandSpec
+spec_named None = refused_words words_refused_line
+spec_named (Some command) = spec_of command
+
+abbrev pub spec_for : (words : List (List ℕ)) → CommandSpec
+spec_for words = spec_named (command_of words)

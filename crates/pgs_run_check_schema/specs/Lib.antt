@@ -1,0 +1,5 @@
+pub mod Examples
+pub mod Judged
+pub mod Read
+pub mod Spec
+pub mod Told
