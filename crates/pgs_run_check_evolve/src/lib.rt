@@ -6,6 +6,7 @@
 #![tactic(auto)]
 
 mod changes;
+pub mod laws;
 mod lines;
 mod run;
 
