@@ -54,7 +54,11 @@ pub(crate) fn no_others(alloc: Global) -> Bytes
 }
 
 /// What might stand behind the tokens that were read, as the end of a line; nothing where that is unknown.
-pub(crate) fn others_text(alloc: Global, reading: &Reading, tokens: &Tokens<'_>) -> Result<Bytes, Memory>
+pub(crate) fn others_text(
+    alloc: Global,
+    reading: &Reading,
+    tokens: &Tokens<'_>,
+) -> Result<Bytes, Memory>
     ensures { IfOk result AreOthers }
 {
     let firsts = reading.firsts(alloc, tokens)?;

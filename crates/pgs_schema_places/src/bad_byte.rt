@@ -100,7 +100,13 @@ fn place_in(alloc: Global, line: &[u8]) -> Result<Option<usize>, Memory> {
     let size = front.len();
     match front_of(alloc, front)? {
         None => Ok(None),
-        Some(Front { whole: true, start, end }) if end == size && is_of_word(line.get(size)) => Ok(Some(start)),
+        Some(
+            Front {
+                whole: true,
+                start,
+                end,
+            },
+        ) if end == size && is_of_word(line.get(size)) => Ok(Some(start)),
         Some(Front { whole: true, .. }) => Ok(Some(size)),
         Some(Front { start, end, .. }) if end > size => Ok(Some(start)),
         Some(_) => Ok(Some(size.saturating_sub(1))),

@@ -32,7 +32,11 @@ fn column_at(text: &[u8], place: usize) -> u64
     requires { place ≤ length text.now }
     ensures { result ≡ column_at text.now place }
 {
-    1 + text[..place].iter().rev().take_while(|byte| **byte != b'\n').count() as u64
+    1 + text[..place]
+        .iter()
+        .rev()
+        .take_while(|byte| **byte != b'\n')
+        .count() as u64
 }
 
 // The line of a cause at a place.
@@ -138,7 +142,7 @@ fn line_by_tokens(
         Refusal::NoStatement => others_text(alloc, &reading, tokens)?,
         _ => no_others(alloc),
     };
-    match token_place(tokens, &reading, refusal) {
+    match token_place(alloc, tokens, &reading, refusal)? {
         Some(place) => token_line(alloc, text, tokens, place, others.as_slice()),
         None => Ok(None),
     }
@@ -147,7 +151,11 @@ fn line_by_tokens(
 /// The line of the cause of a refusal of a text, with its line feed: its place as a line and as a column in bytes, both from 1, and what the
 /// text has there, a token, a character, a byte or its end; of 11 also what might stand there. `None` where no such place is found. Which
 /// place it is, no clause says: docs/FORMATS.md ("What `pgcheck` prints") says it, and rows show it.
-pub fn because_line(alloc: Global, text: &[u8], refusal: &Refusal<'_>) -> Result<Option<Bytes>, Memory>
+pub fn because_line(
+    alloc: Global,
+    text: &[u8],
+    refusal: &Refusal<'_>,
+) -> Result<Option<Bytes>, Memory>
     requires { length text.now ≤ TEXT_LIMIT }
     ensures { IfOk result (λ line. IfSome line (IsBecause text.now)) }
 {

@@ -48,7 +48,11 @@ pub(crate) fn seen_size(bytes: &[u8]) -> Option<usize>
         }
         let front = &bytes[..size];
         if is_utf8(front) {
-            return if is_seen_text(front) { Some(size) } else { None };
+            return if is_seen_text(front) {
+                Some(size)
+            } else {
+                None
+            };
         }
     }
     None

@@ -100,131 +100,518 @@ pub(crate) enum Part {
 
 /// One form of a part: what it begins with, and what follows that.
 #[derive(Clone, Copy)]
-pub(crate) struct Rule(pub Part, pub Symbol, pub &'static [Symbol]);
+pub(crate) struct Form(pub Symbol, pub &'static [Symbol]);
 
-/// The forms of all parts. No two forms of a part begin with the same token.
-pub(crate) static RULES: [Rule; 119] = [
-    // statements
-    Rule(Part::Script, Word(b"CREATE"), &[Then(Part::Created), Word(b";"), Then(Part::Script)]),
-    Rule(Part::Script, Nothing, &[]),
-    Rule(Part::Created, Word(b"ABSTRACT"), &[Then(Part::CreatedAbstract)]),
-    Rule(Part::Created, Word(b"NODE"), &[Word(b"TYPE"), Then(Part::DeclaredNode)]),
-    Rule(Part::Created, Word(b"EDGE"), &[Word(b"TYPE"), Then(Part::DeclaredEdge)]),
-    Rule(Part::Created, Word(b"GRAPH"), &[Word(b"TYPE"), Name(Role::GraphType), Then(Part::Mode), Then(Part::Imports), Word(b"{"), Then(Part::Members), Word(b"}")]),
-    Rule(Part::CreatedAbstract, Word(b"NODE"), &[Word(b"TYPE"), Then(Part::NodeType)]),
-    Rule(Part::CreatedAbstract, Word(b"EDGE"), &[Word(b"TYPE"), Then(Part::EdgeType)]),
-    Rule(Part::DeclaredNode, Word(b"ABSTRACT"), &[Then(Part::NodeType)]),
-    Rule(Part::DeclaredNode, Word(b"("), &[Name(Role::NodeType), Then(Part::Labels), Then(Part::Open), Then(Part::Braces), Word(b")")]),
-    Rule(Part::DeclaredEdge, Word(b"ABSTRACT"), &[Then(Part::EdgeType)]),
-    Rule(Part::DeclaredEdge, Word(b"("), &[Then(Part::Labels), Then(Part::Open), Then(Part::Braces), Word(b")"), Then(Part::Arrow)]),
-    // element types
-    Rule(Part::NodeType, Word(b"("), &[Name(Role::NodeType), Then(Part::Labels), Then(Part::Open), Then(Part::Braces), Word(b")")]),
-    Rule(Part::EdgeType, Word(b"("), &[Then(Part::Labels), Then(Part::Open), Then(Part::Braces), Word(b")"), Then(Part::Arrow)]),
-    Rule(Part::Arrow, Word(b"-"), &[Then(Part::Middle), Word(b"->"), Then(Part::End)]),
-    Rule(Part::Arrow, Word(b"<-"), &[Then(Part::Middle), Word(b"-"), Then(Part::End)]),
-    Rule(Part::Middle, Word(b"["), &[Name(Role::EdgeType), Then(Part::Labels), Then(Part::Open), Then(Part::Braces), Word(b"]")]),
-    Rule(Part::End, Word(b"("), &[Then(Part::Labels), Then(Part::Open), Then(Part::Braces), Word(b")")]),
-    Rule(Part::Labels, Word(b":"), &[Then(Part::Unit)]),
-    Rule(Part::Labels, Nothing, &[]),
-    Rule(Part::Unit, Name(Role::Label), &[Then(Part::Optional), Then(Part::MoreUnits)]),
-    Rule(Part::Unit, Word(b"("), &[Then(Part::Unit), Then(Part::UnitEnd)]),
-    Rule(Part::UnitEnd, Word(b")"), &[Then(Part::Optional), Then(Part::MoreUnits)]),
-    Rule(Part::MoreUnits, Word(b"&"), &[Then(Part::Unit)]),
-    Rule(Part::MoreUnits, Word(b"|"), &[Then(Part::Unit)]),
-    Rule(Part::MoreUnits, Nothing, &[]),
-    Rule(Part::Optional, Word(b"?"), &[]),
-    Rule(Part::Optional, Nothing, &[]),
-    Rule(Part::Open, Word(b"OPEN"), &[]),
-    Rule(Part::Open, Nothing, &[]),
-    Rule(Part::Braces, Word(b"{"), &[Then(Part::Properties)]),
-    Rule(Part::Braces, Nothing, &[]),
-    Rule(Part::Properties, Word(b"}"), &[]),
-    Rule(Part::Properties, Word(b"OPEN"), &[Word(b"}")]),
-    Rule(Part::Properties, Word(b"OPTIONAL"), &[Name(Role::Property), Then(Part::Kind), Then(Part::MoreProperties)]),
-    Rule(Part::Properties, Name(Role::Property), &[Then(Part::Kind), Then(Part::MoreProperties)]),
-    Rule(Part::MoreProperties, Word(b"}"), &[]),
-    Rule(Part::MoreProperties, Word(b","), &[Then(Part::Property)]),
-    Rule(Part::Property, Word(b"OPEN"), &[Word(b"}")]),
-    Rule(Part::Property, Word(b"OPTIONAL"), &[Name(Role::Property), Then(Part::Kind), Then(Part::MoreProperties)]),
-    Rule(Part::Property, Name(Role::Property), &[Then(Part::Kind), Then(Part::MoreProperties)]),
-    Rule(Part::Kind, Word(b"STRING"), &[]),
-    Rule(Part::Kind, Word(b"INT"), &[]),
-    Rule(Part::Kind, Word(b"BOOL"), &[]),
-    Rule(Part::Kind, Word(b"DATE"), &[]),
-    // graph types
-    Rule(Part::Mode, Word(b"STRICT"), &[]),
-    Rule(Part::Mode, Word(b"LOOSE"), &[]),
-    Rule(Part::Imports, Word(b"IMPORTS"), &[Name(Role::Import), Then(Part::MoreImports)]),
-    Rule(Part::Imports, Nothing, &[]),
-    Rule(Part::MoreImports, Word(b","), &[Name(Role::Import), Then(Part::MoreImports)]),
-    Rule(Part::MoreImports, Nothing, &[]),
-    Rule(Part::Members, Name(Role::Member), &[Then(Part::MoreMembers)]),
-    Rule(Part::Members, Word(b"ABSTRACT"), &[Then(Part::Element), Then(Part::MoreMembers)]),
-    Rule(Part::Members, Word(b"("), &[Then(Part::NodeOrEnd), Then(Part::MoreMembers)]),
-    Rule(Part::Members, Word(b"FOR"), &[Then(Part::Scope)]),
-    Rule(Part::Members, Nothing, &[]),
-    Rule(Part::MoreMembers, Word(b","), &[Then(Part::Member)]),
-    Rule(Part::MoreMembers, Nothing, &[]),
-    Rule(Part::Member, Name(Role::Member), &[Then(Part::MoreMembers)]),
-    Rule(Part::Member, Word(b"ABSTRACT"), &[Then(Part::Element), Then(Part::MoreMembers)]),
-    Rule(Part::Member, Word(b"("), &[Then(Part::NodeOrEnd), Then(Part::MoreMembers)]),
-    Rule(Part::Member, Word(b"FOR"), &[Then(Part::Scope)]),
-    Rule(Part::Element, Word(b"("), &[Then(Part::NodeOrEnd)]),
-    Rule(Part::NodeOrEnd, Name(Role::NodeType), &[Then(Part::Labels), Then(Part::Open), Then(Part::Braces), Word(b")")]),
-    Rule(Part::NodeOrEnd, Word(b":"), &[Then(Part::Unit), Then(Part::Open), Then(Part::Braces), Word(b")"), Then(Part::Arrow)]),
-    Rule(Part::NodeOrEnd, Word(b"OPEN"), &[Then(Part::Braces), Word(b")"), Then(Part::Arrow)]),
-    Rule(Part::NodeOrEnd, Word(b"{"), &[Then(Part::Properties), Word(b")"), Then(Part::Arrow)]),
-    Rule(Part::NodeOrEnd, Word(b")"), &[Then(Part::Arrow)]),
-    // keys, from the token behind FOR on
-    Rule(Part::Scope, Word(b"("), &[Then(Part::Variable), Then(Part::Names), Then(Part::Tests), Word(b")"), Then(Part::Steps), Then(Part::MoreScope), Then(Part::Qualifiers), Then(Part::Expression)]),
-    Rule(Part::MoreScope, Word(b","), &[Then(Part::Node), Then(Part::Steps), Then(Part::MoreScope)]),
-    Rule(Part::MoreScope, Nothing, &[]),
-    Rule(Part::Node, Word(b"("), &[Then(Part::Variable), Then(Part::Names), Then(Part::Tests), Word(b")")]),
-    Rule(Part::Edge, Word(b"["), &[Then(Part::Variable), Then(Part::Names), Then(Part::Tests), Word(b"]")]),
-    Rule(Part::Variable, Name(Role::Other), &[]),
-    Rule(Part::Variable, Nothing, &[]),
-    Rule(Part::Names, Word(b":"), &[Name(Role::Label), Then(Part::MoreNames)]),
-    Rule(Part::Names, Nothing, &[]),
-    Rule(Part::MoreNames, Word(b"&"), &[Name(Role::Label), Then(Part::MoreNames)]),
-    Rule(Part::MoreNames, Nothing, &[]),
-    Rule(Part::Tests, Word(b"{"), &[Then(Part::Test)]),
-    Rule(Part::Tests, Nothing, &[]),
-    Rule(Part::Test, Name(Role::Other), &[Word(b":"), Then(Part::Literal), Then(Part::MoreTests)]),
-    Rule(Part::MoreTests, Word(b","), &[Then(Part::Test)]),
-    Rule(Part::MoreTests, Word(b"}"), &[]),
-    Rule(Part::Literal, Text, &[]),
-    Rule(Part::Literal, Number, &[]),
-    Rule(Part::Literal, Word(b"TRUE"), &[]),
-    Rule(Part::Literal, Word(b"FALSE"), &[]),
-    Rule(Part::Literal, Word(b"DATE"), &[Day]),
-    Rule(Part::Steps, Word(b"-"), &[Then(Part::Edge), Word(b"->"), Then(Part::Node), Then(Part::Steps)]),
-    Rule(Part::Steps, Word(b"<-"), &[Then(Part::Edge), Word(b"-"), Then(Part::Node), Then(Part::Steps)]),
-    Rule(Part::Steps, Nothing, &[]),
-    Rule(Part::Qualifiers, Word(b"IDENTIFIER"), &[]),
-    Rule(Part::Qualifiers, Once(b"EXCLUSIVE"), &[Then(Part::MoreQualifiers)]),
-    Rule(Part::Qualifiers, Once(b"MANDATORY"), &[Then(Part::MoreQualifiers)]),
-    Rule(Part::Qualifiers, Once(b"SINGLETON"), &[Then(Part::MoreQualifiers)]),
-    Rule(Part::Qualifiers, Once(b"COUNT"), &[Least, Word(b".."), AtMost, Word(b"OF"), Then(Part::MoreQualifiers)]),
-    Rule(Part::MoreQualifiers, Word(b","), &[Then(Part::Qualifier)]),
-    Rule(Part::MoreQualifiers, Once(b"EXCLUSIVE"), &[Then(Part::MoreQualifiers)]),
-    Rule(Part::MoreQualifiers, Once(b"MANDATORY"), &[Then(Part::MoreQualifiers)]),
-    Rule(Part::MoreQualifiers, Once(b"SINGLETON"), &[Then(Part::MoreQualifiers)]),
-    Rule(Part::MoreQualifiers, Once(b"COUNT"), &[Least, Word(b".."), AtMost, Word(b"OF"), Then(Part::MoreQualifiers)]),
-    Rule(Part::MoreQualifiers, Nothing, &[]),
-    Rule(Part::Qualifier, Once(b"EXCLUSIVE"), &[Then(Part::MoreQualifiers)]),
-    Rule(Part::Qualifier, Once(b"MANDATORY"), &[Then(Part::MoreQualifiers)]),
-    Rule(Part::Qualifier, Once(b"SINGLETON"), &[Then(Part::MoreQualifiers)]),
-    Rule(Part::Qualifier, Once(b"COUNT"), &[Least, Word(b".."), AtMost, Word(b"OF"), Then(Part::MoreQualifiers)]),
-    Rule(Part::Expression, Name(Role::Other), &[Then(Part::Key), Then(Part::MoreExpressions)]),
-    Rule(Part::Key, Word(b"."), &[Name(Role::Other)]),
-    Rule(Part::Key, Nothing, &[]),
-    Rule(Part::MoreExpressions, Word(b","), &[Then(Part::ExpressionOrKey)]),
-    Rule(Part::MoreExpressions, Word(b"WITHIN"), &[Then(Part::Node), Then(Part::Steps), Then(Part::MorePaths)]),
-    Rule(Part::MoreExpressions, Nothing, &[]),
-    Rule(Part::ExpressionOrKey, Name(Role::Other), &[Then(Part::Key), Then(Part::MoreExpressions)]),
-    Rule(Part::ExpressionOrKey, Word(b"FOR"), &[Then(Part::Scope)]),
-    Rule(Part::MorePaths, Word(b","), &[Then(Part::PathOrKey)]),
-    Rule(Part::MorePaths, Nothing, &[]),
-    Rule(Part::PathOrKey, Word(b"("), &[Then(Part::Variable), Then(Part::Names), Then(Part::Tests), Word(b")"), Then(Part::Steps), Then(Part::MorePaths)]),
-    Rule(Part::PathOrKey, Word(b"FOR"), &[Then(Part::Scope)]),
+// ---- statements
+
+static SCRIPT: [Form; 2] = [
+    Form(
+        Word(b"CREATE"),
+        &[Then(Part::Created), Word(b";"), Then(Part::Script)],
+    ),
+    Form(Nothing, &[]),
 ];
+
+static CREATED: [Form; 4] = [
+    Form(Word(b"ABSTRACT"), &[Then(Part::CreatedAbstract)]),
+    Form(Word(b"NODE"), &[Word(b"TYPE"), Then(Part::DeclaredNode)]),
+    Form(Word(b"EDGE"), &[Word(b"TYPE"), Then(Part::DeclaredEdge)]),
+    Form(
+        Word(b"GRAPH"),
+        &[
+            Word(b"TYPE"),
+            Name(Role::GraphType),
+            Then(Part::Mode),
+            Then(Part::Imports),
+            Word(b"{"),
+            Then(Part::Members),
+            Word(b"}"),
+        ],
+    ),
+];
+
+static CREATED_ABSTRACT: [Form; 2] = [
+    Form(Word(b"NODE"), &[Word(b"TYPE"), Then(Part::NodeType)]),
+    Form(Word(b"EDGE"), &[Word(b"TYPE"), Then(Part::EdgeType)]),
+];
+
+static DECLARED_NODE: [Form; 2] = [
+    Form(Word(b"ABSTRACT"), &[Then(Part::NodeType)]),
+    Form(
+        Word(b"("),
+        &[
+            Name(Role::NodeType),
+            Then(Part::Labels),
+            Then(Part::Open),
+            Then(Part::Braces),
+            Word(b")"),
+        ],
+    ),
+];
+
+static DECLARED_EDGE: [Form; 2] = [
+    Form(Word(b"ABSTRACT"), &[Then(Part::EdgeType)]),
+    Form(
+        Word(b"("),
+        &[
+            Then(Part::Labels),
+            Then(Part::Open),
+            Then(Part::Braces),
+            Word(b")"),
+            Then(Part::Arrow),
+        ],
+    ),
+];
+
+// ---- element types
+
+static NODE_TYPE: [Form; 1] = [Form(
+    Word(b"("),
+    &[
+        Name(Role::NodeType),
+        Then(Part::Labels),
+        Then(Part::Open),
+        Then(Part::Braces),
+        Word(b")"),
+    ],
+)];
+
+static EDGE_TYPE: [Form; 1] = [Form(
+    Word(b"("),
+    &[
+        Then(Part::Labels),
+        Then(Part::Open),
+        Then(Part::Braces),
+        Word(b")"),
+        Then(Part::Arrow),
+    ],
+)];
+
+static ARROW: [Form; 2] = [
+    Form(
+        Word(b"-"),
+        &[Then(Part::Middle), Word(b"->"), Then(Part::End)],
+    ),
+    Form(
+        Word(b"<-"),
+        &[Then(Part::Middle), Word(b"-"), Then(Part::End)],
+    ),
+];
+
+static MIDDLE: [Form; 1] = [Form(
+    Word(b"["),
+    &[
+        Name(Role::EdgeType),
+        Then(Part::Labels),
+        Then(Part::Open),
+        Then(Part::Braces),
+        Word(b"]"),
+    ],
+)];
+
+static END: [Form; 1] = [Form(
+    Word(b"("),
+    &[
+        Then(Part::Labels),
+        Then(Part::Open),
+        Then(Part::Braces),
+        Word(b")"),
+    ],
+)];
+
+static LABELS: [Form; 2] = [Form(Word(b":"), &[Then(Part::Unit)]), Form(Nothing, &[])];
+
+static UNIT: [Form; 2] = [
+    Form(
+        Name(Role::Label),
+        &[Then(Part::Optional), Then(Part::MoreUnits)],
+    ),
+    Form(Word(b"("), &[Then(Part::Unit), Then(Part::UnitEnd)]),
+];
+
+static UNIT_END: [Form; 1] = [Form(Word(b")"), &[Then(Part::Optional), Then(Part::MoreUnits)])];
+
+static MORE_UNITS: [Form; 3] = [
+    Form(Word(b"&"), &[Then(Part::Unit)]),
+    Form(Word(b"|"), &[Then(Part::Unit)]),
+    Form(Nothing, &[]),
+];
+
+static OPTIONAL: [Form; 2] = [Form(Word(b"?"), &[]), Form(Nothing, &[])];
+
+static OPEN: [Form; 2] = [Form(Word(b"OPEN"), &[]), Form(Nothing, &[])];
+
+static BRACES: [Form; 2] = [
+    Form(Word(b"{"), &[Then(Part::Properties)]),
+    Form(Nothing, &[]),
+];
+
+static PROPERTIES: [Form; 4] = [
+    Form(Word(b"}"), &[]),
+    Form(Word(b"OPEN"), &[Word(b"}")]),
+    Form(
+        Word(b"OPTIONAL"),
+        &[
+            Name(Role::Property),
+            Then(Part::Kind),
+            Then(Part::MoreProperties),
+        ],
+    ),
+    Form(
+        Name(Role::Property),
+        &[Then(Part::Kind), Then(Part::MoreProperties)],
+    ),
+];
+
+static MORE_PROPERTIES: [Form; 2] = [
+    Form(Word(b"}"), &[]),
+    Form(Word(b","), &[Then(Part::Property)]),
+];
+
+static PROPERTY: [Form; 3] = [
+    Form(Word(b"OPEN"), &[Word(b"}")]),
+    Form(
+        Word(b"OPTIONAL"),
+        &[
+            Name(Role::Property),
+            Then(Part::Kind),
+            Then(Part::MoreProperties),
+        ],
+    ),
+    Form(
+        Name(Role::Property),
+        &[Then(Part::Kind), Then(Part::MoreProperties)],
+    ),
+];
+
+static KIND: [Form; 4] = [
+    Form(Word(b"STRING"), &[]),
+    Form(Word(b"INT"), &[]),
+    Form(Word(b"BOOL"), &[]),
+    Form(Word(b"DATE"), &[]),
+];
+
+// ---- graph types
+
+static MODE: [Form; 2] = [Form(Word(b"STRICT"), &[]), Form(Word(b"LOOSE"), &[])];
+
+static IMPORTS: [Form; 2] = [
+    Form(
+        Word(b"IMPORTS"),
+        &[Name(Role::Import), Then(Part::MoreImports)],
+    ),
+    Form(Nothing, &[]),
+];
+
+static MORE_IMPORTS: [Form; 2] = [
+    Form(Word(b","), &[Name(Role::Import), Then(Part::MoreImports)]),
+    Form(Nothing, &[]),
+];
+
+static MEMBERS: [Form; 5] = [
+    Form(Name(Role::Member), &[Then(Part::MoreMembers)]),
+    Form(
+        Word(b"ABSTRACT"),
+        &[Then(Part::Element), Then(Part::MoreMembers)],
+    ),
+    Form(
+        Word(b"("),
+        &[Then(Part::NodeOrEnd), Then(Part::MoreMembers)],
+    ),
+    Form(Word(b"FOR"), &[Then(Part::Scope)]),
+    Form(Nothing, &[]),
+];
+
+static MORE_MEMBERS: [Form; 2] = [Form(Word(b","), &[Then(Part::Member)]), Form(Nothing, &[])];
+
+static MEMBER: [Form; 4] = [
+    Form(Name(Role::Member), &[Then(Part::MoreMembers)]),
+    Form(
+        Word(b"ABSTRACT"),
+        &[Then(Part::Element), Then(Part::MoreMembers)],
+    ),
+    Form(
+        Word(b"("),
+        &[Then(Part::NodeOrEnd), Then(Part::MoreMembers)],
+    ),
+    Form(Word(b"FOR"), &[Then(Part::Scope)]),
+];
+
+static ELEMENT: [Form; 1] = [Form(Word(b"("), &[Then(Part::NodeOrEnd)])];
+
+static NODE_OR_END: [Form; 5] = [
+    Form(
+        Name(Role::NodeType),
+        &[
+            Then(Part::Labels),
+            Then(Part::Open),
+            Then(Part::Braces),
+            Word(b")"),
+        ],
+    ),
+    Form(
+        Word(b":"),
+        &[
+            Then(Part::Unit),
+            Then(Part::Open),
+            Then(Part::Braces),
+            Word(b")"),
+            Then(Part::Arrow),
+        ],
+    ),
+    Form(
+        Word(b"OPEN"),
+        &[Then(Part::Braces), Word(b")"), Then(Part::Arrow)],
+    ),
+    Form(
+        Word(b"{"),
+        &[Then(Part::Properties), Word(b")"), Then(Part::Arrow)],
+    ),
+    Form(Word(b")"), &[Then(Part::Arrow)]),
+];
+
+// ---- keys, from the token behind FOR on
+
+static SCOPE: [Form; 1] = [Form(
+    Word(b"("),
+    &[
+        Then(Part::Variable),
+        Then(Part::Names),
+        Then(Part::Tests),
+        Word(b")"),
+        Then(Part::Steps),
+        Then(Part::MoreScope),
+        Then(Part::Qualifiers),
+        Then(Part::Expression),
+    ],
+)];
+
+static MORE_SCOPE: [Form; 2] = [
+    Form(
+        Word(b","),
+        &[Then(Part::Node), Then(Part::Steps), Then(Part::MoreScope)],
+    ),
+    Form(Nothing, &[]),
+];
+
+static NODE: [Form; 1] = [Form(
+    Word(b"("),
+    &[
+        Then(Part::Variable),
+        Then(Part::Names),
+        Then(Part::Tests),
+        Word(b")"),
+    ],
+)];
+
+static EDGE: [Form; 1] = [Form(
+    Word(b"["),
+    &[
+        Then(Part::Variable),
+        Then(Part::Names),
+        Then(Part::Tests),
+        Word(b"]"),
+    ],
+)];
+
+static VARIABLE: [Form; 2] = [Form(Name(Role::Other), &[]), Form(Nothing, &[])];
+
+static NAMES: [Form; 2] = [
+    Form(Word(b":"), &[Name(Role::Label), Then(Part::MoreNames)]),
+    Form(Nothing, &[]),
+];
+
+static MORE_NAMES: [Form; 2] = [
+    Form(Word(b"&"), &[Name(Role::Label), Then(Part::MoreNames)]),
+    Form(Nothing, &[]),
+];
+
+static TESTS: [Form; 2] = [Form(Word(b"{"), &[Then(Part::Test)]), Form(Nothing, &[])];
+
+static TEST: [Form; 1] = [Form(
+    Name(Role::Other),
+    &[Word(b":"), Then(Part::Literal), Then(Part::MoreTests)],
+)];
+
+static MORE_TESTS: [Form; 2] = [Form(Word(b","), &[Then(Part::Test)]), Form(Word(b"}"), &[])];
+
+static LITERAL: [Form; 5] = [
+    Form(Text, &[]),
+    Form(Number, &[]),
+    Form(Word(b"TRUE"), &[]),
+    Form(Word(b"FALSE"), &[]),
+    Form(Word(b"DATE"), &[Day]),
+];
+
+static STEPS: [Form; 3] = [
+    Form(
+        Word(b"-"),
+        &[
+            Then(Part::Edge),
+            Word(b"->"),
+            Then(Part::Node),
+            Then(Part::Steps),
+        ],
+    ),
+    Form(
+        Word(b"<-"),
+        &[
+            Then(Part::Edge),
+            Word(b"-"),
+            Then(Part::Node),
+            Then(Part::Steps),
+        ],
+    ),
+    Form(Nothing, &[]),
+];
+
+static QUALIFIERS: [Form; 5] = [
+    Form(Word(b"IDENTIFIER"), &[]),
+    Form(Once(b"EXCLUSIVE"), &[Then(Part::MoreQualifiers)]),
+    Form(Once(b"MANDATORY"), &[Then(Part::MoreQualifiers)]),
+    Form(Once(b"SINGLETON"), &[Then(Part::MoreQualifiers)]),
+    Form(
+        Once(b"COUNT"),
+        &[
+            Least,
+            Word(b".."),
+            AtMost,
+            Word(b"OF"),
+            Then(Part::MoreQualifiers),
+        ],
+    ),
+];
+
+static MORE_QUALIFIERS: [Form; 6] = [
+    Form(Word(b","), &[Then(Part::Qualifier)]),
+    Form(Once(b"EXCLUSIVE"), &[Then(Part::MoreQualifiers)]),
+    Form(Once(b"MANDATORY"), &[Then(Part::MoreQualifiers)]),
+    Form(Once(b"SINGLETON"), &[Then(Part::MoreQualifiers)]),
+    Form(
+        Once(b"COUNT"),
+        &[
+            Least,
+            Word(b".."),
+            AtMost,
+            Word(b"OF"),
+            Then(Part::MoreQualifiers),
+        ],
+    ),
+    Form(Nothing, &[]),
+];
+
+static QUALIFIER: [Form; 4] = [
+    Form(Once(b"EXCLUSIVE"), &[Then(Part::MoreQualifiers)]),
+    Form(Once(b"MANDATORY"), &[Then(Part::MoreQualifiers)]),
+    Form(Once(b"SINGLETON"), &[Then(Part::MoreQualifiers)]),
+    Form(
+        Once(b"COUNT"),
+        &[
+            Least,
+            Word(b".."),
+            AtMost,
+            Word(b"OF"),
+            Then(Part::MoreQualifiers),
+        ],
+    ),
+];
+
+static EXPRESSION: [Form; 1] = [Form(
+    Name(Role::Other),
+    &[Then(Part::Key), Then(Part::MoreExpressions)],
+)];
+
+static KEY: [Form; 2] = [Form(Word(b"."), &[Name(Role::Other)]), Form(Nothing, &[])];
+
+static MORE_EXPRESSIONS: [Form; 3] = [
+    Form(Word(b","), &[Then(Part::ExpressionOrKey)]),
+    Form(
+        Word(b"WITHIN"),
+        &[Then(Part::Node), Then(Part::Steps), Then(Part::MorePaths)],
+    ),
+    Form(Nothing, &[]),
+];
+
+static EXPRESSION_OR_KEY: [Form; 2] = [
+    Form(
+        Name(Role::Other),
+        &[Then(Part::Key), Then(Part::MoreExpressions)],
+    ),
+    Form(Word(b"FOR"), &[Then(Part::Scope)]),
+];
+
+static MORE_PATHS: [Form; 2] = [
+    Form(Word(b","), &[Then(Part::PathOrKey)]),
+    Form(Nothing, &[]),
+];
+
+static PATH_OR_KEY: [Form; 2] = [
+    Form(
+        Word(b"("),
+        &[
+            Then(Part::Variable),
+            Then(Part::Names),
+            Then(Part::Tests),
+            Word(b")"),
+            Then(Part::Steps),
+            Then(Part::MorePaths),
+        ],
+    ),
+    Form(Word(b"FOR"), &[Then(Part::Scope)]),
+];
+
+/// The forms of a part. No two of them begin with the same token.
+pub(crate) fn forms_of(part: Part) -> &'static [Form] {
+    match part {
+        Part::Script => &SCRIPT,
+        Part::Created => &CREATED,
+        Part::CreatedAbstract => &CREATED_ABSTRACT,
+        Part::DeclaredNode => &DECLARED_NODE,
+        Part::DeclaredEdge => &DECLARED_EDGE,
+        Part::NodeType => &NODE_TYPE,
+        Part::EdgeType => &EDGE_TYPE,
+        Part::Arrow => &ARROW,
+        Part::Middle => &MIDDLE,
+        Part::End => &END,
+        Part::Labels => &LABELS,
+        Part::Unit => &UNIT,
+        Part::UnitEnd => &UNIT_END,
+        Part::MoreUnits => &MORE_UNITS,
+        Part::Optional => &OPTIONAL,
+        Part::Open => &OPEN,
+        Part::Braces => &BRACES,
+        Part::Properties => &PROPERTIES,
+        Part::MoreProperties => &MORE_PROPERTIES,
+        Part::Property => &PROPERTY,
+        Part::Kind => &KIND,
+        Part::Mode => &MODE,
+        Part::Imports => &IMPORTS,
+        Part::MoreImports => &MORE_IMPORTS,
+        Part::Members => &MEMBERS,
+        Part::MoreMembers => &MORE_MEMBERS,
+        Part::Member => &MEMBER,
+        Part::Element => &ELEMENT,
+        Part::NodeOrEnd => &NODE_OR_END,
+        Part::Scope => &SCOPE,
+        Part::MoreScope => &MORE_SCOPE,
+        Part::Node => &NODE,
+        Part::Edge => &EDGE,
+        Part::Variable => &VARIABLE,
+        Part::Names => &NAMES,
+        Part::MoreNames => &MORE_NAMES,
+        Part::Tests => &TESTS,
+        Part::Test => &TEST,
+        Part::MoreTests => &MORE_TESTS,
+        Part::Literal => &LITERAL,
+        Part::Steps => &STEPS,
+        Part::Qualifiers => &QUALIFIERS,
+        Part::MoreQualifiers => &MORE_QUALIFIERS,
+        Part::Qualifier => &QUALIFIER,
+        Part::Expression => &EXPRESSION,
+        Part::Key => &KEY,
+        Part::MoreExpressions => &MORE_EXPRESSIONS,
+        Part::ExpressionOrKey => &EXPRESSION_OR_KEY,
+        Part::MorePaths => &MORE_PATHS,
+        Part::PathOrKey => &PATH_OR_KEY,
+    }
+}

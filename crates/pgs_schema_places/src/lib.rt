@@ -11,6 +11,7 @@ mod character;
 mod grammar;
 mod guard_texts;
 mod literals;
+mod names;
 mod reading;
 mod refusal;
 mod texts;

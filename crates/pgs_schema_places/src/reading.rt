@@ -1,6 +1,6 @@
 //! The tokens of a script, read by the rules of the grammar as far as it goes.
 
-use crate::grammar::{Part, RULES, Role, Rule, Symbol};
+use crate::grammar::{Form, Part, Role, Symbol, forms_of};
 use crate::literals::{is_day, is_short, number_of};
 use pgs_base::Memory;
 use pgs_lexer::{TokenKind, Tokens};
@@ -49,14 +49,17 @@ fn bound_at(tokens: &Tokens<'_>, place: usize) -> Option<i64> {
 
 // Whether the number at a place is the second of a COUNT whose first stands before the two dots.
 fn is_at_most(tokens: &Tokens<'_>, place: usize) -> bool {
-    match (bound_at(tokens, place.saturating_sub(2)), bound_at(tokens, place)) {
+    match (
+        bound_at(tokens, place.saturating_sub(2)),
+        bound_at(tokens, place),
+    ) {
         (Some(least), Some(most)) => least <= most,
         _ => false,
     }
 }
 
-// Whether the token at a place is one of this form.
-fn has_form(symbol: Symbol, tokens: &Tokens<'_>, place: usize) -> bool {
+// Whether the token at a place is this.
+fn is_at(symbol: Symbol, tokens: &Tokens<'_>, place: usize) -> bool {
     let Some(token) = tokens.at(place) else {
         return false;
     };
@@ -74,8 +77,8 @@ fn has_form(symbol: Symbol, tokens: &Tokens<'_>, place: usize) -> bool {
 
 // Whether a part may be left out.
 fn is_optional(part: Part) -> bool {
-    for rule in &RULES {
-        if rule.0 == part && matches!(rule.1, Symbol::Nothing) {
+    for form in forms_of(part) {
+        if matches!(form.0, Symbol::Nothing) {
             return true;
         }
     }
@@ -125,7 +128,6 @@ impl Reading {
         }
     }
 
-
     // Whether as many parentheses are open in labels as may be.
     fn is_deepest(&self) -> bool {
         let open = self
@@ -136,38 +138,30 @@ impl Reading {
         open >= DEEPEST
     }
 
-    // Whether this form of its part may stand at a place: in labels not one parenthesis too many, and no qualifier again.
-    fn may_stand(&self, rule: &Rule, tokens: &Tokens<'_>, place: usize) -> bool {
-        match rule.1 {
-            Symbol::Word(b"(") => rule.0 != Part::Unit || !self.is_deepest(),
+    // Whether a form of a part that begins so may stand at a place: in labels not one parenthesis too many, and no qualifier again.
+    fn may_stand(&self, part: Part, first: Symbol, tokens: &Tokens<'_>, place: usize) -> bool {
+        match first {
+            Symbol::Word(b"(") => part != Part::Unit || !self.is_deepest(),
             Symbol::Once(word) => !is_asked_before(tokens, place, word),
             _ => true,
         }
     }
 
     // The form of a part that begins with the token at a place.
-    fn rule_at(&self, part: Part, tokens: &Tokens<'_>, place: usize) -> Option<Rule> {
-        for rule in &RULES {
-            if rule.0 == part && has_form(rule.1, tokens, place) && self.may_stand(rule, tokens, place) {
-                return Some(*rule);
+    fn part_at(&self, part: Part, tokens: &Tokens<'_>, place: usize) -> Option<Form> {
+        for form in forms_of(part) {
+            if is_at(form.0, tokens, place) && self.may_stand(part, form.0, tokens, place) {
+                return Some(*form);
             }
         }
         None
     }
 
-    // What the token at a place is and what follows it, where what is awaited begins with it.
-    fn form_at(
-        &self,
-        awaited: Symbol,
-        tokens: &Tokens<'_>,
-        place: usize,
-    ) -> Option<(Symbol, &'static [Symbol])> {
+    // The form of what is awaited that begins with the token at a place.
+    fn form_at(&self, awaited: Symbol, tokens: &Tokens<'_>, place: usize) -> Option<Form> {
         match awaited {
-            Symbol::Then(part) => {
-                let Rule(_, first, rest) = self.rule_at(part, tokens, place)?;
-                Some((first, rest))
-            }
-            _ if has_form(awaited, tokens, place) => Some((awaited, &[])),
+            Symbol::Then(part) => self.part_at(part, tokens, place),
+            _ if is_at(awaited, tokens, place) => Some(Form(awaited, &[])),
             _ => None,
         }
     }
@@ -191,11 +185,11 @@ impl Reading {
     }
 
     // Takes the token that begins this form of what is awaited at a place of the list.
-    fn take(&mut self, kept: usize, first: Symbol, rest: &[Symbol]) -> Result<(), Memory> {
-        let role = self.role_of(first);
+    fn take(&mut self, kept: usize, form: Form) -> Result<(), Memory> {
+        let role = self.role_of(form.0);
         self.roles.push(role)?;
         self.awaited.truncate(kept);
-        for symbol in rest.iter().rev() {
+        for symbol in form.1.iter().rev() {
             self.awaited.push(*symbol)?;
         }
         Ok(())
@@ -207,8 +201,8 @@ impl Reading {
             let Some(awaited) = self.awaited.get(kept).copied() else {
                 return Ok(false);
             };
-            if let Some((first, rest)) = self.form_at(awaited, tokens, place) {
-                self.take(kept, first, rest)?;
+            if let Some(form) = self.form_at(awaited, tokens, place) {
+                self.take(kept, form)?;
                 return Ok(true);
             }
             if !may_be_left_out(awaited) {
@@ -219,18 +213,28 @@ impl Reading {
     }
 
     // Puts last what the forms of a part begin with that may stand next.
-    fn push_part(&self, part: Part, tokens: &Tokens<'_>, firsts: &mut Vec<Symbol>) -> Result<(), Memory> {
-        for rule in &RULES {
-            let is_word = !matches!(rule.1, Symbol::Nothing);
-            if rule.0 == part && is_word && self.may_stand(rule, tokens, self.roles.len()) {
-                firsts.push(rule.1)?;
+    fn push_part(
+        &self,
+        part: Part,
+        tokens: &Tokens<'_>,
+        firsts: &mut Vec<Symbol>,
+    ) -> Result<(), Memory> {
+        for form in forms_of(part) {
+            let is_nothing = matches!(form.0, Symbol::Nothing);
+            if !is_nothing && self.may_stand(part, form.0, tokens, self.roles.len()) {
+                firsts.push(form.0)?;
             }
         }
         Ok(())
     }
 
     // Puts last what this begins with.
-    fn push_firsts(&self, awaited: Symbol, tokens: &Tokens<'_>, firsts: &mut Vec<Symbol>) -> Result<(), Memory> {
+    fn push_firsts(
+        &self,
+        awaited: Symbol,
+        tokens: &Tokens<'_>,
+        firsts: &mut Vec<Symbol>,
+    ) -> Result<(), Memory> {
         match awaited {
             Symbol::Then(part) => self.push_part(part, tokens, firsts),
             _ => {

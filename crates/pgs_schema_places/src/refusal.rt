@@ -1,8 +1,11 @@
 //! Of which token of a text its refusal speaks.
 
 use crate::grammar::Role;
+use crate::names::{first_as, imports_itself, is_name, is_word};
 use crate::reading::Reading;
-use pgs_lexer::{TokenKind, Tokens};
+use pgs_base::Memory;
+use pgs_lexer::Tokens;
+use std::alloc::Global;
 
 /// Why a text is no schema, where that is about a place of it (docs/FORMATS.md has each number).
 #[derive(Clone, Copy)]
@@ -27,35 +30,6 @@ pub enum Refusal<'a> {
 
 const TYPES: [Role; 2] = [Role::NodeType, Role::EdgeType];
 
-// Whether the token at a place is this name, in backquotes or not.
-fn is_name(tokens: &Tokens<'_>, place: usize, name: &[u8]) -> bool {
-    match tokens.at(place) {
-        Some(token) if token.kind == TokenKind::Name => match token.slice {
-            [b'`', inside @ .., b'`'] => inside == name,
-            word => word == name,
-        },
-        _ => false,
-    }
-}
-
-// Whether these bytes are the token at a place.
-fn is_word(tokens: &Tokens<'_>, place: usize, word: &[u8]) -> bool {
-    match tokens.at(place) {
-        Some(token) => token.slice == word,
-        None => false,
-    }
-}
-
-// Where a name first stands in one of these roles.
-fn first_as(tokens: &Tokens<'_>, roles: &[Role], name: &[u8], wanted: &[Role]) -> Option<usize> {
-    for (place, role) in roles.iter().enumerate() {
-        if wanted.contains(role) && is_name(tokens, place, name) {
-            return Some(place);
-        }
-    }
-    None
-}
-
 // The roles in which a name is declared together with one in this role.
 fn declared_with(role: Role) -> &'static [Role] {
     match role {
@@ -66,7 +40,13 @@ fn declared_with(role: Role) -> &'static [Role] {
 }
 
 // Whether a name stands in one of these roles before a place.
-fn is_declared_before(tokens: &Tokens<'_>, roles: &[Role], name: &[u8], place: usize, wanted: &[Role]) -> bool {
+fn is_declared_before(
+    tokens: &Tokens<'_>,
+    roles: &[Role],
+    name: &[u8],
+    place: usize,
+    wanted: &[Role],
+) -> bool {
     match first_as(tokens, roles, name, wanted) {
         Some(first) => first < place,
         None => false,
@@ -120,9 +100,17 @@ fn wrong_place(tokens: &Tokens<'_>, roles: &[Role], name: &[u8]) -> Option<usize
     first_as(tokens, roles, name, &[wrong])
 }
 
-// Where a name is declared as an element type, or else as a graph type.
-fn declared_place(tokens: &Tokens<'_>, roles: &[Role], name: &[u8]) -> Option<usize> {
-    first_as(tokens, roles, name, &TYPES).or(first_as(tokens, roles, name, &[Role::GraphType]))
+// Where a name is declared that is on a cycle: as a graph type that imports itself, or else as an element type.
+fn cycle_place(
+    alloc: Global,
+    tokens: &Tokens<'_>,
+    roles: &[Role],
+    name: &[u8],
+) -> Result<Option<usize>, Memory> {
+    match first_as(tokens, roles, name, &[Role::GraphType]) {
+        Some(graph) if imports_itself(alloc, tokens, roles, graph)? => Ok(Some(graph)),
+        _ => Ok(first_as(tokens, roles, name, &TYPES)),
+    }
 }
 
 // Where the key of a number begins.
@@ -141,16 +129,22 @@ fn key_place(tokens: &Tokens<'_>, number: u64) -> Option<usize> {
 
 /// The place of the token of which a refusal speaks: as many tokens as there are where that is the end of the text, and `None` where it isn't
 /// found.
-pub(crate) fn token_place(tokens: &Tokens<'_>, reading: &Reading, refusal: &Refusal<'_>) -> Option<usize> {
+pub(crate) fn token_place(
+    alloc: Global,
+    tokens: &Tokens<'_>,
+    reading: &Reading,
+    refusal: &Refusal<'_>,
+) -> Result<Option<usize>, Memory> {
     let roles = reading.roles();
-    match refusal {
+    let place = match refusal {
         Refusal::NoItem(_) => None,
         Refusal::NoStatement => reading.failed_place(tokens),
         Refusal::Twice(name) => second_place(tokens, roles, name),
         Refusal::NotDeclared(name) => undeclared_place(tokens, roles, name),
         Refusal::WrongKind(name) => wrong_place(tokens, roles, name),
-        Refusal::OnCycle(name) => declared_place(tokens, roles, name),
+        Refusal::OnCycle(name) => cycle_place(alloc, tokens, roles, name)?,
         Refusal::TooWide(name) => first_as(tokens, roles, name, &TYPES),
         Refusal::BadKey(number) => key_place(tokens, *number),
-    }
+    };
+    Ok(place)
 }
