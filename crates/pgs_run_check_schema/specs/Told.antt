@@ -1,5 +1,4 @@
--- What the word `schema` tells of an input within a budget, by what is chosen, which is what is judged of its guard and the cause of a refusal:
--- lines, and a status.
+-- What the word `schema` tells of an input within a budget, by what is judged of its guard and the cause of a refusal: lines, and a status.
 use Rattle.std.specs.Prelude.{ℕ, List, [], ◌∷◌, length, map, Result, Ok, Err, nat_le, if◌then◌else◌}
 use Rattle.std.specs.List.{list_any}
 use Rattle.pgs_run_lines.specs.Machine.{Told}
