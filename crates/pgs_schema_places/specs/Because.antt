@@ -1,7 +1,7 @@
 -- The line of the cause of a refusal: where in a text it stands, and what the text has there.
-use Rattle.std.specs.Prelude.{◌≡◌, ℕ, ◌+◌, ◌/◌, ◌%◌, ◌<◌, ◌≤◌, not, true, ◌⊎◌, List, [], ◌∷◌, ◌++◌, length, take, drop, reverse, slice_get, Option, Some, Ok, codes, decimal}
+use Rattle.std.specs.Prelude.{◌≡◌, ℕ, ◌+◌, ◌/◌, ◌%◌, ◌<◌, ◌≤◌, not, true, ◌⊎◌, List, [], ◌∷◌, ◌++◌, length, take, drop, slice_get, Some, Ok, codes, decimal}
 use Rattle.std.specs.Char.{digit_char}
-use Rattle.std.specs.List.{Contains, prefix_len}
+use Rattle.std.specs.List.{suffix_len}
 use Rattle.std.specs.Str.{IsUtf8}
 use Rattle.pgs_lexer.specs.Cut.{line_at, tokens_of}
 use Rattle.pgs_lexer.specs.Form.{is_line, is_line_feed}
@@ -9,7 +9,7 @@ use Rattle.pgs_lexer.specs.Token.{Lexeme}
 
 -- the column of a place of a text, in bytes, from 1
 abbrev pub column_at : List ℕ → ℕ → ℕ
-column_at text place = 1 + prefix_len (λ b. not (is_line_feed b)) (reverse (take place text))
+column_at text place = 1 + suffix_len (λ b. not (is_line_feed b)) (take place text)
 
 -- a byte in two hexadecimal digits
 abbrev pub byte_text : ℕ → List ℕ
@@ -17,10 +17,11 @@ byte_text byte = codes "byte " ++ digit_char (byte / 16) ∷ digit_char (byte % 
 
 -- what a text has at a place: a token of it, a character, a byte, or its end
 pub data IsAt (text : List ℕ) : ℕ → List ℕ → Type 0 where
-  token : {found : Lexeme} {tokens : List Lexeme} → tokens_of text ≡ Ok tokens → Contains tokens found → IsAt text found.start found.bytes
-  character : {place size : ℕ} → 0 < size → size ≤ 4 → place + size ≤ length text → IsUtf8 (take size (drop place text)) →
+  token : (tokens : List Lexeme) (number : ℕ) (found : Lexeme) → tokens_of text ≡ Ok tokens → slice_get tokens number ≡ Some found →
+      IsAt text found.start found.bytes
+  character : (place size : ℕ) → 0 < size → size ≤ 4 → place + size ≤ length text → IsUtf8 (take size (drop place text)) →
       IsAt text place (take size (drop place text))
-  byte : {place found : ℕ} → slice_get text place ≡ Some found → IsAt text place (byte_text found)
+  byte : (place found : ℕ) → slice_get text place ≡ Some found → IsAt text place (byte_text found)
   end : IsAt text (length text) (codes "end of text")
 
 -- what might stand there, which may be said behind it

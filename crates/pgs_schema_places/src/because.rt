@@ -1,6 +1,8 @@
 //! The line of the cause of a refusal.
 
-ghost use Rattle.std.specs.Prelude.{◌≡◌, ◌<◌, ◌≤◌, length, Ok, IfOk, IfSome};
+ghost use Rattle.std.specs.Prelude.{◌≡◌, ◌<◌, ◌≤◌, not, length, Ok, IfOk, IfSome};
+ghost use Rattle.std.specs.List.{suffix_len};
+ghost use Rattle.pgs_lexer.specs.Form.{is_line_feed};
 ghost use Rattle.std.specs.Char.{digit_char};
 ghost use Rattle.pgs_base.specs.declared.text_limit.TheConstants.{TEXT_LIMIT};
 ghost use Rattle.pgs_lexer.specs.Cut.{line_at, tokens_of};
@@ -27,16 +29,27 @@ fn line_at(text: &[u8], place: usize) -> u64
     1 + text[..place].iter().filter(|byte| **byte == b'\n').count() as u64
 }
 
+// How many bytes stand behind the last line feed, or in all.
+fn last_size(text: &[u8]) -> usize
+    ensures value { result ≡ suffix_len (λ b. not (is_line_feed b)) text.now }
+    ensures within { result ≤ length text.now }
+{
+    let mut start = text.len();
+    while start > 0 {
+        if text[start - 1] == b'\n' {
+            return text.len() - start;
+        }
+        start -= 1;
+    }
+    text.len()
+}
+
 // The column of a place in bytes, from 1.
 fn column_at(text: &[u8], place: usize) -> u64
     requires { place ≤ length text.now }
     ensures { result ≡ column_at text.now place }
 {
-    1 + text[..place]
-        .iter()
-        .rev()
-        .take_while(|byte| **byte != b'\n')
-        .count() as u64
+    1 + last_size(&text[..place]) as u64
 }
 
 // The line of a cause at a place.
@@ -117,14 +130,17 @@ fn byte_line(alloc: Global, text: &[u8], place: usize) -> Result<Option<Bytes>, 
         return Ok(None);
     }
     let rest = &text[place..];
-    let line = match seen_size(rest) {
-        Some(size) => line_of(alloc, text, place, &rest[..size], b"")?,
+    match seen_size(rest) {
+        Some(size) => {
+            let line = line_of(alloc, text, place, &rest[..size], b"")?;
+            Ok(Some(line))
+        }
         None => {
             let byte = byte_text(alloc, text[place])?;
-            line_of(alloc, text, place, byte.as_slice(), b"")?
+            let line = line_of(alloc, text, place, byte.as_slice(), b"")?;
+            Ok(Some(line))
         }
-    };
-    Ok(Some(line))
+    }
 }
 
 // The line of the cause of a refusal of a text that has tokens.
