@@ -22,10 +22,11 @@ struct Follower;
 
 impl Program<HostRuntime> for Follower {
     ghost use Rattle.pgs_base.specs.declared.seed.Seed.TheVariants.{Fixed};
+    ghost use Rattle.pgs_program.specs.Outside.{HasNoFiles};
     ghost use Rattle.pgs_program.specs.Program.{EndsRunOf};
     ghost use Rattle.pgs_run_follow.specs.Spec.{spec_for};
 
-    ghost runs = { λ words status. EndsRunOf (spec_for words)
+    ghost runs = { λ words status. EndsRunOf (spec_for words) HasNoFiles
         (record { remaining = ⟦<Stdin as Read>⟧.remaining; tells_output = ⟦<Stdout as SteadyWrite>⟧.tells; written = ⟦<Stdout as Write>⟧.contents; tells_bytes = ⟦<StoreFile<SystemFile<'static, HostRuntime>> as Handle>⟧.tells; bytes = ⟦<StoreFile<SystemFile<'static, HostRuntime>> as Handle>⟧.contents })
         Fixed status };
 

@@ -1,4 +1,5 @@
 ghost use Rattle.pgs_run_follow.specs.Spec.{spec_for};
+ghost use Rattle.pgs_program.specs.Outside.{HasNoFiles};
 ghost use Rattle.pgs_program.specs.Program.{IsRunOf};
 ghost use Rattle.pgs_base.specs.declared.seed.Seed.TheVariants.{Fixed};
 
@@ -16,7 +17,7 @@ pub fn run_program<R: SteadyRead + Drop, W: SteadyWrite + Drop, H: Handle>(
     reader: R,
     writer: W,
 ) -> Ran<R, W, H>
-    ensures { IsRunOf (spec_for words.now)
+    ensures { IsRunOf (spec_for words.now) HasNoFiles
         (record { remaining = R.remaining; tells_output = W.tells; written = W.contents; tells_bytes = H.tells; bytes = H.contents })
         reader writer Fixed result }
 {

@@ -127,6 +127,8 @@ impl<W: SteadyWrite, H: Handle> World for FileWorld<W, H> {
 
     ghost view = { seen W.tells W.contents H.tells H.contents };
 
+    ghost hashed_by = { λ world. world.seed };
+
     ghost timed = { λ world. timed_view H.tells (bytes_of H.tells H.contents world.areas) W.tells (W.contents world.writer) world.counts };
 
     /// The length of an area, in bytes. More than 2^40 are a fault.

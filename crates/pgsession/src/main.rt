@@ -23,10 +23,11 @@ struct Sessions;
 
 impl Program<HostRuntime> for Sessions {
     ghost use Rattle.pgs_base.specs.declared.seed.Seed.{Seed};
+    ghost use Rattle.pgs_program.specs.Outside.{HasNoFiles};
     ghost use Rattle.pgs_program.specs.Program.{EndsRunOf};
     ghost use Rattle.pgs_run_sessions.specs.Spec.{spec_for};
 
-    ghost runs = { λ words status. (seed : Seed) × EndsRunOf (spec_for words)
+    ghost runs = { λ words status. (seed : Seed) × EndsRunOf (spec_for words) HasNoFiles
         (record { remaining = ⟦<Stdin as Read>⟧.remaining; tells_output = ⟦<Stdout as SteadyWrite>⟧.tells; written = ⟦<Stdout as Write>⟧.contents; tells_bytes = ⟦<StoreFile<SystemFile<'static, HostRuntime>> as Handle>⟧.tells; bytes = ⟦<StoreFile<SystemFile<'static, HostRuntime>> as Handle>⟧.contents })
         seed status };
 

@@ -1,6 +1,6 @@
 ghost use Rattle.pgs_run_sessions.specs.Spec.{spec_for};
 ghost use Rattle.pgs_program.specs.Program.{IsRunOf};
-ghost use Rattle.pgs_program.specs.Outside.{seed_of};
+ghost use Rattle.pgs_program.specs.Outside.{HasNoFiles, seed_of};
 
 use pgs_base::Words;
 use pgs_program::{Outside, Ran, seed_of};
@@ -19,7 +19,7 @@ pub fn run_program<R: SteadyRead + Drop, W: SteadyWrite + Drop, H: Handle>(
     writer: W,
     drawn: io::Result<RandomState>,
 ) -> Ran<R, W, H>
-    ensures { IsRunOf (spec_for words.now)
+    ensures { IsRunOf (spec_for words.now) HasNoFiles
         (record { remaining = R.remaining; tells_output = W.tells; written = W.contents; tells_bytes = H.tells; bytes = H.contents })
         reader writer (seed_of drawn) result }
 {
