@@ -29,7 +29,7 @@ schema_spec =
     record {
       Choice = Judgement;
       told = λ judged input areas bytes lost. told_schema judged input bytes;
-      IsRight = JudgesRightly;
+      IsRight = λ judged old. JudgesRightly judged old.source.left;
       reads_source = kept.reads_source;
       uses_areas = kept.uses_areas;
       AsksAreas = kept.AsksAreas;

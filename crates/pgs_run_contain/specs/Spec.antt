@@ -19,7 +19,7 @@ contain_spec =
     record {
       Choice = List Answer;
       told = λ answers input areas bytes lost. told_contain answers input bytes;
-      IsRight = AnswersRightly;
+      IsRight = λ answers old. AnswersRightly answers old.source.left;
       reads_source = kept.reads_source;
       uses_areas = kept.uses_areas;
       AsksAreas = kept.AsksAreas;

@@ -45,6 +45,7 @@ puts_last_on (AtEnd rest stop) old mid new p q = q
 abbrev pub puts_last : Rule following
 puts_last = record {
   Kept = Unit {0};
+  tells = shown_of;
   holds = λ s view. Unit {0};
   allows = λ s lines extent old new. KeepsAreas old.view new.view × PutsLast extent (shown_of old.view) (shown_of new.view);
   none = λ s scene timed holds. (keeps_none scene.view timed, refl);

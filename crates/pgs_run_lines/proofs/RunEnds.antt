@@ -12,9 +12,9 @@ use Rattle.pgs_run_lines.specs.Driving.{Runs, StopsAt}
 use Rattle.pgs_run_lines.specs.Ending.{Ends, faults_of, HasCause}
 use Rattle.pgs_run_lines.specs.Input.{kept_of}
 use Rattle.pgs_run_lines.specs.Machine.{RunState, Going, Ended, Machine, Rule, Scene, Extent, Whole, AtEnd, Told, after_lines, pieces_of_lines, told_at_end, status_at_cut, told_cut, told_by}
-use Rattle.pgs_run_lines.specs.Pieces.{Shown, shown_of, ShowsAll}
+use Rattle.pgs_run_lines.specs.Pieces.{Shown, ShowsAll}
 use Rattle.pgs_run_lines.specs.Reading.{StopsIn, Reads}
-use Rattle.pgs_run_lines.specs.Run.{EndsAs, EndsAtLine, EndsBy, IsBetween, IsToldBy, IsFar, Allows}
+use Rattle.pgs_run_lines.specs.Run.{EndsAs, EndsAtLine, EndsBy, IsBetween, IsToldBy, IsFar, IsShort, Allows}
 use Rattle.pgs_run_lines.proofs.FirstBytes.{by_whole, by_cut, tells_on, ended_by}
 use Rattle.pgs_run_lines.proofs.Causes.{no_rise}
 use Rattle.pgs_run_lines.proofs.ReadingOn.{none_taken}
@@ -77,10 +77,10 @@ ended_at m s (line ∷ lines) status ends = ended_next m s line lines status (m.
 
 module _ {E : Type 0} (m : Machine E) (rule : Rule m) (limit : ℕ) (s : m.State) (start : Scene rule.Kept) (budget : ℕ) (before left : Option (List ℕ)) where
   abbrev Told-ends : List ℕ → Stop E → Scene rule.Kept → Type 0
-  Told-ends input stop now = EndsAs (told_by m limit s input) (shown_of start.view) input budget left stop (shown_of now.view)
+  Told-ends input stop now = EndsAs (told_by m limit s input) (rule.tells start.view) input budget left stop (rule.tells now.view)
 
   -- a run that ended so, with no fault of a read
-  ended : (input seen : List ℕ) (stop : Stop E) (now : Scene rule.Kept) → before ≡ Some input → Takes before left seen → length seen ≤ budget → (stop ≡ stops.ReadFault → ⊥) → Ends (shown_of start.view) (told_by m limit s input budget) stop (shown_of now.view) → Told-ends input stop now
+  ended : (input seen : List ℕ) (stop : Stop E) (now : Scene rule.Kept) → before ≡ Some input → Takes before left seen → length seen ≤ budget → (stop ≡ stops.ReadFault → ⊥) → Ends (rule.tells start.view) (told_by m limit s input budget) stop (rule.tells now.view) → Told-ends input stop now
   ended input seen stop now is taken few no_fault shown = record {
     shown = shown;
     read_fault = λ rest left_is same. absurd (no_fault same);
@@ -88,7 +88,7 @@ module _ {E : Type 0} (m : Machine E) (rule : Rule m) (limit : ℕ) (s : m.State
   }
 
   -- the input was read to its end
-  pub whole_ends : (input : List ℕ) (state : m.State) (line : List ℕ) (mid now : Scene rule.Kept) (stop : Stop E) → before ≡ Some input → Reads m rule limit s start budget before left state line (Ok readings.Whole) mid → Ends (shown_of mid.view) (m.rest state line) stop (shown_of now.view) → (stop ≡ stops.ReadFault → ⊥) → Told-ends input stop now
+  pub whole_ends : (input : List ℕ) (state : m.State) (line : List ℕ) (mid now : Scene rule.Kept) (stop : Stop E) → before ≡ Some input → Reads m rule limit s start budget before left state line (Ok readings.Whole) mid → Ends (rule.tells mid.view) (m.rest state line) stop (rule.tells now.view) → (stop ≡ stops.ReadFault → ⊥) → Told-ends input stop now
   whole_ends input state line mid now stop is r ends no_fault =
       let rest = rest_of input r.bytes before left is r.taken in
       let runs = r.ends.2 in
@@ -100,7 +100,7 @@ module _ {E : Type 0} (m : Machine E) (rule : Rule m) (limit : ℕ) (s : m.State
       ∙ ap (λ at. let t : Told E = record { pieces = pieces_of_lines m (Going s) xs ++ (told_at_end m at (kept_of limit r.bytes).rest).pieces; status = (told_at_end m at (kept_of limit r.bytes).rest).status } in t) runs.stands
       ∙ ap (λ text. let t : Told E = record { pieces = pieces_of_lines m (Going s) xs ++ (m.rest state text).pieces; status = (m.rest state text).status } in t) (sym runs.begun) in
       ended input r.bytes stop now is r.taken (let few = r.ends.0 in omega arith) no_fault
-      (subst (λ (t : Told E). Ends (shown_of start.view) t stop (shown_of now.view)) (sym told) (ends_on stop (shown_of start.view) (shown_of mid.view) (shown_of now.view) (pieces_of_lines m (Going s) xs) (m.rest state line) runs.shows ends))
+      (subst (λ (t : Told E). Ends (rule.tells start.view) t stop (rule.tells now.view)) (sym told) (ends_on stop (rule.tells start.view) (rule.tells mid.view) (rule.tells now.view) (pieces_of_lines m (Going s) xs) (m.rest state line) runs.shows ends))
 
   -- as many bytes as the budget were taken
   pub cut_ends : (input : List ℕ) (state : m.State) (line : List ℕ) (now : Scene rule.Kept) (status : E) → before ≡ Some input → Reads m rule limit s start budget before left state line (Ok readings.Cut) now → status ≡ m.cut state → Told-ends input (stops.Ended status) now
@@ -110,7 +110,7 @@ module _ {E : Type 0} (m : Machine E) (rule : Rule m) (limit : ℕ) (s : m.State
       let told : told_by m limit s input budget ≡ told_cut m limit s r.bytes =
       ap (λ bytes. told_by m limit s bytes budget) rest.parts ∙ by_cut m limit s r.bytes rest.rest budget r.ends.0 in
       ended input r.bytes (stops.Ended status) now is r.taken (let full = r.ends.0 in omega arith) (λ e. cc)
-      (subst (λ (t : Told E). Ends (shown_of start.view) t (stops.Ended status) (shown_of now.view)) (sym told) (runs.shows, ap (status_at_cut m) runs.stands ∙ sym same))
+      (subst (λ (t : Told E). Ends (rule.tells start.view) t (stops.Ended status) (rule.tells now.view)) (sym told) (runs.shows, ap (status_at_cut m) runs.stands ∙ sym same))
 
   -- what the reads gave, in the budget's place
   given_told : (input rest seen : List ℕ) → before ≡ Some input → Takes before left seen → left ≡ Some rest → told_by m limit s input (length input - length rest) ≡ told_cut m limit s seen
@@ -129,7 +129,7 @@ module _ {E : Type 0} (m : Machine E) (rule : Rule m) (limit : ℕ) (s : m.State
       let tells = tells_on m limit s input bytes of.rest (kept_of limit bytes).ended [] budget of.parts (sym (append-nil (kept_of limit bytes).ended)) few in
       record {
         shown = record { first = pieces_of_lines m (Going s) (kept_of limit bytes).ended; later = tells.later; parts = tells.is; shows = runs.shows };
-        read_fault = λ rest left_is same. subst (λ (t : Told E). ShowsAll (shown_of start.view) t.pieces (shown_of now.view)) (sym (given_told input rest bytes is taken left_is)) runs.shows;
+        read_fault = λ rest left_is same. subst (λ (t : Told E). ShowsAll (rule.tells start.view) t.pieces (rule.tells now.view)) (sym (given_told input rest bytes is taken left_is)) runs.shows;
         within = λ rest left_is. within_budget input rest bytes budget before left is taken few left_is;
       }
 
@@ -139,23 +139,23 @@ module _ {E : Type 0} (m : Machine E) (rule : Rule m) (limit : ℕ) (s : m.State
       let of = rest_of input bytes before left is taken in
       let told = ended_by m limit s input bytes of.rest at.until at.later budget of.parts at.parts few status at.ends in
       ended input bytes (stops.Ended status) now is taken few (λ e. cc)
-      (subst (λ (t : Told E). Ends (shown_of start.view) t (stops.Ended status) (shown_of now.view)) (sym told) (at.shows, refl))
+      (subst (λ (t : Told E). Ends (rule.tells start.view) t (stops.Ended status) (rule.tells now.view)) (sym told) (at.shows, refl))
   stop_ends input bytes state line stops.ReadFault now is taken few at = fault_ends input bytes state line now is taken few at
   stop_ends input bytes state line stops.PutFault now is taken few at =
       let of = rest_of input bytes before left is taken in
       let tells = tells_on m limit s input bytes of.rest at.until at.later budget of.parts at.parts few in
       ended input bytes stops.PutFault now is taken few (λ e. cc)
-      (subst (λ pieces. Ends (shown_of start.view) (record { pieces = pieces; status = (told_by m limit s input budget).status }) stops.PutFault (shown_of now.view)) (sym tells.is) (torn_of_more (shown_of start.view) (shown_of now.view) (pieces_of_lines m (Going s) at.until) tells.later at.shows))
+      (subst (λ pieces. Ends (rule.tells start.view) (record { pieces = pieces; status = (told_by m limit s input budget).status }) stops.PutFault (rule.tells now.view)) (sym tells.is) (torn_of_more (rule.tells start.view) (rule.tells now.view) (pieces_of_lines m (Going s) at.until) tells.later at.shows))
   stop_ends input bytes state line stops.DiskFault now is taken few at =
       let of = rest_of input bytes before left is taken in
       let tells = tells_on m limit s input bytes of.rest at.until at.later budget of.parts at.parts few in
       ended input bytes stops.DiskFault now is taken few (λ e. cc)
-      (subst (λ pieces. Ends (shown_of start.view) (record { pieces = pieces; status = (told_by m limit s input budget).status }) stops.DiskFault (shown_of now.view)) (sym tells.is) (first_of_more (shown_of start.view) (shown_of now.view) (pieces_of_lines m (Going s) at.until) tells.later at.shows))
+      (subst (λ pieces. Ends (rule.tells start.view) (record { pieces = pieces; status = (told_by m limit s input budget).status }) stops.DiskFault (rule.tells now.view)) (sym tells.is) (first_of_more (rule.tells start.view) (rule.tells now.view) (pieces_of_lines m (Going s) at.until) tells.later at.shows))
   stop_ends input bytes state line stops.Memory now is taken few at =
       let of = rest_of input bytes before left is taken in
       let tells = tells_on m limit s input bytes of.rest at.until at.later budget of.parts at.parts few in
       ended input bytes stops.Memory now is taken few (λ e. cc)
-      (subst (λ pieces. Ends (shown_of start.view) (record { pieces = pieces; status = (told_by m limit s input budget).status }) stops.Memory (shown_of now.view)) (sym tells.is) (first_of_more (shown_of start.view) (shown_of now.view) (pieces_of_lines m (Going s) at.until) tells.later at.shows))
+      (subst (λ pieces. Ends (rule.tells start.view) (record { pieces = pieces; status = (told_by m limit s input budget).status }) stops.Memory (rule.tells now.view)) (sym tells.is) (first_of_more (rule.tells start.view) (rule.tells now.view) (pieces_of_lines m (Going s) at.until) tells.later at.shows))
 
   pub stopped_ends : (input : List ℕ) (state : m.State) (line : List ℕ) (stop : Stop E) (now : Scene rule.Kept) → before ≡ Some input → Reads m rule limit s start budget before left state line (Err stop) now → Told-ends input stop now
   stopped_ends input state line stop now is r = stop_ends input r.bytes state line stop now is r.taken r.ends.0 r.ends.1
@@ -175,14 +175,16 @@ module _ {E : Type 0} (m : Machine E) (rule : Rule m) (limit : ℕ) (s : m.State
   abbrev Allowed : Stop E → Scene rule.Kept → Type 0
   Allowed stop now = Allows m rule limit s budget before left stop start now
 
-  allows_at : (bytes : List ℕ) (stop : Stop E) (now : Scene rule.Kept) → Takes before left bytes → StopsAt m rule s start (kept_of limit bytes).ended stop now → Allowed stop now
-  allows_at bytes stop now taken at = record {
+  allows_at : (bytes : List ℕ) (stop : Stop E) (now : Scene rule.Kept) → Takes before left bytes → length bytes ≤ budget → StopsAt m rule s start (kept_of limit bytes).ended stop now → Allowed stop now
+  allows_at bytes stop now taken few at = record {
     bytes = bytes;
     taken = taken;
     lines = at.until;
     later = at.later;
     parts = at.parts;
     extent = at.extent;
+    short = ⊎_elim (λ inside. subst (λ (extent : Extent E). IsShort budget (length bytes) extent) (sym inside) few)
+        (λ none. subst (λ (extent : Extent E). IsShort budget (length bytes) extent) (sym none.0) few) at.inside;
     far = ⊎_elim (λ inside. subst (λ (extent : Extent E). Far bytes at.until at.later stop extent) (sym inside) (refl, at.ends))
         (λ none. subst (λ (extent : Extent E). Far bytes at.until at.later stop extent) (sym none.0)
         (subst (λ (why : Stop E). IsBetween m s budget bytes at.until at.later why) (sym none.1) tt))
@@ -190,29 +192,30 @@ module _ {E : Type 0} (m : Machine E) (rule : Rule m) (limit : ℕ) (s : m.State
     allowed = at.allowed;
   }
 
-  allows_runs : (bytes : List ℕ) (state : m.State) (line : List ℕ) (stop : Stop E) (now : Scene rule.Kept) → Takes before left bytes → Runs m rule limit s start bytes state line now → IsBetween m s budget bytes (kept_of limit bytes).ended [] stop → Allowed stop now
-  allows_runs bytes state line stop now taken runs far = record {
+  allows_runs : (bytes : List ℕ) (state : m.State) (line : List ℕ) (stop : Stop E) (now : Scene rule.Kept) → Takes before left bytes → length bytes ≤ budget → Runs m rule limit s start bytes state line now → IsBetween m s budget bytes (kept_of limit bytes).ended [] stop → Allowed stop now
+  allows_runs bytes state line stop now taken few runs far = record {
     bytes = bytes;
     taken = taken;
     lines = (kept_of limit bytes).ended;
     later = [];
     parts = sym (append-nil (kept_of limit bytes).ended);
     extent = Whole;
+    short = few;
     far = far;
     allowed = runs.allowed;
   }
 
   pub stopped_allows : (state : m.State) (line : List ℕ) (stop : Stop E) (now : Scene rule.Kept) → Reads m rule limit s start budget before left state line (Err stop) now → Allowed stop now
-  stopped_allows state line (stops.Ended status) now r = allows_at r.bytes (stops.Ended status) now r.taken r.ends.1
-  stopped_allows state line stops.ReadFault now r = allows_runs r.bytes state line stops.ReadFault now r.taken r.ends.1 refl
-  stopped_allows state line stops.DiskFault now r = allows_at r.bytes stops.DiskFault now r.taken r.ends.1
-  stopped_allows state line stops.PutFault now r = allows_at r.bytes stops.PutFault now r.taken r.ends.1
-  stopped_allows state line stops.Memory now r = allows_at r.bytes stops.Memory now r.taken r.ends.1
+  stopped_allows state line (stops.Ended status) now r = allows_at r.bytes (stops.Ended status) now r.taken r.ends.0 r.ends.1
+  stopped_allows state line stops.ReadFault now r = allows_runs r.bytes state line stops.ReadFault now r.taken r.ends.0 r.ends.1 refl
+  stopped_allows state line stops.DiskFault now r = allows_at r.bytes stops.DiskFault now r.taken r.ends.0 r.ends.1
+  stopped_allows state line stops.PutFault now r = allows_at r.bytes stops.PutFault now r.taken r.ends.0 r.ends.1
+  stopped_allows state line stops.Memory now r = allows_at r.bytes stops.Memory now r.taken r.ends.0 r.ends.1
 
   pub cut_allows : (state : m.State) (line : List ℕ) (status : E) (now : Scene rule.Kept) → Reads m rule limit s start budget before left state line (Ok readings.Cut) now → status ≡ m.cut state → Allowed (stops.Ended status) now
   cut_allows state line status now r same =
       let runs = r.ends.1 in
-      allows_runs r.bytes state line (stops.Ended status) now r.taken runs (refl, r.ends.0, ap (status_at_cut m) runs.stands ∙ sym same)
+      allows_runs r.bytes state line (stops.Ended status) now r.taken (let full = r.ends.0 in omega arith) runs (refl, r.ends.0, ap (status_at_cut m) runs.stands ∙ sym same)
 
   told_at : (told : Told E) (stop : Stop E) (old now : Shown) → Ends old told stop now → IsToldBy told stop
   told_at told (stops.Ended status) old now ends = ends.1
@@ -221,7 +224,7 @@ module _ {E : Type 0} (m : Machine E) (rule : Rule m) (limit : ℕ) (s : m.State
   told_at told stops.PutFault old now ends = tt
   told_at told stops.Memory old now ends = tt
 
-  pub whole_allows : (state : m.State) (line : List ℕ) (stop : Stop E) (mid now : Scene rule.Kept) → Reads m rule limit s start budget before left state line (Ok readings.Whole) mid → Ends (shown_of mid.view) (m.rest state line) stop (shown_of now.view) → rule.allows state [] (AtEnd line stop) mid now → Allowed stop now
+  pub whole_allows : (state : m.State) (line : List ℕ) (stop : Stop E) (mid now : Scene rule.Kept) → Reads m rule limit s start budget before left state line (Ok readings.Whole) mid → Ends (rule.tells mid.view) (m.rest state line) stop (rule.tells now.view) → rule.allows state [] (AtEnd line stop) mid now → Allowed stop now
   whole_allows state line stop mid now r ends end =
       let runs = r.ends.2 in
       let xs = (kept_of limit r.bytes).ended in
@@ -232,14 +235,15 @@ module _ {E : Type 0} (m : Machine E) (rule : Rule m) (limit : ℕ) (s : m.State
         later = [];
         parts = sym (append-nil xs);
         extent = AtEnd line stop;
-        far = (refl, runs.begun, refl, r.ends.1, subst (λ (at : RunState m.State E). IsToldBy (told_at_end m at line) stop) (sym runs.stands) (told_at (m.rest state line) stop (shown_of mid.view) (shown_of now.view) ends));
+        short = r.ends.0;
+        far = (refl, runs.begun, refl, r.ends.1, subst (λ (at : RunState m.State E). IsToldBy (told_at_end m at line) stop) (sym runs.stands) (told_at (m.rest state line) stop (rule.tells mid.view) (rule.tells now.view) ends));
         allowed = subst (λ lines. rule.allows s lines (AtEnd line stop) start now) (append-nil xs) (rule.on s state xs [] (AtEnd line stop) start mid now runs.stands runs.holds runs.allowed end);
       }
 
 -- a run that ended before the first read
-pub unread_ends : {E : Type 0} (m : Machine E) (limit : ℕ) (s : m.State) (start : View) (budget : ℕ) (left : Option (List ℕ)) (input : List ℕ) → left ≡ Some input → EndsAs (told_by m limit s input) (shown_of start) input budget left stops.Memory (shown_of start)
+pub unread_ends : {E : Type 0} (m : Machine E) (limit : ℕ) (s : m.State) (start : Shown) (budget : ℕ) (left : Option (List ℕ)) (input : List ℕ) → left ≡ Some input → EndsAs (told_by m limit s input) start input budget left stops.Memory start
 unread_ends m limit s start budget left input is = record {
-  shown = record { first = []; later = (told_by m limit s input budget).pieces; parts = refl; shows = shows_none (shown_of start) };
+  shown = record { first = []; later = (told_by m limit s input budget).pieces; parts = refl; shows = shows_none start };
   read_fault = λ rest left_is same. cc;
   within = λ rest left_is. within_unread input rest budget left is left_is;
 }
@@ -252,6 +256,7 @@ unread_allows m rule limit s budget left scene timed holds = record {
   later = (kept_of limit []).ended;
   parts = refl;
   extent = Whole;
+  short = omega arith;
   far = tt;
   allowed = rule.none s scene timed holds;
 }

@@ -5,7 +5,7 @@ use Rattle.pgs_run_lines.specs.declared.stop.Stop.TheVariants as stops
 use Rattle.pgs_run_lines.specs.Ending.{Shows}
 use Rattle.pgs_run_lines.specs.Input.{kept_of}
 use Rattle.pgs_run_lines.specs.Machine.{RunState, Going, Ended, Machine, Rule, Scene, Extent, Whole, Inside, after_lines, pieces_of_lines}
-use Rattle.pgs_run_lines.specs.Pieces.{Shown, shown_of, ShowsAll}
+use Rattle.pgs_run_lines.specs.Pieces.{Shown, ShowsAll}
 
 -- an end of the machine's own is where the run stands; the other stops say nothing of it
 abbrev pub IsEndAt : {S E : Type 0} → RunState S E → Stop E → Type 0
@@ -32,7 +32,7 @@ pub record Runs {E : Type 0} (m : Machine E) (rule : Rule m) (limit : ℕ) (s : 
   pub stands : after_lines m (Going s) (kept_of limit seen).ended ≡ Going state
   pub begun : line ≡ (kept_of limit seen).rest
   pub holds : rule.holds state now.view
-  pub shows : ShowsAll (shown_of start.view) (pieces_of_lines m (Going s) (kept_of limit seen).ended) (shown_of now.view)
+  pub shows : ShowsAll (rule.tells start.view) (pieces_of_lines m (Going s) (kept_of limit seen).ended) (rule.tells now.view)
   pub allowed : rule.allows s (kept_of limit seen).ended Whole start now
 
 -- how far lines were taken where the run stopped so among them: the last one gave the stop; want of memory may come between two lines too
@@ -47,7 +47,7 @@ pub record StopsAt {E : Type 0} (m : Machine E) (rule : Rule m) (s : m.State) (s
   pub parts : ended ≡ until ++ later
   pub extent : Extent E
   pub inside : IsInside stop extent
-  pub shows : Shows (shown_of start.view) (pieces_of_lines m (Going s) until) stop (shown_of now.view)
+  pub shows : Shows (rule.tells start.view) (pieces_of_lines m (Going s) until) stop (rule.tells now.view)
   pub ends : IsEndAt (after_lines m (Going s) until) stop
   pub allowed : rule.allows s until extent start now
 

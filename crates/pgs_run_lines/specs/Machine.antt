@@ -4,6 +4,7 @@ use Rattle.pgs_world.specs.Moment.{IsTimed}
 use Rattle.pgs_world.specs.World.{View}
 use Rattle.pgs_run_lines.specs.declared.stop.Stop.{Stop}
 use Rattle.pgs_run_lines.specs.Input.{kept_of}
+use Rattle.pgs_run_lines.specs.Pieces.{Shown}
 
 -- where a run stands between two lines: in a state of the machine, or at its end, with a status of the machine's own
 pub data RunState (S E : Type 0) : Type 0 where
@@ -110,10 +111,13 @@ extent_of (Ok done) = Whole
 extent_of (Err stop) = Inside stop
 
 -- What the machine holds of a world between two lines, and what the taking of lines from a state on may do to a scene. It may do
--- nothing, and one thing after another.
+-- nothing, and one thing after another. The machine's pieces are what is put; where more than the lines decides what is put, the machine
+-- tells nothing, and `allows` says it.
 pub record Rule {E : Type 0} (m : Machine E) : Type 1 where
   -- what a taker keeps beside its state
   pub Kept : Type 0
+  -- what of a world's output is the machine's pieces: all of it, or nothing
+  pub tells : View → Shown
   pub holds : m.State → View → Type 0
   pub allows : m.State → List (List ℕ) → Extent E → Scene Kept → Scene Kept → Type 0
   pub none : (s : m.State) (scene : Scene Kept) → IsTimed scene.view → holds s scene.view → allows s [] Whole scene scene

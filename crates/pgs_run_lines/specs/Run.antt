@@ -1,5 +1,5 @@
 -- How the run of a machine over an input ends.
-use Rattle.std.specs.Prelude.{◌≡◌, ◌⊎◌, ℕ, ◌+◌, ◌-◌, ◌≤◌, List, [], ◌++◌, length, Option, Some}
+use Rattle.std.specs.Prelude.{◌≡◌, ◌⊎◌, ℕ, ◌+◌, ◌-◌, ◌<◌, ◌≤◌, List, [], ◌++◌, length, Option, Some}
 use Rattle.pgs_world.specs.Source.{Takes, IsAtEnd}
 use Rattle.pgs_run_lines.specs.declared.stop.Stop.{Stop}
 use Rattle.pgs_run_lines.specs.declared.stop.Stop.TheVariants as stops
@@ -75,6 +75,12 @@ IsFar m limit s budget left bytes lines later stop (AtEnd rest at) =
     (at ≡ stop) × (rest ≡ (kept_of limit bytes).rest) × (later ≡ []) × IsAtEnd left
     × IsToldBy (told_at_end m (after_lines m (Going s) lines) rest) stop
 
+-- how many bytes were taken: fewer than the budget where the end of the input was taken, and else no more
+abbrev pub IsShort : {E : Type 0} → (budget count : ℕ) → Extent E → Type 0
+IsShort budget count Whole = count ≤ budget
+IsShort budget count (Inside stop) = count ≤ budget
+IsShort budget count (AtEnd rest stop) = count < budget
+
 -- What was done to the scene is what these lines of the bytes taken allow, by how far they were taken.
 pub record Allows {E : Type 0} (m : Machine E) (rule : Rule m) (limit : ℕ) (s : m.State) (budget : ℕ) (before left : Option (List ℕ))
     (stop : Stop E) (old new : Scene rule.Kept) : Type 0 where
@@ -84,5 +90,6 @@ pub record Allows {E : Type 0} (m : Machine E) (rule : Rule m) (limit : ℕ) (s 
   pub later : List (List ℕ)
   pub parts : (kept_of limit bytes).ended ≡ lines ++ later
   pub extent : Extent E
+  pub short : IsShort budget (length bytes) extent
   pub far : IsFar m limit s budget left bytes lines later stop extent
   pub allowed : rule.allows s lines extent old new

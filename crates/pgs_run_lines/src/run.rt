@@ -3,7 +3,6 @@ ghost use Rattle.pgs_run_lines.specs.Calls.{MakesReads, is_of_source, is_of_worl
 ghost use Rattle.pgs_run_lines.specs.Ending.{HasCause, faults_of};
 ghost use Rattle.pgs_run_lines.specs.Machine.{HasRoomFor, scene_of, told_by};
 ghost use Rattle.pgs_run_lines.specs.May.{MayCome};
-ghost use Rattle.pgs_run_lines.specs.Pieces.{shown_of};
 ghost use Rattle.pgs_run_lines.specs.Run.{EndsAs, EndsBy, Allows};
 ghost use Rattle.pgs_run_lines.specs.declared.budget.TheConstants.{BUDGET};
 
@@ -33,7 +32,7 @@ pub fn run_lines<T: LineTaker, S: Source, W: World>(
 
     // What is shown of what is told, and that never more than the budget is read.
     ensures ends { (input : List ℕ) → S.left source.old ≡ Some input
-        → EndsAs (told_by T.machine limit (T.stands taker.old) input) (shown_of (W.view world.old)) input budget (S.left source.new) result (shown_of (W.view world.new)) }
+        → EndsAs (told_by T.machine limit (T.stands taker.old) input) (T.rule.tells (W.view world.old)) input budget (S.left source.new) result (T.rule.tells (W.view world.new)) }
     // Where an end of the machine's own comes from.
     ensures by { EndsBy T.machine budget (S.left source.old) (S.left source.new) result }
     // A fault comes only where its count rose, by one, and each fault that came is the answer.
