@@ -129,6 +129,8 @@ impl<W: SteadyWrite, H: Handle> World for FileWorld<W, H> {
 
     ghost view = { seen W.tells W.contents H.tells H.contents };
 
+    ghost hashed_by = { λ world. world.seed };
+
     ghost failed = { HasFailed (record { lengths = H.length_gives; reads = H.read_gives; writes = H.write_gives; cuts = H.cut_gives; syncs = H.sync_gives }) W.write_gives W.flush_gives };
 
     ghost timed = { λ world. timed_view H.tells (bytes_of H.tells H.contents world.areas) W.tells (W.contents world.writer) world.counts };
