@@ -8,8 +8,10 @@ use Rattle.pgs_command.specs.Setting.{Setting, setting_of}
 use Rattle.pgs_feed.specs.Places.{Place}
 use Rattle.pgs_world_files.specs.declared.access.StoreAccess.{StoreAccess}
 use Rattle.pgs_world_files.specs.declared.area_files.AreaFiles.{AreaFiles}
+use Rattle.pgs_world_files.specs.declared.file_world.FileWorld.{FileWorld}
 use Rattle.pgs_world_files.specs.Counted.{seen}
 use Rattle.pgs_world_files.specs.Opened.{AreaGives, IsStoreOf}
+use Rattle.pgs_world_streams.specs.declared.stdin_source.StdinSource.{StdinSource}
 use Rattle.pgs_program.specs.declared.outside.Outside.{Outside}
 
 -- the keys that were drawn; fixed ones where none were
@@ -33,13 +35,16 @@ abbrev pub AreFilesOf : {H : Type 0} → AreaGives H → (store : Option (List �
 AreFilesOf gives None access areas = HasNoFiles areas
 AreFilesOf gives (Some name) access areas = IsStoreOf gives name access areas
 
--- what a reader, a writer and files tell: the bytes that are left, those that were written, those that stand in a file
-pub record Telling (R W H : Type 0) : Type 0 where
+-- What a reader, a writer and files tell: the bytes that are left, those that were written, those that stand in a file; which reads of the
+-- input were made, and that the last call on the areas or the output failed.
+pub record Telling (R W H : Type 0) : Type 1 where
   pub remaining : R → Option (List ℕ)
   pub tells_output : Bool
   pub written : W → Option (List ℕ)
   pub tells_bytes : Bool
   pub bytes : H → List ℕ
+  pub read_made : StdinSource R → (asked : ℕ) → Option ℕ → StdinSource R → Type 0
+  pub failed : FileWorld W H → Type 0
 
 -- what contracts see of it, beside feeds that stand so
 abbrev pub setting_in : {R W H : Type 0} → Telling R W H → List Place → Outside R W H → Setting

@@ -14,4 +14,6 @@ returns g c = record {
       subst (λ (fs : AreaFiles _). AreOpenedFor g.O.Opening.area_gives c.args.words.now fs) (sym c.new-outside.ensures.areas)
       (subst (λ (store : Option (List ℕ)). AreFilesOf g.O.Opening.area_gives store Read c.in_ok-areas.areas) c.store_of.ensures c.in_ok-areas.ensures);
   promise = c.run_check-status.ensures.promise;
+  last = c.run_check-status.ensures.last;
+  calls = c.run_check-status.ensures.calls;
 }

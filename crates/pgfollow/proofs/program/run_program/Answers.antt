@@ -6,4 +6,6 @@ returns g c = record {
   fresh = c.without_files-outside.ensures.fresh;
   areas = c.without_files-outside.ensures.no_files;
   promise = λ places. rw c.status.ensures (c.run_follow-ended.ensures.promise places);
+  last = rw c.status.ensures c.run_follow-ended.ensures.last;
+  calls = rw c.status.ensures c.run_follow-ended.ensures.calls;
 }
