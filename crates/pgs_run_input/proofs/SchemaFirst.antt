@@ -210,6 +210,7 @@ module _ {E : Type 0} (t : Teller E) (limit : ℕ) (further : List (List ℕ)) (
       ∙ ap (λ (told : Told E). told_of (told.pieces ++ (t.told s).pieces) (t.told s).status) (sym (told_found false lines (Ok b.schema) b.one b.found))
   end_at lines s (inr (inr r)) =
       told_refused true lines r.text r.one r.found
+      ∙ ap (λ ps. told_of ps laws.refused_ends.status) (sym (append-nil (schema_refused_line r.text ∷ further)))
       ∙ ap₂ (λ (told end : Told E). told_of (told.pieces ++ end.pieces) end.status) (sym (told_refused false lines r.text r.one r.found)) (sym (ap t.told r.is ∙ laws.refused_ends.told))
 
   tells : TellsLines t limit told_lines Leads (places.part no_part)

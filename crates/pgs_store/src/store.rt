@@ -74,6 +74,18 @@ impl Store {
         self.journal.epoch
     }
 
+    /// The guard of the store, without its journal: what it takes is not kept.
+    pub fn into_guard(self) -> Guard
+        ensures { result ≡ self.guard }
+    {
+        let Store {
+            guard,
+            journal: _,
+            failed: _,
+        } = self;
+        guard
+    }
+
     /// Whether the store is of the second format, which has schemas at later places, so that `evolve` may succeed.
     pub fn takes_schemas(&self) -> bool
         ensures { result ≡ is_some self.now.journal.next }
