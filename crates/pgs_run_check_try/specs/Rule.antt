@@ -1,6 +1,6 @@
 -- What deciding lines does to a world: there are causes by which all that is told was put, and they are right. It may do nothing, and one
 -- thing after another.
-use Rattle.std.proofs.Common.{◌≡◌, ◌⊎◌, inl, inr, ⊎_elim, ℕ, ◌+◌, ◌<◌, ◌≤◌, Bool, true, false, nat_lt, cond, List, [], ◌∷◌, ◌++◌, Option, None, Result, Ok, Err, refl, sym, ap, subst, ◌∙◌, append_assoc, arith}
+use Rattle.std.proofs.Common.{◌≡◌, ◌⊎◌, inl, inr, ⊎_elim, ℕ, ◌+◌, ◌<◌, ◌≤◌, Bool, true, false, nat_lt, cond, List, [], ◌∷◌, ◌++◌, Result, Ok, Err, refl, sym, ap, subst, ◌∙◌, append_assoc, arith}
 use Rattle.std.specs.Prelude.{MatchBool}
 use Rattle.std.proofs.lemmas.Bool.Decides.{nat_tests}
 use Rattle.std.proofs.lemmas.List.{append-nil}
@@ -310,11 +310,11 @@ explains_none s view timed = record {
   explained = λ others agrees. record { shows = shows_none (shown_of view); right = tt };
 }
 
--- nothing is told of a world, and each piece is explained
+-- its pieces aren't what is put: what is put is what the machine tells that has such causes
 abbrev pub explains : Rule deciding
 explains = record {
   Kept = Unit {0};
-  tells = λ view. record { output = None; puts = 0 };
+  tells = false;
   holds = λ s view. Unit {0};
   allows = λ s lines extent old new. Explains s lines extent old.view new.view;
   none = λ s scene timed holds. explains_none s scene.view timed;
