@@ -1,0 +1,4 @@
+pub mod Somes
+pub mod MemberLaw
+pub mod KindLaw
+pub mod TreeLaw
