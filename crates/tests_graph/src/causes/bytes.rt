@@ -22,7 +22,7 @@ enum Reading {
     Neither,
 }
 
-fn reading(alloc: Global, bytes: &[u8]) -> Result<Reading, Memory> {
+fn read_by_serde_json(alloc: Global, bytes: &[u8]) -> Result<Reading, Memory> {
     if let Err(e) = str::from_utf8(bytes) {
         if e.error_len().is_some() {
             return Ok(Reading::Neither);
@@ -47,9 +47,9 @@ fn is_fault(alloc: Global, line: &[u8], byte: usize) -> Result<bool, Memory> {
     let Some(place) = byte.checked_sub(1) else {
         return Ok(false);
     };
-    let before = reading(alloc, line.get(..place).unwrap_or(line))?;
+    let before = read_by_serde_json(alloc, line.get(..place).unwrap_or(line))?;
     match line.get(..byte) {
-        Some(front) => Ok(before != Reading::Neither && reading(alloc, front)? == Reading::Neither),
+        Some(front) => Ok(before != Reading::Neither && read_by_serde_json(alloc, front)? == Reading::Neither),
         None => Ok(before == Reading::Front && place == line.len()),
     }
 }
@@ -63,7 +63,7 @@ fn is_right(alloc: Global, line: &[u8]) -> Result<bool, Memory> {
     };
     match byte_in(text) {
         Some(byte) => is_fault(alloc, line, byte),
-        None => Ok(reading(alloc, line)? == Reading::Value),
+        None => Ok(read_by_serde_json(alloc, line)? == Reading::Value),
     }
 }
 
