@@ -16,7 +16,7 @@ use Rattle.pgs_json_causes.specs.declared.member_form.MemberForm.TheVariants as 
 use Rattle.pgs_json_causes.specs.declared.member_test.MemberTest.{MemberTest}
 use Rattle.pgs_json_causes.specs.declared.member_test.MemberTest.TheVariants as tests
 use Rattle.pgs_json_causes.specs.MemberForms.{is_optional, kind_word, members_of_kind}
-use Rattle.pgs_json_causes.specs.Cause.{cause_by, cause_in, cause_in_all, all_tests, tells_other, is_none_of, lacking, kind_cause}
+use Rattle.pgs_json_causes.specs.Cause.{cause_by, cause_in, cause_in_all, all_tests, tells_other, is_none_of, lacking, both_text, no_member_text, lacks_text, kind_cause}
 use Rattle.pgs_json_causes.proofs.Somes.{or_false, or_true, or_sides, not_and, some_or, some_map, some_bind, some_bind_last, some_find, find_more}
 use Rattle.pgs_json_causes.proofs.MemberLaw.{meets, is_told, member_law}
 
@@ -246,7 +246,7 @@ module _ (ms : Members) (kind : List ℕ) where
       ≡ (are_among (second ∷ kind ∷ []) (names_in ms) && (fits_at forms.Name (get_member second ms) && (fits_at forms.Id (get_member kind ms) && true)))
   unfolding with_name
   name_shape second =
-      gate_joined _ _ ∙ ap (λ b. are_among (second ∷ kind ∷ []) (names_in ms) && b) (two_parts _ _ _ ∙ two_same (name_part ms second) (id_part ms kind))
+      gate_joined _ _ ∙ ap (λ b. are_among (second ∷ kind ∷ []) (names_in ms) && b) (two_parts (option_and_then id_of (get_member kind ms)) (option_and_then name_of (get_member second ms)) (λ id name. (id, name)) ∙ two_same (name_part ms second) (id_part ms kind))
 
   value_shape : is_some (with_value kind (object ms))
       ≡ (are_among (codes "key" ∷ kind ∷ codes "value" ∷ []) (names_in ms)
@@ -254,16 +254,19 @@ module _ (ms : Members) (kind : List ℕ) where
   unfolding with_value
   value_shape =
       gate_joined _ _ ∙ ap (λ b. are_among (codes "key" ∷ kind ∷ codes "value" ∷ []) (names_in ms) && b)
-      (three_parts _ _ _ _ ∙ three_same (name_part ms (codes "key")) (id_part ms kind) (value_part ms (codes "value")))
+      (three_parts (option_and_then id_of (get_member kind ms)) (option_and_then name_of (get_member (codes "key") ms)) (option_and_then value_of (get_member (codes "value") ms)) (λ id key value. (id, key, value))
+      ∙ three_same (name_part ms (codes "key")) (id_part ms kind) (value_part ms (codes "value")))
 
 op_shape : (k : Kind) (ms : Members) → is_op k ms ≡ shape k ms
 unfolding add_node add_edge
 op_shape AddNode ms =
     gate_joined _ _ ∙ ap (λ b. are_among (names_of (members_of_kind AddNode)) (names_in ms) && b)
-    (node_parts _ _ _ _ ∙ three_same (id_part ms (codes "add_node")) (labels_part ms (codes "labels")) (props_part ms (codes "props")))
+    (node_parts (option_and_then id_of (get_member (codes "add_node") ms)) (form_or_empty labels_of (get_member (codes "labels") ms)) (form_or_empty props_of (get_member (codes "props") ms)) _
+    ∙ three_same (id_part ms (codes "add_node")) (labels_part ms (codes "labels")) (props_part ms (codes "props")))
 op_shape AddEdge ms =
     gate_joined _ _ ∙ ap (λ b. are_among (names_of (members_of_kind AddEdge)) (names_in ms) && b)
-    (edge_parts _ _ _ _ _ _ ∙ five_parts_same (id_part ms (codes "add_edge")) (id_part ms (codes "from")) (labels_part ms (codes "labels")) (props_part ms (codes "props")) (id_part ms (codes "to")))
+    (edge_parts (option_and_then id_of (get_member (codes "add_edge") ms)) (option_and_then id_of (get_member (codes "from") ms)) (option_and_then id_of (get_member (codes "to") ms)) (form_or_empty labels_of (get_member (codes "labels") ms)) (form_or_empty props_of (get_member (codes "props") ms)) _
+    ∙ five_parts_same (id_part ms (codes "add_edge")) (id_part ms (codes "from")) (labels_part ms (codes "labels")) (props_part ms (codes "props")) (id_part ms (codes "to")))
 op_shape RemoveNode ms = some_map _ _ ∙ id_shape ms (codes "remove_node")
 op_shape DetachNode ms = some_map _ _ ∙ id_shape ms (codes "detach_node")
 op_shape RemoveEdge ms = some_map _ _ ∙ id_shape ms (codes "remove_edge")
@@ -300,9 +303,13 @@ unfolding kind_cause
 kind_law k ms =
     let rows = members_of_kind k in
     let names = names_in ms in
-    first_of_four _ _ _ _
-    ∙ four_same (some_map _ (find (tells_other k) names)) (some_map _ (find (is_none_of rows) names)) (some_map _ (lacking rows ms)) (finds_in rows ms)
-    ∙ or_first_two _ _ _ (find_more (tells_other k) (is_none_of rows) (other_is_none k) names)
+    first_of_four
+    (option_map (both_text k) (find (tells_other k) names)) (option_map (no_member_text k) (find (is_none_of rows) names)) (option_map (lacks_text k) (lacking rows ms))
+    (cause_in_all all_tests rows ms)
+    ∙ four_same
+    (some_map (both_text k) (find (tells_other k) names)) (some_map (no_member_text k) (find (is_none_of rows) names)) (some_map (lacks_text k) (lacking rows ms))
+    (finds_in rows ms)
+    ∙ or_first_two (is_some (find (tells_other k) names)) (is_some (find (is_none_of rows) names)) (is_some (lacking rows ms) || finds rows ms) (find_more (tells_other k) (is_none_of rows) (other_is_none k) names)
     ∙ two_or_same (some_find (is_none_of rows) (λ n. list_any (bytes_eq n) (names_of rows)) (λ n. refl) names) (rows_law rows ms)
     ∙ sym (not_and (are_among (names_of rows) names) (fits rows ms))
     ∙ ap not (sym (op_shape k ms))

@@ -5,7 +5,6 @@ use Rattle.std.specs.List.{find, list_any, list_all}
 use Rattle.std.specs.Option.{option_or}
 use Rattle.serde_json.specs.Data.{Data, null, boolean, number, string, array, object, Items, no_items, item, Members, no_members, member}
 use Rattle.serde_json.specs.Find.{as_array, as_object, get_member}
-use Rattle.pgs_graph.specs.declared.operation.Op.{Op}
 use Rattle.pgs_json.specs.declared.kind.Kind.{Kind}
 use Rattle.pgs_json.specs.Form.{names_in, are_among, each_item, op_of, ops_of, form}
 use Rattle.pgs_json.specs.Kinds.{kind_in, op_as, op_told}

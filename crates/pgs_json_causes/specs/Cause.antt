@@ -143,13 +143,22 @@ abbrev pub lacking : List (List ℕ × MemberForm) → Members → Option (List 
 lacking [] ms = None
 lacking (row ∷ rows) ms = if is_optional row.1 || is_some (get_member row.0 ms) then lacking rows ms else Some row.0
 
+abbrev pub both_text : Kind → List ℕ → List ℕ
+both_text kind other = codes "is both " ++ (kind_word kind ++ (codes " and " ++ other))
+
+abbrev pub no_member_text : Kind → List ℕ → List ℕ
+no_member_text kind name = shown name ++ (codes " is no member of " ++ kind_word kind)
+
+abbrev pub lacks_text : Kind → List ℕ → List ℕ
+lacks_text kind name = kind_word kind ++ (codes " lacks " ++ quoted name)
+
 -- the cause of an object whose members tell this kind
 unfoldable pub kind_cause : Kind → Members → Option (List ℕ)
 kind_cause kind ms =
     first_of
-    (option_map (λ other. codes "is both " ++ (kind_word kind ++ (codes " and " ++ other))) (find (tells_other kind) (names_in ms))
-    ∷ option_map (λ name. shown name ++ (codes " is no member of " ++ kind_word kind)) (find (is_none_of (members_of_kind kind)) (names_in ms))
-    ∷ option_map (λ name. kind_word kind ++ (codes " lacks " ++ quoted name)) (lacking (members_of_kind kind) ms)
+    (option_map (both_text kind) (find (tells_other kind) (names_in ms))
+    ∷ option_map (no_member_text kind) (find (is_none_of (members_of_kind kind)) (names_in ms))
+    ∷ option_map (lacks_text kind) (lacking (members_of_kind kind) ms)
     ∷ cause_in_all all_tests (members_of_kind kind) ms ∷ [])
 
 -- the cause of an object whose first member has this name

@@ -1,4 +1,4 @@
-use pgs_base::Memory;
+use pgs_base::{Bytes, Memory};
 use pgs_json_causes::line_cause;
 use std::alloc::Global;
 use std::test::Fail;
@@ -33,6 +33,11 @@ const BYTES: &[Row] = &[
     ("[1e400x", "byte 2: 1"),
     ("1e400", "byte 1: 1"),
     ("[1e40", "byte 6: end of line"),
+    ("[1e308x", "byte 7: x"),
+    ("[9e308,", "byte 2: 9"),
+    ("[9e308", "byte 2: 9"),
+    ("[9e+", "byte 5: end of line"),
+    ("[9E-400]", "the line is no object"),
     ("[1e-400]", "the line is no object"),
     ("[true, fals]", "byte 12: ]"),
     ("nul", "byte 4: end of line"),
@@ -132,6 +137,17 @@ const OPS: &[Row] = &[
     ("{\"add_node\":1},{\"add_node\":2,\"props\":{\"k\":null}},{\"add_nod\":3}", "op 2: \"k\" is no value"),
 ];
 
+/// How many arrays stand in one another, and the cause.
+const NESTED: &[(u64, &str)] = &[(127, "the line is no object"), (128, "byte 128: [")];
+
+/// The cause of a text, or `-`.
+fn told<'a>(cause: &'a Option<Bytes>) -> &'a str {
+    match cause {
+        Some(bytes) => str::from_utf8(bytes.as_slice()).unwrap_or("no text"),
+        None => "-",
+    }
+}
+
 /// Which row is the first whose cause is another, with what is found.
 fn first_wrong(
     alloc: Global,
@@ -142,15 +158,35 @@ fn first_wrong(
     for (line, cause) in rows {
         let text = format!(in alloc; "{before}{line}{behind}")?;
         let found = line_cause(alloc, text.as_bytes())?;
-        let found = match &found {
-            Some(bytes) => str::from_utf8(bytes.as_slice()).unwrap_or("no text"),
-            None => "-",
-        };
-        if found != *cause {
-            return Ok(format!(in alloc; "{text}: {found}")?);
+        if told(&found) != *cause {
+            return Ok(format!(in alloc; "{text}: {}", told(&found))?);
         }
     }
     Ok(String::new(alloc))
+}
+
+/// So many arrays in one another.
+fn nested(alloc: Global, count: u64) -> Result<String, Memory> {
+    let mut text = String::new(alloc);
+    for _ in 0..count {
+        text.push('[')?;
+    }
+    for _ in 0..count {
+        text.push(']')?;
+    }
+    Ok(text)
+}
+
+/// Whether each of the nested arrays has its cause.
+fn nested_are_right(alloc: Global) -> Result<bool, Memory> {
+    for (count, cause) in NESTED {
+        let text = nested(alloc, *count)?;
+        let found = line_cause(alloc, text.as_bytes())?;
+        if told(&found) != *cause {
+            return Ok(false);
+        }
+    }
+    Ok(true)
 }
 
 #[test]
@@ -159,5 +195,6 @@ fn each_line_has_its_cause(rt: HostRuntime) -> Result<(), Fail> {
     assert_eq!(rt; first_wrong(alloc, BYTES, "", "")?.as_str(), "");
     assert_eq!(rt; first_wrong(alloc, LINES, "", "")?.as_str(), "");
     assert_eq!(rt; first_wrong(alloc, OPS, "{\"ops\":[", "]}")?.as_str(), "");
+    assert!(rt; nested_are_right(alloc)?);
     Ok(())
 }
