@@ -10,7 +10,7 @@ use Rattle.pgs_syntax.specs.declared.resolved.Resolved.{Resolved}
 use Rattle.pgs_syntax.specs.declared.script.Script.{Script}
 use Rattle.pgs_resolve_declared.specs.declared.order.Numbering.{Numbering}
 use Rattle.pgs_resolve_declared.specs.Order.{numbering_of}
-use Rattle.pgs_resolve_keys.specs.Patterns.{resolved_key}
+use Rattle.pgs_resolve_keys.specs.Patterns.{x_of, resolved_key}
 use Rattle.pgs_schema_places.specs.declared.parts.PartTexts.{PartTexts}
 use Rattle.pgs_schema_places.specs.KeyTexts.{guard_keys, guard_key_texts}
 use Rattle.pgs_schema_places.specs.KeyParts.{guard_part_texts}
@@ -72,7 +72,7 @@ module _ (schema : Resolved) (g : Graph) (elem : Elem) where
   abbrev pub AreEndTexts : Numbering → RawKey → PartTexts → List (List ℕ) → Type 0
   AreEndTexts numbering key parts texts =
       (end : Option PatternEnd)
-      × IsEnd (is_placed schema g elem) (least_before schema g elem) (place_fronts numbering (descriptor_of numbering key) (resolved_key numbering key)) end
+      × IsEnd (is_placed schema g elem) (least_before schema g elem) (place_fronts numbering (descriptor_of numbering key) key.qualifiers) end
       × AreTextsBehind numbering key parts end texts
 
 -- ---- the causes of a violation
@@ -82,8 +82,13 @@ abbrev pub key_text : KeyGuide → ℕ → List (List ℕ)
 key_text guide zero = []
 key_text guide (suc n) = option_to_list (slice_get guide.texts n)
 
+-- Of a key that has no x, which no schema has, nothing is told.
+abbrev pub AreEndsFrom : Resolved → Graph → Numbering → Elem → Option (List ℕ) → RawKey → PartTexts → List (List ℕ) → Type 0
+AreEndsFrom schema g numbering elem None key parts texts = texts ≡ []
+AreEndsFrom schema g numbering elem (Some x) key parts texts = AreEndTexts schema g elem numbering key parts texts
+
 abbrev pub AreEndsOf : Resolved → Graph → KeyGuide → Elem → Option RawKey → Option PartTexts → List (List ℕ) → Type 0
-AreEndsOf schema g guide elem (Some key) (Some parts) texts = AreEndTexts schema g elem guide.numbering key parts texts
+AreEndsOf schema g guide elem (Some key) (Some parts) texts = AreEndsFrom schema g guide.numbering elem (x_of key) key parts texts
 AreEndsOf schema g guide elem _ _ texts = texts ≡ []
 
 abbrev pub AreEnds : Resolved → Graph → KeyGuide → ℕ → Elem → List (List ℕ) → Type 0

@@ -3,6 +3,7 @@ use Rattle.std.specs.Prelude.{ℕ, ◌+◌, ◌-◌, ◌==◌, Bool, true, List,
 use Rattle.std.specs.List.{list_any, enumerate_from, position, fold}
 use Rattle.std.specs.Option.{option_map_or}
 use Rattle.pgs_syntax.specs.declared.key.Key.{Key}
+use Rattle.pgs_syntax.specs.declared.key.Qualifiers.{Qualifiers}
 use Rattle.pgs_syntax.specs.declared.pattern.Atom.{Atom}
 use Rattle.pgs_syntax.specs.declared.pattern.Expr.{Expr}
 use Rattle.pgs_syntax.specs.declared.pattern.Expr.TheVariants.{Element}
@@ -28,10 +29,15 @@ pub record Descriptor : Type 0 where
   pub directions : List Bool
   pub edge_vars : List Bool
 
--- the places of paths as occurrences of the variables, of which x is the first
+-- places as occurrences of variables, by their numbers among these; and those of paths, of which x is the first
+abbrev pub occurrence_of : List (Variable × Bool) → Variable × Bool → Occurrence
+occurrence_of variables v = record { var = number_of variables v.0; is_edge = v.1 }
+
+abbrev pub occurrences_by : List (Variable × Bool) → List Place → List Occurrence
+occurrences_by variables places = map (occurrence_of variables) (variables_at 0 places)
+
 abbrev pub occurrences_of : List ℕ → List RawPath → List Occurrence
-occurrences_of x paths =
-    map (λ (v : Variable × Bool). record { var = number_of (variables_of x paths) v.0; is_edge = v.1 }) (variables_at 0 (places_of paths))
+occurrences_of x paths = occurrences_by (variables_of x paths) (places_of paths)
 
 -- whether edge places lead to the node places behind them; at node places it says nothing
 abbrev pub directions_of : List RawPath → List Bool
@@ -65,22 +71,21 @@ module _ (places : List Occurrence) where
   abbrev pub vars_of : List Visit → List ℕ
   vars_of visits = fold with_var (0 ∷ []) (flat_map vars_of_visit visits)
 
+-- what a visit asks: of an edge place that it has its ends, and of each what is written there
+abbrev pub ends_atoms : Descriptor → List ℕ → ℕ → List Atom
+ends_atoms descriptor vars n =
+    let number : ℕ → ℕ = λ place. new_number vars (var_at descriptor.occurrences place) in
+    if is_edge_at descriptor.occurrences n then ends (is_forward descriptor.directions n) (number n) (number (n - 1)) (number (n + 1)) ∷ []
+    else []
+
 module _ (numbering : Numbering) (descriptor : Descriptor) where
-  -- what a visit asks: what is written at its place, and of an edge place that it has its ends
   abbrev pub written_atoms : List ℕ → ℕ → List Atom
   written_atoms vars n =
       option_map_or (λ (place : Place). place_atoms numbering place.is_edge (new_number vars (var_at descriptor.occurrences n)) place.at.filter)
       (slice_get descriptor.places n) []
 
-  abbrev pub ends_atoms : List ℕ → ℕ → List Atom
-  ends_atoms vars n =
-      let number : ℕ → ℕ = λ place. new_number vars (var_at descriptor.occurrences place) in
-      if is_edge_at descriptor.occurrences n
-      then ends (is_forward descriptor.directions n) (number n) (number (n - 1)) (number (n + 1)) ∷ []
-      else []
-
   abbrev pub visit_atoms : List ℕ → Visit → List Atom
-  visit_atoms vars visit = written_atoms vars visit.place ++ ends_atoms vars visit.place
+  visit_atoms vars visit = written_atoms vars visit.place ++ ends_atoms descriptor vars visit.place
 
   -- the pattern of visits: of no visit it is x alone
   abbrev pub visited_pattern : List Visit → Pattern
@@ -91,33 +96,38 @@ module _ (numbering : Numbering) (descriptor : Descriptor) where
         atoms = flat_map (visit_atoms vars) visits;
       }
 
-  -- The key of a visit of the walk: its scope are the places up to it, its descriptor those before it, and its expression is the variable
-  -- from which the walk comes to it.
-  abbrev pub visit_key : Key → List Visit → ℕ × Visit → Key
-  visit_key key visits visit =
+  -- The key of a visit among visits: its scope are the places up to it, its descriptor those before it, and its expression is the
+  -- variable from which the walk comes to it.
+  abbrev pub visit_key : Qualifiers → List Visit → ℕ × Visit → Key
+  visit_key qualifiers visits visit =
       let before = take visit.0 visits in
       record {
-        qualifiers = key.qualifiers;
+        qualifiers = qualifiers;
         scope = visited_pattern (take (visit.0 + 1) visits);
         descriptor = visited_pattern before;
         exprs = Element (new_number (vars_of descriptor.occurrences before) (var_at descriptor.occurrences visit.1.from)) ∷ [];
       }
 
-  abbrev pub place_fronts : Key → List Front
-  place_fronts key =
-      let visits = walk descriptor.occurrences in
-      map (λ (visit : ℕ × Visit). let own = visit_key key visits visit in record { upto = own; before = own }) (enumerate_from 0 visits)
+  abbrev pub visit_front : Qualifiers → List Visit → ℕ × Visit → Front
+  visit_front qualifiers visits visit =
+      record { upto = visit_key qualifiers visits visit; before = visit_key qualifiers visits visit }
+
+  -- the parts of visits, and those of the walk
+  abbrev pub fronts_of : Qualifiers → List Visit → List Front
+  fronts_of qualifiers visits = map (visit_front qualifiers visits) (enumerate_from 0 visits)
+
+  abbrev pub place_fronts : Qualifiers → List Front
+  place_fronts qualifiers = fronts_of qualifiers (walk descriptor.occurrences)
+
+-- a key with other expressions
+abbrev pub with_exprs : Key → List Expr → Key
+with_exprs key exprs = record { qualifiers = key.qualifiers; scope = key.scope; descriptor = key.descriptor; exprs = exprs }
 
 -- The keys of an expression: with the expressions up to it, and with its variable and the expressions before it.
 abbrev pub expr_front : Key → ℕ × Expr → Front
 expr_front key expr = record {
-  upto = record { qualifiers = key.qualifiers; scope = key.scope; descriptor = key.descriptor; exprs = take (expr.0 + 1) key.exprs };
-  before = record {
-    qualifiers = key.qualifiers;
-    scope = key.scope;
-    descriptor = key.descriptor;
-    exprs = Element (read_var expr.1) ∷ take expr.0 key.exprs;
-  };
+  upto = with_exprs key (take (expr.0 + 1) key.exprs);
+  before = with_exprs key (Element (read_var expr.1) ∷ take expr.0 key.exprs);
 }
 
 abbrev pub expr_fronts : Key → List Front

@@ -1,7 +1,8 @@
 //! The walk over the places of a written descriptor.
 
-ghost use Rattle.std.specs.Prelude.{◌≡◌, ◌+◌, ◌-◌, ◌<◌, [], true, length, IfOk, OnOk, IfSome};
+ghost use Rattle.std.specs.Prelude.{◌≡◌, ◌<◌, List, [], length, if◌then◌else◌, IfOk, OnOk, IfSome};
 ghost use Rattle.std.specs.List.{find};
+ghost use Rattle.pgs_key_causes.specs.declared.walk.Visit.{Visit as Visited};
 ghost use Rattle.pgs_key_causes.specs.Walk.{var_at, is_edge_at, is_visited, is_reached, with_visit, with_all, numbers, is_start, is_alone, is_next, with_way, with_step, walk};
 
 use pgs_base::Memory;
@@ -67,7 +68,7 @@ fn push_visit(place: usize, from: usize, visits: &mut Vec<Visit>) -> Result<(), 
 }
 
 fn is_start(places: &[Occurrence], place: usize) -> bool
-    ensures { (visits : List Visit) → result ≡ is_start places.now visits place }
+    ensures { (visits : List Visited) → result ≡ is_start places.now visits place }
 {
     !is_edge_at(places, place) && var_at(places, place) == 0
 }
@@ -94,15 +95,24 @@ fn is_next(places: &[Occurrence], visits: &[Visit], place: usize) -> bool
             || is_reached(places, visits, place + 1))
 }
 
+// Visits a place from itself, where a test passes.
+fn push_if(passes: bool, place: usize, visits: &mut Vec<Visit>) -> Result<(), Memory>
+    ensures { OnOk result (visits.new.items ≡ (if passes then with_visit visits.old.items place place else visits.old.items)) }
+{
+    if passes {
+        push_visit(place, place, visits)
+    } else {
+        Ok(())
+    }
+}
+
 // Visits x's node places.
 fn start(alloc: Global, places: &[Occurrence]) -> Result<Vec<Visit>, Memory>
     ensures { IfOk result (λ visits. visits.items ≡ with_all places.now (is_start places.now) []) }
 {
     let mut visits = Vec::new(alloc);
     for place in 0..places.len() {
-        if is_start(places, place) {
-            push_visit(place, place, &mut visits)?;
-        }
+        push_if(is_start(places, place), place, &mut visits)?;
     }
     Ok(visits)
 }
@@ -112,9 +122,8 @@ fn push_alone(places: &[Occurrence], visits: &mut Vec<Visit>) -> Result<(), Memo
     ensures { OnOk result (visits.new.items ≡ with_all places.now (is_alone places.now) visits.old.items) }
 {
     for place in 0..places.len() {
-        if is_alone(places, visits, place) {
-            push_visit(place, place, visits)?;
-        }
+        let alone = is_alone(places, visits, place);
+        push_if(alone, place, visits)?;
     }
     Ok(())
 }
@@ -186,11 +195,13 @@ pub(crate) fn walk(alloc: Global, places: &[Occurrence]) -> Result<Vec<Visit>, M
     ensures { IfOk result (λ visits. visits.items ≡ walk places.now) }
 {
     let mut visits = start(alloc, places)?;
-    for _turn in 0..places.len() {
+    let mut left = places.len();
+    while left > 0 {
         match next_step(places, &visits) {
             Some(edge) => push_next(places, edge, &mut visits)?,
             None => return Ok(visits),
         }
+        left -= 1;
     }
     Ok(visits)
 }

@@ -1,12 +1,14 @@
 //! A written descriptor, as a walk sees it.
 
-ghost use Rattle.std.specs.Prelude.{◌≡◌, ◌++◌, ◌∷◌, [], true, map, flat_map, Some, IfOk, OnOk};
+ghost use Rattle.std.specs.Prelude.{◌≡◌, ◌++◌, ◌∷◌, [], List as Items, Bool, true, map, flat_map, Some, IfOk, OnOk};
+ghost use Rattle.pgs_syntax.specs.declared.raw.RawPath.{RawPath as Path};
 ghost use Rattle.pgs_syntax.specs.declared.raw.RawStep.{RawStep};
 ghost use Rattle.pgs_resolve_declared.specs.declared.order.Numbering.{Numbering as Numbers};
 ghost use Rattle.pgs_resolve_keys.specs.KeyFaults.{within_of};
-ghost use Rattle.pgs_resolve_keys.specs.Patterns.{x_of, places_of, resolved_key};
+ghost use Rattle.pgs_resolve_keys.specs.Patterns.{Variable, x_of, places_of, resolved_key};
 ghost use Rattle.pgs_resolve_keys.specs.Placed.{placed};
-ghost use Rattle.pgs_key_causes.specs.Fronts.{occurrences_of, directions_of, descriptor_of};
+ghost use Rattle.pgs_resolve_keys.specs.VariableTable.{Holds};
+ghost use Rattle.pgs_key_causes.specs.Fronts.{occurrences_by, occurrences_of, directions_of, descriptor_of};
 
 use crate::Occurrence;
 use pgs_base::{List, Memory, Name};
@@ -40,13 +42,15 @@ impl<'a> Model for Written<'a> {
     } };
 }
 
-// The occurrences of variables at places, of which x is the first.
-fn occurrences_of(
+// The occurrences of variables at places, by the numbers of the variables.
+fn occurrences_by(
     alloc: Global,
-    x: &Name,
+    variables: &Variables,
     places: &[PlaceRef<'_>],
-) -> Result<Vec<Occurrence>, Memory> {
-    let variables = Variables::of_places(alloc, x, places)?;
+) -> Result<Vec<Occurrence>, Memory>
+    ensures { (held : Items (Variable × Bool)) → Holds held variables.now →
+        IfOk result (λ occurrences. occurrences.items ≡ occurrences_by held (map placed places.now)) }
+{
     let mut occurrences = Vec::with_capacity(alloc, places.len())?;
     for (number, place) in places.iter().enumerate() {
         occurrences.push(Occurrence {
@@ -55,6 +59,19 @@ fn occurrences_of(
         })?;
     }
     Ok(occurrences)
+}
+
+// The occurrences of variables at places of paths, of which x is the first.
+fn occurrences_of(
+    alloc: Global,
+    x: &Name,
+    places: &[PlaceRef<'_>],
+) -> Result<Vec<Occurrence>, Memory>
+    ensures { (paths : Items Path) → map placed places.now ≡ places_of paths →
+        IfOk result (λ occurrences. occurrences.items ≡ occurrences_of x.now paths) }
+{
+    let variables = Variables::of_places(alloc, x, places)?;
+    occurrences_by(alloc, &variables, places)
 }
 
 fn push_directions(steps: &[RawStep], directions: &mut Vec<bool>) -> Result<(), Memory>

@@ -1,6 +1,6 @@
 //! The texts of the parts of keys: of the places of the written descriptor, and of the expressions.
 
-ghost use Rattle.std.specs.Prelude.{◌≡◌, ◌<◌, ◌≤◌, ◌++◌, ◌+◌, ◌∷◌, [], map, take, drop, length, slice_get, IfOk, IfSome, OnOk, MatchOption};
+ghost use Rattle.std.specs.Prelude.{◌≡◌, ◌<◌, ◌≤◌, ◌++◌, ◌+◌, ◌∷◌, [], map, take, drop, length, slice_get, IfOk, IfSome, OnOk};
 ghost use Rattle.std.specs.List.{position_or_len, slice_range};
 ghost use Rattle.pgs_lexer.specs.Tokens.{lexeme_of};
 ghost use Rattle.pgs_schema_places.specs.KeyTexts.{text_of, spaced, key_tokens};
@@ -66,32 +66,17 @@ fn is_mark(mark: Mark, token: &Token<'_>) -> bool
     }
 }
 
-// The first of some tokens, and the others.
-fn split<'t, 'a>(tokens: &'t [Token<'a>]) -> Option<(&'t Token<'a>, &'t [Token<'a>])>
-    ensures parts { MatchOption result (map lexeme_of tokens.now ≡ []) (λ next. map lexeme_of tokens.now ≡ lexeme_of next.0.now ∷ map lexeme_of next.1.now) }
-    ensures shorter { IfSome result (λ next. length next.1.now + 1 ≡ length tokens.now) }
-{
-    match tokens {
-        [] => None,
-        [first, rest @ ..] => Some((first, rest)),
-    }
-}
-
 // How many tokens stand before the first mark.
 fn count_to(mark: Mark, tokens: &[Token<'_>]) -> usize
     ensures count { result ≡ position_or_len (is_mark mark) (map lexeme_of tokens.now) }
     ensures within { result ≤ length tokens.now }
 {
-    let mut left = tokens;
-    let mut count = 0;
-    while let Some((token, rest)) = split(left) {
+    for (place, token) in tokens.iter().enumerate() {
         if is_mark(mark, token) {
-            return count;
+            return place;
         }
-        count += 1;
-        left = rest;
     }
-    count
+    tokens.len()
 }
 
 // So many tokens at most.
@@ -120,9 +105,9 @@ fn behind<'t, 'a>(tokens: &'t [Token<'a>], count: usize) -> &'t [Token<'a>]
 fn start_of(tokens: &[Token<'_>]) -> usize
     ensures { spaced result (map lexeme_of tokens.now) ≡ text_of (map lexeme_of tokens.now) }
 {
-    match split(tokens) {
-        Some((token, _)) => token.start,
-        None => 0,
+    match tokens {
+        [] => 0,
+        [token, ..] => token.start,
     }
 }
 
@@ -132,11 +117,9 @@ fn text_of(alloc: Global, tokens: &[Token<'_>]) -> Result<Bytes, Memory>
 {
     let mut text = TextBuffer::with_room(alloc, ROOM)?;
     let mut end = start_of(tokens);
-    let mut left = tokens;
-    while let Some((token, rest)) = split(left) {
+    for token in tokens {
         push_token(token, end, &mut text)?;
         end = token.end;
-        left = rest;
     }
     Ok(text.into_bytes())
 }
@@ -145,7 +128,7 @@ fn text_of(alloc: Global, tokens: &[Token<'_>]) -> Result<Bytes, Memory>
 fn push_place(alloc: Global, tokens: &[Token<'_>], texts: &mut Vec<Bytes>) -> Result<(), Memory>
     ensures { OnOk result (texts.new.items ≡ texts.old.items ++ map text_of (first_place (map lexeme_of tokens.now))) }
 {
-    let Some((token, rest)) = split(tokens) else {
+    let [token, rest @ ..] = tokens else {
         return Ok(());
     };
     if is_open(token) {
@@ -160,10 +143,8 @@ fn place_texts(alloc: Global, tokens: &[Token<'_>]) -> Result<List<Bytes>, Memor
     ensures { IfOk result (λ texts. texts ≡ map text_of (place_tokens (map lexeme_of tokens.now))) }
 {
     let mut texts = Vec::new(alloc);
-    let mut left = tokens;
-    while let Some((_, rest)) = split(left) {
-        push_place(alloc, left, &mut texts)?;
-        left = rest;
+    for place in 0..tokens.len() {
+        push_place(alloc, behind(tokens, place), &mut texts)?;
     }
     Ok(List::from_vec(texts))
 }
@@ -172,22 +153,20 @@ fn place_texts(alloc: Global, tokens: &[Token<'_>]) -> Result<List<Bytes>, Memor
 fn behind_keywords<'t, 'a>(tokens: &'t [Token<'a>]) -> &'t [Token<'a>]
     ensures { map lexeme_of result.now ≡ behind_keywords (map lexeme_of tokens.now) }
 {
-    let mut behind = tokens;
-    let mut left = tokens;
-    while let Some((token, rest)) = split(left) {
+    let mut count = 0;
+    for (place, token) in tokens.iter().enumerate() {
         if is_keyword(token) {
-            behind = rest;
+            count = place + 1;
         }
-        left = rest;
     }
-    behind
+    behind(tokens, count)
 }
 
 // Puts the text of what stands behind a comma last, where the first token is one.
 fn push_behind(alloc: Global, tokens: &[Token<'_>], texts: &mut Vec<Bytes>) -> Result<(), Memory>
     ensures { OnOk result (texts.new.items ≡ texts.old.items ++ map text_of (first_behind (map lexeme_of tokens.now))) }
 {
-    let Some((token, rest)) = split(tokens) else {
+    let [token, rest @ ..] = tokens else {
         return Ok(());
     };
     if is_mark(Mark::Comma, token) {
@@ -204,10 +183,8 @@ fn texts_between_commas(alloc: Global, tokens: &[Token<'_>]) -> Result<List<Byte
     let mut texts = Vec::new(alloc);
     let count = count_to(Mark::Comma, tokens);
     texts.push(text_of(alloc, front(tokens, count))?)?;
-    let mut left = tokens;
-    while let Some((_, rest)) = split(left) {
-        push_behind(alloc, left, &mut texts)?;
-        left = rest;
+    for place in 0..tokens.len() {
+        push_behind(alloc, behind(tokens, place), &mut texts)?;
     }
     Ok(List::from_vec(texts))
 }
