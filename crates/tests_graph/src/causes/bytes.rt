@@ -49,7 +49,9 @@ fn is_fault(alloc: Global, line: &[u8], byte: usize) -> Result<bool, Memory> {
     };
     let before = read_by_serde_json(alloc, line.get(..place).unwrap_or(line))?;
     match line.get(..byte) {
-        Some(front) => Ok(before != Reading::Neither && read_by_serde_json(alloc, front)? == Reading::Neither),
+        Some(front) => Ok(
+            before != Reading::Neither && read_by_serde_json(alloc, front)? == Reading::Neither,
+        ),
         None => Ok(before == Reading::Front && place == line.len()),
     }
 }

@@ -66,8 +66,14 @@ const LINES: &[Row] = &[
     ("null", "the line is no object"),
     ("{}", "the line lacks \"ops\""),
     ("{\"op\":[]}", "\"op\" is no member of a line"),
-    ("{\"ops\":[{}],\"commit\":1}", "\"commit\" is no member of a line"),
-    ("{\"zz\":1,\"ops\":[],\"at\":2}", "\"at\" is no member of a line"),
+    (
+        "{\"ops\":[{}],\"commit\":1}",
+        "\"commit\" is no member of a line",
+    ),
+    (
+        "{\"zz\":1,\"ops\":[],\"at\":2}",
+        "\"at\" is no member of a line",
+    ),
     ("{\"a\\\"\\n\":1}", "\"a\\\"\\n\" is no member of a line"),
     ("{\"ops\":{}}", "\"ops\" is no list"),
     ("{\"ops\":[1],\"ops\":null}", "\"ops\" is no list"),
@@ -81,60 +87,189 @@ const LINES: &[Row] = &[
 const OPS: &[Row] = &[
     ("1", "op 1: is no object"),
     ("[]", "op 1: is no object"),
-    ("{\"add_node\":1},{\"add_node\":2},null", "op 3: is no object"),
+    (
+        "{\"add_node\":1},{\"add_node\":2},null",
+        "op 3: is no object",
+    ),
     ("{}", "op 1: is empty"),
     ("{\"add_node\":1},{},1", "op 2: is empty"),
     ("{\"add_nod\":1}", "op 1: \"add_nod\" is no operation"),
-    ("{\"set_nod\":1,\"key\":\"k\",\"value\":1}", "op 1: \"key\" is no operation"),
-    ("{\"set_node\":1,\"add_node\":2}", "op 1: is both add_node and set_node"),
-    ("{\"remove_node\":1,\"remove_edge\":1,\"x\":1}", "op 1: is both remove_edge and remove_node"),
-    ("{\"add_node\":1,\"label\":\"A\"}", "op 1: \"label\" is no member of add_node"),
-    ("{\"add_node\":1,\"to\":2,\"from\":1}", "op 1: \"from\" is no member of add_node"),
-    ("{\"remove_node\":\"x\",\"labels\":[]}", "op 1: \"labels\" is no member of remove_node"),
-    ("{\"set_node\":1,\"value\":1}", "op 1: set_node lacks \"key\""),
-    ("{\"set_edge\":1,\"key\":\"k\"}", "op 1: set_edge lacks \"value\""),
+    (
+        "{\"set_nod\":1,\"key\":\"k\",\"value\":1}",
+        "op 1: \"key\" is no operation",
+    ),
+    (
+        "{\"set_node\":1,\"add_node\":2}",
+        "op 1: is both add_node and set_node",
+    ),
+    (
+        "{\"remove_node\":1,\"remove_edge\":1,\"x\":1}",
+        "op 1: is both remove_edge and remove_node",
+    ),
+    (
+        "{\"add_node\":1,\"label\":\"A\"}",
+        "op 1: \"label\" is no member of add_node",
+    ),
+    (
+        "{\"add_node\":1,\"to\":2,\"from\":1}",
+        "op 1: \"from\" is no member of add_node",
+    ),
+    (
+        "{\"remove_node\":\"x\",\"labels\":[]}",
+        "op 1: \"labels\" is no member of remove_node",
+    ),
+    (
+        "{\"set_node\":1,\"value\":1}",
+        "op 1: set_node lacks \"key\"",
+    ),
+    (
+        "{\"set_edge\":1,\"key\":\"k\"}",
+        "op 1: set_edge lacks \"value\"",
+    ),
     ("{\"add_edge\":1}", "op 1: add_edge lacks \"from\""),
-    ("{\"add_edge\":1,\"from\":-1}", "op 1: add_edge lacks \"to\""),
+    (
+        "{\"add_edge\":1,\"from\":-1}",
+        "op 1: add_edge lacks \"to\"",
+    ),
     ("{\"unset_node\":1}", "op 1: unset_node lacks \"key\""),
     ("{\"label_edge\":1}", "op 1: label_edge lacks \"label\""),
     ("{\"add_node\":-1}", "op 1: \"add_node\" is no id"),
     ("{\"add_node\":\"1\"}", "op 1: \"add_node\" is no id"),
     ("{\"add_node\":1.0}", "op 1: \"add_node\" is no id"),
-    ("{\"add_node\":18446744073709551616}", "op 1: \"add_node\" is no id"),
+    (
+        "{\"add_node\":18446744073709551616}",
+        "op 1: \"add_node\" is no id",
+    ),
     ("{\"add_node\":18446744073709551615}", "-"),
-    ("{\"add_edge\":1,\"to\":null,\"from\":\"a\"}", "op 1: \"from\" is no id"),
-    ("{\"add_edge\":1,\"to\":null,\"from\":1}", "op 1: \"to\" is no id"),
-    ("{\"set_node\":true,\"key\":1,\"value\":null}", "op 1: \"set_node\" is no id"),
-    ("{\"set_node\":1,\"key\":1,\"value\":null}", "op 1: \"key\" is no name"),
-    ("{\"label_node\":1,\"label\":[\"A\"]}", "op 1: \"label\" is no name"),
-    ("{\"set_node\":1,\"key\":\"9x\",\"value\":null}", "op 1: \"9x\" in \"key\" is no name"),
-    ("{\"unlabel_node\":1,\"label\":\"\"}", "op 1: \"\" in \"label\" is no name"),
-    ("{\"unlabel_edge\":1,\"label\":\"a b\"}", "op 1: \"a b\" in \"label\" is no name"),
-    ("{\"add_node\":1,\"labels\":[\"A\",1,\"9x\"]}", "op 1: item 2 of \"labels\" is no name"),
-    ("{\"add_node\":1,\"labels\":[\"A\",\"9x\",\"8x\"],\"props\":1}", "op 1: \"8x\" in \"labels\" is no name"),
-    ("{\"add_node\":1,\"props\":{\"b c\":1,\"a b\":null}}", "op 1: \"a b\" in \"props\" is no name"),
-    ("{\"add_node\":1,\"labels\":\"A\",\"props\":{\"a b\":1}}", "op 1: \"a b\" in \"props\" is no name"),
-    ("{\"add_node\":1,\"labels\":\"A\",\"props\":1}", "op 1: \"labels\" is no list"),
-    ("{\"add_node\":1,\"labels\":null}", "op 1: \"labels\" is no list"),
-    ("{\"add_node\":1,\"props\":[]}", "op 1: \"props\" is no object"),
-    ("{\"add_node\":1,\"props\":{\"age\":1.5}}", "op 1: \"age\" is no whole number"),
-    ("{\"add_node\":1,\"props\":{\"age\":1.0}}", "op 1: \"age\" is no whole number"),
-    ("{\"add_node\":1,\"props\":{\"age\":-0}}", "op 1: \"age\" is no whole number"),
-    ("{\"add_node\":1,\"props\":{\"age\":9223372036854775808}}", "op 1: \"age\" is no number of 64 bits"),
-    ("{\"add_node\":1,\"props\":{\"age\":-9223372036854775809}}", "op 1: \"age\" is no number of 64 bits"),
-    ("{\"add_node\":1,\"props\":{\"age\":99999999999999999999999}}", "op 1: \"age\" is no number of 64 bits"),
-    ("{\"add_node\":1,\"props\":{\"age\":-9223372036854775808}}", "-"),
-    ("{\"add_node\":1,\"props\":{\"age\":9223372036854775807}}", "-"),
-    ("{\"set_node\":1,\"key\":\"k\",\"value\":1e5}", "op 1: \"value\" is no whole number"),
-    ("{\"set_node\":1,\"key\":\"k\",\"value\":{\"date\":\"2023-02-29\"}}", "op 1: \"value\" is no day"),
-    ("{\"set_node\":1,\"key\":\"k\",\"value\":{\"day\":\"2024-02-29\"}}", "op 1: \"value\" is no day"),
-    ("{\"set_node\":1,\"key\":\"k\",\"value\":{\"date\":\"2024-02-29\"}}", "-"),
-    ("{\"set_edge\":1,\"key\":\"k\",\"value\":null}", "op 1: \"value\" is no value"),
-    ("{\"add_node\":1,\"props\":{\"b\":[],\"c\":1.5,\"a\":true}}", "op 1: \"b\" is no value"),
+    (
+        "{\"add_edge\":1,\"to\":null,\"from\":\"a\"}",
+        "op 1: \"from\" is no id",
+    ),
+    (
+        "{\"add_edge\":1,\"to\":null,\"from\":1}",
+        "op 1: \"to\" is no id",
+    ),
+    (
+        "{\"set_node\":true,\"key\":1,\"value\":null}",
+        "op 1: \"set_node\" is no id",
+    ),
+    (
+        "{\"set_node\":1,\"key\":1,\"value\":null}",
+        "op 1: \"key\" is no name",
+    ),
+    (
+        "{\"label_node\":1,\"label\":[\"A\"]}",
+        "op 1: \"label\" is no name",
+    ),
+    (
+        "{\"set_node\":1,\"key\":\"9x\",\"value\":null}",
+        "op 1: \"9x\" in \"key\" is no name",
+    ),
+    (
+        "{\"unlabel_node\":1,\"label\":\"\"}",
+        "op 1: \"\" in \"label\" is no name",
+    ),
+    (
+        "{\"unlabel_edge\":1,\"label\":\"a b\"}",
+        "op 1: \"a b\" in \"label\" is no name",
+    ),
+    (
+        "{\"add_node\":1,\"labels\":[\"A\",1,\"9x\"]}",
+        "op 1: item 2 of \"labels\" is no name",
+    ),
+    (
+        "{\"add_node\":1,\"labels\":[\"A\",\"9x\",\"8x\"],\"props\":1}",
+        "op 1: \"8x\" in \"labels\" is no name",
+    ),
+    (
+        "{\"add_node\":1,\"props\":{\"b c\":1,\"a b\":null}}",
+        "op 1: \"a b\" in \"props\" is no name",
+    ),
+    (
+        "{\"add_node\":1,\"labels\":\"A\",\"props\":{\"a b\":1}}",
+        "op 1: \"a b\" in \"props\" is no name",
+    ),
+    (
+        "{\"add_node\":1,\"labels\":\"A\",\"props\":1}",
+        "op 1: \"labels\" is no list",
+    ),
+    (
+        "{\"add_node\":1,\"labels\":null}",
+        "op 1: \"labels\" is no list",
+    ),
+    (
+        "{\"add_node\":1,\"props\":[]}",
+        "op 1: \"props\" is no object",
+    ),
+    (
+        "{\"add_node\":1,\"props\":{\"age\":1.5}}",
+        "op 1: \"age\" is no whole number",
+    ),
+    (
+        "{\"add_node\":1,\"props\":{\"age\":1.0}}",
+        "op 1: \"age\" is no whole number",
+    ),
+    (
+        "{\"add_node\":1,\"props\":{\"age\":-0}}",
+        "op 1: \"age\" is no whole number",
+    ),
+    (
+        "{\"add_node\":1,\"props\":{\"age\":9223372036854775808}}",
+        "op 1: \"age\" is no number of 64 bits",
+    ),
+    (
+        "{\"add_node\":1,\"props\":{\"age\":-9223372036854775809}}",
+        "op 1: \"age\" is no number of 64 bits",
+    ),
+    (
+        "{\"add_node\":1,\"props\":{\"age\":99999999999999999999999}}",
+        "op 1: \"age\" is no number of 64 bits",
+    ),
+    (
+        "{\"add_node\":1,\"props\":{\"age\":-9223372036854775808}}",
+        "-",
+    ),
+    (
+        "{\"add_node\":1,\"props\":{\"age\":9223372036854775807}}",
+        "-",
+    ),
+    (
+        "{\"set_node\":1,\"key\":\"k\",\"value\":1e5}",
+        "op 1: \"value\" is no whole number",
+    ),
+    (
+        "{\"set_node\":1,\"key\":\"k\",\"value\":{\"date\":\"2023-02-29\"}}",
+        "op 1: \"value\" is no day",
+    ),
+    (
+        "{\"set_node\":1,\"key\":\"k\",\"value\":{\"day\":\"2024-02-29\"}}",
+        "op 1: \"value\" is no day",
+    ),
+    (
+        "{\"set_node\":1,\"key\":\"k\",\"value\":{\"date\":\"2024-02-29\"}}",
+        "-",
+    ),
+    (
+        "{\"set_edge\":1,\"key\":\"k\",\"value\":null}",
+        "op 1: \"value\" is no value",
+    ),
+    (
+        "{\"add_node\":1,\"props\":{\"b\":[],\"c\":1.5,\"a\":true}}",
+        "op 1: \"b\" is no value",
+    ),
     ("{\"add_node\":1,\"props\":{\"a\":1.5,\"a\":2}}", "-"),
-    ("{\"add_node\":1,\"labels\":[],\"props\":{\"a\":false,\"b\":\"\\u0000\"}}", "-"),
-    ("{\"detach_node\":1},{\"remove_edge\":2},{\"unset_edge\":1,\"key\":\"k\"}", "-"),
-    ("{\"add_node\":1},{\"add_node\":2,\"props\":{\"k\":null}},{\"add_nod\":3}", "op 2: \"k\" is no value"),
+    (
+        "{\"add_node\":1,\"labels\":[],\"props\":{\"a\":false,\"b\":\"\\u0000\"}}",
+        "-",
+    ),
+    (
+        "{\"detach_node\":1},{\"remove_edge\":2},{\"unset_edge\":1,\"key\":\"k\"}",
+        "-",
+    ),
+    (
+        "{\"add_node\":1},{\"add_node\":2,\"props\":{\"k\":null}},{\"add_nod\":3}",
+        "op 2: \"k\" is no value",
+    ),
 ];
 
 /// How many arrays stand in one another, and the cause.
@@ -149,12 +284,7 @@ fn told<'a>(cause: &'a Option<Bytes>) -> &'a str {
 }
 
 /// Which row is the first whose cause is another, with what is found.
-fn first_wrong(
-    alloc: Global,
-    rows: &[Row],
-    before: &str,
-    behind: &str,
-) -> Result<String, Memory> {
+fn first_wrong(alloc: Global, rows: &[Row], before: &str, behind: &str) -> Result<String, Memory> {
     for (line, cause) in rows {
         let text = format!(in alloc; "{before}{line}{behind}")?;
         let found = line_cause(alloc, text.as_bytes())?;
