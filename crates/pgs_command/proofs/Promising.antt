@@ -19,7 +19,7 @@ use Rattle.pgs_command.specs.Spec.{CommandSpec}
 -- what is known of a run whose command reads its source
 pub record RunsReading (spec : CommandSpec) (budget : ℕ) (old new : Setting) (status : Status) : Type 0 where
   pub choice : spec.Choice
-  pub right : spec.IsRight choice old.source.left budget status
+  pub right : spec.IsRight choice old budget status
   pub ends : (input : List ℕ) → Knows spec old input → old.source.left ≡ Some input
       → EndsAs (telling spec choice old new input) (shown_of old.view) input budget new.source.left status (shown_of new.view)
   pub takes : (input rest : List ℕ) → old.source.left ≡ Some input → new.source.left ≡ Some rest → TakesWithin input budget rest status
@@ -35,7 +35,7 @@ pub record RunsReading (spec : CommandSpec) (budget : ℕ) (old new : Setting) (
 -- what is known of one whose command doesn't
 pub record RunsAlone (spec : CommandSpec) (budget : ℕ) (old new : Setting) (status : Status) : Type 0 where
   pub choice : spec.Choice
-  pub right : spec.IsRight choice old.source.left budget status
+  pub right : spec.IsRight choice old budget status
   pub shown : (input : List ℕ) → Knows spec old input → Ends (shown_of old.view) (telling spec choice old new input budget) status (shown_of new.view)
   pub unread : new.source ≡ old.source
   pub may_end : spec.MayEnd status
@@ -124,7 +124,7 @@ promise_alone spec budget old new status none ran =
 none_first : (start : Shown) (pieces : List (List ℕ)) → ShowsFirst start pieces start
 none_first start pieces = record { first = []; later = pieces; parts = refl; shows = shows_none start }
 
-pub promise_unbegun : (spec : CommandSpec) (budget : ℕ) (at : Setting) (choice : spec.Choice) → spec.IsRight choice at.source.left budget Memory → spec.MayEnd Memory
+pub promise_unbegun : (spec : CommandSpec) (budget : ℕ) (at : Setting) (choice : spec.Choice) → spec.IsRight choice at budget Memory → spec.MayEnd Memory
     → spec.Leaves at at Memory → spec.Feeds at at Memory → Promise spec budget at at Memory
 promise_unbegun spec budget at choice right may_end leaves feeds = record {
   choice = choice;

@@ -9,7 +9,7 @@ abbrev pub without_areas : (reads_source : Bool) → (MayEnd : Status → Type 0
 without_areas reads_source MayEnd told = record {
   Choice = Unit {0};
   told = λ choice input areas bytes lost. told input bytes;
-  IsRight = λ choice left budget status. Unit {0};
+  IsRight = λ choice old budget status. Unit {0};
   reads_source = reads_source;
   uses_areas = false;
   AsksAreas = λ input. ⊥;

@@ -37,7 +37,7 @@ pub record IsUnrefused (spec : CommandSpec) (said : Told Status) : Type 0 where
 pub record Promise (spec : CommandSpec) (budget : ℕ) (old new : Setting) (status : Status) : Type 0 where
   -- There is a choice by which all of this holds, and it is right.
   pub choice : spec.Choice
-  pub right : spec.IsRight choice old.source.left budget status
+  pub right : spec.IsRight choice old budget status
   -- What the world shows, by the status. With 0 to 4 and 9 it is all that is told, each piece one put that answered Ok, and the status is
   -- the one told. With 6 it is all that is told with the number of bytes that the reads gave in the budget's place.
   pub shown : (input : List ℕ) → Knows spec old input → Ends (shown_of old.view) (telling spec choice old new input budget) status (shown_of new.view)

@@ -1,5 +1,5 @@
 -- What a command is: what it tells, what it may do, and what it leaves.
-use Rattle.std.specs.Prelude.{ℕ, Bool, List, Option}
+use Rattle.std.specs.Prelude.{ℕ, Bool, List}
 use Rattle.pgs_feed.specs.Deliveries.{Delivery}
 use Rattle.pgs_run_lines.specs.Machine.{Told}
 use Rattle.pgs_command.specs.declared.status.Status.{Status}
@@ -11,8 +11,8 @@ pub record CommandSpec : Type 1 where
   pub Choice : Type 0
   -- what it tells by a choice, of an input and both areas, within so many bytes, where so many feeds are lost at its end
   pub told : Choice → (input : List ℕ) → Areas → (bytes lost : ℕ) → Told Status
-  -- which choices are right, by what the source has left at the start and by the status
-  pub IsRight : Choice → (left : Option (List ℕ)) → (budget : ℕ) → Status → Type 0
+  -- which choices are right, by what there is at the start and by the status
+  pub IsRight : Choice → Setting → (budget : ℕ) → Status → Type 0
   pub reads_source : Bool
   pub uses_areas : Bool
   -- what it tells of this input rests on the areas

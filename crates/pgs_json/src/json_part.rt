@@ -117,7 +117,8 @@ fn day(value: &Json<'_>) -> Option<Day>
     day_in(text.as_bytes())
 }
 
-fn date(value: &Json<'_>) -> Option<Day>
+/// The day that a JSON value is: an object with the one member `date`, a text such as `2024-02-29`.
+pub fn date(value: &Json<'_>) -> Option<Day>
     ensures { result ≡ date_of (view value.now) }
 {
     if has_only(value, &["date"]) {

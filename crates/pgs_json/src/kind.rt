@@ -57,8 +57,9 @@ fn kind_at(kinds: &[(&str, Kind)], name: &str) -> Option<Kind>
     }
 }
 
+/// The kind that a member of this name tells.
 #[tactic(auto, unfolding(crate::specs::Kinds::kind_named))]
-fn kind_named(name: &str) -> Option<Kind>
+pub fn kind_named(name: &str) -> Option<Kind>
     ensures { result ≡ kind_named name.now }
 {
     kind_at(&KINDS, name)

@@ -27,6 +27,8 @@ mod unread;
 pub use canonical::{push_txn, write_txn};
 pub use commit::{COMMIT_LIMIT, read_commit};
 pub use commit_fault::CommitFault;
+pub use json_part::{are_among, date};
+pub use kind::{Kind, kind_in, kind_named};
 pub use laws::{written_commit_is_read, written_is_read};
 pub use line::read_txn;
 pub use line_fault::LineFault;
@@ -35,3 +37,5 @@ pub use samples::{
     canonical_texts, labels_in_another_order, lines_of_a_feed, lines_that_add, lines_that_change,
     lines_with_values, other_lines, texts_of_changes, written_and_read,
 };
+pub use tree::{Json, Member, member};
+pub use unread::Unread;

@@ -12,6 +12,8 @@ mod places;
 mod resolved_keys;
 mod variables;
 
+pub use atoms::{ends, push_place};
 pub use key_causes::cause_of;
 pub use places::{PlaceRef, named_in, places_of};
 pub use resolved_keys::resolve_key;
+pub use variables::Variables;

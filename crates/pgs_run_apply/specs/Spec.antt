@@ -12,7 +12,7 @@ abbrev pub apply_spec : CommandSpec
 apply_spec = record {
   Choice = Unit {0};
   told = λ choice input areas bytes lost. told_apply input areas bytes lost;
-  IsRight = λ choice left budget status. Unit {0};
+  IsRight = λ choice old budget status. Unit {0};
   reads_source = true;
   uses_areas = true;
   AsksAreas = λ input. Unit {0};

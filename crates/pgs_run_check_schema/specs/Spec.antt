@@ -29,7 +29,7 @@ schema_spec =
     record {
       Choice = Chosen;
       told = λ chosen input areas bytes lost. told_schema chosen input bytes;
-      IsRight = JudgesRightly;
+      IsRight = λ chosen old. JudgesRightly chosen old.source.left;
       reads_source = kept.reads_source;
       uses_areas = kept.uses_areas;
       AsksAreas = kept.AsksAreas;

@@ -9,7 +9,7 @@ abbrev pub checkpoint_spec : CommandSpec
 checkpoint_spec = record {
   Choice = Unit {0};
   told = λ choice input areas bytes lost. told_checkpoint areas;
-  IsRight = λ choice left budget status. Unit {0};
+  IsRight = λ choice old budget status. Unit {0};
   reads_source = false;
   uses_areas = true;
   AsksAreas = λ input. Unit {0};

@@ -49,7 +49,7 @@ refused_told : (whole : Bool) (text : List ℕ) (second : List ℕ) → told_fir
 refused_told true text second = refl
 refused_told false text second = refl
 
-laws : SchemaFirst compare_teller text_limit told_lines_behind places Behind
+laws : SchemaFirst compare_teller text_limit [] told_lines_behind places Behind
 laws = record {
   separator = separator_of_front;
   part_line = λ part line. refl;
@@ -71,4 +71,4 @@ laws = record {
 -- the machine tells what the two texts do
 pub told_by_texts : (input : List ℕ) (budget : ℕ) → told_by comparing text_limit first_phase input budget ≡ told_texts input budget
 unfolding told_texts
-told_by_texts input budget = told_schema_first compare_teller text_limit told_lines_behind places Behind laws input budget
+told_by_texts input budget = told_schema_first compare_teller text_limit [] told_lines_behind places Behind laws input budget

@@ -11,7 +11,7 @@ abbrev pub evolve_spec : CommandSpec
 evolve_spec = record {
   Choice = Unit {0};
   told = λ choice input areas bytes lost. told_evolve input areas bytes;
-  IsRight = λ choice left budget status. Unit {0};
+  IsRight = λ choice old budget status. Unit {0};
   reads_source = true;
   uses_areas = true;
   AsksAreas = λ input. Unit {0};

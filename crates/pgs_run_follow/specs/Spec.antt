@@ -29,7 +29,7 @@ abbrev pub follow_spec : CommandSpec
 follow_spec = record {
   Choice = Unit {0};
   told = λ choice input areas bytes lost. told_follow input bytes;
-  IsRight = λ choice left budget status. Unit {0};
+  IsRight = λ choice old budget status. Unit {0};
   reads_source = true;
   uses_areas = false;
   AsksAreas = λ input. ⊥;

@@ -10,7 +10,7 @@ use Rattle.pgs_run_lines.proofs.Fronts.{front_none}
 use Rattle.pgs_syntax.specs.declared.resolved.Resolved.{Resolved}
 use Rattle.pgs_answer.specs.Lines.{schema_refused_line}
 use Rattle.pgs_run_input.specs.Answers.{schema_answer}
-use Rattle.pgs_run_input.specs.Judged.{pieces_of_schema}
+use Rattle.pgs_run_input.specs.Judged.{pieces_behind}
 use Rattle.pgs_run_input.specs.Input.{text_limit, text_front, is_separator, schema_part, after_separator}
 use Rattle.pgs_run_input.specs.Part.{Part, with_line, no_part, has_none}
 use Rattle.pgs_run_input.proofs.ByLines.{EndsIn, TellsLines, by_lines}
@@ -29,8 +29,9 @@ abbrev pub after_schema : {S : Type 0} → Places S → Result Resolved (List �
 after_schema places (Ok schema) = places.begin schema
 after_schema places (Err text) = places.refused
 
--- What it does in its places, and what lines behind a schema tell, by the states to which they lead (`Behind`).
-pub record SchemaFirst {E : Type 0} (t : Teller E) (limit : ℕ) (told_schema : Bool → Result Resolved (List ℕ) → List (List ℕ) → Told E) (places : Places t.State)
+-- What it does in its places, what stands behind the line of a refused schema (`further`), and what lines behind a schema tell, by the states to
+-- which they lead (`Behind`).
+pub record SchemaFirst {E : Type 0} (t : Teller E) (limit : ℕ) (further : List (List ℕ)) (told_schema : Bool → Result Resolved (List ℕ) → List (List ℕ) → Told E) (places : Places t.State)
     (Behind : Resolved → List (List ℕ) → t.State → Type 0) : Type 0 where
   -- a line and its front say the same
   pub separator : (line : List ℕ) → is_separator (front_of limit line) ≡ is_separator line
@@ -38,11 +39,11 @@ pub record SchemaFirst {E : Type 0} (t : Teller E) (limit : ℕ) (told_schema : 
   -- in the schema part
   pub part_next : (part : Part) → t.next (places.part part) ≡ Going (places.part part)
   pub part_after : (part : Part) (line : List ℕ) → t.after (places.part part) line ≡ cond (is_separator line) (after_schema places (schema_answer part.text)) (places.part (with_line part line))
-  pub part_pieces : (part : Part) (line : List ℕ) → t.pieces (places.part part) line ≡ cond (is_separator line) (pieces_of_schema (schema_answer part.text)) []
+  pub part_pieces : (part : Part) (line : List ℕ) → t.pieces (places.part part) line ≡ cond (is_separator line) (pieces_behind further (schema_answer part.text)) []
   pub part_told : (part : Part) → t.told (places.part part) ≡ told_schema true (schema_answer part.text) []
   -- of a refused schema
   pub refused_ends : EndsIn t places.refused
-  pub refused_told : (whole : Bool) (text : List ℕ) (lines : List (List ℕ)) → told_schema whole (Err text) lines ≡ record { pieces = schema_refused_line text ∷ []; status = refused_ends.status }
+  pub refused_told : (whole : Bool) (text : List ℕ) (lines : List (List ℕ)) → told_schema whole (Err text) lines ≡ record { pieces = schema_refused_line text ∷ further; status = refused_ends.status }
   -- behind a schema
   pub begins : (schema : Resolved) → Behind schema [] (places.begin schema)
   pub none : (schema : Resolved) → (told_schema false (Ok schema) []).pieces ≡ []
@@ -54,8 +55,8 @@ pub record SchemaFirst {E : Type 0} (t : Teller E) (limit : ℕ) (told_schema : 
   pub end : (schema : Resolved) (lines : List (List ℕ)) (s : t.State) → Behind schema lines s
       → told_schema true (Ok schema) lines ≡ record { pieces = (told_schema false (Ok schema) lines).pieces ++ (t.told s).pieces; status = (t.told s).status }
 
-module _ {E : Type 0} (t : Teller E) (limit : ℕ) (told_schema : Bool → Result Resolved (List ℕ) → List (List ℕ) → Told E) (places : Places t.State)
-    (Behind : Resolved → List (List ℕ) → t.State → Type 0) (laws : SchemaFirst t limit told_schema places Behind) where
+module _ {E : Type 0} (t : Teller E) (limit : ℕ) (further : List (List ℕ)) (told_schema : Bool → Result Resolved (List ℕ) → List (List ℕ) → Told E) (places : Places t.State)
+    (Behind : Resolved → List (List ℕ) → t.State → Type 0) (laws : SchemaFirst t limit further told_schema places Behind) where
   abbrev told_of : List (List ℕ) → E → Told E
   told_of pieces status = record { pieces = pieces; status = status }
 
@@ -74,7 +75,7 @@ module _ {E : Type 0} (t : Teller E) (limit : ℕ) (told_schema : Bool → Resul
   told_found : (whole : Bool) (lines : List (List ℕ)) (found : Result Resolved (List ℕ)) → HasOne lines → schema_answer (schema_part lines) ≡ found → told_lines whole lines ≡ told_schema whole found (after_separator lines)
   told_found whole lines found has is = told_with whole lines has ∙ ap (λ schema. told_schema whole schema (after_separator lines)) is
 
-  told_refused : (whole : Bool) (lines : List (List ℕ)) (text : List ℕ) → HasOne lines → schema_answer (schema_part lines) ≡ Err text → told_lines whole lines ≡ told_of (schema_refused_line text ∷ []) laws.refused_ends.status
+  told_refused : (whole : Bool) (lines : List (List ℕ)) (text : List ℕ) → HasOne lines → schema_answer (schema_part lines) ≡ Err text → told_lines whole lines ≡ told_of (schema_refused_line text ∷ further) laws.refused_ends.status
   told_refused whole lines text has is = told_found whole lines (Err text) has is ∙ laws.refused_told whole text (after_separator lines)
 
   told_without : (lines : List (List ℕ)) → HasNo lines → told_lines false lines ≡ told_of [] t.cut
@@ -159,12 +160,12 @@ module _ {E : Type 0} (t : Teller E) (limit : ℕ) (told_schema : Bool → Resul
 
   -- ---- what one more line tells
 
-  pieces_judged : (answer : Result Resolved (List ℕ)) → (told_schema false answer []).pieces ≡ pieces_of_schema answer
+  pieces_judged : (answer : Result Resolved (List ℕ)) → (told_schema false answer []).pieces ≡ pieces_behind further answer
   pieces_judged (Err text) = ap (λ (told : Told E). told.pieces) (laws.refused_told false text [])
   pieces_judged (Ok schema) = laws.none schema
 
   pieces_part : (lines : List (List ℕ)) (line : List ℕ) (part : Part) (sep : Bool) → is_separator line ≡ sep → HasNo lines → part.text ≡ text_front (join_with_byte 10 lines)
-      → (told_lines false (lines ++ line ∷ [])).pieces ≡ cond sep (pieces_of_schema (schema_answer part.text)) []
+      → (told_lines false (lines ++ line ∷ [])).pieces ≡ cond sep (pieces_behind further (schema_answer part.text)) []
   pieces_part lines line part true is none text =
       let answer = schema_answer part.text in
       ap (λ (told : Told E). told.pieces) (told_found false (lines ++ line ∷ []) answer (one_first lines line none is) (found_first lines line answer none is (schema_so_far part lines text)))
@@ -173,7 +174,7 @@ module _ {E : Type 0} (t : Teller E) (limit : ℕ) (told_schema : Bool → Resul
 
   pieces_line : (lines : List (List ℕ)) (line : List ℕ) (s : t.State) → Leads lines s → (told_lines false (lines ++ line ∷ [])).pieces ≡ (told_lines false lines).pieces ++ t.pieces s (front line)
   pieces_line lines line s (inl p) =
-      let own = ap (λ (s : t.State). t.pieces s (front line)) p.is ∙ laws.part_pieces p.part (front line) ∙ ap (λ sep. cond sep (pieces_of_schema (schema_answer p.part.text)) []) (laws.separator line) in
+      let own = ap (λ (s : t.State). t.pieces s (front line)) p.is ∙ laws.part_pieces p.part (front line) ∙ ap (λ sep. cond sep (pieces_behind further (schema_answer p.part.text)) []) (laws.separator line) in
       pieces_part lines line p.part (is_separator line) refl p.none p.text ∙ sym own
       ∙ ap (λ (told : Told E). told.pieces ++ t.pieces s (front line)) (sym (told_without lines p.none))
   pieces_line lines line s (inr (inl b)) =
@@ -209,6 +210,7 @@ module _ {E : Type 0} (t : Teller E) (limit : ℕ) (told_schema : Bool → Resul
       ∙ ap (λ (told : Told E). told_of (told.pieces ++ (t.told s).pieces) (t.told s).status) (sym (told_found false lines (Ok b.schema) b.one b.found))
   end_at lines s (inr (inr r)) =
       told_refused true lines r.text r.one r.found
+      ∙ ap (λ ps. told_of ps laws.refused_ends.status) (sym (append-nil (schema_refused_line r.text ∷ further)))
       ∙ ap₂ (λ (told end : Told E). told_of (told.pieces ++ end.pieces) end.status) (sym (told_refused false lines r.text r.one r.found)) (sym (ap t.told r.is ∙ laws.refused_ends.told))
 
   tells : TellsLines t limit told_lines Leads (places.part no_part)

@@ -1,4 +1,5 @@
 -- What a call leaves of both areas, and the rule of a machine that only puts.
+use Rattle.std.specs.Prelude.{true}
 use Rattle.pgs_run_lines.specs.Machine.{Machine, Rule}
 use Rattle.pgs_run_lines.specs.AreasKept.{KeepsAreas, keeps_none, keeps_on}
 
@@ -6,6 +7,7 @@ use Rattle.pgs_run_lines.specs.AreasKept.{KeepsAreas, keeps_none, keeps_on}
 abbrev pub keeps_areas : {E : Type 0} (m : Machine E) → Rule m
 keeps_areas m = record {
   Kept = Unit {0};
+  tells = true;
   holds = λ s view. Unit {0};
   allows = λ s lines extent old new. KeepsAreas old.view new.view;
   none = λ s scene timed holds. keeps_none scene.view timed;

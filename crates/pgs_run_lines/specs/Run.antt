@@ -1,5 +1,5 @@
 -- How the run of a machine over an input ends.
-use Rattle.std.specs.Prelude.{◌≡◌, ◌⊎◌, ℕ, ◌+◌, ◌-◌, ◌≤◌, List, [], ◌++◌, length, Option, Some}
+use Rattle.std.specs.Prelude.{◌≡◌, ◌⊎◌, ℕ, ◌+◌, ◌-◌, ◌<◌, ◌≤◌, Bool, true, false, List, [], ◌++◌, length, Option, Some}
 use Rattle.pgs_world.specs.Source.{Takes, IsAtEnd}
 use Rattle.pgs_run_lines.specs.declared.stop.Stop.{Stop}
 use Rattle.pgs_run_lines.specs.declared.stop.Stop.TheVariants as stops
@@ -65,6 +65,11 @@ IsToldBy told stops.DiskFault = Unit {0}
 IsToldBy told stops.PutFault = Unit {0}
 IsToldBy told stops.Memory = Unit {0}
 
+-- how a machine ends at the end of its input: what is shown is what is told, where its pieces are what is put
+abbrev pub EndsWhere : {E : Type 0} → Bool → Shown → Told E → Stop E → Shown → Type 0
+EndsWhere true start told stop now = Ends start told stop now
+EndsWhere false start told stop now = IsToldBy told stop
+
 -- How far the lines of the bytes that were taken were taken, where the run stopped so: all of them, or all but the last, which gave the
 -- stop, or all, and then the end of the input, which gave it.
 abbrev pub IsFar : {E : Type 0} (m : Machine E) (limit : ℕ) (s : m.State) (budget : ℕ) (left : Option (List ℕ)) (bytes : List ℕ)
@@ -75,6 +80,12 @@ IsFar m limit s budget left bytes lines later stop (AtEnd rest at) =
     (at ≡ stop) × (rest ≡ (kept_of limit bytes).rest) × (later ≡ []) × IsAtEnd left
     × IsToldBy (told_at_end m (after_lines m (Going s) lines) rest) stop
 
+-- how many bytes were taken: fewer than the budget where the end of the input was taken, and else no more
+abbrev pub IsShort : {E : Type 0} → (budget count : ℕ) → Extent E → Type 0
+IsShort budget count Whole = count ≤ budget
+IsShort budget count (Inside stop) = count ≤ budget
+IsShort budget count (AtEnd rest stop) = count < budget
+
 -- What was done to the scene is what these lines of the bytes taken allow, by how far they were taken.
 pub record Allows {E : Type 0} (m : Machine E) (rule : Rule m) (limit : ℕ) (s : m.State) (budget : ℕ) (before left : Option (List ℕ))
     (stop : Stop E) (old new : Scene rule.Kept) : Type 0 where
@@ -84,5 +95,6 @@ pub record Allows {E : Type 0} (m : Machine E) (rule : Rule m) (limit : ℕ) (s 
   pub later : List (List ℕ)
   pub parts : (kept_of limit bytes).ended ≡ lines ++ later
   pub extent : Extent E
+  pub short : IsShort budget (length bytes) extent
   pub far : IsFar m limit s budget left bytes lines later stop extent
   pub allowed : rule.allows s lines extent old new

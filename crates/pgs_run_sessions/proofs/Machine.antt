@@ -50,7 +50,7 @@ module _ (schema : Resolved) (lines : List (List ℕ)) (line : List ℕ) (stand 
       ∙ ap (λ pieces. pieces_of_lines (step schema) begin lines ++ pieces)
       (pieces_of_one (step schema) standing line ∙ sym (pieces_of_front (step schema) standing line) ∙ sym (ap (λ s. pieces_at_end s (line_front line)) is))
 
-laws : SchemaFirst input_teller line_limit (told_schema brief_sessions) places Behind
+laws : SchemaFirst input_teller line_limit [] (told_schema brief_sessions) places Behind
 laws = record {
   separator = separator_of_front;
   part_line = part_of_line;
@@ -74,7 +74,7 @@ laws = record {
 
 in_brief : (input : List ℕ) (budget : ℕ) → told_by input_machine line_limit first_stand input budget ≡ told_input brief_sessions input budget
 unfolding told_input
-in_brief input budget = told_schema_first input_teller line_limit (told_schema brief_sessions) places Behind laws input budget
+in_brief input budget = told_schema_first input_teller line_limit [] (told_schema brief_sessions) places Behind laws input budget
 
 -- the machine tells what the machine of sessions tells
 pub told_by_input : (input : List ℕ) (budget : ℕ) → told_by input_machine line_limit first_stand input budget ≡ told_sessions input budget

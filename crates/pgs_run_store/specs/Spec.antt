@@ -17,7 +17,7 @@ abbrev pub reader_spec : (tells : SavedStore → Told Status) → CommandSpec
 reader_spec tells = record {
   Choice = Unit {0};
   told = λ choice input areas bytes lost. told_of_areas areas tells;
-  IsRight = λ choice left budget status. Unit {0};
+  IsRight = λ choice old budget status. Unit {0};
   reads_source = false;
   uses_areas = true;
   AsksAreas = λ input. Unit {0};

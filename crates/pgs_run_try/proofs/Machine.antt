@@ -50,7 +50,7 @@ module _ (judging : Judging) where
         ∙ ap (λ pieces. pieces_of_lines telling verdict start lines ++ pieces)
         (pieces_of_one telling verdict standing line ∙ sym (pieces_of_front telling verdict standing line) ∙ sym (ap (λ p. pieces_at_end p (text_front line)) is))
 
-  laws : SchemaFirst try_teller text_limit (told_schema judging) places Behind
+  laws : SchemaFirst try_teller text_limit [] (told_schema judging) places Behind
   laws = record {
     separator = separator_of_front;
     part_line = λ part line. refl;
@@ -73,4 +73,4 @@ module _ (judging : Judging) where
   -- the machine tells what the command does
   pub told_by_judging : (input : List ℕ) (budget : ℕ) → told_by trying text_limit (first_phase judging) input budget ≡ told_judging judging input budget
   unfolding told_judging
-  told_by_judging input budget = told_schema_first try_teller text_limit (told_schema judging) places Behind laws input budget
+  told_by_judging input budget = told_schema_first try_teller text_limit [] (told_schema judging) places Behind laws input budget

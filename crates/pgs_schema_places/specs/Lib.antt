@@ -1,2 +1,3 @@
+pub mod KeyParts
 pub mod KeyTexts
 pub mod Because

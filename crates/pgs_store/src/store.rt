@@ -36,12 +36,13 @@ impl Drop for Store {
 
 impl Model for Store {
     ghost use Rattle.std.specs.Coded.{codes};
+    ghost use Rattle.pgs_base.specs.contracts.seed.Seed as seeds;
     ghost use Rattle.pgs_syntax.specs.contracts.resolved.Resolved as schemas;
     ghost use Rattle.pgs_store.specs.Stored.{StoreState, IsBounded};
 
     ghost Value = { StoreState };
 
-    ghost coded = { Prim.hlevel (codes, schemas.the_row.coded) };
+    ghost coded = { Prim.hlevel (codes, schemas.the_row.coded, seeds.the_row.coded) };
 
     ghost view = { λ store. record { guard = store.guard; journal = store.journal; failed = store.failed } };
 
@@ -72,6 +73,18 @@ impl Store {
         ensures numbered { IsTrue (is_epoch self.now.journal.epoch) }
     {
         self.journal.epoch
+    }
+
+    /// The guard of the store, without its journal: what it takes is not kept.
+    pub fn into_guard(self) -> Guard
+        ensures { result ≡ self.guard }
+    {
+        let Store {
+            guard,
+            journal: _,
+            failed: _,
+        } = self;
+        guard
     }
 
     /// Whether the store is of the second format, which has schemas at later places, so that `evolve` may succeed.
