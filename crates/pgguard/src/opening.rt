@@ -14,9 +14,7 @@ use pgs_feed::FeedList;
 use pgs_program::{Outside, areas_of, seed_of};
 use pgs_run_words::{Command, CommandLine};
 use pgs_world::Feed;
-use pgs_world_files::{
-    FeedCause, FileCause, FileFeed, Handle, Opening, StoreAccess, file_name,
-};
+use pgs_world_files::{FeedCause, FileCause, FileFeed, Handle, Opening, StoreAccess, file_name};
 use pgs_world_streams::{SteadyRead, SteadyWrite};
 use std::alloc::Global;
 use std::collections::hash_map::RandomState;

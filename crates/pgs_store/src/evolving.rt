@@ -148,12 +148,7 @@ fn journal_schema<W: World>(
     ensures stops { IsTrue (W.view world.old).honest → IsTrue (W.view world.old).tells_bytes
         → EachSince (IsEvolvedIn guard.old journal.old schema.text) (W.view world.old) (W.view world.new) }
 {
-    let (renewal, frame) = framed_renewal::<Brand>(
-        guard,
-        schema,
-        journal.next,
-        Blank::new(1),
-    )?;
+    let (renewal, frame) = framed_renewal::<Brand>(guard, schema, journal.next, Blank::new(1))?;
     match journal.append(world, frame.as_slice()) {
         Ok(()) => {
             guard.renew(renewal);

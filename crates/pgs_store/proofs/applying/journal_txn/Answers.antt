@@ -254,9 +254,9 @@ pub invariant_of-guard : goal.invariant_of-guard
 invariant_of-guard g c =
     let inside = c.guard.inside in
     let prepared = c.prepare.new in (
-    still_indexed inside.schema.resolved inside.limits inside.graph.graph prepared.tables.graph inside.index prepared.index c.prepare.ensures.graph c.prepare.ensures.exclusive c.prepare.ensures.rows
-    c.guard.invariant.0,
-    (c.prepare.ensures.seeds ∙ c.guard.invariant.1.0, c.prepare.ensures.seed ∙ c.guard.invariant.1.1),
+      still_indexed inside.schema.resolved inside.limits inside.graph.graph prepared.tables.graph inside.index prepared.index c.prepare.ensures.graph c.prepare.ensures.exclusive c.prepare.ensures.rows
+          c.guard.invariant.0,
+      (c.prepare.ensures.seeds ∙ c.guard.invariant.1.0, c.prepare.ensures.seed ∙ c.guard.invariant.1.1),
     )
 
 pub invariant_of-guard-in-Ok : goal.invariant_of-guard-in-Ok
@@ -264,17 +264,17 @@ invariant_of-guard-in-Ok g c =
     let inside = c.guard.inside in
     let prepared = c.prepare.new in
     let next = c.commit.new in (
-    made_indexed inside.schema.resolved inside.limits inside.graph.graph prepared.tables.graph next.tables.graph inside.index prepared.index next.index c.in_ok-decided.decided c.in_ok-ready.ready
-    c.prepare.ensures.graph c.commit.ensures.graph c.prepare.ensures.exclusive c.prepare.ensures.rows c.commit.ensures.exclusive c.commit.ensures.rows c.in_ok-ready.ensures.whole
-    c.in_ok-decided.ensures.guarded c.in_ok-decided.ensures.stands,
-    (c.commit.ensures.seeds ∙ c.prepare.ensures.seeds ∙ c.guard.invariant.1.0, c.commit.ensures.seed ∙ c.prepare.ensures.seed ∙ c.guard.invariant.1.1),
+      made_indexed inside.schema.resolved inside.limits inside.graph.graph prepared.tables.graph next.tables.graph inside.index prepared.index next.index c.in_ok-decided.decided c.in_ok-ready.ready
+          c.prepare.ensures.graph c.commit.ensures.graph c.prepare.ensures.exclusive c.prepare.ensures.rows c.commit.ensures.exclusive c.commit.ensures.rows c.in_ok-ready.ensures.whole
+          c.in_ok-decided.ensures.guarded c.in_ok-decided.ensures.stands,
+      (c.commit.ensures.seeds ∙ c.prepare.ensures.seeds ∙ c.guard.invariant.1.0, c.commit.ensures.seed ∙ c.prepare.ensures.seed ∙ c.guard.invariant.1.1),
     )
 
 pub invariant_of-guard-in-Err : goal.invariant_of-guard-in-Err
 invariant_of-guard-in-Err g c =
     let inside = c.guard.inside in
     let prepared = c.prepare.new in (
-    still_indexed inside.schema.resolved inside.limits inside.graph.graph prepared.tables.graph inside.index prepared.index c.prepare.ensures.graph c.prepare.ensures.exclusive c.prepare.ensures.rows
-    c.guard.invariant.0,
-    (c.prepare.ensures.seeds ∙ c.guard.invariant.1.0, c.prepare.ensures.seed ∙ c.guard.invariant.1.1),
+      still_indexed inside.schema.resolved inside.limits inside.graph.graph prepared.tables.graph inside.index prepared.index c.prepare.ensures.graph c.prepare.ensures.exclusive c.prepare.ensures.rows
+          c.guard.invariant.0,
+      (c.prepare.ensures.seeds ∙ c.guard.invariant.1.0, c.prepare.ensures.seed ∙ c.guard.invariant.1.1),
     )

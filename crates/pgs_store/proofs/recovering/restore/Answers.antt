@@ -14,13 +14,13 @@ invariant_of-guard g c =
     let judged = c.in_ok-tables.ensures in
     let index = c.in_ok-tables.index in
     let inside = c.guard.inside in (
-    subst (λ (h : Graph). IsIndexed inside.schema.resolved inside.limits h index) (sym judged.graph) (record {
-      guarded = record {
-        conforms = subst (λ (s : GuardState). verdict s.schema graph ≡ Conforms) (sym c.guard.view_is) judged.conforms;
-        within = subst (λ (s : GuardState). element_count graph ≤ s.limits.elements) (sym c.guard.view_is) judged.within;
-        small = small_rows c.args.commits c.args.nodes c.args.edges graph refl c.requires;
-      };
-      stands = subst (λ (s : GuardState). StandsFor s.schema graph s.schema.guard.keys index) (sym c.guard.view_is) judged.stands;
-    }),
-    subst (λ (s : GuardState). IsHashedBy s.seed c.in_ok-tables.tables.seeds index.seed) (sym c.guard.view_is) judged.hashed,
+      subst (λ (h : Graph). IsIndexed inside.schema.resolved inside.limits h index) (sym judged.graph) (record {
+        guarded = record {
+          conforms = subst (λ (s : GuardState). verdict s.schema graph ≡ Conforms) (sym c.guard.view_is) judged.conforms;
+          within = subst (λ (s : GuardState). element_count graph ≤ s.limits.elements) (sym c.guard.view_is) judged.within;
+          small = small_rows c.args.commits c.args.nodes c.args.edges graph refl c.requires;
+        };
+        stands = subst (λ (s : GuardState). StandsFor s.schema graph s.schema.guard.keys index) (sym c.guard.view_is) judged.stands;
+      }),
+      subst (λ (s : GuardState). IsHashedBy s.seed c.in_ok-tables.tables.seeds index.seed) (sym c.guard.view_is) judged.hashed,
     )

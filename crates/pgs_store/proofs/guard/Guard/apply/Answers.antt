@@ -63,9 +63,9 @@ pub invariant_of-self : goal.invariant_of-self
 invariant_of-self g c =
     let inside = c.self.inside in
     let prepared = c.prepare.new in (
-    still_indexed inside.schema.resolved inside.limits inside.graph.graph prepared.tables.graph inside.index prepared.index c.prepare.ensures.graph c.prepare.ensures.exclusive c.prepare.ensures.rows
-    c.self.invariant.0,
-    (c.prepare.ensures.seeds ∙ c.self.invariant.1.0, c.prepare.ensures.seed ∙ c.self.invariant.1.1),
+      still_indexed inside.schema.resolved inside.limits inside.graph.graph prepared.tables.graph inside.index prepared.index c.prepare.ensures.graph c.prepare.ensures.exclusive c.prepare.ensures.rows
+          c.self.invariant.0,
+      (c.prepare.ensures.seeds ∙ c.self.invariant.1.0, c.prepare.ensures.seed ∙ c.self.invariant.1.1),
     )
 
 -- ---- it is done
@@ -91,8 +91,8 @@ invariant_of-self-2 g c =
     let inside = c.self.inside in
     let prepared = c.prepare.new in
     let next = c.commit.new in (
-    made_indexed inside.schema.resolved inside.limits inside.graph.graph prepared.tables.graph next.tables.graph inside.index prepared.index next.index c.in_ok-decided.decided c.in_ok-ready.ready
-    c.prepare.ensures.graph c.commit.ensures.graph c.prepare.ensures.exclusive c.prepare.ensures.rows c.commit.ensures.exclusive c.commit.ensures.rows c.in_ok-ready.ensures.whole
-    c.in_ok-decided.ensures.guarded c.in_ok-decided.ensures.stands,
-    (c.commit.ensures.seeds ∙ c.prepare.ensures.seeds ∙ c.self.invariant.1.0, c.commit.ensures.seed ∙ c.prepare.ensures.seed ∙ c.self.invariant.1.1),
+      made_indexed inside.schema.resolved inside.limits inside.graph.graph prepared.tables.graph next.tables.graph inside.index prepared.index next.index c.in_ok-decided.decided c.in_ok-ready.ready
+          c.prepare.ensures.graph c.commit.ensures.graph c.prepare.ensures.exclusive c.prepare.ensures.rows c.commit.ensures.exclusive c.commit.ensures.rows c.in_ok-ready.ensures.whole
+          c.in_ok-decided.ensures.guarded c.in_ok-decided.ensures.stands,
+      (c.commit.ensures.seeds ∙ c.prepare.ensures.seeds ∙ c.self.invariant.1.0, c.commit.ensures.seed ∙ c.prepare.ensures.seed ∙ c.self.invariant.1.1),
     )
