@@ -7,7 +7,7 @@ use pgs_program::{Outside, Ran, areas_of, seed_of};
 use pgs_run_check::{run_check, store_of};
 use pgs_world::{Source, World};
 use pgs_world_files::{FileWorld, Opening, StoreAccess};
-use pgs_world_streams::{SteadyRead, SteadyWrite, StdinSource};
+use pgs_world_streams::{StdinSource, SteadyRead, SteadyWrite};
 use std::alloc::Global;
 use std::collections::hash_map::RandomState;
 use std::io;
@@ -23,8 +23,15 @@ pub fn run_program<O: Opening, R: SteadyRead + Drop, W: SteadyWrite + Drop>(
     drawn: io::Result<RandomState>,
 ) -> Result<Ran<R, W, O::Area>, Memory>
     ensures { IfOk result (IsRunOfWords O.area_gives
-        (record { remaining = R.remaining; tells_output = W.tells; written = W.contents; tells_bytes = O.Area.tells; bytes = O.Area.contents;
-            read_made = ⟦<StdinSource<R> as Source>⟧.read_made; failed = ⟦<FileWorld<W, O::Area> as World>⟧.failed })
+        (record {
+          remaining = R.remaining;
+          tells_output = W.tells;
+          written = W.contents;
+          tells_bytes = O.Area.tells;
+          bytes = O.Area.contents;
+          read_made = ⟦<StdinSource<R> as Source>⟧.read_made;
+          failed = ⟦<FileWorld<W, O::Area> as World>⟧.failed;
+        })
         words.now reader writer (seed_of drawn)) }
 {
     let areas = areas_of(system, alloc, store_of(words), StoreAccess::Read)?;

@@ -8,7 +8,7 @@ use pgs_program::{Outside, Ran};
 use pgs_run_follow::run_follow;
 use pgs_world::{Source, World};
 use pgs_world_files::{FileWorld, Handle};
-use pgs_world_streams::{SteadyRead, SteadyWrite, StdinSource};
+use pgs_world_streams::{StdinSource, SteadyRead, SteadyWrite};
 use std::alloc::Global;
 
 /// Runs words over a reader and a writer: the program but for the system's handles. No file is opened.
@@ -19,8 +19,15 @@ pub fn run_program<R: SteadyRead + Drop, W: SteadyWrite + Drop, H: Handle>(
     writer: W,
 ) -> Ran<R, W, H>
     ensures { IsRunOf (spec_for words.now) HasNoFiles
-        (record { remaining = R.remaining; tells_output = W.tells; written = W.contents; tells_bytes = H.tells; bytes = H.contents;
-            read_made = ⟦<StdinSource<R> as Source>⟧.read_made; failed = ⟦<FileWorld<W, H> as World>⟧.failed })
+        (record {
+          remaining = R.remaining;
+          tells_output = W.tells;
+          written = W.contents;
+          tells_bytes = H.tells;
+          bytes = H.contents;
+          read_made = ⟦<StdinSource<R> as Source>⟧.read_made;
+          failed = ⟦<FileWorld<W, H> as World>⟧.failed;
+        })
         reader writer Fixed result }
 {
     let mut outside = Outside::without_files(reader, writer, Seed::Fixed);
