@@ -1,4 +1,6 @@
 pub mod Answered
+pub mod Behind
+pub mod Containing
 pub mod Machine
 pub mod Promised
 pub mod SchemaEnds

@@ -1,4 +1,5 @@
 pub mod Answers
+pub mod Behind
 pub mod Comparing
 pub mod Running
 pub mod Spec

@@ -13,9 +13,11 @@ mod ending;
 mod phase;
 mod reading;
 mod run;
+mod texts;
 mod types;
 
 pub use answer::txn_of;
 pub use ending::Ending;
 pub use run::run_contain;
-pub use types::listed_name;
+pub use texts::read_texts;
+pub use types::{listed_name, put_types};

@@ -8,12 +8,11 @@ ghost use Rattle.pgs_run_contain.specs.Running.{Follows};
 ghost use Rattle.pgs_run_contain.specs.Spec.{contain_spec};
 ghost use Rattle.pgs_run_lines.specs.declared.budget.TheConstants.{BUDGET};
 
-use crate::comparing::Comparing;
 use crate::ending::Ending;
+use crate::texts::read_texts;
 use crate::types::put_guard;
-use pgs_base::TEXT_LIMIT;
 use pgs_command::{Status, status_at};
-use pgs_run_lines::{Stop, Telling, run_lines};
+use pgs_run_lines::Stop;
 use pgs_world::{Source, World};
 use std::alloc::Global;
 
@@ -49,9 +48,7 @@ pub fn run_contain<S: Source, W: World>(
     ensures last { fails_world result ≡ true → W.failed world.new }
     ensures calls { MakesReads S.read_made budget source.old (fails_read result) source.new }
 {
-    let teller = Comparing::new(alloc);
-    let mut comparing = Telling { teller };
-    let texts = run_lines(&mut comparing, alloc, source, world, TEXT_LIMIT, budget);
+    let texts = read_texts(alloc, source, world, budget);
     let stop = end_run(alloc, world, texts);
     status_at(stop)
 }

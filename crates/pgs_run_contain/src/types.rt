@@ -81,8 +81,9 @@ fn put_type<W: World>(
     }
 }
 
-// Puts the lines of types: whether something is outside of one.
-fn put_types<W: World>(
+/// Puts the lines of those of these types that aren't abstract, in their order: whether something is outside of one. `Memory` where there was
+/// none left, `PutFault` where a put failed; each line is put before the next type is judged.
+pub fn put_types<W: World>(
     alloc: Global,
     world: &mut W,
     first: &Compiled,

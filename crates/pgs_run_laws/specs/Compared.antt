@@ -1,21 +1,16 @@
 -- What a run of `contain` says of two schemas that ended with 0.
-use Rattle.std.specs.Prelude.{◌≡◌, true, List, ℕ, Ok, Contains}
+use Rattle.std.specs.Prelude.{◌≡◌, true, List, ℕ, Ok}
 use Rattle.pgs_base.specs.Graph.{Graph, is_graph}
-use Rattle.pgs_syntax.specs.declared.key.Key.{Key}
 use Rattle.pgs_syntax.specs.declared.resolved.Resolved.{Resolved}
 use Rattle.pgs_violation.specs.Violations.{conforms}
-use Rattle.pgs_schema_order.specs.AsksNoMore.{AreTypesContained, IsKeyKept}
+use Rattle.pgs_schema_order.specs.AsksNoMore.{AreTypesContained, are_keys_kept}
 use Rattle.pgs_run_input.specs.Answers.{schema_answer}
 use Rattle.pgs_run_input.specs.Input.{schema_part}
 use Rattle.pgs_run_contain.specs.Told.{second_part}
 use Rattle.pgs_run_laws.specs.Lines.{all_lines}
 
--- each key of the new guard is one of the old one's, which asks no less
-abbrev pub AreKeysKept : Resolved → Resolved → Type 0
-AreKeysKept old new = (key : Key) → Contains new.guard.keys key → (own : Key) × Contains old.guard.keys own × IsKeyKept own key
-
 -- The two texts of an input, before and behind its separator, are schemas, and each type of the first guard that isn't abstract is contained
--- in the second schema. So where the first guard is strict, and the second one's keys ask no more, what conforms to the first conforms to
+-- in the second schema. So where the first guard is strict, and each key of the second one is kept, what conforms to the first conforms to
 -- the second.
 pub record IsCompared (input : List ℕ) : Type 0 where
   pub first : Resolved
@@ -23,4 +18,4 @@ pub record IsCompared (input : List ℕ) : Type 0 where
   pub first_is : schema_answer (schema_part (all_lines input)) ≡ Ok first
   pub second_is : schema_answer (second_part (all_lines input)) ≡ Ok second
   pub contained : AreTypesContained first second
-  pub kept : first.guard.strict ≡ true → AreKeysKept first second → (g : Graph) → is_graph g ≡ true → conforms first g ≡ true → conforms second g ≡ true
+  pub kept : first.guard.strict ≡ true → are_keys_kept first second ≡ true → (g : Graph) → is_graph g ≡ true → conforms first g ≡ true → conforms second g ≡ true

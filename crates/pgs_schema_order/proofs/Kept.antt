@@ -21,8 +21,8 @@ use Rattle.pgs_violation.specs.declared.violation.Violation.TheVariants.{Untyped
 use Rattle.pgs_violation.specs.Meaning.{IsKeyOf}
 use Rattle.pgs_violation.specs.Violations.{violations, conforms, two_least, exclusive_violation, later_than, is_within}
 use Rattle.pgs_violation.proofs.Origins.{Origin, of_node, of_edge, missing, several, shared, counted, origin, listed}
-use Rattle.pgs_schema_order.specs.AsksNoMore.{AsksNoMore, IsKeyKept}
-use Rattle.pgs_schema_order.proofs.Keys.{at_place, has_place, scope_same, values_same, two_again, shared_again, narrower}
+use Rattle.pgs_schema_order.specs.AsksNoMore.{AsksNoMore, keeps, is_kept}
+use Rattle.pgs_schema_order.proofs.Keys.{at_place, has_place, some_item, each_item, qualifiers_kept, scope_same, values_same, two_again, shared_again, narrower}
 use Rattle.pgs_schema_order.proofs.Types.{node_pair, node_typed, edge_typed}
 
 unless : (b : Bool) (u v : Violation) → cond b None (Some u) ≡ Some v → b ≡ false
@@ -38,11 +38,11 @@ none_in [] empty v there = contains_none v there
 none_in (first ∷ rest) empty v there = cc
 
 -- a key of the old guard, as its violations number it
-record OldKey (old : Resolved) (key : Key) : Type 0 where
+record OldKey (old new : Resolved) (key : Key) : Type 0 where
   pub number : ℕ
   pub own : Key
   pub is : IsKeyOf old number own
-  pub kept : IsKeyKept own key
+  pub kept : keeps old new own key ≡ true
 
 module _ (old new : Resolved) (g : Graph) (graph : is_graph g ≡ true) (asks : AsksNoMore old new) (conforming : conforms old g ≡ true) where
   lacks : (v : Violation) → Origin old g v → ⊥
@@ -76,13 +76,15 @@ module _ (old new : Resolved) (g : Graph) (graph : is_graph g ≡ true) (asks : 
 
   -- ---- keys
 
-  old_key : (number : ℕ) (key : Key) → IsKeyOf new number key → OldKey old key
+  old_key : (number : ℕ) (key : Key) → IsKeyOf new number key → OldKey old new key
   old_key number key (place, same, at) =
-      let one = asks.keys key (at_place new.guard.keys place key at) in
+      let one =
+      some_item (λ own. keeps old new own key) old.guard.keys
+      (each_item (is_kept old new) new.guard.keys key asks.keys (at_place new.guard.keys place key at)) in
       let there = has_place old.guard.keys one.0 one.1 in
       record { number = there.0 + 1; own = one.0; is = (there.0, refl, there.1); kept = one.2 }
 
-  module _ (key : Key) (was : OldKey old key) (elem : Elem) (there : Contains (scope_of new g key) elem) where
+  module _ (key : Key) (was : OldKey old new key) (elem : Elem) (there : Contains (scope_of new g key) elem) where
     was_there : Contains (scope_of old g was.own) elem
     was_there = subst (λ (scope : List Elem). Contains scope elem) (scope_same old new g was.own key was.kept) there
 
@@ -91,25 +93,25 @@ module _ (old new : Resolved) (g : Graph) (graph : is_graph g ≡ true) (asks : 
 
     missing_kept : key.qualifiers.mandatory ≡ true → is_empty (key_values new g key elem) ≡ true → ⊥
     missing_kept asked empty =
-        lacks (Mandatory was.number elem) (missing was.number was.own elem was.is (was.kept.qualifiers.mandatory asked) was_there
+        lacks (Mandatory was.number elem) (missing was.number was.own elem was.is ((qualifiers_kept old new was.own key was.kept).mandatory asked) was_there
         (ap (λ (b : Bool). cond b (Some (Mandatory was.number elem)) None) (ap is_empty (sym (values_same old new g was.own key was.kept elem)) ∙ empty)))
 
     several_kept : (number : ℕ) (v : Violation) → key.qualifiers.singleton ≡ true → two_least number elem (key_values new g key elem) ≡ Some v → ⊥
     several_kept number v asked gives =
         let again = two_again number was.number elem (key_values new g key elem) v gives in
-        lacks again.0 (several was.number was.own elem was.is (was.kept.qualifiers.singleton asked) was_there
+        lacks again.0 (several was.number was.own elem was.is ((qualifiers_kept old new was.own key was.kept).singleton asked) was_there
         (ap (two_least was.number elem) (sym (values_same old new g was.own key was.kept elem)) ∙ again.1))
 
     shared_kept : (number : ℕ) (v : Violation) → key.qualifiers.exclusive ≡ true → exclusive_violation number (scope_of new g key) (key_values new g key) elem ≡ Some v → ⊥
     shared_kept number v asked gives =
         let again = shared_again number was.number (key_values new g key) elem (later_than elem (scope_of new g key)) v gives in
-        lacks again.0 (shared was.number was.own elem was.is (was.kept.qualifiers.exclusive asked) was_there
+        lacks again.0 (shared was.number was.own elem was.is ((qualifiers_kept old new was.own key was.kept).exclusive asked) was_there
         (ap (λ (scope : List Elem). exclusive_violation was.number scope (key_values old g was.own) elem) (sym (scope_same old new g was.own key was.kept))
         ∙ ap (λ (values : Elem → List (List Part)). exclusive_violation was.number (scope_of new g key) values elem) (sym same_values) ∙ again.1))
 
     counted_kept : (range : ℕ × ℕ) → key.qualifiers.count ≡ Some range → is_within range (length (key_values new g key elem)) ≡ false → ⊥
     counted_kept range asked out =
-        let own = was.kept.qualifiers.count range asked in
+        let own = (qualifiers_kept old new was.own key was.kept).count range asked in
         let tuples = key_values old g was.own elem in
         let narrow = narrower range own.0 (length tuples) own.2 own.3 (ap (λ (ts : List (List Part)). is_within range (length ts)) (sym (values_same old new g was.own key was.kept elem)) ∙ out) in
         lacks (CountOutside was.number elem (length tuples) own.0.0 own.0.1) (counted was.number was.own own.0 elem was.is own.1 was_there

@@ -1,3 +1,4 @@
-pub mod Keys
+pub mod Alike
 pub mod Kept
+pub mod Keys
 pub mod Types

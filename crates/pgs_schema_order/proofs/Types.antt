@@ -19,24 +19,8 @@ use Rattle.pgs_syntax.specs.Join.{PairTriple}
 use Rattle.pgs_syntax.specs.Triples.{is_triple}
 use Rattle.pgs_syntax.specs.Typed.{is_typed_node, is_typed_edge, is_typed_triple, types_node, types_edge, triple_at}
 use Rattle.pgs_syntax.proofs.Carried.{carried_pair}
-use Rattle.pgs_syntax.proofs.Members.{contains_first, contains_later, contains_cases, contains_none}
 use Rattle.pgs_schema_order.specs.AsksNoMore.{AreTypesContained}
-
--- what passes a test that some item passes
-found : {X : Type 0} (test : X → Bool) (xs : List X) → list_any test xs ≡ true → (x : X) × Contains xs x × (test x ≡ true)
-found test [] some = cc
-found {X} test (x ∷ xs) some = by (test x) refl some (found test xs)
-  where
-    by : (b : Bool) → test x ≡ b → (b || list_any test xs) ≡ true → (list_any test xs ≡ true → (y : X) × Contains xs y × (test y ≡ true)) → (y : X) × Contains (x ∷ xs) y × (test y ≡ true)
-    by true is any rest = (x, contains_first x xs, is)
-    by false is any rest = let later = rest any in (later.0, contains_later x xs later.0 later.1, later.2)
-
--- an item passes the test that all items pass
-passes : {X : Type 0} (test : X → Bool) (xs : List X) (x : X) → list_all test xs ≡ true → Contains xs x → test x ≡ true
-passes test [] x all there = absurd (contains_none x there)
-passes test (y ∷ ys) x all there =
-    let parts = and_parts _ _ all in
-    ⊎_elim (λ same. ap test (sym same) ∙ parts.0) (λ later. passes test ys x parts.1 later) (contains_cases y ys x there)
+use Rattle.pgs_schema_order.proofs.Keys.{some_item, each_item}
 
 map_found : {X Y : Type 0} (f : X → Y) (o : Option X) (y : Y) → option_map f o ≡ Some y → (x : X) × (o ≡ Some x) × (f x ≡ y)
 map_found f None y e = cc
@@ -48,10 +32,10 @@ then_found f (Some x) y e = (x, refl, e)
 
 module _ (g : Graph) (graph : is_graph g ≡ true) where
   pub node_pair : (node : NodeId × NodeRow) → Contains g.nodes node → is_pair node.1 ≡ true
-  node_pair node there = (and_parts _ _ (passes is_node_entry g.nodes node (graph_parts g graph).nodes there)).1
+  node_pair node there = (and_parts _ _ (each_item is_node_entry g.nodes node (graph_parts g graph).nodes there)).1
 
   edge_pair : (edge : EdgeId × EdgeRow) → Contains g.edges edge → is_pair (pair_of edge.1.labels edge.1.props) ≡ true
-  edge_pair edge there = (and_parts _ _ (passes is_edge_entry g.edges edge (graph_parts g graph).edges there)).1
+  edge_pair edge there = (and_parts _ _ (each_item is_edge_entry g.edges edge (graph_parts g graph).edges there)).1
 
   -- the pairs of an edge and of its ends
   pub edge_triple : (edge : EdgeId × EdgeRow) (t : PairTriple) → Contains g.edges edge → triple_at g edge.1 ≡ Some t → is_triple t ≡ true
@@ -69,7 +53,7 @@ module _ (old new : Resolved) (contained : AreTypesContained old new) where
 
   pub node_typed : (p : NodeRow) → is_pair p ≡ true → is_typed_node old p ≡ true → is_typed_node new p ≡ true
   node_typed p pair typed =
-      let type = found (types_node old p) old.guard.types typed in node_by p pair type.0 type.1 type.2
+      let type = some_item (types_node old p) old.guard.types typed in node_by p pair type.0 type.1 type.2
 
   triple_by : (t : PairTriple) → is_triple t ≡ true → (type : TypeNo) → Contains old.guard.types type → types_edge old t type ≡ true → is_typed_triple new t ≡ true
   triple_by t triple (types.Node number) there is = cc
@@ -78,7 +62,7 @@ module _ (old new : Resolved) (contained : AreTypesContained old new) where
 
   triple_typed : (t : PairTriple) → is_triple t ≡ true → is_typed_triple old t ≡ true → is_typed_triple new t ≡ true
   triple_typed t triple typed =
-      let type = found (types_edge old t) old.guard.types typed in triple_by t triple type.0 type.1 type.2
+      let type = some_item (types_edge old t) old.guard.types typed in triple_by t triple type.0 type.1 type.2
 
   by_ends : (ends : Option PairTriple) → ((t : PairTriple) → ends ≡ Some t → is_triple t ≡ true) → option_map_or (is_typed_triple old) ends false ≡ true → option_map_or (is_typed_triple new) ends false ≡ true
   by_ends None triple typed = cc

@@ -1,1 +1,2 @@
 pub mod AsksNoMore
+pub mod Unfolded

@@ -7,7 +7,7 @@ ghost use Rattle.pgs_violation.specs.Violations.{conforms};
 ghost use Rattle.pgs_schema_order.specs.AsksNoMore.{AsksNoMore};
 
 /// A graph that conforms to a schema conforms to each schema that asks no more: whose types contain the former's, or that is loose, and
-/// whose keys are keys of the former that ask no more and name no types.
+/// whose keys are keys of the former that ask no more, where the types that they name are declared alike.
 pub fn what_asks_no_more_is_kept()
     ensures { (old new : Resolved) (g : Graph) → is_graph g ≡ true → AsksNoMore old new → conforms old g ≡ true → conforms new g ≡ true }
 {}

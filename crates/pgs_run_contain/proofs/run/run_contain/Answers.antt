@@ -1,35 +1,35 @@
 use Rattle.std.proofs.Common.{Bool, [], sym, subst, ◌∙◌}
 use Rattle.pgs_run_lines.specs.Calls.{MakesReads}
-use Rattle.pgs_command.specs.Setting.{SourceState, setting_of}
-use Rattle.pgs_run_contain.proofs.Promised.{ended, fails, promised}
+use Rattle.pgs_command.specs.Setting.{setting_of}
+use Rattle.pgs_run_contain.specs.Spec.{contain_behind}
+use Rattle.pgs_run_contain.proofs.Behind.{fails, promised}
+use Rattle.pgs_run_contain.proofs.Promised.{followed, rules}
 use Rattle.pgs_run_contain.proofs.run.run_contain.Goals as goal
 
 pub returns-clause-promise : goal.returns-clause-promise
 returns-clause-promise g c = λ places.
-    let left : SourceState = record { left = g.S.Source.left c.run_lines-texts.new.source; faults = g.S.Source.faults c.run_lines-texts.new.source } in
+    let read = c.read_texts-texts in
+    let mid = g.W.World.view read.new.world in
     let old = setting_of (g.S.Source.left c.args.source.now) (g.S.Source.faults c.args.source.now) (g.W.World.view c.args.world.now) places in
-    let read = c.run_lines-texts in
-    let new = g.W.World.view c.end_run-stop.new.world in
-    let ran = ended c.args.budget old left (g.W.World.view read.new.world) new c.new-teller.result.phase read.result c.end_run-stop.result c.new-teller.ensures read.ensures.ends read.ensures.by read.ensures.may read.ensures.cause
-    read.ensures.allows.allowed c.end_run-stop.ensures.follows in
-    promised c.args.budget old left read.result c.end_run-stop.result c.status_at.result new c.status_at.ensures ran
+    promised contain_behind rules c.args.budget old (record { left = g.S.Source.left read.new.source; faults = g.S.Source.faults read.new.source }) mid read.result c.end_run-stop.result c.status_at.result
+    (g.W.World.view c.end_run-stop.new.world) (read.ensures.reading places) (followed read.result mid c.end_run-stop.result (g.W.World.view c.end_run-stop.new.world) c.end_run-stop.ensures.follows) c.status_at.ensures
 
 pub returns-clause-last : goal.returns-clause-last
 returns-clause-last g c = λ failed.
-    let left : SourceState = record { left = g.S.Source.left c.run_lines-texts.new.source; faults = g.S.Source.faults c.run_lines-texts.new.source } in
+    let read = c.read_texts-texts in
+    let mid = g.W.World.view read.new.world in
     let old = setting_of (g.S.Source.left c.args.source.now) (g.S.Source.faults c.args.source.now) (g.W.World.view c.args.world.now) [] in
-    let read = c.run_lines-texts in
-    let new = g.W.World.view c.end_run-stop.new.world in
-    let ran = ended c.args.budget old left (g.W.World.view read.new.world) new c.new-teller.result.phase read.result c.end_run-stop.result c.new-teller.ensures read.ensures.ends read.ensures.by read.ensures.may read.ensures.cause
-    read.ensures.allows.allowed c.end_run-stop.ensures.follows in
-    c.end_run-stop.ensures.last (sym (fails c.args.budget old left read.result c.end_run-stop.result c.status_at.result new c.status_at.ensures ran).1 ∙ failed)
+    let so =
+    fails contain_behind rules c.args.budget old (record { left = g.S.Source.left read.new.source; faults = g.S.Source.faults read.new.source }) mid read.result c.end_run-stop.result c.status_at.result
+    (g.W.World.view c.end_run-stop.new.world) (read.ensures.reading []) (followed read.result mid c.end_run-stop.result (g.W.World.view c.end_run-stop.new.world) c.end_run-stop.ensures.follows) c.status_at.ensures in
+    c.end_run-stop.ensures.last (sym so.1 ∙ failed)
 
 pub returns-clause-calls : goal.returns-clause-calls
 returns-clause-calls g c =
-    let left : SourceState = record { left = g.S.Source.left c.run_lines-texts.new.source; faults = g.S.Source.faults c.run_lines-texts.new.source } in
+    let read = c.read_texts-texts in
+    let mid = g.W.World.view read.new.world in
     let old = setting_of (g.S.Source.left c.args.source.now) (g.S.Source.faults c.args.source.now) (g.W.World.view c.args.world.now) [] in
-    let read = c.run_lines-texts in
-    let new = g.W.World.view c.end_run-stop.new.world in
-    let ran = ended c.args.budget old left (g.W.World.view read.new.world) new c.new-teller.result.phase read.result c.end_run-stop.result c.new-teller.ensures read.ensures.ends read.ensures.by read.ensures.may read.ensures.cause
-    read.ensures.allows.allowed c.end_run-stop.ensures.follows in
-    subst (λ (failed : Bool). MakesReads g.S.Source.read_made c.args.budget c.args.source.now failed read.new.source) (sym (fails c.args.budget old left read.result c.end_run-stop.result c.status_at.result new c.status_at.ensures ran).0) read.ensures.calls
+    let so =
+    fails contain_behind rules c.args.budget old (record { left = g.S.Source.left read.new.source; faults = g.S.Source.faults read.new.source }) mid read.result c.end_run-stop.result c.status_at.result
+    (g.W.World.view c.end_run-stop.new.world) (read.ensures.reading []) (followed read.result mid c.end_run-stop.result (g.W.World.view c.end_run-stop.new.world) c.end_run-stop.ensures.follows) c.status_at.ensures in
+    subst (λ (failed : Bool). MakesReads g.S.Source.read_made c.args.budget c.args.source.now failed read.new.source) (sym so.0) read.ensures.calls

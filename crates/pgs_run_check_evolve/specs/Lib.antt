@@ -1,0 +1,4 @@
+pub mod Lines
+pub mod Spec
+pub mod Telling
+pub mod Told

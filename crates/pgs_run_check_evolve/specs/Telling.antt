@@ -1,0 +1,32 @@
+-- How the telling of a step goes on: the types of the old schema first, then what is behind them.
+use Rattle.std.specs.Prelude.{◌≡◌, Bool, true, false, [], Result, Ok}
+use Rattle.pgs_run_lines.specs.declared.stop.Stop.{Stop}
+use Rattle.pgs_run_lines.specs.declared.stop.Stop.TheVariants as stops
+use Rattle.pgs_run_lines.specs.Puts.{PutsAll, PutsUntil}
+use Rattle.pgs_syntax.specs.declared.resolved.Resolved.{Resolved}
+use Rattle.pgs_world.specs.World.{View}
+use Rattle.pgs_command.specs.declared.status.Status.{Status}
+use Rattle.pgs_schema_changes.specs.Safe.{is_safe}
+use Rattle.pgs_run_contain.specs.Running.{Tells}
+use Rattle.pgs_run_check_evolve.specs.declared.changes.Behind.{Behind}
+use Rattle.pgs_run_check_evolve.specs.Lines.{lines_behind}
+use Rattle.pgs_run_check_evolve.specs.Told.{status_by}
+
+-- the types of the old guard were told where the new one is strict; else nothing was done, and nothing is outside
+abbrev pub TellsOld : Bool → Resolved → Resolved → Result Bool (Stop Status) → View → View → Type 0
+TellsOld true old new told before after = Tells old new old.guard.types told before after
+TellsOld false old new told before after = (told ≡ Ok false) × PutsAll before [] after
+
+-- the lines behind the types, and whether the step is safe
+pub record IsBehind (old new : Resolved) (contained : Bool) (it : Behind) : Type 0 where
+  pub lines : it.lines.items ≡ lines_behind old new contained
+  pub safe : it.safe ≡ is_safe old new contained
+
+-- they were put, and the run ends with the status of the step, or stops so
+abbrev pub TellsBehind : Resolved → Resolved → Bool → View → Stop Status → View → Type 0
+TellsBehind old new contained before (stops.Ended status) after =
+    (status ≡ status_by (is_safe old new contained)) × PutsAll before (lines_behind old new contained) after
+TellsBehind old new contained before stops.ReadFault after = ⊥
+TellsBehind old new contained before stops.DiskFault after = ⊥
+TellsBehind old new contained before stops.PutFault after = PutsUntil {E = Status} before (lines_behind old new contained) stops.PutFault after
+TellsBehind old new contained before stops.Memory after = PutsUntil {E = Status} before (lines_behind old new contained) stops.Memory after

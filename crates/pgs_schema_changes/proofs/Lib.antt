@@ -1,0 +1,4 @@
+pub mod Numbering
+pub mod Pairs
+pub mod Steps
+pub mod Unfolding
