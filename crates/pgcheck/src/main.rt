@@ -1,33 +1,39 @@
-//! The program: it makes the words, and calls `pgs_run_check::run_check` over standard input and output. It opens no file.
+//! The program: it makes the words, opens the store that they name to be read, and calls `pgs_run_check::run_check` over standard input and
+//! output.
 //!
-//! What stands here is `run_program`, which is all but the system's handles: it runs words over a reader and a writer, and says all that is
-//! promised, over every one of them. What a terminal, a pipe or a file holds is told by no clause.
+//! What stands here is `run_program`, which is all but the system's handles: it runs words over a reader, a writer and what an opening gives,
+//! and says all that is promised, over every one of them. What a terminal, a pipe or a file holds is told by no clause.
 #![tactic(auto)]
 
 mod program;
 
-use pgs_base::Words;
-use pgs_program::{Ended, Program, Ran, start};
-use pgs_world_files::{Handle, StoreFile, SystemFile};
-use pgs_world_streams::SteadyWrite;
+use pgs_base::{Memory, Words};
+use pgs_program::{Ended, Program, start};
+use pgs_world::{Source, World};
+use pgs_world_files::{FileWorld, Handle, Opening, StoreFile, SystemFile, SystemOpening};
+use pgs_world_streams::{StdinSource, SteadyWrite};
 use program::run_program;
+use std::collections::hash_map::RandomState;
 use std::env;
 use std::io::{Read, Stdin, Stdout, Write};
 use std::process::ExitCode;
 
-// Its world has no area, so no file is opened.
-type Over<'a> = Ran<Stdin, Stdout, StoreFile<SystemFile<'a, HostRuntime>>>;
-
 struct Checker;
 
 impl Program<HostRuntime> for Checker {
-    ghost use Rattle.pgs_base.specs.declared.seed.Seed.TheVariants.{Fixed};
-    ghost use Rattle.pgs_program.specs.Program.{EndsRunOf};
-    ghost use Rattle.pgs_run_check.specs.Commands.{spec_for};
+    ghost use Rattle.pgcheck.specs.Program.{EndsAs};
 
-    ghost runs = { λ words status. EndsRunOf (spec_for words)
-        (record { remaining = ⟦<Stdin as Read>⟧.remaining; tells_output = ⟦<Stdout as SteadyWrite>⟧.tells; written = ⟦<Stdout as Write>⟧.contents; tells_bytes = ⟦<StoreFile<SystemFile<'static, HostRuntime>> as Handle>⟧.tells; bytes = ⟦<StoreFile<SystemFile<'static, HostRuntime>> as Handle>⟧.contents })
-        Fixed status };
+    ghost runs = { λ words status. EndsAs ⟦<SystemOpening<'static, HostRuntime> as Opening>⟧.area_gives
+        (record {
+          remaining = ⟦<Stdin as Read>⟧.remaining;
+          tells_output = ⟦<Stdout as SteadyWrite>⟧.tells;
+          written = ⟦<Stdout as Write>⟧.contents;
+          tells_bytes = ⟦<StoreFile<SystemFile<'static, HostRuntime>> as Handle>⟧.tells;
+          bytes = ⟦<StoreFile<SystemFile<'static, HostRuntime>> as Handle>⟧.contents;
+          read_made = ⟦<StdinSource<Stdin> as Source>⟧.read_made;
+          failed = ⟦<FileWorld<Stdout, StoreFile<SystemFile<'static, HostRuntime>>> as World>⟧.failed;
+        })
+        words status };
 
     const NAME: &'static str = "pgcheck";
 
@@ -37,8 +43,19 @@ docs/GUIDE.md teaches it, docs/FORMATS.md has every printed text
 ";
 
     fn run(rt: &HostRuntime, words: &Words) -> Ended {
-        let ran: Over<'_> = run_program(rt.alloc(), words, rt.stdin(), rt.stdout());
-        ran.ended()
+        let mut system = SystemOpening::new(rt, rt.alloc());
+        let drawn = RandomState::new(rt);
+        match run_program(
+            rt.alloc(),
+            words,
+            &mut system,
+            rt.stdin(),
+            rt.stdout(),
+            drawn,
+        ) {
+            Ok(ran) => ran.ended(),
+            Err(Memory) => Ended::unbegun(),
+        }
     }
 }
 

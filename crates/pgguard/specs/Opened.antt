@@ -6,18 +6,17 @@ use Rattle.std.specs.Str.{bytes_eq}
 use Rattle.pgs_base.specs.declared.seed.Seed.{Seed}
 use Rattle.pgs_feed.specs.Places.{Place, fed}
 use Rattle.pgs_feed.specs.Seen.{feeds_in, places}
-use Rattle.pgs_program.specs.Outside.{HasNoFiles, IsFresh}
+use Rattle.pgs_program.specs.Outside.{AreFilesOf, IsFresh}
 use Rattle.pgs_run_words.specs.declared.command.Command.{Command}
 use Rattle.pgs_run_words.specs.declared.command.Command.TheVariants.{Load, Recover, Explain, Checkpoint}
 use Rattle.pgs_run_words.specs.Words.{command_of, store_of, feeds_of}
 use Rattle.pgs_world_files.specs.declared.access.StoreAccess.{StoreAccess}
 use Rattle.pgs_world_files.specs.declared.access.StoreAccess.TheVariants.{Read, Append, WriteOver, Make}
-use Rattle.pgs_world_files.specs.declared.area_files.AreaFiles.{AreaFiles}
 use Rattle.pgs_world_files.specs.declared.cause.FileCause.TheVariants.{Twice}
 use Rattle.pgs_world_files.specs.declared.feed_cause.FeedCause.TheVariants.{File}
 use Rattle.pgs_world_files.specs.declared.file_feed.FileFeed.{FileFeed}
 use Rattle.pgs_world_files.specs.Counted.{untold_bytes}
-use Rattle.pgs_world_files.specs.Opened.{AreaGives, IsStoreOf}
+use Rattle.pgs_world_files.specs.Opened.{AreaGives}
 use Rattle.pgguard.specs.declared.opening.Opened.{Opened}
 
 -- what a command does with its store
@@ -27,11 +26,6 @@ access_of (Some (Explain elem)) = Read
 access_of (Some Load) = Make
 access_of (Some Checkpoint) = WriteOver
 access_of command = Append
-
--- without a store no area has a file; those of a store are its two files
-abbrev pub AreFilesOf : {H : Type 0} → AreaGives H → (store : Option (List ℕ)) → StoreAccess → AreaFiles H → Type 0
-AreFilesOf gives None access areas = HasNoFiles areas
-AreFilesOf gives (Some name) access areas = IsStoreOf gives name access areas
 
 -- whether a name is among these
 abbrev pub is_among : List (List ℕ) → List ℕ → Bool

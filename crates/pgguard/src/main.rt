@@ -9,11 +9,13 @@ mod program;
 
 use pgs_base::{Memory, Words};
 use pgs_program::{Ended, Program, start, tell_lost_feeds};
-use pgs_world_files::{Handle, Opening, StoreFile, SystemFile, SystemOpening};
-use pgs_world_streams::SteadyWrite;
+use pgs_world::{Feed, Source, World};
+use pgs_world_files::{FileFeed, FileWorld, Handle, Opening, StoreFile, SystemFile, SystemOpening};
+use pgs_world_streams::{StdinSource, SteadyWrite};
 use program::run_program;
 use std::collections::hash_map::RandomState;
 use std::env;
+use std::fs::File;
 use std::io::{Read, Stdin, Stdout, Write};
 use std::process::ExitCode;
 
@@ -26,8 +28,16 @@ impl Program<HostRuntime> for Guard {
     ghost use Rattle.pgguard.specs.Program.{EndsAs};
 
     ghost runs = { λ words status. EndsAs ⟦<SystemOpening<'static, HostRuntime> as Opening>⟧.area_gives ⟦<SystemOpening<'static, HostRuntime> as Opening>⟧.feed_gives
-        (record { remaining = ⟦<Stdin as Read>⟧.remaining; tells_output = ⟦<Stdout as SteadyWrite>⟧.tells; written = ⟦<Stdout as Write>⟧.contents; tells_bytes = ⟦<StoreFile<SystemFile<'static, HostRuntime>> as Handle>⟧.tells; bytes = ⟦<StoreFile<SystemFile<'static, HostRuntime>> as Handle>⟧.contents })
-        words status };
+        (record {
+          remaining = ⟦<Stdin as Read>⟧.remaining;
+          tells_output = ⟦<Stdout as SteadyWrite>⟧.tells;
+          written = ⟦<Stdout as Write>⟧.contents;
+          tells_bytes = ⟦<StoreFile<SystemFile<'static, HostRuntime>> as Handle>⟧.tells;
+          bytes = ⟦<StoreFile<SystemFile<'static, HostRuntime>> as Handle>⟧.contents;
+          read_made = ⟦<StdinSource<Stdin> as Source>⟧.read_made;
+          failed = ⟦<FileWorld<Stdout, StoreFile<SystemFile<'static, HostRuntime>>> as World>⟧.failed;
+        })
+        ⟦<FileFeed<File> as Feed>⟧.put_made words status };
 
     const NAME: &'static str = "pgguard";
 

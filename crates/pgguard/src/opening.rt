@@ -7,16 +7,14 @@ ghost use Rattle.pgs_feed.specs.Places.{fed};
 ghost use Rattle.pgs_feed.specs.Seen.{feeds_in, places};
 ghost use Rattle.pgs_world_files.specs.Counted.{untold_bytes};
 ghost use Rattle.pgs_program.specs.Outside.{seed_of};
-ghost use Rattle.pgguard.specs.Opened.{AreFeedsOf, AreFilesOf, IsFeedOf, IsOpened, access_of, files_of, is_among};
+ghost use Rattle.pgguard.specs.Opened.{AreFeedsOf, IsFeedOf, IsOpened, access_of, files_of, is_among};
 
 use pgs_base::{Memory, Words};
 use pgs_feed::FeedList;
-use pgs_program::{Outside, seed_of};
+use pgs_program::{Outside, areas_of, seed_of};
 use pgs_run_words::{Command, CommandLine};
 use pgs_world::Feed;
-use pgs_world_files::{
-    AreaFiles, FeedCause, FileCause, FileFeed, Handle, Opening, StoreAccess, file_name,
-};
+use pgs_world_files::{FeedCause, FileCause, FileFeed, Handle, Opening, StoreAccess, file_name};
 use pgs_world_streams::{SteadyRead, SteadyWrite};
 use std::alloc::Global;
 use std::collections::hash_map::RandomState;
@@ -38,20 +36,6 @@ fn access_of(command: &Option<Command>) -> StoreAccess
         Some(Command::Load) => StoreAccess::Make,
         Some(Command::Checkpoint) => StoreAccess::WriteOver,
         _ => StoreAccess::Append,
-    }
-}
-
-/// The files of the store of a command line, opened for what its command does. One that names none has no areas.
-pub fn areas_of<O: Opening>(
-    system: &mut O,
-    alloc: Global,
-    line: &CommandLine<'_>,
-) -> Result<AreaFiles<O::Area>, Memory>
-    ensures { IfOk result (AreFilesOf O.area_gives (option_map (λ name. name.now) line.now.store) (access_of line.now.command)) }
-{
-    match line.store {
-        Some(name) => AreaFiles::open(system, alloc, name, access_of(&line.command)),
-        None => Ok(AreaFiles::absent()),
     }
 }
 
@@ -155,7 +139,7 @@ pub fn open<O: Opening, R: SteadyRead + Drop, W: SteadyWrite + Drop>(
     ensures { IfOk result (IsOpened O.area_gives O.feed_gives words.now reader writer (seed_of drawn)) }
 {
     let line = CommandLine::read(alloc, words)?;
-    let areas = areas_of(system, alloc, &line)?;
+    let areas = areas_of(system, alloc, line.store, access_of(&line.command))?;
     let feeds = feeds_of(system, alloc, &line)?;
     let outside = Outside::new(areas, reader, writer, seed_of(drawn));
     Ok(Opened { outside, feeds })

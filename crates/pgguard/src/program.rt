@@ -6,8 +6,9 @@ use crate::opening::{Opened, open};
 use pgs_base::{Memory, Words};
 use pgs_program::Ended;
 use pgs_run::{Status, run};
-use pgs_world_files::{Handle, Opening};
-use pgs_world_streams::{SteadyRead, SteadyWrite};
+use pgs_world::{Feed, Source, World};
+use pgs_world_files::{FileFeed, FileWorld, Handle, Opening};
+use pgs_world_streams::{StdinSource, SteadyRead, SteadyWrite};
 use std::alloc::Global;
 use std::collections::hash_map::RandomState;
 use std::io;
@@ -39,8 +40,16 @@ pub fn run_program<O: Opening, R: SteadyRead + Drop, W: SteadyWrite + Drop>(
     drawn: io::Result<RandomState>,
 ) -> Result<Ran<R, W, O::Area, O::Line>, Memory>
     ensures { IfOk result (IsRunOf O.area_gives O.feed_gives
-        (record { remaining = R.remaining; tells_output = W.tells; written = W.contents; tells_bytes = O.Area.tells; bytes = O.Area.contents })
-        words.now reader writer (seed_of drawn)) }
+        (record {
+          remaining = R.remaining;
+          tells_output = W.tells;
+          written = W.contents;
+          tells_bytes = O.Area.tells;
+          bytes = O.Area.contents;
+          read_made = ⟦<StdinSource<R> as Source>⟧.read_made;
+          failed = ⟦<FileWorld<W, O::Area> as World>⟧.failed;
+        })
+        ⟦<FileFeed<O::Line> as Feed>⟧.put_made words.now reader writer (seed_of drawn)) }
 {
     let mut opened = open(system, alloc, words, reader, writer, drawn)?;
     let status = run(

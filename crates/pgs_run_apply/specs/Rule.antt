@@ -243,7 +243,7 @@ applies_from kind s t lines more extent old mid new leads holds p q =
 abbrev pub applies_rule : ListKind → Rule applying
 applies_rule kind = record {
   Kept = kind.Feeds;
-  tells = shown_of;
+  tells = true;
   holds = HoldsStore;
   allows = Applies kind;
   none = applies_none kind;

@@ -13,20 +13,18 @@ use Rattle.pgs_command.proofs.Promising.{promise_reading}
 use Rattle.pgs_run_input.specs.Text.{IsUnread, IsWhole}
 use Rattle.pgs_run_input.proofs.OneLine.{silent_none}
 use Rattle.pgs_run_input.specs.Answers.{schema_answer}
-use Rattle.pgs_run_input.proofs.SameFronts.{schema_of_front}
 use Rattle.pgs_run_input.proofs.WholeInput.{RunsWhole, by_unread, told_whole, whole_input, with_text, without_text}
-use Rattle.pgs_run_check_schema.specs.Judged.{Judgement, no_judgement}
 use Rattle.pgs_run_check_schema.specs.Spec.{JudgesRightly, IsOfCheck, TellsText, schema_spec}
-use Rattle.pgs_run_check_schema.specs.Told.{IsRightOf, HasLines, told_schema, told_text}
-use Rattle.pgs_run_check_schema.proofs.Fronts.{told_of_front}
+use Rattle.pgs_run_check_schema.specs.Told.{Chosen, nothing_chosen, IsRightOf, HasLines, told_schema, told_text}
+use Rattle.pgs_run_check_schema.proofs.Fronts.{right_of_front, told_of_front}
 use Rattle.pgs_run_check_schema.proofs.Telling.{right_none}
 
 abbrev AsksNothing : List ℕ → Type 0
 AsksNothing input = Unit {0}
 
-tells : (judged : Judgement) (input : List ℕ) → AsksNothing input → (n : ℕ) → told_schema judged input n ≡ told_whole input (told_text judged input) n
+tells : (chosen : Chosen) (input : List ℕ) → AsksNothing input → (n : ℕ) → told_schema chosen input n ≡ told_whole input (told_text chosen input) n
 unfolding told_schema
-tells judged input asks n = refl
+tells chosen input asks n = refl
 
 -- with the statuses of a check no area is at fault
 without_areas : (reads : Bool) (before now : Faults) (status : Status) → IsOfCheck status → HasCause reads true before now status → HasCause reads false before now status
@@ -42,10 +40,10 @@ without_areas reads before now Memory may cause = cause
 without_areas reads before now InputTooLong may cause = cause
 
 module _ (budget : ℕ) (old new : Setting) (status : Status) (places : new.places ≡ old.places) where
-  promised : (judged : Judgement) → JudgesRightly judged old.source.left budget status → RunsWhole AsksNothing (told_schema judged) budget old new status → IsOfCheck status
+  promised : (chosen : Chosen) → JudgesRightly chosen old.source.left budget status → RunsWhole AsksNothing (told_schema chosen) budget old new status → IsOfCheck status
       → KeepsAreas old.view new.view → Promise schema_spec budget old new status
-  promised judged right runs may_end areas = promise_reading schema_spec budget old new status refl (record {
-    choice = judged;
+  promised chosen right runs may_end areas = promise_reading schema_spec budget old new status refl (record {
+    choice = chosen;
     right = right;
     ends = λ input knows is. runs.ends input tt is;
     takes = runs.takes;
@@ -62,11 +60,12 @@ module _ (budget : ℕ) (old new : Setting) (status : Status) (places : new.plac
   -- the text was checked
   pub promised_text : (text : List ℕ) → IsWhole budget old.source new.source text → TellsText text old.view new.view status → Promise schema_spec budget old new status
   promised_text text whole told =
-      promised told.judged
+      promised told.chosen
       (λ input is.
-      subst (λ answer. IsRightOf answer told.judged status) (ap schema_answer (whole_input budget old.source new.source text input is whole).0 ∙ schema_of_front input) told.right)
-      (with_text AsksNothing (told_schema told.judged) (told_text told.judged) (tells told.judged) budget old new text status (told_text told.judged text) whole
-      (λ input front asks. sym (told_of_front told.judged input) ∙ ap (told_text told.judged) (sym front)) told.tells.answers)
+      right_of_front told.chosen status input
+      (subst (λ (t : List ℕ). IsRightOf t (schema_answer t) told.chosen status) (whole_input budget old.source new.source text input is whole).0 told.right))
+      (with_text AsksNothing (told_schema told.chosen) (told_text told.chosen) (tells told.chosen) budget old new text status (told_text told.chosen text) whole
+      (λ input front asks. sym (told_of_front told.chosen input) ∙ ap (told_text told.chosen) (sym front)) told.tells.answers)
       told.tells.may_end told.tells.areas
 
 -- there was no text
@@ -74,6 +73,6 @@ pub promised_none : (budget : ℕ) (old : Setting) (after : SourceState) (status
 promised_none budget old after status timed unread =
     let new : Setting = record old { source = after } in
     let none = by_unread (λ (s : Status). HasLines s → ⊥) budget old.source after status (λ no. no) (λ no. no) (λ no. no) unread in
-    promised budget old new status refl no_judgement (λ input is. right_none (schema_answer input) status none)
-    (without_text AsksNothing (told_schema no_judgement) (told_text no_judgement) (tells no_judgement) budget old new status unread (silent_none old.view))
+    promised budget old new status refl nothing_chosen (λ input is. right_none input (schema_answer input) status none)
+    (without_text AsksNothing (told_schema nothing_chosen) (told_text nothing_chosen) (tells nothing_chosen) budget old new status unread (silent_none old.view))
     (by_unread IsOfCheck budget old.source after status tt tt tt unread) (keeps_none old.view timed)

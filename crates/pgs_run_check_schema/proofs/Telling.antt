@@ -9,13 +9,11 @@ use Rattle.pgs_world.specs.Moment.{IsTimed}
 use Rattle.pgs_world.specs.World.{View}
 use Rattle.pgs_command.specs.declared.status.Status.{Status}
 use Rattle.pgs_command.specs.declared.status.Status.TheVariants.{Accepted, Refused, SchemaRefused, PutFault, Memory}
-use Rattle.pgs_command.proofs.Replied.{by_last}
-use Rattle.pgs_run_input.proofs.OneLine.{PutsLine, answers_line, answers_none, silent_none, told_line}
+use Rattle.pgs_run_input.proofs.OneLine.{answers_none, silent_none}
 use Rattle.pgs_syntax.specs.declared.resolved.Resolved.{Resolved}
 use Rattle.pgs_run_input.specs.Answers.{schema_answer}
 use Rattle.pgs_run_check_schema.specs.Spec.{IsOfCheck, Tells, TellsText}
-use Rattle.pgs_run_check_schema.specs.Judged.{no_judgement}
-use Rattle.pgs_run_check_schema.specs.Told.{IsRightOf, HasLines, told_text}
+use Rattle.pgs_run_check_schema.specs.Told.{IsRightOf, HasLines, nothing_chosen, told_text}
 
 -- for want of memory
 pub tells_none : (told : Told Status) (view : View) → IsTimed view → Tells told view view Memory
@@ -47,20 +45,20 @@ tells_torn told old new shows cause areas = record {
   areas = areas;
 }
 
--- the line of a refusal was put, where there was memory for it
-pub tells_line : (told : Told Status) (line : List ℕ) (result : Status) (old new : View) → told ≡ told_line line SchemaRefused
-    → PutsLine line SchemaRefused old result new → Tells told old new result
-tells_line told line result old new is put = record {
-  answers = answers_line told line SchemaRefused result old old new (silent_none old) tt tt is put;
-  may_end = by_last IsOfCheck line SchemaRefused result old new tt tt tt put.ends;
-  areas = put.areas;
+-- the lines of a refusal were put
+pub tells_refusal : (told : Told Status) (old new : View) → ShowsAll (shown_of old) told.pieces (shown_of new) → told.status ≡ SchemaRefused
+    → faults_of 0 new ≡ faults_of 0 old → KeepsAreas old new → Tells told old new SchemaRefused
+tells_refusal told old new shows is same areas = record {
+  answers = record { ends = (shows, is); may_end = tt; cause = λ reads count. world_same count count old new refl same };
+  may_end = tt;
+  areas = areas;
 }
 
--- where no line may have been put nothing may be judged
-pub right_none : (answer : Result Resolved (List ℕ)) (status : Status) → (HasLines status → ⊥) → IsRightOf answer no_judgement status
-right_none (Ok resolved) status none = λ lines. absurd (none lines)
-right_none (Err refusal) status none = tt
+-- where no line may have been put nothing may be chosen
+pub right_none : (text : List ℕ) (answer : Result Resolved (List ℕ)) (status : Status) → (HasLines status → ⊥) → IsRightOf text answer nothing_chosen status
+right_none text (Ok resolved) status none = λ lines. absurd (none lines)
+right_none text (Err refusal) status none = tt
 
 -- of a text, for want of memory
 pub text_none : (text : List ℕ) (view : View) → IsTimed view → TellsText text view view Memory
-text_none text view timed = record { judged = no_judgement; right = right_none (schema_answer text) Memory (λ none. none); tells = tells_none (told_text no_judgement text) view timed }
+text_none text view timed = record { chosen = nothing_chosen; right = right_none text (schema_answer text) Memory (λ none. none); tells = tells_none (told_text nothing_chosen text) view timed }

@@ -5,33 +5,43 @@ ghost use Rattle.pgs_command.specs.Calls.{fails_world};
 ghost use Rattle.pgs_resolve.specs.SchemaOf.{schema, schema_of};
 ghost use Rattle.pgs_run_check_schema.specs.Spec.{Tells, TellsText};
 ghost use Rattle.pgs_run_check_schema.specs.Judged.{HasLinesOf};
-ghost use Rattle.pgs_run_check_schema.specs.Told.{told_lines};
+ghost use Rattle.pgs_run_check_schema.specs.Told.{told_lines, told_refusal};
 ghost use Rattle.pgs_schema.specs.Told.{IsRefused};
 ghost use Rattle.std.specs.Prelude.{IfOk};
 
 use crate::reading::{script_in, tokens_in};
 use crate::types::push_types;
 use pgs_advice_lines::{Line, pieces_of, push_advice, push_guard, some_warns};
-use pgs_base::Memory;
+use pgs_base::{Bytes, Memory};
 use pgs_command::Status;
 use pgs_conform::Compiled;
 use pgs_key_standing::keys_reach;
 use pgs_resolve_declared::Declarations;
-use pgs_run_input::refused_line;
-use pgs_run_lines::{Reply, put_pieces, put_reply};
+use pgs_run_lines::put_pieces;
+use pgs_run_refusal::refused_lines;
 use pgs_schema::{SchemaUnread, read_schema};
 use pgs_world::World;
 use std::alloc::Global;
 
-// Puts the line of a text that is no schema.
+// Puts the lines of a refusal, and gives the status.
+fn put_refusal<W: World>(lines: &[Bytes], world: &mut W) -> Status
+    ensures answer { Tells (told_refusal lines.now) (W.view world.old) (W.view world.new) result }
+    ensures last { fails_world result ≡ true → W.failed world.new }
+{
+    match put_pieces::<Status, W>(world, lines) {
+        Ok(()) => Status::SchemaRefused,
+        Err(_) => Status::PutFault,
+    }
+}
+
+// Puts the lines of a text that is no schema.
 fn refuse<W: World>(alloc: Global, unread: SchemaUnread, text: &[u8], world: &mut W) -> Status
     requires { IsRefused (schema_of text.now) unread }
     ensures answer { TellsText text.now (W.view world.old) (W.view world.new) result }
     ensures last { fails_world result ≡ true → W.failed world.new }
 {
-    let status = Status::SchemaRefused;
-    match refused_line(alloc, unread) {
-        Ok(line) => put_reply(world, &Reply { line, status }),
+    match refused_lines(alloc, unread, text) {
+        Ok(lines) => put_refusal(&lines, world),
         Err(_) => Status::Memory,
     }
 }
@@ -95,7 +105,7 @@ fn check_schema<W: World>(alloc: Global, text: &[u8], compiled: &Compiled, world
     }
 }
 
-/// Checks a text: puts the lines of its schema, or the line of its refusal, and gives the status.
+/// Checks a text: puts the lines of its schema, or those of its refusal and its cause, and gives the status.
 pub(crate) fn check_text<W: World>(alloc: Global, text: &[u8], world: &mut W) -> Status
     ensures answer { TellsText text.now (W.view world.old) (W.view world.new) result }
     ensures last { fails_world result ≡ true → W.failed world.new }

@@ -42,7 +42,6 @@ use Rattle.pgs_run_contain.specs.Running.{HasAllLines, PutsNothing}
 use Rattle.pgs_run_contain.specs.Told.{told_first, told_second, told_texts}
 use Rattle.pgs_run_contain.proofs.Machine.{told_by_texts}
 
-
 -- what makes a command's run end as it is to
 pub record Rules (behind : Behind) : Type 0 where
   pub none_told : (first second : Resolved) → (behind.told behind.none first second).pieces ≡ []

@@ -1,5 +1,5 @@
 -- Following as a machine over lines.
-use Rattle.std.specs.Prelude.{◌≡◌, ◌<◌, ◌^◌, ◌+◌, ℕ, List, [], length, is_some, refl, if◌then◌else◌}
+use Rattle.std.specs.Prelude.{true, ◌≡◌, ◌<◌, ◌^◌, ◌+◌, ℕ, List, [], length, is_some, refl, if◌then◌else◌}
 use Rattle.std.proofs.Common.{◌∙◌}
 use Rattle.pgs_run_lines.specs.AreasKept.{KeepsAreas, keeps_none, keeps_on}
 use Rattle.pgs_run_lines.specs.Machine.{Machine, Rule, Extent, Whole, Inside, AtEnd, Told, Going}
@@ -45,7 +45,7 @@ puts_last_on (AtEnd rest stop) old mid new p q = q
 abbrev pub puts_last : Rule following
 puts_last = record {
   Kept = Unit {0};
-  tells = shown_of;
+  tells = true;
   holds = λ s view. Unit {0};
   allows = λ s lines extent old new. KeepsAreas old.view new.view × PutsLast extent (shown_of old.view) (shown_of new.view);
   none = λ s scene timed holds. (keeps_none scene.view timed, refl);

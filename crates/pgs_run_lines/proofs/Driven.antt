@@ -1,5 +1,5 @@
 -- How the takings of lines compose.
-use Rattle.std.proofs.Common.{◌≡◌, ℕ, ◌+◌, ◌-◌, ◌≤◌, true, List, [], ◌∷◌, ◌++◌, length, inl, inr, refl, sym, ap, subst, ◌∙◌, append_assoc, length-append, arith}
+use Rattle.std.proofs.Common.{◌≡◌, ℕ, ◌+◌, ◌-◌, ◌≤◌, Bool, true, false, List, [], ◌∷◌, ◌++◌, length, inl, inr, refl, sym, ap, subst, ◌∙◌, append_assoc, length-append, arith}
 use Rattle.std.proofs.lemmas.List.{append-nil}
 use Rattle.pgs_world.specs.Moment.{IsTimed}
 use Rattle.pgs_run_lines.specs.declared.stop.Stop.{Stop}
@@ -7,10 +7,20 @@ use Rattle.pgs_run_lines.specs.declared.stop.Stop.TheVariants as stops
 use Rattle.pgs_run_lines.specs.Driving.{IsEndAt, Runs, StopsAt, RunsSoFar}
 use Rattle.pgs_run_lines.specs.Ending.{Shows}
 use Rattle.pgs_run_lines.specs.Input.{Lines, kept_of, front_of, has_no_feed}
-use Rattle.pgs_run_lines.specs.Machine.{RunState, Going, Ended, Machine, Rule, Scene, Whole, Inside, HasRoomFor, after_line, pieces_of_line, after_lines, pieces_of_lines}
-use Rattle.pgs_run_lines.specs.Pieces.{ShowsAll}
+use Rattle.pgs_run_lines.specs.Machine.{RunState, Going, Ended, Machine, Rule, Scene, Whole, Inside, HasRoomFor, WhereTold, after_line, pieces_of_line, after_lines, pieces_of_lines}
+use Rattle.pgs_run_lines.specs.Pieces.{shown_of, ShowsAll}
 use Rattle.pgs_run_lines.proofs.Cutting.{followed, kept_begun, kept_more, kept_goes_on}
 use Rattle.pgs_run_lines.proofs.Showing.{shows_none, shows_on, stop_on}
+
+-- ---- what is said of pieces that are what is put
+
+pub where_is : {P : Type 0} (tells : Bool) → WhereTold tells P → tells ≡ true → P
+where_is true said is = said
+where_is false said is = cc
+
+pub where_said : {P : Type 0} (tells : Bool) → (tells ≡ true → P) → WhereTold tells P
+where_said true said = said refl
+where_said false said = tt
 
 -- ---- lines
 
@@ -74,7 +84,7 @@ module _ {E : Type 0} (m : Machine E) (rule : Rule m) (limit : ℕ) where
     stands = ap (λ (l : Lines). after_lines m (Going s) l.ended) is;
     begun = ap (λ (l : Lines). l.rest) (sym is);
     holds = holds;
-    shows = subst (λ (l : Lines). ShowsAll (rule.tells scene.view) (pieces_of_lines m (Going s) l.ended) (rule.tells scene.view)) (sym is) (shows_none (rule.tells scene.view));
+    shows = λ told. subst (λ (l : Lines). ShowsAll (shown_of scene.view) (pieces_of_lines m (Going s) l.ended) (shown_of scene.view)) (sym is) (shows_none (shown_of scene.view));
     allowed = subst (λ (l : Lines). rule.allows s l.ended Whole scene scene) (sym is) (rule.none s scene timed holds);
   }
 
@@ -86,30 +96,30 @@ module _ {E : Type 0} (m : Machine E) (rule : Rule m) (limit : ℕ) where
     parts = refl;
     extent = Whole;
     inside = inr (refl, refl);
-    shows = record { first = []; later = []; parts = refl; shows = shows_none (rule.tells scene.view) };
+    shows = λ told. record { first = []; later = []; parts = refl; shows = shows_none (shown_of scene.view) };
     ends = tt;
     allowed = rule.none s scene timed holds;
   }
 
   -- a line was ended
-  pub runs_line : (s state : m.State) (old new : Scene rule.Kept) (text line : List ℕ) → kept_of limit text ≡ record { ended = line ∷ []; rest = [] } → (m.line s line).next ≡ Going state → rule.holds state new.view → ShowsAll (rule.tells old.view) (m.line s line).pieces (rule.tells new.view) → rule.allows s (line ∷ []) Whole old new → Runs m rule limit s old text state [] new
+  pub runs_line : (s state : m.State) (old new : Scene rule.Kept) (text line : List ℕ) → kept_of limit text ≡ record { ended = line ∷ []; rest = [] } → (m.line s line).next ≡ Going state → rule.holds state new.view → WhereTold rule.tells (ShowsAll (shown_of old.view) (m.line s line).pieces (shown_of new.view)) → rule.allows s (line ∷ []) Whole old new → Runs m rule limit s old text state [] new
   runs_line s state old new text line is leads holds shows allowed = record {
     stands = ap (λ (l : Lines). after_lines m (Going s) l.ended) is ∙ leads;
     begun = ap (λ (l : Lines). l.rest) (sym is);
     holds = holds;
-    shows = subst (λ (l : Lines). ShowsAll (rule.tells old.view) (pieces_of_lines m (Going s) l.ended) (rule.tells new.view)) (sym is) (subst (λ pieces. ShowsAll (rule.tells old.view) pieces (rule.tells new.view)) (sym (append-nil (m.line s line).pieces)) shows);
+    shows = λ told. subst (λ (l : Lines). ShowsAll (shown_of old.view) (pieces_of_lines m (Going s) l.ended) (shown_of new.view)) (sym is) (subst (λ pieces. ShowsAll (shown_of old.view) pieces (shown_of new.view)) (sym (append-nil (m.line s line).pieces)) (where_is rule.tells shows told));
     allowed = subst (λ (l : Lines). rule.allows s l.ended Whole old new) (sym is) allowed;
   }
 
   -- or the run was stopped in it
-  pub stops_line : (s : m.State) (old new : Scene rule.Kept) (text line : List ℕ) (stop : Stop E) → kept_of limit text ≡ record { ended = line ∷ []; rest = [] } → IsEndAt (m.line s line).next stop → Shows (rule.tells old.view) (m.line s line).pieces stop (rule.tells new.view) → rule.allows s (line ∷ []) (Inside stop) old new → StopsAt m rule s old (kept_of limit text).ended stop new
+  pub stops_line : (s : m.State) (old new : Scene rule.Kept) (text line : List ℕ) (stop : Stop E) → kept_of limit text ≡ record { ended = line ∷ []; rest = [] } → IsEndAt (m.line s line).next stop → WhereTold rule.tells (Shows (shown_of old.view) (m.line s line).pieces stop (shown_of new.view)) → rule.allows s (line ∷ []) (Inside stop) old new → StopsAt m rule s old (kept_of limit text).ended stop new
   stops_line s old new text line stop is ends shows allowed = record {
     until = line ∷ [];
     later = [];
     parts = ap (λ (l : Lines). l.ended) is;
     extent = Inside stop;
     inside = inl refl;
-    shows = subst (λ pieces. Shows (rule.tells old.view) pieces stop (rule.tells new.view)) (sym (append-nil (m.line s line).pieces)) shows;
+    shows = λ told. subst (λ pieces. Shows (shown_of old.view) pieces stop (shown_of new.view)) (sym (append-nil (m.line s line).pieces)) (where_is rule.tells shows told);
     ends = ends;
     allowed = allowed;
   }
@@ -123,9 +133,9 @@ module _ {E : Type 0} (m : Machine E) (rule : Rule m) (limit : ℕ) where
         stands = ap (λ (l : Lines). after_lines m (Going s) l.ended) cut ∙ after_append m (Going s) xs ys ∙ ap (λ at. after_lines m at ys) p.stands ∙ q.stands;
         begun = q.begun ∙ ap (λ (l : Lines). l.rest) (sym cut);
         holds = q.holds;
-        shows = subst (λ pieces. ShowsAll (rule.tells start.view) pieces (rule.tells now.view))
+        shows = λ told. subst (λ pieces. ShowsAll (shown_of start.view) pieces (shown_of now.view))
             (sym (ap (λ (l : Lines). pieces_of_lines m (Going s) l.ended) cut ∙ pieces_append m (Going s) xs ys ∙ ap (λ at. pieces_of_lines m (Going s) xs ++ pieces_of_lines m at ys) p.stands))
-            (shows_on (rule.tells start.view) (rule.tells mid.view) (rule.tells now.view) (pieces_of_lines m (Going s) xs) (pieces_of_lines m (Going state) ys) p.shows q.shows);
+            (shows_on (shown_of start.view) (shown_of mid.view) (shown_of now.view) (pieces_of_lines m (Going s) xs) (pieces_of_lines m (Going state) ys) (p.shows told) (q.shows told));
         allowed = subst (λ (l : Lines). rule.allows s l.ended Whole start now) (sym cut) (rule.on s state xs ys Whole start mid now p.stands p.holds p.allowed q.allowed);
       }
 
@@ -143,9 +153,9 @@ module _ {E : Type 0} (m : Machine E) (rule : Rule m) (limit : ℕ) where
         parts = ap (λ (l : Lines). l.ended) cut ∙ ap (λ more. xs ++ more) q.parts ∙ sym (append_assoc xs q.until q.later);
         extent = q.extent;
         inside = q.inside;
-        shows = subst (λ pieces. Shows (rule.tells start.view) pieces stop (rule.tells now.view))
+        shows = λ told. subst (λ pieces. Shows (shown_of start.view) pieces stop (shown_of now.view))
             (sym (pieces_append m (Going s) xs q.until ∙ ap (λ at. pieces_of_lines m (Going s) xs ++ pieces_of_lines m at q.until) p.stands))
-            (stop_on stop (rule.tells start.view) (rule.tells mid.view) (rule.tells now.view) (pieces_of_lines m (Going s) xs) (pieces_of_lines m (Going state) q.until) p.shows q.shows);
+            (stop_on stop (shown_of start.view) (shown_of mid.view) (shown_of now.view) (pieces_of_lines m (Going s) xs) (pieces_of_lines m (Going state) q.until) (p.shows told) (q.shows told));
         ends = end_on s state xs q.until stop p.stands q.ends;
         allowed = rule.on s state xs q.until q.extent start mid now p.stands p.holds p.allowed q.allowed;
       }

@@ -1,5 +1,5 @@
 -- What a run shows of its input, by how the reading ended.
-use Rattle.std.proofs.Common.{◌≡◌, ⊎_elim, inl, inr, ℕ, ◌+◌, ◌-◌, ◌≤◌, List, [], ◌∷◌, ◌++◌, length, Option, Some, None, Result, Ok, Err, refl, sym, ap, subst, ◌∙◌, length-append, arith}
+use Rattle.std.proofs.Common.{◌≡◌, ⊎_elim, inl, inr, Bool, true, false, ℕ, ◌+◌, ◌-◌, ◌≤◌, List, [], ◌∷◌, ◌++◌, length, Option, Some, None, Result, Ok, Err, refl, sym, ap, subst, ◌∙◌, length-append, arith}
 use Rattle.std.proofs.lemmas.List.{append-nil}
 use Rattle.pgs_world.specs.Moment.{IsTimed}
 use Rattle.pgs_world.specs.Source.{Takes, IsAtEnd}
@@ -11,10 +11,10 @@ use Rattle.pgs_run_lines.specs.declared.stop.Stop.TheVariants as stops
 use Rattle.pgs_run_lines.specs.Driving.{Runs, StopsAt}
 use Rattle.pgs_run_lines.specs.Ending.{Ends, faults_of, HasCause}
 use Rattle.pgs_run_lines.specs.Input.{kept_of}
-use Rattle.pgs_run_lines.specs.Machine.{RunState, Going, Ended, Machine, Rule, Scene, Extent, Whole, AtEnd, Told, after_lines, pieces_of_lines, told_at_end, status_at_cut, told_cut, told_by}
-use Rattle.pgs_run_lines.specs.Pieces.{Shown, ShowsAll}
+use Rattle.pgs_run_lines.specs.Machine.{RunState, Going, Ended, Machine, Rule, Scene, Extent, Whole, AtEnd, Told, WhereTold, after_lines, pieces_of_lines, told_at_end, status_at_cut, told_cut, told_by}
+use Rattle.pgs_run_lines.specs.Pieces.{Shown, shown_of, ShowsAll}
 use Rattle.pgs_run_lines.specs.Reading.{StopsIn, Reads}
-use Rattle.pgs_run_lines.specs.Run.{EndsAs, EndsAtLine, EndsBy, IsBetween, IsToldBy, IsFar, IsShort, Allows}
+use Rattle.pgs_run_lines.specs.Run.{EndsAs, EndsAtLine, EndsBy, IsBetween, IsToldBy, IsFar, IsShort, Allows, EndsWhere}
 use Rattle.pgs_run_lines.proofs.FirstBytes.{by_whole, by_cut, tells_on, ended_by}
 use Rattle.pgs_run_lines.proofs.Causes.{no_rise}
 use Rattle.pgs_run_lines.proofs.ReadingOn.{none_taken}
@@ -57,6 +57,23 @@ pub within_unread : (input rest : List ℕ) (budget : ℕ) (left : Option (List 
 within_unread input rest budget left is left_is =
     let n = ap length (same_some input rest left is left_is) in omega arith
 
+-- ---- the end of an input, where pieces are what is put, and where they aren't
+
+told_at : {E : Type 0} (told : Told E) (stop : Stop E) (old now : Shown) → Ends old told stop now → IsToldBy told stop
+told_at told (stops.Ended status) old now ends = ends.1
+told_at told stops.ReadFault old now ends = tt
+told_at told stops.DiskFault old now ends = tt
+told_at told stops.PutFault old now ends = tt
+told_at told stops.Memory old now ends = tt
+
+pub told_where : {E : Type 0} (tells : Bool) (told : Told E) (stop : Stop E) (old now : Shown) → EndsWhere tells old told stop now → IsToldBy told stop
+told_where true told stop old now ends = told_at told stop old now ends
+told_where false told stop old now ends = ends
+
+pub ends_where : {E : Type 0} (tells : Bool) (told : Told E) (stop : Stop E) (old now : Shown) → EndsWhere tells old told stop now → tells ≡ true → Ends old told stop now
+ends_where true told stop old now ends is = ends
+ends_where false told stop old now ends is = cc
+
 -- ---- where an end comes from
 
 same_end : {E : Type 0} (m : Machine E) (other status : E) (lines : List (List ℕ)) → after_lines m (Ended other) lines ≡ Ended status → other ≡ status
@@ -77,10 +94,10 @@ ended_at m s (line ∷ lines) status ends = ended_next m s line lines status (m.
 
 module _ {E : Type 0} (m : Machine E) (rule : Rule m) (limit : ℕ) (s : m.State) (start : Scene rule.Kept) (budget : ℕ) (before left : Option (List ℕ)) where
   abbrev Told-ends : List ℕ → Stop E → Scene rule.Kept → Type 0
-  Told-ends input stop now = EndsAs (told_by m limit s input) (rule.tells start.view) input budget left stop (rule.tells now.view)
+  Told-ends input stop now = EndsAs (told_by m limit s input) (shown_of start.view) input budget left stop (shown_of now.view)
 
   -- a run that ended so, with no fault of a read
-  ended : (input seen : List ℕ) (stop : Stop E) (now : Scene rule.Kept) → before ≡ Some input → Takes before left seen → length seen ≤ budget → (stop ≡ stops.ReadFault → ⊥) → Ends (rule.tells start.view) (told_by m limit s input budget) stop (rule.tells now.view) → Told-ends input stop now
+  ended : (input seen : List ℕ) (stop : Stop E) (now : Scene rule.Kept) → before ≡ Some input → Takes before left seen → length seen ≤ budget → (stop ≡ stops.ReadFault → ⊥) → Ends (shown_of start.view) (told_by m limit s input budget) stop (shown_of now.view) → Told-ends input stop now
   ended input seen stop now is taken few no_fault shown = record {
     shown = shown;
     read_fault = λ rest left_is same. absurd (no_fault same);
@@ -88,8 +105,8 @@ module _ {E : Type 0} (m : Machine E) (rule : Rule m) (limit : ℕ) (s : m.State
   }
 
   -- the input was read to its end
-  pub whole_ends : (input : List ℕ) (state : m.State) (line : List ℕ) (mid now : Scene rule.Kept) (stop : Stop E) → before ≡ Some input → Reads m rule limit s start budget before left state line (Ok readings.Whole) mid → Ends (rule.tells mid.view) (m.rest state line) stop (rule.tells now.view) → (stop ≡ stops.ReadFault → ⊥) → Told-ends input stop now
-  whole_ends input state line mid now stop is r ends no_fault =
+  pub whole_ends : rule.tells ≡ true → (input : List ℕ) (state : m.State) (line : List ℕ) (mid now : Scene rule.Kept) (stop : Stop E) → before ≡ Some input → Reads m rule limit s start budget before left state line (Ok readings.Whole) mid → Ends (shown_of mid.view) (m.rest state line) stop (shown_of now.view) → (stop ≡ stops.ReadFault → ⊥) → Told-ends input stop now
+  whole_ends tells input state line mid now stop is r ends no_fault =
       let rest = rest_of input r.bytes before left is r.taken in
       let runs = r.ends.2 in
       let none = at_end_of rest.rest left rest.left_is r.ends.1 in
@@ -100,17 +117,17 @@ module _ {E : Type 0} (m : Machine E) (rule : Rule m) (limit : ℕ) (s : m.State
       ∙ ap (λ at. let t : Told E = record { pieces = pieces_of_lines m (Going s) xs ++ (told_at_end m at (kept_of limit r.bytes).rest).pieces; status = (told_at_end m at (kept_of limit r.bytes).rest).status } in t) runs.stands
       ∙ ap (λ text. let t : Told E = record { pieces = pieces_of_lines m (Going s) xs ++ (m.rest state text).pieces; status = (m.rest state text).status } in t) (sym runs.begun) in
       ended input r.bytes stop now is r.taken (let few = r.ends.0 in omega arith) no_fault
-      (subst (λ (t : Told E). Ends (rule.tells start.view) t stop (rule.tells now.view)) (sym told) (ends_on stop (rule.tells start.view) (rule.tells mid.view) (rule.tells now.view) (pieces_of_lines m (Going s) xs) (m.rest state line) runs.shows ends))
+      (subst (λ (t : Told E). Ends (shown_of start.view) t stop (shown_of now.view)) (sym told) (ends_on stop (shown_of start.view) (shown_of mid.view) (shown_of now.view) (pieces_of_lines m (Going s) xs) (m.rest state line) (runs.shows tells) ends))
 
   -- as many bytes as the budget were taken
-  pub cut_ends : (input : List ℕ) (state : m.State) (line : List ℕ) (now : Scene rule.Kept) (status : E) → before ≡ Some input → Reads m rule limit s start budget before left state line (Ok readings.Cut) now → status ≡ m.cut state → Told-ends input (stops.Ended status) now
-  cut_ends input state line now status is r same =
+  pub cut_ends : rule.tells ≡ true → (input : List ℕ) (state : m.State) (line : List ℕ) (now : Scene rule.Kept) (status : E) → before ≡ Some input → Reads m rule limit s start budget before left state line (Ok readings.Cut) now → status ≡ m.cut state → Told-ends input (stops.Ended status) now
+  cut_ends tells input state line now status is r same =
       let rest = rest_of input r.bytes before left is r.taken in
       let runs = r.ends.1 in
       let told : told_by m limit s input budget ≡ told_cut m limit s r.bytes =
       ap (λ bytes. told_by m limit s bytes budget) rest.parts ∙ by_cut m limit s r.bytes rest.rest budget r.ends.0 in
       ended input r.bytes (stops.Ended status) now is r.taken (let full = r.ends.0 in omega arith) (λ e. cc)
-      (subst (λ (t : Told E). Ends (rule.tells start.view) t (stops.Ended status) (rule.tells now.view)) (sym told) (runs.shows, ap (status_at_cut m) runs.stands ∙ sym same))
+      (subst (λ (t : Told E). Ends (shown_of start.view) t (stops.Ended status) (shown_of now.view)) (sym told) (runs.shows tells, ap (status_at_cut m) runs.stands ∙ sym same))
 
   -- what the reads gave, in the budget's place
   given_told : (input rest seen : List ℕ) → before ≡ Some input → Takes before left seen → left ≡ Some rest → told_by m limit s input (length input - length rest) ≡ told_cut m limit s seen
@@ -123,42 +140,42 @@ module _ {E : Type 0} (m : Machine E) (rule : Rule m) (limit : ℕ) (s : m.State
       ap (λ bytes. told_by m limit s bytes (length input - length rest)) parts ∙ by_cut m limit s seen rest (length input - length rest) count
 
   -- a read failed
-  fault_ends : (input bytes : List ℕ) (state : m.State) (line : List ℕ) (now : Scene rule.Kept) → before ≡ Some input → Takes before left bytes → length bytes ≤ budget → Runs m rule limit s start bytes state line now → Told-ends input stops.ReadFault now
-  fault_ends input bytes state line now is taken few runs =
+  fault_ends : rule.tells ≡ true → (input bytes : List ℕ) (state : m.State) (line : List ℕ) (now : Scene rule.Kept) → before ≡ Some input → Takes before left bytes → length bytes ≤ budget → Runs m rule limit s start bytes state line now → Told-ends input stops.ReadFault now
+  fault_ends told input bytes state line now is taken few runs =
       let of = rest_of input bytes before left is taken in
       let tells = tells_on m limit s input bytes of.rest (kept_of limit bytes).ended [] budget of.parts (sym (append-nil (kept_of limit bytes).ended)) few in
       record {
-        shown = record { first = pieces_of_lines m (Going s) (kept_of limit bytes).ended; later = tells.later; parts = tells.is; shows = runs.shows };
-        read_fault = λ rest left_is same. subst (λ (t : Told E). ShowsAll (rule.tells start.view) t.pieces (rule.tells now.view)) (sym (given_told input rest bytes is taken left_is)) runs.shows;
+        shown = record { first = pieces_of_lines m (Going s) (kept_of limit bytes).ended; later = tells.later; parts = tells.is; shows = runs.shows told };
+        read_fault = λ rest left_is same. subst (λ (t : Told E). ShowsAll (shown_of start.view) t.pieces (shown_of now.view)) (sym (given_told input rest bytes is taken left_is)) (runs.shows told);
         within = λ rest left_is. within_budget input rest bytes budget before left is taken few left_is;
       }
 
   -- the run was stopped inside the bytes that were read
-  stop_ends : (input bytes : List ℕ) (state : m.State) (line : List ℕ) (stop : Stop E) (now : Scene rule.Kept) → before ≡ Some input → Takes before left bytes → length bytes ≤ budget → StopsIn m rule limit s start bytes state line stop now → Told-ends input stop now
-  stop_ends input bytes state line (stops.Ended status) now is taken few at =
+  stop_ends : rule.tells ≡ true → (input bytes : List ℕ) (state : m.State) (line : List ℕ) (stop : Stop E) (now : Scene rule.Kept) → before ≡ Some input → Takes before left bytes → length bytes ≤ budget → StopsIn m rule limit s start bytes state line stop now → Told-ends input stop now
+  stop_ends shown input bytes state line (stops.Ended status) now is taken few at =
       let of = rest_of input bytes before left is taken in
       let told = ended_by m limit s input bytes of.rest at.until at.later budget of.parts at.parts few status at.ends in
       ended input bytes (stops.Ended status) now is taken few (λ e. cc)
-      (subst (λ (t : Told E). Ends (rule.tells start.view) t (stops.Ended status) (rule.tells now.view)) (sym told) (at.shows, refl))
-  stop_ends input bytes state line stops.ReadFault now is taken few at = fault_ends input bytes state line now is taken few at
-  stop_ends input bytes state line stops.PutFault now is taken few at =
+      (subst (λ (t : Told E). Ends (shown_of start.view) t (stops.Ended status) (shown_of now.view)) (sym told) (at.shows shown, refl))
+  stop_ends shown input bytes state line stops.ReadFault now is taken few at = fault_ends shown input bytes state line now is taken few at
+  stop_ends shown input bytes state line stops.PutFault now is taken few at =
       let of = rest_of input bytes before left is taken in
       let tells = tells_on m limit s input bytes of.rest at.until at.later budget of.parts at.parts few in
       ended input bytes stops.PutFault now is taken few (λ e. cc)
-      (subst (λ pieces. Ends (rule.tells start.view) (record { pieces = pieces; status = (told_by m limit s input budget).status }) stops.PutFault (rule.tells now.view)) (sym tells.is) (torn_of_more (rule.tells start.view) (rule.tells now.view) (pieces_of_lines m (Going s) at.until) tells.later at.shows))
-  stop_ends input bytes state line stops.DiskFault now is taken few at =
+      (subst (λ pieces. Ends (shown_of start.view) (record { pieces = pieces; status = (told_by m limit s input budget).status }) stops.PutFault (shown_of now.view)) (sym tells.is) (torn_of_more (shown_of start.view) (shown_of now.view) (pieces_of_lines m (Going s) at.until) tells.later (at.shows shown)))
+  stop_ends shown input bytes state line stops.DiskFault now is taken few at =
       let of = rest_of input bytes before left is taken in
       let tells = tells_on m limit s input bytes of.rest at.until at.later budget of.parts at.parts few in
       ended input bytes stops.DiskFault now is taken few (λ e. cc)
-      (subst (λ pieces. Ends (rule.tells start.view) (record { pieces = pieces; status = (told_by m limit s input budget).status }) stops.DiskFault (rule.tells now.view)) (sym tells.is) (first_of_more (rule.tells start.view) (rule.tells now.view) (pieces_of_lines m (Going s) at.until) tells.later at.shows))
-  stop_ends input bytes state line stops.Memory now is taken few at =
+      (subst (λ pieces. Ends (shown_of start.view) (record { pieces = pieces; status = (told_by m limit s input budget).status }) stops.DiskFault (shown_of now.view)) (sym tells.is) (first_of_more (shown_of start.view) (shown_of now.view) (pieces_of_lines m (Going s) at.until) tells.later (at.shows shown)))
+  stop_ends shown input bytes state line stops.Memory now is taken few at =
       let of = rest_of input bytes before left is taken in
       let tells = tells_on m limit s input bytes of.rest at.until at.later budget of.parts at.parts few in
       ended input bytes stops.Memory now is taken few (λ e. cc)
-      (subst (λ pieces. Ends (rule.tells start.view) (record { pieces = pieces; status = (told_by m limit s input budget).status }) stops.Memory (rule.tells now.view)) (sym tells.is) (first_of_more (rule.tells start.view) (rule.tells now.view) (pieces_of_lines m (Going s) at.until) tells.later at.shows))
+      (subst (λ pieces. Ends (shown_of start.view) (record { pieces = pieces; status = (told_by m limit s input budget).status }) stops.Memory (shown_of now.view)) (sym tells.is) (first_of_more (shown_of start.view) (shown_of now.view) (pieces_of_lines m (Going s) at.until) tells.later (at.shows shown)))
 
-  pub stopped_ends : (input : List ℕ) (state : m.State) (line : List ℕ) (stop : Stop E) (now : Scene rule.Kept) → before ≡ Some input → Reads m rule limit s start budget before left state line (Err stop) now → Told-ends input stop now
-  stopped_ends input state line stop now is r = stop_ends input r.bytes state line stop now is r.taken r.ends.0 r.ends.1
+  pub stopped_ends : rule.tells ≡ true → (input : List ℕ) (state : m.State) (line : List ℕ) (stop : Stop E) (now : Scene rule.Kept) → before ≡ Some input → Reads m rule limit s start budget before left state line (Err stop) now → Told-ends input stop now
+  stopped_ends tells input state line stop now is r = stop_ends tells input r.bytes state line stop now is r.taken r.ends.0 r.ends.1
 
   pub stopped_by : (state : m.State) (line : List ℕ) (stop : Stop E) (now : Scene rule.Kept) → Reads m rule limit s start budget before left state line (Err stop) now → EndsBy m budget before left stop
   stopped_by state line (stops.Ended status) now r = inl (ended_at m s r.ends.1.until status r.ends.1.ends)
@@ -217,15 +234,8 @@ module _ {E : Type 0} (m : Machine E) (rule : Rule m) (limit : ℕ) (s : m.State
       let runs = r.ends.1 in
       allows_runs r.bytes state line (stops.Ended status) now r.taken (let full = r.ends.0 in omega arith) runs (refl, r.ends.0, ap (status_at_cut m) runs.stands ∙ sym same)
 
-  told_at : (told : Told E) (stop : Stop E) (old now : Shown) → Ends old told stop now → IsToldBy told stop
-  told_at told (stops.Ended status) old now ends = ends.1
-  told_at told stops.ReadFault old now ends = tt
-  told_at told stops.DiskFault old now ends = tt
-  told_at told stops.PutFault old now ends = tt
-  told_at told stops.Memory old now ends = tt
-
-  pub whole_allows : (state : m.State) (line : List ℕ) (stop : Stop E) (mid now : Scene rule.Kept) → Reads m rule limit s start budget before left state line (Ok readings.Whole) mid → Ends (rule.tells mid.view) (m.rest state line) stop (rule.tells now.view) → rule.allows state [] (AtEnd line stop) mid now → Allowed stop now
-  whole_allows state line stop mid now r ends end =
+  pub whole_allows : (state : m.State) (line : List ℕ) (stop : Stop E) (mid now : Scene rule.Kept) → Reads m rule limit s start budget before left state line (Ok readings.Whole) mid → IsToldBy (m.rest state line) stop → rule.allows state [] (AtEnd line stop) mid now → Allowed stop now
+  whole_allows state line stop mid now r told end =
       let runs = r.ends.2 in
       let xs = (kept_of limit r.bytes).ended in
       record {
@@ -236,7 +246,7 @@ module _ {E : Type 0} (m : Machine E) (rule : Rule m) (limit : ℕ) (s : m.State
         parts = sym (append-nil xs);
         extent = AtEnd line stop;
         short = r.ends.0;
-        far = (refl, runs.begun, refl, r.ends.1, subst (λ (at : RunState m.State E). IsToldBy (told_at_end m at line) stop) (sym runs.stands) (told_at (m.rest state line) stop (rule.tells mid.view) (rule.tells now.view) ends));
+        far = (refl, runs.begun, refl, r.ends.1, subst (λ (at : RunState m.State E). IsToldBy (told_at_end m at line) stop) (sym runs.stands) told);
         allowed = subst (λ lines. rule.allows s lines (AtEnd line stop) start now) (append-nil xs) (rule.on s state xs [] (AtEnd line stop) start mid now runs.stands runs.holds runs.allowed end);
       }
 
@@ -275,12 +285,12 @@ pub no_read_fault : {E : Type 0} (old new : View) (stop : Stop E) → HasCause (
 no_read_fault old new stop cause is = let c = subst (HasCause (faults_of 0 old) (faults_of 0 new)) is cause in no_rise 0 c.0 refl
 
 -- the end of the input gave the status
-pub whole_by : {E : Type 0} (m : Machine E) (rule : Rule m) (limit : ℕ) (s : m.State) (start : Scene rule.Kept) (budget : ℕ) (before left : Option (List ℕ)) (state : m.State) (line : List ℕ) (mid : Scene rule.Kept) (old now : Shown) (stop : Stop E) → Reads m rule limit s start budget before left state line (Ok readings.Whole) mid → Ends old (m.rest state line) stop now → EndsBy m budget before left stop
-whole_by m rule limit s start budget before left state line mid old now (stops.Ended status) r ends = inr (inl (record { state = state; rest = line; is = ends.1; at_end = r.ends.1 }))
-whole_by m rule limit s start budget before left state line mid old now stops.ReadFault r ends = tt
-whole_by m rule limit s start budget before left state line mid old now stops.DiskFault r ends = tt
-whole_by m rule limit s start budget before left state line mid old now stops.PutFault r ends = tt
-whole_by m rule limit s start budget before left state line mid old now stops.Memory r ends = tt
+pub whole_by : {E : Type 0} (m : Machine E) (rule : Rule m) (limit : ℕ) (s : m.State) (start : Scene rule.Kept) (budget : ℕ) (before left : Option (List ℕ)) (state : m.State) (line : List ℕ) (mid : Scene rule.Kept) (stop : Stop E) → Reads m rule limit s start budget before left state line (Ok readings.Whole) mid → IsToldBy (m.rest state line) stop → EndsBy m budget before left stop
+whole_by m rule limit s start budget before left state line mid (stops.Ended status) r told = inr (inl (record { state = state; rest = line; is = told; at_end = r.ends.1 }))
+whole_by m rule limit s start budget before left state line mid stops.ReadFault r told = tt
+whole_by m rule limit s start budget before left state line mid stops.DiskFault r told = tt
+whole_by m rule limit s start budget before left state line mid stops.PutFault r told = tt
+whole_by m rule limit s start budget before left state line mid stops.Memory r told = tt
 
 -- the end of the budget gave it
 pub cut_by : {E : Type 0} (m : Machine E) (rule : Rule m) (limit : ℕ) (s : m.State) (start : Scene rule.Kept) (budget : ℕ) (before left : Option (List ℕ)) (state : m.State) (line : List ℕ) (now : Scene rule.Kept) (status : E) → Reads m rule limit s start budget before left state line (Ok readings.Cut) now → status ≡ m.cut state → EndsBy m budget before left (stops.Ended status)

@@ -1,11 +1,11 @@
 -- Where a machine stands inside its input, and how it is stopped there.
-use Rattle.std.specs.Prelude.{◌≡◌, ◌⊎◌, ℕ, List, ◌++◌, Result, Ok, Err}
+use Rattle.std.specs.Prelude.{◌≡◌, ◌⊎◌, ℕ, true, List, ◌++◌, Result, Ok, Err}
 use Rattle.pgs_run_lines.specs.declared.stop.Stop.{Stop}
 use Rattle.pgs_run_lines.specs.declared.stop.Stop.TheVariants as stops
 use Rattle.pgs_run_lines.specs.Ending.{Shows}
 use Rattle.pgs_run_lines.specs.Input.{kept_of}
 use Rattle.pgs_run_lines.specs.Machine.{RunState, Going, Ended, Machine, Rule, Scene, Extent, Whole, Inside, after_lines, pieces_of_lines}
-use Rattle.pgs_run_lines.specs.Pieces.{Shown, ShowsAll}
+use Rattle.pgs_run_lines.specs.Pieces.{Shown, shown_of, ShowsAll}
 
 -- an end of the machine's own is where the run stands; the other stops say nothing of it
 abbrev pub IsEndAt : {S E : Type 0} → RunState S E → Stop E → Type 0
@@ -26,13 +26,14 @@ LineShows start pieces (Ok done) now = ShowsAll start pieces now
 LineShows start pieces (Err stop) now = Shows start pieces stop now
 
 -- The run that began in this state, on this scene, took these bytes: it stands where their lines lead, with the front of the
--- rest, what the machine holds there is true, all that the lines tell is shown, and no more was done to the scene than they allow.
+-- rest, what the machine holds there is true, all that the lines tell is shown, where it is what is put, and no more was done to the
+-- scene than they allow.
 pub record Runs {E : Type 0} (m : Machine E) (rule : Rule m) (limit : ℕ) (s : m.State) (start : Scene rule.Kept) (seen : List ℕ)
     (state : m.State) (line : List ℕ) (now : Scene rule.Kept) : Type 0 where
   pub stands : after_lines m (Going s) (kept_of limit seen).ended ≡ Going state
   pub begun : line ≡ (kept_of limit seen).rest
   pub holds : rule.holds state now.view
-  pub shows : ShowsAll (rule.tells start.view) (pieces_of_lines m (Going s) (kept_of limit seen).ended) (rule.tells now.view)
+  pub shows : rule.tells ≡ true → ShowsAll (shown_of start.view) (pieces_of_lines m (Going s) (kept_of limit seen).ended) (shown_of now.view)
   pub allowed : rule.allows s (kept_of limit seen).ended Whole start now
 
 -- how far lines were taken where the run stopped so among them: the last one gave the stop; want of memory may come between two lines too
@@ -47,7 +48,7 @@ pub record StopsAt {E : Type 0} (m : Machine E) (rule : Rule m) (s : m.State) (s
   pub parts : ended ≡ until ++ later
   pub extent : Extent E
   pub inside : IsInside stop extent
-  pub shows : Shows (rule.tells start.view) (pieces_of_lines m (Going s) until) stop (rule.tells now.view)
+  pub shows : rule.tells ≡ true → Shows (shown_of start.view) (pieces_of_lines m (Going s) until) stop (shown_of now.view)
   pub ends : IsEndAt (after_lines m (Going s) until) stop
   pub allowed : rule.allows s until extent start now
 

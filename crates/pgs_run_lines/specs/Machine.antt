@@ -1,10 +1,9 @@
 -- A command as a machine over lines: what it tells of an input within a budget, and what it may do to a world.
-use Rattle.std.specs.Prelude.{◌≡◌, ℕ, ◌≤◌, List, [], ◌∷◌, ◌++◌, length, take, Result, Ok, Err, nat_le, if◌then◌else◌}
+use Rattle.std.specs.Prelude.{◌≡◌, ℕ, ◌≤◌, Bool, true, false, List, [], ◌∷◌, ◌++◌, length, take, Result, Ok, Err, nat_le, if◌then◌else◌}
 use Rattle.pgs_world.specs.Moment.{IsTimed}
 use Rattle.pgs_world.specs.World.{View}
 use Rattle.pgs_run_lines.specs.declared.stop.Stop.{Stop}
 use Rattle.pgs_run_lines.specs.Input.{kept_of}
-use Rattle.pgs_run_lines.specs.Pieces.{Shown}
 
 -- where a run stands between two lines: in a state of the machine, or at its end, with a status of the machine's own
 pub data RunState (S E : Type 0) : Type 0 where
@@ -110,14 +109,18 @@ abbrev pub extent_of : {T E : Type 0} → Result T (Stop E) → Extent E
 extent_of (Ok done) = Whole
 extent_of (Err stop) = Inside stop
 
+-- what is said of a machine's pieces, where they are what is put
+abbrev pub WhereTold : Bool → Type 0 → Type 0
+WhereTold true Said = Said
+WhereTold false Said = Unit {0}
+
 -- What the machine holds of a world between two lines, and what the taking of lines from a state on may do to a scene. It may do
--- nothing, and one thing after another. The machine's pieces are what is put; where more than the lines decides what is put, the machine
--- tells nothing, and `allows` says it.
+-- nothing, and one thing after another.
 pub record Rule {E : Type 0} (m : Machine E) : Type 1 where
   -- what a taker keeps beside its state
   pub Kept : Type 0
-  -- what of a world's output is the machine's pieces: all of it, or nothing
-  pub tells : View → Shown
+  -- whether the machine's pieces are what is put; where more than the lines decides what is, `allows` says it
+  pub tells : Bool
   pub holds : m.State → View → Type 0
   pub allows : m.State → List (List ℕ) → Extent E → Scene Kept → Scene Kept → Type 0
   pub none : (s : m.State) (scene : Scene Kept) → IsTimed scene.view → holds s scene.view → allows s [] Whole scene scene

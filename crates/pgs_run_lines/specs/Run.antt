@@ -1,5 +1,5 @@
 -- How the run of a machine over an input ends.
-use Rattle.std.specs.Prelude.{◌≡◌, ◌⊎◌, ℕ, ◌+◌, ◌-◌, ◌<◌, ◌≤◌, List, [], ◌++◌, length, Option, Some}
+use Rattle.std.specs.Prelude.{◌≡◌, ◌⊎◌, ℕ, ◌+◌, ◌-◌, ◌<◌, ◌≤◌, Bool, true, false, List, [], ◌++◌, length, Option, Some}
 use Rattle.pgs_world.specs.Source.{Takes, IsAtEnd}
 use Rattle.pgs_run_lines.specs.declared.stop.Stop.{Stop}
 use Rattle.pgs_run_lines.specs.declared.stop.Stop.TheVariants as stops
@@ -64,6 +64,11 @@ IsToldBy told stops.ReadFault = Unit {0}
 IsToldBy told stops.DiskFault = Unit {0}
 IsToldBy told stops.PutFault = Unit {0}
 IsToldBy told stops.Memory = Unit {0}
+
+-- how a machine ends at the end of its input: what is shown is what is told, where its pieces are what is put
+abbrev pub EndsWhere : {E : Type 0} → Bool → Shown → Told E → Stop E → Shown → Type 0
+EndsWhere true start told stop now = Ends start told stop now
+EndsWhere false start told stop now = IsToldBy told stop
 
 -- How far the lines of the bytes that were taken were taken, where the run stopped so: all of them, or all but the last, which gave the
 -- stop, or all, and then the end of the input, which gave it.

@@ -1,8 +1,9 @@
 ghost use Rattle.std.specs.Prelude.{◌≡◌, ◌≤◌, ◌+◌, List, ℕ, Some, true};
 ghost use Rattle.pgs_run_lines.specs.Calls.{MakesReads, is_of_source, is_of_world};
 ghost use Rattle.pgs_run_lines.specs.Ending.{HasCause, faults_of};
-ghost use Rattle.pgs_run_lines.specs.Machine.{HasRoomFor, scene_of, told_by};
+ghost use Rattle.pgs_run_lines.specs.Machine.{HasRoomFor, WhereTold, scene_of, told_by};
 ghost use Rattle.pgs_run_lines.specs.May.{MayCome};
+ghost use Rattle.pgs_run_lines.specs.Pieces.{shown_of};
 ghost use Rattle.pgs_run_lines.specs.Run.{EndsAs, EndsBy, Allows};
 ghost use Rattle.pgs_run_lines.specs.declared.budget.TheConstants.{BUDGET};
 
@@ -15,8 +16,8 @@ use std::alloc::Global;
 
 /// Runs a command over the lines of an input: reads it within a budget of bytes, at most 2^40, takes its lines, of each no more
 /// than the limit, at most 2^40, and one byte, and ends it. A read asks for at most 65,536 bytes and never for more than is left
-/// of the budget. What is put, and the status of the machine's own, is what `told_by` tells (docs/DEFINITIONS.md, "A run over
-/// lines"). The first fault ends the run: no call on the source or on the world comes behind it.
+/// of the budget. What is put, where the machine's pieces are what is put, and the status of the machine's own, is what `told_by` tells
+/// (docs/DEFINITIONS.md, "A run over lines"). The first fault ends the run: no call on the source or on the world comes behind it.
 pub fn run_lines<T: LineTaker, S: Source, W: World>(
     taker: &mut T,
     alloc: Global,
@@ -32,7 +33,7 @@ pub fn run_lines<T: LineTaker, S: Source, W: World>(
 
     // What is shown of what is told, and that never more than the budget is read.
     ensures ends { (input : List ℕ) → S.left source.old ≡ Some input
-        → EndsAs (told_by T.machine limit (T.stands taker.old) input) (T.rule.tells (W.view world.old)) input budget (S.left source.new) result (T.rule.tells (W.view world.new)) }
+        → WhereTold T.rule.tells (EndsAs (told_by T.machine limit (T.stands taker.old) input) (shown_of (W.view world.old)) input budget (S.left source.new) result (shown_of (W.view world.new))) }
     // Where an end of the machine's own comes from.
     ensures by { EndsBy T.machine budget (S.left source.old) (S.left source.new) result }
     // A fault comes only where its count rose, by one, and each fault that came is the answer.

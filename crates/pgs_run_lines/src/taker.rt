@@ -2,8 +2,10 @@ ghost use Rattle.std.specs.Prelude.{◌≡◌, ◌∷◌, [], ◌+◌, ℕ, true
 ghost use Rattle.pgs_world.specs.World.{View};
 ghost use Rattle.pgs_run_lines.specs.Calls.{is_of_world, stops_of_world};
 ghost use Rattle.pgs_run_lines.specs.Driving.{LineLeads, LineShows};
-ghost use Rattle.pgs_run_lines.specs.Ending.{Ends, HasCause, HasAnyCause, faults_of};
-ghost use Rattle.pgs_run_lines.specs.Machine.{Machine, Rule, AtEnd, HasRoomFor, extent_of, scene_of};
+ghost use Rattle.pgs_run_lines.specs.Ending.{HasCause, HasAnyCause, faults_of};
+ghost use Rattle.pgs_run_lines.specs.Machine.{Machine, Rule, AtEnd, HasRoomFor, WhereTold, extent_of, scene_of};
+ghost use Rattle.pgs_run_lines.specs.Pieces.{shown_of};
+ghost use Rattle.pgs_run_lines.specs.Run.{EndsWhere};
 
 use crate::stop::Stop;
 use pgs_world::World;
@@ -36,7 +38,7 @@ pub trait LineTaker {
         requires room { HasRoomFor machine 1 (stands self.old) }
         requires holds { rule.holds (stands self.old) (W.view world.old) }
         ensures leads { LineLeads machine (stands self.old) line.now (stands self.new) result }
-        ensures shows { LineShows (rule.tells (W.view world.old)) (machine.line (stands self.old) line.now).pieces result (rule.tells (W.view world.new)) }
+        ensures shows { WhereTold rule.tells (LineShows (shown_of (W.view world.old)) (machine.line (stands self.old) line.now).pieces result (shown_of (W.view world.new))) }
         ensures room { OnOk result ((lines : ℕ) → machine.HasRoom (lines + 1) (stands self.old) → machine.HasRoom lines (stands self.new)) }
         ensures holds { OnOk result (rule.holds (stands self.new) (W.view world.new)) }
         ensures allows { rule.allows (stands self.old) (line.now ∷ []) (extent_of result) (scene_of (W.view world.old) (kept self.old)) (scene_of (W.view world.new) (kept self.new)) }
@@ -53,7 +55,7 @@ pub trait LineTaker {
     ) -> Stop<Self::Status>
         requires room { HasRoomFor machine 1 (stands self.old) }
         requires holds { rule.holds (stands self.old) (W.view world.old) }
-        ensures ends { Ends (rule.tells (W.view world.old)) (machine.rest (stands self.old) rest.now) result (rule.tells (W.view world.new)) }
+        ensures ends { EndsWhere rule.tells (shown_of (W.view world.old)) (machine.rest (stands self.old) rest.now) result (shown_of (W.view world.new)) }
         ensures allows { rule.allows (stands self.old) [] (AtEnd rest.now result) (scene_of (W.view world.old) (kept self.old)) (scene_of (W.view world.new) (kept self.new)) }
         ensures cause { HasCause (faults_of 0 (W.view world.old)) (faults_of 0 (W.view world.new)) result }
         ensures last { is_of_world result ≡ true → W.failed world.new }

@@ -188,7 +188,7 @@ module _ (text : List ℕ) (resolved : Resolved) (of_text : schema_of text ≡ s
 
     there : IsTrue old.tells_bytes → IsNewStore text mid.shown
     there tells =
-        new_store text made.resolved store.journal.end mid.shown
+        new_store store.guard.seed text made.resolved store.journal.end mid.shown
         (subst (λ (g : GuardState). IsSavedIn g (first_journal store.journal.end) mid.shown) made.guard
         (subst (λ j. IsSavedIn store.guard j mid.shown) made.journal (made.stands.saved (beside.passes.tells_bytes ∙ tells))))
 

@@ -1,6 +1,8 @@
 -- What images save while a text is loaded.
 use Rattle.std.proofs.Common.{◌≡◌, ◌⊎◌, inl, inr, ℕ, List, Some, sym, ap, ap₂, subst, ◌∙◌}
 use Rattle.pgs_base.specs.Graph.{empty_graph}
+use Rattle.pgs_base.specs.declared.seed.Seed.{Seed}
+use Rattle.pgs_base.specs.declared.seed.Seed.TheVariants.{Fixed}
 use Rattle.pgs_snapshot.specs.Choice.{area_chosen, chosen_area, chosen_epoch, chosen_next, epoch_chosen, next_chosen}
 use Rattle.pgs_snapshot.specs.Choice as choices
 use Rattle.pgs_snapshot.specs.Saved.{saved, no_store}
@@ -33,8 +35,8 @@ same_loading d c a b (inr (text, resolved, answer, new)) = inr (text, resolved, 
 -- ---- inside the load
 
 -- images that hold the first store of a text
-pub new_store : (text : List ℕ) (resolved : Resolved) (end : ℕ) (c : Triple) → IsSavedIn (opened text resolved standard) (first_journal end) c → IsNewStore text c
-new_store text resolved end c is = record {
+pub new_store : (seed : Seed) (text : List ℕ) (resolved : Resolved) (end : ℕ) (c : Triple) → IsSavedIn (opened text resolved standard seed) (first_journal end) c → IsNewStore text c
+new_store seed text resolved end c is = record {
   saves = chosen_saves standard c.a c.b (choices.chosen A 1 end (Some 2) is.0) is.1.has.choice ∙ is.1.saves;
   area = ap area_chosen is.1.has.choice;
   epoch = ap epoch_chosen is.1.has.choice;
@@ -43,11 +45,11 @@ new_store text resolved end c is = record {
 
 pub loading_in : (text : List ℕ) (c : Triple) → IsLoadedIn standard text c → IsLoading c
 loading_in text c (inl none) = inl (nothing_saved c none)
-loading_in text c (inr (resolved, end, of_text, is)) = inr (text, resolved, answer_ok text resolved of_text, new_store text resolved end c is)
+loading_in text c (inr (resolved, end, of_text, is)) = inr (text, resolved, answer_ok text resolved of_text, new_store Fixed text resolved end c is)
 
 pub loading_at : (was c : Triple) (text : List ℕ) → c.output ≡ was.output → IsLoadedIn standard text c → IsLoadingAt was text c
 loading_at was c text output (inl none) = loading_here was c text output (inl (nothing_saved c none))
-loading_at was c text output (inr (resolved, end, of_text, is)) = loading_here was c text output (inr (new_store text resolved end c is))
+loading_at was c text output (inr (resolved, end, of_text, is)) = loading_here was c text output (inr (new_store Fixed text resolved end c is))
 
 -- ---- a text by its front
 

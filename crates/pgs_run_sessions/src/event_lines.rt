@@ -31,11 +31,12 @@ impl Model for EventLines {
     ghost use Rattle.std.specs.Coded.{codes};
     ghost use Rattle.pgs_run_input.specs.Session.{standard};
     ghost use Rattle.pgs_run_sessions.specs.State.{EventLinesState};
+    ghost use Rattle.pgs_base.specs.contracts.seed.Seed as seeds;
     ghost use Rattle.pgs_syntax.specs.contracts.resolved.Resolved as schemas;
 
     ghost Value = { EventLinesState };
 
-    ghost coded = { Prim.hlevel (codes, schemas.the_row.coded) };
+    ghost coded = { Prim.hlevel (codes, schemas.the_row.coded, seeds.the_row.coded) };
 
     ghost view = { λ s. record { sessions = s.sessions; number = s.number; refused = s.refused } };
 

@@ -2,6 +2,7 @@
 use Rattle.std.proofs.Common.{◌≡◌, ℕ, zero, suc, ◌+◌, ◌<◌, ◌≤◌, ◌-◌, true, false, not, cond, ◌==◌, List, [], ◌∷◌, ◌++◌, length, take, drop, get_or, map, slice_get, Some, IfSome, codes, refl, sym, ap, ap₂, subst, ◌∙◌, arith, append_assoc}
 use Rattle.std.specs.List.{slice_range, position_or_len}
 use Rattle.std.proofs.lemmas.List.{append-nil}
+use Rattle.std.proofs.lemmas.List.Edits.{between_more}
 use Rattle.std.proofs.lemmas.Option.{get_or_from_slice_get, slice_get_within, slice_get-get_or}
 use Rattle.std.proofs.Math.Seq.{drop-cons, drop-length}
 use Rattle.pgs_lexer.specs.Token.{Lexeme}
@@ -98,3 +99,10 @@ more_keys old new whole text key keys later before parts is after =
 
 pub same_keys : (old whole : List (List ℕ)) (keys later : List (List Lexeme)) → old ++ map text_of keys ≡ whole → keys ≡ later → old ++ map text_of later ≡ whole
 same_keys old whole keys later before e = ap (λ ys. old ++ map text_of ys) (sym e) ∙ before
+
+-- a token more of a range
+pub range_more : (xs : List Lexeme) (start place : ℕ) (token : Lexeme) → start ≤ place → slice_get xs place ≡ Some token →
+    slice_range xs start (place + 1) ≡ slice_range xs start place ++ token ∷ []
+range_more xs start place token order here =
+    between_more xs start place token order (slice_get_within xs place token here)
+    ∙ ap (λ own. slice_range xs start place ++ own ∷ []) (get_or_from_slice_get xs place token token here)

@@ -1,1 +1,3 @@
+pub mod KeyParts
 pub mod KeyTexts
+pub mod Because

@@ -1,11 +1,13 @@
-//! The texts of the guard's keys.
+//! The texts of the guard's keys, and of their parts.
 
 ghost use Rattle.std.specs.Prelude.{◌≡◌, ◌++◌, ◌==◌, map, flat_map, IfOk, OnOk};
 ghost use Rattle.std.specs.List.{position};
 ghost use Rattle.pgs_syntax.specs.declared.script.Script.{Script};
 ghost use Rattle.pgs_resolve_declared.specs.Tables.{AreOf};
+ghost use Rattle.pgs_schema_places.specs.KeyParts.{parts_at, guard_part_texts};
 ghost use Rattle.pgs_schema_places.specs.KeyTexts.{text_at, place_of, guard_key_texts};
 
+use crate::parts::{PartTexts, key_part_texts};
 use crate::texts::key_texts;
 use pgs_base::{Bytes, Copyable, List, Memory};
 use pgs_lexer::Tokens;
@@ -82,4 +84,58 @@ pub fn guard_key_texts(
     let graphs = guard_graphs(alloc, declarations)?;
     let wanted = places_of(alloc, &graphs)?;
     texts_at(alloc, &places, texts.as_slice(), &wanted)
+}
+
+// The texts of the parts of the key of a place.
+fn parts_at(
+    alloc: Global,
+    places: &[u32],
+    parts: &[PartTexts],
+    place: u32,
+) -> Result<PartTexts, Memory>
+    ensures { IfOk result (λ found. found ≡ parts_at places.now parts.now place) }
+{
+    let found = match position_of(places, place) {
+        Some(number) => parts.get(number),
+        None => None,
+    };
+    match found {
+        Some(texts) => texts.copy(alloc),
+        None => Ok(PartTexts {
+            places: List::new(alloc),
+            exprs: List::new(alloc),
+        }),
+    }
+}
+
+// The texts of the parts of the keys of these places.
+fn all_parts_at(
+    alloc: Global,
+    places: &[u32],
+    parts: &[PartTexts],
+    wanted: &[u32],
+) -> Result<List<PartTexts>, Memory>
+    ensures { IfOk result (λ found. found ≡ map (parts_at places.now parts.now) wanted.now) }
+{
+    let mut found = Vec::new(alloc);
+    for place in wanted {
+        found.push(parts_at(alloc, places, parts, *place)?)?;
+    }
+    Ok(List::from_vec(found))
+}
+
+/// The texts of the parts of the guard's keys, in the order in which they are numbered: of the places of the written descriptor, each
+/// from its bracket to the next closing one, and of the expressions.
+pub fn guard_part_texts(
+    alloc: Global,
+    tokens: &Tokens<'_>,
+    declarations: &Declarations<'_>,
+) -> Result<List<PartTexts>, Memory>
+    ensures { (script : Script) → AreOf script declarations.now → IfOk result (λ texts. texts ≡ guard_part_texts tokens.now script) }
+{
+    let parts = key_part_texts(alloc, tokens)?;
+    let places = places_of(alloc, &declarations.graphs)?;
+    let graphs = guard_graphs(alloc, declarations)?;
+    let wanted = places_of(alloc, &graphs)?;
+    all_parts_at(alloc, &places, &parts, &wanted)
 }

@@ -26,7 +26,7 @@ fn is_behind(token: &Token<'_>) -> bool
 }
 
 // Whether FOR stands at a place.
-fn is_for_at(tokens: &Tokens<'_>, place: usize) -> bool
+pub(crate) fn is_for_at(tokens: &Tokens<'_>, place: usize) -> bool
     requires { place < length tokens.now }
     ensures { IfSome (slice_get tokens.now place) (λ token. result ≡ is_for token) }
 {
@@ -48,7 +48,7 @@ fn is_behind_at(tokens: &Tokens<'_>, place: usize) -> bool
 }
 
 // How many tokens stand from a place on before the next FOR or `;`.
-fn count_before(tokens: &Tokens<'_>, start: usize) -> usize
+pub(crate) fn count_before(tokens: &Tokens<'_>, start: usize) -> usize
     requires { start ≤ length tokens.now }
     ensures count { result ≡ position_or_len is_behind (drop start tokens.now) }
     ensures within { start + result ≤ length tokens.now }
@@ -72,7 +72,7 @@ fn start_at(tokens: &Tokens<'_>, place: usize) -> usize
 }
 
 // Puts a token last, behind what ends at a place of the text.
-fn push_token(token: &Token<'_>, end: usize, text: &mut TextBuffer) -> Result<(), Memory>
+pub(crate) fn push_token(token: &Token<'_>, end: usize, text: &mut TextBuffer) -> Result<(), Memory>
     ensures { OnOk result (text.new ≡ text.old ++ ((if end == token.now.start then [] else codes " ") ++ token.now.slice.now)) }
 {
     if end != token.start {

@@ -35,11 +35,12 @@ impl Model for Sessions {
     ghost use Rattle.std.specs.Prelude.{◌≡◌};
     ghost use Rattle.std.specs.Coded.{codes};
     ghost use Rattle.pgs_sessions.specs.State.{SessionsState};
+    ghost use Rattle.pgs_base.specs.contracts.seed.Seed as seeds;
     ghost use Rattle.pgs_syntax.specs.contracts.resolved.Resolved as schemas;
 
     ghost Value = { SessionsState };
 
-    ghost coded = { Prim.hlevel (codes, schemas.the_row.coded) };
+    ghost coded = { Prim.hlevel (codes, schemas.the_row.coded, seeds.the_row.coded) };
 
     ghost view = { λ sessions. record {
       guard = sessions.guard;

@@ -3,6 +3,7 @@ use Rattle.std.proofs.Common.{◌≡◌, ℕ, ◌+◌, ◌^◌, ◌<◌, ◌≤�
 use Rattle.std.specs.Int.{bytes_high_first}
 use Rattle.std.proofs.lemmas.Bool.{false≢true}
 use Rattle.pgs_base.specs.declared.limits.Limits.{Limits}
+use Rattle.pgs_base.specs.declared.seed.Seed.{Seed}
 use Rattle.pgs_base.specs.Graph.{Graph}
 use Rattle.pgs_codec.specs.Frame.{framed, number_field}
 use Rattle.pgs_journal.specs.declared.journal.Journal.{Journal}
@@ -50,12 +51,12 @@ unmarked old guard journal whole same kept = same_store old guard journal false 
 
 -- ---- a guard by its parts, of which the graph is another one that is the same
 
-abbrev pub guard_of : List ℕ → Resolved → Limits → ℕ → Graph → GuardState
-guard_of text resolved limits commits graph = record { text = text; schema = resolved; limits = limits; graph = graph; commits = commits }
+abbrev pub guard_of : List ℕ → Resolved → Limits → ℕ → Seed → Graph → GuardState
+guard_of text resolved limits commits seed graph = record { text = text; schema = resolved; limits = limits; graph = graph; commits = commits; seed = seed }
 
-pub same_guard : (text : List ℕ) (resolved : Resolved) (limits : Limits) (commits : ℕ) (graph prepared : Graph) (guard : GuardState) → prepared ≡ graph
-    → guard_of text resolved limits commits graph ≡ guard → guard_of text resolved limits commits prepared ≡ guard
-same_guard text resolved limits commits graph prepared guard same is = ap (guard_of text resolved limits commits) same ∙ is
+pub same_guard : (text : List ℕ) (resolved : Resolved) (limits : Limits) (commits : ℕ) (seed : Seed) (graph prepared : Graph) (guard : GuardState) → prepared ≡ graph
+    → guard_of text resolved limits commits seed graph ≡ guard → guard_of text resolved limits commits seed prepared ≡ guard
+same_guard text resolved limits commits seed graph prepared guard same is = ap (guard_of text resolved limits commits seed) same ∙ is
 
 -- ---- a journal with one record more
 

@@ -1,6 +1,7 @@
 -- What a stop while a first store is made leaves, and what stands after it.
 use Rattle.std.proofs.Common.{◌≡◌, false, Err, refl, inl, inr, ⊎_elim, ℕ, ◌+◌, ◌<◌, ◌^◌, IsTrue, List, [], ◌∷◌, length, Result, Some, sym, ◌∙◌, ap, subst}
 use Rattle.pgs_base.specs.declared.limits.Limits.{Limits}
+use Rattle.pgs_base.specs.declared.seed.Seed.{Seed}
 use Rattle.pgs_base.specs.Graph.{Graph, empty_graph}
 use Rattle.pgs_codec.specs.declared.command.Command.TheVariants.{Schema}
 use Rattle.pgs_codec.specs.Payload.{payload_of}
@@ -56,10 +57,10 @@ module _ (limits : Limits) (text : List ℕ) (resolved : Resolved) (payload : Li
       (each_step mid new (Turns A (Creates 1 (payload ∷ []) end)) is_free (IsLoadedIn limits text) there.honest
       (λ d left. same_free mid.shown d none (there.a d left) (there.b d left)) create_stops (stops there.tells_bytes (synced_settled A mid there)))
 
-  pub load_stands : (old mid new : View) → FindsNone old → IsQuiet old mid → Passes mid new
+  pub load_stands : (seed : Seed) (old mid new : View) → FindsNone old → IsQuiet old mid → Passes mid new
       → (IsTrue mid.tells_bytes → Holds (Some 2) 1 (payload ∷ []) end new.shown.a) → IsSameBeside A mid.shown new.shown
-      → (IsTrue old.honest → IsTrue old.tells_bytes → IsSettled mid) → (IsSettled mid → IsSettled new) → StandsOn (opened text resolved limits) (first_journal end) new
-  load_stands old mid new free quiet passes holds same settled kept = record {
+      → (IsTrue old.honest → IsTrue old.tells_bytes → IsSettled mid) → (IsSettled mid → IsSettled new) → StandsOn (opened text resolved limits seed) (first_journal end) new
+  load_stands seed old mid new free quiet passes holds same settled kept = record {
     saved = λ told.
         let middle = sym passes.tells_bytes ∙ told in
         let before = sym quiet.passes.tells_bytes ∙ middle in
@@ -82,12 +83,12 @@ loading_stops limits text resolved first {result} {failed} {old} {mid} {new} of_
 
 -- a guard that was just made
 pub just_made : (guard : GuardState) (text : List ℕ) (limits : Limits) → guard.text ≡ text → guard.limits ≡ limits → guard.graph ≡ empty_graph → guard.commits ≡ 0
-    → guard ≡ opened text guard.schema limits
+    → guard ≡ opened text guard.schema limits guard.seed
 just_made guard text limits same_text same_limits empty none =
-    ap (λ (t : List ℕ). let s : GuardState = record { text = t; schema = guard.schema; limits = guard.limits; graph = guard.graph; commits = guard.commits } in s) same_text
-    ∙ ap (λ (l : Limits). let s : GuardState = record { text = text; schema = guard.schema; limits = l; graph = guard.graph; commits = guard.commits } in s) same_limits
-    ∙ ap (λ (g : Graph). let s : GuardState = record { text = text; schema = guard.schema; limits = limits; graph = g; commits = guard.commits } in s) empty
-    ∙ ap (λ (n : ℕ). let s : GuardState = record { text = text; schema = guard.schema; limits = limits; graph = empty_graph; commits = n } in s) none
+    ap (λ (t : List ℕ). let s : GuardState = record { text = t; schema = guard.schema; limits = guard.limits; graph = guard.graph; commits = guard.commits; seed = guard.seed } in s) same_text
+    ∙ ap (λ (l : Limits). let s : GuardState = record { text = text; schema = guard.schema; limits = l; graph = guard.graph; commits = guard.commits; seed = guard.seed } in s) same_limits
+    ∙ ap (λ (g : Graph). let s : GuardState = record { text = text; schema = guard.schema; limits = limits; graph = g; commits = guard.commits; seed = guard.seed } in s) empty
+    ∙ ap (λ (n : ℕ). let s : GuardState = record { text = text; schema = guard.schema; limits = limits; graph = empty_graph; commits = n; seed = guard.seed } in s) none
 
 -- areas that are refused
 pub occupied_answer : (limits : Limits) (text : List ℕ) (fault : LoadFault) (old now : View) → HasSchema text → IsOccupied old fault → Loads (Err fault) limits text old now

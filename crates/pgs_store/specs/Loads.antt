@@ -69,7 +69,7 @@ HasSchema text = (resolved : Resolved) × (schema_of text ≡ schema resolved)
 pub record IsLoaded (limits : Limits) (text : List ℕ) (store : StoreState) (old now : View) : Type 0 where
   pub resolved : Resolved
   pub of_text : schema_of text ≡ schema resolved
-  pub guard : store.guard ≡ opened text resolved limits
+  pub guard : store.guard ≡ opened text resolved limits store.guard.seed
   pub journal : store.journal ≡ first_journal store.journal.end
   pub whole : store.failed ≡ false
   pub free : FindsNone old

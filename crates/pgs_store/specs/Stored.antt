@@ -1,6 +1,8 @@
 -- What contracts see of a store, what holds of every store, and what it is to stand on a world.
 use Rattle.std.specs.Prelude.{◌≡◌, ◌⊎◌, ℕ, ◌+◌, ◌-◌, ◌*◌, ◌≤◌, ◌<◌, Bool, IsTrue, List, [], ◌∷◌, length, Some, Ok}
 use Rattle.pgs_base.specs.declared.limits.Limits.{Limits}
+use Rattle.pgs_base.specs.declared.seed.Seed.{Seed}
+use Rattle.pgs_base.specs.declared.seed.Seed.TheVariants.{Fixed}
 use Rattle.pgs_base.specs.Graph.{Graph, empty_graph}
 use Rattle.pgs_codec.specs.declared.command.Command.{Command}
 use Rattle.pgs_codec.specs.declared.command.Command.TheVariants.{Schema, Snapshot, Txn as Transaction}
@@ -87,18 +89,18 @@ IsEvolvedIn guard journal text triple =
     × IsSavedIn (evolved guard text resolved) (longer journal (Schema text)) triple)
 
 -- a guard of a text's schema that was just made, and the journal of a first store
-abbrev pub opened : List ℕ → Resolved → Limits → GuardState
-opened text resolved limits = record { text = text; schema = resolved; limits = limits; graph = empty_graph; commits = 0 }
+abbrev pub opened : List ℕ → Resolved → Limits → Seed → GuardState
+opened text resolved limits seed = record { text = text; schema = resolved; limits = limits; graph = empty_graph; commits = 0; seed = seed }
 
 abbrev pub first_journal : ℕ → Journal
 first_journal end = record { area = A; epoch = 1; end = end; next = Some 2 }
 
--- what a stop during `load` leaves: no store, or the empty store of the text in area A, of epoch 1
+-- what a stop during `load` leaves: no store, or the empty store of the text in area A, of epoch 1; what is saved says nothing of a seed
 abbrev pub IsLoadedIn : Limits → List ℕ → Triple → Type 0
 IsLoadedIn limits text triple =
     (choice_of triple.a triple.b ≡ no_store)
     ⊎ ((resolved : Resolved) × (end : ℕ) × (schema_of text ≡ schema resolved)
-    × IsSavedIn (opened text resolved limits) (first_journal end) triple)
+    × IsSavedIn (opened text resolved limits Fixed) (first_journal end) triple)
 
 -- the records with which a store begins anew: the schema and the snapshot alone
 abbrev pub snapshot_of : GuardState → Command

@@ -44,6 +44,8 @@ pub(crate) fn prepare(
     ensures graph { tables.new.graph ≡ tables.old.graph }
     ensures exclusive { index.new.exclusive ≡ index.old.exclusive }
     ensures rows { index.new.rows ≡ index.old.rows }
+    ensures seeds { tables.new.seeds ≡ tables.old.seeds }
+    ensures seed { index.new.seed ≡ index.old.seed }
     ensures ready { IfOk result (AreReady tables.new index.new) }
     ensures whole { IfOk result (IsReadyOf decided) }
 {
@@ -62,6 +64,8 @@ pub(crate) fn commit(tables: &mut Tables, index: &mut KeyIndex, ready: Ready)
     ensures graph { tables.new.graph ≡ changed tables.old.graph ready.tables.delta }
     ensures exclusive { index.new.exclusive ≡ index.old.exclusive }
     ensures rows { index.new.rows ≡ rows_changed index.old.rows ready.rows.changes }
+    ensures seeds { tables.new.seeds ≡ tables.old.seeds }
+    ensures seed { index.new.seed ≡ index.old.seed }
 {
     let (prepared, rows) = ready.into_parts();
     tables.commit(prepared);

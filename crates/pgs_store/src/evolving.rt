@@ -15,7 +15,7 @@ use crate::fault::SchemaRefusal;
 use crate::judging::first_violation;
 use crate::loading::schema_frame;
 use crate::{EvolveFault, Guard, Store};
-use pgs_base::{Seed, Steps};
+use pgs_base::Steps;
 use pgs_check::index_of;
 use pgs_journal::Journal;
 use pgs_keyindex::KeyIndex;
@@ -52,13 +52,13 @@ impl Renewal {
 /// Judges the graph of a guard under a schema, from scratch. The guard stays as it is.
 pub(crate) fn renewal_of<L: Ledger>(
     guard: &Guard,
-    seed: Seed,
     schema: Schema,
     steps: &mut Steps<L>,
 ) -> Result<Renewal, SchemaRefusal>
     ensures same { IfOk result (λ it. it.schema ≡ schema) }
     ensures schema { schema_of schema.text ≡ schema_as schema.resolved }
     ensures indexed { IfOk result (λ it. IsIndexed schema.resolved guard.now.limits guard.now.graph it.index) }
+    ensures hashed { IfOk result (λ it. it.index.seed ≡ guard.now.seed) }
     ensures unfit { IfErr result (IsUnfit guard.now schema.text) }
 {
     guard.facts();
@@ -71,7 +71,7 @@ pub(crate) fn renewal_of<L: Ledger>(
         &guard.graph,
         schema.compiled(),
         schema.keys(),
-        seed,
+        guard.seed,
         steps,
     )?;
     Ok(Renewal { schema, index })
@@ -89,6 +89,7 @@ impl Guard {
     /// Puts the guard under another schema. The graph and the commits stay.
     pub(crate) fn renew(&mut self, renewal: Renewal)
         requires indexed { IsIndexed renewal.schema.resolved self.old.limits self.old.graph renewal.index }
+        requires hashed { renewal.index.seed ≡ self.old.seed }
         ensures { self.new ≡ evolved_guard self.old renewal.schema.text renewal.schema.resolved }
     {
         let (schema, index) = renewal.into_parts();
@@ -106,7 +107,6 @@ fn is_disk_fault(answer: &Result<(), EvolveFault>) -> bool
 // The same, by a counter of the ledger, and the frame of the schema's record, which has this number or none.
 fn framed_renewal<L: Ledger>(
     guard: &Guard,
-    seed: Seed,
     schema: Schema,
     number: Option<u64>,
     blank: Blank,
@@ -117,12 +117,13 @@ fn framed_renewal<L: Ledger>(
     ensures same { IfOk result (λ it. it.0.schema ≡ schema) }
     ensures schema { schema_of schema.text ≡ schema_as schema.resolved }
     ensures indexed { IfOk result (λ it. IsIndexed schema.resolved guard.now.limits guard.now.graph it.0.index) }
+    ensures hashed { IfOk result (λ it. it.0.index.seed ≡ guard.now.seed) }
     ensures unfit { IfErr result (IsUnfit guard.now schema.text) }
     ensures frame { IfOk result (λ it. it.1.items ≡ framed number (payload_of (SchemaCommand schema.text))) }
     ensures decoded { OnOk result (decoded (payload_of (SchemaCommand schema.text)) ≡ Some (SchemaCommand schema.text)) }
 {
     let mut steps: Steps<L> = Steps::begin(blank);
-    let renewal = renewal_of(guard, seed, schema, &mut steps)?;
+    let renewal = renewal_of(guard, schema, &mut steps)?;
     let frame = schema_frame(guard.alloc, renewal.schema.text(), number)?;
     Ok((renewal, frame))
 }
@@ -147,13 +148,7 @@ fn journal_schema<W: World>(
     ensures stops { IsTrue (W.view world.old).honest → IsTrue (W.view world.old).tells_bytes
         → EachSince (IsEvolvedIn guard.old journal.old schema.text) (W.view world.old) (W.view world.new) }
 {
-    let (renewal, frame) = framed_renewal::<Brand>(
-        guard,
-        world.seed(),
-        schema,
-        journal.next,
-        Blank::new(1),
-    )?;
+    let (renewal, frame) = framed_renewal::<Brand>(guard, schema, journal.next, Blank::new(1))?;
     match journal.append(world, frame.as_slice()) {
         Ok(()) => {
             guard.renew(renewal);

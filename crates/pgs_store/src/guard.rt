@@ -1,5 +1,6 @@
 ghost use Rattle.std.specs.Prelude.{◌≡◌, ◌+◌, ◌^◌, ◌<◌, ◌≤◌, true, length, Ok, IfOk, IfErr, OnOk, OnErr};
 ghost use Rattle.std.specs.Option.{option_copied};
+ghost use Rattle.pgs_base.specs.declared.seed.Seed.TheVariants.{Fixed};
 ghost use Rattle.pgs_base.specs.Graph.{empty_graph, is_graph};
 ghost use Rattle.pgs_resolve.specs.SchemaOf.{schema, schema_of};
 ghost use Rattle.pgs_schema.specs.Told.{IsRefused};
@@ -26,7 +27,8 @@ use std::marker::Model;
 use std::sync::ledger::Ledger;
 
 /// A graph under a schema and limits, which it never breaks: transactions change it, and each that would break them is rejected.
-/// Contracts see the schema's text, the schema, the limits, the graph, and how many transactions were accepted.
+/// Contracts see the schema's text, the schema, the limits, the graph, how many transactions were accepted, and how its tables and its index
+/// hash.
 ///
 /// It keeps an index that stands for the graph in every guard, whatever was called and answered: for each key of the schema it has
 /// exactly the elements of the key's scope with exactly their key values (`IsIndexed` in `specs/State.antt`). So a transaction is
@@ -35,6 +37,7 @@ pub struct Guard {
     pub(crate) alloc: Global,
     pub(crate) schema: Schema,
     pub(crate) limits: Limits,
+    pub(crate) seed: Seed,
     pub(crate) graph: Tables,
     pub(crate) index: KeyIndex,
     pub(crate) commits: u64,
@@ -47,6 +50,7 @@ impl Drop for Guard {
             alloc: _,
             schema: _,
             limits: _,
+            seed: _,
             graph: _,
             index: _,
             commits: _,
@@ -56,12 +60,13 @@ impl Drop for Guard {
 
 impl Model for Guard {
     ghost use Rattle.std.specs.Coded.{codes};
+    ghost use Rattle.pgs_base.specs.contracts.seed.Seed as seeds;
     ghost use Rattle.pgs_syntax.specs.contracts.resolved.Resolved as schemas;
-    ghost use Rattle.pgs_store.specs.State.{GuardState, IsIndexed};
+    ghost use Rattle.pgs_store.specs.State.{GuardState, IsHashedBy, IsIndexed};
 
     ghost Value = { GuardState };
 
-    ghost coded = { Prim.hlevel (codes, schemas.the_row.coded) };
+    ghost coded = { Prim.hlevel (codes, schemas.the_row.coded, seeds.the_row.coded) };
 
     ghost view = { λ guard. record {
       text = guard.schema.text;
@@ -69,9 +74,10 @@ impl Model for Guard {
       limits = guard.limits;
       graph = guard.graph.graph;
       commits = guard.commits;
+      seed = guard.seed;
     } };
 
-    ghost invariant = { λ guard. IsIndexed guard.schema.resolved guard.limits guard.graph.graph guard.index };
+    ghost invariant = { λ guard. IsIndexed guard.schema.resolved guard.limits guard.graph.graph guard.index × IsHashedBy guard.seed guard.graph.seeds guard.index.seed };
 }
 
 impl Guard {
@@ -83,6 +89,7 @@ impl Guard {
         ensures limits { IfOk result (λ guard. guard.limits ≡ limits) }
         ensures empty { IfOk result (λ guard. guard.graph ≡ empty_graph) }
         ensures commits { IfOk result (λ guard. guard.commits ≡ 0) }
+        ensures seed { IfOk result (λ guard. guard.seed ≡ Fixed) }
         ensures refused { IfErr result (IsRefused (schema_of text.now)) }
     {
         Guard::with_seed(alloc, text, limits, Seed::Fixed)
@@ -100,6 +107,7 @@ impl Guard {
         ensures limits { IfOk result (λ guard. guard.limits ≡ limits) }
         ensures empty { IfOk result (λ guard. guard.graph ≡ empty_graph) }
         ensures commits { IfOk result (λ guard. guard.commits ≡ 0) }
+        ensures seed { IfOk result (λ guard. guard.seed ≡ seed) }
         ensures refused { IfErr result (IsRefused (schema_of text.now)) }
     {
         let schema = Schema::read(alloc, text)?;
@@ -108,6 +116,7 @@ impl Guard {
             alloc,
             schema,
             limits,
+            seed,
             graph: Tables::with_seed(alloc, seed),
             index,
             commits: 0,

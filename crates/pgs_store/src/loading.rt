@@ -71,6 +71,7 @@ impl Store {
     ) -> Result<Store, LoadFault>
         // What it answers, and the store that is made.
         ensures answer { Loads result limits text.now (W.view world.old) (W.view world.new) }
+        ensures seed { IfOk result (λ store. store.guard.seed ≡ W.hashed_by world.old) }
         ensures early { is_refused result ≡ true → world.new ≡ world.old }
         ensures faults { CountsFault (is_disk_fault result) (W.view world.old) (W.view world.new) }
         ensures last { is_disk_fault result ≡ true → W.failed world.new }

@@ -9,6 +9,7 @@ ghost use Rattle.pgs_store.specs.Recovers.{IsUnrecovered, IsUnreplayed, IsUntake
 ghost use Rattle.pgs_store.specs.Recovers.{of_refusal, of_schema_refusal, replayed_in};
 ghost use Rattle.pgs_resolve.specs.SchemaOf.{schema, schema_of};
 ghost use Rattle.pgs_decide.specs.Refused.{IsRejected};
+ghost use Rattle.pgs_store.specs.State.{IsHashedBy};
 ghost use Rattle.pgs_store.specs.World.{CountsFault};
 ghost use Rattle.pgs_keyindex.specs.Standing.{StandsFor};
 ghost use Rattle.pgs_violation.specs.declared.violation.Verdict.TheVariants.{Conforms};
@@ -50,7 +51,6 @@ fn text_in(alloc: Global, payloads: &[Bytes]) -> Result<Bytes, Memory>
 // The graph of a snapshot in tables, where it conforms and is within the limits, and the index of all of it.
 fn judged_tables<L: Ledger>(
     guard: &Guard,
-    seed: Seed,
     nodes: List<(NodeId, NodeRow)>,
     edges: List<(EdgeId, EdgeRow)>,
     steps: &mut Steps<L>,
@@ -60,18 +60,19 @@ fn judged_tables<L: Ledger>(
     ensures conforms { OnOk result (verdict guard.now.schema (snapshot_graph nodes edges) ≡ Conforms) }
     ensures within { OnOk result (element_count (snapshot_graph nodes edges) ≤ guard.now.limits.elements) }
     ensures stands { IfOk result (λ it. StandsFor guard.now.schema (snapshot_graph nodes edges) guard.now.schema.guard.keys it.1) }
+    ensures hashed { IfOk result (λ it. IsHashedBy guard.now.seed it.0.seeds it.1.seed) }
     ensures accepted { OnOk result (judged guard.now.limits (verdict guard.now.schema) (snapshot_graph nodes edges)
         ≡ Ok (snapshot_graph nodes edges)) }
     ensures rejected { IfErr result (IsRejected (judged guard.now.limits (verdict guard.now.schema) (snapshot_graph nodes edges))) }
 {
-    let tables = tables_of(guard.alloc, seed, nodes, edges)?;
+    let tables = tables_of(guard.alloc, guard.seed, nodes, edges)?;
     judge_tables(guard.alloc, &tables, &guard.schema, &guard.limits, steps)?;
     let index = index_of(
         guard.alloc,
         &tables,
         guard.schema.compiled(),
         guard.schema.keys(),
-        seed,
+        guard.seed,
         steps,
     )?;
     Ok((tables, index))
@@ -80,7 +81,6 @@ fn judged_tables<L: Ledger>(
 // Takes the graph of a snapshot for the guard's own, where it conforms and is within the limits, with the index of all of it.
 fn restore<L: Ledger>(
     guard: &mut Guard,
-    seed: Seed,
     commits: u64,
     nodes: List<(NodeId, NodeRow)>,
     edges: List<(EdgeId, EdgeRow)>,
@@ -92,7 +92,7 @@ fn restore<L: Ledger>(
     ensures restored { OnOk result (guard.new ≡ record guard.old { graph = snapshot_graph nodes edges; commits = commits }) }
     ensures rejected { IfErr result (IsRejected (judged guard.old.limits (verdict guard.old.schema) (snapshot_graph nodes edges))) }
 {
-    let (tables, index) = judged_tables(guard, seed, nodes, edges, steps)?;
+    let (tables, index) = judged_tables(guard, nodes, edges, steps)?;
     guard.graph = tables;
     guard.index = index;
     guard.commits = commits;
@@ -126,7 +126,6 @@ fn renewal_fault(number: u64, refusal: SchemaRefusal) -> RecoverFault
 // Puts the guard under the schema of a later record.
 fn take_schema<L: Ledger>(
     guard: &mut Guard,
-    seed: Seed,
     text: &[u8],
     steps: &mut Steps<L>,
 ) -> Result<(), SchemaRefusal>
@@ -136,11 +135,12 @@ fn take_schema<L: Ledger>(
         IsUntaken number (under_schema guard.old.limits (replayed_in guard.old) text.now (schema_of text.now))
         (of_schema_refusal number refusal)) }
     ensures limits { OnOk result (guard.new.limits ≡ guard.old.limits) }
+    ensures seed { OnOk result (guard.new.seed ≡ guard.old.seed) }
 {
     // The graph is within the limits.
     guard.facts();
     let schema = guard.read(text)?;
-    let renewal = renewal_of(guard, seed, schema, steps)?;
+    let renewal = renewal_of(guard, schema, steps)?;
     guard.renew(renewal);
     Ok(())
 }
@@ -148,7 +148,6 @@ fn take_schema<L: Ledger>(
 // Does what a command of the record of this number, behind the first, says.
 fn take_command<L: Ledger>(
     guard: &mut Guard,
-    seed: Seed,
     number: u64,
     command: Command,
     steps: &mut Steps<L>,
@@ -158,6 +157,7 @@ fn take_command<L: Ledger>(
     ensures taken { OnOk result (after_record guard.old.limits (replayed_in guard.old) (Some command) ≡ Ok (replayed_in guard.new)) }
     ensures untaken { IfErr result (IsUntaken number (after_record guard.old.limits (replayed_in guard.old) (Some command))) }
     ensures limits { OnOk result (guard.new.limits ≡ guard.old.limits) }
+    ensures seed { OnOk result (guard.new.seed ≡ guard.old.seed) }
 {
     match command {
         Command::Txn(txn) => match guard.apply(&txn, steps) {
@@ -168,11 +168,11 @@ fn take_command<L: Ledger>(
             commits,
             nodes,
             edges,
-        } => match restore(guard, seed, commits, nodes, edges, steps) {
+        } => match restore(guard, commits, nodes, edges, steps) {
             Ok(()) => Ok(()),
             Err(refusal) => Err(record_fault(number, refusal)),
         },
-        Command::Schema(text) => match take_schema(guard, seed, text.as_slice(), steps) {
+        Command::Schema(text) => match take_schema(guard, text.as_slice(), steps) {
             Ok(()) => Ok(()),
             Err(refusal) => Err(renewal_fault(number, refusal)),
         },
@@ -183,7 +183,6 @@ fn take_command<L: Ledger>(
 fn take_record<L: Ledger>(
     alloc: Global,
     guard: &mut Guard,
-    seed: Seed,
     number: u64,
     payload: &[u8],
     steps: &mut Steps<L>,
@@ -192,9 +191,10 @@ fn take_record<L: Ledger>(
     ensures taken { OnOk result (after_record guard.old.limits (replayed_in guard.old) (decoded payload.now) ≡ Ok (replayed_in guard.new)) }
     ensures untaken { IfErr result (IsUntaken number (after_record guard.old.limits (replayed_in guard.old) (decoded payload.now))) }
     ensures limits { OnOk result (guard.new.limits ≡ guard.old.limits) }
+    ensures seed { OnOk result (guard.new.seed ≡ guard.old.seed) }
 {
     match decode(alloc, payload)? {
-        Some(command) => take_command(guard, seed, number, command, steps),
+        Some(command) => take_command(guard, number, command, steps),
         None => Ok(()),
     }
 }
@@ -203,7 +203,6 @@ fn take_record<L: Ledger>(
 fn replay<L: Ledger>(
     alloc: Global,
     guard: &mut Guard,
-    seed: Seed,
     payloads: List<Bytes>,
     steps: &mut Steps<L>,
 ) -> Result<(), RecoverFault>
@@ -213,13 +212,14 @@ fn replay<L: Ledger>(
         ≡ Ok (replayed_in guard.new)) }
     ensures untaken { IfErr result (IsUnreplayed (replay_of guard.old.limits 2 (replayed_in guard.old) (drop 1 payloads))) }
     ensures limits { OnOk result (guard.new.limits ≡ guard.old.limits) }
+    ensures seed { OnOk result (guard.new.seed ≡ guard.old.seed) }
 {
     let mut records = payloads.into_vec().into_iter();
     let _schema = records.next();
     let mut number = 1;
     for payload in records {
         number += 1;
-        match take_record(alloc, guard, seed, number, payload.as_slice(), steps) {
+        match take_record(alloc, guard, number, payload.as_slice(), steps) {
             Ok(()) => {}
             Err(fault) => return Err(fault),
         }
@@ -239,6 +239,7 @@ fn first_guard(
     ensures limits { IfOk result (λ guard. guard.limits ≡ limits) }
     ensures empty { IfOk result (λ guard. guard.graph ≡ empty_graph) }
     ensures commits { IfOk result (λ guard. guard.commits ≡ 0) }
+    ensures seed { IfOk result (λ guard. guard.seed ≡ seed) }
     ensures refused { IfErr result (IsUnrecovered (saved_of limits payloads.now)) }
     ensures judged { is_disk_fault result ≡ false }
 {
@@ -260,12 +261,13 @@ fn guard_of_records<L: Ledger>(
     requires some { 0 < blank.parts }
     ensures recovered { IfOk result (λ guard. saved_of limits payloads ≡ store guard.text guard.commits guard.graph) }
     ensures limits { IfOk result (λ guard. guard.limits ≡ limits) }
+    ensures seed { IfOk result (λ guard. guard.seed ≡ seed) }
     ensures refused { IfErr result (IsUnrecovered (saved_of limits payloads)) }
     ensures judged { is_disk_fault result ≡ false }
 {
     let mut steps: Steps<L> = Steps::begin(blank);
     let mut guard = first_guard(alloc, limits, seed, payloads.as_slice())?;
-    replay(alloc, &mut guard, seed, payloads, &mut steps)?;
+    replay(alloc, &mut guard, payloads, &mut steps)?;
     Ok(guard)
 }
 
@@ -278,13 +280,15 @@ impl Store {
     /// 30 `NoStore` exactly where no area is a store and none is foreign, 32 `Foreign` exactly where no area is a store and one is
     /// foreign, 33 `BadRecord` exactly where the chosen store is damaged at that record; else the first fault in the order of records:
     /// a schema refusal 10 to 19 of a stored text, or 34 `BadHistory` with the record's number and rejection. `DiskFault` comes only
-    /// where the count of area faults rose; `Memory` may come wherever there is none.
+    /// where the count of area faults rose; `Memory` may come wherever there is none. The store hashes by the seed of the world
+    /// (`World::seed`), and keeps it.
     pub fn recover<W: World>(
         alloc: Global,
         limits: Limits,
         world: &mut W,
     ) -> Result<Store, RecoverFault>
         ensures answer { Recovers result limits (W.view world.old) (W.view world.new) }
+        ensures seed { IfOk result (λ store. store.guard.seed ≡ W.hashed_by world.new) }
         ensures faults { CountsFault (is_disk_fault result) (W.view world.old) (W.view world.new) }
         ensures last { is_disk_fault result ≡ true → W.failed world.new }
         ensures quiet { IsQuiet (W.view world.old) (W.view world.new) }

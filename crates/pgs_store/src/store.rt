@@ -36,12 +36,13 @@ impl Drop for Store {
 
 impl Model for Store {
     ghost use Rattle.std.specs.Coded.{codes};
+    ghost use Rattle.pgs_base.specs.contracts.seed.Seed as seeds;
     ghost use Rattle.pgs_syntax.specs.contracts.resolved.Resolved as schemas;
     ghost use Rattle.pgs_store.specs.Stored.{StoreState, IsBounded};
 
     ghost Value = { StoreState };
 
-    ghost coded = { Prim.hlevel (codes, schemas.the_row.coded) };
+    ghost coded = { Prim.hlevel (codes, schemas.the_row.coded, seeds.the_row.coded) };
 
     ghost view = { λ store. record { guard = store.guard; journal = store.journal; failed = store.failed } };
 

@@ -11,7 +11,7 @@ use crate::area_limit::passes_limit;
 use crate::mem_contents::{Contents, Note, Noted, add_note};
 use crate::meter::Meter;
 use crate::{Area, AreaFault, Leave, PutFault, World};
-use pgs_base::{Bytes, List, Memory};
+use pgs_base::{Bytes, List, Memory, Seed};
 use std::alloc::Global;
 use std::marker::Model;
 
@@ -340,6 +340,11 @@ impl World for MemWorld {
         } else {
             Err(PutFault)
         }
+    }
+
+    /// By fixed keys.
+    fn seed(&self) -> Seed {
+        Seed::Fixed
     }
 }
 

@@ -8,7 +8,7 @@ ghost use Rattle.pgs_world.specs.World.{output_of, Adds, AddsFront};
 ghost use Rattle.pgs_world.specs.declared.area_limit.TheConstants.{AREA_LIMIT};
 
 use crate::{Area, AreaFault, PutFault, World};
-use pgs_base::List;
+use pgs_base::{List, Seed};
 use std::marker::Model;
 
 /// A world that tells nothing: contracts know no more of it than its counts, as of real files.
@@ -168,5 +168,10 @@ impl World for SilentWorld {
         }
         self.puts += 1;
         Ok(())
+    }
+
+    /// By fixed keys.
+    fn seed(&self) -> Seed {
+        Seed::Fixed
     }
 }

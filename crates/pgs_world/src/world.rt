@@ -1,4 +1,6 @@
 ghost use Rattle.std.specs.Prelude.{◌≡◌, ◌+◌, ◌≤◌, length, take, drop, IsTrue, IfOk, OnOk, OnErr, ⊤};
+ghost use Rattle.pgs_base.specs.declared.seed.Seed.{Seed};
+ghost use Rattle.pgs_base.specs.declared.seed.Seed.TheVariants.{Fixed};
 ghost use Rattle.pgs_world.specs.declared.area.Area.{Area};
 ghost use Rattle.pgs_world.specs.Answers.{Answer, Long, Read};
 ghost use Rattle.pgs_world.specs.Calls.{IsAreaCall};
@@ -26,6 +28,9 @@ pub trait World {
     /// A call that answered of an area: its length, or bytes of it. Code that is generic over worlds can't make such a fact up, so what a
     /// contract says by it is said of the calls themselves, whatever a world takes it to be.
     ghost answered: { Self → Area → Answer → Self → Type 0 } = { λ _ _ _ _. ⊤ };
+
+    /// How the tables of a graph that is kept with the world hash.
+    ghost hashed_by: { Self → Seed } = { λ _. Fixed };
 
     /// The length of an area, in bytes. An area of more than 2^40 bytes is a fault.
     fn len(&mut self, area: Area) -> Result<u64, AreaFault>
@@ -98,10 +103,9 @@ pub trait World {
         ensures no_cause { OnOk result ((view self.new).put_faults ≡ (view self.old).put_faults) }
         ensures no_area { (view self.new).area_faults ≡ (view self.old).area_faults };
 
-    /// How the tables of a graph that is kept with this world hash. No contract depends on it.
-    fn seed(&self) -> Seed {
-        Seed::Fixed
-    }
+    /// How the tables of a graph that is kept with this world hash. No answer depends on it.
+    fn seed(&self) -> Seed
+        ensures { result ≡ hashed_by self.now };
 
     /// What a stop may leave now, and since each moment, belong together.
     ghost timed: { (world : Self) → IsTimed (view world) };

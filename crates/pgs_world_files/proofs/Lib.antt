@@ -1,7 +1,9 @@
 pub mod Admitted
+pub mod Failing
 pub mod Faults
 pub mod FeedFaults
 pub mod FeedLines
+pub mod FeedPuts
 pub mod Over
 pub mod Views
 pub mod Worlds

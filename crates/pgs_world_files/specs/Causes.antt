@@ -1,11 +1,11 @@
 -- Which cause an error of a call is told as, and why a call on an area failed.
-use Rattle.std.specs.Prelude.{◌≡◌, ◌≢◌, ◌⊎◌, ℕ, ◌+◌, ◌<◌, ℤ, pos, true, false, List, length, Option, Some, None, Result, Ok, Err}
+use Rattle.std.specs.Prelude.{◌≡◌, ◌≢◌, ◌⊎◌, ℕ, ◌+◌, ◌<◌, pos, false, List, length, Option, Some, None, Result, Ok, Err}
 use Rattle.std.specs.IoError.{error_kind, raw_os_error}
 use Rattle.std.specs.declared.io.Error.{Error}
 use Rattle.std.specs.declared.io.ErrorKind.TheVariants.{InvalidData, InvalidInput, OutOfMemory, PermissionDenied, StaleNetworkFileHandle, Unsupported}
 use Rattle.pgs_world.specs.declared.area_limit.TheConstants.{AREA_LIMIT}
 use Rattle.pgs_world_files.specs.declared.cause.FileCause.{FileCause}
-use Rattle.pgs_world_files.specs.declared.cause.FileCause.TheVariants.{Replaced, Changed, TooManyOpen, FolderDenied, NoLocks, Short, Long, Call}
+use Rattle.pgs_world_files.specs.declared.cause.FileCause.TheVariants.{Replaced, Changed, TooManyOpen, FolderDenied, Short, Long, Call}
 use Rattle.pgs_world_files.specs.declared.cause.OpenFault.{OpenFault}
 use Rattle.pgs_world_files.specs.declared.cause.OpenFault.TheVariants as fault
 use Rattle.pgs_world_streams.specs.Given.{PlacedCall, BareCall}

@@ -1,10 +1,12 @@
 -- What a put into a feed's file does.
-use Rattle.std.specs.Prelude.{◌≡◌, ℕ, Bool, true, false, not, List, Option, Some, None, Result, Ok, Err, nat_lt}
+use Rattle.std.specs.Prelude.{◌≡◌, ℕ, Bool, true, false, not, List, Option, Some, None, Result, Ok, Err, nat_lt, ⊤}
 use Rattle.pgs_world_streams.specs.Given.{PlainCall, BareCall}
 use Rattle.pgs_world_streams.specs.Pieces.{PieceIs}
 use Rattle.pgs_world_files.specs.declared.feed_cause.FeedCause.{FeedCause}
 use Rattle.pgs_world_files.specs.declared.feed_cause.FeedCause.TheVariants.{File, Ahead}
+use Rattle.pgs_world_files.specs.declared.file_feed.FileFeed.{FileFeed}
 use Rattle.pgs_world_files.specs.FeedLines.{commit_of}
+use Rattle.pgs_world_files.specs.Handles.{IfOpen}
 
 -- a piece begins as the line of a commit above this one
 abbrev pub is_above : ℕ → Option ℕ → Bool
@@ -29,3 +31,15 @@ IsPutCause None behind old new = new ≡ old
 IsPutCause (Some writer) true old new = new ≡ Some Ahead
 IsPutCause (Some writer) false old (Some (File cause)) = Unit {0}
 IsPutCause (Some writer) false old cause = ⊥
+
+-- what a put answers, which fails or doesn't
+abbrev pub put_answer : (fails : Bool) → Result ⊤ ⊤
+put_answer true = Err tt
+put_answer false = Ok tt
+
+-- A put of a piece into a feed, which failed or didn't: what it did to the open file, and the cause that is kept where it failed. The number of
+-- the file's last line stays.
+pub record IsPutInto {W : Type 0} (writes : PlainCall W) (flushes : BareCall W) (old : FileFeed W) (piece : List ℕ) (fails : Bool) (new : FileFeed W) : Type 0 where
+  pub given : IfOpen (λ before answer after. FeedPutIs writes flushes (is_behind old.last piece) before piece answer after) old.writer (put_answer fails) new.writer
+  pub told : fails ≡ true → IsPutCause old.writer (is_behind old.last piece) old.cause new.cause
+  pub last : new.last ≡ old.last

@@ -4,6 +4,7 @@ pub mod Causes
 pub mod Contents
 pub mod Counted
 pub mod FailedFiles
+pub mod Failing
 pub mod Faults
 pub mod FeedCalls
 pub mod FeedFaults

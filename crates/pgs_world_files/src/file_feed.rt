@@ -1,4 +1,4 @@
-ghost use Rattle.std.specs.Prelude.{◌≡◌, ◌≤◌, None, Some, OnOk, OnErr, IfErr};
+ghost use Rattle.std.specs.Prelude.{◌≡◌, ◌≤◌, None, Some, OnOk, OnErr, IfErr, is_err};
 ghost use Rattle.pgs_world.specs.Count.{RoseByOne, raised};
 ghost use Rattle.pgs_world.specs.World.{Adds, AddsFront};
 ghost use Rattle.pgs_world_files.specs.Counted.{untold_bytes};
@@ -96,13 +96,17 @@ impl<W: SteadyWrite + Drop> FileFeed<W> {
 
 impl<W: SteadyWrite + Drop> Feed for FileFeed<W> {
     ghost use Rattle.pgs_world_files.specs.Counted.{untold_bytes};
+    ghost use Rattle.pgs_world_files.specs.FeedPuts.{IsPutInto};
 
     ghost taken = { λ _. untold_bytes };
 
     ghost faults = { λ feed. feed.faults };
 
+    ghost put_made = { IsPutInto W.write_gives W.flush_gives };
+
     /// Writes the whole piece behind the end of the file and flushes it, or counts a fault and keeps its cause; a front of the piece may be
     /// written then, but nothing of one that isn't above the file's last line.
+    #[tactic(auto, using(crate::proofs::FeedPuts::put_into))]
     fn put(&mut self, piece: &[u8]) -> Result<(), FeedFault>
         ensures holds { IfOpen (λ old answer new. HoldsPiece W.contents old piece.now answer new) self.old.writer result self.new.writer }
         ensures given { IfOpen (λ old answer new. FeedPutIs W.write_gives W.flush_gives (is_behind self.old.last piece.now) old piece.now answer new) self.old.writer result self.new.writer }
@@ -116,6 +120,7 @@ impl<W: SteadyWrite + Drop> Feed for FileFeed<W> {
         ensures cause { OnErr result (RoseByOne self.old.faults self.new.faults) }
         ensures no_cause { OnOk result (self.new.faults ≡ self.old.faults) }
         ensures faults_stay { self.old.faults ≤ self.new.faults }
+        ensures made { ⟦<Self as Feed>⟧.put_made self.old piece.now (is_err result) self.new }
     {
         match self.write(piece) {
             Ok(()) => Ok(()),

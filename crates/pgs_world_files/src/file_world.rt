@@ -110,6 +110,7 @@ impl<W: SteadyWrite, H: Handle> FileWorld<W, H> {
     fn put_fault(&mut self) -> PutFault
         ensures areas { self.new.areas ≡ self.old.areas }
         ensures writer { self.new.writer ≡ self.old.writer }
+        ensures cause { self.new.put_cause ≡ self.old.put_cause }
         ensures raised { self.new.counts.put_faults ≡ raised self.old.counts.put_faults }
         ensures later { self.old.counts.put_faults ≤ self.new.counts.put_faults }
         ensures calls { self.old.counts.calls ≤ self.new.counts.calls }
@@ -124,8 +125,13 @@ impl<W: SteadyWrite, H: Handle> FileWorld<W, H> {
 
 impl<W: SteadyWrite, H: Handle> World for FileWorld<W, H> {
     ghost use Rattle.pgs_world_files.specs.Counted.{bytes_of, seen, timed_view};
+    ghost use Rattle.pgs_world_files.specs.Failing.{HasFailed};
 
     ghost view = { seen W.tells W.contents H.tells H.contents };
+
+    ghost hashed_by = { λ world. world.seed };
+
+    ghost failed = { HasFailed (record { lengths = H.length_gives; reads = H.read_gives; writes = H.write_gives; cuts = H.cut_gives; syncs = H.sync_gives }) W.write_gives W.flush_gives };
 
     ghost timed = { λ world. timed_view H.tells (bytes_of H.tells H.contents world.areas) W.tells (W.contents world.writer) world.counts };
 
@@ -141,6 +147,7 @@ impl<W: SteadyWrite, H: Handle> World for FileWorld<W, H> {
         ensures limit { IfOk result (λ count. count ≤ AREA_LIMIT) }
         ensures quiet { IsQuiet (⟦<Self as World>⟧.view self.old) (⟦<Self as World>⟧.view self.new) }
         ensures call { IsAreaCall (⟦<Self as World>⟧.view self.old) result (⟦<Self as World>⟧.view self.new) }
+        ensures last { OnErr result (⟦<Self as World>⟧.failed self.new) }
     {
         let answer = self.areas.len(area);
         self.counted(answer)
@@ -158,6 +165,7 @@ impl<W: SteadyWrite, H: Handle> World for FileWorld<W, H> {
         ensures bytes { OnOk result (HasBytes area at (length buf.old) buf.new (⟦<Self as World>⟧.view self.old)) }
         ensures quiet { IsQuiet (⟦<Self as World>⟧.view self.old) (⟦<Self as World>⟧.view self.new) }
         ensures call { IsAreaCall (⟦<Self as World>⟧.view self.old) result (⟦<Self as World>⟧.view self.new) }
+        ensures last { OnErr result (⟦<Self as World>⟧.failed self.new) }
     {
         let answer = self.areas.read_at(area, at, buf);
         self.counted(answer)
@@ -178,6 +186,7 @@ impl<W: SteadyWrite, H: Handle> World for FileWorld<W, H> {
         ensures stops { StopsBy (Writes area at (length bytes.now)) (⟦<Self as World>⟧.view self.old) (⟦<Self as World>⟧.view self.new) }
         ensures passes { Passes (⟦<Self as World>⟧.view self.old) (⟦<Self as World>⟧.view self.new) }
         ensures call { IsAreaCall (⟦<Self as World>⟧.view self.old) result (⟦<Self as World>⟧.view self.new) }
+        ensures last { OnErr result (⟦<Self as World>⟧.failed self.new) }
     {
         let answer = self.areas.write_at(area, at, bytes);
         self.counted(answer)
@@ -197,6 +206,7 @@ impl<W: SteadyWrite, H: Handle> World for FileWorld<W, H> {
         ensures stops { StopsBy (Cuts area len) (⟦<Self as World>⟧.view self.old) (⟦<Self as World>⟧.view self.new) }
         ensures passes { Passes (⟦<Self as World>⟧.view self.old) (⟦<Self as World>⟧.view self.new) }
         ensures call { IsAreaCall (⟦<Self as World>⟧.view self.old) result (⟦<Self as World>⟧.view self.new) }
+        ensures last { OnErr result (⟦<Self as World>⟧.failed self.new) }
     {
         let answer = self.areas.cut(area, len);
         self.counted(answer)
@@ -213,6 +223,7 @@ impl<W: SteadyWrite, H: Handle> World for FileWorld<W, H> {
         ensures synced { OnOk result (IsSynced area (⟦<Self as World>⟧.view self.new)) }
         ensures quiet { IsQuiet (⟦<Self as World>⟧.view self.old) (⟦<Self as World>⟧.view self.new) }
         ensures call { IsAreaCall (⟦<Self as World>⟧.view self.old) result (⟦<Self as World>⟧.view self.new) }
+        ensures last { OnErr result (⟦<Self as World>⟧.failed self.new) }
     {
         let answer = self.areas.sync(area);
         self.counted(answer)
@@ -220,7 +231,7 @@ impl<W: SteadyWrite, H: Handle> World for FileWorld<W, H> {
 
     /// Writes the whole piece to the writer and flushes it, or counts a fault; a front of the piece may be written then.
     /// After 2^64 - 1 puts no more can be counted: each is a fault, and nothing is written.
-    #[tactic(auto, using(crate::proofs::Views::passes_view, crate::proofs::Views::adds_view, crate::proofs::Views::adds_front_view))]
+    #[tactic(auto, using(crate::proofs::Failing::failed_piece, crate::proofs::Failing::failed_uncounted, crate::proofs::Views::passes_view, crate::proofs::Views::adds_view, crate::proofs::Views::adds_front_view))]
     fn put(&mut self, piece: &[u8]) -> Result<(), PutFault>
         ensures written { OnOk result (Appends (W.contents self.old.writer) (W.contents self.new.writer) piece.now) }
         ensures torn { OnErr result (AppendsFront (W.contents self.old.writer) (W.contents self.new.writer) piece.now) }
@@ -234,6 +245,7 @@ impl<W: SteadyWrite, H: Handle> World for FileWorld<W, H> {
         ensures stops { StopsBy (PutsFront piece.now) (⟦<Self as World>⟧.view self.old) (⟦<Self as World>⟧.view self.new) }
         ensures passes { Passes (⟦<Self as World>⟧.view self.old) (⟦<Self as World>⟧.view self.new) }
         ensures call { IsPutCall (⟦<Self as World>⟧.view self.old) result (⟦<Self as World>⟧.view self.new) }
+        ensures last { OnErr result (⟦<Self as World>⟧.failed self.new) }
     {
         if self.counts.puts == u64::MAX {
             return Err(self.put_fault());

@@ -8,8 +8,9 @@ mod program;
 
 use pgs_base::Words;
 use pgs_program::{Ended, Program, Ran, start};
-use pgs_world_files::{Handle, StoreFile, SystemFile};
-use pgs_world_streams::SteadyWrite;
+use pgs_world::{Source, World};
+use pgs_world_files::{FileWorld, Handle, StoreFile, SystemFile};
+use pgs_world_streams::{StdinSource, SteadyWrite};
 use program::run_program;
 use std::collections::hash_map::RandomState;
 use std::env;
@@ -23,11 +24,20 @@ struct Sessions;
 
 impl Program<HostRuntime> for Sessions {
     ghost use Rattle.pgs_base.specs.declared.seed.Seed.{Seed};
+    ghost use Rattle.pgs_program.specs.Outside.{HasNoFiles};
     ghost use Rattle.pgs_program.specs.Program.{EndsRunOf};
     ghost use Rattle.pgs_run_sessions.specs.Spec.{spec_for};
 
-    ghost runs = { λ words status. (seed : Seed) × EndsRunOf (spec_for words)
-        (record { remaining = ⟦<Stdin as Read>⟧.remaining; tells_output = ⟦<Stdout as SteadyWrite>⟧.tells; written = ⟦<Stdout as Write>⟧.contents; tells_bytes = ⟦<StoreFile<SystemFile<'static, HostRuntime>> as Handle>⟧.tells; bytes = ⟦<StoreFile<SystemFile<'static, HostRuntime>> as Handle>⟧.contents })
+    ghost runs = { λ words status. (seed : Seed) × EndsRunOf (spec_for words) HasNoFiles
+        (record {
+          remaining = ⟦<Stdin as Read>⟧.remaining;
+          tells_output = ⟦<Stdout as SteadyWrite>⟧.tells;
+          written = ⟦<Stdout as Write>⟧.contents;
+          tells_bytes = ⟦<StoreFile<SystemFile<'static, HostRuntime>> as Handle>⟧.tells;
+          bytes = ⟦<StoreFile<SystemFile<'static, HostRuntime>> as Handle>⟧.contents;
+          read_made = ⟦<StdinSource<Stdin> as Source>⟧.read_made;
+          failed = ⟦<FileWorld<Stdout, StoreFile<SystemFile<'static, HostRuntime>>> as World>⟧.failed;
+        })
         seed status };
 
     const NAME: &'static str = "pgsession";

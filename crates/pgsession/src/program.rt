@@ -1,12 +1,13 @@
 ghost use Rattle.pgs_run_sessions.specs.Spec.{spec_for};
 ghost use Rattle.pgs_program.specs.Program.{IsRunOf};
-ghost use Rattle.pgs_program.specs.Outside.{seed_of};
+ghost use Rattle.pgs_program.specs.Outside.{HasNoFiles, seed_of};
 
 use pgs_base::Words;
 use pgs_program::{Outside, Ran, seed_of};
 use pgs_run_sessions::run_sessions;
-use pgs_world_files::Handle;
-use pgs_world_streams::{SteadyRead, SteadyWrite};
+use pgs_world::{Source, World};
+use pgs_world_files::{FileWorld, Handle};
+use pgs_world_streams::{StdinSource, SteadyRead, SteadyWrite};
 use std::alloc::Global;
 use std::collections::hash_map::RandomState;
 use std::io;
@@ -19,8 +20,16 @@ pub fn run_program<R: SteadyRead + Drop, W: SteadyWrite + Drop, H: Handle>(
     writer: W,
     drawn: io::Result<RandomState>,
 ) -> Ran<R, W, H>
-    ensures { IsRunOf (spec_for words.now)
-        (record { remaining = R.remaining; tells_output = W.tells; written = W.contents; tells_bytes = H.tells; bytes = H.contents })
+    ensures { IsRunOf (spec_for words.now) HasNoFiles
+        (record {
+          remaining = R.remaining;
+          tells_output = W.tells;
+          written = W.contents;
+          tells_bytes = H.tells;
+          bytes = H.contents;
+          read_made = ⟦<StdinSource<R> as Source>⟧.read_made;
+          failed = ⟦<FileWorld<W, H> as World>⟧.failed;
+        })
         reader writer (seed_of drawn) result }
 {
     let mut outside = Outside::without_files(reader, writer, seed_of(drawn));

@@ -1,28 +1,26 @@
-use Rattle.std.proofs.Common.{subst, sym, ap, ◌∙◌}
-use Rattle.pgs_answer.specs.Lines.{schema_refused_line}
+use Rattle.std.proofs.Common.{ℕ, List, ◌∷◌, subst, sym, ap, ◌∙◌}
+use Rattle.pgs_run_lines.specs.Machine.{Told}
 use Rattle.pgs_resolve.specs.SchemaOf.{schema_of}
-use Rattle.pgs_command.specs.declared.status.Status.TheVariants.{SchemaRefused}
+use Rattle.pgs_command.specs.declared.status.Status.{Status}
 use Rattle.pgs_run_input.proofs.Answering.{answer_is}
-use Rattle.pgs_run_input.proofs.OneLine.{PutsLine, line_of_reply}
 use Rattle.pgs_run_check_schema.specs.Judged.{no_judgement}
-use Rattle.pgs_run_check_schema.specs.Told.{IsRightOf, told_by, told_text}
-use Rattle.pgs_run_check_schema.proofs.Telling.{tells_line, text_none}
+use Rattle.pgs_run_check_schema.specs.Spec.{Tells}
+use Rattle.pgs_run_check_schema.specs.Told.{Chosen, IsRightOf, told_by, told_refusal}
+use Rattle.pgs_run_check_schema.proofs.Telling.{text_none}
 use Rattle.pgs_run_check_schema.proofs.answering.refuse.Goals as goal
 
 pub returns-in-Ok-clause-answer : goal.returns-in-Ok-clause-answer
 returns-in-Ok-clause-answer g c =
     let text = c.args.text.now in
-    let old = g.W.World.view c.args.world.now in
-    let new = g.W.World.view c.put_reply.new.world in
-    let refused = c.in-Ok.ensures (schema_of text) c.requires in
-    let is = answer_is text ∙ refused.refused in
-    let put = line_of_reply c.in-Ok.line SchemaRefused old c.put_reply.result new (record { ends = c.put_reply.ensures.ends; stops = c.put_reply.ensures.stops; areas = c.put_reply.ensures.areas }) in
+    let has = c.in-Ok.ensures (schema_of text) c.requires in
+    let chosen : Chosen = record { judged = no_judgement; cause = has.cause } in
+    let is = answer_is text ∙ has.refused.refused in
     record {
-      judged = no_judgement;
-      right = subst (λ answer. IsRightOf answer no_judgement c.put_reply.result) (sym is) tt;
+      chosen = chosen;
+      right = subst (λ answer. IsRightOf text answer chosen c.put_refusal.result) (sym is) has.right;
       tells =
-          tells_line (told_text no_judgement text) (schema_refused_line refused.text) c.put_reply.result old new (ap (told_by text no_judgement) is)
-          (subst (λ line. PutsLine line SchemaRefused old c.put_reply.result new) refused.is put);
+          subst (λ (told : Told Status). Tells told (g.W.World.view c.args.world.now) (g.W.World.view c.put_refusal.new.world) c.put_refusal.result)
+          (ap told_refusal (c.deref.ensures.value ∙ has.is ∙ ap (λ (line : List ℕ). line ∷ has.cause) has.refused.is) ∙ sym (ap (told_by text chosen) is)) c.put_refusal.ensures.answer;
     }
 
 pub returns-in-Err-clause-answer : goal.returns-in-Err-clause-answer

@@ -68,7 +68,7 @@ returns-in_err-ready-clause-answer g c =
     let view = g.W.World.view c.args.world.now in
     subst (λ (s : GuardState). Journals c.from_residual-in_err-ready.result c.args.guard.now s journal journal txn view)
     (sym
-    (same_guard inside.schema.text inside.schema.resolved inside.limits inside.commits inside.graph.graph c.prepare.new.tables.graph c.args.guard.now c.prepare.ensures.graph c.guard.view_is))
+    (same_guard inside.schema.text inside.schema.resolved inside.limits inside.commits inside.seed inside.graph.graph c.prepare.new.tables.graph c.args.guard.now c.prepare.ensures.graph c.guard.view_is))
     (untaken c.from_residual-in_err-ready.result p.0 refusals.Memory p.1 p.2 c.args.guard.now journal txn view tt)
 
 pub returns-in_err-ready-clause-bounded : goal.returns-in_err-ready-clause-bounded
@@ -224,7 +224,7 @@ returns-in-Ok-clause-no_step_back g c = c.framed_decision.ensures.no_step_back
 pub returns-clause-answer : goal.returns-clause-answer
 returns-clause-answer g c =
     let inside = c.guard.inside in (
-      same_guard inside.schema.text inside.schema.resolved inside.limits inside.commits inside.graph.graph c.prepare.new.tables.graph c.args.guard.now c.prepare.ensures.graph c.guard.view_is,
+      same_guard inside.schema.text inside.schema.resolved inside.limits inside.commits inside.seed inside.graph.graph c.prepare.new.tables.graph c.args.guard.now c.prepare.ensures.graph c.guard.view_is,
       c.in-Err.ensures.kept,
     )
 
@@ -253,22 +253,28 @@ returns-clause-no_step_back g c = c.framed_decision.ensures.no_step_back
 pub invariant_of-guard : goal.invariant_of-guard
 invariant_of-guard g c =
     let inside = c.guard.inside in
-    let prepared = c.prepare.new in
-    still_indexed inside.schema.resolved inside.limits inside.graph.graph prepared.tables.graph inside.index prepared.index c.prepare.ensures.graph c.prepare.ensures.exclusive c.prepare.ensures.rows
-    c.guard.invariant
+    let prepared = c.prepare.new in (
+      still_indexed inside.schema.resolved inside.limits inside.graph.graph prepared.tables.graph inside.index prepared.index c.prepare.ensures.graph c.prepare.ensures.exclusive c.prepare.ensures.rows
+          c.guard.invariant.0,
+      (c.prepare.ensures.seeds ∙ c.guard.invariant.1.0, c.prepare.ensures.seed ∙ c.guard.invariant.1.1),
+    )
 
 pub invariant_of-guard-in-Ok : goal.invariant_of-guard-in-Ok
 invariant_of-guard-in-Ok g c =
     let inside = c.guard.inside in
     let prepared = c.prepare.new in
-    let next = c.commit.new in
-    made_indexed inside.schema.resolved inside.limits inside.graph.graph prepared.tables.graph next.tables.graph inside.index prepared.index next.index c.in_ok-decided.decided c.in_ok-ready.ready
-    c.prepare.ensures.graph c.commit.ensures.graph c.prepare.ensures.exclusive c.prepare.ensures.rows c.commit.ensures.exclusive c.commit.ensures.rows c.in_ok-ready.ensures.whole
-    c.in_ok-decided.ensures.guarded c.in_ok-decided.ensures.stands
+    let next = c.commit.new in (
+      made_indexed inside.schema.resolved inside.limits inside.graph.graph prepared.tables.graph next.tables.graph inside.index prepared.index next.index c.in_ok-decided.decided c.in_ok-ready.ready
+          c.prepare.ensures.graph c.commit.ensures.graph c.prepare.ensures.exclusive c.prepare.ensures.rows c.commit.ensures.exclusive c.commit.ensures.rows c.in_ok-ready.ensures.whole
+          c.in_ok-decided.ensures.guarded c.in_ok-decided.ensures.stands,
+      (c.commit.ensures.seeds ∙ c.prepare.ensures.seeds ∙ c.guard.invariant.1.0, c.commit.ensures.seed ∙ c.prepare.ensures.seed ∙ c.guard.invariant.1.1),
+    )
 
 pub invariant_of-guard-in-Err : goal.invariant_of-guard-in-Err
 invariant_of-guard-in-Err g c =
     let inside = c.guard.inside in
-    let prepared = c.prepare.new in
-    still_indexed inside.schema.resolved inside.limits inside.graph.graph prepared.tables.graph inside.index prepared.index c.prepare.ensures.graph c.prepare.ensures.exclusive c.prepare.ensures.rows
-    c.guard.invariant
+    let prepared = c.prepare.new in (
+      still_indexed inside.schema.resolved inside.limits inside.graph.graph prepared.tables.graph inside.index prepared.index c.prepare.ensures.graph c.prepare.ensures.exclusive c.prepare.ensures.rows
+          c.guard.invariant.0,
+      (c.prepare.ensures.seeds ∙ c.guard.invariant.1.0, c.prepare.ensures.seed ∙ c.guard.invariant.1.1),
+    )

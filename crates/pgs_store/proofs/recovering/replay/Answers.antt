@@ -37,6 +37,7 @@ loop-payload-preserved g c =
       left = taken_rest c.args.payloads place payload rest left;
       same = goes_on first.limits c.args.payloads place payload (replayed_in guard) (replayed_in new) within here taken ∙ c.loop-payload.invariant.same;
       limits = c.in-Ok.ensures.limits ∙ limits;
+      seed = c.in-Ok.ensures.seed ∙ c.loop-payload.invariant.seed;
       few = λ epoch end next b.
           few_on first.limits (format_of next) epoch (1 + place) (replayed_in guard) (replayed_in new) payload (decoded payload) refl
           (omega (arith, c.loop-payload.invariant.some)) (fit_at (format_of next) epoch 1 c.args.payloads place payload b.fit within here) taken place

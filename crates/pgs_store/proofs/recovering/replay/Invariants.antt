@@ -10,6 +10,7 @@ invariant-loop-payload g l = record {
   same : replay l.fn.guard.limits (l.number + 1) (replayed_in l.guard) (drop l.number l.fn.payloads)
       ≡ replay l.fn.guard.limits 2 (replayed_in l.fn.guard) (drop 1 l.fn.payloads);
   limits : l.guard.limits ≡ l.fn.guard.limits;
+  seed : l.guard.seed ≡ l.fn.guard.seed;
   few : (epoch end : ℕ) (next : Option ℕ) → IsBoundedStore epoch end next l.fn.payloads → l.guard.commits + 1 ≤ (epoch - 1) * 2 ^ 40 + l.number;
   some : 1 ≤ l.number;
 }

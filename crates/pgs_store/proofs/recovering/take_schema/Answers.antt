@@ -16,6 +16,9 @@ returns-in_err-schema-clause-untaken g c =
 pub returns-in_err-schema-clause-limits : goal.returns-in_err-schema-clause-limits
 returns-in_err-schema-clause-limits g c = let p = err_from_is_err_and c.from_residual.result c.from_residual.ensures.1 in rw p.1 tt
 
+pub returns-in_err-schema-clause-seed : goal.returns-in_err-schema-clause-seed
+returns-in_err-schema-clause-seed g c = let p = err_from_is_err_and c.from_residual.result c.from_residual.ensures.1 in rw p.1 tt
+
 pub returns-in_err-renewal-clause-taken : goal.returns-in_err-renewal-clause-taken
 returns-in_err-renewal-clause-taken g c =
     let p = err_from_is_err_and c.from_residual-in_err-renewal.result c.from_residual-in_err-renewal.ensures.1 in rw p.1 tt
@@ -32,6 +35,10 @@ pub returns-in_err-renewal-clause-limits : goal.returns-in_err-renewal-clause-li
 returns-in_err-renewal-clause-limits g c =
     let p = err_from_is_err_and c.from_residual-in_err-renewal.result c.from_residual-in_err-renewal.ensures.1 in rw p.1 tt
 
+pub returns-in_err-renewal-clause-seed : goal.returns-in_err-renewal-clause-seed
+returns-in_err-renewal-clause-seed g c =
+    let p = err_from_is_err_and c.from_residual-in_err-renewal.result c.from_residual-in_err-renewal.ensures.1 in rw p.1 tt
+
 pub returns-clause-taken : goal.returns-clause-taken
 returns-clause-taken g c =
     let made = c.in_ok-renewal.ensures in
@@ -39,3 +46,6 @@ returns-clause-taken g c =
 
 pub returns-clause-limits : goal.returns-clause-limits
 returns-clause-limits g c = ap (λ (s : GuardState). s.limits) c.renew.ensures
+
+pub returns-clause-seed : goal.returns-clause-seed
+returns-clause-seed g c = ap (λ (s : GuardState). s.seed) c.renew.ensures

@@ -1,4 +1,4 @@
-use Rattle.std.proofs.Common.{◌≡◌, ◌+◌, Ok, refl, ap, subst}
+use Rattle.std.proofs.Common.{◌≡◌, ◌+◌, ◌∙◌, Ok, refl, ap, subst}
 use Rattle.std.proofs.lemmas.Result.{err_from_is_err_and}
 use Rattle.pgs_decide.specs.Refused.{IsRejected}
 use Rattle.pgs_graph.specs.Changed.{changed}
@@ -53,7 +53,7 @@ returns-in_err-ready-clause-unchanged g c =
     let p = err_from_is_err_and c.from_residual-in_err-ready.result c.from_residual-in_err-ready.ensures.1 in
     let inside = c.self.inside in
     rw p.1
-    (same_guard inside.schema.text inside.schema.resolved inside.limits inside.commits inside.graph.graph c.prepare.new.tables.graph c.args.self.now c.prepare.ensures.graph c.self.view_is)
+    (same_guard inside.schema.text inside.schema.resolved inside.limits inside.commits inside.seed inside.graph.graph c.prepare.new.tables.graph c.args.self.now c.prepare.ensures.graph c.self.view_is)
 
 pub returns-in_err-ready-clause-cost : goal.returns-in_err-ready-clause-cost
 returns-in_err-ready-clause-cost g c =
@@ -62,9 +62,11 @@ returns-in_err-ready-clause-cost g c =
 pub invariant_of-self : goal.invariant_of-self
 invariant_of-self g c =
     let inside = c.self.inside in
-    let prepared = c.prepare.new in
-    still_indexed inside.schema.resolved inside.limits inside.graph.graph prepared.tables.graph inside.index prepared.index c.prepare.ensures.graph c.prepare.ensures.exclusive c.prepare.ensures.rows
-    c.self.invariant
+    let prepared = c.prepare.new in (
+      still_indexed inside.schema.resolved inside.limits inside.graph.graph prepared.tables.graph inside.index prepared.index c.prepare.ensures.graph c.prepare.ensures.exclusive c.prepare.ensures.rows
+          c.self.invariant.0,
+      (c.prepare.ensures.seeds ∙ c.self.invariant.1.0, c.prepare.ensures.seed ∙ c.self.invariant.1.1),
+    )
 
 -- ---- it is done
 
@@ -88,7 +90,9 @@ pub invariant_of-self-2 : goal.invariant_of-self-2
 invariant_of-self-2 g c =
     let inside = c.self.inside in
     let prepared = c.prepare.new in
-    let next = c.commit.new in
-    made_indexed inside.schema.resolved inside.limits inside.graph.graph prepared.tables.graph next.tables.graph inside.index prepared.index next.index c.in_ok-decided.decided c.in_ok-ready.ready
-    c.prepare.ensures.graph c.commit.ensures.graph c.prepare.ensures.exclusive c.prepare.ensures.rows c.commit.ensures.exclusive c.commit.ensures.rows c.in_ok-ready.ensures.whole
-    c.in_ok-decided.ensures.guarded c.in_ok-decided.ensures.stands
+    let next = c.commit.new in (
+      made_indexed inside.schema.resolved inside.limits inside.graph.graph prepared.tables.graph next.tables.graph inside.index prepared.index next.index c.in_ok-decided.decided c.in_ok-ready.ready
+          c.prepare.ensures.graph c.commit.ensures.graph c.prepare.ensures.exclusive c.prepare.ensures.rows c.commit.ensures.exclusive c.commit.ensures.rows c.in_ok-ready.ensures.whole
+          c.in_ok-decided.ensures.guarded c.in_ok-decided.ensures.stands,
+      (c.commit.ensures.seeds ∙ c.prepare.ensures.seeds ∙ c.self.invariant.1.0, c.commit.ensures.seed ∙ c.prepare.ensures.seed ∙ c.self.invariant.1.1),
+    )

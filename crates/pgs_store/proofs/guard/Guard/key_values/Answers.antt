@@ -8,6 +8,6 @@ pub returns-clause-values : goal.returns-clause-values
 returns-clause-values g c =
     let inside = c.self.inside in
     c.values_of.ensures.values
-    ∙ under_number inside.schema.resolved inside.graph.graph inside.index c.args.key c.args.elem c.self.invariant.stands c.requires.from_one
+    ∙ under_number inside.schema.resolved inside.graph.graph inside.index c.args.key c.args.elem c.self.invariant.0.stands c.requires.from_one
     (subst (λ (s : GuardState). c.args.key ≤ length s.schema.guard.keys) (sym c.self.view_is) c.requires.in_range)
     ∙ ap (λ (s : GuardState). key_values_of s.schema s.graph c.args.key c.args.elem) c.self.view_is

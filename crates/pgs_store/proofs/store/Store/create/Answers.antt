@@ -62,11 +62,11 @@ returns-in-Ok-clause-answer g c =
     let old = g.W.World.view c.args.world.now in
     let new = g.W.World.view c.create.new.world in
     let quiet = c.refuse_occupied.ensures.quiet in
-    let guard : c.args.guard ≡ opened c.args.guard.text c.args.guard.schema c.args.guard.limits = just_made c.args.guard c.args.guard.text c.args.guard.limits refl refl c.requires.empty c.requires.unchanged in
+    let guard : c.args.guard ≡ opened c.args.guard.text c.args.guard.schema c.args.guard.limits c.args.guard.seed = just_made c.args.guard c.args.guard.text c.args.guard.limits refl refl c.requires.empty c.requires.unchanged in
     let journal : c.in-Ok.journal ≡ first_journal end =
     same_journal (first_journal end) c.in-Ok.journal (ap (λ (j : Journal). j.area) c.in-Ok.ensures.made.journal) (ap (λ (j : Journal). j.epoch) c.in-Ok.ensures.made.journal) refl
     (ap (λ (j : Journal). j.next) c.in-Ok.ensures.made.journal) in
-    let stands = load_stands c.args.guard.limits c.args.guard.text c.args.guard.schema payload end of_text read (omega (arith, c.in-Ok.ensures.made.within))
+    let stands = load_stands c.args.guard.limits c.args.guard.text c.args.guard.schema payload end of_text read (omega (arith, c.in-Ok.ensures.made.within)) c.args.guard.seed
     old (g.W.World.view c.refuse_occupied.new.world) new c.in_ok-refuse_occupied.ensures.free quiet c.create.ensures.made.step.passes
     (λ told. subst (λ (n : Option ℕ). Holds n 1 (payload ∷ []) end new.shown.a) (ap (λ (j : Journal). j.next) c.in-Ok.ensures.made.journal) (c.in-Ok.ensures.made.holds (payload ∷ []) frames told))
     c.create.ensures.made.beside c.in_ok-refuse_occupied.ensures.settled c.in-Ok.ensures.made.settled in
@@ -79,7 +79,7 @@ returns-in-Ok-clause-answer g c =
       free = c.in_ok-refuse_occupied.ensures.free;
       stands =
           subst (λ (s : GuardState). StandsOn s c.in-Ok.journal new) (sym guard)
-          (subst (λ (j : Journal). StandsOn (opened c.args.guard.text c.args.guard.schema c.args.guard.limits) j new) (sym journal) stands);
+          (subst (λ (j : Journal). StandsOn (opened c.args.guard.text c.args.guard.schema c.args.guard.limits c.args.guard.seed) j new) (sym journal) stands);
     }
 
 pub returns-in-Ok-clause-stops : goal.returns-in-Ok-clause-stops

@@ -1,3 +1,7 @@
+use Rattle.pgs_world_files.specs.Causes.{WriteFails}
+use Rattle.pgs_world_files.specs.Failing.{at_write}
+use Rattle.pgs_world_files.specs.Handles.{WriteIs}
+use Rattle.pgs_world_files.proofs.Failing.{failed_called}
 use Rattle.pgs_world_files.proofs.Worlds.{passes_called, beside_called, write_called}
 use Rattle.pgs_world_files.proofs.file_world.FileWorldWorld.write_at.Goals as goal
 
@@ -41,3 +45,10 @@ returns-clause-written g c =
     })
     g.H.Handle.length_gives g.H.Handle.read_gives g.H.Handle.write_gives g.H.Handle.cut_gives g.H.Handle.sync_gives g.met.H.Handle.over
     c.args.at c.args.bytes.now c.write_at-answer.result c.counted.result c.counted.ensures.answer c.requires c.write_at-answer.ensures.given
+
+pub returns-clause-last : goal.returns-clause-last
+returns-clause-last g c =
+    failed_called (record { lengths = g.H.Handle.length_gives; reads = g.H.Handle.read_gives; writes = g.H.Handle.write_gives; cuts = g.H.Handle.cut_gives; syncs = g.H.Handle.sync_gives })
+    (λ old answer new. WriteIs g.H.Handle.write_gives old c.args.at c.args.bytes.now answer new) (λ old cause new. WriteFails g.H.Handle.write_gives old c.args.at c.args.bytes.now cause new) (λ before cause after. at_write before c.args.at c.args.bytes.now)
+    g.W.SteadyWrite.write_gives g.W.SteadyWrite.flush_gives c.args.area c.args.self.now.areas c.write_at-answer.new.self c.counted.new.self c.counted.ensures.areas
+    c.write_at-answer.result c.counted.result c.counted.ensures.answer c.write_at-answer.ensures.given c.write_at-answer.ensures.caused c.write_at-answer.ensures.failed

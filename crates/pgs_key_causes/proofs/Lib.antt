@@ -1,0 +1,4 @@
+pub mod Linking
+pub mod Sound
+pub mod Vars
+pub mod Walks
