@@ -1,5 +1,5 @@
 -- What the words of a command line say.
-use Rattle.std.specs.Prelude.{ℕ, List, [], ◌∷◌, Option, Some, None, codes, option_and_then, slice_get, if◌then◌else◌}
+use Rattle.std.specs.Prelude.{ℕ, List, [], ◌∷◌, Option, None, codes, option_and_then, slice_get, if◌then◌else◌}
 use Rattle.pgs_run_words.specs.Further.{is_plain}
 use Rattle.pgs_run_words.specs.Words.{found_in}
 use Rattle.pgs_run_check.specs.declared.command.CheckCommand.{CheckCommand}

@@ -1,5 +1,7 @@
-ghost use Rattle.std.specs.Prelude.{◌≡◌, option_map};
+ghost use Rattle.std.specs.Prelude.{◌≡◌, None, option_map, if◌then◌else◌};
 ghost use Rattle.pgs_run_check.specs.Words.{command_of, lone_words, store_of, store_words};
+ghost use Rattle.pgs_run_words.specs.Further.{is_plain};
+ghost use Rattle.pgs_run_words.specs.Words.{found_in};
 
 use crate::CheckCommand;
 use pgs_base::Words;
