@@ -6,11 +6,11 @@ use Rattle.pgs_run_check.specs.declared.command.CheckCommand.{CheckCommand}
 use Rattle.pgs_run_check.specs.declared.command.CheckCommand.TheVariants.{Schema}
 
 -- the commands of one word
-abbrev pub lone_words : List (List ℕ × CheckCommand)
+unfoldable pub lone_words : List (List ℕ × CheckCommand)
 lone_words = (codes "schema", Schema) ∷ []
 
 -- the commands of a word and the name of a store
-abbrev pub store_words : List (List ℕ × CheckCommand)
+unfoldable pub store_words : List (List ℕ × CheckCommand)
 store_words = []
 
 -- the command of the words; other words are refused
