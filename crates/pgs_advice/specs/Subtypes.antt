@@ -65,8 +65,8 @@ key_subtypes resolved key = flat_map (subtypes_of resolved) (bases_of key)
 
 -- ---- types with marks
 
-abbrev pub number_of : Naming → TypeNo
-number_of naming = naming.number
+abbrev pub own_type : Naming → TypeNo
+own_type naming = naming.number
 
 -- what a type names is marked
 abbrev pub IsNaming : Resolved → Naming → Type 0
@@ -74,5 +74,5 @@ IsNaming resolved naming = AreMarks resolved (all_named resolved naming.number) 
 
 -- so of each of these types
 pub record AreNamings (resolved : Resolved) (types : List TypeNo) (namings : List Naming) : Type 0 where
-  pub numbers : map number_of namings ≡ types
+  pub numbers : map own_type namings ≡ types
   pub marks : All (IsNaming resolved) namings

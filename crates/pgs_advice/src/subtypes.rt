@@ -1,12 +1,10 @@
 //! The subtypes that the guard has of the types that a key names.
 
-ghost use Rattle.std.specs.Prelude.{◌≡◌, ◌++◌, ◌∷◌, [], true, IfOk, OnOk};
-ghost use Rattle.std.specs.List.{fold};
+ghost use Rattle.std.specs.Prelude.{◌≡◌, ◌++◌, true, IfOk, OnOk};
 ghost use Rattle.pgs_syntax.specs.declared.resolved.Resolved.{Resolved as Schema};
-ghost use Rattle.pgs_syntax.specs.declared.resolved.TypeNo.{TypeNo as Numbered};
 ghost use Rattle.pgs_syntax.specs.Valid.{is_type, is_valid_key_of};
 ghost use Rattle.pgs_advice.specs.Used.{is_same_type, is_among, named_by};
-ghost use Rattle.pgs_advice.specs.Subtypes.{is_one_kind, is_shown, shown_types, subtypes_of, with_type, bases_of, key_subtypes, AreNamings};
+ghost use Rattle.pgs_advice.specs.Subtypes.{is_one_kind, is_subtype, is_shown, shown_types, subtypes_of, with_type, bases_of, key_subtypes, IsNaming, AreNamings};
 
 use crate::used::{Marks, named_by_edge, named_by_node, push_key};
 use pgs_base::Memory;
@@ -61,7 +59,8 @@ fn named_by(alloc: Global, resolved: &Resolved, number: TypeNo) -> Result<Vec<Ty
 
 // A type with marks of those that it names.
 fn naming_of(alloc: Global, resolved: &Resolved, number: TypeNo) -> Result<Naming, Memory>
-    ensures { IfOk result (λ naming. AreNamings resolved.now (number ∷ []) (naming ∷ [])) }
+    ensures same { IfOk result (λ naming. naming.number ≡ number) }
+    ensures marks { IfOk result (IsNaming resolved.now) }
 {
     let types = named_by(alloc, resolved, number)?;
     let named = Marks::from(alloc, resolved, &types)?;
@@ -122,6 +121,13 @@ fn bases_of(alloc: Global, key: &Key) -> Result<Vec<TypeNo>, Memory>
     Ok(bases)
 }
 
+// Whether a type with marks is a subtype of a base.
+fn is_subtype(naming: &Naming, base: TypeNo) -> bool
+    ensures { (resolved : Schema) → IsNaming resolved naming.now → is_type resolved base ≡ true → result ≡ is_subtype resolved base naming.now.number }
+{
+    is_one_kind(base, naming.number) && naming.named.has(base)
+}
+
 // Puts a base last with each of its subtypes.
 fn push_subtypes(
     namings: &[Naming],
@@ -132,8 +138,8 @@ fn push_subtypes(
         OnOk result (subtypes.new.items ≡ subtypes.old.items ++ subtypes_of resolved base) }
 {
     for naming in namings {
-        let own = naming.number;
-        if is_one_kind(base, own) && naming.named.has(base) {
+        if is_subtype(naming, base) {
+            let own = naming.number;
             subtypes.push(Subtype { base, own })?;
         }
     }

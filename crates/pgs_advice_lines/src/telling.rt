@@ -172,18 +172,18 @@ fn push_key(
     push_apart(alloc, resolved, number, apart_at(&findings.apart, place), lines)
 }
 
-// Puts the lines of the keys of a guard last.
+// Puts the lines of keys last.
 fn push_keys(
     alloc: Global,
     resolved: &Resolved,
     texts: &[Bytes],
     findings: &Findings,
+    keys: &[Key],
     lines: &mut Vec<Line>,
 ) -> Result<(), Memory>
     ensures { OnOk result (lines.new.items ≡ lines.old.items
-        ++ flat_map (key_lines resolved.now texts.now findings.now.reached.items findings.now.apart.items) (enumerate_from 0 resolved.now.guard.keys)) }
+        ++ flat_map (key_lines resolved.now texts.now findings.now.reached.items findings.now.apart.items) (enumerate_from 0 keys.now)) }
 {
-    let keys = resolved.guard.keys.as_slice();
     for (place, key) in keys.iter().enumerate() {
         push_key(alloc, resolved, texts, findings, place, key, lines)?;
     }
@@ -322,13 +322,14 @@ pub fn push_advice(
         ≡ lines.old.items ++ advice_lines tokens.now script.now resolved.now findings.now.reached.items findings.now.apart.items) }
 {
     let guard = &resolved.guard;
+    let keys = guard.keys.as_slice();
     let texts = guard_key_texts(alloc, tokens, declarations)?;
     let words = Words::of(alloc, resolved)?;
-    push_keys(alloc, resolved, texts.as_slice(), findings, lines)?;
+    push_keys(alloc, resolved, texts.as_slice(), findings, keys, lines)?;
     push_nothing(alloc, guard, lines)?;
     push_unused_types(alloc, script, resolved, lines)?;
     push_unused_graphs(alloc, declarations, lines)?;
-    push_unknowns(alloc, &words, &findings.reached, guard.keys.as_slice(), lines)
+    push_unknowns(alloc, &words, &findings.reached, keys, lines)
 }
 
 /// The texts of lines, in order.

@@ -68,10 +68,9 @@ fn lines_in(alloc: Global, text: &[u8], compiled: &Compiled) -> Result<Vec<Line>
     let tokens = tokens_in(alloc, text)?;
     let script = script_in(alloc, text, &tokens)?;
     let declarations = Declarations::new(alloc, &script)?;
-    let findings = Findings {
-        reached: keys_reach(alloc, compiled)?,
-        apart: keys_apart(alloc, compiled)?,
-    };
+    let reached = keys_reach(alloc, compiled)?;
+    let apart = keys_apart(alloc, compiled)?;
+    let findings = Findings { reached, apart };
     let mut lines = Vec::new(alloc);
     push_guard(alloc, &declarations, &resolved.guard, &mut lines)?;
     push_types(alloc, compiled, resolved.guard.types.as_slice(), &mut lines)?;

@@ -20,7 +20,7 @@ fn has_triple(alloc: Global, shapes: &Triple) -> Result<bool, Memory>
     let source = has_pair(alloc, &shapes.source)?;
     let middle = has_pair(alloc, &shapes.middle)?;
     let target = has_pair(alloc, &shapes.target)?;
-    Ok(source && middle && target)
+    Ok(source & middle & target)
 }
 
 // Whether some pair is in both of two shapes.
