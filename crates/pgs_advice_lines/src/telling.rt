@@ -8,8 +8,8 @@ ghost use Rattle.pgs_advice_lines.specs.Lines.{unused_line, unused_graph_line, u
 ghost use Rattle.pgs_advice_lines.specs.Telling.{tell, warn, guard_lines, reach_at, reach_lines, void_lines, apart_at, type_name, apart_lines, key_lines, is_forbids, unknown_lines, guards_nothing, nothing_lines, unused_type_lines, unused_graph_lines, advice_lines};
 
 use crate::line::{
-    Line, apart_line, forbids_line, guard_line, key_line, never_reached_line, nothing_line, unknown_line,
-    unused_graph_line, unused_line, void_line,
+    Line, apart_line, forbids_line, guard_line, key_line, never_reached_line, nothing_line,
+    unknown_line, unused_graph_line, unused_line, void_line,
 };
 use pgs_advice::{
     Subtype, Unknown, Words, has_void_exclusive, has_void_singleton, unknown_words, unused_graphs,
@@ -169,7 +169,13 @@ fn push_key(
     lines.push(tell(key_line(alloc, number, text_of(texts, place))?))?;
     push_reach(alloc, number, reach_at(&findings.reached, place), lines)?;
     push_void(alloc, number, key, lines)?;
-    push_apart(alloc, resolved, number, apart_at(&findings.apart, place), lines)
+    push_apart(
+        alloc,
+        resolved,
+        number,
+        apart_at(&findings.apart, place),
+        lines,
+    )
 }
 
 // Puts the lines of keys last.
