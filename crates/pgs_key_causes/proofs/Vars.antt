@@ -110,7 +110,7 @@ number_at vars v there = by (position (λ other. eqb other v) vars) refl (some_p
     by None e h = cc
     by (Some n) e h =
         let at = position-Some (λ other. eqb other v) vars n 0 e in
-        (at.0, eqb-true (get_or vars n 0) v at.1.0)
+        (at.0, eqb-true (get_or vars n 0) v at.1)
 
 in_at : (vars : List ℕ) (k : ℕ) → k < length vars → is_in (get_or vars k 0) vars ≡ true
 in_at [] k lt = absurd (omega (arith, lt))
