@@ -81,8 +81,7 @@ Distinct (v ∷ vs) = (is_in v vs ≡ false) × Distinct vs
 distinct_push : (vars : List ℕ) (v : ℕ) → Distinct vars → is_in v vars ≡ false → Distinct (vars ++ v ∷ [])
 distinct_push [] v d new = (refl, tt)
 distinct_push (w ∷ ws) v d new =
-    let parts = or_parts (eqb w v) (is_in v ws) new in
-    (
+    let parts = or_parts (eqb w v) (is_in v ws) new in (
       list_any-append (λ other. eqb other w) ws (v ∷ []) ∙ none (is_in w ws) d.0 (eqb v w) (turned v w parts.0),
       distinct_push ws v d.1 parts.1,
     )
