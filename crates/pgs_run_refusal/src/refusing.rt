@@ -27,7 +27,11 @@ fn refusal_in(fault: &SchemaFault) -> Option<Refusal<'_>> {
 /// The line of the cause of the refusal of a schema text, `because line L, column C: TEXT` with its line feed: a place of the text, and what
 /// the text has there (docs/FORMATS.md, "What `pgcheck` prints"). `None` where the refusal is about no place, as 12 and 19. `Memory` where
 /// there is none for the line.
-pub fn cause_line(alloc: Global, unread: &SchemaUnread, text: &[u8]) -> Result<Option<Bytes>, Memory>
+pub fn cause_line(
+    alloc: Global,
+    unread: &SchemaUnread,
+    text: &[u8],
+) -> Result<Option<Bytes>, Memory>
     ensures { IfOk result (IsCauseLine text.now) }
 {
     let SchemaUnread::Schema(fault) = unread else {
