@@ -1,9 +1,12 @@
+pub mod Apartness
 pub mod Fixed
 pub mod Gathered
 pub mod Inner
+pub mod Leading
 pub mod Marking
 pub mod Numbered
 pub mod Outside
+pub mod Subtyping
 pub mod Using
 pub mod ValidTypes
 pub mod Walks

@@ -1,4 +1,4 @@
--- A walk over types, each before those that it names, finds exactly the used ones.
+-- A walk over types, each before those that it names, finds exactly those to which the first ones lead.
 use Rattle.std.proofs.Common.{◌≡◌, ◌⊎◌, inl, inr, ℕ, zero, suc, ◌+◌, ◌<◌, ◌≤◌, Bool, true, false, ◌||◌, ◌==◌, List, [], ◌∷◌, ◌++◌, length, map, refl, sym, ap, subst, ◌∙◌, ⊎_elim, true≢false, arith}
 use Rattle.std.specs.List.{list_any, fold}
 use Rattle.std.proofs.lemmas.Bool.{or_cases, or_left, or_right, eqb-true, eq-eqb, cases_Bool, cond-true, cond-false}
@@ -6,7 +6,7 @@ use Rattle.std.proofs.lemmas.List.Folds.{list_any-append}
 use Rattle.pgs_syntax.specs.declared.resolved.Resolved.{Resolved}
 use Rattle.pgs_syntax.specs.declared.resolved.TypeNo.{TypeNo}
 use Rattle.pgs_syntax.specs.declared.resolved.TypeNo.TheVariants.{Node, Edge}
-use Rattle.pgs_advice.specs.Used.{named_by, first_types, is_same_type, is_among, IsUsed, first, named, numbers_below, with_named}
+use Rattle.pgs_advice.specs.Used.{named_by, is_same_type, is_among, LeadTo, first, named, numbers_below, with_named}
 
 pub same_is : (a b : TypeNo) → is_same_type a b ≡ true → a ≡ b
 same_is (Node a) (Node b) h = ap Node (eqb-true a b h)
@@ -72,10 +72,11 @@ module _ (resolved : Resolved) (rank : TypeNo → ℕ) (lower : (x t : TypeNo) �
       (λ no. inl (sym (ap (is_among t) (stays used x no)) ∙ h))
       (cases_Bool (is_among x used))
 
-  pub sound : (order used : List TypeNo) → ((t : TypeNo) → is_among t used ≡ true → IsUsed resolved t) → (t : TypeNo) → is_among t (after used order) ≡ true → IsUsed resolved t
-  sound [] used all t h = all t h
-  sound (x ∷ order) used all t h =
-      sound order (with_named resolved used x) (λ s is. ⊎_elim (λ old. all s old) (λ more. named x s (all x more.0) more.1) (new_one s x used is)) t h
+  pub sound : (types order used : List TypeNo) → ((t : TypeNo) → is_among t used ≡ true → LeadTo resolved types t) → (t : TypeNo) → is_among t (after used order) ≡ true
+      → LeadTo resolved types t
+  sound types [] used all t h = all t h
+  sound types (x ∷ order) used all t h =
+      sound types order (with_named resolved used x) (λ s is. ⊎_elim (λ old. all s old) (λ more. named x s (all x more.0) more.1) (new_one s x used is)) t h
 
   -- what isn't below those that are still to come was there before
   late : (order used : List TypeNo) (r : ℕ) (t : TypeNo) → r ≤ rank t → ((z : TypeNo) → is_among z order ≡ true → rank z < r) → is_among t (after used order) ≡ true → is_among t used ≡ true
@@ -103,7 +104,7 @@ module _ (resolved : Resolved) (rank : TypeNo → ℕ) (lower : (x t : TypeNo) �
           (λ old. kept t (with_named resolved used y) order (ap (is_among t) (grows used y old) ∙ among_second t used (named_by resolved y) (subst (λ (z : TypeNo). is_among t (named_by resolved z) ≡ true) same names)))
           (λ more. let less = lower y y more.1 in absurd (omega (arith, less))) (new_one y y used before)
 
-  pub whole : (order used : List TypeNo) → Descends order → ((t : TypeNo) → IsUsed resolved t → is_among t order ≡ true) → ((t : TypeNo) → is_among t (first_types resolved) ≡ true → is_among t used ≡ true)
-      → (t : TypeNo) → IsUsed resolved t → is_among t (after used order) ≡ true
-  whole order used descends all begins _ (first t h) = kept t used order (begins t h)
-  whole order used descends all begins _ (named by t is names) = closed order used descends by t (all by is) names (whole order used descends all begins by is)
+  pub whole : (types order used : List TypeNo) → Descends order → ((t : TypeNo) → LeadTo resolved types t → is_among t order ≡ true) → ((t : TypeNo) → is_among t types ≡ true → is_among t used ≡ true)
+      → (t : TypeNo) → LeadTo resolved types t → is_among t (after used order) ≡ true
+  whole types order used descends all begins _ (first t h) = kept t used order (begins t h)
+  whole types order used descends all begins _ (named by t is names) = closed order used descends by t (all by is) names (whole types order used descends all begins by is)

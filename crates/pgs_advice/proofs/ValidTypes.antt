@@ -96,6 +96,35 @@ pub record IsLower (resolved : Resolved) (t by : TypeNo) : Type 0 where
   pub less : rank resolved t < rank resolved by
   pub there : is_type resolved t ≡ true
 
+-- ---- what keys and the guard name is there
+
+module _ (resolved : Resolved) where
+  in_all : (types : List TypeNo) → list_all (is_type resolved) types ≡ true → (t : TypeNo) → is_among t types ≡ true → is_type resolved t ≡ true
+  in_all [] all t h = none_among t h
+  in_all (type ∷ types) all t h =
+      ⊎_elim (λ here. ap (is_type resolved) (same_is t type here) ∙ (and_parts _ _ all).0) (λ later. in_all types (and_parts _ _ all).1 t later) (or_cases _ _ h)
+
+  in_atoms : (atoms : List Atom) → list_all (names_types resolved) atoms ≡ true → (t : TypeNo) → is_among t (filter_map type_at atoms) ≡ true → is_type resolved t ≡ true
+  in_atoms [] all t h = none_among t h
+  in_atoms (Ends edge source target ∷ atoms) all t h = in_atoms atoms all t h
+  in_atoms (HasLabel var label ∷ atoms) all t h = in_atoms atoms all t h
+  in_atoms (FitsNode var number ∷ atoms) all t h =
+      ⊎_elim (λ here. ap (is_type resolved) (same_is t (Node number) here) ∙ (and_parts _ _ all).0) (λ later. in_atoms atoms (and_parts _ _ all).1 t later) (or_cases _ _ h)
+  in_atoms (FitsEdge var number ∷ atoms) all t h =
+      ⊎_elim (λ here. ap (is_type resolved) (same_is t (Edge number) here) ∙ (and_parts _ _ all).0) (λ later. in_atoms atoms (and_parts _ _ all).1 t later) (or_cases _ _ h)
+  in_atoms (Equals var key value ∷ atoms) all t h = in_atoms atoms all t h
+
+  pub in_key : (key : Key) → is_valid_key_of resolved key ≡ true → (t : TypeNo) → is_among t (named_by_key key) ≡ true → is_type resolved t ≡ true
+  in_key key all t h =
+      let parts = and_parts _ _ all in
+      ⊎_elim (λ scope. in_atoms key.scope.atoms (and_parts _ _ parts.0).1 t scope) (λ rest. in_atoms key.descriptor.atoms parts.1 t rest)
+      (among_both t (filter_map type_at key.scope.atoms) (filter_map type_at key.descriptor.atoms) h)
+
+  in_keys : (keys : List Key) → list_all (is_valid_key_of resolved) keys ≡ true → (t : TypeNo) → is_among t (flat_map named_by_key keys) ≡ true → is_type resolved t ≡ true
+  in_keys [] all t h = none_among t h
+  in_keys (key ∷ keys) all t h =
+      ⊎_elim (λ here. in_key key (and_parts _ _ all).0 t here) (λ later. in_keys keys (and_parts _ _ all).1 t later) (among_both t (named_by_key key) (flat_map named_by_key keys) h)
+
 module _ (resolved : Resolved) (valid : is_valid resolved ≡ true) where
   nodes_valid : are_valid_nodes 0 resolved.nodes ≡ true
   nodes_valid = (and_parts _ _ (and_parts _ _ (and_parts _ _ (and_parts _ _ (and_parts _ _ valid).0).0).0).0).0
@@ -144,33 +173,7 @@ module _ (resolved : Resolved) (valid : is_valid resolved ≡ true) where
 
   -- ---- the first types
 
-  in_all : (types : List TypeNo) → list_all (is_type resolved) types ≡ true → (t : TypeNo) → is_among t types ≡ true → is_type resolved t ≡ true
-  in_all [] all t h = none_among t h
-  in_all (type ∷ types) all t h =
-      ⊎_elim (λ here. ap (is_type resolved) (same_is t type here) ∙ (and_parts _ _ all).0) (λ later. in_all types (and_parts _ _ all).1 t later) (or_cases _ _ h)
-
-  in_atoms : (atoms : List Atom) → list_all (names_types resolved) atoms ≡ true → (t : TypeNo) → is_among t (filter_map type_at atoms) ≡ true → is_type resolved t ≡ true
-  in_atoms [] all t h = none_among t h
-  in_atoms (Ends edge source target ∷ atoms) all t h = in_atoms atoms all t h
-  in_atoms (HasLabel var label ∷ atoms) all t h = in_atoms atoms all t h
-  in_atoms (FitsNode var number ∷ atoms) all t h =
-      ⊎_elim (λ here. ap (is_type resolved) (same_is t (Node number) here) ∙ (and_parts _ _ all).0) (λ later. in_atoms atoms (and_parts _ _ all).1 t later) (or_cases _ _ h)
-  in_atoms (FitsEdge var number ∷ atoms) all t h =
-      ⊎_elim (λ here. ap (is_type resolved) (same_is t (Edge number) here) ∙ (and_parts _ _ all).0) (λ later. in_atoms atoms (and_parts _ _ all).1 t later) (or_cases _ _ h)
-  in_atoms (Equals var key value ∷ atoms) all t h = in_atoms atoms all t h
-
-  in_key : (key : Key) → is_valid_key_of resolved key ≡ true → (t : TypeNo) → is_among t (named_by_key key) ≡ true → is_type resolved t ≡ true
-  in_key key all t h =
-      let parts = and_parts _ _ all in
-      ⊎_elim (λ scope. in_atoms key.scope.atoms (and_parts _ _ parts.0).1 t scope) (λ rest. in_atoms key.descriptor.atoms parts.1 t rest)
-      (among_both t (filter_map type_at key.scope.atoms) (filter_map type_at key.descriptor.atoms) h)
-
-  in_keys : (keys : List Key) → list_all (is_valid_key_of resolved) keys ≡ true → (t : TypeNo) → is_among t (flat_map named_by_key keys) ≡ true → is_type resolved t ≡ true
-  in_keys [] all t h = none_among t h
-  in_keys (key ∷ keys) all t h =
-      ⊎_elim (λ here. in_key key (and_parts _ _ all).0 t here) (λ later. in_keys keys (and_parts _ _ all).1 t later) (among_both t (named_by_key key) (flat_map named_by_key keys) h)
-
   pub first_there : (t : TypeNo) → is_among t (first_types resolved) ≡ true → is_type resolved t ≡ true
   first_there t h =
-      ⊎_elim (λ listed. in_all resolved.guard.types types_there t listed) (λ asked. in_keys resolved.guard.keys keys_valid t asked)
+      ⊎_elim (λ listed. in_all resolved resolved.guard.types types_there t listed) (λ asked. in_keys resolved resolved.guard.keys keys_valid t asked)
       (among_both t resolved.guard.types (flat_map named_by_key resolved.guard.keys) h)

@@ -1,4 +1,6 @@
+pub mod Apart
 pub mod Parts
+pub mod Subtypes
 pub mod Unknown
 pub mod Unused
 pub mod Used

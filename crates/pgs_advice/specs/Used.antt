@@ -1,4 +1,5 @@
--- Which element types a guard uses: those that it lists, those that a pattern of its keys names, and those that a used type names.
+-- Which element types a guard uses: those that it lists, those that a pattern of its keys names, and those that a used type names. And to
+-- which types some types lead.
 use Rattle.std.specs.Prelude.{◌≡◌, ℕ, zero, suc, Bool, true, false, ◌==◌, not, List, [], ◌∷◌, ◌++◌, length, Option, Some, None, map, filter, filter_map, flat_map, slice_get, slice_index_or, if◌then◌else◌}
 use Rattle.std.specs.List.{list_any, fold, enumerate_from}
 use Rattle.std.specs.Option.{option_map_or}
@@ -62,10 +63,14 @@ is_same_type _ _ = false
 abbrev pub is_among : TypeNo → List TypeNo → Bool
 is_among type types = list_any (is_same_type type) types
 
--- A type is used that is one of the first, or that a used type names.
-pub data IsUsed (resolved : Resolved) : TypeNo → Type 0 where
-  first : (type : TypeNo) → is_among type (first_types resolved) ≡ true → IsUsed resolved type
-  named : (by type : TypeNo) → IsUsed resolved by → is_among type (named_by resolved by) ≡ true → IsUsed resolved type
+-- Types lead to a type that is one of them, or that a type to which they lead names.
+pub data LeadTo (resolved : Resolved) (types : List TypeNo) : TypeNo → Type 0 where
+  first : (type : TypeNo) → is_among type types ≡ true → LeadTo resolved types type
+  named : (by type : TypeNo) → LeadTo resolved types by → is_among type (named_by resolved by) ≡ true → LeadTo resolved types type
+
+-- a type is used to which the first types lead
+abbrev pub IsUsed : Resolved → TypeNo → Type 0
+IsUsed resolved = LeadTo resolved (first_types resolved)
 
 -- All types, each before those that it names: edge types from the last on, and then node types.
 abbrev pub numbers_below : ℕ → List ℕ
@@ -82,9 +87,13 @@ nodes_back resolved = map Node (numbers_below (length resolved.nodes))
 abbrev pub with_named : Resolved → List TypeNo → TypeNo → List TypeNo
 with_named resolved used type = if is_among type used then used ++ named_by resolved type else used
 
+-- the types to which types lead
+abbrev pub led_to : Resolved → List TypeNo → List TypeNo
+led_to resolved types = fold (with_named resolved) (fold (with_named resolved) types (edges_back resolved)) (nodes_back resolved)
+
 -- the used types, and whether a type is one
 abbrev pub used_types : Resolved → List TypeNo
-used_types resolved = fold (with_named resolved) (fold (with_named resolved) (first_types resolved) (edges_back resolved)) (nodes_back resolved)
+used_types resolved = led_to resolved (first_types resolved)
 
 abbrev pub is_used : Resolved → TypeNo → Bool
 is_used resolved type = is_among type (used_types resolved)

@@ -9,6 +9,7 @@ ghost use Rattle.pgs_syntax.specs.declared.resolved.Resolved.{Resolved};
 ghost use Rattle.pgs_syntax.specs.KeyValues.{key_values};
 ghost use Rattle.pgs_syntax.specs.declared.resolved.TypeNo.{TypeNo};
 ghost use Rattle.pgs_syntax.specs.Valid.{is_valid};
+ghost use Rattle.pgs_advice.specs.Subtypes.{names, Names};
 ghost use Rattle.pgs_advice.specs.Used.{is_used, IsUsed};
 ghost use Rattle.pgs_advice.specs.Void.{has_void_singleton, has_void_exclusive};
 
@@ -28,4 +29,10 @@ pub fn void_exclusives()
 pub fn used_types()
     ensures found { (resolved : Resolved) (type : TypeNo) → is_valid resolved ≡ true → is_used resolved type ≡ true → IsUsed resolved type }
     ensures whole { (resolved : Resolved) (type : TypeNo) → is_valid resolved ≡ true → IsUsed resolved type → is_used resolved type ≡ true }
+{}
+
+/// A type is told of as naming another exactly where it does, itself or through others.
+pub fn named_types()
+    ensures found { (resolved : Resolved) (own base : TypeNo) → is_valid resolved ≡ true → names resolved own base ≡ true → Names resolved own base }
+    ensures whole { (resolved : Resolved) (own base : TypeNo) → is_valid resolved ≡ true → Names resolved own base → names resolved own base ≡ true }
 {}

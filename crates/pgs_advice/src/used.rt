@@ -6,7 +6,7 @@ ghost use Rattle.std.specs.Option.{option_to_list};
 ghost use Rattle.pgs_syntax.specs.declared.resolved.Resolved.{Resolved as Schema};
 ghost use Rattle.pgs_syntax.specs.declared.resolved.TypeNo.{TypeNo as Numbered};
 ghost use Rattle.pgs_syntax.specs.declared.resolved.TypeNo.TheVariants.{Node, Edge};
-ghost use Rattle.pgs_advice.specs.Used.{type_of, type_in, types_in, named_by_edge, type_at, named_by_key, first_types, edges_back, nodes_back, with_named, used_types, AreMarks};
+ghost use Rattle.pgs_advice.specs.Used.{type_of, type_in, types_in, named_by_edge, type_at, named_by_key, first_types, edges_back, nodes_back, with_named, led_to, used_types, is_marked, AreMarks};
 
 use crate::parts::push_parts;
 use pgs_base::Memory;
@@ -74,8 +74,8 @@ fn push_types(
     push_named(is_edge, &parts, types)
 }
 
-// The types that a node type names.
-fn named_by_node(alloc: Global, node: &NodeType<Leaf>) -> Result<Vec<TypeNo>, Memory>
+/// The types that a node type names.
+pub(crate) fn named_by_node(alloc: Global, node: &NodeType<Leaf>) -> Result<Vec<TypeNo>, Memory>
     ensures { IfOk result (λ types. types.items ≡ types_in false node.now.spec) }
 {
     let mut types = Vec::new(alloc);
@@ -83,8 +83,8 @@ fn named_by_node(alloc: Global, node: &NodeType<Leaf>) -> Result<Vec<TypeNo>, Me
     Ok(types)
 }
 
-// The types that an edge type names.
-fn named_by_edge(alloc: Global, edge: &EdgeType<Leaf>) -> Result<Vec<TypeNo>, Memory>
+/// The types that an edge type names.
+pub(crate) fn named_by_edge(alloc: Global, edge: &EdgeType<Leaf>) -> Result<Vec<TypeNo>, Memory>
     ensures { IfOk result (λ types. types.items ≡ named_by_edge edge.now) }
 {
     let mut types = Vec::new(alloc);
@@ -114,8 +114,8 @@ fn push_atoms(atoms: &[Atom], types: &mut Vec<TypeNo>) -> Result<(), Memory>
     Ok(())
 }
 
-// Puts the types last that the patterns of a key name.
-fn push_key(key: &Key, types: &mut Vec<TypeNo>) -> Result<(), Memory>
+/// Puts the types last that the patterns of a key name.
+pub(crate) fn push_key(key: &Key, types: &mut Vec<TypeNo>) -> Result<(), Memory>
     ensures { OnOk result (types.new.items ≡ types.old.items ++ named_by_key key.now) }
 {
     push_atoms(key.scope.atoms.as_slice(), types)?;
@@ -237,6 +237,29 @@ impl Marks {
         Ok(())
     }
 
+    // Marks what marked types lead to.
+    fn mark_named(&mut self, alloc: Global, resolved: &Resolved) -> Result<(), Memory>
+        ensures { (used : Items Numbered) → AreMarks resolved.now used self.old →
+            OnOk result (AreMarks resolved.now (led_to resolved.now used) self.new) }
+    {
+        self.mark_edges(alloc, resolved)?;
+        self.mark_nodes(alloc, resolved)
+    }
+
+    /// A mark for each type to which types lead.
+    pub(crate) fn from(
+        alloc: Global,
+        resolved: &Resolved,
+        types: &[TypeNo],
+    ) -> Result<Marks, Memory>
+        ensures { IfOk result (AreMarks resolved.now (led_to resolved.now types.now)) }
+    {
+        let mut marks = Marks::none(alloc, resolved)?;
+        marks.mark_all(types);
+        marks.mark_named(alloc, resolved)?;
+        Ok(marks)
+    }
+
     /// A mark for each type that the guard uses.
     pub(crate) fn of(alloc: Global, resolved: &Resolved) -> Result<Marks, Memory>
         ensures { IfOk result (AreMarks resolved.now (used_types resolved.now)) }
@@ -246,8 +269,7 @@ impl Marks {
         let mut marks = Marks::none(alloc, resolved)?;
         marks.mark_all(resolved.guard.types.as_slice());
         marks.mark_all(&types);
-        marks.mark_edges(alloc, resolved)?;
-        marks.mark_nodes(alloc, resolved)?;
+        marks.mark_named(alloc, resolved)?;
         Ok(marks)
     }
 
@@ -262,5 +284,15 @@ impl Marks {
         ensures { result ≡ slice_index_or self.now.edges.items place false }
     {
         flag_at(&self.edges, place)
+    }
+
+    /// Whether a type is marked.
+    pub(crate) fn has(&self, number: TypeNo) -> bool
+        ensures { result ≡ is_marked self.now number }
+    {
+        match number {
+            TypeNo::Node(place) => self.has_node(place as usize),
+            TypeNo::Edge(place) => self.has_edge(place as usize),
+        }
     }
 }

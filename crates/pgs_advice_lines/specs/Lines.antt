@@ -35,6 +35,10 @@ forbids_line number = codes "forbids " ++ (decimal number ++ codes "\n")
 unfoldable pub void_line : ℕ → List ℕ → List ℕ
 void_line number word = codes "void " ++ (decimal number ++ (codes " " ++ (word ++ codes "\n")))
 
+-- a subtype of a type that a key names, of which the key doesn't speak: the names of the type and of the subtype
+unfoldable pub apart_line : ℕ → List ℕ → List ℕ → List ℕ
+apart_line number base own = codes "apart " ++ (decimal number ++ (codes " " ++ (base ++ (codes " " ++ (own ++ codes "\n")))))
+
 unfoldable pub nothing_line : List ℕ
 nothing_line = codes "guards nothing\n"
 

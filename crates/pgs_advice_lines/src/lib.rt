@@ -8,4 +8,4 @@ mod line;
 mod telling;
 
 pub use line::{Line, never_line, type_line};
-pub use telling::{pieces_of, push_advice, push_guard, some_warns, tell, warn};
+pub use telling::{Findings, pieces_of, push_advice, push_guard, some_warns, tell, warn};

@@ -1,7 +1,7 @@
 //! The lines of a check.
 
 ghost use Rattle.std.specs.Prelude.{◌≡◌, ◌++◌, codes, decimal, IfOk, OnOk};
-ghost use Rattle.pgs_advice_lines.specs.Lines.{mode_text, guard_line, type_line, never_line, key_line, never_reached_line, forbids_line, void_line, nothing_line, unused_line, unused_graph_line, word_text, unknown_line};
+ghost use Rattle.pgs_advice_lines.specs.Lines.{mode_text, guard_line, type_line, never_line, key_line, never_reached_line, forbids_line, void_line, apart_line, nothing_line, unused_line, unused_graph_line, word_text, unknown_line};
 
 use pgs_advice::Unknown;
 use pgs_base::{Bytes, Memory, Name};
@@ -130,6 +130,26 @@ pub(crate) fn void_line(alloc: Global, number: u64, word: &[u8]) -> Result<Bytes
     ensures { IfOk result (λ line. line ≡ void_line number word.now) }
 {
     numbered_line(alloc, b"void ", number, word)
+}
+
+/// The line of a subtype of a type that a key names, of which the key doesn't speak.
+#[tactic(auto, unfolding(crate::specs::Lines::apart_line))]
+pub(crate) fn apart_line(
+    alloc: Global,
+    number: u64,
+    base: &[u8],
+    own: &[u8],
+) -> Result<Bytes, Memory>
+    ensures { IfOk result (λ line. line ≡ apart_line number base.now own.now) }
+{
+    let mut line = TextBuffer::with_room(alloc, ROOM)?;
+    push_count(&mut line, b"apart ", number)?;
+    line.push(b" ")?;
+    line.push(base)?;
+    line.push(b" ")?;
+    line.push(own)?;
+    line.push(b"\n")?;
+    Ok(line.into_bytes())
 }
 
 /// The line of a guard that lists types and asks nothing of them.

@@ -5,23 +5,30 @@ ghost use Rattle.std.specs.List.{list_any, enumerate_from};
 ghost use Rattle.pgs_syntax.specs.declared.script.Script.{Script as Tree};
 ghost use Rattle.pgs_resolve_declared.specs.Tables.{AreOf};
 ghost use Rattle.pgs_advice_lines.specs.Lines.{unused_line, unused_graph_line, unknown_line};
-ghost use Rattle.pgs_advice_lines.specs.Telling.{tell, warn, guard_lines, reach_at, reach_lines, void_lines, key_lines, is_forbids, unknown_lines, guards_nothing, nothing_lines, unused_type_lines, unused_graph_lines, advice_lines};
+ghost use Rattle.pgs_advice_lines.specs.Telling.{tell, warn, guard_lines, reach_at, reach_lines, void_lines, apart_at, type_name, apart_lines, key_lines, is_forbids, unknown_lines, guards_nothing, nothing_lines, unused_type_lines, unused_graph_lines, advice_lines};
 
 use crate::line::{
-    Line, forbids_line, guard_line, key_line, never_reached_line, nothing_line, unknown_line,
-    unused_graph_line, unused_line, void_line,
+    Line, apart_line, forbids_line, guard_line, key_line, never_reached_line, nothing_line,
+    unknown_line, unused_graph_line, unused_line, void_line,
 };
 use pgs_advice::{
-    Unknown, Words, has_void_exclusive, has_void_singleton, unknown_words, unused_graphs,
+    Subtype, Unknown, Words, has_void_exclusive, has_void_singleton, unknown_words, unused_graphs,
     unused_types,
 };
-use pgs_base::{Bytes, Copyable, Memory, Name};
+use pgs_base::{Bytes, Copyable, List, Memory, Name};
 use pgs_key_standing::Reach;
 use pgs_lexer::Tokens;
 use pgs_resolve_declared::{Declarations, last_graph};
 use pgs_schema_places::guard_key_texts;
-use pgs_syntax::{GraphType, Guarding, Key, Resolved, Script};
+use pgs_syntax::{GraphType, Guarding, Key, Resolved, Script, TypeNo};
 use std::alloc::Global;
+
+/// What was found of the keys of a guard, in its order: what each reaches, and the subtypes that it doesn't speak of.
+#[derive(Drop)]
+pub struct Findings {
+    pub reached: Vec<Reach>,
+    pub apart: Vec<List<Subtype>>,
+}
 
 /// A line that tells.
 pub fn tell(text: Bytes) -> Line
@@ -90,6 +97,50 @@ fn push_void(alloc: Global, number: u64, key: &Key, lines: &mut Vec<Line>) -> Re
     Ok(())
 }
 
+// The subtypes that the key of a place, from 0, doesn't speak of.
+fn apart_at(apart: &[List<Subtype>], place: usize) -> &[Subtype]
+    ensures { result.now ≡ apart_at apart.now place }
+{
+    match apart.get(place) {
+        Some(subtypes) => subtypes.as_slice(),
+        None => &[],
+    }
+}
+
+// The name of a type.
+fn type_name(resolved: &Resolved, number: TypeNo) -> &[u8]
+    ensures { result.now ≡ type_name resolved.now number }
+{
+    match number {
+        TypeNo::Node(place) => match resolved.nodes.at(place as usize) {
+            Some(node) => node.name.bytes(),
+            None => &[],
+        },
+        TypeNo::Edge(place) => match resolved.edges.at(place as usize) {
+            Some(edge) => edge.name.bytes(),
+            None => &[],
+        },
+    }
+}
+
+// Puts the lines of subtypes last that the key of a number doesn't speak of.
+fn push_apart(
+    alloc: Global,
+    resolved: &Resolved,
+    number: u64,
+    subtypes: &[Subtype],
+    lines: &mut Vec<Line>,
+) -> Result<(), Memory>
+    ensures { OnOk result (lines.new.items ≡ lines.old.items ++ apart_lines resolved.now number subtypes.now) }
+{
+    for subtype in subtypes {
+        let base = type_name(resolved, subtype.base);
+        let own = type_name(resolved, subtype.own);
+        lines.push(warn(apart_line(alloc, number, base, own)?))?;
+    }
+    Ok(())
+}
+
 // The text of a key by its place, from 0.
 fn text_of(texts: &[Bytes], place: usize) -> &[u8]
     ensures { result.now ≡ unwrap_or (slice_get texts.now place) [] }
@@ -103,33 +154,44 @@ fn text_of(texts: &[Bytes], place: usize) -> &[u8]
 // Puts the lines of a key last, by its place, from 0.
 fn push_key(
     alloc: Global,
+    resolved: &Resolved,
     texts: &[Bytes],
-    reached: &[Reach],
+    findings: &Findings,
     place: usize,
     key: &Key,
     lines: &mut Vec<Line>,
 ) -> Result<(), Memory>
     requires { place < 2 ^ 63 }
-    ensures { OnOk result (lines.new.items ≡ lines.old.items ++ key_lines texts.now reached.now (place, key.now)) }
+    ensures { OnOk result (lines.new.items
+        ≡ lines.old.items ++ key_lines resolved.now texts.now findings.now.reached.items findings.now.apart.items (place, key.now)) }
 {
     let number = place as u64 + 1;
     lines.push(tell(key_line(alloc, number, text_of(texts, place))?))?;
-    push_reach(alloc, number, reach_at(reached, place), lines)?;
-    push_void(alloc, number, key, lines)
+    push_reach(alloc, number, reach_at(&findings.reached, place), lines)?;
+    push_void(alloc, number, key, lines)?;
+    push_apart(
+        alloc,
+        resolved,
+        number,
+        apart_at(&findings.apart, place),
+        lines,
+    )
 }
 
 // Puts the lines of keys last.
 fn push_keys(
     alloc: Global,
+    resolved: &Resolved,
     texts: &[Bytes],
-    reached: &[Reach],
+    findings: &Findings,
     keys: &[Key],
     lines: &mut Vec<Line>,
 ) -> Result<(), Memory>
-    ensures { OnOk result (lines.new.items ≡ lines.old.items ++ flat_map (key_lines texts.now reached.now) (enumerate_from 0 keys.now)) }
+    ensures { OnOk result (lines.new.items ≡ lines.old.items
+        ++ flat_map (key_lines resolved.now texts.now findings.now.reached.items findings.now.apart.items) (enumerate_from 0 keys.now)) }
 {
     for (place, key) in keys.iter().enumerate() {
-        push_key(alloc, texts, reached, place, key, lines)?;
+        push_key(alloc, resolved, texts, findings, place, key, lines)?;
     }
     Ok(())
 }
@@ -250,7 +312,7 @@ fn push_unknowns(
     Ok(())
 }
 
-/// Puts the lines last that stand behind those of the types: of the keys, by what each of them reaches, in order, and of what does
+/// Puts the lines last that stand behind those of the types: of the keys, by what was found of each, in order, and of what does
 /// nothing. They are those of the tokens, the script and the declarations of the schema's text.
 pub fn push_advice(
     alloc: Global,
@@ -258,21 +320,22 @@ pub fn push_advice(
     script: &Script,
     declarations: &Declarations<'_>,
     resolved: &Resolved,
-    reached: &[Reach],
+    findings: &Findings,
     lines: &mut Vec<Line>,
 ) -> Result<(), Memory>
     requires { AreOf script.now declarations.now }
-    ensures { OnOk result (lines.new.items ≡ lines.old.items ++ advice_lines tokens.now script.now resolved.now reached.now) }
+    ensures { OnOk result (lines.new.items
+        ≡ lines.old.items ++ advice_lines tokens.now script.now resolved.now findings.now.reached.items findings.now.apart.items) }
 {
     let guard = &resolved.guard;
     let keys = guard.keys.as_slice();
     let texts = guard_key_texts(alloc, tokens, declarations)?;
     let words = Words::of(alloc, resolved)?;
-    push_keys(alloc, texts.as_slice(), reached, keys, lines)?;
+    push_keys(alloc, resolved, texts.as_slice(), findings, keys, lines)?;
     push_nothing(alloc, guard, lines)?;
     push_unused_types(alloc, script, resolved, lines)?;
     push_unused_graphs(alloc, declarations, lines)?;
-    push_unknowns(alloc, &words, reached, keys, lines)
+    push_unknowns(alloc, &words, &findings.reached, keys, lines)
 }
 
 /// The texts of lines, in order.

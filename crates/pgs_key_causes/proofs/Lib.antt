@@ -1,4 +1,5 @@
 pub mod Linking
 pub mod Sound
+pub mod ValidFronts
 pub mod Vars
 pub mod Walks

@@ -131,6 +131,43 @@ module _ (schema : Resolved) (numbering : Numbering) (v w : ℕ) where
       all_joined (names_types schema) (map (name_atom numbering place.is_edge w) place.at.filter.names) _
       (names_named place.is_edge place.at.filter.names parts.0) (tests_named place.at.filter.tests)
 
+-- ---- what the ends of an edge link
+
+record AreLinked (f : Bool) (e l r : ℕ) : Type 0 where
+  left : links e l (ends f e l r) ≡ true
+  right : links e r (ends f e l r) ≡ true
+  from_left : links l e (ends f e l r) ≡ true
+  from_right : links r e (ends f e l r) ≡ true
+  given : gives_ends e (ends f e l r) ≡ true
+
+first_link : (e s t : ℕ) → links e s (Ends e s t) ≡ true
+first_link e s t = or_left _ _ (and_from _ _ (eq-eqb e e refl) (or_left (eqb s s) _ (eq-eqb s s refl)))
+
+last_link : (e s t : ℕ) → links e t (Ends e s t) ≡ true
+last_link e s t = or_left _ _ (and_from _ _ (eq-eqb e e refl) (or_right (eqb t s) _ (eq-eqb t t refl)))
+
+first_back : (e s t : ℕ) → links s e (Ends e s t) ≡ true
+first_back e s t = or_right (eqb s e && (eqb e s || eqb e t)) _ (and_from _ _ (eq-eqb e e refl) (or_left (eqb s s) _ (eq-eqb s s refl)))
+
+last_back : (e s t : ℕ) → links t e (Ends e s t) ≡ true
+last_back e s t = or_right (eqb t e && (eqb e s || eqb e t)) _ (and_from _ _ (eq-eqb e e refl) (or_right (eqb t s) _ (eq-eqb t t refl)))
+
+links_of : (f : Bool) (e l r : ℕ) → AreLinked f e l r
+links_of true e l r = record {
+  left = first_link e l r;
+  right = last_link e l r;
+  from_left = first_back e l r;
+  from_right = last_back e l r;
+  given = eq-eqb e e refl;
+}
+links_of false e l r = record {
+  left = last_link e r l;
+  right = first_link e r l;
+  from_left = last_back e r l;
+  from_right = first_back e r l;
+  given = eq-eqb e e refl;
+}
+
 -- ---- the pattern of visits
 
 module _ (schema : Resolved) (numbering : Numbering) (descriptor : Descriptor) (sound : IsSound schema numbering descriptor) (visits : List Visit)
@@ -150,21 +187,24 @@ module _ (schema : Resolved) (numbering : Numbering) (descriptor : Descriptor) (
   many : length kinds ≡ length vars
   many = length-map (vars_of descriptor.occurrences visits) (is_edge_var descriptor.edge_vars)
 
+  front_stays : (w : ℕ) (xs : List ℕ) → get_or xs 0 0 ≡ 0 → 0 < length xs → get_or (xs ++ w ∷ []) 0 0 ≡ 0
+  front_stays w [] f s = absurd (omega (arith, s))
+  front_stays w (x ∷ xs) f s = f
+
+  one_longer : (w : ℕ) (xs : List ℕ) → 0 < length (xs ++ w ∷ [])
+  one_longer w [] = omega arith
+  one_longer w (x ∷ xs) = omega arith
+
   some_first : (start ws : List ℕ) → get_or start 0 0 ≡ 0 → 0 < length start → (get_or (fold with_var start ws) 0 0 ≡ 0) × (0 < length (fold with_var start ws))
   some_first start [] first some = (first, some)
-  some_first start (w ∷ ws) first some = by (is_in w start)
+  some_first start (w ∷ ws) first some =
+      by (is_in w start) (some_first start ws first some) (some_first (start ++ w ∷ []) ws (front_stays w start first some) (one_longer w start))
     where
-      by : (b : Bool) → (get_or (fold with_var (cond b start (start ++ w ∷ [])) ws) 0 0 ≡ 0) × (0 < length (fold with_var (cond b start (start ++ w ∷ [])) ws))
-      by true = some_first start ws first some
-      by false = some_first (start ++ w ∷ []) ws (front start first some) (longer start)
-        where
-          front : (xs : List ℕ) → get_or xs 0 0 ≡ 0 → 0 < length xs → get_or (xs ++ w ∷ []) 0 0 ≡ 0
-          front [] f s = absurd (omega (arith, s))
-          front (x ∷ xs) f s = f
-
-          longer : (xs : List ℕ) → 0 < length (xs ++ w ∷ [])
-          longer [] = omega arith
-          longer (x ∷ xs) = omega arith
+      by : (b : Bool) → (get_or (fold with_var start ws) 0 0 ≡ 0) × (0 < length (fold with_var start ws)) →
+          (get_or (fold with_var (start ++ w ∷ []) ws) 0 0 ≡ 0) × (0 < length (fold with_var (start ++ w ∷ []) ws)) →
+          (get_or (fold with_var (cond b start (start ++ w ∷ [])) ws) 0 0 ≡ 0) × (0 < length (fold with_var (cond b start (start ++ w ∷ [])) ws))
+      by true old new = old
+      by false old new = new
 
   first : (get_or (vars_of descriptor.occurrences visits) 0 0 ≡ 0) × (0 < length (vars_of descriptor.occurrences visits))
   first = some_first (0 ∷ []) (flat_map (vars_of_visit descriptor.occurrences) visits) refl (omega arith)
@@ -195,70 +235,33 @@ module _ (schema : Resolved) (numbering : Numbering) (descriptor : Descriptor) (
     from_right : list_any (links (number (var (e + 1))) (number (var e))) atoms ≡ true
     given : list_any (gives_ends (number (var e))) atoms ≡ true
 
-  ends_of : (n : ℕ) (d : Visit) → n < length visits → is_edge_at descriptor.occurrences (get_or visits n d).place ≡ true → HasEnds (get_or visits n d).place
-  ends_of n d lt edge = record {
-    left = among (links e l) (one (links e l) (left_one (is_forward descriptor.directions at)));
-    right = among (links e r) (one (links e r) (right_one (is_forward descriptor.directions at)));
-    from_left = among (links l e) (one (links l e) (left_two (is_forward descriptor.directions at)));
-    from_right = among (links r e) (one (links r e) (right_two (is_forward descriptor.directions at)));
-    given = among (gives_ends e) (one (gives_ends e) (gives (is_forward descriptor.directions at)));
-  }
-    where
-      abbrev at : ℕ
-      at = (get_or visits n d).place
+  abbrev place_at : ℕ → Visit → ℕ
+  place_at n d = (get_or visits n d).place
 
-      abbrev e : ℕ
-      e = number (var (get_or visits n d).place)
+  -- what the ends of an edge's visit meet, some atom does
+  ends_among : (n : ℕ) (d : Visit) → n < length visits → is_edge_at descriptor.occurrences (place_at n d) ≡ true → (p : Atom → Bool) →
+      p (ends (is_forward descriptor.directions (place_at n d)) (number (var (place_at n d))) (number (var (place_at n d - 1))) (number (var (place_at n d + 1)))) ≡ true →
+      list_any p atoms ≡ true
+  ends_among n d lt edge p h =
+      any_flat p (visit_atoms numbering descriptor (vars_of descriptor.occurrences visits)) visits n d lt
+      (list_any-append p (written_atoms numbering descriptor (vars_of descriptor.occurrences visits) (place_at n d)) _
+      ∙ or_right (list_any p (written_atoms numbering descriptor (vars_of descriptor.occurrences visits) (place_at n d))) _
+      (ap (λ b. list_any p (cond b (ends (is_forward descriptor.directions (place_at n d)) (number (var (place_at n d)))
+      (number (var (place_at n d - 1))) (number (var (place_at n d + 1))) ∷ []) [])) edge ∙ or_left _ _ h))
 
-      abbrev l : ℕ
-      l = number (var ((get_or visits n d).place - 1))
-
-      abbrev r : ℕ
-      r = number (var ((get_or visits n d).place + 1))
-
-      among : (p : Atom → Bool) → list_any p (visit_atoms numbering descriptor (vars_of descriptor.occurrences visits) (get_or visits n d)) ≡ true →
-          list_any p (flat_map (visit_atoms numbering descriptor (vars_of descriptor.occurrences visits)) visits) ≡ true
-      among p h = any_flat p (visit_atoms numbering descriptor (vars_of descriptor.occurrences visits)) visits n d lt h
-
-      one : (p : Atom → Bool) → p (ends (is_forward descriptor.directions at) e l r) ≡ true →
-          list_any p (visit_atoms numbering descriptor (vars_of descriptor.occurrences visits) (get_or visits n d)) ≡ true
-      one p h =
-          list_any-append p (written_atoms numbering descriptor (vars_of descriptor.occurrences visits) (get_or visits n d).place) _
-          ∙ or_right (list_any p (written_atoms numbering descriptor (vars_of descriptor.occurrences visits) (get_or visits n d).place)) _
-          (ap (λ b. list_any p (cond b (ends (is_forward descriptor.directions (get_or visits n d).place) (number (var (get_or visits n d).place))
-          (number (var ((get_or visits n d).place - 1))) (number (var ((get_or visits n d).place + 1))) ∷ []) [])) edge ∙ or_left _ _ h)
-
-      link : (a b s t : ℕ) → links a b (Ends a b t) ≡ true
-      link a b s t = or_left _ _ (and_from _ _ (eq-eqb a a refl) (or_left (eqb b b) _ (eq-eqb b b refl)))
-
-      link_last : (a b s : ℕ) → links a b (Ends a s b) ≡ true
-      link_last a b s = or_left _ _ (and_from _ _ (eq-eqb a a refl) (or_right (eqb b s) _ (eq-eqb b b refl)))
-
-      back : (a b t : ℕ) → links b a (Ends a b t) ≡ true
-      back a b t = or_right _ _ (and_from _ _ (eq-eqb a a refl) (or_left (eqb b b) _ (eq-eqb b b refl)))
-
-      back_last : (a b s : ℕ) → links b a (Ends a s b) ≡ true
-      back_last a b s = or_right _ _ (and_from _ _ (eq-eqb a a refl) (or_right (eqb b s) _ (eq-eqb b b refl)))
-
-      left_one : (f : Bool) → links e l (ends f e l r) ≡ true
-      left_one true = link e l l r
-      left_one false = link_last e l r
-
-      right_one : (f : Bool) → links e r (ends f e l r) ≡ true
-      right_one true = link_last e r l
-      right_one false = link e r r l
-
-      left_two : (f : Bool) → links l e (ends f e l r) ≡ true
-      left_two true = back e l r
-      left_two false = back_last e l r
-
-      right_two : (f : Bool) → links r e (ends f e l r) ≡ true
-      right_two true = back_last e r l
-      right_two false = back e r l
-
-      gives : (f : Bool) → gives_ends e (ends f e l r) ≡ true
-      gives true = eq-eqb e e refl
-      gives false = eq-eqb e e refl
+  ends_of : (n : ℕ) (d : Visit) → n < length visits → is_edge_at descriptor.occurrences (place_at n d) ≡ true → HasEnds (place_at n d)
+  ends_of n d lt edge =
+      let e : ℕ = number (var (place_at n d)) in
+      let l : ℕ = number (var (place_at n d - 1)) in
+      let r : ℕ = number (var (place_at n d + 1)) in
+      let own = links_of (is_forward descriptor.directions (place_at n d)) e l r in
+      record {
+        left = ends_among n d lt edge (links e l) own.left;
+        right = ends_among n d lt edge (links e r) own.right;
+        from_left = ends_among n d lt edge (links l e) own.from_left;
+        from_right = ends_among n d lt edge (links r e) own.from_right;
+        given = ends_among n d lt edge (gives_ends e) own.given;
+      }
 
   -- the variables of a visit are known before it, or those of an edge of which one is
   node_vars : (v n : ℕ) → is_edge_at descriptor.occurrences n ≡ false → (from : ℕ) → is_in v (vars_of_visit descriptor.occurrences (record { place = n; from = from })) ≡ true → v ≡ var n
@@ -283,6 +286,9 @@ module _ (schema : Resolved) (numbering : Numbering) (descriptor : Descriptor) (
         ]
       ]
 
+  in_zero : (v : ℕ) → is_in v (0 ∷ []) ≡ true → v ≡ 0
+  in_zero v h = elim (or_cases (eqb 0 v) false h) [ inl e ↦ sym (eqb-true 0 v e) | inr e ↦ absurd (true≢false (sym e)) ]
+
   -- ---- all are linked with x
 
   abbrev Linked : ℕ → Type 0
@@ -296,61 +302,54 @@ module _ (schema : Resolved) (numbering : Numbering) (descriptor : Descriptor) (
   linked_edge e has (inr (inl h)) = h
   linked_edge e has (inr (inr h)) = further h has.from_right
 
+  -- one more visit
+  module _ (n : ℕ) (d : Visit) (lt : n < length visits) where
+    one_known : (P : ℕ → Type 0) → ((v : ℕ) → is_in v (upto n) ≡ true → P v) → is_edge_at descriptor.occurrences (place_at n d) ≡ true →
+        P (var (place_at n d - 1)) ⊎ (P (var (place_at n d)) ⊎ P (var (place_at n d + 1)))
+    one_known P before edge =
+        elim (or_cases (is_known descriptor.occurrences (take n visits) (place_at n d - 1) || is_known descriptor.occurrences (take n visits) (place_at n d)) _
+        ((walked n d lt).edge edge)) [
+          | inl two ↦ elim (or_cases (is_known descriptor.occurrences (take n visits) (place_at n d - 1)) _ two) [
+            | inl k ↦ inl (before (var (place_at n d - 1)) k)
+            | inr k ↦ inr (inl (before (var (place_at n d)) k))
+          ]
+          | inr k ↦ inr (inr (before (var (place_at n d + 1)) k))
+        ]
+
+    linked_more : ((v : ℕ) → is_in v (upto n) ≡ true → Linked v) → (v : ℕ) → is_in v (vars_of_visit descriptor.occurrences (get_or visits n d)) ≡ true → Linked v
+    linked_more before v i = by (is_edge_at descriptor.occurrences (place_at n d)) refl
+      where
+        by : (b : Bool) → is_edge_at descriptor.occurrences (place_at n d) ≡ b → Linked v
+        by false node =
+            subst Linked (sym (node_vars v (place_at n d) node (get_or visits n d).from i)) (before (var (place_at n d)) ((walked n d lt).node node))
+        by true edge =
+            let has = ends_of n d lt edge in
+            let own = linked_edge (place_at n d) has (one_known Linked before edge) in
+            elim (edge_vars_of v (place_at n d) edge (get_or visits n d).from i) [
+              | inl is ↦ subst Linked (sym is) own
+              | inr rest ↦ elim rest [
+                | inl is ↦ subst Linked (sym is) (further own has.left)
+                | inr is ↦ subst Linked (sym is) (further own has.right)
+              ]
+            ]
+
   all_linked : (n : ℕ) → n ≤ length visits → (v : ℕ) → is_in v (upto n) ≡ true → Linked v
-  all_linked zero le v h = elim (or_cases (eqb 0 v) false h) [ inl e ↦ linked_zero v (sym (eqb-true 0 v e)) | inr e ↦ absurd (true≢false (sym e)) ]
+  all_linked zero le v h = linked_zero v (in_zero v h)
   all_linked (suc n) le v h =
       let d : Visit = record { place = 0; from = 0 } in
       let lt : n < length visits = omega (arith, le) in
-      let visit = get_or visits n d in
       let before = all_linked n (omega (arith, le)) in
-      let after = walked n d lt in
       let suc_is : suc n ≡ n + 1 = omega arith in
-      let there = from_all v (upto n) (vars_of_visit descriptor.occurrences visit) (ap (is_in v) (sym (ap upto suc_is ∙ more n d lt)) ∙ h) in
-      elim there [
+      elim (from_all v (upto n) (vars_of_visit descriptor.occurrences (get_or visits n d)) (ap (is_in v) (sym (ap upto suc_is ∙ more n d lt)) ∙ h)) [
         | inl old ↦ before v old
-        | inr new ↦ by (is_edge_at descriptor.occurrences visit.place) refl new
+        | inr new ↦ linked_more n d lt before v new
       ]
-    where
-      by : (b : Bool) → is_edge_at descriptor.occurrences (get_or visits n (record { place = 0; from = 0 })).place ≡ b →
-          is_in v (vars_of_visit descriptor.occurrences (get_or visits n (record { place = 0; from = 0 }))) ≡ true → Linked v
-      by false node i =
-          let d : Visit = record { place = 0; from = 0 } in
-          let lt : n < length visits = omega (arith, le) in
-          let visit = get_or visits n d in
-          let is = node_vars v visit.place node visit.from i in
-          subst Linked (sym is) (all_linked n (omega (arith, le)) (var visit.place) ((walked n d lt).node node))
-      by true edge i =
-          let d : Visit = record { place = 0; from = 0 } in
-          let lt : n < length visits = omega (arith, le) in
-          let visit = get_or visits n d in
-          let has = ends_of n d lt edge in
-          let before = all_linked n (omega (arith, le)) in
-          let touched = (walked n d lt).edge edge in
-          let one : Linked (var (visit.place - 1)) ⊎ (Linked (var visit.place) ⊎ Linked (var (visit.place + 1))) =
-          elim (or_cases (is_known descriptor.occurrences (take n visits) (visit.place - 1) || is_known descriptor.occurrences (take n visits) visit.place) _ touched) [
-            | inl two ↦ elim (or_cases (is_known descriptor.occurrences (take n visits) (visit.place - 1)) _ two) [
-              | inl k ↦ inl (before (var (visit.place - 1)) k)
-              | inr k ↦ inr (inl (before (var visit.place) k))
-            ]
-            | inr k ↦ inr (inr (before (var (visit.place + 1)) k))
-          ] in
-          let own = linked_edge visit.place has one in
-          elim (edge_vars_of v visit.place edge visit.from i) [
-            | inl is ↦ subst Linked (sym is) own
-            | inr rest ↦ elim rest [
-              | inl is ↦ subst Linked (sym is) (further own has.left)
-              | inr is ↦ subst Linked (sym is) (further own has.right)
-            ]
-          ]
 
   -- ---- each edge has its ends
 
   abbrev AreEnded : List ℕ → Type 0
   AreEnded vs =
       (vs ≡ 0 ∷ []) ⊎ ((v : ℕ) → is_edge_var descriptor.edge_vars v ≡ true → is_in v vs ≡ true → list_any (gives_ends (number v)) atoms ≡ true)
-
-  in_zero : (v : ℕ) → is_in v (0 ∷ []) ≡ true → v ≡ 0
-  in_zero v h = elim (or_cases (eqb 0 v) false h) [ inl e ↦ sym (eqb-true 0 v e) | inr e ↦ absurd (true≢false (sym e)) ]
 
   not_both : (v : ℕ) → is_edge_var descriptor.edge_vars v ≡ true → is_edge_var descriptor.edge_vars v ≡ false → ⊥
   not_both v edge node = true≢false (sym edge ∙ node)
@@ -370,54 +369,56 @@ module _ (schema : Resolved) (numbering : Numbering) (descriptor : Descriptor) (
       zero : (v : ℕ) → is_in v vs ≡ true → v ≡ 0
       zero v k = in_zero v (ap (is_in v) (sym is) ∙ k)
 
+  -- one more visit
+  module _ (n : ℕ) (d : Visit) (lt : n < length visits) (before : AreEnded (upto n)) where
+    ended_node : is_edge_at descriptor.occurrences (place_at n d) ≡ false → AreEnded (fold with_var (upto n) (vars_of_visit descriptor.occurrences (get_or visits n d)))
+    ended_node node =
+        let p : ℕ = place_at n d in
+        let vars_here : vars_of_visit descriptor.occurrences (get_or visits n d) ≡ var p ∷ [] =
+        ap (λ b. cond b (var p ∷ var (p - 1) ∷ var (p + 1) ∷ []) (var p ∷ [])) node in
+        let same : fold with_var (upto n) (vars_of_visit descriptor.occurrences (get_or visits n d)) ≡ upto n =
+        ap (fold with_var (upto n)) vars_here ∙ ap (λ b. cond b (upto n) (upto n ++ var p ∷ [])) ((walked n d lt).node node) in
+        subst AreEnded (sym same) before
+
+    ended_edge : is_edge_at descriptor.occurrences (place_at n d) ≡ true → AreEnded (fold with_var (upto n) (vars_of_visit descriptor.occurrences (get_or visits n d)))
+    ended_edge edge =
+        let p : ℕ = place_at n d in
+        let at = sound.edges p edge in
+        let has = ends_of n d lt edge in
+        let given_at : (v : ℕ) → v ≡ var p → list_any (gives_ends (number v)) atoms ≡ true =
+        λ v is. ap (λ u. list_any (gives_ends (number u)) atoms) is ∙ has.given in
+        inr
+        (λ v edge_v h.
+        elim (from_all v (upto n) (vars_of_visit descriptor.occurrences (get_or visits n d)) h) [
+          | inl old ↦ elim before [
+            | inl alone ↦
+                let is : v ≡ 0 = in_zero v (ap (is_in v) (sym alone) ∙ old) in
+                given_at v (is ∙ touches_zero p at (upto n) alone (ap (is_edge_var descriptor.edge_vars) (sym is) ∙ edge_v) ((walked n d lt).edge edge))
+            | inr each ↦ each v edge_v old
+          ]
+          | inr new ↦ elim (edge_vars_of v p edge (get_or visits n d).from new) [
+            | inl is ↦ given_at v is
+            | inr rest ↦ elim rest [
+              | inl is ↦ absurd (not_both (var (p - 1)) (ap (is_edge_var descriptor.edge_vars) (sym is) ∙ edge_v) at.left)
+              | inr is ↦ absurd (not_both (var (p + 1)) (ap (is_edge_var descriptor.edge_vars) (sym is) ∙ edge_v) at.right)
+            ]
+          ]
+        ])
+
+    ended_more : AreEnded (fold with_var (upto n) (vars_of_visit descriptor.occurrences (get_or visits n d)))
+    ended_more = by (is_edge_at descriptor.occurrences (place_at n d)) refl
+      where
+        by : (b : Bool) → is_edge_at descriptor.occurrences (place_at n d) ≡ b → AreEnded (fold with_var (upto n) (vars_of_visit descriptor.occurrences (get_or visits n d)))
+        by false e = ended_node e
+        by true e = ended_edge e
+
   ended : (n : ℕ) → n ≤ length visits → AreEnded (upto n)
   ended zero le = inl refl
-  ended (suc n) le = by (is_edge_at descriptor.occurrences (get_or visits n (record { place = 0; from = 0 })).place) refl
-    where
-      abbrev here : Visit
-      here = get_or visits n (record { place = 0; from = 0 })
-
-      lt : n < length visits
-      lt = omega (arith, le)
-
-      after : IsVisitAfter descriptor.occurrences (take n visits) (get_or visits n (record { place = 0; from = 0 }))
-      after = walked n (record { place = 0; from = 0 }) lt
-
-      before : AreEnded (upto n)
-      before = ended n (omega (arith, le))
-
-      grown : upto (suc n) ≡ fold with_var (upto n) (vars_of_visit descriptor.occurrences (get_or visits n (record { place = 0; from = 0 })))
-      grown = let suc_is : suc n ≡ n + 1 = omega arith in ap upto suc_is ∙ more n (record { place = 0; from = 0 }) lt
-
-      by : (b : Bool) → is_edge_at descriptor.occurrences here.place ≡ b → AreEnded (upto (suc n))
-      by false node =
-          let vars_here : vars_of_visit descriptor.occurrences here ≡ var here.place ∷ [] =
-          ap (λ b. cond b (var here.place ∷ var (here.place - 1) ∷ var (here.place + 1) ∷ []) (var here.place ∷ [])) node in
-          let same : upto (suc n) ≡ upto n =
-          grown ∙ ap (fold with_var (upto n)) vars_here ∙ ap (λ b. cond b (upto n) (upto n ++ var here.place ∷ [])) (after.node node) in
-          subst AreEnded (sym same) before
-      by true edge =
-          let at = sound.edges here.place edge in
-          let has = ends_of n (record { place = 0; from = 0 }) lt edge in
-          let given_at : (v : ℕ) → v ≡ var here.place → list_any (gives_ends (number v)) atoms ≡ true =
-          λ v is. ap (λ u. list_any (gives_ends (number u)) atoms) is ∙ has.given in
-          inr
-          (λ v edge_v h.
-          elim (from_all v (upto n) (vars_of_visit descriptor.occurrences here) (ap (is_in v) (sym grown) ∙ h)) [
-            | inl old ↦ elim before [
-              | inl alone ↦
-                  let is : v ≡ 0 = in_zero v (ap (is_in v) (sym alone) ∙ old) in
-                  given_at v (is ∙ touches_zero here.place at (upto n) alone (ap (is_edge_var descriptor.edge_vars) (sym is) ∙ edge_v) (after.edge edge))
-              | inr each ↦ each v edge_v old
-            ]
-            | inr new ↦ elim (edge_vars_of v here.place edge here.from new) [
-              | inl is ↦ given_at v is
-              | inr rest ↦ elim rest [
-                | inl is ↦ absurd (not_both (var (here.place - 1)) (ap (is_edge_var descriptor.edge_vars) (sym is) ∙ edge_v) at.left)
-                | inr is ↦ absurd (not_both (var (here.place + 1)) (ap (is_edge_var descriptor.edge_vars) (sym is) ∙ edge_v) at.right)
-              ]
-            ]
-          ])
+  ended (suc n) le =
+      let d : Visit = record { place = 0; from = 0 } in
+      let lt : n < length visits = omega (arith, le) in
+      let suc_is : suc n ≡ n + 1 = omega arith in
+      subst AreEnded (sym (ap upto suc_is ∙ more n d lt)) (ended_more n d lt (ended n (omega (arith, le))))
 
   -- ---- what is asked speaks of the variables
 
@@ -462,30 +463,30 @@ module _ (schema : Resolved) (numbering : Numbering) (descriptor : Descriptor) (
       slice_get descriptor.places (get_or visits i d).place ≡ Some place → v ≡ var (get_or visits i d).place → list_all ok (place_asks numbering (number v) place) ≡ true)
       (ends_ok : is_edge_at descriptor.occurrences (get_or visits i d).place ≡ true → (f : Bool) →
       ok (ends f (number (var (get_or visits i d).place)) (number (var ((get_or visits i d).place - 1))) (number (var ((get_or visits i d).place + 1)))) ≡ true) where
+    abbrev n : ℕ
+    n = (get_or visits i d).place
+
+    own_in : (b : Bool) → is_in (var n) (cond b (var n ∷ var (n - 1) ∷ var (n + 1) ∷ []) (var n ∷ [])) ≡ true
+    own_in true = or_left (eqb (var n) (var n)) _ (eq-eqb (var n) (var n) refl)
+    own_in false = or_left (eqb (var n) (var n)) _ (eq-eqb (var n) (var n) refl)
+
+    there : is_in (var n) (vars_of descriptor.occurrences visits) ≡ true
+    there = in_vars i d lt (var n) (own_in (is_edge_at descriptor.occurrences n))
+
+    written_ok : (o : Option Place) → slice_get descriptor.places n ≡ o →
+        list_all ok (option_map_or (λ (place : Place). place_atoms numbering place.is_edge (number (var n)) place.at.filter) o []) ≡ true
+    written_ok None e = refl
+    written_ok (Some place) e = places_ok (var n) there place e refl
+
+    ended_ok : (b : Bool) → is_edge_at descriptor.occurrences n ≡ b →
+        list_all ok (cond b (ends (is_forward descriptor.directions n) (number (var n)) (number (var (n - 1))) (number (var (n + 1))) ∷ []) []) ≡ true
+    ended_ok false e = refl
+    ended_ok true e = and_from _ _ (ends_ok e (is_forward descriptor.directions n)) refl
+
     visit_ok : list_all ok (visit_atoms numbering descriptor (vars_of descriptor.occurrences visits) (get_or visits i d)) ≡ true
     visit_ok =
         all_joined ok (written_atoms numbering descriptor (vars_of descriptor.occurrences visits) n) (ends_atoms descriptor (vars_of descriptor.occurrences visits) n)
-        (written (slice_get descriptor.places n) refl) (ended_ok (is_edge_at descriptor.occurrences n) refl)
-      where
-        abbrev n : ℕ
-        n = (get_or visits i d).place
-
-        there : is_in (var n) (vars_of descriptor.occurrences visits) ≡ true
-        there = in_vars i d lt (var n) (own (is_edge_at descriptor.occurrences n))
-          where
-            own : (b : Bool) → is_in (var n) (cond b (var n ∷ var (n - 1) ∷ var (n + 1) ∷ []) (var n ∷ [])) ≡ true
-            own true = or_left (eqb (var n) (var n)) _ (eq-eqb (var n) (var n) refl)
-            own false = or_left (eqb (var n) (var n)) _ (eq-eqb (var n) (var n) refl)
-
-        written : (o : Option Place) → slice_get descriptor.places n ≡ o →
-            list_all ok (option_map_or (λ (place : Place). place_atoms numbering place.is_edge (number (var n)) place.at.filter) o []) ≡ true
-        written None e = refl
-        written (Some place) e = places_ok (var n) there place e refl
-
-        ended_ok : (b : Bool) → is_edge_at descriptor.occurrences n ≡ b →
-            list_all ok (cond b (ends (is_forward descriptor.directions n) (number (var n)) (number (var (n - 1))) (number (var (n + 1))) ∷ []) []) ≡ true
-        ended_ok false e = refl
-        ended_ok true e = and_from _ _ (ends_ok e (is_forward descriptor.directions n)) refl
+        (written_ok (slice_get descriptor.places n) refl) (ended_ok (is_edge_at descriptor.occurrences n) refl)
 
   all_speak : list_all (speaks_of kinds) atoms ≡ true
   all_speak =
@@ -525,25 +526,25 @@ module _ (schema : Resolved) (numbering : Numbering) (descriptor : Descriptor) (
       let h = all_linked (length visits) (omega arith) v (ap (is_in v) whole ∙ known_at (vars_of descriptor.occurrences visits) k low) in
       subst (IsLinked atoms 0) (own_number (vars_of descriptor.occurrences visits) k distinct low) h
 
+  abbrev var_of : ℕ → ℕ
+  var_of k = get_or (vars_of descriptor.occurrences visits) k 0
+
   has_ends : (k : ℕ) → k < length kinds → ((v : ℕ) → is_edge_var descriptor.edge_vars v ≡ true → is_in v (vars_of descriptor.occurrences visits) ≡ true →
       list_any (gives_ends (number v)) atoms ≡ true) → (not (get_or kinds k false) || list_any (gives_ends k) atoms) ≡ true
-  has_ends k lt each = by (is_edge_var descriptor.edge_vars v) refl
+  has_ends k lt each = by (is_edge_var descriptor.edge_vars (var_of k)) refl
     where
-      abbrev v : ℕ
-      v = get_or (vars_of descriptor.occurrences visits) k 0
-
       low : k < length (vars_of descriptor.occurrences visits)
       low = omega (arith, lt, many)
 
-      read : get_or kinds k false ≡ is_edge_var descriptor.edge_vars v
+      read : get_or kinds k false ≡ is_edge_var descriptor.edge_vars (var_of k)
       read = get_or-map (is_edge_var descriptor.edge_vars) (vars_of descriptor.occurrences visits) k 0 false low
 
-      by : (b : Bool) → is_edge_var descriptor.edge_vars v ≡ b → (not (get_or kinds k false) || list_any (gives_ends k) atoms) ≡ true
+      by : (b : Bool) → is_edge_var descriptor.edge_vars (var_of k) ≡ b → (not (get_or kinds k false) || list_any (gives_ends k) atoms) ≡ true
       by false e = or_left (not (get_or kinds k false)) _ (ap not (read ∙ e))
       by true e =
           or_right (not (get_or kinds k false)) _
           (ap (λ n. list_any (gives_ends n) atoms) (sym (own_number (vars_of descriptor.occurrences visits) k distinct low))
-          ∙ each v e (known_at (vars_of descriptor.occurrences visits) k low))
+          ∙ each (var_of k) e (known_at (vars_of descriptor.occurrences visits) k low))
 
   all_ends : has_all_ends (visited_pattern numbering descriptor visits) ≡ true
   all_ends = elim (subst (λ vs. AreEnded (vars_of descriptor.occurrences vs)) (take_all (length visits) visits (omega arith)) (ended (length visits) (omega arith))) [
@@ -590,3 +591,8 @@ module _ (schema : Resolved) (numbering : Numbering) (descriptor : Descriptor) (
                 | inl is ↦ low visit.place is
                 | inr rest ↦ elim rest [ inl is ↦ low (visit.place - 1) is | inr is ↦ low (visit.place + 1) is ]
               ]
+
+  -- the kind of x stays
+  pub first_kind : is_edge_var (visited_pattern numbering descriptor visits).edge_vars 0 ≡ is_edge_var descriptor.edge_vars 0
+  first_kind =
+      ap (λ n. is_edge_var kinds n) (sym number_zero) ∙ ap (λ o. option_map_or (λ is_edge. is_edge) o false) (kind_at 0 (x_known descriptor.occurrences visits 0 refl)).kind

@@ -21,7 +21,7 @@ use Rattle.pgs_resolve_keys.specs.Patterns.{Place, Variable, x_of, variable_at, 
 use Rattle.pgs_resolve_keys.proofs.AtomsOfPaths.{number_below, some_variable}
 use Rattle.pgs_resolve_keys.proofs.Stepped.{step_places}
 use Rattle.pgs_key_causes.specs.declared.walk.Occurrence.{Occurrence}
-use Rattle.pgs_key_causes.specs.Fronts.{Descriptor, occurrences_of, directions_of, descriptor_of}
+use Rattle.pgs_key_causes.specs.Fronts.{Descriptor, occurrence_of, occurrences_of, directions_of, descriptor_of}
 use Rattle.pgs_key_causes.specs.Walk.{var_at, is_edge_at}
 
 -- what is written at a place
@@ -99,7 +99,7 @@ module _ (numbering : Numbering) (var : Variable → ℕ) (ok : Atom → Bool) w
       let later = and_parts (ok (ends step.forward edge node next)) (list_all ok rest) parts.1 in
       let Q : ℕ → Type 0 = λ n. EachPlace Ok n (flat_map places_of_step steps) in
       let further : place + 2 ≡ place + 1 + 1 = omega arith in
-      (own.0, own.1, subst Q further (steps_each next (place + 2) steps later.1))
+      (own.0, (own.1, subst Q further (steps_each next (place + 2) steps later.1)))
 
   pub paths_each : (place : ℕ) (paths : List RawPath) → list_all ok (path_atoms numbering var place paths) ≡ true → EachPlace Ok place (places_of paths)
   paths_each place [] h = tt
@@ -247,22 +247,22 @@ module _ (edge_vars : List Bool) where
         }
   ]
 
-  module _ (numbering : Numbering) (var : Variable → ℕ) where
-    abbrev occurrence : Kinded → Occurrence
-    occurrence v = record { var = var v.0; is_edge = v.1 }
+  module _ (numbering : Numbering) (variables : List Kinded) where
+    abbrev own_var : Variable → ℕ
+    own_var v = number_of variables v
 
     abbrev occurrences : ℕ → List Place → List Occurrence
-    occurrences number places = map occurrence (variables_at number places)
+    occurrences number places = map (occurrence_of variables) (variables_at number places)
 
-    steps_between : (node place : ℕ) (steps : List RawStep) → list_all (speaks_of edge_vars) (step_atoms numbering var node place steps) ≡ true →
+    steps_between : (node place : ℕ) (steps : List RawStep) → list_all (speaks_of edge_vars) (step_atoms numbering own_var node place steps) ≡ true →
         AreBetween (node_of node ∷ occurrences place (flat_map places_of_step steps))
     steps_between node place [] h = one_node node
     steps_between node place (step ∷ steps) h =
-        let edge = var (variable_at place step.edge) in
-        let next = var (variable_at (place + 1) step.node) in
+        let edge = own_var (variable_at place step.edge) in
+        let next = own_var (variable_at (place + 1) step.node) in
         let a = place_atoms numbering true edge step.edge.filter in
         let b = place_atoms numbering false next step.node.filter in
-        let rest = step_atoms numbering var next (place + 2) steps in
+        let rest = step_atoms numbering own_var next (place + 2) steps in
         let parts = all_left (speaks_of edge_vars) (a ++ b) (ends step.forward edge node next ∷ rest) h in
         let later = and_parts (speaks_of edge_vars (ends step.forward edge node next)) (list_all (speaks_of edge_vars) rest) parts.1 in
         let Q : ℕ → Type 0 = λ n. AreBetween (node_of next ∷ occurrences n (flat_map places_of_step steps)) in
@@ -270,33 +270,33 @@ module _ (edge_vars : List Bool) where
         more_step node edge next (occurrences (place + 1 + 1) (flat_map places_of_step steps)) (link_kinds step.forward edge node next later.0)
         (subst Q further (steps_between next (place + 2) steps later.1))
 
-    paths_between : (place : ℕ) (paths : List RawPath) → list_all (speaks_of edge_vars) (path_atoms numbering var place paths) ≡ true →
+    paths_between : (place : ℕ) (paths : List RawPath) → list_all (speaks_of edge_vars) (path_atoms numbering own_var place paths) ≡ true →
         AreBetween (occurrences place (places_of paths))
-    paths_between place [] h e edge = cc
+    paths_between place [] h = λ e edge. cc
     paths_between place (path ∷ paths) h =
-        let node = var (variable_at place path.start) in
+        let node = own_var (variable_at place path.start) in
         let a = place_atoms numbering false node path.start.filter in
-        let b = step_atoms numbering var node (place + 1) path.steps in
-        let rest = path_atoms numbering var (place + 1 + 2 * length path.steps) paths in
+        let b = step_atoms numbering own_var node (place + 1) path.steps in
+        let rest = path_atoms numbering own_var (place + 1 + 2 * length path.steps) paths in
         let parts = all_left (speaks_of edge_vars) (a ++ b) rest h in
         let own = all_left (speaks_of edge_vars) a b parts.0 in
         let count = step_places path.steps in
         let further : place + 1 + 2 * length path.steps ≡ place + length (places_of_path path) = omega (arith, count) in
         let Q : ℕ → Type 0 = λ n. AreBetween (occurrences n (places_of paths)) in
         let both : occurrences place (places_of (path ∷ paths)) ≡ occurrences place (places_of_path path) ++ occurrences (place + length (places_of_path path)) (places_of paths) =
-        ap (map occurrence) (at-append place (places_of_path path) (places_of paths))
-        ∙ map-append occurrence (variables_at place (places_of_path path)) (variables_at (place + length (places_of_path path)) (places_of paths)) in
+        ap (map (occurrence_of variables)) (at-append place (places_of_path path) (places_of paths))
+        ∙ map-append (occurrence_of variables) (variables_at place (places_of_path path)) (variables_at (place + length (places_of_path path)) (places_of paths)) in
         subst AreBetween (sym both)
         (between-append (occurrences place (places_of_path path)) (occurrences (place + length (places_of_path path)) (places_of paths))
         (steps_between node (place + 1) path.steps own.1) (subst Q further (paths_between (place + 1 + 2 * length path.steps) paths parts.1)))
 
 -- ---- the descriptor of a valid key
 
-var_below : (count : ℕ) (var : Variable → ℕ) → 0 < count → ((v : Variable) → var v < count) → (vs : List Kinded) (n : ℕ) →
-    var_at (map (λ (v : Kinded). record { var = var v.0; is_edge = v.1 }) vs) n < count
-var_below count var some each [] n = some
-var_below count var some each (v ∷ vs) zero = each v.0
-var_below count var some each (v ∷ vs) (suc n) = var_below count var some each vs n
+var_below : (count : ℕ) (variables : List Kinded) → 0 < count → ((v : Variable) → number_of variables v < count) → (vs : List Kinded) (n : ℕ) →
+    var_at (map (occurrence_of variables) vs) n < count
+var_below count variables some each [] n = some
+var_below count variables some each (v ∷ vs) zero = each v.0
+var_below count variables some each (v ∷ vs) (suc n) = var_below count variables some each vs n
 
 -- what is said of a pattern within the limits
 record IsFit (schema : Resolved) (pattern : Pattern) : Type 0 where
@@ -342,54 +342,49 @@ nothing_written schema numbering x pattern directions is = record {
   types = λ n place h. cc;
 }
 
-paths_written : (schema : Resolved) (numbering : Numbering) (x : List ℕ) (paths : List RawPath) (directions : List Bool) → IsFit schema (pattern_of numbering x paths) →
-    IsSound schema numbering (parts_of x (pattern_of numbering x paths) (Some paths) directions)
-paths_written schema numbering x paths directions is = record {
-  some = some;
-  few = is.few;
-  few_edges = is.few_edges;
-  within = var_below (length kinds) var some each (variables_at 0 (places_of paths));
-  edges = λ e h. (paths_between kinds numbering var 0 paths is.speaks e h).kinds;
-  speaks = asks (speaks_of kinds) is.speaks;
-  types = asks (names_types schema) is.types;
-}
-  where
-    variables : List Kinded
-    variables = variables_of x paths
+module _ (schema : Resolved) (numbering : Numbering) (x : List ℕ) (paths : List RawPath) (is : IsFit schema (pattern_of numbering x paths)) where
+  abbrev kinds : List Bool
+  kinds = (pattern_of numbering x paths).edge_vars
 
-    abbrev kinds : List Bool
-    kinds = (pattern_of numbering x paths).edge_vars
+  abbrev var : Variable → ℕ
+  var = number_of (variables_of x paths)
 
-    abbrev var : Variable → ℕ
-    var = number_of (variables_of x paths)
+  each_below : (v : Variable) → var v < length kinds
+  each_below v =
+      let some = is.some in
+      let many = length-map (variables_of x paths) (λ (v : Kinded). v.1) in
+      let h = number_below (variables_of x paths) v (omega (arith, some, many)) in
+      omega (arith, h, many)
 
-    some : 0 < length kinds
-    some = is.some
+  -- the occurrence at a place is that of its variable
+  occurs : (number : ℕ) (places : List Place) (n : ℕ) (place : Place) → slice_get places n ≡ Some place →
+      var_at (map (occurrence_of (variables_of x paths)) (variables_at number places)) n ≡ var (variable_at (number + n) place.at)
+  occurs number [] n place h = cc
+  occurs number (p ∷ ps) zero place h =
+      let same : p ≡ place = cc in
+      let zero_more : number ≡ number + 0 = omega arith in
+      ap (λ (q : Place). var (variable_at number q.at)) same ∙ ap (λ k. var (variable_at k place.at)) zero_more
+  occurs number (p ∷ ps) (suc n) place h =
+      let further : number + 1 + n ≡ number + suc n = omega arith in
+      occurs (number + 1) ps n place h ∙ ap (λ k. var (variable_at k place.at)) further
 
-    each : (v : Variable) → var v < length kinds
-    each v =
-        let many = length-map (variables_of x paths) (λ (v : Kinded). v.1) in
-        let h = number_below (variables_of x paths) v (omega (arith, some, many)) in
-        omega (arith, h, many)
+  asks : (ok : Atom → Bool) → list_all ok (path_atoms numbering var 0 paths) ≡ true → (n : ℕ) (place : Place) → slice_get (places_of paths) n ≡ Some place →
+      list_all ok (place_asks numbering (var_at (occurrences_of x paths) n) place) ≡ true
+  asks ok h n place e =
+      let zero_more : 0 + n ≡ n = omega arith in
+      ap (λ v. list_all ok (place_asks numbering v place)) (occurs 0 (places_of paths) n place e)
+      ∙ each_at (Ok numbering var ok) 0 (places_of paths) (paths_each numbering var ok 0 paths h) n place e
 
-    -- the occurrence at a place is that of its variable
-    occurs : (number : ℕ) (places : List Place) (n : ℕ) (place : Place) → slice_get places n ≡ Some place →
-        var_at (map (λ (v : Kinded). record { var = var v.0; is_edge = v.1 }) (variables_at number places)) n ≡ var (variable_at (number + n) place.at)
-    occurs number [] n place h = cc
-    occurs number (p ∷ ps) zero place h =
-        let same : p ≡ place = cc in
-        let zero_more : number ≡ number + 0 = omega arith in
-        ap (λ (q : Place). var (variable_at number q.at)) same ∙ ap (λ k. var (variable_at k place.at)) zero_more
-    occurs number (p ∷ ps) (suc n) place h =
-        let further : number + 1 + n ≡ number + suc n = omega arith in
-        occurs (number + 1) ps n place h ∙ ap (λ k. var (variable_at k place.at)) further
-
-    asks : (ok : Atom → Bool) → list_all ok (path_atoms numbering var 0 paths) ≡ true → (n : ℕ) (place : Place) → slice_get (places_of paths) n ≡ Some place →
-        list_all ok (place_asks numbering (var_at (occurrences_of x paths) n) place) ≡ true
-    asks ok h n place e =
-        let zero_more : 0 + n ≡ n = omega arith in
-        ap (λ v. list_all ok (place_asks numbering v place)) (occurs 0 (places_of paths) n place e)
-        ∙ each_at (Ok numbering var ok) 0 (places_of paths) (paths_each numbering var ok 0 paths h) n place e
+  paths_written : (directions : List Bool) → IsSound schema numbering (parts_of x (pattern_of numbering x paths) (Some paths) directions)
+  paths_written directions = record {
+    some = is.some;
+    few = is.few;
+    few_edges = is.few_edges;
+    within = var_below (length kinds) (variables_of x paths) is.some each_below (variables_at 0 (places_of paths));
+    edges = λ e h. (paths_between kinds numbering (variables_of x paths) 0 paths is.speaks e h).kinds;
+    speaks = asks (speaks_of kinds) is.speaks;
+    types = asks (names_types schema) is.types;
+  }
 
 pub written_sound : (schema : Resolved) (numbering : Numbering) (key : RawKey) → is_valid_key_of schema (resolved_key numbering key) ≡ true →
     IsSound schema numbering (descriptor_of numbering key)
@@ -411,4 +406,4 @@ written_sound schema numbering key valid =
         (parts_of (unwrap_or (x_of key) []) (option_map_or (pattern_of numbering (unwrap_or (x_of key) [])) o (x_alone (pattern_of numbering (unwrap_or (x_of key) []) key.scope))) o (directions_of (unwrap_or o [])))
     by None h t =
         nothing_written schema numbering (unwrap_or (x_of key) []) (x_alone (pattern_of numbering (unwrap_or (x_of key) []) key.scope)) [] (fit schema _ h t)
-    by (Some paths) h t = paths_written schema numbering (unwrap_or (x_of key) []) paths (directions_of paths) (fit schema _ h t)
+    by (Some paths) h t = paths_written schema numbering (unwrap_or (x_of key) []) paths (fit schema _ h t) (directions_of paths)

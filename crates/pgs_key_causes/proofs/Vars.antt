@@ -81,8 +81,7 @@ Distinct (v ∷ vs) = (is_in v vs ≡ false) × Distinct vs
 distinct_push : (vars : List ℕ) (v : ℕ) → Distinct vars → is_in v vars ≡ false → Distinct (vars ++ v ∷ [])
 distinct_push [] v d new = (refl, tt)
 distinct_push (w ∷ ws) v d new =
-    let parts = or_parts (eqb w v) (is_in v ws) new in
-    (
+    let parts = or_parts (eqb w v) (is_in v ws) new in (
       list_any-append (λ other. eqb other w) ws (v ∷ []) ∙ none (is_in w ws) d.0 (eqb v w) (turned v w parts.0),
       distinct_push ws v d.1 parts.1,
     )
@@ -110,7 +109,7 @@ number_at vars v there = by (position (λ other. eqb other v) vars) refl (some_p
     by None e h = cc
     by (Some n) e h =
         let at = position-Some (λ other. eqb other v) vars n 0 e in
-        (at.0, eqb-true (get_or vars n 0) v at.1.0)
+        (at.0, eqb-true (get_or vars n 0) v at.1)
 
 in_at : (vars : List ℕ) (k : ℕ) → k < length vars → is_in (get_or vars k 0) vars ≡ true
 in_at [] k lt = absurd (omega (arith, lt))

@@ -3,7 +3,7 @@ use Rattle.std.proofs.Common.{true≢false, ◌≡◌, ℕ, zero, suc, ◌+◌, 
 use Rattle.std.specs.List.{list_any, flat_map, fold, find, enumerate_from}
 use Rattle.std.specs.Option.{option_map_or}
 use Rattle.std.proofs.lemmas.Bool.{and_parts, or_left, or_right, or_cases, cases_lt, eqb-true, eq-eqb}
-use Rattle.std.proofs.lemmas.List.{get_or_append_left, get_or_at, take-append-le, take_at}
+use Rattle.std.proofs.lemmas.List.{get_or_append_left, get_or_at, get_or-take, take-append-le, take-take, take_at}
 use Rattle.std.proofs.lemmas.List.Concat.{flat_map-append}
 use Rattle.std.proofs.lemmas.List.Folds.{list_any-append}
 use Rattle.std.proofs.lemmas.Grind.{fold-append}
@@ -31,6 +31,21 @@ module _ (places : List Occurrence) where
 
   pub walked_none : AreWalked []
   walked_none i d lt = absurd (omega (arith, lt))
+
+  -- so are the first of them
+  pub walked_front : (visits : List Visit) → AreWalked visits → (n : ℕ) → AreWalked (take n visits)
+  walked_front visits walked n i d lt =
+      let size = taken_size n visits in
+      let low : i < n = omega (arith, lt, size.0) in
+      let here : i < length visits = omega (arith, lt, size.1) in
+      let P : Visit → Type 0 = λ v. IsVisitAfter (take i (take n visits)) v in
+      let Q : List Visit → Type 0 = λ before. IsVisitAfter before (get_or visits i d) in
+      subst P (sym (get_or-take n visits i d low)) (subst Q (sym (take-take i n visits (omega (arith, low)))) (walked i d here))
+    where
+      taken_size : (n : ℕ) (xs : List Visit) → (length (take n xs) ≤ n) × (length (take n xs) ≤ length xs)
+      taken_size zero xs = (omega arith, omega arith)
+      taken_size (suc n) [] = (omega arith, omega arith)
+      taken_size (suc n) (x ∷ xs) = let h = taken_size n xs in (omega (arith, h.0), omega (arith, h.1))
 
   pub walked_push : (visits : List Visit) (visit : Visit) → AreWalked visits → IsVisitAfter visits visit → AreWalked (visits ++ visit ∷ [])
   walked_push visits visit walked after i d lt = elim (cases_lt i (length visits)) [
@@ -232,14 +247,12 @@ module _ (places : List Occurrence) where
   walked_own : (test : List Visit → ℕ → Bool) → ((visits : List Visit) (n : ℕ) → test visits n ≡ true → is_known visits n ≡ true) → (visits : List Visit) (n : ℕ) →
       AreWalked visits → AreWalked (with_own places test visits n)
   walked_own test each visits zero walked = walked
-  walked_own test each visits (suc n) walked = by (test before n) refl
+  walked_own test each visits (suc n) walked =
+      by (with_own places test visits n) (walked_own test each visits n walked) (test (with_own places test visits n) n) refl
     where
-      before : List Visit
-      before = with_own places test visits n
-
-      by : (b : Bool) → test before n ≡ b → AreWalked (cond b (with_visit before n n) before)
-      by true e = walked_with before n n (walked_own test each visits n walked) (own_after before n (each before n e))
-      by false e = walked_own test each visits n walked
+      by : (before : List Visit) → AreWalked before → (b : Bool) → test before n ≡ b → AreWalked (cond b (with_visit before n n) before)
+      by before own true e = walked_with before n n own (own_after before n (each before n e))
+      by before own false e = own
 
   found_passes : (test : ℕ → Bool) (xs : List ℕ) (x : ℕ) → find test xs ≡ Some x → test x ≡ true
   found_passes test [] x h = cc
@@ -257,13 +270,13 @@ module _ (places : List Occurrence) where
 
   walked_on : (more : ℕ) (visits : List Visit) → AreWalked visits → AreWalked (walk_on places more visits)
   walked_on zero visits walked = walked
-  walked_on (suc more) visits walked = by (find (is_next places visits) (numbers places)) refl
+  walked_on (suc more) visits walked = by (find (is_next places visits) (numbers places)) refl (walked_on more)
     where
-      by : (o : Option ℕ) → find (is_next places visits) (numbers places) ≡ o →
+      by : (o : Option ℕ) → find (is_next places visits) (numbers places) ≡ o → ((after : List Visit) → AreWalked after → AreWalked (walk_on places more after)) →
           AreWalked (option_map_or (λ e. walk_on places more (with_all places (is_alone places) (with_step places visits e))) o visits)
-      by None e = walked
-      by (Some n) e =
-          walked_on more (with_all places (is_alone places) (with_step places visits n))
+      by None e later = walked
+      by (Some n) e later =
+          later (with_all places (is_alone places) (with_step places visits n))
           (walked_own (is_alone places) alone_known (with_step places visits n) (length places)
           (walked_step visits n walked (found_passes (is_next places visits) (numbers places) n e)))
 

@@ -90,14 +90,14 @@ fn expr_texts<G: GraphRead, L: Ledger>(
     alloc: Global,
     graph: &G,
     compiled: &Compiled,
-    resolving: Resolving<'_>,
+    resolving: &Resolving<'_>,
     resolved: &Key,
     texts: &[Bytes],
     elem: Elem,
     steps: &mut Steps<L>,
 ) -> Result<Vec<Bytes>, Memory>
-    requires x { x_of resolving.key.now ≡ Some resolving.x.now }
-    requires same { resolved.now ≡ resolved_key resolving.numbering.now resolving.key.now }
+    requires x { x_of resolving.now.key.now ≡ Some resolving.now.x.now }
+    requires same { resolved.now ≡ resolved_key resolving.now.numbering.now resolving.now.key.now }
     requires valid { is_valid_key_of compiled.now resolved.now ≡ true }
     ensures texts { IfOk result (λ told. AreExprTexts compiled.now (G.meaning graph.now) elem resolved.now texts.now told.items) }
     ensures no_step_back { steps.old ≤ steps.new }
@@ -114,14 +114,14 @@ fn end_texts<G: GraphRead, L: Ledger>(
     alloc: Global,
     graph: &G,
     compiled: &Compiled,
-    resolving: Resolving<'_>,
+    resolving: &Resolving<'_>,
     parts: &PartTexts,
     elem: Elem,
     steps: &mut Steps<L>,
 ) -> Result<Vec<Bytes>, Memory>
-    requires x { x_of resolving.key.now ≡ Some resolving.x.now }
-    requires valid { is_valid_key_of compiled.now (resolved_key resolving.numbering.now resolving.key.now) ≡ true }
-    ensures texts { IfOk result (λ told. AreEndTexts compiled.now (G.meaning graph.now) elem resolving.numbering.now resolving.key.now parts.now told.items) }
+    requires x { x_of resolving.now.key.now ≡ Some resolving.now.x.now }
+    requires valid { is_valid_key_of compiled.now (resolved_key resolving.now.numbering.now resolving.now.key.now) ≡ true }
+    ensures texts { IfOk result (λ told. AreEndTexts compiled.now (G.meaning graph.now) elem resolving.now.numbering.now resolving.now.key.now parts.now told.items) }
     ensures no_step_back { steps.old ≤ steps.new }
 {
     let key = resolving.key(alloc)?;
@@ -186,7 +186,7 @@ impl KeyGuide<'_> {
                     x,
                     key,
                 };
-                end_texts(alloc, graph, compiled, resolving, parts, elem, steps)
+                end_texts(alloc, graph, compiled, &resolving, parts, elem, steps)
             }
             None => Ok(Vec::new(alloc)),
         }

@@ -9,6 +9,7 @@ mod causes;
 mod exprs;
 mod fronts;
 mod guide;
+pub mod laws;
 mod reading;
 mod walk;
 mod written;

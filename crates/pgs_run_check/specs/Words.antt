@@ -1,16 +1,16 @@
 -- What the words of a command line say.
-use Rattle.std.specs.Prelude.{ℕ, List, [], ◌∷◌, Option, Some, None, codes, option_and_then, slice_get, if◌then◌else◌}
+use Rattle.std.specs.Prelude.{ℕ, List, [], ◌∷◌, Option, None, codes, option_and_then, slice_get, if◌then◌else◌}
 use Rattle.pgs_run_words.specs.Further.{is_plain}
 use Rattle.pgs_run_words.specs.Words.{found_in}
 use Rattle.pgs_run_check.specs.declared.command.CheckCommand.{CheckCommand}
 use Rattle.pgs_run_check.specs.declared.command.CheckCommand.TheVariants.{Schema}
 
 -- the commands of one word
-abbrev pub lone_words : List (List ℕ × CheckCommand)
+unfoldable pub lone_words : List (List ℕ × CheckCommand)
 lone_words = (codes "schema", Schema) ∷ []
 
 -- the commands of a word and the name of a store
-abbrev pub store_words : List (List ℕ × CheckCommand)
+unfoldable pub store_words : List (List ℕ × CheckCommand)
 store_words = []
 
 -- the command of the words; other words are refused

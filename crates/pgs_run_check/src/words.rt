@@ -1,5 +1,7 @@
-ghost use Rattle.std.specs.Prelude.{◌≡◌, option_map};
+ghost use Rattle.std.specs.Prelude.{◌≡◌, None, option_map, if◌then◌else◌};
 ghost use Rattle.pgs_run_check.specs.Words.{command_of, lone_words, store_of, store_words};
+ghost use Rattle.pgs_run_words.specs.Further.{is_plain};
+ghost use Rattle.pgs_run_words.specs.Words.{found_in};
 
 use crate::CheckCommand;
 use pgs_base::Words;
@@ -12,6 +14,7 @@ const LONE_WORDS: &[(&str, CheckCommand)] = &[("schema", CheckCommand::Schema)];
 const STORE_WORDS: &[(&str, CheckCommand)] = &[];
 
 // The command of one word.
+#[tactic(auto, unfolding(crate::specs::Words::lone_words))]
 fn lone_command(word: &str) -> Option<CheckCommand>
     ensures { result ≡ found_in lone_words word.now }
 {
@@ -19,6 +22,7 @@ fn lone_command(word: &str) -> Option<CheckCommand>
 }
 
 // The command of a word and the name of a store.
+#[tactic(auto, unfolding(crate::specs::Words::store_words))]
 fn store_command(word: &str, name: &str) -> Option<CheckCommand>
     ensures { result ≡ (if is_plain name.now then found_in store_words word.now else None) }
 {

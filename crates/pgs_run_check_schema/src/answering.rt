@@ -11,7 +11,8 @@ ghost use Rattle.std.specs.Prelude.{IfOk};
 
 use crate::reading::{script_in, tokens_in};
 use crate::types::push_types;
-use pgs_advice_lines::{Line, pieces_of, push_advice, push_guard, some_warns};
+use pgs_advice::keys_apart;
+use pgs_advice_lines::{Findings, Line, pieces_of, push_advice, push_guard, some_warns};
 use pgs_base::{Bytes, Memory};
 use pgs_command::Status;
 use pgs_conform::Compiled;
@@ -78,6 +79,8 @@ fn lines_in(alloc: Global, text: &[u8], compiled: &Compiled) -> Result<Vec<Line>
     let script = script_in(alloc, text, &tokens)?;
     let declarations = Declarations::new(alloc, &script)?;
     let reached = keys_reach(alloc, compiled)?;
+    let apart = keys_apart(alloc, compiled)?;
+    let findings = Findings { reached, apart };
     let mut lines = Vec::new(alloc);
     push_guard(alloc, &declarations, &resolved.guard, &mut lines)?;
     push_types(alloc, compiled, resolved.guard.types.as_slice(), &mut lines)?;
@@ -87,7 +90,7 @@ fn lines_in(alloc: Global, text: &[u8], compiled: &Compiled) -> Result<Vec<Line>
         &script,
         &declarations,
         resolved,
-        &reached,
+        &findings,
         &mut lines,
     )?;
     Ok(lines)

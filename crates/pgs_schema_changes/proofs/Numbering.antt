@@ -1,5 +1,5 @@
 -- Numbers of unfolded declarations: what is put last has a number of its own, and no tree has two.
-use Rattle.std.proofs.Common.{◌≡◌, ℕ, zero, suc, ◌+◌, ◌<◌, ◌≤◌, Bool, true, false, cond, ◌&&◌, ◌||◌, ◌==◌, ⊎_elim, ◌⊎◌, inl, inr, List, [], ◌∷◌, ◌++◌, length, Option, Some, None, Result, Ok, Err, slice_get, refl, sym, subst, ◌∙◌, ap, ap₂, true≢false, arith}
+use Rattle.std.proofs.Common.{◌≡◌, ℕ, zero, suc, ◌+◌, ◌<◌, ◌≤◌, Bool, true, false, cond, ◌==◌, ⊎_elim, ◌⊎◌, inl, inr, List, [], ◌∷◌, ◌++◌, length, Option, Some, None, Result, Ok, Err, slice_get, refl, sym, subst, ◌∙◌, ap, ap₂, true≢false, arith}
 use Rattle.std.specs.Prelude.{unwrap_or, get_or, nat_lt, not, IfOk}
 use Rattle.std.specs.List.{position, position_or_len}
 use Rattle.std.proofs.lemmas.Bool.{and_parts, and_from, cases_lt, eqb-true, eq-eqb}
@@ -8,10 +8,10 @@ use Rattle.std.proofs.lemmas.List.Quantifiers.{position-Some}
 use Rattle.std.proofs.lemmas.Option.{same_Some, slice_get-get_or, slice_get_within}
 use Rattle.pgs_schema_order.specs.declared.form.Form.{Form}
 use Rattle.pgs_schema_order.specs.declared.form.Form.TheVariants as forms
-use Rattle.pgs_schema_order.specs.Unfolded.{Tree, nothing, tree, same_form, same_tree}
+use Rattle.pgs_schema_order.specs.Unfolded.{Tree, nothing, tree, same_tree}
 use Rattle.pgs_schema_order.proofs.Alike.{one_form, told_form, one_tree, told_tree}
 use Rattle.pgs_schema_changes.specs.declared.trees.Entry.{Entry}
-use Rattle.pgs_schema_changes.specs.Numbers.{tree_at, trees_from, tree_of, is_entry, Means, IsNumbered, Grows, Puts, number_at, AreNamed, PutsAll}
+use Rattle.pgs_schema_changes.specs.Numbers.{tree_at, trees_from, tree_of, is_entry, Means, IsNumbered, Grows, Puts, number_at, AreNamed}
 
 -- ---- lists
 
@@ -138,12 +138,13 @@ module _ (old : List Entry) (form : Form) (first second : ℕ) (left right : Tre
       let this = is_this it.0 it.2 in
       let up : place + 1 ≡ suc place = omega arith in
       let within = it.3 in
-      none_put old (place + 1) (tree form left right) numbered
-      (omega arith,
-      ap (tree_of old) up ∙ (numbered.entry place it.0 it.1).0
-      ∙ ap (λ (f : Form). tree f (tree_of old it.0.first) (tree_of old it.0.second)) this.0
-      ∙ ap₂ (λ (n m : ℕ). tree form (tree_of old n) (tree_of old m)) this.1 this.2
-      ∙ ap₂ (tree form) of_first.1 of_second.1)
+      none_put old (place + 1) (tree form left right) numbered (
+        omega arith,
+        ap (tree_of old) up ∙ (numbered.entry place it.0 it.1).0
+            ∙ ap (λ (f : Form). tree f (tree_of old it.0.first) (tree_of old it.0.second)) this.0
+            ∙ ap₂ (λ (n m : ℕ). tree form (tree_of old n) (tree_of old m)) this.1 this.2
+            ∙ ap₂ (tree form) of_first.1 of_second.1,
+      )
 
   abbrev last : Entry
   last = record { form = form; first = first; second = second }

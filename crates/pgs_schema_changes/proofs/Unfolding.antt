@@ -1,5 +1,5 @@
 -- Specifications and types under numbers.
-use Rattle.std.proofs.Common.{◌≡◌, ℕ, zero, suc, ◌+◌, ◌-◌, ◌<◌, ◌≤◌, Bool, true, false, ◌==◌, ◌⊎◌, inl, inr, List, [], ◌∷◌, ◌++◌, drop, length, Option, Some, None, Result, Ok, Err, slice_get, refl, sym, subst, ◌∙◌, ap, ap₂, arith}
+use Rattle.std.proofs.Common.{◌≡◌, ℕ, zero, suc, ◌+◌, ◌-◌, ◌<◌, ◌≤◌, Bool, true, false, ◌==◌, ◌⊎◌, inl, inr, List, [], ◌∷◌, ◌++◌, drop, length, Option, Some, Result, Ok, Err, slice_get, refl, sym, subst, ◌∙◌, ap, arith}
 use Rattle.std.specs.Prelude.{unwrap_or, get_or, IfOk}
 use Rattle.std.specs.Option.{option_map_or}
 use Rattle.std.proofs.lemmas.Bool.{cases_lt, eqb-true, eqb-false}
@@ -77,9 +77,9 @@ module _ {T : Type 0} (of_type : (ℕ → Tree) → T → Tree) (types : List T)
       number_here here = ap (λ (n : ℕ). number_at (numbers ++ number ∷ []) n) (here ∙ sym count) ∙ ap (λ (o : Option ℕ). unwrap_or o 0) (get_last numbers number)
 
       by : (b : Bool) → (own == place) ≡ b → Means entries (number_at (numbers ++ number ∷ []) own) (elim b [
-          | true ↦ option_map_or (λ (other : T). of_type (tree_below of_type types place) other) (slice_get types place) nothing
-          | false ↦ tree_below of_type types place own
-        ])
+        | true ↦ option_map_or (λ (other : T). of_type (tree_below of_type types place) other) (slice_get types place) nothing
+        | false ↦ tree_below of_type types place own
+      ])
       by true here =
           let same = number_here (eqb-true own place here) in
           subst (λ (n : ℕ). Means entries n (option_map_or (λ (other : T). of_type (tree_below of_type types place) other) (slice_get types place) nothing)) (sym same)

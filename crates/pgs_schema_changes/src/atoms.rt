@@ -52,14 +52,10 @@ fn same_atom(old: &Resolved, new: &Resolved, own: &Atom, atom: &Atom) -> bool
                 label: name,
             },
         ) => var == other && same_name(label, name),
-        (
-            Atom::FitsNode { var, number: own },
-            Atom::FitsNode { var: other, number },
-        ) => var == other && same_node_name(old, new, *own, *number),
-        (
-            Atom::FitsEdge { var, number: own },
-            Atom::FitsEdge { var: other, number },
-        ) => var == other && same_edge_name(old, new, *own, *number),
+        (Atom::FitsNode { var, number: own }, Atom::FitsNode { var: other, number }) => var == other
+            && same_node_name(old, new, *own, *number),
+        (Atom::FitsEdge { var, number: own }, Atom::FitsEdge { var: other, number }) => var == other
+            && same_edge_name(old, new, *own, *number),
         (
             Atom::Equals { var, key, value },
             Atom::Equals {
@@ -72,7 +68,13 @@ fn same_atom(old: &Resolved, new: &Resolved, own: &Atom, atom: &Atom) -> bool
     }
 }
 
-fn names_alike(old: &Resolved, new: &Resolved, types: &Declarations, own: &Atom, atom: &Atom) -> bool
+fn names_alike(
+    old: &Resolved,
+    new: &Resolved,
+    types: &Declarations,
+    own: &Atom,
+    atom: &Atom,
+) -> bool
     requires { TellsAlike old.now new.now types.now }
     ensures { result ≡ names_alike old.now new.now own.now atom.now }
 {
@@ -103,7 +105,9 @@ fn same_kinds(own: &[bool], kinds: &[bool]) -> bool
 fn pair_atoms(old: &Resolved, new: &Resolved, own: &[Atom], atoms: &[Atom]) -> bool
     ensures { result ≡ list_all (λ pair. same_atom old.now new.now pair.0 pair.1) (zip own.now atoms.now) }
 {
-    own.iter().zip(atoms).all(|(a, b)| same_atom(old, new, a, b))
+    own.iter()
+        .zip(atoms)
+        .all(|(a, b)| same_atom(old, new, a, b))
 }
 
 #[tactic(auto, using(crate::proofs::Pairs::by_pairs))]
@@ -131,7 +135,9 @@ fn pair_names(
     requires { TellsAlike old.now new.now types.now }
     ensures { result ≡ list_all (λ pair. names_alike old.now new.now pair.0 pair.1) (zip own.now atoms.now) }
 {
-    own.iter().zip(atoms).all(|(a, b)| names_alike(old, new, types, a, b))
+    own.iter()
+        .zip(atoms)
+        .all(|(a, b)| names_alike(old, new, types, a, b))
 }
 
 #[tactic(auto, using(crate::proofs::Pairs::by_pairs))]

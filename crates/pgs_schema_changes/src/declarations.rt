@@ -115,13 +115,15 @@ impl Declarations {
     pub(crate) fn same_nodes(&self, own: u32, number: u32) -> bool
         ensures { result ≡ (number_at self.now.before.nodes.items own == number_at self.now.after.nodes.items number) }
     {
-        number_at(self.before.nodes.as_slice(), own) == number_at(self.after.nodes.as_slice(), number)
+        number_at(self.before.nodes.as_slice(), own)
+            == number_at(self.after.nodes.as_slice(), number)
     }
 
     /// The same of edge types.
     pub(crate) fn same_edges(&self, own: u32, number: u32) -> bool
         ensures { result ≡ (number_at self.now.before.edges.items own == number_at self.now.after.edges.items number) }
     {
-        number_at(self.before.edges.as_slice(), own) == number_at(self.after.edges.as_slice(), number)
+        number_at(self.before.edges.as_slice(), own)
+            == number_at(self.after.edges.as_slice(), number)
     }
 }

@@ -10,7 +10,6 @@ use Rattle.pgs_base.specs.declared.value.Kind.{Kind}
 use Rattle.pgs_base.specs.declared.value.Kind.TheVariants as kinds
 use Rattle.pgs_base.specs.Pair.{same_name}
 use Rattle.pgs_base.specs.Value.{kind_rank}
-use Rattle.pgs_syntax.specs.declared.element_type.NodeType.{NodeType}
 use Rattle.pgs_syntax.specs.declared.element_type.EdgeType.{EdgeType}
 use Rattle.pgs_syntax.specs.declared.resolved.Resolved.{Resolved}
 use Rattle.pgs_syntax.specs.declared.specification.Braces.{Braces}
@@ -193,12 +192,12 @@ module _ {P : Type 0} (joins : Joins P) (ends : Tree → P → Bool) where
         here (Some type) below = same (passes_below passes types bound) (tree_below tree_of types bound) below type p
 
         by : (b : Bool) → ((k : ℕ) (q : P) → passes_below passes types bound k q ≡ meant (tree_below tree_of types bound k) q) → (elim b [
-            | true ↦ option_map_or (λ (type : T). passes (passes_below passes types bound) type p) (slice_get types bound) false
-            | false ↦ passes_below passes types bound number p
-          ]) ≡ meant (elim b [
-            | true ↦ option_map_or (λ (type : T). tree_of (tree_below tree_of types bound) type) (slice_get types bound) nothing
-            | false ↦ tree_below tree_of types bound number
-          ]) p
+          | true ↦ option_map_or (λ (type : T). passes (passes_below passes types bound) type p) (slice_get types bound) false
+          | false ↦ passes_below passes types bound number p
+        ]) ≡ meant (elim b [
+          | true ↦ option_map_or (λ (type : T). tree_of (tree_below tree_of types bound) type) (slice_get types bound) nothing
+          | false ↦ tree_below tree_of types bound number
+        ]) p
         by true below = here (slice_get types bound) below
         by false below = below number p
 

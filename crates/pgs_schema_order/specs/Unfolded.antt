@@ -1,6 +1,6 @@
 -- Declarations of types with their names unfolded: in place of a name stands what the type of that name declares, so that labels and
 -- braces alone are left. Two types are declared alike where these are the same.
-use Rattle.std.specs.Prelude.{ℕ, zero, suc, Bool, true, false, ◌&&◌, not, ◌==◌, List, length, slice_get}
+use Rattle.std.specs.Prelude.{ℕ, zero, suc, Bool, true, false, ◌&&◌, ◌==◌, List, length, slice_get}
 use Rattle.std.specs.Option.{option_map_or}
 use Rattle.std.specs.Cmp.Lexicographic.{pointwise}
 use Rattle.pgs_base.specs.Pair.{same_name}

@@ -148,9 +148,12 @@ module _ (shape : Shape) where
   test p = is_small p && in_shape shape p
 
   -- where nothing may stand at some key, no pair is in the shape
+  pub none_inside : are_possible shape.keys ≡ false → NonePasses by_nodes (in_shape shape)
+  none_inside none q pair = false_from_ne_true (in_shape shape q) (λ h.
+      true≢false (sym (all_may_stand shape.keys q.props (and_parts _ _ (and_parts _ _ h).1).0) ∙ none))
+
   pub never_possible : are_possible shape.keys ≡ false → NonePasses by_nodes test
-  never_possible none q pair = false_from_ne_true (test q) (λ h.
-      true≢false (sym (all_may_stand shape.keys q.props (and_parts _ _ (and_parts _ _ (and_parts (is_small q) (in_shape shape q) h).1).1).0) ∙ none))
+  never_possible none q pair = false_from_ne_true (test q) (λ h. true≢false (sym (and_parts (is_small q) (in_shape shape q) h).1 ∙ none_inside none q pair))
 
   module _ (own : OwnedPair) (made : (is_pair (pair_in own) ≡ true) × (own.labels ≡ shape.labels) × (own.props ≡ plain_props shape.keys)) where
     labels_up : (p : NodeRow) → is_pair p ≡ true → ascends name_cmp p.labels ≡ true

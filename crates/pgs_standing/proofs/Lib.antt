@@ -1,5 +1,6 @@
 pub mod Chosen
 pub mod Found
 pub mod Fewest
+pub mod Parted
 pub mod Shared
 pub mod Three

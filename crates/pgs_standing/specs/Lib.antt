@@ -1,3 +1,4 @@
+pub mod Apart
 pub mod Common
 pub mod Example
 pub mod Standing

@@ -1,6 +1,6 @@
 //! The plainest pair of a shape: its labels, and the plainest value at each key where one must stand.
 
-ghost use Rattle.std.specs.Prelude.{◌≡◌, ◌&&◌, ◌++◌, [], true, false, IfOk, OnOk};
+ghost use Rattle.std.specs.Prelude.{◌≡◌, ◌&&◌, ◌++◌, [], true, false, IfOk, OnOk, MatchBool};
 ghost use Rattle.std.specs.List.{list_all};
 ghost use Rattle.pgs_base.specs.declared.row.NodeRow.{NodeRow};
 ghost use Rattle.pgs_base.specs.Pair.{is_pair};
@@ -9,7 +9,8 @@ ghost use Rattle.pgs_contain.specs.Contained.{pair_in};
 ghost use Rattle.pgs_contain.specs.Regions.{plainest};
 ghost use Rattle.pgs_contain.specs.Rows.{row_before};
 ghost use Rattle.pgs_standing.specs.Common.{plain_props, are_possible};
-ghost use Rattle.pgs_standing.specs.Example.{IsFoundPair};
+ghost use Rattle.pgs_standing.specs.Apart.{SomePasses};
+ghost use Rattle.pgs_standing.specs.Example.{by_nodes, NonePasses, IsFoundPair};
 ghost use Rattle.pgs_standing.specs.Standing.{is_small};
 
 use crate::limits::is_small;
@@ -69,6 +70,17 @@ fn least_pair(alloc: Global, shape: &Shape) -> Result<OwnedPair, Memory>
     let props = plain_props(alloc, shape)?;
     pair_facts(&labels, &props);
     Ok(OwnedPair { labels, props })
+}
+
+/// Whether some pair is in a shape: something may stand at each key. `Memory` where there was none left.
+pub(crate) fn has_pair(alloc: Global, shape: &Shape) -> Result<bool, Memory>
+    ensures { IfOk result (λ has. MatchBool has (SomePasses by_nodes (in_shape shape.now)) (NonePasses by_nodes (in_shape shape.now))) }
+{
+    if !are_possible(shape.keys.as_slice()) {
+        return Ok(false);
+    }
+    let _own = least_pair(alloc, shape)?;
+    Ok(true)
 }
 
 /// The pair of a shape with the fewest labels and properties, and the plainest values. `None` exactly where no pair in the shape is

@@ -6,6 +6,7 @@
 //! `specs/Standing.antt` and `specs/Example.antt`: they speak of all pairs, and of no shapes.
 #![tactic(auto)]
 
+mod apart;
 mod choice;
 mod example;
 mod in_common;
@@ -15,6 +16,7 @@ mod pairs;
 mod standing;
 mod triples;
 
+pub use apart::are_apart;
 pub use example::example_of;
 pub use in_common::{common, common_triple};
 pub use least::plain_pair;

@@ -5,5 +5,5 @@ use Rattle.pgs_advice_lines.proofs.telling.push_keys.Goals as goal
 
 pub loop-place-preserved : goal.loop-place-preserved
 loop-place-preserved c =
-    more_numbered (key_lines c.args.texts.now c.args.reached.now) c.args.lines.now.items c.args.keys.now c.loop-place.place c.index-keys-place.result c.loop-place.lines.items
+    more_numbered (key_lines c.args.resolved.now c.args.texts.now c.args.findings.now.reached.items c.args.findings.now.apart.items) c.args.lines.now.items c.args.keys.now c.loop-place.place c.index-keys-place.result c.loop-place.lines.items
     c.push_key.new.lines.items (omega arith) c.index-keys-place.is c.loop-place.invariant c.in_ok-push_key.ensures

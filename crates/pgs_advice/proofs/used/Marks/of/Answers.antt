@@ -14,4 +14,4 @@ returns c =
     ∙ ap₂ (λ (xs : List TypeNo) (keys : List Key). xs ++ flat_map named_by_key keys) c.new-types.ensures.items c.as_slice.ensures in
     let are : AreMarks resolved (first_types resolved) c.mark_all-2.new.self =
     subst (λ (ts : List TypeNo). AreMarks resolved ts c.mark_all-2.new.self) (ap₂ (λ (xs ys : List TypeNo). xs ++ ys) c.as_slice-2.ensures asked) both in
-    c.in_ok-mark_nodes.ensures _ (c.in_ok-mark_edges.ensures _ are)
+    c.in_ok-mark_named.ensures _ are

@@ -1,0 +1,39 @@
+-- Subtypes that are apart, one more at a time, and keys one after another.
+use Rattle.std.proofs.Common.{◌≡◌, ℕ, ◌+◌, ◌<◌, ◌≤◌, Bool, true, List, [], ◌∷◌, ◌++◌, length, take, get_or, sym, ap, ◌∙◌, subst, arith}
+use Rattle.std.specs.List.{list_all}
+use Rattle.std.proofs.lemmas.List.{append-nil}
+use Rattle.pgs_syntax.specs.declared.key.Key.{Key}
+use Rattle.pgs_syntax.specs.declared.resolved.Resolved.{Resolved}
+use Rattle.pgs_standing.specs.Apart.{IsApart, IsNotApart}
+use Rattle.pgs_advice.specs.declared.subtypes.Subtype.{Subtype}
+use Rattle.pgs_advice.specs.Apart.{AreThoseApart, none, found_apart, left_out, AreApartOf}
+use Rattle.pgs_advice.proofs.Subtyping.{one_passes}
+
+pub first_passes : {X : Type 0} (test : X → Bool) (xs : List X) (x : X) → 1 ≤ length xs → x ≡ get_or xs 0 x → list_all test xs ≡ true → test x ≡ true
+first_passes test xs x some is all = ap test is ∙ one_passes test xs 0 x some all
+
+module _ (resolved : Resolved) where
+  last_apart : (all found : List Subtype) (type : Subtype) → IsApart resolved type.base type.own → AreThoseApart resolved all found → AreThoseApart resolved (all ++ type ∷ []) (found ++ type ∷ [])
+  last_apart _ _ type apart none = found_apart type [] [] apart none
+  last_apart _ _ type apart (found_apart first all found own rest) = found_apart first (all ++ type ∷ []) (found ++ type ∷ []) own (last_apart all found type apart rest)
+  last_apart _ _ type apart (left_out first all found own rest) = left_out first (all ++ type ∷ []) (found ++ type ∷ []) own (last_apart all found type apart rest)
+
+  last_not : (all found : List Subtype) (type : Subtype) → IsNotApart resolved type.base type.own → AreThoseApart resolved all found → AreThoseApart resolved (all ++ type ∷ []) found
+  last_not _ _ type joint none = left_out type [] [] joint none
+  last_not _ _ type joint (found_apart first all found own rest) = found_apart first (all ++ type ∷ []) found own (last_not all found type joint rest)
+  last_not _ _ type joint (left_out first all found own rest) = left_out first (all ++ type ∷ []) found own (last_not all found type joint rest)
+
+  pub apart_more : (all : List Subtype) (i : ℕ) (type : Subtype) (found : List Subtype) → take (i + 1) all ≡ take i all ++ type ∷ [] → IsApart resolved type.base type.own →
+      AreThoseApart resolved (take i all) found → AreThoseApart resolved (take (i + 1) all) (found ++ type ∷ [])
+  apart_more all i type found more apart before =
+      subst (λ (types : List Subtype). AreThoseApart resolved types (found ++ type ∷ [])) (sym more) (last_apart (take i all) found type apart before)
+
+  pub not_apart_more : (all : List Subtype) (i : ℕ) (type : Subtype) (found : List Subtype) → take (i + 1) all ≡ take i all ++ type ∷ [] → IsNotApart resolved type.base type.own →
+      AreThoseApart resolved (take i all) found → AreThoseApart resolved (take (i + 1) all) found
+  not_apart_more all i type found more joint before =
+      subst (λ (types : List Subtype). AreThoseApart resolved types found) (sym more) (last_not (take i all) found type joint before)
+
+  pub keys_at_end : (keys left : List Key) (all : List (List Subtype)) → length left < 1 →
+      ((rest : List (List Subtype)) → AreApartOf resolved left rest → AreApartOf resolved keys (all ++ rest)) → AreApartOf resolved keys all
+  keys_at_end keys [] all end apart = subst (λ (found : List (List Subtype)). AreApartOf resolved keys found) (append-nil all) (apart [] tt)
+  keys_at_end keys (key ∷ left) all end apart = absurd (omega arith)

@@ -1,6 +1,0 @@
-pub mod Chosen
-pub mod Decided
-pub mod Machine
-pub mod Promised
-pub mod Right
-pub mod Taken
