@@ -13,7 +13,7 @@ pub fn areas_of<O: Opening>(
     store: Option<&str>,
     access: StoreAccess,
 ) -> Result<AreaFiles<O::Area>, Memory>
-    ensures { IfOk result (AreFilesOf O.area_gives (option_map (λ name. name.now) store) access) }
+    ensures { IfOk result (AreFilesOf O.area_gives (option_map (λ name. name.now) store.entry) access) }
 {
     match store {
         Some(name) => AreaFiles::open(system, alloc, name, access),

@@ -1,7 +1,0 @@
-use Rattle.std.proofs.Common.{◌≡◌, take}
-use Rattle.std.specs.Prelude.{filter_map}
-use Rattle.pgs_type_causes.specs.Causes.{near_text}
-use Rattle.pgs_type_causes.proofs.texts.near_texts.Given as goal
-
-abbrev pub invariant-loop-near : goal.invariant-loop-near
-invariant-loop-near l = l.texts.items ≡ filter_map (near_text l.resolved) (take l.near-index l.nears)
