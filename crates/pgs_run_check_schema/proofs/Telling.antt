@@ -8,7 +8,7 @@ use Rattle.pgs_run_lines.proofs.Causes.{world_same}
 use Rattle.pgs_world.specs.Moment.{IsTimed}
 use Rattle.pgs_world.specs.World.{View}
 use Rattle.pgs_command.specs.declared.status.Status.{Status}
-use Rattle.pgs_command.specs.declared.status.Status.TheVariants.{Accepted, Refused, SchemaRefused, PutFault, Memory}
+use Rattle.pgs_command.specs.declared.status.Status.TheVariants.{Accepted, Refused, PutFault, Memory}
 use Rattle.pgs_run_input.proofs.OneLine.{answers_none, silent_none}
 use Rattle.pgs_syntax.specs.declared.resolved.Resolved.{Resolved}
 use Rattle.pgs_run_input.specs.Answers.{schema_answer}
@@ -41,15 +41,6 @@ pub tells_torn : (told : Told Status) (old new : View) → ShowsTorn (shown_of o
     → PutsRose (faults_of 0 old) (faults_of 0 new) → KeepsAreas old new → Tells told old new PutFault
 tells_torn told old new shows cause areas = record {
   answers = record { ends = shows; may_end = tt; cause = λ reads count. (cause.0, refl, cause.2) };
-  may_end = tt;
-  areas = areas;
-}
-
--- the lines of a refusal were put
-pub tells_refusal : (told : Told Status) (old new : View) → ShowsAll (shown_of old) told.pieces (shown_of new) → told.status ≡ SchemaRefused
-    → faults_of 0 new ≡ faults_of 0 old → KeepsAreas old new → Tells told old new SchemaRefused
-tells_refusal told old new shows is same areas = record {
-  answers = record { ends = (shows, is); may_end = tt; cause = λ reads count. world_same count count old new refl same };
   may_end = tt;
   areas = areas;
 }
