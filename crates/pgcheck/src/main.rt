@@ -38,7 +38,8 @@ impl Program<HostRuntime> for Checker {
     const NAME: &'static str = "pgcheck";
 
     const USAGE: &'static str = "usage:
-  pgcheck schema < TEXT    reads a schema text to its end, and prints what its guard asks and what in it does nothing
+  pgcheck schema < TEXT       reads a schema text to its end, and prints what its guard asks and what in it does nothing
+  pgcheck evolve < SCHEMAS    reads two schema texts, a line --- between them, and prints what the second one changes, and whether it is safe
 docs/GUIDE.md teaches it, docs/FORMATS.md has every printed text
 ";
 

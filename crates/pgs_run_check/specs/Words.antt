@@ -3,11 +3,11 @@ use Rattle.std.specs.Prelude.{ℕ, List, [], ◌∷◌, Option, None, codes, opt
 use Rattle.pgs_run_words.specs.Further.{is_plain}
 use Rattle.pgs_run_words.specs.Words.{found_in}
 use Rattle.pgs_run_check.specs.declared.command.CheckCommand.{CheckCommand}
-use Rattle.pgs_run_check.specs.declared.command.CheckCommand.TheVariants.{Schema}
+use Rattle.pgs_run_check.specs.declared.command.CheckCommand.TheVariants.{Schema, Evolve}
 
 -- the commands of one word
 unfoldable pub lone_words : List (List ℕ × CheckCommand)
-lone_words = (codes "schema", Schema) ∷ []
+lone_words = (codes "schema", Schema) ∷ (codes "evolve", Evolve) ∷ []
 
 -- the commands of a word and the name of a store
 unfoldable pub store_words : List (List ℕ × CheckCommand)

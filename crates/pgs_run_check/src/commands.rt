@@ -9,6 +9,7 @@ ghost use Rattle.pgs_run_lines.specs.declared.budget.TheConstants.{BUDGET};
 
 use crate::CheckCommand;
 use pgs_command::Status;
+use pgs_run_check_evolve::run_check_evolve;
 use pgs_run_check_schema::run_check_schema;
 use pgs_run_lines::BUDGET;
 use pgs_world::{Source, World};
@@ -31,5 +32,6 @@ pub fn run_command<S: Source, W: World>(
 {
     match command {
         CheckCommand::Schema => run_check_schema(alloc, source, world, budget),
+        CheckCommand::Evolve => run_check_evolve(alloc, source, world, budget),
     }
 }

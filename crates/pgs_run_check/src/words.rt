@@ -8,7 +8,10 @@ use pgs_base::Words;
 use pgs_run_words::{found_in, is_plain};
 
 /// The commands of one word.
-const LONE_WORDS: &[(&str, CheckCommand)] = &[("schema", CheckCommand::Schema)];
+const LONE_WORDS: &[(&str, CheckCommand)] = &[
+    ("schema", CheckCommand::Schema),
+    ("evolve", CheckCommand::Evolve),
+];
 
 /// The commands of a word and the name of a store.
 const STORE_WORDS: &[(&str, CheckCommand)] = &[];
