@@ -1,5 +1,5 @@
 #!/usr/bin/env bash
-# Runs pgcheck on each example below check/, and compares what it prints with output.txt and its status with status.txt; then what it says of
+# Runs pgcheck on each example below check/, by the word in word.txt or else `schema`, and compares what it prints with output.txt and its status with status.txt; then what it says of
 # other words and of closed streams. Ends with 1 where one differs.
 # Usage: examples/check.sh, with PGCHECK=EXECUTABLE to try another one than `pgcheck` runs
 set -u
@@ -24,7 +24,9 @@ ended() {
 for example in "$here"/check/*/; do
   name=check/$(basename "$example")
   status=$(<"$example/status.txt")
-  "$program" schema <"$example/input.txt" >"$work/found"
+  word=schema
+  [ -e "$example/word.txt" ] && word=$(<"$example/word.txt")
+  "$program" "$word" <"$example/input.txt" >"$work/found"
   ended "$name" "$status" "$example/output.txt"
 done
 
