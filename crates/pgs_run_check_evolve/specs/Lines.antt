@@ -25,9 +25,12 @@ abbrev pub key_lines : ℕ → List Bool → List (List ℕ)
 key_lines number [] = []
 key_lines number (kept ∷ more) = key_line number kept ∷ key_lines (number + 1) more
 
+abbrev pub drop_one : ℕ → Bool → List (List ℕ)
+drop_one number dropped = if dropped then drop_line number ∷ [] else []
+
 abbrev pub drop_lines : ℕ → List Bool → List (List ℕ)
 drop_lines number [] = []
-drop_lines number (dropped ∷ more) = (if dropped then drop_line number ∷ [] else []) ++ drop_lines (number + 1) more
+drop_lines number (dropped ∷ more) = drop_one number dropped ++ drop_lines (number + 1) more
 
 -- the lines behind those of the types, by whether each type is contained
 abbrev pub lines_behind : Resolved → Resolved → Bool → List (List ℕ)

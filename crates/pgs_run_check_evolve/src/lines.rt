@@ -1,7 +1,7 @@
 //! The lines of what a step changes.
 
 ghost use Rattle.std.specs.Prelude.{◌≡◌, ◌++◌, IfOk, OnOk};
-ghost use Rattle.pgs_run_check_evolve.specs.Lines.{strict_line, safe_line, word_of, key_line as line_of_key, drop_line as line_of_drop, key_lines, drop_lines};
+ghost use Rattle.pgs_run_check_evolve.specs.Lines.{strict_line, safe_line, word_of, key_line as line_of_key, drop_line as line_of_drop, drop_one, key_lines, drop_lines};
 
 use pgs_base::{Bytes, List, Memory};
 use pgs_base_text::TextBuffer;
@@ -50,14 +50,30 @@ fn drop_line(alloc: Global, number: u64) -> Result<Bytes, Memory>
     Ok(line.into_bytes())
 }
 
+// Puts the line of a key of the old guard last, where it is dropped.
+fn push_drop(
+    alloc: Global,
+    number: u64,
+    dropped: bool,
+    lines: &mut Vec<Bytes>,
+) -> Result<(), Memory>
+    ensures { OnOk result (lines.new.items ≡ lines.old.items ++ drop_one number dropped) }
+{
+    if dropped {
+        lines.push(drop_line(alloc, number)?)?;
+    }
+    Ok(())
+}
+
 /// Puts the lines of the keys of the new guard last, by whether each is kept.
-pub(crate) fn push_keys(alloc: Global, kept: &[bool], lines: &mut Vec<Bytes>) -> Result<(), Memory>
-    ensures { OnOk result (lines.new.items ≡ lines.old.items ++ key_lines 1 kept.now) }
+pub(crate) fn push_keys(alloc: Global, keys: &[bool], lines: &mut Vec<Bytes>) -> Result<(), Memory>
+    ensures { OnOk result (lines.new.items ≡ lines.old.items ++ key_lines 1 keys.now) }
 {
     let mut number = 0;
-    for kept in kept {
+    for kept in keys {
         number += 1;
-        lines.push(key_line(alloc, number, *kept)?)?;
+        let line = key_line(alloc, number, *kept)?;
+        lines.push(line)?;
     }
     Ok(())
 }
@@ -65,17 +81,15 @@ pub(crate) fn push_keys(alloc: Global, kept: &[bool], lines: &mut Vec<Bytes>) ->
 /// Puts the lines of the keys of the old guard that are dropped last.
 pub(crate) fn push_drops(
     alloc: Global,
-    dropped: &[bool],
+    keys: &[bool],
     lines: &mut Vec<Bytes>,
 ) -> Result<(), Memory>
-    ensures { OnOk result (lines.new.items ≡ lines.old.items ++ drop_lines 1 dropped.now) }
+    ensures { OnOk result (lines.new.items ≡ lines.old.items ++ drop_lines 1 keys.now) }
 {
     let mut number = 0;
-    for dropped in dropped {
+    for dropped in keys {
         number += 1;
-        if *dropped {
-            lines.push(drop_line(alloc, number)?)?;
-        }
+        push_drop(alloc, number, *dropped, lines)?;
     }
     Ok(())
 }
