@@ -20,8 +20,8 @@ use Rattle.pgs_syntax.specs.Valid.{is_type, is_valid_key_of}
 use Rattle.pgs_resolve_declared.proofs.Walks.{one_more}
 use Rattle.pgs_advice.specs.declared.subtypes.Naming.{Naming}
 use Rattle.pgs_advice.specs.declared.subtypes.Subtype.{Subtype}
-use Rattle.pgs_advice.specs.Subtypes.{is_shown, is_subtype, shown_types, of_base, subtypes_among, subtypes_of, with_type, bases_of, key_subtypes, own_type, IsNaming, AreNamings}
-use Rattle.pgs_advice.specs.Used.{is_among, named_by_key}
+use Rattle.pgs_advice.specs.Subtypes.{is_one_kind, is_shown, is_subtype, shown_types, of_base, subtypes_among, subtypes_of, with_type, bases_of, key_subtypes, own_type, IsNaming, AreNamings}
+use Rattle.pgs_advice.specs.Used.{is_among, is_marked, named_by_key}
 use Rattle.pgs_advice.proofs.Using.{same_self}
 use Rattle.pgs_advice.proofs.ValidTypes.{in_key}
 

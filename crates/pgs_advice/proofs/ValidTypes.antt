@@ -1,6 +1,6 @@
 -- In a valid schema each type names types before itself alone, and keys and the guard name types that are there.
-use Rattle.std.proofs.Common.{◌≡◌, ℕ, zero, suc, ◌+◌, ◌<◌, ◌≤◌, Bool, true, false, List, [], ◌∷◌, ◌++◌, length, slice_get, Option, Some, None, refl, sym, ap, subst, ◌∙◌, ⊎_elim, true≢false, arith}
-use Rattle.std.specs.List.{list_all, filter_map, flat_map}
+use Rattle.std.proofs.Common.{◌≡◌, ℕ, zero, suc, ◌+◌, ◌<◌, ◌≤◌, Bool, true, false, List, [], ◌∷◌, ◌++◌, length, map, slice_get, Option, Some, None, refl, sym, ap, subst, ◌∙◌, ⊎_elim, true≢false, arith}
+use Rattle.std.specs.List.{list_any, list_all, filter_map, flat_map}
 use Rattle.std.specs.Option.{option_map_or}
 use Rattle.std.proofs.lemmas.Bool.{and_parts, or_cases, ltb-true, lt-ltb}
 use Rattle.std.proofs.lemmas.List.Elements.{filter_map-append}
@@ -17,9 +17,9 @@ use Rattle.pgs_syntax.specs.declared.specification.Leaf.{Leaf}
 use Rattle.pgs_syntax.specs.declared.specification.Leaf.TheVariants.{Label, Named}
 use Rattle.pgs_syntax.specs.declared.specification.Spec as specs
 use Rattle.pgs_syntax.specs.declared.specification.Spec.{Spec, Empty, Word, OpenLabels, And', Or', Opt', Row_of-Spec, end_of-Spec, more_of-Spec}
-use Rattle.pgs_syntax.specs.Valid.{is_valid, is_valid_spec, are_valid_specs, are_valid_nodes, are_valid_edges, is_type, names_types, is_valid_key_of}
+use Rattle.pgs_syntax.specs.Valid.{is_valid, is_valid_spec, are_valid_specs, are_valid_nodes, are_valid_edges, is_type, names_types, is_valid_key, is_valid_key_of}
 use Rattle.pgs_advice.specs.Parts.{parts_of, parts_of_each}
-use Rattle.pgs_advice.specs.Used.{type_of, type_in, types_in, named_by_edge, named_by, type_at, named_by_key, first_types, is_among}
+use Rattle.pgs_advice.specs.Used.{type_of, type_in, types_in, named_by_edge, named_by, type_at, named_by_key, first_types, is_same_type, is_among}
 use Rattle.pgs_advice.proofs.Using.{same_is, among_both}
 
 -- a type of this kind and of a number below a bound

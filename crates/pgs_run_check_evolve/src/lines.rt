@@ -79,11 +79,7 @@ pub(crate) fn push_keys(alloc: Global, keys: &[bool], lines: &mut Vec<Bytes>) ->
 }
 
 /// Puts the lines of the keys of the old guard that are dropped last.
-pub(crate) fn push_drops(
-    alloc: Global,
-    keys: &[bool],
-    lines: &mut Vec<Bytes>,
-) -> Result<(), Memory>
+pub(crate) fn push_drops(alloc: Global, keys: &[bool], lines: &mut Vec<Bytes>) -> Result<(), Memory>
     ensures { OnOk result (lines.new.items ≡ lines.old.items ++ drop_lines 1 keys.now) }
 {
     let mut number = 0;

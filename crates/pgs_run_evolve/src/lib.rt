@@ -9,5 +9,4 @@ mod evolving;
 mod lines;
 mod run;
 
-pub use lines::old_format_line;
 pub use run::run_evolve;

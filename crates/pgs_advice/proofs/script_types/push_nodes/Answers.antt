@@ -1,4 +1,4 @@
-use Rattle.std.proofs.Common.{◌<◌, Bool, length, Some, None, sym, ap, subst, ◌∙◌, arith}
+use Rattle.std.proofs.Common.{◌≡◌, ◌<◌, Bool, List, ℕ, length, Option, Some, None, sym, ap, subst, ◌∙◌, arith}
 use Rattle.std.specs.Prelude.{if◌then◌else◌}
 use Rattle.std.proofs.lemmas.Bool.{lt-ltb}
 use Rattle.pgs_syntax.specs.declared.resolved.TypeNo.TheVariants.{Node}

@@ -1,4 +1,5 @@
 use Rattle.std.proofs.Common.{List, ℕ, ap, ◌∙◌, ◌++◌}
+use Rattle.pgs_syntax.specs.declared.script.Statement.{Statement}
 use Rattle.pgs_resolve_declared.specs.Declarations.{declared_in}
 use Rattle.pgs_advice.specs.Used.{unused_names, used_names}
 use Rattle.pgs_advice.proofs.Outside.{more_statements}

@@ -2,7 +2,7 @@ use Rattle.std.proofs.Common.{List, sym, ap, subst, ◌∙◌, filter, take, ◌
 use Rattle.std.proofs.lemmas.List.{take_more}
 use Rattle.pgs_advice.specs.declared.subtypes.Naming.{Naming}
 use Rattle.pgs_advice.specs.Subtypes.{is_shown, AreNamings}
-use Rattle.pgs_advice.proofs.Subtyping.{naming_more, naming_left_out}
+use Rattle.pgs_advice.proofs.Subtyping.{no_namings, naming_more, naming_left_out}
 use Rattle.pgs_advice.proofs.subtypes.namings.Goals as goal
 use Rattle.pgs_advice.proofs.subtypes.namings.Goals.{then-is_shown+in_ok-naming_of+in_ok-push, else-is_shown}
 

@@ -1,4 +1,4 @@
-use Rattle.std.proofs.Common.{[], length, false, Option, sym, ap, ◌∙◌}
+use Rattle.std.proofs.Common.{◌≡◌, [], length, false, Option, sym, ap, ◌∙◌}
 use Rattle.std.specs.Prelude.{slice_index_or}
 use Rattle.std.specs.Option.{option_map_or}
 use Rattle.std.proofs.lemmas.Bool.{lt-ltb}
