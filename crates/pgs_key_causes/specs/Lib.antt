@@ -1,4 +1,0 @@
-pub mod Causes
-pub mod Fronts
-pub mod Reading
-pub mod Walk
