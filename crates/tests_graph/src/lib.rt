@@ -8,6 +8,8 @@
 #[cfg(test)]
 mod base;
 #[cfg(test)]
+mod causes;
+#[cfg(test)]
 mod edges;
 #[cfg(test)]
 mod graph;
