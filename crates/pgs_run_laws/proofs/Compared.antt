@@ -16,8 +16,9 @@ use Rattle.pgs_run_input.specs.Answers.{schema_answer}
 use Rattle.pgs_run_input.specs.Input.{schema_part}
 use Rattle.pgs_run_contain.specs.declared.ending.Ending.{Ending}
 use Rattle.pgs_run_contain.specs.Answers.{Answer}
-use Rattle.pgs_run_contain.specs.Running.{AnsweredAt}
-use Rattle.pgs_run_contain.specs.Told.{second_part, status_by, told_behind, told_cut, told_first, told_second, told_texts, told_whole}
+use Rattle.pgs_run_contain.specs.Behind.{IsRightAt, told_with}
+use Rattle.pgs_run_contain.specs.Spec.{contain_behind}
+use Rattle.pgs_run_contain.specs.Told.{second_part, status_by, told_cut, told_first, told_second, told_texts, told_whole}
 use Rattle.pgs_run_contain.proofs.Containing.{types_contained}
 use Rattle.pgs_run_laws.specs.Compared.{IsCompared}
 use Rattle.pgs_run_laws.specs.Lines.{all_lines}
@@ -34,7 +35,8 @@ status_none false is = refl
 
 -- by these answers a run that tells so of its texts ended with 0, and they are right
 abbrev IsAccepted : List Answer → Told Ending → Type 0
-IsAccepted answers texts = ((told_behind answers texts.pieces texts.status).status ≡ Accepted) × AnsweredAt texts.status answers Accepted
+IsAccepted answers texts =
+    ((told_with contain_behind answers texts.pieces texts.status).status ≡ Accepted) × IsRightAt contain_behind answers texts.status Accepted
 
 refused_never : {A : Type 0} → SchemaRefused ≡ Accepted → A
 refused_never {A} is = absurd (let no : SchemaRefused ≡ Accepted = is in cc)
@@ -73,7 +75,7 @@ compared law input lost old new below ran accepted =
     let run = promise Contain input lost old new ran in
     let answers : List Answer = run.choice in
     let texts = told_texts input (2 ^ 40) in
-    let status : (told_behind answers texts.pieces texts.status).status ≡ Accepted = (shows Contain input lost old new ran (λ asks. absurd asks)).1 ∙ accepted in
-    let right = subst (λ (s : Status). AnsweredAt texts.status answers s) accepted (run.right input (ran.source refl)) in
+    let status : (told_with contain_behind answers texts.pieces texts.status).status ≡ Accepted = (shows Contain input lost old new ran (λ asks. absurd asks)).1 ∙ accepted in
+    let right = subst (λ (s : Status). IsRightAt contain_behind answers texts.status s) accepted (run.right input (ran.source refl)) in
     by_first law input answers (schema_answer (schema_part (all_lines input))) refl
     (subst (IsAccepted answers) (told_below input (2 ^ 40) below) (status, right))
