@@ -84,7 +84,7 @@ class Refused(Exception):
     elements: the elements that the text names
     tuples: the key values that the text names: one of 29, two of 28
     transaction: what was refused; empty where it was a schema
-    causes: what `pgcheck` says of it, a text each, where it was asked
+    causes: what `pgcheck` says of it, a text each, where that was asked
     """
 
     def __init__(self, number: int, text: str, transaction: Transaction = (), causes: Tuple[str, ...] = ()) -> None:
@@ -106,6 +106,13 @@ def refused_of(text: str, transaction: Transaction = (), causes: Tuple[str, ...]
     """The refusal of a text that begins with its number."""
     number, _, rest = text.partition(" ")
     return Refused(int(number), rest, transaction, causes)
+
+
+def causes_of(lines: List[str], refused: Refused) -> Tuple[str, ...]:
+    """The causes that `pgcheck apply` tells of one transaction; none where it refused it for another reason, or accepted it."""
+    if lines[:1] != [f"1 refused {refused}"]:
+        return ()
+    return tuple(line.partition("1 because ")[2] for line in lines[1:])
 
 
 @dataclass(frozen=True)

@@ -9,11 +9,11 @@ from collections import deque
 from types import TracebackType
 from typing import Deque, Generator, Iterable, Iterator, Optional, Type, Union
 
-from .answers import Checkpoint, Committed, Edge, Element, Explanation, Guard, Node, Verdict, element_of, explanation_of, refused_of
+from .answers import Checkpoint, Committed, Edge, Element, Explanation, Guard, Node, Refused, Verdict, causes_of, element_of, explanation_of, refused_of
 from .dump import Dump
 from .faults import Fault, Locked, Mismatch
 from .files import Contents, compare_feed, read_store
-from .operations import Operation, Transaction, transaction_of
+from .operations import Operation, Transaction, line_of, transaction_of
 from .program import Ended, Run, Sent, run_command
 
 Path = Union[str, "os.PathLike[str]"]
@@ -67,12 +67,16 @@ class Store:
             self._is_closed = True
             self._finish()
 
-    def apply(self, *operations: Operation) -> int:
-        """Has one transaction decided; gives the number of its commit, which is on the disk then, or raises Refused."""
+    def apply(self, *operations: Operation, check: bool = False) -> int:
+        """Has one transaction decided; gives the number of its commit, which is on the disk then, or raises Refused.
+
+        check: asks `pgcheck apply` for the causes of a refusal, on the store as it is then, which reads it whole: there are none where another commit
+        came between and the transaction would be accepted or refused otherwise by then, nor where `pgcheck` can't be run
+        """
         verdict = self._verdict(self._put(transaction_of(operations)))
         if isinstance(verdict, Committed):
             return verdict.number
-        raise verdict
+        raise self._explained(verdict) if check else verdict
 
     def apply_each(self, transactions: Iterable[Iterable[Operation]], *, ahead: int = 1_000) -> Iterator[Verdict]:
         """Has many transactions decided, each an iterable of operations, and gives their verdicts, in order, as they come: Committed or Refused.
@@ -133,6 +137,14 @@ class Store:
             dump.close()
             with self._lock:
                 self._recovering -= 1
+
+    def _explained(self, refused: Refused) -> Refused:
+        """The same refusal with its causes."""
+        try:
+            ended = run_command(["apply", self.name], line_of(refused.transaction).decode("utf-8"), "pgcheck")
+        except Fault:
+            return refused
+        return Refused(refused.number, refused.text, refused.transaction, causes_of(ended.lines, refused))
 
     def _put(self, transaction: Transaction) -> Sent:
         sent = Sent(transaction)

@@ -51,6 +51,21 @@ class Life(StoreTest):
                 store.apply(*(set_node(1, "name", "x" * 65_535) for _ in range(20)))
             self.assertEqual(store.apply(person(2)), 2)
 
+    def test_causes(self):
+        with Store(self.made("people")) as store:
+            store.apply(person(1))
+            with self.assertRaises(Refused) as caught:
+                store.apply(add_node(2, "Persno", id=2), check=True)
+            self.assertEqual(str(caught.exception), "25 node n2 fits no type")
+            self.assertEqual(caught.exception.causes, ("person: lacks label Person; label Persno is not admitted",))
+            with self.assertRaises(Refused) as caught:
+                store.apply(person(2, identity=1), check=True)
+            self.assertEqual((caught.exception.number, caught.exception.causes), (29, ("FOR (p:person) IDENTIFIER p.id",)))
+            with self.assertRaises(Refused) as caught:
+                store.apply(set_node(9, "id", 9), check=True)
+            self.assertEqual((caught.exception.number, caught.exception.causes), (23, ()))
+            self.assertEqual(store.apply(person(2), check=True), 2)
+
     def test_a_type_error_writes_nothing(self):
         with Store(self.made("people")) as store:
             with self.assertRaises(TypeError):

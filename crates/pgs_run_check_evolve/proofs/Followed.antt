@@ -1,7 +1,6 @@
 -- What follows two schemas: the lines of the types, and those behind them.
-use Rattle.std.proofs.Common.{◌≡◌, ℕ, inl, inr, Bool, true, false, not, List, [], ◌∷◌, ◌++◌, Option, Some, None, Result, Ok, Err, is_some, refl, sym, ap, subst, ◌∙◌, true≢false}
+use Rattle.std.proofs.Common.{◌≡◌, ℕ, inl, inr, Bool, true, false, not, List, [], ◌++◌, Option, Some, None, Ok, Err, refl, sym, ap, subst, ◌∙◌, true≢false}
 use Rattle.std.specs.Prelude.{if◌then◌else◌}
-use Rattle.std.specs.List.{list_any}
 use Rattle.std.proofs.lemmas.List.{append-nil}
 use Rattle.pgs_run_lines.specs.declared.stop.Stop.{Stop}
 use Rattle.pgs_run_lines.specs.declared.stop.Stop.TheVariants as stops
@@ -15,7 +14,7 @@ use Rattle.pgs_command.proofs.OwnEnds.{IsDone}
 use Rattle.pgs_schema_changes.specs.Safe.{is_safe}
 use Rattle.pgs_run_contain.specs.Answers.{Answer, listed, answer_lines, AreRight}
 use Rattle.pgs_run_contain.specs.Behind.{FollowsBoth}
-use Rattle.pgs_run_contain.specs.Running.{HasAllLines, Answered, TellsAll, TellsSome}
+use Rattle.pgs_run_contain.specs.Running.{HasAllLines, Answered, TellsSome}
 use Rattle.pgs_run_contain.proofs.Answered.{lines_first}
 use Rattle.pgs_run_contain.proofs.Behind.{Rules}
 use Rattle.pgs_run_check_evolve.specs.Lines.{lines_behind}

@@ -1,7 +1,6 @@
 -- Lines of keys, one more at a time.
-use Rattle.std.proofs.Common.{◌≡◌, ℕ, zero, suc, ◌+◌, ◌<◌, Bool, true, false, List, [], ◌∷◌, ◌++◌, take, drop, length, refl, sym, ap, ◌∙◌, append_assoc, arith}
-use Rattle.std.proofs.lemmas.List.{append-nil, take_more}
-use Rattle.std.specs.Prelude.{get_or}
+use Rattle.std.proofs.Common.{◌≡◌, ℕ, zero, suc, ◌+◌, ◌<◌, Bool, List, [], ◌∷◌, ◌++◌, take, length, refl, sym, ap, ◌∙◌, append_assoc, arith}
+use Rattle.std.proofs.lemmas.List.{append-nil}
 use Rattle.pgs_run_check_evolve.specs.Lines.{key_line, key_lines, drop_one, drop_lines}
 
 keys_more : (number : ℕ) (xs : List Bool) (x : Bool) → key_lines number (xs ++ x ∷ []) ≡ key_lines number xs ++ key_line (number + length xs) x ∷ []

@@ -1,5 +1,5 @@
 -- What is told safe is safe.
-use Rattle.std.proofs.Common.{◌≡◌, Bool, true, false, ◌&&◌, ◌||◌, not, List, Option, Some, None, is_some, refl, sym, ap, subst, ◌∙◌, true≢false}
+use Rattle.std.proofs.Common.{◌≡◌, Bool, true, false, ◌&&◌, ◌||◌, not, List, Option, Some, None, is_some, refl, sym, ap, ◌∙◌, true≢false}
 use Rattle.std.specs.List.{list_any}
 use Rattle.pgs_base.specs.Graph.{Graph, is_graph}
 use Rattle.pgs_syntax.specs.declared.resolved.Resolved.{Resolved}
@@ -14,7 +14,7 @@ use Rattle.pgs_run_contain.specs.Running.{HasAllLines}
 use Rattle.pgs_run_contain.proofs.Containing.{types_contained}
 use Rattle.pgs_run_check_evolve.specs.Told.{all_contained, status_by, told_changes, AreRightly}
 
-safe_status : (safe : Bool) → status_by safe ≡ Accepted → safe ≡ true
+pub safe_status : (safe : Bool) → status_by safe ≡ Accepted → safe ≡ true
 safe_status true is = refl
 safe_status false is = absurd (let no : Refused ≡ Accepted = is in cc)
 

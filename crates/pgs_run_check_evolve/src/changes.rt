@@ -49,7 +49,7 @@ fn lines_behind(
 }
 
 // The status by whether the step is safe.
-fn status_by(safe: bool) -> Status
+pub(crate) fn status_by(safe: bool) -> Status
     ensures { result ≡ status_by safe }
 {
     if safe {

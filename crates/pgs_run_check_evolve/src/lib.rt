@@ -9,5 +9,8 @@ mod changes;
 pub mod laws;
 mod lines;
 mod run;
+mod store_run;
+mod stored;
 
 pub use run::run_check_evolve;
+pub use store_run::run_check_evolve_store;

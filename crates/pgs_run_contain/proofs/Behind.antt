@@ -1,10 +1,9 @@
 -- What is promised of a run of a command over two schema texts: once its choice is known it ends as a machine does that ends by itself.
-use Rattle.std.proofs.Common.{◌≡◌, inl, inr, ℕ, ◌-◌, Bool, true, false, true≢false, List, [], ◌++◌, length, Option, Some, Result, Ok, Err, is_some, refl, sym, ap, subst, ◌∙◌}
-use Rattle.std.specs.List.{list_any}
+use Rattle.std.proofs.Common.{◌≡◌, inl, inr, ℕ, ◌-◌, true, false, List, [], ◌++◌, length, Option, Some, Result, Ok, Err, refl, sym, ap, subst, ◌∙◌}
 use Rattle.std.proofs.lemmas.List.{append-nil}
 use Rattle.pgs_run_lines.specs.declared.stop.Stop.{Stop}
 use Rattle.pgs_run_lines.specs.declared.stop.Stop.TheVariants as stops
-use Rattle.pgs_run_lines.specs.AreasKept.{KeepsAreas, keeps_none, keeps_on}
+use Rattle.pgs_run_lines.specs.AreasKept.{KeepsAreas, keeps_on}
 use Rattle.pgs_run_lines.specs.Calls.{is_of_source, is_of_world}
 use Rattle.pgs_run_lines.specs.Ending as lines
 use Rattle.pgs_run_lines.specs.Ending.{Faults, HasCause, Shows, faults_of}
@@ -17,7 +16,6 @@ use Rattle.pgs_run_lines.specs.Telling.{telling}
 use Rattle.pgs_run_lines.proofs.Causes.{cause_on, world_cause, world_same}
 use Rattle.pgs_run_lines.proofs.Showing.{ends_on}
 use Rattle.pgs_syntax.specs.declared.resolved.Resolved.{Resolved}
-use Rattle.pgs_world.specs.Moment.{IsTimed}
 use Rattle.pgs_world.specs.World.{View}
 use Rattle.pgs_command.specs.declared.status.Status.{Status}
 use Rattle.pgs_command.specs.declared.status.Status.TheVariants.{SchemaRefused, InputTooLong}

@@ -1,5 +1,5 @@
 -- What follows two schemas in a run of `contain`: the lines of the types of the first guard.
-use Rattle.std.proofs.Common.{◌≡◌, inl, inr, Bool, true, false, List, [], ◌++◌, Result, Ok, Err, is_some, refl, sym, ap, subst, ◌∙◌}
+use Rattle.std.proofs.Common.{◌≡◌, inl, inr, Bool, true, false, [], Result, Ok, Err, is_some, refl, sym, ap, subst, ◌∙◌}
 use Rattle.std.specs.List.{list_any}
 use Rattle.std.proofs.lemmas.List.{append-nil}
 use Rattle.pgs_run_lines.specs.declared.stop.Stop.{Stop}
@@ -20,7 +20,7 @@ use Rattle.pgs_run_contain.specs.declared.ending.Ending.{Ending}
 use Rattle.pgs_run_contain.specs.declared.ending.Ending.TheVariants as endings
 use Rattle.pgs_run_contain.specs.Answers.{listed, answer_lines}
 use Rattle.pgs_run_contain.specs.Behind.{FollowsBoth, FollowsTexts}
-use Rattle.pgs_run_contain.specs.Running.{HasAllLines, Answered, TellsSome, Tells, stop_by, PutsNothing, Follows}
+use Rattle.pgs_run_contain.specs.Running.{HasAllLines, TellsSome, Tells, stop_by, PutsNothing, Follows}
 use Rattle.pgs_run_contain.specs.Spec.{contain_behind}
 use Rattle.pgs_run_contain.specs.Told.{status_by}
 use Rattle.pgs_run_contain.proofs.Answered.{lines_none, lines_first}

@@ -1,5 +1,5 @@
 -- How a run of `contain` ends, by how the reading of both texts stopped. Its answers are free, as long as they are right.
-use Rattle.std.specs.Prelude.{◌≡◌, Bool, List, [], ◌++◌, Result, Ok, Err, is_some, refl}
+use Rattle.std.specs.Prelude.{◌≡◌, Bool, List, [], ◌++◌, Result, Ok, Err, is_some}
 use Rattle.std.specs.List.{list_any}
 use Rattle.pgs_run_lines.specs.declared.stop.Stop.{Stop}
 use Rattle.pgs_run_lines.specs.declared.stop.Stop.TheVariants as stops

@@ -9,4 +9,5 @@ mod evolving;
 mod lines;
 mod run;
 
+pub use lines::old_format_line;
 pub use run::run_evolve;

@@ -21,13 +21,13 @@ use Rattle.pgs_run_input.proofs.Separating.{HasOne, HasNo, none_more, one_first,
 -- the states of such a teller: the schema part goes on, lines come behind a schema, the schema was refused
 pub record Places (S : Type 0) : Type 0 where
   pub part : Part → S
-  pub begin : Resolved → S
+  pub begin : (text : List ℕ) → Resolved → S
   pub refused : S
 
 -- after the judgement of a schema text
-abbrev pub after_schema : {S : Type 0} → Places S → Result Resolved (List ℕ) → S
-after_schema places (Ok schema) = places.begin schema
-after_schema places (Err text) = places.refused
+abbrev pub after_schema : {S : Type 0} → Places S → (text : List ℕ) → Result Resolved (List ℕ) → S
+after_schema places text (Ok schema) = places.begin text schema
+after_schema places text (Err refusal) = places.refused
 
 -- What it does in its places, what stands behind the line of a refused schema (`further`), and what lines behind a schema tell, by the states to
 -- which they lead (`Behind`).
@@ -38,14 +38,14 @@ pub record SchemaFirst {E : Type 0} (t : Teller E) (limit : ℕ) (further : List
   pub part_line : (part : Part) (line : List ℕ) → with_line part (front_of limit line) ≡ with_line part (text_front line)
   -- in the schema part
   pub part_next : (part : Part) → t.next (places.part part) ≡ Going (places.part part)
-  pub part_after : (part : Part) (line : List ℕ) → t.after (places.part part) line ≡ cond (is_separator line) (after_schema places (schema_answer part.text)) (places.part (with_line part line))
+  pub part_after : (part : Part) (line : List ℕ) → t.after (places.part part) line ≡ cond (is_separator line) (after_schema places part.text (schema_answer part.text)) (places.part (with_line part line))
   pub part_pieces : (part : Part) (line : List ℕ) → t.pieces (places.part part) line ≡ cond (is_separator line) (pieces_behind further (schema_answer part.text)) []
   pub part_told : (part : Part) → t.told (places.part part) ≡ told_schema true (schema_answer part.text) []
   -- of a refused schema
   pub refused_ends : EndsIn t places.refused
   pub refused_told : (whole : Bool) (text : List ℕ) (lines : List (List ℕ)) → told_schema whole (Err text) lines ≡ record { pieces = schema_refused_line text ∷ further; status = refused_ends.status }
   -- behind a schema
-  pub begins : (schema : Resolved) → Behind schema [] (places.begin schema)
+  pub begins : (text : List ℕ) (schema : Resolved) → Behind schema [] (places.begin text schema)
   pub none : (schema : Resolved) → (told_schema false (Ok schema) []).pieces ≡ []
   pub cut : (schema : Resolved) (lines : List (List ℕ)) → (told_schema false (Ok schema) lines).status ≡ t.cut
   pub next : (schema : Resolved) (lines : List (List ℕ)) (s : t.State) → Behind schema lines s → t.next s ≡ Going s
@@ -120,18 +120,18 @@ module _ {E : Type 0} (t : Teller E) (limit : ℕ) (further : List (List ℕ)) (
   next_at lines s (inr (inl b)) = inl (laws.next b.schema (after_separator lines) s b.behind)
   next_at lines s (inr (inr r)) = inr (subst (EndsIn t) (sym r.is) laws.refused_ends)
 
-  leads_schema : (lines : List (List ℕ)) (end : List ℕ) (answer : Result Resolved (List ℕ)) → HasNo lines → is_separator end ≡ true → schema_answer (join_with_byte 10 lines) ≡ answer → Leads (lines ++ end ∷ []) (after_schema places answer)
-  leads_schema lines end (Err text) none is e = inr (inr (record { text = text; is = refl; one = one_first lines end none is; found = found_first lines end (Err text) none is e }))
-  leads_schema lines end (Ok schema) none is e = inr (inl (record {
+  leads_schema : (lines : List (List ℕ)) (end text : List ℕ) (answer : Result Resolved (List ℕ)) → HasNo lines → is_separator end ≡ true → schema_answer (join_with_byte 10 lines) ≡ answer → Leads (lines ++ end ∷ []) (after_schema places text answer)
+  leads_schema lines end text (Err refusal) none is e = inr (inr (record { text = refusal; is = refl; one = one_first lines end none is; found = found_first lines end (Err refusal) none is e }))
+  leads_schema lines end text (Ok schema) none is e = inr (inl (record {
     schema = schema;
     one = one_first lines end none is;
     found = found_first lines end (Ok schema) none is e;
-    behind = subst (λ ls. Behind schema ls (places.begin schema)) (sym (after-first lines end is none)) (laws.begins schema);
+    behind = subst (λ ls. Behind schema ls (places.begin text schema)) (sym (after-first lines end is none)) (laws.begins text schema);
   }))
 
   leads_part : (lines : List (List ℕ)) (line : List ℕ) (part : Part) (sep : Bool) → is_separator line ≡ sep → HasNo lines → part.text ≡ text_front (join_with_byte 10 lines) → part.begun ≡ not (has_none lines)
-      → Leads (lines ++ line ∷ []) (cond sep (after_schema places (schema_answer part.text)) (places.part (with_line part (text_front line))))
-  leads_part lines line part true is none text begun = leads_schema lines line (schema_answer part.text) none is (schema_so_far part lines text)
+      → Leads (lines ++ line ∷ []) (cond sep (after_schema places part.text (schema_answer part.text)) (places.part (with_line part (text_front line))))
+  leads_part lines line part true is none text begun = leads_schema lines line part.text (schema_answer part.text) none is (schema_so_far part lines text)
   leads_part lines line part false is none text begun = inl (record {
     part = with_line part (text_front line);
     is = refl;
@@ -143,7 +143,7 @@ module _ {E : Type 0} (t : Teller E) (limit : ℕ) (further : List (List ℕ)) (
   leads_line : (lines : List (List ℕ)) (line : List ℕ) (s : t.State) → Leads lines s → Leads (lines ++ line ∷ []) (t.after s (front line))
   leads_line lines line s (inl p) =
       let after = ap (λ (s : t.State). t.after s (front line)) p.is ∙ laws.part_after p.part (front line)
-      ∙ ap₂ (λ sep (part : Part). cond sep (after_schema places (schema_answer p.part.text)) (places.part part)) (laws.separator line) (laws.part_line p.part line) in
+      ∙ ap₂ (λ sep (part : Part). cond sep (after_schema places p.part.text (schema_answer p.part.text)) (places.part part)) (laws.separator line) (laws.part_line p.part line) in
       subst (Leads (lines ++ line ∷ [])) (sym after) (leads_part lines line p.part (is_separator line) refl p.none p.text p.begun)
   leads_line lines line s (inr (inl b)) = inr (inl (record {
     schema = b.schema;

@@ -27,11 +27,11 @@ abbrev step : Resolved → Summary → Event → Stepped Summary
 step schema = brief_sessions.step schema
 
 abbrev places : Places Stand
-places = record { part = Schema; begin = λ schema. Lines schema begin; refused = Refused }
+places = record { part = Schema; begin = λ text schema. Lines schema begin; refused = Refused }
 
-after_judged : (answer : Result Resolved (List ℕ)) → after_schema answer ≡ behind.after_schema places answer
-after_judged (Ok schema) = refl
-after_judged (Err text) = refl
+after_judged : (text : List ℕ) (answer : Result Resolved (List ℕ)) → after_schema answer ≡ behind.after_schema places text answer
+after_judged text (Ok schema) = refl
+after_judged text (Err refusal) = refl
 
 -- these lines behind a schema lead there
 abbrev Behind : Resolved → List (List ℕ) → Stand → Type 0
@@ -55,12 +55,12 @@ laws = record {
   separator = separator_of_front;
   part_line = part_of_line;
   part_next = λ part. refl;
-  part_after = λ part line. ap (λ stand. cond (is_separator line) stand (Schema (with_line part line))) (after_judged (schema_answer part.text));
+  part_after = λ part line. ap (λ stand. cond (is_separator line) stand (Schema (with_line part line))) (after_judged part.text (schema_answer part.text));
   part_pieces = λ part line. refl;
   part_told = λ part. refl;
   refused_ends = record { status = SchemaRefused; is = refl; after = λ line. refl; pieces = λ line. refl; told = refl };
   refused_told = λ whole text lines. refl;
-  begins = λ schema. refl;
+  begins = λ text schema. refl;
   none = λ schema. refl;
   cut = λ schema lines. refl;
   next = λ schema lines stand is. subst (λ s. next_of s ≡ Going s) (sym is) refl;

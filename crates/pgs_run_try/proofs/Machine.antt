@@ -24,11 +24,11 @@ module _ (judging : Judging) where
   lines_at schema standing = Lines (record { judging = judging; schema = schema; standing = standing })
 
   abbrev places : Places Phase
-  places = record { part = Schema judging; begin = λ schema. lines_at schema start; refused = Refused }
+  places = record { part = Schema judging; begin = λ text schema. lines_at schema start; refused = Refused }
 
-  after_judged : (answer : Result Resolved (List ℕ)) → after_schema judging answer ≡ behind.after_schema places answer
-  after_judged (Ok schema) = refl
-  after_judged (Err text) = refl
+  after_judged : (text : List ℕ) (answer : Result Resolved (List ℕ)) → after_schema judging answer ≡ behind.after_schema places text answer
+  after_judged text (Ok schema) = refl
+  after_judged text (Err refusal) = refl
 
   -- these lines behind a schema lead there
   abbrev Behind : Resolved → List (List ℕ) → Phase → Type 0
@@ -55,12 +55,12 @@ module _ (judging : Judging) where
     separator = separator_of_front;
     part_line = λ part line. refl;
     part_next = λ part. refl;
-    part_after = λ part line. ap (λ phase. cond (is_separator line) phase (Schema judging (with_line part line))) (after_judged (schema_answer part.text));
+    part_after = λ part line. ap (λ phase. cond (is_separator line) phase (Schema judging (with_line part line))) (after_judged part.text (schema_answer part.text));
     part_pieces = λ part line. refl;
     part_told = λ part. refl;
     refused_ends = record { status = SchemaRefused; is = refl; after = λ line. refl; pieces = λ line. refl; told = refl };
     refused_told = λ whole text lines. refl;
-    begins = λ schema. refl;
+    begins = λ text schema. refl;
     none = λ schema. refl;
     cut = λ schema lines. refl;
     next = λ schema lines phase is. subst (λ p. next_of p ≡ Going p) (sym is) refl;

@@ -15,4 +15,6 @@ mod staged;
 mod trying;
 
 pub use judging::Judging;
+pub use listing::put_all_listed;
 pub use run::run_judging;
+pub use staged::graph_violations;

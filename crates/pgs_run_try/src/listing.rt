@@ -25,8 +25,8 @@ fn listed_line(alloc: Global, violation: &Violation) -> Result<Bytes, Memory>
     violation_line(alloc, text.as_slice())
 }
 
-// Puts the lines of violations, one after another.
-fn put_all_listed<W: World>(
+/// Puts the lines of violations, one after another. `Memory` where there was none left, `PutFault` where a put failed.
+pub fn put_all_listed<W: World>(
     alloc: Global,
     world: &mut W,
     found: &[Violation],

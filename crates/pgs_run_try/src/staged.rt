@@ -57,6 +57,17 @@ fn violations_counted<L: Ledger>(
     violations(alloc, graph, schema.compiled(), schema.keys(), &mut steps)
 }
 
+/// The violations of a graph under a schema, in order. `Memory` where there was none left.
+pub fn graph_violations(
+    alloc: Global,
+    graph: &Tables,
+    schema: &Schema,
+) -> Result<List<Violation>, Memory>
+    ensures { IfOk result (λ found. found ≡ violations schema.now.resolved graph.now.graph) }
+{
+    violations_counted::<Brand>(alloc, graph, schema, Blank::new(1))
+}
+
 impl Staged {
     /// Does a transaction, where it can be done within the limits: the number of transactions done. Where it is rejected, the graph stays
     /// as it was.
@@ -76,6 +87,6 @@ impl Staged {
     pub fn violations(&self, alloc: Global) -> Result<List<Violation>, Memory>
         ensures { IfOk result (λ found. found ≡ violations self.now.schema.resolved self.now.graph.graph) }
     {
-        violations_counted::<Brand>(alloc, &self.graph, &self.schema, Blank::new(1))
+        graph_violations(alloc, &self.graph, &self.schema)
     }
 }

@@ -17,6 +17,13 @@ enum LockedFile {
     Otherwise,
 }
 
+const EACH: [StoreAccess; 4] = [
+    StoreAccess::Read,
+    StoreAccess::Append,
+    StoreAccess::WriteOver,
+    StoreAccess::Make,
+];
+
 /// The store `locks`, opened by a run of its own.
 fn opened(rt: &HostRuntime, access: StoreAccess) -> Result<Areas<'_>, Memory> {
     let mut system = SystemOpening::new(rt, rt.alloc());
@@ -42,50 +49,20 @@ fn locked(rt: &HostRuntime, access: StoreAccess) -> Result<LockedFile, Memory> {
 /// The same of a second run while a first has the store open, for each access of the second.
 fn refused(rt: &HostRuntime, first: StoreAccess) -> Result<[LockedFile; 4], Memory> {
     let _open = opened(rt, first)?;
-    let read = locked(rt, StoreAccess::Read)?;
-    let append = locked(rt, StoreAccess::Append)?;
-    let write_over = locked(rt, StoreAccess::WriteOver)?;
-    let make = locked(rt, StoreAccess::Make)?;
-    Ok([read, append, write_over, make])
+    let mut seen = [LockedFile::Neither; 4];
+    for (place, second) in seen.iter_mut().zip(EACH) {
+        *place = locked(rt, second)?;
+    }
+    Ok(seen)
 }
 
-#[test]
-fn readers_go_beside_a_run_that_appends(rt: HostRuntime) -> Result<(), Fail> {
-    let seen = [
-        refused(&rt, StoreAccess::Read)?,
-        refused(&rt, StoreAccess::Append)?,
-        refused(&rt, StoreAccess::WriteOver)?,
-        refused(&rt, StoreAccess::Make)?,
-    ];
-    remove(&rt);
-    let want = [
-        [
-            LockedFile::Neither,
-            LockedFile::OfA,
-            LockedFile::OfA,
-            LockedFile::OfA,
-        ],
-        [
-            LockedFile::Neither,
-            LockedFile::OfA,
-            LockedFile::OfA,
-            LockedFile::OfA,
-        ],
-        [
-            LockedFile::OfB,
-            LockedFile::OfA,
-            LockedFile::OfA,
-            LockedFile::OfA,
-        ],
-        [
-            LockedFile::OfB,
-            LockedFile::OfA,
-            LockedFile::OfA,
-            LockedFile::OfA,
-        ],
-    ];
-    assert_eq!(rt; seen, want);
-    Ok(())
+/// The same for each access of the first.
+fn refused_beside_each(rt: &HostRuntime) -> Result<[[LockedFile; 4]; 4], Memory> {
+    let mut seen = [[LockedFile::Neither; 4]; 4];
+    for (place, first) in seen.iter_mut().zip(EACH) {
+        *place = refused(rt, first)?;
+    }
+    Ok(seen)
 }
 
 /// What later runs meet beside a reader that came while a run appended, which has ended: one that appends, and one that writes over.
@@ -98,14 +75,6 @@ fn beside_a_late_reader(rt: &HostRuntime) -> Result<[LockedFile; 2], Memory> {
     Ok([append, write_over])
 }
 
-#[test]
-fn nobody_writes_over_what_is_read(rt: HostRuntime) -> Result<(), Fail> {
-    let seen = beside_a_late_reader(&rt)?;
-    remove(&rt);
-    assert_eq!(rt; seen, [LockedFile::Neither, LockedFile::OfB]);
-    Ok(())
-}
-
 /// Whether a sync fails of a file that was taken away, for a run that appends and for one that reads beside it.
 fn syncs_of_a_lost_file(rt: &HostRuntime) -> Result<[bool; 2], Memory> {
     let mut writer = opened(rt, StoreAccess::Append)?;
@@ -114,8 +83,28 @@ fn syncs_of_a_lost_file(rt: &HostRuntime) -> Result<[bool; 2], Memory> {
     Ok([writer.sync(Area::A).is_err(), reader.sync(Area::A).is_err()])
 }
 
+/// What a second run meets that reads, and then three that write.
+fn beside(reader: LockedFile) -> [LockedFile; 4] {
+    let writer = LockedFile::OfA;
+    [reader, writer, writer, writer]
+}
+
+// Readers go beside a run that appends; nobody writes over what is read; and a reader beside a writer asks no sync.
 #[test]
-fn a_reader_beside_a_writer_asks_no_sync(rt: HostRuntime) -> Result<(), Fail> {
-    assert_eq!(rt; syncs_of_a_lost_file(&rt)?, [true, false]);
+fn locks_say_who_writes_and_who_writes_over(rt: HostRuntime) -> Result<(), Fail> {
+    let seen = refused_beside_each(&rt)?;
+    remove(&rt);
+    let late = beside_a_late_reader(&rt)?;
+    remove(&rt);
+    let lost = syncs_of_a_lost_file(&rt)?;
+    let (free, over) = (beside(LockedFile::Neither), beside(LockedFile::OfB));
+    assert_eq!(rt;
+        (seen, late, lost),
+        (
+            [free, free, over, over],
+            [LockedFile::Neither, LockedFile::OfB],
+            [true, false]
+        )
+    );
     Ok(())
 }

@@ -28,8 +28,8 @@ fn refused(rt: &HostRuntime, first: Access, second: Access) -> Result<Option<Fil
     cause_of(rt, "lock.a", second)
 }
 
-#[test]
-fn readers_share_and_writers_do_not(rt: HostRuntime) -> Result<(), Fail> {
+/// Why a second run can't open the file: a reader beside a reader, a writer beside one, and a reader beside a writer.
+fn refused_by_each(rt: &HostRuntime) -> Result<[Option<FileCause>; 3], Memory> {
     let pairs = [
         (Access::Read, Access::Read),
         (Access::Read, Access::Write),
@@ -37,12 +37,10 @@ fn readers_share_and_writers_do_not(rt: HostRuntime) -> Result<(), Fail> {
     ];
     let mut seen = [None; 3];
     for (place, (first, second)) in seen.iter_mut().zip(pairs) {
-        *place = refused(&rt, first, second)?;
+        *place = refused(rt, first, second)?;
     }
-    let _removed = fs::remove_file(&rt, "lock.a");
-    let locked = Some(FileCause::Locked);
-    assert_eq!(rt; seen, [None, locked, locked]);
-    Ok(())
+    let _removed = fs::remove_file(rt, "lock.a");
+    Ok(seen)
 }
 
 /// Why a file of these bytes can't be opened for an access.
@@ -53,32 +51,35 @@ fn cause_over(rt: &HostRuntime, bytes: &[u8], access: Access) -> Result<Option<F
     Ok(cause)
 }
 
-#[test]
-fn a_new_store_goes_over_no_file_of_something_else(rt: HostRuntime) -> Result<(), Fail> {
-    let files: [&[u8]; 8] = [
-        b"1\n2\n",
-        b"\x01\n",
-        b"#PGSGRD1",
-        b"#PGSGRD2",
-        b"\x01PGS",
-        b"\x01other programs",
-        b"#",
-        b"\0\n",
-    ];
+/// Files of a store, of nothing and of something else.
+const FILES: [&[u8]; 8] = [
+    b"1\n2\n",
+    b"\x01\n",
+    b"#PGSGRD1",
+    b"#PGSGRD2",
+    b"\x01PGS",
+    b"\x01other programs",
+    b"#",
+    b"\0\n",
+];
+
+/// Why a new store can't be made over each of them.
+fn causes_over_each(rt: &HostRuntime) -> Result<[Option<FileCause>; 8], Memory> {
     let mut seen = [None; 8];
-    for (place, bytes) in seen.iter_mut().zip(files) {
-        *place = cause_over(&rt, bytes, Access::Make)?;
+    for (place, bytes) in seen.iter_mut().zip(FILES) {
+        *place = cause_over(rt, bytes, Access::Make)?;
     }
-    let others = Some(FileCause::Others);
-    let want = [others, others, None, None, None, others, None, None];
-    assert_eq!(rt; seen, want);
-    Ok(())
+    Ok(seen)
 }
 
-#[test]
-fn a_reader_opens_a_file_of_something_else(rt: HostRuntime) -> Result<(), Fail> {
-    assert_eq!(rt; cause_over(&rt, b"1\n2\n", Access::Read)?, None);
-    Ok(())
+/// Why a reader can't open a file of something else, a writer a folder, and a writer a file in a missing folder.
+fn other_causes(rt: &HostRuntime) -> Result<[Option<FileCause>; 3], Memory> {
+    let read = cause_over(rt, b"1\n2\n", Access::Read)?;
+    let _made = fs::create_dir(rt, "folder.a");
+    let folder = cause_of(rt, "folder.a", Access::Write)?;
+    let _removed = fs::remove_dir(rt, "folder.a");
+    let absent = cause_of(rt, "missing/new.a", Access::Write)?;
+    Ok([read, folder, absent])
 }
 
 /// The rights of a file that an opening made.
@@ -89,28 +90,25 @@ fn rights_of_new(rt: &HostRuntime) -> Result<u32, Fail> {
     Ok(rights)
 }
 
+// Readers share a file, and writers don't; a new store goes over no file of something else, which a reader opens; a new file is its owner's;
+// a folder is no file, and in a missing folder none is made.
 #[test]
-fn a_new_file_is_its_owners(rt: HostRuntime) -> Result<(), Fail> {
-    assert_eq!(rt; rights_of_new(&rt)?, 0o600);
-    Ok(())
-}
-
-#[test]
-fn a_folder_is_no_file(rt: HostRuntime) -> Result<(), Fail> {
-    let _made = fs::create_dir(&rt, "folder.a");
-    let cause = cause_of(&rt, "folder.a", Access::Write)?;
-    let _removed = fs::remove_dir(&rt, "folder.a");
-    assert_eq!(rt; cause, Some(FileCause::NotRegular));
-    Ok(())
-}
-
-#[test]
-fn no_file_is_made_in_a_missing_folder(rt: HostRuntime) -> Result<(), Fail> {
-    let absent = FileCause::Call(Cause::Absent);
-    assert_eq!(rt;
-        cause_of(&rt, "missing/new.a", Access::Write)?,
-        Some(absent)
+fn files_are_opened_or_the_cause_is_told(rt: HostRuntime) -> Result<(), Fail> {
+    let seen = (
+        refused_by_each(&rt)?,
+        causes_over_each(&rt)?,
+        other_causes(&rt)?,
+        rights_of_new(&rt)?,
     );
+    let (locked, others) = (Some(FileCause::Locked), Some(FileCause::Others));
+    let absent = Some(FileCause::Call(Cause::Absent));
+    let want = (
+        [None, locked, locked],
+        [others, others, None, None, None, others, None, None],
+        [None, Some(FileCause::NotRegular), absent],
+        0o600,
+    );
+    assert_eq!(rt; seen, want);
     Ok(())
 }
 
@@ -134,13 +132,6 @@ fn three_syncs(rt: &HostRuntime) -> Result<[(bool, Option<FileCause>); 3], Memor
     Ok([stays, replaced, sync_of(&mut area)])
 }
 
-#[test]
-fn a_sync_fails_where_the_file_lost_its_name(rt: HostRuntime) -> Result<(), Fail> {
-    let lost = (true, Some(FileCause::Replaced));
-    assert_eq!(rt; three_syncs(&rt)?, [(false, None), lost, lost]);
-    Ok(())
-}
-
 /// Whether a write, a cut and a sync fail, and why.
 fn three_calls(area: &mut Area<'_>) -> [(bool, Option<FileCause>); 3] {
     let written = (area.write_at(4, b"e").is_err(), area.cause());
@@ -162,17 +153,23 @@ fn calls_on_a_changed_file(
     Ok((calls, text))
 }
 
+// A sync fails where the file lost its name, and a file that is written anew is left alone.
 #[test]
-fn a_file_that_is_written_anew_is_left_alone(rt: HostRuntime) -> Result<(), Fail> {
-    let changed = (true, Some(FileCause::Changed));
+fn a_file_that_is_replaced_or_changed_is_left_alone(rt: HostRuntime) -> Result<(), Fail> {
+    let syncs = three_syncs(&rt)?;
     let (calls, text) = calls_on_a_changed_file(&rt)?;
-    assert_eq!(rt; (calls, text.as_str()), ([changed; 3], "xy"));
+    let lost = (true, Some(FileCause::Replaced));
+    let changed = (true, Some(FileCause::Changed));
+    let want = ([(false, None), lost, lost], [changed; 3], "xy");
+    assert_eq!(rt; (syncs, calls, text.as_str()), want);
     Ok(())
 }
 
 const FIRST: &str = "{\"commit\":1,\"ops\":[]}\n";
 
 const SECOND: &str = "{\"commit\":2,\"ops\":[]}\n";
+
+const BOTH: &str = "{\"commit\":1,\"ops\":[]}\n{\"commit\":2,\"ops\":[]}\n";
 
 /// Puts the line of the second commit into the feed of a name, and says why that fails, or `None`.
 fn put_second(
@@ -213,9 +210,8 @@ fn a_feed_stands_behind_an_earlier_run_and_is_no_file_of_this(rt: HostRuntime) -
     let (seen, text) = feeds_and_text(&rt)?;
     let twice = FeedCause::File(FileCause::Twice);
     let absent = FeedCause::File(FileCause::Call(Cause::Absent));
-    let both = format!(in rt.alloc(); "{FIRST}{SECOND}")?;
-    assert_eq!(rt; seen, [None, Some(twice), Some(absent)]);
-    assert_eq!(rt; text.as_str(), both.as_str());
+    let want = [None, Some(twice), Some(absent)];
+    assert_eq!(rt; (seen, text.as_str()), (want, BOTH));
     Ok(())
 }
 

@@ -92,16 +92,12 @@ fn synced_twice(alloc: Global, named: bool) -> Result<([bool; 2], [Option<(u64, 
     Ok((answers, written.get()))
 }
 
+// A failed sync writes a byte of each block again, and a file without its name is not synced.
 #[test]
-fn a_failed_sync_writes_a_byte_of_each_block_again(rt: HostRuntime) -> Result<(), Fail> {
+fn a_sync_behind_a_failed_one_tells_of_all(rt: HostRuntime) -> Result<(), Fail> {
+    let seen = synced_twice(rt.alloc(), true)?;
+    let (nameless, _) = synced_twice(rt.alloc(), false)?;
     let blocks = [Some((0, 0)), Some((512, 1)), Some((1024, 2)), None];
-    assert_eq!(rt; synced_twice(rt.alloc(), true)?, ([true, false], blocks));
-    Ok(())
-}
-
-#[test]
-fn a_file_without_its_name_is_not_synced(rt: HostRuntime) -> Result<(), Fail> {
-    let (answers, _) = synced_twice(rt.alloc(), false)?;
-    assert_eq!(rt; answers, [true, true]);
+    assert_eq!(rt; (seen, nameless), (([true, false], blocks), [true, true]));
     Ok(())
 }

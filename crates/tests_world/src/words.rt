@@ -52,11 +52,16 @@ fn words_of(alloc: Global, line: &str) -> Result<Words, Memory> {
     Ok(words)
 }
 
+fn text(alloc: Global, text: &str) -> Result<String, Memory> {
+    Ok(String::from_str(alloc, text)?)
+}
+
 fn element(alloc: Global, elem: Elem) -> Result<String, Memory> {
-    match elem {
-        Elem::Node(id) => Ok(format!(in alloc; "n{}", id.0)?),
-        Elem::Edge(id) => Ok(format!(in alloc; "e{}", id.0)?),
-    }
+    let (letter, number) = match elem {
+        Elem::Node(id) => ('n', id.0),
+        Elem::Edge(id) => ('e', id.0),
+    };
+    Ok(format!(in alloc; "explain {letter}{number}")?)
 }
 
 fn made(alloc: Global, workload: Workload) -> Result<String, Memory> {
@@ -66,23 +71,19 @@ fn made(alloc: Global, workload: Workload) -> Result<String, Memory> {
 }
 
 fn command(alloc: Global, command: &Option<Command>) -> Result<String, Memory> {
-    let text = match command {
-        None => format!(in alloc; "refused")?,
-        Some(Command::Try) => format!(in alloc; "try")?,
-        Some(Command::Validate) => format!(in alloc; "validate")?,
-        Some(Command::Load) => format!(in alloc; "load")?,
-        Some(Command::Apply) => format!(in alloc; "apply")?,
-        Some(Command::Recover) => format!(in alloc; "recover")?,
-        Some(Command::Checkpoint) => format!(in alloc; "checkpoint")?,
-        Some(Command::Evolve) => format!(in alloc; "evolve")?,
-        Some(Command::Contain) => format!(in alloc; "contain")?,
-        Some(Command::Explain { elem }) => {
-            let elem = element(alloc, *elem)?;
-            format!(in alloc; "explain {elem}")?
-        }
-        Some(Command::Gen { workload }) => made(alloc, *workload)?,
-    };
-    Ok(text)
+    match command {
+        None => text(alloc, "refused"),
+        Some(Command::Try) => text(alloc, "try"),
+        Some(Command::Validate) => text(alloc, "validate"),
+        Some(Command::Load) => text(alloc, "load"),
+        Some(Command::Apply) => text(alloc, "apply"),
+        Some(Command::Recover) => text(alloc, "recover"),
+        Some(Command::Checkpoint) => text(alloc, "checkpoint"),
+        Some(Command::Evolve) => text(alloc, "evolve"),
+        Some(Command::Contain) => text(alloc, "contain"),
+        Some(Command::Explain { elem }) => element(alloc, *elem),
+        Some(Command::Gen { workload }) => made(alloc, *workload),
+    }
 }
 
 fn read(alloc: Global, line: &str) -> Result<String, Memory> {

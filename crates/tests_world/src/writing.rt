@@ -70,13 +70,6 @@ fn written(alloc: Global, interrupted_to: u32) -> (bool, u32) {
     (fails, writer.writes)
 }
 
-#[test]
-fn the_thousandth_interruption_in_a_row_is_a_fault(rt: HostRuntime) -> Result<(), Fail> {
-    let seen = [written(rt.alloc(), 1_000), written(rt.alloc(), 1_001)];
-    assert_eq!(rt; seen, [(false, 1_001), (true, 1_001)]);
-    Ok(())
-}
-
 type NoAreas<'a> = AreaFiles<StoreFile<SystemFile<'a, HostRuntime>>>;
 
 /// What three puts answer where the second write is interrupted and the fifth fails, and what was written.
@@ -87,10 +80,18 @@ fn three_puts(rt: &HostRuntime) -> ([Result<(), PutFault>; 3], Vec<u8>) {
     (answers, world.into_writer().kept)
 }
 
+// The thousandth interruption in a row is a fault, and pieces are put whole or a front of them is.
 #[test]
 fn pieces_are_put_whole_or_a_front_of_them_is(rt: HostRuntime) -> Result<(), Fail> {
+    let interrupted = [written(rt.alloc(), 1_000), written(rt.alloc(), 1_001)];
     let (answers, kept) = three_puts(&rt);
-    let want = [Ok(()), Err(PutFault), Ok(())];
-    assert_eq!(rt; (answers, kept.as_slice()), (want, b"abce".as_slice()));
+    assert_eq!(rt;
+        (interrupted, answers, kept.as_slice()),
+        (
+            [(false, 1_001), (true, 1_001)],
+            [Ok(()), Err(PutFault), Ok(())],
+            b"abce".as_slice()
+        )
+    );
     Ok(())
 }

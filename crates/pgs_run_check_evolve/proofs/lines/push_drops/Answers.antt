@@ -1,4 +1,4 @@
-use Rattle.std.proofs.Common.{◌≡◌, ◌+◌, arith}
+use Rattle.std.proofs.Common.{◌+◌, arith}
 use Rattle.std.proofs.lemmas.List.{take_more}
 use Rattle.pgs_run_check_evolve.proofs.Numbered.{drop_pushed}
 use Rattle.pgs_run_check_evolve.proofs.lines.push_drops.Goals as goal

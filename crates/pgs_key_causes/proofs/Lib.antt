@@ -1,0 +1,9 @@
+pub mod Covering
+pub mod Linking
+pub mod Places
+pub mod Sound
+pub mod Turns
+pub mod ValidFronts
+pub mod Vars
+pub mod Visiting
+pub mod Walks

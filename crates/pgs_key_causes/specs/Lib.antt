@@ -1,0 +1,4 @@
+pub mod Causes
+pub mod Fronts
+pub mod Reading
+pub mod Walk

@@ -1,0 +1,97 @@
+//! What a step changes for a saved store: the saved schema is the old one.
+
+ghost use Rattle.std.specs.Prelude.{◌≡◌, ℕ, Some, true};
+ghost use Rattle.pgs_resolve.specs.SchemaOf.{schema_of};
+ghost use Rattle.pgs_run_lines.specs.Calls.{is_of_world};
+ghost use Rattle.pgs_schema.specs.Told.{IsRefused};
+ghost use Rattle.pgs_violation.specs.Violations.{violations as violations_of};
+ghost use Rattle.pgs_command.specs.Calls.{fails_world};
+ghost use Rattle.pgs_run_contain.specs.Behind.{FollowsBoth};
+ghost use Rattle.pgs_run_store.specs.Opening.{saved_in};
+ghost use Rattle.pgs_run_store.specs.Refusing.{SavedStore};
+ghost use Rattle.pgs_run_check_evolve.specs.Stored.{TellsNext, stored_behind};
+ghost use Rattle.pgs_run_check_evolve.specs.Telling.{TellsListed};
+
+use crate::changes::{put_changes, status_by};
+use pgs_command::{Status, status_at};
+use pgs_graph::GraphRead;
+use pgs_run_evolve::old_format_line;
+use pgs_run_input::refused_line;
+use pgs_run_lines::{Reply, Stop, put_last, put_reply};
+use pgs_run_try::{graph_violations, put_all_listed};
+use pgs_schema::{Schema, SchemaUnread};
+use pgs_store::Store;
+use pgs_tables::Tables;
+use pgs_world::World;
+use std::alloc::Global;
+
+// Puts a line for each violation of a graph under a schema: how the run ends.
+fn list_violations<W: World>(
+    alloc: Global,
+    world: &mut W,
+    graph: &Tables,
+    schema: &Schema,
+) -> Stop<Status>
+    ensures tells { TellsListed (violations_of schema.now.resolved graph.now.graph) (W.view world.old) result (W.view world.new) }
+    ensures last { is_of_world result ≡ true → W.failed world.new }
+{
+    let found = match graph_violations(alloc, graph, schema) {
+        Ok(found) => found,
+        Err(_) => return Stop::Memory,
+    };
+    match put_all_listed(alloc, world, found.as_slice()) {
+        Ok(()) => Stop::Ended(status_by(found.is_empty())),
+        Err(stop) => stop,
+    }
+}
+
+// Tells what the step from the saved schema to another changes, and where it isn't safe what in the saved graph the other doesn't allow.
+fn tell_stored<W: World>(
+    alloc: Global,
+    world: &mut W,
+    store: &Store,
+    schema: &Schema,
+) -> Stop<Status>
+    ensures follows { FollowsBoth (stored_behind store.now.guard.graph) store.now.guard.schema schema.now.resolved (W.view world.old) result (W.view world.new) }
+    ensures last { is_of_world result ≡ true → W.failed world.new }
+{
+    let graph = store.graph();
+    // The count's clause says that what is saved is a graph.
+    let _count = graph.count();
+    match put_changes(alloc, world, store.compiled(), schema.compiled()) {
+        Stop::Ended(Status::Refused) => list_violations(alloc, world, graph, schema),
+        stop => stop,
+    }
+}
+
+// Puts the line of a text that is no schema. What is told of its cause belongs behind it.
+fn refuse<W: World>(alloc: Global, world: &mut W, unread: SchemaUnread, text: &[u8]) -> Status
+    requires { IsRefused (schema_of text.now) unread }
+    ensures answer { (it : SavedStore) (number : ℕ) → TellsNext it (Some number) text.now (W.view world.old) (W.view world.new) result }
+    ensures last { fails_world result ≡ true → W.failed world.new }
+{
+    let status = Status::SchemaRefused;
+    match refused_line(alloc, unread) {
+        Ok(line) => put_reply(world, &Reply { line, status }),
+        Err(_) => Status::Memory,
+    }
+}
+
+/// Tells of a text over an opened store.
+pub(crate) fn tell_text<W: World>(
+    alloc: Global,
+    world: &mut W,
+    store: &Store,
+    text: &[u8],
+) -> Status
+    ensures answer { TellsNext (saved_in store.now) store.now.journal.next text.now (W.view world.old) (W.view world.new) result }
+    ensures last { fails_world result ≡ true → W.failed world.new }
+{
+    if !store.takes_schemas() {
+        return put_last(world, old_format_line(alloc), Status::StoreRefused);
+    }
+    match Schema::read(alloc, text) {
+        Ok(schema) => status_at(tell_stored(alloc, world, store, &schema)),
+        Err(unread) => refuse(alloc, world, unread, text),
+    }
+}

@@ -1,0 +1,9 @@
+pub mod Causes
+pub mod Explaining
+pub mod Lines
+pub mod Right
+pub mod Rule
+pub mod Spec
+pub mod State
+pub mod Telling
+pub mod Told
