@@ -4,14 +4,19 @@ use Rattle.pgs_answer.specs.Lines.{words_refused_line}
 use Rattle.pgs_command.specs.Spec.{CommandSpec}
 use Rattle.pgs_command.specs.Words.{refused_words}
 use Rattle.pgs_run_check.specs.declared.command.CheckCommand.{CheckCommand}
-use Rattle.pgs_run_check.specs.declared.command.CheckCommand.TheVariants.{Schema, Evolve}
+use Rattle.pgs_run_check.specs.declared.command.CheckCommand.TheVariants.{Schema, Try, Evolve, EvolveStore, Apply}
 use Rattle.pgs_run_check.specs.Words.{command_of}
 use Rattle.pgs_run_check_evolve.specs.Spec.{check_evolve_spec}
+use Rattle.pgs_run_check_evolve.specs.StoreSpec.{check_evolve_store_spec}
 use Rattle.pgs_run_check_schema.specs.Spec.{schema_spec}
+use Rattle.pgs_run_check_try.specs.Spec.{check_apply_spec, check_try_spec}
 
 abbrev pub spec_of : CheckCommand → CommandSpec
 spec_of Schema = schema_spec
+spec_of Try = check_try_spec
 spec_of Evolve = check_evolve_spec
+spec_of EvolveStore = check_evolve_store_spec
+spec_of Apply = check_apply_spec
 
 abbrev pub spec_named : Option CheckCommand → CommandSpec
 spec_named None = refused_words words_refused_line

@@ -3,15 +3,15 @@ use Rattle.std.specs.Prelude.{ℕ, List, [], ◌∷◌, Option, None, codes, opt
 use Rattle.pgs_run_words.specs.Further.{is_plain}
 use Rattle.pgs_run_words.specs.Words.{found_in}
 use Rattle.pgs_run_check.specs.declared.command.CheckCommand.{CheckCommand}
-use Rattle.pgs_run_check.specs.declared.command.CheckCommand.TheVariants.{Schema, Evolve}
+use Rattle.pgs_run_check.specs.declared.command.CheckCommand.TheVariants.{Schema, Try, Evolve, EvolveStore, Apply}
 
 -- the commands of one word
 unfoldable pub lone_words : List (List ℕ × CheckCommand)
-lone_words = (codes "schema", Schema) ∷ (codes "evolve", Evolve) ∷ []
+lone_words = (codes "schema", Schema) ∷ (codes "try", Try) ∷ (codes "evolve", Evolve) ∷ []
 
 -- the commands of a word and the name of a store
 unfoldable pub store_words : List (List ℕ × CheckCommand)
-store_words = []
+store_words = (codes "evolve", EvolveStore) ∷ (codes "apply", Apply) ∷ []
 
 -- the command of the words; other words are refused
 abbrev pub command_of : List (List ℕ) → Option CheckCommand

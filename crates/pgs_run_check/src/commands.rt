@@ -9,8 +9,9 @@ ghost use Rattle.pgs_run_lines.specs.declared.budget.TheConstants.{BUDGET};
 
 use crate::CheckCommand;
 use pgs_command::Status;
-use pgs_run_check_evolve::run_check_evolve;
+use pgs_run_check_evolve::{run_check_evolve, run_check_evolve_store};
 use pgs_run_check_schema::run_check_schema;
+use pgs_run_check_try::{run_check_apply, run_check_try};
 use pgs_run_lines::BUDGET;
 use pgs_world::{Source, World};
 use std::alloc::Global;
@@ -32,6 +33,9 @@ pub fn run_command<S: Source, W: World>(
 {
     match command {
         CheckCommand::Schema => run_check_schema(alloc, source, world, budget),
+        CheckCommand::Try => run_check_try(alloc, source, world, budget),
         CheckCommand::Evolve => run_check_evolve(alloc, source, world, budget),
+        CheckCommand::EvolveStore => run_check_evolve_store(alloc, source, world, budget),
+        CheckCommand::Apply => run_check_apply(alloc, source, world, budget),
     }
 }

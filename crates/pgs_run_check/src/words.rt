@@ -10,11 +10,15 @@ use pgs_run_words::{found_in, is_plain};
 /// The commands of one word.
 const LONE_WORDS: &[(&str, CheckCommand)] = &[
     ("schema", CheckCommand::Schema),
+    ("try", CheckCommand::Try),
     ("evolve", CheckCommand::Evolve),
 ];
 
 /// The commands of a word and the name of a store.
-const STORE_WORDS: &[(&str, CheckCommand)] = &[];
+const STORE_WORDS: &[(&str, CheckCommand)] = &[
+    ("evolve", CheckCommand::EvolveStore),
+    ("apply", CheckCommand::Apply),
+];
 
 // The command of one word.
 #[tactic(auto, unfolding(crate::specs::Words::lone_words))]
