@@ -1,11 +1,14 @@
 #!/usr/bin/env bash
 # Runs pgcheck on each example below check/, by the word in word.txt or else `schema`, and compares what it prints with output.txt and its status with status.txt; then what it says of
-# other words and of closed streams. Ends with 1 where one differs.
-# Usage: examples/check.sh, with PGCHECK=EXECUTABLE to try another one than `pgcheck` runs
+# other words and of closed streams. Where an example has a folder stored/, pgguard makes a store of its schema.txt and lines.txt, whose name is pgcheck's second word, and whose files
+# have to stay as they are. Ends with 1 where one differs.
+# Usage: examples/check.sh, with PGCHECK=EXECUTABLE and PGGUARD=EXECUTABLE to try others than `pgcheck` and `pgguard` run
 set -u
 here=$(cd "$(dirname "$(readlink -f "${BASH_SOURCE[0]}")")" && pwd)
 program=${PGCHECK:-$("$here/../tools/run" --path pgcheck)} || exit 1
 program=$(readlink -f "$program")
+guard=${PGGUARD:-$("$here/../tools/run" --path pgguard)} || exit 1
+guard=$(readlink -f "$guard")
 work=$(mktemp -d) || exit 1
 trap 'rm -rf "$work"' EXIT
 different=0
@@ -21,14 +24,35 @@ ended() {
   fi
 }
 
+# Makes a store of an example: store FOLDER NAME
+store() {
+  "$guard" load "$2" <"$1/schema.txt" >"$work/made" && "$guard" apply "$2" <"$1/lines.txt" >>"$work/made"
+}
+
 for example in "$here"/check/*/; do
   name=check/$(basename "$example")
   status=$(<"$example/status.txt")
-  word=schema
-  [ -e "$example/word.txt" ] && word=$(<"$example/word.txt")
-  "$program" "$word" <"$example/input.txt" >"$work/found"
+  words=(schema)
+  [ -e "$example/word.txt" ] && words=("$(<"$example/word.txt")")
+  if [ -d "$example/stored" ]; then
+    words+=("$work/stored")
+    rm -f "$work"/stored.*
+    store "$example/stored" "$work/stored" || different=1
+    sum=$(cksum "$work"/stored.*)
+  fi
+  "$program" "${words[@]}" <"$example/input.txt" >"$work/found"
   ended "$name" "$status" "$example/output.txt"
+  if [ -d "$example/stored" ] && [ "$sum" != "$(cksum "$work"/stored.*)" ]; then
+    echo "$name: the store was changed"
+    different=1
+  fi
 done
+
+printf 'store refused 30 no store\n' >"$work/none"
+"$program" apply "$work/absent" <"$here/check/apply_dry_run/input.txt" >"$work/found"
+ended "apply without a store" 4 "$work/none"
+"$program" evolve "$work/absent" <"$here/check/evolve_store_safe/input.txt" >"$work/found"
+ended "evolve without a store" 4 "$work/none"
 
 printf 'words refused 35\n' >"$work/words"
 "$program" </dev/null >"$work/found" 2>/dev/null
