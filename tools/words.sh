@@ -15,7 +15,8 @@ words_fit() {
     esac
   done
   case "$1 ${2-} $#" in
-    "pgguard try 2" | "pgguard validate 2" | "pgguard contain 2" | "pgsession run 2" | "pgfollow follow 2" | "pgcheck schema 2") ;;
+    "pgguard try 2" | "pgguard validate 2" | "pgguard contain 2" | "pgsession run 2" | "pgfollow follow 2" | "pgcheck schema 2" | "pgcheck try 2" | "pgcheck evolve 2") ;;
+    "pgcheck evolve 3" | "pgcheck apply 3") ;;
     "pgguard load 3" | "pgguard recover 3" | "pgguard checkpoint 3" | "pgguard evolve 3") ;;
     "pgguard apply 2") return 1 ;;
     "pgguard apply "*) ;;

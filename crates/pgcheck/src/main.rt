@@ -38,8 +38,11 @@ impl Program<HostRuntime> for Checker {
     const NAME: &'static str = "pgcheck";
 
     const USAGE: &'static str = "usage:
-  pgcheck schema < TEXT       reads a schema text to its end, and prints what its guard asks and what in it does nothing
-  pgcheck evolve < SCHEMAS    reads two schema texts, a line --- between them, and prints what the second one changes, and whether it is safe
+  pgcheck schema < TEXT           reads a schema text to its end, and prints what its guard asks and what in it does nothing
+  pgcheck try < INPUT             decides lines of transactions behind a schema and a line ---, and explains each refusal; stores nothing
+  pgcheck evolve < SCHEMAS        reads two schema texts, a line --- between them, and prints what the second one changes, and whether it is safe
+  pgcheck evolve NAME < SCHEMA    prints what a schema changes for the store NAME, and what in its graph it doesn't allow; changes nothing
+  pgcheck apply NAME < LINES      decides lines on the store NAME, and explains each refusal; changes nothing
 docs/GUIDE.md teaches it, docs/FORMATS.md has every printed text
 ";
 
