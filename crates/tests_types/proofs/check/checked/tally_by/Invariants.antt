@@ -1,5 +1,0 @@
-use Rattle.tests_types.specs.Kept.{IsKept}
-use Rattle.tests_types.proofs.check.checked.tally_by.Given as goal
-
-abbrev pub invariant-loop-number : goal.invariant-loop-number
-invariant-loop-number g l = IsKept l.schema.resolved l.tables.graph l.index

@@ -1,4 +1,0 @@
-use Rattle.tests_types.proofs.shapes.drawn.+put_spec.Given as goal
-
-abbrev pub decreases-put_spec : goal.decreases-put_spec
-decreases-put_spec l = l.levels
