@@ -1,5 +1,5 @@
 -- Places as occurrences of variables, a place at a time.
-use Rattle.std.proofs.Common.{◌≡◌, ℕ, zero, suc, ◌+◌, ◌<◌, ◌≤◌, Bool, true, List, [], ◌∷◌, ◌++◌, length, map, take, get_or, Option, Some, None, refl, sym, ◌∙◌, ap, arith, append_assoc}
+use Rattle.std.proofs.Common.{◌≡◌, ℕ, zero, suc, ◌+◌, ◌-◌, ◌<◌, ◌≤◌, Bool, true, cond, List, [], ◌∷◌, ◌++◌, length, map, take, get_or, Option, Some, None, refl, sym, ◌∙◌, ap, arith, append_assoc}
 use Rattle.std.specs.List.{flat_map, enumerate_from, list_all, slice_get, position}
 use Rattle.std.specs.Option.{option_map, option_map_or, unwrap_or}
 use Rattle.std.proofs.lemmas.Bool.{and_parts}
@@ -8,19 +8,24 @@ use Rattle.std.proofs.lemmas.List.FromFn.{length-enumerate_from, get_or-enumerat
 use Rattle.std.proofs.lemmas.Option.{slice_get_past, slice_get-map}
 use Rattle.pgs_resolve_keys.specs.declared.places.PlaceRef.{PlaceRef}
 use Rattle.pgs_syntax.specs.declared.key.Key.{Key}
+use Rattle.pgs_syntax.specs.declared.key.Qualifiers.{Qualifiers}
 use Rattle.pgs_syntax.specs.declared.pattern.Atom.{Atom}
 use Rattle.pgs_syntax.specs.declared.pattern.Expr.{Expr}
+use Rattle.pgs_syntax.specs.declared.pattern.Expr.TheVariants.{Element}
+use Rattle.pgs_syntax.specs.declared.pattern.Pattern.{Pattern}
 use Rattle.pgs_syntax.specs.declared.raw.RawKey.{RawKey}
 use Rattle.pgs_syntax.specs.declared.raw.RawPath.{RawPath}
 use Rattle.pgs_syntax.specs.declared.raw.RawStep.{RawStep}
 use Rattle.pgs_resolve_declared.specs.declared.order.Numbering.{Numbering}
 use Rattle.pgs_resolve_keys.specs.KeyFaults.{within_of}
-use Rattle.pgs_resolve_keys.specs.Patterns.{Place, Variable, x_of, places_of, variable_at, variables_at, place_atoms, resolved_key}
+use Rattle.pgs_resolve_keys.specs.Patterns.{Place, Variable, x_of, places_of, variable_at, variables_at, place_atoms, ends, resolved_key}
 use Rattle.pgs_resolve_keys.specs.Placed.{placed}
 use Rattle.pgs_resolve_declared.proofs.Walks.{one_more, more_of}
 use Rattle.pgs_key_causes.specs.declared.walk.Occurrence.{Occurrence}
-use Rattle.pgs_key_causes.specs.Walk.{var_at}
-use Rattle.pgs_key_causes.specs.Fronts.{Descriptor, occurrence_of, occurrences_by, occurrences_of, directions_of, descriptor_of, written_atoms, new_number, has_valid_keys, expr_front, expr_fronts}
+use Rattle.pgs_key_causes.specs.Walk.{var_at, is_edge_at}
+use Rattle.pgs_key_causes.specs.Reading.{is_forward}
+use Rattle.pgs_key_causes.specs.declared.walk.Visit.{Visit}
+use Rattle.pgs_key_causes.specs.Fronts.{Descriptor, occurrence_of, occurrences_by, occurrences_of, directions_of, descriptor_of, written_atoms, ends_atoms, new_number, vars_of, visited_pattern, visit_key, has_valid_keys, expr_front, expr_fronts}
 use Rattle.pgs_key_causes.proofs.Sound.{at-append}
 
 pub one_more_place : (held : List (Variable × Bool)) (xs : List PlaceRef) (i : ℕ) (x : PlaceRef) (old new : List Occurrence) (own : Occurrence) → i < length xs → x ≡ get_or xs i x →
@@ -132,3 +137,28 @@ descriptor_made numbering key x resolved places occurrences directions edge_vars
     ∙ ap (λ ds. descriptor_by (places_of paths) (occurrences_of (unwrap_or (x_of key) []) paths) ds edge_vars) directions_are
     ∙ ap (descriptor_by (places_of paths) (occurrences_of (unwrap_or (x_of key) []) paths) (directions_of paths))
     (edge_vars_are ∙ ap (λ (k : Key). k.descriptor.edge_vars) same)
+
+-- the ends of an edge place
+pub edge_ends : (descriptor : Descriptor) (vars : List ℕ) (n : ℕ) (forward : Bool) (edge node next : ℕ) → is_edge_at descriptor.occurrences n ≡ true →
+    forward ≡ is_forward descriptor.directions n → edge ≡ new_number vars (var_at descriptor.occurrences n) →
+    node ≡ new_number vars (var_at descriptor.occurrences (n - 1)) → next ≡ new_number vars (var_at descriptor.occurrences (n + 1)) →
+    ends forward edge node next ∷ [] ≡ ends_atoms descriptor vars n
+edge_ends descriptor vars n forward edge node next is_edge forward_is edge_is node_is next_is =
+    let number : ℕ → ℕ = λ m. new_number vars (var_at descriptor.occurrences m) in
+    let leads : Bool = is_forward descriptor.directions n in
+    ap (λ f. ends f edge node next ∷ []) forward_is ∙ ap (λ e. ends leads e node next ∷ []) edge_is
+    ∙ ap (λ m. ends leads (number n) m next ∷ []) node_is ∙ ap (λ m. ends leads (number n) (number (n - 1)) m ∷ []) next_is
+    ∙ ap (λ b. cond b (ends leads (number n) (number (n - 1)) (number (n + 1)) ∷ []) []) (sym is_edge)
+
+-- the key of a visit, of what was made for it
+abbrev key_by : Qualifiers → Pattern → Pattern → List Expr → Key
+key_by qualifiers scope descriptor exprs = record { qualifiers = qualifiers; scope = scope; descriptor = descriptor; exprs = exprs }
+
+pub key_made : (numbering : Numbering) (descriptor : Descriptor) (qualifiers : Qualifiers) (visits : List Visit) (n : ℕ) (visit : Visit) (upto before : Pattern)
+    (exprs : List Expr) → upto ≡ visited_pattern numbering descriptor (take (n + 1) visits) → before ≡ visited_pattern numbering descriptor (take n visits) →
+    exprs ≡ Element (new_number (vars_of descriptor.occurrences (take n visits)) (var_at descriptor.occurrences visit.from)) ∷ [] →
+    key_by qualifiers upto before exprs ≡ visit_key numbering descriptor qualifiers visits (n, visit)
+key_made numbering descriptor qualifiers visits n visit upto before exprs upto_is before_is exprs_are =
+    ap (λ p. key_by qualifiers p before exprs) upto_is
+    ∙ ap (λ p. key_by qualifiers (visited_pattern numbering descriptor (take (n + 1) visits)) p exprs) before_is
+    ∙ ap (key_by qualifiers (visited_pattern numbering descriptor (take (n + 1) visits)) (visited_pattern numbering descriptor (take n visits))) exprs_are
