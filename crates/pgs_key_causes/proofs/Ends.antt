@@ -1,7 +1,7 @@
 -- Causes at the places of the code where they come to be known.
 use Rattle.std.proofs.Common.{◌≡◌, ℕ, zero, suc, Bool, true, List, [], ◌∷◌, map, Option, Some, None, refl, sym, ◌∙◌, ap, subst}
 use Rattle.std.specs.List.{list_all, slice_get}
-use Rattle.std.specs.Option.{option_and_then}
+use Rattle.std.specs.Option.{option_and_then, option_map_or}
 use Rattle.std.proofs.lemmas.Bool.{and_parts}
 use Rattle.pgs_base.specs.declared.element.Elem.{Elem}
 use Rattle.pgs_base.specs.Graph.{Graph}
@@ -15,11 +15,11 @@ use Rattle.pgs_resolve_keys.specs.Patterns.{x_of, resolved_key}
 use Rattle.pgs_schema_places.specs.declared.parts.PartTexts.{PartTexts}
 use Rattle.pgs_pattern_end.specs.declared.front.Front.{Front}
 use Rattle.pgs_pattern_end.specs.declared.front.PatternEnd.{PatternEnd}
-use Rattle.pgs_pattern_end.specs.End.{is_front_of, is_placed, least_before, IsEnd}
+use Rattle.pgs_pattern_end.specs.End.{is_front_of, is_placed, is_defined, least_before, IsEnd}
 use Rattle.pgs_key_causes.specs.declared.guide.KeyGuide.{KeyGuide}
 use Rattle.pgs_key_causes.specs.declared.walk.Visit.{Visit}
-use Rattle.pgs_key_causes.specs.Causes.{written_keys, GuidesTo, place_end_texts, AreExprTexts, AreEndTexts, AreEndsFrom, key_place, AreEndsOf, AreEnds}
-use Rattle.pgs_key_causes.specs.Fronts.{Descriptor, descriptor_of, fronts_of, place_fronts, has_valid_keys}
+use Rattle.pgs_key_causes.specs.Causes.{written_keys, GuidesTo, place_end_texts, expr_end_texts, AreExprTexts, AreEndTexts, AreEndsFrom, key_place, AreEndsOf, AreEnds}
+use Rattle.pgs_key_causes.specs.Fronts.{Descriptor, descriptor_of, fronts_of, place_fronts, expr_fronts, has_valid_keys}
 use Rattle.pgs_key_causes.specs.Walk.{walk}
 use Rattle.pgs_key_causes.proofs.ValidFronts.{places_valid, have_valid_keys}
 
@@ -56,14 +56,25 @@ module _ (numbering : Numbering) (key : RawKey) (descriptor : Descriptor) (quali
       told ∙ ap (λ (d : Descriptor). place_end_texts parts.places d end) made.descriptor_is,
     )
 
-    pub behind_places : (resolved : Key) → resolved ≡ resolved_key numbering key →
-        IsEnd (is_placed schema g elem) (least_before schema g elem) fronts None → AreExprTexts schema g elem resolved parts.exprs texts →
+    pub behind_places : (resolved : Key) (exprs : List (List ℕ)) → resolved ≡ resolved_key numbering key → exprs ≡ parts.exprs →
+        IsEnd (is_placed schema g elem) (least_before schema g elem) fronts None → AreExprTexts schema g elem resolved exprs texts →
         AreEndTexts schema g elem numbering key parts texts
-    behind_places resolved same ended told = (
+    behind_places resolved exprs same exprs_are ended told = (
       None,
       subst (λ (fronts : List Front). IsEnd (is_placed schema g elem) (least_before schema g elem) fronts None) (is ∙ same_parts) ended,
-      subst (λ (k : Key). AreExprTexts schema g elem k parts.exprs texts) same told,
+      subst (λ (k : Key). AreExprTexts schema g elem k parts.exprs texts) same (subst (λ (es : List (List ℕ)). AreExprTexts schema g elem resolved es texts) exprs_are told),
     )
+
+-- where the expressions end, and where they don't
+pub at_expr : (schema : Resolved) (g : Graph) (elem : Elem) (key : Key) (exprs : List (List ℕ)) (fronts : List Front) → fronts ≡ expr_fronts key →
+    (found end : Option PatternEnd) → found ≡ end → IsEnd (is_defined schema g elem) (least_before schema g elem) fronts found →
+    (texts : List (List ℕ)) → texts ≡ option_map_or (expr_end_texts exprs) end [] → AreExprTexts schema g elem key exprs texts
+at_expr schema g elem key exprs fronts is found end same ended texts told = (
+  end,
+  subst (λ (o : Option PatternEnd). IsEnd (is_defined schema g elem) (least_before schema g elem) (expr_fronts key) o) same
+  (subst (λ (fs : List Front). IsEnd (is_defined schema g elem) (least_before schema g elem) fs found) is ended),
+  told,
+)
 
 -- ---- the key of a number
 
