@@ -1,9 +1,10 @@
-use Rattle.std.proofs.Common.{◌≡◌, Option, Some, None, List, subst, sym, ◌∙◌, ap}
+use Rattle.std.proofs.Common.{◌≡◌, ℕ, Option, Some, None, List, subst, sym, ◌∙◌, ap}
 use Rattle.std.proofs.lemmas.Result.{IfOk-weaker}
 use Rattle.pgs_syntax.specs.declared.key.Key.{Key}
 use Rattle.pgs_syntax.specs.Valid.{is_valid_key_of}
 use Rattle.pgs_pattern_end.specs.declared.front.PatternEnd.{PatternEnd}
 use Rattle.pgs_pattern_end.specs.End.{is_placed, least_before, IsEnd}
+use Rattle.pgs_key_causes.specs.Causes.{place_end_texts}
 use Rattle.pgs_key_causes.specs.Fronts.{Descriptor}
 use Rattle.pgs_key_causes.specs.Walk.{walk}
 use Rattle.pgs_key_causes.proofs.Ends.{AreMade, parts_valid, parts_of_schema, at_place, behind_places}
@@ -43,7 +44,8 @@ returns-in-Some-clause-texts g c =
     c.in_ok-end.ensures.end in
     IfOk-weaker c.place_end_texts.result _ _
     (λ told e. at_place c.args.resolving.now.numbering.now c.args.resolving.now.key.now c.in_ok-written.written c.in_ok-key.key.qualifiers c.deref-2.result.now made
-    schema graph c.args.elem c.args.parts.now c.deref-3.result.now (c.deref-3.ensures.value ∙ c.in_ok-fronts.ensures) told.items c.in-Some.end ended ?)
+    schema graph c.args.elem c.args.parts.now c.deref-3.result.now (c.deref-3.ensures.value ∙ c.in_ok-fronts.ensures) told.items c.in-Some.end ended
+    (e ∙ ap (λ (texts : List (List ℕ)). place_end_texts texts c.in_ok-written.written c.in-Some.end) c.as_slice.ensures))
     c.place_end_texts.ensures
 
 pub expr_texts-requires-clause-valid : goal.expr_texts-requires-clause-valid
@@ -64,5 +66,5 @@ returns-clause-texts g c =
     IfOk-weaker c.expr_texts.result _ _
     (λ told e. behind_places c.args.resolving.now.numbering.now c.args.resolving.now.key.now c.in_ok-written.written c.in_ok-key.key.qualifiers c.deref-2.result.now
     made schema graph c.args.elem c.args.parts.now c.deref-3.result.now (c.deref-3.ensures.value ∙ c.in_ok-fronts.ensures) told.items c.in_ok-key.key
-    c.as_slice.result.now c.in_ok-key.ensures c.as_slice.ensures ended e)
+    c.as_slice-in-None.result.now c.in_ok-key.ensures c.as_slice-in-None.ensures ended e)
     c.expr_texts.ensures.texts

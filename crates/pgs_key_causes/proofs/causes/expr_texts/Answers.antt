@@ -30,4 +30,4 @@ returns-in-Some-clause-texts g c =
 pub returns-clause-texts : goal.returns-clause-texts
 returns-clause-texts g c =
     at_expr c.args.compiled.now (g.G.GraphRead.meaning c.args.graph.now) c.args.elem c.args.resolved.now c.args.texts.now c.deref.result.now
-    (c.deref.ensures.value ∙ c.in_ok-fronts.ensures) c.in_ok-end.field-0 None c.in-None.is c.in_ok-end.ensures.end ? ?
+    (c.deref.ensures.value ∙ c.in_ok-fronts.ensures) c.in_ok-end.field-0 None c.in-None.is c.in_ok-end.ensures.end c.new.result.items c.new.ensures.items
