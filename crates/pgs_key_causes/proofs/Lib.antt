@@ -1,4 +1,5 @@
 pub mod Covering
+pub mod Ends
 pub mod Linking
 pub mod Places
 pub mod Sound

@@ -15,7 +15,7 @@ use Rattle.pgs_resolve_keys.specs.Patterns.{resolved_key}
 use Rattle.pgs_pattern_end.specs.declared.front.Front.{Front}
 use Rattle.pgs_pattern_end.specs.End.{is_front_of}
 use Rattle.pgs_key_causes.specs.declared.walk.Visit.{Visit}
-use Rattle.pgs_key_causes.specs.Fronts.{Descriptor, descriptor_of, vars_of, new_number, visited_pattern, visit_key, visit_front, fronts_of, place_fronts, with_exprs, expr_front, expr_fronts}
+use Rattle.pgs_key_causes.specs.Fronts.{Descriptor, descriptor_of, vars_of, new_number, visited_pattern, visit_key, visit_front, fronts_of, place_fronts, has_valid_keys, with_exprs, expr_front, expr_fronts}
 use Rattle.pgs_key_causes.specs.Walk.{var_at, walk}
 use Rattle.pgs_key_causes.proofs.Linking.{pattern_valid, all_named, first_kind}
 use Rattle.pgs_key_causes.proofs.Sound.{IsSound, written_sound}
@@ -77,6 +77,18 @@ places_valid schema numbering key valid =
     let descriptor = descriptor_of numbering key in
     fronts_valid schema numbering descriptor (written_sound schema numbering key valid) key.qualifiers (walk descriptor.occurrences)
     (walk_walked descriptor.occurrences)
+
+-- ---- of a schema, and valid
+
+key_valid : (schema : Resolved) (key : Key) → is_valid_key_of schema key ≡ true → is_valid_key key ≡ true
+key_valid schema key h = (and_parts _ _ (and_parts _ _ h).0).0
+
+pub have_valid_keys : (schema : Resolved) (fronts : List Front) → list_all (is_front_of schema) fronts ≡ true → list_all has_valid_keys fronts ≡ true
+have_valid_keys schema [] h = refl
+have_valid_keys schema (front ∷ fronts) h =
+    let both = and_parts (is_front_of schema front) (list_all (is_front_of schema) fronts) h in
+    let keys = and_parts (is_valid_key_of schema front.upto) (is_valid_key_of schema front.before) both.0 in
+    and_from _ _ (and_from _ _ (key_valid schema front.upto keys.0) (key_valid schema front.before keys.1)) (have_valid_keys schema fronts both.1)
 
 -- ---- expressions
 

@@ -218,10 +218,15 @@ impl KeyGuide<'_> {
         ensures texts { IfOk result (λ told. AreEnds compiled.now (G.meaning graph.now) self.now number elem told.items) }
         ensures no_step_back { steps.old ≤ steps.new }
     {
+        // The schema's clause says that its keys are valid.
+        let _facts = compiled.resolved();
         let Some(place) = key_place(number) else {
             return Ok(Vec::new(alloc));
         };
-        let (Some(key), Some(parts)) = (self.keys.get(place), self.parts.at(place)) else {
+        let Some(key) = self.keys.get(place) else {
+            return Ok(Vec::new(alloc));
+        };
+        let Some(parts) = self.parts.at(place) else {
             return Ok(Vec::new(alloc));
         };
         self.ends_of(alloc, graph, compiled, key, parts, elem, steps)

@@ -102,8 +102,9 @@ impl Resolving<'_> {
         requires valid { list_all has_valid_keys (expr_fronts resolved.now) ≡ true }
         ensures { IfOk result (λ fronts. fronts.items ≡ expr_fronts resolved.now) }
     {
-        let mut fronts = Vec::new(alloc);
-        for (number, expr) in resolved.exprs.as_slice().iter().enumerate() {
+        let exprs = resolved.exprs.as_slice();
+        let mut fronts = Vec::with_capacity(alloc, exprs.len())?;
+        for (number, expr) in exprs.iter().enumerate() {
             fronts.push(self.expr_front(alloc, number, expr)?)?;
         }
         Ok(fronts)

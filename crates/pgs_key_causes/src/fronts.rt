@@ -2,10 +2,10 @@
 
 ghost use Rattle.std.specs.Prelude.{◌≡◌, ◌==◌, ◌<◌, ◌++◌, ◌∷◌, [], true, map, flat_map, length, slice_index_or, IfOk, OnOk};
 ghost use Rattle.std.specs.List.{list_any, list_all, fold, position};
-ghost use Rattle.pgs_syntax.specs.Valid.{is_edge_var};
+ghost use Rattle.pgs_syntax.specs.Valid.{is_edge_var, is_valid_key};
 ghost use Rattle.pgs_syntax.specs.declared.pattern.Expr.TheVariants.{Element};
 ghost use Rattle.pgs_key_causes.specs.declared.walk.Visit.{Visit as Visited};
-ghost use Rattle.pgs_key_causes.specs.Fronts.{vars_of_visit, with_var, vars_of, new_number, written_atoms, ends_atoms, visit_atoms, visited_pattern, visit_key, fronts_of, has_valid_keys};
+ghost use Rattle.pgs_key_causes.specs.Fronts.{vars_of_visit, with_var, vars_of, new_number, written_atoms, ends_atoms, visit_atoms, visited_pattern, visit_key, visit_front, fronts_of, has_valid_keys};
 ghost use Rattle.pgs_key_causes.specs.Walk.{var_at};
 
 use crate::Visit;
@@ -49,6 +49,16 @@ fn new_number(vars: &[u32], var: u32) -> Result<u32, Memory>
         Some(place) => next_number(place),
         None => Ok(0),
     }
+}
+
+// A part with one key for what is up to it and what is before it.
+fn front_of(alloc: Global, key: &Key) -> Result<Front, Memory>
+    requires { is_valid_key key.now ≡ true }
+    ensures { IfOk result (λ front. front ≡ record { upto = key.now; before = key.now }) }
+{
+    let upto = plan_key(alloc, key)?;
+    let before = plan_key(alloc, key)?;
+    Ok(Front { upto, before })
 }
 
 impl Written<'_> {
@@ -236,6 +246,24 @@ impl Written<'_> {
         })
     }
 
+    // The part of the visit of a number.
+    fn visit_front(
+        &self,
+        alloc: Global,
+        numbering: &Numbering,
+        qualifiers: Qualifiers,
+        visits: &[Visit],
+        number: usize,
+    ) -> Result<Front, Memory>
+        requires within { number < length visits.now }
+        requires valid { list_all has_valid_keys (fronts_of numbering.now self.now qualifiers visits.now) ≡ true }
+        ensures { (d : Visited) → IfOk result (λ front.
+            front ≡ visit_front numbering.now self.now qualifiers visits.now (number, slice_index_or visits.now number d)) }
+    {
+        let key = self.visit_key(alloc, numbering, qualifiers, visits, number)?;
+        front_of(alloc, &key)
+    }
+
     /// The parts of visits, each as what is up to it and what is before it. Their keys are valid.
     pub(crate) fn fronts_of(
         &self,
@@ -249,10 +277,7 @@ impl Written<'_> {
     {
         let mut fronts = Vec::with_capacity(alloc, visits.len())?;
         for number in 0..visits.len() {
-            let key = self.visit_key(alloc, numbering, qualifiers, visits, number)?;
-            let upto = plan_key(alloc, &key)?;
-            let before = plan_key(alloc, &key)?;
-            fronts.push(Front { upto, before })?;
+            fronts.push(self.visit_front(alloc, numbering, qualifiers, visits, number)?)?;
         }
         Ok(fronts)
     }

@@ -1,6 +1,6 @@
 //! How a visit of a walk is read from where the walk comes.
 
-ghost use Rattle.std.specs.Prelude.{◌≡◌, IfOk, OnOk, ◌++◌};
+ghost use Rattle.std.specs.Prelude.{◌≡◌, ◌+◌, IfOk, OnOk, ◌++◌};
 ghost use Rattle.pgs_key_causes.specs.Reading.{arrow, is_forward, text_at, ahead, back, edge_reading, node_reading, reading};
 
 use crate::Visit;

@@ -1,4 +1,4 @@
-use Rattle.std.proofs.Common.{sym, arith}
+use Rattle.std.proofs.Common.{◌+◌, sym, arith}
 use Rattle.pgs_key_causes.specs.declared.walk.Occurrence.{Occurrence}
 use Rattle.pgs_key_causes.proofs.Places.{past}
 use Rattle.pgs_key_causes.proofs.walk.var_behind.Goals as goal

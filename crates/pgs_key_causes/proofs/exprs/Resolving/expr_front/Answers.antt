@@ -3,18 +3,22 @@ use Rattle.std.proofs.lemmas.Bool.{and_parts}
 use Rattle.pgs_syntax.specs.declared.key.Key.{Key}
 use Rattle.pgs_syntax.specs.declared.pattern.Expr.TheVariants.{Element}
 use Rattle.pgs_syntax.specs.Valid.{is_valid_key}
-use Rattle.pgs_key_causes.specs.Fronts.{with_exprs}
+use Rattle.pgs_resolve_keys.specs.Patterns.{resolved_key}
+use Rattle.pgs_key_causes.specs.Fronts.{with_exprs, expr_front}
 use Rattle.pgs_key_causes.proofs.exprs.Resolving.expr_front.Goals as goal
 
 pub overflow_add-number : goal.overflow_add-number
-overflow_add-number c = c.requires.low
+overflow_add-number c = omega arith
 
 pub plan_key-requires : goal.plan_key-requires
 plan_key-requires c =
+    let front = expr_front (resolved_key c.args.self.now.numbering.now c.args.self.now.key.now) (c.args.number, c.args.expr.now) in
     ap is_valid_key (c.with_first-upto.ensures ∙ ap (λ (key : Key). with_exprs key (take (c.args.number + 1) key.exprs)) c.in_ok-key.ensures)
-    ∙ (and_parts _ _ c.requires.valid).0
+    ∙ (and_parts (is_valid_key front.upto) (is_valid_key front.before) c.requires.valid).0
 
 pub plan_key-requires-2 : goal.plan_key-requires-2
 plan_key-requires-2 c =
+    let key = resolved_key c.args.self.now.numbering.now c.args.self.now.key.now in
+    let front = expr_front key (c.args.number, c.args.expr.now) in
     ap is_valid_key (c.in_ok-before.ensures ∙ ap (λ (key : Key). with_exprs key (Element c.read_var.result ∷ take c.args.number key.exprs)) c.in_ok-key-2.ensures
-    ∙ ap (λ v. with_exprs _ (Element v ∷ _)) c.read_var.ensures) ∙ (and_parts _ _ c.requires.valid).1
+    ∙ ap (λ v. with_exprs key (Element v ∷ take c.args.number key.exprs)) c.read_var.ensures) ∙ (and_parts (is_valid_key front.upto) (is_valid_key front.before) c.requires.valid).1

@@ -1,4 +1,4 @@
-use Rattle.std.proofs.Common.{sym, [], arith}
+use Rattle.std.proofs.Common.{◌+◌, sym, [], arith}
 use Rattle.pgs_key_causes.proofs.Places.{none_past}
 use Rattle.pgs_key_causes.proofs.reading.Readings.text_behind.Goals as goal
 
