@@ -2,14 +2,16 @@
 use Rattle.std.proofs.Common.{◌≡◌, ℕ, List, Option, Some, None, MatchOption, sym, ◌∙◌}
 use Rattle.std.specs.Prelude.{IfSome, option_map}
 use Rattle.pgs_syntax.specs.declared.resolved.Resolved.{Resolved}
+use Rattle.pgs_syntax.specs.declared.resolved.TypeNo.{TypeNo}
 use Rattle.pgs_syntax.specs.declared.resolved.TypeNo.TheVariants as types
 use Rattle.pgs_conform.specs.declared.shape.Shape.{Shape}
 use Rattle.pgs_conform.specs.declared.shape.Triple.{Triple as ShapeTriple}
+use Rattle.pgs_contain.specs.declared.outside.Outside.{Outside}
 use Rattle.pgs_contain.specs.declared.outside.Outside.TheVariants.{Node}
 use Rattle.pgs_contain.specs.declared.outside.OwnedPair.{OwnedPair}
 use Rattle.pgs_contain.specs.declared.triples.OwnedTriple.{OwnedTriple}
 use Rattle.pgs_contain.specs.Contained.{pair_in, IsContained, IsOutside}
-use Rattle.pgs_contain.specs.Containing.{NodeAnswers, EdgeAnswers, outside_triple}
+use Rattle.pgs_contain.specs.Containing.{ContainingState, NodeAnswers, EdgeAnswers, outside_triple}
 use Rattle.pgs_contain.specs.Frames.{AreInOthers, IsOutOfOthers}
 use Rattle.pgs_contain.specs.Strange.{Names, AreShapesOf, AreTriplesOf, AreTypedShapes, AreTypedTriples, IsStrange}
 use Rattle.pgs_contain.specs.Threes.{owned_triple, AreInOtherTriples, IsOutOfOtherTriples}
@@ -59,3 +61,16 @@ module _ (avoid : Names) (first : Resolved) (number : ℕ) (second : Resolved) w
   pub edge_strange : (answer : Option OwnedTriple) → EdgeAnswers avoid first number second answer → IfSome (option_map outside_triple answer) (IsStrange avoid first (types.Edge number) second)
   edge_strange None h = tt
   edge_strange (Some found) h = h.1
+
+-- ---- of a value that is made once
+
+module _ (first : Resolved) (number : TypeNo) (place : ℕ) (state : ContainingState) where
+  pub of_node : (answer : Option OwnedPair) (result : Option Outside) → number ≡ types.Node place → result ≡ option_map Node answer → NodeAnswers state.avoid first place state.second answer →
+      MatchOption result (IsContained first number state.second) (IsOutside first number state.second) × IfSome result (IsStrange state.avoid first number state.second)
+  of_node answer result is same h =
+      rw (is, same) (node_told state.avoid first place state.second answer h, node_strange state.avoid first place state.second answer h)
+
+  pub of_edge : (answer : Option OwnedTriple) (result : Option Outside) → number ≡ types.Edge place → result ≡ option_map outside_triple answer → EdgeAnswers state.avoid first place state.second answer →
+      MatchOption result (IsContained first number state.second) (IsOutside first number state.second) × IfSome result (IsStrange state.avoid first number state.second)
+  of_edge answer result is same h =
+      rw (is, same) (edge_told state.avoid first place state.second answer h, edge_strange state.avoid first place state.second answer h)
