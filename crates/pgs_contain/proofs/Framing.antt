@@ -122,18 +122,10 @@ unnamed k keys h = by (lookup (same_name k) keys) (sym (has_found k keys) ∙ h)
 pub at_unnamed : (k : List ℕ) (keys : Keys) (more : Bool) → has_name k (keys_of keys) ≡ false → options_at keys more k ≡ free_options more
 at_unnamed k keys more h = ap (λ o. unwrap_or o (free_options more)) (unnamed k keys h)
 
--- all keys that are named are known
-known_key : (keys : Keys) (known : Names) → list_all (λ (key : List ℕ × Options). has_name key.0 known) keys ≡ true → (k : List ℕ) →
-    has_name k (keys_of keys) ≡ true → has_name k known ≡ true
-known_key keys known all k there = by (lookup (same_name k) keys) refl (sym (has_found k keys) ∙ there)
-  where
-    by : (o : Option Options) → lookup (same_name k) keys ≡ o → is_some o ≡ true → has_name k known ≡ true
-    by (Some x) is some = entries_found (λ (key : List ℕ × Options). has_name key.0 known) keys all k x is
-    by None is some = absurd (true≢false (sym some))
-
-new_key : (keys : Keys) (known : Names) (key : List ℕ) → list_all (λ (k : List ℕ × Options). has_name k.0 known) keys ≡ true → has_name key known ≡ false →
+-- a key that isn't known is named by none whose keys are
+new_key : (keys : Keys) (known : Names) (key : List ℕ) → ((k : List ℕ) → has_name k (keys_of keys) ≡ true → has_name k known ≡ true) → has_name key known ≡ false →
     has_name key (keys_of keys) ≡ false
-new_key keys known key all new = false_from (has_name key (keys_of keys)) (λ there. true≢false (sym (known_key keys known all key there) ∙ new))
+new_key keys known key all new = false_from (has_name key (keys_of keys)) (λ there. true≢false (sym (all key there) ∙ new))
 
 -- ---- a pair of the shape, whose point is in another
 
@@ -175,11 +167,11 @@ module _ (keys : Keys) (others : Keys) (more_others : Bool) (known : Names) (key
       let none : value_at k props ≡ None = closed_none (value_at k props) (ap (λ o. admits o (value_at k props)) (sym (at_unnamed k keys false e)) ∙ props_met keys false props met k) in
       ap (admits (options_at others more_others k)) none ∙ absent_at others more_others (keys_of keys) wanted k e
 
-  open_at : list_all (λ (k : List ℕ × Options). has_name k.0 known) others ≡ true → has_name key known ≡ false →
+  open_at : ((k : List ℕ) → has_name k (keys_of others) ≡ true → has_name k known ≡ true) → has_name key known ≡ false →
       in_region (map (options_at others more_others) (put_name known key)) (map (stands true key props) (put_name known key)) ≡ true →
       (k : List ℕ) (named : Bool) → has_name k (keys_of others) ≡ named → admits (options_at others more_others k) (value_at k props) ≡ true
   open_at all new there k true e =
-      let is_there = known_key others known all k e in
+      let is_there = all k e in
       let other = other_name k key known is_there new in
       ap (λ (b : Bool). admits (options_at others more_others k) (if b then Some (values.Text []) else value_at k props)) (sym other)
       ∙ all_in (options_at others more_others) (stands true key props) (put_name known key) there k (has_still k key known is_there)
@@ -198,14 +190,14 @@ module _ (keys : Keys) (others : Keys) (more_others : Bool) (known : Names) (key
 
 pub props_in : (more : Bool) (keys others : Keys) (more_others : Bool) (known : Names) (key : List ℕ) (props : Props) →
     ascends name_cmp (keys_of others) ≡ true → ascends name_cmp (keys_of props) ≡ true → props_meet keys more props ≡ true →
-    list_all (λ (k : List ℕ × Options). has_name k.0 known) others ≡ true → has_name key known ≡ false →
+    (more ≡ true → (k : List ℕ) → has_name k (keys_of others) ≡ true → has_name k known ≡ true) → has_name key known ≡ false →
     list_all (λ (k : List ℕ × Options). k.1.absent || has_name k.0 (frame_keys more keys known key)) others ≡ true →
     in_region (map (options_at others more_others) (frame_keys more keys known key)) (own_point more keys known key props) ≡ true →
     props_meet others more_others props ≡ true
 props_in false keys others more_others known key props up props_up met all new wanted there =
     props_meet_from others more_others props up props_up (λ k. closed_at keys others more_others known key props met wanted there k (has_name k (keys_of keys)) refl)
 props_in true keys others more_others known key props up props_up met all new wanted there =
-    props_meet_from others more_others props up props_up (λ k. open_at keys others more_others known key props all new there k (has_name k (keys_of others)) refl)
+    props_meet_from others more_others props up props_up (λ k. open_at keys others more_others known key props (all refl) new there k (has_name k (keys_of others)) refl)
 
 -- ---- a pair of the frame
 
@@ -224,24 +216,24 @@ module _ (keys : Keys) (known : Names) (key : List ℕ) (props : Props) where
   closed_own apart there k false e =
       ap (admits (options_at keys false k)) (apart k e) ∙ ap (λ o. admits o None) (at_unnamed k keys false e)
 
-  open_own : list_all (λ (k : List ℕ × Options). has_name k.0 known) keys ≡ true → has_name key known ≡ false →
+  open_own : ((k : List ℕ) → has_name k (keys_of keys) ≡ true → has_name k known ≡ true) → has_name key known ≡ false →
       in_region (map (frame_options true keys key) (put_name known key)) (frame_point (put_name known key) props) ≡ true →
       (k : List ℕ) (named : Bool) → has_name k (keys_of keys) ≡ named → admits (options_at keys true k) (value_at k props) ≡ true
   open_own all new there k true e =
-      let is_there = known_key keys known all k e in
+      let is_there = all k e in
       ap (λ (b : Bool). admits (if b then text_alone else options_at keys true k) (value_at k props)) (sym (other_name k key known is_there new))
       ∙ all_in (frame_options true keys key) (λ l. value_at l props) (put_name known key) there k (has_still k key known is_there)
   open_own all new there k false e = ap (λ o. admits o (value_at k props)) (at_unnamed k keys true e) ∙ free_all (value_at k props)
 
 pub props_own : (more : Bool) (keys : Keys) (known : Names) (key : List ℕ) (props : Props) → ascends name_cmp (keys_of keys) ≡ true →
-    ascends name_cmp (keys_of props) ≡ true → list_all (λ (k : List ℕ × Options). has_name k.0 known) keys ≡ true → has_name key known ≡ false →
+    ascends name_cmp (keys_of props) ≡ true → (more ≡ true → (k : List ℕ) → has_name k (keys_of keys) ≡ true → has_name k known ≡ true) → has_name key known ≡ false →
     AreAll (frame_keys more keys known key) props →
     in_region (map (frame_options more keys key) (frame_keys more keys known key)) (frame_point (frame_keys more keys known key) props) ≡ true →
     props_meet keys more props ≡ true
 props_own false keys known key props up props_up all new apart there =
     props_meet_from keys false props up props_up (λ k. closed_own keys known key props apart there k (has_name k (keys_of keys)) refl)
 props_own true keys known key props up props_up all new apart there =
-    props_meet_from keys true props up props_up (λ k. open_own keys known key props all new there k (has_name k (keys_of keys)) refl)
+    props_meet_from keys true props up props_up (λ k. open_own keys known key props (all refl) new there k (has_name k (keys_of keys)) refl)
 
 -- another shape that has the pair may have one of the frame, and has its point
 pub others_may : (ks : Names) (others : Keys) (more : Bool) (props : Props) → ascends name_cmp (keys_of others) ≡ true → AreAll ks props →

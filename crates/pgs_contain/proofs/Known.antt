@@ -1,20 +1,15 @@
--- Names that grow, and what they are known of.
-use Rattle.std.proofs.Common.{◌≡◌, ℕ, ◌+◌, ◌<◌, Bool, true, false, ◌||◌, List, [], ◌∷◌, ◌++◌, length, take, get_or, refl, sym, ◌∙◌, ap}
-use Rattle.std.specs.List.{list_all}
+-- Names that are put in one after another.
+use Rattle.std.proofs.Common.{◌≡◌, ℕ, ◌+◌, ◌<◌, Bool, true, false, ◌&&◌, ◌||◌, List, [], ◌∷◌, ◌++◌, length, take, get_or, refl, sym, ◌∙◌, ap}
+use Rattle.std.specs.List.{list_any}
 use Rattle.std.specs.Map.{keys_of}
 use Rattle.std.proofs.Math.Bool.{or-false}
-use Rattle.std.proofs.lemmas.Bool.{and_parts, and_from, or_left, or_right}
 use Rattle.std.proofs.lemmas.List.{take_more}
 use Rattle.std.proofs.lemmas.List.Folds.{list_any-append}
 use Rattle.pgs_base.specs.Pair.{same_name, has_name, put_name}
 use Rattle.pgs_syntax.proofs.Parts.{one_name}
 use Rattle.pgs_conform.specs.declared.options.Options.{Options}
-use Rattle.pgs_conform.specs.declared.shape.Shape.{Shape}
-use Rattle.pgs_conform.specs.declared.shape.Triple.{Triple as ShapeTriple}
-use Rattle.pgs_product.proofs.Asked.{own_name, has_all}
-use Rattle.pgs_contain.specs.Frames.{Names, Keys, is_known}
-use Rattle.pgs_contain.specs.Known.{Grows}
-use Rattle.pgs_contain.specs.Threes.{is_known_three}
+use Rattle.pgs_product.proofs.Asked.{own_name}
+use Rattle.pgs_contain.specs.Frames.{Names, Keys}
 use Rattle.pgs_contain.proofs.Framing.{has_put}
 
 pub same_bool : (a b : Bool) → (a ≡ true → b ≡ true) → (b ≡ true → a ≡ true) → a ≡ b
@@ -60,116 +55,35 @@ learnt_key keys i x given old start new lt is copied put before n =
     keys_push [] y = refl
     keys_push (k ∷ ks) y = ap (λ zs. k.0 ∷ zs) (keys_push ks y)
 
--- ---- what is known of shapes
+-- ---- the keys of some values, as they are put in one after another
 
-all_keys : (t : List ℕ → Bool) (keys : Keys) → list_all t (keys_of keys) ≡ true → list_all (λ (key : List ℕ × Options). t key.0) keys ≡ true
-all_keys t [] h = refl
-all_keys t (k ∷ ks) h = let parts = and_parts _ _ h in and_from _ _ parts.0 (all_keys t ks parts.1)
-
-pub shape_known : (shape : Shape) (labels keys new_labels new_keys : Names) →
-    ((l : List ℕ) → has_name l new_labels ≡ (has_name l labels || has_name l shape.labels)) →
-    ((l : List ℕ) → has_name l new_keys ≡ (has_name l keys || has_name l (keys_of shape.keys))) → is_known new_labels new_keys shape ≡ true
-shape_known shape labels keys new_labels new_keys of_labels of_keys =
-    and_from _ _ (has_all (λ l. has_name l new_labels) shape.labels (λ l there. of_labels l ∙ or_right (has_name l labels) (has_name l shape.labels) there))
-    (all_keys (λ l. has_name l new_keys) shape.keys
-    (has_all (λ l. has_name l new_keys) (keys_of shape.keys) (λ l there. of_keys l ∙ or_right (has_name l keys) (has_name l (keys_of shape.keys)) there)))
-
-pub grown : (old new more : Names) → ((l : List ℕ) → has_name l new ≡ (has_name l old || has_name l more)) → Grows old new
-grown old new more h = λ l there. h l ∙ or_left (has_name l old) (has_name l more) there
-
-all_weaker : {X : Type 0} (t s : X → Bool) (xs : List X) → ((x : X) → t x ≡ true → s x ≡ true) → list_all t xs ≡ true → list_all s xs ≡ true
-all_weaker t s [] f h = refl
-all_weaker t s (x ∷ xs) f h = let parts = and_parts _ _ h in and_from _ _ (f x parts.0) (all_weaker t s xs f parts.1)
-
-known_still : (labels keys new_labels new_keys : Names) → Grows labels new_labels → Grows keys new_keys → (shape : Shape) → is_known labels keys shape ≡ true →
-    is_known new_labels new_keys shape ≡ true
-known_still labels keys new_labels new_keys more_labels more_keys shape h =
-    let parts = and_parts _ _ h in
-    and_from _ _ (all_weaker (λ l. has_name l labels) (λ l. has_name l new_labels) shape.labels more_labels parts.0)
-    (all_weaker (λ (key : List ℕ × Options). has_name key.0 keys) (λ (key : List ℕ × Options). has_name key.0 new_keys) shape.keys (λ key. more_keys key.0) parts.1)
-
-pub all_known_still : (labels keys new_labels new_keys : Names) (shapes : List Shape) → Grows labels new_labels → Grows keys new_keys →
-    list_all (is_known labels keys) shapes ≡ true → list_all (is_known new_labels new_keys) shapes ≡ true
-all_known_still labels keys new_labels new_keys shapes more_labels more_keys h =
-    all_weaker (is_known labels keys) (is_known new_labels new_keys) shapes (known_still labels keys new_labels new_keys more_labels more_keys) h
-
-pub grows_on : (a b c : Names) → Grows a b → Grows b c → Grows a c
-grows_on a b c f g = λ l there. g l (f l there)
-
-all_push : {X : Type 0} (t : X → Bool) (xs : List X) (x : X) → list_all t xs ≡ true → t x ≡ true → list_all t (xs ++ x ∷ []) ≡ true
-all_push t [] x h own = and_from _ _ own refl
-all_push t (y ∷ ys) x h own = let parts = and_parts _ _ h in and_from _ _ parts.0 (all_push t ys x parts.1 own)
-
-pub shapes_known : (labels keys new_labels new_keys start_labels start_keys : Names) (shapes : List Shape) (i : ℕ) (shape : Shape) → i < length shapes → shape ≡ get_or shapes i shape →
-    (is_known new_labels new_keys shape ≡ true) × Grows labels new_labels × Grows keys new_keys →
-    (list_all (is_known labels keys) (take i shapes) ≡ true) × Grows start_labels labels × Grows start_keys keys →
-    (list_all (is_known new_labels new_keys) (take (i + 1) shapes) ≡ true) × Grows start_labels new_labels × Grows start_keys new_keys
-shapes_known labels keys new_labels new_keys start_labels start_keys shapes i shape lt is own before = (
-  ap (list_all (is_known new_labels new_keys)) (take_more shapes i shape lt ∙ ap (λ s. take i shapes ++ s ∷ []) (sym is))
-      ∙ all_push (is_known new_labels new_keys) (take i shapes) shape (all_known_still labels keys new_labels new_keys (take i shapes) own.1 own.2 before.0) own.0,
-  grows_on start_labels labels new_labels before.1 own.1,
-  grows_on start_keys keys new_keys before.2 own.2,
-)
-
-pub learnt_shape : (shape : Shape) (labels keys new_labels new_keys names : Names) (entries : Keys) → names ≡ shape.labels → entries ≡ shape.keys →
-    ((l : List ℕ) → has_name l new_labels ≡ (has_name l labels || has_name l names)) → ((l : List ℕ) → has_name l new_keys ≡ (has_name l keys || has_name l (keys_of entries))) →
-    (is_known new_labels new_keys shape ≡ true) × Grows labels new_labels × Grows keys new_keys
-learnt_shape shape labels keys new_labels new_keys names entries same_names same_entries of_labels of_keys = (
-  shape_known shape labels keys new_labels new_keys (λ l. of_labels l ∙ ap (λ ns. has_name l labels || has_name l ns) same_names)
-      (λ l. of_keys l ∙ ap (λ es. has_name l keys || has_name l (keys_of es)) same_entries),
-  grown labels new_labels names of_labels,
-  grown keys new_keys (keys_of entries) of_keys,
-)
-
--- what shapes and others name
-pub all_learnt : (first second : List Shape) (labels keys labels_now keys_now labels_kept keys_kept start_labels start_keys : Names) →
-    (list_all (is_known labels keys) first ≡ true) × Grows start_labels labels × Grows start_keys keys →
-    (list_all (is_known labels_now keys_now) second ≡ true) × Grows labels labels_now × Grows keys keys_now →
-    (labels_kept ≡ labels_now) × (keys_kept ≡ keys_now) → (list_all (is_known labels_kept keys_kept) first ≡ true) × (list_all (is_known labels_kept keys_kept) second ≡ true)
-all_learnt first second labels keys labels_now keys_now labels_kept keys_kept start_labels start_keys of_first of_second kept =
-    (same first (all_known_still labels keys labels_now keys_now first of_second.1 of_second.2 of_first.0), same second of_second.0)
+pub any_learnt : {X : Type 0} (f : X → List ℕ → Bool) (xs : List X) (i : ℕ) (x : X) (old start new : Names) → i < length xs → x ≡ get_or xs i x →
+    ((k : List ℕ) → has_name k new ≡ (has_name k old || f x k)) → ((k : List ℕ) → has_name k old ≡ (has_name k start || list_any (λ y. f y k) (take i xs))) →
+    (k : List ℕ) → has_name k new ≡ (has_name k start || list_any (λ y. f y k) (take (i + 1) xs))
+any_learnt {X} f xs i x old start new lt is step before k =
+    step k ∙ ap (λ b. b || f x k) (before k) ∙ or_step (has_name k start) (list_any (λ y. f y k) (take i xs)) (f x k)
+    ∙ ap (λ b. has_name k start || (list_any (λ y. f y k) (take i xs) || b)) (sym (or-false (f x k)))
+    ∙ ap (λ b. has_name k start || b) (sym (list_any-append (λ y. f y k) (take i xs) (x ∷ [])))
+    ∙ ap (λ (ys : List X). has_name k start || list_any (λ y. f y k) ys) (sym (take_more xs i x lt ∙ ap (λ (y : X). take i xs ++ y ∷ []) (sym is)))
   where
-    same : (shapes : List Shape) → list_all (is_known labels_now keys_now) shapes ≡ true → list_all (is_known labels_kept keys_kept) shapes ≡ true
-    same shapes h = ap (λ ls. list_all (is_known ls keys_kept) shapes) kept.0 ∙ ap (λ ks. list_all (is_known labels_now ks) shapes) kept.1 ∙ h
+    or_step : (a b c : Bool) → ((a || b) || c) ≡ (a || (b || c))
+    or_step true b c = refl
+    or_step false b c = refl
 
--- ---- triples of shapes
+-- what is put in where a test passes, and isn't where it doesn't
+pub learnt_then : (k : List ℕ) (old new names : Names) (test : Bool) → test ≡ true → has_name k new ≡ (has_name k old || has_name k names) → has_name k new ≡ (has_name k old || (test && has_name k names))
+learnt_then k old new names test is h = h ∙ ap (λ b. has_name k old || (b && has_name k names)) (sym is)
 
-three_still : (labels keys new_labels new_keys : Names) → Grows labels new_labels → Grows keys new_keys → (shapes : ShapeTriple) → is_known_three labels keys shapes ≡ true →
-    is_known_three new_labels new_keys shapes ≡ true
-three_still labels keys new_labels new_keys more_labels more_keys shapes h =
-    let parts = and_parts _ _ h in
-    let ends = and_parts _ _ parts.0 in
-    let still = known_still labels keys new_labels new_keys more_labels more_keys in
-    and_from _ _ (and_from _ _ (still shapes.source ends.0) (still shapes.middle ends.1)) (still shapes.target parts.1)
+-- two after one another, from nothing
+pub learnt_both : (k : List ℕ) (none first second : Names) (a b : Bool) → none ≡ [] → has_name k first ≡ (has_name k none || a) → has_name k second ≡ (has_name k first || b) → has_name k second ≡ (a || b)
+learnt_both k none first second a b is one two = two ∙ ap (λ x. x || b) (one ∙ ap (λ ns. has_name k ns || a) is)
 
-pub triple_learnt : (shapes : ShapeTriple) (l0 k0 l1 k1 l2 k2 l3 k3 : Names) → (is_known l1 k1 shapes.source ≡ true) × Grows l0 l1 × Grows k0 k1 →
-    (is_known l2 k2 shapes.middle ≡ true) × Grows l1 l2 × Grows k1 k2 → (is_known l3 k3 shapes.target ≡ true) × Grows l2 l3 × Grows k2 k3 →
-    (is_known_three l3 k3 shapes ≡ true) × Grows l0 l3 × Grows k0 k3
-triple_learnt shapes l0 k0 l1 k1 l2 k2 l3 k3 a b d = (
-  and_from _ _ (and_from _ _ (known_still l2 k2 l3 k3 d.1 d.2 shapes.source (known_still l1 k1 l2 k2 b.1 b.2 shapes.source a.0)) (known_still l2 k2 l3 k3 d.1 d.2 shapes.middle b.0)) d.0,
-  grows_on l0 l1 l3 a.1 (grows_on l1 l2 l3 b.1 d.1),
-  grows_on k0 k1 k3 a.2 (grows_on k1 k2 k3 b.2 d.2),
-)
-
-pub triples_known : (labels keys new_labels new_keys start_labels start_keys : Names) (triples : List ShapeTriple) (i : ℕ) (shapes : ShapeTriple) → i < length triples → shapes ≡ get_or triples i shapes →
-    (is_known_three new_labels new_keys shapes ≡ true) × Grows labels new_labels × Grows keys new_keys →
-    (list_all (is_known_three labels keys) (take i triples) ≡ true) × Grows start_labels labels × Grows start_keys keys →
-    (list_all (is_known_three new_labels new_keys) (take (i + 1) triples) ≡ true) × Grows start_labels new_labels × Grows start_keys new_keys
-triples_known labels keys new_labels new_keys start_labels start_keys triples i shapes lt is own before = (
-  ap (list_all (is_known_three new_labels new_keys)) (take_more triples i shapes lt ∙ ap (λ s. take i triples ++ s ∷ []) (sym is))
-      ∙ all_push (is_known_three new_labels new_keys) (take i triples) shapes
-      (all_weaker (is_known_three labels keys) (is_known_three new_labels new_keys) (take i triples) (three_still labels keys new_labels new_keys own.1 own.2) before.0) own.0,
-  grows_on start_labels labels new_labels before.1 own.1,
-  grows_on start_keys keys new_keys before.2 own.2,
-)
-
-pub all_triples_learnt : (first second : List ShapeTriple) (labels keys labels_now keys_now labels_kept keys_kept start_labels start_keys : Names) →
-    (list_all (is_known_three labels keys) first ≡ true) × Grows start_labels labels × Grows start_keys keys →
-    (list_all (is_known_three labels_now keys_now) second ≡ true) × Grows labels labels_now × Grows keys keys_now →
-    (labels_kept ≡ labels_now) × (keys_kept ≡ keys_now) →
-    (list_all (is_known_three labels_kept keys_kept) first ≡ true) × (list_all (is_known_three labels_kept keys_kept) second ≡ true)
-all_triples_learnt first second labels keys labels_now keys_now labels_kept keys_kept start_labels start_keys of_first of_second kept =
-    (same first (all_weaker (is_known_three labels keys) (is_known_three labels_now keys_now) first (three_still labels keys labels_now keys_now of_second.1 of_second.2) of_first.0), same second of_second.0)
+pub learnt_three : (k : List ℕ) (old first second third : Names) (a b d : Bool) → has_name k first ≡ (has_name k old || a) → has_name k second ≡ (has_name k first || b) →
+    has_name k third ≡ (has_name k second || d) → has_name k third ≡ (has_name k old || (a || (b || d)))
+learnt_three k old first second third a b d one two three =
+    three ∙ ap (λ x. x || d) (two ∙ ap (λ x. x || b) one) ∙ or_four (has_name k old) a b d
   where
-    same : (triples : List ShapeTriple) → list_all (is_known_three labels_now keys_now) triples ≡ true → list_all (is_known_three labels_kept keys_kept) triples ≡ true
-    same triples h = ap (λ ls. list_all (is_known_three ls keys_kept) triples) kept.0 ∙ ap (λ ks. list_all (is_known_three labels_now ks) triples) kept.1 ∙ h
+    or_four : (x a b d : Bool) → (((x || a) || b) || d) ≡ (x || (a || (b || d)))
+    or_four true a b d = refl
+    or_four false true b d = refl
+    or_four false false b d = refl

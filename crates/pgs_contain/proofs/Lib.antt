@@ -1,8 +1,10 @@
+pub mod Answers
 pub mod Framing
 pub mod Holding
 pub mod Known
 pub mod Parts
 pub mod Plain
+pub mod Strangers
 pub mod Letters
 pub mod Three
 pub mod Whole

@@ -10,7 +10,10 @@ use Rattle.pgs_conform.specs.declared.shape.Shape.{Shape}
 use Rattle.pgs_conform.specs.Shapes.{labels_meet, in_shape, in_some}
 use Rattle.pgs_product.specs.JoinedOptions.{options_at}
 use Rattle.pgs_contain.specs.Regions.{Point, in_region}
+use Rattle.pgs_contain.specs.declared.frame.Frame.{Frame}
 use Rattle.pgs_contain.specs.Contained.{is_plain}
+use Rattle.pgs_contain.specs.Known.{names_met_key}
+use Rattle.pgs_contain.specs.Strange.{IsStrangeBut}
 
 abbrev pub Names : Type 0
 Names = List (List ℕ)
@@ -49,11 +52,22 @@ abbrev pub in_some_of : List Shape → Names → Names → Point → Bool
 in_some_of shapes labels keys v =
     list_any (λ (shape : Shape). may_have shape labels keys && in_region (options_of shape keys) v) shapes
 
--- whether all labels and keys that a shape names are among names
-abbrev pub is_known : Names → Names → Shape → Bool
-is_known labels keys shape =
-    list_all (λ label. has_name label labels) shape.labels
-    && list_all (λ (key : List ℕ × Options). has_name key.0 keys) shape.keys
+-- a frame is that of a shape, where keys and a further label and key are given
+abbrev pub IsFrame : Shape → Names → List ℕ → List ℕ → Frame → Type 0
+IsFrame shape keys label key frame =
+    (frame.labels ≡ frame_labels shape.more_labels shape.labels label) × (frame.keys ≡ frame_keys shape.more_keys shape.keys keys key)
+    × (frame.region ≡ map (frame_options shape.more_keys shape.keys key) frame.keys)
+
+-- A frame is that of a shape among others, with this further label. Where the shape is free in keys, the given keys are its own and those of the
+-- others that may have its labels, and none of them is the further one, which isn't among names to avoid.
+pub record IsFramed (label : List ℕ) (avoid : Names) (shape : Shape) (others : List Shape) (frame : Frame) : Type 0 where
+  pub keys : Names
+  pub key : List ℕ
+  pub known : (k : List ℕ) → has_name k keys
+      ≡ (shape.more_keys && (has_name k (keys_of shape.keys) || names_met_key others (frame_labels shape.more_labels shape.labels label) k))
+  pub new : has_name key keys ≡ false
+  pub strange : has_name key avoid ≡ false
+  pub framed : IsFrame shape keys label key frame
 
 -- each pair of a shape is in some of others
 abbrev pub IsInOthers : Shape → List Shape → Type 0
@@ -63,9 +77,10 @@ IsInOthers shape others = (p : NodeRow) → is_pair p ≡ true → in_shape shap
 abbrev pub AreInOthers : List Shape → List Shape → Type 0
 AreInOthers shapes others = (p : NodeRow) → is_pair p ≡ true → in_some shapes p ≡ true → in_some others p ≡ true
 
--- a pair of some shapes is in none of others, and its values are the plainest
-pub record IsOutOfOthers (shapes others : List Shape) (p : NodeRow) : Type 0 where
+-- a pair of some shapes is in none of others, its values are the plainest, and it is strange to names
+pub record IsOutOfOthers (avoid : Names) (shapes others : List Shape) (p : NodeRow) : Type 0 where
   pub pair : is_pair p ≡ true
   pub inside : in_some shapes p ≡ true
   pub outside : in_some others p ≡ false
   pub plain : is_plain p ≡ true
+  pub strange : IsStrangeBut avoid shapes others p

@@ -71,8 +71,8 @@ pub fn options_at(keys: &[(Name, Options)], more: bool, name: &Name) -> Options
     free_options(more)
 }
 
-// The labels of what may be outside.
-fn frame_labels(alloc: Global, shape: &Shape, label: &Name) -> Result<Labels, Memory>
+/// The labels of what may be outside.
+pub(crate) fn frame_labels(alloc: Global, shape: &Shape, label: &Name) -> Result<Labels, Memory>
     ensures { IfOk result (λ labels. labels ≡ frame_labels shape.now.more_labels shape.now.labels label.now) }
 {
     let mut labels = shape.labels.copy(alloc)?;
@@ -134,14 +134,18 @@ fn frame_region(
     Ok(List::from_vec(region))
 }
 
-/// The frame of a shape.
-pub(crate) fn frame_of(alloc: Global, shape: &Shape, words: &Vocabulary) -> Result<Frame, Memory>
+/// The frame of a shape, of these labels.
+pub(crate) fn frame_of(
+    alloc: Global,
+    shape: &Shape,
+    labels: Labels,
+    words: &Vocabulary,
+) -> Result<Frame, Memory>
     ensures { IfOk result (λ frame.
-        (frame.labels ≡ frame_labels shape.now.more_labels shape.now.labels words.now.label)
+        (frame.labels ≡ labels)
         × (frame.keys ≡ frame_keys shape.now.more_keys shape.now.keys words.now.keys words.now.key)
         × (frame.region ≡ map (frame_options shape.now.more_keys shape.now.keys words.now.key) frame.keys)) }
 {
-    let labels = frame_labels(alloc, shape, &words.label)?;
     let keys = frame_keys(alloc, shape, words)?;
     let region = frame_region(alloc, shape, &words.key, keys.as_slice())?;
     Ok(Frame {
@@ -168,8 +172,8 @@ fn none_further(asked: &Labels, more: bool, labels: &Labels) -> bool
         .all(|label| more || asked.contains(label))
 }
 
-// Whether a shape may have labels.
-fn labels_meet(shape: &Shape, labels: &Labels) -> bool
+/// Whether a shape may have labels.
+pub(crate) fn labels_meet(shape: &Shape, labels: &Labels) -> bool
     ensures { result ≡ labels_meet shape.now.labels shape.now.more_labels labels.now }
 {
     all_there(&shape.labels, labels) && none_further(&shape.labels, shape.more_labels, labels)

@@ -3,13 +3,15 @@
 ghost use Rattle.std.specs.Prelude.{◌≡◌, true, ◌∷◌, [], IfOk, MatchOption};
 ghost use Rattle.std.specs.List.{list_all};
 ghost use Rattle.pgs_contain.specs.Contained.{pair_in};
-ghost use Rattle.pgs_contain.specs.Frames.{in_some_of, is_known, IsInOthers, AreInOthers, IsOutOfOthers};
+ghost use Rattle.pgs_contain.specs.Frames.{in_some_of, IsFramed, IsInOthers, AreInOthers, IsOutOfOthers};
+ghost use Rattle.pgs_contain.specs.Known.{lacks_label};
 ghost use Rattle.pgs_contain.specs.Regions.{Leaves};
 
 use crate::OwnedPair;
-use crate::frame::{Frame, frame_of, regions_of};
+use crate::frame::{Frame, frame_labels, frame_of, regions_of};
+use crate::further::Further;
 use crate::regions::left_of;
-use crate::vocabulary::{Vocabulary, vocabulary_of};
+use crate::vocabulary::vocabulary_of;
 use crate::witness::plain_pair;
 use pgs_base::{List, Memory};
 use pgs_conform::{Options, Shape};
@@ -27,19 +29,32 @@ fn left_in_frame(
     left_of(alloc, frame.region.as_slice(), taken.as_slice())
 }
 
+// The frame of a shape, by those others that may have its labels.
+fn frame_among(
+    alloc: Global,
+    shape: &Shape,
+    others: &[Shape],
+    further: &Further<'_>,
+) -> Result<Frame, Memory>
+    ensures { IfOk result (IsFramed further.now.name further.now.avoid.now shape.now others.now) }
+{
+    let labels = frame_labels(alloc, shape, &further.name)?;
+    let words = vocabulary_of(alloc, shape, &labels, others, further)?;
+    frame_of(alloc, shape, labels, &words)
+}
+
 // A pair of a shape that is in none of others. `None` exactly where there is none.
 fn outside_of_shape(
     alloc: Global,
     shape: &Shape,
     others: &[Shape],
-    words: &Vocabulary,
+    further: &Further<'_>,
 ) -> Result<Option<OwnedPair>, Memory>
-    requires own { is_known words.now.labels words.now.keys shape.now ≡ true }
-    requires others { list_all (is_known words.now.labels words.now.keys) others.now ≡ true }
+    requires { list_all (lacks_label further.now.name) others.now ≡ true }
     ensures { IfOk result (λ answer. MatchOption answer (IsInOthers shape.now others.now)
-        (λ own. IsOutOfOthers (shape.now ∷ []) others.now (pair_in own))) }
+        (λ own. IsOutOfOthers further.now.avoid.now (shape.now ∷ []) others.now (pair_in own))) }
 {
-    let frame = frame_of(alloc, shape, words)?;
+    let frame = frame_among(alloc, shape, others, further)?;
     frame.facts();
     let left = left_in_frame(alloc, &frame, others)?;
     match left {
@@ -51,18 +66,19 @@ fn outside_of_shape(
     }
 }
 
-/// A pair of some shapes that is in none of others. `None` exactly where there is none.
+/// A pair of some shapes that is in none of others, and is strange to the names to avoid. `None` exactly where there is none.
 pub(crate) fn outside_of_shapes(
     alloc: Global,
     shapes: &[Shape],
     others: &[Shape],
+    further: &Further<'_>,
 ) -> Result<Option<OwnedPair>, Memory>
+    requires { list_all (lacks_label further.now.name) others.now ≡ true }
     ensures { IfOk result (λ answer. MatchOption answer (AreInOthers shapes.now others.now)
-        (λ own. IsOutOfOthers shapes.now others.now (pair_in own))) }
+        (λ own. IsOutOfOthers further.now.avoid.now shapes.now others.now (pair_in own))) }
 {
-    let words = vocabulary_of(alloc, shapes, others)?;
     for shape in shapes {
-        let found = outside_of_shape(alloc, shape, others, &words)?;
+        let found = outside_of_shape(alloc, shape, others, further)?;
         if found.is_some() {
             return Ok(found);
         }

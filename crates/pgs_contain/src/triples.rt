@@ -5,15 +5,18 @@ ghost use Rattle.std.specs.List.{list_all, list_any};
 ghost use Rattle.std.specs.Ordering.{nat_cmp};
 ghost use Rattle.std.specs.Cmp.Lexicographic.{slice_cmp};
 ghost use Rattle.pgs_base.specs.Order.{ascends};
+ghost use Rattle.pgs_contain.specs.Known.{lacks_label_three};
 ghost use Rattle.pgs_contain.specs.Regions.{Point, in_some_region, Leaves};
-ghost use Rattle.pgs_contain.specs.Threes.{three_of, region_in, AreFrames, ArePlainest, owned_triple, may_have_three, options_of_three, in_some_three, is_known_three, LeavesThree, has_frames, IsInOtherTriples, AreInOtherTriples, IsOutOfOtherTriples};
+ghost use Rattle.pgs_contain.specs.Threes.{three_of, region_in, AreFramed, ArePlainest, owned_triple, may_have_three, options_of_three, in_some_three, labels_of_three, AreFramesOf, LeavesThree, has_frames, IsInOtherTriples, AreInOtherTriples, IsOutOfOtherTriples};
 
 use crate::OwnedPair;
-use crate::frame::{Frame, frame_of, lies_in_shape, may_have, options_of};
+use crate::frame::{Frame, frame_labels, frame_of, lies_in_shape, may_have, options_of};
+use crate::further::Further;
+use crate::labels_of_three::LabelsOfThree;
 use crate::regions::left_of;
-use crate::vocabulary::{Vocabulary, vocabulary_of_triples};
+use crate::vocabulary::{Vocabulary, vocabulary_of_triple};
 use crate::witness::plain_pair;
-use pgs_base::{List, Memory};
+use pgs_base::{List, Memory, Name};
 use pgs_conform::{Options, Triple};
 use std::alloc::Global;
 
@@ -33,18 +36,56 @@ pub struct OwnedTriple {
     pub target: OwnedPair,
 }
 
-// The frames of a triple of shapes.
-fn frames_of(alloc: Global, triple: &Triple, words: &Vocabulary) -> Result<Frames, Memory>
-    ensures { IfOk result (λ frames. AreFrames triple.now words.now.keys words.now.label words.now.key frames) }
+// The labels of the frames of a triple of shapes.
+fn labels_of_three(alloc: Global, triple: &Triple, further: &Name) -> Result<LabelsOfThree, Memory>
+    ensures { IfOk result (λ labels. labels ≡ labels_of_three triple.now further.now) }
 {
-    let source = frame_of(alloc, &triple.source, words)?;
-    let middle = frame_of(alloc, &triple.middle, words)?;
-    let target = frame_of(alloc, &triple.target, words)?;
+    let source = frame_labels(alloc, &triple.source, further)?;
+    let middle = frame_labels(alloc, &triple.middle, further)?;
+    let target = frame_labels(alloc, &triple.target, further)?;
+    Ok(LabelsOfThree {
+        source,
+        middle,
+        target,
+    })
+}
+
+// The frames of a triple of shapes, of these labels.
+fn frames_of(
+    alloc: Global,
+    triple: &Triple,
+    labels: LabelsOfThree,
+    words: &Vocabulary,
+) -> Result<Frames, Memory>
+    ensures { IfOk result (AreFramesOf triple.now labels words.now.keys words.now.key) }
+{
+    let LabelsOfThree {
+        source,
+        middle,
+        target,
+    } = labels;
+    let source = frame_of(alloc, &triple.source, source, words)?;
+    let middle = frame_of(alloc, &triple.middle, middle, words)?;
+    let target = frame_of(alloc, &triple.target, target, words)?;
     Ok(Frames {
         source,
         middle,
         target,
     })
+}
+
+// The frames of a triple of shapes, by those others that may have its labels.
+fn frames_among(
+    alloc: Global,
+    triple: &Triple,
+    others: &[Triple],
+    further: &Further<'_>,
+) -> Result<Frames, Memory>
+    ensures { IfOk result (AreFramed further.now.name further.now.avoid.now triple.now others.now) }
+{
+    let labels = labels_of_three(alloc, triple, &further.name)?;
+    let words = vocabulary_of_triple(alloc, triple, &labels, others, further)?;
+    frames_of(alloc, triple, labels, &words)
 }
 
 impl Frames {
@@ -218,30 +259,31 @@ fn outside_of_triple(
     alloc: Global,
     triple: &Triple,
     others: &[Triple],
-    words: &Vocabulary,
+    further: &Further<'_>,
 ) -> Result<Option<OwnedTriple>, Memory>
-    requires own { is_known_three words.now.labels words.now.keys triple.now ≡ true }
-    requires others { list_all (is_known_three words.now.labels words.now.keys) others.now ≡ true }
+    requires { list_all (lacks_label_three further.now.name) others.now ≡ true }
     ensures { IfOk result (λ answer. MatchOption answer (IsInOtherTriples triple.now others.now)
-        (λ own. IsOutOfOtherTriples (triple.now ∷ []) others.now (owned_triple own))) }
+        (λ own. IsOutOfOtherTriples further.now.avoid.now (triple.now ∷ []) others.now (owned_triple own))) }
 {
-    let frames = frames_of(alloc, triple, words)?;
+    let frames = frames_among(alloc, triple, others, further)?;
     frames.facts();
     outside_of_frames(alloc, &frames, others)
 }
 
-/// A triple of pairs of some triples of shapes that is in none of others. `None` exactly where there is none.
+/// A triple of pairs of some triples of shapes that is in none of others, and is strange to the names to avoid. `None` exactly where there
+/// is none.
 pub(crate) fn outside_of_triples(
     alloc: Global,
     triples: &[Triple],
     others: &[Triple],
+    further: &Further<'_>,
 ) -> Result<Option<OwnedTriple>, Memory>
+    requires { list_all (lacks_label_three further.now.name) others.now ≡ true }
     ensures { IfOk result (λ answer. MatchOption answer (AreInOtherTriples triples.now others.now)
-        (λ own. IsOutOfOtherTriples triples.now others.now (owned_triple own))) }
+        (λ own. IsOutOfOtherTriples further.now.avoid.now triples.now others.now (owned_triple own))) }
 {
-    let words = vocabulary_of_triples(alloc, triples, others)?;
     for triple in triples {
-        let found = outside_of_triple(alloc, triple, others, &words)?;
+        let found = outside_of_triple(alloc, triple, others, further)?;
         if found.is_some() {
             return Ok(found);
         }

@@ -1,26 +1,22 @@
-//! The labels and keys that shapes name, and one of each that none of them names.
+//! The keys that shapes name, and one that none of them names.
 
-ghost use Rattle.std.specs.Prelude.{◌≡◌, ◌||◌, true, false, List as Items, ℕ, IfOk, OnOk};
-ghost use Rattle.std.specs.List.{list_all};
+ghost use Rattle.std.specs.Prelude.{◌≡◌, ◌&&◌, ◌||◌, true, false, List as Items, ℕ, IfOk, OnOk};
 ghost use Rattle.std.specs.Map.{keys_of};
 ghost use Rattle.pgs_base.specs.Pair.{has_name};
-ghost use Rattle.pgs_contain.specs.Frames.{is_known};
-ghost use Rattle.pgs_contain.specs.Known.{Grows};
-ghost use Rattle.pgs_contain.specs.Threes.{is_known_three};
+ghost use Rattle.pgs_contain.specs.Known.{names_if_met, names_met_key, three_name, three_name_if_met, three_name_met_key, three_meet, any_free};
 
-use crate::strange::strange;
+use crate::frame::labels_meet;
+use crate::further::{Further, strange_to_both};
+use crate::labels_of_three::LabelsOfThree;
 use pgs_base::{Copyable, Labels, Memory, Name};
 use pgs_conform::{Options, Shape, Triple};
 use std::alloc::Global;
 
-/// The labels and keys that shapes name, and one of each that none of them names.
+/// The keys at which something else than in a further one may stand, and a further one.
 #[derive(Drop)]
 pub(crate) struct Vocabulary {
-    pub labels: Labels,
     pub keys: Labels,
-    pub label: Name,
     pub key: Name,
-    pub ghost new_label: { has_name label labels ≡ false },
     pub ghost new_key: { has_name key keys ≡ false },
 }
 
@@ -46,111 +42,209 @@ pub fn learn_keys(alloc: Global, keys: &[(Name, Options)], known: &mut Labels) -
     Ok(())
 }
 
-// Puts in what a shape names.
-pub(crate) fn learn_shape(
+// Puts in the keys of a shape, where it may have labels.
+fn learn_if_met(
     alloc: Global,
     shape: &Shape,
-    labels: &mut Labels,
+    labels: &Labels,
     keys: &mut Labels,
 ) -> Result<(), Memory>
-    ensures { OnOk result ((is_known labels.new keys.new shape.now ≡ true) × Grows labels.old labels.new × Grows keys.old keys.new) }
+    ensures { OnOk result ((k : Items ℕ) → has_name k keys.new ≡ (has_name k keys.old || names_if_met labels.now k shape.now)) }
 {
-    learn_names(alloc, shape.labels.as_slice(), labels)?;
-    learn_keys(alloc, shape.keys.as_slice(), keys)?;
-    Ok(())
+    if labels_meet(shape, labels) {
+        learn_keys(alloc, shape.keys.as_slice(), keys)
+    } else {
+        Ok(())
+    }
 }
 
-// Puts in what shapes name.
-fn learn_shapes(
+// Puts in the keys of those shapes that may have labels.
+fn learn_met(
     alloc: Global,
     shapes: &[Shape],
-    labels: &mut Labels,
+    labels: &Labels,
     keys: &mut Labels,
 ) -> Result<(), Memory>
-    ensures { OnOk result ((list_all (is_known labels.new keys.new) shapes.now ≡ true) × Grows labels.old labels.new × Grows keys.old keys.new) }
+    ensures { OnOk result ((k : Items ℕ) → has_name k keys.new ≡ (has_name k keys.old || names_met_key shapes.now labels.now k)) }
 {
     for shape in shapes {
-        learn_shape(alloc, shape, labels, keys)?;
+        learn_if_met(alloc, shape, labels, keys)?;
     }
     Ok(())
 }
 
-// What is known, with a label and a key that are not.
-pub(crate) fn with_strange(
+// The keys of a shape and of those others that may have its labels.
+fn keys_met(
     alloc: Global,
-    labels: Labels,
-    keys: Labels,
-) -> Result<Vocabulary, Memory>
-    ensures { IfOk result (λ words. (words.labels ≡ labels) × (words.keys ≡ keys)) }
+    shape: &Shape,
+    labels: &Labels,
+    others: &[Shape],
+) -> Result<Labels, Memory>
+    ensures { IfOk result (λ keys. (k : Items ℕ) → has_name k keys ≡ (has_name k (keys_of shape.now.keys) || names_met_key others.now labels.now k)) }
 {
-    let label = strange(alloc, labels.as_slice())?;
-    let key = strange(alloc, keys.as_slice())?;
-    Ok(Vocabulary {
-        labels,
-        keys,
-        label,
-        key,
-    })
+    let mut keys = Labels::new(alloc);
+    learn_keys(alloc, shape.keys.as_slice(), &mut keys)?;
+    learn_met(alloc, others, labels, &mut keys)?;
+    Ok(keys)
 }
 
-/// What shapes and others name.
+// The same where the shape is free in keys: else no key has to be known.
+fn known_keys(
+    alloc: Global,
+    shape: &Shape,
+    labels: &Labels,
+    others: &[Shape],
+) -> Result<Labels, Memory>
+    ensures { IfOk result (λ keys. (k : Items ℕ) → has_name k keys
+        ≡ (shape.now.more_keys && (has_name k (keys_of shape.now.keys) || names_met_key others.now labels.now k))) }
+{
+    if shape.more_keys {
+        keys_met(alloc, shape, labels, others)
+    } else {
+        Ok(Labels::new(alloc))
+    }
+}
+
+// A key that isn't known: the further name, unless that one is.
+fn further_key(alloc: Global, keys: &Labels, further: &Further<'_>) -> Result<Name, Memory>
+    ensures { IfOk result (λ key. (has_name key keys.now ≡ false) × (has_name key further.now.avoid.now ≡ false)) }
+{
+    if keys.contains(&further.name) {
+        strange_to_both(alloc, keys.as_slice(), further.avoid)
+    } else {
+        further.name.copy(alloc)
+    }
+}
+
+// Known keys and one that isn't.
+fn with_further_key(
+    alloc: Global,
+    keys: Labels,
+    further: &Further<'_>,
+) -> Result<Vocabulary, Memory>
+    ensures { IfOk result (λ words. (words.keys ≡ keys) × (has_name words.key further.now.avoid.now ≡ false)) }
+{
+    let key = further_key(alloc, &keys, further)?;
+    Ok(Vocabulary { keys, key })
+}
+
+/// The vocabulary of a shape and of those others that may have these labels.
 pub(crate) fn vocabulary_of(
     alloc: Global,
-    first: &[Shape],
-    second: &[Shape],
+    shape: &Shape,
+    labels: &Labels,
+    others: &[Shape],
+    further: &Further<'_>,
 ) -> Result<Vocabulary, Memory>
-    ensures { IfOk result (λ words. (list_all (is_known words.labels words.keys) first.now ≡ true)
-        × (list_all (is_known words.labels words.keys) second.now ≡ true)) }
+    ensures keys { IfOk result (λ words. (k : Items ℕ) → has_name k words.keys
+        ≡ (shape.now.more_keys && (has_name k (keys_of shape.now.keys) || names_met_key others.now labels.now k))) }
+    ensures key { IfOk result (λ words. has_name words.key further.now.avoid.now ≡ false) }
 {
-    let mut labels = Labels::new(alloc);
-    let mut keys = Labels::new(alloc);
-    learn_shapes(alloc, first, &mut labels, &mut keys)?;
-    learn_shapes(alloc, second, &mut labels, &mut keys)?;
-    with_strange(alloc, labels, keys)
+    let keys = known_keys(alloc, shape, labels, others)?;
+    with_further_key(alloc, keys, further)
 }
 
-// Puts in what a triple of shapes names.
-fn learn_triple(
-    alloc: Global,
-    triple: &Triple,
-    labels: &mut Labels,
-    keys: &mut Labels,
-) -> Result<(), Memory>
-    ensures { OnOk result ((is_known_three labels.new keys.new triple.now ≡ true) × Grows labels.old labels.new × Grows keys.old keys.new) }
+// Puts in the keys of three shapes.
+fn learn_three(alloc: Global, triple: &Triple, keys: &mut Labels) -> Result<(), Memory>
+    ensures { OnOk result ((k : Items ℕ) → has_name k keys.new ≡ (has_name k keys.old || three_name triple.now k)) }
 {
-    learn_shape(alloc, &triple.source, labels, keys)?;
-    learn_shape(alloc, &triple.middle, labels, keys)?;
-    learn_shape(alloc, &triple.target, labels, keys)?;
+    learn_keys(alloc, triple.source.keys.as_slice(), keys)?;
+    learn_keys(alloc, triple.middle.keys.as_slice(), keys)?;
+    learn_keys(alloc, triple.target.keys.as_slice(), keys)?;
     Ok(())
 }
 
-// Puts in what triples of shapes name.
-fn learn_triples(
+// Whether a triple of shapes may have the labels of three frames.
+fn three_meet(triple: &Triple, labels: &LabelsOfThree) -> bool
+    ensures { result ≡ three_meet triple.now labels.now }
+{
+    labels_meet(&triple.source, &labels.source)
+        && labels_meet(&triple.middle, &labels.middle)
+        && labels_meet(&triple.target, &labels.target)
+}
+
+// Puts in the keys of a triple of shapes, where it may have labels.
+fn learn_three_if_met(
     alloc: Global,
-    triples: &[Triple],
-    labels: &mut Labels,
+    triple: &Triple,
+    labels: &LabelsOfThree,
     keys: &mut Labels,
 ) -> Result<(), Memory>
-    ensures { OnOk result ((list_all (is_known_three labels.new keys.new) triples.now ≡ true) × Grows labels.old labels.new × Grows keys.old keys.new) }
+    ensures { OnOk result ((k : Items ℕ) → has_name k keys.new ≡ (has_name k keys.old || three_name_if_met labels.now k triple.now)) }
+{
+    if three_meet(triple, labels) {
+        learn_three(alloc, triple, keys)
+    } else {
+        Ok(())
+    }
+}
+
+// Puts in the keys of those triples of shapes that may have labels.
+fn learn_met_triples(
+    alloc: Global,
+    triples: &[Triple],
+    labels: &LabelsOfThree,
+    keys: &mut Labels,
+) -> Result<(), Memory>
+    ensures { OnOk result ((k : Items ℕ) → has_name k keys.new ≡ (has_name k keys.old || three_name_met_key triples.now labels.now k)) }
 {
     for triple in triples {
-        learn_triple(alloc, triple, labels, keys)?;
+        learn_three_if_met(alloc, triple, labels, keys)?;
     }
     Ok(())
 }
 
-/// What triples of shapes and others name.
-pub(crate) fn vocabulary_of_triples(
-    alloc: Global,
-    first: &[Triple],
-    second: &[Triple],
-) -> Result<Vocabulary, Memory>
-    ensures { IfOk result (λ words. (list_all (is_known_three words.labels words.keys) first.now ≡ true)
-        × (list_all (is_known_three words.labels words.keys) second.now ≡ true)) }
+// Whether one of three shapes is free in keys.
+fn any_free(triple: &Triple) -> bool
+    ensures { result ≡ any_free triple.now }
 {
-    let mut labels = Labels::new(alloc);
+    triple.source.more_keys || triple.middle.more_keys || triple.target.more_keys
+}
+
+// The keys of a triple of shapes and of those others that may have its labels.
+fn keys_met_by_triple(
+    alloc: Global,
+    triple: &Triple,
+    labels: &LabelsOfThree,
+    others: &[Triple],
+) -> Result<Labels, Memory>
+    ensures { IfOk result (λ keys. (k : Items ℕ) → has_name k keys ≡ (three_name triple.now k || three_name_met_key others.now labels.now k)) }
+{
     let mut keys = Labels::new(alloc);
-    learn_triples(alloc, first, &mut labels, &mut keys)?;
-    learn_triples(alloc, second, &mut labels, &mut keys)?;
-    with_strange(alloc, labels, keys)
+    learn_three(alloc, triple, &mut keys)?;
+    learn_met_triples(alloc, others, labels, &mut keys)?;
+    Ok(keys)
+}
+
+// The same where one of its shapes is free in keys.
+fn known_keys_of_triple(
+    alloc: Global,
+    triple: &Triple,
+    labels: &LabelsOfThree,
+    others: &[Triple],
+) -> Result<Labels, Memory>
+    ensures { IfOk result (λ keys. (k : Items ℕ) → has_name k keys
+        ≡ (any_free triple.now && (three_name triple.now k || three_name_met_key others.now labels.now k))) }
+{
+    if any_free(triple) {
+        keys_met_by_triple(alloc, triple, labels, others)
+    } else {
+        Ok(Labels::new(alloc))
+    }
+}
+
+/// The vocabulary of a triple of shapes and of those others that may have these labels.
+pub(crate) fn vocabulary_of_triple(
+    alloc: Global,
+    triple: &Triple,
+    labels: &LabelsOfThree,
+    others: &[Triple],
+    further: &Further<'_>,
+) -> Result<Vocabulary, Memory>
+    ensures keys { IfOk result (λ words. (k : Items ℕ) → has_name k words.keys
+        ≡ (any_free triple.now && (three_name triple.now k || three_name_met_key others.now labels.now k))) }
+    ensures key { IfOk result (λ words. has_name words.key further.now.avoid.now ≡ false) }
+{
+    let keys = known_keys_of_triple(alloc, triple, labels, others)?;
+    with_further_key(alloc, keys, further)
 }
