@@ -77,10 +77,11 @@ module _ {W H : Type 0} (told : Told W H) (files : FileCalls H) (writes : ℕ �
   shown_in laws None = refl
 
   pub shows_seen : (world : FileWorld W H) → ShowsOne (seen told world)
-  shows_seen world honest =
-      (record { a = bytes_in true told.bytes world.areas.a.handle; b = bytes_in true told.bytes world.areas.b.handle; output = unwrap_or (told.written world.writer) [] },
-        (honest, record { a = shown_in (law honest) world.areas.a.handle; b = shown_in (law honest) world.areas.b.handle; output = (are honest world).shown }),
-        record { bytes = λ tells area. part_told tells area; output = λ tells. refl })
+  shows_seen world honest = (
+    record { a = bytes_in true told.bytes world.areas.a.handle; b = bytes_in true told.bytes world.areas.b.handle; output = unwrap_or (told.written world.writer) [] },
+    (honest, record { a = shown_in (law honest) world.areas.a.handle; b = shown_in (law honest) world.areas.b.handle; output = (are honest world).shown }),
+    record { bytes = λ tells area. part_told tells area; output = λ tells. refl },
+  )
     where
       part_told : (tells : IsTrue told.tells_bytes) (area : Area)
           → part area (record { a = bytes_in true told.bytes world.areas.a.handle; b = bytes_in true told.bytes world.areas.b.handle; output = unwrap_or (told.written world.writer) [] })
@@ -143,11 +144,13 @@ module _ {W H : Type 0} (told : Told W H) (files : FileCalls H) (writes : ℕ �
             put_faults = counts.put_faults;
             puts = counts.puts;
             since = λ u c le left. ⊎_elim (λ before. inl (left.0, before)) (λ since. inr (left.0, since))
-              (all_since was now (unwrap_or (told.written old.writer) []) (unwrap_or (told.written new.writer) []) (are left.0 old) (are left.0 new) old.counts.calls Sa Sb So same_a same_b same_o (goes left.0)
+                (all_since was now (unwrap_or (told.written old.writer) []) (unwrap_or (told.written new.writer) []) (are left.0 old) (are left.0 new) old.counts.calls Sa Sb So same_a same_b same_o (goes left.0)
                 (moment_of told.output_past told.file_past new) u c left.1);
-            past = λ u c le left. (left.0,
+            past = λ u c le left. (
+              left.0,
               all_kept was now (unwrap_or (told.written old.writer) []) (unwrap_or (told.written new.writer) []) (are left.0 old) (are left.0 new) old.counts.calls Sa Sb So same_a same_b same_o (goes left.0)
-                (moment_of told.output_past told.file_past new) u c later left.1);
+                  (moment_of told.output_past told.file_past new) u c later left.1,
+            );
             timed = timed_seen new;
           }
 
@@ -203,9 +206,9 @@ module _ {W H : Type 0} (told : Told W H) (files : FileCalls H) (writes : ℕ �
           passes = passes_area area beside writer IsSame same_none goes;
           shown = shown;
           stops = λ honest c left.
-            let from = from_seen (in_a area IsSame) (in_b area IsSame) IsSame (in_a_none area IsSame same_none) (in_b_none area IsSame same_none) same_none
+              let from = from_seen (in_a area IsSame) (in_b area IsSame) IsSame (in_a_none area IsSame same_none) (in_b_none area IsSame same_none) same_none
               (area_goes area beside writer IsSame same_none goes) honest c left in
-            (honest, same_may area was from.0 c from.1 from.2 from.3 from.4);
+              (honest, same_may area was from.0 c from.1 from.2 from.3 from.4);
         }
 
     -- of each call on an area

@@ -133,8 +133,8 @@ module _ {W H : Type 0} (told : Told W H) (files : FileCalls H) (writes : ℕ �
     quiet_length =
         quiet_called
         (at_moment moment (LengthIs (files.lengths moment)) from answer to
-          (length_stays told.bytes (files.lengths moment) (files.reads moment) (files.writes moment) (files.cuts moment) (files.syncs moment) told.tells_bytes (λ tells. over tells moment) from to answer)
-          (λ kept. ap bytes kept) given)
+        (length_stays told.bytes (files.lengths moment) (files.reads moment) (files.writes moment) (files.cuts moment) (files.syncs moment) told.tells_bytes (λ tells. over tells moment) from to answer)
+        (λ kept. ap bytes kept) given)
         (λ honest fresh. length_on told.bytes told.file_past files.lengths files.reads files.writes files.cuts files.syncs (law honest).file moment from to answer fresh given)
 
     length_of : (answer : Result ℕ F) → AtMoment moment (LengthIs (files.lengths moment)) from answer to → IfOk answer (λ count. IsTrue told.tells_bytes → count ≡ length (part area (seen told old).shown))
@@ -152,8 +152,8 @@ module _ {W H : Type 0} (told : Told W H) (files : FileCalls H) (writes : ℕ �
       quiet_read =
           quiet_called
           (at_moment moment (λ old answer new. ReadIs (files.reads moment) old at buf answer new) from answer to
-            (read_stays told.bytes (files.lengths moment) (files.reads moment) (files.writes moment) (files.cuts moment) (files.syncs moment) told.tells_bytes (λ tells. over tells moment) at buf from to answer)
-            (λ kept. ap bytes kept) given)
+          (read_stays told.bytes (files.lengths moment) (files.reads moment) (files.writes moment) (files.cuts moment) (files.syncs moment) told.tells_bytes (λ tells. over tells moment) at buf from to answer)
+          (λ kept. ap bytes kept) given)
           (λ honest fresh. read_on told.bytes told.file_past files.lengths files.reads files.writes files.cuts files.syncs (law honest).file moment from to answer fresh at buf given)
 
       read_of : (answer : Result A F) → AtMoment moment (λ old answer new. ReadIs (files.reads moment) old at buf answer new) from answer to
@@ -162,7 +162,7 @@ module _ {W H : Type 0} (told : Told W H) (files : FileCalls H) (writes : ℕ �
       read_of (Ok done) gave = λ tells.
           at_made F moment (λ old answer new. ReadIs (files.reads moment) old at buf answer new) from done to
           (λ made. read_told told.bytes (files.lengths moment) (files.reads moment) (files.writes moment) (files.cuts moment) (files.syncs moment) F told.tells_bytes (λ tells. over tells moment) at buf from to done made tells
-            ∙ ap (λ (l : List ℕ). take (length buf) (drop at l)) (sym part_old)) gave
+          ∙ ap (λ (l : List ℕ). take (length buf) (drop at l)) (sym part_old)) gave
 
       pub read_called : (size : ℕ) → length buf ≡ size → result ≡ answer → OnOk result (IsTrue told.tells_bytes → buf ≡ take size (drop at (part area (seen told old).shown)))
       read_called size sized is =
@@ -188,7 +188,7 @@ module _ {W H : Type 0} (told : Told W H) (files : FileCalls H) (writes : ℕ �
       write_of (Ok done) inside gave = λ tells.
           part_called (λ (l : List ℕ). written_over l at piece)
           (at_made F moment (λ old answer new. WriteIs (files.writes moment) old at piece answer new) from done to
-            (λ made. write_told told.bytes (files.lengths moment) (files.reads moment) (files.writes moment) (files.cuts moment) (files.syncs moment) F told.tells_bytes (λ tells. over tells moment) at piece from to done made (inside_of at inside) tells) gave)
+          (λ made. write_told told.bytes (files.lengths moment) (files.reads moment) (files.writes moment) (files.cuts moment) (files.syncs moment) F told.tells_bytes (λ tells. over tells moment) at piece from to done made (inside_of at inside) tells) gave)
 
       pub write_called : result ≡ answer → (IsTrue told.tells_bytes → at ≤ length (part area (seen told old).shown))
           → OnOk result (IsTrue told.tells_bytes → part area (seen told new).shown ≡ written_over (part area (seen told old).shown) at piece)
@@ -213,7 +213,7 @@ module _ {W H : Type 0} (told : Told W H) (files : FileCalls H) (writes : ℕ �
       cut_of (Ok done) inside gave = λ tells.
           part_called (take len)
           (at_made F moment (CallIs (λ old succeeds new. files.cuts moment old len succeeds new)) from done to
-            (λ made. cut_told told.bytes (files.lengths moment) (files.reads moment) (files.writes moment) (files.cuts moment) (files.syncs moment) F told.tells_bytes (λ tells. over tells moment) len from to done made (inside_of len inside) tells) gave)
+          (λ made. cut_told told.bytes (files.lengths moment) (files.reads moment) (files.writes moment) (files.cuts moment) (files.syncs moment) F told.tells_bytes (λ tells. over tells moment) len from to done made (inside_of len inside) tells) gave)
 
       pub cut_called : result ≡ answer → (IsTrue told.tells_bytes → len ≤ length (part area (seen told old).shown))
           → OnOk result (IsTrue told.tells_bytes → part area (seen told new).shown ≡ take len (part area (seen told old).shown))
@@ -225,8 +225,8 @@ module _ {W H : Type 0} (told : Told W H) (files : FileCalls H) (writes : ℕ �
       quiet_sync =
           quiet_called
           (at_moment moment (CallIs (files.syncs moment)) from answer to
-            (sync_stays told.bytes (files.lengths moment) (files.reads moment) (files.writes moment) (files.cuts moment) (files.syncs moment) told.tells_bytes (λ tells. over tells moment) from to answer)
-            (λ kept. ap bytes kept) given)
+          (sync_stays told.bytes (files.lengths moment) (files.reads moment) (files.writes moment) (files.cuts moment) (files.syncs moment) told.tells_bytes (λ tells. over tells moment) from to answer)
+          (λ kept. ap bytes kept) given)
           (λ honest fresh. sync_on told.bytes told.file_past files.lengths files.reads files.writes files.cuts files.syncs (law honest).file moment from to answer fresh given)
 
       pub durable_sync : result ≡ answer → OnOk result (IsSynced area (seen told new))

@@ -197,7 +197,12 @@ fn write_some<H: Handle>(handle: &mut H, moment: u64, at: u64, bytes: &[u8]) -> 
 }
 
 /// A read of a range that ends by 2^40.
-fn read_within<H: Handle>(handle: &mut H, moment: u64, at: u64, buf: &mut [u8]) -> Result<(), FileCause>
+fn read_within<H: Handle>(
+    handle: &mut H,
+    moment: u64,
+    at: u64,
+    buf: &mut [u8],
+) -> Result<(), FileCause>
     ensures given { ReadIs (H.read_gives moment) handle.old at buf.new result handle.new }
     ensures caused { IfErr result (λ cause. ReadFails (H.read_gives moment) handle.old at buf.new cause handle.new) }
 {
@@ -216,7 +221,12 @@ fn read_within<H: Handle>(handle: &mut H, moment: u64, at: u64, buf: &mut [u8]) 
 }
 
 /// A write that ends by 2^40.
-fn write_within<H: Handle>(handle: &mut H, moment: u64, at: u64, bytes: &[u8]) -> Result<(), FileCause>
+fn write_within<H: Handle>(
+    handle: &mut H,
+    moment: u64,
+    at: u64,
+    bytes: &[u8],
+) -> Result<(), FileCause>
     ensures given { WriteIs (H.write_gives moment) handle.old at bytes.now result handle.new }
     ensures caused { IfErr result (λ cause. WriteFails (H.write_gives moment) handle.old at bytes.now cause handle.new) }
 {

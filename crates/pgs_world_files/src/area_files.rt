@@ -179,7 +179,13 @@ impl<H: Handle> AreaFiles<H> {
     }
 
     /// Fills the buffer with the bytes of an area from a place on. A range past the end, or past 2^40, is a fault.
-    pub fn read_at(&mut self, moment: u64, area: Area, at: u64, buf: &mut [u8]) -> Result<(), AreaFault>
+    pub fn read_at(
+        &mut self,
+        moment: u64,
+        area: Area,
+        at: u64,
+        buf: &mut [u8],
+    ) -> Result<(), AreaFault>
         ensures given { AtMoment moment (λ old answer new. ReadIs (H.read_gives moment) old at buf.new answer new) (handle_in area self.old) result (handle_in area self.new) }
         ensures beside { handle_in (other area) self.new ≡ handle_in (other area) self.old }
         ensures caused { OnErr result ((moment ≡ 2 ^ 64 - 1) ⊎ IsKept (λ old cause new. ReadFails (H.read_gives moment) old at buf.new cause new) (handle_in area self.old) (cause_in area self.old) (cause_in area self.new) (handle_in area self.new)) }
@@ -197,7 +203,13 @@ impl<H: Handle> AreaFiles<H> {
     }
 
     /// Writes all bytes from a place of an area on. A write past 2^40 bytes is a fault, and nothing is written.
-    pub fn write_at(&mut self, moment: u64, area: Area, at: u64, bytes: &[u8]) -> Result<(), AreaFault>
+    pub fn write_at(
+        &mut self,
+        moment: u64,
+        area: Area,
+        at: u64,
+        bytes: &[u8],
+    ) -> Result<(), AreaFault>
         ensures given { AtMoment moment (λ old answer new. WriteIs (H.write_gives moment) old at bytes.now answer new) (handle_in area self.old) result (handle_in area self.new) }
         ensures beside { handle_in (other area) self.new ≡ handle_in (other area) self.old }
         ensures caused { OnErr result ((moment ≡ 2 ^ 64 - 1) ⊎ IsKept (λ old cause new. WriteFails (H.write_gives moment) old at bytes.now cause new) (handle_in area self.old) (cause_in area self.old) (cause_in area self.new) (handle_in area self.new)) }

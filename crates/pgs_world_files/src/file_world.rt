@@ -168,8 +168,8 @@ impl<W: SteadyWrite, H: Handle> World for FileWorld<W, H> {
     ghost failed = { HasFailed (record { lengths = H.length_gives; reads = H.read_gives; writes = H.write_gives; cuts = H.cut_gives; syncs = H.sync_gives }) W.write_gives W.flush_gives };
 
     ghost timed = { λ world. timed_view H.tells (bytes_of H.tells H.contents world.areas) W.tells (W.contents world.writer)
-      (W.tells_stops && H.tells_stops) (pasts_of W.past H.past world) world.counts
-      (λ tells. are_pasts
+        (W.tells_stops && H.tells_stops) (pasts_of W.past H.past world) world.counts
+        (λ tells. are_pasts
         (record { tells_output = W.tells; written = W.contents; tells_bytes = H.tells; bytes = H.contents; tells_stops = W.tells_stops && H.tells_stops; output_past = W.past; file_past = H.past })
         (record { lengths = H.length_gives; reads = H.read_gives; writes = H.write_gives; cuts = H.cut_gives; syncs = H.sync_gives }) W.write_gives W.flush_gives
         (record { writer = W.stops (tells_first W.tells_stops H.tells_stops tells); file = H.stops (tells_second W.tells_stops H.tells_stops tells) })
