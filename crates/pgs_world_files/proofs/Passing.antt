@@ -1,22 +1,22 @@
 -- How the world over files and a writer goes on, where each of its parts does.
-use Rattle.std.proofs.Common.{◌≡◌, ◌⊎◌, ⊎_elim, ℕ, ◌^◌, ◌-◌, ◌≤◌, Bool, true, false, List, [], Option, Some, None, Result, Ok, Err, inl, inr, refl, sym, ap, subst, ◌∙◌, IsTrue, OnOk, OnErr, arith}
+use Rattle.std.proofs.Common.{◌≡◌, ⊎_elim, ℕ, ◌≤◌, true, List, [], Option, Some, None, Result, Ok, Err, inl, inr, refl, sym, subst, ◌∙◌, IsTrue, OnOk, OnErr, arith}
 use Rattle.std.specs.Option.{unwrap_or}
 use Rattle.std.proofs.lemmas.Bool.{false≢true}
 use Rattle.pgs_world.specs.declared.area.Area.{Area}
 use Rattle.pgs_world.specs.declared.area.Area.TheVariants.{A, B}
 use Rattle.pgs_world.specs.World.{Triple, part, other}
-use Rattle.pgs_world.specs.Calls.{IsAreaCall, IsPutCall}
+use Rattle.pgs_world.specs.Calls.{IsAreaCall}
 use Rattle.pgs_world.specs.Count.{Rose, RoseByOne}
 use Rattle.pgs_world.specs.Disk.{IsSameBeside, PutsFront}
-use Rattle.pgs_world.specs.Moment.{IsTimed, Passes, StopsBy, IsQuiet, ShowsOne, IsSynced, Shows, MakesNoPut}
+use Rattle.pgs_world.specs.Moment.{IsTimed, Passes, StopsBy, IsQuiet, ShowsOne, IsSynced}
 use Rattle.pgs_world_streams.specs.Given.{PlainCall, BareCall}
-use Rattle.pgs_world_streams.specs.Past.{Past, GoesOn, IsSame}
+use Rattle.pgs_world_streams.specs.Past.{GoesOn, IsSame}
 use Rattle.pgs_world_streams.specs.Pieces.{PieceIs, PutIs}
 use Rattle.pgs_world_streams.specs.Written.{IsLonger}
 use Rattle.pgs_world_streams.proofs.Moments.{rest_on, piece_on, longer_none}
 use Rattle.pgs_world_files.specs.declared.area_files.AreaFiles.{AreaFiles}
 use Rattle.pgs_world_files.specs.declared.file_world.FileWorld.{FileWorld}
-use Rattle.pgs_world_files.specs.Counted.{Told, Bytes, bytes_in, bytes_of, pasts_of, moment_of, seen, timed_view}
+use Rattle.pgs_world_files.specs.Counted.{Told, bytes_in, bytes_of, pasts_of, moment_of, seen, timed_view}
 use Rattle.pgs_world_files.specs.Failing.{FileCalls}
 use Rattle.pgs_world_files.specs.Handles.{CallIs, IfOpen, AtMoment, handle_in}
 use Rattle.pgs_world_files.specs.Joined.{Pasts, MayLeaveAll, ArePasts}

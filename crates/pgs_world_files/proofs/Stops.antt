@@ -1,10 +1,10 @@
 -- What a stop leaves of a file goes on, call by call.
-use Rattle.std.proofs.Common.{◌≡◌, ℕ, ◌+◌, ◌-◌, ◌<◌, ◌≤◌, max, Bool, true, false, List, [], ◌∷◌, ◌++◌, length, take, drop, Option, Some, None, Result, Ok, Err, inl, inr, refl, sym, ap, subst, ◌∙◌, add-zero, arith, length-drop}
+use Rattle.std.proofs.Common.{◌≡◌, ℕ, ◌+◌, ◌-◌, ◌≤◌, Bool, true, false, List, length, take, drop, Option, Some, None, Result, Ok, Err, inl, inr, refl, sym, ap, subst, ◌∙◌, arith, length-drop}
 use Rattle.std.proofs.lemmas.List.{take-take, drop-drop}
 use Rattle.std.specs.declared.io.Error.{Error}
 use Rattle.pgs_world.specs.Disk.{IsTorn, IsCutShort}
 use Rattle.pgs_world_streams.specs.Given.{PlacedCall, BareCall}
-use Rattle.pgs_world_streams.specs.Past.{Past, IsPast, GoesOn, IsSame}
+use Rattle.pgs_world_streams.specs.Past.{Past, GoesOn, IsSame}
 use Rattle.pgs_world_streams.specs.Tries.{AreInterrupted, ReadIsTried, WriteIsTried}
 use Rattle.pgs_world_streams.specs.Tries.AreInterrupted.{no_try, one_more}
 use Rattle.pgs_world_streams.specs.Whole.{HasRead, HasWritten}

@@ -1,17 +1,16 @@
 -- What a call on an area of the world over files leaves of the world.
-use Rattle.std.proofs.Common.{◌≡◌, ◌^◌, ◌-◌, ◌+◌, ℕ, ◌≤◌, Bool, List, [], Option, Result, Ok, Err, length, take, drop, inl, inr, sym, ap, ◌∙◌, subst, refl, IsTrue, IfOk, OnOk, OnErr, le_refl, arith}
-use Rattle.std.specs.Option.{unwrap_or, is_some}
+use Rattle.std.proofs.Common.{◌≡◌, ◌+◌, ℕ, ◌≤◌, List, [], Option, Result, Ok, Err, length, take, drop, inl, inr, sym, ap, ◌∙◌, subst, IsTrue, IfOk, OnOk, OnErr, le_refl, arith}
+use Rattle.std.specs.Option.{unwrap_or}
 use Rattle.std.proofs.lemmas.Bool.{false≢true}
-use Rattle.std.specs.declared.io.Error.{Error}
 use Rattle.pgs_world.specs.declared.area.Area.{Area}
 use Rattle.pgs_world.specs.declared.area.Area.TheVariants.{A, B}
 use Rattle.pgs_world.specs.Calls.{IsAreaCall, IsPutCall}
-use Rattle.pgs_world.specs.Count.{Rose, raised, RoseByOne}
+use Rattle.pgs_world.specs.Count.{Rose, raised}
 use Rattle.pgs_world.specs.Disk.{written_over, IsSameBeside, IsTorn, IsCutShort, Writes, Cuts, PutsFront}
 use Rattle.pgs_world.specs.Moment.{Passes, StopsBy, IsQuiet, IsSynced}
 use Rattle.pgs_world.specs.World.{part, other}
-use Rattle.pgs_world_streams.specs.Given.{PlacedCall, PlainCall, BareCall}
-use Rattle.pgs_world_streams.specs.Past.{Past, GoesOn, IsSame}
+use Rattle.pgs_world_streams.specs.Given.{PlainCall, BareCall}
+use Rattle.pgs_world_streams.specs.Past.{GoesOn, IsSame}
 use Rattle.pgs_world_streams.specs.Pieces.{PutIs}
 use Rattle.pgs_world_files.specs.declared.area_files.AreaFiles.{AreaFiles}
 use Rattle.pgs_world_files.specs.declared.file_world.FileWorld.{FileWorld}
@@ -23,7 +22,7 @@ use Rattle.pgs_world_files.specs.Laws.{AreLaws}
 use Rattle.pgs_world_files.specs.Stops.{past_in}
 use Rattle.pgs_world_files.proofs.Over.{length_stays, read_stays, sync_stays, length_told, read_told, write_told, cut_told}
 use Rattle.pgs_world_files.proofs.Passing.{AreCounted, passes_area, stops_area, quiet_area, call_area, synced_called, passes_put, stops_put, rose_seen, shows_seen}
-use Rattle.pgs_world_files.proofs.Stops.{same_none, torn_none, short_none, length_on, read_on, write_on, cut_on, sync_on}
+use Rattle.pgs_world_files.proofs.Stops.{torn_none, short_none, length_on, read_on, write_on, cut_on, sync_on}
 use Rattle.pgs_world_files.proofs.Views.{part_is, bytes_stay, beside_stays}
 
 -- the world after the call, which began at this moment: its files are those that the call left, and its counts didn't fall

@@ -1,6 +1,6 @@
 -- The world over files and a writer, as contracts see it: it tells the output where the writer tells, its areas where both files tell, and
 -- its counts. It is honest where the writer and both files tell what a stop may leave of them: of all of them at one moment, then.
-use Rattle.std.specs.Prelude.{◌≡◌, ℕ, Bool, true, false, List, [], Option, Some, None, IsTrue}
+use Rattle.std.specs.Prelude.{ℕ, Bool, true, false, List, [], Option, Some, None, IsTrue}
 use Rattle.std.specs.Option.{unwrap_or}
 use Rattle.pgs_world.specs.Moment.{IsTimed}
 use Rattle.pgs_world.specs.World.{Triple, View}

@@ -1,9 +1,8 @@
 -- Where the writer and the files of a world tell what a stop may leave, each part of it has a past.
-use Rattle.std.specs.Prelude.{◌≡◌, ℕ, Bool, true, false, ◌&&◌, List, [], Option, Some, None, Result, IsTrue, refl}
+use Rattle.std.specs.Prelude.{ℕ, Bool, true, false, ◌&&◌, [], Option, Some, None, IsTrue, refl}
 use Rattle.std.specs.Option.{unwrap_or}
 use Rattle.std.proofs.lemmas.Bool.{false≢true}
-use Rattle.std.specs.declared.io.Error.{Error}
-use Rattle.pgs_world_streams.specs.Given.{PlacedCall, PlainCall, BareCall}
+use Rattle.pgs_world_streams.specs.Given.{PlainCall, BareCall}
 use Rattle.pgs_world_streams.specs.Past.{Past, IsPast, empty_past}
 use Rattle.pgs_world_streams.specs.Written.{HasWriterStops}
 use Rattle.pgs_world_files.specs.declared.file_world.FileWorld.{FileWorld}
