@@ -1,4 +1,4 @@
-ghost use Rattle.std.specs.Prelude.{IfOk};
+ghost use Rattle.std.specs.Prelude.{IfOk, ◌&&◌};
 ghost use Rattle.pgcheck.specs.Program.{IsRunOfWords};
 ghost use Rattle.pgs_program.specs.Outside.{seed_of};
 
@@ -25,10 +25,15 @@ pub fn run_program<O: Opening, R: SteadyRead + Drop, W: SteadyWrite + Drop>(
     ensures { IfOk result (IsRunOfWords O.area_gives
         (record {
           remaining = R.remaining;
-          tells_output = W.tells;
-          written = W.contents;
-          tells_bytes = O.Area.tells;
-          bytes = O.Area.contents;
+          told = record {
+            tells_output = W.tells;
+            written = W.contents;
+            tells_bytes = O.Area.tells;
+            bytes = O.Area.contents;
+            tells_stops = W.tells_stops && O.Area.tells_stops;
+            output_past = W.past;
+            file_past = O.Area.past;
+          };
           read_made = ⟦<StdinSource<R> as Source>⟧.read_made;
           failed = ⟦<FileWorld<W, O::Area> as World>⟧.failed;
         })

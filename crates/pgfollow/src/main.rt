@@ -22,6 +22,7 @@ type Over<'a> = Ran<Stdin, Stdout, StoreFile<SystemFile<'a, HostRuntime>>>;
 struct Follower;
 
 impl Program<HostRuntime> for Follower {
+    ghost use Rattle.std.specs.Prelude.{◌&&◌};
     ghost use Rattle.pgs_base.specs.declared.seed.Seed.TheVariants.{Fixed};
     ghost use Rattle.pgs_program.specs.Outside.{HasNoFiles};
     ghost use Rattle.pgs_program.specs.Program.{EndsRunOf};
@@ -30,10 +31,15 @@ impl Program<HostRuntime> for Follower {
     ghost runs = { λ words status. EndsRunOf (spec_for words) HasNoFiles
         (record {
           remaining = ⟦<Stdin as Read>⟧.remaining;
-          tells_output = ⟦<Stdout as SteadyWrite>⟧.tells;
-          written = ⟦<Stdout as Write>⟧.contents;
-          tells_bytes = ⟦<StoreFile<SystemFile<'static, HostRuntime>> as Handle>⟧.tells;
-          bytes = ⟦<StoreFile<SystemFile<'static, HostRuntime>> as Handle>⟧.contents;
+          told = record {
+            tells_output = ⟦<Stdout as SteadyWrite>⟧.tells;
+            written = ⟦<Stdout as Write>⟧.contents;
+            tells_bytes = ⟦<StoreFile<SystemFile<'static, HostRuntime>> as Handle>⟧.tells;
+            bytes = ⟦<StoreFile<SystemFile<'static, HostRuntime>> as Handle>⟧.contents;
+            tells_stops = ⟦<Stdout as SteadyWrite>⟧.tells_stops && ⟦<StoreFile<SystemFile<'static, HostRuntime>> as Handle>⟧.tells_stops;
+            output_past = ⟦<Stdout as SteadyWrite>⟧.past;
+            file_past = ⟦<StoreFile<SystemFile<'static, HostRuntime>> as Handle>⟧.past;
+          };
           read_made = ⟦<StdinSource<Stdin> as Source>⟧.read_made;
           failed = ⟦<FileWorld<Stdout, StoreFile<SystemFile<'static, HostRuntime>>> as World>⟧.failed;
         })

@@ -1,3 +1,4 @@
+ghost use Rattle.std.specs.Prelude.{◌&&◌};
 ghost use Rattle.pgs_run_follow.specs.Spec.{spec_for};
 ghost use Rattle.pgs_program.specs.Outside.{HasNoFiles};
 ghost use Rattle.pgs_program.specs.Program.{IsRunOf};
@@ -21,10 +22,15 @@ pub fn run_program<R: SteadyRead + Drop, W: SteadyWrite + Drop, H: Handle>(
     ensures { IsRunOf (spec_for words.now) HasNoFiles
         (record {
           remaining = R.remaining;
-          tells_output = W.tells;
-          written = W.contents;
-          tells_bytes = H.tells;
-          bytes = H.contents;
+          told = record {
+            tells_output = W.tells;
+            written = W.contents;
+            tells_bytes = H.tells;
+            bytes = H.contents;
+            tells_stops = W.tells_stops && H.tells_stops;
+            output_past = W.past;
+            file_past = H.past;
+          };
           read_made = ⟦<StdinSource<R> as Source>⟧.read_made;
           failed = ⟦<FileWorld<W, H> as World>⟧.failed;
         })

@@ -25,15 +25,21 @@ const FIRST_FEED: usize = 2;
 struct Guard;
 
 impl Program<HostRuntime> for Guard {
+    ghost use Rattle.std.specs.Prelude.{◌&&◌};
     ghost use Rattle.pgguard.specs.Program.{EndsAs};
 
     ghost runs = { λ words status. EndsAs ⟦<SystemOpening<'static, HostRuntime> as Opening>⟧.area_gives ⟦<SystemOpening<'static, HostRuntime> as Opening>⟧.feed_gives
         (record {
           remaining = ⟦<Stdin as Read>⟧.remaining;
-          tells_output = ⟦<Stdout as SteadyWrite>⟧.tells;
-          written = ⟦<Stdout as Write>⟧.contents;
-          tells_bytes = ⟦<StoreFile<SystemFile<'static, HostRuntime>> as Handle>⟧.tells;
-          bytes = ⟦<StoreFile<SystemFile<'static, HostRuntime>> as Handle>⟧.contents;
+          told = record {
+            tells_output = ⟦<Stdout as SteadyWrite>⟧.tells;
+            written = ⟦<Stdout as Write>⟧.contents;
+            tells_bytes = ⟦<StoreFile<SystemFile<'static, HostRuntime>> as Handle>⟧.tells;
+            bytes = ⟦<StoreFile<SystemFile<'static, HostRuntime>> as Handle>⟧.contents;
+            tells_stops = ⟦<Stdout as SteadyWrite>⟧.tells_stops && ⟦<StoreFile<SystemFile<'static, HostRuntime>> as Handle>⟧.tells_stops;
+            output_past = ⟦<Stdout as SteadyWrite>⟧.past;
+            file_past = ⟦<StoreFile<SystemFile<'static, HostRuntime>> as Handle>⟧.past;
+          };
           read_made = ⟦<StdinSource<Stdin> as Source>⟧.read_made;
           failed = ⟦<FileWorld<Stdout, StoreFile<SystemFile<'static, HostRuntime>>> as World>⟧.failed;
         })

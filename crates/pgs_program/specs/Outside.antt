@@ -1,5 +1,5 @@
 -- What a program runs over, before its first call and as contracts see it.
-use Rattle.std.specs.Prelude.{◌≡◌, ℕ, Bool, List, Option, Some, None, Result, Ok, Err}
+use Rattle.std.specs.Prelude.{◌≡◌, ℕ, List, Option, Some, None, Result, Ok, Err}
 use Rattle.std.specs.declared.io.Error.{Error}
 use Rattle.std.specs.declared.random_state.RandomState.{RandomState}
 use Rattle.pgs_base.specs.declared.seed.Seed.{Seed}
@@ -9,7 +9,7 @@ use Rattle.pgs_feed.specs.Places.{Place}
 use Rattle.pgs_world_files.specs.declared.access.StoreAccess.{StoreAccess}
 use Rattle.pgs_world_files.specs.declared.area_files.AreaFiles.{AreaFiles}
 use Rattle.pgs_world_files.specs.declared.file_world.FileWorld.{FileWorld}
-use Rattle.pgs_world_files.specs.Counted.{seen}
+use Rattle.pgs_world_files.specs.Counted.{Told, seen}
 use Rattle.pgs_world_files.specs.Opened.{AreaGives, IsStoreOf}
 use Rattle.pgs_world_streams.specs.declared.stdin_source.StdinSource.{StdinSource}
 use Rattle.pgs_program.specs.declared.outside.Outside.{Outside}
@@ -35,19 +35,15 @@ abbrev pub AreFilesOf : {H : Type 0} → AreaGives H → (store : Option (List �
 AreFilesOf gives None access areas = HasNoFiles areas
 AreFilesOf gives (Some name) access areas = IsStoreOf gives name access areas
 
--- What a reader, a writer and files tell: the bytes that are left, those that were written, those that stand in a file; which reads of the
--- input were made, and that the last call on the areas or the output failed.
+-- What a reader, a writer and files tell: the bytes that are left, and those that were written, those that stand in a file, and what a stop may
+-- leave of both; which reads of the input were made, and that the last call on the areas or the output failed.
 pub record Telling (R W H : Type 0) : Type 1 where
   pub remaining : R → Option (List ℕ)
-  pub tells_output : Bool
-  pub written : W → Option (List ℕ)
-  pub tells_bytes : Bool
-  pub bytes : H → List ℕ
+  pub told : Told W H
   pub read_made : StdinSource R → (asked : ℕ) → Option ℕ → StdinSource R → Type 0
   pub failed : FileWorld W H → Type 0
 
 -- what contracts see of it, beside feeds that stand so
 abbrev pub setting_in : {R W H : Type 0} → Telling R W H → List Place → Outside R W H → Setting
 setting_in telling places outside =
-    setting_of (telling.remaining outside.source.reader) outside.source.faults
-    (seen telling.tells_output telling.written telling.tells_bytes telling.bytes outside.world) places
+    setting_of (telling.remaining outside.source.reader) outside.source.faults (seen telling.told outside.world) places

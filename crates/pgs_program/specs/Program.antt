@@ -14,7 +14,7 @@ use Rattle.pgs_run_lines.specs.declared.budget.TheConstants.{BUDGET}
 use Rattle.pgs_world_files.specs.declared.area_files.AreaFiles.{AreaFiles}
 
 -- A run of this command over this reader, this writer and such areas, from before the first call to its end: all that is promised of the
--- command holds. Where the status says that a call on the areas or the output failed, it was the last one; and these reads were made.
+-- command holds, also of what a stop at any moment of it may leave, where the writer and the files tell that. Where the status says that a call on the areas or the output failed, it was the last one; and these reads were made.
 pub record IsRunOf {R W H : Type 0} (spec : CommandSpec) (AreAreas : AreaFiles H → Type 0) (telling : Telling R W H) (reader : R) (writer : W)
     (seed : Seed) (ran : Ran R W H) : Type 0 where
   pub start : Outside R W H

@@ -4,6 +4,9 @@ pub mod Faults
 pub mod FeedFaults
 pub mod FeedLines
 pub mod FeedPuts
+pub mod Joined
 pub mod Over
+pub mod Passing
+pub mod Stops
 pub mod Views
 pub mod Worlds

@@ -1,55 +1,46 @@
--- How the world over files and a writer goes on: no count falls, what is known of the output is the writer's, and of each area its file's.
-use Rattle.std.proofs.Common.{◌≡◌, ℕ, ◌≤◌, Bool, true, false, List, Option, Some, None, inl, refl, sym, ap, ◌∙◌}
+-- What contracts see of the world over files and a writer: of the output what the writer tells, and of each area what its file does.
+use Rattle.std.proofs.Common.{◌≡◌, ℕ, Bool, true, false, List, [], Option, Some, None, IsTrue, refl, sym, ap, ◌∙◌, if◌then◌else◌}
 use Rattle.std.proofs.lemmas.Bool.{false≢true}
-use Rattle.std.specs.Option.{is_some}
+use Rattle.std.specs.Option.{is_some, unwrap_or}
 use Rattle.std.specs.Io.KnownBytes.{Appends}
 use Rattle.pgs_world.specs.declared.area.Area.{Area}
 use Rattle.pgs_world.specs.declared.area.Area.TheVariants.{A, B}
-use Rattle.pgs_world.specs.World.{Adds, AddsFront, output_of, part, other}
+use Rattle.pgs_world.specs.World.{Adds, AddsFront, part, other, output_of}
 use Rattle.pgs_world.specs.Disk.{IsSameBeside}
-use Rattle.pgs_world.specs.Moment.{Passes, IsQuiet}
-use Rattle.pgs_world_files.specs.Counted.{Bytes, bytes_in, bytes_of, view_of, seen, timed_view}
+use Rattle.pgs_world_files.specs.Counted.{Bytes, Told, bytes_in, bytes_of, seen}
 use Rattle.pgs_world_files.specs.Handles.{handle_in}
 use Rattle.pgs_world_streams.specs.Pieces.{AppendsFront}
 use Rattle.pgs_world_files.specs.declared.area_files.AreaFiles.{AreaFiles}
-use Rattle.pgs_world_files.specs.declared.counts.Counts.{Counts}
 use Rattle.pgs_world_files.specs.declared.file_world.FileWorld.{FileWorld}
 
-module _ (tells_bytes : Bool) (bytes : Bytes) where
-  -- what the world shows as its output, where the writer is steady
-  pub output_is : (tells : Bool) (contents : Option (List ℕ)) (counts : Counts) → is_some contents ≡ tells → output_of (view_of tells_bytes bytes tells contents counts) ≡ contents
-  output_is true None counts is = absurd (false≢true is)
-  output_is true (Some xs) counts is = refl
-  output_is false None counts is = refl
-  output_is false (Some xs) counts is = absurd (false≢true (sym is))
+abbrev told_output : Bool → Option (List ℕ) → Option (List ℕ)
+told_output tells contents = if tells then Some (unwrap_or contents []) else None
 
-  pub adds_view : (tells : Bool) (old new : Option (List ℕ)) (was is : Counts) (piece : List ℕ) → is_some old ≡ tells → is_some new ≡ tells → Appends old new piece
-      → Adds (output_of (view_of tells_bytes bytes tells old was)) (output_of (view_of tells_bytes bytes tells new is)) piece
-  adds_view true None new was is piece a b appends = absurd (false≢true a)
-  adds_view true (Some xs) None was is piece a b appends = absurd appends
-  adds_view true (Some xs) (Some ys) was is piece a b appends = ap Some appends
-  adds_view false old new was is piece a b appends = refl
+told_is : (tells : Bool) (contents : Option (List ℕ)) → is_some contents ≡ tells → told_output tells contents ≡ contents
+told_is true None is = absurd (false≢true is)
+told_is true (Some xs) is = refl
+told_is false None is = refl
+told_is false (Some xs) is = absurd (false≢true (sym is))
 
-  pub adds_front_view : (tells : Bool) (old new : Option (List ℕ)) (was is : Counts) (piece : List ℕ) → is_some old ≡ tells → is_some new ≡ tells → AppendsFront old new piece
-      → AddsFront (output_of (view_of tells_bytes bytes tells old was)) (output_of (view_of tells_bytes bytes tells new is)) piece
-  adds_front_view tells old new was is piece a b appends =
-      record { front = appends.front; back = appends.back; parts = appends.parts; added = adds_view tells old new was is appends.front a b appends.appends }
+adds_told : (tells : Bool) (old new : Option (List ℕ)) (piece : List ℕ) → is_some old ≡ tells → is_some new ≡ tells → Appends old new piece
+    → Adds (told_output tells old) (told_output tells new) piece
+adds_told true None new piece a b appends = absurd (false≢true a)
+adds_told true (Some xs) None piece a b appends = absurd appends
+adds_told true (Some xs) (Some ys) piece a b appends = ap Some appends
+adds_told false old new piece a b appends = refl
 
-pub passes_view : (tells_bytes : Bool) (bytes now : Bytes) (tells : Bool) (old new : Option (List ℕ)) (was is : Counts) → was.calls ≤ is.calls → was.area_faults ≤ is.area_faults → was.put_faults ≤ is.put_faults → was.puts ≤ is.puts
-    → Passes (view_of tells_bytes bytes tells old was) (view_of tells_bytes now tells new is)
-passes_view tells_bytes bytes now tells old new was is calls area_faults put_faults puts =
-    record {
-      honest = refl;
-      tells_bytes = refl;
-      tells_output = refl;
-      later = calls;
-      area_faults = area_faults;
-      put_faults = put_faults;
-      puts = puts;
-      since = λ t c le left. inl left;
-      past = λ t c le left. left;
-      timed = timed_view tells_bytes now tells new is;
-    }
+module _ {W H : Type 0} (told : Told W H) (steady : (writer : W) → is_some (told.written writer) ≡ told.tells_output) where
+  -- what the world shows as its output
+  pub output_is : (world : FileWorld W H) → output_of (seen told world) ≡ told.written world.writer
+  output_is world = told_is told.tells_output (told.written world.writer) (steady world.writer)
+
+  pub adds_view : (old new : FileWorld W H) (piece : List ℕ) → Appends (told.written old.writer) (told.written new.writer) piece → Adds (output_of (seen told old)) (output_of (seen told new)) piece
+  adds_view old new piece appends =
+      adds_told told.tells_output (told.written old.writer) (told.written new.writer) piece (steady old.writer) (steady new.writer) appends
+
+  pub adds_front_view : (old new : FileWorld W H) (piece : List ℕ) → AppendsFront (told.written old.writer) (told.written new.writer) piece → AddsFront (output_of (seen told old)) (output_of (seen told new)) piece
+  adds_front_view old new piece appends =
+      record { front = appends.front; back = appends.back; parts = appends.parts; added = adds_view old new appends.front appends.appends }
 
 module _ {H : Type 0} (tells : Bool) (contents : H → List ℕ) where
   -- the bytes of an area are those of its file
@@ -70,16 +61,10 @@ module _ {H : Type 0} (tells : Bool) (contents : H → List ℕ) where
   beside_stays A old new was is output beside = record { beside = ap (bytes_in tells contents) beside; output = output }
   beside_stays B old new was is output beside = record { beside = ap (bytes_in tells contents) beside; output = output }
 
-module _ {W H : Type 0} (tells_output : Bool) (output : W → Option (List ℕ)) (tells : Bool) (contents : H → List ℕ) (old new : FileWorld W H) where
-  -- a call that leaves the bytes and the writer
-  pub quiet_seen : bytes_of tells contents new.areas ≡ bytes_of tells contents old.areas → new.writer ≡ old.writer → Passes (seen tells_output output tells contents old) (seen tells_output output tells contents new) → IsQuiet (seen tells_output output tells contents old) (seen tells_output output tells contents new)
-  quiet_seen bytes writer passes =
-      record {
-        passes = passes;
-        shown = shown_same (bytes_of tells contents new.areas) (bytes_of tells contents old.areas) (output new.writer) (output old.writer) bytes (ap output writer);
-        stops = λ honest c left. left;
-      }
+  -- what an area shows is what its file holds
+  pub bytes_told : IsTrue tells → (handle : Option H) → bytes_in true contents handle ≡ bytes_in tells contents handle
+  bytes_told is handle = told_in tells is
     where
-      shown_same : (xs ys : Bytes) (p q : Option (List ℕ)) → xs ≡ ys → p ≡ q → (view_of tells xs tells_output p new.counts).shown ≡ (view_of tells ys tells_output q old.counts).shown
-      shown_same xs ys p q e f =
-          ap (λ (bs : Bytes). (view_of tells bs tells_output p new.counts).shown) e ∙ ap (λ (o : Option (List ℕ)). (view_of tells ys tells_output o new.counts).shown) f
+      told_in : (tells : Bool) → IsTrue tells → bytes_in true contents handle ≡ bytes_in tells contents handle
+      told_in true is = refl
+      told_in false is = absurd (false≢true is)

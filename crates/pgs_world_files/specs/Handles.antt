@@ -1,6 +1,6 @@
 -- What a call on an area in a file answers, by what its handle gave.
-use Rattle.std.specs.Prelude.{◌≡◌, ◌⊎◌, ℕ, ◌+◌, ◌<◌, ◌≤◌, true, false, List, length}
-use Rattle.std.specs.Prelude.{Option, Some, None, Result, Ok, Err}
+use Rattle.std.specs.Prelude.{◌≡◌, ◌⊎◌, ℕ, ◌+◌, ◌-◌, ◌^◌, ◌<◌, ◌≤◌, true, false, List, length}
+use Rattle.std.specs.Prelude.{Option, Some, None, Result, Ok, Err, IsErr}
 use Rattle.std.specs.declared.io.Error.{Error}
 use Rattle.pgs_world.specs.declared.area.Area.{Area}
 use Rattle.pgs_world.specs.declared.area.Area.TheVariants.{A, B}
@@ -38,6 +38,10 @@ IfOpen gives (Some old) answer (Some new) = gives old answer new
 IfOpen gives (Some old) answer None = ⊥
 IfOpen gives None (Ok _) new = ⊥
 IfOpen gives None (Err _) new = new ≡ None
+
+-- The same of a call that begins at a moment. At the last that a u64 can name it is a fault, and nothing is called.
+abbrev pub AtMoment : {H A F : Type 0} → ℕ → (H → Result A F → H → Type 0) → Option H → Result A F → Option H → Type 0
+AtMoment moment gives old answer new = IfOpen gives old answer new ⊎ ((moment ≡ 2 ^ 64 - 1) × (new ≡ old) × IsErr answer)
 
 -- the handle of this area
 abbrev pub handle_in : {H : Type 0} → Area → AreaFiles H → Option H

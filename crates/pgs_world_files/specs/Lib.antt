@@ -12,7 +12,10 @@ pub mod FeedLines
 pub mod FeedPuts
 pub mod Handles
 pub mod Head
+pub mod Joined
+pub mod Laws
 pub mod Named
 pub mod Opened
 pub mod Rewriting
+pub mod Stops
 pub mod SystemFiles

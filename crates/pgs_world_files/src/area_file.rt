@@ -4,6 +4,7 @@ ghost use Rattle.std.specs.Option.{is_some};
 ghost use Rattle.pgs_world_files.specs.Causes.{CallFails, IsKept, LengthFails, ReadFails, WriteFails};
 ghost use Rattle.pgs_world_files.specs.Handles.{LengthIs, ReadIs, WriteIs, CallIs, IfOpen};
 ghost use Rattle.pgs_world_files.specs.Opened.{is_taken};
+ghost use Rattle.pgs_world_files.specs.Stops.{past_in};
 ghost use Rattle.pgs_world_streams.specs.Tries.{ReadIsTried, WriteIsTried};
 
 use crate::{FileCause, Handle};
@@ -63,6 +64,16 @@ impl<H: Handle> AreaFile<H> {
         self.cause
     }
 
+    /// A moment behind all its calls.
+    pub fn until(&self) -> u64
+        ensures { result ≡ (past_in H.past self.now.handle).until }
+    {
+        match &self.handle {
+            Some(handle) => handle.until(),
+            None => 0,
+        }
+    }
+
     // A fault, and its cause.
     fn fault(&mut self, cause: FileCause) -> AreaFault
         ensures handle { self.new.handle ≡ self.old.handle }
@@ -73,12 +84,12 @@ impl<H: Handle> AreaFile<H> {
     }
 
     /// The length in bytes. More than 2^40 are a fault.
-    pub fn len(&mut self) -> Result<u64, AreaFault>
-        ensures given { IfOpen (LengthIs H.length_gives) self.old.handle result self.new.handle }
-        ensures caused { OnErr result (IsKept (LengthFails H.length_gives) self.old.handle self.old.cause self.new.cause self.new.handle) }
+    pub fn len(&mut self, moment: u64) -> Result<u64, AreaFault>
+        ensures given { IfOpen (LengthIs (H.length_gives moment)) self.old.handle result self.new.handle }
+        ensures caused { OnErr result (IsKept (LengthFails (H.length_gives moment)) self.old.handle self.old.cause self.new.cause self.new.handle) }
     {
         match &mut self.handle {
-            Some(handle) => match length_within(handle) {
+            Some(handle) => match length_within(handle, moment) {
                 Ok(done) => Ok(done),
                 Err(cause) => Err(self.fault(cause)),
             },
@@ -87,12 +98,12 @@ impl<H: Handle> AreaFile<H> {
     }
 
     /// Fills the buffer with the bytes from a place on. A range past the end, or past 2^40, is a fault.
-    pub fn read_at(&mut self, at: u64, buf: &mut [u8]) -> Result<(), AreaFault>
-        ensures given { IfOpen (λ old answer new. ReadIs H.read_gives old at buf.new answer new) self.old.handle result self.new.handle }
-        ensures caused { OnErr result (IsKept (λ old cause new. ReadFails H.read_gives old at buf.new cause new) self.old.handle self.old.cause self.new.cause self.new.handle) }
+    pub fn read_at(&mut self, moment: u64, at: u64, buf: &mut [u8]) -> Result<(), AreaFault>
+        ensures given { IfOpen (λ old answer new. ReadIs (H.read_gives moment) old at buf.new answer new) self.old.handle result self.new.handle }
+        ensures caused { OnErr result (IsKept (λ old cause new. ReadFails (H.read_gives moment) old at buf.new cause new) self.old.handle self.old.cause self.new.cause self.new.handle) }
     {
         match &mut self.handle {
-            Some(handle) => match read_within(handle, at, buf) {
+            Some(handle) => match read_within(handle, moment, at, buf) {
                 Ok(done) => Ok(done),
                 Err(cause) => Err(self.fault(cause)),
             },
@@ -101,12 +112,12 @@ impl<H: Handle> AreaFile<H> {
     }
 
     /// Writes all bytes from a place on. A write past 2^40 bytes is a fault, and nothing is written.
-    pub fn write_at(&mut self, at: u64, bytes: &[u8]) -> Result<(), AreaFault>
-        ensures given { IfOpen (λ old answer new. WriteIs H.write_gives old at bytes.now answer new) self.old.handle result self.new.handle }
-        ensures caused { OnErr result (IsKept (λ old cause new. WriteFails H.write_gives old at bytes.now cause new) self.old.handle self.old.cause self.new.cause self.new.handle) }
+    pub fn write_at(&mut self, moment: u64, at: u64, bytes: &[u8]) -> Result<(), AreaFault>
+        ensures given { IfOpen (λ old answer new. WriteIs (H.write_gives moment) old at bytes.now answer new) self.old.handle result self.new.handle }
+        ensures caused { OnErr result (IsKept (λ old cause new. WriteFails (H.write_gives moment) old at bytes.now cause new) self.old.handle self.old.cause self.new.cause self.new.handle) }
     {
         match &mut self.handle {
-            Some(handle) => match write_within(handle, at, bytes) {
+            Some(handle) => match write_within(handle, moment, at, bytes) {
                 Ok(done) => Ok(done),
                 Err(cause) => Err(self.fault(cause)),
             },
@@ -115,12 +126,12 @@ impl<H: Handle> AreaFile<H> {
     }
 
     /// Cuts the file to a length.
-    pub fn cut(&mut self, len: u64) -> Result<(), AreaFault>
-        ensures given { IfOpen (CallIs (λ old succeeds new. H.cut_gives old len succeeds new)) self.old.handle result self.new.handle }
-        ensures caused { OnErr result (IsKept (CallFails (λ old succeeds new. H.cut_gives old len succeeds new)) self.old.handle self.old.cause self.new.cause self.new.handle) }
+    pub fn cut(&mut self, moment: u64, len: u64) -> Result<(), AreaFault>
+        ensures given { IfOpen (CallIs (λ old succeeds new. H.cut_gives moment old len succeeds new)) self.old.handle result self.new.handle }
+        ensures caused { OnErr result (IsKept (CallFails (λ old succeeds new. H.cut_gives moment old len succeeds new)) self.old.handle self.old.cause self.new.cause self.new.handle) }
     {
         match &mut self.handle {
-            Some(handle) => match handle.cut_once(len) {
+            Some(handle) => match handle.cut_once(moment, len) {
                 Ok(()) => Ok(()),
                 Err(error) => Err(self.fault(FileCause::of(&error))),
             },
@@ -129,12 +140,12 @@ impl<H: Handle> AreaFile<H> {
     }
 
     /// After it, what was written stands on the disk.
-    pub fn sync(&mut self) -> Result<(), AreaFault>
-        ensures given { IfOpen (CallIs H.sync_gives) self.old.handle result self.new.handle }
-        ensures caused { OnErr result (IsKept (CallFails H.sync_gives) self.old.handle self.old.cause self.new.cause self.new.handle) }
+    pub fn sync(&mut self, moment: u64) -> Result<(), AreaFault>
+        ensures given { IfOpen (CallIs (H.sync_gives moment)) self.old.handle result self.new.handle }
+        ensures caused { OnErr result (IsKept (CallFails (H.sync_gives moment)) self.old.handle self.old.cause self.new.cause self.new.handle) }
     {
         match &mut self.handle {
-            Some(handle) => match handle.sync_once() {
+            Some(handle) => match handle.sync_once(moment) {
                 Ok(()) => Ok(()),
                 Err(error) => Err(self.fault(FileCause::of(&error))),
             },
@@ -144,11 +155,11 @@ impl<H: Handle> AreaFile<H> {
 }
 
 /// The length of a file of at most 2^40 bytes.
-fn length_within<H: Handle>(handle: &mut H) -> Result<u64, FileCause>
-    ensures given { LengthIs H.length_gives handle.old result handle.new }
-    ensures caused { IfErr result (λ cause. LengthFails H.length_gives handle.old cause handle.new) }
+fn length_within<H: Handle>(handle: &mut H, moment: u64) -> Result<u64, FileCause>
+    ensures given { LengthIs (H.length_gives moment) handle.old result handle.new }
+    ensures caused { IfErr result (λ cause. LengthFails (H.length_gives moment) handle.old cause handle.new) }
 {
-    match handle.length_once() {
+    match handle.length_once(moment) {
         Ok(count) if !passes_limit(count, 0) => Ok(count),
         Ok(_) => Err(FileCause::Long),
         Err(error) => Err(FileCause::of(&error)),
@@ -156,13 +167,13 @@ fn length_within<H: Handle>(handle: &mut H) -> Result<u64, FileCause>
 }
 
 /// One read, made again where it is interrupted.
-fn read_some<H: Handle>(handle: &mut H, at: u64, buf: &mut [u8]) -> io::Result<usize>
+fn read_some<H: Handle>(handle: &mut H, moment: u64, at: u64, buf: &mut [u8]) -> io::Result<usize>
     ensures bound { ReadsAtMost result buf.new }
-    ensures tried { ReadIsTried H.read_gives handle.old at buf.new result handle.new }
+    ensures tried { ReadIsTried (H.read_gives moment) handle.old at buf.new result handle.new }
 {
     let mut tries = 0;
     loop {
-        let answer = handle.read_once(at, buf);
+        let answer = handle.read_once(moment, at, buf);
         tries += 1;
         if !is_tried_again(&answer, tries) {
             return answer;
@@ -171,13 +182,13 @@ fn read_some<H: Handle>(handle: &mut H, at: u64, buf: &mut [u8]) -> io::Result<u
 }
 
 /// One write, made again where it is interrupted.
-fn write_some<H: Handle>(handle: &mut H, at: u64, bytes: &[u8]) -> io::Result<usize>
+fn write_some<H: Handle>(handle: &mut H, moment: u64, at: u64, bytes: &[u8]) -> io::Result<usize>
     ensures bound { WritesAtMost result bytes.now }
-    ensures tried { WriteIsTried H.write_gives handle.old at bytes.now result handle.new }
+    ensures tried { WriteIsTried (H.write_gives moment) handle.old at bytes.now result handle.new }
 {
     let mut tries = 0;
     loop {
-        let answer = handle.write_once(at, bytes);
+        let answer = handle.write_once(moment, at, bytes);
         tries += 1;
         if !is_tried_again(&answer, tries) {
             return answer;
@@ -186,16 +197,21 @@ fn write_some<H: Handle>(handle: &mut H, at: u64, bytes: &[u8]) -> io::Result<us
 }
 
 /// A read of a range that ends by 2^40.
-fn read_within<H: Handle>(handle: &mut H, at: u64, buf: &mut [u8]) -> Result<(), FileCause>
-    ensures given { ReadIs H.read_gives handle.old at buf.new result handle.new }
-    ensures caused { IfErr result (λ cause. ReadFails H.read_gives handle.old at buf.new cause handle.new) }
+fn read_within<H: Handle>(
+    handle: &mut H,
+    moment: u64,
+    at: u64,
+    buf: &mut [u8],
+) -> Result<(), FileCause>
+    ensures given { ReadIs (H.read_gives moment) handle.old at buf.new result handle.new }
+    ensures caused { IfErr result (λ cause. ReadFails (H.read_gives moment) handle.old at buf.new cause handle.new) }
 {
     if passes_limit(at, buf.len() as u64) {
         return Err(FileCause::Long);
     }
     let mut done = 0;
     while done < buf.len() {
-        match read_some(handle, at + done as u64, &mut buf[done..]) {
+        match read_some(handle, moment, at + done as u64, &mut buf[done..]) {
             Ok(0) => return Err(FileCause::Short),
             Ok(count) => done += count,
             Err(error) => return Err(FileCause::of(&error)),
@@ -205,16 +221,21 @@ fn read_within<H: Handle>(handle: &mut H, at: u64, buf: &mut [u8]) -> Result<(),
 }
 
 /// A write that ends by 2^40.
-fn write_within<H: Handle>(handle: &mut H, at: u64, bytes: &[u8]) -> Result<(), FileCause>
-    ensures given { WriteIs H.write_gives handle.old at bytes.now result handle.new }
-    ensures caused { IfErr result (λ cause. WriteFails H.write_gives handle.old at bytes.now cause handle.new) }
+fn write_within<H: Handle>(
+    handle: &mut H,
+    moment: u64,
+    at: u64,
+    bytes: &[u8],
+) -> Result<(), FileCause>
+    ensures given { WriteIs (H.write_gives moment) handle.old at bytes.now result handle.new }
+    ensures caused { IfErr result (λ cause. WriteFails (H.write_gives moment) handle.old at bytes.now cause handle.new) }
 {
     if passes_limit(at, bytes.len() as u64) {
         return Err(FileCause::Long);
     }
     let mut done = 0;
     while done < bytes.len() {
-        match write_some(handle, at + done as u64, &bytes[done..]) {
+        match write_some(handle, moment, at + done as u64, &bytes[done..]) {
             Ok(0) => return Err(FileCause::Call(Cause::NoSpace)),
             Ok(count) => done += count,
             Err(error) => return Err(FileCause::of(&error)),

@@ -1,17 +1,20 @@
-ghost use Rattle.std.specs.Prelude.{◌≡◌, ◌++◌, None, Some, IfOk, OnOk, OnErr, string_bytes};
+ghost use Rattle.std.specs.Prelude.{◌≡◌, ◌⊎◌, ◌-◌, ◌^◌, ◌++◌, max, None, Some, IfOk, OnOk, OnErr, string_bytes};
 ghost use Rattle.std.specs.Option.{option_map};
 ghost use Rattle.pgs_world.specs.World.{other};
+ghost use Rattle.pgs_world.specs.declared.area.Area.TheVariants.{A, B};
 ghost use Rattle.pgs_world_files.specs.Causes.{CallFails, IsKept, LengthFails, ReadFails, WriteFails};
 ghost use Rattle.pgs_world_files.specs.FailedFiles.{FailedFile, cause_in, cause_of, cause_of_opening};
-ghost use Rattle.pgs_world_files.specs.Handles.{LengthIs, ReadIs, WriteIs, CallIs, IfOpen, handle_in};
+ghost use Rattle.pgs_world_files.specs.Handles.{AtMoment, LengthIs, ReadIs, WriteIs, CallIs, handle_in};
 ghost use Rattle.pgs_world_files.specs.Opened.{AreOpened, IsStoreOf};
+ghost use Rattle.pgs_world_files.specs.Stops.{past_in};
 
 use crate::{Access, AreaFile, FileCause, Handle, Opening, StoreAccess};
 use pgs_base::Memory;
 use pgs_world::{Area, AreaFault};
 use std::alloc::Global;
 
-/// The two areas of a store, each in a file.
+/// The two areas of a store, each in a file. A call on them begins at a moment; at the last one that a u64 can name it is a fault, and nothing is
+/// called.
 #[derive(Drop)]
 pub struct AreaFiles<H: Handle> {
     a: AreaFile<H>,
@@ -150,76 +153,110 @@ impl<H: Handle> AreaFiles<H> {
         AreaFiles::new(AreaFile::absent(None), AreaFile::absent(None))
     }
 
-    /// The length of an area, in bytes. More than 2^40 are a fault.
-    pub fn len(&mut self, area: Area) -> Result<u64, AreaFault>
-        ensures given { IfOpen (LengthIs H.length_gives) (handle_in area self.old) result (handle_in area self.new) }
-        ensures beside { handle_in (other area) self.new ≡ handle_in (other area) self.old }
-        ensures caused { OnErr result (IsKept (LengthFails H.length_gives) (handle_in area self.old) (cause_in area self.old) (cause_in area self.new) (handle_in area self.new)) }
-        ensures failed { OnErr result (self.new.failed ≡ Some area) }
+    /// A moment behind all calls on them.
+    pub fn until(&self) -> u64
+        ensures { result ≡ max (past_in H.past (handle_in A self.now)).until (past_in H.past (handle_in B self.now)).until }
     {
+        self.a.until().max(self.b.until())
+    }
+
+    /// The length of an area, in bytes. More than 2^40 are a fault.
+    pub fn len(&mut self, moment: u64, area: Area) -> Result<u64, AreaFault>
+        ensures given { AtMoment moment (LengthIs (H.length_gives moment)) (handle_in area self.old) result (handle_in area self.new) }
+        ensures beside { handle_in (other area) self.new ≡ handle_in (other area) self.old }
+        ensures caused { OnErr result ((moment ≡ 2 ^ 64 - 1) ⊎ IsKept (LengthFails (H.length_gives moment)) (handle_in area self.old) (cause_in area self.old) (cause_in area self.new) (handle_in area self.new)) }
+        ensures failed { OnErr result ((moment ≡ 2 ^ 64 - 1) ⊎ (self.new.failed ≡ Some area)) }
+    {
+        if moment == u64::MAX {
+            return Err(AreaFault);
+        }
         let answer = match area {
-            Area::A => self.a.len(),
-            Area::B => self.b.len(),
+            Area::A => self.a.len(moment),
+            Area::B => self.b.len(moment),
         };
         self.note(area, &answer);
         answer
     }
 
     /// Fills the buffer with the bytes of an area from a place on. A range past the end, or past 2^40, is a fault.
-    pub fn read_at(&mut self, area: Area, at: u64, buf: &mut [u8]) -> Result<(), AreaFault>
-        ensures given { IfOpen (λ old answer new. ReadIs H.read_gives old at buf.new answer new) (handle_in area self.old) result (handle_in area self.new) }
+    pub fn read_at(
+        &mut self,
+        moment: u64,
+        area: Area,
+        at: u64,
+        buf: &mut [u8],
+    ) -> Result<(), AreaFault>
+        ensures given { AtMoment moment (λ old answer new. ReadIs (H.read_gives moment) old at buf.new answer new) (handle_in area self.old) result (handle_in area self.new) }
         ensures beside { handle_in (other area) self.new ≡ handle_in (other area) self.old }
-        ensures caused { OnErr result (IsKept (λ old cause new. ReadFails H.read_gives old at buf.new cause new) (handle_in area self.old) (cause_in area self.old) (cause_in area self.new) (handle_in area self.new)) }
-        ensures failed { OnErr result (self.new.failed ≡ Some area) }
+        ensures caused { OnErr result ((moment ≡ 2 ^ 64 - 1) ⊎ IsKept (λ old cause new. ReadFails (H.read_gives moment) old at buf.new cause new) (handle_in area self.old) (cause_in area self.old) (cause_in area self.new) (handle_in area self.new)) }
+        ensures failed { OnErr result ((moment ≡ 2 ^ 64 - 1) ⊎ (self.new.failed ≡ Some area)) }
     {
+        if moment == u64::MAX {
+            return Err(AreaFault);
+        }
         let answer = match area {
-            Area::A => self.a.read_at(at, buf),
-            Area::B => self.b.read_at(at, buf),
+            Area::A => self.a.read_at(moment, at, buf),
+            Area::B => self.b.read_at(moment, at, buf),
         };
         self.note(area, &answer);
         answer
     }
 
     /// Writes all bytes from a place of an area on. A write past 2^40 bytes is a fault, and nothing is written.
-    pub fn write_at(&mut self, area: Area, at: u64, bytes: &[u8]) -> Result<(), AreaFault>
-        ensures given { IfOpen (λ old answer new. WriteIs H.write_gives old at bytes.now answer new) (handle_in area self.old) result (handle_in area self.new) }
+    pub fn write_at(
+        &mut self,
+        moment: u64,
+        area: Area,
+        at: u64,
+        bytes: &[u8],
+    ) -> Result<(), AreaFault>
+        ensures given { AtMoment moment (λ old answer new. WriteIs (H.write_gives moment) old at bytes.now answer new) (handle_in area self.old) result (handle_in area self.new) }
         ensures beside { handle_in (other area) self.new ≡ handle_in (other area) self.old }
-        ensures caused { OnErr result (IsKept (λ old cause new. WriteFails H.write_gives old at bytes.now cause new) (handle_in area self.old) (cause_in area self.old) (cause_in area self.new) (handle_in area self.new)) }
-        ensures failed { OnErr result (self.new.failed ≡ Some area) }
+        ensures caused { OnErr result ((moment ≡ 2 ^ 64 - 1) ⊎ IsKept (λ old cause new. WriteFails (H.write_gives moment) old at bytes.now cause new) (handle_in area self.old) (cause_in area self.old) (cause_in area self.new) (handle_in area self.new)) }
+        ensures failed { OnErr result ((moment ≡ 2 ^ 64 - 1) ⊎ (self.new.failed ≡ Some area)) }
     {
+        if moment == u64::MAX {
+            return Err(AreaFault);
+        }
         let answer = match area {
-            Area::A => self.a.write_at(at, bytes),
-            Area::B => self.b.write_at(at, bytes),
+            Area::A => self.a.write_at(moment, at, bytes),
+            Area::B => self.b.write_at(moment, at, bytes),
         };
         self.note(area, &answer);
         answer
     }
 
     /// Cuts an area to a length.
-    pub fn cut(&mut self, area: Area, len: u64) -> Result<(), AreaFault>
-        ensures given { IfOpen (CallIs (λ old succeeds new. H.cut_gives old len succeeds new)) (handle_in area self.old) result (handle_in area self.new) }
+    pub fn cut(&mut self, moment: u64, area: Area, len: u64) -> Result<(), AreaFault>
+        ensures given { AtMoment moment (CallIs (λ old succeeds new. H.cut_gives moment old len succeeds new)) (handle_in area self.old) result (handle_in area self.new) }
         ensures beside { handle_in (other area) self.new ≡ handle_in (other area) self.old }
-        ensures caused { OnErr result (IsKept (CallFails (λ old succeeds new. H.cut_gives old len succeeds new)) (handle_in area self.old) (cause_in area self.old) (cause_in area self.new) (handle_in area self.new)) }
-        ensures failed { OnErr result (self.new.failed ≡ Some area) }
+        ensures caused { OnErr result ((moment ≡ 2 ^ 64 - 1) ⊎ IsKept (CallFails (λ old succeeds new. H.cut_gives moment old len succeeds new)) (handle_in area self.old) (cause_in area self.old) (cause_in area self.new) (handle_in area self.new)) }
+        ensures failed { OnErr result ((moment ≡ 2 ^ 64 - 1) ⊎ (self.new.failed ≡ Some area)) }
     {
+        if moment == u64::MAX {
+            return Err(AreaFault);
+        }
         let answer = match area {
-            Area::A => self.a.cut(len),
-            Area::B => self.b.cut(len),
+            Area::A => self.a.cut(moment, len),
+            Area::B => self.b.cut(moment, len),
         };
         self.note(area, &answer);
         answer
     }
 
     /// After it, what was written to an area stands on the disk.
-    pub fn sync(&mut self, area: Area) -> Result<(), AreaFault>
-        ensures given { IfOpen (CallIs H.sync_gives) (handle_in area self.old) result (handle_in area self.new) }
+    pub fn sync(&mut self, moment: u64, area: Area) -> Result<(), AreaFault>
+        ensures given { AtMoment moment (CallIs (H.sync_gives moment)) (handle_in area self.old) result (handle_in area self.new) }
         ensures beside { handle_in (other area) self.new ≡ handle_in (other area) self.old }
-        ensures caused { OnErr result (IsKept (CallFails H.sync_gives) (handle_in area self.old) (cause_in area self.old) (cause_in area self.new) (handle_in area self.new)) }
-        ensures failed { OnErr result (self.new.failed ≡ Some area) }
+        ensures caused { OnErr result ((moment ≡ 2 ^ 64 - 1) ⊎ IsKept (CallFails (H.sync_gives moment)) (handle_in area self.old) (cause_in area self.old) (cause_in area self.new) (handle_in area self.new)) }
+        ensures failed { OnErr result ((moment ≡ 2 ^ 64 - 1) ⊎ (self.new.failed ≡ Some area)) }
     {
+        if moment == u64::MAX {
+            return Err(AreaFault);
+        }
         let answer = match area {
-            Area::A => self.a.sync(),
-            Area::B => self.b.sync(),
+            Area::A => self.a.sync(moment),
+            Area::B => self.b.sync(moment),
         };
         self.note(area, &answer);
         answer

@@ -14,7 +14,7 @@ use pgs_world_streams::{SteadyWrite, write_whole};
 /// A feed into a file: an open file, behind whose bytes each piece is written, or none, and then every put is a fault. It keeps the number
 /// of the file's last line, where that is known, and the cause of its last fault, or why there is no file.
 ///
-/// It tells nothing of its bytes, since no clause says what a file holds.
+/// It tells nothing of its bytes, since no clause says what a file holds, nor what a stop leaves of them: so all its calls begin at the moment 0.
 #[derive(Drop)]
 pub struct FileFeed<W: SteadyWrite + Drop> {
     writer: Option<W>,
@@ -76,7 +76,7 @@ impl<W: SteadyWrite + Drop> FileFeed<W> {
     // Writes the whole piece and flushes it. The cause where there is a file, and that failed.
     fn write(&mut self, piece: &[u8]) -> Result<(), Option<FeedCause>>
         ensures holds { IfOpen (λ old answer new. HoldsPiece W.contents old piece.now answer new) self.old.writer result self.new.writer }
-        ensures given { IfOpen (λ old answer new. FeedPutIs W.write_gives W.flush_gives (is_behind self.old.last piece.now) old piece.now answer new) self.old.writer result self.new.writer }
+        ensures given { IfOpen (λ old answer new. FeedPutIs (W.write_gives 0) (W.flush_gives 0) (is_behind self.old.last piece.now) old piece.now answer new) self.old.writer result self.new.writer }
         ensures told { IfErr result (IsPutCause self.old.writer (is_behind self.old.last piece.now) self.old.cause) }
         ensures last { self.new.last ≡ self.old.last }
         ensures faults { self.new.faults ≡ self.old.faults }
@@ -87,7 +87,7 @@ impl<W: SteadyWrite + Drop> FileFeed<W> {
         if is_behind(self.last, piece) {
             return Err(Some(FeedCause::Ahead));
         }
-        match write_whole(writer, piece) {
+        match write_whole(writer, 0, piece) {
             Ok(()) => Ok(()),
             Err(error) => Err(Some(FeedCause::File(FileCause::of(&error)))),
         }
@@ -102,14 +102,14 @@ impl<W: SteadyWrite + Drop> Feed for FileFeed<W> {
 
     ghost faults = { λ feed. feed.faults };
 
-    ghost put_made = { IsPutInto W.write_gives W.flush_gives };
+    ghost put_made = { IsPutInto (W.write_gives 0) (W.flush_gives 0) };
 
     /// Writes the whole piece behind the end of the file and flushes it, or counts a fault and keeps its cause; a front of the piece may be
     /// written then, but nothing of one that isn't above the file's last line.
     #[tactic(auto, using(crate::proofs::FeedPuts::put_into))]
     fn put(&mut self, piece: &[u8]) -> Result<(), FeedFault>
         ensures holds { IfOpen (λ old answer new. HoldsPiece W.contents old piece.now answer new) self.old.writer result self.new.writer }
-        ensures given { IfOpen (λ old answer new. FeedPutIs W.write_gives W.flush_gives (is_behind self.old.last piece.now) old piece.now answer new) self.old.writer result self.new.writer }
+        ensures given { IfOpen (λ old answer new. FeedPutIs (W.write_gives 0) (W.flush_gives 0) (is_behind self.old.last piece.now) old piece.now answer new) self.old.writer result self.new.writer }
         ensures told { OnErr result (IsPutCause self.old.writer (is_behind self.old.last piece.now) self.old.cause self.new.cause) }
         ensures last { self.new.last ≡ self.old.last }
         ensures raised { OnErr result (self.new.faults ≡ raised self.old.faults) }

@@ -1,4 +1,4 @@
-ghost use Rattle.std.specs.Prelude.{◌≡◌, ◌+◌, ◌≤◌, length, IfOk, OnOk, OnErr};
+ghost use Rattle.std.specs.Prelude.{◌≡◌, ◌⊎◌, ◌+◌, ◌-◌, ◌^◌, ◌<◌, ◌≤◌, ◌&&◌, not, IsTrue, length, IfOk, OnOk, OnErr};
 ghost use Rattle.std.specs.Io.KnownBytes.{Appends};
 ghost use Rattle.std.specs.Option.{option_map};
 ghost use Rattle.pgs_world.specs.Calls.{Reaches, HasLength, HasBytes, IsWrittenOver, IsCutTo, IsAreaCall, IsPutCall};
@@ -7,9 +7,9 @@ ghost use Rattle.pgs_world.specs.Disk.{IsSameBeside, Writes, Cuts, PutsFront};
 ghost use Rattle.pgs_world.specs.Moment.{Passes, StopsBy, IsQuiet, IsSynced};
 ghost use Rattle.pgs_world.specs.World.{output_of, other, Adds, AddsFront};
 ghost use Rattle.pgs_world.specs.declared.area_limit.TheConstants.{AREA_LIMIT};
-ghost use Rattle.pgs_world_files.specs.Counted.{seen};
+ghost use Rattle.pgs_world_files.specs.Counted.{moment_of};
 ghost use Rattle.pgs_world_files.specs.FailedFiles.{FailedFile, cause_of};
-ghost use Rattle.pgs_world_files.specs.Handles.{LengthIs, ReadIs, WriteIs, CallIs, IfOpen, handle_in};
+ghost use Rattle.pgs_world_files.specs.Handles.{AtMoment, LengthIs, ReadIs, WriteIs, CallIs, handle_in};
 ghost use Rattle.pgs_world_streams.specs.Pieces.{AppendsFront, PutIs};
 
 use crate::counts::Counts;
@@ -21,7 +21,10 @@ use pgs_world_streams::{Cause, SteadyWrite, write_whole};
 /// A world over two files and a writer. It tells the output where the writer tells, and its areas where the files tell; it counts its
 /// calls, its faults and its puts, and keeps the causes of the last faults.
 ///
-/// A file of the system tells nothing: no clause says what it holds. Nor does one say what a stop leaves of any file.
+/// Where the writer and the files tell what a stop may leave of them, it is honest, and what a stop may have left of it is of all of them at one
+/// moment. A call begins at a moment, behind those of all calls so far; at the last that a u64 can name it is a fault, and nothing is called.
+///
+/// A file of the system tells nothing: no clause says what it holds, nor what a stop leaves of it.
 #[derive(Drop)]
 pub struct FileWorld<W: SteadyWrite, H: Handle> {
     areas: AreaFiles<H>,
@@ -81,14 +84,26 @@ impl<W: SteadyWrite, H: Handle> FileWorld<W, H> {
         writer
     }
 
+    // The moment at which the next call begins.
+    fn moment(&self) -> u64
+        ensures { result ≡ moment_of W.past H.past self.now }
+    {
+        self.counts
+            .calls
+            .max(self.areas.until())
+            .max(self.writer.until())
+    }
+
     // Counts a call on an area that was answered so.
-    fn counted<T>(&mut self, answer: Result<T, AreaFault>) -> Result<T, AreaFault>
+    fn counted<T>(&mut self, moment: u64, answer: Result<T, AreaFault>) -> Result<T, AreaFault>
         ensures answer { result ≡ answer }
         ensures areas { self.new.areas ≡ self.old.areas }
         ensures writer { self.new.writer ≡ self.old.writer }
         ensures raised { OnErr answer (self.new.counts.area_faults ≡ raised self.old.counts.area_faults) }
         ensures no_cause { OnOk answer (self.new.counts.area_faults ≡ self.old.counts.area_faults) }
         ensures moment { Rose self.old.counts.calls self.new.counts.calls }
+        ensures later_than { moment ≤ self.new.counts.calls }
+        ensures rose_from { Rose moment self.new.counts.calls }
         ensures put_faults { self.new.counts.put_faults ≡ self.old.counts.put_faults }
         ensures puts { self.new.counts.puts ≡ self.old.counts.puts }
         ensures calls { self.old.counts.calls ≤ self.new.counts.calls }
@@ -96,18 +111,26 @@ impl<W: SteadyWrite, H: Handle> FileWorld<W, H> {
     {
         match answer {
             Ok(value) => {
-                self.counts.call_area();
+                self.counts.call_area(moment);
                 Ok(value)
             }
             Err(AreaFault) => {
-                self.counts.fail_area();
+                self.counts.fail_area(moment);
                 Err(AreaFault)
             }
         }
     }
 
+    // Whether no more moments or no more puts can be counted.
+    fn is_full(&self, moment: u64) -> bool
+        ensures full { IsTrue result → (self.now.counts.puts ≡ 2 ^ 64 - 1) ⊎ (moment ≡ 2 ^ 64 - 1) }
+        ensures room { IsTrue (not result) → self.now.counts.puts + 1 < 2 ^ 64 }
+    {
+        moment == u64::MAX || self.counts.puts == u64::MAX
+    }
+
     // Counts a put that failed.
-    fn put_fault(&mut self) -> PutFault
+    fn put_fault(&mut self, moment: u64) -> PutFault
         ensures areas { self.new.areas ≡ self.old.areas }
         ensures writer { self.new.writer ≡ self.old.writer }
         ensures cause { self.new.put_cause ≡ self.old.put_cause }
@@ -115,29 +138,46 @@ impl<W: SteadyWrite, H: Handle> FileWorld<W, H> {
         ensures later { self.old.counts.put_faults ≤ self.new.counts.put_faults }
         ensures calls { self.old.counts.calls ≤ self.new.counts.calls }
         ensures moment { Rose self.old.counts.calls self.new.counts.calls }
+        ensures later_than { moment ≤ self.new.counts.calls }
+        ensures rose_from { Rose moment self.new.counts.calls }
         ensures area_faults { self.new.counts.area_faults ≡ self.old.counts.area_faults }
         ensures puts { self.new.counts.puts ≡ self.old.counts.puts }
     {
-        self.counts.fail_put();
+        self.counts.fail_put(moment);
         PutFault
     }
 }
 
 impl<W: SteadyWrite, H: Handle> World for FileWorld<W, H> {
-    ghost use Rattle.pgs_world_files.specs.Counted.{bytes_of, seen, timed_view};
+    ghost use Rattle.pgs_world_files.specs.Counted.{bytes_of, pasts_of, seen, timed_view};
     ghost use Rattle.pgs_world_files.specs.Failing.{HasFailed};
+    ghost use Rattle.pgs_world_files.specs.Laws.{are_pasts, tells_first, tells_second};
 
-    ghost view = { seen W.tells W.contents H.tells H.contents };
+    ghost view = { seen (record {
+      tells_output = W.tells;
+      written = W.contents;
+      tells_bytes = H.tells;
+      bytes = H.contents;
+      tells_stops = W.tells_stops && H.tells_stops;
+      output_past = W.past;
+      file_past = H.past;
+    }) };
 
     ghost hashed_by = { λ world. world.seed };
 
     ghost failed = { HasFailed (record { lengths = H.length_gives; reads = H.read_gives; writes = H.write_gives; cuts = H.cut_gives; syncs = H.sync_gives }) W.write_gives W.flush_gives };
 
-    ghost timed = { λ world. timed_view H.tells (bytes_of H.tells H.contents world.areas) W.tells (W.contents world.writer) world.counts };
+    ghost timed = { λ world. timed_view H.tells (bytes_of H.tells H.contents world.areas) W.tells (W.contents world.writer)
+        (W.tells_stops && H.tells_stops) (pasts_of W.past H.past world) world.counts
+        (λ tells. are_pasts
+        (record { tells_output = W.tells; written = W.contents; tells_bytes = H.tells; bytes = H.contents; tells_stops = W.tells_stops && H.tells_stops; output_past = W.past; file_past = H.past })
+        (record { lengths = H.length_gives; reads = H.read_gives; writes = H.write_gives; cuts = H.cut_gives; syncs = H.sync_gives }) W.write_gives W.flush_gives
+        (record { writer = W.stops (tells_first W.tells_stops H.tells_stops tells); file = H.stops (tells_second W.tells_stops H.tells_stops tells) })
+        world) };
 
     /// The length of an area, in bytes. More than 2^40 are a fault.
     fn len(&mut self, area: Area) -> Result<u64, AreaFault>
-        ensures given { IfOpen (LengthIs H.length_gives) (handle_in area self.old.areas) result (handle_in area self.new.areas) }
+        ensures given { let now = moment_of W.past H.past self.old in AtMoment now (LengthIs (H.length_gives now)) (handle_in area self.old.areas) result (handle_in area self.new.areas) }
         ensures beside_handle { handle_in (other area) self.new.areas ≡ handle_in (other area) self.old.areas }
         ensures writer { self.new.writer ≡ self.old.writer }
         ensures raised { OnErr result (self.new.counts.area_faults ≡ raised self.old.counts.area_faults) }
@@ -149,14 +189,15 @@ impl<W: SteadyWrite, H: Handle> World for FileWorld<W, H> {
         ensures call { IsAreaCall (⟦<Self as World>⟧.view self.old) result (⟦<Self as World>⟧.view self.new) }
         ensures last { OnErr result (⟦<Self as World>⟧.failed self.new) }
     {
-        let answer = self.areas.len(area);
-        self.counted(answer)
+        let moment = self.moment();
+        let answer = self.areas.len(moment, area);
+        self.counted(moment, answer)
     }
 
     /// Fills the buffer with the bytes of an area from a place on. A range past the end, or past 2^40, is a fault.
     fn read_at(&mut self, area: Area, at: u64, buf: &mut [u8]) -> Result<(), AreaFault>
         requires { Reaches area (at + length buf.old) (⟦<Self as World>⟧.view self.old) }
-        ensures given { IfOpen (λ old answer new. ReadIs H.read_gives old at buf.new answer new) (handle_in area self.old.areas) result (handle_in area self.new.areas) }
+        ensures given { let now = moment_of W.past H.past self.old in AtMoment now (λ old answer new. ReadIs (H.read_gives now) old at buf.new answer new) (handle_in area self.old.areas) result (handle_in area self.new.areas) }
         ensures beside_handle { handle_in (other area) self.new.areas ≡ handle_in (other area) self.old.areas }
         ensures writer { self.new.writer ≡ self.old.writer }
         ensures raised { OnErr result (self.new.counts.area_faults ≡ raised self.old.counts.area_faults) }
@@ -167,14 +208,15 @@ impl<W: SteadyWrite, H: Handle> World for FileWorld<W, H> {
         ensures call { IsAreaCall (⟦<Self as World>⟧.view self.old) result (⟦<Self as World>⟧.view self.new) }
         ensures last { OnErr result (⟦<Self as World>⟧.failed self.new) }
     {
-        let answer = self.areas.read_at(area, at, buf);
-        self.counted(answer)
+        let moment = self.moment();
+        let answer = self.areas.read_at(moment, area, at, buf);
+        self.counted(moment, answer)
     }
 
     /// Writes all bytes from a place of an area on. A write past 2^40 bytes is a fault, and nothing is written.
     fn write_at(&mut self, area: Area, at: u64, bytes: &[u8]) -> Result<(), AreaFault>
         requires { Reaches area at (⟦<Self as World>⟧.view self.old) }
-        ensures given { IfOpen (λ old answer new. WriteIs H.write_gives old at bytes.now answer new) (handle_in area self.old.areas) result (handle_in area self.new.areas) }
+        ensures given { let now = moment_of W.past H.past self.old in AtMoment now (λ old answer new. WriteIs (H.write_gives now) old at bytes.now answer new) (handle_in area self.old.areas) result (handle_in area self.new.areas) }
         ensures beside_handle { handle_in (other area) self.new.areas ≡ handle_in (other area) self.old.areas }
         ensures writer { self.new.writer ≡ self.old.writer }
         ensures raised { OnErr result (self.new.counts.area_faults ≡ raised self.old.counts.area_faults) }
@@ -188,14 +230,15 @@ impl<W: SteadyWrite, H: Handle> World for FileWorld<W, H> {
         ensures call { IsAreaCall (⟦<Self as World>⟧.view self.old) result (⟦<Self as World>⟧.view self.new) }
         ensures last { OnErr result (⟦<Self as World>⟧.failed self.new) }
     {
-        let answer = self.areas.write_at(area, at, bytes);
-        self.counted(answer)
+        let moment = self.moment();
+        let answer = self.areas.write_at(moment, area, at, bytes);
+        self.counted(moment, answer)
     }
 
     /// Cuts an area to a length.
     fn cut(&mut self, area: Area, len: u64) -> Result<(), AreaFault>
         requires { Reaches area len (⟦<Self as World>⟧.view self.old) }
-        ensures given { IfOpen (CallIs (λ old succeeds new. H.cut_gives old len succeeds new)) (handle_in area self.old.areas) result (handle_in area self.new.areas) }
+        ensures given { let now = moment_of W.past H.past self.old in AtMoment now (CallIs (λ old succeeds new. H.cut_gives now old len succeeds new)) (handle_in area self.old.areas) result (handle_in area self.new.areas) }
         ensures beside_handle { handle_in (other area) self.new.areas ≡ handle_in (other area) self.old.areas }
         ensures writer { self.new.writer ≡ self.old.writer }
         ensures raised { OnErr result (self.new.counts.area_faults ≡ raised self.old.counts.area_faults) }
@@ -208,13 +251,14 @@ impl<W: SteadyWrite, H: Handle> World for FileWorld<W, H> {
         ensures call { IsAreaCall (⟦<Self as World>⟧.view self.old) result (⟦<Self as World>⟧.view self.new) }
         ensures last { OnErr result (⟦<Self as World>⟧.failed self.new) }
     {
-        let answer = self.areas.cut(area, len);
-        self.counted(answer)
+        let moment = self.moment();
+        let answer = self.areas.cut(moment, area, len);
+        self.counted(moment, answer)
     }
 
     /// After it, what was written to an area stands on the disk.
     fn sync(&mut self, area: Area) -> Result<(), AreaFault>
-        ensures given { IfOpen (CallIs H.sync_gives) (handle_in area self.old.areas) result (handle_in area self.new.areas) }
+        ensures given { let now = moment_of W.past H.past self.old in AtMoment now (CallIs (H.sync_gives now)) (handle_in area self.old.areas) result (handle_in area self.new.areas) }
         ensures beside_handle { handle_in (other area) self.new.areas ≡ handle_in (other area) self.old.areas }
         ensures writer { self.new.writer ≡ self.old.writer }
         ensures raised { OnErr result (self.new.counts.area_faults ≡ raised self.old.counts.area_faults) }
@@ -225,17 +269,17 @@ impl<W: SteadyWrite, H: Handle> World for FileWorld<W, H> {
         ensures call { IsAreaCall (⟦<Self as World>⟧.view self.old) result (⟦<Self as World>⟧.view self.new) }
         ensures last { OnErr result (⟦<Self as World>⟧.failed self.new) }
     {
-        let answer = self.areas.sync(area);
-        self.counted(answer)
+        let moment = self.moment();
+        let answer = self.areas.sync(moment, area);
+        self.counted(moment, answer)
     }
 
     /// Writes the whole piece to the writer and flushes it, or counts a fault; a front of the piece may be written then.
-    /// After 2^64 - 1 puts no more can be counted: each is a fault, and nothing is written.
-    #[tactic(auto, using(crate::proofs::Failing::failed_piece, crate::proofs::Failing::failed_uncounted, crate::proofs::Views::passes_view, crate::proofs::Views::adds_view, crate::proofs::Views::adds_front_view))]
+    /// After 2^64 - 1 puts, or at the last moment, no more can be counted: each is a fault, and nothing is written.
     fn put(&mut self, piece: &[u8]) -> Result<(), PutFault>
         ensures written { OnOk result (Appends (W.contents self.old.writer) (W.contents self.new.writer) piece.now) }
         ensures torn { OnErr result (AppendsFront (W.contents self.old.writer) (W.contents self.new.writer) piece.now) }
-        ensures given { PutIs W.write_gives W.flush_gives self.old.counts.puts self.old.writer piece.now result self.new.writer }
+        ensures given { let now = moment_of W.past H.past self.old in PutIs (W.write_gives now) (W.flush_gives now) self.old.counts.puts now self.old.writer piece.now result self.new.writer }
         ensures areas { self.new.areas ≡ self.old.areas }
         ensures raised { OnErr result (self.new.counts.put_faults ≡ raised self.old.counts.put_faults) }
 
@@ -247,17 +291,18 @@ impl<W: SteadyWrite, H: Handle> World for FileWorld<W, H> {
         ensures call { IsPutCall (⟦<Self as World>⟧.view self.old) result (⟦<Self as World>⟧.view self.new) }
         ensures last { OnErr result (⟦<Self as World>⟧.failed self.new) }
     {
-        if self.counts.puts == u64::MAX {
-            return Err(self.put_fault());
+        let moment = self.moment();
+        if self.is_full(moment) {
+            return Err(self.put_fault(moment));
         }
-        match write_whole(&mut self.writer, piece) {
+        match write_whole(&mut self.writer, moment, piece) {
             Ok(()) => {
-                self.counts.put();
+                self.counts.put(moment);
                 Ok(())
             }
             Err(error) => {
                 self.put_cause = Some(Cause::of(&error));
-                Err(self.put_fault())
+                Err(self.put_fault(moment))
             }
         }
     }

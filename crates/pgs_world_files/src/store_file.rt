@@ -184,39 +184,45 @@ impl<F: NamedFile> Handle for StoreFile<F> {
 
     ghost over = { tells_nothing };
 
-    ghost length_gives = { λ old answer new. F.length_gives old.file answer new.file × KnowsTheSame old new };
+    ghost stops = { tells_nothing };
 
-    ghost read_gives = { λ old at buf answer new. F.read_gives old.file at buf answer new.file × KnowsTheSame old new };
+    ghost length_gives = { λ moment old answer new. F.length_gives old.file answer new.file × KnowsTheSame old new };
 
-    ghost write_gives = { IsWritten F.length_gives F.write_gives };
+    ghost read_gives = { λ moment old at buf answer new. F.read_gives old.file at buf answer new.file × KnowsTheSame old new };
 
-    ghost cut_gives = { IsCut F.length_gives F.cut_gives };
+    ghost write_gives = { λ moment. IsWritten F.length_gives F.write_gives };
 
-    ghost sync_gives = { SyncIs F.sync_gives F.name_gives F.reopen_gives F.length_gives F.read_gives F.write_gives };
+    ghost cut_gives = { λ moment. IsCut F.length_gives F.cut_gives };
 
-    fn length_once(&mut self) -> io::Result<u64> {
+    ghost sync_gives = { λ moment. SyncIs F.sync_gives F.name_gives F.reopen_gives F.length_gives F.read_gives F.write_gives };
+
+    fn until(&self) -> u64 {
+        0
+    }
+
+    fn length_once(&mut self, _moment: u64) -> io::Result<u64> {
         self.file.ask_length()
     }
 
-    fn read_once(&mut self, at: u64, buf: &mut [u8]) -> io::Result<usize> {
+    fn read_once(&mut self, _moment: u64, at: u64, buf: &mut [u8]) -> io::Result<usize> {
         self.file.read_from(at, buf)
     }
 
-    fn write_once(&mut self, at: u64, bytes: &[u8]) -> io::Result<usize> {
+    fn write_once(&mut self, _moment: u64, at: u64, bytes: &[u8]) -> io::Result<usize> {
         match self.check_length() {
             Ok(()) => self.write_known(at, bytes),
             Err(error) => Err(error),
         }
     }
 
-    fn cut_once(&mut self, len: u64) -> io::Result<()> {
+    fn cut_once(&mut self, _moment: u64, len: u64) -> io::Result<()> {
         match self.check_length() {
             Ok(()) => self.cut_known(len),
             Err(error) => Err(error),
         }
     }
 
-    fn sync_once(&mut self) -> io::Result<()> {
+    fn sync_once(&mut self, _moment: u64) -> io::Result<()> {
         match self.file.sync_bytes() {
             Ok(()) => self.look_synced(),
             Err(error) => {

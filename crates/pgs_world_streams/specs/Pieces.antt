@@ -55,8 +55,8 @@ FailsWith writes flushes old piece error new =
     ((mid : _) × HasWritten (placeless writes) old 0 piece (length piece) mid × flushes mid false new)
     ⊎ FailsToWrite writes old piece error new
 
--- the same of a put, which fails with nothing written where no more puts can be counted
-abbrev pub PutIs : {W A F : Type 0} → PlainCall W → BareCall W → ℕ → W → List ℕ → Result A F → W → Type 0
-PutIs {F = F} writes flushes puts old piece (Ok done) new = PieceIs {F = F} writes flushes old piece (Ok done) new
-PutIs {A = A} writes flushes puts old piece (Err fault) new =
-    ((puts ≡ 2 ^ 64 - 1) × (new ≡ old)) ⊎ PieceIs {A = A} writes flushes old piece (Err fault) new
+-- the same of a put, which fails with nothing written where no more puts or no more moments can be counted
+abbrev pub PutIs : {W A F : Type 0} → PlainCall W → BareCall W → (puts moment : ℕ) → W → List ℕ → Result A F → W → Type 0
+PutIs {F = F} writes flushes puts moment old piece (Ok done) new = PieceIs {F = F} writes flushes old piece (Ok done) new
+PutIs {A = A} writes flushes puts moment old piece (Err fault) new =
+    (((puts ≡ 2 ^ 64 - 1) ⊎ (moment ≡ 2 ^ 64 - 1)) × (new ≡ old)) ⊎ PieceIs {A = A} writes flushes old piece (Err fault) new

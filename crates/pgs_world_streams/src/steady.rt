@@ -1,8 +1,10 @@
-ghost use Rattle.std.specs.Prelude.{◌≡◌, ℕ, List, Bool, Result, true, false, ⊤, is_ok, refl};
+ghost use Rattle.std.specs.Prelude.{◌≡◌, ℕ, List, Bool, Result, IsTrue, true, false, ⊤, is_ok, refl};
 ghost use Rattle.std.specs.Io.{ReadsAtMost, WritesAtMost};
 ghost use Rattle.std.specs.Io.KnownBytes.{Keeps, ReadConsumes, WriteAppends};
 ghost use Rattle.std.specs.Option.{is_some};
 ghost use Rattle.std.specs.declared.io.Error.{Error};
+ghost use Rattle.pgs_world_streams.specs.Past.{Past, no_past};
+ghost use Rattle.pgs_world_streams.specs.Written.{HasWriterStops};
 
 use std::alloc::Global;
 use std::fs::File;
@@ -27,29 +29,46 @@ pub trait SteadyRead: Read {
 }
 
 /// A writer that always tells the bytes that it holds, or never does, and whose each answer is a fact.
+///
+/// Each call is handed the moment at which it begins, by the count of the world that it is a part of. A writer that tells what a stop may
+/// leave of its bytes says by a law (`stops`) what each answer says of that; it keeps the moments, so that what a stop leaves of other
+/// parts of the world goes together with it.
 pub trait SteadyWrite: Write {
     /// Whether it tells the bytes that it holds.
     ghost tells: { Bool } = { false };
 
-    /// What one write of some bytes answered.
-    ghost write_gives: { Self → List ℕ → Result ℕ Error → Self → Type 0 } = { λ _ _ _ _. ⊤ };
+    /// Whether it tells what a stop may leave of them.
+    ghost tells_stops: { Bool } = { false };
 
-    /// Whether a flush succeeded.
-    ghost flush_gives: { Self → Bool → Self → Type 0 } = { λ _ _ _. ⊤ };
+    /// What a stop may leave of them, and may have left, where it tells.
+    ghost past: { Self → Past } = { λ _. no_past };
+
+    /// What one write of some bytes answered, which began at a moment.
+    ghost write_gives: { ℕ → Self → List ℕ → Result ℕ Error → Self → Type 0 } = { λ _ _ _ _ _. ⊤ };
+
+    /// Whether a flush succeeded, which began at a moment.
+    ghost flush_gives: { ℕ → Self → Bool → Self → Type 0 } = { λ _ _ _ _. ⊤ };
+
+    /// A moment behind all its calls; 0 where it keeps none.
+    fn until(&self) -> u64
+        ensures { result ≡ (past self.now).until };
 
     /// One write.
-    fn write_once(&mut self, bytes: &[u8]) -> io::Result<usize>
+    fn write_once(&mut self, moment: u64, bytes: &[u8]) -> io::Result<usize>
         ensures bound { WritesAtMost result bytes.now }
         ensures bytes { WriteAppends (Self.contents self.old) (Self.contents self.new) result bytes.now }
-        ensures gives { write_gives self.old bytes.now result self.new };
+        ensures gives { write_gives moment self.old bytes.now result self.new };
 
     /// One flush.
-    fn flush_once(&mut self) -> io::Result<()>
+    fn flush_once(&mut self, moment: u64) -> io::Result<()>
         ensures bytes { Keeps (Self.contents self.old) (Self.contents self.new) }
-        ensures gives { flush_gives self.old (is_ok result) self.new };
+        ensures gives { flush_gives moment self.old (is_ok result) self.new };
 
     /// It tells them always, or never.
     ghost steady: { (writer : Self) → is_some (Self.contents writer) ≡ tells };
+
+    /// Where it tells what a stop may leave, each answer is one about that.
+    ghost stops: { IsTrue tells_stops → HasWriterStops Self.contents past write_gives flush_gives };
 }
 
 impl SteadyRead for Stdin {
@@ -71,25 +90,41 @@ impl SteadyRead for &[u8] {
 }
 
 impl SteadyWrite for Stdout {
+    ghost use Rattle.pgs_world_streams.specs.Past.{tells_no_stops};
+
     ghost steady = { λ _. refl };
 
-    fn write_once(&mut self, bytes: &[u8]) -> io::Result<usize> {
+    ghost stops = { tells_no_stops };
+
+    fn until(&self) -> u64 {
+        0
+    }
+
+    fn write_once(&mut self, _moment: u64, bytes: &[u8]) -> io::Result<usize> {
         self.write(bytes)
     }
 
-    fn flush_once(&mut self) -> io::Result<()> {
+    fn flush_once(&mut self, _moment: u64) -> io::Result<()> {
         self.flush()
     }
 }
 
 impl SteadyWrite for File {
+    ghost use Rattle.pgs_world_streams.specs.Past.{tells_no_stops};
+
     ghost steady = { λ _. refl };
 
-    fn write_once(&mut self, bytes: &[u8]) -> io::Result<usize> {
+    ghost stops = { tells_no_stops };
+
+    fn until(&self) -> u64 {
+        0
+    }
+
+    fn write_once(&mut self, _moment: u64, bytes: &[u8]) -> io::Result<usize> {
         self.write(bytes)
     }
 
-    fn flush_once(&mut self) -> io::Result<()> {
+    fn flush_once(&mut self, _moment: u64) -> io::Result<()> {
         self.flush()
     }
 }
@@ -97,13 +132,21 @@ impl SteadyWrite for File {
 impl SteadyWrite for Vec<u8> {
     ghost tells = { true };
 
+    ghost use Rattle.pgs_world_streams.specs.Past.{tells_no_stops};
+
     ghost steady = { λ _. refl };
 
-    fn write_once(&mut self, bytes: &[u8]) -> io::Result<usize> {
+    ghost stops = { tells_no_stops };
+
+    fn until(&self) -> u64 {
+        0
+    }
+
+    fn write_once(&mut self, _moment: u64, bytes: &[u8]) -> io::Result<usize> {
         self.write(bytes)
     }
 
-    fn flush_once(&mut self) -> io::Result<()> {
+    fn flush_once(&mut self, _moment: u64) -> io::Result<()> {
         self.flush()
     }
 }

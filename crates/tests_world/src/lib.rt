@@ -1,6 +1,8 @@
 //! Tests of the outside: `pgs_world_streams` and `pgs_world_files` over real files and over ones that fail, and the words of a command line;
 //! and a second machine over lines, which shows that a command plugs in.
 //!
+//! `stopping` has a file and an output that tell what a stop may leave.
+//!
 //! The machine counts lines, ends the run at a line that is a point, and puts several pieces at the end of the input. What it tells is the
 //! definition `counting` (`specs/Counting.antt`), by the clauses that hold for every machine.
 #![tactic(auto)]
@@ -18,6 +20,7 @@ mod opening;
 mod reading;
 #[cfg(test)]
 mod standard_numbers;
+mod stopping;
 #[cfg(test)]
 mod syncs;
 #[cfg(test)]
@@ -26,3 +29,4 @@ mod words;
 mod writing;
 
 pub use counting::{CountEnd, LIMIT, count_lines};
+pub use stopping::{Kept, Was};

@@ -88,7 +88,7 @@ fn synced_twice(alloc: Global, named: bool) -> Result<([bool; 2], [Option<(u64, 
         written: written.clone()?,
     };
     let mut store = StoreFile::new(failing, 1025);
-    let answers = [store.sync_once().is_err(), store.sync_once().is_err()];
+    let answers = [store.sync_once(0).is_err(), store.sync_once(1).is_err()];
     Ok((answers, written.get()))
 }
 

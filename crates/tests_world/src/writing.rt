@@ -52,13 +52,21 @@ impl Write for Slow {
 }
 
 impl SteadyWrite for Slow {
+    ghost use Rattle.pgs_world_streams.specs.Past.{tells_no_stops};
+
     ghost steady = { λ _. refl };
 
-    fn write_once(&mut self, bytes: &[u8]) -> io::Result<usize> {
+    ghost stops = { tells_no_stops };
+
+    fn until(&self) -> u64 {
+        0
+    }
+
+    fn write_once(&mut self, _moment: u64, bytes: &[u8]) -> io::Result<usize> {
         self.write(bytes)
     }
 
-    fn flush_once(&mut self) -> io::Result<()> {
+    fn flush_once(&mut self, _moment: u64) -> io::Result<()> {
         self.flush()
     }
 }
@@ -66,7 +74,7 @@ impl SteadyWrite for Slow {
 /// Whether two bytes aren't written where the writes up to this one are interrupted, and how many writes were made.
 fn written(alloc: Global, interrupted_to: u32) -> (bool, u32) {
     let mut writer = Slow::new(alloc, interrupted_to, 0);
-    let fails = write_whole(&mut writer, b"ab").is_err();
+    let fails = write_whole(&mut writer, 0, b"ab").is_err();
     (fails, writer.writes)
 }
 

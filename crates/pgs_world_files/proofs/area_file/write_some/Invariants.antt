@@ -5,7 +5,7 @@ use Rattle.pgs_world_files.proofs.area_file.write_some.Given as goal
 abbrev pub invariant-loop-answer : goal.invariant-loop-answer
 invariant-loop-answer g l = record {
   few : l.tries < 1000;
-  interrupted : AreInterrupted (λ before answer after. g.H.Handle.write_gives before l.at l.bytes answer after) l.fn.handle l.tries l.handle;
+  interrupted : AreInterrupted (λ before answer after. g.H.Handle.write_gives l.moment before l.at l.bytes answer after) l.fn.handle l.tries l.handle;
 }
 
 abbrev pub decreases-loop-answer : goal.decreases-loop-answer

@@ -5,7 +5,7 @@ use Rattle.pgs_world_files.proofs.area_file.write_within.Given as goal
 abbrev pub invariant-loop-done : goal.invariant-loop-done
 invariant-loop-done g l = record {
   within : l.done ≤ length l.bytes;
-  written : HasWritten g.H.Handle.write_gives l.fn.handle l.at l.fn.bytes l.done l.handle;
+  written : HasWritten (g.H.Handle.write_gives l.moment) l.fn.handle l.at l.fn.bytes l.done l.handle;
 }
 
 abbrev pub decreases-loop-done : goal.decreases-loop-done

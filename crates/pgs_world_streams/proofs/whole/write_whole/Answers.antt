@@ -37,7 +37,7 @@ returns-in_err-count-clause-holds g c =
 pub returns-in_err-count-clause-given : goal.returns-in_err-count-clause-given
 returns-in_err-count-clause-given g c =
     let failed = err_from_is_err_and c.from_residual.result c.from_residual.ensures.1 in
-    subst (λ answer. PieceIs g.W.SteadyWrite.write_gives g.W.SteadyWrite.flush_gives c.args.writer.now c.args.piece.now answer c.write_some.new.writer) (sym failed.1)
+    subst (λ answer. PieceIs (g.W.SteadyWrite.write_gives c.args.moment) (g.W.SteadyWrite.flush_gives c.args.moment) c.args.writer.now c.args.piece.now answer c.write_some.new.writer) (sym failed.1)
     (inr (write_failed _ _ _ _ _ _ _ _ tt c.loop-done-test.true c.loop-done.invariant.written c.in_err-count.ensures.tried))
 
 pub returns-in-0-clause-error : goal.returns-in-0-clause-error
