@@ -1,6 +1,7 @@
+pub mod Caused
 pub mod Followed
 pub mod Numbered
 pub mod Safe
-pub mod Stored
+pub mod SavedSteps
 pub mod StoreNext
 pub mod StorePromised

@@ -1,19 +1,20 @@
--- The command `evolve` over a saved store. Its answers to the types of the saved schema are free, as long as they are right. No area is written.
-use Rattle.std.specs.Prelude.{◌≡◌, ℕ, true, List, [], Option, IsTrue}
+-- The command `evolve` over a saved store. Its answers to the types of the saved schema are free, as long as they are right, and so is which place
+-- of a refused text is told. No area is written.
+use Rattle.std.specs.Prelude.{◌≡◌, ℕ, true, List, [], IsTrue}
 use Rattle.pgs_base.specs.Graph.{Graph}
 use Rattle.pgs_command.specs.Answers.{IsOfCommand}
 use Rattle.pgs_command.specs.Images.{KeepsImages}
 use Rattle.pgs_command.specs.Spec.{CommandSpec}
 use Rattle.pgs_snapshot.specs.Saved.{saved, store}
 use Rattle.pgs_run_input.specs.Session.{standard}
-use Rattle.pgs_run_contain.specs.Answers.{Answer}
 use Rattle.pgs_run_check_evolve.specs.Stored.{AnswersStored, told_evolve_store}
+use Rattle.pgs_run_check_evolve.specs.Told.{Chosen}
 
 -- It has nothing to read its source for where the areas save no store.
 abbrev pub check_evolve_store_spec : CommandSpec
 check_evolve_store_spec = record {
-  Choice = Option (List Answer);
-  told = λ choice input areas bytes lost. told_evolve_store choice input areas bytes;
+  Choice = Chosen;
+  told = λ chosen input areas bytes lost. told_evolve_store chosen input areas bytes;
   IsRight = AnswersStored;
   reads_source = true;
   uses_areas = true;

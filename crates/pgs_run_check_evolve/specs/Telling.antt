@@ -1,5 +1,5 @@
 -- How the telling of a step goes on: the types of the old schema first, then what is behind them.
-use Rattle.std.specs.Prelude.{◌≡◌, Bool, true, false, List, [], map, Result, Ok}
+use Rattle.std.specs.Prelude.{◌≡◌, ℕ, Bool, true, false, List, [], map, Result, Ok}
 use Rattle.pgs_run_lines.specs.declared.stop.Stop.{Stop}
 use Rattle.pgs_run_lines.specs.declared.stop.Stop.TheVariants as stops
 use Rattle.pgs_run_lines.specs.Puts.{PutsAll, PutsUntil}
@@ -8,6 +8,7 @@ use Rattle.pgs_syntax.specs.Join.{is_empty}
 use Rattle.pgs_violation.specs.declared.violation.Violation.{Violation}
 use Rattle.pgs_world.specs.World.{View}
 use Rattle.pgs_command.specs.declared.status.Status.{Status}
+use Rattle.pgs_command.specs.declared.status.Status.TheVariants.{SchemaRefused, PutFault}
 use Rattle.pgs_schema_changes.specs.Safe.{is_safe}
 use Rattle.pgs_run_try.specs.Told.{listed_line}
 use Rattle.pgs_run_contain.specs.Running.{Tells}
@@ -41,3 +42,9 @@ TellsListed found before stops.ReadFault after = ⊥
 TellsListed found before stops.DiskFault after = ⊥
 TellsListed found before stops.PutFault after = PutsUntil {E = Status} before (map listed_line found) stops.PutFault after
 TellsListed found before stops.Memory after = PutsUntil {E = Status} before (map listed_line found) stops.Memory after
+
+-- the lines of a refusal were put, or the put of one failed
+abbrev pub TellsRefusal : List (List ℕ) → View → View → Status → Type 0
+TellsRefusal lines before after SchemaRefused = PutsAll before lines after
+TellsRefusal lines before after PutFault = PutsUntil {E = Status} before lines stops.PutFault after
+TellsRefusal lines before after status = ⊥

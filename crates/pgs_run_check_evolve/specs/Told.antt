@@ -1,4 +1,4 @@
--- What is told of a step from an old schema to a new one, by the answers to the types of the old one.
+-- What is told of a step from an old schema to a new one, by the answers to the types of the old one; and what is free beside these.
 use Rattle.std.specs.Prelude.{◌≡◌, ℕ, Bool, true, List, [], ◌++◌, Option, Some, None, not, is_some, if◌then◌else◌}
 use Rattle.std.specs.List.{list_any}
 use Rattle.pgs_run_lines.specs.Machine.{Told}
@@ -28,6 +28,20 @@ told_changes (Some answers) old new = record {
   pieces = type_lines old new answers ++ lines_behind old new (all_contained answers);
   status = status_by (is_safe old new (all_contained answers));
 }
+
+-- What is free as long as it is right: the answers to the types, where there are any, and the lines of the cause of a refusal.
+pub record Chosen : Type 0 where
+  pub answers : Option (List Answer)
+  pub cause : List (List ℕ)
+
+abbrev pub nothing_chosen : Chosen
+nothing_chosen = record { answers = None; cause = [] }
+
+abbrev pub chosen_answers : List Answer → Chosen
+chosen_answers answers = record { answers = Some answers; cause = [] }
+
+abbrev pub chosen_cause : List (List ℕ) → Chosen
+chosen_cause cause = record { answers = None; cause = cause }
 
 -- where the new guard is strict the answers to the first types of the old one are right, and with 0 or 1 all of them are answered
 abbrev pub AreRightly : Option (List Answer) → Resolved → Resolved → Status → Type 0

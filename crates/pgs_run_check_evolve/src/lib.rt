@@ -5,6 +5,7 @@
 //! conforms to the old schema conforms to the new one (`laws` of `pgs_schema_changes`).
 #![tactic(auto)]
 
+mod cause;
 mod changes;
 pub mod laws;
 mod lines;

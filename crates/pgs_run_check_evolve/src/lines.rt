@@ -1,7 +1,7 @@
 //! The lines of what a step changes.
 
-ghost use Rattle.std.specs.Prelude.{◌≡◌, ◌++◌, IfOk, OnOk};
-ghost use Rattle.pgs_run_check_evolve.specs.Lines.{strict_line, safe_line, word_of, key_line as line_of_key, drop_line as line_of_drop, drop_one, key_lines, drop_lines};
+ghost use Rattle.std.specs.Prelude.{◌≡◌, ◌++◌, IfOk, OnOk, option_map};
+ghost use Rattle.pgs_run_check_evolve.specs.Lines.{strict_line, safe_line, word_of, key_line as line_of_key, line_at, key_lines};
 
 use pgs_base::{Bytes, List, Memory};
 use pgs_base_text::TextBuffer;
@@ -24,68 +24,65 @@ pub(crate) fn safe_line(alloc: Global) -> Result<Bytes, Memory>
     List::from_slice(alloc, b"safe\n")
 }
 
-fn word_of(kept: bool) -> &'static [u8]
-    ensures { result.now ≡ word_of kept }
-{
-    if kept { b"kept " } else { b"asks " }
+/// Whose keys are told of.
+#[derive(Clone, Copy)]
+pub(crate) enum KeysOf {
+    /// The new guard's: each one is kept, or asked anew.
+    New,
+    /// The old guard's: those that are dropped are told.
+    Old,
 }
 
-fn key_line(alloc: Global, number: u64, kept: bool) -> Result<Bytes, Memory>
-    ensures { IfOk result (λ line. line ≡ line_of_key number kept) }
+// The word for a key, where it is told.
+fn word_of(keys: KeysOf, flag: bool) -> Option<&'static [u8]>
+    ensures { option_map (λ word. word.now) result ≡ word_of keys flag }
+{
+    match (keys, flag) {
+        (KeysOf::New, true) => Some(b"kept "),
+        (KeysOf::New, false) => Some(b"asks "),
+        (KeysOf::Old, true) => Some(b"drops "),
+        (KeysOf::Old, false) => None,
+    }
+}
+
+fn key_line(alloc: Global, word: &[u8], number: u64) -> Result<Bytes, Memory>
+    ensures { IfOk result (λ line. line ≡ line_of_key word.now number) }
 {
     let mut line = TextBuffer::with_room(alloc, ROOM)?;
-    line.push(word_of(kept))?;
+    line.push(word)?;
     line.push_number(number)?;
     line.push(b"\n")?;
     Ok(line.into_bytes())
 }
 
-fn drop_line(alloc: Global, number: u64) -> Result<Bytes, Memory>
-    ensures { IfOk result (λ line. line ≡ line_of_drop number) }
-{
-    let mut line = TextBuffer::with_room(alloc, ROOM)?;
-    line.push(b"drops ")?;
-    line.push_number(number)?;
-    line.push(b"\n")?;
-    Ok(line.into_bytes())
-}
-
-// Puts the line of a key of the old guard last, where it is dropped.
-fn push_drop(
+// Puts the line of a key last, where it is told.
+fn push_line(
     alloc: Global,
+    word: Option<&[u8]>,
     number: u64,
-    dropped: bool,
     lines: &mut Vec<Bytes>,
 ) -> Result<(), Memory>
-    ensures { OnOk result (lines.new.items ≡ lines.old.items ++ drop_one number dropped) }
+    ensures { OnOk result (lines.new.items ≡ lines.old.items ++ line_at (option_map (λ word. word.now) word) number) }
 {
-    if dropped {
-        lines.push(drop_line(alloc, number)?)?;
+    if let Some(word) = word {
+        lines.push(key_line(alloc, word, number)?)?;
     }
     Ok(())
 }
 
-/// Puts the lines of the keys of the new guard last, by whether each is kept.
-pub(crate) fn push_keys(alloc: Global, keys: &[bool], lines: &mut Vec<Bytes>) -> Result<(), Memory>
-    ensures { OnOk result (lines.new.items ≡ lines.old.items ++ key_lines 1 keys.now) }
+/// Puts the lines of keys last, of which it says whether each is kept, or whether it is dropped.
+pub(crate) fn push_keys(
+    alloc: Global,
+    keys: KeysOf,
+    flags: &[bool],
+    lines: &mut Vec<Bytes>,
+) -> Result<(), Memory>
+    ensures { OnOk result (lines.new.items ≡ lines.old.items ++ key_lines keys 1 flags.now) }
 {
     let mut number = 0;
-    for kept in keys {
+    for flag in flags {
         number += 1;
-        let line = key_line(alloc, number, *kept)?;
-        lines.push(line)?;
-    }
-    Ok(())
-}
-
-/// Puts the lines of the keys of the old guard that are dropped last.
-pub(crate) fn push_drops(alloc: Global, keys: &[bool], lines: &mut Vec<Bytes>) -> Result<(), Memory>
-    ensures { OnOk result (lines.new.items ≡ lines.old.items ++ drop_lines 1 keys.now) }
-{
-    let mut number = 0;
-    for dropped in keys {
-        number += 1;
-        push_drop(alloc, number, *dropped, lines)?;
+        push_line(alloc, word_of(keys, *flag), number, lines)?;
     }
     Ok(())
 }

@@ -10,14 +10,15 @@ ghost use Rattle.pgs_run_contain.specs.Behind.{FollowsBoth};
 ghost use Rattle.pgs_run_store.specs.Opening.{saved_in};
 ghost use Rattle.pgs_run_store.specs.Refusing.{SavedStore};
 ghost use Rattle.pgs_run_check_evolve.specs.Stored.{TellsNext, stored_behind};
-ghost use Rattle.pgs_run_check_evolve.specs.Telling.{TellsListed};
+ghost use Rattle.pgs_run_check_evolve.specs.Telling.{TellsListed, TellsRefusal};
 
 use crate::changes::{put_changes, status_by};
+use pgs_base::Bytes;
 use pgs_command::{Status, status_at};
 use pgs_graph::GraphRead;
 use pgs_run_evolve::old_format_line;
-use pgs_run_input::refused_line;
-use pgs_run_lines::{Reply, Stop, put_last, put_reply};
+use pgs_run_lines::{Stop, put_last, put_pieces};
+use pgs_run_refusal::refused_lines;
 use pgs_run_try::{graph_violations, put_all_listed};
 use pgs_schema::{Schema, SchemaUnread};
 use pgs_store::Store;
@@ -64,15 +65,25 @@ fn tell_stored<W: World>(
     }
 }
 
-// Puts the line of a text that is no schema. What is told of its cause belongs behind it.
+// Puts the lines of a refusal, and gives the status.
+fn put_refusal<W: World>(world: &mut W, lines: &[Bytes]) -> Status
+    ensures tells { TellsRefusal lines.now (W.view world.old) (W.view world.new) result }
+    ensures last { fails_world result ≡ true → W.failed world.new }
+{
+    match put_pieces::<Status, W>(world, lines) {
+        Ok(()) => Status::SchemaRefused,
+        Err(_) => Status::PutFault,
+    }
+}
+
+// Puts the line of a text that is no schema, and that of the cause, where there is one.
 fn refuse<W: World>(alloc: Global, world: &mut W, unread: SchemaUnread, text: &[u8]) -> Status
     requires { IsRefused (schema_of text.now) unread }
     ensures answer { (it : SavedStore) (number : ℕ) → TellsNext it (Some number) text.now (W.view world.old) (W.view world.new) result }
     ensures last { fails_world result ≡ true → W.failed world.new }
 {
-    let status = Status::SchemaRefused;
-    match refused_line(alloc, unread) {
-        Ok(line) => put_reply(world, &Reply { line, status }),
+    match refused_lines(alloc, unread, text) {
+        Ok(lines) => put_refusal(world, &lines),
         Err(_) => Status::Memory,
     }
 }

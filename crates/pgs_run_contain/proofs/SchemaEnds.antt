@@ -1,34 +1,44 @@
--- The end of an input in which no separator came: all of it is the first text.
-use Rattle.std.proofs.Common.{◌≡◌, ℕ, true, List, [], Result, Ok, Err, sym, subst}
+-- How a run ends whose text was judged last.
+use Rattle.std.proofs.Common.{◌≡◌, ℕ, List, [], ◌∷◌, true, Result, Ok, Err, IfOk, refl, sym, subst}
 use Rattle.pgs_run_lines.specs.declared.stop.Stop.{Stop}
 use Rattle.pgs_run_lines.specs.declared.stop.Stop.TheVariants as stops
-use Rattle.pgs_run_lines.specs.Ending.{Shows, Ends}
-use Rattle.pgs_run_lines.specs.Pieces.{Shown, ShowsAll, ShowsTorn}
-use Rattle.pgs_run_lines.proofs.Showing.{ends_on, torn_of_more}
+use Rattle.pgs_run_lines.specs.Ending.{Ends}
+use Rattle.pgs_run_lines.specs.May.{MayPut}
+use Rattle.pgs_run_lines.specs.Pieces.{Shown, shown_of}
+use Rattle.pgs_run_lines.specs.Puts.{PutsUntil}
+use Rattle.pgs_run_lines.proofs.Fronts.{front_none}
 use Rattle.pgs_syntax.specs.declared.resolved.Resolved.{Resolved}
+use Rattle.pgs_world.specs.World.{View}
 use Rattle.pgs_run_input.specs.Answers.{schema_answer}
-use Rattle.pgs_run_input.specs.Judged.{pieces_of_schema}
-use Rattle.pgs_run_input.specs.Part.{Part}
+use Rattle.pgs_run_input.specs.Input.{text_limit}
+use Rattle.pgs_run_input.specs.Part.{Part, no_part}
 use Rattle.pgs_run_contain.specs.declared.ending.Ending.{Ending}
-use Rattle.pgs_run_contain.specs.declared.phase.Phase.TheVariants.{Second}
-use Rattle.pgs_run_contain.specs.Comparing.{after_first}
-use Rattle.pgs_run_contain.specs.Told.{told_first, told_second}
+use Rattle.pgs_run_contain.specs.Told.{refused_by, told_first, told_second}
 
-first_torn : (answer : Result Resolved (List ℕ)) (start now : Shown) → ShowsTorn start (pieces_of_schema answer) now → ShowsTorn start (told_first true answer []).pieces now
-first_torn (Err text) start now torn = torn
-first_torn (Ok first) start now torn = torn_of_more start now [] (told_second first (schema_answer [])).pieces torn
+-- a line that was made, or any where there was no memory for it
+pub made_line : {E : Type 0} (made : Result (List ℕ) E) → (line : List ℕ) × IfOk made (λ own. own ≡ line)
+made_line (Ok own) = (own, refl)
+made_line (Err fault) = ([], tt)
 
--- the line of a refusal couldn't be put
-pub first_stop : (answer : Result Resolved (List ℕ)) (pieces : List (List ℕ)) (stop : Stop Ending) (start now : Shown) → pieces ≡ pieces_of_schema answer → stop ≡ stops.PutFault → Shows start pieces stop now → Ends start (told_first true answer []) stop now
-first_stop answer pieces stop start now is fault shows =
-    subst (λ s. Ends start (told_first true answer []) s now) (sym fault)
-    (first_torn answer start now (subst (λ ps. ShowsTorn start ps now) is (subst (λ s. Shows start pieces s now) fault shows)))
+-- the line of a refusal couldn't be put, or made
+pub refusing_stop : (line kept : List ℕ) (stop : Stop Ending) (old new : View) → PutsUntil old (line ∷ []) stop new → Ends (shown_of old) (refused_by line kept) stop (shown_of new)
+refusing_stop line kept (stops.Ended ending) old new puts = absurd puts.only
+refusing_stop line kept stops.ReadFault old new puts = absurd puts.only
+refusing_stop line kept stops.DiskFault old new puts = absurd puts.only
+refusing_stop line kept stops.PutFault old new puts = puts.shows
+refusing_stop line kept stops.Memory old new puts = puts.shows
 
--- the first schema isn't refused, and the second text is empty
-pub first_ends : (answer : Result Resolved (List ℕ)) (first : Resolved) (part : Part) (pieces : List (List ℕ)) (stop : Stop Ending) (start mid now : Shown) → Second first part ≡ after_first answer → pieces ≡ pieces_of_schema answer → ShowsAll start pieces mid → Ends mid (told_second first (schema_answer [])) stop now → Ends start (told_first true answer []) stop now
-first_ends (Err text) first part pieces stop start mid now is told shows ends = cc
-first_ends (Ok schema) first part pieces stop start mid now is told shows ends =
-    let same : first ≡ schema = cc in
-    ends_on stop start mid now [] (told_second schema (schema_answer []))
-    (subst (λ ps. ShowsAll start ps mid) told shows)
-    (subst (λ (f : Resolved). Ends mid (told_second f (schema_answer [])) stop now) same ends)
+pub refusing_may : (line : List ℕ) (stop : Stop Ending) (old new : View) → PutsUntil old (line ∷ []) stop new → MayPut stop
+refusing_may line (stops.Ended ending) old new puts = tt
+refusing_may line stops.ReadFault old new puts = absurd puts.only
+refusing_may line stops.DiskFault old new puts = absurd puts.only
+refusing_may line stops.PutFault old new puts = tt
+refusing_may line stops.Memory old new puts = tt
+
+-- behind a first schema without a separator the second text is empty
+pub first_ends : (kept : List ℕ) (first : Resolved) (part : Part) (stop : Stop Ending) (start now : Shown) → schema_answer kept ≡ Ok first → part ≡ no_part → Ends start (told_second first part.text (schema_answer part.text)) stop now
+    → Ends start (told_first true kept (schema_answer kept) []) stop now
+first_ends kept first part stop start now is none ends =
+    subst (λ (answer : Result Resolved (List ℕ)). Ends start (told_first true kept answer []) stop now) (sym is)
+    (subst (λ (text : List ℕ). Ends start (told_second first text (schema_answer [])) stop now) (sym (front_none text_limit))
+    (subst (λ (p : Part). Ends start (told_second first p.text (schema_answer p.text)) stop now) none ends))

@@ -14,32 +14,32 @@ use Rattle.pgs_run_contain.specs.declared.phase.Phase.TheVariants.{First, Second
 use Rattle.pgs_run_contain.specs.Told.{told_first, told_second}
 
 -- the phase after the judgement of the first text
-abbrev pub after_first : Result Resolved (List ℕ) → Phase
-after_first (Ok first) = Second first no_part
-after_first (Err text) = Refused
+abbrev pub after_first : (kept : List ℕ) → Result Resolved (List ℕ) → Phase
+after_first kept (Ok first) = Second first no_part
+after_first kept (Err refusal) = Refused kept
 
 -- the phase after one more line, and what it tells; in the second text no line is a separator
 abbrev pub after_end : Phase → List ℕ → Phase
-after_end (First part) line = if is_separator line then after_first (schema_answer part.text) else First (with_line part line)
+after_end (First part) line = if is_separator line then after_first part.text (schema_answer part.text) else First (with_line part line)
 after_end (Second first part) line = Second first (with_line part line)
-after_end Refused line = Refused
+after_end (Refused kept) line = Refused kept
 
 abbrev pub pieces_at_end : Phase → List ℕ → List (List ℕ)
 pieces_at_end (First part) line = if is_separator line then pieces_of_schema (schema_answer part.text) else []
 pieces_at_end (Second first part) line = []
-pieces_at_end Refused line = []
+pieces_at_end (Refused kept) line = []
 
--- a refused first schema ends the run
+-- a refused first text ends the run
 abbrev pub next_of : Phase → RunState Phase Ending
 next_of (First part) = Going (First part)
 next_of (Second first part) = Going (Second first part)
-next_of Refused = Ended endings.Refused
+next_of (Refused kept) = Ended (endings.Refused kept)
 
 -- what a phase tells after the last line: without a separator all is the first text
 abbrev pub told_after : Phase → Told Ending
-told_after (First part) = told_first true (schema_answer part.text) []
-told_after (Second first part) = told_second first (schema_answer part.text)
-told_after Refused = record { pieces = []; status = endings.Refused }
+told_after (First part) = told_first true part.text (schema_answer part.text) []
+told_after (Second first part) = told_second first part.text (schema_answer part.text)
+told_after (Refused kept) = record { pieces = []; status = endings.Refused kept }
 
 abbrev pub compare_teller : Teller Ending
 compare_teller = record {

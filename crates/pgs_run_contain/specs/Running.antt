@@ -31,12 +31,6 @@ pub record Answered (first second : Resolved) (types : List Listed) (answers : L
   pub right : AreRight first second answered answers
   pub whole : HasAllLines status → later ≡ []
 
--- the same of the types of the first guard, where both texts are schemas
-abbrev pub AnsweredAt : Ending → List Answer → Status → Type 0
-AnsweredAt (endings.Fit first second) answers status = Answered first second (listed first first.guard.types) answers status
-AnsweredAt endings.Refused answers status = Unit {0}
-AnsweredAt endings.Cut answers status = Unit {0}
-
 -- ---- the types
 
 -- each of these types was answered rightly and has its line; it is known whether something is outside
@@ -82,7 +76,7 @@ pub record PutsNothing (so : Stop Status) (old : View) (stop : Stop Status) (new
 -- behind two schemas the types are told; else the run stops as the reading did
 abbrev pub Follows : Stop Ending → View → Stop Status → View → Type 0
 Follows (stops.Ended (endings.Fit first second)) old stop new = TellsTypes first second old stop new
-Follows (stops.Ended endings.Refused) old stop new = PutsNothing (stops.Ended SchemaRefused) old stop new
+Follows (stops.Ended (endings.Refused kept)) old stop new = PutsNothing (stops.Ended SchemaRefused) old stop new
 Follows (stops.Ended endings.Cut) old stop new = PutsNothing (stops.Ended InputTooLong) old stop new
 Follows stops.ReadFault old stop new = PutsNothing stops.ReadFault old stop new
 Follows stops.DiskFault old stop new = PutsNothing stops.DiskFault old stop new

@@ -1,3 +1,4 @@
+use crate::kept_text::KeptText;
 use pgs_conform::Compiled;
 
 /// How the reading of both texts ends.
@@ -6,7 +7,7 @@ pub enum Ending {
     /// Both are schemas.
     Fit { first: Compiled, second: Compiled },
     /// One of them is refused, and its line is put.
-    Refused,
+    Refused { text: KeptText },
     /// The input was cut.
     Cut,
 }

@@ -24,7 +24,7 @@ fn end_run<W: World>(alloc: Global, world: &mut W, texts: Stop<Ending>) -> Stop<
 {
     match texts {
         Stop::Ended(Ending::Fit { first, second }) => put_guard(alloc, world, &first, &second),
-        Stop::Ended(Ending::Refused) => Stop::Ended(Status::SchemaRefused),
+        Stop::Ended(Ending::Refused { .. }) => Stop::Ended(Status::SchemaRefused),
         Stop::Ended(Ending::Cut) => Stop::Ended(Status::InputTooLong),
         Stop::ReadFault => Stop::ReadFault,
         Stop::DiskFault => Stop::DiskFault,
@@ -34,7 +34,7 @@ fn end_run<W: World>(alloc: Global, world: &mut W, texts: Stop<Ending>) -> Stop<
 }
 
 /// Runs `contain` over an input within a budget of bytes, at most 2^40, and answers the status. What it puts and answers is what
-/// `told_contain` tells by right answers to the types: with none a type is contained in the second schema, else what the answer has is
+/// `contain_spec` tells by right answers to the types: with none a type is contained in the second schema, else what the answer has is
 /// outside. It uses no area.
 pub fn run_contain<S: Source, W: World>(
     alloc: Global,

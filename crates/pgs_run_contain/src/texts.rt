@@ -10,12 +10,12 @@ ghost use Rattle.pgs_run_lines.specs.declared.budget.TheConstants.{BUDGET};
 use crate::comparing::Comparing;
 use crate::ending::Ending;
 use pgs_base::TEXT_LIMIT;
-use pgs_run_lines::{Stop, Telling, run_lines};
+use pgs_run_lines::{Stop, run_lines};
 use pgs_world::{Source, World};
 use std::alloc::Global;
 
-/// Reads two schema texts with a line `---` between them, within a budget of bytes, at most 2^40: both schemas, or the refusal of one, whose
-/// line is put. What it tells is `told_texts` of `specs/Told.antt`. It uses no area.
+/// Reads two schema texts with a line `---` between them, within a budget of bytes, at most 2^40: both schemas, or the one text that is
+/// refused, whose line is put. What it tells is `told_texts` of `specs/Told.antt`. It uses no area.
 pub fn read_texts<S: Source, W: World>(
     alloc: Global,
     source: &mut S,
@@ -28,7 +28,6 @@ pub fn read_texts<S: Source, W: World>(
     ensures last { is_of_world result ≡ true → W.failed world.new }
     ensures calls { MakesReads S.read_made budget source.old (is_of_source result) source.new }
 {
-    let teller = Comparing::new(alloc);
-    let mut comparing = Telling { teller };
+    let mut comparing = Comparing::new(alloc);
     run_lines(&mut comparing, alloc, source, world, TEXT_LIMIT, budget)
 }

@@ -13,7 +13,7 @@ use Rattle.pgs_world.specs.World.{View}
 use Rattle.pgs_command.specs.declared.status.Status.{Status}
 use Rattle.pgs_command.specs.declared.status.Status.TheVariants.{Accepted, Refused, SchemaRefused}
 use Rattle.pgs_run_input.specs.Answers.{schema_answer}
-use Rattle.pgs_run_input.specs.Input.{schema_part}
+use Rattle.pgs_run_input.specs.Input.{schema_part, text_front}
 use Rattle.pgs_run_contain.specs.declared.ending.Ending.{Ending}
 use Rattle.pgs_run_contain.specs.Answers.{Answer}
 use Rattle.pgs_run_contain.specs.Behind.{IsRightAt, told_with}
@@ -42,9 +42,9 @@ refused_never : {A : Type 0} → SchemaRefused ≡ Accepted → A
 refused_never {A} is = absurd (let no : SchemaRefused ≡ Accepted = is in cc)
 
 module _ (law : (old new : Resolved) (g : Graph) → is_graph g ≡ true → AsksNoMore old new → conforms old g ≡ true → conforms new g ≡ true) (input : List ℕ) (answers : List Answer) where
-  by_second : (first : Resolved) → schema_answer (schema_part (all_lines input)) ≡ Ok first → (answer : Result Resolved (List ℕ)) → schema_answer (second_part (all_lines input)) ≡ answer
-      → IsAccepted answers (told_second first answer) → IsCompared input
-  by_second first of_first (Ok second) of_second accepted =
+  by_second : (first : Resolved) → schema_answer (schema_part (all_lines input)) ≡ Ok first → (kept : List ℕ) (answer : Result Resolved (List ℕ)) → schema_answer (second_part (all_lines input)) ≡ answer
+      → IsAccepted answers (told_second first kept answer) → IsCompared input
+  by_second first of_first kept (Ok second) of_second accepted =
       let contained = types_contained first second answers Accepted tt (status_none (list_any is_some answers) accepted.0) accepted.1 in
       record {
         first = first;
@@ -54,18 +54,19 @@ module _ (law : (old new : Resolved) (g : Graph) → is_graph g ≡ true → Ask
         contained = contained;
         kept = λ strict keys g graph fits. law first second g graph (record { types = inr (strict, contained); keys = keys }) fits;
       }
-  by_second first of_first (Err text) of_second accepted = refused_never accepted.0
+  by_second first of_first kept (Err refusal) of_second accepted = refused_never accepted.0
 
-  by_first : (answer : Result Resolved (List ℕ)) → schema_answer (schema_part (all_lines input)) ≡ answer → IsAccepted answers (told_first true answer (second_part (all_lines input))) → IsCompared input
-  by_first (Ok first) of_first accepted = by_second first of_first (schema_answer (second_part (all_lines input))) refl accepted
-  by_first (Err text) of_first accepted = refused_never accepted.0
+  by_first : (kept : List ℕ) (answer : Result Resolved (List ℕ)) → schema_answer (schema_part (all_lines input)) ≡ answer → IsAccepted answers (told_first true kept answer (second_part (all_lines input))) → IsCompared input
+  by_first kept (Ok first) of_first accepted =
+      by_second first of_first (text_front (second_part (all_lines input))) (schema_answer (second_part (all_lines input))) refl accepted
+  by_first kept (Err refusal) of_first accepted = refused_never accepted.0
 
 -- ---- the run
 
 within : (length_of limit : ℕ) → length_of < limit → nat_le limit length_of ≡ false
 within length_of limit below = grind (arith, nat_tests)
 
-told_below : (input : List ℕ) (limit : ℕ) → length input < limit → told_texts input limit ≡ told_first true (schema_answer (schema_part (all_lines input))) (second_part (all_lines input))
+told_below : (input : List ℕ) (limit : ℕ) → length input < limit → told_texts input limit ≡ told_first true (text_front (schema_part (all_lines input))) (schema_answer (schema_part (all_lines input))) (second_part (all_lines input))
 unfolding told_texts
 told_below input limit below = ap (λ (b : Bool). if b then told_cut (take limit input) else told_whole input) (within (length input) limit below)
 
@@ -77,5 +78,5 @@ compared law input lost old new below ran accepted =
     let texts = told_texts input (2 ^ 40) in
     let status : (told_with contain_behind answers texts.pieces texts.status).status ≡ Accepted = (shows Contain input lost old new ran (λ asks. absurd asks)).1 ∙ accepted in
     let right = subst (λ (s : Status). IsRightAt contain_behind answers texts.status s) accepted (run.right input (ran.source refl)) in
-    by_first law input answers (schema_answer (schema_part (all_lines input))) refl
+    by_first law input answers (text_front (schema_part (all_lines input))) (schema_answer (schema_part (all_lines input))) refl
     (subst (IsAccepted answers) (told_below input (2 ^ 40) below) (status, right))

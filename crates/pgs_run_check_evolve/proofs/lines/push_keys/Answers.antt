@@ -1,15 +1,17 @@
-use Rattle.std.proofs.Common.{ℕ, ◌+◌, List, [], ◌∷◌, ◌++◌, ap, ◌∙◌, arith}
+use Rattle.std.proofs.Common.{ℕ, ◌+◌, List, ◌++◌, Option, ap, ◌∙◌, arith}
 use Rattle.std.proofs.lemmas.List.{take_more}
+use Rattle.pgs_run_check_evolve.specs.Lines.{line_at}
 use Rattle.pgs_run_check_evolve.proofs.Numbered.{key_pushed}
 use Rattle.pgs_run_check_evolve.proofs.lines.push_keys.Goals as goal
 
-pub loop-kept-preserved : goal.loop-kept-preserved
-loop-kept-preserved c =
-    let keys = c.args.keys.now in
-    let i = c.loop-kept.kept-index in
-    let so_far = c.loop-kept.invariant.number in
+pub loop-flag-preserved : goal.loop-flag-preserved
+loop-flag-preserved c =
+    let flags = c.args.flags.now in
+    let i = c.loop-flag.flag-index in
+    let so_far = c.loop-flag.invariant.number in
     record {
       number = omega arith;
-      lines = key_pushed keys i (c.loop-kept.number + 1) _ (take_more keys i _ c.loop-kept-test.true) c.loop-kept-test.true (omega arith) c.args.lines.now.items c.loop-kept.lines.items c.push.new.self.items c.loop-kept.invariant.lines
-          (c.in_ok-push.ensures.items ∙ ap (λ (line : List ℕ). c.loop-kept.lines.items ++ line ∷ []) c.in_ok-line.ensures);
+      lines = key_pushed c.args.keys flags i (c.loop-flag.number + 1) _ (take_more flags i _ c.loop-flag-test.true) c.loop-flag-test.true (omega arith) c.args.lines.now.items c.loop-flag.lines.items c.push_line.new.lines.items
+          c.loop-flag.invariant.lines
+          (c.in_ok-push_line.ensures ∙ ap (λ (word : Option (List ℕ)). c.loop-flag.lines.items ++ line_at word (c.loop-flag.number + 1)) c.word_of.ensures);
     }
