@@ -17,5 +17,5 @@ mod walking;
 pub use compiled::Compiled;
 pub use fitting::{edge_fits, edge_typed, node_fits, node_typed};
 pub use options::Options;
-pub use pair::Pair;
+pub use pair::{Pair, property_part};
 pub use shape::{Shape, Triple};

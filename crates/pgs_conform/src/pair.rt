@@ -1,7 +1,8 @@
-ghost use Rattle.std.specs.Prelude.{◌≡◌, true};
-ghost use Rattle.pgs_base.specs.Pair.{is_pair};
+ghost use Rattle.std.specs.Prelude.{◌≡◌, true, IfOk, option_map};
+ghost use Rattle.pgs_base.specs.Pair.{is_pair, value_at};
 
-use pgs_base::{Labels, Props, pair_facts};
+use pgs_base::{Copyable, Labels, Memory, Name, Part, Props, pair_facts};
+use std::alloc::Global;
 use std::marker::Model;
 
 /// What an element carries, lent. Contracts see it as the pair of the definitions.
@@ -27,4 +28,15 @@ impl<'a> Pair<'a> {
     {
         pair_facts(self.labels, self.props);
     }
+}
+
+/// The part of a tuple that a property is: its value, copied, where the key has one. `Memory` where no memory was left for it.
+pub fn property_part(alloc: Global, props: &Props, key: &Name) -> Result<Option<Part>, Memory>
+    ensures { IfOk result (λ part. part ≡ option_map (λ value. Part.Value value) (value_at key.now props.now)) }
+{
+    let Some(value) = props.get(key) else {
+        return Ok(None);
+    };
+    let value = value.copy(alloc)?;
+    Ok(Some(Part::Value(value)))
 }

@@ -8,22 +8,12 @@ ghost use Rattle.pgs_match.specs.Bounds.{elem_of};
 ghost use Rattle.pgs_match.specs.Search.{part_at, tuple_at};
 
 use crate::{Bindings, Bound, Search};
-use pgs_base::{Copyable, List, Memory, Name, Part, Props, Steps, Tuple};
+use pgs_base::{List, Memory, Name, Part, Steps, Tuple};
+use pgs_conform::property_part;
 use pgs_graph::GraphRead;
 use pgs_syntax::Expr;
 use std::alloc::Global;
 use std::sync::ledger::Ledger;
-
-// The value of a property, where it is present.
-fn value_of(alloc: Global, props: &Props, key: &Name) -> Result<Option<Part>, Memory>
-    ensures { IfOk result (λ part. part ≡ option_map (λ value. Part.Value value) (value_at key.now props.now)) }
-{
-    let Some(value) = props.get(key) else {
-        return Ok(None);
-    };
-    let value = value.copy(alloc)?;
-    Ok(Some(Part::Value(value)))
-}
 
 impl<'a, G: GraphRead> Search<'a, G> {
     // The value of a property of what is bound, where it is present. At most one look-up.
@@ -42,11 +32,11 @@ impl<'a, G: GraphRead> Search<'a, G> {
     {
         match bound {
             Some(Bound::Node(id)) => match self.graph.node(id, steps) {
-                Some(row) => value_of(alloc, row.props, key),
+                Some(row) => property_part(alloc, row.props, key),
                 None => Ok(None),
             },
             Some(Bound::Edge { id, .. }) => match self.graph.edge(id, steps) {
-                Some(row) => value_of(alloc, row.props, key),
+                Some(row) => property_part(alloc, row.props, key),
                 None => Ok(None),
             },
             None => Ok(None),

@@ -11,6 +11,7 @@ ghost use Rattle.pgs_parser.specs.Reader.{listed_at, followed, none_declared, ea
 ghost use Rattle.pgs_parser.specs.KeyReaders.{literal_at, test_at, tests_rest_at, place_at, node_at, edge_at, arrow_at, step_at, step_begins, path_at, paths_at, bound_of, bound_at, bounds_at, qualifier_at, qualifier_begins, qualifier_list_at, qualifiers_at, expr_at, exprs_at, key_at};
 ghost use Rattle.pgs_parser.specs.Progress.{Reads, Moves};
 
+use crate::lists::begun;
 use crate::parser::Parser;
 use crate::qualifier::Qualifier;
 use crate::unread::Unread;
@@ -44,8 +45,7 @@ impl Parser<'_> {
         ensures { Reads result self.new (listed_at (after (the_sign separator.now)) name_at self.old) }
     {
         let first = self.name()?;
-        let mut names = Vec::with_capacity(self.alloc, 1)?;
-        names.push(first)?;
+        let mut names = begun(self.alloc, 1, first)?;
         while self.passes_sign(separator) {
             let name = self.name()?;
             names.push(name)?;
@@ -58,8 +58,7 @@ impl Parser<'_> {
         ensures { Reads result self.new (listed_at (sign_at ",") test_at self.old) }
     {
         let first = self.test()?;
-        let mut tests = Vec::with_capacity(self.alloc, 1)?;
-        tests.push(first)?;
+        let mut tests = begun(self.alloc, 1, first)?;
         while self.passes_sign(b",") {
             let test = self.test()?;
             tests.push(test)?;
@@ -187,8 +186,7 @@ impl Parser<'_> {
         ensures { Reads result self.new (paths_at self.old) }
     {
         let first = self.path()?;
-        let mut paths = Vec::with_capacity(self.alloc, 1)?;
-        paths.push(first)?;
+        let mut paths = begun(self.alloc, 1, first)?;
         while self.passes_comma_unless(b"FOR") {
             let path = self.path()?;
             paths.push(path)?;
@@ -327,8 +325,7 @@ impl Parser<'_> {
         ensures { Reads result self.new (exprs_at self.old) }
     {
         let first = self.expr()?;
-        let mut exprs = Vec::with_capacity(self.alloc, 1)?;
-        exprs.push(first)?;
+        let mut exprs = begun(self.alloc, 1, first)?;
         while self.passes_comma_unless(b"FOR") {
             let expr = self.expr()?;
             exprs.push(expr)?;

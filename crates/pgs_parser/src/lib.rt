@@ -8,6 +8,7 @@
 mod fault;
 mod key_productions;
 pub mod laws;
+mod lists;
 mod literal;
 mod parser;
 mod parsing;

@@ -7,6 +7,7 @@ ghost use Rattle.pgs_parser.specs.Progress.{Reads};
 ghost use Rattle.pgs_parser.specs.Types.{parts, together};
 ghost use Rattle.pgs_parser.specs.TypeReaders.{alternatives, atom_at, unit_at, conj_at, level_at, parenthesised_at, inner_at, labels_at, kind_at, property_at, begins_property, properties_at, open_at, open_after_comma_at, braces_rest_at, body_at, node_type_at, end_at, middle_at, arrow_type_at, edge_type_at};
 
+use crate::lists::begun;
 use crate::parser::Parser;
 use crate::unread::Unread;
 use pgs_base::{Boxed, Kind, List, Name};
@@ -139,8 +140,7 @@ impl Parser<'_> {
     fn units(&mut self, first: Spec<Name>, further: u32) -> Result<List<Spec<Name>>, Unread>
         ensures { Reads result self.new (followed (sign_at "&") (λ place. unit_at (inner_at further)) none_declared 0 (first, self.old)) }
     {
-        let mut units = Vec::with_capacity(self.alloc, 2)?;
-        units.push(first)?;
+        let mut units = begun(self.alloc, 2, first)?;
         while self.passes_sign(b"&") {
             let unit = self.unit(further)?;
             units.push(unit)?;
@@ -168,8 +168,7 @@ impl Parser<'_> {
     fn conjs(&mut self, first: Spec<Name>, further: u32) -> Result<List<Spec<Name>>, Unread>
         ensures { Reads result self.new (followed (sign_at "|") (λ place. conj_at (inner_at further)) none_declared 0 (first, self.old)) }
     {
-        let mut conjs = Vec::with_capacity(self.alloc, 2)?;
-        conjs.push(first)?;
+        let mut conjs = begun(self.alloc, 2, first)?;
         while self.passes_sign(b"|") {
             let conj = self.conj(further)?;
             conjs.push(conj)?;
@@ -234,8 +233,7 @@ impl Parser<'_> {
         ensures { Reads result self.new (listed_at (comma_unless (codes "OPEN")) property_at self.old) }
     {
         let first = self.property()?;
-        let mut properties = Vec::with_capacity(self.alloc, 1)?;
-        properties.push(first)?;
+        let mut properties = begun(self.alloc, 1, first)?;
         while self.passes_comma_unless(b"OPEN") {
             let property = self.property()?;
             properties.push(property)?;

@@ -116,16 +116,13 @@ impl Long {
         ensures { IfOk result (λ long. long ≡ take range.0 self.now ++ (ids.now ++ drop range.1 self.now)) }
     {
         let (from, to) = range;
-        let body = self.body.as_chunks();
-        let len = body.len();
+        let len = self.body.as_chunks().len();
         let tail = self.tail.as_slice();
         if len <= from && len <= to {
             return spliced_behind(alloc, &self.body, tail, range, ids);
         }
         if from <= len && to <= len {
-            let chunks = spliced(alloc, body, range, ids)?;
-            let tail = Vec::from_slice(alloc, tail)?;
-            return Long::with_tail(Body::new(alloc, chunks)?, tail);
+            return spliced_before(alloc, &self.body, tail, range, ids);
         }
         let chunks = spliced(alloc, &self.to_chunks(alloc)?, range, ids)?;
         Long::from_chunks(alloc, chunks)
@@ -153,4 +150,23 @@ fn spliced_behind(
     }
     let chunks = joined(alloc, chunks, tail.as_slice())?;
     Long::from_chunks(alloc, chunks)
+}
+
+// A body and what stands behind it, with other ids in the place of a range that lies in the body.
+fn spliced_before(
+    alloc: Global,
+    body: &Body,
+    tail: &[EdgeId],
+    range: (usize, usize),
+    ids: &[EdgeId],
+) -> Result<Long, Memory>
+    requires from { range.0 ≤ length body.now }
+    requires to { range.1 ≤ length body.now }
+    requires few { length tail.now ≤ 64 }
+    ensures { IfOk result (λ long. long ≡ take range.0 (body.now ++ tail.now) ++ (ids.now ++ drop range.1 (body.now ++ tail.now))) }
+{
+    let chunks = spliced(alloc, body.as_chunks(), range, ids)?;
+    let body = Body::new(alloc, chunks)?;
+    let tail = Vec::from_slice(alloc, tail)?;
+    Long::with_tail(body, tail)
 }

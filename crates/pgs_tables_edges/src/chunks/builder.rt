@@ -57,6 +57,55 @@ impl Builder {
         }
     }
 
+    // Puts a chunk last, behind one that would not fit into one with it. After `Memory` it is missing.
+    fn push_chunk(&mut self, first: EdgeId, ids: Chunk) -> Result<(), Memory>
+        requires begins { slice_get ids 0 ≡ Some first }
+        requires small { length ids ≤ 1024 }
+        requires full { 1024 < self.old.last + length ids }
+        ensures ids { OnOk result (self.new.ids ≡ self.old.ids ++ ids) }
+        ensures last { OnOk result (self.new.last ≡ length ids) }
+    {
+        let start = self.len;
+        let Some(len) = start.checked_add(ids.len()) else {
+            return Err(Memory);
+        };
+        self.parts.push(Part { start, first, ids })?;
+        self.len = len;
+        Ok(())
+    }
+
+    // Puts ids into the last chunk, which has room for them. After `Memory` that chunk may be missing.
+    fn append_to_last(
+        &mut self,
+        alloc: Global,
+        copies: &mut Copies,
+        ids: &[EdgeId],
+    ) -> Result<(), Memory>
+        requires room { self.old.last + length ids.now ≤ 1024 }
+        requires left { 1024 ≤ copies.old }
+        ensures ids { OnOk result (self.new.ids ≡ self.old.ids ++ ids.now) }
+        ensures last { OnOk result (length ids.now ≤ self.new.last) }
+        ensures copies { copies.old ≤ copies.new + 1024 }
+    {
+        let Some(len) = self.len.checked_add(ids.len()) else {
+            return Err(Memory);
+        };
+        // There is a last chunk, since some ids have room.
+        let Some(last) = self.parts.pop() else {
+            return Err(Memory);
+        };
+        let Part {
+            start,
+            first,
+            ids: chunk,
+        } = last;
+        self.len = start;
+        let ids = Chunk::copied(alloc, copies, chunk.as_slice(), ids)?;
+        self.parts.push(Part { start, first, ids })?;
+        self.len = len;
+        Ok(())
+    }
+
     // Puts at most MOST ids last: into the last chunk where they have room there, and else into one of their own. After `Memory` the
     // last chunk may be missing.
     fn append_piece(
@@ -74,30 +123,11 @@ impl Builder {
         let Some(first) = ids.first() else {
             return Ok(());
         };
-        let Some(len) = self.len.checked_add(ids.len()) else {
-            return Err(Memory);
-        };
         if is_roomy(self.parts.as_slice(), ids.len()) {
-            // There is a last chunk, since it has room.
-            let Some(last) = self.parts.pop() else {
-                return Err(Memory);
-            };
-            let Part {
-                start,
-                first,
-                ids: chunk,
-            } = last;
-            self.len = start;
-            let ids = Chunk::copied(alloc, copies, chunk.as_slice(), ids)?;
-            self.parts.push(Part { start, first, ids })?;
-            self.len = len;
-            return Ok(());
+            return self.append_to_last(alloc, copies, ids);
         }
-        let (start, first) = (self.len, *first);
-        let ids = Chunk::copied(alloc, copies, ids, &[])?;
-        self.parts.push(Part { start, first, ids })?;
-        self.len = len;
-        Ok(())
+        let chunk = Chunk::copied(alloc, copies, ids, &[])?;
+        self.push_chunk(*first, chunk)
     }
 
     /// Puts ids last. It copies them, and the last chunk where they have room there. After `Memory` some may be missing.
@@ -131,18 +161,11 @@ impl Builder {
         ensures copies { copies.old ≤ copies.new + 1024 }
         ensures shared { 1024 < self.old.last + length part.now.ids → copies.new ≡ copies.old }
     {
-        let more = part.ids.len();
-        if is_roomy(self.parts.as_slice(), more) {
-            return self.append_piece(alloc, copies, part.ids.as_slice());
+        if is_roomy(self.parts.as_slice(), part.ids.len()) {
+            return self.append_to_last(alloc, copies, part.ids.as_slice());
         }
-        let Some(len) = self.len.checked_add(more) else {
-            return Err(Memory);
-        };
-        let (start, first) = (self.len, part.first);
-        let ids = part.ids.share()?;
-        self.parts.push(Part { start, first, ids })?;
-        self.len = len;
-        Ok(())
+        let chunk = part.ids.share()?;
+        self.push_chunk(part.first, chunk)
     }
 
     // Puts a range of a part's ids last. `append_part` puts all of them.

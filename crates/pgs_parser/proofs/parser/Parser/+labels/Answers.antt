@@ -12,7 +12,7 @@ use Rattle.pgs_parser.proofs.parser.Parser.+labels.Goals as goal
 pub units-loop-self-init : goal.units-loop-self-init
 units-loop-self-init t c =
     ap (λ xs. ahead xs (more (sign_at "&") (λ place. unit_at (inner_at c.args.further)) none_declared (length c.args.self.now) 0 c.args.self.now))
-    (c.in_ok-push.ensures.items ∙ ap (λ xs. xs ++ c.args.first ∷ []) c.in_ok-units.ensures.items)
+    c.in_ok-units.ensures
 
 pub units-returns-in_err-unit : goal.units-returns-in_err-unit
 units-returns-in_err-unit t c =
@@ -28,7 +28,7 @@ units-loop-self-smaller t c =
 pub units-loop-self-preserved : goal.units-loop-self-preserved
 units-loop-self-preserved t c =
     let rest = c.unit.new.self in
-    ap (λ xs. ahead xs (more (sign_at "&") (λ place. unit_at (inner_at c.args.further)) none_declared (length rest) 0 rest)) c.in_ok-push-2.ensures.items
+    ap (λ xs. ahead xs (more (sign_at "&") (λ place. unit_at (inner_at c.args.further)) none_declared (length rest) 0 rest)) c.in_ok-push.ensures.items
     ∙ goes_on (sign_at "&") (λ place. unit_at (inner_at c.args.further)) none_declared (after_begin (the_sign (codes "&"))) (λ place tokens x e. (unit_within_sound c.args.further tokens x e).1)
     c.loop-self.units.items 0 c.loop-self.self c.passes_sign.new.self (c.in_ok-unit.unit, rest)
     (followed (sign_at "&") (λ place. unit_at (inner_at c.args.further)) none_declared 0 (c.args.first, c.args.self.now)) c.loop-self-test.ensures c.in_ok-unit.ensures c.loop-self.invariant
@@ -42,7 +42,7 @@ units-returns t c =
 pub conjs-loop-self-init : goal.conjs-loop-self-init
 conjs-loop-self-init t c =
     ap (λ xs. ahead xs (more (sign_at "|") (λ place. conj_at (inner_at c.args.further)) none_declared (length c.args.self.now) 0 c.args.self.now))
-    (c.in_ok-push.ensures.items ∙ ap (λ xs. xs ++ c.args.first ∷ []) c.in_ok-conjs.ensures.items)
+    c.in_ok-conjs.ensures
 
 pub conjs-returns-in_err-conj : goal.conjs-returns-in_err-conj
 conjs-returns-in_err-conj t c =
@@ -58,7 +58,7 @@ conjs-loop-self-smaller t c =
 pub conjs-loop-self-preserved : goal.conjs-loop-self-preserved
 conjs-loop-self-preserved t c =
     let rest = c.conj.new.self in
-    ap (λ xs. ahead xs (more (sign_at "|") (λ place. conj_at (inner_at c.args.further)) none_declared (length rest) 0 rest)) c.in_ok-push-2.ensures.items
+    ap (λ xs. ahead xs (more (sign_at "|") (λ place. conj_at (inner_at c.args.further)) none_declared (length rest) 0 rest)) c.in_ok-push.ensures.items
     ∙ goes_on (sign_at "|") (λ place. conj_at (inner_at c.args.further)) none_declared (after_begin (the_sign (codes "|"))) (λ place tokens x e. (conj_within_sound c.args.further tokens x e).1)
     c.loop-self.conjs.items 0 c.loop-self.self c.passes_sign.new.self (c.in_ok-conj.conj, rest)
     (followed (sign_at "|") (λ place. conj_at (inner_at c.args.further)) none_declared 0 (c.args.first, c.args.self.now)) c.loop-self-test.ensures c.in_ok-conj.ensures c.loop-self.invariant

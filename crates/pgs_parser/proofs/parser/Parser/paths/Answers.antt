@@ -17,7 +17,7 @@ pub loop-self-init : goal.loop-self-init
 loop-self-init c =
     let rest = c.path.new.self in
     ap (λ xs. ahead xs (more (comma_unless (codes "FOR")) (λ place. path_at) none_declared (length rest) 0 rest))
-    (c.in_ok-push.ensures.items ∙ ap (λ xs. xs ++ c.in_ok-first.first ∷ []) c.in_ok-paths.ensures.items)
+    c.in_ok-paths.ensures
     ∙ starts (comma_unless (codes "FOR")) (λ place. path_at) none_declared 0 c.args.self.now (c.in_ok-first.first, rest) c.in_ok-first.ensures
 
 pub returns-in_err-path : goal.returns-in_err-path
@@ -34,7 +34,7 @@ loop-self-smaller c =
 pub loop-self-preserved : goal.loop-self-preserved
 loop-self-preserved c =
     let rest = c.path-in-loop-self.new.self in
-    ap (λ xs. ahead xs (more (comma_unless (codes "FOR")) (λ place. path_at) none_declared (length rest) 0 rest)) c.in_ok-push-2.ensures.items
+    ap (λ xs. ahead xs (more (comma_unless (codes "FOR")) (λ place. path_at) none_declared (length rest) 0 rest)) c.in_ok-push.ensures.items
     ∙ goes_on (comma_unless (codes "FOR")) (λ place. path_at) none_declared (comma_begin (codes "FOR")) (λ place tokens x e. (path_sound tokens x e).1)
     c.loop-self.paths.items 0 c.loop-self.self c.passes_comma_unless.new.self (c.in_ok-path.path, rest)
     (paths_at c.args.self.now) c.loop-self-test.ensures c.in_ok-path.ensures c.loop-self.invariant

@@ -16,7 +16,7 @@ pub loop-self-init : goal.loop-self-init
 loop-self-init c =
     let rest = c.name.new.self in
     ap (λ xs. ahead xs (more (after (the_sign c.args.separator.now)) (λ place. name_at) none_declared (length rest) 0 rest))
-    (c.in_ok-push.ensures.items ∙ ap (λ xs. xs ++ c.in_ok-first.first ∷ []) c.in_ok-names.ensures.items)
+    c.in_ok-names.ensures
     ∙ starts (after (the_sign c.args.separator.now)) (λ place. name_at) none_declared 0 c.args.self.now (c.in_ok-first.first, rest) c.in_ok-first.ensures
 
 pub returns-in_err-name : goal.returns-in_err-name
@@ -33,7 +33,7 @@ loop-self-smaller c =
 pub loop-self-preserved : goal.loop-self-preserved
 loop-self-preserved c =
     let rest = c.name-in-loop-self.new.self in
-    ap (λ xs. ahead xs (more (after (the_sign c.args.separator.now)) (λ place. name_at) none_declared (length rest) 0 rest)) c.in_ok-push-2.ensures.items
+    ap (λ xs. ahead xs (more (after (the_sign c.args.separator.now)) (λ place. name_at) none_declared (length rest) 0 rest)) c.in_ok-push.ensures.items
     ∙ goes_on (after (the_sign c.args.separator.now)) (λ place. name_at) none_declared (after_begin (the_sign c.args.separator.now)) (λ place tokens x e. (name_sound tokens x e).1)
     c.loop-self.names.items 0 c.loop-self.self c.passes_sign.new.self (c.in_ok-name.name, rest)
     (listed_at (after (the_sign c.args.separator.now)) name_at c.args.self.now) c.loop-self-test.ensures c.in_ok-name.ensures c.loop-self.invariant

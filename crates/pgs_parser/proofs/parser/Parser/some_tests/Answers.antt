@@ -17,7 +17,7 @@ pub loop-self-init : goal.loop-self-init
 loop-self-init c =
     let rest = c.test.new.self in
     ap (λ xs. ahead xs (more (sign_at ",") (λ place. test_at) none_declared (length rest) 0 rest))
-    (c.in_ok-push.ensures.items ∙ ap (λ xs. xs ++ c.in_ok-first.first ∷ []) c.in_ok-tests.ensures.items)
+    c.in_ok-tests.ensures
     ∙ starts (sign_at ",") (λ place. test_at) none_declared 0 c.args.self.now (c.in_ok-first.first, rest) c.in_ok-first.ensures
 
 pub returns-in_err-test : goal.returns-in_err-test
@@ -34,7 +34,7 @@ loop-self-smaller c =
 pub loop-self-preserved : goal.loop-self-preserved
 loop-self-preserved c =
     let rest = c.test-in-loop-self.new.self in
-    ap (λ xs. ahead xs (more (sign_at ",") (λ place. test_at) none_declared (length rest) 0 rest)) c.in_ok-push-2.ensures.items
+    ap (λ xs. ahead xs (more (sign_at ",") (λ place. test_at) none_declared (length rest) 0 rest)) c.in_ok-push.ensures.items
     ∙ goes_on (sign_at ",") (λ place. test_at) none_declared (after_begin (the_sign (codes ","))) (λ place tokens x e. (test_sound tokens x e).1)
     c.loop-self.tests.items 0 c.loop-self.self c.passes_sign.new.self (c.in_ok-test.test, rest)
     (listed_at (sign_at ",") test_at c.args.self.now) c.loop-self-test.ensures c.in_ok-test.ensures c.loop-self.invariant
