@@ -9,11 +9,10 @@ use Rattle.pgs_parser.specs.StatementReaders.{script_of}
 use Rattle.pgs_parser.specs.Text.{Found, found, found_in, too_long, no_item, no_statement, script}
 use Rattle.pgs_resolve.specs.declared.fault.ResolveFault.{ResolveFault}
 use Rattle.pgs_resolve.specs.Resolution.{first_refusal, refusals, resolution, resolved}
-use Rattle.pgs_resolve.specs.SchemaOf.{Answer, answer_of_finding, answer_of_script, has_wide_type, schema, schema_of}
+use Rattle.pgs_resolve.specs.SchemaOf.{answer_of_finding, answer_of_script, has_wide_type, schema, schema_of}
 use Rattle.pgs_resolve_declared.specs.declared.order.Numbering.{Numbering}
 use Rattle.pgs_resolve_declared.specs.Order.{numbering_of}
 use Rattle.pgs_resolve_keys.specs.Patterns.{resolved_key}
-use Rattle.pgs_schema_places.specs.KeyTexts.{guard_keys}
 use Rattle.pgs_syntax.specs.declared.raw.RawKey.{RawKey}
 use Rattle.pgs_syntax.specs.declared.resolved.Resolved.{Resolved}
 use Rattle.pgs_syntax.specs.declared.script.Script.{Script}
@@ -83,15 +82,25 @@ resolved_is : (tree : Script) (own : Resolved) → resolution tree ≡ Ok own �
 unfolding resolution
 resolved_is tree own is = by_refusals (refusals tree) (resolved tree) own is
 
-pub guides_to : (tree : Script) (own : Resolved) (tokens : List Lexeme) (guide : KeyGuide) → answer_of_script (resolution tree) ≡ schema own → IsGuideOf tokens tree guide → GuidesTo guide own
+guides_to : (tree : Script) (own : Resolved) (tokens : List Lexeme) (guide : KeyGuide) → answer_of_script (resolution tree) ≡ schema own → IsGuideOf tokens tree guide → GuidesTo guide own
 guides_to tree own tokens guide is guides =
     ap (λ (numbering : Numbering). map (resolved_key numbering) (written_keys guide)) guides.numbering
     ∙ ap (λ (keys : List RawKey). map (resolved_key (numbering_of tree)) keys) guides.keys
     ∙ ap (λ (r : Resolved). r.guard.keys) (resolved_is tree own (by_answer (resolution tree) own is))
 
--- a script that tokens are is theirs alone
-pub same_script : (tokens : List Lexeme) (one other : Script) → script_of tokens ≡ Ok one → script_of tokens ≡ Ok other → one ≡ other
-same_script tokens one other is so = let both : Ok one ≡ Ok other = sym is ∙ so in cc
-
+-- the tokens of a text are its alone, and the script that they are is theirs
 pub same_tokens : (text : List ℕ) (one other : List Lexeme) → tokens_of text ≡ Ok one → tokens_of text ≡ Ok other → one ≡ other
 same_tokens text one other is so = let both : Ok one ≡ Ok other = sym is ∙ so in cc
+
+same_script : (tokens : List Lexeme) (one other : Script) → script_of tokens ≡ Ok one → script_of tokens ≡ Ok other → one ≡ other
+same_script tokens one other is so = let both : Ok one ≡ Ok other = sym is ∙ so in cc
+
+-- so a guide that is made of them guides to the schema of the text
+pub guided : (text : List ℕ) (own : Resolved) (tokens : List Lexeme) (tree : Script) (guide : KeyGuide) → schema_of text ≡ schema own
+    → tokens_of text ≡ Ok tokens → script_of tokens ≡ Ok tree → IsGuideOf tokens tree guide → GuidesTo guide own
+guided text own tokens tree guide is lexed parsed guides =
+    let read = is_read text own is in
+    let same = same_tokens text read.tokens tokens read.lexed lexed in
+    let own_tree : script_of tokens ≡ Ok read.tree = subst (λ (ts : List Lexeme). script_of ts ≡ Ok read.tree) same read.parsed in
+    let tree_is = same_script tokens read.tree tree own_tree parsed in
+    guides_to tree own tokens guide (subst (λ (t : Script). answer_of_script (resolution t) ≡ schema own) tree_is read.resolves) guides

@@ -1,2 +1,3 @@
 pub mod Guided
 pub mod Told
+pub mod Typed

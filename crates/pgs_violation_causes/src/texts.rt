@@ -43,11 +43,7 @@ fn push_near_text(
 }
 
 // The texts of types, in order.
-fn near_texts(
-    alloc: Global,
-    resolved: &Resolved,
-    nears: &[NearType],
-) -> Result<Vec<Bytes>, Memory>
+fn near_texts(alloc: Global, resolved: &Resolved, nears: &[NearType]) -> Result<Vec<Bytes>, Memory>
     ensures { IfOk result (λ texts. texts.items ≡ filter_map (near_text resolved.now) nears.now) }
 {
     let mut texts = Vec::new(alloc);
