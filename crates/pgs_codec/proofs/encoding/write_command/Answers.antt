@@ -80,7 +80,7 @@ text_fits command text is = ap is_encodable is
 pub returns-in_ok-extend_from_slice-in-Schema-clause-bytes : goal.returns-in_ok-extend_from_slice-in-Schema-clause-bytes
 returns-in_ok-extend_from_slice-in-Schema-clause-bytes c =
     text_written c.args.command.now c.in-Schema.text c.as_slice.result.now c.args.out.now.items c.push.new.self.items c.extend_from_slice.new.self.items
-    c.in-Schema.is c.as_slice.ensures c.in_ok-push.ensures.items c.in_ok-extend_from_slice.ensures.items
+    c.in-Schema.is c.as_slice.ensures c.in_ok-push-in-Schema.ensures.items c.in_ok-extend_from_slice-in-Schema.ensures.items
 
 pub returns-in_ok-extend_from_slice-in-Schema-clause-fit : goal.returns-in_ok-extend_from_slice-in-Schema-clause-fit
 returns-in_ok-extend_from_slice-in-Schema-clause-fit c = text_fits c.args.command.now c.in-Schema.text c.in-Schema.is
