@@ -2,7 +2,7 @@
 # How dear one transaction is where the graph has hubs: for each of some schemas and graphs, the processor's time of one transaction more, beside
 # that of `validate` over the graph after it, by the released executable or the one that PGGUARD names. A transaction's time is the difference of two
 # runs of `try`, over the graph and over the graph with so many lines more, by their number; each run is the least of three. Ratios are of one
-# run, so other work on the machine changes them little.
+# run, so other work on the machine changes them little. In the last case it is a start of a store, and not a transaction.
 # Usage: bench/hubs.sh [WORD..]    only the cases whose name has one of the words
 set -eu
 top=$(cd "$(dirname "$(readlink -f "${BASH_SOURCE[0]}")")/.." && pwd)
@@ -45,7 +45,7 @@ def schema(mode, types, *keys):
     return "CREATE GRAPH TYPE g %s {%s};" % (mode, ", ".join([*types, *keys]))
 
 
-def seconds(text, word="try"):
+def seconds(text, *words, folder=None):
     """The processor's time of a run over a text, the least of three."""
     best = None
     with tempfile.TemporaryFile() as given:
@@ -53,10 +53,10 @@ def seconds(text, word="try"):
         for _ in range(3):
             given.seek(0)
             before = resource.getrusage(resource.RUSAGE_CHILDREN)
-            ended = subprocess.run([PROGRAM, word], stdin=given, stdout=subprocess.DEVNULL, stderr=subprocess.DEVNULL).returncode
+            ended = subprocess.run([PROGRAM, *(words or ["try"])], cwd=folder, stdin=given, stdout=subprocess.DEVNULL, stderr=subprocess.DEVNULL).returncode
             after = resource.getrusage(resource.RUSAGE_CHILDREN)
             if ended not in (0, 1):
-                sys.exit(f"{word} ended with {ended}")
+                sys.exit(f"{words} ended with {ended}")
             used = after.ru_utime + after.ru_stime - before.ru_utime - before.ru_stime
             best = used if best is None else min(best, used)
     return best
@@ -123,6 +123,26 @@ def chain(count):
     return measured(schema("LOOSE", [], "FOR (x:P) EXCLUSIVE y WITHIN (x)-[:pay]->(:Hub)-[:pay]->(y:R)"), lines(graph), more)
 
 
+def rings(count):
+    """One line that makes a hub with so many payers and payees, and a ring of three through it, under a key that asks for such rings."""
+    made = [node(1, "A")]
+    for at in range(count):
+        payer, payee = 10 + 2 * at, 11 + 2 * at
+        made += [node(payer, "A"), edge(payer, payer, 1, "pays"), node(payee, "A"), edge(payee, 1, payee, "pays")]
+    made.append(edge(5, 11, 10, "pays"))
+    key = "FOR (x:A) COUNT 0..2 OF y WITHIN (x)-[:pays]->(y:A)-[:pays]->(z:A)-[:pays]->(x)"
+    return measured(schema("LOOSE", [], key), [{"ops": [node(2, "A")]}], [{"ops": made}])
+
+
+def start(leaves, count):
+    """A start of a store that replays a hub of so many values and so many records more, each of a value more."""
+    declared, records = schema("LOOSE", TYPES, EXCLUSIVE), lines(star(leaves), 10_000) + grown(leaves, count)
+    with tempfile.TemporaryDirectory() as folder:
+        for words, text in (["load", "hub"], declared), (["apply", "hub"], "".join(json.dumps(it) + "\n" for it in records)):
+            subprocess.run([PROGRAM, *words], cwd=folder, input=text.encode(), stdout=subprocess.DEVNULL, check=True)
+        return 1000 * seconds("", "apply", "hub", folder=folder), 1000 * seconds(text_of(declared, records), "validate")
+
+
 CASES = [
     ("a property beside the keys, leaf (LOOSE)", lambda: beside_keys("LOOSE", 1)),
     ("a property beside the keys, hub of 4000 (LOOSE)", lambda: beside_keys("LOOSE", 4000)),
@@ -137,6 +157,9 @@ CASES = [
     ("four branches of 30, all given", lambda: four_branches(30, False)),
     ("four branches of 30, the last not given", lambda: four_branches(30, True)),
     ("two steps over a hub of 400, one edge", lambda: chain(400)),
+    ("rings of three through a hub of 300, by one line", lambda: rings(300)),
+    ("rings of three through a hub of 600, by one line", lambda: rings(600)),
+    ("a start that replays 61 records, hub of 4000", lambda: start(4000, 60)),
 ]
 
 for name, case in CASES:

@@ -1,10 +1,10 @@
 -- How much is found from a change, and that it lies near it.
-use Rattle.std.proofs.Common.{◌≡◌, ℕ, zero, suc, ◌+◌, ◌*◌, ◌^◌, ◌<◌, ◌≤◌, Bool, true, false, ◌||◌, ◌==◌, cond, ⊎_elim, List, [], ◌∷◌, ◌++◌, map, length, slice_get, Option, Some, None, IfSome, refl, sym, ◌∙◌, ap, subst, true≢false, arith}
+use Rattle.std.proofs.Common.{◌≡◌, ℕ, zero, suc, ◌+◌, ◌*◌, ◌^◌, ◌<◌, ◌≤◌, Bool, true, false, ◌||◌, ◌==◌, not, cond, ⊎_elim, List, [], ◌∷◌, ◌++◌, map, length, slice_get, Option, Some, None, IfSome, refl, sym, ◌∙◌, ap, subst, true≢false, arith}
 use Rattle.std.specs.Prelude.{option_map}
 use Rattle.std.specs.Option.{option_map_or}
 use Rattle.std.specs.List.{list_any, All, Contains}
 use Rattle.std.specs.Cmp.{Equal-is}
-use Rattle.std.proofs.Math.Nat.{pow-zero, pow-succ', pow-le-pow_right, mul-le-mul, mul-le-mul_right}
+use Rattle.std.proofs.Math.Nat.{pow-zero, pow-succ', pow-le-pow_right, mul-le-mul, mul-le-mul_left, mul-le-mul_right}
 use Rattle.std.proofs.lemmas.Bool.{or_cases, or_left, or_right, eq-eqb}
 use Rattle.std.proofs.lemmas.List.{length-append, length-map}
 use Rattle.std.proofs.lemmas.List.Elements.{All-weaker, All-contains, All-contains_itself}
@@ -26,7 +26,7 @@ use Rattle.pgs_syntax.specs.declared.pattern.Pattern.{Pattern}
 use Rattle.pgs_syntax.specs.declared.resolved.Resolved.{Resolved}
 use Rattle.pgs_syntax.specs.Matches.{same_elem}
 use Rattle.pgs_syntax.specs.Valid.{edge_count, is_edge_var, is_valid_pattern, is_valid_key}
-use Rattle.pgs_syntax.proofs.Halves.{any_map}
+use Rattle.pgs_syntax.proofs.Halves.{any_map, any_flat_map}
 use Rattle.pgs_match.specs.declared.planned.Side.TheVariants.{Scope, Descriptor}
 use Rattle.pgs_match.specs.Near.{IsSparse, IsNearTo}
 use Rattle.pgs_match.specs.Planned.{most_edges}
@@ -36,12 +36,12 @@ use Rattle.pgs_match.proofs.Known.{valid_most}
 use Rattle.pgs_match.proofs.Nearby.{within_less}
 use Rattle.pgs_match.proofs.Scopes.{side_edges}
 use Rattle.pgs_match.proofs.Walked.{reached_few, reached_near}
-use Rattle.pgs_check_affected.specs.Found.{passes, edges_at, found_alone, found_from, found_in, found_by, found}
+use Rattle.pgs_check_affected.specs.Found.{passes, edges_at, found_alone, found_from, found_in, found_by, found, IsMore, IsFoundByAll}
 use Rattle.pgs_check_affected.specs.Local.{is_one_of, AgreeBut, has_touched_end}
 use Rattle.pgs_check_affected.specs.Touched.{touched, AreSparse, IsSparseInBoth, AreSparseInBoth}
 use Rattle.pgs_check_affected.proofs.Finding.{contains_it, has_it, found_is}
 use Rattle.pgs_check_affected.proofs.Locality.{patterns_valid}
-use Rattle.pgs_check_affected.proofs.Touching.{one_that, itself, touched_is, own_fewer, sparse_touched, sparse_own, sparse_before, sparse_after}
+use Rattle.pgs_check_affected.proofs.Touching.{any_of, one_that, itself, touched_is, own_fewer, sparse_touched, sparse_own, sparse_before, sparse_after}
 
 -- ---- powers
 
@@ -67,12 +67,43 @@ alone_few_steps most w start now cost = let some = one_power most (w + 1) (omega
 pub turn_more : (index power start now mid after : ℕ) → now ≤ start + index * (32 * power) → mid ≤ now + 16 * power → after ≤ mid + 16 * power → after ≤ start + (index + 1) * (32 * power)
 turn_more index power start now mid after a b c = omega arith
 
-pub known_more : (index power start now after : ℕ) → now ≤ start + 1280 * index * power → after ≤ now + 1280 * power → after ≤ start + 1280 * (index + 1) * power
-known_more index power start now after a b = omega arith
+pub known_more : (each index power start now after : ℕ) → now ≤ start + each * index * power → after ≤ now + each * power → after ≤ start + each * (index + 1) * power
+known_more each index power start now after a b = omega arith
 
-pub known_within : (index count power start now after : ℕ) → index < count → now ≤ start + 1280 * index * power → after ≤ now + 1280 * power → after ≤ start + 1280 * count * power
-known_within index count power start now after below a b =
-    let whole : (index + 1) * power ≤ count * power = mul-le-mul_right power (let more : index + 1 ≤ count = omega (arith, below) in more) in omega (arith, a, b, whole)
+pub known_within : (each index count power start now after : ℕ) → index < count → now ≤ start + each * index * power → after ≤ now + each * power → after ≤ start + each * count * power
+known_within each index count power start now after below a b =
+    let whole : each * ((index + 1) * power) ≤ each * (count * power) =
+    mul-le-mul_left each (mul-le-mul_right power (let more : index + 1 ≤ count = omega (arith, below) in more)) in omega (arith, a, b, whole)
+
+-- what the searches of the two patterns cost, and what is spread in the others
+pub both_cost : (scope descriptor : Bool) (count power start one two three : ℕ) → one ≤ start + (cond scope 640 0 + cond descriptor 640 0) * count * power →
+    two ≤ one + cond scope 0 640 * count * power → three ≤ two + cond descriptor 0 640 * count * power → three ≤ start + 1280 * count * power
+both_cost true true count power start one two three a b c = omega (arith, a, b, c)
+both_cost true false count power start one two three a b c = omega (arith, a, b, c)
+both_cost false true count power start one two three a b c = omega (arith, a, b, c)
+both_cost false false count power start one two three a b c = omega (arith, a, b, c)
+
+pub first_cost : (scope descriptor : Bool) (count power start one two : ℕ) → one ≤ start + (cond scope 640 0 + cond descriptor 640 0) * count * power →
+    two ≤ one + cond scope 0 640 * count * power → two ≤ start + 1280 * count * power
+first_cost true true count power start one two a b = omega (arith, a, b)
+first_cost true false count power start one two a b = omega (arith, a, b)
+first_cost false true count power start one two a b = omega (arith, a, b)
+first_cost false false count power start one two a b = omega (arith, a, b)
+
+pub searched_cost : (scope descriptor : Bool) (count power start one : ℕ) → one ≤ start + (cond scope 640 0 + cond descriptor 640 0) * count * power → one ≤ start + 1280 * count * power
+searched_cost true true count power start one a = omega (arith, a)
+searched_cost true false count power start one a = omega (arith, a)
+searched_cost false true count power start one a = omega (arith, a)
+searched_cost false false count power start one a = omega (arith, a)
+
+-- what of an element is found in the patterns that are asked for, and what is spread in the others
+abbrev share : Bool → ℕ
+share true = 40
+share false = 0
+
+shared : (b : Bool) (xs : List Elem) (power : ℕ) → length xs ≤ 40 * power → length (cond b xs []) ≤ share b * power
+shared true xs power few = few
+shared false xs power few = omega arith
 
 edges_some : (edge_vars : List Bool) → is_edge_var edge_vars 0 ≡ true → 1 ≤ edge_count edge_vars
 edges_some [] is = absurd (true≢false (sym is))
@@ -140,42 +171,68 @@ module _ (resolved : Resolved) (g h : Graph) (elem : Elem) (w most : ℕ) (spars
           let vars = mul-le-mul_right (2 * (most + 2) ^ w) (valid_most pattern valid) in
           omega (arith, all, vars)
 
-  by_few : is_graph g ≡ true → is_graph h ≡ true → (key : Key) → is_valid_key key ≡ true → most_edges key ≤ w → length (found_by resolved g h elem key) ≤ 80 * (most + 2) ^ w
-  by_few before after key valid few =
+  by_few : is_graph g ≡ true → is_graph h ≡ true → (scope descriptor : Bool) (key : Key) → is_valid_key key ≡ true → most_edges key ≤ w →
+      length (found_by resolved g h elem scope descriptor key) ≤ (share scope + share descriptor) * (most + 2) ^ w
+  by_few before after scope descriptor key valid few =
       let scope_edges = side_edges Scope key in
       let descriptor_edges = side_edges Descriptor key in
       let valids = patterns_valid key valid in
-      let scope = in_few before after key.scope valids.0 (omega (arith, scope_edges, few)) in
-      let descriptor = in_few before after key.descriptor valids.1 (omega (arith, descriptor_edges, few)) in
-      let all = length-append (found_in resolved g h elem key.scope) (found_in resolved g h elem key.descriptor) in
-      omega (arith, scope, descriptor, all)
+      let first = in_few before after key.scope valids.0 (omega (arith, scope_edges, few)) in
+      let second = in_few before after key.descriptor valids.1 (omega (arith, descriptor_edges, few)) in
+      let one = shared scope (found_in resolved g h elem key.scope) ((most + 2) ^ w) first in
+      let other = shared descriptor (found_in resolved g h elem key.descriptor) ((most + 2) ^ w) second in
+      let all = length-append (cond scope (found_in resolved g h elem key.scope) []) (cond descriptor (found_in resolved g h elem key.descriptor) []) in
+      omega (arith, one, other, all)
 
 -- ---- from all
 
 module _ (resolved : Resolved) (g h : Graph) (before : is_graph g ≡ true) (after : is_graph h ≡ true) (key : Key) (valid : is_valid_key key ≡ true) (most : ℕ) where
-  each_few : (w : ℕ) → most_edges key ≤ w → (elems : List Elem) → AreSparseInBoth g h w elems most → length (found resolved g h key elems) ≤ length elems * (80 * (most + 2) ^ w)
-  each_few w few [] sparse = omega arith
-  each_few w few (elem ∷ elems) sparse =
-      let first = by_few resolved g h elem w most (sparse elem (or_left _ _ (itself elem))) before after key valid few in
-      let rest = each_few w few elems (λ other own. sparse other (or_right (same_elem other elem) _ own)) in
-      let all = length-append (found_by resolved g h elem key) (found resolved g h key elems) in
-      added (length elems) ((most + 2) ^ w) _ _ _ first rest all
+  each_few : (scope descriptor : Bool) (w : ℕ) → most_edges key ≤ w → (elems : List Elem) → AreSparseInBoth g h w elems most →
+      length (found resolved g h scope descriptor key elems) ≤ length elems * ((share scope + share descriptor) * (most + 2) ^ w)
+  each_few scope descriptor w few [] sparse = omega arith
+  each_few scope descriptor w few (elem ∷ elems) sparse =
+      let first = by_few resolved g h elem w most (sparse elem (or_left _ _ (itself elem))) before after scope descriptor key valid few in
+      let rest = each_few scope descriptor w few elems (λ other own. sparse other (or_right (same_elem other elem) _ own)) in
+      let all = length-append (found_by resolved g h elem scope descriptor key) (found resolved g h scope descriptor key elems) in
+      added (length elems) (share scope + share descriptor) ((most + 2) ^ w) _ _ _ first rest all
     where
-      added : (count power one rest all : ℕ) → one ≤ 80 * power → rest ≤ count * (80 * power) → all ≡ one + rest → all ≤ suc count * (80 * power)
-      added count power one rest all a b c = omega arith
+      added : (count each power one rest all : ℕ) → one ≤ each * power → rest ≤ count * (each * power) → all ≡ one + rest → all ≤ suc count * (each * power)
+      added count each power one rest all a b c = omega arith
+
+  more_few : (searched : Bool) (w : ℕ) (pattern : Pattern) (elems items : List Elem) → AreSparseInBoth g h w elems most → IsMore resolved g h w searched pattern elems items →
+      length items ≤ length elems * (share (not searched) * (most + 2) ^ w)
+  more_few true w pattern elems items sparse none = let size : length items ≡ 0 = ap (λ xs. length xs) none in omega (arith, size)
+  more_few false w pattern elems items sparse more = more.few most sparse
+
+  both_few : (scope descriptor : Bool) (count power found_size one other all : ℕ) → found_size ≤ count * ((share scope + share descriptor) * power) → one ≤ count * (share (not scope) * power) →
+      other ≤ count * (share (not descriptor) * power) → all ≡ (found_size + one) + other → all ≤ count * (80 * power)
+  both_few true true count power found_size one other all a b c e = omega (arith, a, b, c, e)
+  both_few true false count power found_size one other all a b c e = omega (arith, a, b, c, e)
+  both_few false true count power found_size one other all a b c e = omega (arith, a, b, c, e)
+  both_few false false count power found_size one other all a b c e = omega (arith, a, b, c, e)
+
+  all_few : (elems items : List Elem) → AreSparseInBoth g h (most_edges key) elems most → IsFoundByAll resolved g h key elems items → length items ≤ length elems * (80 * (most + 2) ^ most_edges key)
+  all_few elems items sparse it =
+      let first = each_few it.by_scope it.by_descriptor (most_edges key) (omega arith) elems sparse in
+      let one = more_few it.by_scope (most_edges key) key.scope elems it.scope sparse it.in_scope in
+      let other = more_few it.by_descriptor (most_edges key) key.descriptor elems it.descriptor sparse it.in_descriptor in
+      let inner = length-append (found resolved g h it.by_scope it.by_descriptor key elems) it.scope in
+      let outer = length-append (found resolved g h it.by_scope it.by_descriptor key elems ++ it.scope) it.descriptor in
+      let size = ap (λ xs. length xs) it.is in
+      both_few it.by_scope it.by_descriptor (length elems) ((most + 2) ^ most_edges key) _ _ _ (length items) first one other (omega (arith, inner, outer, size))
 
   module _ (elems : List Elem) (agree : AgreeBut (is_one_of elems) g h) (edges : ℕ) (few : most_edges key ≤ edges) (sparse : AreSparse g h (2 * edges) (touched g elems) most) where
-    pub found_few : length (found resolved g h key elems) ≤ 80 * length (touched g elems) * (most + 2) ^ edges
-    found_few =
-        let all = each_few edges few elems (λ elem own. sparse_touched g h elems agree edges most sparse elem (by elem own)) in
-        let less = mul-le-mul_right (80 * (most + 2) ^ edges) (own_fewer g elems) in
-        turn (length (touched g elems)) ((most + 2) ^ edges) _ _ all less
+    pub items_few : (seen items : List Elem) → length seen ≤ length elems → AreSparseInBoth g h (most_edges key) seen most → IsFoundByAll resolved g h key seen items →
+        length items ≤ 80 * length (touched g elems) * (most + 2) ^ edges
+    items_few seen items fewer near it =
+        let all = all_few seen items near it in
+        let own = own_fewer g elems in
+        let power = power_more most (most_edges key) edges few in
+        let less = mul-le-mul (let size : length seen ≤ length (touched g elems) = omega (arith, fewer, own) in size) power in
+        turn (length seen) (length (touched g elems)) ((most + 2) ^ most_edges key) ((most + 2) ^ edges) (length items) all less
       where
-        by : (elem : Elem) → is_one_of elems elem ≡ true → is_one_of (touched g elems) elem ≡ true
-        by elem own = touched_is g h elems agree elem ∙ or_left _ _ own
-
-        turn : (u power all less : ℕ) → all ≤ less → less ≤ u * (80 * power) → all ≤ 80 * u * power
-        turn u power all less a b = omega arith
+        turn : (count u small power all : ℕ) → all ≤ count * (80 * small) → count * small ≤ u * power → all ≤ 80 * u * power
+        turn count u small power all a b = omega (arith, a, b)
 
     -- ---- what is found is near
 
@@ -255,9 +312,9 @@ module _ (resolved : Resolved) (g h : Graph) (before : is_graph g ≡ true) (aft
           by true = near_alone
           by false = near_from (length pattern.edge_vars) (omega arith)
 
-    pub found_near : (x : Elem) → Contains (found resolved g h key elems) x → IsNear x
+    pub found_near : (x : Elem) → Contains (found resolved g h true true key elems) x → IsNear x
     found_near x inside =
-        let it = one_that (λ elem. is_one_of (found_by resolved g h elem key) x) elems (sym (found_is resolved g h elems key x) ∙ has_it (found resolved g h key elems) x inside) in
+        let it = one_that (λ elem. is_one_of (found_by resolved g h elem true true key) x) elems (sym (found_is resolved g h elems key x) ∙ has_it (found resolved g h true true key elems) x inside) in
         let valids = patterns_valid key valid in
         let scope_edges = side_edges Scope key in
         let descriptor_edges = side_edges Descriptor key in
@@ -266,9 +323,48 @@ module _ (resolved : Resolved) (g h : Graph) (before : is_graph g ≡ true) (aft
         (near_in key.descriptor valids.1 (omega (arith, descriptor_edges, few)) it.0 it.1 x)
         it.2
 
+    -- and so is what is spread
+    more_near : (seen : List Elem) → ((elem : Elem) → is_one_of seen elem ≡ true → is_one_of elems elem ≡ true) → (searched : Bool) (pattern : Pattern) (items : List Elem) →
+        IsMore resolved g h (most_edges key) searched pattern seen items → (x : Elem) → is_one_of items x ≡ true → IsNear x
+    more_near seen own true pattern items none x some = absurd (true≢false (sym some ∙ ap (λ xs. is_one_of xs x) none))
+    more_near seen own false pattern items more x some =
+        let it = more.near x some in
+        ⊎_elim
+        (λ old. sparse_before g h elems agree edges most sparse (most_edges key) few it.0 x (own it.0 it.1) old)
+        (λ new. sparse_after g h elems agree edges most sparse (most_edges key) few it.0 x (own it.0 it.1) new) it.2
+
+    wide : (scope descriptor : Bool) (elem x : Elem) → is_one_of (found_by resolved g h elem scope descriptor key) x ≡ true → is_one_of (found_by resolved g h elem true true key) x ≡ true
+    wide scope descriptor elem x some =
+        list_any-append (same_elem x) (found_in resolved g h elem key.scope) (found_in resolved g h elem key.descriptor)
+        ∙ ⊎_elim (λ one. or_left _ _ (part scope (found_in resolved g h elem key.scope) one))
+        (λ other. or_right (is_one_of (found_in resolved g h elem key.scope) x) _ (part descriptor (found_in resolved g h elem key.descriptor) other))
+        (or_cases (is_one_of (cond scope (found_in resolved g h elem key.scope) []) x) _
+        (sym (list_any-append (same_elem x) (cond scope (found_in resolved g h elem key.scope) []) (cond descriptor (found_in resolved g h elem key.descriptor) [])) ∙ some))
+      where
+        part : (b : Bool) (xs : List Elem) → is_one_of (cond b xs []) x ≡ true → is_one_of xs x ≡ true
+        part true xs some = some
+        part false xs some = absurd (true≢false (sym some))
+
+    pub items_near : (seen items : List Elem) → ((elem : Elem) → is_one_of seen elem ≡ true → is_one_of elems elem ≡ true) → IsFoundByAll resolved g h key seen items → (x : Elem) → Contains items x → IsNear x
+    items_near seen items own it x inside =
+        either (IsNear x) x (found resolved g h it.by_scope it.by_descriptor key seen ++ it.scope) it.descriptor
+        (either (IsNear x) x (found resolved g h it.by_scope it.by_descriptor key seen) it.scope searched (more_near seen own it.by_scope key.scope it.scope it.in_scope x))
+        (more_near seen own it.by_descriptor key.descriptor it.descriptor it.in_descriptor x)
+        (ap (λ xs. is_one_of xs x) (sym it.is) ∙ has_it items x inside)
+      where
+        searched : is_one_of (found resolved g h it.by_scope it.by_descriptor key seen) x ≡ true → IsNear x
+        searched some =
+            let one = one_that (λ elem. is_one_of (found_by resolved g h elem it.by_scope it.by_descriptor key) x) seen
+            (sym (any_flat_map (same_elem x) (λ elem. found_by resolved g h elem it.by_scope it.by_descriptor key) seen) ∙ some) in
+            found_near x
+            (contains_it (found resolved g h true true key elems) x
+            (found_is resolved g h elems key x
+            ∙ any_of (λ elem. is_one_of (found_by resolved g h elem true true key) x) one.0 elems (own one.0 one.1) (wide it.by_scope it.by_descriptor one.0 x one.2)))
+
     -- a list of what is found alone
-    pub all_near : (xs : List Elem) → ((x : Elem) → Contains xs x → Contains (found resolved g h key elems) x) → All IsNear xs
-    all_near xs no_other = All-weaker (Contains xs) IsNear (λ x inside. found_near x (no_other x inside)) xs (All-contains_itself xs)
+    pub all_near : (xs items seen : List Elem) → ((x : Elem) → Contains xs x → Contains items x) → ((elem : Elem) → is_one_of seen elem ≡ true → is_one_of elems elem ≡ true) →
+        IsFoundByAll resolved g h key seen items → All IsNear xs
+    all_near xs items seen no_other own it = All-weaker (Contains xs) IsNear (λ x inside. items_near seen items own it x (no_other x inside)) xs (All-contains_itself xs)
 
     -- ---- what the searches cost
 

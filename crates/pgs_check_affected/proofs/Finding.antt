@@ -198,21 +198,21 @@ module _ (resolved : Resolved) (g h : Graph) where
   -- ---- both patterns of a key
 
   pub found_is : (elems : List Elem) (key : Key) (x : Elem) →
-      is_one_of (found resolved g h key elems) x ≡ list_any (λ elem. is_one_of (found_by resolved g h elem key) x) elems
-  found_is elems key x = any_flat_map (same_elem x) (λ elem. found_by resolved g h elem key) elems
+      is_one_of (found resolved g h true true key elems) x ≡ list_any (λ elem. is_one_of (found_by resolved g h elem true true key) x) elems
+  found_is elems key x = any_flat_map (same_elem x) (λ elem. found_by resolved g h elem true true key) elems
 
   module _ (elems : List Elem) (key : Key) (agree : AgreeForKey resolved g h (is_one_of elems) key) (valid : is_valid_key key ≡ true) (x : Elem) where
-    from_scope : list_any (λ elem. is_one_of (found_in resolved g h elem key.scope) x) elems ≡ true → is_one_of (found resolved g h key elems) x ≡ true
+    from_scope : list_any (λ elem. is_one_of (found_in resolved g h elem key.scope) x) elems ≡ true → is_one_of (found resolved g h true true key elems) x ≡ true
     from_scope some =
         let it = one_that (λ elem. is_one_of (found_in resolved g h elem key.scope) x) elems some in
-        found_is elems key x ∙ any_of (λ elem. is_one_of (found_by resolved g h elem key) x) it.0 elems it.1 (first_of x (found_in resolved g h it.0 key.scope) _ it.2)
+        found_is elems key x ∙ any_of (λ elem. is_one_of (found_by resolved g h elem true true key) x) it.0 elems it.1 (first_of x (found_in resolved g h it.0 key.scope) _ it.2)
 
-    from_descriptor : list_any (λ elem. is_one_of (found_in resolved g h elem key.descriptor) x) elems ≡ true → is_one_of (found resolved g h key elems) x ≡ true
+    from_descriptor : list_any (λ elem. is_one_of (found_in resolved g h elem key.descriptor) x) elems ≡ true → is_one_of (found resolved g h true true key elems) x ≡ true
     from_descriptor some =
         let it = one_that (λ elem. is_one_of (found_in resolved g h elem key.descriptor) x) elems some in
-        found_is elems key x ∙ any_of (λ elem. is_one_of (found_by resolved g h elem key) x) it.0 elems it.1 (second_of x (found_in resolved g h it.0 key.scope) _ it.2)
+        found_is elems key x ∙ any_of (λ elem. is_one_of (found_by resolved g h elem true true key) x) it.0 elems it.1 (second_of x (found_in resolved g h it.0 key.scope) _ it.2)
 
-    pub one_row : is_one_of (found resolved g h key elems) x ≡ false → HasOneRow resolved g h key x
+    pub one_row : is_one_of (found resolved g h true true key elems) x ≡ false → HasOneRow resolved g h key x
     one_row none = record {
       place = place_alike resolved g h (is_one_of elems) key agree valid x
           (or_from _ _
@@ -226,12 +226,11 @@ module _ (resolved : Resolved) (g h : Graph) where
 
   -- so of an answer that has all that is found from the seen elements of a change
   pub answered : (elems : List Elem) → AgreeBut (is_one_of elems) g h → (key : Key) → is_valid_key key ≡ true → (x : Elem) (items result : List Elem) →
-      items ≡ found resolved g h key (seen_elems resolved g h key elems) → ((y : Elem) → Contains items y → is_one_of result y ≡ true) → is_one_of result x ≡ false →
-      HasOneRow resolved g h key x
-  answered elems agree key valid x items result is kept none =
+      ((y : Elem) → is_one_of (found resolved g h true true key (seen_elems resolved g h key elems)) y ≡ true → is_one_of items y ≡ true) →
+      ((y : Elem) → Contains items y → is_one_of result y ≡ true) → is_one_of result x ≡ false → HasOneRow resolved g h key x
+  answered elems agree key valid x items result has kept none =
       one_row (seen_elems resolved g h key elems) key (change_agrees resolved g h key elems agree) valid x
-      (false_from_ne_true _ (λ some.
-      both_ways _ none (kept x (subst (λ xs. Contains xs x) (sym is) (contains_it (found resolved g h key (seen_elems resolved g h key elems)) x some)))))
+      (false_from_ne_true _ (λ some. both_ways _ none (kept x (contains_it items x (has x some)))))
 
   -- ---- a turn more of the loops
 

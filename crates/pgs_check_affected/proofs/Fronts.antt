@@ -95,9 +95,11 @@ module _ (resolved : Resolved) (g h : Graph) (key : Key) (one : Known) (is : one
   is_kept b test = ap (λ (k : Known). not (is_left_unseen resolved key k)) (sym is) ∙ ap not (sym test)
 
 -- one element more of those found
-pub found_more : (resolved : Resolved) (g h : Graph) (key : Key) (xs : List Elem) (x : Elem) → found resolved g h key (xs ++ x ∷ []) ≡ found resolved g h key xs ++ found_by resolved g h x key
-found_more resolved g h key xs x =
-    flat_append (λ elem. found_by resolved g h elem key) xs (x ∷ []) ∙ ap (λ ys. found resolved g h key xs ++ ys) (flat_one (λ elem. found_by resolved g h elem key) x)
+pub found_more : (resolved : Resolved) (g h : Graph) (scope descriptor : Bool) (key : Key) (xs : List Elem) (x : Elem) →
+    found resolved g h scope descriptor key (xs ++ x ∷ []) ≡ found resolved g h scope descriptor key xs ++ found_by resolved g h x scope descriptor key
+found_more resolved g h scope descriptor key xs x =
+    flat_append (λ elem. found_by resolved g h elem scope descriptor key) xs (x ∷ [])
+    ∙ ap (λ ys. found resolved g h scope descriptor key xs ++ ys) (flat_one (λ elem. found_by resolved g h elem scope descriptor key) x)
 
 -- ---- against all
 
@@ -108,27 +110,11 @@ module _ (resolved : Resolved) (g h : Graph) (key : Key) (elems : List Elem) whe
   pub seen_sparse : (edges most : ℕ) → AreSparseInBoth g h edges elems most → AreSparseInBoth g h edges (seen_elems resolved g h key elems) most
   seen_sparse edges most sparse elem own = sparse elem (kept_own keep elems elem own)
 
-  fewer : (xs : List Elem) → length (found resolved g h key (filter keep xs)) ≤ length (found resolved g h key xs)
-  fewer [] = omega arith
-  fewer (x ∷ xs) = by (keep x) (fewer xs)
-    where
-      by : (b : Bool) → length (found resolved g h key (filter keep xs)) ≤ length (found resolved g h key xs) →
-          length (found resolved g h key (cond b (x ∷ filter keep xs) (filter keep xs))) ≤ length (found_by resolved g h x key ++ found resolved g h key xs)
-      by true rest =
-          let some = length-append (found_by resolved g h x key) (found resolved g h key (filter keep xs)) in
-          let all = length-append (found_by resolved g h x key) (found resolved g h key xs) in
-          omega (arith, rest, some, all)
-      by false rest = let all = length-append (found_by resolved g h x key) (found resolved g h key xs) in omega (arith, rest, all)
+  pub seen_own : (elem : Elem) → is_one_of (seen_elems resolved g h key elems) elem ≡ true → is_one_of elems elem ≡ true
+  seen_own elem own = kept_own keep elems elem own
 
-  pub seen_fewer : length (found resolved g h key (seen_elems resolved g h key elems)) ≤ length (found resolved g h key elems)
-  seen_fewer = fewer elems
-
-  pub seen_found : (x : Elem) → Contains (found resolved g h key (seen_elems resolved g h key elems)) x → Contains (found resolved g h key elems) x
-  seen_found x inside =
-      let some = sym (found_is resolved g h (seen_elems resolved g h key elems) key x) ∙ has_it (found resolved g h key (seen_elems resolved g h key elems)) x inside in
-      let it = one_that (λ elem. is_one_of (found_by resolved g h elem key) x) (seen_elems resolved g h key elems) some in
-      contains_it (found resolved g h key elems) x
-      (found_is resolved g h elems key x ∙ any_of (λ elem. is_one_of (found_by resolved g h elem key) x) it.0 elems (kept_own keep elems it.0 it.1) it.2)
+  pub seen_size : length (seen_elems resolved g h key elems) ≤ length elems
+  seen_size = kept_most keep elems
 
   pub seen_less : (power start now : ℕ) → now ≤ start + 1280 * length (seen_elems resolved g h key elems) * power → now ≤ start + 1280 * length elems * power
   seen_less power start now cost =

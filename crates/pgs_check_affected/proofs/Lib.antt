@@ -11,4 +11,4 @@ pub mod Counting
 pub mod Knowing
 pub mod Loops
 pub mod Fronts
-pub mod Sorting
+pub mod Spreads

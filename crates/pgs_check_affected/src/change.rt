@@ -17,12 +17,12 @@ ghost use Rattle.pgs_check_affected.specs.Touched.{touched, AreSparse, IsSparseI
 ghost use Rattle.pgs_check_affected.specs.Unseen.{seen_elems};
 
 use crate::Known;
-use crate::gathering::{found_by_all, in_order};
 use crate::meeting::can_meet;
+use crate::spreads::found_by_all;
 use pgs_base::{EdgeId, EdgeRow, Elem, List, Memory, NodeId, NodeRow, Steps};
 use pgs_conform::{Compiled, Pair};
 use pgs_graph::{Delta, EdgeRef, GraphRead};
-use pgs_match::PlannedKey;
+use pgs_match::{PlannedKey, in_order};
 use pgs_overlay::Overlay;
 use pgs_tables::Tables;
 use std::alloc::Global;

@@ -2,10 +2,6 @@
 
 ghost use Rattle.std.specs.Prelude.{◌≡◌, ◌+◌, ◌*◌, ◌^◌, ◌<◌, ◌≤◌, ◌||◌, ◌++◌, ℕ, true, false, cond, length, slice_get, map, IfOk, OnOk};
 ghost use Rattle.std.specs.Option.{option_map_or};
-ghost use Rattle.std.specs.List.{Contains, list_any};
-ghost use Rattle.std.specs.List.Sorted.{IsStrictlySortedBy};
-ghost use Rattle.std.specs.BTreeMap.{is_at};
-ghost use Rattle.pgs_base.specs.Order.{ascends, elem_cmp};
 ghost use Rattle.pgs_graph.specs.Reads.{out_edges_of, in_edges_of};
 ghost use Rattle.pgs_syntax.specs.Matches.{carried};
 ghost use Rattle.pgs_syntax.specs.Valid.{is_valid_key_of};
@@ -16,41 +12,18 @@ ghost use Rattle.pgs_match.specs.Tests.{own_passes};
 ghost use Rattle.pgs_check_affected.specs.declared.known.Known.{Known};
 ghost use Rattle.pgs_check_affected.specs.Changes.{known_in};
 ghost use Rattle.pgs_check_affected.specs.Found.{edges_at, found_from, found_in, found_by, found};
-ghost use Rattle.pgs_check_affected.specs.Local.{is_one_of};
 ghost use Rattle.pgs_check_affected.specs.Touched.{IsSparseInBoth, AreSparseInBoth};
 ghost use Rattle.pgs_check_affected.specs.Unseen.{seen_elems};
 
 use crate::Known;
 use crate::seeing::is_left_unseen;
-use pgs_base::{Elem, List, Memory, NodeId, Steps};
+use pgs_base::{Elem, Memory, NodeId, Steps};
 use pgs_conform::{Compiled, Pair};
 use pgs_graph::GraphRead;
 use pgs_match::{PlannedKey, Side, edge_along, own_passes, reach};
 use pgs_syntax::Pattern;
 use std::alloc::Global;
 use std::sync::ledger::Ledger;
-
-// Items in order, each once.
-fn each_once<T: Ord + Drop>(mut items: Vec<T>) -> List<T>
-    ensures kept { (item : T) → Contains items.items item → list_any (is_at (T.cmp item)) result ≡ true }
-    ensures no_other { (item : T) → Contains result item → Contains items.items item }
-    ensures ascending { IsStrictlySortedBy T.cmp result }
-    ensures few { length result ≤ length items.items }
-{
-    items.sort_unstable();
-    items.dedup();
-    List::from_vec(items)
-}
-
-/// Elements in order, each once.
-pub(crate) fn in_order(elems: Vec<Elem>) -> List<Elem>
-    ensures kept { (elem : Elem) → Contains elems.items elem → is_one_of result elem ≡ true }
-    ensures no_other { (elem : Elem) → Contains result elem → Contains elems.items elem }
-    ensures ascending { ascends elem_cmp result ≡ true }
-    ensures few { length result ≤ length elems.items }
-{
-    each_once(elems)
-}
 
 // Adds the edges that go out of a node, or that come in at it, with a look-up for each and one more.
 fn add_edges_along<G: GraphRead, L: Ledger>(
@@ -237,7 +210,14 @@ pub(crate) fn is_edge(pattern: &Pattern) -> bool
     }
 }
 
-// Adds what is found in both patterns of a key from an element of a change.
+/// Which patterns of a key are searched from each element by itself.
+#[derive(Clone, Copy)]
+pub(crate) struct Searched {
+    pub(crate) scope: bool,
+    pub(crate) descriptor: bool,
+}
+
+// Adds what is found from an element of a change in the patterns that are searched from each by itself.
 fn add_found_by<G: GraphRead, H: GraphRead, L: Ledger>(
     alloc: Global,
     before: &G,
@@ -245,57 +225,65 @@ fn add_found_by<G: GraphRead, H: GraphRead, L: Ledger>(
     known: &Known<'_>,
     compiled: &Compiled,
     key: &PlannedKey,
+    searched: Searched,
     elems: &mut Vec<Elem>,
     steps: &mut Steps<L>,
 ) -> Result<(), Memory>
     requires typed { is_valid_key_of compiled.now key.now ≡ true }
     requires known { known.now ≡ known_in (G.meaning before.now) (H.meaning after.now) known.now.elem }
     ensures elems { OnOk result (elems.new.items ≡ elems.old.items
-        ++ found_by compiled.now (G.meaning before.now) (H.meaning after.now) known.now.elem key.now) }
+        ++ found_by compiled.now (G.meaning before.now) (H.meaning after.now) known.now.elem searched.scope searched.descriptor key.now) }
     ensures no_step_back { steps.old ≤ steps.new }
     ensures cost { (most : ℕ) → IsSparseInBoth (G.meaning before.now) (H.meaning after.now) (most_edges key.now) known.now.elem most →
-        steps.new ≤ steps.old + 1280 * (most + 2) ^ (most_edges key.now + 1) }
+        steps.new ≤ steps.old + (cond searched.scope 640 0 + cond searched.descriptor 640 0) * (most + 2) ^ (most_edges key.now + 1) }
 {
-    let scope = Sought {
-        compiled,
-        key,
-        side: Side::Scope,
-    };
-    let descriptor = Sought {
-        compiled,
-        key,
-        side: Side::Descriptor,
-    };
-    scope.add_found(alloc, before, after, known, elems, steps)?;
-    descriptor.add_found(alloc, before, after, known, elems, steps)?;
+    if searched.scope {
+        let scope = Sought {
+            compiled,
+            key,
+            side: Side::Scope,
+        };
+        scope.add_found(alloc, before, after, known, elems, steps)?;
+    }
+    if searched.descriptor {
+        let descriptor = Sought {
+            compiled,
+            key,
+            side: Side::Descriptor,
+        };
+        descriptor.add_found(alloc, before, after, known, elems, steps)?;
+    }
     Ok(())
 }
 
-/// What is found in both patterns of a key from the elements of a change that the key may see change.
-pub(crate) fn found_by_all<G: GraphRead, H: GraphRead, L: Ledger>(
+/// What is found from the elements of a change that the key may see change, in the patterns that are searched from each by itself.
+pub(crate) fn searched_by_all<G: GraphRead, H: GraphRead, L: Ledger>(
     alloc: Global,
     before: &G,
     after: &H,
     known: &[Known<'_>],
     compiled: &Compiled,
     key: &PlannedKey,
+    searched: Searched,
     steps: &mut Steps<L>,
 ) -> Result<Vec<Elem>, Memory>
     requires typed { is_valid_key_of compiled.now key.now ≡ true }
     requires known { known.now ≡ map (known_in (G.meaning before.now) (H.meaning after.now)) (map (λ (one : Known). one.elem) known.now) }
-    ensures found { IfOk result (λ elems. elems.items ≡ found compiled.now (G.meaning before.now) (H.meaning after.now) key.now
+    ensures found { IfOk result (λ elems. elems.items ≡ found compiled.now (G.meaning before.now) (H.meaning after.now) searched.scope searched.descriptor key.now
         (seen_elems compiled.now (G.meaning before.now) (H.meaning after.now) key.now (map (λ (one : Known). one.elem) known.now))) }
     ensures no_step_back { steps.old ≤ steps.new }
     ensures cost { (most : ℕ) → let seen = seen_elems compiled.now (G.meaning before.now) (H.meaning after.now) key.now (map (λ (one : Known). one.elem) known.now) in
         AreSparseInBoth (G.meaning before.now) (H.meaning after.now) (most_edges key.now) seen most →
-        steps.new ≤ steps.old + 1280 * length seen * (most + 2) ^ (most_edges key.now + 1) }
+        steps.new ≤ steps.old + (cond searched.scope 640 0 + cond searched.descriptor 640 0) * length seen * (most + 2) ^ (most_edges key.now + 1) }
 {
     let mut elems = Vec::new(alloc);
     for one in known {
         if is_left_unseen(one, compiled, key) {
             continue;
         }
-        add_found_by(alloc, before, after, one, compiled, key, &mut elems, steps)?;
+        add_found_by(
+            alloc, before, after, one, compiled, key, searched, &mut elems, steps,
+        )?;
     }
     Ok(elems)
 }

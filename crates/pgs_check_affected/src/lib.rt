@@ -15,6 +15,7 @@ pub mod laws;
 mod meeting;
 pub mod samples;
 mod seeing;
+mod spreads;
 
 pub use affecting::affected;
 pub use change::Change;

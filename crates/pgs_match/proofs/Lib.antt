@@ -37,5 +37,10 @@ pub mod WaySteps
 pub mod WayCosts
 pub mod WayWalks
 pub mod WayEnds
+pub mod Leading
+pub mod Led
+pub mod LedMatches
+pub mod Sorting
 pub mod Splitting
+pub mod SpreadEnds
 pub mod WayFound

@@ -8,3 +8,4 @@ pub mod Branches
 pub mod Tests
 pub mod Asks
 pub mod Routes
+pub mod Spread

@@ -17,7 +17,7 @@ use pgs_graph::GraphRead;
 use std::sync::ledger::Ledger;
 
 // The first step of a plan, and the rest.
-fn head(plan: &[Step]) -> Option<(Step, &[Step])>
+pub(crate) fn head(plan: &[Step]) -> Option<(Step, &[Step])>
     ensures { MatchOption result (plan.now ≡ []) (λ parts. plan.now ≡ parts.0 ∷ parts.1.now) }
 {
     match plan.split_first() {

@@ -1,7 +1,9 @@
 //! The calls on a planned key.
 
 ghost use Rattle.std.specs.Prelude.{◌≡◌, ◌+◌, ◌*◌, ◌^◌, ◌<◌, ◌≤◌, ◌==◌, ◌||◌, ℕ, true, length, map, filter_map, IfOk};
-ghost use Rattle.std.specs.List.{list_all};
+ghost use Rattle.std.specs.List.{All, Contains, list_all};
+ghost use Rattle.pgs_base.specs.declared.element.Elem.{Elem};
+ghost use Rattle.pgs_base.specs.Order.{ascends, elem_cmp};
 ghost use Rattle.pgs_syntax.specs.KeyValues.{is_in_scope, scope_of, key_values};
 ghost use Rattle.pgs_syntax.specs.Matches.{elements};
 ghost use Rattle.pgs_syntax.specs.Valid.{is_edge_var, is_valid_key_of};
@@ -12,9 +14,12 @@ ghost use Rattle.pgs_match.specs.Near.{HasDegreesWithin, IsSparse};
 ghost use Rattle.pgs_match.specs.Reached.{reached};
 ghost use Rattle.pgs_match.specs.Planned.{most_edges, pattern_of, taken, first_elem};
 ghost use Rattle.pgs_match.specs.Routes.{routed_from};
+ghost use Rattle.pgs_match.specs.declared.stand.Stand.{Stand};
+ghost use Rattle.pgs_match.specs.Spread.{IsNearSome, AreSparseFrom, are_in_range};
 
 use crate::searching::Place;
-use crate::{PlannedKey, Side};
+use crate::spreading::parted;
+use crate::{PlannedKey, Search, Side, Stand, in_order};
 use pgs_base::{EdgeId, Elem, List, Memory, NodeId, Part, Steps, Tuple, TupleSet};
 use pgs_conform::Compiled;
 use pgs_graph::GraphRead;
@@ -123,6 +128,47 @@ pub fn reach<G: GraphRead, L: Ledger>(
     let exprs = [Expr::Element(0)];
     let tuples = place.tuples(alloc, &exprs, key.plan(side, var), var, elem, steps)?;
     first_elems(alloc, tuples.as_slice())
+}
+
+/// The elements to which a plan of a pattern of the key leads back from elements at variables, ascending and each once: all that x takes
+/// in the matches in which the variable of one of these starts takes its element are among them. The variables are in range, and the
+/// key's types are those of the schema.
+///
+/// It goes back by one step of the plan after another, from all starts together, so that no pair of a variable and an element is gone
+/// back from twice. Each element that it gives lies within w edges of a start. At every exit it has taken at most 8 * (d + 2)^w look-ups
+/// for each start, and it gives at most (d + 2)^w elements for each, with w as for [`in_scope`], where no node within w edges of a start
+/// has an in-degree plus out-degree over d.
+pub fn spread<G: GraphRead, L: Ledger>(
+    alloc: Global,
+    graph: &G,
+    compiled: &Compiled,
+    key: &PlannedKey,
+    side: Side,
+    starts: Vec<Stand>,
+    steps: &mut Steps<L>,
+) -> Result<List<Elem>, Memory>
+    requires typed { is_valid_key_of compiled.now key.now ≡ true }
+    requires in_range { are_in_range (pattern_of side key.now) starts.items ≡ true }
+    ensures all { IfOk result (λ elems. (start : Stand) → Contains starts.items start → (elem : Elem) →
+        Contains (reached compiled.now (G.meaning graph.now) (pattern_of side key.now) start.var start.elem) elem → Contains elems elem) }
+    ensures near { IfOk result (All (IsNearSome (G.meaning graph.now) (most_edges key.now) starts.items)) }
+    ensures ascending { IfOk result (λ elems. ascends elem_cmp elems ≡ true) }
+    ensures no_step_back { steps.old ≤ steps.new }
+    ensures cost { (most : ℕ) → AreSparseFrom (G.meaning graph.now) (most_edges key.now) starts.items most →
+        steps.new ≤ steps.old + length starts.items * (8 * (most + 2) ^ most_edges key.now) }
+    ensures few { (most : ℕ) → AreSparseFrom (G.meaning graph.now) (most_edges key.now) starts.items most →
+        IfOk result (λ elems. length elems ≤ length starts.items * (most + 2) ^ most_edges key.now) }
+{
+    let _elements = graph.count();
+    let search = Search {
+        graph,
+        compiled,
+        atoms: key.pattern(side).atoms.as_slice(),
+    };
+    let plan = key.plan(side, 0);
+    let ends = search.lead_back(alloc, plan.steps.as_slice(), starts, steps)?;
+    let (firsts, _others) = parted(alloc, 0, ends.as_slice())?;
+    Ok(in_order(firsts))
 }
 
 // The element that a tuple begins with.

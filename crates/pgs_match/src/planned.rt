@@ -1,10 +1,12 @@
 ghost use Rattle.std.specs.Prelude.{◌≡◌, ◌<◌, true, [], ◌∷◌, length, IfOk};
 ghost use Rattle.pgs_syntax.specs.Valid.{is_edge_var, is_valid_pattern, is_valid_key};
+ghost use Rattle.pgs_match.specs.Branches.{has_no_cycle};
 ghost use Rattle.pgs_match.specs.Planned.{IsSplit, ArePlans, taken, pattern_of};
 
 use crate::Plan;
 use crate::copies::copy_key;
 use crate::plan::plan_to;
+use crate::trees::is_tree;
 use pgs_base::{List, Memory};
 use pgs_syntax::{Expr, Key, Pattern};
 use std::alloc::Global;
@@ -127,6 +129,14 @@ impl PlannedKey {
             Side::Scope => plan_at(self.scope.as_slice(), &self.key.scope, var),
             Side::Descriptor => plan_at(self.descriptor.as_slice(), &self.key.descriptor, var),
         }
+    }
+
+    /// Whether the variables of a pattern hang on one another as a tree, by its plan from x: so they do where it has no cycle.
+    pub fn is_tree(&self, side: Side) -> bool
+        ensures { has_no_cycle (pattern_of side self.now) ≡ true → result ≡ true }
+    {
+        let atoms = self.pattern(side).atoms.as_slice();
+        is_tree(atoms, self.plan(side, 0).steps.as_slice())
     }
 
     /// The plan of the descriptor from x to what the expressions take.

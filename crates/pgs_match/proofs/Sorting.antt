@@ -1,12 +1,13 @@
 -- The order of elements that is derived is the one of the definitions, and what sorting by an order and leaving repeats out gives.
-use Rattle.std.proofs.Common.{rules, ◌≡◌, Bool, true, ◌&&◌, List, [], ◌∷◌, refl, sym, ◌∙◌, ap, Ordering, is_lt}
+use Rattle.std.proofs.Common.{rules, ◌≡◌, ℕ, ◌+◌, ◌≤◌, Bool, true, false, cond, arith, ◌&&◌, List, [], ◌∷◌, refl, sym, ◌∙◌, ap, Ordering, is_lt}
 use Rattle.std.specs.Ordering.{is_eq, eq_by_cmp}
 use Rattle.std.specs.Cmp.{IsTotalOrder, IsEquivalence, eq_by_cmp_equiv}
-use Rattle.std.specs.List.{Contains, list_any, list_all, dedup}
+use Rattle.std.specs.List.{Contains, list_any, list_all, dedup, dedup_from, sum_by}
 use Rattle.std.specs.List.Sorted.{IsStrictlySortedBy}
 use Rattle.std.specs.BTreeMap.{is_at}
 use Rattle.std.proofs.lemmas.List.Folds.{list_any-from_Any}
 use Rattle.std.proofs.lemmas.List.Kept.{Any-dedup}
+use Rattle.std.proofs.lemmas.List.Sums.{sum_by-cons}
 use Rattle.pgs_base.specs.contracts.element.ElemOrd.TheImpl as elem_ord
 use Rattle.pgs_base.specs.declared.element.Elem.{Elem}
 use Rattle.pgs_base.specs.declared.element.Elem.TheVariants.{Node, Edge}
@@ -14,7 +15,6 @@ use Rattle.pgs_base.specs.Order.{ascends, elem_cmp}
 use Rattle.pgs_base.proofs.Ascending.{ascends_decides}
 use Rattle.pgs_syntax.specs.Matches.{same_elem}
 use Rattle.pgs_syntax.proofs.Halves.{any_same}
-use Rattle.pgs_check_affected.specs.Local.{is_one_of}
 
 module _ {K : Type 0} {cmp : K → K → Ordering} (total : IsTotalOrder cmp) {same : K → K → Bool} (ties : (x y : K) → same x y ≡ eq_by_cmp cmp x y) where
   equivalence : IsEquivalence same
@@ -40,7 +40,7 @@ cmp_is (Node a) (Edge b) = refl
 cmp_is (Edge a) (Node b) = refl
 cmp_is (Edge a) (Edge b) = search rules
 
-pub one_by_order : (x : Elem) (xs : List Elem) → list_any (is_at ((elem_ord.ghosts).cmp x)) xs ≡ true → is_one_of xs x ≡ true
+pub one_by_order : (x : Elem) (xs : List Elem) → list_any (is_at ((elem_ord.ghosts).cmp x)) xs ≡ true → list_any (same_elem x) xs ≡ true
 one_by_order x xs some = any_same (same_elem x) (is_at ((elem_ord.ghosts).cmp x)) (λ y. ap is_eq (sym (cmp_is x y))) xs ∙ some
 
 all_above : (x : Elem) (xs : List Elem) → list_all (λ later. is_lt ((elem_ord.ghosts).cmp x later)) xs ≡ list_all (λ later. is_lt (elem_cmp x later)) xs
@@ -55,3 +55,22 @@ ascends_alike (x ∷ xs) =
 
 pub rises : (xs : List Elem) → IsStrictlySortedBy (elem_ord.ghosts).cmp xs → ascends elem_cmp xs ≡ true
 rises xs sorted = sym (ascends_alike xs) ∙ (ascends_decides (elem_ord.ghosts).cmp xs).1 sorted
+
+-- ---- sums
+
+-- whatever is counted of each, where repeats are left out it is no more
+from_fewer : {X : Type 0} (count : X → ℕ) (same : X → X → Bool) (k : X) (xs : List X) → sum_by count (dedup_from same k xs) ≤ count k + sum_by count xs
+from_fewer count same k [] = let cons = sum_by-cons count k [] in omega (arith, cons)
+from_fewer {X} count same k (x ∷ xs) = by (same x k) (from_fewer count same k xs) (from_fewer count same x xs)
+  where
+    by : (b : Bool) → sum_by count (dedup_from same k xs) ≤ count k + sum_by count xs → sum_by count (dedup_from same x xs) ≤ count x + sum_by count xs →
+        sum_by count (cond b (dedup_from same k xs) (k ∷ dedup_from same x xs)) ≤ count k + sum_by count (x ∷ xs)
+    by true left rest = let more = sum_by-cons count x xs in omega (arith, left, more)
+    by false left rest =
+        let more = sum_by-cons count x xs in
+        let cons = sum_by-cons count k (dedup_from same x xs) in
+        omega (arith, rest, more, cons)
+
+pub fewer_once : {X : Type 0} (count : X → ℕ) (same : X → X → Bool) (xs : List X) → sum_by count (dedup same xs) ≤ sum_by count xs
+fewer_once count same [] = omega arith
+fewer_once count same (x ∷ xs) = let rest = from_fewer count same x xs in let cons = sum_by-cons count x xs in omega (arith, rest, cons)
