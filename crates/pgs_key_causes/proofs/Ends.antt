@@ -10,11 +10,10 @@ use Rattle.pgs_base.specs.Graph.{Graph}
 use Rattle.pgs_syntax.specs.declared.key.Key.{Key}
 use Rattle.pgs_syntax.specs.declared.key.Qualifiers.{Qualifiers}
 use Rattle.pgs_syntax.specs.declared.raw.RawKey.{RawKey}
-use Rattle.pgs_syntax.specs.declared.raw.RawPath.{RawPath}
 use Rattle.pgs_syntax.specs.declared.resolved.Resolved.{Resolved}
 use Rattle.pgs_syntax.specs.Valid.{is_valid, is_valid_key_of}
 use Rattle.pgs_resolve_declared.specs.declared.order.Numbering.{Numbering}
-use Rattle.pgs_resolve_keys.specs.Patterns.{Place, x_of, places_of, named_in, resolved_key}
+use Rattle.pgs_resolve_keys.specs.Patterns.{x_of, places_of, named_in, resolved_key}
 use Rattle.pgs_schema_places.specs.declared.parts.PartTexts.{PartTexts}
 use Rattle.pgs_pattern_end.specs.declared.front.Front.{Front}
 use Rattle.pgs_pattern_end.specs.declared.front.PatternEnd.{PatternEnd}
@@ -102,10 +101,9 @@ guided_key guide lent place found are is =
     ∙ ap (option_map (λ (key : Bor RawKey). key.now)) (ap (λ (keys : List (Bor RawKey)). slice_get keys place) (sym are) ∙ is)
 
 -- x, as it is found
-pub x_found : (key : RawKey) (scope : List RawPath) (places : List Place) (names : List (List ℕ)) (first : Option (List ℕ)) → scope ≡ key.scope →
-    places ≡ places_of scope → names ≡ named_in places → first ≡ slice_get names 0 → x_of key ≡ first
-x_found key scope places names first scope_is places_are names_are first_is =
-    sym (first_is ∙ ap (λ (ns : List (List ℕ)). slice_get ns 0) (names_are ∙ ap named_in (places_are ∙ ap places_of scope_is)))
+pub x_found : (key : RawKey) (names : List (List ℕ)) (first : Option (List ℕ)) → names ≡ named_in (places_of key.scope) → first ≡ slice_get names 0 →
+    x_of key ≡ first
+x_found key names first names_are first_is = sym (first_is ∙ ap (λ (ns : List (List ℕ)). slice_get ns 0) names_are)
 
 module _ (schema : Resolved) (g : Graph) (elem : Elem) (texts : List (List ℕ)) where
   pub from_x : (numbering : Numbering) (key : RawKey) (parts : PartTexts) (x : List ℕ) → x_of key ≡ Some x → AreEndTexts schema g elem numbering key parts texts →
