@@ -1,8 +1,10 @@
 -- Causes at the places of the code where they come to be known.
 use Rattle.std.proofs.Common.{◌≡◌, ℕ, zero, suc, Bool, true, List, [], ◌∷◌, map, Option, Some, None, refl, sym, ◌∙◌, ap, subst}
 use Rattle.std.specs.List.{list_all, slice_get}
-use Rattle.std.specs.Option.{option_and_then, option_map_or}
+use Rattle.std.specs.Option.{option_map, option_and_then, option_map_or}
 use Rattle.std.proofs.lemmas.Bool.{and_parts}
+use Rattle.std.proofs.lemmas.Option.{slice_get-map}
+use denote.Bor.{Bor}
 use Rattle.pgs_base.specs.declared.element.Elem.{Elem}
 use Rattle.pgs_base.specs.Graph.{Graph}
 use Rattle.pgs_syntax.specs.declared.key.Key.{Key}
@@ -11,7 +13,7 @@ use Rattle.pgs_syntax.specs.declared.raw.RawKey.{RawKey}
 use Rattle.pgs_syntax.specs.declared.resolved.Resolved.{Resolved}
 use Rattle.pgs_syntax.specs.Valid.{is_valid, is_valid_key_of}
 use Rattle.pgs_resolve_declared.specs.declared.order.Numbering.{Numbering}
-use Rattle.pgs_resolve_keys.specs.Patterns.{x_of, resolved_key}
+use Rattle.pgs_resolve_keys.specs.Patterns.{x_of, places_of, named_in, resolved_key}
 use Rattle.pgs_schema_places.specs.declared.parts.PartTexts.{PartTexts}
 use Rattle.pgs_pattern_end.specs.declared.front.Front.{Front}
 use Rattle.pgs_pattern_end.specs.declared.front.PatternEnd.{PatternEnd}
@@ -37,32 +39,33 @@ module _ (numbering : Numbering) (key : RawKey) (descriptor : Descriptor) (quali
       ∙ ap (λ (d : Descriptor). place_fronts numbering d qualifiers) made.descriptor_is
       ∙ ap (place_fronts numbering (descriptor_of numbering key)) made.qualifiers_is
 
-  pub parts_of_schema : (schema : Resolved) (fronts : List Front) → fronts ≡ fronts_of numbering descriptor qualifiers visits →
-      is_valid_key_of schema (resolved_key numbering key) ≡ true → list_all (is_front_of schema) fronts ≡ true
-  parts_of_schema schema fronts is valid = ap (list_all (is_front_of schema)) (is ∙ same_parts) ∙ places_valid schema numbering key valid
+  pub parts_of_schema : (schema : Resolved) (lent fronts : List Front) → lent ≡ fronts → fronts ≡ fronts_of numbering descriptor qualifiers visits →
+      is_valid_key_of schema (resolved_key numbering key) ≡ true → list_all (is_front_of schema) lent ≡ true
+  parts_of_schema schema lent fronts same is valid = ap (list_all (is_front_of schema)) (same ∙ is ∙ same_parts) ∙ places_valid schema numbering key valid
 
   pub parts_valid : (schema : Resolved) → is_valid_key_of schema (resolved_key numbering key) ≡ true →
       list_all has_valid_keys (fronts_of numbering descriptor qualifiers visits) ≡ true
-  parts_valid schema valid = have_valid_keys schema (fronts_of numbering descriptor qualifiers visits) (parts_of_schema schema _ refl valid)
+  parts_valid schema valid = have_valid_keys schema (fronts_of numbering descriptor qualifiers visits) (parts_of_schema schema _ _ refl refl valid)
 
   -- where the places end, and where they don't
-  module _ (schema : Resolved) (g : Graph) (elem : Elem) (parts : PartTexts) (fronts : List Front) (is : fronts ≡ fronts_of numbering descriptor qualifiers visits)
-      (texts : List (List ℕ)) where
-    pub at_place : (end : PatternEnd) → IsEnd (is_placed schema g elem) (least_before schema g elem) fronts (Some end) →
+  module _ (schema : Resolved) (g : Graph) (elem : Elem) (parts : PartTexts) (lent fronts : List Front) (same : lent ≡ fronts)
+      (is : fronts ≡ fronts_of numbering descriptor qualifiers visits) (texts : List (List ℕ)) where
+    pub at_place : (end : PatternEnd) → IsEnd (is_placed schema g elem) (least_before schema g elem) lent (Some end) →
         texts ≡ place_end_texts parts.places descriptor end → AreEndTexts schema g elem numbering key parts texts
     at_place end ended told = (
       Some end,
-      subst (λ (fronts : List Front). IsEnd (is_placed schema g elem) (least_before schema g elem) fronts (Some end)) (is ∙ same_parts) ended,
+      subst (λ (fronts : List Front). IsEnd (is_placed schema g elem) (least_before schema g elem) fronts (Some end)) (same ∙ is ∙ same_parts) ended,
       told ∙ ap (λ (d : Descriptor). place_end_texts parts.places d end) made.descriptor_is,
     )
 
     pub behind_places : (resolved : Key) (exprs : List (List ℕ)) → resolved ≡ resolved_key numbering key → exprs ≡ parts.exprs →
-        IsEnd (is_placed schema g elem) (least_before schema g elem) fronts None → AreExprTexts schema g elem resolved exprs texts →
+        IsEnd (is_placed schema g elem) (least_before schema g elem) lent None → AreExprTexts schema g elem resolved exprs texts →
         AreEndTexts schema g elem numbering key parts texts
-    behind_places resolved exprs same exprs_are ended told = (
+    behind_places resolved exprs resolved_is exprs_are ended told = (
       None,
-      subst (λ (fronts : List Front). IsEnd (is_placed schema g elem) (least_before schema g elem) fronts None) (is ∙ same_parts) ended,
-      subst (λ (k : Key). AreExprTexts schema g elem k parts.exprs texts) same (subst (λ (es : List (List ℕ)). AreExprTexts schema g elem resolved es texts) exprs_are told),
+      subst (λ (fronts : List Front). IsEnd (is_placed schema g elem) (least_before schema g elem) fronts None) (same ∙ is ∙ same_parts) ended,
+      subst (λ (k : Key). AreExprTexts schema g elem k parts.exprs texts) resolved_is
+      (subst (λ (es : List (List ℕ)). AreExprTexts schema g elem resolved es texts) exprs_are told),
     )
 
 -- where the expressions end, and where they don't
@@ -89,6 +92,18 @@ pub guided_valid : (schema : Resolved) (guide : KeyGuide) (place : ℕ) (key : R
 guided_valid schema guide place key valid guides is =
     all_read (is_valid_key_of schema) (resolved_key guide.numbering) (written_keys guide) place key is
     (ap (list_all (is_valid_key_of schema)) guides ∙ (and_parts _ _ valid).1)
+
+-- what is lent of a guide's keys at a place
+pub guided_key : (guide : KeyGuide) (lent : List (Bor RawKey)) (place : ℕ) (found : Option (Bor RawKey)) → lent ≡ guide.keys.items →
+    slice_get lent place ≡ found → slice_get (written_keys guide) place ≡ option_map (λ (key : Bor RawKey). key.now) found
+guided_key guide lent place found are is =
+    slice_get-map (λ (key : Bor RawKey). key.now) guide.keys.items place
+    ∙ ap (option_map (λ (key : Bor RawKey). key.now)) (ap (λ (keys : List (Bor RawKey)). slice_get keys place) (sym are) ∙ is)
+
+-- x, as it is found
+pub x_found : (key : RawKey) (names : List (List ℕ)) (first : Option (List ℕ)) → names ≡ named_in (places_of key.scope) → first ≡ slice_get names 0 →
+    x_of key ≡ first
+x_found key names first names_are first_is = sym (first_is ∙ ap (λ (ns : List (List ℕ)). slice_get ns 0) names_are)
 
 module _ (schema : Resolved) (g : Graph) (elem : Elem) (texts : List (List ℕ)) where
   pub from_x : (numbering : Numbering) (key : RawKey) (parts : PartTexts) (x : List ℕ) → x_of key ≡ Some x → AreEndTexts schema g elem numbering key parts texts →

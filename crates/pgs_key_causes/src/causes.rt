@@ -2,7 +2,7 @@
 
 ghost use Rattle.std.specs.Prelude.{◌≡◌, ◌≤◌, [], true, Some, slice_get, unwrap_or, IfOk};
 ghost use Rattle.pgs_syntax.specs.Valid.{is_valid_key_of};
-ghost use Rattle.pgs_resolve_keys.specs.Patterns.{x_of, resolved_key};
+ghost use Rattle.pgs_resolve_keys.specs.Patterns.{x_of, places_of, named_in, resolved_key};
 ghost use Rattle.pgs_key_causes.specs.Causes.{GuidesTo, visit_text, place_end_texts, expr_end_texts, AreExprTexts, AreEndTexts, AreEndsFrom, key_place, key_text, AreEnds, AreCausesWithEnd, AreKeyCauses};
 ghost use Rattle.pgs_key_causes.specs.Walk.{walk};
 
@@ -17,6 +17,7 @@ use pgs_graph::GraphRead;
 use pgs_pattern_end::{
     PatternEnd, expression_end, no_place_text, no_step_text, no_value_text, place_end,
 };
+use pgs_resolve_declared::Names;
 use pgs_resolve_keys::{named_in, places_of};
 use pgs_schema_places::PartTexts;
 use pgs_syntax::{Key, RawKey};
@@ -157,6 +158,14 @@ fn key_place(number: u32) -> Option<usize>
     }
 }
 
+// The names of variables in the scope of a key, of which x is the first.
+fn scope_names(alloc: Global, key: &RawKey) -> Result<Names, Memory>
+    ensures { IfOk result (λ names. names ≡ named_in (places_of key.now.scope)) }
+{
+    let places = places_of(alloc, key.scope.as_slice())?;
+    named_in(alloc, &places)
+}
+
 impl KeyGuide<'_> {
 
     // The text of the key of a number.
@@ -189,8 +198,7 @@ impl KeyGuide<'_> {
         ensures texts { IfOk result (λ told. AreEndsFrom compiled.now (G.meaning graph.now) self.now.numbering elem (x_of key.now) key.now parts.now told.items) }
         ensures no_step_back { steps.old ≤ steps.new }
     {
-        let places = places_of(alloc, key.scope.as_slice())?;
-        let names = named_in(alloc, &places)?;
+        let names = scope_names(alloc, key)?;
         match names.first() {
             Some(x) => {
                 let resolving = Resolving {

@@ -7,8 +7,8 @@ ghost use Rattle.std.specs.List.{list_all};
 ghost use Rattle.pgs_resolve_keys.specs.Patterns.{x_of, resolved_key};
 ghost use Rattle.pgs_key_causes.specs.Fronts.{with_exprs, expr_front, expr_fronts, has_valid_keys};
 
+use crate::fronts::front_of;
 use pgs_base::{List, Memory, Name};
-use pgs_match::plan_key;
 use pgs_pattern_end::Front;
 use pgs_resolve_declared::Numbering;
 use pgs_resolve_keys::resolve_key;
@@ -89,10 +89,7 @@ impl Resolving<'_> {
     {
         let upto = with_first(self.key(alloc)?, number + 1);
         let before = with_var(self.key(alloc)?, read_var(expr), number)?;
-        Ok(Front {
-            upto: plan_key(alloc, &upto)?,
-            before: plan_key(alloc, &before)?,
-        })
+        front_of(alloc, &upto, &before)
     }
 
     /// The expressions of the key, each as what is up to it and what is before it.

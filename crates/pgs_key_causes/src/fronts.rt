@@ -51,13 +51,14 @@ fn new_number(vars: &[u32], var: u32) -> Result<u32, Memory>
     }
 }
 
-// A part with one key for what is up to it and what is before it.
-fn front_of(alloc: Global, key: &Key) -> Result<Front, Memory>
-    requires { is_valid_key key.now ≡ true }
-    ensures { IfOk result (λ front. front ≡ record { upto = key.now; before = key.now }) }
+/// A part, of the keys of what is up to it and of what is before it.
+pub(crate) fn front_of(alloc: Global, upto: &Key, before: &Key) -> Result<Front, Memory>
+    requires upto { is_valid_key upto.now ≡ true }
+    requires before { is_valid_key before.now ≡ true }
+    ensures { IfOk result (λ front. front ≡ record { upto = upto.now; before = before.now }) }
 {
-    let upto = plan_key(alloc, key)?;
-    let before = plan_key(alloc, key)?;
+    let upto = plan_key(alloc, upto)?;
+    let before = plan_key(alloc, before)?;
     Ok(Front { upto, before })
 }
 
@@ -261,7 +262,7 @@ impl Written<'_> {
             front ≡ visit_front numbering.now self.now qualifiers visits.now (number, slice_index_or visits.now number d)) }
     {
         let key = self.visit_key(alloc, numbering, qualifiers, visits, number)?;
-        front_of(alloc, &key)
+        front_of(alloc, &key, &key)
     }
 
     /// The parts of visits, each as what is up to it and what is before it. Their keys are valid.

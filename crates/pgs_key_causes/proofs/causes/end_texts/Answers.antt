@@ -28,7 +28,7 @@ place_end-requires g c =
       visits_is = c.deref-2.ensures.value ∙ c.in_ok-visits.ensures ∙ ap walk (c.deref.ensures.value ∙ ap (λ (d : Descriptor). d.occurrences) c.written.view_is);
     } in
     parts_of_schema c.args.resolving.now.numbering.now c.args.resolving.now.key.now c.in_ok-written.written c.in_ok-key.key.qualifiers c.deref-2.result.now made
-    c.args.compiled.now c.deref-3.result.now (c.deref-3.ensures.value ∙ c.in_ok-fronts.ensures) c.requires.valid
+    c.args.compiled.now c.deref-3.result.now c.in_ok-fronts.fronts.items c.deref-3.ensures.value c.in_ok-fronts.ensures c.requires.valid
 
 pub returns-in-Some-clause-texts : goal.returns-in-Some-clause-texts
 returns-in-Some-clause-texts g c =
@@ -44,7 +44,7 @@ returns-in-Some-clause-texts g c =
     c.in_ok-end.ensures.end in
     IfOk-weaker c.place_end_texts.result _ _
     (λ told e. at_place c.args.resolving.now.numbering.now c.args.resolving.now.key.now c.in_ok-written.written c.in_ok-key.key.qualifiers c.deref-2.result.now made
-    schema graph c.args.elem c.args.parts.now c.deref-3.result.now (c.deref-3.ensures.value ∙ c.in_ok-fronts.ensures) told.items c.in-Some.end ended
+    schema graph c.args.elem c.args.parts.now c.deref-3.result.now c.in_ok-fronts.fronts.items c.deref-3.ensures.value c.in_ok-fronts.ensures told.items c.in-Some.end ended
     (e ∙ ap (λ (texts : List (List ℕ)). place_end_texts texts c.in_ok-written.written c.in-Some.end) c.as_slice.ensures))
     c.place_end_texts.ensures
 
@@ -65,6 +65,6 @@ returns-clause-texts g c =
     c.in_ok-end.ensures.end in
     IfOk-weaker c.expr_texts.result _ _
     (λ told e. behind_places c.args.resolving.now.numbering.now c.args.resolving.now.key.now c.in_ok-written.written c.in_ok-key.key.qualifiers c.deref-2.result.now
-    made schema graph c.args.elem c.args.parts.now c.deref-3.result.now (c.deref-3.ensures.value ∙ c.in_ok-fronts.ensures) told.items c.in_ok-key.key
+    made schema graph c.args.elem c.args.parts.now c.deref-3.result.now c.in_ok-fronts.fronts.items c.deref-3.ensures.value c.in_ok-fronts.ensures told.items c.in_ok-key.key
     c.as_slice-in-None.result.now c.in_ok-key.ensures c.as_slice-in-None.ensures ended e)
     c.expr_texts.ensures.texts

@@ -8,12 +8,19 @@ use Rattle.pgs_key_causes.specs.Fronts.{visit_front, has_valid_keys}
 use Rattle.pgs_key_causes.proofs.Places.{made_at}
 use Rattle.pgs_key_causes.proofs.written.Written.visit_front.Goals as goal
 
-pub front_of-requires : goal.front_of-requires
-front_of-requires c =
+pub front_of-requires-clause-upto : goal.front_of-requires-clause-upto
+front_of-requires-clause-upto c =
     let d : Visit = record { place = 0; from = 0 } in
     ap is_valid_key (c.in_ok-key.ensures d)
     ∙ (and_parts _ _ (made_at has_valid_keys (visit_front c.args.numbering.now c.args.self.now c.args.qualifiers c.args.visits.now) c.args.visits.now c.args.number d
     c.requires.within c.requires.valid)).0
+
+pub front_of-requires-clause-before : goal.front_of-requires-clause-before
+front_of-requires-clause-before c =
+    let d : Visit = record { place = 0; from = 0 } in
+    ap is_valid_key (c.in_ok-key.ensures d)
+    ∙ (and_parts _ _ (made_at has_valid_keys (visit_front c.args.numbering.now c.args.self.now c.args.qualifiers c.args.visits.now) c.args.visits.now c.args.number d
+    c.requires.within c.requires.valid)).1
 
 pub returns : goal.returns
 returns c d =
