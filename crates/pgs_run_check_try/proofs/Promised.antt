@@ -11,6 +11,7 @@ use Rattle.pgs_run_lines.specs.Run as over
 use Rattle.pgs_run_lines.specs.Run.{Allows, EndsBy, IsFar}
 use Rattle.pgs_base.specs.Graph.{Graph}
 use Rattle.pgs_snapshot.specs.Saved.{SavedState, saved, store}
+use Rattle.pgs_store.specs.State.{GuardState}
 use Rattle.pgs_store.specs.Stored.{StoreState}
 use Rattle.pgs_syntax.specs.declared.resolved.Resolved.{Resolved}
 use Rattle.pgs_violation.specs.Violations.{verdict}
@@ -46,6 +47,7 @@ use Rattle.pgs_run_check_try.specs.Explaining.{after_end, after_part, deciding, 
 use Rattle.pgs_run_check_try.specs.Right.{AreRight, AreRightOf, lines_within}
 use Rattle.pgs_run_check_try.specs.Rule.{explains, joined, joined_first, joined_second, place_at, place_to}
 use Rattle.pgs_run_check_try.specs.Spec.{IsSavedIn, check_apply_spec, check_try_spec}
+use Rattle.pgs_run_check_try.specs.State.{SessionState, state_of}
 use Rattle.pgs_run_check_try.specs.Told.{Causes, by_lines, start_on, status_after, told_check_apply, told_check_try, told_from, told_on}
 use Rattle.pgs_run_check_try.proofs.Chosen.{chosen_ends}
 use Rattle.pgs_run_check_try.proofs.Machine.{told_by_lines, told_by_try}
@@ -220,7 +222,7 @@ same_saved it opened old mid is tells known =
 
 -- ---- the run
 
-abbrev phase_on : SavedStore → Phase
+abbrev pub phase_on : SavedStore → Phase
 phase_on it = phases.Lines (record { text = it.text; schema = it.schema; standing = start_on it })
 
 -- the store was opened, and its lines were run
@@ -328,3 +330,15 @@ room_text budget few = record { room = budget + 1; enough = omega arith; has = o
 
 pub room_store : (it : SavedStore) (budget : ℕ) → budget ≤ 2 ^ 40 → HasRoomFor deciding (budget + 1) (phase_on it)
 room_store it budget few = record { room = budget + 1; enough = omega arith; has = omega arith }
+
+-- ---- where the machine stands before it
+
+pub room_from : (s phase : Phase) (budget : ℕ) → phase ≡ s → HasRoomFor deciding (budget + 1) s → HasRoomFor deciding (budget + 1) phase
+room_from s phase budget is room = subst (λ (p : Phase). HasRoomFor deciding (budget + 1) p) (sym is) room
+
+pub runs_from : (s phase : Phase) (budget : ℕ) (before left : SourceState) (stop : Stop Status) (old new : View) → phase ≡ s → RunsOver phase budget before left stop old new → RunsOver s budget before left stop old new
+runs_from s phase budget before left stop old new is ran = subst (λ (p : Phase). RunsOver p budget before left stop old new) is ran
+
+pub phase_over : (it : StoreState) (guard : GuardState) (s : SessionState) (phase : Phase) → guard ≡ it.guard → s ≡ state_of guard 0 false → phase ≡ phases.Lines s → phase ≡ phase_on (saved_in it)
+phase_over it guard s phase same is stands =
+    stands ∙ ap (λ (x : SessionState). phases.Lines x) is ∙ ap (λ (x : GuardState). let p : Phase = phases.Lines (state_of x 0 false) in p) same

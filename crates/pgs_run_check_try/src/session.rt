@@ -129,7 +129,8 @@ impl Session {
         requires room { self.old.standing.number < 2 ^ 64 - 1 }
         requires rejected { decision_on (verdict self.old.schema) self.old.standing.graph txn.now ≡ Err rejection.now }
         ensures session { OnOk result (self.new ≡ record self.old { standing = after_answer self.old.standing (with_text (Err rejection.now)) }) }
-        ensures lines { IfOk result (TellsWith (AreStagedCauses self.old.text self.old.schema (staged standard self.old.standing.graph txn.now)) self.old.standing (with_text (Err rejection.now))) }
+        ensures lines { IfOk result (λ lines. TellsWith (AreStagedCauses self.old.text self.old.schema (staged standard self.old.standing.graph txn.now))
+            self.old.standing (with_text (Err rejection.now)) lines.items) }
     {
         let text = rejection_text(alloc, rejection, &Limits::standard())?;
         let causes = rejection_causes(alloc, &self.guard, txn, rejection)?;
@@ -154,8 +155,8 @@ impl Session {
         ensures session { OnOk result (self.new ≡ record self.old {
           standing = after_answer self.old.standing (answer_to_txn (verdict self.old.schema) self.old.standing.graph (Ok txn.now));
         }) }
-        ensures lines { IfOk result (TellsWith (AreStagedCauses self.old.text self.old.schema (staged standard self.old.standing.graph txn.now)) self.old.standing
-            (answer_to_txn (verdict self.old.schema) self.old.standing.graph (Ok txn.now))) }
+        ensures lines { IfOk result (λ lines. TellsWith (AreStagedCauses self.old.text self.old.schema (staged standard self.old.standing.graph txn.now))
+            self.old.standing (answer_to_txn (verdict self.old.schema) self.old.standing.graph (Ok txn.now)) lines.items) }
     {
         if self.guard.commits() == u64::MAX {
             return Err(Memory);
@@ -173,8 +174,8 @@ impl Session {
         ensures session { OnOk result (self.new ≡ record self.old {
           standing = after_answer self.old.standing (answer_to (verdict self.old.schema) self.old.standing.graph line.now);
         }) }
-        ensures lines { IfOk result (TellsWith (AreLineCauses self.old.text self.old.schema self.old.standing.graph line.now) self.old.standing
-            (answer_to (verdict self.old.schema) self.old.standing.graph line.now)) }
+        ensures lines { IfOk result (λ lines. TellsWith (AreLineCauses self.old.text self.old.schema self.old.standing.graph line.now)
+            self.old.standing (answer_to (verdict self.old.schema) self.old.standing.graph line.now) lines.items) }
     {
         match txn_of(alloc, line) {
             Ok(txn) => self.take_txn(alloc, &txn),
