@@ -66,7 +66,7 @@ module _ (s : SessionState) (line : List ℕ) where
   pub tells_txn : (txn : Txn) (pieces : List (List ℕ)) → txn_answer line ≡ Ok txn
       → TellsWith (AreStagedCauses s.text s.schema (staged standard s.standing.graph txn)) s.standing (answer_to_txn (verdict s.schema) s.standing.graph (Ok txn)) pieces
       → TellsWith (AreLineCauses s.text s.schema s.standing.graph line) s.standing answer pieces
-  unfolding answer_to, AreLineCauses
+  unfolding answer_to AreLineCauses
   tells_txn txn pieces is told =
       subst (λ (found : Result Txn (List ℕ)). TellsWith (AreTxnCauses s.text s.schema s.standing.graph line found) s.standing (answer_to_txn (verdict s.schema) s.standing.graph found) pieces) (sym is)
       (record { texts = told.texts; right = told.right; is = told.is })
@@ -74,10 +74,21 @@ module _ (s : SessionState) (line : List ℕ) where
   -- and that has none
   pub tells_refused : (refusal : List ℕ) (texts pieces : List (List ℕ)) → txn_answer line ≡ Err refusal → AreReadCauses line texts → pieces ≡ with_causes (λ number. texts) s.standing (Err refusal)
       → TellsWith (AreLineCauses s.text s.schema s.standing.graph line) s.standing answer pieces
-  unfolding answer_to, AreLineCauses
+  unfolding answer_to AreLineCauses
   tells_refused refusal texts pieces is right told =
       subst (λ (found : Result Txn (List ℕ)). TellsWith (AreTxnCauses s.text s.schema s.standing.graph line found) s.standing (answer_to_txn (verdict s.schema) s.standing.graph found) pieces) (sym is)
       (record { texts = texts; right = right; is = told })
+
+  abbrev after : Result Graph (List ℕ) → SessionState
+  after found = record { text = s.text; schema = s.schema; standing = after_answer s.standing found }
+
+  pub session_txn : (txn : Txn) → txn_answer line ≡ Ok txn → after (answer_to_txn (verdict s.schema) s.standing.graph (Ok txn)) ≡ after answer
+  unfolding answer_to
+  session_txn txn is = sym (ap (λ (found : Result Txn (List ℕ)). after (answer_to_txn (verdict s.schema) s.standing.graph found)) is)
+
+  pub session_refused : (refusal : List ℕ) → txn_answer line ≡ Err refusal → after (Err refusal) ≡ after answer
+  unfolding answer_to
+  session_refused refusal is = sym (ap (λ (found : Result Txn (List ℕ)). after (answer_to_txn (verdict s.schema) s.standing.graph found)) is)
 
   -- a blank line tells nothing
   pub tells_blank : is_skipped line ≡ true → TellsLine s line []

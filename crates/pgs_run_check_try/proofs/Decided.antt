@@ -102,23 +102,24 @@ module _ (text : List ℕ) (schema : Resolved) (g : Graph) (txn : Txn) where
 
 -- ---- a transaction that is staged again
 
--- the causes of its violation, of the graph that its delta makes, are those of what comes of staging it
-module _ (limits : Limits) (text : List ℕ) (schema : Resolved) (g seen other : Graph) (txn : Txn) (violation : Violation) (delta : Delta) where
-  staged_again : limits.ops ≡ 10000 → limits.elements ≡ 1000000 → seen ≡ g → staged limits seen txn ≡ Ok (changed seen delta) → staged standard g txn ≡ Ok (changed g delta)
-  staged_again ops elements same is =
+module _ (limits : Limits) (text : List ℕ) (schema : Resolved) (g seen : Graph) (txn : Txn) (violation : Violation) where
+  staged_again : (delta : Delta) → limits.ops ≡ 10000 → limits.elements ≡ 1000000 → seen ≡ g → staged limits seen txn ≡ Ok (changed seen delta) → staged standard g txn ≡ Ok (changed g delta)
+  staged_again delta ops elements same is =
       subst (λ (x : Graph). staged standard x txn ≡ Ok (changed x delta)) same (subst (λ (l : Limits). staged l seen txn ≡ Ok (changed seen delta)) (standard_is limits ops elements) is)
 
-  pub causes_again : (told : Result (List (List ℕ)) Memory) (own : List ℕ) (found : Resolved) → limits.ops ≡ 10000 → limits.elements ≡ 1000000 → seen ≡ g → other ≡ g → own ≡ text → found ≡ schema
+  -- the causes of its violation, of the graph that its delta makes, are those of what comes of staging it
+  pub causes_again : (other : Graph) (delta : Delta) (told : Result (List (List ℕ)) Memory) (own : List ℕ) (found : Resolved) → limits.ops ≡ 10000 → limits.elements ≡ 1000000 → seen ≡ g → other ≡ g → own ≡ text → found ≡ schema
       → staged limits seen txn ≡ Ok (changed seen delta) → decision_on (verdict schema) g txn ≡ Err (ByViolation violation) → IfOk told (AreViolationCauses own found (changed other delta) violation)
       → IfOk told (AreStagedCauses text schema (staged standard g txn))
-  causes_again told own found ops elements same_seen same_other same_text same_schema is rejected causes =
+  causes_again other delta told own found ops elements same_seen same_other same_text same_schema is rejected causes =
       IfOk-weaker told (AreViolationCauses own found (changed other delta) violation) (AreStagedCauses text schema (staged standard g txn))
       (λ texts are.
-      causes_staged text schema g txn violation (changed g delta) texts rejected (staged_again ops elements same_seen is)
+      causes_staged text schema g txn violation (changed g delta) texts rejected (staged_again delta ops elements same_seen is)
       (subst (λ (x : Graph). AreViolationCauses text schema (changed x delta) violation texts) same_other
       (subst (λ (x : Resolved). AreViolationCauses text x (changed other delta) violation texts) same_schema
       (subst (λ (x : List ℕ). AreViolationCauses x found (changed other delta) violation texts) same_text are)))) causes
 
+  -- it can be staged
   pub never_again : (structural : Structural) → limits.ops ≡ 10000 → limits.elements ≡ 1000000 → seen ≡ g → staged limits seen txn ≡ Err structural → decision_on (verdict schema) g txn ≡ Err (ByViolation violation) → ⊥
   never_again structural ops elements same is rejected =
       never_unstaged text schema g txn violation structural rejected

@@ -1,5 +1,5 @@
 -- What is promised of a run, by how its run over lines ended.
-use Rattle.std.proofs.Common.{◌≡◌, ◌⊎◌, inl, inr, ℕ, ◌+◌, ◌^◌, ◌≤◌, Bool, true, false, List, [], ◌∷◌, ◌++◌, length, map, Option, Some, Result, Ok, Err, IsTrue, refl, sym, ap, subst, ◌∙◌, arith}
+use Rattle.std.proofs.Common.{◌≡◌, ◌⊎◌, inl, inr, ℕ, ◌+◌, ◌^◌, ◌<◌, ◌≤◌, Bool, true, false, List, [], ◌∷◌, ◌++◌, length, map, Option, Some, Result, Ok, Err, IsTrue, refl, sym, ap, subst, ◌∙◌, arith}
 use Rattle.pgs_feed.specs.Places.{Place}
 use Rattle.pgs_run_lines.specs.declared.stop.Stop.{Stop}
 use Rattle.pgs_run_lines.specs.declared.stop.Stop.TheVariants as stops
@@ -47,7 +47,7 @@ use Rattle.pgs_run_check_try.specs.Explaining.{after_end, after_part, deciding, 
 use Rattle.pgs_run_check_try.specs.Right.{AreRight, AreRightOf, lines_within}
 use Rattle.pgs_run_check_try.specs.Rule.{explains, joined, joined_first, joined_second, place_at, place_to}
 use Rattle.pgs_run_check_try.specs.Spec.{IsSavedIn, check_apply_spec, check_try_spec}
-use Rattle.pgs_run_check_try.specs.State.{SessionState, state_of}
+use Rattle.pgs_run_check_try.specs.State.{SessionState, session_after, state_of}
 use Rattle.pgs_run_check_try.specs.Told.{Causes, by_lines, start_on, status_after, told_check_apply, told_check_try, told_from, told_on}
 use Rattle.pgs_run_check_try.proofs.Chosen.{chosen_ends}
 use Rattle.pgs_run_check_try.proofs.Machine.{told_by_lines, told_by_try}
@@ -95,7 +95,7 @@ module _ (s : Phase) (budget : ℕ) (before left : SourceState) (stop : Stop Sta
   place = place_to s a.lines a.extent
 
   -- those of the lines that were taken, and none of others
-  pub chosen : Causes
+  abbrev pub chosen : Causes
   chosen = joined place a.allowed.causes (λ number. [])
 
   agree : (k : ℕ) → k < place → chosen k ≡ a.allowed.causes k
@@ -165,7 +165,7 @@ IsLines (Ended status) = ⊥
 
 lines_on : (at : RunState Phase Status) (lines : List (List ℕ)) → IsLines at → IsLines (after_lines deciding at lines)
 lines_on at [] is = is
-lines_on (Going (phases.Lines s)) (line ∷ lines) is = lines_on _ lines tt
+lines_on (Going (phases.Lines s)) (line ∷ lines) is = lines_on (Going (phases.Lines (session_after s line))) lines tt
 lines_on (Going (phases.Schema part)) (line ∷ lines) is = absurd is
 lines_on (Going phases.Refused) (line ∷ lines) is = absurd is
 lines_on (Ended status) (line ∷ lines) is = absurd is
@@ -298,10 +298,10 @@ none_right Stopped text schema s [] stopped = tt
 none_right Stopped text schema s (line ∷ lines) stopped = (λ kept. inr (stopped, refl), none_right Stopped text schema (standing_after (verdict schema) s line) lines stopped)
 
 -- where a store is saved, an area failed, or there was no memory
-saved_disturbed : (reason : Unopened) (old mid new : View) (result : Status) (it : SavedStore) → IsTrue old.tells_bytes → IsSavedIn it (areas_of old) → Opens (Err reason) old mid → EndsUnopened reason mid result new → IsDisturbed result
-saved_disturbed (unopened.Refused reply) old mid new result it tells known opens ends = absurd (never_refused old it.text it.commits it.graph reply.line reply.status tells known.saves opens.1)
-saved_disturbed unopened.DiskFault old mid new result it tells known opens ends = inr (inr (inr ends.0))
-saved_disturbed unopened.Memory old mid new result it tells known opens ends = inr (inr (inl ends.0))
+saved_disturbed : (reason : Unopened) (old mid new : View) (result : Status) (kept : SavedStore) → IsTrue old.tells_bytes → IsSavedIn kept (areas_of old) → Opens (Err reason) old mid → EndsUnopened reason mid result new → IsDisturbed result
+saved_disturbed (unopened.Refused reply) old mid new result kept tells known opens ends = absurd (never_refused old kept.text kept.commits kept.graph reply.line reply.status tells known.saves opens.1)
+saved_disturbed unopened.DiskFault old mid new result kept tells known opens ends = inr (inr (inr ends.0))
+saved_disturbed unopened.Memory old mid new result kept tells known opens ends = inr (inr (inl ends.0))
 
 pub promised_unopened : (reason : Unopened) (old mid new : View) (result : Status) → RunsUnopened reason old mid new result → (budget : ℕ) (source : SourceState) (places : List Place)
     → Promise check_apply_spec budget (record { source = source; view = old; places = places }) (record { source = source; view = new; places = places }) result
@@ -339,6 +339,6 @@ room_from s phase budget is room = subst (λ (p : Phase). HasRoomFor deciding (b
 pub runs_from : (s phase : Phase) (budget : ℕ) (before left : SourceState) (stop : Stop Status) (old new : View) → phase ≡ s → RunsOver phase budget before left stop old new → RunsOver s budget before left stop old new
 runs_from s phase budget before left stop old new is ran = subst (λ (p : Phase). RunsOver p budget before left stop old new) is ran
 
-pub phase_over : (it : StoreState) (guard : GuardState) (s : SessionState) (phase : Phase) → guard ≡ it.guard → s ≡ state_of guard 0 false → phase ≡ phases.Lines s → phase ≡ phase_on (saved_in it)
-phase_over it guard s phase same is stands =
+pub phase_over : (opened : StoreState) (guard : GuardState) (s : SessionState) (phase : Phase) → guard ≡ opened.guard → s ≡ state_of guard 0 false → phase ≡ phases.Lines s → phase ≡ phase_on (saved_in opened)
+phase_over opened guard s phase same is stands =
     stands ∙ ap (λ (x : SessionState). phases.Lines x) is ∙ ap (λ (x : GuardState). let p : Phase = phases.Lines (state_of x 0 false) in p) same

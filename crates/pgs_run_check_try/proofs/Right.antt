@@ -132,37 +132,44 @@ module _ (Stopped : Type 0) (causes : Causes) where
       (subst (λ lines. AreRightBehind Stopped causes whole (schema_answer whole) lines) (sym after)
       (behind_right whole part more (text ∙ ap text_front (sym same)) own right))
 
-  abbrev Rightly : RunState Phase Status → List (List ℕ) → Type 0
+  abbrev pub Rightly : RunState Phase Status → List (List ℕ) → Type 0
   Rightly at lines = RightFrom Stopped causes at lines × RightBehind causes (after_lines deciding at lines)
 
   pub part_right : (more seen : List (List ℕ)) (part : Part) → HasNo seen → part.text ≡ text_front (join_with_byte 10 seen) → part.begun ≡ not (has_none seen)
       → Rightly (Going (Schema part)) (map text_front more) → AreRightOf Stopped causes (seen ++ more)
   part_right [] seen part none text begun right = subst (AreRightOf Stopped causes) (sym (append-nil seen)) (text_right seen part none text right.1)
-  part_right (line ∷ more) seen part none text begun right = by_line (is_separator line) refl
+  part_right (line ∷ more) seen part none text begun right =
+      by_line (is_separator line) refl
+      (λ next_none next_text next_begun next_right. part_right more (seen ++ line ∷ []) (with_line part (text_front line)) next_none next_text next_begun next_right)
     where
+      abbrev next : Part
+      next = with_line part (text_front line)
+
       front_is : is_separator (text_front line) ≡ is_separator line
       front_is = separator_of_front line
 
-      by_line : (separates : Bool) → is_separator line ≡ separates → AreRightOf Stopped causes (seen ++ line ∷ more)
-      by_line true is =
+      by_line : (separates : Bool) → is_separator line ≡ separates
+          → (HasNo (seen ++ line ∷ []) → next.text ≡ text_front (join_with_byte 10 (seen ++ line ∷ [])) → next.begun ≡ not (has_none (seen ++ line ∷ []))
+          → Rightly (Going (Schema next)) (map text_front more) → AreRightOf Stopped causes ((seen ++ line ∷ []) ++ more))
+          → AreRightOf Stopped causes (seen ++ line ∷ more)
+      by_line true is on =
           let e : is_separator (text_front line) ≡ true = front_is ∙ is in
           let own : IsRightText causes part.text = subst (λ separates. MatchBool separates (IsRightText causes part.text) (Unit {0})) e right.0.0 in
-          let next : after_end (Schema part) (text_front line) ≡ after_text part.text = rw e refl in
-          separated_right seen more line part none text is own (subst (λ (p : Phase). RightFrom Stopped causes (next_of p) (map text_front more)) next right.0.1)
-      by_line false is =
+          let leads : after_end (Schema part) (text_front line) ≡ after_text part.text = rw e refl in
+          separated_right seen more line part none text is own (subst (λ (p : Phase). RightFrom Stopped causes (next_of p) (map text_front more)) leads right.0.1)
+      by_line false is on =
           let e : is_separator (text_front line) ≡ false = front_is ∙ is in
-          let next : after_end (Schema part) (text_front line) ≡ Schema (with_line part (text_front line)) = rw e refl in
+          let leads : after_end (Schema part) (text_front line) ≡ Schema next = rw e refl in
           subst (AreRightOf Stopped causes) (append_assoc seen (line ∷ []) more)
-          (part_right more (seen ++ line ∷ []) (with_line part (text_front line)) (none_more seen line none is) (text_of_more part seen line text begun)
-          (begun_more part (text_front line) part.begun refl ∙ ap not (sym (has_some seen line)))
-          (subst (λ (p : Phase). Rightly (next_of p) (map text_front more)) next (right.0.1, right.1)))
+          (on (none_more seen line none is) (text_of_more part seen line text begun) (begun_more part (text_front line) part.begun refl ∙ ap not (sym (has_some seen line)))
+          (subst (λ (p : Phase). Rightly (next_of p) (map text_front more)) leads (right.0.1, right.1)))
 
   pub text_lines_right : (lines : List (List ℕ)) → Rightly (Going first_phase) (map text_front lines) → AreRightOf Stopped causes lines
   text_lines_right lines right = part_right lines [] no_part refl (sym (front_none text_limit)) refl right
 
   -- ---- lines that weren't taken
 
-  abbrev LacksFrom : ℕ → Type 0
+  abbrev pub LacksFrom : ℕ → Type 0
   LacksFrom place = (k : ℕ) → place ≤ k → causes k ≡ []
 
   schema_lacks : (text : List ℕ) (answer : Result Resolved (List ℕ)) → causes 0 ≡ [] → IsRightSchema causes text answer

@@ -146,8 +146,8 @@ module _ (s : Phase) (line : List ℕ) (old new : View) (areas : KeepsAreas old 
       areas = areas;
       causes = tells.causes;
       explained = λ others agrees.
-          let as = asked_on others (place_next (after_end s line)) agrees in
-          record { shows = subst (λ ps. ShowsAll (shown_of old) ps (shown_of new)) (pieces_are others as) shows; right = right_is others as };
+          let so = asked_on others (place_next (after_end s line)) agrees in
+          record { shows = subst (λ ps. ShowsAll (shown_of old) ps (shown_of new)) (pieces_are others so) shows; right = right_is others so };
     }
 
     -- or their putting stopped, or the line ended the run
@@ -156,10 +156,10 @@ module _ (s : Phase) (line : List ℕ) (old new : View) (areas : KeepsAreas old 
       areas = areas;
       causes = tells.causes;
       explained = λ others agrees.
-          let as = asked_on others (place_next (after_end s line)) agrees in
+          let so = asked_on others (place_next (after_end s line)) agrees in
           record {
-            shows = (may, subst (λ ps. Shows (shown_of old) ps stop (shown_of new)) (pieces_are others as) shows);
-            right = weaker (IsFault stop) others (Going s) (line ∷ []) (right_is others as);
+            shows = (may, subst (λ ps. Shows (shown_of old) ps stop (shown_of new)) (pieces_are others so) shows);
+            right = weaker (IsFault stop) others (Going s) (line ∷ []) (right_is others so);
           };
     }
 
@@ -195,10 +195,10 @@ module _ (s : Phase) (line : List ℕ) (old new : View) (areas : KeepsAreas old 
       areas = areas;
       causes = tells.causes;
       explained = λ others agrees.
-          let as : (k : ℕ) → place_of s ≤ k → k < last → others k ≡ tells.causes k = λ k from below. agrees k (from, subst (λ n. k < n) (sym (place_last (after_end s line))) below) in
-          let right = last_right others as in
+          let so : (k : ℕ) → place_of s ≤ k → k < last → others k ≡ tells.causes k = λ k from below. agrees k (from, subst (λ n. k < n) (sym (place_last (after_end s line))) below) in
+          let right = last_right others so in
           record {
-            shows = (may, ends (end others as) (sym (last_are others as)) refl);
+            shows = (may, ends (end others so) (sym (last_are others so)) refl);
             right = (weaker (IsFault stop) others (Going s) (line ∷ []) (right.0, tt), behind_of others (after_end s line) right.1);
           };
     }

@@ -52,7 +52,7 @@ within_cut bytes rest budget full =
 within_whole : (bytes : List ℕ) (budget : ℕ) → length bytes < budget → lines_within bytes budget ≡ (lines_of bytes).ended ++ (lines_of bytes).rest ∷ []
 within_whole bytes budget short = let e : nat_le budget (length bytes) ≡ false = grind (arith, nat_tests) in rw e refl
 
-abbrev fronts : List ℕ → ℕ → List (List ℕ)
+abbrev pub fronts : List ℕ → ℕ → List (List ℕ)
 fronts input budget = map text_front (lines_within input budget)
 
 kept_ended : (bytes : List ℕ) → (kept_of text_limit bytes).ended ≡ map text_front (lines_of bytes).ended

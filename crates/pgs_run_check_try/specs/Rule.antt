@@ -18,6 +18,7 @@ use Rattle.pgs_world.specs.Moment.{IsTimed}
 use Rattle.pgs_world.specs.World.{View}
 use Rattle.pgs_syntax.specs.declared.resolved.Resolved.{Resolved}
 use Rattle.pgs_violation.specs.declared.violation.Verdict.{Verdict}
+use Rattle.pgs_violation.specs.Violations.{verdict}
 use Rattle.pgs_command.specs.declared.status.Status.{Status}
 use Rattle.pgs_run_input.specs.Answers.{schema_answer}
 use Rattle.pgs_run_input.specs.Input.{is_separator, is_skipped}
@@ -146,7 +147,7 @@ number_by verdict s line false e = rw e (number_answer s (answer_to verdict s.gr
 
 pub place_line : (phase : Phase) (line : List ℕ) → place_of phase ≤ place_of (after_end phase line)
 place_line (Schema part) line = omega arith
-place_line (Lines s) line = let n = number_by _ s.standing line (is_skipped line) refl in omega (arith, n)
+place_line (Lines s) line = let n = number_by (verdict s.schema) s.standing line (is_skipped line) refl in omega (arith, n)
 place_line Refused line = omega arith
 
 pub place_next : (phase : Phase) → place_at (next_of phase) ≡ place_of phase

@@ -4,6 +4,7 @@ ghost use Rattle.pgs_violation.specs.Staging.{staged};
 ghost use Rattle.pgs_violation.specs.Violations.{verdict};
 ghost use Rattle.pgs_run_input.specs.Session.{after_answer, after_refusal, answer_to, answer_to_txn, decision_on, standard, with_text};
 ghost use Rattle.pgs_run_check_try.specs.Causes.{AreLineCauses, AreStagedCauses};
+ghost use Rattle.pgs_run_check_try.specs.Lines.{accepted_line};
 ghost use Rattle.pgs_run_check_try.specs.State.{TellsLine, TellsWith, session_after, state_of};
 ghost use Rattle.pgs_run_check_try.specs.Told.{status_after, with_causes};
 

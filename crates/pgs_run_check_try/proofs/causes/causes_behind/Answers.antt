@@ -7,8 +7,8 @@ use Rattle.pgs_run_check_try.proofs.causes.causes_behind.Goals as goal
 pub returns-in-Ok : goal.returns-in-Ok
 returns-in-Ok c =
     let guard = c.args.guard.now in
-    causes_again c.standard.result guard.text guard.schema guard.graph c.graph.result.now.graph c.graph-2.result.now.graph c.args.txn.now c.args.violation.now c.in-Ok.delta
-    c.changed_causes.result c.schema_text.result.now c.compiled.result.now c.standard.ensures.ops c.standard.ensures.elements c.graph.ensures.graph c.graph-2.ensures.graph c.schema_text.ensures.text c.compiled.ensures
+    causes_again c.standard.result guard.text guard.schema guard.graph c.graph.result.now.graph c.args.txn.now c.args.violation.now c.graph-in-Ok.result.now.graph c.in-Ok.delta
+    c.changed_causes.result c.schema_text.result.now c.compiled.result.now c.standard.ensures.ops c.standard.ensures.elements c.graph.ensures.graph c.graph-in-Ok.ensures.graph c.schema_text.ensures.text c.compiled.ensures
     c.in-Ok.ensures.staged c.requires c.changed_causes.ensures
 
 pub unreachable-requires : goal.unreachable-requires

@@ -34,8 +34,8 @@ returns-in-Err-clause-calls g c =
 
 -- ---- a store was opened
 
-pub over-requires : goal.over-requires
-over-requires g c = ap (λ guard. guard.limits) c.into_guard.ensures ∙ c.in-Ok.ensures.answer.limits
+pub over-session-requires : goal.over-session-requires
+over-session-requires g c = ap (λ guard. guard.limits) c.into_guard.ensures ∙ c.in-Ok.ensures.answer.limits
 
 pub run_lines-stop-requires-clause-room : goal.run_lines-stop-requires-clause-room
 run_lines-stop-requires-clause-room g c =
