@@ -142,15 +142,12 @@ module _ (Stopped : Type 0) (causes : Causes) where
       by_line (is_separator line) refl
       (λ next_none next_text next_begun next_right. part_right more (seen ++ line ∷ []) (with_line part (text_front line)) next_none next_text next_begun next_right)
     where
-      abbrev next : Part
-      next = with_line part (text_front line)
-
       front_is : is_separator (text_front line) ≡ is_separator line
       front_is = separator_of_front line
 
       by_line : (separates : Bool) → is_separator line ≡ separates
-          → (HasNo (seen ++ line ∷ []) → next.text ≡ text_front (join_with_byte 10 (seen ++ line ∷ [])) → next.begun ≡ not (has_none (seen ++ line ∷ []))
-          → Rightly (Going (Schema next)) (map text_front more) → AreRightOf Stopped causes ((seen ++ line ∷ []) ++ more))
+          → (HasNo (seen ++ line ∷ []) → (with_line part (text_front line)).text ≡ text_front (join_with_byte 10 (seen ++ line ∷ [])) → (with_line part (text_front line)).begun ≡ not (has_none (seen ++ line ∷ []))
+          → Rightly (Going (Schema (with_line part (text_front line)))) (map text_front more) → AreRightOf Stopped causes ((seen ++ line ∷ []) ++ more))
           → AreRightOf Stopped causes (seen ++ line ∷ more)
       by_line true is on =
           let e : is_separator (text_front line) ≡ true = front_is ∙ is in
@@ -159,7 +156,7 @@ module _ (Stopped : Type 0) (causes : Causes) where
           separated_right seen more line part none text is own (subst (λ (p : Phase). RightFrom Stopped causes (next_of p) (map text_front more)) leads right.0.1)
       by_line false is on =
           let e : is_separator (text_front line) ≡ false = front_is ∙ is in
-          let leads : after_end (Schema part) (text_front line) ≡ Schema next = rw e refl in
+          let leads : after_end (Schema part) (text_front line) ≡ Schema (with_line part (text_front line)) = rw e refl in
           subst (AreRightOf Stopped causes) (append_assoc seen (line ∷ []) more)
           (on (none_more seen line none is) (text_of_more part seen line text begun) (begun_more part (text_front line) part.begun refl ∙ ap not (sym (has_some seen line)))
           (subst (λ (p : Phase). Rightly (next_of p) (map text_front more)) leads (right.0.1, right.1)))

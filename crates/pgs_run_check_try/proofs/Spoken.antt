@@ -213,7 +213,7 @@ pub ends_stopped : (pieces : List (List ℕ)) (stop : Stop Status) (is : Status)
     → (told : Told Status) → told.pieces ≡ pieces → told.status ≡ is → Ends start told stop now
 ends_stopped pieces stop is start now fault shows told pieces_are status_is =
     subst (λ (x : Stop Status). Ends start told x now) (sym fault)
-    (subst (λ ps. Shows start ps stops.PutFault now) (sym pieces_are) (subst (λ (x : Stop Status). Shows start pieces x now) fault shows))
+    (subst (λ ps. Shows {E = Status} start ps stops.PutFault now) (sym pieces_are) (subst (λ (x : Stop Status). Shows start pieces x now) fault shows))
 
 pub may_put : (stop : Stop Status) → stop ≡ stops.PutFault → MayPut stop
 may_put stop fault = subst MayPut (sym fault) tt

@@ -1,5 +1,5 @@
 -- What a line and the end of the input do in a phase, by what is told of a schema text and of a session's line.
-use Rattle.std.proofs.Common.{◌≡◌, ℕ, ◌+◌, ◌-◌, ◌<◌, ◌≤◌, ◌^◌, Bool, true, false, cond, List, [], ◌∷◌, ◌++◌, Result, Ok, Err, OnOk, refl, sym, ap, ap₂, subst, ◌∙◌, arith}
+use Rattle.std.proofs.Common.{◌≡◌, ◌⊎◌, inl, inr, ℕ, ◌+◌, ◌-◌, ◌<◌, ◌≤◌, ◌^◌, Bool, true, false, cond, List, [], ◌∷◌, ◌++◌, Result, Ok, Err, OnOk, refl, sym, ap, ap₂, subst, ◌∙◌, arith}
 use Rattle.std.specs.Prelude.{MatchBool}
 use Rattle.std.proofs.lemmas.List.{append-nil}
 use Rattle.pgs_base.specs.Graph.{Graph}
@@ -61,11 +61,10 @@ tells_nothing line = record { causes = λ number. []; right = tt; is = refl }
 pub tells_part : (part : Part) (pieces : List (List ℕ)) → TellsText part.text pieces → TellsPart (Schema part) pieces
 tells_part part pieces told = record { causes = told.causes; right = told.right; is = told.is }
 
-pub tells_no_part : (s : SessionState) → TellsPart (Lines s) []
-tells_no_part s = record { causes = λ number. []; right = tt; is = refl }
-
-pub tells_no_more : TellsPart Refused []
-tells_no_more = record { causes = λ number. []; right = tt; is = refl }
+-- in the other phases it tells nothing
+pub tells_no_part : (s : Phase) → ((session : SessionState) × (s ≡ Lines session)) ⊎ (s ≡ Refused) → TellsPart s []
+tells_no_part s (inl lines) = subst (λ (phase : Phase). TellsPart phase []) (sym lines.1) (record { causes = λ number. []; right = tt; is = refl })
+tells_no_part s (inr refused) = subst (λ (phase : Phase). TellsPart phase []) (sym refused) (record { causes = λ number. []; right = tt; is = refl })
 
 -- ---- a line, and then the end
 
