@@ -1,13 +1,15 @@
 -- What a taker does with a line is explained by the causes that it told.
 use Rattle.std.proofs.Common.{◌≡◌, inl, inr, ℕ, ◌+◌, ◌<◌, ◌≤◌, Bool, true, false, List, [], ◌∷◌, ◌++◌, map, Result, Ok, Err, refl, sym, ap, subst, ◌∙◌, arith}
 use Rattle.std.specs.Prelude.{MatchBool}
+use Rattle.std.specs.Result.{IsErrAnd}
+use Rattle.std.proofs.lemmas.Result.{err_from_is_err_and}
 use Rattle.std.proofs.lemmas.List.{append-nil}
 use Rattle.pgs_base.specs.Graph.{Graph}
 use Rattle.pgs_run_lines.specs.declared.stop.Stop.{Stop}
 use Rattle.pgs_run_lines.specs.declared.stop.Stop.TheVariants as stops
 use Rattle.pgs_run_lines.specs.AreasKept.{KeepsAreas, keeps_none}
 use Rattle.pgs_run_lines.specs.Ending.{Ends, Shows}
-use Rattle.pgs_run_lines.specs.Machine.{Going, Extent, Whole, Inside, AtEnd, Told, pieces_of_lines}
+use Rattle.pgs_run_lines.specs.Machine.{Going, Extent, Whole, Inside, AtEnd, Told, extent_of, pieces_of_lines}
 use Rattle.pgs_run_lines.specs.May.{MayPut}
 use Rattle.pgs_run_lines.specs.Pieces.{Shown, ShowsAll, ShowsFirst, shown_of}
 use Rattle.pgs_run_lines.proofs.Showing.{shows_none}
@@ -163,6 +165,10 @@ module _ (s : Phase) (line : List ℕ) (old new : View) (areas : KeepsAreas old 
           };
     }
 
+    -- which is handed on
+    pub spoken_exit : {T : Type 0} (result : Result T (Stop Status)) (stop : Stop Status) → IsErrAnd result (λ given. given ≡ stop) → MayPut stop → Shows (shown_of old) pieces stop (shown_of new) → Explains s (line ∷ []) (extent_of result) old new
+    spoken_exit result stop handed may shows = let exit = err_from_is_err_and result handed in rw (exit.1, exit.2) (spoken_until stop may shows)
+
   -- ---- the end of the input
 
   abbrev last : ℕ
@@ -257,6 +263,10 @@ module _ (s : Phase) (line : List ℕ) (view : View) (timed : IsTimed view) wher
       );
     };
   }
+
+  -- which is handed on
+  pub unspoken_exit : {T : Type 0} (result : Result T (Stop Status)) → IsErrAnd result (λ given. given ≡ stops.Memory) → Explains s (line ∷ []) (extent_of result) view view
+  unspoken_exit result handed = let exit = err_from_is_err_and result handed in rw (exit.1, exit.2) unspoken
 
   pub unspoken_last : Explains s [] (AtEnd line stops.Memory) view view
   unspoken_last = record {

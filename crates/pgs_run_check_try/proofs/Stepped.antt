@@ -134,8 +134,12 @@ room_end lines (Schema part) line room = room_part lines part line (is_separator
 room_end lines (Lines s) line room = let most = most_line (verdict s.schema) s.standing line (is_skipped line) refl in omega (arith, most, room)
 room_end lines Refused line room = tt
 
-pub room_step : (old new : Phase) (line : List ℕ) → new ≡ after_end old line → (lines : ℕ) → HasRoom (lines + 1) old → HasRoom lines new
+room_step : (old new : Phase) (line : List ℕ) → new ≡ after_end old line → (lines : ℕ) → HasRoom (lines + 1) old → HasRoom lines new
 room_step old new line is lines room = subst (HasRoom lines) (sym is) (room_end lines old line room)
+
+pub room_result : {T E : Type 0} (result : Result T E) (old new : Phase) (line : List ℕ) → new ≡ after_end old line → OnOk result ((lines : ℕ) → HasRoom (lines + 1) old → HasRoom lines new)
+room_result (Ok done) old new line is = room_step old new line is
+room_result (Err fault) old new line is = tt
 
 -- so a session's number may rise by one
 pub room_line : (s : SessionState) → HasRoomFor deciding 1 (Lines s) → s.standing.number < 2 ^ 64 - 1

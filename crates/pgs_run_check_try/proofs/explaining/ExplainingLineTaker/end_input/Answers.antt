@@ -1,4 +1,4 @@
-use Rattle.std.proofs.Common.{sym, subst}
+use Rattle.std.proofs.Common.{ap, sym, subst, ◌∙◌}
 use Rattle.pgs_run_lines.specs.Pieces.{shown_of}
 use Rattle.pgs_run_check_try.specs.Explaining.{after_end, after_part, status_of}
 use Rattle.pgs_run_check_try.specs.Telling.{TellsLast}
@@ -16,7 +16,7 @@ returns-in-Ok-put_pieces-clause-allows g c =
     let new = g.W.World.view c.put_pieces.new.world in
     let pieces = c.deref.result.now in
     spoken_last s rest old new c.put_pieces.ensures.areas pieces (subst (TellsLast s rest) (sym c.deref.ensures.value) c.in-Ok.ensures.lines) _ tt
-    (ends_done pieces c.status.result (status_of (after_part (after_end s rest))) (shown_of old) (shown_of new) c.in-Ok-put_pieces.ensures.shows (let h = c.status.ensures in let k = c.in-Ok.ensures.phase in ?))
+    (ends_done pieces c.status.result (status_of (after_part (after_end s rest))) (shown_of old) (shown_of new) c.in-Ok-put_pieces.ensures.shows (c.status.ensures ∙ ap status_of c.in-Ok.ensures.phase))
 
 pub returns-clause-allows : goal.returns-clause-allows
 returns-clause-allows g c =
