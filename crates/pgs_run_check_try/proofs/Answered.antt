@@ -1,6 +1,5 @@
 -- What is told of a line, by what is told of its answer, and where the session stands behind it.
-use Rattle.std.proofs.Common.{◌≡◌, inl, ℕ, ◌+◌, Bool, true, false, true≢false, List, [], ◌∷◌, map, Result, Ok, Err, refl, sym, ap, subst, ◌∙◌}
-use Rattle.pgs_base.specs.declared.memory.Memory.{Memory}
+use Rattle.std.proofs.Common.{◌≡◌, inl, ℕ, ◌+◌, Bool, true, false, true≢false, List, [], ◌∷◌, Result, Ok, Err, refl, sym, ap, subst, ◌∙◌}
 use Rattle.pgs_base.specs.Graph.{Graph}
 use Rattle.pgs_graph.specs.declared.operation.Txn.{Txn}
 use Rattle.pgs_syntax.specs.declared.resolved.Resolved.{Resolved}
@@ -8,12 +7,11 @@ use Rattle.pgs_violation.specs.declared.rejection.Rejection.{Rejection}
 use Rattle.pgs_violation.specs.Staging.{staged}
 use Rattle.pgs_violation.specs.Violations.{verdict}
 use Rattle.pgs_store.specs.State.{GuardState}
-use Rattle.pgs_answer.specs.Lines.{refused_line}
 use Rattle.pgs_run_input.specs.Answers.{txn_answer}
 use Rattle.pgs_run_input.specs.Input.{is_skipped}
 use Rattle.pgs_run_input.specs.Session.{Standing, after_answer, after_line as standing_after, answer_to, answer_to_txn, decision_on, pieces_of_line, standard, with_text}
 use Rattle.pgs_run_check_try.specs.Causes.{AreLineCauses, AreReadCauses, AreStagedCauses, AreTxnCauses}
-use Rattle.pgs_run_check_try.specs.Lines.{accepted_line, because_line}
+use Rattle.pgs_run_check_try.specs.Lines.{accepted_line}
 use Rattle.pgs_run_check_try.specs.State.{SessionState, TellsLine, TellsWith, session_after, state_of}
 use Rattle.pgs_run_check_try.specs.Told.{with_causes}
 use Rattle.pgs_run_check_try.proofs.Decided.{none_accepted}

@@ -1,8 +1,7 @@
 -- What the judgement of a schema text leads to, and tells.
-use Rattle.std.proofs.Common.{◌≡◌, ℕ, List, [], ◌∷◌, Result, Ok, Err, refl, sym, ap, subst, ◌∙◌}
+use Rattle.std.proofs.Common.{◌≡◌, ℕ, List, [], ◌∷◌, Result, Err, sym, ap, subst, ◌∙◌}
 use Rattle.pgs_resolve.specs.SchemaOf.{schema, schema_of}
 use Rattle.pgs_syntax.specs.declared.resolved.Resolved.{Resolved}
-use Rattle.pgs_answer.specs.Lines.{schema_refused_line}
 use Rattle.pgs_run_input.specs.Answers.{schema_answer}
 use Rattle.pgs_run_input.specs.Judged.{pieces_behind}
 use Rattle.pgs_run_input.proofs.Answering.{answer_is, answer_ok}

@@ -1,5 +1,5 @@
 -- What is promised of a run, by how its run over lines ended.
-use Rattle.std.proofs.Common.{◌≡◌, ◌⊎◌, inl, inr, ℕ, ◌+◌, ◌^◌, ◌<◌, ◌≤◌, Bool, true, false, List, [], ◌∷◌, ◌++◌, length, map, Option, Some, Result, Ok, Err, IsTrue, refl, sym, ap, subst, ◌∙◌, arith}
+use Rattle.std.proofs.Common.{◌≡◌, ◌⊎◌, inl, inr, ℕ, ◌+◌, ◌^◌, ◌<◌, ◌≤◌, Bool, true, false, List, [], ◌∷◌, Option, Some, Ok, Err, IsTrue, refl, sym, ap, subst, ◌∙◌, arith}
 use Rattle.pgs_feed.specs.Places.{Place}
 use Rattle.pgs_run_lines.specs.declared.stop.Stop.{Stop}
 use Rattle.pgs_run_lines.specs.declared.stop.Stop.TheVariants as stops
@@ -10,33 +10,33 @@ use Rattle.pgs_run_lines.specs.Pieces.{Shown, shown_of}
 use Rattle.pgs_run_lines.specs.Run as over
 use Rattle.pgs_run_lines.specs.Run.{Allows, EndsBy, IsFar}
 use Rattle.pgs_base.specs.Graph.{Graph}
-use Rattle.pgs_snapshot.specs.Saved.{SavedState, saved, store}
+use Rattle.pgs_snapshot.specs.Saved.{store}
 use Rattle.pgs_store.specs.State.{GuardState}
 use Rattle.pgs_store.specs.Stored.{StoreState}
 use Rattle.pgs_syntax.specs.declared.resolved.Resolved.{Resolved}
 use Rattle.pgs_violation.specs.Violations.{verdict}
-use Rattle.pgs_world.specs.Moment.{IsQuiet, IsTimed, MakesNoPut}
+use Rattle.pgs_world.specs.Moment.{IsQuiet, MakesNoPut}
 use Rattle.pgs_world.specs.World.{View}
 use Rattle.pgs_command.specs.declared.status.Status.{Status}
 use Rattle.pgs_command.specs.declared.status.Status.TheVariants.{Accepted, BadWords, DiskFault, InputTooLong, Memory, PutFault, ReadFault, Refused as StatusRefused, SchemaRefused, StoreRefused}
 use Rattle.pgs_command.specs.Areas.{areas_of}
-use Rattle.pgs_command.specs.Ending.{Ends, status_at}
+use Rattle.pgs_command.specs.Ending.{status_at}
 use Rattle.pgs_command.specs.Images.{KeepsImages}
 use Rattle.pgs_command.specs.Promise.{Promise}
 use Rattle.pgs_command.specs.Run.{EndsAs, HasCause, IsDisturbed, TakesWithin}
-use Rattle.pgs_command.specs.Setting.{Setting, SourceState, faults_in}
+use Rattle.pgs_command.specs.Setting.{SourceState}
 use Rattle.pgs_command.proofs.Images.{images_areas, images_on, images_quiet, settled_images}
 use Rattle.pgs_command.proofs.OwnEnds.{EndsAlone, IsDone, cause_alone, ends_alone, full_alone, read_alone}
 use Rattle.pgs_command.proofs.OwnPromise.{own_command}
 use Rattle.pgs_command.proofs.Promising.{promise_reading}
 use Rattle.pgs_run_input.specs.Answers.{schema_answer}
 use Rattle.pgs_run_input.specs.Input.{text_limit}
-use Rattle.pgs_run_input.specs.Session.{Standing, after_line as standing_after, standard}
+use Rattle.pgs_run_input.specs.Session.{Standing, after_line as standing_after}
 use Rattle.pgs_run_store.specs.declared.opening.Unopened.{Unopened}
 use Rattle.pgs_run_store.specs.declared.opening.Unopened.TheVariants as unopened
-use Rattle.pgs_run_store.specs.Ending.{EndsUnopened, is_refusal}
+use Rattle.pgs_run_store.specs.Ending.{EndsUnopened}
 use Rattle.pgs_run_store.specs.Opening.{IsOpened, IsRefusal, Opens, saved_in}
-use Rattle.pgs_run_store.specs.Refusing.{SavedStore, told_of_areas}
+use Rattle.pgs_run_store.specs.Refusing.{SavedStore}
 use Rattle.pgs_run_store.proofs.Reading as reading
 use Rattle.pgs_run_store.proofs.Saving.{never_refused}
 use Rattle.pgs_run_store.proofs.Shown.{same_faults, shown_quiet}
@@ -44,14 +44,14 @@ use Rattle.pgs_run_store.proofs.Unread.{RunsUnopened, unopened_answer, unopened_
 use Rattle.pgs_run_check_try.specs.declared.phase.Phase.{Phase}
 use Rattle.pgs_run_check_try.specs.declared.phase.Phase.TheVariants as phases
 use Rattle.pgs_run_check_try.specs.Explaining.{after_end, after_part, deciding, explaining, first_phase, next_of, status_of}
-use Rattle.pgs_run_check_try.specs.Right.{AreRight, AreRightOf, lines_within}
-use Rattle.pgs_run_check_try.specs.Rule.{explains, joined, joined_first, joined_second, place_at, place_to}
+use Rattle.pgs_run_check_try.specs.Right.{AreRight, lines_within}
+use Rattle.pgs_run_check_try.specs.Rule.{explains, joined, joined_first, joined_second, place_to}
 use Rattle.pgs_run_check_try.specs.Spec.{IsSavedIn, check_apply_spec, check_try_spec}
 use Rattle.pgs_run_check_try.specs.State.{SessionState, session_after, state_of}
-use Rattle.pgs_run_check_try.specs.Told.{Causes, by_lines, start_on, status_after, told_check_apply, told_check_try, told_from, told_on}
+use Rattle.pgs_run_check_try.specs.Told.{Causes, start_on, status_after, told_check_apply, told_check_try, told_on}
 use Rattle.pgs_run_check_try.proofs.Chosen.{chosen_ends}
 use Rattle.pgs_run_check_try.proofs.Machine.{told_by_lines, told_by_try}
-use Rattle.pgs_run_check_try.proofs.Right.{LacksFrom, Rightly, lines_right, text_lines_right}
+use Rattle.pgs_run_check_try.proofs.Right.{Rightly, lines_right, text_lines_right}
 use Rattle.pgs_run_check_try.proofs.Taken.{all_right, fronts}
 
 -- ---- the statuses of the machine's own

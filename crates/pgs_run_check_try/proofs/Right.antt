@@ -1,5 +1,5 @@
 -- The causes of the lines of an input are right, by what is known of those that were taken.
-use Rattle.std.proofs.Common.{◌≡◌, ◌⊎◌, inl, inr, ⊎_elim, ℕ, ◌+◌, ◌<◌, ◌≤◌, Bool, true, false, not, cond, nat_le, nat_lt, List, [], ◌∷◌, ◌++◌, length, map, Result, Ok, Err, refl, sym, ap, subst, ◌∙◌, append_assoc, arith}
+use Rattle.std.proofs.Common.{◌≡◌, inl, inr, ⊎_elim, ℕ, ◌+◌, ◌<◌, ◌≤◌, Bool, true, false, not, nat_le, nat_lt, List, [], ◌∷◌, ◌++◌, length, map, Result, Ok, Err, refl, sym, ap, subst, ◌∙◌, append_assoc, arith}
 use Rattle.std.specs.Prelude.{MatchBool}
 use Rattle.std.specs.List.{join_with_byte}
 use Rattle.std.proofs.lemmas.Bool.Decides.{nat_tests}
@@ -19,7 +19,7 @@ use Rattle.pgs_run_input.specs.Part.{Part, has_none, no_part, with_line}
 use Rattle.pgs_run_input.specs.Session.{Standing, after_line as standing_after}
 use Rattle.pgs_run_input.proofs.Joining.{begun_more, has_some, text_of_more}
 use Rattle.pgs_run_input.proofs.SameFronts.{after_front, schema_of_front, separator_of_front, whole_text}
-use Rattle.pgs_run_input.proofs.Separating.{HasNo, HasOne, after-append, after-first, after-none, before-append, before-first, before-none, none_more, one_first}
+use Rattle.pgs_run_input.proofs.Separating.{HasNo, after-append, after-first, after-none, before-append, before-first, before-none, none_more, one_first}
 use Rattle.pgs_run_lines.proofs.Fronts.{front_none}
 use Rattle.pgs_run_check_try.specs.declared.phase.Phase.{Phase}
 use Rattle.pgs_run_check_try.specs.declared.phase.Phase.TheVariants.{Schema, Lines, Refused}
@@ -28,8 +28,7 @@ use Rattle.pgs_run_refusal.proofs.Fronts.{cause_of_front}
 use Rattle.pgs_run_check_try.specs.Causes.{AreLineCauses, AreReadCauses, AreTxnCauses, HasReadCause}
 use Rattle.pgs_run_check_try.specs.Explaining.{after_end, after_schema, after_text, deciding, first_phase, next_of}
 use Rattle.pgs_run_check_try.specs.Right.{AreRight, AreRightBehind, AreRightOf, HasRight}
-use Rattle.pgs_run_check_try.specs.Rule.{IsRightSchema, IsRightText, RightAt, RightBehind, RightFrom, RightIn, place_at, place_of, place_on}
-use Rattle.pgs_run_check_try.specs.State.{SessionState}
+use Rattle.pgs_run_check_try.specs.Rule.{IsRightSchema, IsRightText, RightAt, RightBehind, RightFrom, place_at, place_on}
 use Rattle.pgs_run_check_try.specs.Told.{Causes, start}
 
 -- ---- a line and its front have the same causes
@@ -85,8 +84,7 @@ module _ (Stopped : Type 0) (causes : Causes) where
   pub lines_right : (text : List ℕ) (schema : Resolved) (s : Standing) (lines : List (List ℕ)) → RightFrom Stopped causes (lines_at text schema s) (map text_front lines) → AreRight Stopped causes text schema s lines
   lines_right text schema s [] right = tt
   lines_right text schema s (line ∷ lines) right =
-      let same : standing_after (verdict schema) s (text_front line) ≡ standing_after (verdict schema) s line = after_front (verdict schema) s line in
-      (
+      let same : standing_after (verdict schema) s (text_front line) ≡ standing_after (verdict schema) s line = after_front (verdict schema) s line in (
         right_front text schema s line right.0,
         lines_right text schema (standing_after (verdict schema) s line) lines
             (subst (λ (next : Standing). RightFrom Stopped causes (lines_at text schema next) (map text_front lines)) same right.1),

@@ -1,5 +1,5 @@
 -- What a taker does with a line is explained by the causes that it told.
-use Rattle.std.proofs.Common.{◌≡◌, inl, inr, ℕ, ◌+◌, ◌<◌, ◌≤◌, Bool, true, false, List, [], ◌∷◌, ◌++◌, map, Result, Ok, Err, refl, sym, ap, subst, ◌∙◌, arith}
+use Rattle.std.proofs.Common.{◌≡◌, inr, ℕ, ◌+◌, ◌<◌, ◌≤◌, Bool, true, false, List, [], ◌∷◌, ◌++◌, map, Result, Ok, Err, refl, sym, ap, subst, ◌∙◌, arith}
 use Rattle.std.specs.Prelude.{MatchBool}
 use Rattle.std.specs.Result.{IsErrAnd}
 use Rattle.std.proofs.lemmas.Result.{err_from_is_err_and}
@@ -9,7 +9,7 @@ use Rattle.pgs_run_lines.specs.declared.stop.Stop.{Stop}
 use Rattle.pgs_run_lines.specs.declared.stop.Stop.TheVariants as stops
 use Rattle.pgs_run_lines.specs.AreasKept.{KeepsAreas, keeps_none}
 use Rattle.pgs_run_lines.specs.Ending.{Ends, Shows}
-use Rattle.pgs_run_lines.specs.Machine.{Going, Extent, Whole, Inside, AtEnd, Told, extent_of, pieces_of_lines}
+use Rattle.pgs_run_lines.specs.Machine.{Going, Whole, Inside, AtEnd, Told, extent_of, pieces_of_lines}
 use Rattle.pgs_run_lines.specs.May.{MayPut}
 use Rattle.pgs_run_lines.specs.Pieces.{Shown, ShowsAll, ShowsFirst, shown_of}
 use Rattle.pgs_run_lines.proofs.Showing.{shows_none}
@@ -26,12 +26,10 @@ use Rattle.pgs_run_input.specs.Session.{Standing, after_answer, after_line as st
 use Rattle.pgs_run_refusal.specs.Refused.{IsCause}
 use Rattle.pgs_run_check_try.specs.declared.phase.Phase.{Phase}
 use Rattle.pgs_run_check_try.specs.declared.phase.Phase.TheVariants.{Schema, Lines, Refused}
-use Rattle.pgs_run_check_try.specs.Causes.{AreLineCauses}
-use Rattle.pgs_run_check_try.specs.Explaining.{after_end, after_part, after_schema, deciding, explaining, next_of, part_pieces, pieces_at_end, status_of}
+use Rattle.pgs_run_check_try.specs.Explaining.{after_end, after_part, after_schema, explaining, next_of, part_pieces, pieces_at_end, status_of}
 use Rattle.pgs_run_check_try.specs.Lines.{because_line}
 use Rattle.pgs_run_check_try.specs.Right.{AreOrLack, HasRight}
-use Rattle.pgs_run_check_try.specs.Rule.{AgreesOn, Explains, IsAsked, IsExplained, IsFault, IsRightSchema, IsRightText, RightBehind, RightFrom, RightIn, RightPart, place_at, place_behind, place_line, place_next, place_of, weaker}
-use Rattle.pgs_run_check_try.specs.State.{SessionState, session_pieces}
+use Rattle.pgs_run_check_try.specs.Rule.{AgreesOn, Explains, IsFault, IsRightSchema, IsRightText, RightBehind, RightFrom, RightIn, RightPart, place_at, place_behind, place_line, place_next, place_of, weaker}
 use Rattle.pgs_run_check_try.specs.Telling.{TellsEnd, TellsLast}
 use Rattle.pgs_run_check_try.specs.Told.{Causes, with_causes}
 
@@ -189,8 +187,7 @@ module _ (s : Phase) (line : List ℕ) (old new : View) (areas : KeepsAreas old 
       last_right : RightIn ⊥ others s line × RightPart others (after_end s line)
       last_right =
           let within = place_within (after_end s line) in
-          let from = place_grows s line in
-          (
+          let from = place_grows s line in (
             right_agree tells.causes others last ⊥ s line within agrees tells.right,
             right_part tells.causes others last (after_end s line) (omega arith) (λ k at below. agrees k (omega (arith, from, at)) below) tells.part,
           )

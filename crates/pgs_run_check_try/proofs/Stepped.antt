@@ -1,16 +1,11 @@
 -- What a line and the end of the input do in a phase, by what is told of a schema text and of a session's line.
-use Rattle.std.proofs.Common.{◌≡◌, ◌⊎◌, inl, inr, ℕ, ◌+◌, ◌-◌, ◌<◌, ◌≤◌, ◌^◌, Bool, true, false, cond, List, [], ◌∷◌, ◌++◌, Result, Ok, Err, OnOk, refl, sym, ap, ap₂, subst, ◌∙◌, arith}
+use Rattle.std.proofs.Common.{◌≡◌, ◌⊎◌, inl, inr, ℕ, ◌+◌, ◌-◌, ◌<◌, ◌≤◌, ◌^◌, Bool, true, false, cond, List, [], ◌++◌, Result, Ok, Err, OnOk, refl, sym, ap, ap₂, subst, ◌∙◌, arith}
 use Rattle.std.specs.Prelude.{MatchBool}
-use Rattle.std.proofs.lemmas.List.{append-nil}
 use Rattle.pgs_base.specs.Graph.{Graph}
-use Rattle.pgs_run_lines.specs.declared.stop.Stop.{Stop}
-use Rattle.pgs_run_lines.specs.declared.stop.Stop.TheVariants as stops
-use Rattle.pgs_run_lines.specs.Driving.{IsEndAt}
 use Rattle.pgs_run_lines.specs.Machine.{Going, Ended, HasRoomFor}
 use Rattle.pgs_syntax.specs.declared.resolved.Resolved.{Resolved}
 use Rattle.pgs_violation.specs.declared.violation.Verdict.{Verdict}
 use Rattle.pgs_violation.specs.Violations.{verdict}
-use Rattle.pgs_command.specs.declared.status.Status.{Status}
 use Rattle.pgs_command.specs.declared.status.Status.TheVariants.{SchemaRefused}
 use Rattle.pgs_run_input.specs.Answers.{schema_answer}
 use Rattle.pgs_run_input.specs.Input.{is_separator, is_skipped}
@@ -19,7 +14,7 @@ use Rattle.pgs_run_input.specs.Part.{Part, with_line}
 use Rattle.pgs_run_input.specs.Session.{Standing, after_answer, after_line as standing_after, answer_to}
 use Rattle.pgs_run_check_try.specs.declared.phase.Phase.{Phase}
 use Rattle.pgs_run_check_try.specs.declared.phase.Phase.TheVariants.{Schema, Lines, Refused}
-use Rattle.pgs_run_check_try.specs.Explaining.{HasRoom, after_end, after_part, after_schema, after_text, deciding, next_of, part_pieces, pieces_at_end}
+use Rattle.pgs_run_check_try.specs.Explaining.{HasRoom, after_end, after_schema, after_text, deciding, next_of, part_pieces, pieces_at_end}
 use Rattle.pgs_run_check_try.specs.Rule.{IsRightText, RightIn, RightPart}
 use Rattle.pgs_run_check_try.specs.State.{SessionState, TellsLine}
 use Rattle.pgs_run_check_try.specs.Told.{Causes}

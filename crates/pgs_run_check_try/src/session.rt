@@ -48,11 +48,7 @@ impl Model for Session {
 }
 
 // Decides a transaction, and does it where it is accepted. No one asks for the steps.
-fn apply_counted<L: Ledger>(
-    guard: &mut Guard,
-    txn: &Txn,
-    blank: Blank,
-) -> Result<u64, GuardRefusal>
+fn apply_counted<L: Ledger>(guard: &mut Guard, txn: &Txn, blank: Blank) -> Result<u64, GuardRefusal>
     requires name { blank.name ≡ L.name }
     requires parts { blank.parts ≡ L.parts }
     requires some { 0 < blank.parts }
@@ -142,7 +138,8 @@ impl Session {
     fn accept(&mut self, alloc: Global, commit: u64) -> Result<Vec<Bytes>, Memory>
         requires { self.old.standing.number < 2 ^ 64 - 1 }
         ensures session { OnOk result (self.new ≡ record self.old {
-          standing = record self.old.standing { number = self.old.standing.number + 1 }; }) }
+          standing = record self.old.standing { number = self.old.standing.number + 1 };
+        }) }
         ensures lines { IfOk result (λ lines. lines.items ≡ accepted_line (self.old.standing.number + 1) commit ∷ []) }
     {
         let lines = one_line(alloc, accepted_line(alloc, self.number + 1, commit)?)?;

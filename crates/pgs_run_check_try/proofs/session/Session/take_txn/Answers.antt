@@ -16,10 +16,10 @@ returns-in-Ok-clause-lines c =
     let txn = c.args.txn.now in
     let own : SessionState = state_of inside.guard inside.number inside.refused in
     subst
-        (λ (s : SessionState). IfOk c.accept.result (λ lines. TellsWith (AreStagedCauses s.text s.schema (staged standard s.standing.graph txn)) s.standing (answer_to_txn (verdict s.schema) s.standing.graph (Ok txn)) lines.items))
-        c.self.view_is
-        (IfOk-weaker c.accept.result _ _
-        (λ lines told. tells_accepted own.text own.schema own.standing txn c.apply_counted.new.guard.graph c.in-Ok.commit lines.items c.in-Ok.ensures.accepted c.in-Ok.ensures.number told) c.accept.ensures.lines)
+    (λ (s : SessionState). IfOk c.accept.result (λ lines. TellsWith (AreStagedCauses s.text s.schema (staged standard s.standing.graph txn)) s.standing (answer_to_txn (verdict s.schema) s.standing.graph (Ok txn)) lines.items))
+    c.self.view_is
+    (IfOk-weaker c.accept.result _ _
+    (λ lines told. tells_accepted own.text own.schema own.standing txn c.apply_counted.new.guard.graph c.in-Ok.commit lines.items c.in-Ok.ensures.accepted c.in-Ok.ensures.number told) c.accept.ensures.lines)
 
 pub returns-in-Err-Rejected-clause-lines : goal.returns-in-Err-Rejected-clause-lines
 returns-in-Err-Rejected-clause-lines c =
@@ -30,10 +30,10 @@ returns-in-Err-Rejected-clause-lines c =
     let rejected : decision_on (verdict own.schema) own.standing.graph txn ≡ Err rejection =
     subst (IsRejected (decision_on (verdict own.schema) own.standing.graph txn)) c.in-Err-Rejected.field-0-is c.in-Err-Rejected.ensures.rejected in
     let told = subst
-        (λ (guard : GuardState). let s : SessionState = state_of guard inside.number inside.refused in
-        IfOk c.reject.result (λ lines. TellsWith (AreStagedCauses s.text s.schema (staged standard s.standing.graph txn)) s.standing (with_text (Err rejection)) lines.items))
-        c.in-Err-Rejected.ensures.unchanged c.reject.ensures.lines in
+    (λ (guard : GuardState). let s : SessionState = state_of guard inside.number inside.refused in
+    IfOk c.reject.result (λ lines. TellsWith (AreStagedCauses s.text s.schema (staged standard s.standing.graph txn)) s.standing (with_text (Err rejection)) lines.items))
+    c.in-Err-Rejected.ensures.unchanged c.reject.ensures.lines in
     subst
-        (λ (s : SessionState). IfOk c.reject.result (λ lines. TellsWith (AreStagedCauses s.text s.schema (staged standard s.standing.graph txn)) s.standing (answer_to_txn (verdict s.schema) s.standing.graph (Ok txn)) lines.items))
-        c.self.view_is
-        (IfOk-weaker c.reject.result _ _ (λ lines own_told. tells_rejected own.text own.schema own.standing txn rejection lines.items rejected own_told) told)
+    (λ (s : SessionState). IfOk c.reject.result (λ lines. TellsWith (AreStagedCauses s.text s.schema (staged standard s.standing.graph txn)) s.standing (answer_to_txn (verdict s.schema) s.standing.graph (Ok txn)) lines.items))
+    c.self.view_is
+    (IfOk-weaker c.reject.result _ _ (λ lines own_told. tells_rejected own.text own.schema own.standing txn rejection lines.items rejected own_told) told)
