@@ -1,5 +1,5 @@
 -- A run ends as is told with the causes that it chose.
-use Rattle.std.proofs.Common.{◌≡◌, ℕ, ◌+◌, ◌-◌, ◌≤◌, List, [], ◌∷◌, ◌++◌, length, Option, Some, refl, sym, ap, subst, ◌∙◌, arith}
+use Rattle.std.proofs.Common.{◌≡◌, ℕ, ◌-◌, ◌≤◌, List, [], ◌++◌, length, Option, Some, refl, sym, ap, subst, ◌∙◌, arith}
 use Rattle.std.proofs.lemmas.List.{append-nil}
 use Rattle.pgs_world.specs.Source.{Takes, IsAtEnd}
 use Rattle.pgs_run_lines.specs.declared.stop.Stop.{Stop}
@@ -7,7 +7,7 @@ use Rattle.pgs_run_lines.specs.declared.stop.Stop.TheVariants as stops
 use Rattle.pgs_run_lines.specs.Driving.{IsEndAt}
 use Rattle.pgs_run_lines.specs.Ending.{Ends, Shows}
 use Rattle.pgs_run_lines.specs.Input.{kept_of}
-use Rattle.pgs_run_lines.specs.Machine.{RunState, Going, Ended, Scene, Extent, Whole, Inside, AtEnd, Told, after_lines, pieces_of_lines, status_at_cut, told_at_end, told_by, told_cut, told_whole}
+use Rattle.pgs_run_lines.specs.Machine.{RunState, Going, Ended, Scene, Extent, Whole, Inside, AtEnd, Told, after_lines, pieces_of_lines, status_at_cut, told_at_end, told_by, told_cut}
 use Rattle.pgs_run_lines.specs.May.{MayPut}
 use Rattle.pgs_run_lines.specs.Pieces.{Shown, ShowsAll, shown_of}
 use Rattle.pgs_run_lines.specs.Run.{Allows, EndsAs, IsFar, IsShort}
@@ -17,7 +17,7 @@ use Rattle.pgs_run_lines.proofs.Showing.{all_first, first_of_more, torn_of_more}
 use Rattle.pgs_command.specs.declared.status.Status.{Status}
 use Rattle.pgs_run_check_try.specs.declared.phase.Phase.{Phase}
 use Rattle.pgs_run_check_try.specs.Explaining.{deciding, explaining}
-use Rattle.pgs_run_check_try.specs.Rule.{AgreesOn, IsAsked, IsExplained, ShowsSo, explains, same_lines}
+use Rattle.pgs_run_check_try.specs.Rule.{AgreesOn, IsAsked, ShowsSo, explains, same_lines}
 use Rattle.pgs_run_check_try.specs.Told.{Causes}
 
 module _ (causes : Causes) (limit : ℕ) (s : Phase) (budget : ℕ) (before left : Option (List ℕ)) (start now : Shown) (bytes : List ℕ) (lines later : List (List ℕ)) where

@@ -1,7 +1,12 @@
 -- Why a transaction is rejected, and what comes of staging it.
-use Rattle.std.proofs.Common.{◌≡◌, Bool, true, false, nat_lt, length, List, ℕ, [], Result, Ok, Err, refl, sym, subst, ◌∙◌}
+use Rattle.std.proofs.Common.{◌≡◌, Bool, true, false, nat_lt, length, List, ℕ, [], Result, Ok, Err, IfOk, refl, sym, subst, ◌∙◌}
+use Rattle.std.proofs.lemmas.Result.{IfOk-weaker}
+use Rattle.pgs_base.specs.declared.limits.Limits.{Limits}
+use Rattle.pgs_base.specs.declared.memory.Memory.{Memory}
 use Rattle.pgs_base.specs.Graph.{Graph, element_count}
+use Rattle.pgs_graph.specs.declared.delta.Delta.{Delta}
 use Rattle.pgs_graph.specs.declared.operation.Txn.{Txn}
+use Rattle.pgs_graph.specs.Changed.{changed}
 use Rattle.pgs_syntax.specs.declared.resolved.Resolved.{Resolved}
 use Rattle.pgs_violation.specs.declared.rejection.Rejection.{Rejection}
 use Rattle.pgs_violation.specs.declared.rejection.Rejection.TheVariants.{Structural as ByStructure, Violation as ByViolation}
@@ -13,6 +18,8 @@ use Rattle.pgs_violation.specs.Decision.{conforming, judged, judging}
 use Rattle.pgs_violation.specs.Staging.{◌>>=◌, after_ops, staged, within_limit}
 use Rattle.pgs_violation.specs.Violations.{verdict}
 use Rattle.pgs_run_input.specs.Session.{decision_on, standard}
+use Rattle.pgs_run_input.proofs.Standard.{standard_is}
+use Rattle.pgs_violation_causes.specs.Causes.{AreViolationCauses}
 use Rattle.pgs_run_check_try.specs.Causes.{AreStagedCauses, AreVerdictCauses}
 
 -- ---- a staged graph is within the limits
@@ -92,3 +99,28 @@ module _ (text : List ℕ) (schema : Resolved) (g : Graph) (txn : Txn) where
 
   pub none_accepted : (after : Graph) → decision_on (verdict schema) g txn ≡ Ok after → AreStagedCauses text schema (staged standard g txn) []
   none_accepted after is = accepted_by after (staged standard g txn) refl is
+
+-- ---- a transaction that is staged again
+
+module _ (limits : Limits) (text : List ℕ) (schema : Resolved) (g seen : Graph) (txn : Txn) (violation : Violation) where
+  staged_again : (delta : Delta) → limits.ops ≡ 10000 → limits.elements ≡ 1000000 → seen ≡ g → staged limits seen txn ≡ Ok (changed seen delta) → staged standard g txn ≡ Ok (changed g delta)
+  staged_again delta ops elements same is =
+      subst (λ (x : Graph). staged standard x txn ≡ Ok (changed x delta)) same (subst (λ (l : Limits). staged l seen txn ≡ Ok (changed seen delta)) (standard_is limits ops elements) is)
+
+  -- the causes of its violation, of the graph that its delta makes, are those of what comes of staging it
+  pub causes_again : (other : Graph) (delta : Delta) (told : Result (List (List ℕ)) Memory) (own : List ℕ) (found : Resolved) → limits.ops ≡ 10000 → limits.elements ≡ 1000000 → seen ≡ g → other ≡ g → own ≡ text → found ≡ schema
+      → staged limits seen txn ≡ Ok (changed seen delta) → decision_on (verdict schema) g txn ≡ Err (ByViolation violation) → IfOk told (AreViolationCauses own found (changed other delta) violation)
+      → IfOk told (AreStagedCauses text schema (staged standard g txn))
+  causes_again other delta told own found ops elements same_seen same_other same_text same_schema is rejected causes =
+      IfOk-weaker told (AreViolationCauses own found (changed other delta) violation) (AreStagedCauses text schema (staged standard g txn))
+      (λ texts are.
+      causes_staged text schema g txn violation (changed g delta) texts rejected (staged_again delta ops elements same_seen is)
+      (subst (λ (x : Graph). AreViolationCauses text schema (changed x delta) violation texts) same_other
+      (subst (λ (x : Resolved). AreViolationCauses text x (changed other delta) violation texts) same_schema
+      (subst (λ (x : List ℕ). AreViolationCauses x found (changed other delta) violation texts) same_text are)))) causes
+
+  -- it can be staged
+  pub never_again : (structural : Structural) → limits.ops ≡ 10000 → limits.elements ≡ 1000000 → seen ≡ g → staged limits seen txn ≡ Err structural → decision_on (verdict schema) g txn ≡ Err (ByViolation violation) → ⊥
+  never_again structural ops elements same is rejected =
+      never_unstaged text schema g txn violation structural rejected
+      (subst (λ (x : Graph). staged standard x txn ≡ Err structural) same (subst (λ (l : Limits). staged l seen txn ≡ Err structural) (standard_is limits ops elements) is))

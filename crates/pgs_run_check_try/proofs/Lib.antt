@@ -1,7 +1,10 @@
+pub mod Answered
 pub mod Chosen
 pub mod Decided
+pub mod Judged
 pub mod Machine
 pub mod Promised
 pub mod Right
 pub mod Spoken
+pub mod Stepped
 pub mod Taken

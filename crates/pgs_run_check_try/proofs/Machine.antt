@@ -1,7 +1,7 @@
 -- The machine that tells with causes tells what the definitions on whole lines say.
 use Rattle.std.proofs.Common.{◌≡◌, inl, ℕ, Bool, true, false, nat_le, cond, List, [], ◌∷◌, ◌++◌, length, Result, Ok, Err, refl, sym, ap, subst, ◌∙◌}
 use Rattle.std.proofs.lemmas.List.{append-nil}
-use Rattle.pgs_run_lines.specs.Machine.{Told, RunState, Going, told_by, status_at_cut}
+use Rattle.pgs_run_lines.specs.Machine.{Told, Going, told_by, status_at_cut}
 use Rattle.pgs_syntax.specs.declared.resolved.Resolved.{Resolved}
 use Rattle.pgs_violation.specs.Violations.{verdict}
 use Rattle.pgs_command.specs.declared.status.Status.{Status}
@@ -40,12 +40,11 @@ module _ (causes : Causes) where
     goes schema lines phase is = subst (λ p. next_of p ≡ Going p) (sym is.1) refl
 
     leads : (schema : Resolved) (lines : List (List ℕ)) (line : List ℕ) (phase : Phase) → Behind schema lines phase → Behind schema (lines ++ line ∷ []) (after_end phase (text_front line))
-    leads schema lines line phase is =
-        (
-          is.0,
-          ap (λ p. after_end p (text_front line)) is.1
+    leads schema lines line phase is = (
+      is.0,
+      ap (λ p. after_end p (text_front line)) is.1
           ∙ ap (lines_at is.0 schema) (after_front (verdict schema) (after_lines (verdict schema) first lines) line ∙ sym (after_lines-append (verdict schema) first lines (line ∷ []))),
-        )
+    )
 
     tells : (schema : Resolved) (lines : List (List ℕ)) (line : List ℕ) (phase : Phase) → Behind schema lines phase
         → (told schema false (lines ++ line ∷ [])).pieces ≡ (told schema false lines).pieces ++ pieces_at_end causes phase (text_front line)

@@ -1,5 +1,5 @@
 -- What is promised of a run, by how its run over lines ended.
-use Rattle.std.proofs.Common.{◌≡◌, ◌⊎◌, inl, inr, ℕ, ◌+◌, ◌^◌, ◌≤◌, Bool, true, false, List, [], ◌∷◌, ◌++◌, length, map, Option, Some, Result, Ok, Err, IsTrue, refl, sym, ap, subst, ◌∙◌, arith}
+use Rattle.std.proofs.Common.{◌≡◌, ◌⊎◌, inl, inr, ℕ, ◌+◌, ◌^◌, ◌<◌, ◌≤◌, Bool, true, false, List, [], ◌∷◌, Option, Some, Ok, Err, IsTrue, refl, sym, ap, subst, ◌∙◌, arith}
 use Rattle.pgs_feed.specs.Places.{Place}
 use Rattle.pgs_run_lines.specs.declared.stop.Stop.{Stop}
 use Rattle.pgs_run_lines.specs.declared.stop.Stop.TheVariants as stops
@@ -10,32 +10,33 @@ use Rattle.pgs_run_lines.specs.Pieces.{Shown, shown_of}
 use Rattle.pgs_run_lines.specs.Run as over
 use Rattle.pgs_run_lines.specs.Run.{Allows, EndsBy, IsFar}
 use Rattle.pgs_base.specs.Graph.{Graph}
-use Rattle.pgs_snapshot.specs.Saved.{SavedState, saved, store}
+use Rattle.pgs_snapshot.specs.Saved.{store}
+use Rattle.pgs_store.specs.State.{GuardState}
 use Rattle.pgs_store.specs.Stored.{StoreState}
 use Rattle.pgs_syntax.specs.declared.resolved.Resolved.{Resolved}
 use Rattle.pgs_violation.specs.Violations.{verdict}
-use Rattle.pgs_world.specs.Moment.{IsQuiet, IsTimed, MakesNoPut}
+use Rattle.pgs_world.specs.Moment.{IsQuiet, MakesNoPut}
 use Rattle.pgs_world.specs.World.{View}
 use Rattle.pgs_command.specs.declared.status.Status.{Status}
 use Rattle.pgs_command.specs.declared.status.Status.TheVariants.{Accepted, BadWords, DiskFault, InputTooLong, Memory, PutFault, ReadFault, Refused as StatusRefused, SchemaRefused, StoreRefused}
 use Rattle.pgs_command.specs.Areas.{areas_of}
-use Rattle.pgs_command.specs.Ending.{Ends, status_at}
+use Rattle.pgs_command.specs.Ending.{status_at}
 use Rattle.pgs_command.specs.Images.{KeepsImages}
 use Rattle.pgs_command.specs.Promise.{Promise}
 use Rattle.pgs_command.specs.Run.{EndsAs, HasCause, IsDisturbed, TakesWithin}
-use Rattle.pgs_command.specs.Setting.{Setting, SourceState, faults_in}
+use Rattle.pgs_command.specs.Setting.{SourceState}
 use Rattle.pgs_command.proofs.Images.{images_areas, images_on, images_quiet, settled_images}
 use Rattle.pgs_command.proofs.OwnEnds.{EndsAlone, IsDone, cause_alone, ends_alone, full_alone, read_alone}
 use Rattle.pgs_command.proofs.OwnPromise.{own_command}
 use Rattle.pgs_command.proofs.Promising.{promise_reading}
 use Rattle.pgs_run_input.specs.Answers.{schema_answer}
 use Rattle.pgs_run_input.specs.Input.{text_limit}
-use Rattle.pgs_run_input.specs.Session.{Standing, after_line as standing_after, standard}
+use Rattle.pgs_run_input.specs.Session.{Standing, after_line as standing_after}
 use Rattle.pgs_run_store.specs.declared.opening.Unopened.{Unopened}
 use Rattle.pgs_run_store.specs.declared.opening.Unopened.TheVariants as unopened
-use Rattle.pgs_run_store.specs.Ending.{EndsUnopened, is_refusal}
+use Rattle.pgs_run_store.specs.Ending.{EndsUnopened}
 use Rattle.pgs_run_store.specs.Opening.{IsOpened, IsRefusal, Opens, saved_in}
-use Rattle.pgs_run_store.specs.Refusing.{SavedStore, told_of_areas}
+use Rattle.pgs_run_store.specs.Refusing.{SavedStore}
 use Rattle.pgs_run_store.proofs.Reading as reading
 use Rattle.pgs_run_store.proofs.Saving.{never_refused}
 use Rattle.pgs_run_store.proofs.Shown.{same_faults, shown_quiet}
@@ -43,13 +44,14 @@ use Rattle.pgs_run_store.proofs.Unread.{RunsUnopened, unopened_answer, unopened_
 use Rattle.pgs_run_check_try.specs.declared.phase.Phase.{Phase}
 use Rattle.pgs_run_check_try.specs.declared.phase.Phase.TheVariants as phases
 use Rattle.pgs_run_check_try.specs.Explaining.{after_end, after_part, deciding, explaining, first_phase, next_of, status_of}
-use Rattle.pgs_run_check_try.specs.Right.{AreRight, AreRightOf, lines_within}
-use Rattle.pgs_run_check_try.specs.Rule.{explains, joined, joined_first, joined_second, place_at, place_to}
+use Rattle.pgs_run_check_try.specs.Right.{AreRight, lines_within}
+use Rattle.pgs_run_check_try.specs.Rule.{explains, joined, joined_first, joined_second, place_to}
 use Rattle.pgs_run_check_try.specs.Spec.{IsSavedIn, check_apply_spec, check_try_spec}
-use Rattle.pgs_run_check_try.specs.Told.{Causes, by_lines, start_on, status_after, told_check_apply, told_check_try, told_from, told_on}
+use Rattle.pgs_run_check_try.specs.State.{SessionState, session_after, state_of}
+use Rattle.pgs_run_check_try.specs.Told.{Causes, start_on, status_after, told_check_apply, told_check_try, told_on}
 use Rattle.pgs_run_check_try.proofs.Chosen.{chosen_ends}
 use Rattle.pgs_run_check_try.proofs.Machine.{told_by_lines, told_by_try}
-use Rattle.pgs_run_check_try.proofs.Right.{LacksFrom, Rightly, lines_right, text_lines_right}
+use Rattle.pgs_run_check_try.proofs.Right.{Rightly, lines_right, text_lines_right}
 use Rattle.pgs_run_check_try.proofs.Taken.{all_right, fronts}
 
 -- ---- the statuses of the machine's own
@@ -93,7 +95,7 @@ module _ (s : Phase) (budget : ℕ) (before left : SourceState) (stop : Stop Sta
   place = place_to s a.lines a.extent
 
   -- those of the lines that were taken, and none of others
-  pub chosen : Causes
+  abbrev pub chosen : Causes
   chosen = joined place a.allowed.causes (λ number. [])
 
   agree : (k : ℕ) → k < place → chosen k ≡ a.allowed.causes k
@@ -163,7 +165,7 @@ IsLines (Ended status) = ⊥
 
 lines_on : (at : RunState Phase Status) (lines : List (List ℕ)) → IsLines at → IsLines (after_lines deciding at lines)
 lines_on at [] is = is
-lines_on (Going (phases.Lines s)) (line ∷ lines) is = lines_on _ lines tt
+lines_on (Going (phases.Lines s)) (line ∷ lines) is = lines_on (Going (phases.Lines (session_after s line))) lines tt
 lines_on (Going (phases.Schema part)) (line ∷ lines) is = absurd is
 lines_on (Going phases.Refused) (line ∷ lines) is = absurd is
 lines_on (Ended status) (line ∷ lines) is = absurd is
@@ -220,7 +222,7 @@ same_saved it opened old mid is tells known =
 
 -- ---- the run
 
-abbrev phase_on : SavedStore → Phase
+abbrev pub phase_on : SavedStore → Phase
 phase_on it = phases.Lines (record { text = it.text; schema = it.schema; standing = start_on it })
 
 -- the store was opened, and its lines were run
@@ -296,10 +298,10 @@ none_right Stopped text schema s [] stopped = tt
 none_right Stopped text schema s (line ∷ lines) stopped = (λ kept. inr (stopped, refl), none_right Stopped text schema (standing_after (verdict schema) s line) lines stopped)
 
 -- where a store is saved, an area failed, or there was no memory
-saved_disturbed : (reason : Unopened) (old mid new : View) (result : Status) (it : SavedStore) → IsTrue old.tells_bytes → IsSavedIn it (areas_of old) → Opens (Err reason) old mid → EndsUnopened reason mid result new → IsDisturbed result
-saved_disturbed (unopened.Refused reply) old mid new result it tells known opens ends = absurd (never_refused old it.text it.commits it.graph reply.line reply.status tells known.saves opens.1)
-saved_disturbed unopened.DiskFault old mid new result it tells known opens ends = inr (inr (inr ends.0))
-saved_disturbed unopened.Memory old mid new result it tells known opens ends = inr (inr (inl ends.0))
+saved_disturbed : (reason : Unopened) (old mid new : View) (result : Status) (kept : SavedStore) → IsTrue old.tells_bytes → IsSavedIn kept (areas_of old) → Opens (Err reason) old mid → EndsUnopened reason mid result new → IsDisturbed result
+saved_disturbed (unopened.Refused reply) old mid new result kept tells known opens ends = absurd (never_refused old kept.text kept.commits kept.graph reply.line reply.status tells known.saves opens.1)
+saved_disturbed unopened.DiskFault old mid new result kept tells known opens ends = inr (inr (inr ends.0))
+saved_disturbed unopened.Memory old mid new result kept tells known opens ends = inr (inr (inl ends.0))
 
 pub promised_unopened : (reason : Unopened) (old mid new : View) (result : Status) → RunsUnopened reason old mid new result → (budget : ℕ) (source : SourceState) (places : List Place)
     → Promise check_apply_spec budget (record { source = source; view = old; places = places }) (record { source = source; view = new; places = places }) result
@@ -328,3 +330,15 @@ room_text budget few = record { room = budget + 1; enough = omega arith; has = o
 
 pub room_store : (it : SavedStore) (budget : ℕ) → budget ≤ 2 ^ 40 → HasRoomFor deciding (budget + 1) (phase_on it)
 room_store it budget few = record { room = budget + 1; enough = omega arith; has = omega arith }
+
+-- ---- where the machine stands before it
+
+pub room_from : (s phase : Phase) (budget : ℕ) → phase ≡ s → HasRoomFor deciding (budget + 1) s → HasRoomFor deciding (budget + 1) phase
+room_from s phase budget is room = subst (λ (p : Phase). HasRoomFor deciding (budget + 1) p) (sym is) room
+
+pub runs_from : (s phase : Phase) (budget : ℕ) (before left : SourceState) (stop : Stop Status) (old new : View) → phase ≡ s → RunsOver phase budget before left stop old new → RunsOver s budget before left stop old new
+runs_from s phase budget before left stop old new is ran = subst (λ (p : Phase). RunsOver p budget before left stop old new) is ran
+
+pub phase_over : (opened : StoreState) (guard : GuardState) (s : SessionState) (phase : Phase) → guard ≡ opened.guard → s ≡ state_of guard 0 false → phase ≡ phases.Lines s → phase ≡ phase_on (saved_in opened)
+phase_over opened guard s phase same is stands =
+    stands ∙ ap (λ (x : SessionState). phases.Lines x) is ∙ ap (λ (x : GuardState). let p : Phase = phases.Lines (state_of x 0 false) in p) same

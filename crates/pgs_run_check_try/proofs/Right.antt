@@ -1,5 +1,5 @@
 -- The causes of the lines of an input are right, by what is known of those that were taken.
-use Rattle.std.proofs.Common.{◌≡◌, ◌⊎◌, inl, inr, ⊎_elim, ℕ, ◌+◌, ◌<◌, ◌≤◌, Bool, true, false, not, cond, nat_le, nat_lt, List, [], ◌∷◌, ◌++◌, length, map, Result, Ok, Err, refl, sym, ap, subst, ◌∙◌, append_assoc, arith}
+use Rattle.std.proofs.Common.{◌≡◌, inl, inr, ⊎_elim, ℕ, ◌+◌, ◌<◌, ◌≤◌, Bool, true, false, not, nat_le, nat_lt, List, [], ◌∷◌, ◌++◌, length, map, Result, Ok, Err, refl, sym, ap, subst, ◌∙◌, append_assoc, arith}
 use Rattle.std.specs.Prelude.{MatchBool}
 use Rattle.std.specs.List.{join_with_byte}
 use Rattle.std.proofs.lemmas.Bool.Decides.{nat_tests}
@@ -19,7 +19,7 @@ use Rattle.pgs_run_input.specs.Part.{Part, has_none, no_part, with_line}
 use Rattle.pgs_run_input.specs.Session.{Standing, after_line as standing_after}
 use Rattle.pgs_run_input.proofs.Joining.{begun_more, has_some, text_of_more}
 use Rattle.pgs_run_input.proofs.SameFronts.{after_front, schema_of_front, separator_of_front, whole_text}
-use Rattle.pgs_run_input.proofs.Separating.{HasNo, HasOne, after-append, after-first, after-none, before-append, before-first, before-none, none_more, one_first}
+use Rattle.pgs_run_input.proofs.Separating.{HasNo, after-append, after-first, after-none, before-append, before-first, before-none, none_more, one_first}
 use Rattle.pgs_run_lines.proofs.Fronts.{front_none}
 use Rattle.pgs_run_check_try.specs.declared.phase.Phase.{Phase}
 use Rattle.pgs_run_check_try.specs.declared.phase.Phase.TheVariants.{Schema, Lines, Refused}
@@ -28,8 +28,7 @@ use Rattle.pgs_run_refusal.proofs.Fronts.{cause_of_front}
 use Rattle.pgs_run_check_try.specs.Causes.{AreLineCauses, AreReadCauses, AreTxnCauses, HasReadCause}
 use Rattle.pgs_run_check_try.specs.Explaining.{after_end, after_schema, after_text, deciding, first_phase, next_of}
 use Rattle.pgs_run_check_try.specs.Right.{AreRight, AreRightBehind, AreRightOf, HasRight}
-use Rattle.pgs_run_check_try.specs.Rule.{IsRightSchema, IsRightText, RightAt, RightBehind, RightFrom, RightIn, place_at, place_of, place_on}
-use Rattle.pgs_run_check_try.specs.State.{SessionState}
+use Rattle.pgs_run_check_try.specs.Rule.{IsRightSchema, IsRightText, RightAt, RightBehind, RightFrom, place_at, place_on}
 use Rattle.pgs_run_check_try.specs.Told.{Causes, start}
 
 -- ---- a line and its front have the same causes
@@ -85,8 +84,7 @@ module _ (Stopped : Type 0) (causes : Causes) where
   pub lines_right : (text : List ℕ) (schema : Resolved) (s : Standing) (lines : List (List ℕ)) → RightFrom Stopped causes (lines_at text schema s) (map text_front lines) → AreRight Stopped causes text schema s lines
   lines_right text schema s [] right = tt
   lines_right text schema s (line ∷ lines) right =
-      let same : standing_after (verdict schema) s (text_front line) ≡ standing_after (verdict schema) s line = after_front (verdict schema) s line in
-      (
+      let same : standing_after (verdict schema) s (text_front line) ≡ standing_after (verdict schema) s line = after_front (verdict schema) s line in (
         right_front text schema s line right.0,
         lines_right text schema (standing_after (verdict schema) s line) lines
             (subst (λ (next : Standing). RightFrom Stopped causes (lines_at text schema next) (map text_front lines)) same right.1),
@@ -132,37 +130,41 @@ module _ (Stopped : Type 0) (causes : Causes) where
       (subst (λ lines. AreRightBehind Stopped causes whole (schema_answer whole) lines) (sym after)
       (behind_right whole part more (text ∙ ap text_front (sym same)) own right))
 
-  abbrev Rightly : RunState Phase Status → List (List ℕ) → Type 0
+  abbrev pub Rightly : RunState Phase Status → List (List ℕ) → Type 0
   Rightly at lines = RightFrom Stopped causes at lines × RightBehind causes (after_lines deciding at lines)
 
   pub part_right : (more seen : List (List ℕ)) (part : Part) → HasNo seen → part.text ≡ text_front (join_with_byte 10 seen) → part.begun ≡ not (has_none seen)
       → Rightly (Going (Schema part)) (map text_front more) → AreRightOf Stopped causes (seen ++ more)
   part_right [] seen part none text begun right = subst (AreRightOf Stopped causes) (sym (append-nil seen)) (text_right seen part none text right.1)
-  part_right (line ∷ more) seen part none text begun right = by_line (is_separator line) refl
+  part_right (line ∷ more) seen part none text begun right =
+      by_line (is_separator line) refl
+      (λ next_none next_text next_begun next_right. part_right more (seen ++ line ∷ []) (with_line part (text_front line)) next_none next_text next_begun next_right)
     where
       front_is : is_separator (text_front line) ≡ is_separator line
       front_is = separator_of_front line
 
-      by_line : (separates : Bool) → is_separator line ≡ separates → AreRightOf Stopped causes (seen ++ line ∷ more)
-      by_line true is =
+      by_line : (separates : Bool) → is_separator line ≡ separates
+          → (HasNo (seen ++ line ∷ []) → (with_line part (text_front line)).text ≡ text_front (join_with_byte 10 (seen ++ line ∷ [])) → (with_line part (text_front line)).begun ≡ not (has_none (seen ++ line ∷ []))
+          → Rightly (Going (Schema (with_line part (text_front line)))) (map text_front more) → AreRightOf Stopped causes ((seen ++ line ∷ []) ++ more))
+          → AreRightOf Stopped causes (seen ++ line ∷ more)
+      by_line true is on =
           let e : is_separator (text_front line) ≡ true = front_is ∙ is in
           let own : IsRightText causes part.text = subst (λ separates. MatchBool separates (IsRightText causes part.text) (Unit {0})) e right.0.0 in
-          let next : after_end (Schema part) (text_front line) ≡ after_text part.text = rw e refl in
-          separated_right seen more line part none text is own (subst (λ (p : Phase). RightFrom Stopped causes (next_of p) (map text_front more)) next right.0.1)
-      by_line false is =
+          let leads : after_end (Schema part) (text_front line) ≡ after_text part.text = rw e refl in
+          separated_right seen more line part none text is own (subst (λ (p : Phase). RightFrom Stopped causes (next_of p) (map text_front more)) leads right.0.1)
+      by_line false is on =
           let e : is_separator (text_front line) ≡ false = front_is ∙ is in
-          let next : after_end (Schema part) (text_front line) ≡ Schema (with_line part (text_front line)) = rw e refl in
+          let leads : after_end (Schema part) (text_front line) ≡ Schema (with_line part (text_front line)) = rw e refl in
           subst (AreRightOf Stopped causes) (append_assoc seen (line ∷ []) more)
-          (part_right more (seen ++ line ∷ []) (with_line part (text_front line)) (none_more seen line none is) (text_of_more part seen line text begun)
-          (begun_more part (text_front line) part.begun refl ∙ ap not (sym (has_some seen line)))
-          (subst (λ (p : Phase). Rightly (next_of p) (map text_front more)) next (right.0.1, right.1)))
+          (on (none_more seen line none is) (text_of_more part seen line text begun) (begun_more part (text_front line) part.begun refl ∙ ap not (sym (has_some seen line)))
+          (subst (λ (p : Phase). Rightly (next_of p) (map text_front more)) leads (right.0.1, right.1)))
 
   pub text_lines_right : (lines : List (List ℕ)) → Rightly (Going first_phase) (map text_front lines) → AreRightOf Stopped causes lines
   text_lines_right lines right = part_right lines [] no_part refl (sym (front_none text_limit)) refl right
 
   -- ---- lines that weren't taken
 
-  abbrev LacksFrom : ℕ → Type 0
+  abbrev pub LacksFrom : ℕ → Type 0
   LacksFrom place = (k : ℕ) → place ≤ k → causes k ≡ []
 
   schema_lacks : (text : List ℕ) (answer : Result Resolved (List ℕ)) → causes 0 ≡ [] → IsRightSchema causes text answer

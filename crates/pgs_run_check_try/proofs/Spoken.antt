@@ -1,13 +1,15 @@
 -- What a taker does with a line is explained by the causes that it told.
-use Rattle.std.proofs.Common.{◌≡◌, inl, inr, ℕ, ◌+◌, ◌<◌, ◌≤◌, Bool, true, false, List, [], ◌∷◌, ◌++◌, map, Result, Ok, Err, refl, sym, ap, subst, ◌∙◌, arith}
+use Rattle.std.proofs.Common.{◌≡◌, inr, ℕ, ◌+◌, ◌<◌, ◌≤◌, Bool, true, false, List, [], ◌∷◌, ◌++◌, map, Result, Ok, Err, refl, sym, ap, subst, ◌∙◌, arith}
 use Rattle.std.specs.Prelude.{MatchBool}
+use Rattle.std.specs.Result.{IsErrAnd}
+use Rattle.std.proofs.lemmas.Result.{err_from_is_err_and}
 use Rattle.std.proofs.lemmas.List.{append-nil}
 use Rattle.pgs_base.specs.Graph.{Graph}
 use Rattle.pgs_run_lines.specs.declared.stop.Stop.{Stop}
 use Rattle.pgs_run_lines.specs.declared.stop.Stop.TheVariants as stops
 use Rattle.pgs_run_lines.specs.AreasKept.{KeepsAreas, keeps_none}
 use Rattle.pgs_run_lines.specs.Ending.{Ends, Shows}
-use Rattle.pgs_run_lines.specs.Machine.{Going, Extent, Whole, Inside, AtEnd, Told, pieces_of_lines}
+use Rattle.pgs_run_lines.specs.Machine.{Going, Whole, Inside, AtEnd, Told, extent_of, pieces_of_lines}
 use Rattle.pgs_run_lines.specs.May.{MayPut}
 use Rattle.pgs_run_lines.specs.Pieces.{Shown, ShowsAll, ShowsFirst, shown_of}
 use Rattle.pgs_run_lines.proofs.Showing.{shows_none}
@@ -24,12 +26,10 @@ use Rattle.pgs_run_input.specs.Session.{Standing, after_answer, after_line as st
 use Rattle.pgs_run_refusal.specs.Refused.{IsCause}
 use Rattle.pgs_run_check_try.specs.declared.phase.Phase.{Phase}
 use Rattle.pgs_run_check_try.specs.declared.phase.Phase.TheVariants.{Schema, Lines, Refused}
-use Rattle.pgs_run_check_try.specs.Causes.{AreLineCauses}
-use Rattle.pgs_run_check_try.specs.Explaining.{after_end, after_part, after_schema, deciding, explaining, next_of, part_pieces, pieces_at_end, status_of}
+use Rattle.pgs_run_check_try.specs.Explaining.{after_end, after_part, after_schema, explaining, next_of, part_pieces, pieces_at_end, status_of}
 use Rattle.pgs_run_check_try.specs.Lines.{because_line}
 use Rattle.pgs_run_check_try.specs.Right.{AreOrLack, HasRight}
-use Rattle.pgs_run_check_try.specs.Rule.{AgreesOn, Explains, IsAsked, IsExplained, IsFault, IsRightSchema, IsRightText, RightBehind, RightFrom, RightIn, RightPart, place_at, place_behind, place_line, place_next, place_of, weaker}
-use Rattle.pgs_run_check_try.specs.State.{SessionState, session_pieces}
+use Rattle.pgs_run_check_try.specs.Rule.{AgreesOn, Explains, IsFault, IsRightSchema, IsRightText, RightBehind, RightFrom, RightIn, RightPart, place_at, place_behind, place_line, place_next, place_of, weaker}
 use Rattle.pgs_run_check_try.specs.Telling.{TellsEnd, TellsLast}
 use Rattle.pgs_run_check_try.specs.Told.{Causes, with_causes}
 
@@ -146,8 +146,8 @@ module _ (s : Phase) (line : List ℕ) (old new : View) (areas : KeepsAreas old 
       areas = areas;
       causes = tells.causes;
       explained = λ others agrees.
-          let as = asked_on others (place_next (after_end s line)) agrees in
-          record { shows = subst (λ ps. ShowsAll (shown_of old) ps (shown_of new)) (pieces_are others as) shows; right = right_is others as };
+          let so = asked_on others (place_next (after_end s line)) agrees in
+          record { shows = subst (λ ps. ShowsAll (shown_of old) ps (shown_of new)) (pieces_are others so) shows; right = right_is others so };
     }
 
     -- or their putting stopped, or the line ended the run
@@ -156,12 +156,16 @@ module _ (s : Phase) (line : List ℕ) (old new : View) (areas : KeepsAreas old 
       areas = areas;
       causes = tells.causes;
       explained = λ others agrees.
-          let as = asked_on others (place_next (after_end s line)) agrees in
+          let so = asked_on others (place_next (after_end s line)) agrees in
           record {
-            shows = (may, subst (λ ps. Shows (shown_of old) ps stop (shown_of new)) (pieces_are others as) shows);
-            right = weaker (IsFault stop) others (Going s) (line ∷ []) (right_is others as);
+            shows = (may, subst (λ ps. Shows (shown_of old) ps stop (shown_of new)) (pieces_are others so) shows);
+            right = weaker (IsFault stop) others (Going s) (line ∷ []) (right_is others so);
           };
     }
+
+    -- which is handed on
+    pub spoken_exit : {T : Type 0} (result : Result T (Stop Status)) (stop : Stop Status) → IsErrAnd result (λ given. given ≡ stop) → MayPut stop → Shows (shown_of old) pieces stop (shown_of new) → Explains s (line ∷ []) (extent_of result) old new
+    spoken_exit result stop handed may shows = let exit = err_from_is_err_and result handed in rw (exit.1, exit.2) (spoken_until stop may shows)
 
   -- ---- the end of the input
 
@@ -183,8 +187,7 @@ module _ (s : Phase) (line : List ℕ) (old new : View) (areas : KeepsAreas old 
       last_right : RightIn ⊥ others s line × RightPart others (after_end s line)
       last_right =
           let within = place_within (after_end s line) in
-          let from = place_grows s line in
-          (
+          let from = place_grows s line in (
             right_agree tells.causes others last ⊥ s line within agrees tells.right,
             right_part tells.causes others last (after_end s line) (omega arith) (λ k at below. agrees k (omega (arith, from, at)) below) tells.part,
           )
@@ -195,10 +198,10 @@ module _ (s : Phase) (line : List ℕ) (old new : View) (areas : KeepsAreas old 
       areas = areas;
       causes = tells.causes;
       explained = λ others agrees.
-          let as : (k : ℕ) → place_of s ≤ k → k < last → others k ≡ tells.causes k = λ k from below. agrees k (from, subst (λ n. k < n) (sym (place_last (after_end s line))) below) in
-          let right = last_right others as in
+          let so : (k : ℕ) → place_of s ≤ k → k < last → others k ≡ tells.causes k = λ k from below. agrees k (from, subst (λ n. k < n) (sym (place_last (after_end s line))) below) in
+          let right = last_right others so in
           record {
-            shows = (may, ends (end others as) (sym (last_are others as)) refl);
+            shows = (may, ends (end others so) (sym (last_are others so)) refl);
             right = (weaker (IsFault stop) others (Going s) (line ∷ []) (right.0, tt), behind_of others (after_end s line) right.1);
           };
     }
@@ -213,7 +216,7 @@ pub ends_stopped : (pieces : List (List ℕ)) (stop : Stop Status) (is : Status)
     → (told : Told Status) → told.pieces ≡ pieces → told.status ≡ is → Ends start told stop now
 ends_stopped pieces stop is start now fault shows told pieces_are status_is =
     subst (λ (x : Stop Status). Ends start told x now) (sym fault)
-    (subst (λ ps. Shows start ps stops.PutFault now) (sym pieces_are) (subst (λ (x : Stop Status). Shows start pieces x now) fault shows))
+    (subst (λ ps. Shows {E = Status} start ps stops.PutFault now) (sym pieces_are) (subst (λ (x : Stop Status). Shows start pieces x now) fault shows))
 
 pub may_put : (stop : Stop Status) → stop ≡ stops.PutFault → MayPut stop
 may_put stop fault = subst MayPut (sym fault) tt
@@ -257,6 +260,10 @@ module _ (s : Phase) (line : List ℕ) (view : View) (timed : IsTimed view) wher
       );
     };
   }
+
+  -- which is handed on
+  pub unspoken_exit : {T : Type 0} (result : Result T (Stop Status)) → IsErrAnd result (λ given. given ≡ stops.Memory) → Explains s (line ∷ []) (extent_of result) view view
+  unspoken_exit result handed = let exit = err_from_is_err_and result handed in rw (exit.1, exit.2) unspoken
 
   pub unspoken_last : Explains s [] (AtEnd line stops.Memory) view view
   unspoken_last = record {

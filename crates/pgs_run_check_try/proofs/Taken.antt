@@ -1,5 +1,5 @@
 -- The causes of all lines of an input are right, by what is known of those that were taken.
-use Rattle.std.proofs.Common.{◌≡◌, inl, inr, ℕ, ◌+◌, ◌-◌, ◌<◌, ◌≤◌, Bool, true, false, nat_le, cond, List, [], ◌∷◌, ◌++◌, length, map, take, Option, Some, refl, sym, ap, subst, ◌∙◌, append_assoc, length-append, arith}
+use Rattle.std.proofs.Common.{◌≡◌, inl, inr, ℕ, ◌+◌, ◌-◌, ◌<◌, ◌≤◌, Bool, true, false, nat_le, List, [], ◌∷◌, ◌++◌, length, map, take, Option, Some, refl, sym, ap, subst, ◌∙◌, append_assoc, length-append, arith}
 use Rattle.std.proofs.Math.Seq.{take-append_seam, take-append-add}
 use Rattle.std.proofs.lemmas.Bool.Decides.{nat_tests}
 use Rattle.std.proofs.lemmas.List.{append-nil, map-append}
@@ -9,21 +9,19 @@ use Rattle.pgs_run_lines.specs.declared.stop.Stop.TheVariants as stops
 use Rattle.pgs_run_lines.specs.Driving.{IsEndAt}
 use Rattle.pgs_run_lines.specs.Input.{kept_of, lines_of}
 use Rattle.pgs_run_lines.specs.Machine.{RunState, Going, Ended, Extent, Whole, Inside, AtEnd, after_lines}
-use Rattle.pgs_run_lines.specs.May.{MayPut}
 use Rattle.pgs_run_lines.specs.Pieces.{Shown}
 use Rattle.pgs_run_lines.specs.Run.{IsFar, IsShort}
 use Rattle.pgs_run_lines.proofs.Cutting.{lines_of_goes_on}
 use Rattle.pgs_run_lines.proofs.Driven.{after_append, after_ended}
 use Rattle.pgs_run_lines.proofs.RunEnds.{rest_of}
 use Rattle.pgs_command.specs.declared.status.Status.{Status}
-use Rattle.pgs_command.specs.declared.status.Status.TheVariants.{DiskFault, Memory, PutFault, ReadFault}
 use Rattle.pgs_command.specs.Ending.{status_at}
 use Rattle.pgs_command.specs.Run.{IsDisturbed}
 use Rattle.pgs_run_input.specs.Input.{text_front, text_limit}
 use Rattle.pgs_run_check_try.specs.declared.phase.Phase.{Phase}
 use Rattle.pgs_run_check_try.specs.Explaining.{deciding}
 use Rattle.pgs_run_check_try.specs.Right.{lines_within}
-use Rattle.pgs_run_check_try.specs.Rule.{IsFault, RightBehind, RightFrom, RightTo, ShowsSo, place_at, place_to, right_more, weaker, wider_from}
+use Rattle.pgs_run_check_try.specs.Rule.{IsFault, RightBehind, RightFrom, RightTo, place_at, place_to, right_more, weaker, wider_from}
 use Rattle.pgs_run_check_try.specs.Told.{Causes}
 use Rattle.pgs_run_check_try.proofs.Right.{LacksFrom, Rightly, lines_ended, lines_lack, part_lacks}
 
@@ -52,7 +50,7 @@ within_cut bytes rest budget full =
 within_whole : (bytes : List ℕ) (budget : ℕ) → length bytes < budget → lines_within bytes budget ≡ (lines_of bytes).ended ++ (lines_of bytes).rest ∷ []
 within_whole bytes budget short = let e : nat_le budget (length bytes) ≡ false = grind (arith, nat_tests) in rw e refl
 
-abbrev fronts : List ℕ → ℕ → List (List ℕ)
+abbrev pub fronts : List ℕ → ℕ → List (List ℕ)
 fronts input budget = map text_front (lines_within input budget)
 
 kept_ended : (bytes : List ℕ) → (kept_of text_limit bytes).ended ≡ map text_front (lines_of bytes).ended
@@ -108,11 +106,10 @@ module _ (causes : Causes) (s : Phase) (budget : ℕ) (before left : Option (Lis
     -- the lines that were taken come first
     taken_first : length bytes ≤ budget → Begins (fronts input budget) lines
     taken_first few =
-        let first = within_by bytes rest budget (nat_le budget (length (bytes ++ rest))) refl few in
-        (
+        let first = within_by bytes rest budget (nat_le budget (length (bytes ++ rest))) refl few in (
           later ++ map text_front first.0,
           ap (λ text. fronts text budget) input_is ∙ ap (map text_front) first.1 ∙ map-append text_front (lines_of bytes).ended first.0
-          ∙ ap (λ xs. xs ++ map text_front first.0) (sym (kept_ended bytes) ∙ parts) ∙ append_assoc lines later (map text_front first.0),
+              ∙ ap (λ xs. xs ++ map text_front first.0) (sym (kept_ended bytes) ∙ parts) ∙ append_assoc lines later (map text_front first.0),
         )
 
     -- and are all where the budget was reached

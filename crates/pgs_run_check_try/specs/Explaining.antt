@@ -1,6 +1,6 @@
 -- `try` and `apply` of the check as one machine over lines: with causes, where it tells; and what decides, where it tells nothing.
-use Rattle.std.specs.Prelude.{◌≡◌, ◌<◌, ◌^◌, ℕ, ◌+◌, true, List, [], Result, Ok, Err, if◌then◌else◌}
-use Rattle.pgs_run_lines.specs.Machine.{Machine, RunState, Told, Going, Ended}
+use Rattle.std.specs.Prelude.{◌<◌, ◌^◌, ℕ, ◌+◌, List, [], Result, Ok, Err, if◌then◌else◌}
+use Rattle.pgs_run_lines.specs.Machine.{Machine, RunState, Going, Ended}
 use Rattle.pgs_run_lines.specs.May.{MayPut}
 use Rattle.pgs_run_lines.specs.Telling.{Teller, telling}
 use Rattle.pgs_syntax.specs.declared.resolved.Resolved.{Resolved}

@@ -1,5 +1,5 @@
 -- Which causes of lines are right.
-use Rattle.std.specs.Prelude.{◌≡◌, ◌⊎◌, ℕ, ◌+◌, ◌++◌, Bool, false, List, [], ◌∷◌, length, take, Result, Ok, Err, nat_le, if◌then◌else◌}
+use Rattle.std.specs.Prelude.{◌≡◌, ◌⊎◌, ℕ, ◌+◌, ◌++◌, false, List, [], ◌∷◌, length, take, Result, Ok, Err, nat_le, if◌then◌else◌}
 use Rattle.pgs_base.specs.Graph.{Graph}
 use Rattle.pgs_run_lines.specs.Input.{lines_of}
 use Rattle.pgs_syntax.specs.declared.resolved.Resolved.{Resolved}

@@ -1,15 +1,14 @@
 -- What deciding lines does to a world: there are causes by which all that is told was put, and they are right. It may do nothing, and one
 -- thing after another.
-use Rattle.std.proofs.Common.{◌≡◌, ◌⊎◌, inl, inr, ⊎_elim, ℕ, ◌+◌, ◌<◌, ◌≤◌, Bool, true, false, nat_lt, cond, List, [], ◌∷◌, ◌++◌, Result, Ok, Err, refl, sym, ap, subst, ◌∙◌, append_assoc, arith}
+use Rattle.std.proofs.Common.{◌≡◌, inl, inr, ⊎_elim, ℕ, ◌+◌, ◌<◌, ◌≤◌, Bool, true, false, nat_lt, cond, List, [], ◌∷◌, ◌++◌, Result, Ok, Err, refl, sym, ap, subst, ◌∙◌, append_assoc, arith}
 use Rattle.std.specs.Prelude.{MatchBool}
 use Rattle.std.proofs.lemmas.Bool.Decides.{nat_tests}
-use Rattle.std.proofs.lemmas.List.{append-nil}
 use Rattle.pgs_base.specs.Graph.{Graph}
 use Rattle.pgs_run_lines.specs.declared.stop.Stop.{Stop}
 use Rattle.pgs_run_lines.specs.declared.stop.Stop.TheVariants as stops
 use Rattle.pgs_run_lines.specs.AreasKept.{KeepsAreas, keeps_none, keeps_on}
 use Rattle.pgs_run_lines.specs.Ending.{Ends, Shows}
-use Rattle.pgs_run_lines.specs.Machine.{Rule, RunState, Going, Ended, Scene, Extent, Whole, Inside, AtEnd, Told, after_line, after_lines, pieces_of_lines, told_at_end}
+use Rattle.pgs_run_lines.specs.Machine.{Rule, RunState, Going, Ended, Extent, Whole, Inside, AtEnd, Told, after_line, after_lines, pieces_of_lines, told_at_end}
 use Rattle.pgs_run_lines.specs.May.{MayPut}
 use Rattle.pgs_run_lines.specs.Pieces.{Shown, ShowsAll, shown_of}
 use Rattle.pgs_run_lines.proofs.Driven.{after_append, pieces_append}
@@ -18,6 +17,7 @@ use Rattle.pgs_world.specs.Moment.{IsTimed}
 use Rattle.pgs_world.specs.World.{View}
 use Rattle.pgs_syntax.specs.declared.resolved.Resolved.{Resolved}
 use Rattle.pgs_violation.specs.declared.violation.Verdict.{Verdict}
+use Rattle.pgs_violation.specs.Violations.{verdict}
 use Rattle.pgs_command.specs.declared.status.Status.{Status}
 use Rattle.pgs_run_input.specs.Answers.{schema_answer}
 use Rattle.pgs_run_input.specs.Input.{is_separator, is_skipped}
@@ -27,7 +27,6 @@ use Rattle.pgs_run_check_try.specs.declared.phase.Phase.{Phase}
 use Rattle.pgs_run_check_try.specs.declared.phase.Phase.TheVariants.{Schema, Lines, Refused}
 use Rattle.pgs_run_check_try.specs.Explaining.{after_end, after_part, deciding, explaining, next_of}
 use Rattle.pgs_run_check_try.specs.Right.{HasRight}
-use Rattle.pgs_run_check_try.specs.State.{SessionState}
 use Rattle.pgs_run_check_try.specs.Told.{Causes}
 
 -- ---- which causes may be asked for
@@ -146,7 +145,7 @@ number_by verdict s line false e = rw e (number_answer s (answer_to verdict s.gr
 
 pub place_line : (phase : Phase) (line : List ℕ) → place_of phase ≤ place_of (after_end phase line)
 place_line (Schema part) line = omega arith
-place_line (Lines s) line = let n = number_by _ s.standing line (is_skipped line) refl in omega (arith, n)
+place_line (Lines s) line = let n = number_by (verdict s.schema) s.standing line (is_skipped line) refl in omega (arith, n)
 place_line Refused line = omega arith
 
 pub place_next : (phase : Phase) → place_at (next_of phase) ≡ place_of phase
@@ -238,8 +237,7 @@ module _ (causes : Causes) (s t : Phase) (xs ys : List (List ℕ)) (leads : afte
         let more = pieces_of_lines m (Going t) ys in
         let at : after_lines m (Going s) (xs ++ ys) ≡ after_lines m (Going t) ys = same_lines causes (Going s) (xs ++ ys) ∙ after_both ys ∙ sym (same_lines causes (Going t) ys) in
         let told : RunState Phase Status → List (List ℕ) → Told Status = λ to pieces. record { pieces = pieces ++ (told_at_end m to rest).pieces; status = (told_at_end m to rest).status } in
-        let to = after_lines m (Going t) ys in
-        (
+        let to = after_lines m (Going t) ys in (
           q.0,
           subst (λ (all : Told Status). Ends start all stop now)
               (ap (λ pieces. let all : Told Status = record { pieces = pieces; status = (told_at_end m to rest).status } in all) (sym (append_assoc first more (told_at_end m to rest).pieces))
@@ -251,8 +249,7 @@ module _ (causes : Causes) (s t : Phase) (xs ys : List (List ℕ)) (leads : afte
     right_both Whole p q = right_from ⊥ p q
     right_both (Inside stop) p q = right_from (IsFault stop) p q
     right_both (AtEnd rest stop) p q =
-        let all = append_assoc xs ys (rest ∷ []) in
-        (
+        let all = append_assoc xs ys (rest ∷ []) in (
           subst (λ lines. RightFrom (IsFault stop) causes (Going s) lines) (sym all)
               (right_more (IsFault stop) causes (Going s) xs (ys ++ rest ∷ []) (weaker (IsFault stop) causes (Going s) xs p)
               (subst (λ (at : RunState Phase Status). RightFrom (IsFault stop) causes at (ys ++ rest ∷ [])) (sym leads) q.0)),

@@ -1,5 +1,5 @@
 -- `try` and `apply` of the check as commands. Causes are free, as long as they are right. No area is written.
-use Rattle.std.specs.Prelude.{◌≡◌, ◌⊎◌, ℕ, true, List, [], Option, Some, IsTrue, Ok}
+use Rattle.std.specs.Prelude.{◌≡◌, ◌⊎◌, ℕ, true, List, [], Some, IsTrue, Ok}
 use Rattle.pgs_snapshot.specs.Saved.{saved, store}
 use Rattle.pgs_command.specs.declared.status.Status.{Status}
 use Rattle.pgs_command.specs.Answers.{IsOfCommand}

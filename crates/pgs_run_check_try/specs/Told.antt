@@ -1,7 +1,7 @@
 -- What `try` and `apply` of the check tell of an input within a budget: verdict lines, behind each refusal its causes, and a status.
 use Rattle.std.specs.Prelude.{ℕ, ◌+◌, Bool, true, false, ◌||◌, List, [], ◌∷◌, ◌++◌, length, map, take, Result, Ok, Err, nat_le, if◌then◌else◌}
 use Rattle.std.specs.List.{list_any}
-use Rattle.pgs_base.specs.Graph.{Graph, empty_graph}
+use Rattle.pgs_base.specs.Graph.{empty_graph}
 use Rattle.pgs_answer.specs.Lines.{refused_line, schema_refused_line}
 use Rattle.pgs_run_lines.specs.Input.{lines_of}
 use Rattle.pgs_run_lines.specs.Machine.{Told}

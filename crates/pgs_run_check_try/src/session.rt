@@ -4,6 +4,7 @@ ghost use Rattle.pgs_violation.specs.Staging.{staged};
 ghost use Rattle.pgs_violation.specs.Violations.{verdict};
 ghost use Rattle.pgs_run_input.specs.Session.{after_answer, after_refusal, answer_to, answer_to_txn, decision_on, standard, with_text};
 ghost use Rattle.pgs_run_check_try.specs.Causes.{AreLineCauses, AreStagedCauses};
+ghost use Rattle.pgs_run_check_try.specs.Lines.{accepted_line};
 ghost use Rattle.pgs_run_check_try.specs.State.{TellsLine, TellsWith, session_after, state_of};
 ghost use Rattle.pgs_run_check_try.specs.Told.{status_after, with_causes};
 
@@ -47,11 +48,7 @@ impl Model for Session {
 }
 
 // Decides a transaction, and does it where it is accepted. No one asks for the steps.
-fn apply_counted<L: Ledger>(
-    guard: &mut Guard,
-    txn: &Txn,
-    blank: Blank,
-) -> Result<u64, GuardRefusal>
+fn apply_counted<L: Ledger>(guard: &mut Guard, txn: &Txn, blank: Blank) -> Result<u64, GuardRefusal>
     requires name { blank.name ≡ L.name }
     requires parts { blank.parts ≡ L.parts }
     requires some { 0 < blank.parts }
@@ -129,7 +126,8 @@ impl Session {
         requires room { self.old.standing.number < 2 ^ 64 - 1 }
         requires rejected { decision_on (verdict self.old.schema) self.old.standing.graph txn.now ≡ Err rejection.now }
         ensures session { OnOk result (self.new ≡ record self.old { standing = after_answer self.old.standing (with_text (Err rejection.now)) }) }
-        ensures lines { IfOk result (TellsWith (AreStagedCauses self.old.text self.old.schema (staged standard self.old.standing.graph txn.now)) self.old.standing (with_text (Err rejection.now))) }
+        ensures lines { IfOk result (λ lines. TellsWith (AreStagedCauses self.old.text self.old.schema (staged standard self.old.standing.graph txn.now))
+            self.old.standing (with_text (Err rejection.now)) lines.items) }
     {
         let text = rejection_text(alloc, rejection, &Limits::standard())?;
         let causes = rejection_causes(alloc, &self.guard, txn, rejection)?;
@@ -140,7 +138,8 @@ impl Session {
     fn accept(&mut self, alloc: Global, commit: u64) -> Result<Vec<Bytes>, Memory>
         requires { self.old.standing.number < 2 ^ 64 - 1 }
         ensures session { OnOk result (self.new ≡ record self.old {
-          standing = record self.old.standing { number = self.old.standing.number + 1 }; }) }
+          standing = record self.old.standing { number = self.old.standing.number + 1 };
+        }) }
         ensures lines { IfOk result (λ lines. lines.items ≡ accepted_line (self.old.standing.number + 1) commit ∷ []) }
     {
         let lines = one_line(alloc, accepted_line(alloc, self.number + 1, commit)?)?;
@@ -154,8 +153,8 @@ impl Session {
         ensures session { OnOk result (self.new ≡ record self.old {
           standing = after_answer self.old.standing (answer_to_txn (verdict self.old.schema) self.old.standing.graph (Ok txn.now));
         }) }
-        ensures lines { IfOk result (TellsWith (AreStagedCauses self.old.text self.old.schema (staged standard self.old.standing.graph txn.now)) self.old.standing
-            (answer_to_txn (verdict self.old.schema) self.old.standing.graph (Ok txn.now))) }
+        ensures lines { IfOk result (λ lines. TellsWith (AreStagedCauses self.old.text self.old.schema (staged standard self.old.standing.graph txn.now))
+            self.old.standing (answer_to_txn (verdict self.old.schema) self.old.standing.graph (Ok txn.now)) lines.items) }
     {
         if self.guard.commits() == u64::MAX {
             return Err(Memory);
@@ -173,8 +172,8 @@ impl Session {
         ensures session { OnOk result (self.new ≡ record self.old {
           standing = after_answer self.old.standing (answer_to (verdict self.old.schema) self.old.standing.graph line.now);
         }) }
-        ensures lines { IfOk result (TellsWith (AreLineCauses self.old.text self.old.schema self.old.standing.graph line.now) self.old.standing
-            (answer_to (verdict self.old.schema) self.old.standing.graph line.now)) }
+        ensures lines { IfOk result (λ lines. TellsWith (AreLineCauses self.old.text self.old.schema self.old.standing.graph line.now)
+            self.old.standing (answer_to (verdict self.old.schema) self.old.standing.graph line.now) lines.items) }
     {
         match txn_of(alloc, line) {
             Ok(txn) => self.take_txn(alloc, &txn),
