@@ -22,6 +22,13 @@ use pgs_match::{PlannedKey, Side, Stand, spread};
 use std::alloc::Global;
 use std::sync::ledger::Ledger;
 
+// The row of an element of a change in the new graph, or in the old one.
+fn row_in<'k, 'a>(known: &'k Known<'a>, is_new: bool) -> &'k Option<Pair<'a>>
+    ensures { result.now ≡ row_in is_new known.now }
+{
+    if is_new { &known.after } else { &known.before }
+}
+
 impl<'a> Sought<'a> {
     // Whether the pattern is searched from each element by itself: so it is where it has one variable, or no cycle.
     fn is_searched(&self) -> bool
@@ -67,8 +74,7 @@ impl<'a> Sought<'a> {
             if is_left_unseen(one, self.compiled, self.key) {
                 continue;
             }
-            let own = if is_new { &one.after } else { &one.before };
-            self.add_starts(one.elem, own, &mut starts)?;
+            self.add_starts(one.elem, row_in(one, is_new), &mut starts)?;
         }
         Ok(starts)
     }
