@@ -28,7 +28,7 @@ use Rattle.pgs_match.specs.Tests.{own_passes}
 use Rattle.pgs_match.proofs.Known.{valid_most}
 use Rattle.pgs_check_affected.specs.declared.known.Known.{Known}
 use Rattle.pgs_check_affected.specs.Changes.{known_in}
-use Rattle.pgs_check_affected.specs.Found.{passes, found_from, found_in, found_by, found, starts_of, row_in, IsSpread, IsMore, IsFoundByAll}
+use Rattle.pgs_check_affected.specs.Found.{passes, found_alone, found_from, found_in, found_by, found, starts_of, row_in, IsSpread, IsMore, IsFoundByAll}
 use Rattle.pgs_check_affected.specs.Local.{is_one_of}
 use Rattle.pgs_check_affected.specs.Touched.{AreSparseInBoth}
 use Rattle.pgs_check_affected.specs.Unseen.{is_left_unseen, seen_elems}
@@ -231,7 +231,7 @@ module _ (resolved : Resolved) (g h : Graph) (edges : ℕ) (pattern : Pattern) (
     all = λ x some.
         let it = one_that (λ elem. is_one_of (found_in resolved g h elem pattern) x) elems some in
         let at = found_var it.0 x (length pattern.edge_vars)
-        (sym (ap (λ b. is_one_of (cond b _ (found_from resolved g h it.0 pattern (length pattern.edge_vars))) x) several) ∙ it.2) in
+        (sym (ap (λ b. is_one_of (cond b (found_alone resolved g h it.0 pattern) (found_from resolved g h it.0 pattern (length pattern.edge_vars))) x) several) ∙ it.2) in
         list_any-append (same_elem x) first second
         ∙ ⊎_elim
         (λ one. or_left _ _ (in_one g first before it.0 x it.1 at.0 at.1 one))

@@ -58,12 +58,7 @@ impl<'a> Sought<'a> {
     }
 
     // The elements of a change that the key may see change, at each variable that their rows in one of the graphs pass.
-    fn starts(
-        &self,
-        alloc: Global,
-        known: &[Known<'_>],
-        is_new: bool,
-    ) -> Result<Vec<Stand>, Memory>
+    fn starts(&self, alloc: Global, known: &[Known<'_>], is_new: bool) -> Result<Vec<Stand>, Memory>
         requires { is_valid_key_of self.now.compiled.now self.now.key.now ≡ true }
         ensures { IfOk result (λ starts. starts.items ≡ flat_map (λ (one : Known). starts_of self.now.compiled.now (pattern_of self.now.side self.now.key.now)
             one.elem (row_in is_new one) (length (pattern_of self.now.side self.now.key.now).edge_vars))
@@ -173,7 +168,23 @@ pub(crate) fn found_by_all<G: GraphRead, H: GraphRead, L: Ledger>(
         descriptor: descriptor.is_searched(),
     };
     let mut elems = searched_by_all(alloc, before, after, known, compiled, key, searched, steps)?;
-    scope.add_more(alloc, before, after, known, searched.scope, &mut elems, steps)?;
-    descriptor.add_more(alloc, before, after, known, searched.descriptor, &mut elems, steps)?;
+    scope.add_more(
+        alloc,
+        before,
+        after,
+        known,
+        searched.scope,
+        &mut elems,
+        steps,
+    )?;
+    descriptor.add_more(
+        alloc,
+        before,
+        after,
+        known,
+        searched.descriptor,
+        &mut elems,
+        steps,
+    )?;
     Ok(elems)
 }

@@ -21,8 +21,8 @@ spread-requires-clause-in_range g c =
     let old_is = starts_are resolved before after key false pattern known c.in_ok-old.old.items c.requires.known c.in_ok-old.ensures in
     subst (λ xs. are_in_range pattern xs ≡ true) (sym old_is) (starts_in_range resolved before pattern seen)
 
-pub spread-2-requires-clause-in_range : goal.spread-2-requires-clause-in_range
-spread-2-requires-clause-in_range g c =
+pub spread-requires-2-clause-in_range : goal.spread-requires-2-clause-in_range
+spread-requires-2-clause-in_range g c =
     let before = g.G.GraphRead.meaning c.args.before.now in
     let after = g.H.GraphRead.meaning c.args.after.now in
     let resolved = c.args.self.now.compiled.now in

@@ -32,6 +32,6 @@ returns c =
     let pattern = pattern_of side key in
     let few = valid_most pattern (side_valid side key (and_parts _ _ (and_parts _ _ c.requires).0).0) in
     let count = ap (λ (p : Pattern). length p.edge_vars) c.pattern.ensures.pattern in
+    let last : c.loop-var.var ≡ length pattern.edge_vars = omega (arith, count, few, c.len-vars.ensures, c.loop-var-test.false, c.loop-var.auto.var-end) in
     c.loop-var.invariant.so_far
-    ∙ ap (λ vars. c.args.starts.now.items ++ starts_of c.args.self.now.compiled.now pattern c.args.elem c.args.own.now vars)
-    (omega (arith, count, few, c.len-vars.ensures, c.loop-var-test.false, c.loop-var.auto.var-end))
+    ∙ ap (λ vars. c.args.starts.now.items ++ starts_of c.args.self.now.compiled.now pattern c.args.elem c.args.own.now vars) last
