@@ -11,4 +11,4 @@ pub mod Counting
 pub mod Knowing
 pub mod Loops
 pub mod Fronts
-pub mod Spreads
+pub mod Together

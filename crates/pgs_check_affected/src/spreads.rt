@@ -22,6 +22,13 @@ use pgs_match::{PlannedKey, Side, Stand, spread};
 use std::alloc::Global;
 use std::sync::ledger::Ledger;
 
+// The row of an element of a change in the new graph, or in the old one.
+fn row_in<'k, 'a>(known: &'k Known<'a>, is_new: bool) -> &'k Option<Pair<'a>>
+    ensures { result.now ≡ row_in is_new known.now }
+{
+    if is_new { &known.after } else { &known.before }
+}
+
 impl<'a> Sought<'a> {
     // Whether the pattern is searched from each element by itself: so it is where it has one variable, or no cycle.
     fn is_searched(&self) -> bool
@@ -51,12 +58,7 @@ impl<'a> Sought<'a> {
     }
 
     // The elements of a change that the key may see change, at each variable that their rows in one of the graphs pass.
-    fn starts(
-        &self,
-        alloc: Global,
-        known: &[Known<'_>],
-        is_new: bool,
-    ) -> Result<Vec<Stand>, Memory>
+    fn starts(&self, alloc: Global, known: &[Known<'_>], is_new: bool) -> Result<Vec<Stand>, Memory>
         requires { is_valid_key_of self.now.compiled.now self.now.key.now ≡ true }
         ensures { IfOk result (λ starts. starts.items ≡ flat_map (λ (one : Known). starts_of self.now.compiled.now (pattern_of self.now.side self.now.key.now)
             one.elem (row_in is_new one) (length (pattern_of self.now.side self.now.key.now).edge_vars))
@@ -67,8 +69,7 @@ impl<'a> Sought<'a> {
             if is_left_unseen(one, self.compiled, self.key) {
                 continue;
             }
-            let own = if is_new { &one.after } else { &one.before };
-            self.add_starts(one.elem, own, &mut starts)?;
+            self.add_starts(one.elem, row_in(one, is_new), &mut starts)?;
         }
         Ok(starts)
     }
@@ -167,7 +168,23 @@ pub(crate) fn found_by_all<G: GraphRead, H: GraphRead, L: Ledger>(
         descriptor: descriptor.is_searched(),
     };
     let mut elems = searched_by_all(alloc, before, after, known, compiled, key, searched, steps)?;
-    scope.add_more(alloc, before, after, known, searched.scope, &mut elems, steps)?;
-    descriptor.add_more(alloc, before, after, known, searched.descriptor, &mut elems, steps)?;
+    scope.add_more(
+        alloc,
+        before,
+        after,
+        known,
+        searched.scope,
+        &mut elems,
+        steps,
+    )?;
+    descriptor.add_more(
+        alloc,
+        before,
+        after,
+        known,
+        searched.descriptor,
+        &mut elems,
+        steps,
+    )?;
     Ok(elems)
 }

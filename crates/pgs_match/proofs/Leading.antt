@@ -1,5 +1,5 @@
 -- Going back by one step from stands, and by the steps of a plan: what is counted of all that is led back to, and what is among it.
-use Rattle.std.proofs.Common.{◌≡◌, ◌⊎◌, inl, inr, ⊎_elim, ℕ, ◌+◌, ◌≤◌, ◌<◌, Bool, true, false, ◌||◌, ◌==◌, not, cond, List, [], ◌∷◌, ◌++◌, map, filter, flat_map, length, take, get_or, refl, sym, ◌∙◌, ap, subst, true≢false, append-nil, append_assoc, arith}
+use Rattle.std.proofs.Common.{◌≡◌, ◌⊎◌, inl, inr, ⊎_elim, ℕ, ◌+◌, ◌≤◌, ◌<◌, Bool, true, false, ◌||◌, ◌==◌, not, cond, List, [], ◌∷◌, ◌++◌, map, filter, flat_map, length, take, get_or, refl, sym, ◌∙◌, ap, true≢false, append-nil, append_assoc, arith}
 use Rattle.std.specs.List.{list_any, sum_by, Contains}
 use Rattle.std.specs.Cmp.{Equal-is}
 use Rattle.std.proofs.lemmas.Bool.{or_cases, or_left, or_right}

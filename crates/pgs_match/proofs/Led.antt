@@ -4,18 +4,17 @@ use Rattle.std.proofs.Common.{◌≡◌, ◌≢◌, ◌⊎◌, inl, inr, ⊎_eli
 use Rattle.std.specs.Prelude.{option_and_then, option_map}
 use Rattle.std.specs.Option.{option_map_or}
 use Rattle.std.specs.List.{list_any, sum_by}
-use Rattle.std.proofs.Math.Nat.{pow-succ', pow-zero, mul-le-mul_right, mul-le-mul_left}
+use Rattle.std.proofs.Math.Nat.{pow-succ', mul-le-mul_right}
 use Rattle.std.proofs.lemmas.Bool.{and_parts, or_cases, or_left, or_right, eqb-true, eq-eqb}
 use Rattle.std.proofs.lemmas.List.{length-set}
 use Rattle.std.proofs.lemmas.List.Concat.{length-flat_map}
-use Rattle.std.proofs.lemmas.List.Sums.{sum_by-cons, sum_by-append}
+use Rattle.std.proofs.lemmas.List.Sums.{sum_by-cons}
 use Rattle.pgs_base.specs.declared.element.NodeId.{NodeId}
 use Rattle.pgs_base.specs.declared.element.EdgeId.{EdgeId}
 use Rattle.pgs_base.specs.declared.element.Elem.{Elem}
 use Rattle.pgs_base.specs.declared.element.Elem.TheVariants.{Node, Edge}
 use Rattle.pgs_base.specs.declared.row.EdgeRow.{EdgeRow}
 use Rattle.pgs_base.specs.Graph.{Graph, edge_at, is_end, is_graph}
-use Rattle.pgs_graph.specs.Reads.{out_edges_of, in_edges_of}
 use Rattle.pgs_syntax.specs.declared.pattern.Pattern.{Pattern}
 use Rattle.pgs_syntax.specs.declared.resolved.Resolved.{Resolved}
 use Rattle.pgs_syntax.specs.Valid.{edge_count, is_edge_var, is_node_var, is_valid_pattern}
@@ -24,7 +23,7 @@ use Rattle.pgs_match.specs.declared.step.Step.TheVariants.{Along, End}
 use Rattle.pgs_match.specs.declared.stand.Stand.{Stand}
 use Rattle.pgs_match.specs.declared.bindings.Bound.{Bound}
 use Rattle.pgs_match.specs.Bounds.{elem_of}
-use Rattle.pgs_match.specs.Near.{is_at_element, is_within, IsSparse, IsNearTo}
+use Rattle.pgs_match.specs.Near.{is_within, IsSparse, IsNearTo}
 use Rattle.pgs_match.specs.Plans.{bound_by, is_known, and_known, known_alone, known_after, is_step, are_steps, is_plan}
 use Rattle.pgs_match.specs.Spread.{stand_at, stands_of, end_in, edges_in, back_most, back, one_back, led_back, one_most, led_most}
 use Rattle.pgs_match.specs.Tests.{admitted_node, admitted_edge}

@@ -1,14 +1,12 @@
 -- The steps of a plan lead back along each match: from the element of any variable to that of the first.
-use Rattle.std.proofs.Common.{◌≡◌, ◌≢◌, ◌⊎◌, inl, inr, ℕ, ◌<◌, Bool, true, false, ◌&&◌, ◌||◌, ◌==◌, cond, List, [], ◌∷◌, flat_map, length, slice_get, Option, Some, None, refl, sym, ◌∙◌, ap, subst, true≢false, arith}
+use Rattle.std.proofs.Common.{◌≡◌, ℕ, Bool, true, false, ◌==◌, cond, List, [], ◌∷◌, slice_get, Some, refl, sym, ◌∙◌, ap, subst}
 use Rattle.std.specs.Prelude.{option_and_then, option_map}
-use Rattle.std.specs.Option.{option_map_or}
 use Rattle.std.specs.List.{list_any, list_all}
-use Rattle.std.proofs.lemmas.Bool.{and_parts, or_left, eqb-true, eq-eqb}
-use Rattle.pgs_base.specs.declared.element.EdgeId.{EdgeId}
+use Rattle.std.proofs.lemmas.Bool.{and_parts, or_left, eqb-true}
 use Rattle.pgs_base.specs.declared.element.Elem.{Elem}
 use Rattle.pgs_base.specs.declared.element.Elem.TheVariants.{Node, Edge}
 use Rattle.pgs_base.specs.declared.row.EdgeRow.{EdgeRow}
-use Rattle.pgs_base.specs.Graph.{Graph, edge_at}
+use Rattle.pgs_base.specs.Graph.{Graph}
 use Rattle.pgs_syntax.specs.declared.pattern.Pattern.{Pattern}
 use Rattle.pgs_syntax.specs.declared.resolved.Resolved.{Resolved}
 use Rattle.pgs_syntax.specs.Matches.{are_there, holds, is_match}
@@ -17,9 +15,8 @@ use Rattle.pgs_syntax.proofs.Halves.{any_flat_map}
 use Rattle.pgs_match.specs.declared.step.Step.{Step}
 use Rattle.pgs_match.specs.declared.step.Step.TheVariants.{Along, End}
 use Rattle.pgs_match.specs.declared.stand.Stand.{Stand}
-use Rattle.pgs_match.specs.Bounds.{elem_of}
-use Rattle.pgs_match.specs.Plans.{bound_by, is_known, and_known, is_step, are_steps}
-use Rattle.pgs_match.specs.Spread.{stand_at, stands_of, end_in, edges_in, back, one_back, led_back}
+use Rattle.pgs_match.specs.Plans.{bound_by, and_known, is_step, are_steps}
+use Rattle.pgs_match.specs.Spread.{stand_at, stands_of, edges_in, back, one_back, led_back}
 use Rattle.pgs_match.specs.Tests.{admitted_node, admitted_edge}
 use Rattle.pgs_match.proofs.Completed.{placed, along_facts, end_facts, edge_of_match, node_of_match}
 use Rattle.pgs_match.proofs.Led.{left_by, root}

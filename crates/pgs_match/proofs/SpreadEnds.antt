@@ -2,11 +2,11 @@
 -- and little where few edges are near.
 use Rattle.std.proofs.Common.{◌≡◌, ℕ, zero, suc, ◌+◌, ◌*◌, ◌^◌, ◌≤◌, ◌<◌, Bool, true, false, ◌&&◌, ◌||◌, ◌==◌, cond, List, [], ◌∷◌, ◌++◌, filter, map, flat_map, length, get_or, slice_get, Some, refl, sym, ◌∙◌, ap, subst, true≢false, arith}
 use Rattle.std.specs.Prelude.{nat_lt}
-use Rattle.std.specs.List.{list_any, list_all, sum_by, Contains, All}
+use Rattle.std.specs.List.{list_any, list_all, sum_by, Contains}
 use Rattle.std.specs.Ordering.{is_eq}
 use Rattle.std.specs.Cmp.{tied_itself, Equal-is}
 use Rattle.std.proofs.lemmas.Bool.{and_parts, and_from, ltb-true, eq-eqb}
-use Rattle.std.proofs.lemmas.List.Elements.{All-contains_itself, All-weaker, All-contains, filter_passes}
+use Rattle.std.proofs.lemmas.List.Elements.{All-contains_itself, All-weaker, filter_passes}
 use Rattle.std.proofs.lemmas.List.Folds.{list_any_at, Any-from_list_any}
 use Rattle.std.proofs.lemmas.List.Sums.{sum_by-cons, sum_by-le}
 use Rattle.pgs_base.specs.declared.element.Elem.{Elem}
@@ -23,7 +23,7 @@ use Rattle.pgs_syntax.proofs.Halves.{any_map, any_filter, any_flat_map}
 use Rattle.pgs_match.specs.declared.step.Step.{Step}
 use Rattle.pgs_match.specs.declared.stand.Stand.{Stand}
 use Rattle.pgs_match.specs.Bounds.{stands_at}
-use Rattle.pgs_match.specs.Near.{is_at_element, IsNearTo}
+use Rattle.pgs_match.specs.Near.{is_at_element}
 use Rattle.pgs_match.specs.Plans.{known_alone, are_steps, is_plan}
 use Rattle.pgs_match.specs.Reached.{reaches, reached}
 use Rattle.pgs_match.specs.Spread.{elems_at, led_back, led_most, IsNearSome, AreSparseFrom, are_in_range}

@@ -1,5 +1,5 @@
 -- Where the steps of a plan lead back to: from elements at variables, step by step, toward the variable from which the plan goes.
-use Rattle.std.specs.Prelude.{ℕ, ◌+◌, ◌*◌, Bool, ◌==◌, not, nat_lt, cond, List, [], ◌∷◌, length, map, filter, Option, Some, None, option_map, option_and_then}
+use Rattle.std.specs.Prelude.{ℕ, ◌+◌, ◌*◌, Bool, ◌==◌, not, nat_lt, cond, List, [], ◌∷◌, length, map, filter, Option, None, option_map, option_and_then}
 use Rattle.std.specs.Option.{option_map_or}
 use Rattle.std.specs.List.{Contains, list_all, flat_map, sum_by}
 use Rattle.pgs_base.specs.declared.element.NodeId.{NodeId}

@@ -16,7 +16,7 @@ use Rattle.pgs_check_affected.specs.Unseen.{seen_elems}
 use Rattle.pgs_check_affected.proofs.Counting.{items_few, found_cost, own_sparse, all_near}
 use Rattle.pgs_check_affected.proofs.Finding.{answered}
 use Rattle.pgs_check_affected.proofs.Fronts.{seen_own, seen_size, seen_less, seen_sparse}
-use Rattle.pgs_check_affected.proofs.Spreads.{has_found}
+use Rattle.pgs_check_affected.proofs.Together.{has_found}
 use Rattle.pgs_check_affected.proofs.change.Change.affected.Goals as goal
 
 pub found_by_all-requires-clause-known : goal.found_by_all-requires-clause-known

@@ -1,4 +1,4 @@
-use Rattle.std.proofs.Common.{◌≡◌, ◌+◌, ◌*◌, ◌≤◌, ◌++◌, flat_map, length, take, sym, ap, ◌∙◌, arith}
+use Rattle.std.proofs.Common.{◌++◌, flat_map, sym, ap, ◌∙◌, arith}
 use Rattle.pgs_base.specs.declared.element.Elem.TheVariants.{Node}
 use Rattle.pgs_match.specs.Spread.{stands_of, edges_in}
 use Rattle.pgs_match.specs.Tests.{admitted_edge}

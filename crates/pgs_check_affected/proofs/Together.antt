@@ -1,5 +1,5 @@
 -- What is spread from the elements of a change in a pattern: where it starts, that what is found is among it, and how much it is.
-use Rattle.std.proofs.Common.{◌≡◌, ◌⊎◌, inl, inr, ⊎_elim, ℕ, zero, suc, ◌+◌, ◌*◌, ◌^◌, ◌≤◌, ◌<◌, Bool, true, false, ◌&&◌, ◌||◌, ◌==◌, not, cond, List, [], ◌∷◌, ◌++◌, map, filter, flat_map, length, get_or, Option, refl, sym, ◌∙◌, ap, subst, true≢false, arith}
+use Rattle.std.proofs.Common.{◌≡◌, ◌⊎◌, inl, inr, ⊎_elim, ℕ, zero, suc, ◌+◌, ◌*◌, ◌^◌, ◌≤◌, ◌<◌, Bool, true, false, ◌&&◌, ◌||◌, ◌==◌, not, cond, List, [], ◌∷◌, ◌++◌, map, filter, flat_map, length, take, get_or, append-nil, append_assoc, add-one, Option, refl, sym, ◌∙◌, ap, subst, true≢false, arith}
 use Rattle.std.specs.Prelude.{nat_lt}
 use Rattle.std.specs.Option.{option_map_or}
 use Rattle.std.specs.List.{list_any, list_all, All, Contains}
@@ -7,7 +7,7 @@ use Rattle.std.specs.Cmp.{Equal-is}
 use Rattle.std.proofs.Math.Nat.{pow-succ', mul-le-mul_right}
 use Rattle.std.proofs.lemmas.Bool.{and_parts, and_from, or_cases, or_left, or_right, both_ways, cases_lt, eqb-true, eq-eqb, lt-ltb, true_from_ne_false}
 use Rattle.std.proofs.lemmas.List.{length-append}
-use Rattle.std.proofs.lemmas.List.Elements.{All-contains}
+use Rattle.std.proofs.lemmas.List.Elements.{All-contains, filter-append}
 use Rattle.std.proofs.lemmas.List.Folds.{list_any-append, list_all-append, Any-from_list_any, flat_map-map}
 use Rattle.pgs_base.specs.declared.element.Elem.{Elem}
 use Rattle.pgs_base.specs.declared.row.NodeRow.{NodeRow}
@@ -28,13 +28,46 @@ use Rattle.pgs_match.specs.Tests.{own_passes}
 use Rattle.pgs_match.proofs.Known.{valid_most}
 use Rattle.pgs_check_affected.specs.declared.known.Known.{Known}
 use Rattle.pgs_check_affected.specs.Changes.{known_in}
-use Rattle.pgs_check_affected.specs.Found.{passes, found_from, found_in, found_by, found, starts_of, row_in, IsSpread, IsMore, IsFoundByAll}
+use Rattle.pgs_check_affected.specs.Found.{passes, found_alone, found_from, found_in, found_by, found, starts_of, row_in, IsSpread, IsMore, IsFoundByAll}
 use Rattle.pgs_check_affected.specs.Local.{is_one_of}
 use Rattle.pgs_check_affected.specs.Touched.{AreSparseInBoth}
 use Rattle.pgs_check_affected.specs.Unseen.{is_left_unseen, seen_elems}
 use Rattle.pgs_check_affected.proofs.Finding.{contains_it, has_it, found_is}
+use Rattle.pgs_check_affected.proofs.Loops.{flat_append, flat_one, front_more}
 use Rattle.pgs_check_affected.proofs.Passing.{reached_none}
 use Rattle.pgs_check_affected.proofs.Touching.{any_of, one_that, itself}
+
+-- ---- a turn more of the loops
+
+starts_more : (resolved : Resolved) (pattern : Pattern) (elem : Elem) (own : Option NodeRow) (var : ℕ) (start now more : List Stand) (b : Bool) → now ≡ start ++ starts_of resolved pattern elem own var →
+    option_map_or (own_passes resolved pattern var elem) own false ≡ b → more ≡ now ++ cond b (stand_at var elem ∷ []) [] → more ≡ start ++ starts_of resolved pattern elem own (var + 1)
+starts_more resolved pattern elem own var start now more b so_far test added =
+    added ∙ ap (λ t. now ++ cond t (stand_at var elem ∷ []) []) (sym test)
+    ∙ ap (λ xs. xs ++ cond (option_map_or (own_passes resolved pattern var elem) own false) (stand_at var elem ∷ []) []) so_far
+    ∙ append_assoc start (starts_of resolved pattern elem own var) (cond (option_map_or (own_passes resolved pattern var elem) own false) (stand_at var elem ∷ []) [])
+    ∙ ap (λ vars. start ++ starts_of resolved pattern elem own vars) (sym (add-one var))
+
+pub starts_passed : (resolved : Resolved) (pattern : Pattern) (elem : Elem) (own : Option NodeRow) (var : ℕ) (start now more : List Stand) → now ≡ start ++ starts_of resolved pattern elem own var →
+    option_map_or (own_passes resolved pattern var elem) own false ≡ true → more ≡ now ++ stand_at var elem ∷ [] → more ≡ start ++ starts_of resolved pattern elem own (var + 1)
+starts_passed resolved pattern elem own var start now more so_far test added = starts_more resolved pattern elem own var start now more true so_far test added
+
+pub starts_same : (resolved : Resolved) (pattern : Pattern) (elem : Elem) (own : Option NodeRow) (var : ℕ) (start now more : List Stand) → now ≡ start ++ starts_of resolved pattern elem own var →
+    option_map_or (own_passes resolved pattern var elem) own false ≡ false → more ≡ now → more ≡ start ++ starts_of resolved pattern elem own (var + 1)
+starts_same resolved pattern elem own var start now more so_far test same = starts_more resolved pattern elem own var start now more false so_far test (same ∙ sym (append-nil now))
+
+module _ {X Y : Type 0} (f : X → List Y) (keep : X → Bool) (xs : List X) (i : ℕ) (x : X) (below : i < length xs) (at : get_or xs i x ≡ x) (now : List Y) (so_far : now ≡ flat_map f (filter keep (take i xs))) where
+  front_kept : filter keep (take (i + 1) xs) ≡ filter keep (take i xs) ++ cond (keep x) (x ∷ []) []
+  front_kept = ap (filter keep) (front_more xs i x below at) ∙ filter-append keep (take i xs) (x ∷ [])
+
+  pub turn_left : keep x ≡ false → now ≡ flat_map f (filter keep (take (i + 1) xs))
+  turn_left left =
+      so_far ∙ sym (ap (flat_map f) (front_kept ∙ ap (λ b. filter keep (take i xs) ++ cond b (x ∷ []) []) left ∙ append-nil (filter keep (take i xs))))
+
+  pub turn_kept : (more : List Y) → keep x ≡ true → more ≡ now ++ f x → more ≡ flat_map f (filter keep (take (i + 1) xs))
+  turn_kept more kept added =
+      added ∙ ap (λ ys. ys ++ f x) so_far
+      ∙ sym (ap (flat_map f) (front_kept ∙ ap (λ b. filter keep (take i xs) ++ cond b (x ∷ []) []) kept)
+      ∙ flat_append f (filter keep (take i xs)) (x ∷ []) ∙ ap (λ ys. flat_map f (filter keep (take i xs)) ++ ys) (flat_one f x))
 
 -- ---- what is known of the elements that are seen
 
@@ -198,7 +231,7 @@ module _ (resolved : Resolved) (g h : Graph) (edges : ℕ) (pattern : Pattern) (
     all = λ x some.
         let it = one_that (λ elem. is_one_of (found_in resolved g h elem pattern) x) elems some in
         let at = found_var it.0 x (length pattern.edge_vars)
-        (sym (ap (λ b. is_one_of (cond b _ (found_from resolved g h it.0 pattern (length pattern.edge_vars))) x) several) ∙ it.2) in
+        (sym (ap (λ b. is_one_of (cond b (found_alone resolved g h it.0 pattern) (found_from resolved g h it.0 pattern (length pattern.edge_vars))) x) several) ∙ it.2) in
         list_any-append (same_elem x) first second
         ∙ ⊎_elim
         (λ one. or_left _ _ (in_one g first before it.0 x it.1 at.0 at.1 one))
