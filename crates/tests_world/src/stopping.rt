@@ -48,6 +48,22 @@ fn longer(bytes: &Vec<u8>, piece: &[u8]) -> Result<Vec<u8>, AllocError>
     Ok(new)
 }
 
+// The same bytes.
+fn copy_of(bytes: &Vec<u8>) -> Result<Vec<u8>, AllocError>
+    ensures { IfOk result (λ new. new.items ≡ bytes.now.items) }
+{
+    Ok(bytes.clone()?)
+}
+
+// The first bytes, up to a length.
+fn front_of(bytes: &Vec<u8>, len: usize) -> Result<Vec<u8>, AllocError>
+    ensures { IfOk result (λ new. new.items ≡ take len bytes.now.items) }
+{
+    let mut new = bytes.clone()?;
+    new.truncate(len);
+    Ok(new)
+}
+
 // A moment behind this one.
 fn behind(moment: u64) -> io::Result<u64>
     ensures { IfOk result (λ until. until ≡ moment + 1) }
@@ -78,7 +94,7 @@ impl Kept {
         let until = behind(moment)?;
         let was = Was {
             until: self.until,
-            bytes: self.bytes.clone()?,
+            bytes: copy_of(&self.bytes)?,
         };
         self.past.insert(0, was)?;
         self.bytes = bytes;
@@ -110,8 +126,7 @@ impl Kept {
         ensures changed { OnOk result (IsChanged moment (take len self.old.bytes.items) self.old self.new) }
         ensures still { OnErr result (IsStill self.old self.new) }
     {
-        let mut bytes = self.bytes.clone()?;
-        bytes.truncate(len);
+        let bytes = front_of(&self.bytes, len)?;
         self.change(moment, bytes)
     }
 }
