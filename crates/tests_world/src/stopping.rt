@@ -3,8 +3,11 @@
 
 ghost use Rattle.std.specs.Prelude.{◌≡◌, ◌+◌, ◌≤◌, ◌++◌, length, take, IfOk, OnOk, OnErr};
 ghost use Rattle.pgs_world.specs.Disk.{written_over};
+ghost use Rattle.pgs_world.specs.Moment.{IsSettled};
 
-use pgs_world_files::Handle;
+use pgs_base::Seed;
+use pgs_world::World;
+use pgs_world_files::{AreaFile, AreaFiles, FileWorld, Handle};
 use pgs_world_streams::SteadyWrite;
 use std::alloc::{AllocError, Global};
 use std::io::{self, ErrorKind, Write};
@@ -247,4 +250,13 @@ impl SteadyWrite for Kept {
     fn flush_once(&mut self, _moment: u64) -> io::Result<()> {
         Ok(())
     }
+}
+
+/// A world over two such files and such an output, without bytes. What is said of stops holds of it, and nothing is pending.
+pub fn kept_world(alloc: Global) -> FileWorld<Kept, Kept>
+    ensures settled { IsSettled (⟦<FileWorld<Kept, Kept> as World>⟧.view result) }
+{
+    let a = AreaFile::new(Kept::new(alloc));
+    let b = AreaFile::new(Kept::new(alloc));
+    FileWorld::new(AreaFiles::new(a, b), Kept::new(alloc), Seed::Fixed)
 }
