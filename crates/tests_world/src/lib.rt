@@ -22,6 +22,8 @@ mod reading;
 mod standard_numbers;
 mod stopping;
 #[cfg(test)]
+mod stopping_rows;
+#[cfg(test)]
 mod syncs;
 #[cfg(test)]
 mod words;
@@ -29,4 +31,4 @@ mod words;
 mod writing;
 
 pub use counting::{CountEnd, LIMIT, count_lines};
-pub use stopping::{Kept, Was};
+pub use stopping::{Kept, Was, kept_world};

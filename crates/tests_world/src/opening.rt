@@ -114,7 +114,7 @@ fn files_are_opened_or_the_cause_is_told(rt: HostRuntime) -> Result<(), Fail> {
 
 /// Whether a sync fails, and why.
 fn sync_of(area: &mut Area<'_>) -> (bool, Option<FileCause>) {
-    (area.sync().is_err(), area.cause())
+    (area.sync(0).is_err(), area.cause())
 }
 
 fn replace(rt: &HostRuntime) {
@@ -134,8 +134,8 @@ fn three_syncs(rt: &HostRuntime) -> Result<[(bool, Option<FileCause>); 3], Memor
 
 /// Whether a write, a cut and a sync fail, and why.
 fn three_calls(area: &mut Area<'_>) -> [(bool, Option<FileCause>); 3] {
-    let written = (area.write_at(4, b"e").is_err(), area.cause());
-    let cut = (area.cut(1).is_err(), area.cause());
+    let written = (area.write_at(0, 4, b"e").is_err(), area.cause());
+    let cut = (area.cut(0, 1).is_err(), area.cause());
     [written, cut, sync_of(area)]
 }
 
@@ -144,8 +144,8 @@ fn calls_on_a_changed_file(
     rt: &HostRuntime,
 ) -> Result<([(bool, Option<FileCause>); 3], String), Fail> {
     let mut area = opened(rt, "anew.a", Access::Write)?;
-    let _written = area.write_at(0, b"abcd");
-    let _synced = area.sync();
+    let _written = area.write_at(0, 0, b"abcd");
+    let _synced = area.sync(0);
     let _changed = fs::write(rt, "anew.a", "xy");
     let calls = three_calls(&mut area);
     let text = fs::read_to_string(rt, "anew.a")?;

@@ -3,8 +3,11 @@
 
 ghost use Rattle.std.specs.Prelude.{◌≡◌, ◌+◌, ◌≤◌, ◌++◌, length, take, IfOk, OnOk, OnErr};
 ghost use Rattle.pgs_world.specs.Disk.{written_over};
+ghost use Rattle.pgs_world.specs.Moment.{IsSettled};
 
-use pgs_world_files::Handle;
+use pgs_base::Seed;
+use pgs_world::World;
+use pgs_world_files::{AreaFile, AreaFiles, FileWorld, Handle};
 use pgs_world_streams::SteadyWrite;
 use std::alloc::{AllocError, Global};
 use std::io::{self, ErrorKind, Write};
@@ -48,6 +51,22 @@ fn longer(bytes: &Vec<u8>, piece: &[u8]) -> Result<Vec<u8>, AllocError>
     Ok(new)
 }
 
+// The same bytes.
+fn copy_of(bytes: &Vec<u8>) -> Result<Vec<u8>, AllocError>
+    ensures { IfOk result (λ new. new.items ≡ bytes.now.items) }
+{
+    Ok(bytes.clone()?)
+}
+
+// The first bytes, up to a length.
+fn front_of(bytes: &Vec<u8>, len: usize) -> Result<Vec<u8>, AllocError>
+    ensures { IfOk result (λ new. new.items ≡ take len bytes.now.items) }
+{
+    let mut new = bytes.clone()?;
+    new.truncate(len);
+    Ok(new)
+}
+
 // A moment behind this one.
 fn behind(moment: u64) -> io::Result<u64>
     ensures { IfOk result (λ until. until ≡ moment + 1) }
@@ -78,7 +97,7 @@ impl Kept {
         let until = behind(moment)?;
         let was = Was {
             until: self.until,
-            bytes: self.bytes.clone()?,
+            bytes: copy_of(&self.bytes)?,
         };
         self.past.insert(0, was)?;
         self.bytes = bytes;
@@ -110,8 +129,7 @@ impl Kept {
         ensures changed { OnOk result (IsChanged moment (take len self.old.bytes.items) self.old self.new) }
         ensures still { OnErr result (IsStill self.old self.new) }
     {
-        let mut bytes = self.bytes.clone()?;
-        bytes.truncate(len);
+        let bytes = front_of(&self.bytes, len)?;
         self.change(moment, bytes)
     }
 }
@@ -232,4 +250,13 @@ impl SteadyWrite for Kept {
     fn flush_once(&mut self, _moment: u64) -> io::Result<()> {
         Ok(())
     }
+}
+
+/// A world over two such files and such an output, without bytes. What is said of stops holds of it, and nothing is pending.
+pub fn kept_world(alloc: Global) -> FileWorld<Kept, Kept>
+    ensures settled { IsSettled (⟦<FileWorld<Kept, Kept> as World>⟧.view result) }
+{
+    let a = AreaFile::new(Kept::new(alloc));
+    let b = AreaFile::new(Kept::new(alloc));
+    FileWorld::new(AreaFiles::new(a, b), Kept::new(alloc), Seed::Fixed)
 }
