@@ -1,12 +1,10 @@
 -- The walk over the written descriptor of a valid key visits each of its places.
-use Rattle.std.proofs.Common.{true≢false, ◌≡◌, ℕ, zero, suc, ◌+◌, ◌-◌, ◌*◌, ◌<◌, ◌≤◌, Bool, true, false, not, cond, ◌||◌, ◌&&◌, ◌⊎◌, inl, inr, List, [], ◌∷◌, ◌++◌, length, map, get_or, Option, Some, None, refl, sym, ◌∙◌, ap, subst, arith, eqb, ltb}
+use Rattle.std.proofs.Common.{true≢false, ◌≡◌, ℕ, zero, suc, ◌+◌, ◌-◌, ◌*◌, ◌<◌, ◌≤◌, Bool, true, false, not, cond, ◌||◌, ◌&&◌, inl, inr, List, [], ◌∷◌, ◌++◌, length, map, get_or, Option, Some, None, refl, sym, ◌∙◌, ap, subst, arith, eqb, ltb}
 use Rattle.std.specs.List.{list_any, list_all, find, enumerate_from, flat_map, slice_get}
 use Rattle.std.specs.Option.{option_map_or, unwrap_or}
-use Rattle.std.proofs.lemmas.Bool.{and_from, and_parts, or_left, or_right, or_cases, or_parts, both_ways, not-true, eqb-true, eq-eqb, lt-ltb, le-ltb, leb-true, cases_lt}
+use Rattle.std.proofs.lemmas.Bool.{and_from, and_parts, or_left, or_right, or_cases, or_parts, not-true, eqb-true, eq-eqb, lt-ltb, le-ltb, leb-true, cases_lt}
 use Rattle.std.proofs.lemmas.List.{length-map, map-append, get_or-map}
-use Rattle.std.proofs.lemmas.List.Folds.{list_all-append}
 use Rattle.std.proofs.lemmas.List.FromFn.{length-enumerate_from, get_or-enumerate_from}
-use Rattle.std.proofs.lemmas.Option.{slice_get_within}
 use Rattle.pgs_base.specs.declared.value.Value.{Value}
 use Rattle.pgs_syntax.specs.declared.pattern.Atom.{Atom}
 use Rattle.pgs_syntax.specs.declared.pattern.Atom.TheVariants.{Ends, Equals, HasLabel, FitsNode, FitsEdge}
@@ -29,7 +27,7 @@ use Rattle.pgs_key_causes.specs.declared.walk.Occurrence.{Occurrence}
 use Rattle.pgs_key_causes.specs.declared.walk.Visit.{Visit}
 use Rattle.pgs_key_causes.specs.Fronts.{occurrence_of, occurrences_of, descriptor_of}
 use Rattle.pgs_key_causes.specs.Walk.{var_at, is_edge_at, is_visited, is_reached, with_own, with_all, numbers, is_start, is_alone, is_next, with_step, walk_on, walk}
-use Rattle.pgs_key_causes.proofs.Sound.{Kinded, IsBetween, AreBetween, paths_between, steps_between, own_var, occurrences, at-append, all_left, node_of, edge_of, at_left, at_right, var_in, edge_in, var_below}
+use Rattle.pgs_key_causes.proofs.Sound.{Kinded, IsBetween, AreBetween, paths_between, steps_between, occurrences, at-append, all_left, node_of, edge_of, at_left, at_right, var_in, edge_in, var_below}
 use Rattle.pgs_key_causes.proofs.Visiting.{IsStep, step_is, own_old, own_some, own_here, reach_same}
 
 -- ---- the visits on the way
@@ -138,9 +136,10 @@ module _ (edge_vars : List Bool) (places : List Occurrence) (between : AreBetwee
       closed = λ f edge h.
           own_some places (is_alone places) stepped (λ (visit : Visit). eqb visit.place f)
           ((is_visited after (f - 1) ≡ true) × (is_visited after (f + 1) ≡ true)) (length places)
-          (λ old. let ends = step_closed f edge old in
-          (own_old places (is_alone places) stepped (λ (visit : Visit). eqb visit.place (f - 1)) (length places) ends.0,
-          own_old places (is_alone places) stepped (λ (visit : Visit). eqb visit.place (f + 1)) (length places) ends.1))
+          (λ old. let ends = step_closed f edge old in (
+            own_old places (is_alone places) stepped (λ (visit : Visit). eqb visit.place (f - 1)) (length places) ends.0,
+            own_old places (is_alone places) stepped (λ (visit : Visit). eqb visit.place (f + 1)) (length places) ends.1,
+          ))
           (λ n lt passes is.
           absurd (true≢false (sym edge ∙ ap (is_edge_at places) (sym (eqb-true n f is)) ∙ alone_node (with_own places (is_alone places) stepped n) n passes)))
           (length places) (omega arith) h;
@@ -452,8 +451,7 @@ module _ (same : ℕ → Bool) where
       let here = at_left xs ys e (omega (arith, last)) in
       let before = at_left xs ys (e - 1) (omega (arith, last)) in
       let behind = at_left xs ys (e + 1) (omega (arith, last)) in
-      let both = all e (ap edge_in here ∙ h) in
-      (
+      let both = all e (ap edge_in here ∙ h) in (
         sym (ap (λ o. same (var_in o)) here) ∙ both.0 ∙ ap (λ o. same (var_in o)) before,
         sym (ap (λ o. same (var_in o)) here) ∙ both.1 ∙ ap (λ o. same (var_in o)) behind,
       )
@@ -467,8 +465,7 @@ module _ (same : ℕ → Bool) where
       let on : length xs + e + 1 ≡ length xs + (e + 1) = omega arith in
       let before = ap (slice_get (xs ++ ys)) back ∙ at_right xs ys (e - 1) in
       let behind = ap (slice_get (xs ++ ys)) on ∙ at_right xs ys (e + 1) in
-      let both = all (length xs + e) (ap edge_in here ∙ h) in
-      (
+      let both = all (length xs + e) (ap edge_in here ∙ h) in (
         sym (ap (λ o. same (var_in o)) here) ∙ both.0 ∙ ap (λ o. same (var_in o)) before,
         sym (ap (λ o. same (var_in o)) here) ∙ both.1 ∙ ap (λ o. same (var_in o)) behind,
       )

@@ -65,7 +65,7 @@ module _ (numbering : Numbering) (key : RawKey) (descriptor : Descriptor) (quali
       None,
       subst (λ (fronts : List Front). IsEnd (is_placed schema g elem) (least_before schema g elem) fronts None) (same ∙ is ∙ same_parts) ended,
       subst (λ (k : Key). AreExprTexts schema g elem k parts.exprs texts) resolved_is
-      (subst (λ (es : List (List ℕ)). AreExprTexts schema g elem resolved es texts) exprs_are told),
+          (subst (λ (es : List (List ℕ)). AreExprTexts schema g elem resolved es texts) exprs_are told),
     )
 
 -- where the expressions end, and where they don't
@@ -75,7 +75,7 @@ pub at_expr : (schema : Resolved) (g : Graph) (elem : Elem) (key : Key) (exprs :
 at_expr schema g elem key exprs fronts is found end same ended texts told = (
   end,
   subst (λ (o : Option PatternEnd). IsEnd (is_defined schema g elem) (least_before schema g elem) (expr_fronts key) o) same
-  (subst (λ (fs : List Front). IsEnd (is_defined schema g elem) (least_before schema g elem) fs found) is ended),
+      (subst (λ (fs : List Front). IsEnd (is_defined schema g elem) (least_before schema g elem) fs found) is ended),
   told,
 )
 

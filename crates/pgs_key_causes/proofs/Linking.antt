@@ -1,19 +1,17 @@
 -- The pattern of visits of a walk: it is valid, and names types that are there.
-use Rattle.std.proofs.Common.{true≢false, ◌≡◌, ℕ, zero, suc, ◌+◌, ◌-◌, ◌<◌, ◌≤◌, Bool, true, false, not, cond, ◌||◌, ◌&&◌, ◌⊎◌, inl, inr, List, [], ◌∷◌, ◌++◌, length, map, take, get_or, Option, Some, None, refl, sym, ◌∙◌, ap, subst, arith, eqb, ltb}
+use Rattle.std.proofs.Common.{true≢false, ◌≡◌, ℕ, zero, suc, ◌+◌, ◌-◌, ◌<◌, ◌≤◌, Bool, true, false, not, cond, ◌||◌, ◌&&◌, ◌⊎◌, inl, inr, List, [], ◌∷◌, ◌++◌, length, map, take, get_or, Option, Some, None, refl, sym, ◌∙◌, ap, subst, arith, eqb}
 use Rattle.std.specs.List.{list_any, list_all, flat_map, fold, enumerate_from, slice_get}
 use Rattle.std.specs.Option.{option_map, option_map_or}
-use Rattle.std.proofs.lemmas.Bool.{and_from, and_parts, or_left, or_right, or_cases, eqb-true, eq-eqb, lt-ltb, ltb-true, le-leb}
+use Rattle.std.proofs.lemmas.Bool.{and_from, and_parts, or_left, or_right, or_cases, eqb-true, eq-eqb, lt-ltb, le-leb}
 use Rattle.std.proofs.lemmas.List.{length-map, get_or-map, take_more, take_all}
 use Rattle.std.proofs.lemmas.List.Folds.{list_any-append, list_all-append}
-use Rattle.std.proofs.lemmas.Option.{slice_get-map, slice_get-get_or, slice_get_within, get_or_from_slice_get}
+use Rattle.std.proofs.lemmas.Option.{slice_get-map, slice_get-get_or}
 use Rattle.pgs_base.specs.declared.value.Value.{Value}
 use Rattle.pgs_syntax.specs.declared.pattern.Atom.{Atom}
 use Rattle.pgs_syntax.specs.declared.pattern.Atom.TheVariants.{Ends, Equals, HasLabel, FitsNode, FitsEdge}
-use Rattle.pgs_syntax.specs.declared.pattern.Pattern.{Pattern}
-use Rattle.pgs_syntax.specs.declared.raw.RawFilter.{RawFilter}
 use Rattle.pgs_syntax.specs.declared.resolved.Resolved.{Resolved}
 use Rattle.pgs_syntax.specs.Linked.{links, IsLinked, itself, further}
-use Rattle.pgs_syntax.specs.Valid.{is_edge_var, is_node_var, speaks_of, names_types, gives_ends, has_all_ends, edge_count, is_connected, is_valid_pattern}
+use Rattle.pgs_syntax.specs.Valid.{is_edge_var, is_node_var, speaks_of, names_types, gives_ends, has_all_ends, edge_count, is_valid_pattern}
 use Rattle.pgs_syntax.proofs.Connected.{linked_connected}
 use Rattle.pgs_resolve_declared.specs.declared.order.Numbering.{Numbering}
 use Rattle.pgs_resolve_declared.specs.Order.{number_in}
@@ -24,7 +22,7 @@ use Rattle.pgs_key_causes.specs.Reading.{is_forward}
 use Rattle.pgs_key_causes.specs.Walk.{var_at, is_edge_at}
 use Rattle.pgs_key_causes.proofs.Sound.{IsEdgeAt, IsSound, place_asks}
 use Rattle.pgs_key_causes.proofs.Vars.{is_in, Distinct, from_all, there_all, distinct_all, number_at, own_number, known_at, few}
-use Rattle.pgs_key_causes.proofs.Walks.{IsVisitAfter, AreWalked, is_known, touches, vars_push, x_known}
+use Rattle.pgs_key_causes.proofs.Walks.{AreWalked, is_known, vars_push, x_known}
 
 -- ---- lists
 

@@ -1,14 +1,11 @@
 -- A written descriptor of a valid key: its places have variables of the pattern, of its kinds, and what is written at them speaks of it.
-use Rattle.std.proofs.Common.{true≢false, ◌≡◌, ℕ, zero, suc, ◌+◌, ◌-◌, ◌*◌, ◌<◌, ◌≤◌, Bool, true, false, not, cond, ◌&&◌, ◌||◌, ◌⊎◌, inl, inr, List, [], ◌∷◌, ◌++◌, length, map, get_or, Option, Some, None, refl, sym, ◌∙◌, ap, subst, arith, length-append}
+use Rattle.std.proofs.Common.{◌≡◌, ℕ, zero, suc, ◌+◌, ◌-◌, ◌*◌, ◌<◌, ◌≤◌, Bool, true, false, not, ◌&&◌, inl, inr, List, [], ◌∷◌, ◌++◌, length, map, Option, Some, None, refl, sym, ◌∙◌, ap, subst, arith, length-append}
 use Rattle.std.specs.List.{list_all, flat_map, slice_get}
-use Rattle.std.specs.Option.{option_map, option_map_or, unwrap_or}
-use Rattle.std.proofs.lemmas.Bool.{and_parts, and_from, leb-true, cases_lt}
+use Rattle.std.specs.Option.{option_map_or, unwrap_or}
+use Rattle.std.proofs.lemmas.Bool.{and_parts, leb-true, cases_lt}
 use Rattle.std.proofs.lemmas.List.{length-map, map-append}
 use Rattle.std.proofs.lemmas.List.Folds.{list_all-append}
-use Rattle.std.proofs.lemmas.Option.{slice_get-map}
-use Rattle.pgs_base.specs.declared.value.Value.{Value}
 use Rattle.pgs_syntax.specs.declared.pattern.Atom.{Atom}
-use Rattle.pgs_syntax.specs.declared.pattern.Atom.TheVariants.{Ends}
 use Rattle.pgs_syntax.specs.declared.pattern.Pattern.{Pattern}
 use Rattle.pgs_syntax.specs.declared.raw.RawKey.{RawKey}
 use Rattle.pgs_syntax.specs.declared.raw.RawPath.{RawPath}
@@ -16,9 +13,8 @@ use Rattle.pgs_syntax.specs.declared.raw.RawStep.{RawStep}
 use Rattle.pgs_syntax.specs.declared.resolved.Resolved.{Resolved}
 use Rattle.pgs_syntax.specs.Valid.{is_edge_var, is_node_var, speaks_of, names_types, edge_count, is_valid_pattern, is_valid_key_of}
 use Rattle.pgs_resolve_declared.specs.declared.order.Numbering.{Numbering}
-use Rattle.pgs_resolve_keys.specs.KeyFaults.{within_of}
 use Rattle.pgs_resolve_keys.specs.Patterns.{Place, Variable, x_of, variable_at, variables_at, variables_of, number_of, place_atoms, ends, step_atoms, path_atoms, places_of, places_of_path, places_of_step, pattern_of, x_alone, resolved_key}
-use Rattle.pgs_resolve_keys.proofs.AtomsOfPaths.{number_below, some_variable}
+use Rattle.pgs_resolve_keys.proofs.AtomsOfPaths.{number_below}
 use Rattle.pgs_resolve_keys.proofs.Stepped.{step_places}
 use Rattle.pgs_key_causes.specs.declared.walk.Occurrence.{Occurrence}
 use Rattle.pgs_key_causes.specs.Fronts.{Descriptor, occurrence_of, occurrences_of, directions_of, descriptor_of}

@@ -1,8 +1,8 @@
 -- The keys of the parts of a walk, and of the expressions, are valid.
-use Rattle.std.proofs.Common.{◌≡◌, ℕ, zero, suc, ◌+◌, ◌<◌, ◌≤◌, Bool, true, false, not, cond, List, [], ◌∷◌, ◌++◌, length, map, take, get_or, refl, sym, ◌∙◌, ap, arith, ltb}
+use Rattle.std.proofs.Common.{◌≡◌, ℕ, zero, suc, ◌+◌, ◌<◌, ◌≤◌, Bool, true, false, not, List, [], ◌∷◌, length, map, take, get_or, refl, sym, ◌∙◌, ap, arith, ltb}
 use Rattle.std.specs.List.{list_all, enumerate_from}
-use Rattle.std.proofs.lemmas.Bool.{and_from, and_parts, lt-ltb, ltb-true, le-leb, leb-true}
-use Rattle.std.proofs.lemmas.List.{length-map, length-take-le, get_or-take, take_all}
+use Rattle.std.proofs.lemmas.Bool.{and_from, and_parts, lt-ltb, le-leb, leb-true}
+use Rattle.std.proofs.lemmas.List.{length-map}
 use Rattle.pgs_syntax.specs.declared.key.Key.{Key}
 use Rattle.pgs_syntax.specs.declared.key.Qualifiers.{Qualifiers}
 use Rattle.pgs_syntax.specs.declared.pattern.Expr.{Expr}
@@ -15,12 +15,12 @@ use Rattle.pgs_resolve_keys.specs.Patterns.{resolved_key}
 use Rattle.pgs_pattern_end.specs.declared.front.Front.{Front}
 use Rattle.pgs_pattern_end.specs.End.{is_front_of}
 use Rattle.pgs_key_causes.specs.declared.walk.Visit.{Visit}
-use Rattle.pgs_key_causes.specs.Fronts.{Descriptor, descriptor_of, vars_of, new_number, visited_pattern, visit_key, visit_front, fronts_of, place_fronts, has_valid_keys, with_exprs, expr_front, expr_fronts}
+use Rattle.pgs_key_causes.specs.Fronts.{Descriptor, descriptor_of, vars_of, visit_key, visit_front, fronts_of, place_fronts, has_valid_keys, with_exprs, expr_front, expr_fronts}
 use Rattle.pgs_key_causes.specs.Walk.{var_at, walk}
 use Rattle.pgs_key_causes.proofs.Linking.{pattern_valid, all_named, first_kind}
 use Rattle.pgs_key_causes.proofs.Sound.{IsSound, written_sound}
 use Rattle.pgs_key_causes.proofs.Vars.{number_at}
-use Rattle.pgs_key_causes.proofs.Walks.{IsVisitAfter, AreWalked, walk_walked, walked_front}
+use Rattle.pgs_key_causes.proofs.Walks.{AreWalked, walk_walked, walked_front}
 
 -- what is so of each item with its number
 each_enumerated : {X : Type 0} (p : ℕ × X → Bool) (n : ℕ) (xs : List X) → ((k : ℕ) (d : X) → k < length xs → p (n + k, get_or xs k d) ≡ true) →

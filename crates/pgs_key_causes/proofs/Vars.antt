@@ -1,7 +1,7 @@
 -- Numbers of variables put behind others, each once.
-use Rattle.std.proofs.Common.{true≢false, ◌≡◌, ℕ, zero, suc, ◌+◌, ◌<◌, ◌≤◌, Bool, true, false, not, cond, ◌||◌, ◌⊎◌, inl, inr, List, [], ◌∷◌, ◌++◌, length, map, filter, get_or, Option, Some, None, refl, sym, ◌∙◌, ap, subst, arith, eqb}
-use Rattle.std.specs.List.{list_any, fold, position, slice_get}
-use Rattle.std.specs.Option.{option_map_or, unwrap_or, is_some}
+use Rattle.std.proofs.Common.{true≢false, ◌≡◌, ℕ, zero, suc, ◌+◌, ◌<◌, ◌≤◌, Bool, true, false, not, cond, ◌||◌, ◌⊎◌, inl, inr, List, [], ◌∷◌, ◌++◌, length, map, filter, get_or, Option, Some, None, refl, sym, ◌∙◌, ap, arith, eqb}
+use Rattle.std.specs.List.{list_any, fold, position}
+use Rattle.std.specs.Option.{unwrap_or, is_some}
 use Rattle.std.proofs.lemmas.Bool.{or_left, or_right, or_cases, or_parts, both_ways, eqb-true, eqb-false, eq-eqb}
 use Rattle.std.proofs.lemmas.List.Folds.{list_any-append}
 use Rattle.std.proofs.lemmas.List.Quantifiers.{position-Some}
@@ -81,8 +81,7 @@ Distinct (v ∷ vs) = (is_in v vs ≡ false) × Distinct vs
 distinct_push : (vars : List ℕ) (v : ℕ) → Distinct vars → is_in v vars ≡ false → Distinct (vars ++ v ∷ [])
 distinct_push [] v d new = (refl, tt)
 distinct_push (w ∷ ws) v d new =
-    let parts = or_parts (eqb w v) (is_in v ws) new in
-    (
+    let parts = or_parts (eqb w v) (is_in v ws) new in (
       list_any-append (λ other. eqb other w) ws (v ∷ []) ∙ none (is_in w ws) d.0 (eqb v w) (turned v w parts.0),
       distinct_push ws v d.1 parts.1,
     )

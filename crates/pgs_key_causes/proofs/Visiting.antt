@@ -1,15 +1,13 @@
 -- Which places a walk visits: none twice, an edge's nodes with it, and in the end each place whose variable is reached.
-use Rattle.std.proofs.Common.{true≢false, ◌≡◌, ℕ, zero, suc, ◌+◌, ◌-◌, ◌<◌, ◌≤◌, Bool, true, false, not, cond, ◌||◌, ◌&&◌, ◌⊎◌, inl, inr, List, [], ◌∷◌, ◌++◌, length, map, get_or, Option, Some, None, refl, sym, ◌∙◌, ap, arith, eqb, ltb}
-use Rattle.std.specs.List.{list_any, find, enumerate_from}
+use Rattle.std.proofs.Common.{true≢false, ◌≡◌, ℕ, zero, suc, ◌+◌, ◌-◌, ◌<◌, ◌≤◌, Bool, true, false, not, cond, ◌||◌, ◌⊎◌, inl, inr, List, [], ◌∷◌, ◌++◌, length, Option, Some, None, refl, sym, ◌∙◌, ap, arith, eqb}
+use Rattle.std.specs.List.{list_any, find}
 use Rattle.std.specs.Option.{option_map_or}
-use Rattle.std.proofs.lemmas.Bool.{and_from, and_parts, or_left, or_right, or_cases, or_parts, both_ways, not-false, eqb-true, eq-eqb, ltb-true, lt-ltb, le-ltb, cases_lt}
-use Rattle.std.proofs.lemmas.List.{length-map, get_or-map}
+use Rattle.std.proofs.lemmas.Bool.{and_from, and_parts, or_left, or_right, or_cases, or_parts, eqb-true, eq-eqb, cases_lt}
 use Rattle.std.proofs.lemmas.List.Folds.{list_any-append}
-use Rattle.std.proofs.lemmas.List.FromFn.{length-enumerate_from, get_or-enumerate_from}
 use Rattle.pgs_syntax.specs.Valid.{are_distinct}
 use Rattle.pgs_key_causes.specs.declared.walk.Occurrence.{Occurrence}
 use Rattle.pgs_key_causes.specs.declared.walk.Visit.{Visit}
-use Rattle.pgs_key_causes.specs.Walk.{var_at, is_edge_at, is_visited, is_reached, with_visit, with_way, with_own, with_all, numbers, is_start, is_alone, is_next, with_step, walk_on, walk}
+use Rattle.pgs_key_causes.specs.Walk.{var_at, is_visited, is_reached, with_visit, with_way, with_own, with_all, numbers, is_start, is_alone, is_next, with_step, walk_on, walk}
 
 -- ---- one visit more
 

@@ -167,7 +167,6 @@ fn scope_names(alloc: Global, key: &RawKey) -> Result<Names, Memory>
 }
 
 impl KeyGuide<'_> {
-
     // The text of the key of a number.
     fn key_text(&self, alloc: Global, number: u32) -> Result<Vec<Bytes>, Memory>
         ensures { IfOk result (λ told. told.items ≡ key_text self.now number) }

@@ -146,12 +146,7 @@ fn push_alone(places: &[Occurrence], visits: &mut Vec<Visit>) -> Result<(), Memo
 }
 
 // Visits a step from a node.
-fn push_way(
-    node: usize,
-    edge: usize,
-    further: usize,
-    visits: &mut Vec<Visit>,
-) -> Result<(), Memory>
+fn push_way(node: usize, edge: usize, further: usize, visits: &mut Vec<Visit>) -> Result<(), Memory>
     ensures { OnOk result (visits.new.items ≡ with_way visits.old.items node edge further) }
 {
     push_visit(node, node, visits)?;
@@ -160,11 +155,7 @@ fn push_way(
 }
 
 // Visits a step, by its edge place.
-fn push_step(
-    places: &[Occurrence],
-    edge: usize,
-    visits: &mut Vec<Visit>,
-) -> Result<(), Memory>
+fn push_step(places: &[Occurrence], edge: usize, visits: &mut Vec<Visit>) -> Result<(), Memory>
     requires { edge < length places.now }
     ensures { OnOk result (visits.new.items ≡ with_step places.now visits.old.items edge) }
 {
@@ -195,11 +186,7 @@ fn next_step(places: &[Occurrence], visits: &[Visit]) -> Option<usize>
 }
 
 // Visits a step, by its edge place, and then the paths of one place.
-fn push_next(
-    places: &[Occurrence],
-    edge: usize,
-    visits: &mut Vec<Visit>,
-) -> Result<(), Memory>
+fn push_next(places: &[Occurrence], edge: usize, visits: &mut Vec<Visit>) -> Result<(), Memory>
     requires { edge < length places.now }
     ensures { OnOk result (visits.new.items ≡ with_all places.now (is_alone places.now) (with_step places.now visits.old.items edge)) }
 {

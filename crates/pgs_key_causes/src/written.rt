@@ -35,10 +35,10 @@ impl<'a> Model for Written<'a> {
     ghost Value = { Descriptor };
 
     ghost view = { λ written. record {
-        places = map placed written.places.items;
-        occurrences = written.occurrences.items;
-        directions = written.directions.items;
-        edge_vars = written.edge_vars;
+      places = map placed written.places.items;
+      occurrences = written.occurrences.items;
+      directions = written.directions.items;
+      edge_vars = written.edge_vars;
     } };
 }
 

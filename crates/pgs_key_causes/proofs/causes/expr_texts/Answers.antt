@@ -1,11 +1,7 @@
-use Rattle.std.proofs.Common.{◌≡◌, Option, Some, None, List, [], subst, sym, ◌∙◌, ap}
+use Rattle.std.proofs.Common.{Some, None, ◌∙◌, ap}
 use Rattle.std.specs.List.{list_all}
-use Rattle.std.specs.Option.{option_map_or}
 use Rattle.std.proofs.lemmas.Result.{IfOk-weaker}
-use Rattle.pgs_pattern_end.specs.declared.front.Front.{Front}
-use Rattle.pgs_pattern_end.specs.declared.front.PatternEnd.{PatternEnd}
-use Rattle.pgs_pattern_end.specs.End.{is_front_of, is_defined, least_before, IsEnd}
-use Rattle.pgs_key_causes.specs.Causes.{expr_end_texts}
+use Rattle.pgs_pattern_end.specs.End.{is_front_of}
 use Rattle.pgs_key_causes.specs.Fronts.{expr_fronts}
 use Rattle.pgs_key_causes.proofs.Ends.{at_expr}
 use Rattle.pgs_key_causes.proofs.ValidFronts.{key_exprs_valid, have_valid_keys}

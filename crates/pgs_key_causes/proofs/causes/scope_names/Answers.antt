@@ -1,4 +1,4 @@
-use Rattle.std.proofs.Common.{◌≡◌, ℕ, List, map, ap, ◌∙◌}
+use Rattle.std.proofs.Common.{map, ap, ◌∙◌}
 use Rattle.std.proofs.lemmas.Result.{IfOk-weaker}
 use Rattle.pgs_resolve_keys.specs.Patterns.{places_of, named_in}
 use Rattle.pgs_resolve_keys.specs.Placed.{placed}

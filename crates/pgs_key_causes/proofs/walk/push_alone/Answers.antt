@@ -1,4 +1,4 @@
-use Rattle.std.proofs.Common.{ap, ◌∙◌, arith}
+use Rattle.std.proofs.Common.{ap, ◌∙◌}
 use Rattle.pgs_key_causes.specs.Walk.{is_alone}
 use Rattle.pgs_key_causes.proofs.Turns.{own_more}
 use Rattle.pgs_key_causes.proofs.walk.push_alone.Goals as goal

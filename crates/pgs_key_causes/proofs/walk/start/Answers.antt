@@ -1,4 +1,4 @@
-use Rattle.std.proofs.Common.{[], arith}
+use Rattle.std.proofs.Common.{[]}
 use Rattle.pgs_key_causes.specs.Walk.{is_start}
 use Rattle.pgs_key_causes.proofs.Turns.{own_more}
 use Rattle.pgs_key_causes.proofs.walk.start.Goals as goal

@@ -1,4 +1,4 @@
-use Rattle.std.proofs.Common.{List, map, ap, refl, ◌∙◌, arith}
+use Rattle.std.proofs.Common.{List, map, ap, ◌∙◌, arith}
 use Rattle.std.proofs.lemmas.List.{take_all}
 use Rattle.pgs_resolve_keys.specs.declared.places.PlaceRef.{PlaceRef}
 use Rattle.pgs_resolve_keys.specs.Placed.{placed}

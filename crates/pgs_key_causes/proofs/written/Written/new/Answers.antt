@@ -1,5 +1,4 @@
-use Rattle.std.proofs.Common.{List, map, ap, ◌∙◌}
-use Rattle.pgs_syntax.specs.declared.raw.RawPath.{RawPath}
+use Rattle.std.proofs.Common.{map, ap, ◌∙◌}
 use Rattle.pgs_resolve_keys.specs.KeyFaults.{within_of}
 use Rattle.pgs_resolve_keys.specs.Patterns.{places_of}
 use Rattle.pgs_resolve_keys.specs.Placed.{placed}
