@@ -1,4 +1,4 @@
-use Rattle.std.proofs.Common.{Some, ◌∙◌, ◌++◌, ◌∷◌, [], sym, ap, ap₂, length, codes}
+use Rattle.std.proofs.Common.{Some, ◌∙◌, sym, ap, ap₂, length, codes}
 use Rattle.std.proofs.lemmas.Result.{err_from_is_err_and}
 use Rattle.pgs_parser.specs.Reader.{more, none_declared, followed, sign_at, the_sign}
 use Rattle.pgs_parser.specs.Types.{together}

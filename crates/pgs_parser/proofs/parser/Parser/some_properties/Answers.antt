@@ -1,4 +1,4 @@
-use Rattle.std.proofs.Common.{Some, ◌∙◌, ◌++◌, ◌∷◌, [], sym, ap, ap₂, length, codes}
+use Rattle.std.proofs.Common.{Some, ◌∙◌, sym, ap, ap₂, length, codes}
 use Rattle.std.proofs.lemmas.Result.{err_from_is_err_and}
 use Rattle.pgs_parser.specs.Reader.{more, none_declared}
 use Rattle.pgs_parser.proofs.Items.{ahead, starts, start_fails, goes_on, ends, fails, left_less}
