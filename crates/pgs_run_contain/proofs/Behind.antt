@@ -36,6 +36,7 @@ use Rattle.pgs_run_contain.specs.declared.phase.Phase.{Phase}
 use Rattle.pgs_run_contain.specs.declared.phase.Phase.TheVariants as phases
 use Rattle.pgs_run_contain.specs.Behind.{Behind, told_with, told_compared, IsRightAt, compared_spec, FollowsBoth, FollowsTexts, Reading}
 use Rattle.pgs_run_contain.specs.Comparing.{comparing, first_phase, next_of, after_end, pieces_at_end, told_after}
+use Rattle.pgs_run_contain.specs.Names.{Names, names_in}
 use Rattle.pgs_run_contain.specs.Running.{HasAllLines, PutsNothing}
 use Rattle.pgs_run_contain.specs.Told.{told_first, told_second, told_texts}
 use Rattle.pgs_run_contain.proofs.Machine.{told_by_texts}
@@ -43,19 +44,19 @@ use Rattle.pgs_run_contain.proofs.Machine.{told_by_texts}
 -- what makes a command's run end as it is to
 pub record Rules (behind : Behind) : Type 0 where
   pub none_told : (first second : Resolved) → (behind.told behind.none first second).pieces ≡ []
-  pub none_right : (first second : Resolved) (status : Status) → (HasAllLines status → ⊥) → behind.IsRight behind.none first second status
+  pub none_right : (first second : Resolved) (names : Names) (status : Status) → (HasAllLines status → ⊥) → behind.IsRight behind.none first second names status
   pub done : (choice : behind.Choice) (first second : Resolved) → IsDone (behind.told choice first second).status
 
 module _ (behind : Behind) (rules : Rules behind) where
   -- a run that stopped before both schemas were told of
   none_right_at : (ending : Ending) (status : Status) → (HasAllLines status → ⊥) → IsRightAt behind behind.none ending status
-  none_right_at (endings.Fit first second) status undone = rules.none_right first second status undone
+  none_right_at (endings.Fit first second names) status undone = rules.none_right first second names status undone
   none_right_at endings.Refused status undone = tt
   none_right_at endings.Cut status undone = tt
 
   -- no more is told then than the texts do
   behind_none : (pieces : List (List ℕ)) (ending : Ending) → (told_with behind behind.none pieces ending).pieces ≡ pieces
-  behind_none pieces (endings.Fit first second) =
+  behind_none pieces (endings.Fit first second names) =
       ap (λ more. pieces ++ more) (rules.none_told first second) ∙ append-nil pieces
   behind_none pieces endings.Refused = refl
   behind_none pieces endings.Cut = refl
@@ -63,7 +64,7 @@ module _ (behind : Behind) (rules : Rules behind) where
   -- ---- the machine
 
   abbrev status_behind : behind.Choice → Ending → Status
-  status_behind choice (endings.Fit first second) = (behind.told choice first second).status
+  status_behind choice (endings.Fit first second names) = (behind.told choice first second).status
   status_behind choice endings.Refused = SchemaRefused
   status_behind choice endings.Cut = InputTooLong
 
@@ -86,20 +87,20 @@ module _ (behind : Behind) (rules : Rules behind) where
   module _ (choice : behind.Choice) where
     line_status : (phase : Phase) (status : Status) → standing_behind choice (next_of phase) ≡ Ended status → status ≡ SchemaRefused
     line_status (phases.First part) status is = cc
-    line_status (phases.Second first part) status is = cc
+    line_status (phases.Second first names part) status is = cc
     line_status phases.Refused status is = cc
 
-    done_second : (first : Resolved) (answer : Result Resolved (List ℕ)) → IsDone (status_behind choice (told_second first answer).status)
-    done_second first (Ok second) = rules.done choice first second
-    done_second first (Err text) = inr (inr refl)
+    done_second : (first : Resolved) (names : Names) (answer : Result Resolved (List ℕ)) → IsDone (status_behind choice (told_second first names answer).status)
+    done_second first names (Ok second) = rules.done choice first second
+    done_second first names (Err text) = inr (inr refl)
 
-    done_first : (answer : Result Resolved (List ℕ)) → IsDone (status_behind choice (told_first true answer []).status)
-    done_first (Ok first) = done_second first (schema_answer [])
-    done_first (Err text) = inr (inr refl)
+    done_first : (names : Names) (answer : Result Resolved (List ℕ)) → IsDone (status_behind choice (told_first true names answer []).status)
+    done_first names (Ok first) = done_second first (names ++ names_in []) (schema_answer [])
+    done_first names (Err text) = inr (inr refl)
 
     done_after : (phase : Phase) → IsDone (status_behind choice (told_after phase).status)
-    done_after (phases.First part) = done_first (schema_answer part.text)
-    done_after (phases.Second first part) = done_second first (schema_answer part.text)
+    done_after (phases.First part) = done_first (names_in part.text) (schema_answer part.text)
+    done_after (phases.Second first names part) = done_second first (names ++ names_in part.text) (schema_answer part.text)
     done_after phases.Refused = inr (inr refl)
 
     pub alone : EndsAlone (comparing_with choice)
@@ -160,9 +161,9 @@ module _ (behind : Behind) (rules : Rules behind) where
     none_told input = behind_none (told_texts input budget).pieces (told_texts input budget).status
 
     -- behind two schemas, with what follows them
-    fit : (first second : Resolved) (stop : Stop Status) (new : View) → FollowsBoth behind first second mid stop new → Reading budget old source mid (stops.Ended (endings.Fit first second))
-        → Choosing budget old source (stops.Ended (endings.Fit first second)) stop new
-    fit first second stop new follows read = record {
+    fit : (first second : Resolved) (names : Names) (stop : Stop Status) (new : View) → FollowsBoth behind first second names mid stop new → Reading budget old source mid (stops.Ended (endings.Fit first second names))
+        → Choosing budget old source (stops.Ended (endings.Fit first second names)) stop new
+    fit first second names stop new follows read = record {
       choice = follows.choice;
       right = λ input is. subst (λ ending. IsRightAt behind follows.choice ending (status_at stop)) (sym (read.ends input is).shown.1) follows.right;
       ends = λ input is.
@@ -175,7 +176,7 @@ module _ (behind : Behind) (rules : Rules behind) where
             within = texts.within;
           };
       by = by_told stop (behind.told follows.choice first second) (shown_of mid) (shown_of new) follows.ends
-          (by_texts follows.choice budget old.source.left source.left (endings.Fit first second) read.by);
+          (by_texts follows.choice budget old.source.left source.left (endings.Fit first second names) read.by);
       may = may_stop stop follows.may;
       cause = cause_on (faults_in old) (faults_of source.faults mid) (faults_of source.faults new) stop read.cause (world_cause source.faults mid new stop follows.cause);
       areas = keeps_on old.view mid new read.areas follows.areas;
@@ -226,7 +227,7 @@ module _ (behind : Behind) (rules : Rules behind) where
 
     -- behind all texts
     choosing : (texts : Stop Ending) (stop : Stop Status) (new : View) → Reading budget old source mid texts → FollowsTexts behind texts mid stop new → Choosing budget old source texts stop new
-    choosing (stops.Ended (endings.Fit first second)) stop new read follows = fit first second stop new follows read
+    choosing (stops.Ended (endings.Fit first second names)) stop new read follows = fit first second names stop new follows read
     choosing (stops.Ended endings.Refused) stop new read follows =
         kept (stops.Ended endings.Refused) (stops.Ended SchemaRefused) stop new follows
         (still (stops.Ended endings.Refused) (stops.Ended SchemaRefused) read (λ done. done) (ended_shown endings.Refused SchemaRefused read (λ pieces. refl)) (λ fault. cc)

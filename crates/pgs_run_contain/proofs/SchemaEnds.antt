@@ -1,5 +1,5 @@
 -- The end of an input in which no separator came: all of it is the first text.
-use Rattle.std.proofs.Common.{◌≡◌, ℕ, true, List, [], Result, Ok, Err, sym, subst}
+use Rattle.std.proofs.Common.{◌≡◌, ℕ, true, List, [], ◌++◌, Result, Ok, Err, sym, subst}
 use Rattle.pgs_run_lines.specs.declared.stop.Stop.{Stop}
 use Rattle.pgs_run_lines.specs.declared.stop.Stop.TheVariants as stops
 use Rattle.pgs_run_lines.specs.Ending.{Shows, Ends}
@@ -12,23 +12,26 @@ use Rattle.pgs_run_input.specs.Part.{Part}
 use Rattle.pgs_run_contain.specs.declared.ending.Ending.{Ending}
 use Rattle.pgs_run_contain.specs.declared.phase.Phase.TheVariants.{Second}
 use Rattle.pgs_run_contain.specs.Comparing.{after_first}
+use Rattle.pgs_run_contain.specs.Names.{Names, names_in}
 use Rattle.pgs_run_contain.specs.Told.{told_first, told_second}
 
-first_torn : (answer : Result Resolved (List ℕ)) (start now : Shown) → ShowsTorn start (pieces_of_schema answer) now → ShowsTorn start (told_first true answer []).pieces now
-first_torn (Err text) start now torn = torn
-first_torn (Ok first) start now torn = torn_of_more start now [] (told_second first (schema_answer [])).pieces torn
+first_torn : (names : Names) (answer : Result Resolved (List ℕ)) (start now : Shown) → ShowsTorn start (pieces_of_schema answer) now → ShowsTorn start (told_first true names answer []).pieces now
+first_torn names (Err text) start now torn = torn
+first_torn names (Ok first) start now torn = torn_of_more start now [] (told_second first (names ++ names_in []) (schema_answer [])).pieces torn
 
 -- the line of a refusal couldn't be put
-pub first_stop : (answer : Result Resolved (List ℕ)) (pieces : List (List ℕ)) (stop : Stop Ending) (start now : Shown) → pieces ≡ pieces_of_schema answer → stop ≡ stops.PutFault → Shows start pieces stop now → Ends start (told_first true answer []) stop now
-first_stop answer pieces stop start now is fault shows =
-    subst (λ s. Ends start (told_first true answer []) s now) (sym fault)
-    (first_torn answer start now (subst (λ ps. ShowsTorn start ps now) is (subst (λ s. Shows start pieces s now) fault shows)))
+pub first_stop : (names : Names) (answer : Result Resolved (List ℕ)) (pieces : List (List ℕ)) (stop : Stop Ending) (start now : Shown) → pieces ≡ pieces_of_schema answer → stop ≡ stops.PutFault → Shows start pieces stop now → Ends start (told_first true names answer []) stop now
+first_stop names answer pieces stop start now is fault shows =
+    subst (λ s. Ends start (told_first true names answer []) s now) (sym fault)
+    (first_torn names answer start now (subst (λ ps. ShowsTorn start ps now) is (subst (λ s. Shows start pieces s now) fault shows)))
 
 -- the first schema isn't refused, and the second text is empty
-pub first_ends : (answer : Result Resolved (List ℕ)) (first : Resolved) (part : Part) (pieces : List (List ℕ)) (stop : Stop Ending) (start mid now : Shown) → Second first part ≡ after_first answer → pieces ≡ pieces_of_schema answer → ShowsAll start pieces mid → Ends mid (told_second first (schema_answer [])) stop now → Ends start (told_first true answer []) stop now
-first_ends (Err text) first part pieces stop start mid now is told shows ends = cc
-first_ends (Ok schema) first part pieces stop start mid now is told shows ends =
+pub first_ends : (names : Names) (answer : Result Resolved (List ℕ)) (first : Resolved) (kept : Names) (part : Part) (pieces : List (List ℕ)) (stop : Stop Ending) (start mid now : Shown) → Second first kept part ≡ after_first names answer → pieces ≡ pieces_of_schema answer → ShowsAll start pieces mid → Ends mid (told_second first (kept ++ names_in []) (schema_answer [])) stop now → Ends start (told_first true names answer []) stop now
+first_ends names (Err text) first kept part pieces stop start mid now is told shows ends = cc
+first_ends names (Ok schema) first kept part pieces stop start mid now is told shows ends =
     let same : first ≡ schema = cc in
-    ends_on stop start mid now [] (told_second schema (schema_answer []))
+    let named : kept ≡ names = cc in
+    ends_on stop start mid now [] (told_second schema (names ++ names_in []) (schema_answer []))
     (subst (λ ps. ShowsAll start ps mid) told shows)
-    (subst (λ (f : Resolved). Ends mid (told_second f (schema_answer [])) stop now) same ends)
+    (subst (λ (f : Resolved). Ends mid (told_second f (names ++ names_in []) (schema_answer [])) stop now) same
+    (subst (λ (ns : Names). Ends mid (told_second first (ns ++ names_in []) (schema_answer [])) stop now) named ends))

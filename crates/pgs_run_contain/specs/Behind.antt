@@ -21,21 +21,22 @@ use Rattle.pgs_command.specs.Spec.{CommandSpec}
 use Rattle.pgs_run_contain.specs.declared.ending.Ending.{Ending}
 use Rattle.pgs_run_contain.specs.declared.ending.Ending.TheVariants as endings
 use Rattle.pgs_run_contain.specs.Comparing.{comparing}
+use Rattle.pgs_run_contain.specs.Names.{Names}
 use Rattle.pgs_run_contain.specs.Running.{PutsNothing}
 use Rattle.pgs_run_contain.specs.Told.{told_texts}
 
--- what follows two schemas: what is told of both by a choice, and which choices are right, by the status
+-- what follows two schemas: what is told of both by a choice, and which choices are right, by the names that stand in their texts and the status
 pub record Behind : Type 1 where
   pub Choice : Type 0
   -- the choice of a run that stopped before
   pub none : Choice
   pub told : Choice → Resolved → Resolved → Told Status
-  pub IsRight : Choice → Resolved → Resolved → Status → Type 0
+  pub IsRight : Choice → Resolved → Resolved → Names → Status → Type 0
 
 module _ (behind : Behind) where
   -- what is told, by how the texts end
   abbrev pub told_with : behind.Choice → List (List ℕ) → Ending → Told Status
-  told_with choice pieces (endings.Fit first second) =
+  told_with choice pieces (endings.Fit first second names) =
       record { pieces = pieces ++ (behind.told choice first second).pieces; status = (behind.told choice first second).status }
   told_with choice pieces endings.Refused = record { pieces = pieces; status = statuses.SchemaRefused }
   told_with choice pieces endings.Cut = record { pieces = pieces; status = statuses.InputTooLong }
@@ -45,7 +46,7 @@ module _ (behind : Behind) where
   told_compared choice input budget = told_with choice (told_texts input budget).pieces (told_texts input budget).status
 
   abbrev pub IsRightAt : behind.Choice → Ending → Status → Type 0
-  IsRightAt choice (endings.Fit first second) status = behind.IsRight choice first second status
+  IsRightAt choice (endings.Fit first second names) status = behind.IsRight choice first second names status
   IsRightAt choice endings.Refused status = Unit {0}
   IsRightAt choice endings.Cut status = Unit {0}
 
@@ -72,9 +73,9 @@ module _ (behind : Behind) where
       }
 
 -- Behind two schemas it was told of them by a right choice, as far as the stop says, and both areas stay.
-pub record FollowsBoth (behind : Behind) (first second : Resolved) (old : View) (stop : Stop Status) (new : View) : Type 0 where
+pub record FollowsBoth (behind : Behind) (first second : Resolved) (names : Names) (old : View) (stop : Stop Status) (new : View) : Type 0 where
   pub choice : behind.Choice
-  pub right : behind.IsRight choice first second (status_at stop)
+  pub right : behind.IsRight choice first second names (status_at stop)
   pub ends : Ends (shown_of old) (behind.told choice first second) stop (shown_of new)
   pub may : MayPut stop
   pub cause : HasCause (faults_of 0 old) (faults_of 0 new) stop
@@ -82,7 +83,7 @@ pub record FollowsBoth (behind : Behind) (first second : Resolved) (old : View) 
 
 -- what follows the texts, by how their reading stopped; but for two schemas nothing is put
 abbrev pub FollowsTexts : Behind → Stop Ending → View → Stop Status → View → Type 0
-FollowsTexts behind (stops.Ended (endings.Fit first second)) old stop new = FollowsBoth behind first second old stop new
+FollowsTexts behind (stops.Ended (endings.Fit first second names)) old stop new = FollowsBoth behind first second names old stop new
 FollowsTexts behind (stops.Ended endings.Refused) old stop new = PutsNothing (stops.Ended statuses.SchemaRefused) old stop new
 FollowsTexts behind (stops.Ended endings.Cut) old stop new = PutsNothing (stops.Ended statuses.InputTooLong) old stop new
 FollowsTexts behind stops.ReadFault old stop new = PutsNothing stops.ReadFault old stop new

@@ -14,7 +14,7 @@ contain_behind = record {
   Choice = List Answer;
   none = [];
   told = λ answers first second. record { pieces = answer_lines (listed first first.guard.types) answers; status = status_by (list_any is_some answers) };
-  IsRight = λ answers first second status. Answered first second (listed first first.guard.types) answers status;
+  IsRight = λ answers first second names status. Answered first second names (listed first first.guard.types) answers status;
 }
 
 abbrev pub contain_spec : CommandSpec

@@ -1,4 +1,4 @@
--- What the command `contain` tells of an input within a budget, by the answers to the types: pieces of output, and a status.
+-- What the two texts of an input within a budget tell: refusals, or both schemas and the names that stand in the texts.
 use Rattle.std.specs.Prelude.{ℕ, Bool, true, false, ◌||◌, List, [], ◌∷◌, ◌++◌, length, take, Result, Ok, Err, nat_le, is_some, if◌then◌else◌}
 use Rattle.std.specs.List.{list_any, join_with_byte}
 use Rattle.pgs_run_lines.specs.Input.{lines_of}
@@ -11,22 +11,22 @@ use Rattle.pgs_run_input.specs.Answers.{schema_answer}
 use Rattle.pgs_run_input.specs.Input.{is_separator, schema_part, after_separator}
 use Rattle.pgs_run_contain.specs.declared.ending.Ending.{Ending}
 use Rattle.pgs_run_contain.specs.declared.ending.Ending.TheVariants.{Fit, Refused, Cut}
-use Rattle.pgs_run_contain.specs.Answers.{Answer, listed, answer_lines}
+use Rattle.pgs_run_contain.specs.Names.{Names, names_in}
 
 -- the second schema is refused
 abbrev pub second_refused : List ℕ → Told Ending
 second_refused text = record { pieces = second_refused_line text ∷ []; status = Refused }
 
--- what the second schema tells
-abbrev pub told_second : Resolved → Result Resolved (List ℕ) → Told Ending
-told_second first (Ok second) = record { pieces = []; status = Fit first second }
-told_second first (Err text) = second_refused text
+-- what the second schema tells, where these names stand in both texts
+abbrev pub told_second : Resolved → Names → Result Resolved (List ℕ) → Told Ending
+told_second first names (Ok second) = record { pieces = []; status = Fit first second names }
+told_second first names (Err text) = second_refused text
 
--- what the first schema tells, with the text of the second, which is judged only where the input isn't cut
-abbrev pub told_first : Bool → Result Resolved (List ℕ) → List ℕ → Told Ending
-told_first whole (Err text) second = record { pieces = schema_refused_line text ∷ []; status = Refused }
-told_first true (Ok first) second = told_second first (schema_answer second)
-told_first false (Ok first) second = record { pieces = []; status = Cut }
+-- what the first schema tells, in whose text these names stand, with the text of the second, which is judged only where the input isn't cut
+abbrev pub told_first : Bool → Names → Result Resolved (List ℕ) → List ℕ → Told Ending
+told_first whole names (Err text) second = record { pieces = schema_refused_line text ∷ []; status = Refused }
+told_first true names (Ok first) second = told_second first (names ++ names_in second) (schema_answer second)
+told_first false names (Ok first) second = record { pieces = []; status = Cut }
 
 -- the second text: the lines behind the separator
 abbrev pub second_part : List (List ℕ) → List ℕ
@@ -35,7 +35,7 @@ second_part lines = join_with_byte 10 (after_separator lines)
 -- What lines tell. Where the input is cut, the first schema is judged only where its separator is among them.
 abbrev pub told_lines : Bool → List (List ℕ) → Told Ending
 told_lines whole lines =
-    if whole || list_any is_separator lines then told_first whole (schema_answer (schema_part lines)) (second_part lines)
+    if whole || list_any is_separator lines then told_first whole (names_in (schema_part lines)) (schema_answer (schema_part lines)) (second_part lines)
     else record { pieces = []; status = Cut }
 
 -- what an input tells that is read to its end
@@ -53,14 +53,3 @@ told_texts input budget = if nat_le budget (length input) then told_cut (take bu
 -- the status by whether something is outside
 abbrev pub status_by : Bool → Status
 status_by some = if some then statuses.Refused else statuses.Accepted
-
--- what follows, by how the texts end: the lines of the types of the first guard that aren't abstract, in its order
-abbrev pub told_behind : List Answer → List (List ℕ) → Ending → Told Status
-told_behind answers pieces (Fit first second) =
-    record { pieces = pieces ++ answer_lines (listed first first.guard.types) answers; status = status_by (list_any is_some answers) }
-told_behind answers pieces Refused = record { pieces = pieces; status = statuses.SchemaRefused }
-told_behind answers pieces Cut = record { pieces = pieces; status = statuses.InputTooLong }
-
--- what is told of an input within a budget
-abbrev pub told_contain : List Answer → List ℕ → ℕ → Told Status
-told_contain answers input budget = told_behind answers (told_texts input budget).pieces (told_texts input budget).status

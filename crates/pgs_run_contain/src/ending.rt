@@ -1,10 +1,15 @@
+use pgs_base::{List, Name};
 use pgs_conform::Compiled;
 
 /// How the reading of both texts ends.
 #[derive(Drop)]
 pub enum Ending {
-    /// Both are schemas.
-    Fit { first: Compiled, second: Compiled },
+    /// Both are schemas, and these names stand in their texts.
+    Fit {
+        first: Compiled,
+        second: Compiled,
+        names: List<Name>,
+    },
     /// One of them is refused, and its line is put.
     Refused,
     /// The input was cut.
