@@ -1,17 +1,17 @@
 -- The end of an input in which no separator came: all of it is the first text.
-use Rattle.std.proofs.Common.{◌≡◌, ℕ, true, List, [], ◌++◌, Result, Ok, Err, sym, subst}
+use Rattle.std.proofs.Common.{◌≡◌, ℕ, true, List, [], ◌++◌, Result, Ok, Err, refl, sym, subst}
 use Rattle.pgs_run_lines.specs.declared.stop.Stop.{Stop}
 use Rattle.pgs_run_lines.specs.declared.stop.Stop.TheVariants as stops
 use Rattle.pgs_run_lines.specs.Ending.{Shows, Ends}
 use Rattle.pgs_run_lines.specs.Pieces.{Shown, ShowsAll, ShowsTorn}
-use Rattle.pgs_run_lines.proofs.Showing.{ends_on, torn_of_more}
+use Rattle.pgs_run_lines.proofs.Showing.{ends_on, shows_none, torn_of_more}
 use Rattle.pgs_syntax.specs.declared.resolved.Resolved.{Resolved}
 use Rattle.pgs_run_input.specs.Answers.{schema_answer}
 use Rattle.pgs_run_input.specs.Judged.{pieces_of_schema}
 use Rattle.pgs_run_input.specs.Part.{Part}
 use Rattle.pgs_run_contain.specs.declared.ending.Ending.{Ending}
 use Rattle.pgs_run_contain.specs.declared.phase.Phase.TheVariants.{Second}
-use Rattle.pgs_run_contain.specs.Comparing.{after_first}
+use Rattle.pgs_run_contain.specs.Comparing.{after_first, IsFit}
 use Rattle.pgs_run_contain.specs.Names.{Names, names_in}
 use Rattle.pgs_run_contain.specs.Told.{told_first, told_second}
 
@@ -35,3 +35,15 @@ first_ends names (Ok schema) first kept part pieces stop start mid now is told s
     (subst (λ ps. ShowsAll start ps mid) told shows)
     (subst (λ (f : Resolved). Ends mid (told_second f (names ++ names_in []) (schema_answer [])) stop now) same
     (subst (λ (ns : Names). Ends mid (told_second first (ns ++ names_in []) (schema_answer [])) stop now) named ends))
+
+-- both texts are schemas, and nothing is put
+pub second_fits : (first second : Resolved) (names : Names) (answer : Result Resolved (List ℕ)) (stop : Stop Ending) (start : Shown) → answer ≡ Ok second → IsFit first second names stop →
+    Ends start (told_second first names answer) stop start
+second_fits first second names answer (stops.Ended ending) start is fit =
+    subst (λ (a : Result Resolved (List ℕ)). Ends start (told_second first names a) (stops.Ended ending) start) (sym is) (shows_none start, sym fit)
+second_fits first second names answer stops.ReadFault start is fit = absurd fit
+second_fits first second names answer stops.DiskFault start is fit = absurd fit
+second_fits first second names answer stops.PutFault start is fit = absurd fit
+second_fits first second names answer stops.Memory start is fit =
+    subst (λ (a : Result Resolved (List ℕ)). Ends start (told_second first names a) stops.Memory start) (sym is)
+    (record { first = []; later = []; parts = refl; shows = shows_none start })

@@ -50,11 +50,7 @@ fn push_name_at(
 }
 
 // Puts the tokens that are names last.
-fn push_names_of(
-    alloc: Global,
-    tokens: &Tokens<'_>,
-    names: &mut Vec<Name>,
-) -> Result<(), Memory>
+fn push_names_of(alloc: Global, tokens: &Tokens<'_>, names: &mut Vec<Name>) -> Result<(), Memory>
     ensures { OnOk result (names.new.items ≡ names.old.items ++ names_of tokens.now) }
 {
     for place in 0..tokens.len() {
@@ -64,11 +60,7 @@ fn push_names_of(
 }
 
 /// Puts the names that stand in a text last. `Memory` where there was none left.
-pub(crate) fn push_names_in(
-    alloc: Global,
-    text: &[u8],
-    names: &mut Vec<Name>,
-) -> Result<(), Memory>
+pub(crate) fn push_names_in(alloc: Global, text: &[u8], names: &mut Vec<Name>) -> Result<(), Memory>
     ensures { OnOk result (names.new.items ≡ names.old.items ++ names_in text.now) }
 {
     if text.len() > TEXT_LIMIT {
