@@ -32,7 +32,7 @@ long_names : (text : List ℕ) → text_limit < length text → names_in text �
 unfolding names_in
 long_names text long = rw (let is : nat_lt text_limit (length text) ≡ true = grind (arith, nat_tests) in is) refl
 
-names_of_front : (text : List ℕ) → names_in (text_front text) ≡ names_in text
+pub names_of_front : (text : List ℕ) → names_in (text_front text) ≡ names_in text
 names_of_front text = same_of_front text_limit names_in [] text long_names
 
 -- the names that a part has so far
