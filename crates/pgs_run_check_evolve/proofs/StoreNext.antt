@@ -1,5 +1,5 @@
 -- What is told of a text over an opened store, by what was put.
-use Rattle.std.proofs.Common.{◌≡◌, ℕ, Bool, true, false, List, [], ◌∷◌, Option, Some, None, Result, Ok, Err, is_some, refl, sym, ap, subst, ◌∙◌}
+use Rattle.std.proofs.Common.{◌≡◌, ℕ, Bool, true, false, List, [], ◌∷◌, ◌++◌, Option, Some, None, Result, Ok, Err, is_some, refl, sym, ap, subst, ◌∙◌}
 use Rattle.pgs_answer.specs.Lines.{schema_refused_line, store_refused_line}
 use Rattle.pgs_answer.specs.Refusals.{old_format_text}
 use Rattle.pgs_run_lines.specs.declared.stop.Stop.{Stop}
@@ -17,6 +17,7 @@ use Rattle.pgs_run_input.specs.Text.{AnswersText}
 use Rattle.pgs_run_input.proofs.OneLine.{PutsLine, answers_line, answers_none, silent_none}
 use Rattle.pgs_run_contain.specs.Answers.{Answer}
 use Rattle.pgs_run_contain.specs.Behind.{FollowsBoth}
+use Rattle.pgs_run_contain.specs.Names.{names_in}
 use Rattle.pgs_run_contain.specs.Running.{HasAllLines}
 use Rattle.pgs_run_store.specs.Refusing.{SavedStore, told_under}
 use Rattle.pgs_run_check_evolve.specs.Stored.{TellsNext, stored_behind, told_next, told_stored}
@@ -60,15 +61,15 @@ told_some choice it (Some number) text is = refl
 
 -- it is a schema's, and told of
 pub schema_next : (it : SavedStore) (next : Option ℕ) (text : List ℕ) (new : Resolved) (before : View) (stop : Stop Status) (after : View) (result : Status) → is_some next ≡ true → schema_answer text ≡ Ok new
-    → result ≡ status_at stop → FollowsBoth (stored_behind it.graph) it.schema new before stop after → TellsNext it next text before after result
+    → result ≡ status_at stop → FollowsBoth (stored_behind it.graph) it.schema new (names_in it.text ++ names_in text) before stop after → TellsNext it next text before after result
 schema_next it next text new before stop after result some is same p =
-    let told = stored_told it.schema new it.graph before stop after p in
+    let told = stored_told it.schema new (names_in it.text ++ names_in text) it.graph before stop after p in
     let says : told_next p.choice next text it ≡ told_stored it.graph p.choice it.schema new =
     told_some p.choice it next text some ∙ ap (λ (answer : Result Resolved (List ℕ)). told_under answer (λ schema. told_stored it.graph p.choice it.schema schema)) is in
     subst (λ (s : Status). TellsNext it next text before after s) (sym same)
     (record {
       choice = p.choice;
-      right = λ schema of_text. let one : new ≡ schema = (let both : Ok new ≡ Ok schema = sym is ∙ of_text in cc) in subst (λ (r : Resolved). AreRightly p.choice it.schema r (status_at stop)) one p.right;
+      right = λ schema of_text. let one : new ≡ schema = (let both : Ok new ≡ Ok schema = sym is ∙ of_text in cc) in subst (λ (r : Resolved). AreRightly p.choice it.schema r (names_in it.text ++ names_in text) (status_at stop)) one p.right;
       answers = subst (λ (t : Told Status). AnswersText t before after (status_at stop)) (sym says) (answers_told (told_stored it.graph p.choice it.schema new) before after (status_at stop) told);
       areas = told.areas;
     })

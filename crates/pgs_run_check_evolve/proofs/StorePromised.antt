@@ -1,5 +1,5 @@
 -- The promise of a run over a saved store, by how the store was opened, what the reading of the text gave, and what was told of it.
-use Rattle.std.proofs.Common.{◌≡◌, ℕ, true, false, IsTrue, List, [], Option, Some, None, Result, Ok, Err, is_some, refl, sym, ◌∙◌, ap, subst}
+use Rattle.std.proofs.Common.{◌≡◌, ℕ, true, false, IsTrue, List, [], ◌++◌, Option, Some, None, Result, Ok, Err, is_some, refl, sym, ◌∙◌, ap, subst}
 use Rattle.pgs_base.specs.Graph.{Graph}
 use Rattle.pgs_run_lines.specs.Machine.{Told}
 use Rattle.pgs_run_lines.specs.Ending.{Faults, faults_of}
@@ -29,7 +29,9 @@ use Rattle.pgs_run_input.proofs.OneLine.{IsSilent, silent_faults}
 use Rattle.pgs_run_input.proofs.SameFronts.{schema_of_front}
 use Rattle.pgs_run_input.proofs.WholeInput.{RunsWhole, by_unread, told_whole, whole_input, with_text, without_text}
 use Rattle.pgs_run_contain.specs.Answers.{Answer}
+use Rattle.pgs_run_contain.specs.Names.{Names, names_in}
 use Rattle.pgs_run_contain.specs.Running.{HasAllLines}
+use Rattle.pgs_run_contain.proofs.Machine.{names_of_front}
 use Rattle.pgs_run_store.specs.declared.opening.Unopened.{Unopened}
 use Rattle.pgs_run_store.specs.Ending.{is_refusal}
 use Rattle.pgs_run_store.specs.Opening.{IsOpened, saved_in}
@@ -50,6 +52,9 @@ front_told choice (Some number) input it =
 
 -- a store that is saved as two things is saved as one
 module _ (it : StoreState) (old mid : View) (opened : IsOpened it old mid) (tells : IsTrue old.tells_bytes) where
+  saved_text : (text : List ℕ) (commits : ℕ) (graph : Graph) → saved standard old.shown.a old.shown.b ≡ store text commits graph → it.guard.text ≡ text
+  saved_text text commits graph saves = let same : store it.guard.text it.guard.commits it.guard.graph ≡ store text commits graph = sym (opened.saves tells) ∙ saves in cc
+
   saved_schema : (text : List ℕ) (commits : ℕ) (graph : Graph) (was : Resolved) → saved standard old.shown.a old.shown.b ≡ store text commits graph → schema_answer text ≡ Ok was → was ≡ it.guard.schema
   saved_schema text commits graph was saves is =
       let same : store it.guard.text it.guard.commits it.guard.graph ≡ store text commits graph = sym (opened.saves tells) ∙ saves in
@@ -102,9 +107,13 @@ module _ (it : StoreState) (budget : ℕ) (old : Setting) (mid : View) (opening 
       promised choice after new status
       (with_text (λ input. IsTrue old.view.tells_bytes) (λ input. told_evolve_store choice input (areas_of old.view)) (λ input. told_next choice next input (saved_in it)) (told_same choice) budget old (record old { source = after; view = new }) text status (told_next choice next text (saved_in it)) whole
       (λ input front asks. sym (front_told choice next input (saved_in it)) ∙ ap (λ (t : List ℕ). told_next choice next t (saved_in it)) (sym front)) (answers_opened choice after new status (told_next choice next text (saved_in it)) tells.answers))
-      (λ input saved_text commits graph is known saves was schema of_saved of_input.
-      subst (λ (r : Resolved). AreRightly choice r schema status) (sym (saved_schema it old.view mid opening.opened known saved_text commits graph was saves of_saved))
-      (tells.right schema (ap schema_answer (whole_input budget old.source after text input is whole).0 ∙ schema_of_front input ∙ of_input)))
+      (λ input was_text commits graph is known saves was schema of_saved of_input.
+      let front = (whole_input budget old.source after text input is whole).0 in
+      subst (λ (r : Resolved). AreRightly choice r schema (names_in was_text ++ names_in input) status) (sym (saved_schema it old.view mid opening.opened known was_text commits graph was saves of_saved))
+      (subst (λ (names : Names). AreRightly choice it.guard.schema schema names status)
+      (ap (λ (t : List ℕ). names_in t ++ names_in text) (saved_text it old.view mid opening.opened known was_text commits graph saves)
+      ∙ ap (λ (names : Names). names_in was_text ++ names) (ap names_in front ∙ names_of_front input))
+      (tells.right schema (ap schema_answer front ∙ schema_of_front input ∙ of_input))))
       tells.answers.may_end
       (images_on old.view mid new (images_quiet old.view mid opening.quiet) (images_areas mid new tells.areas))
 

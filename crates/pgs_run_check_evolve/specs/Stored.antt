@@ -22,6 +22,7 @@ use Rattle.pgs_run_input.specs.Text.{AnswersText}
 use Rattle.pgs_run_try.specs.Told.{listed_line}
 use Rattle.pgs_run_contain.specs.Answers.{Answer}
 use Rattle.pgs_run_contain.specs.Behind.{Behind}
+use Rattle.pgs_run_contain.specs.Names.{names_in}
 use Rattle.pgs_run_store.specs.Refusing.{SavedStore, store_refused, told_of_areas, told_under}
 use Rattle.pgs_run_check_evolve.specs.Told.{all_contained, status_by, told_changes, AreRightly}
 
@@ -61,11 +62,11 @@ abbrev pub AnswersStored : Option (List Answer) → Setting → (budget : ℕ) �
 AnswersStored choice old budget status =
     (input text : List ℕ) (commits : ℕ) (graph : Graph) → old.source.left ≡ Some input → IsTrue old.view.tells_bytes
     → saved standard old.view.shown.a old.view.shown.b ≡ store text commits graph
-    → (was new : Resolved) → schema_answer text ≡ Ok was → schema_answer input ≡ Ok new → AreRightly choice was new status
+    → (was new : Resolved) → schema_answer text ≡ Ok was → schema_answer input ≡ Ok new → AreRightly choice was new (names_in text ++ names_in input) status
 
 -- what is told of a text over an opened store was put, by right answers, and both areas stay
 pub record TellsNext (it : SavedStore) (next : Option ℕ) (text : List ℕ) (old new : View) (status : Status) : Type 0 where
   pub choice : Option (List Answer)
-  pub right : (schema : Resolved) → schema_answer text ≡ Ok schema → AreRightly choice it.schema schema status
+  pub right : (schema : Resolved) → schema_answer text ≡ Ok schema → AreRightly choice it.schema schema (names_in it.text ++ names_in text) status
   pub answers : AnswersText (told_next choice next text it) old new status
   pub areas : KeepsAreas old new

@@ -13,8 +13,10 @@ ghost use Rattle.pgs_run_check_evolve.specs.Stored.{TellsNext, stored_behind};
 ghost use Rattle.pgs_run_check_evolve.specs.Telling.{TellsListed};
 
 use crate::changes::{put_changes, status_by};
+use pgs_base::Name;
 use pgs_command::{Status, status_at};
 use pgs_graph::GraphRead;
+use pgs_run_contain::names_in_both;
 use pgs_run_evolve::old_format_line;
 use pgs_run_input::refused_line;
 use pgs_run_lines::{Reply, Stop, put_last, put_reply};
@@ -45,20 +47,22 @@ fn list_violations<W: World>(
     }
 }
 
-// Tells what the step from the saved schema to another changes, and where it isn't safe what in the saved graph the other doesn't allow.
+// Tells what the step from the saved schema to another changes, and where it isn't safe what in the saved graph the other doesn't allow. The
+// names are those of both texts.
 fn tell_stored<W: World>(
     alloc: Global,
     world: &mut W,
     store: &Store,
     schema: &Schema,
+    names: &[Name],
 ) -> Stop<Status>
-    ensures follows { FollowsBoth (stored_behind store.now.guard.graph) store.now.guard.schema schema.now.resolved (W.view world.old) result (W.view world.new) }
+    ensures follows { FollowsBoth (stored_behind store.now.guard.graph) store.now.guard.schema schema.now.resolved names.now (W.view world.old) result (W.view world.new) }
     ensures last { is_of_world result ≡ true → W.failed world.new }
 {
     let graph = store.graph();
     // The count's clause says that what is saved is a graph.
     let _count = graph.count();
-    match put_changes(alloc, world, store.compiled(), schema.compiled()) {
+    match put_changes(alloc, world, store.compiled(), schema.compiled(), names) {
         Stop::Ended(Status::Refused) => list_violations(alloc, world, graph, schema),
         stop => stop,
     }
@@ -91,7 +95,10 @@ pub(crate) fn tell_text<W: World>(
         return put_last(world, old_format_line(alloc), Status::StoreRefused);
     }
     match Schema::read(alloc, text) {
-        Ok(schema) => status_at(tell_stored(alloc, world, store, &schema)),
+        Ok(schema) => match names_in_both(alloc, store.schema_text(), text) {
+            Ok(names) => status_at(tell_stored(alloc, world, store, &schema, names.as_slice())),
+            Err(_) => Status::Memory,
+        },
         Err(unread) => refuse(alloc, world, unread, text),
     }
 }
