@@ -116,6 +116,19 @@ pub making_on : (bytes new : List ℕ) (names : List (List ℕ)) (most : ℕ) �
 making_on bytes new names most some before h =
     (h.0, h.1, subst (λ k. IsRoom k (most / 2)) (sym h.2) (room_more (length bytes) most before.2 some), omega (arith, h.2))
 
+-- with as many names as begin with it
+pub making_counted : (bytes slice : List ℕ) (names : List (List ℕ)) (most count : ℕ) → slice ≡ bytes → count ≡ count_beginning slice names → IsMaking bytes names most → IsMaking bytes names count
+making_counted bytes slice names most count same is h =
+    let counted : count ≡ count_beginning bytes names = is ∙ ap (λ bs. count_beginning bs names) same in
+    let few = h.0 in
+    let below = h.2.below in
+    (omega (arith, counted), h.1, record { room = h.2.room; sum = h.2.sum; below = omega (arith, counted, few, below) }, h.3)
+
+-- it is at most half of those before
+pub counted_less : (bytes slice : List ℕ) (names : List (List ℕ)) (most count : ℕ) → slice ≡ bytes → count ≡ count_beginning slice names → 0 < most → count_beginning bytes names ≤ most / 2 → count < most
+counted_less bytes slice names most count same is some few =
+    let counted : count ≡ count_beginning bytes names = is ∙ ap (λ bs. count_beginning bs names) same in omega (arith, counted, few, some)
+
 made_name : (bytes : List ℕ) (names : List (List ℕ)) (most : ℕ) → IsMaking bytes names most → is_name bytes ≡ true
 made_name bytes names most h = letters_name bytes h.1 h.3 (let sum = h.2.sum in omega (arith, sum))
 

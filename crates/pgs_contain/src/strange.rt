@@ -71,10 +71,10 @@ pub(crate) fn strange(alloc: Global, names: &[Name]) -> Result<Name, Memory>
     ensures { IfOk result (λ name. has_name name names.now ≡ false) }
 {
     let mut bytes = first_letter(alloc, names)?;
-    let mut most = names.len() / 2;
+    let mut most = count_beginning(bytes.as_slice(), names);
     while most > 0 {
         go_on(alloc, names, &mut bytes, most)?;
-        most /= 2;
+        most = count_beginning(bytes.as_slice(), names);
     }
     match Name::new(alloc, bytes.as_slice())? {
         Some(name) => Ok(name),

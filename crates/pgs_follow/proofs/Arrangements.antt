@@ -15,6 +15,7 @@ use Rattle.pgs_violation.specs.declared.violation.Verdict.{Verdict}
 use Rattle.pgs_violation.specs.declared.violation.Verdict.TheVariants.{Conforms, Refused}
 use Rattle.pgs_violation.specs.Decision.{judged, judging, decide}
 use Rattle.pgs_violation.specs.Staging.{staged}
+use Rattle.pgs_json.specs.declared.commit.TheConstants.{COMMIT_LIMIT}
 use Rattle.pgs_json.specs.Canonical.{text_of_txn}
 use Rattle.pgs_json.specs.Commit.{read_commit_line}
 use Rattle.pgs_json.proofs.Commits.{written_commit_line}
@@ -89,7 +90,7 @@ line_read : (limits : Limits) (verdict : Graph → Verdict) (txns : List Txn) (l
 line_read limits verdict txns line history is =
     let within = slice_get_within txns is.place is.txn is.there in
     let few = history.few in
-    let short : length (text_of_txn is.txn (Some (is.place + 1))) ≤ 2097152 = subst (λ (l : List ℕ). length l ≤ 2097152) is.text is.short in
+    let short : length (text_of_txn is.txn (Some (is.place + 1))) ≤ COMMIT_LIMIT = subst (λ (l : List ℕ). length l ≤ COMMIT_LIMIT) is.text is.short in
     ap read_commit_line is.text
     ∙ written_commit_line is.txn (is.place + 1) (well_formed_at txns is.place is.txn history.well_formed is.there) (omega arith) (omega (arith, within, few)) short
 
@@ -161,7 +162,7 @@ record Ends (limits : Limits) (verdict : Graph → Verdict) (txns : List Txn) (b
   fault : IsGapOrLongRest bytes f.fault
 
 sound_rest : (limits : Limits) (verdict : Graph → Verdict) (txns : List Txn) (bytes : List ℕ) (f : Followed) (ended long : Bool) → is_some f.fault ≡ ended
-    → nat_lt 2097152 (length (lines_of bytes).rest) ≡ long → Sound limits verdict txns f → Ends limits verdict txns bytes (with_rest f (lines_of bytes).rest)
+    → nat_lt COMMIT_LIMIT (length (lines_of bytes).rest) ≡ long → Sound limits verdict txns f → Ends limits verdict txns bytes (with_rest f (lines_of bytes).rest)
 sound_rest limits verdict txns bytes f true long e l sound =
     rw e (record { within = sound.within; graph = sound.graph; fault = gap_or_rest bytes f.fault sound.fault })
 sound_rest limits verdict txns bytes f false true e l sound =
@@ -175,6 +176,6 @@ arranged limits verdict txns bytes history are =
     let f = of_ended limits bytes in
     let sound = sound_lines limits verdict txns nothing_followed (lines_of bytes).ended history are
     (record { within = omega arith; graph = refl; fault = tt }) in
-    let ends = sound_rest limits verdict txns bytes f (is_some f.fault) (nat_lt 2097152 (length (lines_of bytes).rest)) refl refl sound in
+    let ends = sound_rest limits verdict txns bytes f (is_some f.fault) (nat_lt COMMIT_LIMIT (length (lines_of bytes).rest)) refl refl sound in
     let ends : Ends limits verdict txns bytes (followed limits bytes) = subst (λ (g : Followed). Ends limits verdict txns bytes g) (sym (followed_is limits bytes)) ends in
     record { within = ends.within; graph = ends.graph; fault = ends.fault }

@@ -3,6 +3,7 @@ use Rattle.std.proofs.Common.{◌≡◌, ℕ, ◌+◌, ◌<◌, Bool, true, fals
 use Rattle.std.proofs.lemmas.Bool.{lt-ltb}
 use Rattle.std.proofs.lemmas.Bool.Decides.{nat_tests}
 use Rattle.pgs_base.specs.declared.limits.Limits.{Limits}
+use Rattle.pgs_json.specs.declared.commit.TheConstants.{COMMIT_LIMIT}
 use Rattle.pgs_json.specs.declared.commit_fault.CommitFault.TheVariants as commits
 use Rattle.pgs_json.specs.Commit.{read_commit_line}
 use Rattle.pgs_run_lines.specs.Input.{Lines, with_byte, lines_of, has_no_feed}
@@ -32,13 +33,13 @@ after_lines_both limits f [] more = refl
 after_lines_both limits f (line ∷ lines) more = after_lines_both limits (after_line limits f line) lines more
 
 -- an unfinished line is told by its length alone
-by_length : (f : Followed) (rest : List ℕ) (ended long : Bool) → is_some f.fault ≡ ended → nat_lt 2097152 (length rest) ≡ long → is_some (with_rest f rest).fault ≡ false → with_rest f rest ≡ f
+by_length : (f : Followed) (rest : List ℕ) (ended long : Bool) → is_some f.fault ≡ ended → nat_lt COMMIT_LIMIT (length rest) ≡ long → is_some (with_rest f rest).fault ≡ false → with_rest f rest ≡ f
 by_length f rest true long e l none = rw e refl
 by_length f rest false true e l none = cc (rw (e, l) at none)
 by_length f rest false false e l none = rw (e, l) refl
 
 pub with_rest_none : (f : Followed) (rest : List ℕ) → is_some (with_rest f rest).fault ≡ false → with_rest f rest ≡ f
-with_rest_none f rest none = by_length f rest (is_some f.fault) (nat_lt 2097152 (length rest)) refl refl none
+with_rest_none f rest none = by_length f rest (is_some f.fault) (nat_lt COMMIT_LIMIT (length rest)) refl refl none
 
 with_no_rest_by : (f : Followed) (ended : Bool) → is_some f.fault ≡ ended → with_rest f [] ≡ f
 with_no_rest_by f true e = rw e refl
@@ -114,15 +115,15 @@ lines_ahead (b ∷ rest) more none = by_byte (b == 10) refl none (lines_ahead re
     by_byte true e none later = cc (rw e at none)
     by_byte false e none later = rw e (with_byte_ahead b rest (lines_of (rest ++ more)) (later (rw e at none)))
 
-long_line : (line more : List ℕ) → 2097152 < length line → read_commit_line (line ++ more) ≡ Err commits.LineTooLong
+long_line : (line more : List ℕ) → COMMIT_LIMIT < length line → read_commit_line (line ++ more) ≡ Err commits.LineTooLong
 unfolding read_commit_line
-long_line line more long = rw (lt-ltb 2097152 (length (line ++ more)) (simp length-append (omega arith))) refl
+long_line line more long = rw (lt-ltb COMMIT_LIMIT (length (line ++ more)) (simp length-append (omega arith))) refl
 
 -- the fault of an unfinished line is that of the line, however it goes on
-long_goes_on : (limits : Limits) (f : Followed) (rest : List ℕ) (lines : Lines) → is_some f.fault ≡ false → 2097152 < length rest → StandsAhead rest lines
+long_goes_on : (limits : Limits) (f : Followed) (rest : List ℕ) (lines : Lines) → is_some f.fault ≡ false → COMMIT_LIMIT < length rest → StandsAhead rest lines
     → with_rest (after_lines limits f lines.ended) lines.rest ≡ faulted f (LineTooLong (f.lines + 1))
 long_goes_on limits f rest lines none long ahead = elim ahead.is [
-  | inl e ↦ rw (e, none, lt-ltb 2097152 (length (rest ++ ahead.more)) (simp length-append (omega arith))) refl
+  | inl e ↦ rw (e, none, lt-ltb COMMIT_LIMIT (length (rest ++ ahead.more)) (simp length-append (omega arith))) refl
   | inr e ↦
       let first : after_line limits f (rest ++ ahead.more) ≡ faulted f (LineTooLong (f.lines + 1)) = rw (none, long_line rest ahead.more long) refl in
       ap (λ (ls : List (List ℕ)). with_rest (after_lines limits f ls) lines.rest) e
@@ -130,14 +131,14 @@ long_goes_on limits f rest lines none long ahead = elim ahead.is [
       ∙ ap (λ (g : Followed). with_rest g lines.rest) (after_lines_fault limits (faulted f (LineTooLong (f.lines + 1))) ahead.later refl)
 ]
 
-too_long_rest : (f : Followed) (rest : List ℕ) → is_some f.fault ≡ false → nat_lt 2097152 (length rest) ≡ true → with_rest f rest ≡ faulted f (LineTooLong (f.lines + 1))
+too_long_rest : (f : Followed) (rest : List ℕ) → is_some f.fault ≡ false → nat_lt COMMIT_LIMIT (length rest) ≡ true → with_rest f rest ≡ faulted f (LineTooLong (f.lines + 1))
 too_long_rest f rest e l = rw (e, l) refl
 
-short_rest : (f : Followed) (rest : List ℕ) → is_some f.fault ≡ false → nat_lt 2097152 (length rest) ≡ false → with_rest f rest ≡ f
+short_rest : (f : Followed) (rest : List ℕ) → is_some f.fault ≡ false → nat_lt COMMIT_LIMIT (length rest) ≡ false → with_rest f rest ≡ f
 short_rest f rest e l = rw (e, l) refl
 
 -- what was followed of the ended lines ends by a fault, or the unfinished line is too long, or there is no fault
-stays_by : (limits : Limits) (bytes more : List ℕ) (ended long : Bool) → is_some (of_ended limits bytes).fault ≡ ended → nat_lt 2097152 (length (lines_of bytes).rest) ≡ long
+stays_by : (limits : Limits) (bytes more : List ℕ) (ended long : Bool) → is_some (of_ended limits bytes).fault ≡ ended → nat_lt COMMIT_LIMIT (length (lines_of bytes).rest) ≡ long
     → is_some (followed limits bytes).fault ≡ true → followed limits (bytes ++ more) ≡ followed limits bytes
 stays_by limits bytes more true long e l fault =
     let f = of_ended limits bytes in
@@ -149,7 +150,7 @@ stays_by limits bytes more true long e l fault =
 stays_by limits bytes more false true e l fault =
     let f = of_ended limits bytes in
     let later = lines_of ((lines_of bytes).rest ++ more) in
-    let long : 2097152 < length (lines_of bytes).rest = grind (arith, nat_tests) in
+    let long : COMMIT_LIMIT < length (lines_of bytes).rest = grind (arith, nat_tests) in
     followed_lines limits (bytes ++ more) (cutting.followed (lines_of bytes) later) (goes_on bytes more)
     ∙ ap (λ (g : Followed). with_rest g later.rest) (after_lines_both limits nothing_followed (lines_of bytes).ended later.ended)
     ∙ long_goes_on limits f (lines_of bytes).rest later e long (lines_ahead (lines_of bytes).rest more (no_feed_rest bytes))
@@ -161,7 +162,7 @@ stays_by limits bytes more false false e l fault =
 
 pub fault_stays : (limits : Limits) (bytes more : List ℕ) → is_some (followed limits bytes).fault ≡ true → followed limits (bytes ++ more) ≡ followed limits bytes
 fault_stays limits bytes more fault =
-    stays_by limits bytes more (is_some (of_ended limits bytes).fault) (nat_lt 2097152 (length (lines_of bytes).rest)) refl refl fault
+    stays_by limits bytes more (is_some (of_ended limits bytes).fault) (nat_lt COMMIT_LIMIT (length (lines_of bytes).rest)) refl refl fault
 
 -- ---- the unfinished line tells the rest
 
@@ -194,7 +195,7 @@ same_later limits bytes other more same rests = same_by limits bytes other more 
 
 -- ---- a line that is too long
 
-pub long_ends : (limits : Limits) (f : Followed) (line part : List ℕ) → is_some f.fault ≡ false → 2097152 < length line + length part
+pub long_ends : (limits : Limits) (f : Followed) (line part : List ℕ) → is_some f.fault ≡ false → COMMIT_LIMIT < length line + length part
     → after_line limits f (line ++ part) ≡ faulted f (LineTooLong (f.lines + 1))
 unfolding read_commit_line
-long_ends limits f line part none long = rw (none, lt-ltb 2097152 (length (line ++ part)) (simp length-append (omega arith))) refl
+long_ends limits f line part none long = rw (none, lt-ltb COMMIT_LIMIT (length (line ++ part)) (simp length-append (omega arith))) refl

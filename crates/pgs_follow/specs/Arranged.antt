@@ -9,6 +9,7 @@ use Rattle.pgs_violation.specs.declared.rejection.Rejection.{Rejection}
 use Rattle.pgs_violation.specs.declared.violation.Verdict.{Verdict}
 use Rattle.pgs_violation.specs.Decision.{decide}
 use Rattle.pgs_violation.specs.Staging.{◌>>=◌}
+use Rattle.pgs_json.specs.declared.commit.TheConstants.{COMMIT_LIMIT}
 use Rattle.pgs_json.specs.Canonical.{text_of_txn}
 use Rattle.pgs_run_lines.specs.Input.{lines_of}
 use Rattle.pgs_follow.specs.declared.fault.FollowFault.{FollowFault}
@@ -33,7 +34,7 @@ pub record IsFeedLine (txns : List Txn) (line : List ℕ) : Type 0 where
   pub txn : Txn
   pub there : slice_get txns place ≡ Some txn
   pub text : line ≡ text_of_txn txn (Some (place + 1))
-  pub short : length line ≤ 2097152
+  pub short : length line ≤ COMMIT_LIMIT
 
 abbrev pub AreFeedLines : List Txn → List (List ℕ) → Type 0
 AreFeedLines txns [] = Unit {0}
@@ -43,7 +44,7 @@ AreFeedLines txns (line ∷ lines) = IsFeedLine txns line × AreFeedLines txns l
 abbrev pub IsGapOrLongRest : List ℕ → Option FollowFault → Type 0
 IsGapOrLongRest bytes None = Unit {0}
 IsGapOrLongRest bytes (Some (Gap expected found)) = Unit {0}
-IsGapOrLongRest bytes (Some (LineTooLong line)) = 2097152 < length (lines_of bytes).rest
+IsGapOrLongRest bytes (Some (LineTooLong line)) = COMMIT_LIMIT < length (lines_of bytes).rest
 IsGapOrLongRest bytes (Some (BadLine line)) = ⊥
 IsGapOrLongRest bytes (Some (BadCommit commit cause)) = ⊥
 

@@ -5,6 +5,7 @@ use Rattle.pgs_base.specs.Graph.{Graph, empty_graph}
 use Rattle.pgs_graph.specs.declared.operation.Txn.{Txn}
 use Rattle.pgs_violation.specs.declared.structural.Structural.{Structural}
 use Rattle.pgs_violation.specs.Staging.{staged}
+use Rattle.pgs_json.specs.declared.commit.TheConstants.{COMMIT_LIMIT}
 use Rattle.pgs_json.specs.declared.commit_fault.CommitFault.{CommitFault}
 use Rattle.pgs_json.specs.declared.commit_fault.CommitFault.TheVariants as commits
 use Rattle.pgs_json.specs.Commit.{read_commit_line}
@@ -56,7 +57,7 @@ after_lines limits f (line ∷ lines) = after_lines limits (after_line limits f 
 -- an unfinished line, which isn't read, but may be too long already
 abbrev pub with_rest : Followed → List ℕ → Followed
 with_rest f rest =
-    if is_some f.fault then f else (if nat_lt 2097152 (length rest) then faulted f (LineTooLong (f.lines + 1)) else f)
+    if is_some f.fault then f else (if nat_lt COMMIT_LIMIT (length rest) then faulted f (LineTooLong (f.lines + 1)) else f)
 
 -- what is followed of all these bytes: of the lines that a line feed ends, in order, and of what stands behind the last line feed
 unfoldable pub followed : Limits → List ℕ → Followed

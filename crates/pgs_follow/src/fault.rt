@@ -1,11 +1,12 @@
+use pgs_json::COMMIT_LIMIT;
 use pgs_violation::Structural;
 use thiserror::Error;
 
 /// Why a feed is followed no further. The first fault ends it.
 #[derive(Clone, Copy, Debug, PartialEq, Eq, Error)]
 pub enum FollowFault {
-    /// 47: this line, from 1, has over 2,097,152 bytes, whether it is ended or not.
-    #[error("line {line} is longer than 2097152 bytes")]
+    /// 47: this line, from 1, has over `COMMIT_LIMIT` bytes, whether it is ended or not.
+    #[error("line {line} is longer than {COMMIT_LIMIT} bytes")]
     LineTooLong { line: u64 },
     /// 48: this line, from 1, is no commit.
     #[error("line {line} is not a commit")]

@@ -33,6 +33,7 @@ impl Drop for Follower {
 
 impl Model for Follower {
     ghost use Rattle.std.specs.Prelude.{◌≤◌, length};
+    ghost use Rattle.pgs_json.specs.declared.commit.TheConstants.{COMMIT_LIMIT};
     ghost use Rattle.pgs_follow.specs.Standing.{FollowerState};
 
     ghost Value = { FollowerState };
@@ -43,7 +44,7 @@ impl Model for Follower {
       line = follower.line.items;
     } };
 
-    ghost invariant = { λ follower. length follower.line.items ≤ 2097152 };
+    ghost invariant = { λ follower. length follower.line.items ≤ COMMIT_LIMIT };
 }
 
 impl Follower {
@@ -61,7 +62,7 @@ impl Follower {
     // Ends the unfinished line, of which some bytes are kept, with these.
     fn end_kept(&mut self, part: &[u8]) -> Result<(), Memory>
         requires lines { self.old.followed.lines < 2 ^ 64 - 1 }
-        requires short { length self.old.line + length part.now ≤ 2097152 }
+        requires short { length self.old.line + length part.now ≤ COMMIT_LIMIT }
         ensures ok { OnOk result (self.new.followed ≡ after_line self.old.limits self.old.followed (self.old.line ++ part.now)) }
         ensures line { OnOk result (self.new.line ≡ []) }
         ensures counted { self.new.followed.lines ≤ self.old.followed.lines + 1 }
@@ -114,7 +115,7 @@ impl Follower {
     fn end_long_line(&mut self, part: &[u8])
         requires lines { self.old.followed.lines < 2 ^ 64 - 1 }
         requires follows { is_some self.old.followed.fault ≡ false }
-        requires long { 2097152 < length self.old.line + length part.now }
+        requires long { COMMIT_LIMIT < length self.old.line + length part.now }
         ensures followed { self.new.followed ≡ after_line self.old.limits self.old.followed (self.old.line ++ part.now) }
         ensures counted { self.new.followed.lines ≤ self.old.followed.lines + 1 }
         ensures line { self.new.line ≡ [] }

@@ -1,5 +1,5 @@
 -- The promise of a run over a saved store, by how the store was opened, what the reading of the text gave, and what was told of it.
-use Rattle.std.proofs.Common.{◌≡◌, ℕ, true, false, IsTrue, List, [], Option, Some, None, Result, Ok, Err, is_some, refl, sym, ◌∙◌, ap, subst}
+use Rattle.std.proofs.Common.{◌≡◌, ℕ, true, false, IsTrue, List, [], ◌++◌, Option, Some, None, Result, Ok, Err, is_some, refl, sym, ◌∙◌, ap, subst}
 use Rattle.pgs_base.specs.Graph.{Graph}
 use Rattle.pgs_run_lines.specs.Machine.{Told}
 use Rattle.pgs_run_lines.specs.Ending.{Faults, faults_of}
@@ -28,38 +28,33 @@ use Rattle.pgs_run_input.specs.Text.{AnswersText, IsUnread, IsWhole}
 use Rattle.pgs_run_input.proofs.OneLine.{IsSilent, silent_faults}
 use Rattle.pgs_run_input.proofs.SameFronts.{schema_of_front}
 use Rattle.pgs_run_input.proofs.WholeInput.{RunsWhole, by_unread, told_whole, whole_input, with_text, without_text}
+use Rattle.pgs_run_contain.specs.Answers.{Answer}
+use Rattle.pgs_run_contain.specs.Names.{Names, names_in}
 use Rattle.pgs_run_contain.specs.Running.{HasAllLines}
-use Rattle.pgs_run_refusal.proofs.Fronts.{cause_of_front}
+use Rattle.pgs_run_contain.proofs.Machine.{names_of_front}
 use Rattle.pgs_run_store.specs.declared.opening.Unopened.{Unopened}
 use Rattle.pgs_run_store.specs.Ending.{is_refusal}
 use Rattle.pgs_run_store.specs.Opening.{IsOpened, saved_in}
-use Rattle.pgs_run_store.specs.Refusing.{SavedStore}
+use Rattle.pgs_run_store.specs.Refusing.{SavedStore, told_under}
 use Rattle.pgs_run_store.proofs.Reading.{told_opened}
 use Rattle.pgs_run_store.proofs.Unread.{RunsUnopened, unopened_answer, unopened_by, unopened_cause, unopened_ends, unopened_images, unopened_read, unopened_short, unopened_takes}
 use Rattle.pgs_run_evolve.proofs.Kept.{next_there}
 use Rattle.pgs_run_evolve.proofs.Promised.{Opening, evolvable}
-use Rattle.pgs_run_check_evolve.specs.Stored.{AnswersStored, IsRightOf, TellsNext, told_evolve_store, told_next, told_text, told_within}
+use Rattle.pgs_run_check_evolve.specs.Stored.{AnswersStored, TellsNext, told_evolve_store, told_next, told_stored, told_within}
 use Rattle.pgs_run_check_evolve.specs.StoreSpec.{check_evolve_store_spec}
-use Rattle.pgs_run_check_evolve.specs.Told.{Chosen, nothing_chosen}
-use Rattle.pgs_run_check_evolve.proofs.StoreNext.{right_nothing}
+use Rattle.pgs_run_check_evolve.specs.Told.{AreRightly}
 
 -- what is told of a front of a text is told of the text
-front_told : (chosen : Chosen) (next : Option ℕ) (input : List ℕ) (it : SavedStore) → told_next chosen next (text_front input) it ≡ told_next chosen next input it
-front_told chosen None input it = refl
-front_told chosen (Some number) input it = ap (told_text chosen it) (schema_of_front input)
-
-right_by : (was : Resolved) (chosen : Chosen) (status : Status) (input : List ℕ) (answer : Result Resolved (List ℕ)) → IsRightOf was (text_front input) answer chosen status → IsRightOf was input answer chosen status
-right_by was chosen status input (Ok new) right = right
-right_by was chosen status input (Err refusal) right = cause_of_front input chosen.cause right
-
--- and so what is right of it
-right_of_front : (was : Resolved) (chosen : Chosen) (status : Status) (input : List ℕ) → IsRightOf was (text_front input) (schema_answer (text_front input)) chosen status → IsRightOf was input (schema_answer input) chosen status
-right_of_front was chosen status input right =
-    right_by was chosen status input (schema_answer input)
-    (subst (λ (answer : Result Resolved (List ℕ)). IsRightOf was (text_front input) answer chosen status) (schema_of_front input) right)
+front_told : (choice : Option (List Answer)) (next : Option ℕ) (input : List ℕ) (it : SavedStore) → told_next choice next (text_front input) it ≡ told_next choice next input it
+front_told choice None input it = refl
+front_told choice (Some number) input it =
+    ap (λ (answer : Result Resolved (List ℕ)). told_under answer (λ new. told_stored it.graph choice it.schema new)) (schema_of_front input)
 
 -- a store that is saved as two things is saved as one
 module _ (it : StoreState) (old mid : View) (opened : IsOpened it old mid) (tells : IsTrue old.tells_bytes) where
+  saved_text : (text : List ℕ) (commits : ℕ) (graph : Graph) → saved standard old.shown.a old.shown.b ≡ store text commits graph → it.guard.text ≡ text
+  saved_text text commits graph saves = let same : store it.guard.text it.guard.commits it.guard.graph ≡ store text commits graph = sym (opened.saves tells) ∙ saves in cc
+
   saved_schema : (text : List ℕ) (commits : ℕ) (graph : Graph) (was : Resolved) → saved standard old.shown.a old.shown.b ≡ store text commits graph → schema_answer text ≡ Ok was → was ≡ it.guard.schema
   saved_schema text commits graph was saves is =
       let same : store it.guard.text it.guard.commits it.guard.graph ≡ store text commits graph = sym (opened.saves tells) ∙ saves in
@@ -68,21 +63,21 @@ module _ (it : StoreState) (old mid : View) (opened : IsOpened it old mid) (tell
       cc
 
 module _ (it : StoreState) (budget : ℕ) (old : Setting) (mid : View) (opening : Opening it old.view mid) where
-  told_same : (chosen : Chosen) (input : List ℕ) → IsTrue old.view.tells_bytes → (n : ℕ) → told_evolve_store chosen input (areas_of old.view) n ≡ told_whole input (told_next chosen it.journal.next input (saved_in it)) n
+  told_same : (choice : Option (List Answer)) (input : List ℕ) → IsTrue old.view.tells_bytes → (n : ℕ) → told_evolve_store choice input (areas_of old.view) n ≡ told_whole input (told_next choice it.journal.next input (saved_in it)) n
   unfolding told_evolve_store
-  told_same chosen input tells n =
-      told_opened it old.view mid (λ (s : SavedStore). told_within chosen input n (chosen_next old.view.shown.a old.view.shown.b) s) opening.opened tells
-      ∙ ap (λ (next : Option ℕ). told_within chosen input n next (saved_in it))
+  told_same choice input tells n =
+      told_opened it old.view mid (λ (s : SavedStore). told_within choice input n (chosen_next old.view.shown.a old.view.shown.b) s) opening.opened tells
+      ∙ ap (λ (next : Option ℕ). told_within choice input n next (saved_in it))
       (subst (λ (t : Triple). chosen_next t.a t.b ≡ it.journal.next) opening.quiet.shown
       (next_there it mid (evolvable it old.view mid opening.opened) (opening.quiet.passes.tells_bytes ∙ tells)))
 
-  module _ (chosen : Chosen) (after : SourceState) (new : View) (status : Status) where
+  module _ (choice : Option (List Answer)) (after : SourceState) (new : View) (status : Status) where
     abbrev Runs : Type 0
-    Runs = RunsWhole (λ input. IsTrue old.view.tells_bytes) (λ input. told_evolve_store chosen input (areas_of old.view)) budget old (record old { source = after; view = new }) status
+    Runs = RunsWhole (λ input. IsTrue old.view.tells_bytes) (λ input. told_evolve_store choice input (areas_of old.view)) budget old (record old { source = after; view = new }) status
 
-    promised : Runs → AnswersStored chosen old budget status → IsOfCommand status → KeepsImages old.view new → Promise check_evolve_store_spec budget old (record old { source = after; view = new }) status
+    promised : Runs → AnswersStored choice old budget status → IsOfCommand status → KeepsImages old.view new → Promise check_evolve_store_spec budget old (record old { source = after; view = new }) status
     promised runs right may_end images = promise_reading check_evolve_store_spec budget old (record old { source = after; view = new }) status refl (record {
-      choice = chosen;
+      choice = choice;
       right = right;
       ends = λ input knows is. runs.ends input (knows.bytes tt) is;
       takes = runs.takes;
@@ -108,24 +103,26 @@ module _ (it : StoreState) (budget : ℕ) (old : Setting) (mid : View) (opening 
       → Promise check_evolve_store_spec budget old (record old { source = after; view = new }) status
   promised_text after new status text whole tells =
       let next = it.journal.next in
-      let chosen = tells.chosen in
-      promised chosen after new status
-      (with_text (λ input. IsTrue old.view.tells_bytes) (λ input. told_evolve_store chosen input (areas_of old.view)) (λ input. told_next chosen next input (saved_in it)) (told_same chosen) budget old (record old { source = after; view = new }) text status (told_next chosen next text (saved_in it)) whole
-      (λ input front asks. sym (front_told chosen next input (saved_in it)) ∙ ap (λ (t : List ℕ). told_next chosen next t (saved_in it)) (sym front)) (answers_opened chosen after new status (told_next chosen next text (saved_in it)) tells.answers))
-      (λ input saved_text commits graph is known saves was of_saved.
-      subst (λ (r : Resolved). IsRightOf r input (schema_answer input) chosen status) (sym (saved_schema it old.view mid opening.opened known saved_text commits graph was saves of_saved))
-      (right_of_front it.guard.schema chosen status input
-      (subst (λ (t : List ℕ). IsRightOf it.guard.schema t (schema_answer t) chosen status) (whole_input budget old.source after text input is whole).0 tells.right)))
+      let choice = tells.choice in
+      promised choice after new status
+      (with_text (λ input. IsTrue old.view.tells_bytes) (λ input. told_evolve_store choice input (areas_of old.view)) (λ input. told_next choice next input (saved_in it)) (told_same choice) budget old (record old { source = after; view = new }) text status (told_next choice next text (saved_in it)) whole
+      (λ input front asks. sym (front_told choice next input (saved_in it)) ∙ ap (λ (t : List ℕ). told_next choice next t (saved_in it)) (sym front)) (answers_opened choice after new status (told_next choice next text (saved_in it)) tells.answers))
+      (λ input was_text commits graph is known saves was schema of_saved of_input.
+      let front = (whole_input budget old.source after text input is whole).0 in
+      subst (λ (r : Resolved). AreRightly choice r schema (names_in was_text ++ names_in input) status) (sym (saved_schema it old.view mid opening.opened known was_text commits graph was saves of_saved))
+      (subst (λ (names : Names). AreRightly choice it.guard.schema schema names status)
+      (ap (λ (t : List ℕ). names_in t ++ names_in text) (saved_text it old.view mid opening.opened known was_text commits graph saves)
+      ∙ ap (λ (names : Names). names_in was_text ++ names) (ap names_in front ∙ names_of_front input))
+      (tells.right schema (ap schema_answer front ∙ schema_of_front input ∙ of_input))))
       tells.answers.may_end
       (images_on old.view mid new (images_quiet old.view mid opening.quiet) (images_areas mid new tells.areas))
 
   -- there was no text
   pub promised_none : (after : SourceState) (status : Status) → IsUnread budget old.source after status → Promise check_evolve_store_spec budget old (record old { source = after; view = mid }) status
   promised_none after status unread =
-      promised nothing_chosen after mid status
-      (without_text (λ input. IsTrue old.view.tells_bytes) (λ input. told_evolve_store nothing_chosen input (areas_of old.view)) (λ input. told_next nothing_chosen it.journal.next input (saved_in it)) (told_same nothing_chosen) budget old (record old { source = after; view = mid }) status unread opening.silent)
-      (λ input text commits graph is known saves was of_saved.
-      right_nothing was input (schema_answer input) status (by_unread (λ (s : Status). HasAllLines s → ⊥) budget old.source after status (λ done. done) (λ done. done) (λ done. done) unread))
+      promised None after mid status
+      (without_text (λ input. IsTrue old.view.tells_bytes) (λ input. told_evolve_store None input (areas_of old.view)) (λ input. told_next None it.journal.next input (saved_in it)) (told_same None) budget old (record old { source = after; view = mid }) status unread opening.silent)
+      (λ input text commits graph is known saves was schema of_saved of_input. by_unread (λ (s : Status). HasAllLines s → ⊥) budget old.source after status (λ done. done) (λ done. done) (λ done. done) unread)
       (by_unread IsOfCommand budget old.source after status tt tt tt unread)
       (images_quiet old.view mid opening.quiet)
 
@@ -136,11 +133,10 @@ unfolding told_evolve_store
 promised_unopened reason budget old mid new status ran =
     let images = unopened_images reason old.view mid new status ran in
     promise_reading check_evolve_store_spec budget old (record old { view = new }) status refl (record {
-      choice = nothing_chosen;
-      right = λ input text commits graph is known saves was of_saved.
-          right_nothing was input (schema_answer input) status (unopened_by reason old.view mid new status ran (λ (s : Status). HasAllLines s → ⊥) (λ done. done) (λ done. done) (λ done. done) (λ done. done) (λ done. done));
+      choice = None;
+      right = λ input text commits graph is known saves was schema of_saved of_input. unopened_by reason old.view mid new status ran (λ (s : Status). HasAllLines s → ⊥) (λ done. done) (λ done. done) (λ done. done) (λ done. done) (λ done. done);
       ends = λ input knows is.
-          unopened_ends reason old.view mid new status ran input budget old.source.left is (λ bytes it. told_within nothing_chosen input bytes (chosen_next old.view.shown.a old.view.shown.b) it) (knows.bytes tt);
+          unopened_ends reason old.view mid new status ran input budget old.source.left is (λ bytes it. told_within None input bytes (chosen_next old.view.shown.a old.view.shown.b) it) (knows.bytes tt);
       takes = λ input rest is left_is. unopened_takes reason old.view mid new status ran input budget old.source.left is rest left_is;
       full = λ cut. absurd (unopened_short reason old.view mid new status ran cut);
       in_vain = λ vain. refl;

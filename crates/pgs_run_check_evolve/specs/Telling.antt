@@ -11,15 +11,16 @@ use Rattle.pgs_command.specs.declared.status.Status.{Status}
 use Rattle.pgs_command.specs.declared.status.Status.TheVariants.{SchemaRefused, PutFault}
 use Rattle.pgs_schema_changes.specs.Safe.{is_safe}
 use Rattle.pgs_run_try.specs.Told.{listed_line}
+use Rattle.pgs_run_contain.specs.Names.{Names}
 use Rattle.pgs_run_contain.specs.Running.{Tells}
 use Rattle.pgs_run_check_evolve.specs.declared.changes.Behind.{Behind}
 use Rattle.pgs_run_check_evolve.specs.Lines.{lines_behind}
 use Rattle.pgs_run_check_evolve.specs.Told.{status_by}
 
 -- the types of the old guard were told where the new one is strict; else nothing was done, and nothing is outside
-abbrev pub TellsOld : Bool → Resolved → Resolved → Result Bool (Stop Status) → View → View → Type 0
-TellsOld true old new told before after = Tells old new old.guard.types told before after
-TellsOld false old new told before after = (told ≡ Ok false) × PutsAll before [] after
+abbrev pub TellsOld : Bool → Resolved → Resolved → Names → Result Bool (Stop Status) → View → View → Type 0
+TellsOld true old new names told before after = Tells old new names old.guard.types told before after
+TellsOld false old new names told before after = (told ≡ Ok false) × PutsAll before [] after
 
 -- the lines behind the types, and whether the step is safe
 pub record IsBehind (old new : Resolved) (contained : Bool) (it : Behind) : Type 0 where

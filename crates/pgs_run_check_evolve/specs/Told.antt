@@ -7,6 +7,7 @@ use Rattle.pgs_command.specs.declared.status.Status.{Status}
 use Rattle.pgs_command.specs.declared.status.Status.TheVariants.{Accepted, Refused}
 use Rattle.pgs_schema_changes.specs.Safe.{is_safe}
 use Rattle.pgs_run_contain.specs.Answers.{Answer, listed, answer_lines}
+use Rattle.pgs_run_contain.specs.Names.{Names}
 use Rattle.pgs_run_contain.specs.Running.{HasAllLines, Answered}
 use Rattle.pgs_run_check_evolve.specs.Lines.{lines_behind}
 
@@ -44,6 +45,6 @@ abbrev pub chosen_cause : List (List ℕ) → Chosen
 chosen_cause cause = record { answers = None; cause = cause }
 
 -- where the new guard is strict the answers to the first types of the old one are right, and with 0 or 1 all of them are answered
-abbrev pub AreRightly : Option (List Answer) → Resolved → Resolved → Status → Type 0
-AreRightly None old new status = HasAllLines status → ⊥
-AreRightly (Some answers) old new status = new.guard.strict ≡ true → Answered old new (listed old old.guard.types) answers status
+abbrev pub AreRightly : Option (List Answer) → Resolved → Resolved → Names → Status → Type 0
+AreRightly None old new names status = HasAllLines status → ⊥
+AreRightly (Some answers) old new names status = new.guard.strict ≡ true → Answered old new names (listed old old.guard.types) answers status

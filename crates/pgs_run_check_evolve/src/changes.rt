@@ -7,11 +7,11 @@ ghost use Rattle.pgs_run_check_evolve.specs.Spec.{evolve_behind};
 ghost use Rattle.pgs_run_check_evolve.specs.Telling.{IsBehind, TellsBehind, TellsOld};
 ghost use Rattle.pgs_run_check_evolve.specs.Told.{status_by};
 
-use crate::lines::{KeysOf, push_keys, safe_line, strict_line};
-use pgs_base::{Bytes, Memory};
+use crate::lines::{push_drops, push_keys, safe_line, strict_line};
+use pgs_base::{Bytes, Memory, Name};
 use pgs_command::Status;
 use pgs_conform::Compiled;
-use pgs_run_contain::put_types;
+use pgs_run_contain::put_all_types;
 use pgs_run_lines::{Stop, put_pieces};
 use pgs_schema_changes::{is_safe, key_changes};
 use pgs_syntax::Resolved;
@@ -40,8 +40,8 @@ fn lines_behind(
     if new.guard.strict && !old.guard.strict {
         lines.push(strict_line(alloc)?)?;
     }
-    push_keys(alloc, KeysOf::New, changes.kept.as_slice(), &mut lines)?;
-    push_keys(alloc, KeysOf::Old, changes.dropped.as_slice(), &mut lines)?;
+    push_keys(alloc, changes.kept.as_slice(), &mut lines)?;
+    push_drops(alloc, changes.dropped.as_slice(), &mut lines)?;
     if safe {
         lines.push(safe_line(alloc)?)?;
     }
@@ -86,29 +86,30 @@ fn put_old<W: World>(
     world: &mut W,
     old: &Compiled,
     new: &Compiled,
+    names: &[Name],
 ) -> Result<bool, Stop<Status>>
-    ensures tells { TellsOld new.now.guard.strict old.now new.now result (W.view world.old) (W.view world.new) }
+    ensures tells { TellsOld new.now.guard.strict old.now new.now names.now result (W.view world.old) (W.view world.new) }
     ensures last { stops_of_world result ≡ true → W.failed world.new }
 {
     if new.resolved().guard.strict {
-        let types = old.resolved().guard.types.as_slice();
-        put_types(alloc, world, old, new, types)
+        put_all_types(alloc, world, old, new, names)
     } else {
         Ok(false)
     }
 }
 
-/// Puts what a step from one schema to another changes: how the run ends.
+/// Puts what a step from one schema to another changes: how the run ends. What is told is strange to the names, which are those of their texts.
 pub(crate) fn put_changes<W: World>(
     alloc: Global,
     world: &mut W,
     old: &Compiled,
     new: &Compiled,
+    names: &[Name],
 ) -> Stop<Status>
-    ensures follows { FollowsBoth evolve_behind old.now new.now (W.view world.old) result (W.view world.new) }
+    ensures follows { FollowsBoth evolve_behind old.now new.now names.now (W.view world.old) result (W.view world.new) }
     ensures last { is_of_world result ≡ true → W.failed world.new }
 {
-    match put_old(alloc, world, old, new) {
+    match put_old(alloc, world, old, new, names) {
         Ok(outside) => put_behind(alloc, world, old.resolved(), new.resolved(), !outside),
         Err(stop) => stop,
     }

@@ -10,15 +10,16 @@ ghost use Rattle.pgs_run_contain.specs.Behind.{FollowsBoth};
 ghost use Rattle.pgs_run_store.specs.Opening.{saved_in};
 ghost use Rattle.pgs_run_store.specs.Refusing.{SavedStore};
 ghost use Rattle.pgs_run_check_evolve.specs.Stored.{TellsNext, stored_behind};
-ghost use Rattle.pgs_run_check_evolve.specs.Telling.{TellsListed, TellsRefusal};
+ghost use Rattle.pgs_run_check_evolve.specs.Telling.{TellsListed};
 
 use crate::changes::{put_changes, status_by};
-use pgs_base::Bytes;
+use pgs_base::Name;
 use pgs_command::{Status, status_at};
 use pgs_graph::GraphRead;
+use pgs_run_contain::names_in_both;
 use pgs_run_evolve::old_format_line;
-use pgs_run_lines::{Stop, put_last, put_pieces};
-use pgs_run_refusal::refused_lines;
+use pgs_run_input::refused_line;
+use pgs_run_lines::{Reply, Stop, put_last, put_reply};
 use pgs_run_try::{graph_violations, put_all_listed};
 use pgs_schema::{Schema, SchemaUnread};
 use pgs_store::Store;
@@ -46,44 +47,36 @@ fn list_violations<W: World>(
     }
 }
 
-// Tells what the step from the saved schema to another changes, and where it isn't safe what in the saved graph the other doesn't allow.
+// Tells what the step from the saved schema to another changes, and where it isn't safe what in the saved graph the other doesn't allow. The
+// names are those of both texts.
 fn tell_stored<W: World>(
     alloc: Global,
     world: &mut W,
     store: &Store,
     schema: &Schema,
+    names: &[Name],
 ) -> Stop<Status>
-    ensures follows { FollowsBoth (stored_behind store.now.guard.graph) store.now.guard.schema schema.now.resolved (W.view world.old) result (W.view world.new) }
+    ensures follows { FollowsBoth (stored_behind store.now.guard.graph) store.now.guard.schema schema.now.resolved names.now (W.view world.old) result (W.view world.new) }
     ensures last { is_of_world result ≡ true → W.failed world.new }
 {
     let graph = store.graph();
     // The count's clause says that what is saved is a graph.
     let _count = graph.count();
-    match put_changes(alloc, world, store.compiled(), schema.compiled()) {
+    match put_changes(alloc, world, store.compiled(), schema.compiled(), names) {
         Stop::Ended(Status::Refused) => list_violations(alloc, world, graph, schema),
         stop => stop,
     }
 }
 
-// Puts the lines of a refusal, and gives the status.
-fn put_refusal<W: World>(world: &mut W, lines: &[Bytes]) -> Status
-    ensures tells { TellsRefusal lines.now (W.view world.old) (W.view world.new) result }
-    ensures last { fails_world result ≡ true → W.failed world.new }
-{
-    match put_pieces::<Status, W>(world, lines) {
-        Ok(()) => Status::SchemaRefused,
-        Err(_) => Status::PutFault,
-    }
-}
-
-// Puts the line of a text that is no schema, and that of the cause, where there is one.
+// Puts the line of a text that is no schema. What is told of its cause belongs behind it.
 fn refuse<W: World>(alloc: Global, world: &mut W, unread: SchemaUnread, text: &[u8]) -> Status
     requires { IsRefused (schema_of text.now) unread }
     ensures answer { (it : SavedStore) (number : ℕ) → TellsNext it (Some number) text.now (W.view world.old) (W.view world.new) result }
     ensures last { fails_world result ≡ true → W.failed world.new }
 {
-    match refused_lines(alloc, unread, text) {
-        Ok(lines) => put_refusal(world, &lines),
+    let status = Status::SchemaRefused;
+    match refused_line(alloc, unread) {
+        Ok(line) => put_reply(world, &Reply { line, status }),
         Err(_) => Status::Memory,
     }
 }
@@ -102,7 +95,10 @@ pub(crate) fn tell_text<W: World>(
         return put_last(world, old_format_line(alloc), Status::StoreRefused);
     }
     match Schema::read(alloc, text) {
-        Ok(schema) => status_at(tell_stored(alloc, world, store, &schema)),
+        Ok(schema) => match names_in_both(alloc, store.schema_text(), text) {
+            Ok(names) => status_at(tell_stored(alloc, world, store, &schema, names.as_slice())),
+            Err(_) => Status::Memory,
+        },
         Err(unread) => refuse(alloc, world, unread, text),
     }
 }

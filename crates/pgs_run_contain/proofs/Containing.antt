@@ -15,6 +15,7 @@ use Rattle.pgs_contain.specs.Contained.{IsContained}
 use Rattle.pgs_schema_order.specs.AsksNoMore.{AreTypesContained, is_concrete}
 use Rattle.pgs_command.specs.declared.status.Status.{Status}
 use Rattle.pgs_run_contain.specs.Answers.{Answer, AreRight, Listed, listed, listed_at, shown_name}
+use Rattle.pgs_run_contain.specs.Names.{Names}
 use Rattle.pgs_run_contain.specs.Running.{Answered, HasAllLines}
 
 -- ---- a type that isn't abstract is listed
@@ -41,16 +42,16 @@ listed_here first (types.Edge number) is =
 
 -- ---- answers of which each is that its type is contained
 
-all_contained : (first second : Resolved) (listed : List Listed) (answers : List Answer) → AreRight first second listed answers → list_any is_some answers ≡ false → (type : Listed) → Contains listed type → IsContained first type.0 second
-all_contained first second [] answers right none type there = absurd (contains_none type there)
-all_contained first second (one ∷ more) [] right none type there = absurd right
-all_contained first second (one ∷ more) (None ∷ answers) right none type there =
-    ⊎_elim (λ same. subst (λ (l : Listed). IsContained first l.0 second) same right.0) (λ later. all_contained first second more answers right.1 none type later) (contains_cases one more type there)
-all_contained first second (one ∷ more) (Some outside ∷ answers) right none type there = absurd (true≢false none)
+all_contained : (first second : Resolved) (names : Names) (listed : List Listed) (answers : List Answer) → AreRight first second names listed answers → list_any is_some answers ≡ false → (type : Listed) → Contains listed type → IsContained first type.0 second
+all_contained first second names [] answers right none type there = absurd (contains_none type there)
+all_contained first second names (one ∷ more) [] right none type there = absurd right
+all_contained first second names (one ∷ more) (None ∷ answers) right none type there =
+    ⊎_elim (λ same. subst (λ (l : Listed). IsContained first l.0 second) same right.0) (λ later. all_contained first second names more answers right.1 none type later) (contains_cases one more type there)
+all_contained first second names (one ∷ more) (Some outside ∷ answers) right none type there = absurd (true≢false none)
 
-pub types_contained : (first second : Resolved) (answers : List Answer) (status : Status) → HasAllLines status → list_any is_some answers ≡ false → Answered first second (listed first first.guard.types) answers status → AreTypesContained first second
-types_contained first second answers status all_lines none told = λ type there concrete.
+pub types_contained : (first second : Resolved) (names : Names) (answers : List Answer) (status : Status) → HasAllLines status → list_any is_some answers ≡ false → Answered first second names (listed first first.guard.types) answers status → AreTypesContained first second
+types_contained first second names answers status all_lines none told = λ type there concrete.
     let all : listed first first.guard.types ≡ told.answered = told.parts ∙ ap (λ (more : List Listed). told.answered ++ more) (told.whole all_lines) ∙ append-nil told.answered in
     let name = listed_here first type concrete in
-    all_contained first second told.answered answers told.right none (type, name.0)
+    all_contained first second names told.answered answers told.right none (type, name.0)
     (subst (λ (ts : List Listed). Contains ts (type, name.0)) all (given_given (listed_at first) first.guard.types type (type, name.0) there name.1))

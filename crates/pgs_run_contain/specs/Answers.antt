@@ -12,6 +12,8 @@ use Rattle.pgs_answer.specs.Lines.{contained_line, outside_line}
 use Rattle.pgs_contain.specs.declared.outside.Outside.{Outside}
 use Rattle.pgs_contain.specs.declared.outside.Outside.TheVariants as outsides
 use Rattle.pgs_contain.specs.Contained.{IsContained, IsOutside}
+use Rattle.pgs_contain.specs.Strange.{IsStrange}
+use Rattle.pgs_run_contain.specs.Names.{Names}
 
 abbrev pub Answer : Type 0
 Answer = Option Outside
@@ -56,10 +58,14 @@ answer_lines [] answers = []
 answer_lines (type ∷ more) [] = []
 answer_lines (type ∷ more) (answer ∷ answers) = answer_line type.1 answer ∷ answer_lines more answers
 
--- each of these types has its answer, and each answer is right: with none the type is contained, else what it has is outside
-abbrev pub AreRight : Resolved → Resolved → List Listed → List Answer → Type 0
-AreRight first second [] [] = Unit {0}
-AreRight first second [] (answer ∷ answers) = ⊥
-AreRight first second (type ∷ more) [] = ⊥
-AreRight first second (type ∷ more) (answer ∷ answers) =
-    MatchOption answer (IsContained first type.0 second) (IsOutside first type.0 second) × AreRight first second more answers
+-- an answer is right: with none the type is contained, else what it has is outside, and strange to names but for those of shapes
+abbrev pub IsRightAnswer : Resolved → Resolved → Names → TypeNo → Answer → Type 0
+IsRightAnswer first second names type answer =
+    MatchOption answer (IsContained first type second) (λ outside. IsOutside first type second outside × IsStrange names first type second outside)
+
+-- each of these types has its answer, and each answer is right
+abbrev pub AreRight : Resolved → Resolved → Names → List Listed → List Answer → Type 0
+AreRight first second names [] [] = Unit {0}
+AreRight first second names [] (answer ∷ answers) = ⊥
+AreRight first second names (type ∷ more) [] = ⊥
+AreRight first second names (type ∷ more) (answer ∷ answers) = IsRightAnswer first second names type.0 answer × AreRight first second names more answers

@@ -15,6 +15,7 @@ use Rattle.pgs_command.specs.declared.status.Status.TheVariants.{Accepted, Refus
 use Rattle.pgs_run_contain.specs.declared.ending.Ending.{Ending}
 use Rattle.pgs_run_contain.specs.declared.ending.Ending.TheVariants as endings
 use Rattle.pgs_run_contain.specs.Answers.{Answer, Listed, listed, answer_lines, AreRight}
+use Rattle.pgs_run_contain.specs.Names.{Names}
 use Rattle.pgs_run_contain.specs.Told.{status_by}
 
 -- with these statuses each type has its line
@@ -24,34 +25,34 @@ HasAllLines Refused = Unit {0}
 HasAllLines status = ⊥
 
 -- right answers to the first of some types, and to all of them where each has its line
-pub record Answered (first second : Resolved) (types : List Listed) (answers : List Answer) (status : Status) : Type 0 where
+pub record Answered (first second : Resolved) (names : Names) (types : List Listed) (answers : List Answer) (status : Status) : Type 0 where
   pub answered : List Listed
   pub later : List Listed
   pub parts : types ≡ answered ++ later
-  pub right : AreRight first second answered answers
+  pub right : AreRight first second names answered answers
   pub whole : HasAllLines status → later ≡ []
 
 -- ---- the types
 
 -- each of these types was answered rightly and has its line; it is known whether something is outside
-pub record TellsAll (first second : Resolved) (numbers : List TypeNo) (some : Bool) (old new : View) : Type 0 where
+pub record TellsAll (first second : Resolved) (names : Names) (numbers : List TypeNo) (some : Bool) (old new : View) : Type 0 where
   pub answers : List Answer
-  pub right : AreRight first second (listed first numbers) answers
+  pub right : AreRight first second names (listed first numbers) answers
   pub is : some ≡ list_any is_some answers
   pub puts : PutsAll old (answer_lines (listed first numbers) answers) new
 
 -- some first ones were answered, and of their lines those were put that the stop says
-pub record TellsSome (first second : Resolved) (numbers : List TypeNo) (stop : Stop Status) (old new : View) : Type 0 where
+pub record TellsSome (first second : Resolved) (names : Names) (numbers : List TypeNo) (stop : Stop Status) (old new : View) : Type 0 where
   pub answers : List Answer
   pub answered : List Listed
   pub later : List Listed
   pub parts : listed first numbers ≡ answered ++ later
-  pub right : AreRight first second answered answers
+  pub right : AreRight first second names answered answers
   pub puts : PutsUntil old (answer_lines answered answers) stop new
 
-abbrev pub Tells : Resolved → Resolved → List TypeNo → Result Bool (Stop Status) → View → View → Type 0
-Tells first second numbers (Ok some) old new = TellsAll first second numbers some old new
-Tells first second numbers (Err stop) old new = TellsSome first second numbers stop old new
+abbrev pub Tells : Resolved → Resolved → Names → List TypeNo → Result Bool (Stop Status) → View → View → Type 0
+Tells first second names numbers (Ok some) old new = TellsAll first second names numbers some old new
+Tells first second names numbers (Err stop) old new = TellsSome first second names numbers stop old new
 
 -- the end of a run by whether something is outside, or by the stop
 abbrev pub stop_by : Result Bool (Stop Status) → Stop Status
@@ -61,10 +62,10 @@ stop_by (Err stop) = stop
 -- ---- behind the texts
 
 -- the types of the first guard were told
-pub record TellsTypes (first second : Resolved) (old : View) (stop : Stop Status) (new : View) : Type 0 where
+pub record TellsTypes (first second : Resolved) (names : Names) (old : View) (stop : Stop Status) (new : View) : Type 0 where
   pub told : Result Bool (Stop Status)
   pub is : stop ≡ stop_by told
-  pub tells : Tells first second first.guard.types told old new
+  pub tells : Tells first second names first.guard.types told old new
 
 -- nothing was put, and the run stops so
 pub record PutsNothing (so : Stop Status) (old : View) (stop : Stop Status) (new : View) : Type 0 where
@@ -75,8 +76,8 @@ pub record PutsNothing (so : Stop Status) (old : View) (stop : Stop Status) (new
 
 -- behind two schemas the types are told; else the run stops as the reading did
 abbrev pub Follows : Stop Ending → View → Stop Status → View → Type 0
-Follows (stops.Ended (endings.Fit first second)) old stop new = TellsTypes first second old stop new
-Follows (stops.Ended (endings.Refused kept)) old stop new = PutsNothing (stops.Ended SchemaRefused) old stop new
+Follows (stops.Ended (endings.Fit first second names)) old stop new = TellsTypes first second names old stop new
+Follows (stops.Ended endings.Refused) old stop new = PutsNothing (stops.Ended SchemaRefused) old stop new
 Follows (stops.Ended endings.Cut) old stop new = PutsNothing (stops.Ended InputTooLong) old stop new
 Follows stops.ReadFault old stop new = PutsNothing stops.ReadFault old stop new
 Follows stops.DiskFault old stop new = PutsNothing stops.DiskFault old stop new

@@ -23,8 +23,14 @@ fn end_run<W: World>(alloc: Global, world: &mut W, texts: Stop<Ending>) -> Stop<
     ensures last { is_of_world result ≡ true → W.failed world.new }
 {
     match texts {
-        Stop::Ended(Ending::Fit { first, second }) => put_guard(alloc, world, &first, &second),
-        Stop::Ended(Ending::Refused { .. }) => Stop::Ended(Status::SchemaRefused),
+        Stop::Ended(
+            Ending::Fit {
+                first,
+                second,
+                names,
+            },
+        ) => put_guard(alloc, world, &first, &second, names.as_slice()),
+        Stop::Ended(Ending::Refused) => Stop::Ended(Status::SchemaRefused),
         Stop::Ended(Ending::Cut) => Stop::Ended(Status::InputTooLong),
         Stop::ReadFault => Stop::ReadFault,
         Stop::DiskFault => Stop::DiskFault,
@@ -34,8 +40,8 @@ fn end_run<W: World>(alloc: Global, world: &mut W, texts: Stop<Ending>) -> Stop<
 }
 
 /// Runs `contain` over an input within a budget of bytes, at most 2^40, and answers the status. What it puts and answers is what
-/// `contain_spec` tells by right answers to the types: with none a type is contained in the second schema, else what the answer has is
-/// outside. It uses no area.
+/// `contain_behind` tells by right answers to the types: with none a type is contained in the second schema, else what the answer has is
+/// outside, and has a label or a key that stands in a text only where shapes name it. It uses no area.
 pub fn run_contain<S: Source, W: World>(
     alloc: Global,
     source: &mut S,

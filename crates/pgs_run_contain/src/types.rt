@@ -10,7 +10,7 @@ use crate::answer::answer_line;
 use pgs_base::Name;
 use pgs_command::Status;
 use pgs_conform::Compiled;
-use pgs_contain::contained;
+use pgs_contain::Containing;
 use pgs_run_lines::{Stop, put_made};
 use pgs_syntax::{Resolved, TypeNo};
 use pgs_world::World;
@@ -44,16 +44,16 @@ fn put_answer<W: World>(
     alloc: Global,
     world: &mut W,
     first: &Compiled,
-    second: &Compiled,
+    containing: &Containing<'_>,
     number: TypeNo,
     name: &Name,
 ) -> Result<bool, Stop<Status>>
     requires there { has_type first.now number ≡ true }
     requires named { listed_name first.now number ≡ Some name.now }
-    ensures answer { Tells first.now second.now (number ∷ []) result (W.view world.old) (W.view world.new) }
+    ensures answer { Tells first.now containing.now.second containing.now.avoid (number ∷ []) result (W.view world.old) (W.view world.new) }
     ensures last { stops_of_world result ≡ true → W.failed world.new }
 {
-    let answer = match contained(alloc, first, number, second) {
+    let answer = match containing.outside_of(alloc, first, number) {
         Ok(answer) => answer,
         Err(_) => return Err(Stop::Memory),
     };
@@ -69,33 +69,32 @@ fn put_type<W: World>(
     alloc: Global,
     world: &mut W,
     first: &Compiled,
-    second: &Compiled,
+    containing: &Containing<'_>,
     number: TypeNo,
 ) -> Result<bool, Stop<Status>>
-    ensures answer { Tells first.now second.now (number ∷ []) result (W.view world.old) (W.view world.new) }
+    ensures answer { Tells first.now containing.now.second containing.now.avoid (number ∷ []) result (W.view world.old) (W.view world.new) }
     ensures last { stops_of_world result ≡ true → W.failed world.new }
 {
     match listed_name(first.resolved(), number) {
-        Some(name) => put_answer(alloc, world, first, second, number, name),
+        Some(name) => put_answer(alloc, world, first, containing, number, name),
         None => Ok(false),
     }
 }
 
-/// Puts the lines of those of these types that aren't abstract, in their order: whether something is outside of one. `Memory` where there was
-/// none left, `PutFault` where a put failed; each line is put before the next type is judged.
-pub fn put_types<W: World>(
+// Puts the lines of those of these types that aren't abstract, in their order: whether something is outside of one.
+fn put_types<W: World>(
     alloc: Global,
     world: &mut W,
     first: &Compiled,
-    second: &Compiled,
+    containing: &Containing<'_>,
     numbers: &[TypeNo],
 ) -> Result<bool, Stop<Status>>
-    ensures answer { Tells first.now second.now numbers.now result (W.view world.old) (W.view world.new) }
+    ensures answer { Tells first.now containing.now.second containing.now.avoid numbers.now result (W.view world.old) (W.view world.new) }
     ensures last { stops_of_world result ≡ true → W.failed world.new }
 {
     let mut some = false;
     for number in numbers {
-        match put_type(alloc, world, first, second, *number) {
+        match put_type(alloc, world, first, containing, *number) {
             Ok(one) => some |= one,
             Err(stop) => return Err(stop),
         }
@@ -114,17 +113,37 @@ fn stop_by(told: Result<bool, Stop<Status>>) -> Stop<Status>
     }
 }
 
-/// Puts a line for each type of the first guard that isn't abstract, in its order: how the run ends.
+/// Puts the lines of all types of the first guard that aren't abstract, in their order: whether something is outside of one. What is told is
+/// strange to the names. `Memory` where there was none left, `PutFault` where a put failed; each line is put before the next type is judged.
+pub fn put_all_types<W: World>(
+    alloc: Global,
+    world: &mut W,
+    first: &Compiled,
+    second: &Compiled,
+    names: &[Name],
+) -> Result<bool, Stop<Status>>
+    ensures answer { Tells first.now second.now names.now first.now.guard.types result (W.view world.old) (W.view world.new) }
+    ensures last { stops_of_world result ≡ true → W.failed world.new }
+{
+    let containing = match Containing::new(alloc, second, names) {
+        Ok(containing) => containing,
+        Err(_) => return Err(Stop::Memory),
+    };
+    let numbers = first.resolved().guard.types.as_slice();
+    put_types(alloc, world, first, &containing, numbers)
+}
+
+/// Puts a line for each type of the first guard that isn't abstract, in its order: how the run ends. What is told is strange to the names.
 pub(crate) fn put_guard<W: World>(
     alloc: Global,
     world: &mut W,
     first: &Compiled,
     second: &Compiled,
+    names: &[Name],
 ) -> Stop<Status>
-    ensures answer { TellsTypes first.now second.now (W.view world.old) result (W.view world.new) }
+    ensures answer { TellsTypes first.now second.now names.now (W.view world.old) result (W.view world.new) }
     ensures last { is_of_world result ≡ true → W.failed world.new }
 {
-    let numbers = first.resolved().guard.types.as_slice();
-    let told = put_types(alloc, world, first, second, numbers);
+    let told = put_all_types(alloc, world, first, second, names);
     stop_by(told)
 }
