@@ -80,7 +80,10 @@ fn syncs_of_a_lost_file(rt: &HostRuntime) -> Result<[bool; 2], Memory> {
     let mut writer = opened(rt, StoreAccess::Append)?;
     let mut reader = opened(rt, StoreAccess::Read)?;
     remove(rt);
-    Ok([writer.sync(0, Area::A).is_err(), reader.sync(0, Area::A).is_err()])
+    Ok([
+        writer.sync(0, Area::A).is_err(),
+        reader.sync(0, Area::A).is_err(),
+    ])
 }
 
 /// What a second run meets that reads, and then three that write.

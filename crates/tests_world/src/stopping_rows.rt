@@ -17,8 +17,22 @@ fn a_file_that_tells_stops_gives_back_what_was_written(rt: HostRuntime) -> Resul
     let mut byte = [0];
     let read = file.read_once(6, 2, &mut byte).ok();
     assert_eq!(rt;
-        (changed, cut, read, byte, file.length_once(7).ok(), Handle::until(&file)),
-        ([Some(3), Some(4), None], [true, true], Some(1), *b"d", Some(4), 5)
+        (
+            changed,
+            cut,
+            read,
+            byte,
+            file.length_once(7).ok(),
+            Handle::until(&file)
+        ),
+        (
+            [Some(3), Some(4), None],
+            [true, true],
+            Some(1),
+            *b"d",
+            Some(4),
+            5
+        )
     );
     Ok(())
 }
