@@ -1,10 +1,10 @@
 -- The file and the output in memory keep the laws of what a stop may leave.
-use Rattle.std.specs.Prelude.{◌≡◌, ◌⊎◌, ℕ, ◌+◌, ◌<◌, ◌≤◌, max, min, Bool, true, false, List, [], ◌∷◌, ◌++◌, length, take, drop, Option, Some, None, Result, Ok, Err, IfOk, refl}
+use Rattle.std.specs.Prelude.{◌≡◌, ◌⊎◌, ℕ, ◌+◌, ◌<◌, ◌≤◌, Bool, true, false, List, [], ◌∷◌, ◌++◌, length, take, drop, Result, Ok, Err, refl}
 use Rattle.std.proofs.Common.{inl, inr, sym, ap, subst, ◌∙◌, arith, append_assoc, append-nil, length-append, length-take-le, length-drop, le_refl}
 use Rattle.std.proofs.lemmas.List.{take_at, drop_at, take-take, take_all}
 use Rattle.std.specs.declared.io.Error.{Error}
 use Rattle.pgs_world.specs.Disk.{written_over, IsTorn, IsCutShort}
-use Rattle.pgs_world_streams.specs.Past.{Past, IsPast, GoesOn, IsSame}
+use Rattle.pgs_world_streams.specs.Past.{IsPast, GoesOn, IsSame}
 use Rattle.pgs_world_streams.specs.Written.{HasWriterStops, IsLonger}
 use Rattle.pgs_world_files.specs.Contents.{IsOver}
 use Rattle.pgs_world_files.specs.Stops.{HasStops}

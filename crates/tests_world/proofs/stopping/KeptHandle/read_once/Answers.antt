@@ -1,4 +1,4 @@
-use Rattle.std.proofs.Common.{rules, refl, arith}
+use Rattle.std.proofs.Common.{rules, refl}
 use Rattle.tests_world.proofs.OneByte.{read_one}
 use Rattle.tests_world.proofs.stopping.KeptHandle.read_once.Goals as goal
 
