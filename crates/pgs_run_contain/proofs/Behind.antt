@@ -29,12 +29,12 @@ use Rattle.pgs_command.proofs.OwnEnds.{IsDone, EndsAlone, ends_alone, read_alone
 use Rattle.pgs_command.proofs.OwnPromise.{own_command}
 use Rattle.pgs_command.proofs.Promising.{promise_reading}
 use Rattle.pgs_run_input.specs.Answers.{schema_answer}
-use Rattle.pgs_run_input.specs.Input.{text_limit}
+use Rattle.pgs_run_input.specs.Input.{text_limit, text_front}
 use Rattle.pgs_run_contain.specs.declared.ending.Ending.{Ending}
 use Rattle.pgs_run_contain.specs.declared.ending.Ending.TheVariants as endings
 use Rattle.pgs_run_contain.specs.declared.phase.Phase.{Phase}
 use Rattle.pgs_run_contain.specs.declared.phase.Phase.TheVariants as phases
-use Rattle.pgs_run_contain.specs.Behind.{Behind, told_with, told_compared, IsRightAt, compared_spec, FollowsBoth, FollowsTexts, Reading}
+use Rattle.pgs_run_contain.specs.Behind.{Behind, told_at, told_with, told_compared, IsRightAt, compared_spec, FollowsEnding, FollowsTexts, Reading}
 use Rattle.pgs_run_contain.specs.Comparing.{comparing, first_phase, next_of, after_end, pieces_at_end, told_after}
 use Rattle.pgs_run_contain.specs.Names.{Names, names_in}
 use Rattle.pgs_run_contain.specs.Running.{HasAllLines, PutsNothing}
@@ -45,28 +45,31 @@ use Rattle.pgs_run_contain.proofs.Machine.{told_by_texts}
 pub record Rules (behind : Behind) : Type 0 where
   pub none_told : (first second : Resolved) → (behind.told behind.none first second).pieces ≡ []
   pub none_right : (first second : Resolved) (names : Names) (status : Status) → (HasAllLines status → ⊥) → behind.IsRight behind.none first second names status
+  pub none_cause : behind.cause behind.none ≡ []
+  pub none_is_cause : (kept : List ℕ) → behind.IsCause behind.none kept
   pub done : (choice : behind.Choice) (first second : Resolved) → IsDone (behind.told choice first second).status
 
 module _ (behind : Behind) (rules : Rules behind) where
   -- a run that stopped before both schemas were told of
   none_right_at : (ending : Ending) (status : Status) → (HasAllLines status → ⊥) → IsRightAt behind behind.none ending status
   none_right_at (endings.Fit first second names) status undone = rules.none_right first second names status undone
-  none_right_at endings.Refused status undone = tt
+  none_right_at (endings.Refused kept) status undone = rules.none_is_cause kept
   none_right_at endings.Cut status undone = tt
 
   -- no more is told then than the texts do
   behind_none : (pieces : List (List ℕ)) (ending : Ending) → (told_with behind behind.none pieces ending).pieces ≡ pieces
   behind_none pieces (endings.Fit first second names) =
       ap (λ more. pieces ++ more) (rules.none_told first second) ∙ append-nil pieces
-  behind_none pieces endings.Refused = refl
-  behind_none pieces endings.Cut = refl
+  behind_none pieces (endings.Refused kept) = ap (λ more. pieces ++ more) rules.none_cause ∙ append-nil pieces
+  behind_none pieces endings.Cut = append-nil pieces
+
+  abbrev told_of : List (List ℕ) → Status → Told Status
+  told_of pieces status = record { pieces = pieces; status = status }
 
   -- ---- the machine
 
   abbrev status_behind : behind.Choice → Ending → Status
-  status_behind choice (endings.Fit first second names) = (behind.told choice first second).status
-  status_behind choice endings.Refused = SchemaRefused
-  status_behind choice endings.Cut = InputTooLong
+  status_behind choice ending = (told_at behind choice ending).status
 
   abbrev standing_behind : behind.Choice → RunState Phase Ending → RunState Phase Status
   standing_behind choice (Going phase) = Going phase
@@ -88,20 +91,20 @@ module _ (behind : Behind) (rules : Rules behind) where
     line_status : (phase : Phase) (status : Status) → standing_behind choice (next_of phase) ≡ Ended status → status ≡ SchemaRefused
     line_status (phases.First part) status is = cc
     line_status (phases.Second first names part) status is = cc
-    line_status phases.Refused status is = cc
+    line_status (phases.Refused kept) status is = cc
 
-    done_second : (first : Resolved) (names : Names) (answer : Result Resolved (List ℕ)) → IsDone (status_behind choice (told_second first names answer).status)
-    done_second first names (Ok second) = rules.done choice first second
-    done_second first names (Err text) = inr (inr refl)
+    done_second : (first : Resolved) (names : Names) (kept : List ℕ) (answer : Result Resolved (List ℕ)) → IsDone (status_behind choice (told_second first names kept answer).status)
+    done_second first names kept (Ok second) = rules.done choice first second
+    done_second first names kept (Err refusal) = inr (inr refl)
 
-    done_first : (names : Names) (answer : Result Resolved (List ℕ)) → IsDone (status_behind choice (told_first true names answer []).status)
-    done_first names (Ok first) = done_second first (names ++ names_in []) (schema_answer [])
-    done_first names (Err text) = inr (inr refl)
+    done_first : (kept : List ℕ) (answer : Result Resolved (List ℕ)) → IsDone (status_behind choice (told_first true kept answer []).status)
+    done_first kept (Ok first) = done_second first (names_in kept) (text_front []) (schema_answer [])
+    done_first kept (Err refusal) = inr (inr refl)
 
     done_after : (phase : Phase) → IsDone (status_behind choice (told_after phase).status)
-    done_after (phases.First part) = done_first (names_in part.text) (schema_answer part.text)
-    done_after (phases.Second first names part) = done_second first (names ++ names_in part.text) (schema_answer part.text)
-    done_after phases.Refused = inr (inr refl)
+    done_after (phases.First part) = done_first part.text (schema_answer part.text)
+    done_after (phases.Second first names part) = done_second first names part.text (schema_answer part.text)
+    done_after (phases.Refused kept) = inr (inr refl)
 
     pub alone : EndsAlone (comparing_with choice)
     alone = record {
@@ -150,33 +153,35 @@ module _ (behind : Behind) (rules : Rules behind) where
       reads = reads;
     }
 
-    ended_shown : (ending : Ending) (status : Status) → Reading budget old source mid (stops.Ended ending) → ((pieces : List (List ℕ)) → told_with behind behind.none pieces ending ≡ record { pieces = pieces; status = status })
-        → (input : List ℕ) → old.source.left ≡ Some input → lines.Ends (shown_of old.view) (told_compared behind behind.none input budget) (stops.Ended status) (shown_of mid)
-    ended_shown ending status read told input is =
+    cut_shown : Reading budget old source mid (stops.Ended endings.Cut) → (input : List ℕ) → old.source.left ≡ Some input
+        → lines.Ends (shown_of old.view) (told_compared behind behind.none input budget) (stops.Ended InputTooLong) (shown_of mid)
+    cut_shown read input is =
         let ends = (read.ends input is).shown in
         let pieces = (told_texts input budget).pieces in
-        subst (λ (t : Told Status). lines.Ends (shown_of old.view) t (stops.Ended status) (shown_of mid)) (sym (ap (told_with behind behind.none pieces) ends.1 ∙ told pieces)) (ends.0, refl)
+        let told : told_compared behind behind.none input budget ≡ record { pieces = pieces; status = InputTooLong } =
+        ap (told_with behind behind.none pieces) ends.1 ∙ ap (λ (ps : List (List ℕ)). told_of ps InputTooLong) (append-nil pieces) in
+        subst (λ (t : Told Status). lines.Ends (shown_of old.view) t (stops.Ended InputTooLong) (shown_of mid)) (sym told) (ends.0, refl)
 
     none_told : (input : List ℕ) → (told_compared behind behind.none input budget).pieces ≡ (told_texts input budget).pieces
     none_told input = behind_none (told_texts input budget).pieces (told_texts input budget).status
 
-    -- behind two schemas, with what follows them
-    fit : (first second : Resolved) (names : Names) (stop : Stop Status) (new : View) → FollowsBoth behind first second names mid stop new → Reading budget old source mid (stops.Ended (endings.Fit first second names))
-        → Choosing budget old source (stops.Ended (endings.Fit first second names)) stop new
-    fit first second names stop new follows read = record {
+    -- behind two schemas, or behind a text that is refused, with what follows
+    judged : (ending : Ending) (stop : Stop Status) (new : View) → FollowsEnding behind ending mid stop new → Reading budget old source mid (stops.Ended ending)
+        → Choosing budget old source (stops.Ended ending) stop new
+    judged ending stop new follows read = record {
       choice = follows.choice;
-      right = λ input is. subst (λ ending. IsRightAt behind follows.choice ending (status_at stop)) (sym (read.ends input is).shown.1) follows.right;
+      right = λ input is. subst (λ (e : Ending). IsRightAt behind follows.choice e (status_at stop)) (sym (read.ends input is).shown.1) follows.right;
       ends = λ input is.
           let texts = read.ends input is in
           let pieces = (told_texts input budget).pieces in
           record {
-            shown = subst (λ ending. lines.Ends (shown_of old.view) (told_with behind follows.choice pieces ending) stop (shown_of new)) (sym texts.shown.1)
-                (ends_on stop (shown_of old.view) (shown_of mid) (shown_of new) pieces (behind.told follows.choice first second) texts.shown.0 follows.ends);
+            shown = subst (λ (e : Ending). lines.Ends (shown_of old.view) (told_with behind follows.choice pieces e) stop (shown_of new)) (sym texts.shown.1)
+                (ends_on stop (shown_of old.view) (shown_of mid) (shown_of new) pieces (told_at behind follows.choice ending) texts.shown.0 follows.ends);
             read_fault = λ rest rest_is fault. absurd (unread stop follows.may fault);
             within = texts.within;
           };
-      by = by_told stop (behind.told follows.choice first second) (shown_of mid) (shown_of new) follows.ends
-          (by_texts follows.choice budget old.source.left source.left (endings.Fit first second names) read.by);
+      by = by_told stop (told_at behind follows.choice ending) (shown_of mid) (shown_of new) follows.ends
+          (by_texts follows.choice budget old.source.left source.left ending read.by);
       may = may_stop stop follows.may;
       cause = cause_on (faults_in old) (faults_of source.faults mid) (faults_of source.faults new) stop read.cause (world_cause source.faults mid new stop follows.cause);
       areas = keeps_on old.view mid new read.areas follows.areas;
@@ -227,14 +232,11 @@ module _ (behind : Behind) (rules : Rules behind) where
 
     -- behind all texts
     choosing : (texts : Stop Ending) (stop : Stop Status) (new : View) → Reading budget old source mid texts → FollowsTexts behind texts mid stop new → Choosing budget old source texts stop new
-    choosing (stops.Ended (endings.Fit first second names)) stop new read follows = fit first second names stop new follows read
-    choosing (stops.Ended endings.Refused) stop new read follows =
-        kept (stops.Ended endings.Refused) (stops.Ended SchemaRefused) stop new follows
-        (still (stops.Ended endings.Refused) (stops.Ended SchemaRefused) read (λ done. done) (ended_shown endings.Refused SchemaRefused read (λ pieces. refl)) (λ fault. cc)
-        (by_texts behind.none budget old.source.left source.left endings.Refused read.by) tt read.cause refl)
+    choosing (stops.Ended (endings.Fit first second names)) stop new read follows = judged (endings.Fit first second names) stop new follows read
+    choosing (stops.Ended (endings.Refused text)) stop new read follows = judged (endings.Refused text) stop new follows read
     choosing (stops.Ended endings.Cut) stop new read follows =
         kept (stops.Ended endings.Cut) (stops.Ended InputTooLong) stop new follows
-        (still (stops.Ended endings.Cut) (stops.Ended InputTooLong) read (λ done. done) (ended_shown endings.Cut InputTooLong read (λ pieces. refl)) (λ fault. cc)
+        (still (stops.Ended endings.Cut) (stops.Ended InputTooLong) read (λ done. done) (cut_shown read) (λ fault. cc)
         (by_texts behind.none budget old.source.left source.left endings.Cut read.by) tt read.cause refl)
     choosing stops.ReadFault stop new read follows =
         kept stops.ReadFault stops.ReadFault stop new follows

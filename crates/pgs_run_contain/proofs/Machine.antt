@@ -1,19 +1,15 @@
 -- The machine of the two texts tells what `told_texts` says.
-use Rattle.std.proofs.Common.{◌≡◌, ◌⊎◌, inl, inr, ℕ, ◌<◌, Bool, false, true, not, cond, nat_le, nat_lt, List, [], ◌∷◌, ◌++◌, length, Result, Ok, Err, refl, sym, ap, ap₂, subst, ◌∙◌, arith}
-use Rattle.std.specs.Prelude.{◌||◌}
-use Rattle.std.specs.List.{list_any, join_with_byte}
-use Rattle.std.proofs.lemmas.Bool.Decides.{nat_tests}
-use Rattle.std.proofs.lemmas.List.{append-nil}
-use Rattle.pgs_run_lines.specs.Input.{front_of}
+use Rattle.std.proofs.Common.{◌≡◌, ◌⊎◌, inl, inr, ℕ, Bool, false, true, not, cond, nat_le, List, [], ◌∷◌, ◌++◌, length, Result, Ok, Err, refl, sym, ap, subst, ◌∙◌}
+use Rattle.std.specs.List.{join_with_byte}
 use Rattle.pgs_run_lines.specs.Machine.{Told, Going, told_by, status_at_cut}
 use Rattle.pgs_run_lines.specs.Telling.{telling}
-use Rattle.pgs_run_lines.proofs.Fronts.{front_none, same_of_front}
+use Rattle.pgs_run_lines.proofs.Fronts.{front_none}
 use Rattle.pgs_syntax.specs.declared.resolved.Resolved.{Resolved}
 use Rattle.pgs_answer.specs.Lines.{schema_refused_line}
 use Rattle.pgs_run_input.specs.Answers.{schema_answer}
 use Rattle.pgs_run_input.specs.Input.{text_limit, text_front, is_separator, schema_part, after_separator}
 use Rattle.pgs_run_input.specs.Judged.{pieces_of_schema}
-use Rattle.pgs_run_input.specs.Part.{Part, with_line, no_part, has_none}
+use Rattle.pgs_run_input.specs.Part.{Part, with_line, has_none}
 use Rattle.pgs_run_input.proofs.ByLines.{EndsIn, TellsLines, by_lines}
 use Rattle.pgs_run_input.proofs.Joining.{has_some, begun_more, text_of_more}
 use Rattle.pgs_run_input.proofs.SameFronts.{separator_of_front, schema_so_far}
@@ -24,214 +20,174 @@ use Rattle.pgs_run_contain.specs.declared.phase.Phase.{Phase}
 use Rattle.pgs_run_contain.specs.declared.phase.Phase.TheVariants.{First, Second, Refused}
 use Rattle.pgs_run_contain.specs.Comparing.{comparing, compare_teller, first_phase, after_first, after_end, pieces_at_end, next_of, told_after}
 use Rattle.pgs_run_contain.specs.Names.{Names, names_in}
-use Rattle.pgs_run_contain.specs.Told.{told_first, told_second, told_texts, told_lines, second_part}
-
--- ---- the names of a text and of its front
-
-long_names : (text : List ℕ) → text_limit < length text → names_in text ≡ []
-unfolding names_in
-long_names text long = rw (let is : nat_lt text_limit (length text) ≡ true = grind (arith, nat_tests) in is) refl
-
-pub names_of_front : (text : List ℕ) → names_in (text_front text) ≡ names_in text
-names_of_front text = same_of_front text_limit names_in [] text long_names
-
--- the names that a part has so far
-names_so_far : (part : Part) (lines : List (List ℕ)) → part.text ≡ text_front (join_with_byte 10 lines) → names_in (join_with_byte 10 lines) ≡ names_in part.text
-names_so_far part lines text = sym (names_of_front (join_with_byte 10 lines)) ∙ ap names_in (sym text)
-
--- ---- where lines lead
-
--- the names and the schema of the first text of these lines
-abbrev names_before : List (List ℕ) → Names
-names_before lines = names_in (schema_part lines)
-
-abbrev answer_before : List (List ℕ) → Result Resolved (List ℕ)
-answer_before lines = schema_answer (schema_part lines)
+use Rattle.pgs_run_contain.specs.Told.{refused_by, told_first, told_second, second_part, told_lines, told_texts}
 
 abbrev told_of : List (List ℕ) → Ending → Told Ending
 told_of pieces status = record { pieces = pieces; status = status }
 
--- no separator came
-record InFirst (lines : List (List ℕ)) (phase : Phase) : Type 0 where
-  pub part : Part
-  pub is : phase ≡ First part
-  pub none : HasNo lines
-  pub text : part.text ≡ text_front (join_with_byte 10 lines)
-  pub begun : part.begun ≡ not (has_none lines)
+-- the text of lines
+abbrev text_of : List (List ℕ) → List ℕ
+text_of lines = join_with_byte 10 lines
 
--- one came behind a schema
-record InSecond (lines : List (List ℕ)) (phase : Phase) : Type 0 where
-  pub first : Resolved
-  pub part : Part
-  pub is : phase ≡ Second first (names_before lines) part
-  pub one : HasOne lines
-  pub found : answer_before lines ≡ Ok first
-  pub text : part.text ≡ text_front (second_part lines)
-  pub begun : part.begun ≡ not (has_none (after_separator lines))
+-- ---- what lines tell, by what is known of them
 
--- one came behind a text that is none
-record InRefused (lines : List (List ℕ)) (phase : Phase) : Type 0 where
-  pub text : List ℕ
-  pub is : phase ≡ Refused
-  pub one : HasOne lines
-  pub found : answer_before lines ≡ Err text
+told_with : (whole : Bool) (lines : List (List ℕ)) → HasOne lines → told_lines whole lines ≡ told_first whole (text_front (schema_part lines)) (schema_answer (schema_part lines)) (second_part lines)
+told_with true lines has = refl
+told_with false lines has = rw has refl
 
-abbrev Leads : List (List ℕ) → Phase → Type 0
-Leads lines phase = InFirst lines phase ⊎ (InSecond lines phase ⊎ InRefused lines phase)
+told_found : (whole : Bool) (lines : List (List ℕ)) (found : Result Resolved (List ℕ)) → HasOne lines → schema_answer (schema_part lines) ≡ found → told_lines whole lines ≡ told_first whole (text_front (schema_part lines)) found (second_part lines)
+told_found whole lines found has is =
+    told_with whole lines has ∙ ap (λ (answer : Result Resolved (List ℕ)). told_first whole (text_front (schema_part lines)) answer (second_part lines)) is
 
-refused_ends : EndsIn compare_teller Refused
-refused_ends = record { status = endings.Refused; is = refl; after = λ line. refl; pieces = λ line. refl; told = refl }
-
-next_at : (lines : List (List ℕ)) (phase : Phase) → Leads lines phase → (next_of phase ≡ Going phase) ⊎ EndsIn compare_teller phase
-next_at lines phase (inl p) = inl (subst (λ (s : Phase). next_of s ≡ Going s) (sym p.is) refl)
-next_at lines phase (inr (inl b)) = inl (subst (λ (s : Phase). next_of s ≡ Going s) (sym b.is) refl)
-next_at lines phase (inr (inr r)) = inr (subst (EndsIn compare_teller) (sym r.is) refused_ends)
-
--- ---- the first text stays behind its separator
-
-part_kept : (lines : List (List ℕ)) (line : List ℕ) → HasOne lines → schema_part (lines ++ line ∷ []) ≡ schema_part lines
-part_kept lines line has = ap (join_with_byte 10) (before-append lines (line ∷ []) has)
-
-part_first : (lines : List (List ℕ)) (line : List ℕ) → HasNo lines → is_separator line ≡ true → schema_part (lines ++ line ∷ []) ≡ join_with_byte 10 lines
-part_first lines line none is = ap (join_with_byte 10) (before-first lines line is none)
-
--- ---- one more line
-
-leads_schema : (lines : List (List ℕ)) (end : List ℕ) (names : Names) (answer : Result Resolved (List ℕ)) → HasNo lines → is_separator end ≡ true → names_in (join_with_byte 10 lines) ≡ names →
-    schema_answer (join_with_byte 10 lines) ≡ answer → Leads (lines ++ end ∷ []) (after_first names answer)
-leads_schema lines end names (Err refusal) none is named found =
-    inr (inr (record { text = refusal; is = refl; one = one_first lines end none is; found = ap schema_answer (part_first lines end none is) ∙ found }))
-leads_schema lines end names (Ok first) none is named found = inr (inl (record {
-  first = first;
-  part = no_part;
-  is = ap (λ (ns : Names). Second first ns no_part) (sym (ap names_in (part_first lines end none is) ∙ named));
-  one = one_first lines end none is;
-  found = ap schema_answer (part_first lines end none is) ∙ found;
-  text = sym (ap (λ ls. text_front (join_with_byte 10 ls)) (after-first lines end is none) ∙ front_none text_limit);
-  begun = sym (ap (λ ls. not (has_none ls)) (after-first lines end is none));
-}))
-
-leads_part : (lines : List (List ℕ)) (line : List ℕ) (part : Part) (sep : Bool) → is_separator line ≡ sep → HasNo lines → part.text ≡ text_front (join_with_byte 10 lines) → part.begun ≡ not (has_none lines)
-    → Leads (lines ++ line ∷ []) (cond sep (after_first (names_in part.text) (schema_answer part.text)) (First (with_line part (text_front line))))
-leads_part lines line part true is none text begun = leads_schema lines line (names_in part.text) (schema_answer part.text) none is (names_so_far part lines text) (schema_so_far part lines text)
-leads_part lines line part false is none text begun = inl (record {
-  part = with_line part (text_front line);
-  is = refl;
-  none = none_more lines line none is;
-  text = text_of_more part lines line text begun;
-  begun = begun_more part (text_front line) part.begun refl ∙ ap not (sym (has_some lines line));
-})
-
-after_part : (part : Part) (line : List ℕ) → after_end (First part) (text_front line) ≡ cond (is_separator line) (after_first (names_in part.text) (schema_answer part.text)) (First (with_line part (text_front line)))
-after_part part line = ap (λ sep. cond sep (after_first (names_in part.text) (schema_answer part.text)) (First (with_line part (text_front line)))) (separator_of_front line)
-
-leads_line : (lines : List (List ℕ)) (line : List ℕ) (phase : Phase) → Leads lines phase → Leads (lines ++ line ∷ []) (after_end phase (text_front line))
-leads_line lines line phase (inl p) =
-    subst (Leads (lines ++ line ∷ [])) (sym (ap (λ (s : Phase). after_end s (text_front line)) p.is ∙ after_part p.part line))
-    (leads_part lines line p.part (is_separator line) refl p.none p.text p.begun)
-leads_line lines line phase (inr (inl b)) =
-    let behind = after-append lines (line ∷ []) b.one in
-    inr (inl (record {
-      first = b.first;
-      part = with_line b.part (text_front line);
-      is = ap (λ (s : Phase). after_end s (text_front line)) b.is ∙ ap (λ (ns : Names). Second b.first ns (with_line b.part (text_front line))) (sym (ap names_in (part_kept lines line b.one)));
-      one = one_more lines (line ∷ []) b.one;
-      found = ap schema_answer (part_kept lines line b.one) ∙ b.found;
-      text = text_of_more b.part (after_separator lines) line b.text b.begun ∙ ap (λ ls. text_front (join_with_byte 10 ls)) (sym behind);
-      begun = begun_more b.part (text_front line) b.part.begun refl ∙ ap not (sym (has_some (after_separator lines) line)) ∙ ap (λ ls. not (has_none ls)) (sym behind);
-    }))
-leads_line lines line phase (inr (inr r)) = inr (inr (record {
-  text = r.text;
-  is = ap (λ (s : Phase). after_end s (text_front line)) r.is;
-  one = one_more lines (line ∷ []) r.one;
-  found = ap schema_answer (part_kept lines line r.one) ∙ r.found;
-}))
-
--- ---- what lines tell
+told_refused : (whole : Bool) (lines : List (List ℕ)) (refusal : List ℕ) → HasOne lines → schema_answer (schema_part lines) ≡ Err refusal → told_lines whole lines ≡ refused_by (schema_refused_line refusal) (text_front (schema_part lines))
+told_refused true lines refusal has is = told_found true lines (Err refusal) has is
+told_refused false lines refusal has is = told_found false lines (Err refusal) has is
 
 told_without : (lines : List (List ℕ)) → HasNo lines → told_lines false lines ≡ told_of [] endings.Cut
 told_without lines none = rw none refl
 
-told_with : (whole : Bool) (lines : List (List ℕ)) → HasOne lines → told_lines whole lines ≡ told_first whole (names_before lines) (answer_before lines) (second_part lines)
-told_with true lines has = refl
-told_with false lines has = rw has refl
+-- the first text stays behind its separator
+found_more : (lines : List (List ℕ)) (line : List ℕ) (found : Result Resolved (List ℕ)) → HasOne lines → schema_answer (schema_part lines) ≡ found → schema_answer (schema_part (lines ++ line ∷ [])) ≡ found
+found_more lines line found has is = ap (λ ls. schema_answer (text_of ls)) (before-append lines (line ∷ []) has) ∙ is
 
-told_found : (whole : Bool) (lines : List (List ℕ)) (answer : Result Resolved (List ℕ)) → HasOne lines → answer_before lines ≡ answer → told_lines whole lines ≡ told_first whole (names_before lines) answer (second_part lines)
-told_found whole lines answer has is = told_with whole lines has ∙ ap (λ (a : Result Resolved (List ℕ)). told_first whole (names_before lines) a (second_part lines)) is
+found_first : (lines : List (List ℕ)) (end : List ℕ) (found : Result Resolved (List ℕ)) → HasNo lines → is_separator end ≡ true → schema_answer (text_of lines) ≡ found → schema_answer (schema_part (lines ++ end ∷ [])) ≡ found
+found_first lines end found none is e = ap (λ ls. schema_answer (text_of ls)) (before-first lines end is none) ∙ e
 
-refused_told : (whole : Bool) (names : Names) (text second : List ℕ) → told_first whole names (Err text) second ≡ told_of (schema_refused_line text ∷ []) endings.Refused
-refused_told true names text second = refl
-refused_told false names text second = refl
+-- ---- where lines lead
 
-told_refused : (whole : Bool) (lines : List (List ℕ)) (text : List ℕ) → HasOne lines → answer_before lines ≡ Err text → told_lines whole lines ≡ told_of (schema_refused_line text ∷ []) endings.Refused
-told_refused whole lines text has is = told_found whole lines (Err text) has is ∙ refused_told whole (names_before lines) text (second_part lines)
+record InFirst (lines : List (List ℕ)) (part : Part) : Type 0 where
+  pub none : HasNo lines
+  pub text : part.text ≡ text_front (text_of lines)
+  pub begun : part.begun ≡ not (has_none lines)
 
-pieces_judged : (names : Names) (answer : Result Resolved (List ℕ)) (second : List ℕ) → (told_first false names answer second).pieces ≡ pieces_of_schema answer
-pieces_judged names (Ok first) second = refl
-pieces_judged names (Err text) second = refl
+record InSecond (lines : List (List ℕ)) (first : Resolved) (names : Names) (part : Part) : Type 0 where
+  pub one : HasOne lines
+  pub found : schema_answer (schema_part lines) ≡ Ok first
+  pub named : names ≡ names_in (text_front (schema_part lines))
+  pub text : part.text ≡ text_front (second_part lines)
+  pub begun : part.begun ≡ not (has_none (after_separator lines))
 
-pieces_part : (lines : List (List ℕ)) (line : List ℕ) (part : Part) (sep : Bool) → is_separator line ≡ sep → HasNo lines → part.text ≡ text_front (join_with_byte 10 lines)
+record InRefused (lines : List (List ℕ)) (kept : List ℕ) : Type 0 where
+  pub refusal : List ℕ
+  pub one : HasOne lines
+  pub found : schema_answer (schema_part lines) ≡ Err refusal
+  pub text : kept ≡ text_front (schema_part lines)
+
+abbrev Leads : List (List ℕ) → Phase → Type 0
+Leads lines (First part) = InFirst lines part
+Leads lines (Second first names part) = InSecond lines first names part
+Leads lines (Refused kept) = InRefused lines kept
+
+next_at : (lines : List (List ℕ)) (phase : Phase) → Leads lines phase → (next_of phase ≡ Going phase) ⊎ EndsIn compare_teller phase
+next_at lines (First part) l = inl refl
+next_at lines (Second first names part) l = inl refl
+next_at lines (Refused kept) l = inr (record { status = endings.Refused kept; is = refl; after = λ line. refl; pieces = λ line. refl; told = refl })
+
+leads_judged : (lines : List (List ℕ)) (end kept : List ℕ) (answer : Result Resolved (List ℕ)) → HasNo lines → is_separator end ≡ true → kept ≡ text_front (text_of lines) → schema_answer (text_of lines) ≡ answer → Leads (lines ++ end ∷ []) (after_first kept answer)
+leads_judged lines end kept (Err refusal) none is text e = record {
+  refusal = refusal;
+  one = one_first lines end none is;
+  found = found_first lines end (Err refusal) none is e;
+  text = text ∙ ap (λ ls. text_front (text_of ls)) (sym (before-first lines end is none));
+}
+leads_judged lines end kept (Ok first) none is text e = record {
+  one = one_first lines end none is;
+  found = found_first lines end (Ok first) none is e;
+  named = ap names_in (text ∙ ap (λ ls. text_front (text_of ls)) (sym (before-first lines end is none)));
+  text = sym (ap (λ ls. text_front (text_of ls)) (after-first lines end is none) ∙ front_none text_limit);
+  begun = sym (ap (λ ls. not (has_none ls)) (after-first lines end is none));
+}
+
+leads_part : (lines : List (List ℕ)) (line : List ℕ) (part : Part) (sep : Bool) → is_separator line ≡ sep → InFirst lines part
+    → Leads (lines ++ line ∷ []) (cond sep (after_first part.text (schema_answer part.text)) (First (with_line part (text_front line))))
+leads_part lines line part true is l = leads_judged lines line part.text (schema_answer part.text) l.none is l.text (schema_so_far part lines l.text)
+leads_part lines line part false is l = record {
+  none = none_more lines line l.none is;
+  text = text_of_more part lines line l.text l.begun;
+  begun = begun_more part (text_front line) part.begun refl ∙ ap not (sym (has_some lines line));
+}
+
+leads_line : (lines : List (List ℕ)) (line : List ℕ) (phase : Phase) → Leads lines phase → Leads (lines ++ line ∷ []) (after_end phase (text_front line))
+leads_line lines line (First part) l =
+    subst (Leads (lines ++ line ∷ []))
+    (sym (ap (λ (sep : Bool). cond sep (after_first part.text (schema_answer part.text)) (First (with_line part (text_front line)))) (separator_of_front line)))
+    (leads_part lines line part (is_separator line) refl l)
+leads_line lines line (Second first names part) l =
+    let rest = after-append lines (line ∷ []) l.one in
+    record {
+      one = one_more lines (line ∷ []) l.one;
+      found = found_more lines line (Ok first) l.one l.found;
+      named = l.named ∙ ap (λ ls. names_in (text_front (text_of ls))) (sym (before-append lines (line ∷ []) l.one));
+      text = text_of_more part (after_separator lines) line l.text l.begun ∙ ap (λ ls. text_front (text_of ls)) (sym rest);
+      begun = begun_more part (text_front line) part.begun refl ∙ ap not (sym (has_some (after_separator lines) line)) ∙ ap (λ ls. not (has_none ls)) (sym rest);
+    }
+leads_line lines line (Refused kept) l = record {
+  refusal = l.refusal;
+  one = one_more lines (line ∷ []) l.one;
+  found = found_more lines line (Err l.refusal) l.one l.found;
+  text = l.text ∙ ap (λ ls. text_front (text_of ls)) (sym (before-append lines (line ∷ []) l.one));
+}
+
+-- ---- what one more line tells
+
+pieces_judged : (kept second : List ℕ) (answer : Result Resolved (List ℕ)) → (told_first false kept answer second).pieces ≡ pieces_of_schema answer
+pieces_judged kept second (Ok first) = refl
+pieces_judged kept second (Err refusal) = refl
+
+pieces_part : (lines : List (List ℕ)) (line : List ℕ) (part : Part) (sep : Bool) → is_separator line ≡ sep → InFirst lines part
     → (told_lines false (lines ++ line ∷ [])).pieces ≡ cond sep (pieces_of_schema (schema_answer part.text)) []
-pieces_part lines line part true is none text =
-    let more = lines ++ line ∷ [] in
-    ap (λ (told : Told Ending). told.pieces) (told_with false more (one_first lines line none is))
-    ∙ pieces_judged (names_before more) (answer_before more) (second_part more)
-    ∙ ap pieces_of_schema (ap schema_answer (part_first lines line none is) ∙ schema_so_far part lines text)
-pieces_part lines line part false is none text = ap (λ (told : Told Ending). told.pieces) (told_without (lines ++ line ∷ []) (none_more lines line none is))
+pieces_part lines line part true is l =
+    let answer = schema_answer part.text in
+    let all = lines ++ line ∷ [] in
+    ap (λ (told : Told Ending). told.pieces) (told_found false all answer (one_first lines line l.none is) (found_first lines line answer l.none is (schema_so_far part lines l.text)))
+    ∙ pieces_judged (text_front (schema_part all)) (second_part all) answer
+pieces_part lines line part false is l = ap (λ (told : Told Ending). told.pieces) (told_without (lines ++ line ∷ []) (none_more lines line l.none is))
 
 pieces_line : (lines : List (List ℕ)) (line : List ℕ) (phase : Phase) → Leads lines phase → (told_lines false (lines ++ line ∷ [])).pieces ≡ (told_lines false lines).pieces ++ pieces_at_end phase (text_front line)
-pieces_line lines line phase (inl p) =
-    let own =
-    ap (λ (s : Phase). pieces_at_end s (text_front line)) p.is
-    ∙ ap (λ sep. cond sep (pieces_of_schema (schema_answer p.part.text)) []) (separator_of_front line) in
-    pieces_part lines line p.part (is_separator line) refl p.none p.text ∙ sym own
-    ∙ ap (λ (told : Told Ending). told.pieces ++ pieces_at_end phase (text_front line)) (sym (told_without lines p.none))
-pieces_line lines line phase (inr (inl b)) =
-    let more = lines ++ line ∷ [] in
-    ap (λ (told : Told Ending). told.pieces) (told_found false more (Ok b.first) (one_more lines (line ∷ []) b.one) (ap schema_answer (part_kept lines line b.one) ∙ b.found))
-    ∙ sym (ap₂ (λ (told : Told Ending) (s : Phase). told.pieces ++ pieces_at_end s (text_front line)) (told_found false lines (Ok b.first) b.one b.found) b.is)
-pieces_line lines line phase (inr (inr r)) =
-    let more = lines ++ line ∷ [] in
-    ap (λ (told : Told Ending). told.pieces)
-    (told_refused false more r.text (one_more lines (line ∷ []) r.one) (ap schema_answer (part_kept lines line r.one) ∙ r.found) ∙ sym (told_refused false lines r.text r.one r.found))
-    ∙ sym (append-nil (told_lines false lines).pieces)
-    ∙ ap (λ ps. (told_lines false lines).pieces ++ ps) (sym (ap (λ (s : Phase). pieces_at_end s (text_front line)) r.is))
+pieces_line lines line (First part) l =
+    pieces_part lines line part (is_separator line) refl l
+    ∙ sym (ap (λ (sep : Bool). cond sep (pieces_of_schema (schema_answer part.text)) []) (separator_of_front line))
+    ∙ ap (λ (told : Told Ending). told.pieces ++ pieces_at_end (First part) (text_front line)) (sym (told_without lines l.none))
+pieces_line lines line (Second first names part) l =
+    ap (λ (told : Told Ending). told.pieces) (told_found false (lines ++ line ∷ []) (Ok first) (one_more lines (line ∷ []) l.one) (found_more lines line (Ok first) l.one l.found))
+    ∙ ap (λ (told : Told Ending). told.pieces ++ []) (sym (told_found false lines (Ok first) l.one l.found))
+pieces_line lines line (Refused kept) l =
+    ap (λ (told : Told Ending). told.pieces) (told_refused false (lines ++ line ∷ []) l.refusal (one_more lines (line ∷ []) l.one) (found_more lines line (Err l.refusal) l.one l.found))
+    ∙ ap (λ (told : Told Ending). told.pieces ++ []) (sym (told_refused false lines l.refusal l.one l.found))
 
 -- ---- at the end of the budget, and of the input
 
-cut_at : (lines : List (List ℕ)) (phase : Phase) → Leads lines phase → (told_lines false lines).status ≡ status_at_cut comparing (next_of phase)
-cut_at lines phase (inl p) = ap (λ (told : Told Ending). told.status) (told_without lines p.none) ∙ sym (ap (λ (s : Phase). status_at_cut comparing (next_of s)) p.is)
-cut_at lines phase (inr (inl b)) =
-    ap (λ (told : Told Ending). told.status) (told_found false lines (Ok b.first) b.one b.found) ∙ sym (ap (λ (s : Phase). status_at_cut comparing (next_of s)) b.is)
-cut_at lines phase (inr (inr r)) =
-    ap (λ (told : Told Ending). told.status) (told_refused false lines r.text r.one r.found) ∙ sym (ap (λ (s : Phase). status_at_cut comparing (next_of s)) r.is)
+cut_at : (lines : List (List ℕ)) (phase : Phase) → Leads lines phase → (told_lines false lines).status ≡ status_at_cut (telling compare_teller) (next_of phase)
+cut_at lines (First part) l = ap (λ (told : Told Ending). told.status) (told_without lines l.none)
+cut_at lines (Second first names part) l = ap (λ (told : Told Ending). told.status) (told_found false lines (Ok first) l.one l.found)
+cut_at lines (Refused kept) l = ap (λ (told : Told Ending). told.status) (told_refused false lines l.refusal l.one l.found) ∙ ap endings.Refused (sym l.text)
 
--- without a separator all lines are the first text
-told_alone : (lines : List (List ℕ)) → HasNo lines → told_lines true lines ≡ told_first true (names_in (join_with_byte 10 lines)) (schema_answer (join_with_byte 10 lines)) []
-told_alone lines none =
-    ap₂ (λ (before after : List (List ℕ)). told_first true (names_in (join_with_byte 10 before)) (schema_answer (join_with_byte 10 before)) (join_with_byte 10 after)) (before-none lines none)
-    (after-none lines none)
+-- what a phase tells at the end stands behind what was told before
+behind : (lines : List (List ℕ)) (phase : Phase) (told : Told Ending) → told_lines false lines ≡ told → told_of (told.pieces ++ (told_after phase).pieces) (told_after phase).status ≡ told_of ((told_lines false lines).pieces ++ (told_after phase).pieces) (told_after phase).status
+behind lines phase told is = ap (λ (t : Told Ending). told_of (t.pieces ++ (told_after phase).pieces) (told_after phase).status) (sym is)
 
 end_at : (lines : List (List ℕ)) (phase : Phase) → Leads lines phase → told_lines true lines ≡ told_of ((told_lines false lines).pieces ++ (told_after phase).pieces) (told_after phase).status
-end_at lines phase (inl p) =
-    told_alone lines p.none
-    ∙ ap₂ (λ (names : Names) (answer : Result Resolved (List ℕ)). told_first true names answer []) (names_so_far p.part lines p.text) (schema_so_far p.part lines p.text)
-    ∙ sym (ap told_after p.is)
-    ∙ ap (λ (told : Told Ending). told_of (told.pieces ++ (told_after phase).pieces) (told_after phase).status) (sym (told_without lines p.none))
-end_at lines phase (inr (inl b)) =
-    let before = names_before lines in
-    told_found true lines (Ok b.first) b.one b.found
-    ∙ ap₂ (λ (names : Names) (answer : Result Resolved (List ℕ)). told_second b.first (before ++ names) answer) (names_so_far b.part (after_separator lines) b.text) (schema_so_far b.part (after_separator lines) b.text)
-    ∙ sym (ap told_after b.is)
-    ∙ ap (λ (told : Told Ending). told_of (told.pieces ++ (told_after phase).pieces) (told_after phase).status) (sym (told_found false lines (Ok b.first) b.one b.found))
-end_at lines phase (inr (inr r)) =
-    told_refused true lines r.text r.one r.found
-    ∙ ap₂ (λ (told end : Told Ending). told_of (told.pieces ++ end.pieces) end.status) (sym (told_refused false lines r.text r.one r.found)) (sym (ap told_after r.is))
+end_at lines (First part) l =
+    ap (λ ls. told_first true (text_front (text_of ls)) (schema_answer (text_of ls)) (second_part lines)) (before-none lines l.none)
+    ∙ ap (λ ls. told_first true (text_front (text_of lines)) (schema_answer (text_of lines)) (text_of ls)) (after-none lines l.none)
+    ∙ ap (λ answer. told_first true (text_front (text_of lines)) answer []) (schema_so_far part lines l.text)
+    ∙ ap (λ kept. told_first true kept (schema_answer part.text) []) (sym l.text)
+    ∙ behind lines (First part) (told_of [] endings.Cut) (told_without lines l.none)
+end_at lines (Second first names part) l =
+    told_found true lines (Ok first) l.one l.found
+    ∙ ap (λ ns. told_second first ns (text_front (second_part lines)) (schema_answer (second_part lines))) (sym l.named)
+    ∙ ap (told_second first names (text_front (second_part lines))) (schema_so_far part (after_separator lines) l.text)
+    ∙ ap (λ kept. told_second first names kept (schema_answer part.text)) (sym l.text)
+    ∙ behind lines (Second first names part) (told_of [] endings.Cut) (told_found false lines (Ok first) l.one l.found)
+end_at lines (Refused kept) l =
+    told_refused true lines l.refusal l.one l.found
+    ∙ ap (refused_by (schema_refused_line l.refusal)) (sym l.text)
+    ∙ behind lines (Refused kept) (refused_by (schema_refused_line l.refusal) (text_front (schema_part lines))) (told_refused false lines l.refusal l.one l.found)
 
 tells : TellsLines compare_teller text_limit told_lines Leads first_phase
 tells = record {
   goes = refl;
-  begins = inl (record { part = no_part; is = refl; none = refl; text = sym (front_none text_limit); begun = refl });
+  begins = record { none = refl; text = sym (front_none text_limit); begun = refl };
   none = refl;
   next = next_at;
   line = leads_line;

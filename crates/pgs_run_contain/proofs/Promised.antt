@@ -1,25 +1,25 @@
 -- What follows two schemas in a run of `contain`: the lines of the types of the first guard.
-use Rattle.std.proofs.Common.{◌≡◌, inl, inr, Bool, true, false, [], Result, Ok, Err, is_some, refl, sym, ap, subst, ◌∙◌}
+use Rattle.std.proofs.Common.{◌≡◌, inl, inr, ℕ, Bool, true, false, List, [], Result, Ok, Err, is_some, refl, sym, ap, subst, ◌∙◌}
 use Rattle.std.specs.List.{list_any}
 use Rattle.std.proofs.lemmas.List.{append-nil}
 use Rattle.pgs_run_lines.specs.declared.stop.Stop.{Stop}
 use Rattle.pgs_run_lines.specs.declared.stop.Stop.TheVariants as stops
-use Rattle.pgs_run_lines.specs.AreasKept.{keeps_none}
 use Rattle.pgs_run_lines.specs.Ending as lines
 use Rattle.pgs_run_lines.specs.Ending.{Shows}
 use Rattle.pgs_run_lines.specs.Machine.{Told}
 use Rattle.pgs_run_lines.specs.May.{MayPut}
-use Rattle.pgs_run_lines.specs.Pieces.{shown_of}
+use Rattle.pgs_run_lines.specs.Pieces.{Shown, ShowsAll, shown_of}
+use Rattle.pgs_run_lines.proofs.Showing.{shows_none}
 use Rattle.pgs_syntax.specs.declared.resolved.Resolved.{Resolved}
-use Rattle.pgs_world.specs.Moment.{IsTimed}
 use Rattle.pgs_world.specs.World.{View}
 use Rattle.pgs_command.specs.declared.status.Status.{Status}
+use Rattle.pgs_command.specs.declared.status.Status.TheVariants.{SchemaRefused}
 use Rattle.pgs_command.specs.Ending.{status_at}
 use Rattle.pgs_command.proofs.OwnEnds.{IsDone}
 use Rattle.pgs_run_contain.specs.declared.ending.Ending.{Ending}
 use Rattle.pgs_run_contain.specs.declared.ending.Ending.TheVariants as endings
 use Rattle.pgs_run_contain.specs.Answers.{listed, answer_lines}
-use Rattle.pgs_run_contain.specs.Behind.{FollowsBoth, FollowsTexts}
+use Rattle.pgs_run_contain.specs.Behind.{FollowsBoth, FollowsEnding, FollowsTexts}
 use Rattle.pgs_run_contain.specs.Names.{Names}
 use Rattle.pgs_run_contain.specs.Running.{HasAllLines, TellsSome, Tells, stop_by, PutsNothing, Follows}
 use Rattle.pgs_run_contain.specs.Spec.{contain_behind}
@@ -35,6 +35,8 @@ pub rules : Rules contain_behind
 rules = record {
   none_told = λ first second. lines_none first second [] (listed first first.guard.types);
   none_right = λ first second names status undone. record { answered = []; later = listed first first.guard.types; parts = refl; right = tt; whole = λ done. absurd (undone done) };
+  none_cause = refl;
+  none_is_cause = λ kept. tt;
   done = λ answers first second. done_by (list_any is_some answers);
 }
 
@@ -74,16 +76,25 @@ types_told first second names (Err stops.DiskFault) old new tells = absurd tells
 types_told first second names (Err stops.PutFault) old new tells = some_told first second names stops.PutFault old new tells (λ done. done) (λ all shows. shows) tt
 types_told first second names (Err stops.Memory) old new tells = some_told first second names stops.Memory old new tells (λ done. done) (λ all shows. shows) tt
 
+-- behind a text that is refused nothing was put
+refused_alone : (kept : List ℕ) (old : View) (stop : Stop Status) (new : View) → PutsNothing (stops.Ended SchemaRefused) old stop new → FollowsEnding contain_behind (endings.Refused kept) old stop new
+refused_alone kept old stop new none =
+    subst (λ (s : Stop Status). FollowsEnding contain_behind (endings.Refused kept) old s new) (sym none.is)
+    (record {
+      choice = [];
+      right = tt;
+      ends = (subst (λ (s : Shown). ShowsAll (shown_of old) [] s) (sym none.shown) (shows_none (shown_of old)), refl);
+      may = tt;
+      cause = none.faults;
+      areas = none.areas;
+    })
+
 pub followed : (texts : Stop Ending) (old : View) (stop : Stop Status) (new : View) → Follows texts old stop new → FollowsTexts contain_behind texts old stop new
 followed (stops.Ended (endings.Fit first second names)) old stop new follows =
     subst (λ s. FollowsBoth contain_behind first second names old s new) (sym follows.is) (types_told first second names follows.told old new follows.tells)
-followed (stops.Ended endings.Refused) old stop new follows = follows
+followed (stops.Ended (endings.Refused kept)) old stop new follows = refused_alone kept old stop new follows
 followed (stops.Ended endings.Cut) old stop new follows = follows
 followed stops.ReadFault old stop new follows = follows
 followed stops.DiskFault old stop new follows = follows
 followed stops.PutFault old stop new follows = follows
 followed stops.Memory old stop new follows = follows
-
--- no call was made
-pub nothing : (so : Stop Status) (view : View) → IsTimed view → PutsNothing so view so view
-nothing so view timed = record { is = refl; shown = refl; faults = refl; areas = keeps_none view timed }

@@ -1,49 +1,46 @@
--- The end of an input in which no separator came: all of it is the first text.
-use Rattle.std.proofs.Common.{◌≡◌, ℕ, true, List, [], ◌++◌, Result, Ok, Err, refl, sym, subst}
+-- How a run ends whose text was judged last.
+use Rattle.std.proofs.Common.{◌≡◌, ℕ, List, [], ◌∷◌, true, Result, Ok, Err, IfOk, refl, sym, subst}
 use Rattle.pgs_run_lines.specs.declared.stop.Stop.{Stop}
 use Rattle.pgs_run_lines.specs.declared.stop.Stop.TheVariants as stops
-use Rattle.pgs_run_lines.specs.Ending.{Shows, Ends}
-use Rattle.pgs_run_lines.specs.Pieces.{Shown, ShowsAll, ShowsTorn}
-use Rattle.pgs_run_lines.proofs.Showing.{ends_on, shows_none, torn_of_more}
+use Rattle.pgs_run_lines.specs.Ending.{Ends}
+use Rattle.pgs_run_lines.specs.May.{MayPut}
+use Rattle.pgs_run_lines.specs.Pieces.{Shown, shown_of}
+use Rattle.pgs_run_lines.specs.Puts.{PutsUntil}
+use Rattle.pgs_run_lines.proofs.Fronts.{front_none}
 use Rattle.pgs_syntax.specs.declared.resolved.Resolved.{Resolved}
+use Rattle.pgs_world.specs.World.{View}
 use Rattle.pgs_run_input.specs.Answers.{schema_answer}
-use Rattle.pgs_run_input.specs.Judged.{pieces_of_schema}
-use Rattle.pgs_run_input.specs.Part.{Part}
+use Rattle.pgs_run_input.specs.Input.{text_limit}
+use Rattle.pgs_run_input.specs.Part.{Part, no_part}
 use Rattle.pgs_run_contain.specs.declared.ending.Ending.{Ending}
-use Rattle.pgs_run_contain.specs.declared.phase.Phase.TheVariants.{Second}
-use Rattle.pgs_run_contain.specs.Comparing.{after_first, IsFit}
 use Rattle.pgs_run_contain.specs.Names.{Names, names_in}
-use Rattle.pgs_run_contain.specs.Told.{told_first, told_second}
+use Rattle.pgs_run_contain.specs.Told.{refused_by, told_first, told_second}
 
-first_torn : (names : Names) (answer : Result Resolved (List ℕ)) (start now : Shown) → ShowsTorn start (pieces_of_schema answer) now → ShowsTorn start (told_first true names answer []).pieces now
-first_torn names (Err text) start now torn = torn
-first_torn names (Ok first) start now torn = torn_of_more start now [] (told_second first (names ++ names_in []) (schema_answer [])).pieces torn
+-- a line that was made, or any where there was no memory for it
+pub made_line : {E : Type 0} (made : Result (List ℕ) E) → (line : List ℕ) × IfOk made (λ own. own ≡ line)
+made_line (Ok own) = (own, refl)
+made_line (Err fault) = ([], tt)
 
--- the line of a refusal couldn't be put
-pub first_stop : (names : Names) (answer : Result Resolved (List ℕ)) (pieces : List (List ℕ)) (stop : Stop Ending) (start now : Shown) → pieces ≡ pieces_of_schema answer → stop ≡ stops.PutFault → Shows start pieces stop now → Ends start (told_first true names answer []) stop now
-first_stop names answer pieces stop start now is fault shows =
-    subst (λ s. Ends start (told_first true names answer []) s now) (sym fault)
-    (first_torn names answer start now (subst (λ ps. ShowsTorn start ps now) is (subst (λ s. Shows start pieces s now) fault shows)))
+-- the line of a refusal couldn't be put, or made
+pub refusing_stop : (line kept : List ℕ) (stop : Stop Ending) (old new : View) → PutsUntil old (line ∷ []) stop new → Ends (shown_of old) (refused_by line kept) stop (shown_of new)
+refusing_stop line kept (stops.Ended ending) old new puts = absurd puts.only
+refusing_stop line kept stops.ReadFault old new puts = absurd puts.only
+refusing_stop line kept stops.DiskFault old new puts = absurd puts.only
+refusing_stop line kept stops.PutFault old new puts = puts.shows
+refusing_stop line kept stops.Memory old new puts = puts.shows
 
--- the first schema isn't refused, and the second text is empty
-pub first_ends : (names : Names) (answer : Result Resolved (List ℕ)) (first : Resolved) (kept : Names) (part : Part) (pieces : List (List ℕ)) (stop : Stop Ending) (start mid now : Shown) → Second first kept part ≡ after_first names answer → pieces ≡ pieces_of_schema answer → ShowsAll start pieces mid → Ends mid (told_second first (kept ++ names_in []) (schema_answer [])) stop now → Ends start (told_first true names answer []) stop now
-first_ends names (Err text) first kept part pieces stop start mid now is told shows ends = cc
-first_ends names (Ok schema) first kept part pieces stop start mid now is told shows ends =
-    let same : first ≡ schema = cc in
-    let named : kept ≡ names = cc in
-    ends_on stop start mid now [] (told_second schema (names ++ names_in []) (schema_answer []))
-    (subst (λ ps. ShowsAll start ps mid) told shows)
-    (subst (λ (f : Resolved). Ends mid (told_second f (names ++ names_in []) (schema_answer [])) stop now) same
-    (subst (λ (ns : Names). Ends mid (told_second first (ns ++ names_in []) (schema_answer [])) stop now) named ends))
+pub refusing_may : (line : List ℕ) (stop : Stop Ending) (old new : View) → PutsUntil old (line ∷ []) stop new → MayPut stop
+refusing_may line (stops.Ended ending) old new puts = tt
+refusing_may line stops.ReadFault old new puts = absurd puts.only
+refusing_may line stops.DiskFault old new puts = absurd puts.only
+refusing_may line stops.PutFault old new puts = tt
+refusing_may line stops.Memory old new puts = tt
 
--- both texts are schemas, and nothing is put
-pub second_fits : (first second : Resolved) (names : Names) (answer : Result Resolved (List ℕ)) (stop : Stop Ending) (start : Shown) → answer ≡ Ok second → IsFit first second names stop →
-    Ends start (told_second first names answer) stop start
-second_fits first second names answer (stops.Ended ending) start is fit =
-    subst (λ (a : Result Resolved (List ℕ)). Ends start (told_second first names a) (stops.Ended ending) start) (sym is) (shows_none start, sym fit)
-second_fits first second names answer stops.ReadFault start is fit = absurd fit
-second_fits first second names answer stops.DiskFault start is fit = absurd fit
-second_fits first second names answer stops.PutFault start is fit = absurd fit
-second_fits first second names answer stops.Memory start is fit =
-    subst (λ (a : Result Resolved (List ℕ)). Ends start (told_second first names a) stops.Memory start) (sym is)
-    (record { first = []; later = []; parts = refl; shows = shows_none start })
+-- behind a first schema without a separator the second text is empty
+pub first_ends : (kept : List ℕ) (first : Resolved) (names : Names) (part : Part) (stop : Stop Ending) (start now : Shown) → schema_answer kept ≡ Ok first → names ≡ names_in kept → part ≡ no_part
+    → Ends start (told_second first names part.text (schema_answer part.text)) stop now → Ends start (told_first true kept (schema_answer kept) []) stop now
+first_ends kept first names part stop start now is named none ends =
+    subst (λ (answer : Result Resolved (List ℕ)). Ends start (told_first true kept answer []) stop now) (sym is)
+    (subst (λ (text : List ℕ). Ends start (told_second first (names_in kept) text (schema_answer [])) stop now) (sym (front_none text_limit))
+    (subst (λ (ns : Names). Ends start (told_second first ns [] (schema_answer [])) stop now) named
+    (subst (λ (p : Part). Ends start (told_second first names p.text (schema_answer p.text)) stop now) none ends)))

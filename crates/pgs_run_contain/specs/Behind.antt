@@ -1,6 +1,6 @@
--- A command over two schema texts, by what follows them: both texts are read as `contain` reads them, and behind two schemas the command tells
--- by a choice of its own.
-use Rattle.std.specs.Prelude.{◌≡◌, ℕ, true, List, ◌++◌, Option, Some}
+-- A command over two schema texts, by what follows them: both texts are read as `contain` reads them, and behind two schemas, or behind a text
+-- that is refused, the command tells by a choice of its own.
+use Rattle.std.specs.Prelude.{◌≡◌, ℕ, true, List, [], ◌++◌, Option, Some}
 use Rattle.pgs_run_lines.specs.declared.stop.Stop.{Stop}
 use Rattle.pgs_run_lines.specs.declared.stop.Stop.TheVariants as stops
 use Rattle.pgs_run_lines.specs.AreasKept.{KeepsAreas}
@@ -25,21 +25,27 @@ use Rattle.pgs_run_contain.specs.Names.{Names}
 use Rattle.pgs_run_contain.specs.Running.{PutsNothing}
 use Rattle.pgs_run_contain.specs.Told.{told_texts}
 
--- what follows two schemas: what is told of both by a choice, and which choices are right, by the names that stand in their texts and the status
+-- What follows the texts: what is told by a choice behind two schemas, and behind the line of a text that is refused, of which this is kept; and
+-- which choices are right there, behind two schemas by the names that stand in their texts.
 pub record Behind : Type 1 where
   pub Choice : Type 0
   -- the choice of a run that stopped before
   pub none : Choice
   pub told : Choice → Resolved → Resolved → Told Status
   pub IsRight : Choice → Resolved → Resolved → Names → Status → Type 0
+  pub cause : Choice → List (List ℕ)
+  pub IsCause : Choice → (kept : List ℕ) → Type 0
 
 module _ (behind : Behind) where
-  -- what is told, by how the texts end
+  -- what follows, by how the texts end
+  abbrev pub told_at : behind.Choice → Ending → Told Status
+  told_at choice (endings.Fit first second names) = behind.told choice first second
+  told_at choice (endings.Refused kept) = record { pieces = behind.cause choice; status = statuses.SchemaRefused }
+  told_at choice endings.Cut = record { pieces = []; status = statuses.InputTooLong }
+
+  -- what is told of all, behind these pieces
   abbrev pub told_with : behind.Choice → List (List ℕ) → Ending → Told Status
-  told_with choice pieces (endings.Fit first second names) =
-      record { pieces = pieces ++ (behind.told choice first second).pieces; status = (behind.told choice first second).status }
-  told_with choice pieces endings.Refused = record { pieces = pieces; status = statuses.SchemaRefused }
-  told_with choice pieces endings.Cut = record { pieces = pieces; status = statuses.InputTooLong }
+  told_with choice pieces ending = record { pieces = pieces ++ (told_at choice ending).pieces; status = (told_at choice ending).status }
 
   -- what is told of an input within a budget
   abbrev pub told_compared : behind.Choice → List ℕ → ℕ → Told Status
@@ -47,7 +53,7 @@ module _ (behind : Behind) where
 
   abbrev pub IsRightAt : behind.Choice → Ending → Status → Type 0
   IsRightAt choice (endings.Fit first second names) status = behind.IsRight choice first second names status
-  IsRightAt choice endings.Refused status = Unit {0}
+  IsRightAt choice (endings.Refused kept) status = behind.IsCause choice kept
   IsRightAt choice endings.Cut status = Unit {0}
 
   -- the choice is right for what the source has left
@@ -72,19 +78,23 @@ module _ (behind : Behind) where
         Gives = kept.Gives;
       }
 
--- Behind two schemas it was told of them by a right choice, as far as the stop says, and both areas stay.
-pub record FollowsBoth (behind : Behind) (first second : Resolved) (names : Names) (old : View) (stop : Stop Status) (new : View) : Type 0 where
+-- Behind texts that ended so it was told of them by a right choice, as far as the stop says, and both areas stay.
+pub record FollowsEnding (behind : Behind) (ending : Ending) (old : View) (stop : Stop Status) (new : View) : Type 0 where
   pub choice : behind.Choice
-  pub right : behind.IsRight choice first second names (status_at stop)
-  pub ends : Ends (shown_of old) (behind.told choice first second) stop (shown_of new)
+  pub right : IsRightAt behind choice ending (status_at stop)
+  pub ends : Ends (shown_of old) (told_at behind choice ending) stop (shown_of new)
   pub may : MayPut stop
   pub cause : HasCause (faults_of 0 old) (faults_of 0 new) stop
   pub areas : KeepsAreas old new
 
--- what follows the texts, by how their reading stopped; but for two schemas nothing is put
+-- behind two schemas
+abbrev pub FollowsBoth : Behind → (first second : Resolved) → Names → View → Stop Status → View → Type 0
+FollowsBoth behind first second names = FollowsEnding behind (endings.Fit first second names)
+
+-- what follows the texts, by how their reading stopped; where no text was judged last nothing is put
 abbrev pub FollowsTexts : Behind → Stop Ending → View → Stop Status → View → Type 0
 FollowsTexts behind (stops.Ended (endings.Fit first second names)) old stop new = FollowsBoth behind first second names old stop new
-FollowsTexts behind (stops.Ended endings.Refused) old stop new = PutsNothing (stops.Ended statuses.SchemaRefused) old stop new
+FollowsTexts behind (stops.Ended (endings.Refused kept)) old stop new = FollowsEnding behind (endings.Refused kept) old stop new
 FollowsTexts behind (stops.Ended endings.Cut) old stop new = PutsNothing (stops.Ended statuses.InputTooLong) old stop new
 FollowsTexts behind stops.ReadFault old stop new = PutsNothing stops.ReadFault old stop new
 FollowsTexts behind stops.DiskFault old stop new = PutsNothing stops.DiskFault old stop new

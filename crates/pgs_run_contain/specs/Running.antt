@@ -77,7 +77,7 @@ pub record PutsNothing (so : Stop Status) (old : View) (stop : Stop Status) (new
 -- behind two schemas the types are told; else the run stops as the reading did
 abbrev pub Follows : Stop Ending → View → Stop Status → View → Type 0
 Follows (stops.Ended (endings.Fit first second names)) old stop new = TellsTypes first second names old stop new
-Follows (stops.Ended endings.Refused) old stop new = PutsNothing (stops.Ended SchemaRefused) old stop new
+Follows (stops.Ended (endings.Refused kept)) old stop new = PutsNothing (stops.Ended SchemaRefused) old stop new
 Follows (stops.Ended endings.Cut) old stop new = PutsNothing (stops.Ended InputTooLong) old stop new
 Follows stops.ReadFault old stop new = PutsNothing stops.ReadFault old stop new
 Follows stops.DiskFault old stop new = PutsNothing stops.DiskFault old stop new

@@ -1,3 +1,4 @@
+use crate::kept_text::KeptText;
 use pgs_base::{List, Name};
 use pgs_conform::Compiled;
 
@@ -11,7 +12,9 @@ pub enum Ending {
         names: List<Name>,
     },
     /// One of them is refused, and its line is put.
-    Refused,
+    Refused {
+        text: KeptText,
+    },
     /// The input was cut.
     Cut,
 }

@@ -59,8 +59,8 @@ fn push_names_of(alloc: Global, tokens: &Tokens<'_>, names: &mut Vec<Name>) -> R
     Ok(())
 }
 
-/// Puts the names that stand in a text last. `Memory` where there was none left.
-pub(crate) fn push_names_in(alloc: Global, text: &[u8], names: &mut Vec<Name>) -> Result<(), Memory>
+// Puts the names that stand in a text last.
+fn push_names_in(alloc: Global, text: &[u8], names: &mut Vec<Name>) -> Result<(), Memory>
     ensures { OnOk result (names.new.items ≡ names.old.items ++ names_in text.now) }
 {
     if text.len() > TEXT_LIMIT {
@@ -83,16 +83,7 @@ pub fn names_in_both(alloc: Global, first: &[u8], second: &[u8]) -> Result<List<
     Ok(List::from_vec(names))
 }
 
-/// The names that stand in a text.
-pub(crate) fn names_in(alloc: Global, text: &[u8]) -> Result<List<Name>, Memory>
-    ensures { IfOk result (λ names. names ≡ names_in text.now) }
-{
-    let mut names = Vec::new(alloc);
-    push_names_in(alloc, text, &mut names)?;
-    Ok(List::from_vec(names))
-}
-
-/// Names, and those that stand in a text behind them.
+/// Names, and those that stand in a text behind them. `Memory` where there was none left.
 pub(crate) fn with_names_in(
     alloc: Global,
     names: List<Name>,

@@ -30,7 +30,7 @@ fn end_run<W: World>(alloc: Global, world: &mut W, texts: Stop<Ending>) -> Stop<
                 names,
             },
         ) => put_guard(alloc, world, &first, &second, names.as_slice()),
-        Stop::Ended(Ending::Refused) => Stop::Ended(Status::SchemaRefused),
+        Stop::Ended(Ending::Refused { .. }) => Stop::Ended(Status::SchemaRefused),
         Stop::Ended(Ending::Cut) => Stop::Ended(Status::InputTooLong),
         Stop::ReadFault => Stop::ReadFault,
         Stop::DiskFault => Stop::DiskFault,
@@ -40,7 +40,7 @@ fn end_run<W: World>(alloc: Global, world: &mut W, texts: Stop<Ending>) -> Stop<
 }
 
 /// Runs `contain` over an input within a budget of bytes, at most 2^40, and answers the status. What it puts and answers is what
-/// `contain_behind` tells by right answers to the types: with none a type is contained in the second schema, else what the answer has is
+/// `contain_spec` tells by right answers to the types: with none a type is contained in the second schema, else what the answer has is
 /// outside, and has a label or a key that stands in a text only where shapes name it. It uses no area.
 pub fn run_contain<S: Source, W: World>(
     alloc: Global,

@@ -17,6 +17,7 @@ use Rattle.pgs_run_input.specs.Input.{schema_part, text_front}
 use Rattle.pgs_run_contain.specs.declared.ending.Ending.{Ending}
 use Rattle.pgs_run_contain.specs.Answers.{Answer}
 use Rattle.pgs_run_contain.specs.Behind.{IsRightAt, told_with}
+use Rattle.pgs_run_contain.specs.Names.{Names, names_in}
 use Rattle.pgs_run_contain.specs.Spec.{contain_behind}
 use Rattle.pgs_run_contain.specs.Told.{second_part, status_by, told_cut, told_first, told_second, told_texts, told_whole}
 use Rattle.pgs_run_contain.proofs.Containing.{types_contained}
@@ -42,10 +43,10 @@ refused_never : {A : Type 0} → SchemaRefused ≡ Accepted → A
 refused_never {A} is = absurd (let no : SchemaRefused ≡ Accepted = is in cc)
 
 module _ (law : (old new : Resolved) (g : Graph) → is_graph g ≡ true → AsksNoMore old new → conforms old g ≡ true → conforms new g ≡ true) (input : List ℕ) (answers : List Answer) where
-  by_second : (first : Resolved) → schema_answer (schema_part (all_lines input)) ≡ Ok first → (kept : List ℕ) (answer : Result Resolved (List ℕ)) → schema_answer (second_part (all_lines input)) ≡ answer
-      → IsAccepted answers (told_second first kept answer) → IsCompared input
-  by_second first of_first kept (Ok second) of_second accepted =
-      let contained = types_contained first second answers Accepted tt (status_none (list_any is_some answers) accepted.0) accepted.1 in
+  by_second : (first : Resolved) (names : Names) → schema_answer (schema_part (all_lines input)) ≡ Ok first → (kept : List ℕ) (answer : Result Resolved (List ℕ)) → schema_answer (second_part (all_lines input)) ≡ answer
+      → IsAccepted answers (told_second first names kept answer) → IsCompared input
+  by_second first names of_first kept (Ok second) of_second accepted =
+      let contained = types_contained first second (names ++ names_in kept) answers Accepted tt (status_none (list_any is_some answers) accepted.0) accepted.1 in
       record {
         first = first;
         second = second;
@@ -54,11 +55,11 @@ module _ (law : (old new : Resolved) (g : Graph) → is_graph g ≡ true → Ask
         contained = contained;
         kept = λ strict keys g graph fits. law first second g graph (record { types = inr (strict, contained); keys = keys }) fits;
       }
-  by_second first of_first kept (Err refusal) of_second accepted = refused_never accepted.0
+  by_second first names of_first kept (Err refusal) of_second accepted = refused_never accepted.0
 
   by_first : (kept : List ℕ) (answer : Result Resolved (List ℕ)) → schema_answer (schema_part (all_lines input)) ≡ answer → IsAccepted answers (told_first true kept answer (second_part (all_lines input))) → IsCompared input
   by_first kept (Ok first) of_first accepted =
-      by_second first of_first (text_front (second_part (all_lines input))) (schema_answer (second_part (all_lines input))) refl accepted
+      by_second first (names_in kept) of_first (text_front (second_part (all_lines input))) (schema_answer (second_part (all_lines input))) refl accepted
   by_first kept (Err refusal) of_first accepted = refused_never accepted.0
 
 -- ---- the run

@@ -1,4 +1,4 @@
-use Rattle.std.proofs.Common.{ap, subst, length, ◌<◌}
+use Rattle.std.proofs.Common.{subst, ◌<◌}
 use Rattle.pgs_run_contain.proofs.Naming.{name_more}
 use Rattle.pgs_run_contain.proofs.names.push_names_of.Goals as goal
 
