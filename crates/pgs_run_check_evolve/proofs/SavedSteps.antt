@@ -71,9 +71,10 @@ module _ (old new : Resolved) (names : Names) (graph : Graph) where
         → (ShowsAll (shown_of before) (told_stored graph choice old new).pieces (shown_of after)) × ((told_stored graph choice old new).status ≡ Accepted)
     safe_by is_one fits None right ends = absurd (right tt)
     safe_by is_one fits (Some answers) right ends =
-        let safe = safe_status (is_safe old new (all_contained answers)) ends.1 in
-        (subst (λ (ls : List (List ℕ)). ShowsAll (shown_of before) ls (shown_of after)) (safe_lines answers safe) ends.0,
-        ap status_by (kept_by old new names (Some answers) Accepted tt right ends.1 graph is_one fits))
+        let safe = safe_status (is_safe old new (all_contained answers)) ends.1 in (
+          subst (λ (ls : List (List ℕ)). ShowsAll (shown_of before) ls (shown_of after)) (safe_lines answers safe) ends.0,
+          ap status_by (kept_by old new names (Some answers) Accepted tt right ends.1 graph is_one fits),
+        )
 
     torn_by : (choice : Option (List Answer)) → ShowsTorn (shown_of before) (told_changes choice old new).pieces (shown_of after) → ShowsTorn (shown_of before) (told_stored graph choice old new).pieces (shown_of after)
     torn_by None shows = shows

@@ -22,11 +22,13 @@ fn end_run<W: World>(alloc: Global, world: &mut W, texts: Stop<Ending>) -> Stop<
     ensures last { is_of_world result ≡ true → W.failed world.new }
 {
     match texts {
-        Stop::Ended(Ending::Fit {
-            first,
-            second,
-            names,
-        }) => put_changes(alloc, world, &first, &second, names.as_slice()),
+        Stop::Ended(
+            Ending::Fit {
+                first,
+                second,
+                names,
+            },
+        ) => put_changes(alloc, world, &first, &second, names.as_slice()),
         Stop::Ended(Ending::Refused) => Stop::Ended(Status::SchemaRefused),
         Stop::Ended(Ending::Cut) => Stop::Ended(Status::InputTooLong),
         Stop::ReadFault => Stop::ReadFault,
