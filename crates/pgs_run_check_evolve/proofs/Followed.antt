@@ -21,7 +21,7 @@ use Rattle.pgs_run_contain.proofs.Behind.{Rules}
 use Rattle.pgs_run_check_evolve.specs.Lines.{lines_behind}
 use Rattle.pgs_run_check_evolve.specs.Spec.{evolve_behind}
 use Rattle.pgs_run_check_evolve.specs.Telling.{TellsBehind, TellsOld}
-use Rattle.pgs_run_check_evolve.specs.Told.{type_lines, all_contained, status_by, AreRightly, told_changes}
+use Rattle.pgs_run_check_evolve.specs.Told.{chosen_answers, type_lines, all_contained, status_by, AreRightly, told_changes}
 
 done_by : (safe : Bool) → IsDone (status_by safe)
 done_by true = inl refl
@@ -32,7 +32,13 @@ done None old new = inl refl
 done (Some answers) old new = done_by (is_safe old new (all_contained answers))
 
 pub rules : Rules evolve_behind
-rules = record { none_told = λ old new. refl; none_right = λ old new names status undone. undone; done = done }
+rules = record {
+  none_told = λ old new. refl;
+  none_right = λ old new names status undone. undone;
+  none_cause = refl;
+  none_is_cause = λ text. tt;
+  done = λ chosen. done chosen.answers;
+}
 
 module _ (old new : Resolved) (names : Names) where
   lines_strict : (answers : List Answer) → new.guard.strict ≡ true → answer_lines (listed old old.guard.types) answers ≡ type_lines old new answers
@@ -47,7 +53,7 @@ module _ (old new : Resolved) (names : Names) where
   behind answers contained before mid (stops.Ended status) after front right same tells =
       let puts = puts_on front (subst (λ (b : Bool). PutsAll mid (lines_behind old new b) after) same tells.1) in
       record {
-        choice = Some answers;
+        choice = chosen_answers answers;
         right = right status;
         ends = (puts.shows, sym (tells.0 ∙ ap (λ (b : Bool). status_by (is_safe old new b)) same));
         may = tt;
@@ -58,10 +64,10 @@ module _ (old new : Resolved) (names : Names) where
   behind answers contained before mid stops.DiskFault after front right same tells = absurd tells
   behind answers contained before mid stops.PutFault after front right same tells =
       let puts = stops_on front (subst (λ (b : Bool). PutsUntil {E = Status} mid (lines_behind old new b) stops.PutFault after) same tells) in
-      record { choice = Some answers; right = right (status_at stops.PutFault); ends = puts.shows; may = tt; cause = puts.cause; areas = puts.areas }
+      record { choice = chosen_answers answers; right = right (status_at stops.PutFault); ends = puts.shows; may = tt; cause = puts.cause; areas = puts.areas }
   behind answers contained before mid stops.Memory after front right same tells =
       let puts = stops_on front (subst (λ (b : Bool). PutsUntil {E = Status} mid (lines_behind old new b) stops.Memory after) same tells) in
-      record { choice = Some answers; right = right (status_at stops.Memory); ends = puts.shows; may = tt; cause = puts.cause; areas = puts.areas }
+      record { choice = chosen_answers answers; right = right (status_at stops.Memory); ends = puts.shows; may = tt; cause = puts.cause; areas = puts.areas }
 
   -- all types were answered
   all_answered : (answers : List Answer) (status : Status) → AreRight old new names (listed old old.guard.types) answers → Answered old new names (listed old old.guard.types) answers status
@@ -95,10 +101,10 @@ module _ (old new : Resolved) (names : Names) where
       by stops.DiskFault puts = absurd puts.only
       by stops.PutFault puts =
           let all = puts_types stops.PutFault puts in
-          record { choice = Some told.answers; right = some (status_at stops.PutFault) (λ done. done); ends = all.shows; may = tt; cause = all.cause; areas = all.areas }
+          record { choice = chosen_answers told.answers; right = some (status_at stops.PutFault) (λ done. done); ends = all.shows; may = tt; cause = all.cause; areas = all.areas }
       by stops.Memory puts =
           let all = puts_types stops.Memory puts in
-          record { choice = Some told.answers; right = some (status_at stops.Memory) (λ done. done); ends = all.shows; may = tt; cause = all.cause; areas = all.areas }
+          record { choice = chosen_answers told.answers; right = some (status_at stops.Memory) (λ done. done); ends = all.shows; may = tt; cause = all.cause; areas = all.areas }
 
   pub stopped : (strict : Bool) → new.guard.strict ≡ strict → (stop : Stop Status) (before after : View) → TellsOld strict old new names (Err stop) before after → FollowsBoth evolve_behind old new names before stop after
   stopped true is stop before after told = types_stop is stop before after told

@@ -34,7 +34,7 @@ use Rattle.pgs_run_store.proofs.Reading.{all_told, until_told}
 use Rattle.pgs_run_check_evolve.specs.Spec.{evolve_behind}
 use Rattle.pgs_run_check_evolve.specs.Stored.{violation_lines, told_stored, stored_behind}
 use Rattle.pgs_run_check_evolve.specs.Telling.{TellsListed}
-use Rattle.pgs_run_check_evolve.specs.Told.{all_contained, status_by, told_changes, AreRightly}
+use Rattle.pgs_run_check_evolve.specs.Told.{chosen_answers, all_contained, status_by, told_changes, AreRightly}
 use Rattle.pgs_run_check_evolve.proofs.Safe.{kept_by, safe_status}
 
 unsafe_status : (safe : Bool) → status_by safe ≡ Refused → safe ≡ false
@@ -94,7 +94,7 @@ module _ (old new : Resolved) (names : Names) (graph : Graph) where
     ended_safe is_one fits p = record {
       choice = p.choice;
       right = p.right;
-      ends = safe_by is_one fits p.choice p.right p.ends;
+      ends = safe_by is_one fits p.choice.answers p.right p.ends;
       may = tt;
       cause = p.cause;
       areas = p.areas;
@@ -107,13 +107,13 @@ module _ (old new : Resolved) (names : Names) (graph : Graph) where
         ⊎_elim
         (λ (accepted : status ≡ Accepted). subst (λ (s : Status). FollowsBoth (stored_behind graph) old new names before (stops.Ended s) after) (sym accepted)
         (ended_safe is_one fits (subst (λ (s : Status). FollowsBoth evolve_behind old new names before (stops.Ended s) after) accepted p)))
-        (λ (refused : status ≡ Refused). absurd (other (ap stops.Ended refused))) (told_two p.choice status p.ends.1)
+        (λ (refused : status ≡ Refused). absurd (other (ap stops.Ended refused))) (told_two p.choice.answers status p.ends.1)
     stored_same is_one fits stops.ReadFault other p = absurd p.may
     stored_same is_one fits stops.DiskFault other p = absurd p.may
     stored_same is_one fits stops.PutFault other p =
-        record { choice = p.choice; right = p.right; ends = torn_by p.choice p.ends; may = tt; cause = p.cause; areas = p.areas }
+        record { choice = p.choice; right = p.right; ends = torn_by p.choice.answers p.ends; may = tt; cause = p.cause; areas = p.areas }
     stored_same is_one fits stops.Memory other p =
-        record { choice = p.choice; right = p.right; ends = first_by p.choice p.ends; may = tt; cause = p.cause; areas = p.areas }
+        record { choice = p.choice; right = p.right; ends = first_by p.choice.answers p.ends; may = tt; cause = p.cause; areas = p.areas }
 
   -- the step isn't safe, and what the graph has against the new schema was listed
   module _ (before mid after : View) where
@@ -122,7 +122,7 @@ module _ (old new : Resolved) (names : Names) (graph : Graph) where
     listed_by (stops.Ended status) answers right front unsafe tells =
         let puts = puts_on front tells.1 in
         record {
-          choice = Some answers;
+          choice = chosen_answers answers;
           right = right_again answers status right;
           ends = (subst (λ (ls : List (List ℕ)). ShowsAll (shown_of before) ls (shown_of after)) (unsafe_lines answers unsafe) puts.shows, sym tells.0);
           may = tt;
@@ -134,7 +134,7 @@ module _ (old new : Resolved) (names : Names) (graph : Graph) where
     listed_by stops.PutFault answers right front unsafe tells =
         let puts = stops_on front tells in
         record {
-          choice = Some answers;
+          choice = chosen_answers answers;
           right = right_again answers (status_at stops.PutFault) right;
           ends = subst (λ (ls : List (List ℕ)). ShowsTorn (shown_of before) ls (shown_of after)) (unsafe_lines answers unsafe) puts.shows;
           may = tt;
@@ -144,7 +144,7 @@ module _ (old new : Resolved) (names : Names) (graph : Graph) where
     listed_by stops.Memory answers right front unsafe tells =
         let puts = stops_on front tells in
         record {
-          choice = Some answers;
+          choice = chosen_answers answers;
           right = right_again answers (status_at stops.Memory) right;
           ends = subst (λ (ls : List (List ℕ)). ShowsFirst (shown_of before) ls (shown_of after)) (unsafe_lines answers unsafe) puts.shows;
           may = tt;
@@ -153,7 +153,7 @@ module _ (old new : Resolved) (names : Names) (graph : Graph) where
         }
 
     pub stored_listed : (stop : Stop Status) → FollowsBoth evolve_behind old new names before (stops.Ended Refused) mid → TellsListed (violations new graph) mid stop after → FollowsBoth (stored_behind graph) old new names before stop after
-    stored_listed stop p tells = by p.choice p.right p.ends
+    stored_listed stop p tells = by p.choice.answers p.right p.ends
       where
         by : (choice : Option (List Answer)) → AreRightly choice old new names Refused → Ends (shown_of before) (told_changes choice old new) (stops.Ended Refused) (shown_of mid) → FollowsBoth (stored_behind graph) old new names before stop after
         by None right ends = absurd (right tt)
@@ -166,15 +166,15 @@ module _ (old new : Resolved) (names : Names) (graph : Graph) where
   stored_two None status is = inl (sym is)
   stored_two (Some answers) status is = ⊎_elim (λ so. inl (sym is ∙ so)) (λ so. inr (sym is ∙ so)) (of_two (conforms new graph))
 
-  pub stored_told : (before : View) (stop : Stop Status) (after : View) → (p : FollowsBoth (stored_behind graph) old new names before stop after) → PutsTold (told_stored graph p.choice old new) before (status_at stop) after
+  pub stored_told : (before : View) (stop : Stop Status) (after : View) → (p : FollowsBoth (stored_behind graph) old new names before stop after) → PutsTold (told_stored graph p.choice.answers old new) before (status_at stop) after
   stored_told before (stops.Ended status) after p =
-      all_told (told_stored graph p.choice old new) before after status (stored_two p.choice status p.ends.1) p.ends.1 (record { shows = p.ends.0; faults = p.cause; areas = p.areas })
+      all_told (told_stored graph p.choice.answers old new) before after status (stored_two p.choice.answers status p.ends.1) p.ends.1 (record { shows = p.ends.0; faults = p.cause; areas = p.areas })
   stored_told before stops.ReadFault after p = absurd p.may
   stored_told before stops.DiskFault after p = absurd p.may
   stored_told before stops.PutFault after p =
-      until_told stops.PutFault (status_at stops.PutFault) (told_stored graph p.choice old new) before after refl (record { only = tt; shows = p.ends; cause = p.cause; areas = p.areas })
+      until_told stops.PutFault (status_at stops.PutFault) (told_stored graph p.choice.answers old new) before after refl (record { only = tt; shows = p.ends; cause = p.cause; areas = p.areas })
   stored_told before stops.Memory after p =
-      until_told stops.Memory (status_at stops.Memory) (told_stored graph p.choice old new) before after refl (record { only = tt; shows = p.ends; cause = p.cause; areas = p.areas })
+      until_told stops.Memory (status_at stops.Memory) (told_stored graph p.choice.answers old new) before after refl (record { only = tt; shows = p.ends; cause = p.cause; areas = p.areas })
 
 -- what was put is an answer to a text
 pub answers_told : (told : Told Status) (old new : View) (status : Status) → PutsTold told old status new → AnswersText told old new status

@@ -1,5 +1,6 @@
 -- The promise of a run over a saved store, by how the store was opened, what the reading of the text gave, and what was told of it.
-use Rattle.std.proofs.Common.{◌≡◌, ℕ, true, false, IsTrue, List, [], ◌++◌, Option, Some, None, Result, Ok, Err, is_some, refl, sym, ◌∙◌, ap, subst}
+use Rattle.std.proofs.Common.{◌≡◌, ℕ, ◌<◌, true, false, nat_lt, IsTrue, List, [], ◌++◌, length, Option, Some, None, Result, Ok, Err, is_some, refl, sym, ◌∙◌, ap, subst, arith}
+use Rattle.std.proofs.lemmas.Bool.Decides.{nat_tests}
 use Rattle.pgs_base.specs.Graph.{Graph}
 use Rattle.pgs_run_lines.specs.Machine.{Told}
 use Rattle.pgs_run_lines.specs.Ending.{Faults, faults_of}
@@ -22,33 +23,50 @@ use Rattle.pgs_store.specs.Stored.{StoreState}
 use Rattle.pgs_snapshot.specs.Choice.{chosen_next}
 use Rattle.pgs_snapshot.specs.Saved.{SavedState, saved, store}
 use Rattle.pgs_run_input.specs.Answers.{schema_answer}
-use Rattle.pgs_run_input.specs.Input.{text_front}
+use Rattle.pgs_run_input.specs.Input.{text_limit, text_front}
 use Rattle.pgs_run_input.specs.Session.{standard}
 use Rattle.pgs_run_input.specs.Text.{AnswersText, IsUnread, IsWhole}
 use Rattle.pgs_run_input.proofs.OneLine.{IsSilent, silent_faults}
 use Rattle.pgs_run_input.proofs.SameFronts.{schema_of_front}
+use Rattle.pgs_run_lines.proofs.Fronts.{same_of_front}
 use Rattle.pgs_run_input.proofs.WholeInput.{RunsWhole, by_unread, told_whole, whole_input, with_text, without_text}
-use Rattle.pgs_run_contain.specs.Answers.{Answer}
 use Rattle.pgs_run_contain.specs.Names.{Names, names_in}
 use Rattle.pgs_run_contain.specs.Running.{HasAllLines}
-use Rattle.pgs_run_contain.proofs.Machine.{names_of_front}
+use Rattle.pgs_run_refusal.proofs.Fronts.{cause_of_front}
 use Rattle.pgs_run_store.specs.declared.opening.Unopened.{Unopened}
 use Rattle.pgs_run_store.specs.Ending.{is_refusal}
 use Rattle.pgs_run_store.specs.Opening.{IsOpened, saved_in}
-use Rattle.pgs_run_store.specs.Refusing.{SavedStore, told_under}
+use Rattle.pgs_run_store.specs.Refusing.{SavedStore}
 use Rattle.pgs_run_store.proofs.Reading.{told_opened}
 use Rattle.pgs_run_store.proofs.Unread.{RunsUnopened, unopened_answer, unopened_by, unopened_cause, unopened_ends, unopened_images, unopened_read, unopened_short, unopened_takes}
 use Rattle.pgs_run_evolve.proofs.Kept.{next_there}
 use Rattle.pgs_run_evolve.proofs.Promised.{Opening, evolvable}
-use Rattle.pgs_run_check_evolve.specs.Stored.{AnswersStored, TellsNext, told_evolve_store, told_next, told_stored, told_within}
+use Rattle.pgs_run_check_evolve.specs.Stored.{AnswersStored, IsRightOf, TellsNext, told_evolve_store, told_next, told_text, told_within}
 use Rattle.pgs_run_check_evolve.specs.StoreSpec.{check_evolve_store_spec}
-use Rattle.pgs_run_check_evolve.specs.Told.{AreRightly}
+use Rattle.pgs_run_check_evolve.specs.Told.{AreRightly, Chosen, nothing_chosen}
+use Rattle.pgs_run_check_evolve.proofs.StoreNext.{right_nothing}
 
 -- what is told of a front of a text is told of the text
-front_told : (choice : Option (List Answer)) (next : Option ℕ) (input : List ℕ) (it : SavedStore) → told_next choice next (text_front input) it ≡ told_next choice next input it
-front_told choice None input it = refl
-front_told choice (Some number) input it =
-    ap (λ (answer : Result Resolved (List ℕ)). told_under answer (λ new. told_stored it.graph choice it.schema new)) (schema_of_front input)
+front_told : (chosen : Chosen) (next : Option ℕ) (input : List ℕ) (it : SavedStore) → told_next chosen next (text_front input) it ≡ told_next chosen next input it
+front_told chosen None input it = refl
+front_told chosen (Some number) input it = ap (told_text chosen it) (schema_of_front input)
+
+long_names : (text : List ℕ) → text_limit < length text → names_in text ≡ []
+unfolding names_in
+long_names text long = rw (let is : nat_lt text_limit (length text) ≡ true = grind (arith, nat_tests) in is) refl
+
+names_of_front : (text : List ℕ) → names_in (text_front text) ≡ names_in text
+names_of_front text = same_of_front text_limit names_in [] text long_names
+
+right_by : (was : Resolved) (saved : List ℕ) (chosen : Chosen) (status : Status) (input : List ℕ) (answer : Result Resolved (List ℕ)) → IsRightOf was saved (text_front input) answer chosen status → IsRightOf was saved input answer chosen status
+right_by was saved chosen status input (Ok new) right = subst (λ (names : Names). AreRightly chosen.answers was new (names_in saved ++ names) status) (names_of_front input) right
+right_by was saved chosen status input (Err refusal) right = cause_of_front input chosen.cause right
+
+-- and so what is right of it
+right_of_front : (was : Resolved) (saved : List ℕ) (chosen : Chosen) (status : Status) (input : List ℕ) → IsRightOf was saved (text_front input) (schema_answer (text_front input)) chosen status → IsRightOf was saved input (schema_answer input) chosen status
+right_of_front was saved chosen status input right =
+    right_by was saved chosen status input (schema_answer input)
+    (subst (λ (answer : Result Resolved (List ℕ)). IsRightOf was saved (text_front input) answer chosen status) (schema_of_front input) right)
 
 -- a store that is saved as two things is saved as one
 module _ (it : StoreState) (old mid : View) (opened : IsOpened it old mid) (tells : IsTrue old.tells_bytes) where
@@ -63,21 +81,21 @@ module _ (it : StoreState) (old mid : View) (opened : IsOpened it old mid) (tell
       cc
 
 module _ (it : StoreState) (budget : ℕ) (old : Setting) (mid : View) (opening : Opening it old.view mid) where
-  told_same : (choice : Option (List Answer)) (input : List ℕ) → IsTrue old.view.tells_bytes → (n : ℕ) → told_evolve_store choice input (areas_of old.view) n ≡ told_whole input (told_next choice it.journal.next input (saved_in it)) n
+  told_same : (chosen : Chosen) (input : List ℕ) → IsTrue old.view.tells_bytes → (n : ℕ) → told_evolve_store chosen input (areas_of old.view) n ≡ told_whole input (told_next chosen it.journal.next input (saved_in it)) n
   unfolding told_evolve_store
-  told_same choice input tells n =
-      told_opened it old.view mid (λ (s : SavedStore). told_within choice input n (chosen_next old.view.shown.a old.view.shown.b) s) opening.opened tells
-      ∙ ap (λ (next : Option ℕ). told_within choice input n next (saved_in it))
+  told_same chosen input tells n =
+      told_opened it old.view mid (λ (s : SavedStore). told_within chosen input n (chosen_next old.view.shown.a old.view.shown.b) s) opening.opened tells
+      ∙ ap (λ (next : Option ℕ). told_within chosen input n next (saved_in it))
       (subst (λ (t : Triple). chosen_next t.a t.b ≡ it.journal.next) opening.quiet.shown
       (next_there it mid (evolvable it old.view mid opening.opened) (opening.quiet.passes.tells_bytes ∙ tells)))
 
-  module _ (choice : Option (List Answer)) (after : SourceState) (new : View) (status : Status) where
+  module _ (chosen : Chosen) (after : SourceState) (new : View) (status : Status) where
     abbrev Runs : Type 0
-    Runs = RunsWhole (λ input. IsTrue old.view.tells_bytes) (λ input. told_evolve_store choice input (areas_of old.view)) budget old (record old { source = after; view = new }) status
+    Runs = RunsWhole (λ input. IsTrue old.view.tells_bytes) (λ input. told_evolve_store chosen input (areas_of old.view)) budget old (record old { source = after; view = new }) status
 
-    promised : Runs → AnswersStored choice old budget status → IsOfCommand status → KeepsImages old.view new → Promise check_evolve_store_spec budget old (record old { source = after; view = new }) status
+    promised : Runs → AnswersStored chosen old budget status → IsOfCommand status → KeepsImages old.view new → Promise check_evolve_store_spec budget old (record old { source = after; view = new }) status
     promised runs right may_end images = promise_reading check_evolve_store_spec budget old (record old { source = after; view = new }) status refl (record {
-      choice = choice;
+      choice = chosen;
       right = right;
       ends = λ input knows is. runs.ends input (knows.bytes tt) is;
       takes = runs.takes;
@@ -103,26 +121,25 @@ module _ (it : StoreState) (budget : ℕ) (old : Setting) (mid : View) (opening 
       → Promise check_evolve_store_spec budget old (record old { source = after; view = new }) status
   promised_text after new status text whole tells =
       let next = it.journal.next in
-      let choice = tells.choice in
-      promised choice after new status
-      (with_text (λ input. IsTrue old.view.tells_bytes) (λ input. told_evolve_store choice input (areas_of old.view)) (λ input. told_next choice next input (saved_in it)) (told_same choice) budget old (record old { source = after; view = new }) text status (told_next choice next text (saved_in it)) whole
-      (λ input front asks. sym (front_told choice next input (saved_in it)) ∙ ap (λ (t : List ℕ). told_next choice next t (saved_in it)) (sym front)) (answers_opened choice after new status (told_next choice next text (saved_in it)) tells.answers))
-      (λ input was_text commits graph is known saves was schema of_saved of_input.
-      let front = (whole_input budget old.source after text input is whole).0 in
-      subst (λ (r : Resolved). AreRightly choice r schema (names_in was_text ++ names_in input) status) (sym (saved_schema it old.view mid opening.opened known was_text commits graph was saves of_saved))
-      (subst (λ (names : Names). AreRightly choice it.guard.schema schema names status)
-      (ap (λ (t : List ℕ). names_in t ++ names_in text) (saved_text it old.view mid opening.opened known was_text commits graph saves)
-      ∙ ap (λ (names : Names). names_in was_text ++ names) (ap names_in front ∙ names_of_front input))
-      (tells.right schema (ap schema_answer front ∙ schema_of_front input ∙ of_input))))
+      let chosen = tells.chosen in
+      promised chosen after new status
+      (with_text (λ input. IsTrue old.view.tells_bytes) (λ input. told_evolve_store chosen input (areas_of old.view)) (λ input. told_next chosen next input (saved_in it)) (told_same chosen) budget old (record old { source = after; view = new }) text status (told_next chosen next text (saved_in it)) whole
+      (λ input front asks. sym (front_told chosen next input (saved_in it)) ∙ ap (λ (t : List ℕ). told_next chosen next t (saved_in it)) (sym front)) (answers_opened chosen after new status (told_next chosen next text (saved_in it)) tells.answers))
+      (λ input was_text commits graph is known saves was of_saved.
+      subst (λ (r : Resolved). IsRightOf r was_text input (schema_answer input) chosen status) (sym (saved_schema it old.view mid opening.opened known was_text commits graph was saves of_saved))
+      (subst (λ (t : List ℕ). IsRightOf it.guard.schema t input (schema_answer input) chosen status) (saved_text it old.view mid opening.opened known was_text commits graph saves)
+      (right_of_front it.guard.schema it.guard.text chosen status input
+      (subst (λ (t : List ℕ). IsRightOf it.guard.schema it.guard.text t (schema_answer t) chosen status) (whole_input budget old.source after text input is whole).0 tells.right))))
       tells.answers.may_end
       (images_on old.view mid new (images_quiet old.view mid opening.quiet) (images_areas mid new tells.areas))
 
   -- there was no text
   pub promised_none : (after : SourceState) (status : Status) → IsUnread budget old.source after status → Promise check_evolve_store_spec budget old (record old { source = after; view = mid }) status
   promised_none after status unread =
-      promised None after mid status
-      (without_text (λ input. IsTrue old.view.tells_bytes) (λ input. told_evolve_store None input (areas_of old.view)) (λ input. told_next None it.journal.next input (saved_in it)) (told_same None) budget old (record old { source = after; view = mid }) status unread opening.silent)
-      (λ input text commits graph is known saves was schema of_saved of_input. by_unread (λ (s : Status). HasAllLines s → ⊥) budget old.source after status (λ done. done) (λ done. done) (λ done. done) unread)
+      promised nothing_chosen after mid status
+      (without_text (λ input. IsTrue old.view.tells_bytes) (λ input. told_evolve_store nothing_chosen input (areas_of old.view)) (λ input. told_next nothing_chosen it.journal.next input (saved_in it)) (told_same nothing_chosen) budget old (record old { source = after; view = mid }) status unread opening.silent)
+      (λ input text commits graph is known saves was of_saved.
+      right_nothing was text input (schema_answer input) status (by_unread (λ (s : Status). HasAllLines s → ⊥) budget old.source after status (λ done. done) (λ done. done) (λ done. done) unread))
       (by_unread IsOfCommand budget old.source after status tt tt tt unread)
       (images_quiet old.view mid opening.quiet)
 
@@ -133,10 +150,11 @@ unfolding told_evolve_store
 promised_unopened reason budget old mid new status ran =
     let images = unopened_images reason old.view mid new status ran in
     promise_reading check_evolve_store_spec budget old (record old { view = new }) status refl (record {
-      choice = None;
-      right = λ input text commits graph is known saves was schema of_saved of_input. unopened_by reason old.view mid new status ran (λ (s : Status). HasAllLines s → ⊥) (λ done. done) (λ done. done) (λ done. done) (λ done. done) (λ done. done);
+      choice = nothing_chosen;
+      right = λ input text commits graph is known saves was of_saved.
+          right_nothing was text input (schema_answer input) status (unopened_by reason old.view mid new status ran (λ (s : Status). HasAllLines s → ⊥) (λ done. done) (λ done. done) (λ done. done) (λ done. done) (λ done. done));
       ends = λ input knows is.
-          unopened_ends reason old.view mid new status ran input budget old.source.left is (λ bytes it. told_within None input bytes (chosen_next old.view.shown.a old.view.shown.b) it) (knows.bytes tt);
+          unopened_ends reason old.view mid new status ran input budget old.source.left is (λ bytes it. told_within nothing_chosen input bytes (chosen_next old.view.shown.a old.view.shown.b) it) (knows.bytes tt);
       takes = λ input rest is left_is. unopened_takes reason old.view mid new status ran input budget old.source.left is rest left_is;
       full = λ cut. absurd (unopened_short reason old.view mid new status ran cut);
       in_vain = λ vain. refl;

@@ -7,7 +7,7 @@ ghost use Rattle.pgs_run_check_evolve.specs.Spec.{evolve_behind};
 ghost use Rattle.pgs_run_check_evolve.specs.Telling.{IsBehind, TellsBehind, TellsOld};
 ghost use Rattle.pgs_run_check_evolve.specs.Told.{status_by};
 
-use crate::lines::{push_drops, push_keys, safe_line, strict_line};
+use crate::lines::{KeysOf, push_keys, safe_line, strict_line};
 use pgs_base::{Bytes, Memory, Name};
 use pgs_command::Status;
 use pgs_conform::Compiled;
@@ -40,8 +40,8 @@ fn lines_behind(
     if new.guard.strict && !old.guard.strict {
         lines.push(strict_line(alloc)?)?;
     }
-    push_keys(alloc, changes.kept.as_slice(), &mut lines)?;
-    push_drops(alloc, changes.dropped.as_slice(), &mut lines)?;
+    push_keys(alloc, KeysOf::New, changes.kept.as_slice(), &mut lines)?;
+    push_keys(alloc, KeysOf::Old, changes.dropped.as_slice(), &mut lines)?;
     if safe {
         lines.push(safe_line(alloc)?)?;
     }

@@ -62,7 +62,7 @@ fn push_line(
     number: u64,
     lines: &mut Vec<Bytes>,
 ) -> Result<(), Memory>
-    ensures { OnOk result (lines.new.items ≡ lines.old.items ++ line_at (option_map (λ word. word.now) word) number) }
+    ensures { OnOk result (lines.new.items ≡ lines.old.items ++ line_at (option_map (λ word. word.now) word.entry) number) }
 {
     if let Some(word) = word {
         lines.push(key_line(alloc, word, number)?)?;

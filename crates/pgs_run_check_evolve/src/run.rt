@@ -8,6 +8,7 @@ ghost use Rattle.pgs_run_contain.specs.Behind.{FollowsTexts};
 ghost use Rattle.pgs_run_check_evolve.specs.Spec.{check_evolve_spec, evolve_behind};
 ghost use Rattle.pgs_run_lines.specs.declared.budget.TheConstants.{BUDGET};
 
+use crate::cause::put_cause;
 use crate::changes::put_changes;
 use pgs_command::{Status, status_at};
 use pgs_run_contain::{Ending, read_texts};
@@ -15,7 +16,7 @@ use pgs_run_lines::Stop;
 use pgs_world::{Source, World};
 use std::alloc::Global;
 
-// Ends a run behind the texts: of two schemas it is told what the step changes.
+// Ends a run behind the texts: of two schemas it is told what the step changes, of a text that was refused what its cause is.
 fn end_run<W: World>(alloc: Global, world: &mut W, texts: Stop<Ending>) -> Stop<Status>
     requires { is_of_world texts ≡ true → W.failed world.old }
     ensures follows { FollowsTexts evolve_behind texts (W.view world.old) result (W.view world.new) }
@@ -29,7 +30,7 @@ fn end_run<W: World>(alloc: Global, world: &mut W, texts: Stop<Ending>) -> Stop<
                 names,
             },
         ) => put_changes(alloc, world, &first, &second, names.as_slice()),
-        Stop::Ended(Ending::Refused) => Stop::Ended(Status::SchemaRefused),
+        Stop::Ended(Ending::Refused { text }) => put_cause(alloc, world, text.bytes()),
         Stop::Ended(Ending::Cut) => Stop::Ended(Status::InputTooLong),
         Stop::ReadFault => Stop::ReadFault,
         Stop::DiskFault => Stop::DiskFault,
@@ -41,8 +42,9 @@ fn end_run<W: World>(alloc: Global, world: &mut W, texts: Stop<Ending>) -> Stop<
 /// Tells what a step from one schema to another changes, over an input within a budget of bytes, at most 2^40: the old schema's text, a line
 /// `---`, and the new one's. It puts the lines of `contain` for the types, where the new guard is strict, then `asks STRICT` where the old one
 /// isn't, whether each key of the new guard is kept, which keys of the old guard are dropped, and last `safe` where each graph that conforms to
-/// the old schema has to conform to the new one (docs/FORMATS.md, "What pgcheck prints"). The status is `Accepted` with `safe`, else `Refused`;
-/// `SchemaRefused` where a text is refused. It uses no area.
+/// the old schema has to conform to the new one (docs/FORMATS.md, "What pgcheck prints"). The status is `Accepted` with `safe`, else `Refused`.
+/// Where a text is refused, it puts its line, and behind it that of the cause, where that has a place; then the status is `SchemaRefused`. It
+/// uses no area.
 pub fn run_check_evolve<S: Source, W: World>(
     alloc: Global,
     source: &mut S,

@@ -1,8 +1,10 @@
 //! What a step changes for a saved store: the saved schema is the old one.
 
-ghost use Rattle.std.specs.Prelude.{◌≡◌, ℕ, Some, true};
+ghost use Rattle.std.specs.Prelude.{◌≡◌, ℕ, Some, true, false};
 ghost use Rattle.pgs_resolve.specs.SchemaOf.{schema_of};
 ghost use Rattle.pgs_run_lines.specs.Calls.{is_of_world};
+ghost use Rattle.pgs_run_lines.specs.declared.stop.Stop.TheVariants as stops;
+ghost use Rattle.pgs_command.specs.declared.status.Status.TheVariants.{Refused};
 ghost use Rattle.pgs_schema.specs.Told.{IsRefused};
 ghost use Rattle.pgs_violation.specs.Violations.{violations as violations_of};
 ghost use Rattle.pgs_command.specs.Calls.{fails_world};
@@ -10,16 +12,16 @@ ghost use Rattle.pgs_run_contain.specs.Behind.{FollowsBoth};
 ghost use Rattle.pgs_run_store.specs.Opening.{saved_in};
 ghost use Rattle.pgs_run_store.specs.Refusing.{SavedStore};
 ghost use Rattle.pgs_run_check_evolve.specs.Stored.{TellsNext, stored_behind};
-ghost use Rattle.pgs_run_check_evolve.specs.Telling.{TellsListed};
+ghost use Rattle.pgs_run_check_evolve.specs.Telling.{TellsListed, TellsRefusal};
 
 use crate::changes::{put_changes, status_by};
-use pgs_base::Name;
+use pgs_base::{Bytes, Name};
 use pgs_command::{Status, status_at};
 use pgs_graph::GraphRead;
 use pgs_run_contain::names_in_both;
 use pgs_run_evolve::old_format_line;
-use pgs_run_input::refused_line;
-use pgs_run_lines::{Reply, Stop, put_last, put_reply};
+use pgs_run_lines::{Stop, put_last, put_pieces};
+use pgs_run_refusal::refused_lines;
 use pgs_run_try::{graph_violations, put_all_listed};
 use pgs_schema::{Schema, SchemaUnread};
 use pgs_store::Store;
@@ -47,6 +49,14 @@ fn list_violations<W: World>(
     }
 }
 
+// Whether a step was told that isn't safe.
+fn is_unsafe(stop: &Stop<Status>) -> bool
+    ensures refused { result ≡ true → stop.now ≡ stops.Ended Refused }
+    ensures other { result ≡ false → stop.now ≡ stops.Ended Refused → ⊥ }
+{
+    matches!(stop, Stop::Ended(Status::Refused))
+}
+
 // Tells what the step from the saved schema to another changes, and where it isn't safe what in the saved graph the other doesn't allow. The
 // names are those of both texts.
 fn tell_stored<W: World>(
@@ -62,21 +72,33 @@ fn tell_stored<W: World>(
     let graph = store.graph();
     // The count's clause says that what is saved is a graph.
     let _count = graph.count();
-    match put_changes(alloc, world, store.compiled(), schema.compiled(), names) {
-        Stop::Ended(Status::Refused) => list_violations(alloc, world, graph, schema),
-        stop => stop,
+    let stop = put_changes(alloc, world, store.compiled(), schema.compiled(), names);
+    if is_unsafe(&stop) {
+        list_violations(alloc, world, graph, schema)
+    } else {
+        stop
     }
 }
 
-// Puts the line of a text that is no schema. What is told of its cause belongs behind it.
+// Puts the lines of a refusal, and gives the status.
+fn put_refusal<W: World>(world: &mut W, lines: &[Bytes]) -> Status
+    ensures tells { TellsRefusal lines.now (W.view world.old) (W.view world.new) result }
+    ensures last { fails_world result ≡ true → W.failed world.new }
+{
+    match put_pieces::<Status, W>(world, lines) {
+        Ok(()) => Status::SchemaRefused,
+        Err(_) => Status::PutFault,
+    }
+}
+
+// Puts the line of a text that is no schema, and that of the cause, where there is one.
 fn refuse<W: World>(alloc: Global, world: &mut W, unread: SchemaUnread, text: &[u8]) -> Status
     requires { IsRefused (schema_of text.now) unread }
     ensures answer { (it : SavedStore) (number : ℕ) → TellsNext it (Some number) text.now (W.view world.old) (W.view world.new) result }
     ensures last { fails_world result ≡ true → W.failed world.new }
 {
-    let status = Status::SchemaRefused;
-    match refused_line(alloc, unread) {
-        Ok(line) => put_reply(world, &Reply { line, status }),
+    match refused_lines(alloc, unread, text) {
+        Ok(lines) => put_refusal(world, &lines),
         Err(_) => Status::Memory,
     }
 }

@@ -5,8 +5,7 @@ use Rattle.std.proofs.lemmas.List.{append-nil, take_more}
 use Rattle.std.proofs.lemmas.Option.{slice_get-get_or, get_or_from_slice_get}
 use Rattle.pgs_lexer.specs.Cut.{tokens_of}
 use Rattle.pgs_lexer.specs.Token.{Lexeme}
-use Rattle.pgs_run_lines.proofs.Fronts.{same_of_front}
-use Rattle.pgs_run_input.specs.Input.{text_limit, text_front}
+use Rattle.pgs_run_input.specs.Input.{text_limit}
 use Rattle.pgs_run_contain.specs.Names.{Names, name_in, name_at, names_of, names_in}
 
 names_join : (xs ys : List Lexeme) → names_of (xs ++ ys) ≡ names_of xs ++ names_of ys
@@ -45,11 +44,3 @@ none_cut text line names short cut = rw (let is : nat_lt text_limit (length text
 pub names_cut : (text : List ℕ) (tokens : List Lexeme) → length text ≤ text_limit → tokens_of text ≡ Ok tokens → names_of tokens ≡ names_in text
 unfolding names_in
 names_cut text tokens short cut = rw (let is : nat_lt text_limit (length text) ≡ false = grind (arith, nat_tests) in is, cut) refl
-
-long_names : (text : List ℕ) → text_limit < length text → names_in text ≡ []
-unfolding names_in
-long_names text long = rw (let is : nat_lt text_limit (length text) ≡ true = grind (arith, nat_tests) in is) refl
-
--- a front of a text has its names: all of them, or none where it is too long
-pub names_of_front : (text : List ℕ) → names_in (text_front text) ≡ names_in text
-names_of_front text = same_of_front text_limit names_in [] text long_names

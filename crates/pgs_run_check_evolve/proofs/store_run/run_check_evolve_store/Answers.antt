@@ -1,4 +1,4 @@
-use Rattle.std.proofs.Common.{Bool, false, true, true≢false, refl, sym, ap, subst, ◌∙◌}
+use Rattle.std.proofs.Common.{◌≡◌, Bool, false, true, true≢false, refl, sym, ap, subst, ◌∙◌}
 use Rattle.pgs_run_lines.specs.Calls.{MakesReads}
 use Rattle.pgs_run_lines.specs.Ending.{faults_of}
 use Rattle.pgs_command.specs.declared.status.Status.{Status}
