@@ -1,7 +1,7 @@
 #!/usr/bin/env bash
 # Runs pgcheck on each example below check/, by the word in word.txt or else `schema`, and compares what it prints with output.txt and its status with status.txt; then what it says of
 # other words and of closed streams. Where an example has a folder stored/, pgguard makes a store of its schema.txt and lines.txt, whose name is pgcheck's second word, and whose files
-# have to stay as they are. Ends with 1 where one differs.
+# have to stay as they are. Of each example of `pgguard try` the verdicts have to be the same but for the word. Ends with 1 where one differs.
 # Usage: examples/check.sh, with PGCHECK=EXECUTABLE and PGGUARD=EXECUTABLE to try others than `pgcheck` and `pgguard` run
 set -u
 here=$(cd "$(dirname "$(readlink -f "${BASH_SOURCE[0]}")")" && pwd)
@@ -46,6 +46,22 @@ for example in "$here"/check/*/; do
     echo "$name: the store was changed"
     different=1
   fi
+done
+
+for example in "$here"/*/; do
+  [ -f "$example/status.txt" ] && ! [ -f "$example/words.txt" ] || continue
+  name=$(basename "$example")
+  if [ -f "$example/input.sh" ]; then
+    bash "$example/input.sh" >"$work/given"
+  else
+    cp "$example/input.txt" "$work/given"
+  fi
+  sed 's/^\([0-9]*\) committed /\1 accepted /' "$example/output.txt" >"$work/wanted"
+  "$program" try <"$work/given" >"$work/all"
+  status=$?
+  grep -av '^[0-9]* because \|^because ' "$work/all" >"$work/found"
+  [ "$status" = "$(<"$example/status.txt")" ]
+  ended "the verdicts of $name" 0 "$work/wanted"
 done
 
 printf 'store refused 30 no store\n' >"$work/none"
