@@ -110,7 +110,7 @@ module _ (resolved : Resolved) (g : Graph) (atoms : List Atom) (step : Step) whe
           let cons = sum_by-cons count stand others in
           omega (arith, rest, all, cons)
 
-  most_parts : (stands : List Stand) → sum_by (back_most g step) (elems_at (bound_by step) stands) ≡ sum_by (one_most g step) stands
+  pub most_parts : (stands : List Stand) → sum_by (back_most g step) (elems_at (bound_by step) stands) ≡ sum_by (one_most g step) stands
   most_parts [] = refl
   most_parts (stand ∷ stands) = by (most_parts stands) (stand.var == bound_by step) refl
     where
@@ -167,7 +167,7 @@ module _ (resolved : Resolved) (g : Graph) (atoms : List Atom) (step : Step) (pl
   abbrev back_by : Stand → List Stand
   back_by = one_back resolved g atoms step
 
-  any_twice : (test : Stand → Bool) (xs : List Stand) → list_any test (flat_map (led_back resolved g atoms (step ∷ plan)) xs) ≡ list_any (λ s. list_any test (back_by s)) (flat_map led xs)
+  pub any_twice : (test : Stand → Bool) (xs : List Stand) → list_any test (flat_map (led_back resolved g atoms (step ∷ plan)) xs) ≡ list_any (λ s. list_any test (back_by s)) (flat_map led xs)
   any_twice test [] = refl
   any_twice test (x ∷ xs) =
       list_any-append test (flat_map back_by (led x)) (flat_map (led_back resolved g atoms (step ∷ plan)) xs)

@@ -41,6 +41,7 @@ pub mod Leading
 pub mod Led
 pub mod LedMatches
 pub mod Sorting
+pub mod Passed
 pub mod Splitting
 pub mod SpreadEnds
 pub mod WayFound

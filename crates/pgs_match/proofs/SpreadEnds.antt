@@ -31,6 +31,7 @@ use Rattle.pgs_match.proofs.Leading.{sum_flat}
 use Rattle.pgs_match.proofs.Led.{root, ups, StandsNear, climbs, each_any, led_near, led_few_of, led_most_of}
 use Rattle.pgs_match.proofs.LedMatches.{leads}
 use Rattle.pgs_match.proofs.Nearby.{within_less}
+use Rattle.pgs_match.proofs.Passed.{among, at_var, itself}
 use Rattle.pgs_match.proofs.Walked.{stands}
 
 -- ---- counts
@@ -39,40 +40,8 @@ pub sum_ones : {X : Type 0} (xs : List X) → sum_by (λ x. 1) xs ≡ length xs
 sum_ones [] = refl
 sum_ones (x ∷ xs) = let rest = sum_ones xs in let cons = sum_by-cons (λ y. 1) x xs in omega (arith, rest, cons)
 
-abbrev one_if : Bool → ℕ
-one_if true = 1
-one_if false = 0
-
-counted : {X : Type 0} (test : X → Bool) (xs : List X) → list_any test xs ≡ true → 1 ≤ sum_by (λ x. one_if (test x)) xs
-counted test [] some = absurd (true≢false (sym some))
-counted {X} test (x ∷ xs) some = by (test x) refl some (counted test xs)
-  where
-    by : (b : Bool) → test x ≡ b → (b || list_any test xs) ≡ true → (list_any test xs ≡ true → 1 ≤ sum_by (λ y. one_if (test y)) xs) → 1 ≤ sum_by (λ y. one_if (test y)) (x ∷ xs)
-    by true is some rest = let cons = sum_by-cons (λ y. one_if (test y)) x xs in let one : one_if (test x) ≡ 1 = ap one_if is in omega (arith, cons, one)
-    by false is some rest = let cons = sum_by-cons (λ y. one_if (test y)) x xs in let more = rest some in omega (arith, cons, more)
-
-uncounted : {X : Type 0} (test : X → Bool) (xs : List X) → 1 ≤ sum_by (λ x. one_if (test x)) xs → list_any test xs ≡ true
-uncounted test [] some = absurd (omega (arith, some))
-uncounted {X} test (x ∷ xs) some = by (test x) refl (uncounted test xs)
-  where
-    by : (b : Bool) → test x ≡ b → (1 ≤ sum_by (λ y. one_if (test y)) xs → list_any test xs ≡ true) → (b || list_any test xs) ≡ true
-    by true is rest = refl
-    by false is rest =
-        let cons = sum_by-cons (λ y. one_if (test y)) x xs in
-        let none : one_if (test x) ≡ 0 = ap one_if is in
-        rest (omega (arith, some, cons, none))
-
--- what no sum tells apart from a part of a list is among it
-among : {X : Type 0} (xs ys : List X) → ((count : X → ℕ) → sum_by count xs ≤ sum_by count ys) → (test : X → Bool) → list_any test xs ≡ true → list_any test ys ≡ true
-among xs ys fewer test some = uncounted test ys (let one = counted test xs some in let less = fewer (λ x. one_if (test x)) in omega (arith, one, less))
-
 sum_within : {X : Type 0} (f : X → ℕ) (most : ℕ) (xs : List X) → ((x : X) → Contains xs x → f x ≤ most) → sum_by f xs ≤ length xs * most
 sum_within f most xs less = sum_by-le f most xs (All-weaker (Contains xs) (λ x. f x ≤ most) less xs (All-contains_itself xs))
-
--- the elements at a variable
-at_var : (test : Elem → Bool) (var : ℕ) (xs : List Stand) → list_any test (elems_at var xs) ≡ list_any (λ (s : Stand). s.var == var && test s.elem) xs
-at_var test var xs =
-    any_map test (λ (s : Stand). s.elem) (filter (λ (s : Stand). s.var == var) xs) ∙ any_filter (λ (s : Stand). test s.elem) (λ (s : Stand). s.var == var) xs
 
 few_at_var : (var : ℕ) (xs : List Stand) → length (elems_at var xs) ≤ sum_by (λ x. 1) xs
 few_at_var var [] = omega arith
@@ -90,9 +59,6 @@ passes_each {X} test xs all x it = sym (ap test it.2) ∙ at xs all it.0 it.1
     at [] all k below = absurd (omega (arith, below))
     at (y ∷ ys) all zero below = (and_parts (test y) _ all).0
     at (y ∷ ys) all (suc k) below = at ys (and_parts (test y) _ all).1 k (omega (arith, below))
-
-pub itself : (x : Elem) → same_elem x x ≡ true
-itself x = ap is_eq (tied_itself elem_cmp_total x)
 
 pub contains_it : (xs : List Elem) (x : Elem) → list_any (same_elem x) xs ≡ true → Contains xs x
 contains_it xs x some =

@@ -8,7 +8,7 @@ use Rattle.pgs_base.specs.declared.element.Elem.{Elem}
 use Rattle.pgs_base.specs.declared.element.Elem.TheVariants.{Node, Edge}
 use Rattle.pgs_base.specs.declared.row.EdgeRow.{EdgeRow}
 use Rattle.pgs_base.specs.Graph.{Graph, edge_at}
-use Rattle.pgs_graph.specs.Reads.{out_edges_of, in_edges_of}
+use Rattle.pgs_graph.specs.Reads.{out_edges_of, in_edges_of, degree_of}
 use Rattle.pgs_syntax.specs.declared.pattern.Atom.{Atom}
 use Rattle.pgs_syntax.specs.declared.pattern.Pattern.{Pattern}
 use Rattle.pgs_syntax.specs.declared.resolved.Resolved.{Resolved}
@@ -75,6 +75,25 @@ module _ (resolved : Resolved) (g : Graph) (atoms : List Atom) where
   abbrev pub led_most : List Step → Stand → ℕ
   led_most [] stand = 0
   led_most (step ∷ plan) stand = led_most plan stand + sum_by (one_most g step) (led_back plan stand)
+
+-- a list of stands has all of another
+abbrev pub HasAll : List Stand → List Stand → Type 0
+HasAll pairs stands = (stand : Stand) → Contains stands stand → Contains pairs stand
+
+-- A list of stands has all that walks pass which go back from starts by steps: it has each start, and with each stand all that a step leads back
+-- to from it.
+abbrev pub HasPassed : Resolved → Graph → List Atom → List Step → List Stand → List Stand → Type 0
+HasPassed resolved g atoms plan starts pairs =
+    HasAll pairs starts × ((step : Step) → Contains plan step → (stand : Stand) → Contains pairs stand → HasAll pairs (one_back resolved g atoms step stand))
+
+-- how many look-ups it takes at most where each of some stands is gone back from once
+abbrev pub once_most : Graph → List Step → List Stand → ℕ
+once_most g plan pairs = sum_by (λ step. sum_by (one_most g step) pairs) plan
+
+-- how many edges an element has; none where it is an edge
+abbrev pub elem_degree : Graph → Elem → ℕ
+elem_degree g (Node id) = degree_of g id
+elem_degree g (Edge id) = 0
 
 -- an element is within so many edges of some start
 abbrev pub IsNearSome : Graph → ℕ → List Stand → Elem → Type 0

@@ -1,7 +1,7 @@
 //! The calls on a planned key.
 
 ghost use Rattle.std.specs.Prelude.{◌≡◌, ◌+◌, ◌*◌, ◌^◌, ◌<◌, ◌≤◌, ◌==◌, ◌||◌, ℕ, true, length, map, filter_map, IfOk};
-ghost use Rattle.std.specs.List.{All, Contains, list_all};
+ghost use Rattle.std.specs.List.{All, Contains, list_all, sum_by};
 ghost use Rattle.pgs_base.specs.declared.element.Elem.{Elem};
 ghost use Rattle.pgs_base.specs.Order.{ascends, elem_cmp};
 ghost use Rattle.pgs_syntax.specs.KeyValues.{is_in_scope, scope_of, key_values};
@@ -15,7 +15,7 @@ ghost use Rattle.pgs_match.specs.Reached.{reached};
 ghost use Rattle.pgs_match.specs.Planned.{most_edges, pattern_of, taken, first_elem};
 ghost use Rattle.pgs_match.specs.Routes.{routed_from};
 ghost use Rattle.pgs_match.specs.declared.stand.Stand.{Stand};
-ghost use Rattle.pgs_match.specs.Spread.{IsNearSome, AreSparseFrom, are_in_range};
+ghost use Rattle.pgs_match.specs.Spread.{IsNearSome, AreSparseFrom, HasPassed, are_in_range, elem_degree};
 
 use crate::searching::Place;
 use crate::spreading::parted;
@@ -135,7 +135,8 @@ pub fn reach<G: GraphRead, L: Ledger>(
 /// key's types are those of the schema.
 ///
 /// It goes back by one step of the plan after another, from all starts together, so that no pair of a variable and an element is gone
-/// back from twice. Each element that it gives lies within w edges of a start. At every exit it has taken at most 8 * (d + 2)^w look-ups
+/// back from twice: it takes at most 4 times the sum of the degrees plus 2 over the pairs that the walks back pass, each counted once.
+/// Each element that it gives lies within w edges of a start. At every exit it has taken at most 8 * (d + 2)^w look-ups
 /// for each start, and it gives at most (d + 2)^w elements for each, with w as for [`in_scope`], where no node within w edges of a start
 /// has an in-degree plus out-degree over d.
 pub fn spread<G: GraphRead, L: Ledger>(
@@ -158,6 +159,9 @@ pub fn spread<G: GraphRead, L: Ledger>(
         steps.new ≤ steps.old + length starts.items * (8 * (most + 2) ^ most_edges key.now) }
     ensures few { (most : ℕ) → AreSparseFrom (G.meaning graph.now) (most_edges key.now) starts.items most →
         IfOk result (λ elems. length elems ≤ length starts.items * (most + 2) ^ most_edges key.now) }
+    ensures once { (plan : List Step) × (is_plan (pattern_of side key.now) 0 plan ≡ true) × ((pairs : List Stand) →
+        HasPassed compiled.now (G.meaning graph.now) (pattern_of side key.now).atoms plan starts.items pairs →
+        steps.new ≤ steps.old + 4 * sum_by (λ (stand : Stand). elem_degree (G.meaning graph.now) stand.elem + 2) pairs) }
 {
     let _elements = graph.count();
     let search = Search {

@@ -1,12 +1,12 @@
 //! Where the steps of a plan lead back to, from elements at variables.
 
-ghost use Rattle.std.specs.Prelude.{◌≡◌, ◌+◌, ◌*◌, ◌≤◌, ◌++◌, ℕ, Bool, true, length, OnOk, IfOk, option_and_then};
+ghost use Rattle.std.specs.Prelude.{◌≡◌, ◌+◌, ◌*◌, ◌≤◌, ◌++◌, ℕ, Bool, List, true, length, OnOk, IfOk, option_and_then};
 ghost use Rattle.std.specs.List.{list_any, list_all, flat_map, sum_by};
 ghost use Rattle.pgs_base.specs.declared.element.Elem.{Elem};
 ghost use Rattle.pgs_syntax.specs.Valid.{names_types};
 ghost use Rattle.pgs_match.specs.declared.stand.Stand.{Stand};
 ghost use Rattle.pgs_match.specs.Tests.{admitted_node, admitted_edge};
-ghost use Rattle.pgs_match.specs.Spread.{stands_of, elems_at, not_at, end_in, edges_in, back_most, back, one_back, led_back, one_most, led_most};
+ghost use Rattle.pgs_match.specs.Spread.{stands_of, elems_at, not_at, end_in, edges_in, back_most, back, one_back, led_back, one_most, led_most, once_most, HasPassed};
 
 use crate::branches::head;
 use crate::ordered::in_order;
@@ -146,6 +146,8 @@ impl<'a, G: GraphRead> Search<'a, G> {
             ≤ sum_by count (flat_map (one_back self.now.compiled.now (G.meaning self.now.graph.now) self.now.atoms.now step) stands.now)) }
         ensures no_step_back { steps.old ≤ steps.new }
         ensures cost { steps.new ≤ steps.old + sum_by (one_most (G.meaning self.now.graph.now) step) stands.now }
+        ensures once { (pairs : List Stand) → ((test : Stand → Bool) → list_any test stands.now ≡ true → list_any test pairs ≡ true) →
+            steps.new ≤ steps.old + sum_by (one_most (G.meaning self.now.graph.now) step) pairs }
     {
         let (here, mut others) = parted(alloc, step.bound(), stands)?;
         let once = in_order(here);
@@ -157,7 +159,7 @@ impl<'a, G: GraphRead> Search<'a, G> {
     }
 
     /// Where the steps of a plan lead back to from stands, the last step first. No pair of a variable and an element is gone back from
-    /// twice. The rules are `led_back` and `led_most` in `specs/Spread.antt` of `pgs_match`.
+    /// twice (`once`). The rules are `led_back`, `led_most` and `once_most` in `specs/Spread.antt` of `pgs_match`.
     pub(crate) fn lead_back<L: Ledger>(
         &self,
         alloc: Global,
@@ -172,6 +174,8 @@ impl<'a, G: GraphRead> Search<'a, G> {
             ≤ sum_by count (flat_map (led_back self.now.compiled.now (G.meaning self.now.graph.now) self.now.atoms.now plan.now) stands.items)) }
         ensures no_step_back { steps.old ≤ steps.new }
         ensures cost { steps.new ≤ steps.old + sum_by (led_most self.now.compiled.now (G.meaning self.now.graph.now) self.now.atoms.now plan.now) stands.items }
+        ensures once { (pairs : List Stand) → HasPassed self.now.compiled.now (G.meaning self.now.graph.now) self.now.atoms.now plan.now stands.items pairs →
+            steps.new ≤ steps.old + once_most (G.meaning self.now.graph.now) plan.now pairs }
     {
         match head(plan) {
             None => Ok(stands),
