@@ -1,9 +1,9 @@
 #!/usr/bin/env bash
 # Whether some drawn pattern makes one transaction much dearer than `validate` over the graph after it: keys whose patterns have no cycle, and keys
 # of which one has, over drawn graphs with hubs and drawn changes, by the released executable or the one that PGGUARD names. As in hubs.sh a
-# transaction's time is the difference of two runs of `try`, over the graph and over the graph with so many lines more, by their number. A
-# case that seems too dear is measured again, the least of three. Too dear is above 3 times `validate` and 1 ms. The status is 1 where a case
-# without a cycle is.
+# transaction's time is the difference of two runs of `try`, over the graph and over the graph with so many lines more, by their number; the
+# line that makes the graph is a decision too, with the program's start. What seems too dear is measured again, the least of three. Too
+# dear is above 3 times `validate` and 1 ms. The status is 1 where a decision without a cycle is.
 # Usage: bench/drawn.sh [SEED [TREES [RINGS [FOLDER]]]]    67, 300 and 100 where left out; the worst texts are written into the folder
 set -eu
 top=$(cd "$(dirname "$(readlink -f "${BASH_SOURCE[0]}")")/.." && pwd)
@@ -19,8 +19,8 @@ import tempfile
 PROGRAM, WORDS = sys.argv[1], sys.argv[2:]
 SEED, TREES, RINGS = (int(WORDS[at]) if len(WORDS) > at else kept for at, kept in enumerate((67, 300, 100)))
 FOLDER = WORDS[3] if len(WORDS) > 3 else None
-LIMIT = 20  # seconds of one run
-LONGEST = 1.0  # seconds of `validate`, above which another case is drawn
+LIMIT = 3  # whole seconds of one run: what goes on longer is told as so much
+LONGEST = 0.3  # seconds of `validate`, above which another case is drawn
 LABELS, EDGE_LABELS = "AB", "rs"
 TYPES = ["(ta: A OPEN {OPEN})", "(tb: B OPEN {OPEN})", "(:ta|tb)-[tr: r {OPEN}]->(:ta|tb)", "(:ta|tb)-[ts: s {OPEN}]->(:ta|tb)"]
 
@@ -35,7 +35,7 @@ def limited():
 
 
 def run(text, word):
-    """The processor's time of a run over a text, and what it printed."""
+    """The processor's time of a run over a text, what it printed, and its status."""
     with tempfile.TemporaryFile() as given:
         given.write(text.encode())
         given.seek(0)
@@ -46,7 +46,7 @@ def run(text, word):
         raise TooLong
     if ended.returncode not in (0, 1):
         sys.exit(f"{word} ended with {ended.returncode}: {ended.stdout.decode()[:200]}{text[:1000]}")
-    return after.ru_utime + after.ru_stime - before.ru_utime - before.ru_stime, ended.stdout.decode()
+    return after.ru_utime + after.ru_stime - before.ru_utime - before.ru_stime, ended.stdout.decode(), ended.returncode
 
 
 def least(text, word, times):
@@ -195,9 +195,9 @@ def changes(draw, graph):
     if kind == "edge less":
         return kind, [[{"remove_edge": number}] for number in draw.sample(range(1, graph.edges + 1), count)]
     if kind.startswith("property"):
-        key, key_of_t = draw.choice("tn"), draw.random() < 0.5
+        key = draw.choice(("t", "t", "k", "note"))
         at = [hub] * count if kind.endswith("hub") else leaves[:count]
-        return kind, [[{"set_node": number, "key": "k" if key_of_t else key, "value": 1_000_000 + place}] for place, number in enumerate(at)]
+        return kind, [[{"set_node": number, "key": key, "value": place % 2 if key == "t" else 1_000_000 + place}] for place, number in enumerate(at)]
     if kind == "node less":
         return kind, [[{"detach_node": leaf}] for leaf in leaves[:count]]
     if kind == "label":
@@ -212,24 +212,20 @@ def changes(draw, graph):
     return kind, many
 
 
-class Case:
-    """A drawn case, once it is measured."""
+class Decision:
+    """What a case's change, or the line that makes its graph, costs."""
 
-    def __init__(self, number, declared, graph, kind, more):
-        self.number, self.declared, self.kind, self.count = number, declared, kind, len(more)
-        self.before, self.after = text_of(declared, [graph]), text_of(declared, [graph] + more)
-        self.whole = 1000 * least(self.after, "validate", 1)
-        self.dear = self.whole > 1000 * LONGEST
-        self.one = 0.0
-        if not self.dear:
-            self.measure(1)
-            if self.is_above():
-                self.measure(3)
+    def __init__(self, number, declared, kind, before, after, count):
+        self.number, self.declared, self.kind, self.before, self.after, self.count = number, declared, kind, before, after, count
+        self.measure(1)
+        if self.is_above():
+            self.measure(3)
 
     def measure(self, times):
         self.whole = 1000 * least(self.after, "validate", times)
         try:
-            self.one = 1000 * max(0.0, least(self.after, "try", times) - least(self.before, "try", times)) / self.count
+            first = least(self.before, "try", times) if self.before else 0.0
+            self.one = 1000 * max(0.0, least(self.after, "try", times) - first) / self.count
         except TooLong:
             self.one = 1000.0 * LIMIT / self.count
 
@@ -242,18 +238,26 @@ class Case:
     def told(self):
         declared = self.declared.split("FOR", 1)
         mode = "STRICT" if "STRICT" in declared[0] else "typed" if "ta:" in declared[0] else "LOOSE"
-        return f"{self.number:4} {self.one:9.2f} ms a transaction; validate {self.whole:7.1f} ms; {self.one / self.whole:6.2f} times; {self.kind}, {mode}: FOR{declared[1][:-2]}"
+        return f"{self.number:4} {self.one:9.2f} ms; validate {self.whole:7.1f} ms; {self.one / self.whole:7.2f} times; {self.kind}, {mode}: FOR{declared[1][:-2]}"
 
 
-def conforms(declared, graph):
-    try:
-        return "committed" in run(text_of(declared, [graph]), "try")[1]
-    except TooLong:
-        return False
+def decisions(number, declared, graph, kind, more):
+    """The decisions of a case: the line that makes its graph and, where that is no longer than the limit, its change."""
+    before = text_of(declared, [graph])
+    made = Decision(number, declared, f"the graph of {len(graph)}", None, before, 1)
+    if made.one >= 1000 * LIMIT:
+        return [made]
+    return [made, Decision(number, declared, kind, before, text_of(declared, [graph] + more), len(more))]
+
+
+def whole(declared, graph):
+    """The seconds of `validate` over a graph that conforms; None where it doesn't."""
+    used, told, status = run(text_of(declared, [graph]), "validate")
+    return used if status == 0 else None
 
 
 def drawn(draw, number, ring):
-    """A case whose graph conforms, and how many were drawn in its place of which `validate` takes too long."""
+    """The decisions of a case whose graph conforms, and how many were drawn in its place of which `validate` takes too long."""
     passed = 0
     while True:
         graph = Graph(draw)
@@ -263,39 +267,36 @@ def drawn(draw, number, ring):
         for attempt in range(5):
             key = key_of(draw, ring, typed, attempt > 2)
             declared = "CREATE GRAPH TYPE g %s {%s};" % (mode, ", ".join((TYPES if typed else []) + [key]))
-            if conforms(declared, made):
-                break
-        else:
-            continue
-        kind, more = changes(draw, graph)
-        try:
-            case = Case(number, declared, made, kind, more)
-        except TooLong:
-            passed += 1
-            continue
-        if not case.dear:
-            return case, passed
-        passed += 1
+            try:
+                used = whole(declared, made)
+                if used is not None and used <= LONGEST:
+                    kind, more = changes(draw, graph)
+                    return decisions(number, declared, made, kind, more), passed
+                passed += used is not None
+            except TooLong:
+                passed += 1
 
 
 def several(name, count, rings):
-    """Draws and tells so many cases; whether none is above."""
+    """Draws and tells so many cases; whether no decision is above."""
     cases, passed = [], 0
     for number in range(1, count + 1):
         draw = random.Random(f"{SEED} {name} {number}")
-        case, more = drawn(draw, number, draw.randint(2, 4) if rings else 0)
-        cases.append(case)
+        found, more = drawn(draw, number, draw.randint(2, 4) if rings else 0)
+        cases += found
         passed += more
-    cases.sort(key=Case.ratio, reverse=True)
+    cases.sort(key=Decision.ratio, reverse=True)
     above = [case for case in cases if case.is_above()]
-    print(f"{name}: {count} drawn, {len(above)} above 3 times `validate` and 1 ms; {passed} passed over, of which `validate` takes above {LONGEST} s", flush=True)
-    for place, case in enumerate(cases[:max(5, min(20, len(above)))]):
+    graphs = sum(case.before is None for case in above)
+    print(f"{name}: {count} drawn; above 3 times `validate` and 1 ms {len(above) - graphs} changes and {graphs} lines that make the graph; "
+          f"{passed} passed over, of which `validate` takes above {LONGEST} s", flush=True)
+    shown = cases[:5] + [case for case in cases[5:] if case.before][:10]
+    for case in shown:
         print(case.told(), flush=True)
         if FOLDER:
             os.makedirs(FOLDER, exist_ok=True)
-            for word, text in (("before", case.before), ("after", case.after)):
-                with open(os.path.join(FOLDER, f"{name.split()[0]}-{case.number}-{word}.txt"), "w") as kept:
-                    kept.write(text)
+            with open(os.path.join(FOLDER, f"{name.split()[0]}-{case.number}-{'change' if case.before else 'graph'}.txt"), "w") as kept:
+                kept.write(case.after)
     return not above
 
 
