@@ -2,7 +2,7 @@
 # Whether some drawn pattern makes one transaction much dearer than `validate` over the graph after it: keys whose patterns have no cycle, and keys
 # of which one has, over drawn graphs with hubs and drawn changes, by the released executable or the one that PGGUARD names. As in hubs.sh a
 # transaction's time is the difference of two runs of `try`, over the graph and over the graph with so many lines more, by their number; the
-# line that makes the graph is a decision too, with the program's start. What seems too dear is measured again, the least of three. Too
+# line that makes the graph is a decision too, with the program's start. What seems a little too dear is measured again, the least of three. Too
 # dear is above 3 times `validate` and 1 ms. The status is 1 where a decision without a cycle is.
 # Usage: bench/drawn.sh [SEED [TREES [RINGS [FOLDER]]]]    67, 300 and 100 where left out; the worst texts are written into the folder
 set -eu
@@ -218,7 +218,7 @@ class Decision:
     def __init__(self, number, declared, kind, before, after, count):
         self.number, self.declared, self.kind, self.before, self.after, self.count = number, declared, kind, before, after, count
         self.measure(1)
-        if self.is_above():
+        if 1 < self.ratio() < 3:
             self.measure(3)
 
     def measure(self, times):
@@ -288,8 +288,9 @@ def several(name, count, rings):
     cases.sort(key=Decision.ratio, reverse=True)
     above = [case for case in cases if case.is_above()]
     graphs = sum(case.before is None for case in above)
-    print(f"{name}: {count} drawn; above 3 times `validate` and 1 ms {len(above) - graphs} changes and {graphs} lines that make the graph; "
-          f"{passed} passed over, of which `validate` takes above {LONGEST} s", flush=True)
+    stopped = sum(case.before is None and case.one >= 1000 * LIMIT for case in cases)
+    print(f"{name}: {count} drawn; above 3 times `validate` and 1 ms {len(above) - graphs} changes and {graphs} lines that make the graph "
+          f"({stopped} stopped at {LIMIT} s, so that their changes aren't measured); {passed} passed over, of which `validate` takes above {LONGEST} s", flush=True)
     shown = cases[:5] + [case for case in cases[5:] if case.before][:10]
     for case in shown:
         print(case.told(), flush=True)
