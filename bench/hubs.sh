@@ -86,8 +86,9 @@ def grown(leaves, count):
     return [{"ops": [node(at, "B"), edge(at, 1, at, "r")]} for at in range(first, first + count)]
 
 
-def beside_keys(mode, leaves):
-    return measured(schema(mode, TYPES, EXCLUSIVE), lines(star(leaves)), noted(1, 50))
+def beside_keys(mode, at):
+    """A property beside the keys at the hub of 4,000 (node 1) or at a leaf of the same graph, so often that it is well above the noise."""
+    return measured(schema(mode, TYPES, EXCLUSIVE), lines(star(4000)), noted(at, 20_000))
 
 
 def one_more(leaves):
@@ -144,10 +145,10 @@ def start(leaves, count):
 
 
 CASES = [
-    ("a property beside the keys, leaf (LOOSE)", lambda: beside_keys("LOOSE", 1)),
-    ("a property beside the keys, hub of 4000 (LOOSE)", lambda: beside_keys("LOOSE", 4000)),
-    ("a property beside the keys, leaf (STRICT)", lambda: beside_keys("STRICT", 1)),
-    ("a property beside the keys, hub of 4000 (STRICT)", lambda: beside_keys("STRICT", 4000)),
+    ("a property beside the keys, leaf (LOOSE)", lambda: beside_keys("LOOSE", 2)),
+    ("a property beside the keys, hub of 4000 (LOOSE)", lambda: beside_keys("LOOSE", 1)),
+    ("a property beside the keys, leaf (STRICT)", lambda: beside_keys("STRICT", 2)),
+    ("a property beside the keys, hub of 4000 (STRICT)", lambda: beside_keys("STRICT", 1)),
     ("one edge more at 1000 values", lambda: one_more(1000)),
     ("one edge more at 2000 values", lambda: one_more(2000)),
     ("one edge more at 4000 values", lambda: one_more(4000)),
@@ -162,9 +163,13 @@ CASES = [
     ("a start that replays 61 records, hub of 4000", lambda: start(4000, 60)),
 ]
 
+TAKEN = {}
 for name, case in CASES:
     if WORDS and not any(word in name for word in WORDS):
         continue
     one, whole = case()
-    print(f"{name:52} {one:9.3f} ms a transaction; validate {whole:9.1f} ms; {one / whole if whole else 0:7.3f} times", flush=True)
+    TAKEN[name] = one
+    leaf = TAKEN.get(name.replace("hub of 4000", "leaf")) if "beside the keys, hub" in name else None
+    beside = f"; {one / leaf:5.2f} times the leaf" if leaf else ""
+    print(f"{name:52} {one:9.3f} ms a transaction; validate {whole:9.1f} ms; {one / whole if whole else 0:7.3f} times{beside}", flush=True)
 P
