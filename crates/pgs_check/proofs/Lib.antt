@@ -11,6 +11,7 @@ pub mod KeyFirst
 pub mod KeyList
 pub mod Least
 pub mod OneKey
+pub mod Own
 pub mod Owned
 pub mod Owners
 pub mod Retyped

@@ -12,6 +12,7 @@ mod checking;
 mod clash;
 mod indexing;
 mod key_rows;
+mod own_row;
 mod rule;
 mod sharing;
 mod untyped;
