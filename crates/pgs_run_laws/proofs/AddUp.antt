@@ -53,7 +53,7 @@ done_shows start now said status (inr is) ends =
     let at = subst (λ (s : Status). Ends start said s now) is ends in (at.0, at.1 ∙ sym is)
 
 -- what is told of a view that saves this store
-told_stands : (view : View) (it : SavedStore) (go : SavedStore → Told Status) → Saves it view.shown → told_of_areas (areas_of view) go ≡ go it
+pub told_stands : (view : View) (it : SavedStore) (go : SavedStore → Told Status) → Saves it view.shown → told_of_areas (areas_of view) go ≡ go it
 unfolding told_of_areas
 told_stands view it go known =
     ap (λ (s : SavedState). told_saved s go) known.saves
@@ -216,7 +216,7 @@ evolve_if true next input graph status e done same = absurd (too_long status (rw
 evolve_if false None input graph status e done same = absurd (store_refused status (rw e at same) done)
 evolve_if false (Some number) input graph status e done same = rw e refl
 
-told_evolved : (it : SavedStore) (input : List ℕ) (old : View) → Saves it old.shown → told_evolve input (areas_of old) (2 ^ 40) ≡ told_input input (2 ^ 40) (chosen_next old.shown.a old.shown.b) it.graph
+pub told_evolved : (it : SavedStore) (input : List ℕ) (old : View) → Saves it old.shown → told_evolve input (areas_of old) (2 ^ 40) ≡ told_input input (2 ^ 40) (chosen_next old.shown.a old.shown.b) it.graph
 unfolding told_evolve
 told_evolved it input old known = told_stands old it (λ (s : SavedStore). told_input input (2 ^ 40) (chosen_next old.shown.a old.shown.b) s.graph) known
 

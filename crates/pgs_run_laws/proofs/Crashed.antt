@@ -329,11 +329,11 @@ stands_in now later crash fresh shows saves epoch_is = record {
 
 -- ---- `load`
 
-none_saved : (view : View) → choice_of view.shown.a view.shown.b ≡ choices.no_store → saved standard view.shown.a view.shown.b ≡ no_store
+pub none_saved : (view : View) → choice_of view.shown.a view.shown.b ≡ choices.no_store → saved standard view.shown.a view.shown.b ≡ no_store
 unfolding saved
 none_saved view none = ap (saved_by standard) none
 
-none_or_store : (text : List ℕ) (commits : ℕ) (graph : Graph) (state : SavedState) → state ≡ no_store → state ≡ store text commits graph → ⊥
+pub none_or_store : (text : List ℕ) (commits : ℕ) (graph : Graph) (state : SavedState) → state ≡ no_store → state ≡ store text commits graph → ⊥
 none_or_store text commits graph state none some = let no : no_store ≡ store text commits graph = sym none ∙ some in cc
 
 module _ (text : List ℕ) (schema : Resolved) (lost : ℕ) (old new : View) (crash : Triple) (free : FindsNone old) (timed : IsTimed old) (settled : IsSettled old) (tells : IsTrue old.tells_output)
@@ -367,11 +367,12 @@ module _ (text : List ℕ) (schema : Resolved) (lost : ℕ) (old new : View) (cr
 module _ {W : Type 0} (view : W → View) where
   pub crashed : (it : SavedStore) (epoch : ℕ) (deed : Deed) (deeds : List Deed) (old new : View) (fresh last : W) (crash : Triple) → Stands it epoch old → IsTimed old → IsSettled old → IsTrue old.tells_output
       → DoesInto deed old new → new.left_since old.moment crash → ShowsImages crash (view fresh) → DoAll view deeds fresh last
-      → (now : SavedStore) × (later : ℕ) × Leaves deed it epoch old.shown crash now later × ShowsAll (shown_of (view fresh)) (told_deeds now later deeds) (shown_of (view last))
+      → (now : SavedStore) × (later : ℕ) × Leaves deed it epoch old.shown crash now later × Stands now later (view fresh) × ShowsAll (shown_of (view fresh)) (told_deeds now later deeds) (shown_of (view last))
   crashed it epoch deed deeds old new fresh last crash stands timed settled tells ran left shows behind =
       let found = by_deed it epoch old new crash stands timed settled tells left deed ran in
-      let all = do_all view found.now found.later deeds fresh last (stands_in found.now found.later crash (view fresh) shows found.saves found.epoch_is) behind in
-      (found.now, found.later, found.leaves, all.shown)
+      let there = stands_in found.now found.later crash (view fresh) shows found.saves found.epoch_is in
+      let all = do_all view found.now found.later deeds fresh last there behind in
+      (found.now, found.later, found.leaves, there, all.shown)
 
   pub load_crashed : (text : List ℕ) (schema : Resolved) (lost : ℕ) (deeds : List Deed) (old new : View) (fresh last : W) (crash : Triple) → IsTimed old → FindsNone old → IsSettled old
       → IsTrue old.tells_output → schema_answer text ≡ Ok schema → RanInto Load text lost old new → new.left_since old.moment crash → ShowsImages crash (view fresh)

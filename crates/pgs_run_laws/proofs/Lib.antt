@@ -10,6 +10,7 @@ pub mod Crashed
 pub mod Cut
 pub mod Dumped
 pub mod DumpLines
+pub mod Ended
 pub mod Formed
 pub mod GraphOps
 pub mod LineItems

@@ -18,6 +18,7 @@ ghost use Rattle.pgs_run_load.specs.Told.{line_of};
 ghost use Rattle.pgs_run_store.specs.Refusing.{SavedStore};
 ghost use Rattle.pgs_run_lines.specs.Pieces.{ShowsAll, shown_of};
 ghost use Rattle.pgs_store.specs.Loads.{FindsNone};
+ghost use Rattle.pgs_command.specs.declared.status.Status.{Status};
 ghost use Rattle.pgs_command.specs.declared.status.Status.TheVariants.{Accepted};
 ghost use Rattle.pgs_run_input.specs.Answers.{schema_answer};
 ghost use Rattle.pgs_command.specs.Areas.{Areas};
@@ -25,6 +26,7 @@ ghost use Rattle.pgs_run_input.specs.Session.{standard};
 ghost use Rattle.pgs_run.specs.Commands.{spec_of};
 ghost use Rattle.pgs_run_laws.specs.Compared.{IsCompared};
 ghost use Rattle.pgs_run_laws.specs.Crashes.{DoesInto, IsBegun, Leaves, LeavesNone, RanInto, ShowsImages, Stands};
+ghost use Rattle.pgs_run_laws.specs.Endings.{AddUp, Held, Holds, RunAll, Step};
 ghost use Rattle.pgs_run_laws.specs.Lines.{IsLineStart};
 ghost use Rattle.pgs_run_laws.specs.Sequence.{Deed, DoAll, Ran, new_store, told_deeds, told_sequence};
 
@@ -73,12 +75,19 @@ pub fn a_dump_is_validated<V: World, W: World>()
     pgs_json::written_is_read();
 }
 
-/// Runs add up. Over one world that tells its bytes, whose areas are both free at first: `load` of a text that is a schema, then runs of
-/// `apply`, `checkpoint` and `evolve` in any order, then `recover`, each ended with 0 or 1, print what deciding the lines of all inputs in
-/// order prints: each run's lines numbered from 1, the commit numbers going on; of `evolve` the line of the schema that is in force from
-/// then on, or of the first violation under it; and then the dump of the graph that they lead to, under the last schema.
+/// Runs add up. Over one world that tells its bytes, whose areas hold nothing or a store: runs of `load`, `apply`, `checkpoint`, `evolve` and
+/// `recover`, and of words that are no command, in any order, each ended with any status but 5, lead from what the areas hold to what they
+/// hold behind it (`Leads`). With 0 and 1 a run did all; with 2, 3 and 4 it added nothing; with 6, 8 and 9 `apply` added the lines whose
+/// verdicts are out, and the others nothing; with 7 that, or one more, the change whose line was being put, and a front of that line is out.
+///
+/// So where each ended with 0 or 1, `load` of a schema over free areas, then runs of `apply`, `checkpoint` and `evolve`, then `recover`
+/// print what deciding the lines of all inputs in order prints: each run's lines numbered from 1, the commit numbers going on; of `evolve`
+/// the line of the schema that is in force from then on, or of the first violation under it; and then the dump of the graph that they lead
+/// to, under the last schema.
 pub fn runs_add_up<W: World>()
-    ensures { (text input : List ℕ) (schema : Resolved) (deeds : List Deed) (lost failed : ℕ) (first loaded last done : W)
+    ensures any { (steps : List (Step × Status)) (was : Held) (first last : W) → Holds was (W.view first)
+        → (ran : RunAll W.view steps first last) → (now : Held) × AddUp W.view steps first last ran was now }
+    ensures done { (text input : List ℕ) (schema : Resolved) (deeds : List Deed) (lost failed : ℕ) (first loaded last done : W)
         → IsTrue (W.view first).tells_bytes → FindsNone (W.view first) → schema_answer text ≡ Ok schema
         → Ran Load text lost (W.view first) (W.view loaded) → DoAll W.view deeds loaded last → Ran Recover input failed (W.view last) (W.view done)
         → ShowsAll (shown_of (W.view first)) (told_sequence text schema deeds) (shown_of (W.view done)) }
@@ -96,13 +105,13 @@ pub fn what_is_contained_is_kept<W: World>()
 
 /// A crash inside a run of `apply`, `checkpoint` or `evolve`, which began on a world that tells its bytes and output and on which nothing is
 /// pending, and ended with any status, leaves the store after the first changes of the run: those whose lines are out whole, or one more
-/// (`Leaves`). Runs behind it, over any world that shows the images that the crash left, go on from that store: they print what deciding
-/// their inputs from there on prints.
+/// (`Leaves`). Any world that shows the images that the crash left holds that store, so runs behind it add up from there; and those that ended
+/// with 0 or 1 print what deciding their inputs from there on prints.
 pub fn a_crash_leaves_a_front<V: World, W: World>()
     ensures { (it : SavedStore) (epoch : ℕ) (deed : Deed) (deeds : List Deed) (old new : V) (fresh last : W) (crash : Triple)
         → Stands it epoch (V.view old) → IsSettled (V.view old) → IsTrue (V.view old).tells_output → DoesInto deed (V.view old) (V.view new)
         → (V.view new).left_since (V.view old).moment crash → ShowsImages crash (W.view fresh) → DoAll W.view deeds fresh last
-        → (now : SavedStore) × (later : ℕ) × Leaves deed it epoch (V.view old).shown crash now later
+        → (now : SavedStore) × (later : ℕ) × Leaves deed it epoch (V.view old).shown crash now later × Stands now later (W.view fresh)
         × ShowsAll (shown_of (W.view fresh)) (told_deeds now later deeds) (shown_of (W.view last)) }
 {}
 
