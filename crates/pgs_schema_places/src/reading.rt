@@ -141,7 +141,7 @@ impl Reading {
     // Whether a form of a part that begins so may stand at a place: in labels not one parenthesis too many, and no qualifier again.
     fn may_stand(&self, part: Part, first: Symbol, tokens: &Tokens<'_>, place: usize) -> bool {
         match first {
-            Symbol::Word(b"(") => part != Part::Unit || !self.is_deepest(),
+            Symbol::Word(b"(") => !matches!(part, Part::Unit) || !self.is_deepest(),
             Symbol::Once(word) => !is_asked_before(tokens, place, word),
             _ => true,
         }
