@@ -7,7 +7,7 @@ use crate::text_state::TextState;
 const DEEPEST: u8 = 127;
 
 /// What may come between tokens.
-#[derive(Clone, Copy, PartialEq, Eq)]
+#[derive(Clone, Copy)]
 pub enum Wanted {
     Value,
     /// A value, or the end of the array that has just begun.
